@@ -1,0 +1,8 @@
+-- The form sizes at which RIFF may end.
+use Rattle.std.specs.Prelude.{◌≡◌, ℕ, ◌%◌, ◌≤◌}
+
+-- an even size from 8,192 bytes to the largest even one that four bytes can tell beside 0xFFFFFFFF
+pub record IsLimit (bytes : ℕ) : Type 0 where
+  pub no_smaller : 8192 ≤ bytes
+  pub no_larger : bytes ≤ 4294967294
+  pub even : bytes % 2 ≡ 0

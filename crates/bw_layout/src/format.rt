@@ -1,0 +1,94 @@
+//! The sample format, and the `fmt ` chunk for PCM (RIFF, chapter 3, "WAVE").
+ghost use Rattle.std.specs.Prelude.{◌≡◌, ◌*◌, ◌≤◌, IsTrue};
+ghost use Rattle.std.specs.Option.{SomeIff};
+ghost use Rattle.bw_model.specs.Take.{is_format, block_align as block_align_of};
+ghost use Rattle.bw_layout.specs.Formats.{format_of};
+
+use std::marker::Model;
+
+/// The format of PCM samples that a take may have.
+///
+/// 1 to 768,000 Hz; 1 to 64 channels; 16, 24 or 32 bits a sample.
+#[derive(Clone, Copy, Debug, PartialEq, Eq, Hash)]
+pub struct Fmt {
+    rate: u32,
+    channels: u16,
+    bits: u16,
+}
+
+impl Model for Fmt {
+    ghost use Rattle.std.specs.Prelude.{IsTrue};
+    ghost use Rattle.bw_model.specs.Take.{Format, is_format};
+    ghost use Rattle.bw_layout.specs.Formats.{format_of};
+
+    ghost Value = { Format };
+
+    ghost view = { λ f. format_of f.rate f.channels f.bits };
+
+    ghost invariant = { λ f. IsTrue (is_format (format_of f.rate f.channels f.bits)) };
+
+    ghost inverse = { λ v. record { rate = v.rate; channels = v.channels; bits = v.bits } };
+}
+
+impl Fmt {
+    /// The format, or None where a take may not have it.
+    pub fn new(rate: u32, channels: u16, bits: u16) -> Option<Fmt>
+        ensures { let f = format_of rate channels bits in SomeIff result (IsTrue (is_format f)) f }
+    {
+        let allowed = (1..=768_000).contains(&rate)
+            && (1..=64).contains(&channels)
+            && (bits == 16 || bits == 24 || bits == 32);
+        if allowed {
+            Some(Fmt {
+                rate,
+                channels,
+                bits,
+            })
+        } else {
+            None
+        }
+    }
+
+    /// Frames a second.
+    pub fn rate(self) -> u32
+        ensures value { result ≡ self.rate }
+        ensures positive { 1 ≤ result }
+        ensures range { result ≤ 768000 }
+    {
+        self.rate
+    }
+
+    /// Samples a frame.
+    pub fn channels(self) -> u16
+        ensures value { result ≡ self.channels }
+        ensures positive { 1 ≤ result }
+        ensures range { result ≤ 64 }
+    {
+        self.channels
+    }
+
+    /// Bits a sample.
+    pub fn bits(self) -> u16
+        ensures value { result ≡ self.bits }
+        ensures positive { 16 ≤ result }
+        ensures range { result ≤ 32 }
+    {
+        self.bits
+    }
+
+    /// Bytes a frame.
+    pub fn block_align(self) -> u16
+        ensures value { result ≡ block_align_of self }
+        ensures positive { 2 ≤ result }
+        ensures range { result ≤ 256 }
+    {
+        self.channels * (self.bits / 8)
+    }
+
+    /// Bytes a second.
+    pub fn byte_rate(self) -> u32
+        ensures value { result ≡ self.rate * block_align_of self }
+    {
+        self.rate * u32::from(self.block_align())
+    }
+}
