@@ -1,0 +1,113 @@
+//! The `bext` chunk (EBU Tech 3285, Broadcast Audio Extension).
+ghost use Rattle.std.specs.Prelude.{◌≡◌, OnOk, OnErr};
+ghost use Rattle.bw_model.specs.Take.{field_fault, with_field, no_fields, AreFields};
+ghost use Rattle.bw_layout.specs.Fields.{answer_of};
+
+use crate::field::{FieldError, NOT_GIVEN, set_digits, set_level, set_maybe, set_text, set_whole};
+use std::marker::Model;
+
+/// The fields of `bext` that a take can set, by tag from 1 on: Description, Originator, OriginatorReference,
+/// OriginationDate, OriginationTime, TimeReference, UMID, LoudnessValue, LoudnessRange, MaxTruePeakLevel,
+/// MaxMomentaryLoudness, MaxShortTermLoudness.
+#[derive(Debug, Drop)]
+pub struct Bext {
+    description: [u8; 256],
+    originator: [u8; 32],
+    reference: [u8; 32],
+    date: [u8; 10],
+    time: [u8; 8],
+    time_reference: [u8; 8],
+    umid: [u8; 64],
+    loudness_value: [u8; 2],
+    loudness_range: [u8; 2],
+    max_true_peak: [u8; 2],
+    max_momentary: [u8; 2],
+    max_short_term: [u8; 2],
+}
+
+impl Model for Bext {
+    ghost use Rattle.std.specs.Prelude.{ℕ, List, [], ◌∷◌};
+
+    ghost Value = { List (List ℕ) };
+
+    ghost view = { λ b. b.description ∷ b.originator ∷ b.reference ∷ b.date ∷ b.time ∷ b.time_reference ∷ b.umid ∷ b.loudness_value ∷ b.loudness_range ∷ b.max_true_peak ∷ b.max_momentary ∷ b.max_short_term ∷ [] };
+}
+
+impl Bext {
+    /// No field set.
+    pub fn new() -> Bext
+        ensures { result ≡ no_fields }
+    {
+        Bext {
+            description: [0; 256],
+            originator: [0; 32],
+            reference: [0; 32],
+            date: [0; 10],
+            time: [0; 8],
+            time_reference: [0; 8],
+            umid: [0; 64],
+            loudness_value: NOT_GIVEN,
+            loudness_range: NOT_GIVEN,
+            max_true_peak: NOT_GIVEN,
+            max_momentary: NOT_GIVEN,
+            max_short_term: NOT_GIVEN,
+        }
+    }
+
+    /// An equal one, without memory from an allocator.
+    pub fn copy(&self) -> Bext
+        ensures same { result ≡ self.now }
+        ensures widths { AreFields result }
+    {
+        Bext {
+            description: self.description,
+            originator: self.originator,
+            reference: self.reference,
+            date: self.date,
+            time: self.time,
+            time_reference: self.time_reference,
+            umid: self.umid,
+            loudness_value: self.loudness_value,
+            loudness_range: self.loudness_range,
+            max_true_peak: self.max_true_peak,
+            max_momentary: self.max_momentary,
+            max_short_term: self.max_short_term,
+        }
+    }
+
+    /// Sets a field, in the form in which EBU Tech 3285 has it in the file: bytes of text, for the time reference and
+    /// the loudness little-endian numbers.
+    ///
+    /// # Errors
+    /// The first of Tag, Length and Text that holds.
+    pub fn set(&mut self, tag: u8, value: &[u8]) -> Result<(), FieldError>
+        ensures told { result ≡ answer_of (field_fault tag value.now) }
+        ensures ok { OnOk result (self.new ≡ with_field self.old tag value.now) }
+        ensures err { OnErr result (self.new ≡ self.old) }
+        ensures widths { AreFields self.new }
+    {
+        match tag {
+            1 => set_text(&mut self.description, value),
+            2 => set_text(&mut self.originator, value),
+            3 => set_text(&mut self.reference, value),
+            4 => set_digits(&mut self.date, b"dddd-dd-dd", value),
+            5 => set_digits(&mut self.time, b"dd:dd:dd", value),
+            6 => set_whole(&mut self.time_reference, value),
+            7 => set_maybe(&mut self.umid, value),
+            8 => set_level(&mut self.loudness_value, value),
+            9 => set_level(&mut self.loudness_range, value),
+            10 => set_level(&mut self.max_true_peak, value),
+            11 => set_level(&mut self.max_momentary, value),
+            12 => set_level(&mut self.max_short_term, value),
+            _ => Err(FieldError::Tag),
+        }
+    }
+}
+
+impl Default for Bext {
+    ghost is_default = { λ b. b ≡ no_fields };
+
+    fn default() -> Self {
+        Self::new()
+    }
+}
