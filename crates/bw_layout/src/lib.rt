@@ -1,4 +1,5 @@
-//! The chunks of a broadcast file (RIFF, BW64, `bext`): their layouts, their sizes, and the header before the data.
+//! The chunks of a broadcast file (RIFF, BW64, `bext`): their layouts, their sizes, and the header before the data;
+//! and the readers and writers that bytes come from and go to.
 #![tactic(auto)]
 
 mod broadcast;
@@ -7,6 +8,11 @@ mod cues;
 mod field;
 mod format;
 mod limit;
+mod memory;
+mod number;
+mod plain;
+mod sink;
+mod source;
 
 pub use broadcast::Bext;
 pub use chunk::ChunkId;
@@ -14,3 +20,8 @@ pub use cues::CuePoint;
 pub use field::FieldError;
 pub use format::Fmt;
 pub use limit::Limit;
+pub use memory::{MemorySink, MemorySource};
+pub use number::{read_id, read_u16, read_u32, read_u64};
+pub use plain::Plain;
+pub use sink::{Sink, write_all};
+pub use source::{IoFailed, Source};

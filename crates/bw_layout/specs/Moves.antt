@@ -1,0 +1,50 @@
+-- What readers and writers do to the bytes that they tell, and to their count of failures.
+use Rattle.std.specs.Prelude.{◌≡◌, ℕ, ◌+◌, ◌-◌, ◌^◌, ◌<◌, ◌≤◌, List, [], ◌++◌, length, take, drop, Option, Some, Result, is_ok, if◌then◌else◌, nat_lt}
+
+-- one more failure; the last value stays
+abbrev pub one_more : ℕ → ℕ
+one_more n = if nat_lt n (2 ^ 64 - 1) then n + 1 else n
+
+-- the count of failures after a call: it rises exactly where the call failed
+abbrev pub failures_after : {X E : Type 0} → Result X E → ℕ → ℕ
+failures_after result n = if is_ok result then n else one_more n
+
+-- told bytes stay as they were
+abbrev pub Keeps : Option (List ℕ) → Option (List ℕ) → Type 0
+Keeps old new = (xs : List ℕ) → old ≡ Some xs → new ≡ Some xs
+
+-- the next n of xs are read into the front of a buffer; none of them only at the end, or with no room
+pub record IsRead (xs : List ℕ) (n : ℕ) (buf : List ℕ) (left : Option (List ℕ)) : Type 0 where
+  pub within : n ≤ length xs
+  pub given : take n buf ≡ take n xs
+  pub rest : left ≡ Some (drop n xs)
+  pub end : n ≡ 0 → 0 < length buf → xs ≡ []
+
+-- a reader that tells its bytes gave the next n of them
+abbrev pub Reads : Option (List ℕ) → ℕ → List ℕ → Option (List ℕ) → Type 0
+Reads old n buf new = (xs : List ℕ) → old ≡ Some xs → IsRead xs n buf new
+
+-- the next n of xs are passed over, of at most so many; none of them only at the end, or where none was wanted
+pub record IsSkipped (xs : List ℕ) (most n : ℕ) (left : Option (List ℕ)) : Type 0 where
+  pub within : n ≤ length xs
+  pub rest : left ≡ Some (drop n xs)
+  pub end : n ≡ 0 → 0 < most → xs ≡ []
+
+-- a reader that tells its bytes passed over the next n of them
+abbrev pub Skips : Option (List ℕ) → ℕ → ℕ → Option (List ℕ) → Type 0
+Skips old most n new = (xs : List ℕ) → old ≡ Some xs → IsSkipped xs most n new
+
+-- a writer that tells its bytes has these behind them
+abbrev pub Writes : Option (List ℕ) → List ℕ → Option (List ℕ) → Type 0
+Writes old bytes new = (xs : List ℕ) → old ≡ Some xs → new ≡ Some (xs ++ bytes)
+
+-- behind xs stands a beginning of these bytes
+pub record IsBegun (xs bytes : List ℕ) (written : Option (List ℕ)) : Type 0 where
+  pub part : List ℕ
+  pub rest : List ℕ
+  pub whole : part ++ rest ≡ bytes
+  pub stands : written ≡ Some (xs ++ part)
+
+-- a writer that tells its bytes has a beginning of these behind them
+abbrev pub Begins : Option (List ℕ) → List ℕ → Option (List ℕ) → Type 0
+Begins old bytes new = (xs : List ℕ) → old ≡ Some xs → IsBegun xs bytes new

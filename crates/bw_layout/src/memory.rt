@@ -1,0 +1,106 @@
+//! Readers and writers over memory.
+ghost use Rattle.std.specs.Prelude.{◌≡◌, ℕ, [], Some, OnErr, vec_len, vec_capacity, ◌<◌, ◌+◌, length};
+
+use crate::sink::Sink;
+use crate::source::{IoFailed, Source};
+
+/// Reads a slice, and never fails.
+#[derive(Drop)]
+pub struct MemorySource<'a> {
+    bytes: &'a [u8],
+}
+
+impl<'a> MemorySource<'a> {
+    pub fn new(bytes: &'a [u8]) -> MemorySource<'a>
+        ensures { result.bytes.now ≡ bytes.now }
+    {
+        MemorySource { bytes }
+    }
+}
+
+impl<'a> Source for MemorySource<'a> {
+    ghost left = { λ s. Some s.bytes.now };
+
+    ghost failures = { λ s. 0 };
+
+    fn read(&mut self, buf: &mut [u8]) -> Result<usize, IoFailed> {
+        let count = buf.len().min(self.bytes.len());
+        let (piece, rest) = self.bytes.split_at(count);
+        buf[..count].copy_from_slice(piece);
+        self.bytes = rest;
+        Ok(count)
+    }
+
+    fn skip(&mut self, most: u64) -> Result<u64, IoFailed> {
+        let count = most.min(self.bytes.len() as u64);
+        self.bytes = &self.bytes[count as usize..];
+        Ok(count)
+    }
+}
+
+/// Writes behind the bytes of a `Vec`, and fails only where its growth is refused.
+#[derive(Drop)]
+pub struct MemorySink {
+    bytes: Vec<u8>,
+    failures: u64,
+}
+
+impl MemorySink {
+    pub fn new(bytes: Vec<u8>) -> MemorySink
+        ensures bytes { result.bytes.items ≡ bytes.items }
+        ensures failures { result.failures ≡ 0 }
+    {
+        MemorySink { bytes, failures: 0 }
+    }
+
+    /// All that was written, behind the bytes from the start.
+    pub fn into_bytes(self) -> Vec<u8>
+        ensures { result.items ≡ self.bytes.items }
+    {
+        self.bytes
+    }
+}
+
+impl Sink for MemorySink {
+    ghost written = { λ s. Some s.bytes.items };
+
+    ghost failures = { λ s. s.failures };
+
+    fn write(&mut self, bytes: &[u8]) -> Result<usize, IoFailed> {
+        let Ok(()) = self.bytes.extend_from_slice(bytes) else {
+            self.failures = self.failures.saturating_add(1);
+            return Err(IoFailed);
+        };
+        Ok(bytes.len())
+    }
+}
+
+#[cfg(test)]
+mod tests {
+    use super::*;
+    use crate::sink::write_all;
+    use std::alloc::AllocError;
+
+    #[test]
+    fn a_slice_is_read_forward_and_once(rt: HostRuntime) -> Result<(), IoFailed> {
+        let mut source = MemorySource::new(b"abcdefg");
+        let mut buf = [0; 3];
+        assert_eq!(rt; source.read(&mut buf)?, 3);
+        assert_eq!(rt; buf, *b"abc");
+        assert_eq!(rt; source.skip(2)?, 2);
+        assert_eq!(rt; source.read(&mut buf)?, 2);
+        assert_eq!(rt; buf, *b"fgc");
+        assert_eq!(rt; source.skip(1)?, 0);
+        assert_eq!(rt; source.read(&mut buf)?, 0);
+        Ok(())
+    }
+
+    #[test]
+    fn what_is_written_stands_behind_what_was_there(rt: HostRuntime) -> Result<(), AllocError> {
+        let mut sink = MemorySink::new(vec![in rt.alloc(); 1, 2]?);
+        assert!(rt; write_all(&mut sink, &[3, 4, 5]).is_ok());
+        assert!(rt; write_all(&mut sink, &[]).is_ok());
+        assert_eq!(rt; sink.into_bytes().as_slice(), [1, 2, 3, 4, 5].as_slice());
+        Ok(())
+    }
+}

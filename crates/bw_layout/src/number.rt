@@ -1,0 +1,55 @@
+//! Numbers in bytes, the lowest first.
+ghost use Rattle.std.specs.Prelude.{◌≡◌, ◌+◌, ◌≤◌, length, slice_range};
+ghost use Rattle.bw_model.specs.Bytes.{u16_at, u32_at, u64_at};
+
+/// The number in the two bytes at a place.
+pub fn read_u16(bytes: &[u8], at: usize) -> u16
+    requires { at + 2 ≤ length bytes.now }
+    ensures { result ≡ u16_at bytes.now at }
+{
+    let part = &bytes[at..at + 2];
+    u16::from_le_bytes([part[0], part[1]])
+}
+
+/// The number in the four bytes at a place.
+pub fn read_u32(bytes: &[u8], at: usize) -> u32
+    requires { at + 4 ≤ length bytes.now }
+    ensures { result ≡ u32_at bytes.now at }
+{
+    let part = &bytes[at..at + 4];
+    u32::from_le_bytes([part[0], part[1], part[2], part[3]])
+}
+
+/// The number in the eight bytes at a place.
+pub fn read_u64(bytes: &[u8], at: usize) -> u64
+    requires { at + 8 ≤ length bytes.now }
+    ensures { result ≡ u64_at bytes.now at }
+{
+    let part = &bytes[at..at + 8];
+    u64::from_le_bytes([
+        part[0], part[1], part[2], part[3], part[4], part[5], part[6], part[7],
+    ])
+}
+
+/// The four bytes at a place.
+pub fn read_id(bytes: &[u8], at: usize) -> [u8; 4]
+    requires { at + 4 ≤ length bytes.now }
+    ensures { result ≡ slice_range bytes.now at (at + 4) }
+{
+    let part = &bytes[at..at + 4];
+    [part[0], part[1], part[2], part[3]]
+}
+
+#[cfg(test)]
+mod tests {
+    use super::*;
+
+    #[test]
+    fn the_lowest_byte_stands_first(rt: HostRuntime) {
+        let bytes = [0, 1, 2, 3, 4, 5, 6, 7, 8, 9];
+        assert_eq!(rt; read_u16(&bytes, 1), 0x0201);
+        assert_eq!(rt; read_u32(&bytes, 6), 0x0908_0706);
+        assert_eq!(rt; read_u64(&bytes, 1), 0x0807_0605_0403_0201);
+        assert_eq!(rt; read_id(&bytes, 3), [3, 4, 5, 6]);
+    }
+}

@@ -1,0 +1,142 @@
+//! Readers and writers of std as a `Source` and a `Sink`.
+ghost use Rattle.std.specs.Prelude.{◌≡◌, ◌<◌, ◌≤◌, length, IfOk, OnErr};
+ghost use Rattle.bw_layout.specs.Moves.{failures_after, Keeps, Reads, Skips};
+
+use crate::sink::Sink;
+use crate::source::{IoFailed, Source};
+use std::io::{Read, Write};
+
+/// A reader or a writer of std, with a count of its failures.
+///
+/// A write of no byte of a piece that has some counts as a failure.
+#[derive(Drop)]
+pub struct Plain<T> {
+    inner: T,
+    failures: u64,
+}
+
+impl<T: Drop> Plain<T> {
+    pub fn new(inner: T) -> Plain<T>
+        ensures inner { result.inner ≡ inner }
+        ensures failures { result.failures ≡ 0 }
+    {
+        Plain { inner, failures: 0 }
+    }
+
+    /// The reader or writer of std itself.
+    pub fn into_inner(self) -> T
+        ensures { result ≡ self.inner }
+    {
+        self.inner
+    }
+}
+
+impl<T: Read> Plain<T> {
+    fn read_counted(&mut self, buf: &mut [u8]) -> Result<usize, IoFailed>
+        ensures count { self.new.failures ≡ failures_after result self.old.failures }
+        ensures within { IfOk result (λ n. n ≤ length buf.old) }
+        ensures ok { IfOk result (λ n. Reads (T.remaining self.old.inner) n buf.new (T.remaining self.new.inner)) }
+        ensures err { OnErr result (Keeps (T.remaining self.old.inner) (T.remaining self.new.inner)) }
+    {
+        let Ok(count) = self.inner.read(buf) else {
+            self.failures = self.failures.saturating_add(1);
+            return Err(IoFailed);
+        };
+        Ok(count)
+    }
+
+    /// Reads some of the next bytes, at most `most`, into a piece, and drops them.
+    fn read_past(&mut self, piece: &mut [u8], most: u64) -> Result<u64, IoFailed>
+        requires { 0 < length piece.old }
+        ensures count { self.new.failures ≡ failures_after result self.old.failures }
+        ensures within { IfOk result (λ n. n ≤ most) }
+        ensures ok { IfOk result (λ n. Skips (T.remaining self.old.inner) most n (T.remaining self.new.inner)) }
+        ensures err { OnErr result (Keeps (T.remaining self.old.inner) (T.remaining self.new.inner)) }
+    {
+        let room = most.min(piece.len() as u64) as usize;
+        let count = self.read_counted(&mut piece[..room])?;
+        Ok(count as u64)
+    }
+}
+
+impl<T: Read> Source for Plain<T> {
+    ghost left = { λ s. T.remaining s.inner };
+
+    ghost failures = { λ s. s.failures };
+
+    fn read(&mut self, buf: &mut [u8]) -> Result<usize, IoFailed> {
+        self.read_counted(buf)
+    }
+
+    fn skip(&mut self, most: u64) -> Result<u64, IoFailed> {
+        self.read_past(&mut [0; 65_536], most)
+    }
+}
+
+impl<T: Write> Sink for Plain<T> {
+    ghost written = { λ s. T.contents s.inner };
+
+    ghost failures = { λ s. s.failures };
+
+    fn write(&mut self, bytes: &[u8]) -> Result<usize, IoFailed> {
+        match self.inner.write(bytes) {
+            Ok(count) if count > 0 || bytes.is_empty() => Ok(count),
+            _ => {
+                self.failures = self.failures.saturating_add(1);
+                Err(IoFailed)
+            }
+        }
+    }
+}
+
+#[cfg(test)]
+mod tests {
+    use super::*;
+    use crate::sink::write_all;
+    use std::io;
+
+    /// Gives its bytes one at a time, and fails once they are all given.
+    #[derive(Drop)]
+    struct Failing<'a>(&'a [u8]);
+
+    impl<'a> Read for Failing<'a> {
+        fn read(&mut self, buf: &mut [u8]) -> io::Result<usize> {
+            let Some((first, rest)) = self.0.split_first() else {
+                return Err(io::Error::from(io::ErrorKind::Other));
+            };
+            if buf.is_empty() {
+                return Ok(0);
+            }
+            buf[0] = *first;
+            self.0 = rest;
+            Ok(1)
+        }
+    }
+
+    #[test]
+    fn a_failed_read_is_counted(rt: HostRuntime) -> Result<(), IoFailed> {
+        let mut source = Plain::new(Failing(b"abc"));
+        let mut buf = [0; 2];
+        assert_eq!(rt; source.read(&mut buf)?, 1);
+        assert_eq!(rt; source.skip(9)?, 1);
+        assert_eq!(rt; source.read(&mut buf)?, 1);
+        assert_eq!(rt; buf[0], b'c');
+        assert_eq!(rt; source.failures, 0);
+        assert_eq!(rt; source.read(&mut buf), Err(IoFailed));
+        assert_eq!(rt; source.skip(9), Err(IoFailed));
+        assert_eq!(rt; source.failures, 2);
+        Ok(())
+    }
+
+    #[test]
+    fn a_writer_that_takes_nothing_fails(rt: HostRuntime) {
+        let mut room = [0; 4];
+        let mut sink = Plain::new(&mut room[..]);
+        assert!(rt; write_all(&mut sink, b"abc").is_ok());
+        assert_eq!(rt; sink.write(b""), Ok(0));
+        assert_eq!(rt; write_all(&mut sink, b"def"), Err(IoFailed));
+        assert_eq!(rt; sink.write(b"ef"), Err(IoFailed));
+        assert_eq!(rt; sink.failures, 2);
+        assert_eq!(rt; room, *b"abcd");
+    }
+}

@@ -1,0 +1,42 @@
+//! What bytes are written to, with a count of the failures.
+ghost use Rattle.std.specs.Prelude.{◌≡◌, ℕ, ◌≤◌, ◌<◌, List, length, take, Option, IfOk, OnOk, OnErr};
+ghost use Rattle.bw_layout.specs.Moves.{failures_after, Keeps, Writes, Begins};
+
+use crate::source::IoFailed;
+
+/// A writer: the bytes written so far, where it tells them, and how often it failed.
+pub trait Sink {
+    ghost written: { Self → Option (List ℕ) };
+
+    ghost failures: { Self → ℕ };
+
+    /// Writes some of the first bytes, at least one where there are any.
+    ///
+    /// # Errors
+    /// `IoFailed` where the writer failed: no byte was written.
+    fn write(&mut self, bytes: &[u8]) -> Result<usize, IoFailed>
+        ensures count { failures self.new ≡ failures_after result (failures self.old) }
+        ensures within { IfOk result (λ n. n ≤ length bytes.now) }
+        ensures some { IfOk result (λ n. 0 < length bytes.now → 0 < n) }
+        ensures ok { IfOk result (λ n. Writes (written self.old) (take n bytes.now) (written self.new)) }
+        ensures err { OnErr result (Keeps (written self.old) (written self.new)) };
+}
+
+/// Writes all the bytes, in as many pieces as the writer takes.
+///
+/// # Errors
+/// `IoFailed` where the writer failed: a beginning of the bytes was written.
+pub fn write_all<W: Sink>(writer: &mut W, bytes: &[u8]) -> Result<(), IoFailed>
+    ensures count { W.failures writer.new ≡ failures_after result (W.failures writer.old) }
+    ensures ok { OnOk result (Writes (W.written writer.old) bytes.now (W.written writer.new)) }
+    ensures err { OnErr result (Begins (W.written writer.old) bytes.now (W.written writer.new)) }
+{
+    let mut done = 0;
+    while done < bytes.len() {
+        let Ok(count) = writer.write(&bytes[done..]) else {
+            return Err(IoFailed);
+        };
+        done += count;
+    }
+    Ok(())
+}

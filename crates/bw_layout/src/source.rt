@@ -1,0 +1,40 @@
+//! What bytes are read from: forward, once, and with a count of the failures.
+ghost use Rattle.std.specs.Prelude.{◌≡◌, ℕ, ◌≤◌, List, length, Option, IfOk, OnErr};
+ghost use Rattle.bw_layout.specs.Moves.{failures_after, Keeps, Reads, Skips};
+
+/// A reader or a writer failed.
+#[derive(Clone, Copy, PartialEq, Eq, Debug, Drop)]
+pub struct IoFailed;
+
+/// A reader: the bytes that it has left, where it tells them, and how often it failed.
+pub trait Source {
+    ghost left: { Self → Option (List ℕ) };
+
+    ghost failures: { Self → ℕ };
+
+    /// Reads some of the next bytes into the front of `buf`, at least one unless they are at their end.
+    ///
+    /// # Errors
+    /// `IoFailed` where the reader failed: no byte was used up.
+    fn read(&mut self, buf: &mut [u8]) -> Result<usize, IoFailed>
+        ensures count { failures self.new ≡ failures_after result (failures self.old) }
+        ensures within { IfOk result (λ n. n ≤ length buf.old) }
+        ensures ok { IfOk result (λ n. Reads (left self.old) n buf.new (left self.new)) }
+        ensures err { OnErr result (Keeps (left self.old) (left self.new)) };
+
+    /// Passes over some of the next bytes, at most `most` and at least one unless they are at their end.
+    ///
+    /// # Errors
+    /// `IoFailed` where the reader failed: no byte was used up.
+    fn skip(&mut self, most: u64) -> Result<u64, IoFailed>
+        ensures count { failures self.new ≡ failures_after result (failures self.old) }
+        ensures within { IfOk result (λ n. n ≤ most) }
+        ensures ok { IfOk result (λ n. Skips (left self.old) most n (left self.new)) }
+        ensures err { OnErr result (Keeps (left self.old) (left self.new)) }
+    {
+        let mut piece = [0; 4096];
+        let room = most.min(4096) as usize;
+        let count = self.read(&mut piece[..room])?;
+        Ok(count as u64)
+    }
+}
