@@ -13,16 +13,16 @@ failures_after result n = if is_ok result then n else one_more n
 abbrev pub Keeps : Option (List ℕ) → Option (List ℕ) → Type 0
 Keeps old new = (xs : List ℕ) → old ≡ Some xs → new ≡ Some xs
 
--- the next n of xs are read into the front of a buffer; none of them only at the end, or with no room
-pub record IsRead (xs : List ℕ) (n : ℕ) (buf : List ℕ) (left : Option (List ℕ)) : Type 0 where
+-- the next n of xs, of at most so many, are read into the front of a buffer; none of them only at the end, or with no room
+pub record IsRead (xs : List ℕ) (most n : ℕ) (buf : List ℕ) (left : Option (List ℕ)) : Type 0 where
   pub within : n ≤ length xs
   pub given : take n buf ≡ take n xs
   pub rest : left ≡ Some (drop n xs)
-  pub end : n ≡ 0 → 0 < length buf → xs ≡ []
+  pub end : n ≡ 0 → 0 < most → xs ≡ []
 
 -- a reader that tells its bytes gave the next n of them
-abbrev pub Reads : Option (List ℕ) → ℕ → List ℕ → Option (List ℕ) → Type 0
-Reads old n buf new = (xs : List ℕ) → old ≡ Some xs → IsRead xs n buf new
+abbrev pub Reads : Option (List ℕ) → ℕ → ℕ → List ℕ → Option (List ℕ) → Type 0
+Reads old most n buf new = (xs : List ℕ) → old ≡ Some xs → IsRead xs most n buf new
 
 -- the next n of xs are passed over, of at most so many; none of them only at the end, or where none was wanted
 pub record IsSkipped (xs : List ℕ) (most n : ℕ) (left : Option (List ℕ)) : Type 0 where

@@ -35,7 +35,8 @@ impl<T: Read> Plain<T> {
     fn read_counted(&mut self, buf: &mut [u8]) -> Result<usize, IoFailed>
         ensures count { self.new.failures ≡ failures_after result self.old.failures }
         ensures within { IfOk result (λ n. n ≤ length buf.old) }
-        ensures ok { IfOk result (λ n. Reads (T.remaining self.old.inner) n buf.new (T.remaining self.new.inner)) }
+        ensures ok { IfOk result (λ n.
+            Reads (T.remaining self.old.inner) (length buf.old) n buf.new (T.remaining self.new.inner)) }
         ensures err { OnErr result (Keeps (T.remaining self.old.inner) (T.remaining self.new.inner)) }
     {
         let Ok(count) = self.inner.read(buf) else {
@@ -50,7 +51,8 @@ impl<T: Read> Plain<T> {
         requires { 0 < length piece.old }
         ensures count { self.new.failures ≡ failures_after result self.old.failures }
         ensures within { IfOk result (λ n. n ≤ most) }
-        ensures ok { IfOk result (λ n. Skips (T.remaining self.old.inner) most n (T.remaining self.new.inner)) }
+        ensures ok { IfOk result (λ n.
+            Skips (T.remaining self.old.inner) most n (T.remaining self.new.inner)) }
         ensures err { OnErr result (Keeps (T.remaining self.old.inner) (T.remaining self.new.inner)) }
     {
         let room = most.min(piece.len() as u64) as usize;
