@@ -1,0 +1,12 @@
+-- What requests mean.
+use Rattle.bw_model.specs.Take.{Request, Open, Block, Mark, SetField, Close}
+use Rattle.bw_take.specs.declared.request.RequestRef.{RequestRef}
+use Rattle.bw_take.specs.declared.request.RequestRef.TheVariants.{OpenTake, Block as BlockRef, Mark as MarkRef, SetField as SetFieldRef, CloseTake}
+
+abbrev pub meaning : RequestRef → Request
+meaning (OpenTake rate channels bits history) =
+    Open (record { rate = rate; channels = channels; bits = bits }) history.now
+meaning (BlockRef bytes) = Block bytes.now
+meaning (MarkRef id frame) = Mark id frame
+meaning (SetFieldRef tag value) = SetField tag value.now
+meaning (CloseTake frames) = Close frames
