@@ -1,3 +1,4 @@
+pub mod Appending
 pub mod Fields
 pub mod Formats
 pub mod Limits

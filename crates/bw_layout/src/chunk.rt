@@ -1,5 +1,40 @@
 //! The ids and heads of chunks (RIFF, chapter 2, "Chunks").
+ghost use Rattle.std.specs.Prelude.{◌+◌, ◌≤◌, vec_len, vec_capacity};
+ghost use Rattle.bw_model.specs.Layout.{head as head_bytes};
+ghost use Rattle.bw_layout.specs.Appending.{Gains, Appends};
+
+use crate::room::{push_bytes, push_u32};
+use std::alloc::{AllocError, Global};
 
 /// The four bytes that name a chunk.
 #[derive(Clone, Copy, Debug, PartialEq, Eq, Hash, PartialOrd, Ord)]
 pub struct ChunkId(pub [u8; 4]);
+
+/// What stands before a chunk's content.
+#[derive(Clone, Copy, Debug, PartialEq, Eq, Hash)]
+pub struct ChunkHead {
+    pub id: ChunkId,
+    /// The content's length in bytes, without its pad byte, as far as four bytes tell it.
+    pub size32: u32,
+}
+
+/// Appends a chunk's head.
+///
+/// # Errors
+/// Memory was refused.
+pub fn put_head(_alloc: Global, out: &mut Vec<u8>, head: ChunkHead) -> Result<(), AllocError>
+    ensures { Appends (head_bytes head.id.0 head.size32) 8 result out.old out.new }
+{
+    out.reserve(8)?;
+    push_head(out, head.id, head.size32);
+    Ok(())
+}
+
+#[tactic(auto, using(std::proofs::lemmas::List::append_assoc))]
+pub(crate) fn push_head(out: &mut Vec<u8>, id: ChunkId, size32: u32)
+    requires { vec_len out.old + 8 ≤ vec_capacity out.old }
+    ensures { Gains (head_bytes id.0 size32) 8 out.old out.new }
+{
+    push_bytes(out, &id.0);
+    push_u32(out, size32);
+}

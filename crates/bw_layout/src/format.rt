@@ -1,9 +1,13 @@
 //! The sample format, and the `fmt ` chunk for PCM (RIFF, chapter 3, "WAVE").
-ghost use Rattle.std.specs.Prelude.{◌≡◌, ◌*◌, ◌≤◌, IsTrue};
+ghost use Rattle.std.specs.Prelude.{◌≡◌, ◌+◌, ◌*◌, ◌≤◌, IsTrue, vec_len, vec_capacity};
 ghost use Rattle.std.specs.Option.{SomeIff};
 ghost use Rattle.bw_model.specs.Take.{is_format, block_align as block_align_of};
+ghost use Rattle.bw_model.specs.Layout.{fmt_content};
+ghost use Rattle.bw_layout.specs.Appending.{Gains, Appends};
 ghost use Rattle.bw_layout.specs.Formats.{format_of};
 
+use crate::room::{push_u16, push_u32};
+use std::alloc::{AllocError, Global};
 use std::marker::Model;
 
 /// The format of PCM samples that a take may have.
@@ -91,4 +95,29 @@ impl Fmt {
     {
         self.rate * u32::from(self.block_align())
     }
+}
+
+/// Appends the content of a `fmt ` chunk.
+///
+/// # Errors
+/// Memory was refused.
+pub fn put_fmt(_alloc: Global, out: &mut Vec<u8>, fmt: &Fmt) -> Result<(), AllocError>
+    ensures { Appends (fmt_content fmt.now) 16 result out.old out.new }
+{
+    out.reserve(16)?;
+    push_fmt(out, fmt);
+    Ok(())
+}
+
+#[tactic(auto, using(std::proofs::lemmas::List::append_assoc))]
+pub(crate) fn push_fmt(out: &mut Vec<u8>, fmt: &Fmt)
+    requires { vec_len out.old + 16 ≤ vec_capacity out.old }
+    ensures { Gains (fmt_content fmt.now) 16 out.old out.new }
+{
+    push_u16(out, 1);
+    push_u16(out, fmt.channels());
+    push_u32(out, fmt.rate());
+    push_u32(out, fmt.byte_rate());
+    push_u16(out, fmt.block_align());
+    push_u16(out, fmt.bits());
 }

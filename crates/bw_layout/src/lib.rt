@@ -11,14 +11,15 @@ mod limit;
 mod memory;
 mod number;
 mod plain;
+mod room;
 mod sink;
 mod source;
 
 pub use broadcast::Bext;
-pub use chunk::ChunkId;
+pub use chunk::{ChunkHead, ChunkId, put_head};
 pub use cues::CuePoint;
 pub use field::FieldError;
-pub use format::Fmt;
+pub use format::{Fmt, put_fmt};
 pub use limit::Limit;
 pub use memory::{MemorySink, MemorySource};
 pub use number::{read_id, read_u16, read_u32, read_u64};
