@@ -1,9 +1,15 @@
 //! The `bext` chunk (EBU Tech 3285, Broadcast Audio Extension).
-ghost use Rattle.std.specs.Prelude.{◌≡◌, OnOk, OnErr};
+ghost use Rattle.std.specs.Prelude.{◌≡◌, ◌+◌, ◌≤◌, ◌++◌, OnOk, OnErr, length, take, drop, vec_len, vec_capacity, if◌then◌else◌};
+ghost use Rattle.std.specs.List.{concat};
+ghost use Rattle.bw_model.specs.Bytes.{zeros};
 ghost use Rattle.bw_model.specs.Take.{field_fault, with_field, no_fields, AreFields};
+ghost use Rattle.bw_model.specs.Layout.{is_version_1, bext_fixed};
+ghost use Rattle.bw_layout.specs.Appending.{Gains, Appends};
 ghost use Rattle.bw_layout.specs.Fields.{answer_of};
 
 use crate::field::{FieldError, NOT_GIVEN, set_digits, set_level, set_maybe, set_text, set_whole};
+use crate::room::{push_bytes, push_u16};
+use std::alloc::{AllocError, Global};
 use std::marker::Model;
 
 /// The fields of `bext` that a take can set, by tag from 1 on: Description, Originator, OriginatorReference,
@@ -102,6 +108,17 @@ impl Bext {
             _ => Err(FieldError::Tag),
         }
     }
+
+    /// Whether no loudness is given, so that the chunk is of version 1.
+    fn is_version_1(&self) -> bool
+        ensures { result ≡ is_version_1 self.now }
+    {
+        self.loudness_value == NOT_GIVEN
+            && self.loudness_range == NOT_GIVEN
+            && self.max_true_peak == NOT_GIVEN
+            && self.max_momentary == NOT_GIVEN
+            && self.max_short_term == NOT_GIVEN
+    }
 }
 
 impl Default for Bext {
@@ -109,5 +126,61 @@ impl Default for Bext {
 
     fn default() -> Self {
         Self::new()
+    }
+}
+
+/// Appends the content of a `bext` chunk.
+///
+/// # Errors
+/// Memory was refused.
+pub fn put_bext(_alloc: Global, out: &mut Vec<u8>, bext: &Bext, history: &[u8]) -> Result<(), AllocError>
+    requires { length history.now ≤ 4096 }
+    ensures { Appends (bext_fixed bext.now ++ history.now) (602 + length history.now) result out.old out.new }
+{
+    out.reserve(602 + history.len())?;
+    push_bext(out, bext);
+    push_bytes(out, history);
+    Ok(())
+}
+
+#[tactic(auto, using(std::proofs::lemmas::List::append_assoc))]
+pub(crate) fn push_bext(out: &mut Vec<u8>, bext: &Bext)
+    requires { vec_len out.old + 602 ≤ vec_capacity out.old }
+    ensures { Gains (bext_fixed bext.now) 602 out.old out.new }
+{
+    push_texts(out, bext);
+    push_u16(out, if bext.is_version_1() { 1 } else { 2 });
+    push_bytes(out, &bext.umid);
+    push_loudness(out, bext);
+    push_bytes(out, &[0; 180]);
+}
+
+#[tactic(auto, using(std::proofs::lemmas::List::append_assoc))]
+fn push_texts(out: &mut Vec<u8>, bext: &Bext)
+    requires { vec_len out.old + 346 ≤ vec_capacity out.old }
+    ensures { Gains (concat (take 6 bext.now)) 346 out.old out.new }
+{
+    push_bytes(out, &bext.description);
+    push_bytes(out, &bext.originator);
+    push_bytes(out, &bext.reference);
+    push_bytes(out, &bext.date);
+    push_bytes(out, &bext.time);
+    push_bytes(out, &bext.time_reference);
+}
+
+/// Appends the ten bytes that are reserved in version 1.
+#[tactic(auto, using(std::proofs::lemmas::List::append_assoc))]
+fn push_loudness(out: &mut Vec<u8>, bext: &Bext)
+    requires { vec_len out.old + 10 ≤ vec_capacity out.old }
+    ensures { Gains (if is_version_1 bext.now then zeros 10 else concat (drop 7 bext.now)) 10 out.old out.new }
+{
+    if bext.is_version_1() {
+        push_bytes(out, &[0; 10]);
+    } else {
+        push_bytes(out, &bext.loudness_value);
+        push_bytes(out, &bext.loudness_range);
+        push_bytes(out, &bext.max_true_peak);
+        push_bytes(out, &bext.max_momentary);
+        push_bytes(out, &bext.max_short_term);
     }
 }

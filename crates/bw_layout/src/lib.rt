@@ -15,7 +15,7 @@ mod room;
 mod sink;
 mod source;
 
-pub use broadcast::Bext;
+pub use broadcast::{Bext, put_bext};
 pub use chunk::{ChunkHead, ChunkId, put_head};
 pub use cues::CuePoint;
 pub use field::FieldError;
