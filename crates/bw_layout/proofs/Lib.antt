@@ -1,3 +1,4 @@
 pub mod FieldLemmas
 pub mod Forms
+pub mod HeaderKinds
 pub mod Pieces

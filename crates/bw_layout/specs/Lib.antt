@@ -1,5 +1,6 @@
 pub mod Appending
 pub mod Fields
 pub mod Formats
+pub mod Headers
 pub mod Limits
 pub mod Moves

@@ -133,7 +133,12 @@ impl Default for Bext {
 ///
 /// # Errors
 /// Memory was refused.
-pub fn put_bext(_alloc: Global, out: &mut Vec<u8>, bext: &Bext, history: &[u8]) -> Result<(), AllocError>
+pub fn put_bext(
+    _alloc: Global,
+    out: &mut Vec<u8>,
+    bext: &Bext,
+    history: &[u8],
+) -> Result<(), AllocError>
     requires { length history.now ≤ 4096 }
     ensures { Appends (bext_fixed bext.now ++ history.now) (602 + length history.now) result out.old out.new }
 {
@@ -146,7 +151,8 @@ pub fn put_bext(_alloc: Global, out: &mut Vec<u8>, bext: &Bext, history: &[u8]) 
 #[tactic(auto, using(std::proofs::lemmas::List::append_assoc))]
 pub(crate) fn push_bext(out: &mut Vec<u8>, bext: &Bext)
     requires { vec_len out.old + 602 ≤ vec_capacity out.old }
-    ensures { Gains (bext_fixed bext.now) 602 out.old out.new }
+    ensures gains { Gains (bext_fixed bext.now) 602 out.old out.new }
+    ensures widths { AreFields bext.now }
 {
     push_texts(out, bext);
     push_u16(out, if bext.is_version_1() { 1 } else { 2 });

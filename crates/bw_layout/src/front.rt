@@ -1,0 +1,154 @@
+//! The front of a file: the bytes before its data.
+ghost use Rattle.std.specs.Prelude.{◌≡◌, ℕ, ◌+◌, ◌*◌, ◌%◌, ◌^◌, ◌<◌, ◌≤◌, length, vec_len, vec_capacity};
+ghost use Rattle.bw_model.specs.Bytes.{even_up};
+ghost use Rattle.bw_model.specs.Layout.{chunk, pad};
+ghost use Rattle.bw_model.specs.File.{form_size as form_size_of, data_place, junk_chunk, fmt_chunk, bext_chunk, header as header_of};
+ghost use Rattle.bw_layout.specs.Appending.{Gains, Appends};
+ghost use Rattle.bw_layout.specs.Headers.{middle, ds64, riff_header, bw64_header};
+
+use crate::broadcast::{Bext, push_bext};
+use crate::chunk::{ChunkId, push_head};
+use crate::format::{Fmt, push_fmt};
+use crate::limit::Limit;
+use crate::room::{push_bytes, push_u32, push_u64};
+use std::alloc::{AllocError, Global};
+
+/// What stands for a 32-bit size that `ds64` tells (ITU-R BS.2088).
+const UNSAID: u32 = 0xffff_ffff;
+
+/// The form size of a take's file, by the lengths of its coding history and its data and its number of cue points.
+///
+/// The file is 8 bytes longer.
+pub fn form_size(history_len: u64, data_len: u64, cues: u64) -> u64
+    requires history { history_len ≤ 4096 }
+    requires samples { data_len ≤ 2 ^ 62 }
+    requires cues { cues ≤ 1024 }
+    ensures value { result ≡ form_size_of history_len data_len cues }
+    ensures range { result < 2 ^ 63 }
+{
+    let cue = if cues == 0 { 0 } else { 12 + 24 * cues };
+    682 + history_len + history_len % 2 + data_len + data_len % 2 + cue
+}
+
+/// Appends the bytes of a take's file before its data.
+///
+/// # Errors
+/// Memory was refused.
+#[tactic(auto, using(crate::proofs::HeaderKinds::header_riff, crate::proofs::HeaderKinds::header_bw64))]
+pub fn header(
+    _alloc: Global,
+    out: &mut Vec<u8>,
+    fmt: &Fmt,
+    bext: &Bext,
+    history: &[u8],
+    data_len: u64,
+    cues: u64,
+    limit: Limit,
+) -> Result<(), AllocError>
+    requires history { length history.now ≤ 4096 }
+    requires samples { data_len ≤ 2 ^ 62 }
+    requires cues { cues ≤ 1024 }
+    ensures { Appends (header_of fmt.now bext.now history.now data_len cues limit) (data_place (length history.now)) result out.old out.new }
+{
+    out.reserve(690 + history.len() + history.len() % 2)?;
+    let form = form_size(history.len() as u64, data_len, cues);
+    if form <= limit.bytes() {
+        push_riff(out, fmt, bext, history, form as u32, data_len as u32);
+    } else {
+        push_bw64(out, fmt, bext, history, form, data_len);
+    }
+    Ok(())
+}
+
+/// Appends a RIFF header: both sizes stand in four bytes.
+#[tactic(auto, using(std::proofs::lemmas::List::append_assoc), unfolding(crate::specs::Headers::riff_header))]
+fn push_riff(out: &mut Vec<u8>, fmt: &Fmt, bext: &Bext, history: &[u8], form: u32, data_len: u32)
+    requires history { length history.now ≤ 4096 }
+    requires room { vec_len out.old + data_place (length history.now) ≤ vec_capacity out.old }
+    ensures { Gains (riff_header fmt.now bext.now history.now form data_len) (data_place (length history.now)) out.old out.new }
+{
+    push_head(out, ChunkId(*b"RIFF"), form);
+    push_bytes(out, b"WAVE");
+    push_junk(out);
+    push_middle(out, fmt, bext, history);
+    push_head(out, ChunkId(*b"data"), data_len);
+}
+
+/// Appends a BW64 header: both sizes stand in `ds64`.
+#[tactic(auto, using(std::proofs::lemmas::List::append_assoc), unfolding(crate::specs::Headers::bw64_header))]
+fn push_bw64(out: &mut Vec<u8>, fmt: &Fmt, bext: &Bext, history: &[u8], form: u64, data_len: u64)
+    requires history { length history.now ≤ 4096 }
+    requires room { vec_len out.old + data_place (length history.now) ≤ vec_capacity out.old }
+    ensures { Gains (bw64_header fmt.now bext.now history.now form data_len) (data_place (length history.now)) out.old out.new }
+{
+    push_head(out, ChunkId(*b"BW64"), UNSAID);
+    push_bytes(out, b"WAVE");
+    push_ds64(out, form, data_len);
+    push_middle(out, fmt, bext, history);
+    push_head(out, ChunkId(*b"data"), UNSAID);
+}
+
+/// Appends the chunk that keeps the room of `ds64`.
+fn push_junk(out: &mut Vec<u8>)
+    requires { vec_len out.old + 36 ≤ vec_capacity out.old }
+    ensures { Gains (chunk junk_chunk) 36 out.old out.new }
+{
+    push_head(out, ChunkId(*b"JUNK"), 28);
+    push_bytes(out, &[0; 28]);
+}
+
+/// Appends a `ds64` chunk without a table.
+#[tactic(auto, using(std::proofs::lemmas::List::append_assoc), unfolding(crate::specs::Headers::ds64))]
+fn push_ds64(out: &mut Vec<u8>, form: u64, data_len: u64)
+    requires { vec_len out.old + 36 ≤ vec_capacity out.old }
+    ensures { Gains (ds64 form data_len) 36 out.old out.new }
+{
+    push_head(out, ChunkId(*b"ds64"), 28);
+    push_u64(out, form);
+    push_u64(out, data_len);
+    push_u64(out, 0);
+    push_u32(out, 0);
+}
+
+/// Appends the chunks between the first one and the data.
+#[tactic(auto, using(std::proofs::lemmas::List::append_assoc), unfolding(crate::specs::Headers::middle))]
+fn push_middle(out: &mut Vec<u8>, fmt: &Fmt, bext: &Bext, history: &[u8])
+    requires history { length history.now ≤ 4096 }
+    requires room { vec_len out.old + 634 + even_up (length history.now) ≤ vec_capacity out.old }
+    ensures { Gains (middle fmt.now bext.now history.now) (634 + even_up (length history.now)) out.old out.new }
+{
+    push_fmt_chunk(out, fmt);
+    push_bext_chunk(out, bext, history);
+}
+
+#[tactic(auto, using(std::proofs::lemmas::List::append_assoc))]
+fn push_fmt_chunk(out: &mut Vec<u8>, fmt: &Fmt)
+    requires { vec_len out.old + 24 ≤ vec_capacity out.old }
+    ensures { Gains (chunk (fmt_chunk fmt.now)) 24 out.old out.new }
+{
+    push_head(out, ChunkId(*b"fmt "), 16);
+    push_fmt(out, fmt);
+}
+
+#[tactic(auto, using(std::proofs::lemmas::List::append_assoc))]
+fn push_bext_chunk(out: &mut Vec<u8>, bext: &Bext, history: &[u8])
+    requires history { length history.now ≤ 4096 }
+    requires room { vec_len out.old + 610 + even_up (length history.now) ≤ vec_capacity out.old }
+    ensures { Gains (chunk (bext_chunk bext.now history.now)) (610 + even_up (length history.now)) out.old out.new }
+{
+    let size = 602 + history.len();
+    push_head(out, ChunkId(*b"bext"), size as u32);
+    push_bext(out, bext);
+    push_bytes(out, history);
+    push_pad(out, size);
+}
+
+/// Appends the zero byte that makes a length even.
+fn push_pad(out: &mut Vec<u8>, len: usize)
+    requires { vec_len out.old + len % 2 ≤ vec_capacity out.old }
+    ensures { Gains (pad len) (len % 2) out.old out.new }
+{
+    if len % 2 == 1 {
+        push_bytes(out, &[0]);
+    }
+}
