@@ -1,8 +1,8 @@
 -- How replies are spelled.
-use Rattle.std.specs.Prelude.{◌≡◌, ℕ, ◌+◌, ◌^◌, ◌&&◌, Bool, Option, Some, None, option_map, ok_or, Result, Ok, Err, IsTrue, List, [], ◌∷◌, ◌++◌, length, find, nat_le, ◌==◌, if◌then◌else◌}
+use Rattle.std.specs.Prelude.{◌↔◌, ◌≡◌, ℕ, ◌+◌, ◌^◌, ◌&&◌, Bool, Option, None, option_map, ok_or, Result, Ok, Err, IsTrue, List, [], ◌∷◌, ◌++◌, length, find, nat_le, ◌==◌, if◌then◌else◌}
 use Rattle.bw_model.specs.Bytes.{le32, le64, u32_at, u64_at}
 use Rattle.bw_model.specs.Take.{Verdict, Stored, NameTaken, AlreadyOpen, NotOpen, Closed, BadFormat, BadBlock, BadMarker, DuplicateMarker, TooManyMarkers, BadField, WrongTotal}
-use Rattle.bw_model.specs.Wire.{Second, last_number, is_name, is_below, addressed, Reason, Length, Kind, Name, Number, Payload, Cut, reason_code, is_name_bad, is_number_bad, name_in, number_in, payload_in}
+use Rattle.bw_model.specs.Wire.{Second, last_number, is_name, is_below, are_bytes, addressed, Reason, Length, Kind, Name, Number, Payload, Cut, reason_code, is_name_bad, is_number_bad, name_in, number_in, payload_in}
 
 pub data Notice : Type 0 where
   Held : Notice
@@ -113,3 +113,7 @@ decoded_reply (kind ∷ rest) =
     else if kind == 0x82 then addressed_reply rest noticed_by
     else if kind == 0x83 then ok_or (refused_by rest) Payload
     else Err Kind
+
+-- a decoder answers a reply exactly where the bytes spell it
+abbrev pub DecodesReplySpellings : Type 0
+DecodesReplySpellings = (bytes : List ℕ) (r : Reply) → IsTrue (are_bytes bytes) → (decoded_reply bytes ≡ Ok r) ↔ SpellsReply bytes r
