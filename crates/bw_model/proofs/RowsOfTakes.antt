@@ -1,0 +1,48 @@
+-- The worked rows compute: what is stored of a take, and its file at the limit.
+use Rattle.std.proofs.Common.{refl}
+use Rattle.bw_model.proofs.Computing.{computing}
+use Rattle.bw_model.specs.RowsOfTakes.{FormatsRow, HistoryBytesRow, BeforeAndBehindRow, ManyMarkersRow, FieldsRow, LargestRiffRow, LargestOddRiffRow, SmallestWideRow, AtLimitRow, MarkedRow, OverLimitRow}
+
+pub formats : FormatsRow
+unfolding computing
+formats = refl
+
+pub history_bytes : HistoryBytesRow
+unfolding computing
+history_bytes = refl
+
+pub before_and_behind : BeforeAndBehindRow
+unfolding computing
+before_and_behind = refl
+
+pub many_markers : ManyMarkersRow
+unfolding computing
+many_markers = refl
+
+pub fields : FieldsRow
+unfolding computing
+fields = refl
+
+pub largest_riff : LargestRiffRow
+unfolding computing
+largest_riff = refl
+
+pub largest_odd_riff : LargestOddRiffRow
+unfolding computing
+largest_odd_riff = refl
+
+pub smallest_wide : SmallestWideRow
+unfolding computing
+smallest_wide = refl
+
+pub at_limit : AtLimitRow
+unfolding computing
+at_limit = refl
+
+pub marked : MarkedRow
+unfolding computing
+marked = (refl, refl)
+
+pub over_limit : OverLimitRow
+unfolding computing
+over_limit = refl

@@ -1,0 +1,17 @@
+use Rattle.bw_model.proofs.RowsOfTakes as rows
+use Rattle.bw_model.proofs.rows_of_takes.Goals as goal
+
+pub returns : goal.returns
+returns c = record {
+  formats = rows.formats;
+  history_bytes = rows.history_bytes;
+  before_and_behind = rows.before_and_behind;
+  many_markers = rows.many_markers;
+  fields = rows.fields;
+  largest_riff = rows.largest_riff;
+  largest_odd_riff = rows.largest_odd_riff;
+  smallest_wide = rows.smallest_wide;
+  at_limit = rows.at_limit;
+  marked = rows.marked;
+  over_limit = rows.over_limit;
+}
