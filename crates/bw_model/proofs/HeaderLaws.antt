@@ -6,7 +6,7 @@ use Rattle.std.proofs.lemmas.Bool.{ne_eqb, cond-false}
 use Rattle.bw_model.specs.Bytes.{unsaid, even_up}
 use Rattle.bw_model.specs.Take.{Format, AreFields}
 use Rattle.bw_model.specs.Layout.{Chunk, head, chunk, chunk_sized, pad, bext_fixed, cue_content}
-use Rattle.bw_model.specs.File.{file_with, form_of, form_len, form_size, header, data_place, junk_chunk, ds64_chunk, fmt_chunk, bext_chunk, data_chunk, chunks_before, chunks_behind, cue_chunks, cues, EachFileHasItsHeader, HeadersReachTheData, FormSizesAreLengths}
+use Rattle.bw_model.specs.File.{file_with, form_of, form_len, form_size, header, data_place, junk_chunk, ds64_chunk, fmt_chunk, bext_chunk, data_chunk, chunks_behind, cue_chunks, cues, EachFileHasItsHeader, HeadersReachTheData, FormSizesAreLengths}
 use Rattle.bw_model.proofs.Widths.{length-bext_fixed, length-chunk_sized, length-cue_content}
 
 length-bext : (fields : List (List ℕ)) (history : List ℕ) → AreFields fields → length (chunk (bext_chunk fields history)) ≡ 610 + even_up (length history)

@@ -1,14 +1,13 @@
 -- The words in which the worked rows are written.
 use Rattle.std.specs.Prelude.{◌≡◌, ℕ, ◌-◌, ◌*◌, ◌+◌, Bool, false, Option, Some, None, List, [], ◌∷◌, ◌++◌, codes, fold, map, nat_lt, if◌then◌else◌}
-use Rattle.std.specs.Str.{bytes_eq}
 use Prim.Native.String.{String}
-use Rattle.bw_model.specs.Bytes.{zeros, le16, le32}
-use Rattle.bw_model.specs.Take.{Format, Take, new_take, Request, Open, Block, Close, after}
-use Rattle.bw_model.specs.Wire.{Message, Frame, Says, framed, body}
+use Rattle.bw_model.specs.Bytes.{zeros, le32}
+use Rattle.bw_model.specs.Take.{Format, Take, new_take, Request, after}
+use Rattle.bw_model.specs.Wire.{Frame, Says}
 use Rattle.bw_model.specs.Replies.{Reply}
 use Rattle.bw_model.specs.Stream.{End}
 use Rattle.bw_model.specs.Book.{Book}
-use Rattle.bw_model.specs.Turn.{Luck, good, run, book_after}
+use Rattle.bw_model.specs.Turn.{Luck, run, book_after}
 use Rattle.bw_model.specs.Exchange.{exchange, content_in, replies_bytes}
 use Rattle.bw_model.specs.Reading.{Entry, Form}
 

@@ -1,6 +1,6 @@
 -- Worked rows: frames that are whole, too long, cut or misspelt, and replies.
 use Rattle.std.specs.Prelude.{◌≡◌, Ok, Err, Some, None, [], ◌∷◌, ◌++◌, map, take, replicate}
-use Rattle.bw_model.specs.Take.{Block, BadBlock, Stored}
+use Rattle.bw_model.specs.Take.{Block, BadBlock}
 use Rattle.bw_model.specs.Wire.{Says, Second, decoded, decoded_request, framed, body, Length, Kind, Name, Number, Payload, Cut}
 use Rattle.bw_model.specs.Replies.{Judged, Noticed, Refused, Held, Next, decoded_reply}
 use Rattle.bw_model.specs.Stream.{EndOfInput, BadFrame}

@@ -1,8 +1,8 @@
 -- Worked rows: forms that are read, and forms that are refused.
-use Rattle.std.specs.Prelude.{◌≡◌, ℕ, Ok, Err, Result, Some, None, List, [], ◌∷◌, ◌++◌, codes, map, take, drop}
-use Rattle.bw_model.specs.Bytes.{zeros, le32, le64}
-use Rattle.bw_model.specs.Reading.{Entry, Form, Fault, FaultKind, NotWave, Truncated, NoDs64, BadDs64, NoSize, Twice, NoFmt, NoData, BadFmt, BadBext, BadCue, TooMany, TooLarge, read}
-use Rattle.bw_model.specs.RowWords.{hex, two_frames, mono_fmt, plain_header, small_file, odd_file, cue_file, entry, riff}
+use Rattle.std.specs.Prelude.{◌≡◌, ℕ, Ok, Err, Some, List, [], ◌∷◌, ◌++◌, codes, map, take, drop}
+use Rattle.bw_model.specs.Bytes.{zeros}
+use Rattle.bw_model.specs.Reading.{Entry, Form, FaultKind, NotWave, Truncated, NoDs64, BadDs64, NoSize, Twice, NoFmt, NoData, BadFmt, BadBext, BadCue, TooMany, TooLarge, read}
+use Rattle.bw_model.specs.RowWords.{hex, two_frames, mono_fmt, small_file, odd_file, cue_file, entry, riff}
 
 abbrev pub ReadsAs : List ℕ → Form → List Entry → Type 0
 ReadsAs b form entries = read b ≡ Ok (form, entries)

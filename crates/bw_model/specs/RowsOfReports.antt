@@ -1,7 +1,6 @@
 -- Worked rows: the text of a report.
 use Rattle.std.specs.Prelude.{◌≡◌, ℕ, List, [], ◌∷◌, ◌++◌, codes, flat_map, replicate, take, drop}
 use Prim.Native.String.{String}
-use Rattle.bw_model.specs.Bytes.{zeros}
 use Rattle.bw_model.specs.Reading.{Entry, Form}
 use Rattle.bw_model.specs.Report.{report_of, report_text}
 use Rattle.bw_model.specs.RowWords.{hex, empty_file, small_file, cue_file, entry, riff}

@@ -1,9 +1,9 @@
 -- Worked rows: what is stored of a take, and its file at the limit.
-use Rattle.std.specs.Prelude.{◌≡◌, ℕ, Bool, true, Option, Some, None, List, [], ◌∷◌, ◌++◌, codes, map, drop, replicate}
-use Rattle.bw_model.specs.Bytes.{zeros, le32}
-use Rattle.bw_model.specs.Take.{Format, Take, Request, Open, Block, Mark, SetField, Close, verdict, no_fields, field_fault, BadTag, BadLength, BadText, Stored, AlreadyOpen, NotOpen, Closed, BadFormat, TooManyMarkers, BadField, WrongTotal, Verdict}
+use Rattle.std.specs.Prelude.{◌≡◌, ℕ, Some, None, List, [], ◌∷◌, ◌++◌, codes, map, drop, replicate}
+use Rattle.bw_model.specs.Bytes.{zeros}
+use Rattle.bw_model.specs.Take.{Take, Request, Open, Block, Mark, SetField, Close, verdict, no_fields, field_fault, BadTag, BadLength, BadText, Stored, AlreadyOpen, NotOpen, Closed, BadFormat, TooManyMarkers, Verdict}
 use Rattle.bw_model.specs.File.{file_of, header}
-use Rattle.bw_model.specs.RowWords.{hex, mono, mono_24, default_limit, take_of, mono_fmt, plain_header, two_frames}
+use Rattle.bw_model.specs.RowWords.{hex, mono, default_limit, take_of, mono_fmt, plain_header, two_frames}
 
 -- The judgement.
 

@@ -1,11 +1,11 @@
 -- Worked rows: what a sender counts, and a rehearsal.
-use Rattle.std.specs.Prelude.{◌≡◌, ℕ, Option, Some, None, List, [], ◌∷◌, ◌++◌, codes, fold, length, map, replicate, slice_get}
+use Rattle.std.specs.Prelude.{◌≡◌, ℕ, Some, None, List, [], ◌∷◌, ◌++◌, codes, fold, length, map, replicate, slice_get}
 use Rattle.bw_model.specs.Take.{Request, Open, Block, Mark, Close, Stored, BadBlock}
 use Rattle.bw_model.specs.Replies.{Reply, Judged, Noticed, Refused, Held, Next}
-use Rattle.bw_model.specs.Wire.{Frame, Says, Bye, Cut}
+use Rattle.bw_model.specs.Wire.{Bye, Cut}
 use Rattle.bw_model.specs.Stream.{frames_bytes}
 use Rattle.bw_model.specs.Book.{log_of}
-use Rattle.bw_model.specs.Turn.{Luck, good}
+use Rattle.bw_model.specs.Turn.{good}
 use Rattle.bw_model.specs.World.{Sender, World, Event, Offer, Send, Deliver, Bring, Ask, new_world, world_after, settled, stored, refused, pending, offer, offer_fault, BeforeOpen, AfterClose, WindowFull, hear, heard, Heard, Counted, Known, Noted, Stranger}
 use Rattle.bw_model.specs.RowWords.{hex, a1, mono, two_frames, open_0, block_1, close_2, small_file, file_in, nothing_stands, says}
 
