@@ -1,0 +1,4 @@
+pub mod Names
+pub mod Bytes
+pub mod Torn
+pub mod Tears

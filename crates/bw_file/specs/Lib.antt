@@ -1,0 +1,4 @@
+pub mod Stores
+pub mod Memory
+pub mod MemoryNames
+pub mod Fuses

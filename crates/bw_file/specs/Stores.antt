@@ -1,0 +1,46 @@
+-- What the calls of a store leave.
+use Rattle.std.specs.Prelude.{◌≡◌, ◌≢◌, ℕ, ◌+◌, ◌-◌, ◌<◌, ◌≤◌, max, List, [], ◌++◌, length, take, drop, slice_index, Option, Some, None, IsSome, Bool, IsTrue, IsFalse}
+use Rattle.bw_model.specs.Bytes.{zeros}
+use Rattle.bw_file.specs.declared.store.Created.{Created}
+use Rattle.bw_file.specs.declared.store.Created.TheVariants.{New, Exists}
+
+-- the last value of a count of 64 bits
+abbrev pub last_count : ℕ
+last_count = 18446744073709551615
+
+-- A count rises by one in a call where the thing happens, and only there; at its last value it stays.
+pub record Counts (before after : ℕ) (happens : Bool) : Type 0 where
+  pub quiet : IsFalse happens → after ≡ before
+  pub rises : IsTrue happens → before < last_count → after ≡ before + 1
+  pub stays : last_count ≤ before → after ≡ before
+
+-- what a name has before and after a `create` that succeeds
+abbrev pub Creates : Created → Option (List ℕ) → Option (List ℕ) → Type 0
+Creates New before after = (before ≡ None) × (after ≡ Some [])
+Creates Exists before after = IsSome before × (after ≡ before)
+
+-- the content with these bytes from a place on; a gap before the place reads as zeros
+abbrev pub overwritten : List ℕ → ℕ → List ℕ → List ℕ
+overwritten old place bytes =
+    take place old ++ zeros (place - length old) ++ bytes ++ drop (place + length bytes) old
+
+-- .. after a `write_at` that succeeds: the name stands
+abbrev pub Written : Option (List ℕ) → ℕ → List ℕ → Option (List ℕ) → Type 0
+Written before place bytes after =
+    (old : List ℕ) × (before ≡ Some old) × (after ≡ Some (overwritten old place bytes))
+
+-- a content with any bytes in the n bytes from a place on, as long as the old one up to the range's end
+pub record Torn (old : List ℕ) (place n : ℕ) (new : List ℕ) : Type 0 where
+  pub no_shorter : length old ≤ length new
+  pub no_longer : length new ≤ max (length old) (place + n)
+  pub before : (k : ℕ) → k < place → slice_index new k ≡ slice_index old k
+  pub behind : (k : ℕ) → place + n ≤ k → slice_index new k ≡ slice_index old k
+
+-- .. after a `write_at` of n bytes that fails: no name is made
+abbrev pub MayTear : Option (List ℕ) → ℕ → ℕ → Option (List ℕ) → Type 0
+MayTear before place n after =
+    (before ≡ None → after ≡ None) × ((old : List ℕ) → before ≡ Some old → (new : List ℕ) × (after ≡ Some new) × Torn old place n new)
+
+-- each other name has what it had
+abbrev pub KeepsOthers : (List ℕ → Option (List ℕ)) → (List ℕ → Option (List ℕ)) → List ℕ → Type 0
+KeepsOthers before after name = (other : List ℕ) → other ≢ name → after other ≡ before other

@@ -1,0 +1,193 @@
+//! A store that fails chosen calls.
+ghost use Rattle.std.specs.Prelude.{◌≡◌, ◌<◌, ◌==◌, ℕ, List, Option, true, not, IsTrue, IfOk, OnOk, OnErr, is_err, is_ok, length, filter, if◌then◌else◌};
+ghost use Rattle.bw_file.specs.Stores.{Counts, Creates, Written, MayTear, KeepsOthers, last_count};
+ghost use Rattle.bw_file.specs.Fuses.{has_fuse, Blows, first_half, with_written};
+
+use crate::store::{Created, StoreFault, TakeStore};
+use crate::tally::Tally;
+use bw_take::Name;
+
+/// A store behind fuses: the calls of chosen numbers, counted from 0, fail, each once.
+///
+/// A `write_at` that fails so writes the first half of its bytes, rounded down.
+#[derive(Drop)]
+pub struct FuseStore<S: TakeStore> {
+    inner: S,
+    fuses: Vec<u64>,
+    written: u64,
+    tally: Tally,
+}
+
+impl<S: TakeStore> FuseStore<S> {
+    /// A store whose calls of these numbers fail.
+    pub fn new(inner: S, fuses: Vec<u64>) -> FuseStore<S>
+        ensures inner { result.inner ≡ inner }
+        ensures fuses { result.fuses.items ≡ fuses.items }
+        ensures calls { result.tally.calls ≡ 0 }
+        ensures failures { result.tally.failures ≡ 0 }
+        ensures written { result.written ≡ 0 }
+    {
+        FuseStore {
+            inner,
+            fuses,
+            written: 0,
+            tally: Tally::new(),
+        }
+    }
+
+    /// How many calls came, those that failed among them.
+    pub fn calls(&self) -> u64
+        ensures { result ≡ self.now.tally.calls }
+    {
+        self.tally.calls()
+    }
+
+    /// How many bytes were written by the calls of `write_at` that succeeded.
+    pub fn written(&self) -> u64
+        ensures { result ≡ self.now.written }
+    {
+        self.written
+    }
+
+    /// The store behind the fuses.
+    pub fn inner(&self) -> &S
+        ensures { result.now ≡ self.now.inner }
+    {
+        &self.inner
+    }
+
+    /// The store behind the fuses, without them.
+    pub fn into_inner(self) -> S
+        ensures { result ≡ self.inner }
+    {
+        let FuseStore {
+            inner,
+            fuses: _,
+            written: _,
+            tally: _,
+        } = self;
+        inner
+    }
+}
+
+impl<S: TakeStore> TakeStore for FuseStore<S> {
+    ghost contents = { λ s name. S.contents s.inner name };
+
+    ghost failures = { λ s. s.tally.failures };
+
+    ghost calls = { λ s. s.tally.calls };
+
+    ghost honest = { λ s. S.honest s.inner };
+
+    fn create(&mut self, name: &Name) -> Result<Created, StoreFault>
+        ensures failures { Counts self.old.tally.failures self.new.tally.failures (is_err result) }
+        ensures calls { Counts self.old.tally.calls self.new.tally.calls true }
+        ensures honest { S.honest self.new.inner ≡ S.honest self.old.inner }
+        ensures created { IsTrue (S.honest self.old.inner) → IfOk result (λ c.
+            Creates c (S.contents self.old.inner name.now) (S.contents self.new.inner name.now)) }
+        ensures failed { IsTrue (S.honest self.old.inner) → OnErr result
+            (S.contents self.new.inner name.now ≡ S.contents self.old.inner name.now) }
+        ensures others { IsTrue (S.honest self.old.inner) →
+            KeepsOthers (S.contents self.old.inner) (S.contents self.new.inner) name.now }
+        ensures blows { Blows (has_fuse self.old.fuses.items self.old.tally.calls) (is_err result)
+            (S.failures self.old.inner) (S.failures self.new.inner) }
+        ensures untouched { IsTrue (has_fuse self.old.fuses.items self.old.tally.calls) →
+            self.new.inner ≡ self.old.inner }
+        ensures spent { self.new.fuses.items
+            ≡ filter (λ f. not (f == self.old.tally.calls)) self.old.fuses.items }
+        ensures written { self.new.written ≡ self.old.written }
+    {
+        let answer = if blow(&mut self.fuses, self.tally.calls()) {
+            Err(StoreFault)
+        } else {
+            self.inner.create(name)
+        };
+        self.tally.count(answer.is_err());
+        answer
+    }
+
+    fn write_at(&mut self, name: &Name, offset: u64, bytes: &[u8]) -> Result<(), StoreFault>
+        ensures failures { Counts self.old.tally.failures self.new.tally.failures (is_err result) }
+        ensures calls { Counts self.old.tally.calls self.new.tally.calls true }
+        ensures honest { S.honest self.new.inner ≡ S.honest self.old.inner }
+        ensures all { IsTrue (S.honest self.old.inner) → OnOk result (Written
+            (S.contents self.old.inner name.now) offset bytes.now (S.contents self.new.inner name.now)) }
+        ensures failed { IsTrue (S.honest self.old.inner) → OnErr result (MayTear
+            (S.contents self.old.inner name.now) offset (length bytes.now)
+            (S.contents self.new.inner name.now)) }
+        ensures others { IsTrue (S.honest self.old.inner) →
+            KeepsOthers (S.contents self.old.inner) (S.contents self.new.inner) name.now }
+        ensures blows { Blows (has_fuse self.old.fuses.items self.old.tally.calls) (is_err result)
+            (S.failures self.old.inner) (S.failures self.new.inner) }
+        ensures half { IsTrue (has_fuse self.old.fuses.items self.old.tally.calls) →
+            IsTrue (S.honest self.old.inner) →
+            S.failures self.old.inner < last_count →
+            S.failures self.new.inner ≡ S.failures self.old.inner →
+            Written (S.contents self.old.inner name.now) offset (first_half bytes.now)
+            (S.contents self.new.inner name.now) }
+        ensures spent { self.new.fuses.items
+            ≡ filter (λ f. not (f == self.old.tally.calls)) self.old.fuses.items }
+        ensures written { self.new.written
+            ≡ (if is_ok result then with_written self.old.written (length bytes.now) else self.old.written) }
+    {
+        let answer = if blow(&mut self.fuses, self.tally.calls()) {
+            write_half(&mut self.inner, name, offset, bytes);
+            Err(StoreFault)
+        } else {
+            self.inner.write_at(name, offset, bytes)
+        };
+        if answer.is_ok() {
+            self.written = self.written.saturating_add(bytes.len() as u64);
+        }
+        self.tally.count(answer.is_err());
+        answer
+    }
+
+    fn finish(&mut self, name: &Name) -> Result<(), StoreFault>
+        ensures failures { Counts self.old.tally.failures self.new.tally.failures (is_err result) }
+        ensures calls { Counts self.old.tally.calls self.new.tally.calls true }
+        ensures honest { S.honest self.new.inner ≡ S.honest self.old.inner }
+        ensures unchanged { IsTrue (S.honest self.old.inner) → (other : List ℕ) →
+            S.contents self.new.inner other ≡ S.contents self.old.inner other }
+        ensures blows { Blows (has_fuse self.old.fuses.items self.old.tally.calls) (is_err result)
+            (S.failures self.old.inner) (S.failures self.new.inner) }
+        ensures untouched { IsTrue (has_fuse self.old.fuses.items self.old.tally.calls) →
+            self.new.inner ≡ self.old.inner }
+        ensures spent { self.new.fuses.items
+            ≡ filter (λ f. not (f == self.old.tally.calls)) self.old.fuses.items }
+        ensures written { self.new.written ≡ self.old.written }
+    {
+        let answer = if blow(&mut self.fuses, self.tally.calls()) {
+            Err(StoreFault)
+        } else {
+            self.inner.finish(name)
+        };
+        self.tally.count(answer.is_err());
+        answer
+    }
+}
+
+/// Whether the call of this number is to fail. Its fuse is spent then.
+fn blow(fuses: &mut Vec<u64>, call: u64) -> bool
+    ensures told { result ≡ has_fuse fuses.old.items call }
+    ensures spent { fuses.new.items ≡ filter (λ f. not (f == call)) fuses.old.items }
+{
+    let has = fuses.contains(&call);
+    fuses.retain(|fuse| *fuse != call);
+    has
+}
+
+/// Writes the first half of the bytes, whether or not the store takes it.
+fn write_half<S: TakeStore>(store: &mut S, name: &Name, offset: u64, bytes: &[u8])
+    ensures honest { S.honest store.new ≡ S.honest store.old }
+    ensures torn { IsTrue (S.honest store.old) → MayTear
+        (S.contents store.old name.now) offset (length bytes.now) (S.contents store.new name.now) }
+    ensures half { IsTrue (S.honest store.old) → S.failures store.old < last_count →
+        S.failures store.new ≡ S.failures store.old →
+        Written (S.contents store.old name.now) offset (first_half bytes.now)
+        (S.contents store.new name.now) }
+    ensures others { IsTrue (S.honest store.old) →
+        KeepsOthers (S.contents store.old) (S.contents store.new) name.now }
+{
+    let _ = store.write_at(name, offset, &bytes[..bytes.len() / 2]);
+}

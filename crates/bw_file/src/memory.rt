@@ -1,0 +1,172 @@
+//! A store in memory.
+ghost use Rattle.std.specs.Prelude.{◌≡◌, ◌≤◌, ◌<◌, ◌+◌, ◌^◌, ◌↔◌, ℕ, List, Some, None, IsSome, IfSome, IsTrue, IsOk, IfOk, OnOk, OnErr, is_err, length, slice_get, true};
+ghost use Rattle.std.specs.Option.{option_copied};
+ghost use Rattle.bw_file.specs.Stores.{Counts, Creates, Written, MayTear, KeepsOthers, overwritten};
+ghost use Rattle.bw_file.specs.Memory.{content_of};
+
+use crate::store::{Created, StoreFault, TakeStore};
+use crate::tally::Tally;
+use bw_take::Name;
+use std::alloc::{AllocError, Global};
+use std::collections::BTreeMap;
+
+/// Takes in memory. A call fails where memory is refused, and for a name that was never made.
+#[derive(Drop)]
+pub struct MemoryStore {
+    alloc: Global,
+    files: BTreeMap<Name, Vec<u8>>,
+    tally: Tally,
+}
+
+impl MemoryStore {
+    ghost use Rattle.bw_file.specs.MemoryNames.{names_of, AreNames};
+
+    /// An empty store.
+    pub fn new(alloc: Global) -> MemoryStore
+        ensures honest { IsTrue (⟦<MemoryStore as TakeStore>⟧.honest result) }
+        ensures empty { (name : List ℕ) → ⟦<MemoryStore as TakeStore>⟧.contents result name ≡ None }
+        ensures failures { ⟦<MemoryStore as TakeStore>⟧.failures result ≡ 0 }
+        ensures calls { ⟦<MemoryStore as TakeStore>⟧.calls result ≡ 0 }
+    {
+        MemoryStore {
+            alloc,
+            files: BTreeMap::new(alloc),
+            tally: Tally::new(),
+        }
+    }
+
+    /// Puts a name with contents, in place of what stood there. That is no call of the store.
+    ///
+    /// # Errors
+    /// `AllocError` where memory was refused: nothing changed then.
+    pub fn plant(&mut self, name: &Name, bytes: &[u8]) -> Result<(), AllocError>
+        ensures ok { OnOk result (content_of self.new.files name.now ≡ Some bytes.now) }
+        ensures err { OnErr result
+            (content_of self.new.files name.now ≡ content_of self.old.files name.now) }
+        ensures others { KeepsOthers (content_of self.old.files) (content_of self.new.files) name.now }
+        ensures tally { self.new.tally ≡ self.old.tally }
+    {
+        let content = bytes.to_vec(self.alloc)?;
+        match self.files.insert(name.copy(), content) {
+            Ok(_) => Ok(()),
+            Err(_) => Err(AllocError),
+        }
+    }
+
+    /// What stands under a name.
+    pub fn content(&self, name: &Name) -> Option<&[u8]>
+        ensures { option_copied result ≡ ⟦<MemoryStore as TakeStore>⟧.contents self.now name.now }
+    {
+        match self.files.get(name) {
+            Some(content) => Some(content.as_slice()),
+            None => None,
+        }
+    }
+
+    /// The names that stand, by place from 0 on, in the order of their bytes.
+    pub fn name_at(&self, place: usize) -> Option<&Name>
+        ensures name { option_copied result ≡ slice_get (names_of self.now) place }
+        ensures names { AreNames (names_of self.now) (content_of self.now.files) }
+    {
+        self.files.keys().nth(place)
+    }
+}
+
+impl TakeStore for MemoryStore {
+    ghost contents = { λ s name. content_of s.files name };
+
+    ghost failures = { λ s. s.tally.failures };
+
+    ghost calls = { λ s. s.tally.calls };
+
+    ghost honest = { λ s. true };
+
+    fn create(&mut self, name: &Name) -> Result<Created, StoreFault> {
+        let answer = make(&mut self.files, self.alloc, name);
+        self.tally.count(answer.is_err());
+        answer
+    }
+
+    fn write_at(&mut self, name: &Name, offset: u64, bytes: &[u8]) -> Result<(), StoreFault> {
+        let answer = write(&mut self.files, name, offset, bytes);
+        self.tally.count(answer.is_err());
+        answer
+    }
+
+    fn finish(&mut self, name: &Name) -> Result<(), StoreFault> {
+        let stands = self.files.contains_key(name);
+        self.tally.count(!stands);
+        if stands { Ok(()) } else { Err(StoreFault) }
+    }
+}
+
+/// Makes a file, unless it stands.
+fn make(
+    files: &mut BTreeMap<Name, Vec<u8>>,
+    alloc: Global,
+    name: &Name,
+) -> Result<Created, StoreFault>
+    ensures created { IfOk result
+        (λ c. Creates c (content_of files.old name.now) (content_of files.new name.now)) }
+    ensures failed { OnErr result
+        (content_of files.new name.now ≡ content_of files.old name.now) }
+    ensures others { KeepsOthers (content_of files.old) (content_of files.new) name.now }
+    ensures stands { OnErr result (content_of files.old name.now ≡ None) }
+{
+    if files.contains_key(name) {
+        return Ok(Created::Exists);
+    }
+    match files.insert(name.copy(), Vec::new(alloc)) {
+        Ok(_) => Ok(Created::New),
+        Err(_) => Err(StoreFault),
+    }
+}
+
+/// Writes into a file, if it stands.
+fn write(
+    files: &mut BTreeMap<Name, Vec<u8>>,
+    name: &Name,
+    offset: u64,
+    bytes: &[u8],
+) -> Result<(), StoreFault>
+    ensures written { OnOk result
+        (Written (content_of files.old name.now) offset bytes.now (content_of files.new name.now)) }
+    ensures failed { OnErr result
+        (content_of files.new name.now ≡ content_of files.old name.now) }
+    ensures others { KeepsOthers (content_of files.old) (content_of files.new) name.now }
+{
+    if offset > u64::MAX - bytes.len() as u64 {
+        return Err(StoreFault);
+    }
+    match files.get_mut(name) {
+        Some(content) => overwrite(content, offset, bytes).map_err(|_| StoreFault),
+        None => Err(StoreFault),
+    }
+}
+
+/// Puts bytes over what stands from an offset on, and past its end.
+#[tactic(auto, using(crate::proofs::Bytes::overwritten_past))]
+fn overwrite(content: &mut Vec<u8>, offset: u64, bytes: &[u8]) -> Result<(), AllocError>
+    requires { offset + length bytes.now < 2 ^ 64 }
+    ensures ok { OnOk result (content.new.items ≡ overwritten content.old.items offset bytes.now) }
+    ensures err { OnErr result (content.new.items ≡ content.old.items) }
+{
+    let start = offset as usize;
+    let end = start + bytes.len();
+    if end <= content.len() {
+        copy_in(content, start, bytes);
+        return Ok(());
+    }
+    content.reserve(end - content.len())?;
+    content.resize(start, 0)?;
+    content.extend_from_slice(bytes)?;
+    Ok(())
+}
+
+/// Puts bytes over as many that stand there.
+fn copy_in(content: &mut [u8], start: usize, bytes: &[u8])
+    requires { start + length bytes.now ≤ length content.old }
+    ensures { content.new ≡ overwritten content.old start bytes.now }
+{
+    content[start..start + bytes.len()].copy_from_slice(bytes);
+}
