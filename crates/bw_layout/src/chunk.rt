@@ -5,10 +5,21 @@ ghost use Rattle.bw_layout.specs.Appending.{Gains, Appends};
 
 use crate::room::{push_bytes, push_u32};
 use std::alloc::{AllocError, Global};
+use std::marker::Model;
 
 /// The four bytes that name a chunk.
 #[derive(Clone, Copy, Debug, PartialEq, Eq, Hash, PartialOrd, Ord)]
 pub struct ChunkId(pub [u8; 4]);
+
+impl Model for ChunkId {
+    ghost use Rattle.std.specs.Prelude.{ℕ, List};
+
+    ghost Value = { List ℕ };
+
+    ghost view = { λ id. id.0 };
+
+    ghost inverse = { λ v. record { 0 = v } };
+}
 
 /// What stands before a chunk's content.
 #[derive(Clone, Copy, Debug, PartialEq, Eq, Hash)]
@@ -23,7 +34,7 @@ pub struct ChunkHead {
 /// # Errors
 /// Memory was refused.
 pub fn put_head(_alloc: Global, out: &mut Vec<u8>, head: ChunkHead) -> Result<(), AllocError>
-    ensures { Appends (head_bytes head.id.0 head.size32) 8 result out.old out.new }
+    ensures { Appends (head_bytes head.id head.size32) 8 result out.old out.new }
 {
     out.reserve(8)?;
     push_head(out, head.id, head.size32);
@@ -33,7 +44,7 @@ pub fn put_head(_alloc: Global, out: &mut Vec<u8>, head: ChunkHead) -> Result<()
 #[tactic(auto, using(std::proofs::lemmas::List::append_assoc))]
 pub(crate) fn push_head(out: &mut Vec<u8>, id: ChunkId, size32: u32)
     requires { vec_len out.old + 8 ≤ vec_capacity out.old }
-    ensures { Gains (head_bytes id.0 size32) 8 out.old out.new }
+    ensures { Gains (head_bytes id size32) 8 out.old out.new }
 {
     push_bytes(out, &id.0);
     push_u32(out, size32);
