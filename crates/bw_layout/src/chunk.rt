@@ -1,10 +1,15 @@
 //! The ids and heads of chunks (RIFF, chapter 2, "Chunks").
-ghost use Rattle.std.specs.Prelude.{◌+◌, ◌≤◌, vec_len, vec_capacity};
+ghost use Rattle.std.specs.Prelude.{◌+◌, ◌≤◌, length, vec_len, vec_capacity};
+ghost use Rattle.std.specs.Result.{OkIff};
 ghost use Rattle.bw_model.specs.Layout.{head as head_bytes};
 ghost use Rattle.bw_layout.specs.Appending.{Gains, Appends};
+ghost use Rattle.bw_layout.specs.Heads.{head_at};
 
+use crate::number::{read_id, read_u32};
 use crate::room::{push_bytes, push_u32};
 use std::alloc::{AllocError, Global};
+use std::error::Error;
+use std::fmt;
 use std::marker::Model;
 
 /// The four bytes that name a chunk.
@@ -29,6 +34,18 @@ pub struct ChunkHead {
     pub size32: u32,
 }
 
+/// There are too few bytes to read from.
+#[derive(Clone, Copy, Debug, PartialEq, Eq)]
+pub struct Short;
+
+impl fmt::Display for Short {
+    fn fmt<W: fmt::Write>(&self, f: &mut fmt::Formatter<W>) -> fmt::Result {
+        f.write_str("too few bytes")
+    }
+}
+
+impl Error for Short {}
+
 /// Appends a chunk's head.
 ///
 /// # Errors
@@ -48,4 +65,20 @@ pub(crate) fn push_head(out: &mut Vec<u8>, id: ChunkId, size32: u32)
 {
     push_bytes(out, &id.0);
     push_u32(out, size32);
+}
+
+/// Reads a chunk's head.
+///
+/// # Errors
+/// Short where there are fewer than 8 bytes.
+pub fn read_head(bytes: &[u8]) -> Result<ChunkHead, Short>
+    ensures { OkIff result (8 ≤ length bytes.now) (head_at bytes.now) }
+{
+    if bytes.len() < 8 {
+        return Err(Short);
+    }
+    Ok(ChunkHead {
+        id: ChunkId(read_id(bytes, 0)),
+        size32: read_u32(bytes, 4),
+    })
 }

@@ -5,6 +5,9 @@ ghost use Rattle.bw_model.specs.Take.{Text, Digits, Whole, Maybe, Level, matches
 ghost use Rattle.std.specs.List.{list_all};
 ghost use Rattle.bw_layout.specs.Fields.{SetsField, fits_place};
 
+use std::error::Error;
+use std::fmt;
+
 /// Why a field can't be set.
 #[derive(Clone, Copy, Debug, PartialEq, Eq, Hash)]
 pub enum FieldError {
@@ -15,6 +18,18 @@ pub enum FieldError {
     /// A byte isn't allowed at its place.
     Text = 3,
 }
+
+impl fmt::Display for FieldError {
+    fn fmt<W: fmt::Write>(&self, f: &mut fmt::Formatter<W>) -> fmt::Result {
+        f.write_str(match self {
+            FieldError::Tag => "no field has this tag",
+            FieldError::Length => "the field takes no value of this length",
+            FieldError::Text => "a byte of the value isn't allowed at its place",
+        })
+    }
+}
+
+impl Error for FieldError {}
 
 /// A loudness that isn't given: 7FFFh.
 pub(crate) const NOT_GIVEN: [u8; 2] = [0xff, 0x7f];

@@ -14,10 +14,11 @@ mod number;
 mod plain;
 mod room;
 mod sink;
+mod sizes;
 mod source;
 
 pub use broadcast::{Bext, put_bext};
-pub use chunk::{ChunkHead, ChunkId, put_head};
+pub use chunk::{ChunkHead, ChunkId, Short, put_head, read_head};
 pub use cues::CuePoint;
 pub use field::FieldError;
 pub use format::{Fmt, put_fmt};
@@ -27,4 +28,5 @@ pub use memory::{MemorySink, MemorySource};
 pub use number::{read_id, read_u16, read_u32, read_u64};
 pub use plain::Plain;
 pub use sink::{Sink, write_all};
+pub use sizes::{Ds64, Ds64Fixed, SizeTable, patch_sizes, put_ds64, read_ds64_fixed, read_entry};
 pub use source::{IoFailed, Source};
