@@ -5,4 +5,5 @@ pub mod Headers
 pub mod Heads
 pub mod Limits
 pub mod Moves
+pub mod Raw
 pub mod Tables

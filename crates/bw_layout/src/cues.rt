@@ -1,5 +1,10 @@
 //! Cue points and the `cue ` chunk (RIFF, chapter 3).
+ghost use Rattle.std.specs.Prelude.{◌+◌, ◌*◌, ◌≤◌, length, vec_len, vec_capacity, flat_map};
+ghost use Rattle.bw_model.specs.Layout.{cue_point, cue_content};
+ghost use Rattle.bw_layout.specs.Appending.{Gains, Appends};
 
+use crate::room::{push_bytes, push_u32};
+use std::alloc::{AllocError, Global};
 use std::marker::Model;
 
 /// A cue point: its identifier, and the frame that it marks, counted from the first one.
@@ -17,4 +22,41 @@ impl Model for CuePoint {
     ghost view = { λ c. (c.id, c.frame) };
 
     ghost inverse = { λ v. record { id = v.0; frame = v.1 } };
+}
+
+/// Appends the content of a `cue ` chunk: points of the data chunk, in their order.
+///
+/// # Errors
+/// Memory was refused.
+#[tactic(auto, using(std::proofs::lemmas::List::append_assoc))]
+pub fn put_cues(_alloc: Global, out: &mut Vec<u8>, cues: &[CuePoint]) -> Result<(), AllocError>
+    requires { length cues.now ≤ 1024 }
+    ensures { Appends (cue_content cues.now) (4 + 24 * length cues.now) result out.old out.new }
+{
+    out.reserve(4 + 24 * cues.len())?;
+    push_u32(out, cues.len() as u32);
+    push_points(out, cues);
+    Ok(())
+}
+
+fn push_points(out: &mut Vec<u8>, cues: &[CuePoint])
+    requires { vec_len out.old + 24 * length cues.now ≤ vec_capacity out.old }
+    ensures { Gains (flat_map cue_point cues.now) (24 * length cues.now) out.old out.new }
+{
+    for cue in cues {
+        push_point(out, *cue);
+    }
+}
+
+#[tactic(auto, using(std::proofs::lemmas::List::append_assoc))]
+fn push_point(out: &mut Vec<u8>, cue: CuePoint)
+    requires { vec_len out.old + 24 ≤ vec_capacity out.old }
+    ensures { Gains (cue_point cue) 24 out.old out.new }
+{
+    push_u32(out, cue.id);
+    push_u32(out, cue.frame);
+    push_bytes(out, b"data");
+    push_u32(out, 0);
+    push_u32(out, 0);
+    push_u32(out, cue.frame);
 }
