@@ -1,4 +1,6 @@
+pub mod AroundBext
 pub mod FieldLemmas
+pub mod FieldPlaces
 pub mod Forms
 pub mod HeaderKinds
 pub mod Pieces

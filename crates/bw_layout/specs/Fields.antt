@@ -1,5 +1,5 @@
 -- The setting of a field of `bext`.
-use Rattle.std.specs.Prelude.{◌≡◌, ℕ, Bool, ◌==◌, if◌then◌else◌, Option, Some, None, Result, Ok, Err, List, option_map, OnOk, OnErr}
+use Rattle.std.specs.Prelude.{◌≡◌, ℕ, Bool, ◌==◌, if◌then◌else◌, Option, Some, Result, List, option_map, OnOk, OnErr}
 use Rattle.std.specs.Char.{is_ascii_digit}
 use Rattle.bw_model.specs.Bytes.{unless}
 use Rattle.bw_model.specs.Take.{Shape, FieldFault, BadTag, BadLength, BadText, shape_fault, field_bytes}

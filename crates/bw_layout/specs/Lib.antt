@@ -5,5 +5,6 @@ pub mod Headers
 pub mod Heads
 pub mod Limits
 pub mod Moves
+pub mod Places
 pub mod Raw
 pub mod Tables

@@ -1,4 +1,4 @@
-use Rattle.std.proofs.Common.{◌*◌, length, take}
+use Rattle.std.proofs.Common.{◌*◌, take}
 use Rattle.std.specs.Prelude.{flat_map}
 use Rattle.bw_layout.specs.Appending.{Gains}
 use Rattle.bw_layout.specs.Tables.{entry_bytes}
