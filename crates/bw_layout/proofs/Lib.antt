@@ -4,3 +4,4 @@ pub mod FieldPlaces
 pub mod Forms
 pub mod HeaderKinds
 pub mod Pieces
+pub mod SizePlaces

@@ -8,6 +8,7 @@ mod cues;
 mod field;
 mod format;
 mod front;
+pub mod laws;
 mod limit;
 mod memory;
 mod number;

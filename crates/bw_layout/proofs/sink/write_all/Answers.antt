@@ -1,4 +1,4 @@
-use Rattle.std.proofs.Common.{◌≡◌, ℕ, ◌≤◌, ◌++◌, length, take, Some, arith, ◌∙◌, ap, List}
+use Rattle.std.proofs.Common.{Some, arith, ◌∙◌, ap}
 use Rattle.std.proofs.lemmas.Grind.{common_steps}
 use Rattle.std.proofs.lemmas.List.{take_rest}
 use Rattle.bw_layout.proofs.Pieces.{append-take-drop, begun-take}
