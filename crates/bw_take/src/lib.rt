@@ -6,5 +6,5 @@ mod request;
 mod verdict;
 
 pub use name::Name;
-pub use request::RequestRef;
+pub use request::{Request, RequestRef};
 pub use verdict::{UnknownVerdict, Verdict};
