@@ -1,3 +1,5 @@
+pub mod Kept
 pub mod Owned
 pub mod Requests
+pub mod States
 pub mod Verdicts

@@ -1,0 +1,35 @@
+-- What is kept of a take in memory.
+use Rattle.std.specs.Prelude.{◌≡◌, ℕ, ◌+◌, ◌^◌, ◌≤◌, Some, None, IfSome, IsTrue, true, [], ◌∷◌, ◌++◌, length}
+use Rattle.bw_model.specs.Take.{Take, Parts, Request, Open, Block, Mark, SetField, Close, new_take, parts, after, is_format, with_field, AreFields}
+
+pub record State : Type 0 where
+  -- the take, but for its data
+  pub parts : Parts
+  -- how many more requests can be stored without memory
+  pub room : ℕ
+
+-- what stands of each take that is kept
+pub record IsSound (p : Parts) : Type 0 where
+  pub format : IfSome p.format (λ f. IsTrue (is_format f))
+  pub fields : AreFields p.fields
+  pub history : length p.history ≤ 4096
+  pub samples : p.samples_len ≤ 2 ^ 62
+  pub markers : length p.markers ≤ 1024
+  pub unopened : p.format ≡ None → p ≡ parts (new_take p.taken)
+
+-- how many bytes of data a request adds
+abbrev pub samples_in : Request → ℕ
+samples_in (Block bytes) = length bytes
+samples_in _ = 0
+
+-- the parts with what the request says
+abbrev pub parts_with : Parts → Request → Parts
+parts_with p (Open f history) = record p { format = Some f; history = history }
+parts_with p (Block bytes) = record p { samples_len = p.samples_len + length bytes }
+parts_with p (Mark id frame) = record p { markers = p.markers ++ (id, frame) ∷ [] }
+parts_with p (SetField tag value) = record p { fields = with_field p.fields tag value }
+parts_with p (Close total) = record p { closed = true }
+
+-- each take of the old parts has the new ones after the request
+abbrev pub FollowsTakes : Parts → Request → Parts → Type 0
+FollowsTakes old r new = (t : Take) → parts t ≡ old → parts (after t r) ≡ new

@@ -1,0 +1,118 @@
+//! The judgement of a request on a take.
+ghost use Rattle.std.specs.Prelude.{◌≡◌, ◌%◌, ◌==◌, Some, None, is_some, length, if◌then◌else◌};
+ghost use Rattle.std.specs.List.{list_all, list_any};
+ghost use Rattle.bw_model.specs.Take.{judge as verdict_on, judge_open as verdict_on_open, is_history_byte as is_byte_of_history, block_align as block_align_of, field_fault, Format, Mark, Stored, BadBlock, BadField};
+ghost use Rattle.bw_take.specs.Requests.{meaning};
+ghost use Rattle.bw_take.specs.Verdicts.{verdict_of};
+
+use crate::request::RequestRef;
+use crate::state::TakeState;
+use crate::verdict::Verdict;
+use bw_layout::{CuePoint, Fmt};
+
+/// A take has at most so many markers.
+const MARKERS_MAX: usize = 1024;
+
+/// The verdict on a request: the first case that holds, without memory from an allocator.
+#[tactic(auto, unfolding(bw_model::specs::Take::judge))]
+pub fn judge(state: &TakeState, request: &RequestRef<'_>) -> Verdict
+    ensures { verdict_of result ≡ verdict_on state.now.parts (meaning request.now) }
+{
+    if state.is_closed() {
+        return Verdict::Closed;
+    }
+    match state.format() {
+        Some(format) => judge_opened(state, format, request),
+        None => judge_unopened(state, request),
+    }
+}
+
+/// The verdict where the take isn't opened.
+fn judge_unopened(state: &TakeState, request: &RequestRef<'_>) -> Verdict
+    ensures { verdict_of result ≡ verdict_on_open state.now.parts None (meaning request.now) }
+{
+    let RequestRef::OpenTake {
+        rate,
+        channels,
+        bits,
+        history,
+    } = *request
+    else {
+        return Verdict::NotOpen;
+    };
+    if Fmt::new(rate, channels, bits).is_none() || !is_history(history) {
+        Verdict::BadFormat
+    } else if state.is_taken() {
+        Verdict::NameTaken
+    } else {
+        Verdict::Stored
+    }
+}
+
+/// The verdict where the take is open.
+fn judge_opened(state: &TakeState, format: Fmt, request: &RequestRef<'_>) -> Verdict
+    ensures { verdict_of result ≡ verdict_on_open state.now.parts (Some format) (meaning request.now) }
+{
+    match *request {
+        RequestRef::OpenTake { .. } => Verdict::AlreadyOpen,
+        RequestRef::Block { bytes } => judge_block(format, bytes),
+        RequestRef::Mark { id, frame } => judge_mark(state, id, frame),
+        RequestRef::SetField { tag, value } => judge_field(state, tag, value),
+        RequestRef::CloseTake { frames } if frames == state.frames() => Verdict::Stored,
+        RequestRef::CloseTake { .. } => Verdict::WrongTotal,
+    }
+}
+
+fn judge_block(format: Fmt, bytes: &[u8]) -> Verdict
+    ensures { verdict_of result ≡ (if length bytes.now % block_align_of format == 0 then Stored else BadBlock) }
+{
+    if bytes.len() % usize::from(format.block_align()) == 0 {
+        Verdict::Stored
+    } else {
+        Verdict::BadBlock
+    }
+}
+
+fn judge_mark(state: &TakeState, id: u32, frame: u32) -> Verdict
+    ensures { (f : Format) → verdict_of result ≡ verdict_on_open state.now.parts (Some f) (Mark id frame) }
+{
+    let markers = state.markers();
+    if u64::from(frame) > state.frames() {
+        Verdict::BadMarker
+    } else if has_marker(markers, id) {
+        Verdict::DuplicateMarker
+    } else if markers.len() >= MARKERS_MAX {
+        Verdict::TooManyMarkers
+    } else {
+        Verdict::Stored
+    }
+}
+
+/// Whether a marker has this identifier.
+fn has_marker(markers: &[CuePoint], id: u32) -> bool
+    ensures { result ≡ list_any (λ m. m.0 == id) markers.now }
+{
+    markers.iter().any(|marker| marker.id == id)
+}
+
+fn judge_field(state: &TakeState, tag: u8, value: &[u8]) -> Verdict
+    ensures { verdict_of result ≡ (if is_some (field_fault tag value.now) then BadField else Stored) }
+{
+    match state.bext().copy().set(tag, value) {
+        Ok(()) => Verdict::Stored,
+        Err(_) => Verdict::BadField,
+    }
+}
+
+fn is_history(bytes: &[u8]) -> bool
+    ensures { result ≡ list_all is_byte_of_history bytes.now }
+{
+    bytes.iter().all(|c| is_history_byte(*c))
+}
+
+/// Carriage return, line feed, or printable.
+fn is_history_byte(c: u8) -> bool
+    ensures { result ≡ is_byte_of_history c }
+{
+    c == b'\r' || c == b'\n' || (32..=126).contains(&c)
+}

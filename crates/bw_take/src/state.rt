@@ -1,0 +1,189 @@
+//! What is kept of a take in memory: everything but its data.
+ghost use Rattle.std.specs.Prelude.{◌≡◌, ◌+◌, ◌^◌, ◌≤◌, None, IsSome, IfSome, IsTrue, IsOk, OnOk, true, false, length};
+ghost use Rattle.bw_model.specs.Take.{Stored, is_format, judge as verdict_on, frames as frames_of, new_take, parts as parts_of_take, AreFields};
+ghost use Rattle.bw_model.specs.Wire.{is_request};
+ghost use Rattle.bw_take.specs.Requests.{meaning};
+ghost use Rattle.bw_take.specs.States.{FollowsTakes, parts_with, samples_in};
+
+use crate::request::RequestRef;
+use bw_layout::{Bext, CuePoint, Fmt};
+use std::alloc::{AllocError, Global};
+use std::marker::Model;
+
+/// The coding history of a take has at most so many bytes.
+const HISTORY_MAX: usize = 4096;
+
+/// A take without its data, of which it keeps the length, and room for the requests to come.
+#[derive(Debug, Drop)]
+pub struct TakeState {
+    format: Option<Fmt>,
+    bext: Bext,
+    history: Vec<u8>,
+    data_len: u64,
+    markers: Vec<CuePoint>,
+    taken: bool,
+    closed: bool,
+    room: usize,
+}
+
+impl Model for TakeState {
+    ghost use Rattle.bw_take.specs.States.{State};
+
+    ghost Value = { State };
+
+    ghost use Rattle.bw_take.specs.Kept.{state_of, IsKept};
+
+    ghost view = { state_of };
+
+    ghost invariant = { IsKept };
+}
+
+impl TakeState {
+    /// A take before any request.
+    pub fn new(alloc: Global) -> TakeState
+        ensures parts { result.parts ≡ parts_of_take (new_take false) }
+        ensures room { result.room ≡ 0 }
+    {
+        TakeState {
+            format: None,
+            bext: Bext::new(),
+            history: Vec::new(alloc),
+            data_len: 0,
+            markers: Vec::new(alloc),
+            taken: false,
+            closed: false,
+            room: 0,
+        }
+    }
+
+    /// Notes that the take's name stood in the store when the server began.
+    pub fn set_taken(&mut self)
+        ensures parts { self.new.parts ≡ record self.old.parts { taken = true } }
+        ensures room { self.new.room ≡ self.old.room }
+    {
+        self.taken = true;
+    }
+
+    /// The format, or None where the take isn't opened.
+    pub fn format(&self) -> Option<Fmt>
+        ensures value { result ≡ self.now.parts.format }
+        ensures allowed { IfSome result (λ f. IsTrue (is_format f)) }
+    {
+        self.format
+    }
+
+    /// The fields of `bext`.
+    pub fn bext(&self) -> &Bext
+        ensures value { result.now ≡ self.now.parts.fields }
+        ensures widths { AreFields result.now }
+    {
+        &self.bext
+    }
+
+    /// The coding history.
+    pub fn history(&self) -> &[u8]
+        ensures value { result.now ≡ self.now.parts.history }
+        ensures range { length result.now ≤ 4096 }
+    {
+        self.history.as_slice()
+    }
+
+    /// How many bytes of data the take has.
+    pub fn data_len(&self) -> u64
+        ensures value { result ≡ self.now.parts.samples_len }
+        ensures range { result ≤ 2 ^ 62 }
+        ensures unopened { self.now.parts.format ≡ None → result ≡ 0 }
+    {
+        self.data_len
+    }
+
+    /// How many whole frames the data have; none without a format.
+    pub fn frames(&self) -> u64
+        ensures { result ≡ frames_of self.now.parts }
+    {
+        match self.format {
+            Some(format) => self.data_len / u64::from(format.block_align()),
+            None => 0,
+        }
+    }
+
+    /// The cue points, in the order in which they came.
+    pub fn markers(&self) -> &[CuePoint]
+        ensures value { result.now ≡ self.now.parts.markers }
+        ensures range { length result.now ≤ 1024 }
+    {
+        self.markers.as_slice()
+    }
+
+    /// Whether the take's name stood in the store when the server began.
+    pub fn is_taken(&self) -> bool
+        ensures { result ≡ self.now.parts.taken }
+    {
+        self.taken
+    }
+
+    /// Whether the take is closed.
+    pub fn is_closed(&self) -> bool
+        ensures value { result ≡ self.now.parts.closed }
+        ensures opened { IsTrue result → IsSome self.now.parts.format }
+    {
+        self.closed
+    }
+
+    /// How many more requests can be stored without memory.
+    pub fn room(&self) -> usize
+        ensures { result ≡ self.now.room }
+    {
+        self.room
+    }
+
+    /// Makes room for so many requests to be stored.
+    ///
+    /// # Errors
+    /// `AllocError` where a growth was refused.
+    pub fn reserve_for(&mut self, requests: usize) -> Result<(), AllocError>
+        requires { requests ≤ 16 }
+        ensures parts { self.new.parts ≡ self.old.parts }
+        ensures ok { OnOk result (requests ≤ self.new.room) }
+        ensures kept { self.old.room ≤ self.new.room }
+        ensures enough { requests ≤ self.old.room → IsOk result }
+    {
+        if requests <= self.room {
+            return Ok(());
+        }
+        if self.format.is_none() {
+            self.history.reserve_exact(HISTORY_MAX)?;
+        }
+        self.markers.reserve(requests)?;
+        self.room = requests;
+        Ok(())
+    }
+
+    /// Stores a request, without memory from an allocator.
+    pub fn commit(&mut self, request: &RequestRef<'_>)
+        requires fits { IsTrue (is_request (meaning request.now)) }
+        requires stored { verdict_on self.old.parts (meaning request.now) ≡ Stored }
+        requires room { 1 ≤ self.old.room }
+        requires samples { self.old.parts.samples_len + samples_in (meaning request.now) ≤ 2 ^ 62 }
+        ensures parts { self.new.parts ≡ parts_with self.old.parts (meaning request.now) }
+        ensures takes { FollowsTakes self.old.parts (meaning request.now) self.new.parts }
+        ensures room { self.new.room + 1 ≡ self.old.room }
+    {
+        self.room -= 1;
+        match *request {
+            RequestRef::OpenTake {
+                rate,
+                channels,
+                bits,
+                history,
+            } => {
+                self.format = Fmt::new(rate, channels, bits);
+                self.history.extend_from_slice(history).unwrap();
+            }
+            RequestRef::Block { bytes } => self.data_len += bytes.len() as u64,
+            RequestRef::Mark { id, frame } => self.markers.push_reserved(CuePoint { id, frame }),
+            RequestRef::SetField { tag, value } => self.bext.set(tag, value).unwrap(),
+            RequestRef::CloseTake { .. } => self.closed = true,
+        }
+    }
+}
