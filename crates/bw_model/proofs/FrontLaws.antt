@@ -13,7 +13,7 @@ use Rattle.bw_model.proofs.ChunkSteps.{Step, steps_to, step_from}
 
 -- Chunks of one id.
 
-count-cons : (id : List ℕ) (e : Entry) (es : List Entry) → count_of id (e ∷ es) ≡ cond (is_id e.id id) 1 0 + count_of id es
+pub count-cons : (id : List ℕ) (e : Entry) (es : List Entry) → count_of id (e ∷ es) ≡ cond (is_id e.id id) 1 0 + count_of id es
 count-cons id e es = sum_by-cons (λ (x : Entry). cond (is_id x.id id) 1 0) e es
 
 count-append : (id : List ℕ) (es ds : List Entry) → count_of id (es ++ ds) ≡ count_of id es + count_of id ds

@@ -9,7 +9,7 @@ use Rattle.bw_model.specs.Bytes.{even_up, le16, le32, zeros}
 use Rattle.bw_model.specs.Take.{AreFields, width, shapes}
 use Rattle.bw_model.specs.Layout.{Chunk, chunk_sized, head, pad, bext_fixed, is_version_1, cue_content, cue_point}
 
-length-concat : (xss : List (List ℕ)) → length (concat xss) ≡ sum (map length xss)
+pub length-concat : (xss : List (List ℕ)) → length (concat xss) ≡ sum (map length xss)
 length-concat [] = refl
 length-concat (xs ∷ xss) = length-append xs (concat xss) ∙ ap (λ (n : ℕ). length xs + n) (length-concat xss) ∙ sym (sum_by-cons (λ n. n) (length xs) (map length xss))
 
