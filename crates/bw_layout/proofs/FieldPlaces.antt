@@ -1,39 +1,13 @@
 -- Where the fields of `bext` stand in a header.
-use Rattle.std.proofs.Common.{◌≡◌, ℕ, zero, suc, ◌+◌, ◌-◌, ◌≤◌, List, [], ◌∷◌, ◌++◌, length, take, drop, map, Bool, true, false, cond, refl, sym, ◌∙◌, ap, subst, arith, append_assoc, length-append}
+use Rattle.std.proofs.Common.{◌≡◌, ℕ, zero, suc, ◌+◌, ◌-◌, ◌≤◌, List, ◌++◌, length, take, drop, sym, ◌∙◌, ap, subst, arith, length-append}
 use Rattle.std.specs.Prelude.{codes, nat_le, slice_range, slice_set}
-use Rattle.std.specs.List.{concat, list_all, sum}
-use Rattle.std.specs.Str.{bytes_eq}
-use Rattle.std.proofs.lemmas.List.Sums.{sum_by-cons}
-use Rattle.std.proofs.lemmas.List.{append-nil, take_at, drop_at}
-use Rattle.bw_model.specs.Bytes.{le16, zeros}
-use Rattle.bw_model.specs.Take.{Format, AreFields, with_field, field_bytes, Text, Digits, Whole, Maybe, Level, not_given}
+use Rattle.bw_model.specs.Bytes.{zeros}
+use Rattle.bw_model.specs.Take.{Format, AreFields, with_field, field_bytes, Text, Digits, Whole, Maybe, Level}
 use Rattle.bw_model.specs.File.{form_size}
 use Rattle.bw_layout.specs.Places.{bytes_of, StandsAt}
 use Rattle.bw_layout.proofs.AroundBext.{around, front, rear, length-front, header_around}
-
--- the widths of seven fields, and of the five of the loudness
-record Widths (a b c d e t u : List ℕ) (levels : List (List ℕ)) : Type 0 where
-  a-width : length a ≡ 256
-  b-width : length b ≡ 32
-  c-width : length c ≡ 32
-  d-width : length d ≡ 10
-  e-width : length e ≡ 8
-  t-width : length t ≡ 8
-  u-width : length u ≡ 64
-  level-widths : map length levels ≡ 2 ∷ 2 ∷ 2 ∷ 2 ∷ 2 ∷ []
-
--- what holds of named fields holds of all
-by_name : (P : List (List ℕ) → Type 0) → ((a b c d e t u : List ℕ) (levels : List (List ℕ)) → Widths a b c d e t u levels → P (a ∷ b ∷ c ∷ d ∷ e ∷ t ∷ u ∷ levels)) →
-    (fields : List (List ℕ)) → AreFields fields → P fields
-by_name P named [] h = cc
-by_name P named (a ∷ []) h = cc
-by_name P named (a ∷ b ∷ []) h = cc
-by_name P named (a ∷ b ∷ c ∷ []) h = cc
-by_name P named (a ∷ b ∷ c ∷ d ∷ []) h = cc
-by_name P named (a ∷ b ∷ c ∷ d ∷ e ∷ []) h = cc
-by_name P named (a ∷ b ∷ c ∷ d ∷ e ∷ t ∷ []) h = cc
-by_name P named (a ∷ b ∷ c ∷ d ∷ e ∷ t ∷ u ∷ levels) h =
-    named a b c d e t u levels (record { a-width = cc; b-width = cc; c-width = cc; d-width = cc; e-width = cc; t-width = cc; u-width = cc; level-widths = cc })
+use Rattle.bw_layout.proofs.Joints.{range_at_seam, changed_at_seam}
+use Rattle.bw_layout.proofs.BextParts.{by_name, cut1, cut2, cut3, cut4, cut5, cut6, cut7, cut8, version, loudness, length-version, texts-length, wide-length}
 
 -- between its ends the fixed part can be cut before and behind each field
 record Seams (tag place count : ℕ) (p q : List ℕ) (fields : List (List ℕ)) : Type 0 where
@@ -43,19 +17,6 @@ record Seams (tag place count : ℕ) (p q : List ℕ) (fields : List (List ℕ))
   count-is : length (bytes_of tag fields) ≡ count
   old : around p q fields ≡ before ++ (bytes_of tag fields ++ behind)
   new : (value : List ℕ) → around p q (with_field fields tag value) ≡ before ++ (bytes_of tag (with_field fields tag value) ++ behind)
-
-range_at_seam : (before x behind : List ℕ) (place count : ℕ) → length before ≡ place → length x ≡ count → slice_range (before ++ (x ++ behind)) place (place + count) ≡ x
-range_at_seam before x behind place count p c =
-    let n : place + count - place ≡ count = omega arith in
-    ap (λ (k : ℕ). take k (drop place (before ++ (x ++ behind)))) n ∙ ap (take count) (drop_at before (x ++ behind) place p) ∙ take_at x behind count c
-
-changed_at_seam : (before x y behind : List ℕ) (place count : ℕ) → length before ≡ place → length x ≡ count →
-    before ++ (y ++ behind) ≡ take place (before ++ (x ++ behind)) ++ y ++ drop (place + count) (before ++ (x ++ behind))
-changed_at_seam before x y behind place count p c =
-    let whole : length (before ++ x) ≡ place + count = length-append before x ∙ omega arith in
-    sym (append_assoc before y behind)
-    ∙ ap (λ (l : List ℕ). l ++ y ++ behind) (sym (take_at before (x ++ behind) place p))
-    ∙ ap (λ (l : List ℕ). take place (before ++ (x ++ behind)) ++ y ++ l) (sym (ap (drop (place + count)) (sym (append_assoc before x behind)) ∙ drop_at (before ++ x) behind (place + count) whole))
 
 -- seams between any ends are enough
 from_seams : (tag place count : ℕ) → ((p q : List ℕ) → length p ≡ 80 → (fields : List (List ℕ)) → AreFields fields → Seams tag place count p q fields) → StandsAt tag place count
@@ -83,45 +44,6 @@ from_seams tag place count seams = record {
 
     p-length : (f : Format) (history : List ℕ) (data_len cues limit : ℕ) → length (p f history data_len cues limit) ≡ 80
     p-length f history data_len cues limit = length-front (nat_le (form history data_len cues) limit) (form history data_len cues) data_len f (602 + length history)
-
--- the fixed part with its ends, cut at each field
-
-abbrev fixed : (p a b c d e t v u l z q : List ℕ) → List ℕ
-fixed p a b c d e t v u l z q = p ++ (((a ++ (b ++ (c ++ (d ++ (e ++ (t ++ [])))))) ++ v ++ (u ++ []) ++ l ++ z) ++ q)
-
-cut1 : (p a b c d e t v u l z q : List ℕ) → fixed p a b c d e t v u l z q ≡ p ++ (a ++ (b ++ c ++ d ++ e ++ t ++ v ++ u ++ l ++ z ++ q))
-cut1 p a b c d e t v u l z q = simp (append_assoc, append-nil)
-
-cut2 : (p a b c d e t v u l z q : List ℕ) → fixed p a b c d e t v u l z q ≡ (p ++ a) ++ (b ++ (c ++ d ++ e ++ t ++ v ++ u ++ l ++ z ++ q))
-cut2 p a b c d e t v u l z q = simp (append_assoc, append-nil)
-
-cut3 : (p a b c d e t v u l z q : List ℕ) → fixed p a b c d e t v u l z q ≡ (p ++ a ++ b) ++ (c ++ (d ++ e ++ t ++ v ++ u ++ l ++ z ++ q))
-cut3 p a b c d e t v u l z q = simp (append_assoc, append-nil)
-
-cut4 : (p a b c d e t v u l z q : List ℕ) → fixed p a b c d e t v u l z q ≡ (p ++ a ++ b ++ c) ++ (d ++ (e ++ t ++ v ++ u ++ l ++ z ++ q))
-cut4 p a b c d e t v u l z q = simp (append_assoc, append-nil)
-
-cut5 : (p a b c d e t v u l z q : List ℕ) → fixed p a b c d e t v u l z q ≡ (p ++ a ++ b ++ c ++ d) ++ (e ++ (t ++ v ++ u ++ l ++ z ++ q))
-cut5 p a b c d e t v u l z q = simp (append_assoc, append-nil)
-
-cut6 : (p a b c d e t v u l z q : List ℕ) → fixed p a b c d e t v u l z q ≡ (p ++ a ++ b ++ c ++ d ++ e) ++ (t ++ (v ++ u ++ l ++ z ++ q))
-cut6 p a b c d e t v u l z q = simp (append_assoc, append-nil)
-
-cut7 : (p a b c d e t v u l z q : List ℕ) → fixed p a b c d e t v u l z q ≡ (p ++ a ++ b ++ c ++ d ++ e ++ t ++ v) ++ (u ++ (l ++ z ++ q))
-cut7 p a b c d e t v u l z q = simp (append_assoc, append-nil)
-
-cut8 : (p a b c d e t v u l z q : List ℕ) → fixed p a b c d e t v u l z q ≡ (p ++ a ++ b ++ c ++ d ++ e ++ t) ++ ((v ++ u ++ l) ++ (z ++ q))
-cut8 p a b c d e t v u l z q = simp (append_assoc, append-nil)
-
--- Version and the loudness, by the five fields of the loudness
-abbrev version_1 : List (List ℕ) → Bool
-version_1 levels = list_all (λ v. bytes_eq v not_given) levels
-
-abbrev version : List (List ℕ) → List ℕ
-version levels = cond (version_1 levels) (le16 1) (le16 2)
-
-abbrev loudness : List (List ℕ) → List ℕ
-loudness levels = cond (version_1 levels) (zeros 10) (concat levels)
 
 pub stands_1 : StandsAt 1 80 256
 stands_1 = from_seams 1 80 256 (λ p q p-length. by_name (Seams 1 80 256 p q) (λ a b c d e t u levels w. record {
@@ -183,29 +105,6 @@ stands_6 = from_seams 6 418 8 (λ p q p-length. by_name (Seams 6 418 8 p q) (λ 
   new = λ value. cut6 p a b c d e (field_bytes (Whole 8) value) (version levels) u (loudness levels) (zeros 180) q;
 }))
 
-length-version : (levels : List (List ℕ)) → length (version levels) ≡ 2
-length-version levels = go (version_1 levels)
-  where
-    go : (v : Bool) → length (cond v (le16 1) (le16 2)) ≡ 2
-    go true = refl
-    go false = refl
-
-length-concat : (xss : List (List ℕ)) → length (concat xss) ≡ sum (map length xss)
-length-concat [] = refl
-length-concat (xs ∷ xss) = length-append xs (concat xss) ∙ ap (λ (n : ℕ). length xs + n) (length-concat xss) ∙ sym (sum_by-cons (λ n. n) (length xs) (map length xss))
-
-length-loudness : (levels : List (List ℕ)) → map length levels ≡ 2 ∷ 2 ∷ 2 ∷ 2 ∷ 2 ∷ [] → length (loudness levels) ≡ 10
-length-loudness levels widths = go (version_1 levels)
-  where
-    go : (v : Bool) → length (cond v (zeros 10) (concat levels)) ≡ 10
-    go true = refl
-    go false = length-concat levels ∙ ap sum widths
-
--- the seven fields before the loudness
-texts-length : (p a b c d e t u : List ℕ) (levels : List (List ℕ)) → length p ≡ 80 → Widths a b c d e t u levels → length (p ++ a ++ b ++ c ++ d ++ e ++ t) ≡ 426
-texts-length p a b c d e t u levels p-length w =
-    simp length-append (omega (arith, p-length, w.a-width, w.b-width, w.c-width, w.d-width, w.e-width, w.t-width))
-
 pub stands_7 : StandsAt 7 428 64
 stands_7 = from_seams 7 428 64 (λ p q p-length. by_name (Seams 7 428 64 p q) (λ a b c d e t u levels w. record {
   before = p ++ a ++ b ++ c ++ d ++ e ++ t ++ version levels;
@@ -215,10 +114,6 @@ stands_7 = from_seams 7 428 64 (λ p q p-length. by_name (Seams 7 428 64 p q) (�
   old = cut7 p a b c d e t (version levels) u (loudness levels) (zeros 180) q;
   new = λ value. cut7 p a b c d e t (version levels) (field_bytes (Maybe 64) value) (loudness levels) (zeros 180) q;
 }))
-
-wide-length : (a b c d e t u : List ℕ) (levels : List (List ℕ)) → Widths a b c d e t u levels → length (version levels ++ u ++ loudness levels) ≡ 76
-wide-length a b c d e t u levels w =
-    simp length-append (omega (arith, length-version levels, w.u-width, length-loudness levels w.level-widths))
 
 pub stands_8 : StandsAt 8 426 76
 stands_8 = from_seams 8 426 76 (λ p q p-length. by_name (Seams 8 426 76 p q) (λ a b c d e t u levels w. record {

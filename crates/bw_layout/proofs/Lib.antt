@@ -1,7 +1,11 @@
 pub mod AroundBext
+pub mod BextParts
 pub mod FieldLemmas
 pub mod FieldPlaces
+pub mod FieldsBack
 pub mod Forms
 pub mod HeaderKinds
+pub mod Joints
 pub mod Pieces
+pub mod ReadBack
 pub mod SizePlaces

@@ -7,4 +7,5 @@ pub mod Limits
 pub mod Moves
 pub mod Places
 pub mod Raw
+pub mod ReadBack
 pub mod Tables

@@ -1,8 +1,20 @@
 //! Laws of the layouts: functions that do nothing, whose contracts are the statements.
 ghost use Rattle.bw_layout.specs.Headers.{EachRiffHasItsSizes, EachBw64HasItsSizes};
+ghost use Rattle.bw_layout.specs.ReadBack.{HeadsReadBack, FormatsReadBack, FieldsReadBack, EntriesReadBack, EachDs64ReadsBack, CuePointsReadBack, EachCueChunkReadsBack};
 
 /// Where a header's two sizes stand, so that headers of one take and one kind differ there alone.
 pub fn law_size_places()
     ensures riff { EachRiffHasItsSizes }
     ensures bw64 { EachBw64HasItsSizes }
+{}
+
+/// What the puts append is read back by the reads, whatever bytes follow.
+pub fn law_read_back()
+    ensures heads { HeadsReadBack }
+    ensures formats { FormatsReadBack }
+    ensures fields { FieldsReadBack }
+    ensures entries { EntriesReadBack }
+    ensures sizes { EachDs64ReadsBack }
+    ensures cue_points { CuePointsReadBack }
+    ensures cues { EachCueChunkReadsBack }
 {}
