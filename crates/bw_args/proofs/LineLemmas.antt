@@ -1,0 +1,74 @@
+-- What a parse by `clap` says of the words.
+use Rattle.std.proofs.Common.{◌≡◌, ◌≢◌, List, [], true, false, refl, ap, subst, sym, ◌∙◌, inl, inr, Option, None, Result, Ok, Err, IfOk, IsErr}
+use Rattle.std.specs.declared.alloc.AllocError.{AllocError}
+use Rattle.clap.specs.Words.{App, Text, HasKind, IsAmong, Row, fault_of, is_simple, is_simple_and_free, kind_of, subcommand_of}
+use Rattle.clap.specs.declared.Error.{Error}
+use Rattle.clap.specs.declared.error.ErrorKind.TheVariants.{OutOfMemory, ValueValidation}
+use Rattle.clap.proofs.OnLiterals.{clap_on_literals}
+use Rattle.bw_args.specs.Commands.{command_line}
+use Rattle.bw_args.specs.Lines.{AsksFor, IsAsked, IsLineOf, IsTaskOf, IsToldOf}
+use Rattle.bw_args.specs.declared.CommandLine.{CommandLine}
+use Rattle.bw_args.specs.declared.CommandLine.TheVariants.{Tell}
+use Rattle.bw_args.specs.declared.Task.{Task}
+
+-- the contracts of `clap` are exact at this command line
+is_exact : is_simple_and_free command_line ≡ true
+unfolding clap_on_literals
+is_exact = refl
+
+is_plain : is_simple command_line ≡ true
+unfolding clap_on_literals
+is_plain = refl
+
+-- words that `clap` refuses, or answers with help or the version
+pub told_line : (a : App) (words : List Text) (error : Error) → a ≡ command_line
+    → (is_simple_and_free a ≡ true → HasKind (fault_of a words) error) → kind_of error ≢ OutOfMemory
+    → IsToldOf words (kind_of error)
+told_line a words error is kinds known =
+    let has : HasKind (fault_of command_line words) error =
+    subst (λ (b : App). HasKind (fault_of b words) error) is (kinds (ap is_simple_and_free is ∙ is_exact)) in
+    elim has [
+      | inl memory ↦ absurd (known memory)
+      | inr among ↦ record {
+        asks_nothing = λ task asks. subst (IsAmong (kind_of error)) asks.taken among;
+        reason = inl among;
+      }
+    ]
+
+no_fault : (a : App) (words : List Text) → a ≡ command_line
+    → (is_simple_and_free a ≡ true → fault_of a words ≡ []) → fault_of command_line words ≡ []
+no_fault a words is free =
+    subst (λ (b : App). fault_of b words ≡ []) is (free (ap is_simple_and_free is ∙ is_exact))
+
+same_command : (a : App) (words : List Text) (command : Option (Text × List Row)) → a ≡ command_line
+    → (is_simple a ≡ true → command ≡ subcommand_of a words) → command ≡ subcommand_of command_line words
+same_command a words command is found =
+    found (ap is_simple is ∙ is_plain) ∙ ap (λ (b : App). subcommand_of b words) is
+
+-- words that `clap` takes, and that ask for a task
+pub asked_line : (a : App) (words : List Text) (command : Option (Text × List Row)) (task : Task) → a ≡ command_line
+    → (is_simple_and_free a ≡ true → fault_of a words ≡ [])
+    → (is_simple a ≡ true → command ≡ subcommand_of a words)
+    → IsTaskOf command task → AsksFor words task
+asked_line a words command task is free found given = record {
+  taken = no_fault a words is free;
+  asked = subst (λ o. IsTaskOf o task) (same_command a words command is found) given;
+}
+
+-- words that `clap` takes, with a value that is not of its form
+pub bad_value_line : (a : App) (words : List Text) (command : Option (Text × List Row)) (error : Error) → a ≡ command_line
+    → (is_simple_and_free a ≡ true → fault_of a words ≡ [])
+    → (is_simple a ≡ true → command ≡ subcommand_of a words)
+    → IsAsked command None → kind_of error ≡ ValueValidation → IsToldOf words (kind_of error)
+bad_value_line a words command error is free found none kind = record {
+  asks_nothing = λ task asks. none task (subst (λ o. IsTaskOf o task) (sym (same_command a words command is found)) asks.asked);
+  reason = inr (no_fault a words is free, kind);
+}
+
+-- the line that tells an error, where memory did not run out
+pub told_result : (result : Result CommandLine AllocError) (words : List Text) (error : Error)
+    → IfOk result (λ line. line ≡ Tell error) → (kind_of error ≡ OutOfMemory → IsErr result)
+    → (kind_of error ≢ OutOfMemory → IsToldOf words (kind_of error)) → IfOk result (IsLineOf words)
+told_result (Ok line) words error told failed known = subst (IsLineOf words) (sym told)
+    (known (λ memory. let bad : false ≡ true = failed memory in cc))
+told_result (Err e) words error told failed known = told

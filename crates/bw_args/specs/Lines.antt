@@ -1,0 +1,68 @@
+-- What a command line asks for.
+use Rattle.std.specs.Prelude.{◌≡◌, ◌⊎◌, ⊤, ℕ, List, [], ◌∷◌, ◌++◌, Option, Some, None, codes}
+use Rattle.clap.specs.Walk.{Row, Text, first_of}
+use Rattle.clap.specs.Simple.{subcommand_of}
+use Rattle.clap.specs.Faults.{fault_of}
+use Rattle.clap.specs.Kinds.{IsAmong}
+use Rattle.clap.specs.Values.{kind_of}
+use Rattle.clap.specs.declared.error.ErrorKind.{ErrorKind}
+use Rattle.clap.specs.declared.error.ErrorKind.TheVariants.{ValueValidation}
+use Rattle.bw_args.specs.Numbers.{IsLimit, IsLimitText, default_limit, number_in}
+use Rattle.bw_args.specs.Commands.{command_line}
+use Rattle.bw_args.specs.declared.CommandLine.{CommandLine}
+use Rattle.bw_args.specs.declared.CommandLine.TheVariants.{Run, Tell}
+use Rattle.bw_args.specs.declared.Task.{Task}
+use Rattle.bw_args.specs.declared.Task.TheVariants.{Replay}
+
+-- the limit that an option gives, or the default
+abbrev pub GivesLimit : Option Text → ℕ → Type 0
+GivesLimit None limit = limit ≡ default_limit
+GivesLimit (Some text) limit = IsLimitText text × (limit ≡ number_in text)
+
+-- exactly that limit
+abbrev pub IsLimitGiven : Option Text → Option ℕ → Type 0
+IsLimitGiven text (Some limit) = GivesLimit text limit
+IsLimitGiven text None = (limit : ℕ) → ¬ GivesLimit text limit
+
+-- the command and its options ask for the task
+abbrev pub IsTaskOf : Option (Text × List Row) → Task → Type 0
+IsTaskOf None task = ⊥
+IsTaskOf (Some command) (Replay limit) =
+    (command.0 ≡ codes "replay") × GivesLimit (first_of (codes "limit") command.1) limit
+
+-- exactly the task that they ask for
+abbrev pub IsAsked : Option (Text × List Row) → Option Task → Type 0
+IsAsked command (Some task) = IsTaskOf command task
+IsAsked command None = (task : Task) → ¬ IsTaskOf command task
+
+-- `clap` takes the words, of which the first is the program's name, and they ask for the task
+pub record AsksFor (words : List Text) (task : Task) : Type 0 where
+  pub taken : fault_of command_line words ≡ []
+  pub asked : IsTaskOf (subcommand_of command_line words) task
+
+-- the words ask for nothing, by `clap`'s walk over them or by a value
+pub record IsToldOf (words : List Text) (kind : ErrorKind) : Type 0 where
+  pub asks_nothing : (task : Task) → ¬ AsksFor words task
+  pub reason : IsAmong kind (fault_of command_line words)
+      ⊎ ((fault_of command_line words ≡ []) × (kind ≡ ValueValidation))
+
+-- what the words come to
+abbrev pub IsLineOf : List Text → CommandLine → Type 0
+IsLineOf words (Run task) = AsksFor words task
+IsLineOf words (Tell error) = IsToldOf words (kind_of error)
+
+-- a limit of its task is one
+abbrev pub HasLimit : CommandLine → Type 0
+HasLimit (Run (Replay limit)) = IsLimit limit
+HasLimit (Tell error) = ⊤
+
+-- `replay`, `replay --limit N` and `replay --limit=N` run, whatever the program's name and the limit N
+pub record RunsReplay (words : List Text) (line : CommandLine) : Type 0 where
+  pub plain : (program : Text) → words ≡ program ∷ codes "replay" ∷ []
+      → line ≡ Run (Replay default_limit)
+  pub apart : (program text : Text) → IsLimitText text
+      → words ≡ program ∷ codes "replay" ∷ codes "--limit" ∷ text ∷ []
+      → line ≡ Run (Replay (number_in text))
+  pub joined : (program text : Text) → IsLimitText text
+      → words ≡ program ∷ codes "replay" ∷ (codes "--limit=" ++ text) ∷ []
+      → line ≡ Run (Replay (number_in text))

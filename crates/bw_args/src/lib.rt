@@ -1,0 +1,69 @@
+//! The command line of `bwingest`: words to a task that owns what it needs. Nothing is run here.
+#![tactic(auto)]
+
+ghost use Rattle.std.specs.Prelude.{◌≡◌, ◌↔◌, map, IfOk, IsErr, string_bytes};
+ghost use Rattle.clap.specs.Words.{kind_of};
+ghost use Rattle.bw_args.specs.Lines.{HasLimit, IsLineOf, RunsReplay};
+
+mod commands;
+pub mod numbers;
+#[cfg(test)]
+mod tests;
+
+use clap::Error;
+use clap::error::ErrorKind;
+use std::alloc::{AllocError, Global};
+
+/// What a command line asks the program to do.
+#[derive(Debug, PartialEq, Eq, Drop)]
+pub enum Task {
+    /// Run each line of standard input as an exchange. A file whose RIFF form would be longer than
+    /// `limit` bytes is written as BW64.
+    Replay { limit: u64 },
+}
+
+/// What a command line comes to.
+#[derive(Drop)]
+pub enum CommandLine {
+    Run(Task),
+    /// Help, the version or a usage fault, and never want of memory. `Error::print` writes it to
+    /// standard output or standard error, and `Error::exit_code` is the status, 0 or 2.
+    Tell(Error),
+}
+
+/// Reads a command line, of which the first word is the program's own name.
+///
+/// The clause `line` says in the terms of `clap` which words run a task and of what kind an error
+/// is. That no words but those of `replay` below run one, and what the texts say, is only tested.
+///
+/// # Errors
+/// `AllocError` where memory was refused.
+pub fn parse(alloc: Global, words: &[String]) -> Result<CommandLine, AllocError>
+    ensures line { IfOk result (IsLineOf (map string_bytes words.now)) }
+    ensures limit { IfOk result HasLimit }
+    ensures replay { IfOk result (RunsReplay (map string_bytes words.now)) }
+{
+    let mut command = commands::bwingest(alloc)?;
+    let matches = match command.try_get_matches_from_mut(words) {
+        Ok(matches) => matches,
+        Err(error) => return told(error),
+    };
+    match commands::task(&matches) {
+        Some(task) => Ok(CommandLine::Run(task)),
+        None => {
+            let error = command.error(ErrorKind::ValueValidation, commands::BAD_LIMIT)?;
+            Ok(CommandLine::Tell(error))
+        }
+    }
+}
+
+/// Want of memory is no text for the user: the program has a status of its own for it.
+fn told(error: Error) -> Result<CommandLine, AllocError>
+    ensures told { IfOk result (λ line. line ≡ CommandLine.Tell error) }
+    ensures out_of_memory { IsErr result ↔ (kind_of error ≡ ErrorKind.OutOfMemory) }
+{
+    match error.kind() {
+        ErrorKind::OutOfMemory => Err(AllocError),
+        _ => Ok(CommandLine::Tell(error)),
+    }
+}

@@ -1,0 +1,186 @@
+use crate::numbers::number;
+use crate::{CommandLine, Task, parse};
+use clap::Error;
+use std::alloc::{AllocError, Global};
+use std::test::Fail;
+
+/// What a command line is to come to.
+#[derive(Clone, Copy, Debug, PartialEq, Eq)]
+enum Outcome {
+    Replays(u64),
+    /// Text on standard output, status 0.
+    Shows,
+    /// Text on standard error, status 2.
+    Refuses,
+    /// A stream and a status that don't belong together.
+    Confuses,
+}
+
+fn parse_words(alloc: Global, words: &[&str]) -> Result<CommandLine, AllocError> {
+    let mut line = Vec::new(alloc);
+    for word in words {
+        line.push(String::from_str(alloc, word)?)?;
+    }
+    parse(alloc, line.as_slice())
+}
+
+fn outcome_of(alloc: Global, words: &[&str]) -> Result<Outcome, AllocError> {
+    Ok(match parse_words(alloc, words)? {
+        CommandLine::Run(Task::Replay { limit }) => Outcome::Replays(limit),
+        CommandLine::Tell(error) => told_outcome(&error),
+    })
+}
+
+fn told_outcome(error: &Error) -> Outcome {
+    match (error.use_stderr(), error.exit_code()) {
+        (false, 0) => Outcome::Shows,
+        (true, 2) => Outcome::Refuses,
+        _ => Outcome::Confuses,
+    }
+}
+
+static LINES: [(&[&str], Outcome); 33] = [
+    (&[], Outcome::Refuses),
+    (&["bwingest"], Outcome::Refuses),
+    (&["bwingest", "help"], Outcome::Shows),
+    (&["bwingest", "help", "replay"], Outcome::Shows),
+    (&["bwingest", "--help"], Outcome::Shows),
+    (&["bwingest", "-h"], Outcome::Shows),
+    (&["bwingest", "replay", "--help"], Outcome::Shows),
+    (&["bwingest", "--version"], Outcome::Shows),
+    (&["bwingest", "-V"], Outcome::Shows),
+    (&["bwingest", "help", "play"], Outcome::Refuses),
+    (&["bwingest", "play"], Outcome::Refuses),
+    (&["bwingest", "Replay"], Outcome::Refuses),
+    (&["bwingest", ""], Outcome::Refuses),
+    (&["bwingest", "-"], Outcome::Refuses),
+    (&["bwingest", "--"], Outcome::Refuses),
+    (&["bwingest", "--", "replay"], Outcome::Refuses),
+    (&["bwingest", "--limit", "8192", "replay"], Outcome::Refuses),
+    (&["replay"], Outcome::Refuses),
+    (&["bwingest", "replay"], Outcome::Replays(4_294_967_294)),
+    (
+        &["/tmp/other name", "replay"],
+        Outcome::Replays(4_294_967_294),
+    ),
+    (
+        &["bwingest", "replay", "--"],
+        Outcome::Replays(4_294_967_294),
+    ),
+    (
+        &["bwingest", "replay", "--limit", "8192", "--"],
+        Outcome::Replays(8_192),
+    ),
+    (&["bwingest", "replay", "replay"], Outcome::Refuses),
+    (&["bwingest", "replay", "help"], Outcome::Refuses),
+    (&["bwingest", "replay", "8192"], Outcome::Refuses),
+    (&["bwingest", "replay", "--", "x"], Outcome::Refuses),
+    (&["bwingest", "replay", "--version"], Outcome::Refuses),
+    (&["bwingest", "replay", "--limit"], Outcome::Refuses),
+    (&["bwingest", "replay", "--lim", "8192"], Outcome::Refuses),
+    (&["bwingest", "replay", "-l", "8192"], Outcome::Refuses),
+    (
+        &["bwingest", "replay", "--limit", "8192", "x"],
+        Outcome::Refuses,
+    ),
+    (
+        &["bwingest", "replay", "--limit", "8192", "--limit", "8192"],
+        Outcome::Refuses,
+    ),
+    (
+        &["bwingest", "replay", "--limit=8192", "--limit=8192"],
+        Outcome::Refuses,
+    ),
+];
+
+#[test]
+fn each_line_runs_or_tells(rt: HostRuntime) -> Result<(), Fail> {
+    for (words, wanted) in &LINES {
+        assert_eq!(rt; outcome_of(rt.alloc(), words)?, *wanted, "{words:?}");
+    }
+    Ok(())
+}
+
+static VALUES: [(&str, Outcome); 28] = [
+    ("8192", Outcome::Replays(8_192)),
+    ("0000008192", Outcome::Replays(8_192)),
+    ("00000008192", Outcome::Refuses),
+    ("8190", Outcome::Refuses),
+    ("8191", Outcome::Refuses),
+    ("8193", Outcome::Refuses),
+    ("8194", Outcome::Replays(8_194)),
+    ("4294967292", Outcome::Replays(4_294_967_292)),
+    ("4294967294", Outcome::Replays(4_294_967_294)),
+    ("4294967295", Outcome::Refuses),
+    ("4294967296", Outcome::Refuses),
+    ("4294975488", Outcome::Refuses),
+    ("9999999998", Outcome::Refuses),
+    ("+5", Outcome::Refuses),
+    ("+8192", Outcome::Refuses),
+    ("-8192", Outcome::Refuses),
+    ("", Outcome::Refuses),
+    (" 8192", Outcome::Refuses),
+    ("8192 ", Outcome::Refuses),
+    ("8 192", Outcome::Refuses),
+    ("8192\n", Outcome::Refuses),
+    ("8,192", Outcome::Refuses),
+    ("8192.0", Outcome::Refuses),
+    ("0x2000", Outcome::Refuses),
+    ("٨١٩٢", Outcome::Refuses),
+    ("none", Outcome::Refuses),
+    ("--", Outcome::Refuses),
+    ("--limit", Outcome::Refuses),
+];
+
+#[test]
+fn a_limit_is_even_and_in_range(rt: HostRuntime) -> Result<(), Fail> {
+    for (value, wanted) in &VALUES {
+        let apart = ["bwingest", "replay", "--limit", value];
+        assert_eq!(rt;
+            outcome_of(rt.alloc(), &apart)?,
+            *wanted,
+            "--limit {value:?}"
+        );
+        let word = format!(in rt.alloc(); "--limit={value}")?;
+        let joined = ["bwingest", "replay", word.as_str()];
+        assert_eq!(rt; outcome_of(rt.alloc(), &joined)?, *wanted, "{word:?}");
+    }
+    Ok(())
+}
+
+static TEXTS: [(&[&str], &str); 5] = [
+    (&["/tmp/x", "--version"], "bwingest 1.0.0\n"),
+    (&["/tmp/x", "--help"], "Usage: bwingest <COMMAND>\n"),
+    (&["/tmp/x"], "Usage: bwingest <COMMAND>\n"),
+    (
+        &["/tmp/x", "replay", "--help"],
+        "Usage: bwingest replay [OPTIONS]\n",
+    ),
+    (
+        &["/tmp/x", "replay", "--limit", "5"],
+        "'--limit <N>' takes an even number",
+    ),
+];
+
+#[test]
+fn texts_name_the_program(rt: HostRuntime) -> Result<(), Fail> {
+    for (words, part) in &TEXTS {
+        match parse_words(rt.alloc(), words)? {
+            CommandLine::Run(task) => assert!(rt; false, "{words:?} runs {task:?}"),
+            CommandLine::Tell(error) => {
+                let text = format!(in rt.alloc(); "{error}")?;
+                assert!(rt; text.as_str().contains(part), "{words:?}: {text}");
+            }
+        }
+    }
+    Ok(())
+}
+
+#[test]
+fn a_number_has_one_to_ten_digits(rt: HostRuntime) {
+    assert_eq!(rt; number("0"), Some(0));
+    assert_eq!(rt; number("4294967295"), Some(4_294_967_295));
+    assert_eq!(rt; number("4294967296"), None);
+    assert_eq!(rt; number("+1"), None);
+    assert_eq!(rt; number(""), None);
+}
