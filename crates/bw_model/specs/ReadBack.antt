@@ -1,12 +1,14 @@
 -- What a take's file reads as: the chunks of its layout, and a report that tells the take.
-use Rattle.std.specs.Prelude.{◌≡◌, ◌≤◌, ℕ, ◌+◌, ◌*◌, ◌^◌, Bool, Some, None, IsTrue, ◌&&◌, List, [], ◌∷◌, length, take, drop, map, slice_index_or, codes, nat_lt, nat_le, if◌then◌else◌}
+use Rattle.std.specs.Prelude.{◌≡◌, ◌≤◌, ℕ, ◌+◌, ◌*◌, ◌^◌, Bool, true, Option, Some, None, IsTrue, ◌&&◌, List, [], ◌∷◌, length, take, drop, map, slice_index_or, codes, nat_lt, nat_le, if◌then◌else◌}
 use Rattle.std.specs.List.{list_all}
 use Rattle.std.specs.Int.{w16, w64, from_le_bytes}
 use Rattle.bw_model.specs.Bytes.{even_up}
-use Rattle.bw_model.specs.Take.{Format, Take, AreFields, is_format, block_align}
+use Rattle.bw_model.specs.Take.{Request, Format, Take, AreFields, is_format, block_align}
 use Rattle.bw_model.specs.Layout.{is_version_1}
 use Rattle.bw_model.specs.File.{file_with, form_len, cues, data_place}
 use Rattle.bw_model.specs.Reading.{Entry, Form, IsReading, largest}
+use Rattle.bw_model.specs.Wire.{is_request}
+use Rattle.bw_model.specs.Book.{made}
 use Rattle.bw_model.specs.Report.{RawFmt, RawBext, RawCue, Report, report_of}
 
 -- the numbers of a cue point have four bytes each
@@ -88,3 +90,15 @@ pub record ReadsBack (f : Format) (t : Take) (limit : ℕ) : Type 0 where
 -- so does each file of a take within the limits, whatever size is the last that is RIFF
 abbrev pub FilesReadBack : Type 0
 FilesReadBack = (f : Format) (t : Take) (limit : ℕ) → IsWithinLimits f t → limit ≤ 4294967294 → ReadsBack f t limit
+
+-- The takes that admitted requests make are within the limits, whatever was sent.
+
+-- a request, if there is one, has a spelling
+abbrev pub is_admitted : Option Request → Bool
+is_admitted None = true
+is_admitted (Some r) = is_request r
+
+-- of each take that such requests make, and whose form is at most 2^62 bytes, the file reads back
+abbrev pub MadeFilesReadBack : Type 0
+MadeFilesReadBack = (taken : Bool) (admitted : List (Option Request)) (n : ℕ) (f : Format) (limit : ℕ) → IsTrue (list_all is_admitted admitted) →
+    (made taken admitted n).format ≡ Some f → form_len f (made taken admitted n) ≤ largest → limit ≤ 4294967294 → ReadsBack f (made taken admitted n) limit

@@ -1,5 +1,6 @@
 use Rattle.bw_model.proofs.FileReports.{reads_back}
+use Rattle.bw_model.proofs.MadeTakes.{made_reads_back}
 use Rattle.bw_model.proofs.law_file_reads.Goals as goal
 
 pub returns : goal.returns
-returns c = reads_back
+returns c = record { within_limits = reads_back; made = made_reads_back }
