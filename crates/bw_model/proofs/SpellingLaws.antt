@@ -14,11 +14,11 @@ unless_ok None x y e = (refl, cc)
 unless_ok (Some f) x y e = absurd cc
 
 -- the tests of a body that passes
-record Passes (v : Version) (k : ℕ) (rest : List ℕ) : Type 0 where
-  kind_good : is_within 1 (last_kind v) k ≡ true
-  name_good : is_name_bad rest ≡ false
-  number_good : is_number_bad (last_number v) rest ≡ false
-  payload_good : is_payload k (payload_in rest) ≡ true
+pub record Passes (v : Version) (k : ℕ) (rest : List ℕ) : Type 0 where
+  pub kind_good : is_within 1 (last_kind v) k ≡ true
+  pub name_good : is_name_bad rest ≡ false
+  pub number_good : is_number_bad (last_number v) rest ≡ false
+  pub payload_good : is_payload k (payload_in rest) ≡ true
 
 four_pass : (a b c d : Bool) → first_that_holds ((a, Kind) ∷ (b, Name) ∷ (c, Number) ∷ (d, Payload) ∷ []) ≡ None → (a ≡ false) × (b ≡ false) × (c ≡ false) × (d ≡ false)
 four_pass true b c d e = absurd cc
@@ -27,7 +27,8 @@ four_pass false false true d e = absurd cc
 four_pass false false false true e = absurd cc
 four_pass false false false false e = (refl, refl, refl, refl)
 
-passes_from : (v : Version) (k : ℕ) (rest : List ℕ) → first_that_holds (body_faults v k rest) ≡ None → Passes v k rest
+-- a body in which no fault holds
+pub passes_from : (v : Version) (k : ℕ) (rest : List ℕ) → first_that_holds (body_faults v k rest) ≡ None → Passes v k rest
 passes_from v k rest e =
     let tests = four_pass (not (is_within 1 (last_kind v) k)) (is_name_bad rest) (is_number_bad (last_number v) rest) (not (is_payload k (payload_in rest))) e in
     record { kind_good = not-false _ tests.0; name_good = tests.1; number_good = tests.2; payload_good = not-false _ tests.3 }

@@ -9,11 +9,11 @@ use Rattle.bw_model.proofs.ByteNumbers.{are_bytes-tail}
 use Rattle.bw_model.proofs.FrameLaws.{read_frame_stands, first_frame-framed}
 
 -- a stream from a place on
-record StreamAt (v : Version) (place : ℕ) (bytes : List ℕ) (fs : List Frame) (end : End) : Type 0 where
-  rest : List ℕ
-  each : list_all (is_turn v) fs ≡ true
-  whole : bytes ≡ frames_bytes fs ++ rest
-  ends : end_at v (place + length (frames_bytes fs)) rest ≡ Some end
+pub record StreamAt (v : Version) (place : ℕ) (bytes : List ℕ) (fs : List Frame) (end : End) : Type 0 where
+  pub rest : List ℕ
+  pub each : list_all (is_turn v) fs ≡ true
+  pub whole : bytes ≡ frames_bytes fs ++ rest
+  pub ends : end_at v (place + length (frames_bytes fs)) rest ≡ Some end
 
 turn_fits : (v : Version) (f : Frame) → is_turn v f ≡ true → is_frame v f ≡ true
 turn_fits v (Says m) h = h
@@ -59,7 +59,8 @@ stream_from-ended : (steps : ℕ) (v : Version) (place : ℕ) (bytes : List ℕ)
 stream_from-ended steps v place bytes end e =
     stream_from-by steps v place bytes ∙ ap (ended_or (read_or place (later_from steps v place bytes) (first_frame v bytes))) e
 
-given : (steps : ℕ) (v : Version) (place : ℕ) (bytes : List ℕ) (fs : List Frame) (end : End) → length bytes < steps → StreamAt v place bytes fs end → stream_from steps v place bytes ≡ (fs, end)
+-- a stream from a place on is what the function gives
+pub given : (steps : ℕ) (v : Version) (place : ℕ) (bytes : List ℕ) (fs : List Frame) (end : End) → length bytes < steps → StreamAt v place bytes fs end → stream_from steps v place bytes ≡ (fs, end)
 given zero v place bytes fs end enough s = absurd (omega arith)
 given (suc steps) v place bytes [] end enough s =
     stream_from-ended steps v place bytes end (ap (end_at v place) s.whole ∙ ap (λ (n : ℕ). end_at v n s.rest) (omega arith) ∙ s.ends)
@@ -114,7 +115,8 @@ found_by steps v place bytes fs end fits None ended (Ok x) read-is later e =
       ends = ap (λ (n : ℕ). end_at v n s.rest) (omega (arith, length-append (framed (body x.0)) (frames_bytes gs))) ∙ s.ends;
     })
 
-found : (steps : ℕ) (v : Version) (place : ℕ) (bytes : List ℕ) (fs : List Frame) (end : End) → length bytes < steps → are_bytes bytes ≡ true → stream_from steps v place bytes ≡ (fs, end) → StreamAt v place bytes fs end
+-- what the function gives is a stream
+pub found : (steps : ℕ) (v : Version) (place : ℕ) (bytes : List ℕ) (fs : List Frame) (end : End) → length bytes < steps → are_bytes bytes ≡ true → stream_from steps v place bytes ≡ (fs, end) → StreamAt v place bytes fs end
 found zero v place bytes fs end enough fits e = absurd (omega arith)
 found (suc steps) v place bytes fs end enough fits e =
     found_by steps v place bytes fs end fits (end_at v place bytes) refl (first_frame v bytes) refl

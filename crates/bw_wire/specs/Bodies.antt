@@ -1,0 +1,37 @@
+-- What stands in the body of a frame.
+use Rattle.std.specs.Prelude.{ℕ, Bool, true, false, ◌&&◌, Result, Ok, Err, List, drop, slice_index}
+use Rattle.bw_model.specs.Take.{Request}
+use Rattle.bw_model.specs.Wire.{Second, Message, Frame, Says, Asks, Bye, Reason, name_in, number_in, payload_in, request_of, are_bytes, decoded}
+
+-- the name, the number and the request of a body that has them
+unfoldable pub body_name : List ℕ → List ℕ
+body_name bytes = name_in (drop 1 bytes)
+
+unfoldable pub body_number : List ℕ → ℕ
+body_number bytes = number_in (drop 1 bytes)
+
+unfoldable pub body_request : List ℕ → Request
+body_request bytes = request_of (slice_index bytes 0) (payload_in (drop 1 bytes))
+
+-- the message that a body spells, where it spells one
+abbrev pub message_in : List ℕ → Message
+message_in bytes = record { name = body_name bytes; number = body_number bytes; request = body_request bytes }
+
+abbrev pub is_message_read : Result Frame Reason → Bool
+is_message_read (Ok (Says m)) = true
+is_message_read (Ok (Asks name number)) = false
+is_message_read (Ok Bye) = false
+is_message_read (Err reason) = false
+
+abbrev pub is_ask_read : Result Frame Reason → Bool
+is_ask_read (Ok (Says m)) = false
+is_ask_read (Ok (Asks name number)) = true
+is_ask_read (Ok Bye) = false
+is_ask_read (Err reason) = false
+
+-- the bytes spell a message, or an ask
+abbrev pub is_message_body : List ℕ → Bool
+is_message_body bytes = are_bytes bytes && is_message_read (decoded Second bytes)
+
+abbrev pub is_ask_body : List ℕ → Bool
+is_ask_body bytes = are_bytes bytes && is_ask_read (decoded Second bytes)

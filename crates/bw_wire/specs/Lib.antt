@@ -1,0 +1,4 @@
+pub mod Reasons
+pub mod Bodies
+pub mod Frames
+pub mod Addresses

@@ -1,0 +1,20 @@
+-- What reasons mean, and their codes.
+use Rattle.std.specs.Prelude.{◌≡◌, ℕ, Some, None, Result, MatchResult}
+use Rattle.bw_model.specs.Wire as model
+use Rattle.bw_model.specs.Replies.{reason_of as reason_with_code}
+use Rattle.bw_wire.specs.declared.reason.Reason.{Reason}
+use Rattle.bw_wire.specs.declared.reason.Reason.TheVariants.{Length, Kind, Name, Number, Payload, Cut}
+use Rattle.bw_wire.specs.declared.reason.UnknownCode.{UnknownCode}
+
+abbrev pub reason_of : Reason → model.Reason
+reason_of Length = model.Length
+reason_of Kind = model.Kind
+reason_of Name = model.Name
+reason_of Number = model.Number
+reason_of Payload = model.Payload
+reason_of Cut = model.Cut
+
+-- the reason with this code, or that there is none
+abbrev pub DecodesReason : ℕ → Result Reason UnknownCode → Type 0
+DecodesReason code r =
+    MatchResult r (λ reason. reason_with_code code ≡ Some (reason_of reason)) (λ e. (reason_with_code code ≡ None) × (e.0 ≡ code))

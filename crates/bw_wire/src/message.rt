@@ -1,0 +1,88 @@
+//! Frames that were read: messages, asks, and the end of an exchange.
+ghost use Rattle.std.specs.Prelude.{◌≡◌, ◌≤◌, IsTrue, length};
+ghost use Rattle.bw_wire.specs.Bodies.{is_message_body, is_ask_body};
+
+use crate::address::{behind_kind, name_of, number, payload};
+use crate::payload::request_of;
+use bw_take::{Name, RequestRef};
+
+/// A message: a name, a number, and a request on the take of that name. It borrows its body.
+#[derive(Clone, Copy, Debug)]
+pub struct Message<'a> {
+    pub(crate) body: &'a [u8],
+    ghost spells: { IsTrue (is_message_body body.now) },
+}
+
+impl<'a> Message<'a> {
+    ghost use Rattle.bw_model.specs.Wire.{Second, last_number, Says, Spells, is_request};
+    ghost use Rattle.bw_model.specs.Stream.{longest_body};
+    ghost use Rattle.bw_take.specs.Requests.{meaning};
+    ghost use Rattle.bw_wire.specs.Frames.{message_of};
+
+    /// The name of the take.
+    pub fn name(&self) -> Name
+        ensures { result ≡ (message_of self.now).name }
+    {
+        name_of(self.body)
+    }
+
+    /// The number of the message among those of its name.
+    pub fn number(&self) -> u32
+        ensures value { result ≡ (message_of self.now).number }
+        ensures range { result ≤ last_number Second }
+    {
+        number(behind_kind(self.body))
+    }
+
+    /// The request, which borrows from the body.
+    pub fn request(&self) -> RequestRef<'a>
+        ensures value { meaning result ≡ (message_of self.now).request }
+        ensures fits { IsTrue (is_request (meaning result)) }
+    {
+        request_of(self.body[0], payload(behind_kind(self.body)))
+    }
+
+    /// The whole body, from its kind on.
+    pub fn body(&self) -> &'a [u8]
+        ensures spelled { Spells Second result.now (Says (message_of self.now)) }
+        ensures length { length result.now ≤ longest_body }
+    {
+        self.body
+    }
+}
+
+/// A recorder's question which number comes next under a name. It borrows its body.
+#[derive(Clone, Copy, Debug)]
+pub struct Ask<'a> {
+    pub(crate) body: &'a [u8],
+    ghost spells: { IsTrue (is_ask_body body.now) },
+}
+
+impl Ask<'_> {
+    ghost use Rattle.bw_model.specs.Wire.{Second, last_number};
+    ghost use Rattle.bw_wire.specs.Frames.{asked_name, asked_number};
+
+    /// The name that is asked for.
+    pub fn name(&self) -> Name
+        ensures { result ≡ asked_name self.now }
+    {
+        name_of(self.body)
+    }
+
+    /// The number that the reply repeats.
+    pub fn number(&self) -> u32
+        ensures value { result ≡ asked_number self.now }
+        ensures range { result ≤ last_number Second }
+    {
+        number(behind_kind(self.body))
+    }
+}
+
+/// What a body spells.
+#[derive(Clone, Copy, Debug)]
+pub enum Frame<'a> {
+    Message(Message<'a>),
+    Ask(Ask<'a>),
+    /// The end of the exchange.
+    Bye,
+}
