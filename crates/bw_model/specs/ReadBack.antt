@@ -35,6 +35,7 @@ read_form f t limit =
     then record { id = codes "RIFF"; size = form_len f t; sizes = None }
     else record { id = codes "BW64"; size = form_len f t; sizes = Some (record { form = form_len f t; «data» = length t.samples; table = [] }) }
 
+-- the `cue ` chunk, where there are markers
 abbrev pub read_cues : ℕ → List (ℕ × ℕ) → List Entry
 read_cues place [] = []
 read_cues place (m ∷ ms) = record { id = codes "cue "; place = place; size = 4 + 24 * length (m ∷ ms) } ∷ []
@@ -48,6 +49,7 @@ read_chunks f t limit =
     ∷ record { id = codes "data"; place = 682 + even_up (length t.history); size = length t.samples }
     ∷ read_cues (data_place (length t.history) + even_up (length t.samples)) (cues t.closed t.markers)
 
+-- the numbers of `fmt `, of the format
 abbrev pub told_fmt : Format → RawFmt
 told_fmt f = record { tag = 1; channels = f.channels; rate = f.rate; bytes_per_second = f.rate * block_align f; align = block_align f; bits = f.bits }
 

@@ -4,6 +4,7 @@ use Rattle.bw_model.specs.Bytes.{le32, le64, u32_at, u64_at}
 use Rattle.bw_model.specs.Take.{Verdict, Stored, NameTaken, AlreadyOpen, NotOpen, Closed, BadFormat, BadBlock, BadMarker, DuplicateMarker, TooManyMarkers, BadField, WrongTotal}
 use Rattle.bw_model.specs.Wire.{Second, last_number, is_name, is_below, are_bytes, addressed, Reason, Length, Kind, Name, Number, Payload, Cut, reason_code, is_name_bad, is_number_bad, name_in, number_in, payload_in}
 
+-- what a server says of a message beside a verdict
 pub data Notice : Type 0 where
   Held : Notice
   TooFar : Notice
@@ -13,6 +14,7 @@ pub data Notice : Type 0 where
   DelayedStore : Notice
   Next : Notice
 
+-- what a server answers
 pub data Reply : Type 0 where
   -- name, number, verdict
   Judged : List ℕ → ℕ → Verdict → Reply
@@ -21,6 +23,7 @@ pub data Reply : Type 0 where
   -- a bad frame: the reason, and where it began
   Refused : Reason → ℕ → Reply
 
+-- the byte of a verdict
 abbrev pub verdict_code : Verdict → ℕ
 verdict_code Stored = 0
 verdict_code NameTaken = 1
@@ -35,6 +38,7 @@ verdict_code TooManyMarkers = 9
 verdict_code BadField = 10
 verdict_code WrongTotal = 11
 
+-- the byte of a notice
 abbrev pub notice_code : Notice → ℕ
 notice_code Held = 32
 notice_code TooFar = 33
@@ -44,14 +48,17 @@ notice_code NoRoom = 36
 notice_code DelayedStore = 37
 notice_code Next = 39
 
+-- a reply's bytes
 abbrev pub reply_body : Reply → List ℕ
 reply_body (Judged name number verdict) = addressed 0x81 name number ++ verdict_code verdict ∷ []
 reply_body (Noticed name number notice next) = addressed 0x82 name number ++ notice_code notice ∷ le32 next
 reply_body (Refused reason offset) = 0x83 ∷ reason_code reason ∷ le64 offset
 
+-- a name and a number that a reply may have
 abbrev pub is_addressed : List ℕ → ℕ → Bool
 is_addressed name number = is_name name && nat_le number (last_number Second)
 
+-- which replies have a spelling
 abbrev pub is_reply : Reply → Bool
 is_reply (Judged name number verdict) = is_addressed name number
 is_reply (Noticed name number notice next) = is_addressed name number && nat_le next (last_number Second + 1)
@@ -87,6 +94,7 @@ judged_by name number [] = None
 judged_by name number (code ∷ more) =
     if length more == 0 then option_map (Judged name number) (verdict_of code) else None
 
+-- the notice that a code and a number behind it make
 abbrev pub noticed_by : List ℕ → ℕ → List ℕ → Option Reply
 noticed_by name number [] = None
 noticed_by name number (code ∷ next) =
@@ -94,11 +102,13 @@ noticed_by name number (code ∷ next) =
     then option_map (λ n. Noticed name number n (u32_at next 0)) (notice_of code)
     else None
 
+-- the bad frame that a reason and a place make
 abbrev pub refused_by : List ℕ → Option Reply
 refused_by [] = None
 refused_by (code ∷ offset) =
     if length offset == 8 then option_map (λ r. Refused r (u64_at offset 0)) (reason_of code) else None
 
+-- a reply that begins with a name and a number
 abbrev pub addressed_reply : List ℕ → (List ℕ → ℕ → List ℕ → Option Reply) → Result Reply Reason
 addressed_reply rest reply_by =
     if is_name_bad rest then Err Name

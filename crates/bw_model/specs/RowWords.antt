@@ -11,9 +11,11 @@ use Rattle.bw_model.specs.Turn.{Luck, run, book_after}
 use Rattle.bw_model.specs.Exchange.{exchange, content_in, replies_bytes}
 use Rattle.bw_model.specs.Reading.{Entry, Form}
 
+-- the value of a digit of hex
 abbrev pub hex_digit : ℕ → ℕ
 hex_digit c = if nat_lt c 58 then c - 48 else c - 87
 
+-- the bytes of pairs of digits
 abbrev pub from_hex : List ℕ → List ℕ
 from_hex [] = []
 from_hex (a ∷ []) = []
@@ -32,6 +34,7 @@ mono = record { rate = 48000; channels = 1; bits = 16 }
 abbrev pub mono_24 : Format
 mono_24 = record { rate = 48000; channels = 1; bits = 24 }
 
+-- the largest size that a RIFF form may have
 abbrev pub default_limit : ℕ
 default_limit = 4294967294
 
@@ -78,6 +81,7 @@ cue_file =
 
 -- Exchanges, by the frames of the take `a1`.
 
+-- the name `a1`
 abbrev pub a1 : List ℕ
 a1 = codes "a1"
 
@@ -98,9 +102,11 @@ close_2 = hex "1000000005026131020000000200000000000000"
 abbrev pub judged : ℕ → ℕ → List ℕ
 judged n code = hex "0900000081026131" ++ le32 n ++ code ∷ []
 
+-- a notice with a number, a code and what comes next
 abbrev pub noticed : ℕ → ℕ → ℕ → List ℕ
 noticed n code next = hex "0d00000082026131" ++ le32 n ++ code ∷ le32 next
 
+-- no name stood in the store at the start
 abbrev pub nothing_stands : List ℕ → Bool
 nothing_stands name = false
 
@@ -112,9 +118,11 @@ file_in book = content_in (λ name. None) default_limit book a1
 abbrev pub Outcome : Type 0
 Outcome = List ℕ × End × Option (List ℕ)
 
+-- what comes of these bytes on a new server
 abbrev pub outcome : List ℕ → Outcome
 outcome input = let x = exchange nothing_stands [] input in (replies_bytes x.replies, x.end, file_in x.book)
 
+-- a new server answers so, ends so, and leaves this file
 abbrev pub Answers : List ℕ → List ℕ → End → Option (List ℕ) → Type 0
 Answers input replies end file = outcome input ≡ (replies, end, file)
 
@@ -128,6 +136,7 @@ says n r = Says (record { name = a1; number = n; request = r })
 abbrev pub fails_after : ℕ → Luck
 fails_after k = record { refused = false; stop = Some k }
 
+-- the replies of each turn, on a new server
 abbrev pub answers_to : List (Frame × Luck) → List (List Reply)
 answers_to ts = map (λ t. t.replies) (run nothing_stands [] ts)
 
@@ -137,8 +146,10 @@ Turns ts replies file = (answers_to ts ≡ replies) × (file_in (book_after noth
 
 -- Readings.
 
+-- a listed chunk
 abbrev pub entry : String → ℕ → ℕ → Entry
 entry id place size = record { id = codes id; place = place; size = size }
 
+-- the outer header of a RIFF form
 abbrev pub riff : ℕ → Form
 riff size = record { id = codes "RIFF"; size = size; sizes = None }

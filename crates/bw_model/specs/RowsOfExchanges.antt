@@ -71,6 +71,7 @@ abbrev pub for_each : (ℕ → List ℕ) → ℕ → ℕ → List ℕ
 for_each bytes n zero = []
 for_each bytes n (suc count) = bytes n ++ for_each bytes (suc n) count
 
+-- the frame of a BLOCK of two frames
 abbrev pub block : ℕ → List ℕ
 block n = hex "0c00000002026131" ++ le32 n ++ two_frames
 
@@ -149,6 +150,7 @@ ByeRow = Answers (hex "0100000009" ++ open_0) [] SaidBye None
 abbrev pub cut_to : ℕ → List ℕ × End
 cut_to n = let x = outcome (take n (open_0 ++ block_1 ++ close_2)) in (x.0, x.1)
 
+-- the reply to a frame that is cut at a place
 abbrev pub cut_at : ℕ → List ℕ
 cut_at place = hex "0a0000008306" ++ place ∷ hex "00000000000000"
 

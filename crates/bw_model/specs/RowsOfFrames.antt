@@ -66,6 +66,7 @@ LongestFrameRow = take 6 (framed (body (Says (record { name = replicate 32 97; n
 abbrev pub LongestBlockReadRow : Type 0
 LongestBlockReadRow = decoded Second (hex "0202613101000000" ++ replicate 32768 7) ≡ Ok (says 1 (Block (replicate 32768 7)))
 
+-- a block of 32,769 bytes is reason 5
 abbrev pub BlockTooLongRow : Type 0
 BlockTooLongRow = decoded Second (hex "0202613101000000" ++ replicate 32769 7) ≡ Err Payload
 

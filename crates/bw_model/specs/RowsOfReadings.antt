@@ -4,6 +4,7 @@ use Rattle.bw_model.specs.Bytes.{zeros}
 use Rattle.bw_model.specs.Reading.{Entry, Form, FaultKind, NotWave, Truncated, NoDs64, BadDs64, NoSize, Twice, NoFmt, NoData, BadFmt, BadBext, BadCue, TooMany, TooLarge, read}
 use Rattle.bw_model.specs.RowWords.{hex, two_frames, mono_fmt, small_file, odd_file, cue_file, entry, riff}
 
+-- the bytes read as this form with these chunks
 abbrev pub ReadsAs : List ℕ → Form → List Entry → Type 0
 ReadsAs b form entries = read b ≡ Ok (form, entries)
 
@@ -13,6 +14,7 @@ Faults inputs faults = map read inputs ≡ map (λ f. Err (record { kind = f.0; 
 
 -- Forms that are read.
 
+-- the chunks of the file of two frames
 abbrev pub small_entries : List Entry
 small_entries = entry "JUNK" 12 28 ∷ entry "fmt " 48 16 ∷ entry "bext" 72 602 ∷ entry "data" 682 4 ∷ []
 
@@ -33,12 +35,15 @@ rf64_with form data_size entries list_size =
     ++ codes "LIST" ++ list_size ++ zeros 4
     ++ codes "data" ++ hex "ffffffff" ++ two_frames
 
+-- an RF64 file of 98 bytes
 abbrev pub rf64 : List ℕ
 rf64 = rf64_with (hex "5a00000000000000") (hex "0400000000000000") (hex "00000000") (hex "04000000")
 
+-- its outer header
 abbrev pub rf64_form : Form
 rf64_form = record { id = codes "RF64"; size = 90; sizes = Some (record { form = 90; «data» = 4; table = [] }) }
 
+-- its chunks
 abbrev pub rf64_entries : List Entry
 rf64_entries = entry "ds64" 12 28 ∷ entry "fmt " 48 18 ∷ entry "LIST" 74 4 ∷ entry "data" 86 4 ∷ []
 
@@ -55,9 +60,11 @@ tabled =
     ++ codes "LIST" ++ hex "ffffffff" ++ zeros 4
     ++ codes "data" ++ hex "ffffffff" ++ two_frames
 
+-- its outer header
 abbrev pub tabled_form : Form
 tabled_form = record { id = codes "BW64"; size = 102; sizes = Some (record { form = 102; «data» = 4; table = (codes "LIST", 4) ∷ [] }) }
 
+-- its chunks
 abbrev pub tabled_entries : List Entry
 tabled_entries = entry "ds64" 12 40 ∷ entry "fmt " 60 18 ∷ entry "LIST" 86 4 ∷ entry "data" 98 4 ∷ []
 
@@ -118,6 +125,7 @@ WrongCueRow = Faults (
 abbrev pub one_chunk : List ℕ → List ℕ → ℕ → List ℕ
 one_chunk id size n = codes "RIFF" ++ hex "00100000" ++ codes "WAVE" ++ id ++ size ++ zeros n
 
+-- chunks that are one byte too short, and a form without `data`
 abbrev pub ShortChunksRow : Type 0
 ShortChunksRow = Faults (
     one_chunk (codes "fmt ") (hex "0f000000") 15

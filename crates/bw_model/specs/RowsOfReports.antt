@@ -6,6 +6,7 @@ use Rattle.bw_model.specs.Report.{report_of, report_text}
 use Rattle.bw_model.specs.RowWords.{hex, empty_file, small_file, cue_file, entry, riff}
 use Rattle.bw_model.specs.RowsOfReadings.{rf64, rf64_form, rf64_entries, tabled, tabled_form, tabled_entries, small_entries}
 
+-- a reading's report has this text
 abbrev pub Reports : List ℕ → Form → List Entry → List ℕ → Type 0
 Reports b form entries text = report_text (report_of b form entries) ≡ text
 
@@ -13,6 +14,7 @@ Reports b form entries text = report_text (report_of b form entries) ≡ text
 abbrev pub lines : List String → List ℕ
 lines text = flat_map (λ s. codes s ++ 10 ∷ []) text
 
+-- the line of 48,000 Hz, one channel and 16 bits
 abbrev pub mono_line : String
 mono_line = "fmt tag=1 channels=1 rate=48000 bytes=96000 align=2 bits=16"
 
@@ -46,6 +48,7 @@ ReportSmallRow = Reports small_file (riff 686) small_entries (
 abbrev pub loud_file : List ℕ
 loud_file = take 426 empty_file ++ hex "0200" ++ drop 428 (take 492 empty_file) ++ hex "04f7ff7fff7fff7fff7f" ++ drop 502 empty_file
 
+-- a loudness that is given is told by its number, and the others are unset
 abbrev pub ReportLoudnessRow : Type 0
 ReportLoudnessRow = Reports loud_file (riff 682) (entry "JUNK" 12 28 ∷ entry "fmt " 48 16 ∷ entry "bext" 72 602 ∷ entry "data" 682 0 ∷ []) (
     lines ("form RIFF 682" ∷ []) ++ plain_lines
@@ -56,6 +59,7 @@ ReportLoudnessRow = Reports loud_file (riff 682) (entry "JUNK" 12 28 ∷ entry "
 abbrev pub marked_file : List ℕ
 marked_file = take 80 cue_file ++ hex "415c0a" ++ drop 83 (take 418 cue_file) ++ hex "03" ++ drop 419 cue_file
 
+-- a backslash and a line end are told by their digits, and the cue point by a line
 abbrev pub ReportMarkedRow : Type 0
 ReportMarkedRow = Reports marked_file (riff 722) (entry "JUNK" 12 28 ∷ entry "fmt " 48 16 ∷ entry "bext" 72 602 ∷ entry "data" 682 4 ∷ entry "cue " 694 28 ∷ []) (
     lines ("form RIFF 722" ∷ []) ++ plain_lines

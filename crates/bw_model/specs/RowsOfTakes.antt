@@ -11,6 +11,7 @@ use Rattle.bw_model.specs.RowWords.{hex, mono, default_limit, take_of, mono_fmt,
 abbrev pub with_format : ℕ → ℕ → ℕ → Verdict
 with_format rate channels bits = verdict (take_of []) (Open (record { rate = rate; channels = channels; bits = bits }) [])
 
+-- the formats at the bounds are stored, and those one past them refused
 abbrev pub FormatsRow : Type 0
 FormatsRow =
     (with_format 1 1 16 ∷ with_format 768000 64 32 ∷ with_format 48000 2 24 ∷ [])
@@ -26,6 +27,7 @@ HistoryBytesRow = map (λ c. verdict (take_of []) (Open mono (65 ∷ c ∷ [])))
 abbrev pub requests : List Request
 requests = Block two_frames ∷ Mark 7 0 ∷ SetField 1 [] ∷ Close 0 ∷ []
 
+-- nothing is stored before OPEN, nothing on a closed take, and no second OPEN
 abbrev pub BeforeAndBehindRow : Type 0
 BeforeAndBehindRow =
     map (verdict (take_of [])) requests ++ map (verdict (take_of (Open mono [] ∷ Close 0 ∷ []))) (Open mono [] ∷ requests) ++ verdict (take_of (Open mono [] ∷ [])) (Open mono []) ∷ []
@@ -35,6 +37,7 @@ BeforeAndBehindRow =
 abbrev pub marked : ℕ → Take
 marked count = record (take_of (Open mono [] ∷ [])) { markers = replicate count (0, 0) }
 
+-- the marker 1,024 is stored, and the next one refused
 abbrev pub ManyMarkersRow : Type 0
 ManyMarkersRow = map (λ count. verdict (marked count) (Mark 1 0)) (1023 ∷ 1024 ∷ []) ≡ Stored ∷ TooManyMarkers ∷ []
 
@@ -52,6 +55,7 @@ FieldsRow =
 
 -- The form size at the limit.
 
+-- the header for so many data bytes, without history or cue points, at the default limit
 abbrev pub header_of_len : ℕ → List ℕ
 header_of_len data_len = header mono no_fields [] data_len 0 default_limit
 
@@ -71,12 +75,15 @@ SmallestWideRow = header_of_len 4294966613
 
 -- A small limit, of 8,192 bytes.
 
+-- these requests make this file at the limit
 abbrev pub MakesFile : List Request → List ℕ → Type 0
 MakesFile rs file = file_of (take_of rs) 8192 ≡ Some file
 
+-- 7,510 bytes, which fill a form of 8,192
 abbrev pub many : List ℕ
 many = replicate 7510 1
 
+-- the requests of such a take
 abbrev pub at_limit : List Request
 at_limit = Open mono [] ∷ Block many ∷ []
 

@@ -22,6 +22,7 @@ says_other = says 1 (Block other_frames)
 abbrev pub says_close : Frame
 says_close = says 2 (Close 2)
 
+-- the verdict Stored on a number
 abbrev pub stored : ℕ → Reply
 stored n = Judged a1 n Stored
 
@@ -50,14 +51,17 @@ abbrev pub waiting : ℕ → ℕ → List (Frame × Luck)
 waiting n zero = []
 waiting n (suc count) = (says n (Block two_frames), good) ∷ waiting (suc n) count
 
+-- Held for each of so many numbers
 abbrev pub held_each : ℕ → ℕ → List (List Reply)
 held_each n zero = []
 held_each n (suc count) = (Noticed a1 n Held 0 ∷ []) ∷ held_each (suc n) count
 
+-- Stored for each of so many numbers
 abbrev pub stored_each : ℕ → ℕ → List Reply
 stored_each n zero = []
 stored_each n (suc count) = stored n ∷ stored_each (suc n) count
 
+-- one turn gives seventeen replies
 abbrev pub SeventeenRepliesRow : Type 0
 SeventeenRepliesRow = answers_to (waiting 1 15 ++ (says_open, fails_after 0) ∷ (says 16 (Block two_frames), good) ∷ [])
     ≡ held_each 1 15 ++ (Noticed a1 0 DelayedStore 0 ∷ []) ∷ (stored_each 0 16 ++ Noticed a1 16 TooFar 16 ∷ []) ∷ []
@@ -66,6 +70,7 @@ SeventeenRepliesRow = answers_to (waiting 1 15 ++ (says_open, fails_after 0) ∷
 abbrev pub whole : Luck → Luck → Luck → Luck → List (Frame × Luck)
 whole w x y z = (says_open, w) ∷ (says_block, x) ∷ (says 2 (SetField 1 (codes "Rain")), y) ∷ (says 3 (Mark 7 2), good) ∷ (says 4 (Close 2), z) ∷ []
 
+-- the numbers that were answered DelayedStore
 abbrev pub delayed_in : List Reply → List ℕ
 delayed_in [] = []
 delayed_in (Noticed name n DelayedStore next ∷ rs) = n ∷ delayed_in rs
@@ -77,6 +82,7 @@ sent_twice w x y z =
     let ts = whole w x y z ++ whole good good good good in
     (flat_map delayed_in (answers_to ts), file_in (book_after nothing_stands [] ts))
 
+-- the file with a cue point, and `Rain` as its Description
 abbrev pub rain_file : Option (List ℕ)
 rain_file = Some (take 80 cue_file ++ hex "5261696e" ++ drop 84 cue_file)
 
@@ -102,6 +108,7 @@ names_from first (suc count) = (first ∷ [], record { admitted = None ∷ Some 
 abbrev pub full_turn : Frame → List Reply × Book
 full_turn f = turn nothing_stands (names_from 0 256) f good
 
+-- a BLOCK of a further name
 abbrev pub further : ℕ → Frame
 further n = Says (record { name = codes "b2"; number = n; request = Block two_frames })
 
@@ -125,9 +132,11 @@ NoRoomRow = turn nothing_stands [] says_open (record { refused = true; stop = No
 abbrev pub stands : List ℕ → Option (List ℕ)
 stands name = if bytes_eq name a1 then Some (codes "kept") else None
 
+-- the names of that store
 abbrev pub a1_stands : List ℕ → Bool
 a1_stands name = bytes_eq name a1
 
+-- OPEN and BLOCK for that name
 abbrev pub onto_a1 : List (Frame × Luck)
 onto_a1 = (says_open, good) ∷ (says_block, good) ∷ []
 

@@ -15,6 +15,7 @@ use Rattle.bw_model.specs.RowWords.{hex, a1, mono, two_frames, open_0, block_1, 
 abbrev pub sender_of : List Request → Sender
 sender_of rs = fold offer (record { name = a1; offered = []; verdicts = [] }) rs
 
+-- the requests of two frames
 abbrev pub small_take : List Request
 small_take = Open mono [] ∷ Block two_frames ∷ Close 2 ∷ []
 
@@ -29,6 +30,7 @@ abbrev pub hears : Sender → List Reply → List Heard
 hears s [] = []
 hears s (r ∷ rs) = heard s r ∷ hears (hear s r) rs
 
+-- the sender behind these replies
 abbrev pub behind : List Reply → Sender
 behind rs = fold hear (sender_of small_take) rs
 
@@ -36,6 +38,7 @@ behind rs = fold hear (sender_of small_take) rs
 abbrev pub first_batch : List Reply
 first_batch = Judged a1 0 Stored ∷ Noticed a1 1 Held 1 ∷ Judged a1 2 Stored ∷ []
 
+-- the first verdicts count, and a notice is noted
 abbrev pub HearsRow : Type 0
 HearsRow =
     (hears (sender_of small_take) first_batch ≡ Counted ∷ Noted ∷ Counted ∷ [])
@@ -47,6 +50,7 @@ HearsRow =
 abbrev pub second_batch : List Reply
 second_batch = first_batch ++ Judged a1 1 BadBlock ∷ []
 
+-- a refused number is settled, and what is known or strange changes nothing
 abbrev pub RefusedRow : Type 0
 RefusedRow =
     (settled (behind second_batch) ≡ 3)
@@ -77,6 +81,7 @@ rehearsal =
     Offer (Open mono []) ∷ Offer (Block two_frames) ∷ Offer (Close 2) ∷ Send 2 ∷ Deliver 0 ∷ Send 0 ∷ Deliver 1 ∷ Bring 0 ∷ Bring 1
     ∷ Send 0 ∷ Deliver 2 ∷ Deliver 2 ∷ Bring 3 ∷ []
 
+-- the world behind these events, where nothing fails
 abbrev pub rehearsed : List Event → World
 rehearsed events = world_after nothing_stands (new_world a1) (map (λ e. (e, good)) events)
 
@@ -100,6 +105,7 @@ abbrev pub RehearsalRepliesRow : Type 0
 RehearsalRepliesRow = (rehearsed rehearsal).replies
     ≡ Noticed a1 2 Held 0 ∷ Judged a1 0 Stored ∷ Judged a1 1 Stored ∷ Judged a1 2 Stored ∷ Judged a1 1 Stored ∷ []
 
+-- the world behind an ask whose reply came
 abbrev pub asked : World
 asked = rehearsed (whole ++ Ask ∷ Bring 5 ∷ [])
 
