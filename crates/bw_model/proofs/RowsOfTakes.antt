@@ -1,7 +1,7 @@
 -- The worked rows compute: what is stored of a take, and its file at the limit.
 use Rattle.std.proofs.Common.{refl}
 use Rattle.bw_model.proofs.Computing.{computing}
-use Rattle.bw_model.specs.RowsOfTakes.{FormatsRow, HistoryBytesRow, BeforeAndBehindRow, ManyMarkersRow, FieldsRow, LargestRiffRow, LargestOddRiffRow, SmallestWideRow, AtLimitRow, MarkedRow, OverLimitRow}
+use Rattle.bw_model.specs.RowsOfTakes.{FormatsRow, HistoryBytesRow, BeforeAndBehindRow, ManyMarkersRow, AllowedFieldsRow, FieldLengthsRow, FieldBytesRow, LargestRiffRow, LargestOddRiffRow, SmallestWideRow, AtLimitRow, MarkedRow, OverLimitRow}
 
 pub formats : FormatsRow
 unfolding computing
@@ -19,9 +19,17 @@ pub many_markers : ManyMarkersRow
 unfolding computing
 many_markers = refl
 
-pub fields : FieldsRow
+pub allowed_fields : AllowedFieldsRow
 unfolding computing
-fields = refl
+allowed_fields = refl
+
+pub field_lengths : FieldLengthsRow
+unfolding computing
+field_lengths = refl
+
+pub field_bytes : FieldBytesRow
+unfolding computing
+field_bytes = refl
 
 pub largest_riff : LargestRiffRow
 unfolding computing

@@ -45,7 +45,8 @@ pub record IsChunkAt (b : List ℕ) (form : Form) (e : Entry) : Type 0 where
 -- from a place on, each chunk begins behind the content and the pad byte of the one before
 abbrev pub StandFrom : List ℕ → Form → ℕ → List Entry → Type 0
 StandFrom b form p [] = Unit {0}
-StandFrom b form p (e ∷ es) = (e.place ≡ p) × IsChunkAt b form e × StandFrom b form (e.place + 8 + even_up e.size) es
+StandFrom b form p (e ∷ es) =
+    (e.place ≡ p) × IsChunkAt b form e × StandFrom b form (e.place + 8 + even_up e.size) es
 
 -- how many chunks have this id
 abbrev pub count_of : List ℕ → List Entry → ℕ
@@ -64,7 +65,8 @@ pub record StandsFirst (b : List ℕ) (form : Form) (entries : List Entry) : Typ
 
 -- a front is what stands first
 abbrev pub FrontsStandFirst : Type 0
-FrontsStandFirst = (b : List ℕ) (form : Form) (entries : List Entry) → IsFront b form entries ↔ StandsFirst b form entries
+FrontsStandFirst = (b : List ℕ) (form : Form) (entries : List Entry) →
+    IsFront b form entries ↔ StandsFirst b form entries
 
 -- the chunks fill the form: no further head fits, and both `fmt ` and `data` are there
 pub record FillsForm (form : Form) (entries : List Entry) : Type 0 where

@@ -87,11 +87,13 @@ told_report f t limit = record {
 -- the file reads as its chunks, and the report tells the take
 pub record ReadsBack (f : Format) (t : Take) (limit : ℕ) : Type 0 where
   pub reading : IsReading (file_with f t limit) (read_form f t limit) (read_chunks f t limit)
-  pub report : report_of (file_with f t limit) (read_form f t limit) (read_chunks f t limit) ≡ told_report f t limit
+  pub report : report_of (file_with f t limit) (read_form f t limit) (read_chunks f t limit)
+      ≡ told_report f t limit
 
 -- so does each file of a take within the limits, whatever size is the last that is RIFF
 abbrev pub FilesReadBack : Type 0
-FilesReadBack = (f : Format) (t : Take) (limit : ℕ) → IsWithinLimits f t → limit ≤ 4294967294 → ReadsBack f t limit
+FilesReadBack = (f : Format) (t : Take) (limit : ℕ) → IsWithinLimits f t → limit ≤ 4294967294 →
+    ReadsBack f t limit
 
 -- The takes that admitted requests make are within the limits, whatever was sent.
 
@@ -102,5 +104,6 @@ is_admitted (Some r) = is_request r
 
 -- of each take that such requests make, and whose form is at most 2^62 bytes, the file reads back
 abbrev pub MadeFilesReadBack : Type 0
-MadeFilesReadBack = (taken : Bool) (admitted : List (Option Request)) (n : ℕ) (f : Format) (limit : ℕ) → IsTrue (list_all is_admitted admitted) →
+MadeFilesReadBack = (taken : Bool) (admitted : List (Option Request)) (n : ℕ) (f : Format) (limit : ℕ) →
+    IsTrue (list_all is_admitted admitted) →
     (made taken admitted n).format ≡ Some f → form_len f (made taken admitted n) ≤ largest → limit ≤ 4294967294 → ReadsBack f (made taken admitted n) limit

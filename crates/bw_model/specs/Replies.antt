@@ -71,7 +71,8 @@ pub record SpellsReply (bytes : List ℕ) (r : Reply) : Type 0 where
 
 -- what has this code
 abbrev pub verdicts : List Verdict
-verdicts = Stored ∷ NameTaken ∷ AlreadyOpen ∷ NotOpen ∷ Closed ∷ BadFormat ∷ BadBlock ∷ BadMarker ∷ DuplicateMarker ∷ TooManyMarkers ∷ BadField ∷ WrongTotal ∷ []
+verdicts = Stored ∷ NameTaken ∷ AlreadyOpen ∷ NotOpen ∷ Closed ∷ BadFormat ∷ BadBlock ∷ BadMarker
+    ∷ DuplicateMarker ∷ TooManyMarkers ∷ BadField ∷ WrongTotal ∷ []
 
 abbrev pub notices : List Notice
 notices = Held ∷ TooFar ∷ Conflict ∷ TableFull ∷ NoRoom ∷ DelayedStore ∷ Next ∷ []
@@ -126,4 +127,5 @@ decoded_reply (kind ∷ rest) =
 
 -- a decoder answers a reply exactly where the bytes spell it
 abbrev pub DecodesReplySpellings : Type 0
-DecodesReplySpellings = (bytes : List ℕ) (r : Reply) → IsTrue (are_bytes bytes) → (decoded_reply bytes ≡ Ok r) ↔ SpellsReply bytes r
+DecodesReplySpellings = (bytes : List ℕ) (r : Reply) → IsTrue (are_bytes bytes) →
+    (decoded_reply bytes ≡ Ok r) ↔ SpellsReply bytes r

@@ -71,7 +71,8 @@ small_file = plain_header (hex "ae020000") mono_fmt (hex "04000000") ++ two_fram
 
 -- the file of one frame of 24 bits, without its pad byte
 abbrev pub odd_file : List ℕ
-odd_file = plain_header (hex "ae020000") (hex "0100010080bb00008032020003001800") (hex "03000000") ++ hex "010203"
+odd_file = plain_header (hex "ae020000") (hex "0100010080bb00008032020003001800") (hex "03000000")
+    ++ hex "010203"
 
 -- the file of two frames and a cue point, of 730 bytes
 abbrev pub cue_file : List ℕ

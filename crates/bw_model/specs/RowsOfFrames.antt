@@ -1,14 +1,17 @@
 -- Worked rows: frames that are whole, too long, cut or misspelt, and replies.
 use Rattle.std.specs.Prelude.{◌≡◌, Ok, Err, Some, None, [], ◌∷◌, ◌++◌, map, take, replicate}
 use Rattle.bw_model.specs.Take.{Block, BadBlock}
-use Rattle.bw_model.specs.Wire.{Says, Second, decoded, decoded_request, framed, body, Length, Kind, Name, Number, Payload, Cut}
+use Rattle.bw_model.specs.Wire.{Frame, Says, Second, decoded, decoded_request, framed, body, Length, Kind, Name, Number, Payload, Cut}
 use Rattle.bw_model.specs.Replies.{Judged, Noticed, Refused, Held, Next, decoded_reply}
 use Rattle.bw_model.specs.Stream.{EndOfInput, BadFrame}
 use Rattle.bw_model.specs.RowWords.{hex, empty_file, a1, open_0, judged, says, Answers, outcome}
 
 -- a length of 0 is a bad frame, at the place of its first length byte
 abbrev pub ZeroLengthRow : Type 0
-ZeroLengthRow = Answers (open_0 ++ hex "00000000") (judged 0 0 ++ hex "0a00000083011600000000000000") (BadFrame Length 22) (Some empty_file)
+ZeroLengthRow = Answers
+    (open_0 ++ hex "00000000")
+    (judged 0 0 ++ hex "0a00000083011600000000000000")
+    (BadFrame Length 22) (Some empty_file)
 
 -- a length of 32,807 is refused before its body comes
 abbrev pub TooLongRow : Type 0
@@ -20,19 +23,31 @@ CutLengthRow = Answers (hex "120000") (hex "0a00000083060000000000000000") (BadF
 
 -- BYE has no payload
 abbrev pub ByeAndMoreRow : Type 0
-ByeAndMoreRow = Answers (hex "020000000900") (hex "0a00000083050000000000000000") (BadFrame Payload 0) None
+ByeAndMoreRow = Answers
+    (hex "020000000900")
+    (hex "0a00000083050000000000000000")
+    (BadFrame Payload 0) None
 
 -- nor has an ask
 abbrev pub AskPayloadRow : Type 0
-AskPayloadRow = Answers (hex "09000000060261310000000000") (hex "0a00000083050000000000000000") (BadFrame Payload 0) None
+AskPayloadRow = Answers
+    (hex "09000000060261310000000000")
+    (hex "0a00000083050000000000000000")
+    (BadFrame Payload 0) None
 
 -- number 1,048,576 is one of the second version's, and too far for a new name
 abbrev pub LargeNumberRow : Type 0
-LargeNumberRow = Answers (hex "0c000000020261310000100001000200") (hex "0d00000082026131000010002100000000") EndOfInput None
+LargeNumberRow = Answers
+    (hex "0c000000020261310000100001000200")
+    (hex "0d00000082026131000010002100000000")
+    EndOfInput None
 
 -- number 16,777,216 is none
 abbrev pub TooLargeNumberRow : Type 0
-TooLargeNumberRow = Answers (hex "0c000000020261310000000101000200") (hex "0a00000083040000000000000000") (BadFrame Number 0) None
+TooLargeNumberRow = Answers
+    (hex "0c000000020261310000000101000200")
+    (hex "0a00000083040000000000000000")
+    (BadFrame Number 0) None
 
 -- a name with an `A`, a name of 33 bytes and no name at all are reason 3, nine bytes for MARK are reason 5
 abbrev pub MisspeltRow : Type 0
@@ -46,7 +61,9 @@ MisspeltRow = map (λ bytes. (outcome bytes).1) (
 
 -- kinds 0, 7, 8 and 10, and no kind at all, are reason 2
 abbrev pub KindsRow : Type 0
-KindsRow = map (decoded Second) (hex "0002613100000000" ∷ hex "0702613100000000" ∷ hex "0802613100000000" ∷ hex "0a02613100000000" ∷ [] ∷ [])
+KindsRow =
+    map (decoded Second) (hex "0002613100000000" ∷ hex "0702613100000000" ∷ hex "0802613100000000"
+    ∷ hex "0a02613100000000" ∷ [] ∷ [])
     ≡ Err Kind ∷ Err Kind ∷ Err Kind ∷ Err Kind ∷ Err Kind ∷ []
 
 -- a request without name and number is never an ask
@@ -59,12 +76,17 @@ abbrev pub LongestBlockRow : Type 0
 LongestBlockRow = take 6 (framed (body (says 1 (Block (replicate 32768 7))))) ≡ hex "088000000202"
 
 -- and 32,806, the longest, under a name of 32 bytes
+abbrev pub longest : Frame
+longest = Says (record { name = replicate 32 97; number = 1; request = Block (replicate 32768 7) })
+
 abbrev pub LongestFrameRow : Type 0
-LongestFrameRow = take 6 (framed (body (Says (record { name = replicate 32 97; number = 1; request = Block (replicate 32768 7) })))) ≡ hex "268000000220"
+LongestFrameRow = take 6 (framed (body longest)) ≡ hex "268000000220"
 
 -- it is read back, and one byte more is reason 5
 abbrev pub LongestBlockReadRow : Type 0
-LongestBlockReadRow = decoded Second (hex "0202613101000000" ++ replicate 32768 7) ≡ Ok (says 1 (Block (replicate 32768 7)))
+LongestBlockReadRow =
+    decoded Second (hex "0202613101000000" ++ replicate 32768 7)
+    ≡ Ok (says 1 (Block (replicate 32768 7)))
 
 -- a block of 32,769 bytes is reason 5
 abbrev pub BlockTooLongRow : Type 0
@@ -79,10 +101,10 @@ NextRow = map decoded_reply (hex "82026131000000002000000001" ∷ hex "820261310
 
 -- the codes of verdicts end at 11, those of notices are 32 to 37 and 39, and those of reasons 1 to 6
 abbrev pub CodesRow : Type 0
-CodesRow = map decoded_reply (
-    hex "810261310100000006" ∷ hex "81026131010000000c"
-    ∷ hex "82026131010000002702000000" ∷ hex "82026131010000002602000000" ∷ hex "82026131010000001f02000000"
-    ∷ hex "83062600000000000000" ∷ hex "83072600000000000000" ∷ hex "84" ∷ [] ∷ [])
-    ≡ Ok (Judged a1 1 BadBlock) ∷ Err Payload
-    ∷ Ok (Noticed a1 1 Next 2) ∷ Err Payload ∷ Err Payload
+CodesRow =
+    map decoded_reply (hex "810261310100000006" ∷ hex "81026131010000000c"
+    ∷ hex "82026131010000002702000000" ∷ hex "82026131010000002602000000"
+    ∷ hex "82026131010000001f02000000" ∷ hex "83062600000000000000" ∷ hex "83072600000000000000"
+    ∷ hex "84" ∷ [] ∷ [])
+    ≡ Ok (Judged a1 1 BadBlock) ∷ Err Payload ∷ Ok (Noticed a1 1 Next 2) ∷ Err Payload ∷ Err Payload
     ∷ Ok (Refused Cut 38) ∷ Err Payload ∷ Err Kind ∷ Err Kind ∷ []

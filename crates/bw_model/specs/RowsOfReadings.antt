@@ -24,7 +24,9 @@ ReadsSmallRow = ReadsAs small_file (riff 686) small_entries
 
 -- a data chunk's pad byte may be absent at the end
 abbrev pub ReadsWithoutPadRow : Type 0
-ReadsWithoutPadRow = ReadsAs odd_file (riff 686) (entry "JUNK" 12 28 ∷ entry "fmt " 48 16 ∷ entry "bext" 72 602 ∷ entry "data" 682 3 ∷ [])
+ReadsWithoutPadRow = ReadsAs
+    odd_file (riff 686)
+    (entry "JUNK" 12 28 ∷ entry "fmt " 48 16 ∷ entry "bext" 72 602 ∷ entry "data" 682 3 ∷ [])
 
 -- an RF64 file of 98 bytes, by its form size, data size, table length and the size of its `LIST`
 abbrev pub rf64_with : List ℕ → List ℕ → List ℕ → List ℕ → List ℕ
@@ -41,7 +43,8 @@ rf64 = rf64_with (hex "5a00000000000000") (hex "0400000000000000") (hex "0000000
 
 -- its outer header
 abbrev pub rf64_form : Form
-rf64_form = record { id = codes "RF64"; size = 90; sizes = Some (record { form = 90; «data» = 4; table = [] }) }
+rf64_form =
+    record { id = codes "RF64"; size = 90; sizes = Some (record { form = 90; «data» = 4; table = [] }) }
 
 -- its chunks
 abbrev pub rf64_entries : List Entry
@@ -54,15 +57,18 @@ ReadsRf64Row = ReadsAs rf64 rf64_form rf64_entries
 -- a BW64 file of 110 bytes, whose table gives the size of `LIST`
 abbrev pub tabled : List ℕ
 tabled =
-    codes "BW64" ++ hex "ffffffff" ++ codes "WAVE"
-    ++ codes "ds64" ++ hex "28000000" ++ hex "6600000000000000" ++ hex "0400000000000000" ++ zeros 8 ++ hex "01000000" ++ codes "LIST" ++ hex "0400000000000000"
-    ++ codes "fmt " ++ hex "12000000" ++ mono_fmt ++ zeros 2
-    ++ codes "LIST" ++ hex "ffffffff" ++ zeros 4
-    ++ codes "data" ++ hex "ffffffff" ++ two_frames
+    codes "BW64" ++ hex "ffffffff" ++ codes "WAVE" ++ codes "ds64" ++ hex "28000000"
+    ++ hex "6600000000000000" ++ hex "0400000000000000" ++ zeros 8 ++ hex "01000000" ++ codes "LIST"
+    ++ hex "0400000000000000" ++ codes "fmt " ++ hex "12000000" ++ mono_fmt ++ zeros 2 ++ codes "LIST"
+    ++ hex "ffffffff" ++ zeros 4 ++ codes "data" ++ hex "ffffffff" ++ two_frames
 
 -- its outer header
 abbrev pub tabled_form : Form
-tabled_form = record { id = codes "BW64"; size = 102; sizes = Some (record { form = 102; «data» = 4; table = (codes "LIST", 4) ∷ [] }) }
+tabled_form = record {
+  id = codes "BW64";
+  size = 102;
+  sizes = Some (record { form = 102; «data» = 4; table = (codes "LIST", 4) ∷ [] });
+}
 
 -- its chunks
 abbrev pub tabled_entries : List Entry
@@ -76,37 +82,60 @@ ReadsTabledRow = ReadsAs tabled tabled_form tabled_entries
 
 -- fewer than 12 bytes are no form
 abbrev pub CutOuterRow : Type 0
-CutOuterRow = Faults (map (λ n. take n small_file) (0 ∷ 1 ∷ 11 ∷ [])) ((NotWave, 0) ∷ (NotWave, 0) ∷ (NotWave, 0) ∷ [])
+CutOuterRow = Faults
+    (map (λ n. take n small_file) (0 ∷ 1 ∷ 11 ∷ []))
+    ((NotWave, 0) ∷ (NotWave, 0) ∷ (NotWave, 0) ∷ [])
 
 -- the file of two frames cut within each of its chunks is cut at that chunk
 abbrev pub CutChunksRow : Type 0
-CutChunksRow = Faults (map (λ n. take n small_file) (12 ∷ 47 ∷ 48 ∷ 71 ∷ 72 ∷ 681 ∷ 682 ∷ 693 ∷ []))
-    ((Truncated, 12) ∷ (Truncated, 12) ∷ (Truncated, 48) ∷ (Truncated, 48) ∷ (Truncated, 72) ∷ (Truncated, 72) ∷ (Truncated, 682) ∷ (Truncated, 682) ∷ [])
+CutChunksRow = Faults
+    (map (λ n. take n small_file) (12 ∷ 47 ∷ 48 ∷ 71 ∷ 72 ∷ 681 ∷ 682 ∷ 693 ∷ []))
+    ((Truncated, 12) ∷ (Truncated, 12) ∷ (Truncated, 48) ∷ (Truncated, 48) ∷ (Truncated, 72)
+    ∷ (Truncated, 72) ∷ (Truncated, 682) ∷ (Truncated, 682) ∷ [])
 
 -- Forms that are wrong.
 
 -- a BW64 form whose first chunk is not `ds64`
 abbrev pub NoDs64Row : Type 0
-NoDs64Row = Faults ((codes "BW64" ++ hex "ffffffff" ++ codes "WAVE" ++ codes "fmt " ++ hex "10000000" ++ mono_fmt) ∷ []) ((NoDs64, 12) ∷ [])
+NoDs64Row = Faults
+    ((codes "BW64" ++ hex "ffffffff" ++ codes "WAVE" ++ codes "fmt " ++ hex "10000000" ++ mono_fmt)
+    ∷ [])
+    ((NoDs64, 12) ∷ [])
 
--- the RF64 file with another form size: over 2^62 bytes, less than `WAVE`, less than its `ds64`, and no more than its `ds64`
+-- the RF64 file with another form size
+abbrev pub with_form : List ℕ → List ℕ
+with_form size = rf64_with size (hex "0400000000000000") (hex "00000000") (hex "04000000")
+
+-- a form of more than 2^62 bytes, less than `WAVE`, less than its `ds64`, and no more than its `ds64`
 abbrev pub WrongFormSizeRow : Type 0
-WrongFormSizeRow = Faults (map (λ size. rf64_with size (hex "0400000000000000") (hex "00000000") (hex "04000000")) (hex "0000000000000080" ∷ hex "0300000000000000" ∷ hex "2700000000000000" ∷ hex "2800000000000000" ∷ []))
+WrongFormSizeRow = Faults
+    (with_form (hex "0000000000000080") ∷ with_form (hex "0300000000000000")
+    ∷ with_form (hex "2700000000000000") ∷ with_form (hex "2800000000000000") ∷ [])
     ((TooLarge, 4) ∷ (NotWave, 4) ∷ (Truncated, 12) ∷ (NoFmt, 48) ∷ [])
 
--- with another data size: none that fits 2^62 bytes, and one that passes the form
+-- the RF64 file with another data size
+abbrev pub with_data : List ℕ → List ℕ
+with_data size = rf64_with (hex "5a00000000000000") size (hex "00000000") (hex "04000000")
+
+-- a data size of more than 2^62 bytes, and one that passes the form
 abbrev pub WrongDataSizeRow : Type 0
-WrongDataSizeRow = Faults (map (λ size. rf64_with (hex "5a00000000000000") size (hex "00000000") (hex "04000000")) (hex "ffffffffffffffff" ∷ hex "0000000000000040" ∷ []))
+WrongDataSizeRow = Faults
+    (with_data (hex "ffffffffffffffff") ∷ with_data (hex "0000000000000040") ∷ [])
     ((TooLarge, 86) ∷ (Truncated, 86) ∷ [])
 
--- with a table that its `ds64` has no room for, and one that is too long
-abbrev pub WrongTableRow : Type 0
-WrongTableRow = Faults (map (λ entries. rf64_with (hex "5a00000000000000") (hex "0400000000000000") entries (hex "04000000")) (hex "01000000" ∷ hex "01100000" ∷ []))
-    ((BadDs64, 12) ∷ (TooMany, 12) ∷ [])
+-- the RF64 file with another table length
+abbrev pub with_table : List ℕ → List ℕ
+with_table entries = rf64_with (hex "5a00000000000000") (hex "0400000000000000") entries (hex "04000000")
 
--- with a size that nothing tells
+-- a table that its `ds64` has no room for, and one of 4,097 rows
+abbrev pub WrongTableRow : Type 0
+WrongTableRow = Faults (with_table (hex "01000000") ∷ with_table (hex "01100000") ∷ []) ((BadDs64, 12) ∷ (TooMany, 12) ∷ [])
+
+-- a size that nothing tells
 abbrev pub UntoldSizeRow : Type 0
-UntoldSizeRow = Faults (rf64_with (hex "5a00000000000000") (hex "0400000000000000") (hex "00000000") (hex "ffffffff") ∷ []) ((NoSize, 74) ∷ [])
+UntoldSizeRow = Faults
+    (rf64_with (hex "5a00000000000000") (hex "0400000000000000") (hex "00000000") (hex "ffffffff") ∷ [])
+    ((NoSize, 74) ∷ [])
 
 -- a RIFF form can't leave its size unsaid
 abbrev pub UnsaidRiffRow : Type 0

@@ -30,41 +30,55 @@ no_text_lines =
 
 -- an RF64 file: an id's blank is printed as a full stop
 abbrev pub ReportRf64Row : Type 0
-ReportRf64Row = Reports rf64 rf64_form rf64_entries (lines (
-    "form RF64 90" ∷ "chunk ds64 12 28" ∷ "chunk fmt. 48 18" ∷ "chunk LIST 74 4" ∷ "chunk data 86 4" ∷ mono_line ∷ "data at=94 bytes=4 frames=2" ∷ []))
+ReportRf64Row = Reports
+    rf64 rf64_form rf64_entries
+    (lines ("form RF64 90" ∷ "chunk ds64 12 28" ∷ "chunk fmt. 48 18" ∷ "chunk LIST 74 4"
+    ∷ "chunk data 86 4" ∷ mono_line ∷ "data at=94 bytes=4 frames=2" ∷ []))
 
 -- a BW64 file: a size that the table tells
 abbrev pub ReportTabledRow : Type 0
-ReportTabledRow = Reports tabled tabled_form tabled_entries (lines (
-    "form BW64 102" ∷ "chunk ds64 12 40" ∷ "chunk fmt. 60 18" ∷ "chunk LIST 86 4" ∷ "chunk data 98 4" ∷ mono_line ∷ "data at=106 bytes=4 frames=2" ∷ []))
+ReportTabledRow = Reports
+    tabled tabled_form tabled_entries
+    (lines ("form BW64 102" ∷ "chunk ds64 12 40" ∷ "chunk fmt. 60 18" ∷ "chunk LIST 86 4"
+    ∷ "chunk data 98 4" ∷ mono_line ∷ "data at=106 bytes=4 frames=2" ∷ []))
 
 -- the file of two frames
 abbrev pub ReportSmallRow : Type 0
-ReportSmallRow = Reports small_file (riff 686) small_entries (
-    lines ("form RIFF 686" ∷ []) ++ plain_lines
-    ++ lines ("chunk data 682 4" ∷ mono_line ∷ "data at=690 bytes=4 frames=2" ∷ "bext version=1 time=0 history=0" ∷ []) ++ no_text_lines)
+ReportSmallRow = Reports
+    small_file (riff 686) small_entries
+    (lines ("form RIFF 686" ∷ []) ++ plain_lines
+    ++ lines ("chunk data 682 4" ∷ mono_line ∷ "data at=690 bytes=4 frames=2"
+    ∷ "bext version=1 time=0 history=0" ∷ []) ++ no_text_lines)
 
 -- the file of a loudness: version 2, and what isn't given is unset
 abbrev pub loud_file : List ℕ
-loud_file = take 426 empty_file ++ hex "0200" ++ drop 428 (take 492 empty_file) ++ hex "04f7ff7fff7fff7fff7f" ++ drop 502 empty_file
+loud_file =
+    take 426 empty_file ++ hex "0200" ++ drop 428 (take 492 empty_file) ++ hex "04f7ff7fff7fff7fff7f"
+    ++ drop 502 empty_file
 
 -- a loudness that is given is told by its number, and the others are unset
 abbrev pub ReportLoudnessRow : Type 0
-ReportLoudnessRow = Reports loud_file (riff 682) (entry "JUNK" 12 28 ∷ entry "fmt " 48 16 ∷ entry "bext" 72 602 ∷ entry "data" 682 0 ∷ []) (
-    lines ("form RIFF 682" ∷ []) ++ plain_lines
-    ++ lines ("chunk data 682 0" ∷ mono_line ∷ "data at=690 bytes=0 frames=0" ∷ "bext version=2 time=0 history=0" ∷ []) ++ no_text_lines
+ReportLoudnessRow = Reports
+    loud_file (riff 682)
+    (entry "JUNK" 12 28 ∷ entry "fmt " 48 16 ∷ entry "bext" 72 602 ∷ entry "data" 682 0 ∷ [])
+    (lines ("form RIFF 682" ∷ []) ++ plain_lines
+    ++ lines ("chunk data 682 0" ∷ mono_line ∷ "data at=690 bytes=0 frames=0"
+    ∷ "bext version=2 time=0 history=0" ∷ []) ++ no_text_lines
     ++ lines ("loudness value=-2300 range=unset peak=unset momentary=unset short=unset" ∷ []))
 
 -- the file with a cue point, a text with a backslash and a line end in its Description, and 3 as its time reference
 abbrev pub marked_file : List ℕ
-marked_file = take 80 cue_file ++ hex "415c0a" ++ drop 83 (take 418 cue_file) ++ hex "03" ++ drop 419 cue_file
+marked_file =
+    take 80 cue_file ++ hex "415c0a" ++ drop 83 (take 418 cue_file) ++ hex "03" ++ drop 419 cue_file
 
 -- a backslash and a line end are told by their digits, and the cue point by a line
 abbrev pub ReportMarkedRow : Type 0
-ReportMarkedRow = Reports marked_file (riff 722) (entry "JUNK" 12 28 ∷ entry "fmt " 48 16 ∷ entry "bext" 72 602 ∷ entry "data" 682 4 ∷ entry "cue " 694 28 ∷ []) (
-    lines ("form RIFF 722" ∷ []) ++ plain_lines
-    ++ lines ("chunk data 682 4" ∷ "chunk cue. 694 28" ∷ mono_line ∷ "data at=690 bytes=4 frames=2" ∷ "bext version=1 time=3 history=0" ∷ [])
-    ++ codes "description=A" ++ hex "5c783563" ++ hex "5c783061" ++ 10 ∷ []
-    ++ lines ("originator=" ∷ "reference=" ∷ "date=" ∷ "clock=" ∷ [])
-    ++ codes "umid=" ++ replicate 128 48 ++ 10 ∷ []
-    ++ lines ("cue id=7 position=2 offset=2" ∷ []))
+ReportMarkedRow = Reports
+    marked_file (riff 722)
+    (entry "JUNK" 12 28 ∷ entry "fmt " 48 16 ∷ entry "bext" 72 602 ∷ entry "data" 682 4
+    ∷ entry "cue " 694 28 ∷ [])
+    (lines ("form RIFF 722" ∷ []) ++ plain_lines
+    ++ lines ("chunk data 682 4" ∷ "chunk cue. 694 28" ∷ mono_line ∷ "data at=690 bytes=4 frames=2"
+    ∷ "bext version=1 time=3 history=0" ∷ []) ++ codes "description=A" ++ hex "5c783563"
+    ++ hex "5c783061" ++ 10 ∷ [] ++ lines ("originator=" ∷ "reference=" ∷ "date=" ∷ "clock=" ∷ [])
+    ++ codes "umid=" ++ replicate 128 48 ++ 10 ∷ [] ++ lines ("cue id=7 position=2 offset=2" ∷ []))

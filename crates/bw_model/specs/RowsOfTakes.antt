@@ -9,19 +9,26 @@ use Rattle.bw_model.specs.RowWords.{hex, mono, default_limit, take_of, mono_fmt,
 
 -- each rate, channel count and width at its bounds, and one past them
 abbrev pub with_format : ℕ → ℕ → ℕ → Verdict
-with_format rate channels bits = verdict (take_of []) (Open (record { rate = rate; channels = channels; bits = bits }) [])
+with_format rate channels bits =
+    verdict (take_of []) (Open (record { rate = rate; channels = channels; bits = bits }) [])
 
 -- the formats at the bounds are stored, and those one past them refused
 abbrev pub FormatsRow : Type 0
 FormatsRow =
     (with_format 1 1 16 ∷ with_format 768000 64 32 ∷ with_format 48000 2 24 ∷ [])
-    ++ (with_format 0 1 16 ∷ with_format 768001 1 16 ∷ with_format 48000 0 16 ∷ with_format 48000 65 16 ∷ with_format 48000 1 8 ∷ with_format 48000 1 20 ∷ [])
-    ≡ (Stored ∷ Stored ∷ Stored ∷ []) ++ (BadFormat ∷ BadFormat ∷ BadFormat ∷ BadFormat ∷ BadFormat ∷ BadFormat ∷ [])
+    ++ (with_format 0 1 16 ∷ with_format 768001 1 16 ∷ with_format 48000 0 16 ∷ with_format 48000 65 16
+    ∷ with_format 48000 1 8 ∷ with_format 48000 1 20 ∷ [])
+    ≡ (Stored ∷ Stored ∷ Stored ∷ [])
+    ++ (BadFormat ∷ BadFormat ∷ BadFormat ∷ BadFormat ∷ BadFormat ∷ BadFormat ∷ [])
 
 -- a history holds line ends and printable bytes
+abbrev pub with_byte : ℕ → Verdict
+with_byte c = verdict (take_of []) (Open mono (65 ∷ c ∷ []))
+
 abbrev pub HistoryBytesRow : Type 0
-HistoryBytesRow = map (λ c. verdict (take_of []) (Open mono (65 ∷ c ∷ []))) (13 ∷ 10 ∷ 32 ∷ 126 ∷ 31 ∷ 127 ∷ 9 ∷ 0 ∷ [])
-    ≡ Stored ∷ Stored ∷ Stored ∷ Stored ∷ BadFormat ∷ BadFormat ∷ BadFormat ∷ BadFormat ∷ []
+HistoryBytesRow =
+    map with_byte (13 ∷ 10 ∷ 32 ∷ 126 ∷ []) ++ map with_byte (31 ∷ 127 ∷ 9 ∷ 0 ∷ [])
+    ≡ (Stored ∷ Stored ∷ Stored ∷ Stored ∷ []) ++ (BadFormat ∷ BadFormat ∷ BadFormat ∷ BadFormat ∷ [])
 
 -- each request before OPEN, and each on a closed take; a second OPEN
 abbrev pub requests : List Request
@@ -30,8 +37,11 @@ requests = Block two_frames ∷ Mark 7 0 ∷ SetField 1 [] ∷ Close 0 ∷ []
 -- nothing is stored before OPEN, nothing on a closed take, and no second OPEN
 abbrev pub BeforeAndBehindRow : Type 0
 BeforeAndBehindRow =
-    map (verdict (take_of [])) requests ++ map (verdict (take_of (Open mono [] ∷ Close 0 ∷ []))) (Open mono [] ∷ requests) ++ verdict (take_of (Open mono [] ∷ [])) (Open mono []) ∷ []
-    ≡ (NotOpen ∷ NotOpen ∷ NotOpen ∷ NotOpen ∷ []) ++ (Closed ∷ Closed ∷ Closed ∷ Closed ∷ Closed ∷ []) ++ AlreadyOpen ∷ []
+    map (verdict (take_of [])) requests
+    ++ map (verdict (take_of (Open mono [] ∷ Close 0 ∷ []))) (Open mono [] ∷ requests)
+    ++ verdict (take_of (Open mono [] ∷ [])) (Open mono []) ∷ []
+    ≡ (NotOpen ∷ NotOpen ∷ NotOpen ∷ NotOpen ∷ []) ++ (Closed ∷ Closed ∷ Closed ∷ Closed ∷ Closed ∷ [])
+    ++ AlreadyOpen ∷ []
 
 -- 1,024 markers fit, and no more
 abbrev pub marked : ℕ → Take
@@ -39,19 +49,31 @@ marked count = record (take_of (Open mono [] ∷ [])) { markers = replicate coun
 
 -- the marker 1,024 is stored, and the next one refused
 abbrev pub ManyMarkersRow : Type 0
-ManyMarkersRow = map (λ count. verdict (marked count) (Mark 1 0)) (1023 ∷ 1024 ∷ []) ≡ Stored ∷ TooManyMarkers ∷ []
+ManyMarkersRow =
+    map (λ count. verdict (marked count) (Mark 1 0)) (1023 ∷ 1024 ∷ [])
+    ≡ Stored ∷ TooManyMarkers ∷ []
 
--- a text, a date, a time, the time reference, the UMID and a loudness at their lengths, one past them, and with a byte that isn't allowed
-abbrev pub FieldsRow : Type 0
-FieldsRow =
-    (field_fault 1 (replicate 256 126) ∷ field_fault 2 (replicate 32 32) ∷ field_fault 3 [] ∷ field_fault 4 (codes "2024-05-01") ∷ field_fault 5 (codes "23:59:59") ∷ field_fault 6 (zeros 8) ∷ field_fault 7 (zeros 64) ∷ field_fault 12 (hex "ff7f") ∷ [])
-    ++ (field_fault 1 (replicate 257 126) ∷ field_fault 2 (replicate 33 32) ∷ field_fault 4 (codes "2024-5-1") ∷ field_fault 6 [] ∷ field_fault 7 (zeros 63) ∷ field_fault 12 (0 ∷ []) ∷ [])
-    ++ (field_fault 3 (31 ∷ []) ∷ field_fault 3 (127 ∷ []) ∷ field_fault 4 (codes "2024/05/01") ∷ field_fault 5 (codes "23:5a:59") ∷ [])
-    ++ (field_fault 0 [] ∷ field_fault 13 [] ∷ [])
-    ≡ (None ∷ None ∷ None ∷ None ∷ None ∷ None ∷ None ∷ None ∷ [])
-    ++ (Some BadLength ∷ Some BadLength ∷ Some BadLength ∷ Some BadLength ∷ Some BadLength ∷ Some BadLength ∷ [])
-    ++ (Some BadText ∷ Some BadText ∷ Some BadText ∷ Some BadText ∷ [])
-    ++ (Some BadTag ∷ Some BadTag ∷ [])
+-- a text, a date, a time, the time reference, the UMID and a loudness of the lengths that they may have
+abbrev pub AllowedFieldsRow : Type 0
+AllowedFieldsRow =
+    field_fault 1 (replicate 256 126) ∷ field_fault 2 (replicate 32 32) ∷ field_fault 3 []
+    ∷ field_fault 4 (codes "2024-05-01") ∷ field_fault 5 (codes "23:59:59") ∷ field_fault 6 (zeros 8)
+    ∷ field_fault 7 (zeros 64) ∷ field_fault 12 (hex "ff7f") ∷ []
+    ≡ None ∷ None ∷ None ∷ None ∷ None ∷ None ∷ None ∷ None ∷ []
+
+-- the same of lengths that they may not have
+abbrev pub FieldLengthsRow : Type 0
+FieldLengthsRow =
+    field_fault 1 (replicate 257 126) ∷ field_fault 2 (replicate 33 32) ∷ field_fault 4 (codes "2024-5-1")
+    ∷ field_fault 6 [] ∷ field_fault 7 (zeros 63) ∷ field_fault 12 (0 ∷ []) ∷ []
+    ≡ Some BadLength ∷ Some BadLength ∷ Some BadLength ∷ Some BadLength ∷ Some BadLength ∷ Some BadLength ∷ []
+
+-- bytes that aren't allowed at their place, and tags that no field has
+abbrev pub FieldBytesRow : Type 0
+FieldBytesRow =
+    field_fault 3 (31 ∷ []) ∷ field_fault 3 (127 ∷ []) ∷ field_fault 4 (codes "2024/05/01")
+    ∷ field_fault 5 (codes "23:5a:59") ∷ field_fault 0 [] ∷ field_fault 13 [] ∷ []
+    ≡ Some BadText ∷ Some BadText ∷ Some BadText ∷ Some BadText ∷ Some BadTag ∷ Some BadTag ∷ []
 
 -- The form size at the limit.
 
@@ -69,8 +91,10 @@ LargestOddRiffRow = header_of_len 4294966611 ≡ plain_header (hex "feffffff") m
 
 -- one byte more makes BW64: both 32-bit sizes say nothing, and `ds64` tells them
 abbrev pub SmallestWideRow : Type 0
-SmallestWideRow = header_of_len 4294966613
-    ≡ hex "42573634ffffffff57415645" ++ hex "647336341c000000" ++ hex "0000000001000000" ++ hex "55fdffff00000000" ++ hex "0000000000000000" ++ hex "00000000"
+SmallestWideRow =
+    header_of_len 4294966613
+    ≡ hex "42573634ffffffff57415645" ++ hex "647336341c000000" ++ hex "0000000001000000"
+    ++ hex "55fdffff00000000" ++ hex "0000000000000000" ++ hex "00000000"
     ++ drop 48 (plain_header (hex "ffffffff") mono_fmt (hex "ffffffff"))
 
 -- A small limit, of 8,192 bytes.
@@ -93,11 +117,15 @@ AtLimitRow = MakesFile at_limit (plain_header (hex "00200000") mono_fmt (hex "56
 
 -- a marker on an open take is stored, and the file stays
 abbrev pub MarkedRow : Type 0
-MarkedRow = (verdict (take_of at_limit) (Mark 7 0) ≡ Stored) × (file_of (take_of (at_limit ++ Mark 7 0 ∷ [])) 8192 ≡ file_of (take_of at_limit) 8192)
+MarkedRow =
+    (verdict (take_of at_limit) (Mark 7 0) ≡ Stored)
+    × (file_of (take_of (at_limit ++ Mark 7 0 ∷ [])) 8192 ≡ file_of (take_of at_limit) 8192)
 
 -- its cue point, once the take is closed, makes the form BW64
 abbrev pub OverLimitRow : Type 0
-OverLimitRow = MakesFile (at_limit ++ Mark 7 0 ∷ Close 3755 ∷ []) (
-    hex "42573634ffffffff57415645" ++ hex "647336341c000000" ++ hex "2420000000000000" ++ hex "561d000000000000" ++ zeros 12
+OverLimitRow = MakesFile
+    (at_limit ++ Mark 7 0 ∷ Close 3755 ∷ [])
+    (hex "42573634ffffffff57415645" ++ hex "647336341c000000" ++ hex "2420000000000000"
+    ++ hex "561d000000000000" ++ zeros 12
     ++ drop 48 (plain_header (hex "ffffffff") mono_fmt (hex "ffffffff")) ++ many
     ++ hex "637565201c000000010000000700000000000000646174610000000000000000" ++ hex "00000000")

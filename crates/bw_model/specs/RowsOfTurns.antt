@@ -28,23 +28,36 @@ stored n = Judged a1 n Stored
 
 -- a block whose store call fails is delayed and stored when it comes again; other bytes under its number are a conflict then
 abbrev pub FailedBlockRow : Type 0
-FailedBlockRow = Turns ((says_open, good) ∷ (says_block, fails_after 0) ∷ (says_block, good) ∷ (says_other, good) ∷ [])
-    ((stored 0 ∷ []) ∷ (Noticed a1 1 DelayedStore 1 ∷ []) ∷ (stored 1 ∷ []) ∷ (Noticed a1 1 Conflict 2 ∷ []) ∷ []) (Some small_file)
+FailedBlockRow = Turns
+    ((says_open, good) ∷ (says_block, fails_after 0) ∷ (says_block, good) ∷ (says_other, good) ∷ [])
+    ((stored 0 ∷ []) ∷ (Noticed a1 1 DelayedStore 1 ∷ []) ∷ (stored 1 ∷ [])
+    ∷ (Noticed a1 1 Conflict 2 ∷ []) ∷ [])
+    (Some small_file)
 
 -- other bytes are a conflict where the first still waits, and their turn stores the first
 abbrev pub OtherBehindFailureRow : Type 0
-OtherBehindFailureRow = Turns ((says_open, good) ∷ (says_block, fails_after 0) ∷ (says_other, good) ∷ [])
-    ((stored 0 ∷ []) ∷ (Noticed a1 1 DelayedStore 1 ∷ []) ∷ (stored 1 ∷ Noticed a1 1 Conflict 2 ∷ []) ∷ []) (Some small_file)
+OtherBehindFailureRow = Turns
+    ((says_open, good) ∷ (says_block, fails_after 0) ∷ (says_other, good) ∷ [])
+    ((stored 0 ∷ []) ∷ (Noticed a1 1 DelayedStore 1 ∷ []) ∷ (stored 1 ∷ Noticed a1 1 Conflict 2 ∷ [])
+    ∷ [])
+    (Some small_file)
 
 -- of three tries the third is stored, and the frames stand once
 abbrev pub FailedTwiceRow : Type 0
-FailedTwiceRow = Turns ((says_open, good) ∷ (says_block, fails_after 0) ∷ (says_block, fails_after 0) ∷ (says_block, good) ∷ (says_other, good) ∷ [])
-    ((stored 0 ∷ []) ∷ (Noticed a1 1 DelayedStore 1 ∷ []) ∷ (Noticed a1 1 DelayedStore 1 ∷ []) ∷ (stored 1 ∷ []) ∷ (Noticed a1 1 Conflict 2 ∷ []) ∷ []) (Some small_file)
+FailedTwiceRow = Turns
+    ((says_open, good) ∷ (says_block, fails_after 0) ∷ (says_block, fails_after 0) ∷ (says_block, good)
+    ∷ (says_other, good) ∷ [])
+    ((stored 0 ∷ []) ∷ (Noticed a1 1 DelayedStore 1 ∷ []) ∷ (Noticed a1 1 DelayedStore 1 ∷ [])
+    ∷ (stored 1 ∷ []) ∷ (Noticed a1 1 Conflict 2 ∷ []) ∷ [])
+    (Some small_file)
 
 -- a drain that stops behind OPEN tells its verdict alone, and the next turn goes on
 abbrev pub StoppedDrainRow : Type 0
-StoppedDrainRow = Turns ((says_close, good) ∷ (says_block, good) ∷ (says_open, fails_after 1) ∷ (says_block, good) ∷ [])
-    ((Noticed a1 2 Held 0 ∷ []) ∷ (Noticed a1 1 Held 0 ∷ []) ∷ (stored 0 ∷ []) ∷ (stored 1 ∷ stored 2 ∷ []) ∷ []) (Some small_file)
+StoppedDrainRow = Turns
+    ((says_close, good) ∷ (says_block, good) ∷ (says_open, fails_after 1) ∷ (says_block, good) ∷ [])
+    ((Noticed a1 2 Held 0 ∷ []) ∷ (Noticed a1 1 Held 0 ∷ []) ∷ (stored 0 ∷ [])
+    ∷ (stored 1 ∷ stored 2 ∷ []) ∷ [])
+    (Some small_file)
 
 -- fifteen numbers wait while OPEN's store call fails; a sixteenth then drains all, sixteen verdicts and its own TooFar
 abbrev pub waiting : ℕ → ℕ → List (Frame × Luck)
@@ -63,12 +76,16 @@ stored_each n (suc count) = stored n ∷ stored_each (suc n) count
 
 -- one turn gives seventeen replies
 abbrev pub SeventeenRepliesRow : Type 0
-SeventeenRepliesRow = answers_to (waiting 1 15 ++ (says_open, fails_after 0) ∷ (says 16 (Block two_frames), good) ∷ [])
-    ≡ held_each 1 15 ++ (Noticed a1 0 DelayedStore 0 ∷ []) ∷ (stored_each 0 16 ++ Noticed a1 16 TooFar 16 ∷ []) ∷ []
+SeventeenRepliesRow =
+    answers_to (waiting 1 15 ++ (says_open, fails_after 0) ∷ (says 16 (Block two_frames), good) ∷ [])
+    ≡ held_each 1 15 ++ (Noticed a1 0 DelayedStore 0 ∷ [])
+    ∷ (stored_each 0 16 ++ Noticed a1 16 TooFar 16 ∷ []) ∷ []
 
 -- a whole take sent twice, where the store fails once, at one of its numbers
 abbrev pub whole : Luck → Luck → Luck → Luck → List (Frame × Luck)
-whole w x y z = (says_open, w) ∷ (says_block, x) ∷ (says 2 (SetField 1 (codes "Rain")), y) ∷ (says 3 (Mark 7 2), good) ∷ (says 4 (Close 2), z) ∷ []
+whole w x y z =
+    (says_open, w) ∷ (says_block, x) ∷ (says 2 (SetField 1 (codes "Rain")), y)
+    ∷ (says 3 (Mark 7 2), good) ∷ (says 4 (Close 2), z) ∷ []
 
 -- the numbers that were answered DelayedStore
 abbrev pub delayed_in : List Reply → List ℕ
@@ -89,20 +106,19 @@ rain_file = Some (take 80 cue_file ++ hex "5261696e" ++ drop 84 cue_file)
 -- wherever the store fails once, that number alone is delayed, and the file is the one of a run without a failure
 abbrev pub FailedAnywhereRow : Type 0
 FailedAnywhereRow =
-    sent_twice good good good good
-    ∷ sent_twice (fails_after 0) good good good
-    ∷ sent_twice good (fails_after 0) good good
-    ∷ sent_twice good good (fails_after 0) good
-    ∷ sent_twice good good good (fails_after 0)
-    ∷ []
-    ≡ ([], rain_file) ∷ (0 ∷ [], rain_file) ∷ (1 ∷ [], rain_file) ∷ (2 ∷ [], rain_file) ∷ (4 ∷ [], rain_file) ∷ []
+    sent_twice good good good good ∷ sent_twice (fails_after 0) good good good
+    ∷ sent_twice good (fails_after 0) good good ∷ sent_twice good good (fails_after 0) good
+    ∷ sent_twice good good good (fails_after 0) ∷ []
+    ≡ ([], rain_file) ∷ (0 ∷ [], rain_file) ∷ (1 ∷ [], rain_file) ∷ (2 ∷ [], rain_file)
+    ∷ (4 ∷ [], rain_file) ∷ []
 
 -- Names.
 
 -- a table of so many names, each with a BLOCK that waits
 abbrev pub names_from : ℕ → ℕ → Book
 names_from first zero = []
-names_from first (suc count) = (first ∷ [], record { admitted = None ∷ Some (Block two_frames) ∷ []; done = 0 }) ∷ names_from (suc first) count
+names_from first (suc count) =
+    (first ∷ [], record { admitted = None ∷ Some (Block two_frames) ∷ []; done = 0 }) ∷ names_from (suc first) count
 
 -- what 256 known names leave a further one
 abbrev pub full_turn : Frame → List Reply × Book
@@ -122,11 +138,14 @@ FullTableTooFarRow = full_turn (further 16) ≡ (Noticed (codes "b2") 16 TooFar 
 
 -- an ask needs no room
 abbrev pub FullTableAskRow : Type 0
-FullTableAskRow = full_turn (Asks (codes "b2") 0) ≡ (Noticed (codes "b2") 0 Next 0 ∷ [], names_from 0 256)
+FullTableAskRow =
+    full_turn (Asks (codes "b2") 0) ≡ (Noticed (codes "b2") 0 Next 0 ∷ [], names_from 0 256)
 
 -- a growth that is refused leaves the book
 abbrev pub NoRoomRow : Type 0
-NoRoomRow = turn nothing_stands [] says_open (record { refused = true; stop = None }) ≡ (Noticed a1 0 NoRoom 0 ∷ [], [])
+NoRoomRow =
+    turn nothing_stands [] says_open (record { refused = true; stop = None })
+    ≡ (Noticed a1 0 NoRoom 0 ∷ [], [])
 
 -- a store in which `a1` stood at the start
 abbrev pub stands : List ℕ → Option (List ℕ)
@@ -143,5 +162,6 @@ onto_a1 = (says_open, good) ∷ (says_block, good) ∷ []
 -- OPEN is refused for it, and its file stays
 abbrev pub NameTakenRow : Type 0
 NameTakenRow =
-    (map (λ t. t.replies) (run a1_stands [] onto_a1) ≡ (Judged a1 0 NameTaken ∷ []) ∷ (Judged a1 1 NotOpen ∷ []) ∷ [])
+    (map (λ t. t.replies) (run a1_stands [] onto_a1)
+    ≡ (Judged a1 0 NameTaken ∷ []) ∷ (Judged a1 1 NotOpen ∷ []) ∷ [])
     × (content_in stands default_limit (book_after a1_stands [] onto_a1) a1 ≡ Some (codes "kept"))

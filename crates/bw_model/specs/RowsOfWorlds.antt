@@ -22,7 +22,8 @@ small_take = Open mono [] ∷ Block two_frames ∷ Close 2 ∷ []
 -- the messages of the small take and BYE are 63 bytes
 abbrev pub BatchRow : Type 0
 BatchRow =
-    (frames_bytes (says 0 (Open mono []) ∷ says 1 (Block two_frames) ∷ says 2 (Close 2) ∷ Bye ∷ []) ≡ open_0 ++ block_1 ++ close_2 ++ hex "0100000009")
+    (frames_bytes (says 0 (Open mono []) ∷ says 1 (Block two_frames) ∷ says 2 (Close 2) ∷ Bye ∷ [])
+    ≡ open_0 ++ block_1 ++ close_2 ++ hex "0100000009")
     × (length (open_0 ++ block_1 ++ close_2 ++ hex "0100000009") ≡ 63)
 
 -- what the sender hears of each reply, and the sender behind them
@@ -53,14 +54,16 @@ second_batch = first_batch ++ Judged a1 1 BadBlock ∷ []
 -- a refused number is settled, and what is known or strange changes nothing
 abbrev pub RefusedRow : Type 0
 RefusedRow =
-    (settled (behind second_batch) ≡ 3)
-    × (stored (behind second_batch) ≡ 2)
+    (settled (behind second_batch) ≡ 3) × (stored (behind second_batch) ≡ 2)
     × (refused (behind second_batch) ≡ (1, BadBlock) ∷ [])
-    × (hears (behind second_batch) (Judged a1 1 Stored ∷ Judged (codes "b2") 1 Stored ∷ Judged a1 3 Stored ∷ []) ≡ Known ∷ Stranger ∷ Stranger ∷ [])
+    × (hears (behind second_batch) (Judged a1 1 Stored ∷ Judged (codes "b2") 1 Stored
+    ∷ Judged a1 3 Stored ∷ []) ≡ Known ∷ Stranger ∷ Stranger ∷ [])
 
 -- Next of its own name is noted whatever its number, another notice of a number that wasn't offered is strange, and so is a bad frame
 abbrev pub NoticesRow : Type 0
-NoticesRow = hears (sender_of small_take) (Noticed a1 9 Next 0 ∷ Noticed a1 9 Held 0 ∷ Noticed (codes "b2") 0 Next 0 ∷ Refused Cut 0 ∷ [])
+NoticesRow =
+    hears (sender_of small_take) (Noticed a1 9 Next 0 ∷ Noticed a1 9 Held 0
+    ∷ Noticed (codes "b2") 0 Next 0 ∷ Refused Cut 0 ∷ [])
     ≡ Noted ∷ Stranger ∷ Stranger ∷ Stranger ∷ []
 
 -- nothing before OPEN, nothing behind a CLOSE that has no verdict, and no seventeenth offer
@@ -78,8 +81,8 @@ OffersRow =
 -- CLOSE goes first and waits; the verdicts come out of order, one of them twice
 abbrev pub rehearsal : List Event
 rehearsal =
-    Offer (Open mono []) ∷ Offer (Block two_frames) ∷ Offer (Close 2) ∷ Send 2 ∷ Deliver 0 ∷ Send 0 ∷ Deliver 1 ∷ Bring 0 ∷ Bring 1
-    ∷ Send 0 ∷ Deliver 2 ∷ Deliver 2 ∷ Bring 3 ∷ []
+    Offer (Open mono []) ∷ Offer (Block two_frames) ∷ Offer (Close 2) ∷ Send 2 ∷ Deliver 0 ∷ Send 0
+    ∷ Deliver 1 ∷ Bring 0 ∷ Bring 1 ∷ Send 0 ∷ Deliver 2 ∷ Deliver 2 ∷ Bring 3 ∷ []
 
 -- the world behind these events, where nothing fails
 abbrev pub rehearsed : List Event → World
@@ -87,7 +90,9 @@ rehearsed events = world_after nothing_stands (new_world a1) (map (λ e. (e, goo
 
 -- how many were offered, sent and replied, and how many are done, settled and stored
 abbrev pub counts : World → List ℕ
-counts w = length w.sender.offered ∷ length w.sent ∷ length w.replies ∷ (log_of w.book a1).done ∷ settled w.sender ∷ stored w.sender ∷ []
+counts w =
+    length w.sender.offered ∷ length w.sent ∷ length w.replies ∷ (log_of w.book a1).done
+    ∷ settled w.sender ∷ stored w.sender ∷ []
 
 -- all is settled once the verdict of number 1 comes
 abbrev pub whole : List Event
@@ -102,8 +107,10 @@ RehearsalRow =
 
 -- the replies in the order in which they were written
 abbrev pub RehearsalRepliesRow : Type 0
-RehearsalRepliesRow = (rehearsed rehearsal).replies
-    ≡ Noticed a1 2 Held 0 ∷ Judged a1 0 Stored ∷ Judged a1 1 Stored ∷ Judged a1 2 Stored ∷ Judged a1 1 Stored ∷ []
+RehearsalRepliesRow =
+    (rehearsed rehearsal).replies
+    ≡ Noticed a1 2 Held 0 ∷ Judged a1 0 Stored ∷ Judged a1 1 Stored ∷ Judged a1 2 Stored
+    ∷ Judged a1 1 Stored ∷ []
 
 -- the world behind an ask whose reply came
 abbrev pub asked : World
@@ -111,4 +118,6 @@ asked = rehearsed (whole ++ Ask ∷ Bring 5 ∷ [])
 
 -- an ask adds a reply, and bringing it changes nothing
 abbrev pub RehearsalAskRow : Type 0
-RehearsalAskRow = (counts asked ≡ 3 ∷ 3 ∷ 6 ∷ 3 ∷ 3 ∷ 3 ∷ []) × (slice_get asked.replies 5 ≡ Some (Noticed a1 0 Next 3))
+RehearsalAskRow =
+    (counts asked ≡ 3 ∷ 3 ∷ 6 ∷ 3 ∷ 3 ∷ 3 ∷ [])
+    × (slice_get asked.replies 5 ≡ Some (Noticed a1 0 Next 3))
