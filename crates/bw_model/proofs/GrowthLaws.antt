@@ -17,12 +17,11 @@ body-grows : (longest : ℕ) (bytes piece : List ℕ) → HasBody longest bytes
     → HasBody longest (bytes ++ piece) × (take (u32_at (bytes ++ piece) 0) (drop 4 (bytes ++ piece)) ≡ take (u32_at bytes 0) (drop 4 bytes))
 body-grows longest bytes piece h =
     let n-is = u32_at-grows bytes piece h.head in
-    let len = length-append bytes piece in
-    (
+    let len = length-append bytes piece in (
       record { head = omega (arith, h.head); some = omega (arith, h.some); short = omega (arith, h.short); whole = omega (arith, h.whole) },
       ap (λ (n : ℕ). take n (drop 4 (bytes ++ piece))) n-is
-      ∙ ap (take (u32_at bytes 0)) (drop-append-le 4 bytes piece h.head)
-      ∙ take-append-le (u32_at bytes 0) (drop 4 bytes) piece (omega (arith, h.whole, length-drop 4 bytes)),
+          ∙ ap (take (u32_at bytes 0)) (drop-append-le 4 bytes piece h.head)
+          ∙ take-append-le (u32_at bytes 0) (drop 4 bytes) piece (omega (arith, h.whole, length-drop 4 bytes)),
     )
 
 -- a fault that isn't for want of bytes stays
