@@ -1,7 +1,7 @@
 -- Worked rows: forms that are read, and forms that are refused.
-use Rattle.std.specs.Prelude.{◌≡◌, ℕ, Ok, Err, Some, List, [], ◌∷◌, ◌++◌, codes, map, take, drop}
+use Rattle.std.specs.Prelude.{◌≡◌, ℕ, zero, suc, Ok, Err, Some, List, [], ◌∷◌, ◌++◌, codes, map, take, drop}
 use Rattle.bw_model.specs.Bytes.{zeros}
-use Rattle.bw_model.specs.Reading.{Entry, Form, FaultKind, NotWave, Truncated, NoDs64, BadDs64, NoSize, Twice, NoFmt, NoData, BadFmt, BadBext, BadCue, TooMany, TooLarge, read}
+use Rattle.bw_model.specs.Reading.{Entry, Form, FaultKind, NotWave, Truncated, NoDs64, BadDs64, NoSize, Twice, NoFmt, NoData, BadFmt, BadBext, BadCue, TooMany, TooLarge, IsFault, read}
 use Rattle.bw_model.specs.RowWords.{hex, two_frames, mono_fmt, small_file, odd_file, cue_file, entry, riff}
 
 -- the bytes read as this form with these chunks
@@ -163,3 +163,23 @@ ShortChunksRow = Faults (
     ∷ (codes "RIFF" ++ hex "1c000000" ++ codes "WAVE" ++ codes "fmt " ++ hex "10000000" ++ mono_fmt)
     ∷ [])
     ((BadFmt, 12) ∷ (BadBext, 12) ∷ (BadCue, 12) ∷ (NoData, 36) ∷ [])
+
+-- so many empty chunks `abcd`
+unfoldable pub empty_chunks : ℕ → List ℕ
+empty_chunks zero = []
+empty_chunks (suc n) = hex "6162636400000000" ++ empty_chunks n
+
+-- a RIFF form of them
+abbrev pub chunks_form : List ℕ → ℕ → List ℕ
+chunks_form form_size n = codes "RIFF" ++ form_size ++ (codes "WAVE" ++ empty_chunks n)
+
+abbrev pub HasFault : List ℕ → FaultKind → ℕ → Type 0
+HasFault b kind offset = IsFault b (record { kind = kind; offset = offset })
+
+-- 4,096 chunks are read to the form's end
+abbrev pub ManyChunksRow : Type 0
+ManyChunksRow = HasFault (chunks_form (hex "04800000") 4096) NoFmt 32780
+
+-- one more is too many
+abbrev pub TooManyChunksRow : Type 0
+TooManyChunksRow = HasFault (chunks_form (hex "0c800000") 4097) TooMany 32780

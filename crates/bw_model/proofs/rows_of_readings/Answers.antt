@@ -1,4 +1,5 @@
 use Rattle.bw_model.proofs.RowsOfReadings as rows
+use Rattle.bw_model.proofs.ManyChunks.{many_chunks, too_many_chunks}
 use Rattle.bw_model.proofs.rows_of_readings.Goals as goal
 
 pub returns : goal.returns
@@ -17,4 +18,6 @@ returns c = record {
   unsaid_riff = rows.unsaid_riff;
   wrong_cue = rows.wrong_cue;
   short_chunks = rows.short_chunks;
+  many_chunks = many_chunks;
+  too_many_chunks = too_many_chunks;
 }
