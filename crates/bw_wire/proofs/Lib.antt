@@ -1,2 +1,5 @@
 pub mod BodyLaws
 pub mod Decoding
+pub mod Encoding
+pub mod ReplyDecoding
+pub mod Fronts

@@ -1,7 +1,6 @@
 //! The name and the number behind a kind byte, as messages, asks and replies have them.
 ghost use Rattle.std.specs.Prelude.{◌≡◌, ◌≤◌, IsTrue, not, false, drop, length};
 ghost use Rattle.bw_model.specs.Wire.{Second, last_number, name_in, behind_name as behind, number_in, payload_in, is_name_bad, is_number_bad};
-ghost use Rattle.bw_wire.specs.Bodies.{body_name};
 ghost use Rattle.bw_wire.specs.Addresses.{HasName, HasAddress};
 
 use bw_layout::read_u32;
@@ -38,12 +37,12 @@ pub(crate) fn has_number(rest: &[u8]) -> bool
     read_u32(behind, 0) <= LAST_NUMBER
 }
 
-/// The bytes of the name.
-pub(crate) fn name_bytes(rest: &[u8]) -> &[u8]
-    requires { HasName rest.now }
-    ensures { result.now ≡ name_in rest.now }
+/// The name.
+pub(crate) fn name(rest: &[u8]) -> Name
+    requires { is_name_bad rest.now ≡ false }
+    ensures { result ≡ name_in rest.now }
 {
-    &rest[1..1 + rest[0] as usize]
+    Name::new(&rest[1..1 + rest[0] as usize]).unwrap()
 }
 
 /// What follows the name.
@@ -76,13 +75,4 @@ pub(crate) fn behind_kind(body: &[u8]) -> &[u8]
     ensures { result.now ≡ drop 1 body.now }
 {
     &body[1..]
-}
-
-/// The name behind the kind byte, which is one.
-#[tactic(auto, unfolding(crate::specs::Bodies::body_name))]
-pub(crate) fn name_of(body: &[u8]) -> Name
-    requires { is_name_bad (drop 1 body.now) ≡ false }
-    ensures { result ≡ body_name body.now }
-{
-    Name::new(name_bytes(behind_kind(body))).unwrap()
 }

@@ -3,10 +3,21 @@
 
 mod address;
 mod decoder;
+mod encoder;
+mod fault;
+mod front;
 mod message;
 mod payload;
 mod reason;
+mod reply;
+mod reply_decoder;
+mod reply_encoder;
 
 pub use decoder::{decode, decode_request};
+pub use encoder::{encode, encode_ask};
+pub use fault::WireFault;
 pub use message::{Ask, Frame, Message};
 pub use reason::{Reason, UnknownCode};
+pub use reply::{Notice, Reply};
+pub use reply_decoder::decode_reply;
+pub use reply_encoder::encode_reply;

@@ -2,7 +2,7 @@
 ghost use Rattle.std.specs.Prelude.{◌≡◌, ◌≤◌, IsTrue, length};
 ghost use Rattle.bw_wire.specs.Bodies.{is_message_body, is_ask_body};
 
-use crate::address::{behind_kind, name_of, number, payload};
+use crate::address::{behind_kind, name, number, payload};
 use crate::payload::request_of;
 use bw_take::{Name, RequestRef};
 
@@ -23,7 +23,7 @@ impl<'a> Message<'a> {
     pub fn name(&self) -> Name
         ensures { result ≡ (message_of self.now).name }
     {
-        name_of(self.body)
+        name(behind_kind(self.body))
     }
 
     /// The number of the message among those of its name.
@@ -66,7 +66,7 @@ impl Ask<'_> {
     pub fn name(&self) -> Name
         ensures { result ≡ asked_name self.now }
     {
-        name_of(self.body)
+        name(behind_kind(self.body))
     }
 
     /// The number that the reply repeats.

@@ -1,5 +1,15 @@
+use Rattle.std.proofs.Common.{◌∙◌, ap}
+use Rattle.bw_model.specs.Wire.{name_in, is_name_bad}
+use Rattle.bw_wire.specs.Bodies.{body_name}
 use Rattle.bw_wire.proofs.BodyLaws.{message_body}
 use Rattle.bw_wire.proofs.message.Message.name.Goals as goal
 
-pub name_of-requires : goal.name_of-requires
-name_of-requires c = (message_body c.args.self.now.body.now c.args.self.now.spells).addressed.named
+pub behind_kind-requires : goal.behind_kind-requires
+behind_kind-requires c = (message_body c.args.self.now.body.now c.args.self.now.spells).addressed.some
+
+pub name-requires : goal.name-requires
+name-requires c = ap is_name_bad c.behind_kind.ensures ∙ (message_body c.args.self.now.body.now c.args.self.now.spells).addressed.named
+
+pub returns : goal.returns
+unfolding body_name
+returns c = c.name.ensures ∙ ap name_in c.behind_kind.ensures

@@ -1,0 +1,118 @@
+//! From a message or an ask to its frame.
+ghost use Rattle.std.specs.Prelude.{◌≡◌, ◌≤◌, ◌+◌, ◌++◌, IsTrue, IfOk, OnOk, length};
+ghost use Rattle.bw_model.specs.Bytes.{le32};
+ghost use Rattle.bw_model.specs.Wire.{Second, last_number, Asks, kind as kind_in, payload as payload_in, addressed, is_name, is_request};
+ghost use Rattle.bw_take.specs.Requests.{meaning};
+ghost use Rattle.bw_wire.specs.Encoded.{IsFrameOf, said};
+
+use crate::payload::{ASK, BLOCK, CLOSE, MARK, OPEN, SET_FIELD};
+use bw_take::{Name, RequestRef};
+use std::alloc::{AllocError, Global};
+
+/// The frame of a message.
+///
+/// # Errors
+/// `AllocError` where memory was refused.
+pub fn encode(
+    alloc: Global,
+    name: &Name,
+    number: u32,
+    request: &RequestRef<'_>,
+) -> Result<Vec<u8>, AllocError>
+    requires number { number ≤ last_number Second }
+    requires fits { IsTrue (is_request (meaning request.now)) }
+    ensures { IfOk result (λ v. IsFrameOf (said name.now number (meaning request.now)) v.items) }
+{
+    let mut out = begin(alloc, kind(request), name, number, payload_len(request))?;
+    put_payload(&mut out, request)?;
+    Ok(out)
+}
+
+/// The frame of an ask. The reply repeats the number.
+///
+/// # Errors
+/// `AllocError` where memory was refused.
+pub fn encode_ask(alloc: Global, name: &Name, number: u32) -> Result<Vec<u8>, AllocError>
+    requires { number ≤ last_number Second }
+    ensures { IfOk result (λ v. IsFrameOf (Asks name.now number) v.items) }
+{
+    begin(alloc, ASK, name, number, 0)
+}
+
+/// A frame up to its payload, which is to have so many bytes, with room for all of it.
+fn begin(
+    alloc: Global,
+    kind: u8,
+    name: &Name,
+    number: u32,
+    payload_len: usize,
+) -> Result<Vec<u8>, AllocError>
+    requires { payload_len ≤ 32768 }
+    ensures items { IfOk result (λ v. v.items ≡ le32 (6 + length name.now + payload_len) ++ addressed kind name.now number) }
+    ensures named { OnOk result (IsTrue (is_name name.now)) }
+{
+    let bytes = name.as_bytes();
+    let len = 6 + bytes.len() + payload_len;
+    let mut out = Vec::with_capacity(alloc, 4 + len)?;
+    out.extend_from_slice(&(len as u32).to_le_bytes())?;
+    out.extend_from_slice(&[kind, bytes.len() as u8])?;
+    out.extend_from_slice(bytes)?;
+    out.extend_from_slice(&number.to_le_bytes())?;
+    Ok(out)
+}
+
+fn kind(request: &RequestRef<'_>) -> u8
+    ensures { result ≡ kind_in (meaning request.now) }
+{
+    match request {
+        RequestRef::OpenTake { .. } => OPEN,
+        RequestRef::Block { .. } => BLOCK,
+        RequestRef::Mark { .. } => MARK,
+        RequestRef::SetField { .. } => SET_FIELD,
+        RequestRef::CloseTake { .. } => CLOSE,
+    }
+}
+
+fn payload_len(request: &RequestRef<'_>) -> usize
+    requires { IsTrue (is_request (meaning request.now)) }
+    ensures value { result ≡ length (payload_in (meaning request.now)) }
+    ensures range { result ≤ 32768 }
+{
+    match request {
+        RequestRef::OpenTake { history, .. } => 10 + history.len(),
+        RequestRef::Block { bytes } => bytes.len(),
+        RequestRef::Mark { .. } | RequestRef::CloseTake { .. } => 8,
+        RequestRef::SetField { value, .. } => 1 + value.len(),
+    }
+}
+
+fn put_payload(out: &mut Vec<u8>, request: &RequestRef<'_>) -> Result<(), AllocError>
+    requires { IsTrue (is_request (meaning request.now)) }
+    ensures { OnOk result (out.new.items ≡ out.old.items ++ payload_in (meaning request.now)) }
+{
+    match *request {
+        RequestRef::OpenTake {
+            rate,
+            channels,
+            bits,
+            history,
+        } => {
+            out.extend_from_slice(&rate.to_le_bytes())?;
+            out.extend_from_slice(&channels.to_le_bytes())?;
+            out.extend_from_slice(&bits.to_le_bytes())?;
+            out.extend_from_slice(&(history.len() as u16).to_le_bytes())?;
+            out.extend_from_slice(history)?;
+        }
+        RequestRef::Block { bytes } => out.extend_from_slice(bytes)?,
+        RequestRef::Mark { id, frame } => {
+            out.extend_from_slice(&id.to_le_bytes())?;
+            out.extend_from_slice(&frame.to_le_bytes())?;
+        }
+        RequestRef::SetField { tag, value } => {
+            out.push(tag)?;
+            out.extend_from_slice(value)?;
+        }
+        RequestRef::CloseTake { frames } => out.extend_from_slice(&frames.to_le_bytes())?,
+    }
+    Ok(())
+}

@@ -1,0 +1,95 @@
+//! Replies: what a server says of messages and asks, and of bytes that are none.
+ghost use Rattle.std.specs.Prelude.{◌≡◌, ◌≤◌};
+ghost use Rattle.bw_model.specs.Replies.{notice_code};
+ghost use Rattle.bw_wire.specs.Notices.{notice_of, DecodesNotice};
+
+use crate::reason::{Reason, UnknownCode};
+use bw_take::{Name, Verdict};
+
+/// Why a message has no verdict, or what an ask is told.
+#[derive(Clone, Copy, Debug, PartialEq, Eq, Hash)]
+pub enum Notice {
+    /// The message is kept until those before it have come.
+    Held = 32,
+    /// Its number is 16 or more past the least one without a verdict.
+    TooFar = 33,
+    /// Another body was admitted under its number.
+    Conflict = 34,
+    /// The server knows as many names as it can.
+    TableFull = 35,
+    /// The server had no memory for it.
+    NoRoom = 36,
+    /// The store failed: the message is kept, and tried again.
+    DelayedStore = 37,
+    /// The answer to an ask.
+    Next = 39,
+}
+
+impl Notice {
+    /// The byte that tells it in a reply.
+    pub fn code(self) -> u8
+        ensures value { result ≡ notice_code (notice_of self) }
+        ensures range { result ≤ 39 }
+    {
+        self as u8
+    }
+}
+
+impl TryFrom<u8> for Notice {
+    type Error = UnknownCode;
+
+    ghost try_from_gives = { DecodesNotice };
+
+    fn try_from(code: u8) -> Result<Notice, UnknownCode> {
+        match code {
+            32 => Ok(Notice::Held),
+            33 => Ok(Notice::TooFar),
+            34 => Ok(Notice::Conflict),
+            35 => Ok(Notice::TableFull),
+            36 => Ok(Notice::NoRoom),
+            37 => Ok(Notice::DelayedStore),
+            39 => Ok(Notice::Next),
+            _ => Err(UnknownCode(code)),
+        }
+    }
+}
+
+/// A reply to a message, to an ask, or to a bad frame.
+#[derive(Debug, Drop, PartialEq, Eq)]
+pub enum Reply {
+    /// The verdict of a message.
+    Verdict {
+        name: Name,
+        number: u32,
+        verdict: Verdict,
+    },
+    /// Why a message has no verdict, or the answer to an ask. `next` is the least number without a verdict.
+    Notice {
+        name: Name,
+        number: u32,
+        code: Notice,
+        next: u32,
+    },
+    /// Why bytes were no frame, and how many bytes of the exchange stand before them.
+    BadFrame {
+        reason: Reason,
+        offset: u64,
+    },
+}
+
+/// An exchange that was cut off in its first frame.
+impl Default for Reply {
+    ghost use Rattle.std.specs.Prelude.{◌≡◌};
+    ghost use Rattle.bw_model.specs.Wire.{Cut};
+    ghost use Rattle.bw_model.specs.Replies.{Refused};
+    ghost use Rattle.bw_wire.specs.Replies.{reply_of};
+
+    ghost is_default = { λ r. reply_of r ≡ Refused Cut 0 };
+
+    fn default() -> Self {
+        Reply::BadFrame {
+            reason: Reason::Cut,
+            offset: 0,
+        }
+    }
+}
