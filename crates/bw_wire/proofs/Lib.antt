@@ -3,3 +3,5 @@ pub mod Decoding
 pub mod Encoding
 pub mod ReplyDecoding
 pub mod Fronts
+pub mod FramerLaws
+pub mod FramerSteps

@@ -6,3 +6,6 @@ pub mod Notices
 pub mod Replies
 pub mod Encoded
 pub mod Fronts
+pub mod Pending
+pub mod Phases
+pub mod Telling

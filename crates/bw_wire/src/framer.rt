@@ -1,0 +1,195 @@
+//! A stream of frames that comes in pieces.
+ghost use Rattle.std.specs.Prelude.{◌≡◌, ◌+◌, ◌≤◌, ◌^◌, length, drop, IsOk, OnOk, OnErr};
+
+use crate::fault::WireFault;
+use crate::front::{Front, front_of};
+use crate::message::{Ask, Frame, Message};
+use crate::reason::Reason;
+use std::alloc::{AllocError, Global};
+use std::marker::Model;
+
+/// Whether more frames may come.
+#[derive(Clone, Copy, Debug)]
+pub(crate) enum Phase {
+    Reading,
+    Left,
+    Failed(Reason),
+}
+
+/// Takes the frames of an exchange out of its bytes, which come in pieces of any size.
+///
+/// Take out all frames before feeding the next piece, so that little is held.
+#[derive(Drop)]
+pub struct Framer {
+    buffer: Vec<u8>,
+    start: usize,
+    used: u64,
+    fed: u64,
+    phase: Phase,
+}
+
+impl Model for Framer {
+    ghost use Rattle.std.specs.Prelude.{◌≡◌, ◌≤◌, ◌+◌, ◌^◌, drop, length};
+    ghost use Rattle.bw_wire.specs.Pending.{Pending};
+
+    ghost Value = { Pending };
+
+    ghost use Rattle.bw_wire.specs.Phases.{phase_of, IsFramer, pending_of};
+
+    ghost view = { λ f. pending_of f.buffer.items f.start f.used f.fed f.phase };
+
+    ghost invariant = { λ f. IsFramer f.buffer.items f.start f.used f.fed f.phase };
+}
+
+impl Framer {
+    ghost use Rattle.std.specs.Borrow.{sem};
+    ghost use Rattle.std.specs.Io.BufRead.{Rests};
+    ghost use Rattle.bw_wire.specs.contracts.framer.Framer.{the_row};
+    ghost use Rattle.bw_wire.specs.Pending.{fresh, with_piece, after, HoldsAtMost, end_fault, IsOver};
+    ghost use Rattle.bw_wire.specs.Telling.{told, end_told};
+
+    /// A framer at the start of a stream.
+    pub fn new(alloc: Global) -> Framer
+        ensures { result ≡ fresh }
+    {
+        Framer {
+            buffer: Vec::new(alloc),
+            start: 0,
+            used: 0,
+            fed: 0,
+            phase: Phase::Reading,
+        }
+    }
+
+    /// How many bytes were fed.
+    pub fn fed(&self) -> u64
+        ensures value { result ≡ self.now.fed }
+        ensures range { result ≤ 2 ^ 62 }
+    {
+        self.fed
+    }
+
+    /// Adds a piece of the stream. After the end of the exchange or a fault the piece is dropped.
+    ///
+    /// # Errors
+    /// `AllocError` where memory was refused: nothing changed.
+    pub fn feed(&mut self, piece: &[u8]) -> Result<(), AllocError>
+        requires { self.old.fed + length piece.now ≤ 2 ^ 62 }
+        ensures ok { OnOk result (self.new ≡ with_piece self.old piece.now) }
+        ensures err { OnErr result (self.new ≡ self.old) }
+        ensures dropped { IsOver self.old → IsOk result }
+    {
+        match self.phase {
+            Phase::Reading => {
+                self.buffer.extend_from_slice(piece)?;
+                self.fed += piece.len() as u64;
+                Ok(())
+            }
+            Phase::Left | Phase::Failed(_) => {
+                self.fed += piece.len() as u64;
+                Ok(())
+            }
+        }
+    }
+
+    /// The first frame of the bytes that are left, which is used up; None where it isn't whole yet.
+    ///
+    /// # Errors
+    /// Why the bytes are no frame. From then on it is this fault, as after `Bye` it is `Bye`.
+    pub fn next_frame(&mut self) -> Result<Option<Frame<'_>>, WireFault>
+        ensures* left { sem 𝓛 (Rests the_row self.entry (λ new. new ≡ (after self.old).1)) }
+        ensures told { told result ≡ (after self.old).0 }
+        ensures held { HoldsAtMost 32809 (after self.old) }
+    {
+        match self.phase {
+            Phase::Reading => {}
+            Phase::Left => return Ok(Some(Frame::Bye)),
+            Phase::Failed(reason) => {
+                return Err(WireFault {
+                    reason,
+                    offset: self.used,
+                });
+            }
+        }
+        match front_of(bytes_from(&self.buffer, self.start)) {
+            Front::Partial => {
+                drop_front(&mut self.buffer, self.start);
+                self.start = 0;
+                Ok(None)
+            }
+            Front::Bad(reason) => {
+                self.buffer.clear();
+                self.start = 0;
+                self.phase = Phase::Failed(reason);
+                Err(WireFault {
+                    reason,
+                    offset: self.used,
+                })
+            }
+            Front::Bye(len) => {
+                self.buffer.clear();
+                self.start = 0;
+                self.used += 4 + len as u64;
+                self.phase = Phase::Left;
+                Ok(Some(Frame::Bye))
+            }
+            Front::Message(len) => {
+                let at = self.start + 4;
+                self.start = at + len;
+                self.used += 4 + len as u64;
+                Ok(Some(Frame::Message(Message {
+                    body: &self.buffer[at..at + len],
+                })))
+            }
+            Front::Ask(len) => {
+                let at = self.start + 4;
+                self.start = at + len;
+                self.used += 4 + len as u64;
+                Ok(Some(Frame::Ask(Ask {
+                    body: &self.buffer[at..at + len],
+                })))
+            }
+        }
+    }
+
+    /// Whether the input may end here.
+    ///
+    /// # Errors
+    /// The fault that was told, or `Cut` where bytes are left.
+    pub fn end(&self) -> Result<(), WireFault>
+        ensures { end_told result ≡ end_fault self.now }
+    {
+        match self.phase {
+            Phase::Left => Ok(()),
+            Phase::Failed(reason) => Err(WireFault {
+                reason,
+                offset: self.used,
+            }),
+            Phase::Reading => {
+                if self.buffer.len() == self.start {
+                    return Ok(());
+                }
+                Err(WireFault {
+                    reason: Reason::Cut,
+                    offset: self.used,
+                })
+            }
+        }
+    }
+}
+
+/// The bytes from a place on.
+fn bytes_from(buffer: &Vec<u8>, start: usize) -> &[u8]
+    requires { start ≤ length buffer.now.items }
+    ensures { result.now ≡ drop start buffer.now.items }
+{
+    &buffer[start..]
+}
+
+/// Lets so many bytes at the front go.
+fn drop_front(buffer: &mut Vec<u8>, count: usize)
+    requires { count ≤ length buffer.old.items }
+    ensures { buffer.new.items ≡ drop count buffer.old.items }
+{
+    buffer.drain(..count);
+}
