@@ -2,3 +2,15 @@ pub mod Names
 pub mod Bytes
 pub mod Torn
 pub mod Tears
+pub mod Puts
+pub mod Between
+pub mod Sizes
+pub mod Judged
+pub mod Stands
+pub mod Files
+pub mod Headed
+pub mod Appends
+pub mod Closes
+pub mod Begins
+pub mod Parts
+pub mod Retouches

@@ -1,0 +1,15 @@
+-- A list in three parts.
+use Rattle.std.proofs.Common.{◌≡◌, ℕ, ◌+◌, ◌-◌, ◌≤◌, List, ◌++◌, take, drop, sym, ◌∙◌, ap, arith, append_assoc, take-append-drop}
+use Rattle.std.specs.Prelude.{slice_range}
+use Rattle.std.proofs.lemmas.List.{drop-drop}
+
+pub parts_at : (l : List ℕ) (from to : ℕ) → from ≤ to → l ≡ take from l ++ (slice_range l from to ++ drop to l)
+parts_at l from to ordered =
+    let end : from + (to - from) ≡ to = omega arith in
+    let middle : drop from l ≡ slice_range l from to ++ drop to l = sym (take-append-drop (to - from) (drop from l)) ∙ ap (λ (r : List ℕ). slice_range l from to ++ r) (drop-drop (to - from) from l ∙ ap (λ (n : ℕ). drop n l) end) in
+    sym (take-append-drop from l) ∙ ap (λ (r : List ℕ). take from l ++ r) middle
+
+-- lists that are the same but for the second part
+pub same_outside : (before after : List ℕ) (from to : ℕ) → from ≤ to → take from before ≡ take from after → drop to before ≡ drop to after → after ≡ take from before ++ slice_range after from to ++ drop to before
+same_outside before after from to ordered front back =
+    parts_at after from to ordered ∙ sym (append_assoc (take from after) (slice_range after from to) (drop to after)) ∙ rw (front, back)

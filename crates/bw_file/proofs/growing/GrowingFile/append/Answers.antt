@@ -1,0 +1,43 @@
+use Rattle.std.proofs.Common.{◌∙◌, sym, ap}
+use Rattle.std.proofs.lemmas.Result.{err_from_is_err_and}
+use Rattle.bw_model.specs.Take.{Parts}
+use Rattle.bw_file.specs.contracts.growing.GrowingFile.{the_view}
+use Rattle.bw_file.proofs.Judged.{open_for_block, is_some_open, some_in_block}
+use Rattle.bw_file.proofs.Headed.{is_heading}
+use Rattle.bw_file.proofs.Appends.{samples_fail, header_fails, appended}
+use Rattle.bw_file.proofs.growing.GrowingFile.append.Goals as goal
+
+pub of-heading-requires : goal.of-heading-requires
+of-heading-requires g c = is_some_open _ (open_for_block _ _ c.requires.stored)
+
+pub returns-in_err-put_samples-clause-file : goal.returns-in_err-put_samples-clause-file
+returns-in_err-put_samples-clause-file g c =
+    rw (← c.self.view_is) (λ honest t same ready.
+    let opened = open_for_block _ _ c.requires.stored in
+    let of = c.of-heading.ensures in
+    let heads = is_heading t c.args.state.now.parts c.of-heading.result c.self.inside.limit same of.format of.bext of.history of.limit in
+    let is_open = ap (λ (p : Parts). p.closed) same ∙ opened.not_closed in
+    let so_far = c.data_len-before.ensures.value ∙ sym (ap (λ (p : Parts). p.samples_len) same) in
+    let answer = err_from_is_err_and c.from_residual.result c.from_residual.ensures.1 in
+    rw answer.1 (samples_fail (the_view c.self.inside) t c.args.samples.now c.of-heading.result heads is_open (some_in_block _ c.requires.fits) c.data_place.result c.data_len-before.result c.data_place.ensures.value so_far _ _ ready (c.put_samples.ensures.torn honest)))
+
+pub returns-in_err-put_grown_header-clause-file : goal.returns-in_err-put_grown_header-clause-file
+returns-in_err-put_grown_header-clause-file g c =
+    rw (← c.self.view_is) (λ honest t same ready.
+    let opened = open_for_block _ _ c.requires.stored in
+    let of = c.of-heading.ensures in
+    let heads = is_heading t c.args.state.now.parts c.of-heading.result c.self.inside.limit same of.format of.bext of.history of.limit in
+    let is_open = ap (λ (p : Parts). p.closed) same ∙ opened.not_closed in
+    let so_far = c.data_len-before.ensures.value ∙ sym (ap (λ (p : Parts). p.samples_len) same) in
+    let answer = err_from_is_err_and c.from_residual-in_err-put_grown_header.result c.from_residual-in_err-put_grown_header.ensures.1 in
+    rw answer.1 (header_fails (the_view c.self.inside) t c.args.samples.now c.of-heading.result heads is_open (some_in_block _ c.requires.fits) c.data_place.result c.data_len-before.result c.data_place.ensures.value so_far _ _ _ ready (c.put_samples.ensures.torn honest) (c.put_grown_header.ensures.torn (c.put_samples.ensures.honest ∙ honest))))
+
+pub returns-clause-file : goal.returns-clause-file
+returns-clause-file g c =
+    rw (← c.self.view_is) (λ honest t same ready.
+    let opened = open_for_block _ _ c.requires.stored in
+    let of = c.of-heading.ensures in
+    let heads = is_heading t c.args.state.now.parts c.of-heading.result c.self.inside.limit same of.format of.bext of.history of.limit in
+    let is_open = ap (λ (p : Parts). p.closed) same ∙ opened.not_closed in
+    let so_far = c.data_len-before.ensures.value ∙ sym (ap (λ (p : Parts). p.samples_len) same) in
+    appended (the_view c.self.inside) t c.args.samples.now c.of-heading.result heads is_open (some_in_block _ c.requires.fits) c.data_place.result c.data_len-before.result c.data_place.ensures.value so_far _ _ _ ready (c.in_ok-put_samples.ensures.put honest) (c.in_ok-put_grown_header.ensures.put (c.put_samples.ensures.honest ∙ honest)))

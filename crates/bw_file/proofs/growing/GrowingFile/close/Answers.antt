@@ -1,0 +1,63 @@
+use Rattle.std.proofs.Common.{◌∙◌, sym, ap}
+use Rattle.std.proofs.lemmas.Result.{err_from_is_err_and}
+use Rattle.bw_model.specs.Take.{Parts, frames}
+use Rattle.bw_file.specs.contracts.growing.GrowingFile.{the_view}
+use Rattle.bw_file.proofs.Judged.{open_for_close, is_some_open}
+use Rattle.bw_file.proofs.Headed.{is_heading}
+use Rattle.bw_file.proofs.Closes.{cues_fail, header_fails, closed}
+use Rattle.bw_file.proofs.growing.GrowingFile.close.Goals as goal
+
+pub of-heading-requires : goal.of-heading-requires
+of-heading-requires g c = is_some_open _ (open_for_close _ _ c.requires)
+
+pub returns-in_err-put_cues-clause-file : goal.returns-in_err-put_cues-clause-file
+returns-in_err-put_cues-clause-file g c =
+    rw (← c.self.view_is) (λ honest t same ready.
+    let opened = open_for_close _ _ c.requires in
+    let of = c.of-heading.ensures in
+    let heads = is_heading t c.args.state.now.parts c.of-heading.result c.self.inside.limit same of.format of.bext of.history of.limit in
+    let is_open = ap (λ (p : Parts). p.closed) same ∙ opened.not_closed in
+    let in_all = c.data_len-data_len.ensures.value ∙ sym (ap (λ (p : Parts). p.samples_len) same) in
+    let marked = c.markers-markers.ensures.value ∙ sym (ap (λ (p : Parts). p.markers) same) in
+    let answer = err_from_is_err_and c.from_residual.result c.from_residual.ensures.1 in
+    rw answer.1 (cues_fail (the_view c.self.inside) t (frames c.args.state.now.parts) c.of-heading.result heads is_open c.data_place.result c.data_len-data_len.result c.markers-markers.result.now c.data_place.ensures.value in_all marked _ _ ready (c.put_cues.ensures.torn honest)))
+
+pub returns-in_err-put_closed_header-clause-file : goal.returns-in_err-put_closed_header-clause-file
+returns-in_err-put_closed_header-clause-file g c =
+    rw (← c.self.view_is) (λ honest t same ready.
+    let opened = open_for_close _ _ c.requires in
+    let of = c.of-heading.ensures in
+    let heads = is_heading t c.args.state.now.parts c.of-heading.result c.self.inside.limit same of.format of.bext of.history of.limit in
+    let is_open = ap (λ (p : Parts). p.closed) same ∙ opened.not_closed in
+    let in_all = c.data_len-data_len.ensures.value ∙ sym (ap (λ (p : Parts). p.samples_len) same) in
+    let marked = c.markers-markers.ensures.value ∙ sym (ap (λ (p : Parts). p.markers) same) in
+    let answer = err_from_is_err_and c.from_residual-in_err-put_closed_header.result c.from_residual-in_err-put_closed_header.ensures.1 in
+    rw answer.1 (header_fails (the_view c.self.inside) t (frames c.args.state.now.parts) c.of-heading.result heads is_open c.data_place.result c.data_len-data_len.result c.markers-markers.result.now c.data_place.ensures.value in_all marked _ _ _ ready (c.put_cues.ensures.torn honest) (c.put_closed_header.ensures.torn (c.put_cues.ensures.honest ∙ honest))))
+
+pub returns-in_err-finish-clause-file : goal.returns-in_err-finish-clause-file
+returns-in_err-finish-clause-file g c =
+    rw (← c.self.view_is) (λ honest t same ready.
+    let opened = open_for_close _ _ c.requires in
+    let of = c.of-heading.ensures in
+    let heads = is_heading t c.args.state.now.parts c.of-heading.result c.self.inside.limit same of.format of.bext of.history of.limit in
+    let is_open = ap (λ (p : Parts). p.closed) same ∙ opened.not_closed in
+    let in_all = c.data_len-data_len.ensures.value ∙ sym (ap (λ (p : Parts). p.samples_len) same) in
+    let marked = c.markers-markers.ensures.value ∙ sym (ap (λ (p : Parts). p.markers) same) in
+    let honest_then = c.put_cues.ensures.honest ∙ honest in
+    let stays = c.finish.ensures.unchanged (c.put_closed_header.ensures.honest ∙ honest_then) c.self.inside.name in
+    let between = header_fails (the_view c.self.inside) t (frames c.args.state.now.parts) c.of-heading.result heads is_open c.data_place.result c.data_len-data_len.result c.markers-markers.result.now c.data_place.ensures.value in_all marked _ _ _ ready (c.put_cues.ensures.torn honest) (c.put_closed_header.ensures.torn honest_then) in
+    let answer = err_from_is_err_and c.from_residual-in_err-finish.result c.from_residual-in_err-finish.ensures.1 in
+    rw (answer.1, stays) between)
+
+pub returns-clause-file : goal.returns-clause-file
+returns-clause-file g c =
+    rw (← c.self.view_is) (λ honest t same ready.
+    let opened = open_for_close _ _ c.requires in
+    let of = c.of-heading.ensures in
+    let heads = is_heading t c.args.state.now.parts c.of-heading.result c.self.inside.limit same of.format of.bext of.history of.limit in
+    let is_open = ap (λ (p : Parts). p.closed) same ∙ opened.not_closed in
+    let in_all = c.data_len-data_len.ensures.value ∙ sym (ap (λ (p : Parts). p.samples_len) same) in
+    let marked = c.markers-markers.ensures.value ∙ sym (ap (λ (p : Parts). p.markers) same) in
+    let honest_then = c.put_cues.ensures.honest ∙ honest in
+    let stays = c.finish.ensures.unchanged (c.put_closed_header.ensures.honest ∙ honest_then) c.self.inside.name in
+    stays ∙ closed (the_view c.self.inside) t (frames c.args.state.now.parts) c.of-heading.result heads is_open c.data_place.result c.data_len-data_len.result c.markers-markers.result.now c.data_place.ensures.value in_all marked _ _ _ ready (c.in_ok-put_cues.ensures.put honest) (c.in_ok-put_closed_header.ensures.put honest_then))

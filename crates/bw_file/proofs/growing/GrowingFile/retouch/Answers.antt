@@ -1,0 +1,47 @@
+use Rattle.std.proofs.Common.{◌∙◌, Some, refl, sym, ap, subst}
+use Rattle.std.proofs.lemmas.Result.{err_from_is_err_and}
+use Rattle.bw_model.specs.Take.{Parts, AreFields, SetField, parts, with_request}
+use Rattle.bw_model.proofs.FieldLaws.{fields-with}
+use Rattle.bw_file.specs.contracts.growing.GrowingFile.{the_view}
+use Rattle.bw_file.proofs.Judged.{open_for_field, is_some_open, no_fault}
+use Rattle.bw_file.proofs.Headed.{is_heading}
+use Rattle.bw_file.proofs.Retouches.{header_fails, retouched}
+use Rattle.bw_file.proofs.growing.GrowingFile.retouch.Goals as goal
+
+pub of-heading-requires : goal.of-heading-requires
+of-heading-requires g c = is_some_open _ (open_for_field _ _ _ c.requires.stored)
+
+pub with_bext-retouched-requires : goal.with_bext-retouched-requires
+with_bext-retouched-requires g c =
+    let p = c.args.state.now.parts in
+    let fields = subst AreFields c.of-heading.ensures.bext c.of-heading.result.widths in
+    subst AreFields (sym c.requires.fields) (fields-with p.fields c.requires.tag c.requires.value fields (no_fault p c.requires.tag c.requires.value c.requires.stored))
+
+pub returns-in_err-put_retouched_header-clause-file : goal.returns-in_err-put_retouched_header-clause-file
+returns-in_err-put_retouched_header-clause-file g c =
+    rw (← c.self.view_is) (λ honest t same tag value set ready.
+    let opened = open_for_field _ _ _ c.requires.stored in
+    let of = c.of-heading.ensures in
+    let with = c.with_bext-retouched.ensures in
+    let heads = is_heading t c.args.state.now.parts c.of-heading.result c.self.inside.limit same of.format of.bext of.history of.limit in
+    let told = of.history ∙ sym (ap (λ (p : Parts). p.history) same) in
+    let later = with_request t (SetField tag value) in
+    let then_heads = is_heading later (parts later) c.with_bext-retouched.result c.self.inside.limit refl (ap Some with.format ∙ sym heads.format) (with.bext ∙ set) (with.history ∙ told) (with.limit ∙ of.limit) in
+    let is_open = ap (λ (p : Parts). p.closed) same ∙ opened.not_closed in
+    let in_all = c.data_len.ensures.value ∙ sym (ap (λ (p : Parts). p.samples_len) same) in
+    let answer = err_from_is_err_and c.from_residual.result c.from_residual.ensures.1 in
+    rw answer.1 (header_fails (the_view c.self.inside) t tag value c.of-heading.result c.with_bext-retouched.result heads then_heads with.format is_open c.data_len.result in_all _ _ ready (c.put_retouched_header.ensures.torn honest)))
+
+pub returns-clause-file : goal.returns-clause-file
+returns-clause-file g c =
+    rw (← c.self.view_is) (λ honest t same tag value set ready.
+    let opened = open_for_field _ _ _ c.requires.stored in
+    let of = c.of-heading.ensures in
+    let with = c.with_bext-retouched.ensures in
+    let heads = is_heading t c.args.state.now.parts c.of-heading.result c.self.inside.limit same of.format of.bext of.history of.limit in
+    let told = of.history ∙ sym (ap (λ (p : Parts). p.history) same) in
+    let later = with_request t (SetField tag value) in
+    let then_heads = is_heading later (parts later) c.with_bext-retouched.result c.self.inside.limit refl (ap Some with.format ∙ sym heads.format) (with.bext ∙ set) (with.history ∙ told) (with.limit ∙ of.limit) in
+    let is_open = ap (λ (p : Parts). p.closed) same ∙ opened.not_closed in
+    let in_all = c.data_len.ensures.value ∙ sym (ap (λ (p : Parts). p.samples_len) same) in
+    retouched (the_view c.self.inside) t tag value c.of-heading.result c.with_bext-retouched.result heads then_heads with.format is_open c.data_len.result in_all _ _ ready (c.in_ok-put_retouched_header.ensures.put honest))

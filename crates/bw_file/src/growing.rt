@@ -1,0 +1,270 @@
+//! The file of a take, which grows with it.
+ghost use Rattle.std.specs.Prelude.{◌≡◌, ◌≤◌, ◌+◌, ◌^◌, ◌*◌, ℕ, List, [], IsSome, IsTrue, IsFalse, IfOk, OnErr, is_err, length, true, false};
+ghost use Rattle.bw_model.specs.Take.{Take, Stored, Open, Block, SetField, Close, judge, parts, frames, with_field};
+ghost use Rattle.bw_model.specs.Wire.{is_request};
+ghost use Rattle.bw_file.specs.Stores.{Counts, KeepsOthers};
+ghost use Rattle.bw_file.specs.Growing.{Growing, Stores, Sets, Begins, AsksForName, IsFresh, is_new};
+
+use crate::heading::Heading;
+use crate::room::Room;
+use crate::store::{Created, StoreFault, TakeStore};
+use crate::writes::{
+    put_closed_header, put_cues, put_grown_header, put_header, put_retouched_header, put_samples,
+};
+use bw_layout::{Bext, Fmt, Limit};
+use bw_take::{Name, TakeState};
+use std::alloc::{AllocError, Global};
+use std::marker::Model;
+
+/// The file of one take, which is whole after each call that succeeds.
+///
+/// After a call that failed the file is dirty, and the same call may be tried again: it writes the whole header then,
+/// and else what changed in it. The room in which a header is built is there from the start.
+#[derive(Drop)]
+pub struct GrowingFile {
+    name: Name,
+    limit: Limit,
+    made: bool,
+    dirty: bool,
+    room: Room,
+}
+
+impl Model for GrowingFile {
+    ghost use Rattle.bw_file.specs.Growing.{Growing};
+
+    ghost Value = { Growing };
+
+    ghost view = { λ f. record { name = f.name; limit = f.limit; made = f.made; dirty = f.dirty } };
+}
+
+impl GrowingFile {
+    /// The file of a take that isn't opened: nothing stands in a store yet.
+    ///
+    /// # Errors
+    /// `AllocError` where the room was refused.
+    pub fn new(alloc: Global, name: Name, limit: Limit) -> Result<GrowingFile, AllocError>
+        ensures { IfOk result
+            (λ f. f ≡ record { name = name; limit = limit; made = false; dirty = false }) }
+    {
+        Ok(GrowingFile {
+            name,
+            limit,
+            made: false,
+            dirty: false,
+            room: Room::new(alloc)?,
+        })
+    }
+
+    /// Whether the last call failed.
+    pub fn is_dirty(&self) -> bool
+        ensures { result ≡ self.now.dirty }
+    {
+        self.dirty
+    }
+
+    /// Makes the name, unless an earlier try made it, and writes the header of a take without data.
+    ///
+    /// Where the name stood in the store, it answers Exists, and nothing is written.
+    ///
+    /// # Errors
+    /// `StoreFault` where a call of the store failed.
+    pub fn begin<S: TakeStore>(
+        &mut self,
+        store: &mut S,
+        state: &TakeState,
+        format: Fmt,
+        history: &[u8],
+    ) -> Result<Created, StoreFault>
+        requires fits { IsTrue (is_request (Open format history.now)) }
+        requires stored { judge state.now.parts (Open format history.now) ≡ Stored }
+        ensures ok { IfOk result (λ c. self.new ≡ record self.old { made = is_new c; dirty = false }) }
+        ensures err { OnErr result (self.new ≡ record self.old { made = self.new.made; dirty = true }) }
+        ensures failures { Counts (S.failures store.old) (S.failures store.new) (is_err result) }
+        ensures calls { S.calls store.new ≤ S.calls store.old + 2 }
+        ensures honest { S.honest store.new ≡ S.honest store.old }
+        ensures others { IsTrue (S.honest store.old) →
+            KeepsOthers (S.contents store.old) (S.contents store.new) self.old.name }
+        ensures name { IsTrue (S.honest store.old) → AsksForName self.old.made self.new.made
+            (S.contents store.old self.old.name) (S.contents store.new self.old.name) }
+        ensures stood { IsTrue (S.honest store.old) →
+            IfOk result (λ c. IsFalse (is_new c) → IsSome (S.contents store.old self.old.name)) }
+        ensures file { IsTrue (S.honest store.old) → (t : Take) → parts t ≡ state.now.parts →
+            Begins result self.old self.new.made t (Open format history.now)
+            (S.contents store.old self.old.name) (S.contents store.new self.old.name) }
+    {
+        self.dirty = true;
+        match make_name(&mut self.made, store, &self.name)? {
+            Created::New => {}
+            Created::Exists => {
+                self.dirty = false;
+                return Ok(Created::Exists);
+            }
+        }
+        let heading = Heading {
+            format,
+            bext: state.bext(),
+            history,
+            limit: self.limit,
+        };
+        put_header(
+            store,
+            &self.name,
+            &mut self.room,
+            &heading,
+            state.data_len(),
+            0,
+        )?;
+        self.dirty = false;
+        Ok(Created::New)
+    }
+
+    /// Appends the samples of a block.
+    ///
+    /// # Errors
+    /// `StoreFault` where a call of the store failed.
+    pub fn append<S: TakeStore>(
+        &mut self,
+        store: &mut S,
+        state: &TakeState,
+        samples: &[u8],
+    ) -> Result<(), StoreFault>
+        requires fits { IsTrue (is_request (Block samples.now)) }
+        requires stored { judge state.now.parts (Block samples.now) ≡ Stored }
+        requires samples { state.now.parts.samples_len + length samples.now ≤ 2 ^ 62 }
+        ensures known { self.new ≡ record self.old { dirty = is_err result } }
+        ensures failures { Counts (S.failures store.old) (S.failures store.new) (is_err result) }
+        ensures calls { S.calls store.new ≤ S.calls store.old + 4 }
+        ensures honest { S.honest store.new ≡ S.honest store.old }
+        ensures others { IsTrue (S.honest store.old) →
+            KeepsOthers (S.contents store.old) (S.contents store.new) self.old.name }
+        ensures file { IsTrue (S.honest store.old) → (t : Take) → parts t ≡ state.now.parts →
+            Stores result self.old t (Block samples.now)
+            (S.contents store.old self.old.name) (S.contents store.new self.old.name) }
+    {
+        let is_clean = !self.dirty;
+        self.dirty = true;
+        let heading = Heading::of(state, self.limit);
+        let before = state.data_len();
+        let after = before + samples.len() as u64;
+        put_samples(store, &self.name, heading.data_place() + before, samples)?;
+        put_grown_header(
+            is_clean,
+            store,
+            &self.name,
+            &mut self.room,
+            &heading,
+            before,
+            after,
+        )?;
+        self.dirty = false;
+        Ok(())
+    }
+
+    /// Writes the header with these fields of `bext`, one of which was set.
+    ///
+    /// # Errors
+    /// `StoreFault` where a call of the store failed.
+    pub fn retouch<S: TakeStore>(
+        &mut self,
+        store: &mut S,
+        state: &TakeState,
+        bext: &Bext,
+    ) -> Result<(), StoreFault>
+        requires { Sets state.now.parts bext.now }
+        ensures known { self.new ≡ record self.old { dirty = is_err result } }
+        ensures failures { Counts (S.failures store.old) (S.failures store.new) (is_err result) }
+        ensures calls { S.calls store.new ≤ S.calls store.old + 1 }
+        ensures honest { S.honest store.new ≡ S.honest store.old }
+        ensures others { IsTrue (S.honest store.old) →
+            KeepsOthers (S.contents store.old) (S.contents store.new) self.old.name }
+        ensures file { IsTrue (S.honest store.old) → (t : Take) → parts t ≡ state.now.parts →
+            (tag : ℕ) (value : List ℕ) → bext.now ≡ with_field t.fields tag value →
+            Stores result self.old t (SetField tag value)
+            (S.contents store.old self.old.name) (S.contents store.new self.old.name) }
+    {
+        let is_clean = !self.dirty;
+        self.dirty = true;
+        let heading = Heading::of(state, self.limit);
+        let retouched = heading.with_bext(bext);
+        put_retouched_header(
+            is_clean,
+            store,
+            &self.name,
+            &mut self.room,
+            &heading,
+            &retouched,
+            state.data_len(),
+        )?;
+        self.dirty = false;
+        Ok(())
+    }
+
+    /// Puts the cue points of the markers behind the data, and says that the file is complete.
+    ///
+    /// # Errors
+    /// `StoreFault` where a call of the store failed.
+    pub fn close<S: TakeStore>(
+        &mut self,
+        store: &mut S,
+        state: &TakeState,
+    ) -> Result<(), StoreFault>
+        requires { judge state.now.parts (Close (frames state.now.parts)) ≡ Stored }
+        ensures known { self.new ≡ record self.old { dirty = is_err result } }
+        ensures failures { Counts (S.failures store.old) (S.failures store.new) (is_err result) }
+        ensures calls { S.calls store.new ≤ S.calls store.old + 3 }
+        ensures honest { S.honest store.new ≡ S.honest store.old }
+        ensures others { IsTrue (S.honest store.old) →
+            KeepsOthers (S.contents store.old) (S.contents store.new) self.old.name }
+        ensures file { IsTrue (S.honest store.old) → (t : Take) → parts t ≡ state.now.parts →
+            Stores result self.old t (Close (frames state.now.parts))
+            (S.contents store.old self.old.name) (S.contents store.new self.old.name) }
+    {
+        let is_clean = !self.dirty;
+        self.dirty = true;
+        let heading = Heading::of(state, self.limit);
+        let data_len = state.data_len();
+        let markers = state.markers();
+        let end = heading.data_place() + data_len + data_len % 2;
+        put_cues(store, &self.name, &mut self.room, end, markers)?;
+        put_closed_header(
+            is_clean,
+            store,
+            &self.name,
+            &mut self.room,
+            &heading,
+            data_len,
+            markers.len() as u64,
+        )?;
+        store.finish(&self.name)?;
+        self.dirty = false;
+        Ok(())
+    }
+}
+
+/// Makes the name, unless it is made: `New` where it is then.
+fn make_name<S: TakeStore>(
+    made: &mut bool,
+    store: &mut S,
+    name: &Name,
+) -> Result<Created, StoreFault>
+    ensures made { IfOk result (λ c. made.new ≡ is_new c) }
+    ensures err { OnErr result ((made.old ≡ false) × (made.new ≡ false)) }
+    ensures failures { Counts (S.failures store.old) (S.failures store.new) (is_err result) }
+    ensures calls { S.calls store.new ≤ S.calls store.old + 1 }
+    ensures honest { S.honest store.new ≡ S.honest store.old }
+    ensures others { IsTrue (S.honest store.old) →
+        KeepsOthers (S.contents store.old) (S.contents store.new) name.now }
+    ensures name { IsTrue (S.honest store.old) → AsksForName made.old made.new
+        (S.contents store.old name.now) (S.contents store.new name.now) }
+    ensures stood { IsTrue (S.honest store.old) →
+        IfOk result (λ c. IsFalse (is_new c) → IsSome (S.contents store.old name.now)) }
+    ensures fresh { IsTrue (S.honest store.old) → IfOk result (λ c. IsTrue (is_new c) →
+        IsFresh made.old (S.contents store.old name.now) (S.contents store.new name.now)) }
+{
+    if *made {
+        return Ok(Created::New);
+    }
+    let created = store.create(name)?;
+    *made = created == Created::New;
+    Ok(created)
+}

@@ -1,0 +1,301 @@
+//! The writes of a growing file: each leaves what its caller can still repair.
+ghost use Rattle.std.specs.Prelude.{◌≡◌, ◌≤◌, ◌<◌, ◌+◌, ◌*◌, ◌%◌, ◌^◌, ◌++◌, IsTrue, OnOk, length, is_err, flat_map, not};
+ghost use Rattle.bw_model.specs.Layout.{chunk, pad};
+ghost use Rattle.bw_model.specs.File.{cue_chunks};
+ghost use Rattle.bw_file.specs.Stores.{Counts, MayTear, KeepsOthers};
+ghost use Rattle.bw_file.specs.Headers.{PutsLast, PutsHeader, PutsOver, Updates};
+ghost use Rattle.bw_file.specs.Headings.{header_of, place_of, is_riff};
+
+use crate::field::changed_part;
+use crate::heading::Heading;
+use crate::room::Room;
+use crate::store::{StoreFault, TakeStore};
+use bw_layout::{CuePoint, patch_sizes};
+use bw_take::Name;
+
+/// Puts samples where the data end, and a pad byte where the file's length would be odd.
+pub(crate) fn put_samples<S: TakeStore>(
+    store: &mut S,
+    name: &Name,
+    place: u64,
+    samples: &[u8],
+) -> Result<(), StoreFault>
+    requires { place + length samples.now < 2 ^ 63 }
+    ensures failures { Counts (S.failures store.old) (S.failures store.new) (is_err result) }
+    ensures calls { S.calls store.new ≤ S.calls store.old + 2 }
+    ensures honest { S.honest store.new ≡ S.honest store.old }
+    ensures others { IsTrue (S.honest store.old) →
+        KeepsOthers (S.contents store.old) (S.contents store.new) name.now }
+    ensures torn { IsTrue (S.honest store.old) → MayTear (S.contents store.old name.now) place
+        (length samples.now + (place + length samples.now) % 2) (S.contents store.new name.now) }
+    ensures put { IsTrue (S.honest store.old) → OnOk result
+        (PutsLast place (samples.now ++ pad (place + length samples.now))
+        (S.contents store.old name.now) (S.contents store.new name.now)) }
+{
+    store.write_at(name, place, samples)?;
+    let end = place + samples.len() as u64;
+    if end % 2 == 1 {
+        store.write_at(name, end, &[0])?;
+    }
+    Ok(())
+}
+
+/// Puts the `cue ` chunk where the data chunk ends, if there are markers.
+pub(crate) fn put_cues<S: TakeStore>(
+    store: &mut S,
+    name: &Name,
+    room: &mut Room,
+    place: u64,
+    markers: &[CuePoint],
+) -> Result<(), StoreFault>
+    requires place { place < 2 ^ 63 }
+    requires markers { length markers.now ≤ 1024 }
+    ensures failures { Counts (S.failures store.old) (S.failures store.new) (is_err result) }
+    ensures calls { S.calls store.new ≤ S.calls store.old + 1 }
+    ensures honest { S.honest store.new ≡ S.honest store.old }
+    ensures others { IsTrue (S.honest store.old) →
+        KeepsOthers (S.contents store.old) (S.contents store.new) name.now }
+    ensures torn { IsTrue (S.honest store.old) → MayTear (S.contents store.old name.now) place
+        (length (flat_map chunk (cue_chunks markers.now))) (S.contents store.new name.now) }
+    ensures put { IsTrue (S.honest store.old) → OnOk result
+        (PutsLast place (flat_map chunk (cue_chunks markers.now))
+        (S.contents store.old name.now) (S.contents store.new name.now)) }
+{
+    if markers.is_empty() {
+        return Ok(());
+    }
+    room.build_cues(markers);
+    store.write_at(name, place, room.bytes())?;
+    Ok(())
+}
+
+/// Puts a whole header, whatever stands before the data.
+pub(crate) fn put_header<S: TakeStore>(
+    store: &mut S,
+    name: &Name,
+    room: &mut Room,
+    heading: &Heading<'_>,
+    data_len: u64,
+    cues: u64,
+) -> Result<(), StoreFault>
+    requires samples { data_len ≤ 2 ^ 62 }
+    requires cues { cues ≤ 1024 }
+    ensures failures { Counts (S.failures store.old) (S.failures store.new) (is_err result) }
+    ensures calls { S.calls store.new ≤ S.calls store.old + 1 }
+    ensures honest { S.honest store.new ≡ S.honest store.old }
+    ensures others { IsTrue (S.honest store.old) →
+        KeepsOthers (S.contents store.old) (S.contents store.new) name.now }
+    ensures torn { IsTrue (S.honest store.old) → MayTear (S.contents store.old name.now) 0
+        (place_of heading.now) (S.contents store.new name.now) }
+    ensures put { IsTrue (S.honest store.old) → OnOk result
+        (PutsHeader (header_of heading.now data_len cues)
+        (S.contents store.old name.now) (S.contents store.new name.now)) }
+    ensures first { IsTrue (S.honest store.old) → OnOk result
+        (PutsLast 0 (header_of heading.now data_len cues)
+        (S.contents store.old name.now) (S.contents store.new name.now)) }
+{
+    room.build_header(heading, data_len, cues);
+    store.write_at(name, 0, room.bytes())?;
+    Ok(())
+}
+
+/// Brings the header of a file without cue points from one length of its data to a longer one.
+///
+/// A clean file of the same kind gets its sizes alone.
+pub(crate) fn put_grown_header<S: TakeStore>(
+    is_clean: bool,
+    store: &mut S,
+    name: &Name,
+    room: &mut Room,
+    heading: &Heading<'_>,
+    before: u64,
+    after: u64,
+) -> Result<(), StoreFault>
+    requires grows { before ≤ after }
+    requires samples { after ≤ 2 ^ 62 }
+    ensures failures { Counts (S.failures store.old) (S.failures store.new) (is_err result) }
+    ensures calls { S.calls store.new ≤ S.calls store.old + 2 }
+    ensures honest { S.honest store.new ≡ S.honest store.old }
+    ensures others { IsTrue (S.honest store.old) →
+        KeepsOthers (S.contents store.old) (S.contents store.new) name.now }
+    ensures torn { IsTrue (S.honest store.old) → MayTear (S.contents store.old name.now) 0
+        (place_of heading.now) (S.contents store.new name.now) }
+    ensures put { IsTrue (S.honest store.old) → OnOk result
+        (PutsOver is_clean (header_of heading.now before 0) (header_of heading.now after 0)
+        (S.contents store.old name.now) (S.contents store.new name.now)) }
+{
+    if is_clean && heading.is_riff(before, 0) == heading.is_riff(after, 0) {
+        put_grown_sizes(store, name, heading, before, after)?;
+        return Ok(());
+    }
+    put_header(store, name, room, heading, after, 0)?;
+    Ok(())
+}
+
+/// Puts the sizes of longer data into a header that stays of its kind.
+fn put_grown_sizes<S: TakeStore>(
+    store: &mut S,
+    name: &Name,
+    heading: &Heading<'_>,
+    before: u64,
+    after: u64,
+) -> Result<(), StoreFault>
+    requires kind { is_riff heading.now before 0 ≡ is_riff heading.now after 0 }
+    requires grows { before ≤ after }
+    requires samples { after ≤ 2 ^ 62 }
+    ensures failures { Counts (S.failures store.old) (S.failures store.new) (is_err result) }
+    ensures calls { S.calls store.new ≤ S.calls store.old + 2 }
+    ensures honest { S.honest store.new ≡ S.honest store.old }
+    ensures others { IsTrue (S.honest store.old) →
+        KeepsOthers (S.contents store.old) (S.contents store.new) name.now }
+    ensures torn { IsTrue (S.honest store.old) → MayTear (S.contents store.old name.now) 0
+        (place_of heading.now) (S.contents store.new name.now) }
+    ensures put { IsTrue (S.honest store.old) → OnOk result
+        (Updates (header_of heading.now before 0) (header_of heading.now after 0)
+        (S.contents store.old name.now) (S.contents store.new name.now)) }
+{
+    let form = heading.form_size(after, 0);
+    if form <= heading.limit.bytes() {
+        store.write_at(name, 4, &(form as u32).to_le_bytes())?;
+        store.write_at(
+            name,
+            heading.data_place() - 4,
+            &(after as u32).to_le_bytes(),
+        )?;
+        return Ok(());
+    }
+    store.write_at(name, 20, &patch_sizes(form, after))?;
+    Ok(())
+}
+
+/// Brings the header of a file to the cue points behind its data.
+///
+/// A clean file of the same kind gets its form size alone, and without cue points nothing.
+pub(crate) fn put_closed_header<S: TakeStore>(
+    is_clean: bool,
+    store: &mut S,
+    name: &Name,
+    room: &mut Room,
+    heading: &Heading<'_>,
+    data_len: u64,
+    cues: u64,
+) -> Result<(), StoreFault>
+    requires samples { data_len ≤ 2 ^ 62 }
+    requires cues { cues ≤ 1024 }
+    ensures failures { Counts (S.failures store.old) (S.failures store.new) (is_err result) }
+    ensures calls { S.calls store.new ≤ S.calls store.old + 1 }
+    ensures honest { S.honest store.new ≡ S.honest store.old }
+    ensures others { IsTrue (S.honest store.old) →
+        KeepsOthers (S.contents store.old) (S.contents store.new) name.now }
+    ensures torn { IsTrue (S.honest store.old) → MayTear (S.contents store.old name.now) 0
+        (place_of heading.now) (S.contents store.new name.now) }
+    ensures put { IsTrue (S.honest store.old) → OnOk result
+        (PutsOver is_clean (header_of heading.now data_len 0) (header_of heading.now data_len cues)
+        (S.contents store.old name.now) (S.contents store.new name.now)) }
+{
+    if is_clean && heading.is_riff(data_len, 0) == heading.is_riff(data_len, cues) {
+        put_closed_size(store, name, heading, data_len, cues)?;
+        return Ok(());
+    }
+    put_header(store, name, room, heading, data_len, cues)?;
+    Ok(())
+}
+
+/// Puts the form size with cue points into a header that stays of its kind.
+fn put_closed_size<S: TakeStore>(
+    store: &mut S,
+    name: &Name,
+    heading: &Heading<'_>,
+    data_len: u64,
+    cues: u64,
+) -> Result<(), StoreFault>
+    requires kind { is_riff heading.now data_len 0 ≡ is_riff heading.now data_len cues }
+    requires samples { data_len ≤ 2 ^ 62 }
+    requires cues { cues ≤ 1024 }
+    ensures failures { Counts (S.failures store.old) (S.failures store.new) (is_err result) }
+    ensures calls { S.calls store.new ≤ S.calls store.old + 1 }
+    ensures honest { S.honest store.new ≡ S.honest store.old }
+    ensures others { IsTrue (S.honest store.old) →
+        KeepsOthers (S.contents store.old) (S.contents store.new) name.now }
+    ensures torn { IsTrue (S.honest store.old) → MayTear (S.contents store.old name.now) 0
+        (place_of heading.now) (S.contents store.new name.now) }
+    ensures put { IsTrue (S.honest store.old) → OnOk result
+        (Updates (header_of heading.now data_len 0) (header_of heading.now data_len cues)
+        (S.contents store.old name.now) (S.contents store.new name.now)) }
+{
+    if cues == 0 {
+        return Ok(());
+    }
+    let form = heading.form_size(data_len, cues);
+    if form <= heading.limit.bytes() {
+        store.write_at(name, 4, &(form as u32).to_le_bytes())?;
+        return Ok(());
+    }
+    store.write_at(name, 20, &form.to_le_bytes())?;
+    Ok(())
+}
+
+/// Brings the header of a file without cue points to a heading with another `bext`.
+///
+/// A clean file gets the changed field alone.
+pub(crate) fn put_retouched_header<S: TakeStore>(
+    is_clean: bool,
+    store: &mut S,
+    name: &Name,
+    room: &mut Room,
+    heading: &Heading<'_>,
+    retouched: &Heading<'_>,
+    data_len: u64,
+) -> Result<(), StoreFault>
+    requires place { place_of retouched.now ≡ place_of heading.now }
+    requires samples { data_len ≤ 2 ^ 62 }
+    ensures failures { Counts (S.failures store.old) (S.failures store.new) (is_err result) }
+    ensures calls { S.calls store.new ≤ S.calls store.old + 1 }
+    ensures honest { S.honest store.new ≡ S.honest store.old }
+    ensures others { IsTrue (S.honest store.old) →
+        KeepsOthers (S.contents store.old) (S.contents store.new) name.now }
+    ensures torn { IsTrue (S.honest store.old) → MayTear (S.contents store.old name.now) 0
+        (place_of heading.now) (S.contents store.new name.now) }
+    ensures put { IsTrue (S.honest store.old) → OnOk result
+        (PutsOver is_clean (header_of heading.now data_len 0) (header_of retouched.now data_len 0)
+        (S.contents store.old name.now) (S.contents store.new name.now)) }
+{
+    if is_clean {
+        put_field(store, name, room, heading, retouched, data_len)?;
+        return Ok(());
+    }
+    put_header(store, name, room, retouched, data_len, 0)?;
+    Ok(())
+}
+
+/// Puts the part of a header that another `bext` changes, if it changes any.
+fn put_field<S: TakeStore>(
+    store: &mut S,
+    name: &Name,
+    room: &mut Room,
+    heading: &Heading<'_>,
+    retouched: &Heading<'_>,
+    data_len: u64,
+) -> Result<(), StoreFault>
+    requires place { place_of retouched.now ≡ place_of heading.now }
+    requires samples { data_len ≤ 2 ^ 62 }
+    ensures failures { Counts (S.failures store.old) (S.failures store.new) (is_err result) }
+    ensures calls { S.calls store.new ≤ S.calls store.old + 1 }
+    ensures honest { S.honest store.new ≡ S.honest store.old }
+    ensures others { IsTrue (S.honest store.old) →
+        KeepsOthers (S.contents store.old) (S.contents store.new) name.now }
+    ensures torn { IsTrue (S.honest store.old) → MayTear (S.contents store.old name.now) 0
+        (place_of heading.now) (S.contents store.new name.now) }
+    ensures put { IsTrue (S.honest store.old) → OnOk result
+        (Updates (header_of heading.now data_len 0) (header_of retouched.now data_len 0)
+        (S.contents store.old name.now) (S.contents store.new name.now)) }
+{
+    room.build_headers(heading, retouched, data_len);
+    let (before, after) = room.bytes().split_at(heading.data_place() as usize);
+    if before == after {
+        return Ok(());
+    }
+    let (from, to) = changed_part(before, after);
+    store.write_at(name, from as u64, &after[from..to])?;
+    Ok(())
+}
