@@ -1,6 +1,5 @@
 pub mod AroundBext
 pub mod BextParts
-pub mod FieldLemmas
 pub mod FieldPlaces
 pub mod FieldsBack
 pub mod Forms

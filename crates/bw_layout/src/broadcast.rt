@@ -12,9 +12,9 @@ use crate::room::{push_bytes, push_u16};
 use std::alloc::{AllocError, Global};
 use std::marker::Model;
 
-/// The fields of `bext` that a take can set, by tag from 1 on: Description, Originator, OriginatorReference,
-/// OriginationDate, OriginationTime, TimeReference, UMID, LoudnessValue, LoudnessRange, MaxTruePeakLevel,
-/// MaxMomentaryLoudness, MaxShortTermLoudness.
+/// The fields of `bext` that a take can set, by tag from 1 on: Description, Originator,
+/// OriginatorReference, OriginationDate, OriginationTime, TimeReference, UMID, LoudnessValue,
+/// LoudnessRange, MaxTruePeakLevel, MaxMomentaryLoudness, MaxShortTermLoudness.
 #[derive(Debug, Drop)]
 pub struct Bext {
     description: [u8; 256],
@@ -36,7 +36,9 @@ impl Model for Bext {
 
     ghost Value = { List (List ℕ) };
 
-    ghost view = { λ b. b.description ∷ b.originator ∷ b.reference ∷ b.date ∷ b.time ∷ b.time_reference ∷ b.umid ∷ b.loudness_value ∷ b.loudness_range ∷ b.max_true_peak ∷ b.max_momentary ∷ b.max_short_term ∷ [] };
+    ghost view = { λ b.
+        b.description ∷ b.originator ∷ b.reference ∷ b.date ∷ b.time ∷ b.time_reference ∷ b.umid
+        ∷ b.loudness_value ∷ b.loudness_range ∷ b.max_true_peak ∷ b.max_momentary ∷ b.max_short_term ∷ [] };
 }
 
 impl Bext {
@@ -81,8 +83,9 @@ impl Bext {
         }
     }
 
-    /// Sets a field, in the form in which EBU Tech 3285 has it in the file: bytes of text, for the time reference and
-    /// the loudness little-endian numbers.
+    /// Sets a field to a value in the form that it has in the file: a text, the bytes of the UMID, or a number,
+    /// the lowest byte first (the time reference counts samples since midnight, a loudness is signed and
+    /// 100 times the value). An empty value takes the field back, but for the time reference.
     ///
     /// # Errors
     /// The first of Tag, Length and Text that holds.
@@ -140,7 +143,8 @@ pub fn put_bext(
     history: &[u8],
 ) -> Result<(), AllocError>
     requires { length history.now ≤ 4096 }
-    ensures { Appends (bext_fixed bext.now ++ history.now) (602 + length history.now) result out.old out.new }
+    ensures { let bytes = bext_fixed bext.now ++ history.now in
+        Appends bytes (602 + length history.now) result out.old out.new }
 {
     out.reserve(602 + history.len())?;
     push_bext(out, bext);
@@ -178,7 +182,8 @@ fn push_texts(out: &mut Vec<u8>, bext: &Bext)
 #[tactic(auto, using(std::proofs::lemmas::List::append_assoc))]
 fn push_loudness(out: &mut Vec<u8>, bext: &Bext)
     requires { vec_len out.old + 10 ≤ vec_capacity out.old }
-    ensures { Gains (if is_version_1 bext.now then zeros 10 else concat (drop 7 bext.now)) 10 out.old out.new }
+    ensures { let bytes = (if is_version_1 bext.now then zeros 10 else concat (drop 7 bext.now)) in
+        Gains bytes 10 out.old out.new }
 {
     if bext.is_version_1() {
         push_bytes(out, &[0; 10]);

@@ -16,7 +16,8 @@ use std::alloc::{AllocError, Global};
 /// What stands for a 32-bit size that `ds64` tells (ITU-R BS.2088).
 const UNSAID: u32 = 0xffff_ffff;
 
-/// The form size of a take's file, by the lengths of its coding history and its data and its number of cue points.
+/// The form size of a take's file, by the lengths in bytes of its coding history and its data, and by its
+/// number of cue points.
 ///
 /// The file is 8 bytes longer.
 pub fn form_size(history_len: u64, data_len: u64, cues: u64) -> u64
@@ -48,7 +49,8 @@ pub fn header(
     requires history { length history.now ≤ 4096 }
     requires samples { data_len ≤ 2 ^ 62 }
     requires cues { cues ≤ 1024 }
-    ensures { Appends (header_of fmt.now bext.now history.now data_len cues limit) (data_place (length history.now)) result out.old out.new }
+    ensures { let bytes = header_of fmt.now bext.now history.now data_len cues limit in
+        Appends bytes (data_place (length history.now)) result out.old out.new }
 {
     out.reserve(690 + history.len() + history.len() % 2)?;
     let form = form_size(history.len() as u64, data_len, cues);
@@ -65,7 +67,8 @@ pub fn header(
 fn push_riff(out: &mut Vec<u8>, fmt: &Fmt, bext: &Bext, history: &[u8], form: u32, data_len: u32)
     requires history { length history.now ≤ 4096 }
     requires room { vec_len out.old + data_place (length history.now) ≤ vec_capacity out.old }
-    ensures { Gains (riff_header fmt.now bext.now history.now form data_len) (data_place (length history.now)) out.old out.new }
+    ensures { let bytes = riff_header fmt.now bext.now history.now form data_len in
+        Gains bytes (data_place (length history.now)) out.old out.new }
 {
     push_head(out, ChunkId(*b"RIFF"), form);
     push_bytes(out, b"WAVE");
@@ -79,7 +82,8 @@ fn push_riff(out: &mut Vec<u8>, fmt: &Fmt, bext: &Bext, history: &[u8], form: u3
 fn push_bw64(out: &mut Vec<u8>, fmt: &Fmt, bext: &Bext, history: &[u8], form: u64, data_len: u64)
     requires history { length history.now ≤ 4096 }
     requires room { vec_len out.old + data_place (length history.now) ≤ vec_capacity out.old }
-    ensures { Gains (bw64_header fmt.now bext.now history.now form data_len) (data_place (length history.now)) out.old out.new }
+    ensures { let bytes = bw64_header fmt.now bext.now history.now form data_len in
+        Gains bytes (data_place (length history.now)) out.old out.new }
 {
     push_head(out, ChunkId(*b"BW64"), UNSAID);
     push_bytes(out, b"WAVE");
@@ -115,7 +119,8 @@ fn push_ds64(out: &mut Vec<u8>, form: u64, data_len: u64)
 fn push_middle(out: &mut Vec<u8>, fmt: &Fmt, bext: &Bext, history: &[u8])
     requires history { length history.now ≤ 4096 }
     requires room { vec_len out.old + 634 + even_up (length history.now) ≤ vec_capacity out.old }
-    ensures { Gains (middle fmt.now bext.now history.now) (634 + even_up (length history.now)) out.old out.new }
+    ensures { let bytes = middle fmt.now bext.now history.now in
+        Gains bytes (634 + even_up (length history.now)) out.old out.new }
 {
     push_fmt_chunk(out, fmt);
     push_bext_chunk(out, bext, history);
@@ -134,7 +139,8 @@ fn push_fmt_chunk(out: &mut Vec<u8>, fmt: &Fmt)
 fn push_bext_chunk(out: &mut Vec<u8>, bext: &Bext, history: &[u8])
     requires history { length history.now ≤ 4096 }
     requires room { vec_len out.old + 610 + even_up (length history.now) ≤ vec_capacity out.old }
-    ensures { Gains (chunk (bext_chunk bext.now history.now)) (610 + even_up (length history.now)) out.old out.new }
+    ensures { let bytes = chunk (bext_chunk bext.now history.now) in
+        Gains bytes (610 + even_up (length history.now)) out.old out.new }
 {
     let size = 602 + history.len();
     push_head(out, ChunkId(*b"bext"), size as u32);

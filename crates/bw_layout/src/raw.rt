@@ -27,12 +27,26 @@ impl Model for RawFmt {
 
     ghost Value = { FmtReading };
 
-    ghost view = { λ f. record { tag = f.tag; channels = f.channels; rate = f.rate; bytes_per_second = f.bytes_per_second; align = f.align; bits = f.bits } };
+    ghost view = { λ f. record {
+      tag = f.tag;
+      channels = f.channels;
+      rate = f.rate;
+      bytes_per_second = f.bytes_per_second;
+      align = f.align;
+      bits = f.bits;
+    } };
 
-    ghost inverse = { λ v. record { tag = v.tag; channels = v.channels; rate = v.rate; bytes_per_second = v.bytes_per_second; align = v.align; bits = v.bits } };
+    ghost inverse = { λ v. record {
+      tag = v.tag;
+      channels = v.channels;
+      rate = v.rate;
+      bytes_per_second = v.bytes_per_second;
+      align = v.align;
+      bits = v.bits;
+    } };
 }
 
-/// The loudness of a `bext` chunk from version 2 on: signed 16-bit numbers as they stand, each 100 times the value;
+/// The loudness of a `bext` chunk from version 2 on: the 16 bits of a signed number, 100 times the value, each;
 /// 7FFFh means not given.
 #[derive(Clone, Copy, Debug, PartialEq, Eq)]
 pub struct Loudness {
@@ -50,7 +64,13 @@ impl Model for Loudness {
 
     ghost view = { λ l. l.value ∷ l.range ∷ l.max_true_peak ∷ l.max_momentary ∷ l.max_short_term ∷ [] };
 
-    ghost inverse = { λ v. record { value = slice_index v 0; range = slice_index v 1; max_true_peak = slice_index v 2; max_momentary = slice_index v 3; max_short_term = slice_index v 4 } };
+    ghost inverse = { λ v. record {
+      value = slice_index v 0;
+      range = slice_index v 1;
+      max_true_peak = slice_index v 2;
+      max_momentary = slice_index v 3;
+      max_short_term = slice_index v 4;
+    } };
 }
 
 /// A `bext` chunk but for its coding history (EBU Tech 3285): the texts are whole fields.
@@ -76,7 +96,18 @@ impl Model for RawBext {
 
     ghost Value = { BextReading × List ℕ };
 
-    ghost view = { λ b. (record { texts = b.description ∷ b.originator ∷ b.originator_reference ∷ b.origination_date ∷ b.origination_time ∷ []; time = b.time_reference; version = b.version; umid = b.umid; loudness = unwrap_or b.loudness [] }, b.reserved) };
+    ghost view = { λ b. (
+      record {
+        texts =
+            b.description ∷ b.originator ∷ b.originator_reference ∷ b.origination_date
+            ∷ b.origination_time ∷ [];
+        time = b.time_reference;
+        version = b.version;
+        umid = b.umid;
+        loudness = unwrap_or b.loudness [];
+      },
+      b.reserved,
+    ) };
 }
 
 /// A cue point (RIFF, chapter 3, "cue").

@@ -72,9 +72,11 @@ impl Model for Ds64Fixed {
 
     ghost Value = { Fixed };
 
-    ghost view = { λ d. record { form = d.form; data_size = d.data_size; table_len = d.table_len } };
+    ghost view = { λ d.
+        record { form = d.form; data_size = d.data_size; table_len = d.table_len } };
 
-    ghost inverse = { λ v. record { form = v.form; data_size = v.data_size; table_len = v.table_len } };
+    ghost inverse = { λ v.
+        record { form = v.form; data_size = v.data_size; table_len = v.table_len } };
 }
 
 /// Appends the content of a `ds64` chunk.
@@ -84,7 +86,9 @@ impl Model for Ds64Fixed {
 #[tactic(auto, using(std::proofs::lemmas::List::append_assoc), unfolding(crate::specs::Tables::ds64_with_table))]
 pub fn put_ds64(_alloc: Global, out: &mut Vec<u8>, sizes: &Ds64) -> Result<(), AllocError>
     requires { length sizes.now.table ≤ 4096 }
-    ensures { Appends (ds64_with_table sizes.now.form sizes.now.data_size sizes.now.table) (28 + 12 * length sizes.now.table) result out.old out.new }
+    ensures { let table = sizes.now.table in
+        let bytes = ds64_with_table sizes.now.form sizes.now.data_size table in
+        Appends bytes (28 + 12 * length table) result out.old out.new }
 {
     let table = sizes.table.as_slice();
     out.reserve(28 + 12 * table.len())?;
