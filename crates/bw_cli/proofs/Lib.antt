@@ -1,0 +1,11 @@
+pub mod CueLemmas
+pub mod FileLemmas
+pub mod LineLemmas
+pub mod InOrderTurns
+pub mod StreamSteps
+pub mod ExchangeSteps
+pub mod RecordingLemmas
+pub mod WithinExchange
+pub mod ReplayLemmas
+pub mod RunSteps
+pub mod TextLemmas

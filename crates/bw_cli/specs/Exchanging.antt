@@ -1,0 +1,48 @@
+-- What an exchange of a run in order tells, and what a recording keeps behind it.
+use Rattle.std.specs.Prelude.{◌≡◌, ℕ, List, IsTrue, Some, None}
+use Rattle.std.specs.List.{list_all}
+use Rattle.bw_model.specs.Wire.{Message, Says, Second}
+use Rattle.bw_model.specs.Replies.{is_reply}
+use Rattle.bw_model.specs.Stream.{End, stream_of, EndOfInput, SaidBye, BadFrame}
+use Rattle.bw_model.specs.Book.{Book}
+use Rattle.bw_model.specs.Exchange as model
+use Rattle.bw_wire.specs.Reasons.{reason_of}
+use Rattle.bw_cli.specs.InOrder.{progress_behind, progress_after}
+use Rattle.bw_cli.specs.Keeping.{progress_of, Keeps}
+use Rattle.bw_cli.specs.Runs.{nothing_stands, Told, told_of}
+use Rattle.bw_cli.specs.declared.recording.Recording.{Recording}
+use Rattle.bw_cli.specs.declared.exchange.Exchange.{Exchange}
+use Rattle.bw_cli.specs.declared.exchange.ExchangeEnd.{ExchangeEnd}
+use Rattle.bw_cli.specs.declared.exchange.ExchangeEnd.TheVariants as ends
+use Rattle.bw_cli.specs.declared.exchange.ExchangeFault.{ExchangeFault}
+use Rattle.bw_cli.specs.declared.exchange.ExchangeFault.TheVariants.{NotInOrder, Memory}
+
+abbrev pub end_of : ExchangeEnd → End
+end_of ends.Bye = SaidBye
+end_of ends.EndOfInput = EndOfInput
+end_of (ends.BadFrame reason offset) = BadFrame (reason_of reason) offset
+
+-- the exchange tells this, by replies that have spellings
+pub record Tells (e : Exchange) (t : Told) : Type 0 where
+  pub replies : e.replies.items ≡ model.replies_bytes t.replies
+  pub spelled : IsTrue (list_all is_reply t.replies)
+  pub end : end_of e.end ≡ t.end
+
+-- a fault that tells of the order is that the message isn't the run's next
+abbrev pub IsNotNext : ExchangeFault → Recording → Message → Type 0
+IsNotNext NotInOrder r m = progress_behind (progress_of r) (Says m) ≡ None
+IsNotNext Memory r m = Unit {0}
+
+-- the bytes are in order, and this is their exchange behind a run that left this book
+pub record IsExchange (old new : Recording) (input : List ℕ) (book : Book) (e : Exchange) : Type 0 where
+  pub ordered : progress_after (progress_of old) (stream_of Second input).0 ≡ Some (progress_of new)
+  pub tells : Tells e (told_of (model.exchange nothing_stands book input))
+  pub keeps : Keeps new (model.exchange nothing_stands book input).book
+
+abbrev pub Exchanges : Recording → Recording → List ℕ → Exchange → Type 0
+Exchanges old new input e = (book : Book) → Keeps old book → IsExchange old new input book e
+
+-- a fault that tells of the order is that the bytes break it
+abbrev pub Breaks : ExchangeFault → Recording → List ℕ → Type 0
+Breaks NotInOrder r input = (book : Book) → Keeps r book → progress_after (progress_of r) (stream_of Second input).0 ≡ None
+Breaks Memory r input = Unit {0}

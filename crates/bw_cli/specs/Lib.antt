@@ -1,0 +1,14 @@
+pub mod Lines
+pub mod InOrder
+pub mod Input
+pub mod Faults
+pub mod Exits
+pub mod Runs
+pub mod Text
+pub mod Recording
+pub mod Keeping
+pub mod TakeFiles
+pub mod Cutting
+pub mod Exchanging
+pub mod Running
+pub mod Replays

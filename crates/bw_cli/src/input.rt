@@ -1,0 +1,111 @@
+//! Standard input as lines of hex.
+ghost use Rattle.std.specs.Prelude.{◌≡◌, ℕ, ◌<◌, ◌≤◌, ◌^◌, ◌∷◌, List, length, map, Ok, Some, IfOk, IfErr};
+ghost use Rattle.std.specs.List.{position_or_len};
+ghost use Rattle.std.specs.Io.BufRead.{strip_last};
+ghost use Rattle.bw_cli.specs.Lines.{lines_of, decoded_from, is_line_end};
+ghost use Rattle.bw_cli.specs.Input.{spelled_by, longest_input, Exchanges};
+ghost use Rattle.bw_cli.specs.Faults.{IsLineFault, Refuses};
+
+use crate::fault::Fault;
+use hex::FromHexError;
+use std::alloc::Global;
+use std::io::{ErrorKind, Read};
+
+/// The most bytes of standard input.
+const LONGEST_INPUT: u64 = 16_777_216;
+
+/// The bytes of each exchange that an input spells, one line of hex for each.
+pub fn exchanges<R: Read + Drop>(alloc: Global, input: R) -> Result<Vec<Vec<u8>>, Fault>
+    ensures ok { IfOk result (λ found. (xs : List ℕ) → R.remaining input ≡ Some xs →
+        spelled_by xs ≡ Exchanges (map (λ x. x.items) found.items)) }
+    ensures err { IfErr result (λ fault. (xs : List ℕ) → R.remaining input ≡ Some xs →
+        Refuses fault (spelled_by xs)) }
+{
+    let bytes = all_bytes(alloc, input)?;
+    decoded_lines(alloc, bytes.as_slice())
+}
+
+/// All bytes of an input.
+fn all_bytes<R: Read + Drop>(alloc: Global, input: R) -> Result<Vec<u8>, Fault>
+    ensures within { IfOk result (λ bytes. length bytes.items ≤ longest_input) }
+    ensures ok { IfOk result (λ bytes. (xs : List ℕ) → R.remaining input ≡ Some xs → bytes.items ≡ xs) }
+    ensures err { IfErr result (λ fault. (xs : List ℕ) → R.remaining input ≡ Some xs →
+        Refuses fault (spelled_by xs)) }
+{
+    let mut bytes = Vec::new(alloc);
+    let mut reader = input.take(LONGEST_INPUT + 1);
+    if let Err(error) = reader.read_to_end(&mut bytes) {
+        return Err(match error.kind() {
+            ErrorKind::OutOfMemory => Fault::Memory,
+            _ => Fault::Unreadable,
+        });
+    }
+    if bytes.len() as u64 > LONGEST_INPUT {
+        return Err(Fault::TooLong);
+    }
+    Ok(bytes)
+}
+
+/// The bytes that each line spells.
+fn decoded_lines(alloc: Global, input: &[u8]) -> Result<Vec<Vec<u8>>, Fault>
+    requires { length input.now < 2 ^ 63 }
+    ensures ok { IfOk result (λ found. decoded_from 1 (lines_of input.now) ≡ Ok (map (λ x. x.items) found.items)) }
+    ensures err { IfErr result (λ fault. IsLineFault fault (decoded_from 1 (lines_of input.now))) }
+{
+    let mut found = Vec::new(alloc);
+    let mut rest = input;
+    let mut number = 1;
+    while !rest.is_empty() {
+        let (line, others) = first_line(rest);
+        match hex::decode(alloc, line) {
+            Ok(bytes) => {
+                let Ok(()) = found.push(bytes) else {
+                    return Err(Fault::Memory);
+                };
+            }
+            Err(FromHexError::OutOfMemory) => return Err(Fault::Memory),
+            Err(FromHexError::InvalidHexCharacter { .. }) => return Err(Fault::NotHex(number)),
+            Err(FromHexError::OddLength) => return Err(Fault::NotHex(number)),
+            Err(FromHexError::InvalidStringLength) => return Err(Fault::NotHex(number)),
+        }
+        rest = others;
+        number += 1;
+    }
+    Ok(found)
+}
+
+/// The first line of bytes, and what follows it.
+fn first_line(bytes: &[u8]) -> (&[u8], &[u8])
+    requires { 0 < length bytes.now }
+    ensures lines { lines_of bytes.now ≡ result.0.now ∷ lines_of result.1.now }
+    ensures shorter { length result.1.now < length bytes.now }
+{
+    let end = line_end(bytes);
+    if end < bytes.len() {
+        (without_return(&bytes[..end]), &bytes[end + 1..])
+    } else {
+        (bytes, &bytes[end..])
+    }
+}
+
+/// Where the first line ends: at its byte 10, or behind all bytes.
+fn line_end(bytes: &[u8]) -> usize
+    ensures value { result ≡ position_or_len is_line_end bytes.now }
+    ensures within { result ≤ length bytes.now }
+{
+    let mut end = 0;
+    while end < bytes.len() && bytes[end] != b'\n' {
+        end += 1;
+    }
+    end
+}
+
+/// A line without the byte 13 at its end.
+fn without_return(line: &[u8]) -> &[u8]
+    ensures { result.now ≡ strip_last 13 line.now }
+{
+    match line {
+        [front @ .., b'\r'] => front,
+        _ => line,
+    }
+}
