@@ -1,10 +1,13 @@
 -- The forms of `replay`, at a limit that is not known.
-use Rattle.std.proofs.Common.{◌≡◌, ℕ, List, [], ◌∷◌, ◌++◌, Bool, true, false, ◌==◌, ◌<◌, codes, refl, ap, subst, sym, ◌∙◌, arith, Option, Some, None}
+use Rattle.std.proofs.Common.{◌≡◌, ℕ, List, [], ◌∷◌, ◌++◌, Bool, true, false, ◌==◌, ◌<◌, codes, refl, ap, subst, sym, ◌∙◌, arith, Option, Some, None, inl, inr}
 use Rattle.std.specs.Char.{digit_value}
 use Rattle.std.proofs.lemmas.Bool.{eqb-true}
-use Rattle.clap.specs.Words.{Row, Text, first_of}
+use Rattle.clap.specs.declared.error.ErrorKind.{ErrorKind}
+use Rattle.clap.specs.declared.error.ErrorKind.TheVariants.{DisplayHelp, DisplayVersion, MissingSubcommand}
+use Rattle.clap.specs.Words.{IsAmong, Row, Text, fault_of, first_of, kind_of}
 use Rattle.clap.proofs.OnLiterals.{clap_on_literals}
-use Rattle.bw_args.specs.Lines.{AsksFor, GivesLimit, IsLineOf, IsTaskOf, RunsReplay}
+use Rattle.bw_args.specs.Commands.{command_line}
+use Rattle.bw_args.specs.Lines.{AsksFor, GivesLimit, IsLineOf, IsTaskOf, IsToldAs, RunsReplay, TellsHelp}
 use Rattle.bw_args.specs.Numbers.{IsLimitText, default_limit, number_in}
 use Rattle.bw_args.specs.declared.CommandLine.{CommandLine}
 use Rattle.bw_args.specs.declared.CommandLine.TheVariants.{Run, Tell}
@@ -60,4 +63,32 @@ runs_replay words line is = record {
       runs words line _ is (subst (λ w. AsksFor w (Replay (number_in text))) (sym e) (apart_asks program text given));
   joined = λ program text given e.
       runs words line _ is (subst (λ w. AsksFor w (Replay (number_in text))) (sym e) (joined_asks program text given));
+}
+
+-- words with a fault of one kind tell it
+tells : (kind : ErrorKind) (words : List Text) (line : CommandLine) → fault_of command_line words ≡ kind ∷ []
+    → IsLineOf words line → IsToldAs kind line
+tells kind words (Run task) fault is = let bad : kind ∷ [] ≡ [] = sym fault ∙ is.taken in cc
+tells kind words (Tell error) fault is = elim is.reason [
+  | inl among ↦ elim (subst (IsAmong (kind_of error)) fault among) [ inl same ↦ same | inr none ↦ absurd none ]
+  | inr value ↦ let bad : kind ∷ [] ≡ [] = sym fault ∙ value.0 in cc
+]
+
+help_fault : (program : Text) → fault_of command_line (program ∷ codes "--help" ∷ []) ≡ DisplayHelp ∷ []
+unfolding clap_on_literals
+help_fault program = refl
+
+version_fault : (program : Text) → fault_of command_line (program ∷ codes "--version" ∷ []) ≡ DisplayVersion ∷ []
+unfolding clap_on_literals
+version_fault program = refl
+
+bare_fault : (program : Text) → fault_of command_line (program ∷ []) ≡ MissingSubcommand ∷ []
+unfolding clap_on_literals
+bare_fault program = refl
+
+pub tells_help : (words : List Text) (line : CommandLine) → IsLineOf words line → TellsHelp words line
+tells_help words line is = record {
+  help = λ program e. tells DisplayHelp words line (ap (fault_of command_line) e ∙ help_fault program) is;
+  version = λ program e. tells DisplayVersion words line (ap (fault_of command_line) e ∙ version_fault program) is;
+  bare = λ program e. tells MissingSubcommand words line (ap (fault_of command_line) e ∙ bare_fault program) is;
 }

@@ -31,6 +31,7 @@ told_line a words error is kinds known =
       | inl memory ↦ absurd (known memory)
       | inr among ↦ record {
         asks_nothing = λ task asks. subst (IsAmong (kind_of error)) asks.taken among;
+        not_memory = known;
         reason = inl among;
       }
     ]
@@ -62,6 +63,7 @@ pub bad_value_line : (a : App) (words : List Text) (command : Option (Text × Li
     → IsAsked command None → kind_of error ≡ ValueValidation → IsToldOf words (kind_of error)
 bad_value_line a words command error is free found none kind = record {
   asks_nothing = λ task asks. none task (subst (λ o. IsTaskOf o task) (sym (same_command a words command is found)) asks.asked);
+  not_memory = λ memory. cc;
   reason = inr (no_fault a words is free, kind);
 }
 

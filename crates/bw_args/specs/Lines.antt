@@ -1,12 +1,12 @@
 -- What a command line asks for.
-use Rattle.std.specs.Prelude.{◌≡◌, ◌⊎◌, ⊤, ℕ, List, [], ◌∷◌, ◌++◌, Option, Some, None, codes}
+use Rattle.std.specs.Prelude.{◌≡◌, ◌≢◌, ◌⊎◌, ⊤, ℕ, List, [], ◌∷◌, ◌++◌, Option, Some, None, codes}
 use Rattle.clap.specs.Walk.{Row, Text, first_of}
 use Rattle.clap.specs.Simple.{subcommand_of}
 use Rattle.clap.specs.Faults.{fault_of}
 use Rattle.clap.specs.Kinds.{IsAmong}
 use Rattle.clap.specs.Values.{kind_of}
 use Rattle.clap.specs.declared.error.ErrorKind.{ErrorKind}
-use Rattle.clap.specs.declared.error.ErrorKind.TheVariants.{ValueValidation}
+use Rattle.clap.specs.declared.error.ErrorKind.TheVariants.{DisplayHelp, DisplayVersion, MissingSubcommand, OutOfMemory, ValueValidation}
 use Rattle.bw_args.specs.Numbers.{IsLimit, IsLimitText, default_limit, number_in}
 use Rattle.bw_args.specs.Commands.{command_line}
 use Rattle.bw_args.specs.declared.CommandLine.{CommandLine}
@@ -40,9 +40,10 @@ pub record AsksFor (words : List Text) (task : Task) : Type 0 where
   pub taken : fault_of command_line words ≡ []
   pub asked : IsTaskOf (subcommand_of command_line words) task
 
--- the words ask for nothing, by `clap`'s walk over them or by a value
+-- the words ask for nothing, by `clap`'s walk over them or by a value; want of memory is never told
 pub record IsToldOf (words : List Text) (kind : ErrorKind) : Type 0 where
   pub asks_nothing : (task : Task) → ¬ AsksFor words task
+  pub not_memory : kind ≢ OutOfMemory
   pub reason : IsAmong kind (fault_of command_line words)
       ⊎ ((fault_of command_line words ≡ []) × (kind ≡ ValueValidation))
 
@@ -51,7 +52,7 @@ abbrev pub IsLineOf : List Text → CommandLine → Type 0
 IsLineOf words (Run task) = AsksFor words task
 IsLineOf words (Tell error) = IsToldOf words (kind_of error)
 
--- a limit of its task is one
+-- where a task runs, its limit is one
 abbrev pub HasLimit : CommandLine → Type 0
 HasLimit (Run (Replay limit)) = IsLimit limit
 HasLimit (Tell error) = ⊤
@@ -66,3 +67,15 @@ pub record RunsReplay (words : List Text) (line : CommandLine) : Type 0 where
   pub joined : (program text : Text) → IsLimitText text
       → words ≡ program ∷ codes "replay" ∷ (codes "--limit=" ++ text) ∷ []
       → line ≡ Run (Replay (number_in text))
+
+-- the line tells an error of this kind
+abbrev pub IsToldAs : ErrorKind → CommandLine → Type 0
+IsToldAs kind (Run task) = ⊥
+IsToldAs kind (Tell error) = kind_of error ≡ kind
+
+-- `--help` and `--version` are answered, and no command at all is a fault, whatever the program's name
+pub record TellsHelp (words : List Text) (line : CommandLine) : Type 0 where
+  pub help : (program : Text) → words ≡ program ∷ codes "--help" ∷ [] → IsToldAs DisplayHelp line
+  pub version : (program : Text) → words ≡ program ∷ codes "--version" ∷ []
+      → IsToldAs DisplayVersion line
+  pub bare : (program : Text) → words ≡ program ∷ [] → IsToldAs MissingSubcommand line

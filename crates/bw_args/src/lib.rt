@@ -3,7 +3,7 @@
 
 ghost use Rattle.std.specs.Prelude.{◌≡◌, ◌↔◌, map, IfOk, IsErr, string_bytes};
 ghost use Rattle.clap.specs.Words.{kind_of};
-ghost use Rattle.bw_args.specs.Lines.{HasLimit, IsLineOf, RunsReplay};
+ghost use Rattle.bw_args.specs.Lines.{HasLimit, IsLineOf, RunsReplay, TellsHelp};
 
 mod commands;
 pub mod numbers;
@@ -33,8 +33,10 @@ pub enum CommandLine {
 
 /// Reads a command line, of which the first word is the program's own name.
 ///
-/// The clause `line` says in the terms of `clap` which words run a task and of what kind an error
-/// is. That no words but those of `replay` below run one, and what the texts say, is only tested.
+/// Which words run a task, and of what kind an error is, is `clap`'s own account of its walk over
+/// them (`line`). In plain terms the contract says of three forms that they run (`replay`) and of
+/// three what they tell (`help`); that all others but `--` at the end are refused is tested by
+/// examples. Nothing is claimed of what the texts say and where they go.
 ///
 /// # Errors
 /// `AllocError` where memory was refused.
@@ -42,6 +44,7 @@ pub fn parse(alloc: Global, words: &[String]) -> Result<CommandLine, AllocError>
     ensures line { IfOk result (IsLineOf (map string_bytes words.now)) }
     ensures limit { IfOk result HasLimit }
     ensures replay { IfOk result (RunsReplay (map string_bytes words.now)) }
+    ensures help { IfOk result (TellsHelp (map string_bytes words.now)) }
 {
     let mut command = commands::bwingest(alloc)?;
     let matches = match command.try_get_matches_from_mut(words) {

@@ -1,6 +1,6 @@
 use Rattle.std.proofs.lemmas.Result.{IfOk-weaker}
 use Rattle.bw_args.proofs.Asked.{asked_limit}
-use Rattle.bw_args.proofs.FormLemmas.{runs_replay}
+use Rattle.bw_args.proofs.FormLemmas.{runs_replay, tells_help}
 use Rattle.bw_args.proofs.LineLemmas.{asked_line, bad_value_line, told_line, told_result}
 use Rattle.bw_args.proofs.parse.Goals as goal
 
@@ -29,3 +29,12 @@ returns-in-Some-clause-replay c = runs_replay _ _ (returns-in-Some-clause-line c
 
 pub returns-clause-replay : goal.returns-clause-replay
 returns-clause-replay c = runs_replay _ _ (returns-clause-line c)
+
+pub returns-in-Err-clause-help : goal.returns-in-Err-clause-help
+returns-in-Err-clause-help c = IfOk-weaker c.told.result _ _ (tells_help _) (returns-in-Err-clause-line c)
+
+pub returns-in-Some-clause-help : goal.returns-in-Some-clause-help
+returns-in-Some-clause-help c = tells_help _ _ (returns-in-Some-clause-line c)
+
+pub returns-clause-help : goal.returns-clause-help
+returns-clause-help c = tells_help _ _ (returns-clause-line c)
