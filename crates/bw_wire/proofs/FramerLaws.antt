@@ -1,5 +1,5 @@
 -- What each front of a framer's bytes makes it tell and keep.
-use Rattle.std.proofs.Common.{◌≡◌, ◌≢◌, ℕ, ◌+◌, ◌-◌, ◌≤◌, List, [], ◌∷◌, length, Some, Result, Ok, Err, refl, ap, ◌∙◌, arith}
+use Rattle.std.proofs.Common.{◌≡◌, ◌≢◌, ℕ, ◌+◌, ◌-◌, ◌≤◌, List, [], ◌∷◌, length, Some, Result, Ok, Err, refl, ap, ◌∙◌, arith, ◌⊎◌, inl, inr}
 use Rattle.bw_model.specs.Wire.{Second, Message, Frame, Says, Asks, Bye, Reason, Length, Kind, Name, Number, Payload, Cut}
 use Rattle.bw_model.specs.Stream.{first_frame}
 use Rattle.bw_wire.specs.Pending.{Phase, Reading, Left, Failed, Pending, Nothing, Gives, Fails, took, settled, ended, after_first, after_in, after, cut_at, end_in, end_fault}
@@ -47,3 +47,12 @@ end-cut p e some = ap (λ (h : Phase). end_in h p) e ∙ cut p.bytes some
     cut : (bytes : List ℕ) → 1 ≤ length bytes → cut_at bytes p.used ≡ Some (Cut, p.used)
     cut [] some = absurd (omega arith)
     cut (b ∷ bs) some = refl
+
+-- a reason is Cut, or another
+pub cut_or_not : (reason : Reason) → (reason ≡ Cut) ⊎ (reason ≢ Cut)
+cut_or_not Length = inr (λ e. cc)
+cut_or_not Kind = inr (λ e. cc)
+cut_or_not Name = inr (λ e. cc)
+cut_or_not Number = inr (λ e. cc)
+cut_or_not Payload = inr (λ e. cc)
+cut_or_not Cut = inl refl

@@ -69,7 +69,8 @@ bye_steps items rest start used fed len phase e gone front =
     (subst (λ (n : ℕ). Steps p (ended p (used + n) Left) (Gives Bye)) (used_up (drop start items) len front.whole)
     (steps p (ended p (used + (length (drop start items) - length more)) Left) (Gives Bye) (after-bye p more (ap phase_of e) front.first) (omega arith)))
 
-took_front : (items : List ℕ) (start used fed len : ℕ) (phase : Phase) → 4 + len ≤ length (drop start items)
+-- a framer that took a whole frame
+pub took_front : (items : List ℕ) (start used fed len : ℕ) (phase : Phase) → 4 + len ≤ length (drop start items)
     → took (pending_of items start used fed phase) (drop (4 + len) (drop start items)) ≡ pending_of items (start + 4 + len) (used + (4 + len)) fed phase
 took_front items start used fed len phase whole =
     let place : start + (4 + len) ≡ start + 4 + len = omega arith in

@@ -77,16 +77,16 @@ ask_front bytes len body h spells e =
           (sym (ask_body (body_at_front len bytes) spelled).read);
     }
 
--- what isn't whole yet is short
-pub partial_is_short : (bytes : List ℕ) → first_that_holds (framing_faults longest_body bytes) ≡ Some Cut → length bytes ≤ 32809
-partial_is_short bytes e = go (nat_lt (length bytes) 4) refl ((u32_at bytes 0 == 0) || nat_lt longest_body (u32_at bytes 0)) refl (nat_lt (length bytes) (4 + u32_at bytes 0)) refl e
+-- what isn't whole yet is shorter than the longest body behind its length
+pub partial_is_short : (longest : ℕ) (bytes : List ℕ) → first_that_holds (framing_faults longest bytes) ≡ Some Cut → length bytes ≤ longest + 3
+partial_is_short longest bytes e = go (nat_lt (length bytes) 4) refl ((u32_at bytes 0 == 0) || nat_lt longest (u32_at bytes 0)) refl (nat_lt (length bytes) (4 + u32_at bytes 0)) refl e
   where
-    go : (a : Bool) → nat_lt (length bytes) 4 ≡ a → (b : Bool) → ((u32_at bytes 0 == 0) || nat_lt longest_body (u32_at bytes 0)) ≡ b → (c : Bool) → nat_lt (length bytes) (4 + u32_at bytes 0) ≡ c
-        → first_that_holds ((a, Cut) ∷ (b, Length) ∷ (c, Cut) ∷ []) ≡ Some Cut → length bytes ≤ 32809
+    go : (a : Bool) → nat_lt (length bytes) 4 ≡ a → (b : Bool) → ((u32_at bytes 0 == 0) || nat_lt longest (u32_at bytes 0)) ≡ b → (c : Bool) → nat_lt (length bytes) (4 + u32_at bytes 0) ≡ c
+        → first_that_holds ((a, Cut) ∷ (b, Length) ∷ (c, Cut) ∷ []) ≡ Some Cut → length bytes ≤ longest + 3
     go true ea b eb c ec e = let h : length bytes < 4 = ltb-true _ _ ea in omega arith
     go false ea true eb c ec e = absurd cc
     go false ea false eb true ec e =
-        let most : u32_at bytes 0 ≤ longest_body = ltb-false _ _ (or_parts (u32_at bytes 0 == 0) (nat_lt longest_body (u32_at bytes 0)) eb).1 in
+        let most : u32_at bytes 0 ≤ longest = ltb-false _ _ (or_parts (u32_at bytes 0 == 0) (nat_lt longest (u32_at bytes 0)) eb).1 in
         let cut : length bytes < 4 + u32_at bytes 0 = ltb-true _ _ ec in
         omega arith
     go false ea false eb false ec e = absurd cc

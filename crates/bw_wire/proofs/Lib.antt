@@ -5,3 +5,7 @@ pub mod ReplyDecoding
 pub mod Fronts
 pub mod FramerLaws
 pub mod FramerSteps
+pub mod ReplyFronts
+pub mod ReplySteps
+pub mod RunLaws
+pub mod ReplyRunLaws

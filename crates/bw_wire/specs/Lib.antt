@@ -6,6 +6,8 @@ pub mod Notices
 pub mod Replies
 pub mod Encoded
 pub mod Fronts
+pub mod ReplyFronts
 pub mod Pending
 pub mod Phases
 pub mod Telling
+pub mod Runs

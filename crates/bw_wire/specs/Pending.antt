@@ -1,7 +1,8 @@
 -- What a framer keeps of a stream, what it tells next, and what it then keeps.
 use Rattle.std.specs.Prelude.{ℕ, ◌+◌, ◌-◌, ◌≤◌, Option, Some, None, Result, Ok, Err, List, [], ◌∷◌, ◌++◌, length}
 use Rattle.bw_model.specs.Wire.{Second, Frame, Says, Asks, Bye, Reason, Cut}
-use Rattle.bw_model.specs.Stream.{first_frame}
+use Rattle.bw_model.specs.Replies.{Reply}
+use Rattle.bw_model.specs.Stream.{first_frame, first_reply}
 
 pub data Phase : Type 0 where
   Reading : Phase
@@ -74,6 +75,26 @@ HoldsAtMost n (Gives (Says m), p) = Unit {0}
 HoldsAtMost n (Gives (Asks name number), p) = Unit {0}
 HoldsAtMost n (Gives Bye, p) = p.held ≤ n
 HoldsAtMost n (Fails reason offset, p) = p.held ≤ n
+
+abbrev pub reply_first : Pending → Result (Reply × List ℕ) Reason → Told Reply × Pending
+reply_first p (Ok (r, more)) = (Gives r, took p more)
+reply_first p (Err Cut) = (Nothing, settled p)
+reply_first p (Err reason) = (Fails reason p.used, ended p p.used (Failed reason))
+
+abbrev pub reply_in : Phase → Pending → Told Reply × Pending
+reply_in Reading p = reply_first p (first_reply p.bytes)
+reply_in Left p = (Nothing, p)
+reply_in (Failed reason) p = (Fails reason p.used, p)
+
+-- what a framer of replies tells next, and what it then keeps
+unfoldable pub after_reply : Pending → Told Reply × Pending
+after_reply p = reply_in p.phase p
+
+-- where no reply was told, so little is held
+abbrev pub RepliesHoldAtMost : ℕ → Told Reply × Pending → Type 0
+RepliesHoldAtMost n (Nothing, p) = p.held ≤ n
+RepliesHoldAtMost n (Gives r, p) = Unit {0}
+RepliesHoldAtMost n (Fails reason offset, p) = p.held ≤ n
 
 -- nothing is read anymore
 abbrev pub IsOverIn : Phase → Type 0

@@ -1,7 +1,8 @@
 -- The parts of a framer.
-use Rattle.std.specs.Prelude.{◌≡◌, ℕ, ◌+◌, ◌-◌, ◌^◌, ◌≤◌, List, [], length, drop}
+use Rattle.std.specs.Prelude.{◌≡◌, ℕ, ◌+◌, ◌-◌, ◌^◌, ◌≤◌, List, [], length, drop, Option, Some, None}
 use Rattle.bw_wire.specs.declared.framer.Phase.{Phase}
 use Rattle.bw_wire.specs.declared.framer.Phase.TheVariants.{Reading, Left, Failed}
+use Rattle.bw_wire.specs.declared.reason.Reason.{Reason}
 use Rattle.bw_wire.specs.Pending as pending
 use Rattle.bw_wire.specs.Reasons.{reason_of}
 
@@ -9,6 +10,10 @@ abbrev pub phase_of : Phase → pending.Phase
 phase_of Reading = pending.Reading
 phase_of Left = pending.Left
 phase_of (Failed reason) = pending.Failed (reason_of reason)
+
+abbrev pub phase_by : Option Reason → Phase
+phase_by None = Reading
+phase_by (Some reason) = Failed reason
 
 -- a buffer, the place of its first byte that is not used up, how many were used and fed, and the phase
 abbrev pub pending_of : List ℕ → ℕ → ℕ → ℕ → Phase → pending.Pending

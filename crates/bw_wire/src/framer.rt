@@ -1,6 +1,7 @@
 //! A stream of frames that comes in pieces.
-ghost use Rattle.std.specs.Prelude.{◌≡◌, ◌+◌, ◌≤◌, ◌^◌, length, drop, IsOk, OnOk, OnErr};
+ghost use Rattle.std.specs.Prelude.{◌≡◌, ◌+◌, ◌≤◌, ◌^◌, length, IsOk, OnOk, OnErr};
 
+use crate::buffer::{bytes_from, drop_front};
 use crate::fault::WireFault;
 use crate::front::{Front, front_of};
 use crate::message::{Ask, Frame, Message};
@@ -176,20 +177,4 @@ impl Framer {
             }
         }
     }
-}
-
-/// The bytes from a place on.
-fn bytes_from(buffer: &Vec<u8>, start: usize) -> &[u8]
-    requires { start ≤ length buffer.now.items }
-    ensures { result.now ≡ drop start buffer.now.items }
-{
-    &buffer[start..]
-}
-
-/// Lets so many bytes at the front go.
-fn drop_front(buffer: &mut Vec<u8>, count: usize)
-    requires { count ≤ length buffer.old.items }
-    ensures { buffer.new.items ≡ drop count buffer.old.items }
-{
-    buffer.drain(..count);
 }

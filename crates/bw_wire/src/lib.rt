@@ -2,17 +2,21 @@
 #![tactic(auto)]
 
 mod address;
+mod buffer;
 mod decoder;
 mod encoder;
 mod fault;
 mod framer;
 mod front;
+pub mod laws;
 mod message;
 mod payload;
 mod reason;
 mod reply;
 mod reply_decoder;
 mod reply_encoder;
+mod reply_framer;
+mod reply_front;
 
 pub use decoder::{decode, decode_request};
 pub use encoder::{encode, encode_ask};
@@ -23,3 +27,4 @@ pub use reason::{Reason, UnknownCode};
 pub use reply::{Notice, Reply};
 pub use reply_decoder::decode_reply;
 pub use reply_encoder::encode_reply;
+pub use reply_framer::ReplyFramer;

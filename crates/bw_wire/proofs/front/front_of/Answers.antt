@@ -1,10 +1,11 @@
 use Rattle.bw_model.specs.Wire.{Length, Cut}
+use Rattle.bw_model.specs.Stream.{longest_body}
 use Rattle.bw_wire.specs.Reasons.{reason_of}
 use Rattle.bw_wire.proofs.Fronts.{first_frame-framing, partial_is_short, bad_front, bye_front, message_front, ask_front}
 use Rattle.bw_wire.proofs.front.front_of.Goals as goal
 
 pub returns-in-Partial : goal.returns-in-Partial
-returns-in-Partial c = (first_frame-framing c.args.bytes.now Cut c.in-Partial.ensures, partial_is_short c.args.bytes.now c.in-Partial.ensures)
+returns-in-Partial c = (first_frame-framing c.args.bytes.now Cut c.in-Partial.ensures, partial_is_short longest_body c.args.bytes.now c.in-Partial.ensures)
 
 pub returns-in-Bad : goal.returns-in-Bad
 returns-in-Bad c = (first_frame-framing c.args.bytes.now Length c.in-Bad.ensures, λ e. cc)

@@ -1,0 +1,18 @@
+-- What stands at the front of a stream's bytes, where replies are read.
+use Rattle.std.specs.Prelude.{◌≡◌, ◌≢◌, ℕ, ◌+◌, ◌≤◌, Ok, Err, List, length, drop}
+use Rattle.bw_model.specs.Wire.{Cut}
+use Rattle.bw_model.specs.Stream.{first_reply}
+use Rattle.bw_wire.specs.declared.reply.Reply.{Reply}
+use Rattle.bw_wire.specs.declared.reply_front.ReplyFront.{ReplyFront}
+use Rattle.bw_wire.specs.declared.reply_front.ReplyFront.TheVariants.{Partial, Bad, Whole}
+use Rattle.bw_wire.specs.Reasons.{reason_of}
+use Rattle.bw_wire.specs.Replies.{reply_of}
+
+pub record IsWholeReply (bytes : List ℕ) (reply : Reply) (len : ℕ) : Type 0 where
+  pub whole : 4 + len ≤ length bytes
+  pub first : first_reply bytes ≡ Ok (reply_of reply, drop (4 + len) bytes)
+
+abbrev pub IsReplyFront : List ℕ → ReplyFront → Type 0
+IsReplyFront bytes Partial = (first_reply bytes ≡ Err Cut) × (length bytes ≤ 46)
+IsReplyFront bytes (Bad reason) = (first_reply bytes ≡ Err (reason_of reason)) × (reason_of reason ≢ Cut)
+IsReplyFront bytes (Whole reply len) = IsWholeReply bytes reply len

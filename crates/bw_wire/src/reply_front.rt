@@ -1,0 +1,32 @@
+//! What stands at the front of a stream's bytes, where replies are read.
+ghost use Rattle.bw_wire.specs.ReplyFronts.{IsReplyFront};
+
+use crate::front::{Framing, framing_of};
+use crate::reason::Reason;
+use crate::reply::Reply;
+use crate::reply_decoder::decode_reply;
+
+/// The longest body of a reply: a notice under a name of 32.
+const LONGEST_REPLY: u32 = 43;
+
+/// What the first bytes of a stream are, a reply with the length of its body.
+#[derive(Drop)]
+pub(crate) enum ReplyFront {
+    Partial,
+    Bad(Reason),
+    Whole(Reply, usize),
+}
+
+/// The first reply of the bytes.
+pub(crate) fn reply_front_of(bytes: &[u8]) -> ReplyFront
+    ensures { IsReplyFront bytes.now result }
+{
+    match framing_of(bytes, LONGEST_REPLY) {
+        Framing::Partial => ReplyFront::Partial,
+        Framing::Bad => ReplyFront::Bad(Reason::Length),
+        Framing::Body(len) => match decode_reply(&bytes[4..4 + len]) {
+            Err(reason) => ReplyFront::Bad(reason),
+            Ok(reply) => ReplyFront::Whole(reply, len),
+        },
+    }
+}
