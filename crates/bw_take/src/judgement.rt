@@ -1,7 +1,7 @@
 //! The judgement of a request on a take.
-ghost use Rattle.std.specs.Prelude.{◌≡◌, ◌%◌, ◌==◌, Some, None, is_some, length, if◌then◌else◌};
+ghost use Rattle.std.specs.Prelude.{◌≡◌, ◌%◌, ◌==◌, Some, None, is_none, length};
 ghost use Rattle.std.specs.List.{list_all, list_any};
-ghost use Rattle.bw_model.specs.Take.{judge as verdict_on, judge_open as verdict_on_open, is_history_byte as is_byte_of_history, block_align as block_align_of, field_fault, Format, Mark, Stored, BadBlock, BadField};
+ghost use Rattle.bw_model.specs.Take.{judge as verdict_on, judge_open as judged, is_history_byte as is_byte_of_history, block_align as block_align_of, field_fault, Format, Mark};
 ghost use Rattle.bw_take.specs.Requests.{meaning};
 ghost use Rattle.bw_take.specs.Verdicts.{verdict_of};
 
@@ -29,7 +29,7 @@ pub fn judge(state: &TakeState, request: &RequestRef<'_>) -> Verdict
 
 /// The verdict where the take isn't opened.
 fn judge_unopened(state: &TakeState, request: &RequestRef<'_>) -> Verdict
-    ensures { verdict_of result ≡ verdict_on_open state.now.parts None (meaning request.now) }
+    ensures { verdict_of result ≡ judged state.now.parts None (meaning request.now) }
 {
     let RequestRef::OpenTake {
         rate,
@@ -51,30 +51,30 @@ fn judge_unopened(state: &TakeState, request: &RequestRef<'_>) -> Verdict
 
 /// The verdict where the take is open.
 fn judge_opened(state: &TakeState, format: Fmt, request: &RequestRef<'_>) -> Verdict
-    ensures { verdict_of result ≡ verdict_on_open state.now.parts (Some format) (meaning request.now) }
+    ensures { verdict_of result ≡ judged state.now.parts (Some format) (meaning request.now) }
 {
     match *request {
         RequestRef::OpenTake { .. } => Verdict::AlreadyOpen,
-        RequestRef::Block { bytes } => judge_block(format, bytes),
+        RequestRef::Block { bytes } if has_whole_frames(format, bytes) => Verdict::Stored,
+        RequestRef::Block { .. } => Verdict::BadBlock,
         RequestRef::Mark { id, frame } => judge_mark(state, id, frame),
-        RequestRef::SetField { tag, value } => judge_field(state, tag, value),
+        RequestRef::SetField { tag, value } if can_set(state, tag, value) => Verdict::Stored,
+        RequestRef::SetField { .. } => Verdict::BadField,
         RequestRef::CloseTake { frames } if frames == state.frames() => Verdict::Stored,
         RequestRef::CloseTake { .. } => Verdict::WrongTotal,
     }
 }
 
-fn judge_block(format: Fmt, bytes: &[u8]) -> Verdict
-    ensures { verdict_of result ≡ (if length bytes.now % block_align_of format == 0 then Stored else BadBlock) }
+/// Whether a block ends with a frame.
+fn has_whole_frames(format: Fmt, bytes: &[u8]) -> bool
+    ensures { result ≡ (length bytes.now % block_align_of format == 0) }
 {
-    if bytes.len() % usize::from(format.block_align()) == 0 {
-        Verdict::Stored
-    } else {
-        Verdict::BadBlock
-    }
+    bytes.len() % usize::from(format.block_align()) == 0
 }
 
+/// The verdict on a marker where the take is open.
 fn judge_mark(state: &TakeState, id: u32, frame: u32) -> Verdict
-    ensures { (f : Format) → verdict_of result ≡ verdict_on_open state.now.parts (Some f) (Mark id frame) }
+    ensures { (f : Format) → verdict_of result ≡ judged state.now.parts (Some f) (Mark id frame) }
 {
     let markers = state.markers();
     if u64::from(frame) > state.frames() {
@@ -95,13 +95,11 @@ fn has_marker(markers: &[CuePoint], id: u32) -> bool
     markers.iter().any(|marker| marker.id == id)
 }
 
-fn judge_field(state: &TakeState, tag: u8, value: &[u8]) -> Verdict
-    ensures { verdict_of result ≡ (if is_some (field_fault tag value.now) then BadField else Stored) }
+/// Whether a field takes a value.
+fn can_set(state: &TakeState, tag: u8, value: &[u8]) -> bool
+    ensures { result ≡ is_none (field_fault tag value.now) }
 {
-    match state.bext().copy().set(tag, value) {
-        Ok(()) => Verdict::Stored,
-        Err(_) => Verdict::BadField,
-    }
+    state.bext().copy().set(tag, value).is_ok()
 }
 
 fn is_history(bytes: &[u8]) -> bool

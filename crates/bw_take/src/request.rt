@@ -1,7 +1,8 @@
 //! Requests on a take, borrowed and owned.
-ghost use Rattle.std.specs.Prelude.{◌≡◌, ◌<◌, ◌&&◌, nat_le, length, IsTrue, IfOk, OnErr};
+ghost use Rattle.std.specs.Prelude.{◌≡◌, ◌<◌, ◌≤◌, ◌&&◌, nat_le, length, IsTrue, IfOk, OnErr};
 ghost use Rattle.bw_model.specs.Wire.{is_request, are_bytes};
 ghost use Rattle.bw_take.specs.Requests.{meaning, bytes_of};
+ghost use Rattle.bw_take.specs.States.{samples_in};
 
 use std::alloc::{AllocError, Global};
 use std::marker::Model;
@@ -37,9 +38,11 @@ pub enum RequestRef<'a> {
 }
 
 impl RequestRef<'_> {
-    /// Whether a message may carry it: a history of at most 4,096 bytes, a block of 1 to 32,768, a value of at most 256.
+    /// Whether a message may carry it: a history of at most 4,096 bytes, a block of 1 to 32,768,
+    /// a value of at most 256.
     pub fn fits(&self) -> bool
-        ensures { result ≡ is_request (meaning self.now) }
+        ensures value { result ≡ is_request (meaning self.now) }
+        ensures samples { IsTrue result → samples_in (meaning self.now) ≤ 32768 }
     {
         // The numbers are bound, and not left out, so that their types' ranges are known.
         match *self {

@@ -1,6 +1,6 @@
 //! What a server says of a request.
-ghost use Rattle.std.specs.Prelude.{◌≡◌, ◌≤◌};
-ghost use Rattle.bw_model.specs.Take.{is_stored as is_stored_verdict};
+ghost use Rattle.std.specs.Prelude.{◌≡◌, ◌≤◌, ◌↔◌, IsTrue};
+ghost use Rattle.bw_model.specs.Take.{Stored, is_stored as is_stored_verdict};
 ghost use Rattle.bw_model.specs.Replies.{verdict_code};
 ghost use Rattle.bw_take.specs.Verdicts.{verdict_of, Decodes};
 
@@ -47,7 +47,8 @@ impl Verdict {
 
     /// Whether the request is part of the take.
     pub fn is_stored(self) -> bool
-        ensures { result ≡ is_stored_verdict (verdict_of self) }
+        ensures value { result ≡ is_stored_verdict (verdict_of self) }
+        ensures stored { IsTrue result ↔ (verdict_of self ≡ Stored) }
     {
         self == Verdict::Stored
     }
