@@ -5,6 +5,7 @@ pub mod InOrderTurns
 pub mod StreamSteps
 pub mod ExchangeSteps
 pub mod RecordingLemmas
+pub mod FramerSteps
 pub mod WithinExchange
 pub mod ReplayLemmas
 pub mod RunSteps

@@ -1,11 +1,12 @@
 -- What an exchange of a run in order tells, and what a recording keeps behind it.
-use Rattle.std.specs.Prelude.{◌≡◌, ℕ, List, IsTrue, Some, None}
+use Rattle.std.specs.Prelude.{◌≡◌, ℕ, List, ◌++◌, IsTrue, Some, None}
 use Rattle.std.specs.List.{list_all}
-use Rattle.bw_model.specs.Wire.{Message, Says, Second}
-use Rattle.bw_model.specs.Replies.{is_reply}
+use Rattle.bw_model.specs.Wire.{Message, Says, Second, framed}
+use Rattle.bw_model.specs.Replies.{Refused, is_reply, reply_body}
 use Rattle.bw_model.specs.Stream.{End, stream_of, EndOfInput, SaidBye, BadFrame}
 use Rattle.bw_model.specs.Book.{Book}
 use Rattle.bw_model.specs.Exchange as model
+use Rattle.bw_wire.specs.declared.fault.WireFault.{WireFault}
 use Rattle.bw_wire.specs.Reasons.{reason_of}
 use Rattle.bw_cli.specs.InOrder.{progress_behind, progress_after}
 use Rattle.bw_cli.specs.Keeping.{progress_of, Keeps}
@@ -20,7 +21,7 @@ use Rattle.bw_cli.specs.declared.exchange.ExchangeFault.TheVariants.{NotInOrder,
 abbrev pub end_of : ExchangeEnd → End
 end_of ends.Bye = SaidBye
 end_of ends.EndOfInput = EndOfInput
-end_of (ends.BadFrame reason offset) = BadFrame (reason_of reason) offset
+end_of (ends.BadFrame fault) = BadFrame (reason_of fault.reason) fault.offset
 
 -- the exchange tells this, by replies that have spellings
 pub record Tells (e : Exchange) (t : Told) : Type 0 where
@@ -46,3 +47,9 @@ Exchanges old new input e = (book : Book) → Keeps old book → IsExchange old 
 abbrev pub Breaks : ExchangeFault → Recording → List ℕ → Type 0
 Breaks NotInOrder r input = (book : Book) → Keeps r book → progress_after (progress_of r) (stream_of Second input).0 ≡ None
 Breaks Memory r input = Unit {0}
+
+-- the exchange ends at this fault, which these frames and its reply answer
+pub record EndsBad (frames : List ℕ) (fault : WireFault) (e : Exchange) : Type 0 where
+  pub replies : e.replies.items ≡ frames ++ framed (reply_body (Refused (reason_of fault.reason) fault.offset))
+  pub spelled : IsTrue (is_reply (Refused (reason_of fault.reason) fault.offset))
+  pub end : e.end ≡ ends.BadFrame fault

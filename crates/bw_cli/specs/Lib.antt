@@ -8,7 +8,6 @@ pub mod Text
 pub mod Recording
 pub mod Keeping
 pub mod TakeFiles
-pub mod Cutting
 pub mod Exchanging
 pub mod Running
 pub mod Replays

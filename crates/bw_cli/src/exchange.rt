@@ -1,16 +1,15 @@
 //! An exchange of a run in order.
-ghost use Rattle.std.specs.Prelude.{◌≡◌, ◌++◌, IsTrue, IfOk, IfErr, OnOk};
+ghost use Rattle.std.specs.Prelude.{◌≡◌, ◌^◌, ◌≤◌, ◌++◌, length, IsTrue, IfOk, IfErr, OnOk};
 ghost use Rattle.bw_model.specs.Wire.{framed};
 ghost use Rattle.bw_model.specs.Replies.{reply_body, is_reply};
 ghost use Rattle.bw_wire.specs.Frames.{message_of};
 ghost use Rattle.bw_wire.specs.Replies.{reply_of, HasWireNumbers};
 ghost use Rattle.bw_cli.specs.Keeping.{Answers};
-ghost use Rattle.bw_cli.specs.Exchanging.{Exchanges, Breaks, IsNotNext};
+ghost use Rattle.bw_cli.specs.Exchanging.{Exchanges, Breaks, IsNotNext, EndsBad};
 
-use crate::cutting::first_frame;
 use crate::recording::Recording;
 use arrayvec::ArrayVec;
-use bw_wire::{Frame, Message, Reason, Reply, encode_reply};
+use bw_wire::{Frame, Framer, Message, Reply, WireFault, encode_reply};
 use std::alloc::{AllocError, Global};
 
 /// How an exchange ended.
@@ -21,7 +20,7 @@ pub enum ExchangeEnd {
     /// The input ended behind a frame.
     EndOfInput,
     /// A frame was bad.
-    BadFrame { reason: Reason, offset: u64 },
+    BadFrame(WireFault),
 }
 
 /// An exchange that was run: the frames of its replies, and its end.
@@ -58,35 +57,44 @@ pub fn run_exchange(
     recording: &mut Recording,
     input: &[u8],
 ) -> Result<Exchange, ExchangeFault>
+    requires { length input.now ≤ 2 ^ 62 }
     ensures ok { IfOk result (λ e. Exchanges recording.old recording.new input.now e) }
     ensures err { IfErr result (λ fault. Breaks fault recording.old input.now) }
 {
+    let mut framer = Framer::new(alloc);
+    framer.feed(input)?;
     let mut replies = Vec::new(alloc);
-    let mut rest = input;
-    while !rest.is_empty() {
-        let first = match first_frame(rest) {
-            Ok(first) => first,
-            Err(reason) => {
-                let offset = (input.len() - rest.len()) as u64;
-                put_reply(&mut replies, &Reply::BadFrame { reason, offset })?;
-                let end = ExchangeEnd::BadFrame { reason, offset };
-                return Ok(Exchange { replies, end });
-            }
-        };
-        match first.frame {
-            Frame::Message(message) => {
+    loop {
+        match framer.next_frame() {
+            Ok(Some(Frame::Message(message))) => {
                 let reply = answer(recording, &message)?;
                 put_reply(&mut replies, &reply)?;
             }
-            Frame::Ask(_) => return Err(ExchangeFault::NotInOrder),
-            Frame::Bye => {
+            Ok(Some(Frame::Ask(_))) => return Err(ExchangeFault::NotInOrder),
+            Ok(Some(Frame::Bye)) => {
                 let end = ExchangeEnd::Bye;
                 return Ok(Exchange { replies, end });
             }
+            Ok(None) => break,
+            Err(fault) => return Ok(ended_bad(replies, fault)?),
         }
-        rest = first.rest;
     }
-    let end = ExchangeEnd::EndOfInput;
+    match framer.end() {
+        Ok(()) => {
+            let end = ExchangeEnd::EndOfInput;
+            Ok(Exchange { replies, end })
+        }
+        Err(fault) => Ok(ended_bad(replies, fault)?),
+    }
+}
+
+/// The exchange that ends at bytes that are no frame, which is answered.
+fn ended_bad(mut replies: Vec<u8>, fault: WireFault) -> Result<Exchange, AllocError>
+    ensures { IfOk result (EndsBad replies.items fault) }
+{
+    let WireFault { reason, offset } = fault;
+    put_reply(&mut replies, &Reply::BadFrame { reason, offset })?;
+    let end = ExchangeEnd::BadFrame(fault);
     Ok(Exchange { replies, end })
 }
 

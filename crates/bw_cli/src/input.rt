@@ -1,5 +1,5 @@
 //! Standard input as lines of hex.
-ghost use Rattle.std.specs.Prelude.{◌≡◌, ℕ, ◌<◌, ◌≤◌, ◌^◌, ◌∷◌, List, length, map, Ok, Some, IfOk, IfErr};
+ghost use Rattle.std.specs.Prelude.{◌≡◌, ℕ, ◌<◌, ◌≤◌, ◌∷◌, List, All, length, map, Ok, Some, IfOk, IfErr};
 ghost use Rattle.std.specs.List.{position_or_len};
 ghost use Rattle.std.specs.Io.BufRead.{strip_last};
 ghost use Rattle.bw_cli.specs.Lines.{lines_of, decoded_from, is_line_end};
@@ -18,6 +18,7 @@ const LONGEST_INPUT: u64 = 16_777_216;
 pub fn exchanges<R: Read + Drop>(alloc: Global, input: R) -> Result<Vec<Vec<u8>>, Fault>
     ensures ok { IfOk result (λ found. (xs : List ℕ) → R.remaining input ≡ Some xs →
         spelled_by xs ≡ Exchanges (map (λ x. x.items) found.items)) }
+    ensures short { IfOk result (λ found. All (λ x. length x.items ≤ longest_input) found.items) }
     ensures err { IfErr result (λ fault. (xs : List ℕ) → R.remaining input ≡ Some xs →
         Refuses fault (spelled_by xs)) }
 {
@@ -48,8 +49,9 @@ fn all_bytes<R: Read + Drop>(alloc: Global, input: R) -> Result<Vec<u8>, Fault>
 
 /// The bytes that each line spells.
 fn decoded_lines(alloc: Global, input: &[u8]) -> Result<Vec<Vec<u8>>, Fault>
-    requires { length input.now < 2 ^ 63 }
+    requires { length input.now ≤ longest_input }
     ensures ok { IfOk result (λ found. decoded_from 1 (lines_of input.now) ≡ Ok (map (λ x. x.items) found.items)) }
+    ensures short { IfOk result (λ found. All (λ x. length x.items ≤ longest_input) found.items) }
     ensures err { IfErr result (λ fault. IsLineFault fault (decoded_from 1 (lines_of input.now))) }
 {
     let mut found = Vec::new(alloc);
@@ -78,6 +80,7 @@ fn decoded_lines(alloc: Global, input: &[u8]) -> Result<Vec<Vec<u8>>, Fault>
 fn first_line(bytes: &[u8]) -> (&[u8], &[u8])
     requires { 0 < length bytes.now }
     ensures lines { lines_of bytes.now ≡ result.0.now ∷ lines_of result.1.now }
+    ensures within { length result.0.now ≤ length bytes.now }
     ensures shorter { length result.1.now < length bytes.now }
 {
     let end = line_end(bytes);
@@ -102,7 +105,8 @@ fn line_end(bytes: &[u8]) -> usize
 
 /// A line without the byte 13 at its end.
 fn without_return(line: &[u8]) -> &[u8]
-    ensures { result.now ≡ strip_last 13 line.now }
+    ensures value { result.now ≡ strip_last 13 line.now }
+    ensures within { length result.now ≤ length line.now }
 {
     match line {
         [front @ .., b'\r'] => front,

@@ -1,7 +1,6 @@
 //! The program `bwingest`: its commands, over standard input and output.
 #![tactic(auto)]
 
-mod cutting;
 mod exchange;
 pub mod exit;
 mod fault;

@@ -1,5 +1,6 @@
 //! A run of exchanges, in order, over an empty store.
-ghost use Rattle.std.specs.Prelude.{map, IfOk, IfErr};
+ghost use Rattle.std.specs.Prelude.{◌≤◌, All, length, map, IfOk, IfErr};
+ghost use Rattle.bw_cli.specs.Input.{longest_input};
 ghost use Rattle.bw_cli.specs.Running.{Ran, IsOrderFault};
 
 use crate::exchange::{Exchange, ExchangeFault, run_exchange};
@@ -19,6 +20,7 @@ pub struct Run {
 /// # Errors
 /// `NotInOrder` with the number of the first input, from 1, that breaks the order, or `Memory`.
 pub fn run_in_order(alloc: Global, inputs: &[Vec<u8>]) -> Result<Run, Fault>
+    requires { All (λ x. length x.items ≤ longest_input) inputs.now }
     ensures ok { IfOk result (λ run. Ran (map (λ x. x.items) inputs.now) run) }
     ensures err { IfErr result (λ fault. IsOrderFault fault (map (λ x. x.items) inputs.now)) }
 {

@@ -62,7 +62,7 @@ fn end_name(end: ExchangeEnd) -> &'static str
     match end {
         ExchangeEnd::Bye => "Bye",
         ExchangeEnd::EndOfInput => "EndOfInput",
-        ExchangeEnd::BadFrame { .. } => "BadFrame",
+        ExchangeEnd::BadFrame(_) => "BadFrame",
     }
 }
 

@@ -1,50 +1,90 @@
-use Rattle.std.proofs.Common.{arith, ◌≡◌, ◌∙◌, ◌<◌, length, Ok, ap, sym, refl}
-use Rattle.std.proofs.lemmas.Grind.{common_steps}
-use Rattle.bw_model.specs.Wire.{Says, Second}
-use Rattle.bw_model.specs.Stream.{first_frame}
-use Rattle.bw_wire.specs.Frames.{frame_of, message_of, asked_name, asked_number}
+use Rattle.std.proofs.Common.{rules, ◌≡◌, ◌∙◌, ◌<◌, length, ap, sym, subst, refl, Some, None, Err}
+use Rattle.bw_model.specs.Wire.{Says, Asks, Bye, Second}
+use Rattle.bw_wire.specs.Frames.{message_of, asked_name, asked_number}
+use Rattle.bw_wire.specs.Pending.{Pending, Nothing, Gives, Fails, fresh, with_piece, after, took, settled, end_fault}
+use Rattle.bw_wire.specs.Reasons.{reason_of}
 use Rattle.bw_cli.proofs.StreamSteps.{frame_shortens}
+use Rattle.bw_cli.proofs.FramerSteps.{is_next, is_end}
 use Rattle.bw_cli.proofs.WithinExchange.{within-start, within-message, within-breaks, err_kept, within-ask, within-bad, within-bye, within-last}
 use Rattle.bw_cli.proofs.exchange.run_exchange.Goals as goal
 
-pub loop-rest-init : goal.loop-rest-init
-loop-rest-init c = record { within = omega arith; runs = λ book k. within-start _ book _ _ k c.new-replies.ensures.items }
-
-pub loop-rest-preserved : goal.loop-rest-preserved
-loop-rest-preserved c =
-    let comes : first_frame Second c.loop-rest.rest.now ≡ Ok (Says (message_of c.in-Message.message), c.in-Ok.first.rest.now) = sym c.in-Ok.ensures ∙ ap (λ f. Ok (frame_of f, c.in-Ok.first.rest.now)) c.in-Message.is in
-    let shorter : length c.in-Ok.first.rest.now < length c.loop-rest.rest.now = frame_shortens Second c.loop-rest.rest.now _ comes in
-    let within = c.loop-rest.invariant.within in
+pub loop-message-init : goal.loop-message-init
+loop-message-init c =
+    let fed : c.feed.new.self ≡ with_piece fresh c.args.input.now = c.in_ok-feed.ensures.ok ∙ ap (λ (p : Pending). with_piece p c.args.input.now) c.new-framer.ensures in
     record {
-      within = omega arith;
-      runs = λ book k. within-message _ _ _ book _ _ _ _ _ _ _ (c.loop-rest.invariant.runs book k) within comes c.in_ok-reply-in-Message.ensures.ok c.in_ok-put_reply-in-Message.ensures.spelled c.in_ok-put_reply-in-Message.ensures.frame;
+      reading = ap (λ (p : Pending). p.phase) fed;
+      runs = λ book k. within-start _ book _ _ _ k fed c.new-replies.ensures.items;
     }
 
-pub loop-rest-smaller : goal.loop-rest-smaller
-loop-rest-smaller c = frame_shortens Second c.loop-rest.rest.now _ (sym c.in-Ok.ensures)
+pub loop-message-preserved : goal.loop-message-preserved
+loop-message-preserved c =
+    let p : Pending = c.loop-message.framer in
+    let m = message_of c.in-Ok-Some-Message.message in
+    let told : Gives (Says m) ≡ (after p).0 = search rules in
+    let next = is_next p (Gives (Says m)) c.loop-message.invariant.reading told in
+    let same : c.next_frame.follows.lender-at-none ≡ took p next.0 = c.next_frame.follows.holds-at-none ∙ next.2 in
+    record {
+      reading = ap (λ (q : Pending). q.phase) same ∙ c.loop-message.invariant.reading;
+      runs = λ book k.
+          within-message _ _ _ book _ next.0 _ _ p _ m _ (c.loop-message.invariant.runs book k) next.1 same
+          c.in_ok-reply-in-Ok-Some-Message.ensures.ok c.in_ok-put_reply-in-Ok-Some-Message.ensures.spelled c.in_ok-put_reply-in-Ok-Some-Message.ensures.frame;
+    }
+
+pub loop-message-smaller : goal.loop-message-smaller
+loop-message-smaller c =
+    let p : Pending = c.loop-message.framer in
+    let m = message_of c.in-Ok-Some-Message.message in
+    let told : Gives (Says m) ≡ (after p).0 = search rules in
+    let next = is_next p (Gives (Says m)) c.loop-message.invariant.reading told in
+    let same : c.next_frame.follows.lender-at-none ≡ took p next.0 = c.next_frame.follows.holds-at-none ∙ next.2 in
+    subst (λ (q : Pending). length q.bytes < length p.bytes) (sym same) (frame_shortens Second p.bytes _ next.1)
+
+pub returns-in_err-reply-in-Ok-Some-Message-clause-err : goal.returns-in_err-reply-in-Ok-Some-Message-clause-err
+returns-in_err-reply-in-Ok-Some-Message-clause-err c =
+    let p : Pending = c.loop-message.framer in
+    let m = message_of c.in-Ok-Some-Message.message in
+    let told : Gives (Says m) ≡ (after p).0 = search rules in
+    let next = is_next p (Gives (Says m)) c.loop-message.invariant.reading told in
+    err_kept _ c.in_err-reply-in-Ok-Some-Message.field-0.0 _ c.from_residual-in_err-reply-in-Ok-Some-Message.ensures.1
+    (within-breaks c.in_err-reply-in-Ok-Some-Message.field-0.0 _ _ _ next.0 _ p m c.loop-message.invariant.runs next.1 c.in_err-reply-in-Ok-Some-Message.ensures.err)
+
+pub returns-in-Ok-Some-Ask-clause-err : goal.returns-in-Ok-Some-Ask-clause-err
+returns-in-Ok-Some-Ask-clause-err c book k =
+    let p : Pending = c.loop-message.framer in
+    let a = c.in-Ok-Some-Ask.field-0-0-0 in
+    let told : Gives (Asks (asked_name a) (asked_number a)) ≡ (after p).0 = search rules in
+    let next = is_next p (Gives (Asks (asked_name a) (asked_number a))) c.loop-message.invariant.reading told in
+    within-ask _ _ book _ next.0 _ (asked_name a) p (asked_number a) (c.loop-message.invariant.runs book k) next.1
+
+pub returns-in-Ok-Some-Bye-clause-ok : goal.returns-in-Ok-Some-Bye-clause-ok
+returns-in-Ok-Some-Bye-clause-ok c book k =
+    let p : Pending = c.loop-message.framer in
+    let told : Gives Bye ≡ (after p).0 = search rules in
+    let next = is_next p (Gives Bye) c.loop-message.invariant.reading told in
+    within-bye _ _ book _ next.0 _ p _ (c.loop-message.invariant.runs book k) next.1 refl refl
 
 pub returns-in-Err-clause-ok : goal.returns-in-Err-clause-ok
 returns-in-Err-clause-ok c book k =
-    let some : 0 < length c.loop-rest.rest.now = grind (arith, common_steps, c.loop-rest-test.true, c.loop-rest-test.ensures) in
-    within-bad _ _ book _ c.loop-rest.rest.now _ _ _ (c.loop-rest.invariant.runs book k) some (sym c.in-Err.ensures) c.in_ok-put_reply-in-Err.ensures.spelled c.in_ok-put_reply-in-Err.ensures.frame refl
+    let p : Pending = c.loop-message.framer in
+    let f = c.in-Err.fault in
+    let told : Fails (reason_of f.reason) f.offset ≡ (after p).0 = search rules in
+    let next = is_next p (Fails (reason_of f.reason) f.offset) c.loop-message.invariant.reading told in
+    within-bad _ _ book _ _ p _ f (c.loop-message.invariant.runs book k) next.2 next.0 next.1 c.in_ok-ended_bad-in-Err.ensures
 
-pub returns-in_err-reply-in-Message-clause-err : goal.returns-in_err-reply-in-Message-clause-err
-returns-in_err-reply-in-Message-clause-err c =
-    err_kept _ c.in_err-reply-in-Message.field-0.0 _ c.from_residual-in_err-reply-in-Message.ensures.1
-    (within-breaks c.in_err-reply-in-Message.field-0.0 _ _ _ c.loop-rest.rest.now c.in-Ok.first.rest.now _ (message_of c.in-Message.message) c.loop-rest.invariant.runs
-    (sym c.in-Ok.ensures ∙ ap (λ f. Ok (frame_of f, c.in-Ok.first.rest.now)) c.in-Message.is) c.in_err-reply-in-Message.ensures.err)
-
-pub returns-in-Ask-clause-err : goal.returns-in-Ask-clause-err
-returns-in-Ask-clause-err c book k =
-    within-ask _ _ book _ c.loop-rest.rest.now c.in-Ok.first.rest.now _ (asked_name c.in-Ask.field-0) (asked_number c.in-Ask.field-0) (c.loop-rest.invariant.runs book k)
-    (sym c.in-Ok.ensures ∙ ap (λ f. Ok (frame_of f, c.in-Ok.first.rest.now)) c.in-Ask.is)
-
-pub returns-in-Bye-clause-ok : goal.returns-in-Bye-clause-ok
-returns-in-Bye-clause-ok c book k =
-    within-bye _ _ book _ c.loop-rest.rest.now c.in-Ok.first.rest.now _ _ (c.loop-rest.invariant.runs book k)
-    (sym c.in-Ok.ensures ∙ ap (λ f. Ok (frame_of f, c.in-Ok.first.rest.now)) c.in-Bye.is) refl refl
+pub returns-in-Ok-clause-ok : goal.returns-in-Ok-clause-ok
+returns-in-Ok-clause-ok c book k =
+    let p : Pending = c.loop-message.framer in
+    let told : Nothing ≡ (after p).0 = search rules in
+    let next = is_next p Nothing c.loop-message.invariant.reading told in
+    let end : None ≡ end_fault (settled p) = c.in-Ok.ensures ∙ ap end_fault (c.next_frame.follows.holds-at-none ∙ next.1) in
+    within-last _ _ book _ _ p _ (c.loop-message.invariant.runs book k) (is_end (settled p) None c.loop-message.invariant.reading end) refl refl
 
 pub returns-clause-ok : goal.returns-clause-ok
 returns-clause-ok c book k =
-    let none : length c.loop-rest.rest.now ≡ 0 = grind (arith, common_steps, c.loop-rest-test.false, c.loop-rest-test.ensures) in
-    within-last _ _ book _ c.loop-rest.rest.now _ _ (c.loop-rest.invariant.runs book k) none refl refl
+    let p : Pending = c.loop-message.framer in
+    let f = c.in-Err-end.fault in
+    let told : Nothing ≡ (after p).0 = search rules in
+    let next = is_next p Nothing c.loop-message.invariant.reading told in
+    let fault : Some (reason_of f.reason, f.offset) ≡ end_fault (settled p) = c.in-Err-end.ensures ∙ ap end_fault (c.next_frame.follows.holds-at-none ∙ next.1) in
+    let cut = is_end (settled p) (Some (reason_of f.reason, f.offset)) c.loop-message.invariant.reading fault in
+    within-bad _ _ book _ _ p _ f (c.loop-message.invariant.runs book k) cut.0 (next.0 ∙ ap (λ r. Err r) (sym cut.1)) cut.2 c.in_ok-ended_bad-in-Err-end.ensures

@@ -12,7 +12,7 @@ returns-then-end-bytes-clause-lines c =
     let xs : List ℕ = c.args.bytes.now in
     let at : c.line_end-end.result ≡ position_or_len is_line_end xs = c.line_end-end.ensures.value in
     let below : position_or_len is_line_end xs < length xs = rw at at c.if-end-bytes.true in
-    let line : c.without_return.result.now ≡ strip_last 13 (take (position_or_len is_line_end xs) xs) = rw at at c.without_return.ensures in
+    let line : c.without_return.result.now ≡ strip_last 13 (take (position_or_len is_line_end xs) xs) = rw at at c.without_return.ensures.value in
     rw (take_rest xs (c.line_end-end.result + 1), at, line) (line_ended [] xs below)
 
 pub returns-else-end-bytes-clause-lines : goal.returns-else-end-bytes-clause-lines

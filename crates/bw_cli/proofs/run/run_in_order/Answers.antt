@@ -1,4 +1,6 @@
-use Rattle.std.proofs.Common.{◌+◌, map, ap, subst, arith}
+use Rattle.std.proofs.Common.{◌≤◌, ◌+◌, length, map, ap, sym, subst, arith}
+use Rattle.std.proofs.lemmas.List.Elements.{All-get_or}
+use Rattle.bw_cli.specs.Input.{longest_input}
 use Rattle.bw_cli.proofs.RunSteps.{IsRunOf, run-start, run-more, run-stop, run-end, next_left, none_dropped}
 use Rattle.bw_cli.proofs.run.run_in_order.Goals as goal
 
@@ -18,3 +20,10 @@ returns-in-Err-NotInOrder-clause-err c =
 
 pub returns-clause-ok : goal.returns-clause-ok
 returns-clause-ok c = run-end _ _ _ _ (ap (map (λ x. x.items)) (none_dropped c.args.inputs.now c.loop-index.index (omega arith))) c.loop-index.invariant
+
+pub run_exchange-requires : goal.run_exchange-requires
+run_exchange-requires c =
+    let item = c.index-inputs-index.result in
+    let short : length item.items ≤ longest_input = subst (λ x. length x.items ≤ longest_input) (sym c.index-inputs-index.is)
+    (All-get_or (λ x. length x.items ≤ longest_input) c.args.inputs.now c.loop-index.index item c.loop-index-test.true c.requires) in
+    omega (arith, ap length c.as_slice.ensures.value, short)
