@@ -11,8 +11,8 @@ use std::io::{Read, Write};
 /// A write of no byte of a piece that has some counts as a failure.
 #[derive(Drop)]
 pub struct Plain<T> {
-    inner: T,
-    failures: u64,
+    pub(crate) inner: T,
+    pub(crate) failures: u64,
 }
 
 impl<T: Drop> Plain<T> {

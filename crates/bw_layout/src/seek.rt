@@ -1,0 +1,92 @@
+//! A file as a `Source` that seeks over what it passes by.
+ghost use Rattle.std.specs.Prelude.{◌≡◌, ◌≤◌, None, IfOk, OnOk, OnErr};
+ghost use Rattle.bw_layout.specs.Moves.{failures_after};
+
+use crate::plain::Plain;
+use crate::source::{IoFailed, Source};
+use std::io::{Read, Seek, SeekFrom};
+
+/// A reader of std that seeks over what is passed by, as far as its length is known, and reads on from there.
+///
+/// It tells no bytes, since nothing says what a reader gives after a seek.
+#[derive(Drop)]
+pub struct SeekSource<T> {
+    plain: Plain<T>,
+    place: u64,
+    len: u64,
+}
+
+impl<T: Drop> SeekSource<T> {
+    /// A reader that stands at its start and has `len` bytes, or 0 where that isn't known, as of a pipe.
+    pub fn new(inner: T, len: u64) -> SeekSource<T>
+        ensures inner { result.plain.inner ≡ inner }
+        ensures failures { result.plain.failures ≡ 0 }
+        ensures place { result.place ≡ 0 }
+        ensures len { result.len ≡ len }
+    {
+        SeekSource {
+            plain: Plain::new(inner),
+            place: 0,
+            len,
+        }
+    }
+}
+
+impl<T: Seek> SeekSource<T> {
+    /// Seeks to a place, counted from the start.
+    fn seek_to(&mut self, place: u64) -> Result<(), IoFailed>
+        ensures count { self.new.plain.failures ≡ failures_after result self.old.plain.failures }
+        ensures ok { OnOk result (self.new.place ≡ place) }
+        ensures err { OnErr result (self.new.place ≡ self.old.place) }
+    {
+        let Ok(_) = self.plain.inner.seek(SeekFrom::Start(place)) else {
+            self.plain.failures = self.plain.failures.saturating_add(1);
+            return Err(IoFailed);
+        };
+        self.place = place;
+        Ok(())
+    }
+}
+
+impl<T: Read + Seek> Source for SeekSource<T> {
+    ghost left = { λ s. None };
+
+    ghost failures = { λ s. s.plain.failures };
+
+    fn read(&mut self, buf: &mut [u8]) -> Result<usize, IoFailed> {
+        let count = self.plain.read(buf)?;
+        self.place = self.place.saturating_add(count as u64);
+        Ok(count)
+    }
+
+    fn skip(&mut self, most: u64) -> Result<u64, IoFailed> {
+        let count = most.min(self.len.saturating_sub(self.place));
+        if count > 0 {
+            self.seek_to(self.place + count)?;
+            return Ok(count);
+        }
+        let count = self.plain.skip(most)?;
+        self.place = self.place.saturating_add(count);
+        Ok(count)
+    }
+}
+
+#[cfg(test)]
+mod tests {
+    use super::*;
+    use std::io::Cursor;
+
+    #[test]
+    fn a_skip_seeks_as_far_as_the_length_and_then_reads(rt: HostRuntime) -> Result<(), IoFailed> {
+        let mut source = SeekSource::new(Cursor::new(b"abcdefgh".as_slice()), 6);
+        let mut buf = [0; 2];
+        assert_eq!(rt; source.read(&mut buf)?, 2);
+        assert_eq!(rt; source.skip(3)?, 3);
+        assert_eq!(rt; source.read(&mut buf)?, 2);
+        assert_eq!(rt; buf, *b"fg");
+        assert_eq!(rt; source.skip(9)?, 1);
+        assert_eq!(rt; source.skip(9)?, 0);
+        assert_eq!(rt; source.plain.failures, 0);
+        Ok(())
+    }
+}
