@@ -10,3 +10,4 @@ pub mod WithinExchange
 pub mod ReplayLemmas
 pub mod RunSteps
 pub mod TextLemmas
+pub mod Written

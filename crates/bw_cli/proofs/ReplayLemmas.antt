@@ -1,6 +1,5 @@
 -- What an input asks for, by what was found in it.
-use Rattle.std.proofs.Common.{◌≡◌, ◌∙◌, ℕ, List, Option, Some, None, ap}
-use Rattle.std.specs.Io.KnownBytes.{Appends, Keeps}
+use Rattle.std.proofs.Common.{◌≡◌, ◌∙◌, ℕ, List, Option, None, ap}
 use Rattle.bw_cli.specs.InOrder.{no_progress, first_unordered}
 use Rattle.bw_cli.specs.Input.{Exchanges, asked_by, spelled_by, in_order, unless_unordered}
 use Rattle.bw_cli.specs.Running.{Ran}
@@ -12,10 +11,3 @@ asked-spelled input inputs first e o = ap in_order e ∙ ap (λ (n : Option ℕ)
 
 pub asks-run : (input : List ℕ) (inputs : List (List ℕ)) (run : Run) → spelled_by input ≡ Exchanges inputs → Ran inputs run → asked_by input ≡ Exchanges inputs
 asks-run input inputs run e r = asked-spelled input inputs None e r.is.ordered
-
--- what was written stays
-pub appended : (old mid new : Option (List ℕ)) (text : List ℕ) → Appends old mid text → Keeps mid new → Appends old new text
-appended None mid new text a k = tt
-appended (Some xs) None new text a k = absurd a
-appended (Some xs) (Some ys) None text a k = absurd k
-appended (Some xs) (Some ys) (Some zs) text a k = k ∙ a

@@ -6,6 +6,7 @@ pub mod exit;
 mod fault;
 mod file;
 mod input;
+mod print;
 mod recording;
 pub mod replay;
 mod run;

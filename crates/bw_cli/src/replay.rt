@@ -1,13 +1,14 @@
 //! The command `replay`: runs from standard input.
-ghost use Rattle.std.specs.Prelude.{◌≡◌, ◌≢◌, ℕ, List, Some, OnOk, IfErr};
-ghost use Rattle.std.specs.Io.KnownBytes.{Keeps};
+ghost use Rattle.std.specs.Prelude.{◌≡◌, ◌≢◌, ℕ, List, Some, OnOk, OnErr, IfErr};
+ghost use Rattle.bw_layout.specs.Moves.{Keeps};
 ghost use Rattle.bw_cli.specs.Input.{asked_by, IsRefused};
 ghost use Rattle.bw_cli.specs.Faults.{Refuses};
-ghost use Rattle.bw_cli.specs.Replays.{Replays};
+ghost use Rattle.bw_cli.specs.Replays.{Replays, BeginsReplay};
 
 use crate::exit::Exit;
 use crate::fault::Fault;
 use crate::input::exchanges;
+use crate::print::print;
 use crate::run::run_in_order;
 use crate::text::text_of_run;
 use bw_layout::Limit;
@@ -28,7 +29,10 @@ pub fn replay<R: Read + Drop, W: Write, E: Write>(
         Replays limit xs (W.contents out.old) (W.contents out.new) }
     ensures refused { result ≡ Exit.Refused → (xs : List ℕ) → R.remaining input ≡ Some xs →
         IsRefused (asked_by xs) }
-    ensures quiet { result ≢ Exit.Done → result ≢ Exit.Device → Keeps (W.contents out.old) (W.contents out.new) }
+    ensures quiet { result ≢ Exit.Done → result ≢ Exit.Device →
+        Keeps (W.contents out.old) (W.contents out.new) }
+    ensures begun { result ≢ Exit.Done → (xs : List ℕ) → R.remaining input ≡ Some xs →
+        BeginsReplay limit xs (W.contents out.old) (W.contents out.new) }
     ensures usage { result ≢ Exit.Usage }
 {
     match play(alloc, limit, input, out) {
@@ -53,15 +57,12 @@ fn play<R: Read + Drop, W: Write>(
         Refuses fault (asked_by xs)) }
     ensures quiet { IfErr result (λ fault. fault ≢ Fault.Unwritable →
         Keeps (W.contents out.old) (W.contents out.new)) }
+    ensures begun { OnErr result ((xs : List ℕ) → R.remaining input ≡ Some xs →
+        BeginsReplay limit xs (W.contents out.old) (W.contents out.new)) }
 {
     let inputs = exchanges(alloc, input)?;
     let run = run_in_order(alloc, inputs.as_slice())?;
     let text = text_of_run(alloc, limit, &run)?;
-    let Ok(()) = out.write_all(text.as_slice()) else {
-        return Err(Fault::Unwritable);
-    };
-    let Ok(()) = out.flush() else {
-        return Err(Fault::Unwritable);
-    };
+    print(out, text.as_slice())?;
     Ok(())
 }

@@ -1,7 +1,7 @@
 use Rattle.std.proofs.Common.{◌≡◌, ◌∙◌, ℕ, List, map}
 use Rattle.bw_cli.specs.Running.{Ran}
 use Rattle.bw_cli.specs.Text.{run_text}
-use Rattle.bw_cli.proofs.ReplayLemmas.{asks-run, appended}
+use Rattle.bw_cli.proofs.ReplayLemmas.{asks-run}
 use Rattle.bw_cli.proofs.replay.play.Goals as goal
 
 pub returns-clause-done : goal.returns-clause-done
@@ -12,5 +12,5 @@ returns-clause-done g c xs told =
     record {
       inputs = inputs;
       asked = asks-run xs inputs c.in_ok-run.run' (c.in_ok-inputs.ensures.ok xs told) ran;
-      wrote = rw text at (appended _ _ _ _ c.in-Ok.ensures.bytes c.in-Ok-flush.ensures.bytes);
+      wrote = rw text at c.in_ok-print.ensures.ok;
     }
