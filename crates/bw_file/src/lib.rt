@@ -10,6 +10,8 @@ mod memory;
 mod room;
 mod store;
 mod tally;
+#[cfg(test)]
+mod tests;
 mod writes;
 
 pub use folder::FolderStore;
