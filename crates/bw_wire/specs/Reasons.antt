@@ -1,5 +1,5 @@
--- What reasons mean, and their codes.
-use Rattle.std.specs.Prelude.{◌≡◌, ℕ, Some, None, Result, MatchResult}
+-- What reasons mean, their codes, and their text.
+use Rattle.std.specs.Prelude.{◌≡◌, ℕ, List, Some, None, Result, MatchResult, codes}
 use Rattle.bw_model.specs.Wire as model
 use Rattle.bw_model.specs.Replies.{reason_of as reason_with_code}
 use Rattle.bw_wire.specs.declared.reason.Reason.{Reason}
@@ -18,3 +18,12 @@ reason_of Cut = model.Cut
 abbrev pub DecodesReason : ℕ → Result Reason UnknownCode → Type 0
 DecodesReason code r =
     MatchResult r (λ reason. reason_with_code code ≡ Some (reason_of reason)) (λ e. (reason_with_code code ≡ None) × (e.0 ≡ code))
+
+-- what is told to people
+abbrev pub reason_text : Reason → List ℕ
+reason_text Length = codes "a length that no frame has"
+reason_text Kind = codes "a kind that no frame has"
+reason_text Name = codes "no name"
+reason_text Number = codes "no number"
+reason_text Payload = codes "a payload of another kind"
+reason_text Cut = codes "cut off"

@@ -1,5 +1,5 @@
 //! Why bytes are no frame.
-ghost use Rattle.std.specs.Prelude.{◌≡◌, ◌≤◌};
+ghost use Rattle.std.specs.Prelude.{◌≡◌, ◌≤◌, Some};
 ghost use Rattle.bw_model.specs.Wire.{reason_code};
 ghost use Rattle.bw_wire.specs.Reasons.{reason_of, DecodesReason};
 
@@ -57,6 +57,10 @@ impl TryFrom<u8> for Reason {
 }
 
 impl fmt::Display for Reason {
+    ghost use Rattle.bw_wire.specs.Reasons.{reason_text};
+
+    ghost output = { λ reason. Some (reason_text reason) };
+
     fn fmt<W: fmt::Write>(&self, f: &mut fmt::Formatter<W>) -> fmt::Result {
         f.write_str(match self {
             Reason::Length => "a length that no frame has",
