@@ -79,19 +79,20 @@ impl Sink for MemorySink {
 mod tests {
     use super::*;
     use crate::sink::write_all;
+    use crate::tests::same;
     use std::alloc::AllocError;
 
     #[test]
     fn a_slice_is_read_forward_and_once(rt: HostRuntime) -> Result<(), IoFailed> {
         let mut source = MemorySource::new(b"abcdefg");
         let mut buf = [0; 3];
-        assert_eq!(rt; source.read(&mut buf)?, 3);
-        assert_eq!(rt; buf, *b"abc");
-        assert_eq!(rt; source.skip(2)?, 2);
-        assert_eq!(rt; source.read(&mut buf)?, 2);
-        assert_eq!(rt; buf, *b"fgc");
-        assert_eq!(rt; source.skip(1)?, 0);
-        assert_eq!(rt; source.read(&mut buf)?, 0);
+        same(&rt, "the first read", &source.read(&mut buf)?, &3);
+        same(&rt, "the front", &buf, b"abc");
+        same(&rt, "a skip", &source.skip(2)?, &2);
+        same(&rt, "the second read", &source.read(&mut buf)?, &2);
+        same(&rt, "what is left of the buffer", &buf, b"fgc");
+        same(&rt, "the last byte", &source.skip(1)?, &0);
+        same(&rt, "the end", &source.read(&mut buf)?, &0);
         Ok(())
     }
 
@@ -100,7 +101,12 @@ mod tests {
         let mut sink = MemorySink::new(vec![in rt.alloc(); 1, 2]?);
         assert!(rt; write_all(&mut sink, &[3, 4, 5]).is_ok());
         assert!(rt; write_all(&mut sink, &[]).is_ok());
-        assert_eq!(rt; sink.into_bytes().as_slice(), [1, 2, 3, 4, 5].as_slice());
+        same(
+            &rt,
+            "the bytes",
+            &sink.into_bytes().as_slice(),
+            &[1, 2, 3, 4, 5].as_slice(),
+        );
         Ok(())
     }
 }

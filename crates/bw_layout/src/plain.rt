@@ -36,8 +36,10 @@ impl<T: Read> Plain<T> {
         ensures count { self.new.failures ≡ failures_after result self.old.failures }
         ensures within { IfOk result (λ n. n ≤ length buf.old) }
         ensures ok { IfOk result (λ n.
-            Reads (T.remaining self.old.inner) (length buf.old) n buf.new (T.remaining self.new.inner)) }
-        ensures err { OnErr result (Keeps (T.remaining self.old.inner) (T.remaining self.new.inner)) }
+            Reads (T.remaining self.old.inner) (length buf.old) n
+            buf.new (T.remaining self.new.inner)) }
+        ensures err { OnErr result
+            (Keeps (T.remaining self.old.inner) (T.remaining self.new.inner)) }
     {
         let Ok(count) = self.inner.read(buf) else {
             self.failures = self.failures.saturating_add(1);
@@ -53,7 +55,8 @@ impl<T: Read> Plain<T> {
         ensures within { IfOk result (λ n. n ≤ most) }
         ensures ok { IfOk result (λ n.
             Skips (T.remaining self.old.inner) most n (T.remaining self.new.inner)) }
-        ensures err { OnErr result (Keeps (T.remaining self.old.inner) (T.remaining self.new.inner)) }
+        ensures err { OnErr result
+            (Keeps (T.remaining self.old.inner) (T.remaining self.new.inner)) }
     {
         let room = most.min(piece.len() as u64) as usize;
         let count = self.read_counted(&mut piece[..room])?;
@@ -95,6 +98,7 @@ impl<T: Write> Sink for Plain<T> {
 mod tests {
     use super::*;
     use crate::sink::write_all;
+    use crate::tests::same;
     use std::io;
 
     /// Gives its bytes one at a time, and fails once they are all given.
@@ -119,14 +123,14 @@ mod tests {
     fn a_failed_read_is_counted(rt: HostRuntime) -> Result<(), IoFailed> {
         let mut source = Plain::new(Failing(b"abc"));
         let mut buf = [0; 2];
-        assert_eq!(rt; source.read(&mut buf)?, 1);
-        assert_eq!(rt; source.skip(9)?, 1);
-        assert_eq!(rt; source.read(&mut buf)?, 1);
-        assert_eq!(rt; buf[0], b'c');
-        assert_eq!(rt; source.failures, 0);
-        assert_eq!(rt; source.read(&mut buf), Err(IoFailed));
-        assert_eq!(rt; source.skip(9), Err(IoFailed));
-        assert_eq!(rt; source.failures, 2);
+        same(&rt, "the first read", &source.read(&mut buf)?, &1);
+        same(&rt, "a skip", &source.skip(9)?, &1);
+        same(&rt, "the last byte", &source.read(&mut buf)?, &1);
+        same(&rt, "that byte", &buf[0], &b'c');
+        same(&rt, "no failure", &source.failures, &0);
+        same(&rt, "a failed read", &source.read(&mut buf), &Err(IoFailed));
+        same(&rt, "a failed skip", &source.skip(9), &Err(IoFailed));
+        same(&rt, "both failures", &source.failures, &2);
         Ok(())
     }
 
@@ -135,10 +139,15 @@ mod tests {
         let mut room = [0; 4];
         let mut sink = Plain::new(&mut room[..]);
         assert!(rt; write_all(&mut sink, b"abc").is_ok());
-        assert_eq!(rt; sink.write(b""), Ok(0));
-        assert_eq!(rt; write_all(&mut sink, b"def"), Err(IoFailed));
-        assert_eq!(rt; sink.write(b"ef"), Err(IoFailed));
-        assert_eq!(rt; sink.failures, 2);
-        assert_eq!(rt; room, *b"abcd");
+        same(&rt, "a write of nothing", &sink.write(b""), &Ok(0));
+        same(
+            &rt,
+            "more than there is room",
+            &write_all(&mut sink, b"def"),
+            &Err(IoFailed),
+        );
+        same(&rt, "no room", &sink.write(b"ef"), &Err(IoFailed));
+        same(&rt, "both failures", &sink.failures, &2);
+        same(&rt, "what was written", &room, b"abcd");
     }
 }
