@@ -100,7 +100,8 @@ fn ended_bad(mut replies: Vec<u8>, fault: WireFault) -> Result<Exchange, AllocEr
 
 /// Takes the run's next message, and answers its verdict.
 fn answer(recording: &mut Recording, message: &Message<'_>) -> Result<Reply, ExchangeFault>
-    ensures ok { IfOk result (λ reply. Answers recording.old recording.new (message_of message.now) (reply_of reply)) }
+    ensures ok { IfOk result (λ reply.
+        Answers recording.old recording.new (message_of message.now) (reply_of reply)) }
     ensures numbers { IfOk result HasWireNumbers }
     ensures err { IfErr result (λ fault. IsNotNext fault recording.old (message_of message.now)) }
 {
@@ -120,7 +121,8 @@ fn answer(recording: &mut Recording, message: &Message<'_>) -> Result<Reply, Exc
 /// Appends a reply's frame.
 fn put_reply(out: &mut Vec<u8>, reply: &Reply) -> Result<(), AllocError>
     requires { HasWireNumbers reply.now }
-    ensures frame { OnOk result (out.new.items ≡ out.old.items ++ framed (reply_body (reply_of reply.now))) }
+    ensures frame { OnOk result (out.new.items ≡
+        out.old.items ++ framed (reply_body (reply_of reply.now))) }
     ensures spelled { OnOk result (IsTrue (is_reply (reply_of reply.now))) }
 {
     let mut frame = ArrayVec::new();

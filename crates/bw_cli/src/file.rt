@@ -17,7 +17,8 @@ pub fn file_of_take(
     limit: Limit,
 ) -> Result<Vec<u8>, AllocError>
     requires { length samples.now ≤ 2 ^ 62 }
-    ensures { IfOk result (λ file. (t : Take) → parts t ≡ state.now.parts → t.samples ≡ samples.now →
+    ensures { IfOk result (λ file. (t : Take) →
+        parts t ≡ state.now.parts → t.samples ≡ samples.now →
         file.items ≡ file_with format.now t limit) }
 {
     let cues = cues_of_file(state);

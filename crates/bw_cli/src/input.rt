@@ -29,7 +29,8 @@ pub fn exchanges<R: Read + Drop>(alloc: Global, input: R) -> Result<Vec<Vec<u8>>
 /// All bytes of an input.
 fn all_bytes<R: Read + Drop>(alloc: Global, input: R) -> Result<Vec<u8>, Fault>
     ensures within { IfOk result (λ bytes. length bytes.items ≤ longest_input) }
-    ensures ok { IfOk result (λ bytes. (xs : List ℕ) → R.remaining input ≡ Some xs → bytes.items ≡ xs) }
+    ensures ok { IfOk result (λ bytes. (xs : List ℕ) →
+        R.remaining input ≡ Some xs → bytes.items ≡ xs) }
     ensures err { IfErr result (λ fault. (xs : List ℕ) → R.remaining input ≡ Some xs →
         Refuses fault (spelled_by xs)) }
 {
@@ -50,7 +51,8 @@ fn all_bytes<R: Read + Drop>(alloc: Global, input: R) -> Result<Vec<u8>, Fault>
 /// The bytes that each line spells.
 fn decoded_lines(alloc: Global, input: &[u8]) -> Result<Vec<Vec<u8>>, Fault>
     requires { length input.now ≤ longest_input }
-    ensures ok { IfOk result (λ found. decoded_from 1 (lines_of input.now) ≡ Ok (map (λ x. x.items) found.items)) }
+    ensures ok { IfOk result (λ found.
+        decoded_from 1 (lines_of input.now) ≡ Ok (map (λ x. x.items) found.items)) }
     ensures short { IfOk result (λ found. All (λ x. length x.items ≤ longest_input) found.items) }
     ensures err { IfErr result (λ fault. IsLineFault fault (decoded_from 1 (lines_of input.now))) }
 {

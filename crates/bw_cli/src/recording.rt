@@ -109,10 +109,12 @@ fn apply(
 ) -> Result<Verdict, AllocError>
     requires fits { IsTrue (is_request (meaning request.now)) }
     requires room { state.old.parts.samples_len + 32768 ≤ 2 ^ 62 }
-    ensures verdict { IfOk result (λ v. verdict_of v ≡ judgement state.old.parts (meaning request.now)) }
+    ensures verdict { IfOk result (λ v.
+        verdict_of v ≡ judgement state.old.parts (meaning request.now)) }
     ensures take { OnOk result ((t : Take) → parts t ≡ state.old.parts →
         parts (after t (meaning request.now)) ≡ state.new.parts) }
-    ensures samples { OnOk result ((t : Take) → parts t ≡ state.old.parts → samples.old.items ≡ t.samples →
+    ensures samples { OnOk result ((t : Take) →
+        parts t ≡ state.old.parts → samples.old.items ≡ t.samples →
         samples.new.items ≡ (after t (meaning request.now)).samples) }
     ensures count { OnOk result (state.new.parts.samples_len + vec_len samples.old
         ≡ state.old.parts.samples_len + vec_len samples.new) }
@@ -132,7 +134,8 @@ fn apply(
 
 /// Appends the samples of a block.
 fn append_samples(samples: &mut Vec<u8>, request: &RequestRef<'_>) -> Result<(), AllocError>
-    ensures ok { OnOk result (samples.new.items ≡ samples.old.items ++ samples_of (meaning request.now)) }
+    ensures ok { OnOk result (samples.new.items ≡
+        samples.old.items ++ samples_of (meaning request.now)) }
     ensures err { OnErr result (samples.new.items ≡ samples.old.items) }
 {
     if let RequestRef::Block { bytes } = *request {

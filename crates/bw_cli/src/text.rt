@@ -20,7 +20,8 @@ use std::alloc::{AllocError, Global};
 
 /// The exchanges with their replies, and then the take's file.
 pub fn text_of_run(alloc: Global, limit: Limit, run: &Run) -> Result<Vec<u8>, AllocError>
-    ensures { IfOk result (λ text. (inputs : List (List ℕ)) → Ran inputs run.now → text.items ≡ run_text limit inputs) }
+    ensures { IfOk result (λ text. (inputs : List (List ℕ)) →
+        Ran inputs run.now → text.items ≡ run_text limit inputs) }
 {
     let mut text = Vec::new(alloc);
     put_exchanges(alloc, &mut text, run.exchanges.as_slice())?;
@@ -47,8 +48,8 @@ fn put_exchange_line(
     index: usize,
     end: ExchangeEnd,
 ) -> Result<(), AllocError>
-    ensures { OnOk result (out.new.items ≡
-        out.old.items ++ line (codes "exchange " ++ decimal index ++ codes " " ++ name_of_end (end_of end))) }
+    ensures { OnOk result (out.new.items ≡ out.old.items ++
+        line (codes "exchange " ++ decimal index ++ codes " " ++ name_of_end (end_of end))) }
 {
     let name = end_name(end);
     let text = format!(in alloc; "exchange {index} {name}\n")?;
@@ -68,8 +69,9 @@ fn end_name(end: ExchangeEnd) -> &'static str
 
 /// Adds a line for each reply whose frame these bytes have.
 fn put_replies(alloc: Global, out: &mut Vec<u8>, frames: &[u8]) -> Result<(), AllocError>
-    ensures { OnOk result ((replies : List Reply) → IsTrue (list_all is_reply replies) →
-        frames.now ≡ replies_bytes replies → out.new.items ≡ out.old.items ++ flat_map reply_line replies) }
+    ensures { OnOk result ((replies : List Reply) →
+        IsTrue (list_all is_reply replies) → frames.now ≡ replies_bytes replies →
+        out.new.items ≡ out.old.items ++ flat_map reply_line replies) }
 {
     let mut rest = frames;
     while !rest.is_empty() {
@@ -116,7 +118,8 @@ fn put_files(
 /// Adds a file's name and length, and its bytes in hex.
 #[tactic(auto, using(std::proofs::lemmas::List::append_assoc))]
 fn put_file(alloc: Global, out: &mut Vec<u8>, file: &TakeFile) -> Result<(), AllocError>
-    ensures { OnOk result (out.new.items ≡ out.old.items ++ file_text file.now.name file.now.content.items) }
+    ensures { OnOk result (out.new.items ≡
+        out.old.items ++ file_text file.now.name file.now.content.items) }
 {
     let content = file.content.as_slice();
     let size = content.len();
@@ -135,7 +138,8 @@ fn put_hex_line(
     words: &str,
     bytes: &[u8],
 ) -> Result<(), AllocError>
-    ensures { OnOk result (out.new.items ≡ out.old.items ++ line (words.now ++ encode_lower bytes.now)) }
+    ensures { OnOk result (out.new.items ≡
+        out.old.items ++ line (words.now ++ encode_lower bytes.now)) }
 {
     let digits = hex::encode(alloc, bytes)?;
     out.extend_from_slice(words.as_bytes())?;

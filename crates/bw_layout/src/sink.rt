@@ -18,7 +18,8 @@ pub trait Sink {
         ensures count { failures self.new ≡ failures_after result (failures self.old) }
         ensures within { IfOk result (λ n. n ≤ length bytes.now) }
         ensures some { IfOk result (λ n. 0 < length bytes.now → 0 < n) }
-        ensures ok { IfOk result (λ n. Writes (written self.old) (take n bytes.now) (written self.new)) }
+        ensures ok { IfOk result (λ n.
+            Writes (written self.old) (take n bytes.now) (written self.new)) }
         ensures err { OnErr result (Keeps (written self.old) (written self.new)) };
 }
 

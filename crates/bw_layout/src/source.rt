@@ -19,7 +19,8 @@ pub trait Source {
     fn read(&mut self, buf: &mut [u8]) -> Result<usize, IoFailed>
         ensures count { failures self.new ≡ failures_after result (failures self.old) }
         ensures within { IfOk result (λ n. n ≤ length buf.old) }
-        ensures ok { IfOk result (λ n. Reads (left self.old) (length buf.old) n buf.new (left self.new)) }
+        ensures ok { IfOk result (λ n.
+            Reads (left self.old) (length buf.old) n buf.new (left self.new)) }
         ensures err { OnErr result (Keeps (left self.old) (left self.new)) };
 
     /// Passes over some of the next bytes, at most `most` and at least one unless they are at their end.

@@ -48,7 +48,8 @@ fn begin(
     payload_len: usize,
 ) -> Result<Vec<u8>, AllocError>
     requires { payload_len ≤ 32768 }
-    ensures items { IfOk result (λ v. v.items ≡ le32 (6 + length name.now + payload_len) ++ addressed kind name.now number) }
+    ensures items { IfOk result (λ v. v.items ≡
+        le32 (6 + length name.now + payload_len) ++ addressed kind name.now number) }
     ensures named { OnOk result (IsTrue (is_name name.now)) }
 {
     let bytes = name.as_bytes();

@@ -102,15 +102,11 @@ impl Framer {
         ensures told { told result ≡ (after self.old).0 }
         ensures held { HoldsAtMost 32809 (after self.old) }
     {
+        let offset = self.used;
         match self.phase {
             Phase::Reading => {}
             Phase::Left => return Ok(Some(Frame::Bye)),
-            Phase::Failed(reason) => {
-                return Err(WireFault {
-                    reason,
-                    offset: self.used,
-                });
-            }
+            Phase::Failed(reason) => return Err(WireFault { reason, offset }),
         }
         match front_of(bytes_from(&self.buffer, self.start)) {
             Front::Partial => {
@@ -122,10 +118,7 @@ impl Framer {
                 self.buffer.clear();
                 self.start = 0;
                 self.phase = Phase::Failed(reason);
-                Err(WireFault {
-                    reason,
-                    offset: self.used,
-                })
+                Err(WireFault { reason, offset })
             }
             Front::Bye(len) => {
                 self.buffer.clear();
@@ -138,17 +131,15 @@ impl Framer {
                 let at = self.start + 4;
                 self.start = at + len;
                 self.used += 4 + len as u64;
-                Ok(Some(Frame::Message(Message {
-                    body: &self.buffer[at..at + len],
-                })))
+                let body = &self.buffer[at..at + len];
+                Ok(Some(Frame::Message(Message { body })))
             }
             Front::Ask(len) => {
                 let at = self.start + 4;
                 self.start = at + len;
                 self.used += 4 + len as u64;
-                Ok(Some(Frame::Ask(Ask {
-                    body: &self.buffer[at..at + len],
-                })))
+                let body = &self.buffer[at..at + len];
+                Ok(Some(Frame::Ask(Ask { body })))
             }
         }
     }

@@ -49,7 +49,8 @@ pub fn encode_reply(reply: &Reply, out: &mut ArrayVec<u8, 64>)
 fn put_address(out: &mut ArrayVec<u8, 64>, kind: u8, name: &Name, number: u32, more: u32)
     requires empty { out.old.items ≡ [] }
     requires more { more ≤ 5 }
-    ensures items { out.new.items ≡ le32 (6 + length name.now + more) ++ addressed kind name.now number }
+    ensures items { out.new.items ≡
+        le32 (6 + length name.now + more) ++ addressed kind name.now number }
     ensures len { array_vec_len out.new ≡ 10 + length name.now }
     ensures named { IsTrue (is_name name.now) }
     ensures short { length name.now ≤ 32 }
