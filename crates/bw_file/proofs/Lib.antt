@@ -1,4 +1,6 @@
 pub mod Names
+pub mod Asked
+pub mod PlanForms
 pub mod Bytes
 pub mod Torn
 pub mod Tears

@@ -20,13 +20,17 @@ pub record Growing : Type 0 where
 abbrev pub IsReady : Growing → Take → Request → Option (List ℕ) → Type 0
 IsReady g t r found = MatchBool g.dirty (IsBetween t g.limit r found) (found ≡ file_of t g.limit)
 
--- The file of the take with the request stands, or after a fault what another try of the request repairs.
-abbrev pub Leaves : {T E : Type 0} → Result T E → Growing → Take → Request → Option (List ℕ) → Type 0
+-- The file of the take with the request stands, or after a fault what another try repairs.
+abbrev pub Leaves : {T E : Type 0} → Result T E → Growing → Take → Request →
+    Option (List ℕ) → Type 0
 Leaves answer g t r found =
-    MatchResult answer (λ _. found ≡ file_of (with_request t r) g.limit) (λ _. IsBetween t g.limit r found)
+    MatchResult answer
+    (λ _. found ≡ file_of (with_request t r) g.limit)
+    (λ _. IsBetween t g.limit r found)
 
 -- A call stores the request in the file, or leaves what another try repairs.
-abbrev pub Stores : {T E : Type 0} → Result T E → Growing → Take → Request → Option (List ℕ) → Option (List ℕ) → Type 0
+abbrev pub Stores : {T E : Type 0} → Result T E → Growing → Take → Request →
+    Option (List ℕ) → Option (List ℕ) → Type 0
 Stores answer g t r before after = IsReady g t r before → Leaves answer g t r after
 
 -- a request that is to be stored sets the fields to these
@@ -41,17 +45,21 @@ abbrev pub IsBegun : Growing → Take → Request → Option (List ℕ) → Type
 IsBegun g t r found = IsSome found × IsBetween t g.limit r found
 
 -- A name that is made then has the file of the opened take, or after a fault a beginning of it.
-abbrev pub Begins : {T E : Type 0} → Result T E → Growing → Bool → Take → Request → Option (List ℕ) → Option (List ℕ) → Type 0
+abbrev pub Begins : {T E : Type 0} → Result T E → Growing → Bool → Take → Request →
+    Option (List ℕ) → Option (List ℕ) → Type 0
 Begins answer g made t r before after =
     (IsTrue g.made → IsBegun g t r before) → IsTrue made →
-    MatchResult answer (λ _. after ≡ file_of (with_request t r) g.limit) (λ _. IsBegun g t r after)
+    MatchResult answer
+    (λ _. after ≡ file_of (with_request t r) g.limit)
+    (λ _. IsBegun g t r after)
 
 abbrev pub is_new : Created → Bool
 is_new New = true
 is_new Exists = false
 
 -- A name is made where it did not stand, and as long as it isn't made nothing under it changes.
-pub record AsksForName (made_before made_after : Bool) (before after : Option (List ℕ)) : Type 0 where
+pub record AsksForName (made_before made_after : Bool) (before after : Option (List ℕ)) :
+    Type 0 where
   pub made : IsFalse made_before → IsTrue made_after → before ≡ None
   pub untouched : IsFalse made_after → after ≡ before
   pub keeps : IsTrue made_before → IsTrue made_after

@@ -4,18 +4,22 @@ use Rattle.std.specs.Prelude.{◌≡◌, ℕ, ◌≤◌, List, ◌++◌, length,
 -- These bytes stand behind the others, in place of no more.
 abbrev pub PutsLast : ℕ → List ℕ → Option (List ℕ) → Option (List ℕ) → Type 0
 PutsLast place bytes before after =
-    (base rest : List ℕ) → before ≡ Some (base ++ rest) → length base ≡ place → length rest ≤ length bytes → after ≡ Some (base ++ bytes)
+    (base rest : List ℕ) → before ≡ Some (base ++ rest) → length base ≡ place →
+    length rest ≤ length bytes → after ≡ Some (base ++ bytes)
 
 -- A header stands in place of as many bytes.
 abbrev pub PutsHeader : List ℕ → Option (List ℕ) → Option (List ℕ) → Type 0
 PutsHeader header before after =
-    (front tail : List ℕ) → before ≡ Some (front ++ tail) → length front ≡ length header → after ≡ Some (header ++ tail)
+    (front tail : List ℕ) → before ≡ Some (front ++ tail) → length front ≡ length header →
+    after ≡ Some (header ++ tail)
 
 -- .. in place of this one
 abbrev pub Updates : List ℕ → List ℕ → Option (List ℕ) → Option (List ℕ) → Type 0
-Updates old new before after = (tail : List ℕ) → before ≡ Some (old ++ tail) → after ≡ Some (new ++ tail)
+Updates old new before after =
+    (tail : List ℕ) → before ≡ Some (old ++ tail) → after ≡ Some (new ++ tail)
 
 -- .. in place of any bytes, or of this one where the file is clean
 abbrev pub PutsOver : Bool → List ℕ → List ℕ → Option (List ℕ) → Option (List ℕ) → Type 0
 PutsOver is_clean old new before after =
-    (front tail : List ℕ) → before ≡ Some (front ++ tail) → length front ≡ length new → (IsTrue is_clean → front ≡ old) → after ≡ Some (new ++ tail)
+    (front tail : List ℕ) → before ≡ Some (front ++ tail) → length front ≡ length new →
+    (IsTrue is_clean → front ≡ old) → after ≡ Some (new ++ tail)

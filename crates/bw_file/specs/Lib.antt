@@ -1,7 +1,9 @@
 pub mod Stores
+pub mod Calls
 pub mod Memory
 pub mod MemoryNames
 pub mod Fuses
 pub mod Growing
 pub mod Headers
 pub mod Headings
+pub mod Plans

@@ -8,7 +8,7 @@ use Rattle.bw_file.specs.declared.store.Created.TheVariants.{New, Exists}
 abbrev pub last_count : ℕ
 last_count = 18446744073709551615
 
--- A count rises by one in a call where the thing happens, and only there; at its last value it stays.
+-- A count rises by one in a call where the thing happens, and only there.
 pub record Counts (before after : ℕ) (happens : Bool) : Type 0 where
   pub quiet : IsFalse happens → after ≡ before
   pub rises : IsTrue happens → before < last_count → after ≡ before + 1
@@ -29,7 +29,7 @@ abbrev pub Written : Option (List ℕ) → ℕ → List ℕ → Option (List ℕ
 Written before place bytes after =
     (old : List ℕ) × (before ≡ Some old) × (after ≡ Some (overwritten old place bytes))
 
--- a content with any bytes in the n bytes from a place on, as long as the old one up to the range's end
+-- a content with any bytes in the n bytes from a place on, no longer than up to their end
 pub record Torn (old : List ℕ) (place n : ℕ) (new : List ℕ) : Type 0 where
   pub no_shorter : length old ≤ length new
   pub no_longer : length new ≤ max (length old) (place + n)
@@ -39,7 +39,9 @@ pub record Torn (old : List ℕ) (place n : ℕ) (new : List ℕ) : Type 0 where
 -- .. after a `write_at` of n bytes that fails: no name is made
 abbrev pub MayTear : Option (List ℕ) → ℕ → ℕ → Option (List ℕ) → Type 0
 MayTear before place n after =
-    (before ≡ None → after ≡ None) × ((old : List ℕ) → before ≡ Some old → (new : List ℕ) × (after ≡ Some new) × Torn old place n new)
+    (before ≡ None → after ≡ None)
+    × ((old : List ℕ) → before ≡ Some old →
+    (new : List ℕ) × (after ≡ Some new) × Torn old place n new)
 
 -- each other name has what it had
 abbrev pub KeepsOthers : (List ℕ → Option (List ℕ)) → (List ℕ → Option (List ℕ)) → List ℕ → Type 0

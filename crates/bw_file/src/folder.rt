@@ -18,9 +18,9 @@ struct OpenTake<F: Drop> {
 
 /// The files `NAME.wav` of one folder.
 ///
-/// Only files that this store made are written: a name that stands is never opened. A call fails where the folder or
-/// the file does, and where memory is refused. That the disk keeps what it answered with success is a premise, which
-/// no clause can say.
+/// Only files that this store made are written: a name that stands is never opened. A call fails
+/// where the folder or the file does, and where memory is refused. That the disk keeps what it
+/// answered with success is a premise, which no clause can say.
 #[derive(Drop)]
 pub struct FolderStore<R: Files + Drop> {
     rt: R,

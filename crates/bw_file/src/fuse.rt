@@ -1,6 +1,7 @@
 //! A store that fails chosen calls.
-ghost use Rattle.std.specs.Prelude.{◌≡◌, ◌<◌, ◌==◌, ℕ, List, Option, true, not, IsTrue, IfOk, OnOk, OnErr, is_err, is_ok, length, filter, if◌then◌else◌};
+ghost use Rattle.std.specs.Prelude.{◌≡◌, ◌<◌, ◌==◌, ℕ, List, [], ◌∷◌, Option, None, true, not, IsTrue, IfOk, OnOk, OnErr, is_err, is_ok, length, filter, if◌then◌else◌};
 ghost use Rattle.bw_file.specs.Stores.{Counts, Creates, Written, MayTear, KeepsOthers, last_count};
+ghost use Rattle.bw_file.specs.Calls.{Create, WriteAt, Finish, Asks};
 ghost use Rattle.bw_file.specs.Fuses.{has_fuse, Blows, first_half, with_written};
 
 use crate::store::{Created, StoreFault, TakeStore};
@@ -82,6 +83,7 @@ impl<S: TakeStore> TakeStore for FuseStore<S> {
     fn create(&mut self, name: &Name) -> Result<Created, StoreFault>
         ensures failures { Counts self.old.tally.failures self.new.tally.failures (is_err result) }
         ensures calls { Counts self.old.tally.calls self.new.tally.calls true }
+        ensures asked { Asks (Create name.now ∷ []) None None }
         ensures honest { S.honest self.new.inner ≡ S.honest self.old.inner }
         ensures created { IsTrue (S.honest self.old.inner) → IfOk result (λ c.
             Creates c (S.contents self.old.inner name.now) (S.contents self.new.inner name.now)) }
@@ -109,9 +111,11 @@ impl<S: TakeStore> TakeStore for FuseStore<S> {
     fn write_at(&mut self, name: &Name, offset: u64, bytes: &[u8]) -> Result<(), StoreFault>
         ensures failures { Counts self.old.tally.failures self.new.tally.failures (is_err result) }
         ensures calls { Counts self.old.tally.calls self.new.tally.calls true }
+        ensures asked { Asks (WriteAt name.now offset (length bytes.now) ∷ []) None None }
         ensures honest { S.honest self.new.inner ≡ S.honest self.old.inner }
         ensures all { IsTrue (S.honest self.old.inner) → OnOk result (Written
-            (S.contents self.old.inner name.now) offset bytes.now (S.contents self.new.inner name.now)) }
+            (S.contents self.old.inner name.now) offset bytes.now
+            (S.contents self.new.inner name.now)) }
         ensures failed { IsTrue (S.honest self.old.inner) → OnErr result (MayTear
             (S.contents self.old.inner name.now) offset (length bytes.now)
             (S.contents self.new.inner name.now)) }
@@ -127,8 +131,9 @@ impl<S: TakeStore> TakeStore for FuseStore<S> {
             (S.contents self.new.inner name.now) }
         ensures spent { self.new.fuses.items
             ≡ filter (λ f. not (f == self.old.tally.calls)) self.old.fuses.items }
-        ensures written { self.new.written
-            ≡ (if is_ok result then with_written self.old.written (length bytes.now) else self.old.written) }
+        ensures written { self.new.written ≡ (if is_ok result
+            then with_written self.old.written (length bytes.now)
+            else self.old.written) }
     {
         let answer = if blow(&mut self.fuses, self.tally.calls()) {
             write_half(&mut self.inner, name, offset, bytes);
@@ -146,6 +151,7 @@ impl<S: TakeStore> TakeStore for FuseStore<S> {
     fn finish(&mut self, name: &Name) -> Result<(), StoreFault>
         ensures failures { Counts self.old.tally.failures self.new.tally.failures (is_err result) }
         ensures calls { Counts self.old.tally.calls self.new.tally.calls true }
+        ensures asked { Asks (Finish name.now ∷ []) None None }
         ensures honest { S.honest self.new.inner ≡ S.honest self.old.inner }
         ensures unchanged { IsTrue (S.honest self.old.inner) → (other : List ℕ) →
             S.contents self.new.inner other ≡ S.contents self.old.inner other }

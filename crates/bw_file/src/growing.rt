@@ -1,8 +1,11 @@
 //! The file of a take, which grows with it.
-ghost use Rattle.std.specs.Prelude.{◌≡◌, ◌≤◌, ◌+◌, ◌^◌, ◌*◌, ℕ, List, [], IsSome, IsTrue, IsFalse, IfOk, OnErr, is_err, length, true, false};
+ghost use Rattle.std.specs.Prelude.{◌≡◌, ◌≤◌, ◌+◌, ◌^◌, ◌*◌, ℕ, List, [], IsSome, IsTrue, IsFalse, IfOk, OnOk, OnErr, is_err, length, true, false};
 ghost use Rattle.bw_model.specs.Take.{Take, Stored, Open, Block, SetField, Close, judge, parts, frames, with_field};
+ghost use Rattle.bw_model.specs.File.{data_place};
 ghost use Rattle.bw_model.specs.Wire.{is_request};
 ghost use Rattle.bw_file.specs.Stores.{Counts, KeepsOthers};
+ghost use Rattle.bw_file.specs.Calls.{Asks, AsksFirst};
+ghost use Rattle.bw_file.specs.Plans.{name_plan, header_plan, begin_plan, append_plan, close_plan};
 ghost use Rattle.bw_file.specs.Growing.{Growing, Stores, Sets, Begins, AsksForName, IsFresh, is_new};
 
 use crate::heading::Heading;
@@ -18,8 +21,9 @@ use std::marker::Model;
 
 /// The file of one take, which is whole after each call that succeeds.
 ///
-/// After a call that failed the file is dirty, and the same call may be tried again: it writes the whole header then,
-/// and else what changed in it. The room in which a header is built is there from the start.
+/// After a call that failed the file is dirty, and the same call may be tried again: it writes the
+/// whole header then, and else what changed in it. The room in which a header is built is there
+/// from the start.
 #[derive(Drop)]
 pub struct GrowingFile {
     name: Name,
@@ -30,6 +34,8 @@ pub struct GrowingFile {
 }
 
 impl Model for GrowingFile {
+    ghost use Rattle.bw_file.specs.Calls.{Asks, AsksFirst};
+    ghost use Rattle.bw_file.specs.Plans.{name_plan, header_plan, begin_plan, append_plan, close_plan};
     ghost use Rattle.bw_file.specs.Growing.{Growing};
 
     ghost Value = { Growing };
@@ -77,10 +83,16 @@ impl GrowingFile {
     ) -> Result<Created, StoreFault>
         requires fits { IsTrue (is_request (Open format history.now)) }
         requires stored { judge state.now.parts (Open format history.now) ≡ Stored }
-        ensures ok { IfOk result (λ c. self.new ≡ record self.old { made = is_new c; dirty = false }) }
-        ensures err { OnErr result (self.new ≡ record self.old { made = self.new.made; dirty = true }) }
+        ensures ok { IfOk result (λ c.
+            self.new ≡ record self.old { made = is_new c; dirty = false }) }
+        ensures err { OnErr result
+            (self.new ≡ record self.old { made = self.new.made; dirty = true }) }
         ensures failures { Counts (S.failures store.old) (S.failures store.new) (is_err result) }
         ensures calls { S.calls store.new ≤ S.calls store.old + 2 }
+        ensures order { IfOk result (λ c. Asks (begin_plan self.old (is_new c) (length history.now))
+            (S.asked store.old) (S.asked store.new)) }
+        ensures begun { OnErr result (AsksFirst (begin_plan self.old true (length history.now))
+            (S.asked store.old) (S.asked store.new)) }
         ensures honest { S.honest store.new ≡ S.honest store.old }
         ensures others { IsTrue (S.honest store.old) →
             KeepsOthers (S.contents store.old) (S.contents store.new) self.old.name }
@@ -134,6 +146,12 @@ impl GrowingFile {
         ensures known { self.new ≡ record self.old { dirty = is_err result } }
         ensures failures { Counts (S.failures store.old) (S.failures store.new) (is_err result) }
         ensures calls { S.calls store.new ≤ S.calls store.old + 4 }
+        ensures order { OnOk result (Asks
+            (append_plan self.old state.now.parts (length samples.now))
+            (S.asked store.old) (S.asked store.new)) }
+        ensures begun { OnErr result (AsksFirst
+            (append_plan self.old state.now.parts (length samples.now))
+            (S.asked store.old) (S.asked store.new)) }
         ensures honest { S.honest store.new ≡ S.honest store.old }
         ensures others { IsTrue (S.honest store.old) →
             KeepsOthers (S.contents store.old) (S.contents store.new) self.old.name }
@@ -174,6 +192,11 @@ impl GrowingFile {
         ensures known { self.new ≡ record self.old { dirty = is_err result } }
         ensures failures { Counts (S.failures store.old) (S.failures store.new) (is_err result) }
         ensures calls { S.calls store.new ≤ S.calls store.old + 1 }
+        ensures whole { IsTrue self.old.dirty → OnOk result (Asks
+            (header_plan self.old.name (data_place (length state.now.parts.history)))
+            (S.asked store.old) (S.asked store.new)) }
+        ensures nothing { IsFalse self.old.dirty → bext.now ≡ state.now.parts.fields →
+            S.calls store.new ≡ S.calls store.old }
         ensures honest { S.honest store.new ≡ S.honest store.old }
         ensures others { IsTrue (S.honest store.old) →
             KeepsOthers (S.contents store.old) (S.contents store.new) self.old.name }
@@ -212,6 +235,10 @@ impl GrowingFile {
         ensures known { self.new ≡ record self.old { dirty = is_err result } }
         ensures failures { Counts (S.failures store.old) (S.failures store.new) (is_err result) }
         ensures calls { S.calls store.new ≤ S.calls store.old + 3 }
+        ensures order { OnOk result (Asks (close_plan self.old state.now.parts)
+            (S.asked store.old) (S.asked store.new)) }
+        ensures begun { OnErr result (AsksFirst (close_plan self.old state.now.parts)
+            (S.asked store.old) (S.asked store.new)) }
         ensures honest { S.honest store.new ≡ S.honest store.old }
         ensures others { IsTrue (S.honest store.old) →
             KeepsOthers (S.contents store.old) (S.contents store.new) self.old.name }
@@ -251,6 +278,10 @@ fn make_name<S: TakeStore>(
     ensures err { OnErr result ((made.old ≡ false) × (made.new ≡ false)) }
     ensures failures { Counts (S.failures store.old) (S.failures store.new) (is_err result) }
     ensures calls { S.calls store.new ≤ S.calls store.old + 1 }
+    ensures order { OnOk result (Asks (name_plan name.now made.old)
+        (S.asked store.old) (S.asked store.new)) }
+    ensures begun { OnErr result (AsksFirst (name_plan name.now made.old)
+        (S.asked store.old) (S.asked store.new)) }
     ensures honest { S.honest store.new ≡ S.honest store.old }
     ensures others { IsTrue (S.honest store.old) →
         KeepsOthers (S.contents store.old) (S.contents store.new) name.now }

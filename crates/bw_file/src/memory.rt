@@ -43,7 +43,8 @@ impl MemoryStore {
         ensures ok { OnOk result (content_of self.new.files name.now ≡ Some bytes.now) }
         ensures err { OnErr result
             (content_of self.new.files name.now ≡ content_of self.old.files name.now) }
-        ensures others { KeepsOthers (content_of self.old.files) (content_of self.new.files) name.now }
+        ensures others { KeepsOthers
+            (content_of self.old.files) (content_of self.new.files) name.now }
         ensures tally { self.new.tally ≡ self.old.tally }
     {
         let content = bytes.to_vec(self.alloc)?;

@@ -1,6 +1,7 @@
 //! Where takes are kept: contents by name.
-ghost use Rattle.std.specs.Prelude.{◌≡◌, ℕ, List, Bool, Option, true, length, IsTrue, IfOk, OnOk, OnErr, is_err};
+ghost use Rattle.std.specs.Prelude.{◌≡◌, ℕ, List, Bool, Option, None, true, length, IsTrue, IfOk, OnOk, OnErr, is_err, [], ◌∷◌};
 ghost use Rattle.bw_file.specs.Stores.{Counts, Creates, Written, MayTear, KeepsOthers};
+ghost use Rattle.bw_file.specs.Calls.{StoreCall, Create, WriteAt, Finish, Asks};
 
 use bw_take::Name;
 use thiserror::Error;
@@ -21,7 +22,8 @@ pub struct StoreFault;
 
 /// Contents by name, which grow by writes.
 ///
-/// The clauses on contents speak of an honest store: one that keeps the writes that it answered with success.
+/// The clauses on contents speak of an honest store: one that keeps the writes that it answered
+/// with success.
 pub trait TakeStore: Drop {
     /// What stands under each name.
     ghost contents: { Self → List ℕ → Option (List ℕ) };
@@ -31,6 +33,9 @@ pub trait TakeStore: Drop {
 
     /// How many calls came; the count stays at 2^64 - 1.
     ghost calls: { Self → ℕ };
+
+    /// Which calls came, in their order, where the store notes them.
+    ghost asked: { Self → Option (List StoreCall) } = { λ _. None };
 
     /// Whether the store does what the clauses on contents say.
     ghost honest: { Self → Bool };
@@ -42,6 +47,7 @@ pub trait TakeStore: Drop {
     fn create(&mut self, name: &Name) -> Result<Created, StoreFault>
         ensures failures { Counts (failures self.old) (failures self.new) (is_err result) }
         ensures calls { Counts (calls self.old) (calls self.new) true }
+        ensures asked { Asks (Create name.now ∷ []) (asked self.old) (asked self.new) }
         ensures honest { honest self.new ≡ honest self.old }
         ensures created { IsTrue (honest self.old) →
             IfOk result (λ c. Creates c (contents self.old name.now) (contents self.new name.now)) }
@@ -57,11 +63,13 @@ pub trait TakeStore: Drop {
     fn write_at(&mut self, name: &Name, offset: u64, bytes: &[u8]) -> Result<(), StoreFault>
         ensures failures { Counts (failures self.old) (failures self.new) (is_err result) }
         ensures calls { Counts (calls self.old) (calls self.new) true }
+        ensures asked { Asks (WriteAt name.now offset (length bytes.now) ∷ [])
+            (asked self.old) (asked self.new) }
         ensures honest { honest self.new ≡ honest self.old }
         ensures written { IsTrue (honest self.old) → OnOk result
             (Written (contents self.old name.now) offset bytes.now (contents self.new name.now)) }
-        ensures failed { IsTrue (honest self.old) → OnErr result
-            (MayTear (contents self.old name.now) offset (length bytes.now) (contents self.new name.now)) }
+        ensures failed { IsTrue (honest self.old) → OnErr result (MayTear
+            (contents self.old name.now) offset (length bytes.now) (contents self.new name.now)) }
         ensures others { IsTrue (honest self.old) →
             KeepsOthers (contents self.old) (contents self.new) name.now };
 
@@ -72,6 +80,7 @@ pub trait TakeStore: Drop {
     fn finish(&mut self, name: &Name) -> Result<(), StoreFault>
         ensures failures { Counts (failures self.old) (failures self.new) (is_err result) }
         ensures calls { Counts (calls self.old) (calls self.new) true }
+        ensures asked { Asks (Finish name.now ∷ []) (asked self.old) (asked self.new) }
         ensures honest { honest self.new ≡ honest self.old }
         ensures unchanged { IsTrue (honest self.old) →
             (other : List ℕ) → contents self.new other ≡ contents self.old other };

@@ -1,8 +1,10 @@
 //! The writes of a growing file: each leaves what its caller can still repair.
-ghost use Rattle.std.specs.Prelude.{◌≡◌, ◌≤◌, ◌<◌, ◌+◌, ◌*◌, ◌%◌, ◌^◌, ◌++◌, IsTrue, OnOk, length, is_err, flat_map, not};
+ghost use Rattle.std.specs.Prelude.{◌≡◌, ◌≤◌, ◌<◌, ◌+◌, ◌*◌, ◌%◌, ◌^◌, ◌++◌, IsTrue, IsFalse, OnOk, OnErr, length, is_err, flat_map, not};
 ghost use Rattle.bw_model.specs.Layout.{chunk, pad};
 ghost use Rattle.bw_model.specs.File.{cue_chunks};
 ghost use Rattle.bw_file.specs.Stores.{Counts, MayTear, KeepsOthers};
+ghost use Rattle.bw_file.specs.Calls.{Asks, AsksFirst};
+ghost use Rattle.bw_file.specs.Plans.{samples_plan, cues_plan, header_plan, sizes_plan, form_plan, grown_plan, closed_plan};
 ghost use Rattle.bw_file.specs.Headers.{PutsLast, PutsHeader, PutsOver, Updates};
 ghost use Rattle.bw_file.specs.Headings.{header_of, place_of, is_riff};
 
@@ -23,6 +25,12 @@ pub(crate) fn put_samples<S: TakeStore>(
     requires { place + length samples.now < 2 ^ 63 }
     ensures failures { Counts (S.failures store.old) (S.failures store.new) (is_err result) }
     ensures calls { S.calls store.new ≤ S.calls store.old + 2 }
+    ensures order { OnOk result (Asks
+        (samples_plan name.now place (length samples.now))
+        (S.asked store.old) (S.asked store.new)) }
+    ensures begun { OnErr result (AsksFirst
+        (samples_plan name.now place (length samples.now))
+        (S.asked store.old) (S.asked store.new)) }
     ensures honest { S.honest store.new ≡ S.honest store.old }
     ensures others { IsTrue (S.honest store.old) →
         KeepsOthers (S.contents store.old) (S.contents store.new) name.now }
@@ -52,6 +60,12 @@ pub(crate) fn put_cues<S: TakeStore>(
     requires markers { length markers.now ≤ 1024 }
     ensures failures { Counts (S.failures store.old) (S.failures store.new) (is_err result) }
     ensures calls { S.calls store.new ≤ S.calls store.old + 1 }
+    ensures order { OnOk result (Asks
+        (cues_plan name.now place (length markers.now))
+        (S.asked store.old) (S.asked store.new)) }
+    ensures begun { OnErr result (AsksFirst
+        (cues_plan name.now place (length markers.now))
+        (S.asked store.old) (S.asked store.new)) }
     ensures honest { S.honest store.new ≡ S.honest store.old }
     ensures others { IsTrue (S.honest store.old) →
         KeepsOthers (S.contents store.old) (S.contents store.new) name.now }
@@ -82,6 +96,12 @@ pub(crate) fn put_header<S: TakeStore>(
     requires cues { cues ≤ 1024 }
     ensures failures { Counts (S.failures store.old) (S.failures store.new) (is_err result) }
     ensures calls { S.calls store.new ≤ S.calls store.old + 1 }
+    ensures order { OnOk result (Asks
+        (header_plan name.now (place_of heading.now))
+        (S.asked store.old) (S.asked store.new)) }
+    ensures begun { OnErr result (AsksFirst
+        (header_plan name.now (place_of heading.now))
+        (S.asked store.old) (S.asked store.new)) }
     ensures honest { S.honest store.new ≡ S.honest store.old }
     ensures others { IsTrue (S.honest store.old) →
         KeepsOthers (S.contents store.old) (S.contents store.new) name.now }
@@ -115,6 +135,14 @@ pub(crate) fn put_grown_header<S: TakeStore>(
     requires samples { after ≤ 2 ^ 62 }
     ensures failures { Counts (S.failures store.old) (S.failures store.new) (is_err result) }
     ensures calls { S.calls store.new ≤ S.calls store.old + 2 }
+    ensures order { OnOk result (Asks
+        (grown_plan is_clean name.now (place_of heading.now)
+        (is_riff heading.now before 0) (is_riff heading.now after 0))
+        (S.asked store.old) (S.asked store.new)) }
+    ensures begun { OnErr result (AsksFirst
+        (grown_plan is_clean name.now (place_of heading.now)
+        (is_riff heading.now before 0) (is_riff heading.now after 0))
+        (S.asked store.old) (S.asked store.new)) }
     ensures honest { S.honest store.new ≡ S.honest store.old }
     ensures others { IsTrue (S.honest store.old) →
         KeepsOthers (S.contents store.old) (S.contents store.new) name.now }
@@ -145,6 +173,12 @@ fn put_grown_sizes<S: TakeStore>(
     requires samples { after ≤ 2 ^ 62 }
     ensures failures { Counts (S.failures store.old) (S.failures store.new) (is_err result) }
     ensures calls { S.calls store.new ≤ S.calls store.old + 2 }
+    ensures order { OnOk result (Asks
+        (sizes_plan name.now (place_of heading.now) (is_riff heading.now after 0))
+        (S.asked store.old) (S.asked store.new)) }
+    ensures begun { OnErr result (AsksFirst
+        (sizes_plan name.now (place_of heading.now) (is_riff heading.now after 0))
+        (S.asked store.old) (S.asked store.new)) }
     ensures honest { S.honest store.new ≡ S.honest store.old }
     ensures others { IsTrue (S.honest store.old) →
         KeepsOthers (S.contents store.old) (S.contents store.new) name.now }
@@ -184,6 +218,14 @@ pub(crate) fn put_closed_header<S: TakeStore>(
     requires cues { cues ≤ 1024 }
     ensures failures { Counts (S.failures store.old) (S.failures store.new) (is_err result) }
     ensures calls { S.calls store.new ≤ S.calls store.old + 1 }
+    ensures order { OnOk result (Asks
+        (closed_plan is_clean name.now (place_of heading.now)
+        (is_riff heading.now data_len 0) (is_riff heading.now data_len cues) cues)
+        (S.asked store.old) (S.asked store.new)) }
+    ensures begun { OnErr result (AsksFirst
+        (closed_plan is_clean name.now (place_of heading.now)
+        (is_riff heading.now data_len 0) (is_riff heading.now data_len cues) cues)
+        (S.asked store.old) (S.asked store.new)) }
     ensures honest { S.honest store.new ≡ S.honest store.old }
     ensures others { IsTrue (S.honest store.old) →
         KeepsOthers (S.contents store.old) (S.contents store.new) name.now }
@@ -214,6 +256,12 @@ fn put_closed_size<S: TakeStore>(
     requires cues { cues ≤ 1024 }
     ensures failures { Counts (S.failures store.old) (S.failures store.new) (is_err result) }
     ensures calls { S.calls store.new ≤ S.calls store.old + 1 }
+    ensures order { OnOk result (Asks
+        (form_plan name.now cues (is_riff heading.now data_len cues))
+        (S.asked store.old) (S.asked store.new)) }
+    ensures begun { OnErr result (AsksFirst
+        (form_plan name.now cues (is_riff heading.now data_len cues))
+        (S.asked store.old) (S.asked store.new)) }
     ensures honest { S.honest store.new ≡ S.honest store.old }
     ensures others { IsTrue (S.honest store.old) →
         KeepsOthers (S.contents store.old) (S.contents store.new) name.now }
@@ -251,6 +299,12 @@ pub(crate) fn put_retouched_header<S: TakeStore>(
     requires samples { data_len ≤ 2 ^ 62 }
     ensures failures { Counts (S.failures store.old) (S.failures store.new) (is_err result) }
     ensures calls { S.calls store.new ≤ S.calls store.old + 1 }
+    ensures whole { IsFalse is_clean → OnOk result (Asks
+        (header_plan name.now (place_of heading.now))
+        (S.asked store.old) (S.asked store.new)) }
+    ensures nothing { IsTrue is_clean →
+        header_of retouched.now data_len 0 ≡ header_of heading.now data_len 0 →
+        S.calls store.new ≡ S.calls store.old }
     ensures honest { S.honest store.new ≡ S.honest store.old }
     ensures others { IsTrue (S.honest store.old) →
         KeepsOthers (S.contents store.old) (S.contents store.new) name.now }
@@ -281,6 +335,8 @@ fn put_field<S: TakeStore>(
     requires samples { data_len ≤ 2 ^ 62 }
     ensures failures { Counts (S.failures store.old) (S.failures store.new) (is_err result) }
     ensures calls { S.calls store.new ≤ S.calls store.old + 1 }
+    ensures nothing { header_of retouched.now data_len 0 ≡ header_of heading.now data_len 0 →
+        S.calls store.new ≡ S.calls store.old }
     ensures honest { S.honest store.new ≡ S.honest store.old }
     ensures others { IsTrue (S.honest store.old) →
         KeepsOthers (S.contents store.old) (S.contents store.new) name.now }

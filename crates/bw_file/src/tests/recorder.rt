@@ -1,6 +1,9 @@
 //! A store that notes which calls come.
+ghost use Rattle.std.specs.Prelude.{◌≡◌, IsTrue, Some, None, [], ◌∷◌, ◌++◌, map, if◌then◌else◌};
+ghost use Rattle.bw_file.specs.Calls.{Create, WriteAt, Finish};
+ghost use Rattle.bw_file.specs.declared.tests.recorder.Call.TheVariants.{Create as create, Write as write, Finish as finish};
+
 use crate::store::{Created, StoreFault, TakeStore};
-use crate::tally::Tally;
 use bw_take::Name;
 use std::alloc::Global;
 
@@ -12,20 +15,28 @@ pub(crate) enum Call {
     Finish,
 }
 
+/// A call on a name.
+#[derive(Drop)]
+struct Noted {
+    name: Name,
+    call: Call,
+}
+
 /// A store, and the calls that came, those that failed among them.
 #[derive(Drop)]
 pub(crate) struct Recorder<S: TakeStore> {
     inner: S,
-    calls: Vec<Call>,
-    tally: Tally,
+    noted: Vec<Noted>,
+    /// No memory was refused for a note.
+    has_all: bool,
 }
 
 impl<S: TakeStore> Recorder<S> {
     pub(crate) fn new(alloc: Global, inner: S) -> Recorder<S> {
         Recorder {
             inner,
-            calls: Vec::new(alloc),
-            tally: Tally::new(),
+            noted: Vec::new(alloc),
+            has_all: true,
         }
     }
 
@@ -33,44 +44,57 @@ impl<S: TakeStore> Recorder<S> {
         &self.inner
     }
 
-    pub(crate) fn calls(&self) -> &[Call] {
-        &self.calls
+    /// Whether these calls came on this name, in this order, and no others.
+    pub(crate) fn got(&self, name: &Name, calls: &[Call]) -> bool {
+        self.has_all
+            && self.noted.len() == calls.len()
+            && self
+                .noted
+                .iter()
+                .zip(calls)
+                .all(|(noted, call)| noted.name == *name && noted.call == *call)
+    }
+
+    fn note(&mut self, name: &Name, call: Call)
+        ensures inner { self.new.inner ≡ self.old.inner }
+        ensures noted { IsTrue self.new.has_all → self.new.noted.items
+            ≡ self.old.noted.items ++ record { name = name.now; call = call } ∷ [] }
+        ensures all { IsTrue self.new.has_all → IsTrue self.old.has_all }
+    {
+        let name = name.copy();
+        if self.noted.push(Noted { name, call }).is_err() {
+            self.has_all = false;
+        }
     }
 }
 
 impl<S: TakeStore> TakeStore for Recorder<S> {
     ghost contents = { λ s name. S.contents s.inner name };
 
-    ghost failures = { λ s. s.tally.failures };
+    ghost failures = { λ s. S.failures s.inner };
 
-    ghost calls = { λ s. s.tally.calls };
+    ghost calls = { λ s. S.calls s.inner };
+
+    ghost asked = { λ s. if s.has_all then Some (map (λ n. elim n.call [
+      | create ↦ Create n.name
+      | write offset len ↦ WriteAt n.name offset len
+      | finish ↦ Finish n.name
+    ]) s.noted.items) else None };
 
     ghost honest = { λ s. S.honest s.inner };
 
     fn create(&mut self, name: &Name) -> Result<Created, StoreFault> {
-        let answer = match self.calls.push(Call::Create) {
-            Ok(()) => self.inner.create(name),
-            Err(_) => Err(StoreFault),
-        };
-        self.tally.count(answer.is_err());
-        answer
+        self.note(name, Call::Create);
+        self.inner.create(name)
     }
 
     fn write_at(&mut self, name: &Name, offset: u64, bytes: &[u8]) -> Result<(), StoreFault> {
-        let answer = match self.calls.push(Call::Write(offset, bytes.len())) {
-            Ok(()) => self.inner.write_at(name, offset, bytes),
-            Err(_) => Err(StoreFault),
-        };
-        self.tally.count(answer.is_err());
-        answer
+        self.note(name, Call::Write(offset, bytes.len()));
+        self.inner.write_at(name, offset, bytes)
     }
 
     fn finish(&mut self, name: &Name) -> Result<(), StoreFault> {
-        let answer = match self.calls.push(Call::Finish) {
-            Ok(()) => self.inner.finish(name),
-            Err(_) => Err(StoreFault),
-        };
-        self.tally.count(answer.is_err());
-        answer
+        self.note(name, Call::Finish);
+        self.inner.finish(name)
     }
 }

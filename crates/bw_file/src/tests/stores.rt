@@ -68,7 +68,7 @@ fn a_name_that_stands_is_left_alone(rt: HostRuntime) -> Result<(), Fail> {
         Created::Exists
     );
     assert!(rt; !file.is_dirty());
-    assert_eq!(rt; store.calls(), [Call::Create, Call::Create].as_slice());
+    assert!(rt; store.got(&name, &[Call::Create, Call::Create]));
     assert_eq!(rt;
         store.inner().inner().content(&name),
         Some(b"old".as_slice())

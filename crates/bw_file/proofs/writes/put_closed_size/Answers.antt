@@ -2,6 +2,8 @@ use Rattle.std.proofs.Common.{◌≡◌, ◌≤◌, ◌<◌, length, refl, arith
 use Rattle.bw_model.specs.File.{form_size}
 use Rattle.bw_file.proofs.Sizes.{form_cues, both_above, riff_form, bw64_form}
 use Rattle.bw_file.proofs.Tears.{written_tears, tears_wider}
+use Rattle.bw_file.proofs.Asked.{asks_all}
+use Rattle.bw_file.proofs.PlanForms.{on_err, first_as, form_of, is_within, is_above}
 use Rattle.bw_file.proofs.writes.put_closed_size.Goals as goal
 
 pub returns-then-form-bytes-clause-torn : goal.returns-then-form-bytes-clause-torn
@@ -35,3 +37,15 @@ returns-clause-put g c =
     let was_large = both_above (form_size (length h.history.now) c.args.data_len 0) (form_size (length h.history.now) c.args.data_len c.args.cues) h.limit c.requires.kind large in
     bw64_form h.format h.bext.now h.history.now h.limit c.args.data_len 0 c.args.cues _ _ tail was_large large stood
     (rw (c.to_le_bytes-2.ensures, form) at (c.in_ok-write_at-2.ensures.written honest))
+
+pub returns-in_err-write_at-clause-begun : goal.returns-in_err-write_at-clause-begun
+returns-in_err-write_at-clause-begun g c =
+    on_err _ _ (let four : length c.to_le_bytes.result ≡ 4 = rw c.to_le_bytes.ensures refl in
+    let riff = is_within _ _ (omega (arith, c.form_size-form.ensures.value, c.bytes.ensures.value, c.if-form-bytes.true)) in
+    first_as _ _ _ _ (form_of c.args.name.now _ _ _ c.if-cues-eq0.false riff) (asks_all _ _ _ (rw four at c.write_at.ensures.asked)))
+
+pub returns-in_err-write_at-2-clause-begun : goal.returns-in_err-write_at-2-clause-begun
+returns-in_err-write_at-2-clause-begun g c =
+    on_err _ _ (let eight : length c.to_le_bytes-2.result ≡ 8 = rw c.to_le_bytes-2.ensures refl in
+    let bw64 = is_above _ _ (omega (arith, c.form_size-form.ensures.value, c.bytes.ensures.value, c.if-form-bytes.false)) in
+    first_as _ _ _ _ (form_of c.args.name.now _ _ _ c.if-cues-eq0.false bw64) (asks_all _ _ _ (rw eight at c.write_at-2.ensures.asked)))

@@ -56,3 +56,19 @@ returns-clause-put g c =
     part_put _ _ c.split_at.result.0.now c.split_at.result.1.now tail c.changed_part-from.result.0 c.changed_part-from.result.1 part.ordered (omega (arith, same_length, part.end)) part.end part.rest
     (stood ∙ ap (λ (l : List ℕ). Some (l ++ tail)) (sym halves.0)) (c.in_ok-write_at.ensures.written honest)
     ∙ ap (λ (l : List ℕ). Some (l ++ tail)) halves.1
+
+pub returns-in_err-write_at-clause-nothing : goal.returns-in_err-write_at-clause-nothing
+returns-in_err-write_at-clause-nothing g c =
+    λ same.
+    let halves = two_headers c.args.heading.now c.args.retouched.now c.args.data_len c.data_place.result c.bytes.result.now c.split_at.result.0.now c.split_at.result.1.now (c.bytes.ensures ∙ c.build_headers.ensures) c.data_place.ensures.value c.split_at.ensures.front c.split_at.ensures.back in
+    let alike = (slice_eq-Decides Decides-eqb _ _ c.eq.result c.eq.ensures).1 (halves.0 ∙ sym same ∙ sym halves.1) in
+    let differ = c.if-eq.false in
+    cc
+
+pub returns-clause-nothing : goal.returns-clause-nothing
+returns-clause-nothing g c =
+    λ same.
+    let halves = two_headers c.args.heading.now c.args.retouched.now c.args.data_len c.data_place.result c.bytes.result.now c.split_at.result.0.now c.split_at.result.1.now (c.bytes.ensures ∙ c.build_headers.ensures) c.data_place.ensures.value c.split_at.ensures.front c.split_at.ensures.back in
+    let alike = (slice_eq-Decides Decides-eqb _ _ c.eq.result c.eq.ensures).1 (halves.0 ∙ sym same ∙ sym halves.1) in
+    let differ = c.if-eq.false in
+    cc

@@ -2,6 +2,8 @@ use Rattle.std.proofs.Common.{◌≡◌, ◌≤◌, ◌<◌, length, ◌∙◌, 
 use Rattle.bw_model.specs.File.{form_size}
 use Rattle.bw_file.proofs.Sizes.{form_grows, both_above, riff_sizes, bw64_sizes}
 use Rattle.bw_file.proofs.Tears.{written_tears, tears_wider, tears_twice}
+use Rattle.bw_file.proofs.Asked.{asks_then, asks_all, asks_before}
+use Rattle.bw_file.proofs.PlanForms.{on_err, asks_as, first_as, sizes_of, is_within, is_above}
 use Rattle.bw_file.proofs.writes.put_grown_sizes.Goals as goal
 
 pub returns-in_err-write_at-clause-torn : goal.returns-in_err-write_at-clause-torn
@@ -60,3 +62,35 @@ returns-clause-put g c =
     let was_large = both_above (form_size (length h.history.now) c.args.before 0) (form_size (length h.history.now) c.args.after 0) h.limit c.requires.kind large in
     bw64_sizes h.format h.bext.now h.history.now h.limit c.args.before c.args.after 0 _ _ tail was_large large stood
     (rw (c.patch_sizes.ensures, form) at (c.in_ok-write_at-3.ensures.written honest))
+
+pub returns-in_err-write_at-clause-begun : goal.returns-in_err-write_at-clause-begun
+returns-in_err-write_at-clause-begun g c =
+    on_err _ _ (let four : length c.to_le_bytes.result ≡ 4 = rw c.to_le_bytes.ensures refl in
+    let riff = is_within _ _ (omega (arith, c.form_size-form.ensures.value, c.bytes.ensures.value, c.if-form-bytes.true)) in
+    first_as _ _ _ _ (sizes_of c.args.name.now _ _ _ riff) (asks_before _ _ _ _ (asks_all _ _ _ (rw four at c.write_at.ensures.asked))))
+
+pub returns-in_err-write_at-2-clause-begun : goal.returns-in_err-write_at-2-clause-begun
+returns-in_err-write_at-2-clause-begun g c =
+    on_err _ _ (let form : length c.to_le_bytes.result ≡ 4 = rw c.to_le_bytes.ensures refl in
+    let samples : length c.to_le_bytes-then-form-bytes.result ≡ 4 = rw c.to_le_bytes-then-form-bytes.ensures refl in
+    let riff = is_within _ _ (omega (arith, c.form_size-form.ensures.value, c.bytes.ensures.value, c.if-form-bytes.true)) in
+    first_as _ _ _ _ (sizes_of c.args.name.now _ _ _ riff) (asks_all _ _ _ (asks_then _ _ _ _ _ (rw form at c.write_at.ensures.asked) (rw (samples, c.data_place.ensures.value) at c.write_at-then-form-bytes.ensures.asked))))
+
+pub returns-then-form-bytes-clause-order : goal.returns-then-form-bytes-clause-order
+returns-then-form-bytes-clause-order g c =
+    let form : length c.to_le_bytes.result ≡ 4 = rw c.to_le_bytes.ensures refl in
+    let samples : length c.to_le_bytes-then-form-bytes.result ≡ 4 = rw c.to_le_bytes-then-form-bytes.ensures refl in
+    let riff = is_within _ _ (omega (arith, c.form_size-form.ensures.value, c.bytes.ensures.value, c.if-form-bytes.true)) in
+    asks_as _ _ _ _ (sizes_of c.args.name.now _ _ _ riff) (asks_then _ _ _ _ _ (rw form at c.write_at.ensures.asked) (rw (samples, c.data_place.ensures.value) at c.write_at-then-form-bytes.ensures.asked))
+
+pub returns-in_err-write_at-3-clause-begun : goal.returns-in_err-write_at-3-clause-begun
+returns-in_err-write_at-3-clause-begun g c =
+    on_err _ _ (let sizes : length c.patch_sizes.result ≡ 16 = rw c.patch_sizes.ensures refl in
+    let bw64 = is_above _ _ (omega (arith, c.form_size-form.ensures.value, c.bytes.ensures.value, c.if-form-bytes.false)) in
+    first_as _ _ _ _ (sizes_of c.args.name.now _ _ _ bw64) (asks_all _ _ _ (rw sizes at c.write_at-2.ensures.asked)))
+
+pub returns-clause-order : goal.returns-clause-order
+returns-clause-order g c =
+    let sizes : length c.patch_sizes.result ≡ 16 = rw c.patch_sizes.ensures refl in
+    let bw64 = is_above _ _ (omega (arith, c.form_size-form.ensures.value, c.bytes.ensures.value, c.if-form-bytes.false)) in
+    asks_as _ _ _ _ (sizes_of c.args.name.now _ _ _ bw64) (rw sizes at c.write_at-2.ensures.asked)

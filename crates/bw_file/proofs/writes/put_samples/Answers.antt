@@ -1,5 +1,8 @@
-use Rattle.std.proofs.Common.{◌∙◌, arith}
+use Rattle.std.proofs.Common.{◌∙◌, ◌∷◌, [], length, arith}
 use Rattle.bw_file.proofs.Tears.{written_tears, tears_wider, tears_twice}
+use Rattle.bw_file.proofs.Asked.{asks_then, asks_all, asks_before}
+use Rattle.bw_file.proofs.PlanForms.{on_err, padded, asks_as, first_as}
+use Rattle.bw_file.specs.Calls.{WriteAt}
 use Rattle.bw_file.proofs.writes.put_samples.Goals as goal
 
 pub returns-in_err-write_at-2-clause-torn : goal.returns-in_err-write_at-2-clause-torn
@@ -17,3 +20,15 @@ returns-in_ok-write_at-2-clause-torn g c =
 pub returns-else-end-eq1-clause-torn : goal.returns-else-end-eq1-clause-torn
 returns-else-end-eq1-clause-torn g c =
     λ honest. written_tears _ _ c.args.place _ c.args.samples.now (omega arith) (c.in_ok-write_at.ensures.written honest)
+
+pub returns-in_err-write_at-2-clause-begun : goal.returns-in_err-write_at-2-clause-begun
+returns-in_err-write_at-2-clause-begun g c =
+    on_err _ _ (first_as _ _ _ _ (padded c.args.name.now c.args.place _ (omega arith)) (asks_all _ _ _ (asks_then _ _ _ _ _ c.write_at.ensures.asked c.write_at-then-end-eq1.ensures.asked)))
+
+pub returns-in_ok-write_at-2-clause-order : goal.returns-in_ok-write_at-2-clause-order
+returns-in_ok-write_at-2-clause-order g c =
+    asks_as _ _ _ _ (padded c.args.name.now c.args.place _ (omega arith)) (asks_then _ _ _ _ _ c.write_at.ensures.asked c.write_at-then-end-eq1.ensures.asked)
+
+pub returns-in_err-write_at-clause-begun : goal.returns-in_err-write_at-clause-begun
+returns-in_err-write_at-clause-begun g c =
+    on_err _ _ (asks_before (WriteAt c.args.name.now c.args.place (length c.args.samples.now) ∷ []) _ _ _ (asks_all _ _ _ c.write_at.ensures.asked))

@@ -3,6 +3,8 @@ use Rattle.std.proofs.lemmas.Result.{err_from_is_err_and}
 use Rattle.bw_model.specs.Take.{Parts, AreFields}
 use Rattle.bw_file.proofs.Judged.{unopened_for_open}
 use Rattle.bw_file.proofs.Begins.{fresh_begun, begun_torn, begun_whole, begun_between}
+use Rattle.bw_file.proofs.Asked.{asks_then, asks_then_first, asks_before}
+use Rattle.bw_file.proofs.PlanForms.{on_err}
 use Rattle.bw_file.proofs.growing.GrowingFile.begin.Goals as goal
 
 pub returns-in_err-put_header-clause-file : goal.returns-in_err-put_header-clause-file
@@ -34,3 +36,15 @@ returns-clause-file g c =
     let fresh = rw c.in-New.is at (c.in_ok-make_name.ensures.fresh honest) in
     let was = fresh_begun t c.self.inside.limit c.args.format c.args.history.now no_format is_open fields no_samples c.self.inside.made _ _ begun (fresh refl) in
     begun_whole t c.self.inside.limit c.args.format c.args.history.now no_format is_open fields no_samples _ _ was (rw (set, in_all) at (c.in_ok-put_header.ensures.first (c.make_name.ensures.honest ∙ honest))))
+
+pub returns-in_err-make_name-clause-begun : goal.returns-in_err-make_name-clause-begun
+returns-in_err-make_name-clause-begun g c =
+    rw (← c.self.view_is) (on_err _ _ (asks_before _ _ _ _ c.in_err-make_name.ensures.begun))
+
+pub returns-in_err-put_header-clause-begun : goal.returns-in_err-put_header-clause-begun
+returns-in_err-put_header-clause-begun g c =
+    rw (← c.self.view_is) (on_err _ _ (asks_then_first _ _ _ _ _ c.in_ok-make_name.ensures.order c.in_err-put_header.ensures.begun))
+
+pub returns-clause-order : goal.returns-clause-order
+returns-clause-order g c =
+    rw (← c.self.view_is) (asks_then _ _ _ _ _ c.in_ok-make_name.ensures.order c.in_ok-put_header.ensures.order)

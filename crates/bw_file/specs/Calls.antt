@@ -1,0 +1,28 @@
+-- The calls that a store gets, in their order.
+use Rattle.std.specs.Prelude.{◌≡◌, ℕ, ◌≤◌, List, ◌++◌, length, take, Option, Some}
+
+-- a call on a name; of a write its offset and how many bytes
+pub data StoreCall : Type 0 where
+  Create : List ℕ → StoreCall
+  WriteAt : List ℕ → ℕ → ℕ → StoreCall
+  Finish : List ℕ → StoreCall
+
+-- these calls are the last of all
+pub record Ends (plan all : List StoreCall) (before : Option (List StoreCall)) : Type 0 where
+  pub noted : List StoreCall
+  pub were : before ≡ Some noted
+  pub are : all ≡ noted ++ plan
+
+-- Where the store has noted all its calls, these came last.
+abbrev pub Asks : List StoreCall → Option (List StoreCall) → Option (List StoreCall) → Type 0
+Asks plan before after = (all : List StoreCall) → after ≡ Some all → Ends plan all before
+
+-- a front of these calls
+pub record EndsFirst (plan all : List StoreCall) (before : Option (List StoreCall)) : Type 0 where
+  pub count : ℕ
+  pub within : count ≤ length plan
+  pub ends : Ends (take count plan) all before
+
+-- .. or the first of these, up to one that failed
+abbrev pub AsksFirst : List StoreCall → Option (List StoreCall) → Option (List StoreCall) → Type 0
+AsksFirst plan before after = (all : List StoreCall) → after ≡ Some all → EndsFirst plan all before

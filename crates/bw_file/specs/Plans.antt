@@ -1,0 +1,82 @@
+-- What the calls of a growing file ask of the store, in their order.
+use Rattle.std.specs.Prelude.{ℕ, ◌+◌, ◌-◌, ◌*◌, ◌%◌, Bool, true, false, not, ◌&&◌, ◌==◌, nat_le, if◌then◌else◌, List, [], ◌∷◌, ◌++◌, length}
+use Rattle.bw_model.specs.Take.{Parts}
+use Rattle.bw_model.specs.File.{form_size, data_place}
+use Rattle.bw_file.specs.Calls.{StoreCall, Create, WriteAt, Finish}
+use Rattle.bw_file.specs.Growing.{Growing}
+
+-- a name, unless it is made
+abbrev pub name_plan : List ℕ → Bool → List StoreCall
+name_plan name made = if made then [] else Create name ∷ []
+
+-- samples, and a pad byte where the file's length would be odd
+abbrev pub samples_plan : List ℕ → ℕ → ℕ → List StoreCall
+samples_plan name place n =
+    (WriteAt name place n ∷ [])
+    ++ (if (place + n) % 2 == 1 then WriteAt name (place + n) 1 ∷ [] else [])
+
+-- cue points, if there are any
+abbrev pub cues_plan : List ℕ → ℕ → ℕ → List StoreCall
+cues_plan name place count = if count == 0 then [] else WriteAt name place (12 + 24 * count) ∷ []
+
+-- a whole header
+abbrev pub header_plan : List ℕ → ℕ → List StoreCall
+header_plan name place = WriteAt name 0 place ∷ []
+
+-- both sizes: of RIFF the form's and then the data's, of BW64 the two together
+abbrev pub sizes_plan : List ℕ → ℕ → Bool → List StoreCall
+sizes_plan name place true = (WriteAt name 4 4 ∷ []) ++ WriteAt name (place - 4) 4 ∷ []
+sizes_plan name place false = WriteAt name 20 16 ∷ []
+
+-- the form size alone, where there are cue points
+abbrev pub form_plan : List ℕ → ℕ → Bool → List StoreCall
+form_plan name count is_riff =
+    if count == 0 then [] else if is_riff then WriteAt name 4 4 ∷ [] else WriteAt name 20 8 ∷ []
+
+-- both kinds are the same
+abbrev pub stays : Bool → Bool → Bool
+stays true is_riff = is_riff
+stays false is_riff = not is_riff
+
+-- what changed in the header of a clean file that stays of its kind, and else the whole header
+abbrev pub change_plan : Bool → Bool → Bool → List StoreCall → List StoreCall → List StoreCall
+change_plan is_clean was_riff is_riff changed whole =
+    if is_clean && stays was_riff is_riff then changed else whole
+
+-- the header of longer data: name, place of the data, whether the file was and is RIFF
+abbrev pub grown_plan : Bool → List ℕ → ℕ → Bool → Bool → List StoreCall
+grown_plan is_clean name place was_riff is_riff =
+    change_plan is_clean was_riff is_riff (sizes_plan name place is_riff) (header_plan name place)
+
+-- .. of data with cue points behind them
+abbrev pub closed_plan : Bool → List ℕ → ℕ → Bool → Bool → ℕ → List StoreCall
+closed_plan is_clean name place was_riff is_riff count =
+    change_plan is_clean was_riff is_riff (form_plan name count is_riff) (header_plan name place)
+
+-- the file is RIFF with this much data and so many cue points
+abbrev pub is_riff_at : Growing → Parts → ℕ → ℕ → Bool
+is_riff_at g p data_len count = nat_le (form_size (length p.history) data_len count) g.limit
+
+-- to begin: the name, and where it is this file's the header
+abbrev pub begin_plan : Growing → Bool → ℕ → List StoreCall
+begin_plan g is_made history_len =
+    name_plan g.name g.made ++ (if is_made then header_plan g.name (data_place history_len) else [])
+
+-- to append: the samples, and then the header
+abbrev pub append_plan : Growing → Parts → ℕ → List StoreCall
+append_plan g p n =
+    let place = data_place (length p.history) in
+    let was_riff = is_riff_at g p p.samples_len 0 in
+    let is_riff = is_riff_at g p (p.samples_len + n) 0 in
+    samples_plan g.name (place + p.samples_len) n
+    ++ grown_plan (not g.dirty) g.name place was_riff is_riff
+
+-- to close: the cue points, then the header, and that the file is complete
+abbrev pub close_plan : Growing → Parts → List StoreCall
+close_plan g p =
+    let place = data_place (length p.history) in
+    let count = length p.markers in
+    let was_riff = is_riff_at g p p.samples_len 0 in
+    let is_riff = is_riff_at g p p.samples_len count in
+    cues_plan g.name (place + p.samples_len + p.samples_len % 2) count
+    ++ (closed_plan (not g.dirty) g.name place was_riff is_riff count ++ Finish g.name ∷ [])
