@@ -1,4 +1,4 @@
-//! A fault at each call, and at each two: a call that is tried again leaves the file that none leaves.
+//! A fault at each call, and at each two: what is tried again leaves the file that no fault leaves.
 use super::play::check;
 use super::rows::LONG;
 use std::test::Fail;

@@ -1,6 +1,6 @@
 //! A store over a real folder, and over a disk that fails where it is asked for one thing.
 use super::play::{file_of_row, keep};
-use super::rows::SHORT;
+use super::rows::two_frames;
 use crate::{Created, FolderStore, GrowingFile, TakeStore};
 use bw_layout::Limit;
 use bw_take::{Name, TakeState};
@@ -22,7 +22,7 @@ fn write_two_frames<S: TakeStore>(rt: &HostRuntime, store: &mut S) -> Result<(),
     let name = Name::new(b"a1").ok_or("a name")?;
     let mut file = GrowingFile::new(rt.alloc(), name, Limit::default())?;
     let mut state = TakeState::new(rt.alloc());
-    for step in SHORT[1].steps {
+    for step in two_frames().steps {
         keep(&mut file, store, &mut state, &step.request)?;
     }
     Ok(())
@@ -33,7 +33,7 @@ fn a_folder_has_the_file_and_keeps_it(rt: HostRuntime) -> Result<(), Fail> {
     let alloc = rt.alloc();
     let folder = new_folder(&rt, "keeps")?;
     let path = format!(in alloc; "{folder}/a1.wav")?;
-    let wanted = file_of_row(alloc, &SHORT[1])?;
+    let wanted = file_of_row(alloc, two_frames())?;
     let mut store = FolderStore::new(&rt, alloc, folder.as_str())?;
     write_two_frames(&rt, &mut store)?;
     assert!(rt; fs::read(&rt, path.as_str())?.as_slice() == wanted.as_slice());

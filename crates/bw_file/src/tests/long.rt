@@ -47,7 +47,7 @@ impl TakeStore for Front {
     }
 }
 
-/// A take of mono blocks: bits a sample, the blocks and their count, and the size of the data with one more block.
+/// A mono take: bits a sample, its blocks and their count, a last block, and the size of all data.
 struct Long {
     bits: u16,
     block: &'static [u8],

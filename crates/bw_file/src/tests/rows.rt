@@ -104,8 +104,8 @@ const STILL_NOT_LOUD: Step = Step {
     again: &[Write(0, 690)],
 };
 
-/// Requests that the file never sees: an identifier that is there, a frame behind the last, a date that is none, a
-/// tag that no field has, half a loudness.
+/// Requests that the file never sees: an identifier that is there, a frame behind the last, a date
+/// that is none, a tag that no field has, half a loudness.
 const SAME_MARK: Step = Step {
     request: RequestRef::Mark { id: 7, frame: 1 },
     verdict: DuplicateMarker,
@@ -188,7 +188,7 @@ const EARLY_MARK: Step = Step {
     again: &[],
 };
 
-pub(crate) static SHORT: [Row; 9] = [
+static SHORT: [Row; 9] = [
     Row {
         what: "opened",
         limit: NO_LIMIT,
@@ -322,7 +322,7 @@ pub(crate) static SHORT: [Row; 9] = [
     },
 ];
 
-/// Takes in which each request that is stored writes; those of the last two are RIFF first, and then BW64.
+/// Takes for faults; the last two are RIFF first, and then BW64.
 pub(crate) static LONG: [Row; 3] = [
     Row {
         what: "two frames, a description and a marker",
@@ -414,6 +414,11 @@ pub(crate) static LONG: [Row; 3] = [
         ],
     },
 ];
+
+/// Two frames, closed without a marker.
+pub(crate) fn two_frames() -> &'static Row {
+    &SHORT[1]
+}
 
 #[test]
 fn a_take_is_written_in_the_calls_that_its_requests_need(rt: HostRuntime) -> Result<(), Fail> {

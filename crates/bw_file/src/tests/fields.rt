@@ -1,0 +1,44 @@
+//! Each field of `bext` in a clean file: one write at its place, and none where nothing changes.
+use super::play::keep;
+use super::recorder::{Call, Recorder};
+use super::rows::MONO_TAKE;
+use crate::{GrowingFile, MemoryStore};
+use bw_layout::Limit;
+use bw_take::{Name, RequestRef, TakeState};
+use std::test::Fail;
+
+/// A tag, a value, and the place and the length of the field in the file (EBU Tech 3285).
+///
+/// A loudness is written from Version on, which tells whether one is given.
+static FIELDS: [(u8, &[u8], u64, usize); 12] = [
+    (1, b"Rain", 80, 256),
+    (2, b"recorder", 336, 32),
+    (3, b"reference", 368, 32),
+    (4, b"2024-05-01", 400, 10),
+    (5, b"09:30:00", 410, 8),
+    (6, &[1; 8], 418, 8),
+    (7, &[2; 64], 428, 64),
+    (8, b"\x04\xf7", 426, 76),
+    (9, b"\x01\0", 426, 76),
+    (10, b"\x02\0", 426, 76),
+    (11, b"\x03\0", 426, 76),
+    (12, b"\x04\0", 426, 76),
+];
+
+#[test]
+fn a_field_is_written_whole_where_it_changes(rt: HostRuntime) -> Result<(), Fail> {
+    let name = Name::new(b"a1").ok_or("a name")?;
+    let mut file = GrowingFile::new(rt.alloc(), name.copy(), Limit::default())?;
+    let mut state = TakeState::new(rt.alloc());
+    let mut store = Recorder::new(rt.alloc(), MemoryStore::new(rt.alloc()));
+    keep(&mut file, &mut store, &mut state, &MONO_TAKE)?;
+    let mut calls = vec![in rt.alloc(); Call::Create, Call::Write(0, 690)]?;
+    for (tag, value, place, len) in &FIELDS {
+        let request = RequestRef::SetField { tag: *tag, value };
+        keep(&mut file, &mut store, &mut state, &request)?;
+        keep(&mut file, &mut store, &mut state, &request)?;
+        calls.push(Call::Write(*place, *len))?;
+        assert!(rt; store.got(&name, &calls), "of tag {tag}");
+    }
+    Ok(())
+}
