@@ -1,5 +1,6 @@
 //! A store in a folder.
-ghost use Rattle.std.specs.Prelude.{◌≡◌, None, false};
+ghost use Rattle.std.specs.Prelude.{◌≡◌, None, false, IsTrue, IsFalse, IfOk, OnErr, [], ◌∷◌, ◌++◌, map, codes, string_bytes};
+ghost use Rattle.bw_file.specs.Growing.{is_new};
 
 use crate::store::{Created, StoreFault, TakeStore};
 use crate::tally::Tally;
@@ -35,7 +36,12 @@ impl<R: Files + Drop> FolderStore<R> {
     ///
     /// # Errors
     /// `AllocError` where memory was refused.
-    pub fn new(rt: R, alloc: Global, folder: &str) -> Result<FolderStore<R>, AllocError> {
+    pub fn new(rt: R, alloc: Global, folder: &str) -> Result<FolderStore<R>, AllocError>
+        ensures folder { IfOk result (λ s. string_bytes s.folder ≡ folder.now) }
+        ensures open { IfOk result (λ s. s.open.items ≡ []) }
+        ensures failures { IfOk result (λ s. s.tally.failures ≡ 0) }
+        ensures calls { IfOk result (λ s. s.tally.calls ≡ 0) }
+    {
         Ok(FolderStore {
             rt,
             alloc,
@@ -45,15 +51,26 @@ impl<R: Files + Drop> FolderStore<R> {
         })
     }
 
-    fn path(&self, name: &Name) -> Result<String, StoreFault> {
+    fn path(&self, name: &Name) -> Result<String, StoreFault>
+        ensures { IfOk result (λ p. string_bytes p
+            ≡ string_bytes self.now.folder ++ codes "/" ++ name.now ++ codes ".wav") }
+    {
         let Ok(text) = std::str::from_utf8(name.as_bytes()) else {
             return Err(StoreFault);
         };
-        format!(in self.alloc; "{}/{text}.wav", self.folder).map_err(|_| StoreFault)
+        match format!(in self.alloc; "{}/{text}.wav", self.folder) {
+            Ok(path) => Ok(path),
+            Err(_) => Err(StoreFault),
+        }
     }
 
     fn make(&mut self, name: &Name) -> Result<Created, StoreFault>
-        ensures { self.new.tally ≡ self.old.tally }
+        ensures made { IfOk result (λ c. IsTrue (is_new c) → map (λ t. t.name) self.new.open.items
+            ≡ map (λ t. t.name) self.old.open.items ++ name.now ∷ []) }
+        ensures stood { IfOk result (λ c. IsFalse (is_new c) →
+            self.new.open.items ≡ self.old.open.items) }
+        ensures failed { OnErr result (self.new.open.items ≡ self.old.open.items) }
+        ensures tally { self.new.tally ≡ self.old.tally }
     {
         // All that needs memory comes first, so that a call that fails makes no file.
         let path = self.path(name)?;
