@@ -49,7 +49,7 @@ impl<T: Read> Plain<T> {
     }
 
     /// Reads some of the next bytes, at most `most`, into a piece, and drops them.
-    fn read_past(&mut self, piece: &mut [u8], most: u64) -> Result<u64, IoFailed>
+    pub(crate) fn read_past(&mut self, piece: &mut [u8], most: u64) -> Result<u64, IoFailed>
         requires { 0 < length piece.old }
         ensures count { self.new.failures ≡ failures_after result self.old.failures }
         ensures within { IfOk result (λ n. n ≤ most) }

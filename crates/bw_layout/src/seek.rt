@@ -14,6 +14,8 @@ pub struct SeekSource<T> {
     plain: Plain<T>,
     place: u64,
     len: u64,
+    /// What is dropped of a pipe is read into it: a new one for each piece would be cleared each time.
+    piece: [u8; 65_536],
 }
 
 impl<T: Drop> SeekSource<T> {
@@ -28,6 +30,7 @@ impl<T: Drop> SeekSource<T> {
             plain: Plain::new(inner),
             place: 0,
             len,
+            piece: [0; 65_536],
         }
     }
 }
@@ -65,7 +68,7 @@ impl<T: Read + Seek> Source for SeekSource<T> {
             self.seek_to(self.place + count)?;
             return Ok(count);
         }
-        let count = self.plain.skip(most)?;
+        let count = self.plain.read_past(&mut self.piece, most)?;
         self.place = self.place.saturating_add(count);
         Ok(count)
     }

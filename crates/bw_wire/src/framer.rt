@@ -108,6 +108,7 @@ impl Framer {
             Phase::Left => return Ok(Some(Frame::Bye)),
             Phase::Failed(reason) => return Err(WireFault { reason, offset }),
         }
+        let at = self.start + 4;
         match front_of(bytes_from(&self.buffer, self.start)) {
             Front::Partial => {
                 drop_front(&mut self.buffer, self.start);
@@ -128,14 +129,12 @@ impl Framer {
                 Ok(Some(Frame::Bye))
             }
             Front::Message(len) => {
-                let at = self.start + 4;
                 self.start = at + len;
                 self.used += 4 + len as u64;
                 let body = &self.buffer[at..at + len];
                 Ok(Some(Frame::Message(Message { body })))
             }
             Front::Ask(len) => {
-                let at = self.start + 4;
                 self.start = at + len;
                 self.used += 4 + len as u64;
                 let body = &self.buffer[at..at + len];
