@@ -1,0 +1,116 @@
+-- Whose fault a fault is.
+use Rattle.std.proofs.Common.{◌≡◌, ℕ, ◌+◌, ◌≤◌, arith, Bool, true, false, List, drop, Option, Some, None, refl, sym, ◌∙◌, ap}
+use Rattle.std.specs.Prelude.{option_map, is_some, not}
+use Rattle.bw_model.specs.Reading as reading
+use Rattle.bw_inspect.specs.declared.fault.InspectFault.{InspectFault}
+use Rattle.bw_inspect.specs.declared.fault.InspectKind.{InspectKind}
+use Rattle.bw_inspect.specs.declared.fault.InspectKind.TheVariants.{NotWave, Truncated, NoDs64, BadDs64, NoSize, Twice, NoFmt, NoData, BadFmt, BadBext, BadCue, TooMany, TooLarge, Read, Memory}
+use Rattle.bw_inspect.specs.Faults.{is_read, is_memory, is_of_bytes, kind_of, fault_of}
+use Rattle.bw_inspect.specs.Places.{Halts, IsMissed}
+
+-- a fault of the bytes is no failed read
+pub bytes_no_read : (k : InspectKind) → is_of_bytes k ≡ true → is_read k ≡ false
+bytes_no_read NotWave e = refl
+bytes_no_read Truncated e = refl
+bytes_no_read NoDs64 e = refl
+bytes_no_read BadDs64 e = refl
+bytes_no_read NoSize e = refl
+bytes_no_read Twice e = refl
+bytes_no_read NoFmt e = refl
+bytes_no_read NoData e = refl
+bytes_no_read BadFmt e = refl
+bytes_no_read BadBext e = refl
+bytes_no_read BadCue e = refl
+bytes_no_read TooMany e = refl
+bytes_no_read TooLarge e = refl
+bytes_no_read Read e = cc
+bytes_no_read Memory e = refl
+
+-- nor want of memory
+pub bytes_no_memory : (k : InspectKind) → is_of_bytes k ≡ true → is_memory k ≡ false
+bytes_no_memory NotWave e = refl
+bytes_no_memory Truncated e = refl
+bytes_no_memory NoDs64 e = refl
+bytes_no_memory BadDs64 e = refl
+bytes_no_memory NoSize e = refl
+bytes_no_memory Twice e = refl
+bytes_no_memory NoFmt e = refl
+bytes_no_memory NoData e = refl
+bytes_no_memory BadFmt e = refl
+bytes_no_memory BadBext e = refl
+bytes_no_memory BadCue e = refl
+bytes_no_memory TooMany e = refl
+bytes_no_memory TooLarge e = refl
+bytes_no_memory Read e = refl
+bytes_no_memory Memory e = cc
+
+-- want of memory is no failed read
+pub memory_no_read : (k : InspectKind) → is_memory k ≡ true → is_read k ≡ false
+memory_no_read NotWave e = refl
+memory_no_read Truncated e = refl
+memory_no_read NoDs64 e = refl
+memory_no_read BadDs64 e = refl
+memory_no_read NoSize e = refl
+memory_no_read Twice e = refl
+memory_no_read NoFmt e = refl
+memory_no_read NoData e = refl
+memory_no_read BadFmt e = refl
+memory_no_read BadBext e = refl
+memory_no_read BadCue e = refl
+memory_no_read TooMany e = refl
+memory_no_read TooLarge e = refl
+memory_no_read Read e = cc
+memory_no_read Memory e = refl
+
+pub not_both : (v : Bool) → v ≡ false → v ≡ true → ⊥
+not_both v f t = let x : false ≡ true = sym f ∙ t in cc
+
+named : (o : Option reading.FaultKind) (n : ℕ) (g : reading.Fault) → option_map (λ (k : reading.FaultKind). record { kind = k; offset = n }) o ≡ Some g → is_some o ≡ true
+named None n g e = cc
+named (Some k) n g e = refl
+
+-- a fault that the definitions name is one of the bytes
+pub of_bytes : (f : InspectFault) (g : reading.Fault) → fault_of f ≡ Some g → is_of_bytes f.kind ≡ true
+of_bytes f g e = named (kind_of f.kind) f.offset g e
+
+told_by : (o : Option reading.FaultKind) (n : ℕ) → is_some o ≡ true → (g : reading.Fault) × (option_map {U = reading.Fault} (λ (k : reading.FaultKind). record { kind = k; offset = n }) o ≡ Some g)
+told_by None n e = cc
+told_by (Some k) n e = (record { kind = k; offset = n }, refl)
+
+-- and such a fault is named
+pub told_fault : (f : InspectFault) → is_of_bytes f.kind ≡ true → (g : reading.Fault) × (fault_of f ≡ Some g)
+told_fault f e = told_by (kind_of f.kind) f.offset e
+
+-- a call halts where it stands, for a fault of the bytes
+pub halts_by_bytes : (b : List ℕ) (most place reached : ℕ) (f : InspectFault) (left : Option (List ℕ)) → reached ≤ most → left ≡ Some (drop reached b) → is_of_bytes f.kind ≡ true → Halts b most place f left
+halts_by_bytes b most place reached f left w r k = record {
+  reached = reached;
+  within = w;
+  rest = r;
+  fails = λ t. absurd (not_both (is_read f.kind) (bytes_no_read f.kind k) t);
+  memory = λ t. absurd (not_both (is_memory f.kind) (bytes_no_memory f.kind k) t);
+}
+
+-- it may have gone further
+unfoldable pub halts_further : (b : List ℕ) (most more place : ℕ) (f : InspectFault) (left : Option (List ℕ)) → most ≤ more → Halts b most place f left → Halts b more place f left
+halts_further b most more place f left w h = record { reached = h.reached; within = let x = h.within in omega arith; rest = h.rest; fails = h.fails; memory = h.memory }
+
+-- bytes that were missed are no want of memory
+pub missed_no_memory : (b : List ℕ) (place n : ℕ) (cut f : InspectFault) (left : Option (List ℕ)) → IsMissed b place n cut f left → is_of_bytes cut.kind ≡ true → is_memory f.kind ≡ true → ⊥
+missed_no_memory b place n cut f left m k t =
+    let x = m.cuts (ap not (memory_no_read f.kind t)) in
+    not_both (is_memory f.kind) (ap (λ (z : InspectFault). is_memory z.kind) x.0 ∙ bytes_no_memory cut.kind k) t
+
+-- they halt a call
+pub halts_missed : (b : List ℕ) (place n most p : ℕ) (cut f : InspectFault) (left : Option (List ℕ)) → IsMissed b place n cut f left → is_of_bytes cut.kind ≡ true → place + n ≤ most → Halts b most p f left
+halts_missed b place n most p cut f left m k w = record {
+  reached = place + m.taken;
+  within = let x = m.small in omega arith;
+  rest = m.rest;
+  fails = m.fails;
+  memory = λ t. absurd (missed_no_memory b place n cut f left m k t);
+}
+
+-- a fault of the bytes is no want of memory
+pub no_memory : (f : InspectFault) → is_of_bytes f.kind ≡ true → is_memory f.kind ≡ true → ⊥
+no_memory f k t = not_both (is_memory f.kind) (bytes_no_memory f.kind k) t

@@ -1,0 +1,17 @@
+pub mod Faults
+pub mod Pieces
+pub mod Contents
+pub mod Counted
+pub mod RowLemmas
+pub mod Tables
+pub mod ChunkFaults
+pub mod Steps
+pub mod CueChunks
+pub mod Finish
+pub mod Whole
+pub mod Outers
+pub mod WideForms
+pub mod WideReads
+pub mod WideBegins
+pub mod RiffForms
+pub mod TakeFiles

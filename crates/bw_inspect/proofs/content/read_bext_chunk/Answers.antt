@@ -1,0 +1,33 @@
+use Rattle.std.proofs.Common.{◌≡◌, ◌-◌, ℕ, List, ◌∙◌, ap, Some, arith}
+use Rattle.std.proofs.lemmas.Result.{err_from_is_err_and}
+use Rattle.bw_model.specs.Reading as reading
+use Rattle.bw_model.specs.Report as report
+use Rattle.bw_inspect.proofs.Contents.{bext_front}
+use Rattle.bw_inspect.proofs.content.read_bext_chunk.Goals as goal
+
+pub returns-in_err-pass_rest-clause-count : goal.returns-in_err-pass_rest-clause-count
+returns-in_err-pass_rest-clause-count g c =
+    let p = err_from_is_err_and c.from_residual-in_err-pass_rest.result c.from_residual-in_err-pass_rest.ensures.1 in
+    rw (p.1, p.2, ← c.in_ok-read_part.ensures.count) c.in_err-pass_rest.ensures.count
+
+pub returns-in_err-pass_rest-clause-err : goal.returns-in_err-pass_rest-clause-err
+returns-in_err-pass_rest-clause-err g c =
+    let p = err_from_is_err_and c.from_residual-in_err-pass_rest.result c.from_residual-in_err-pass_rest.ensures.1 in
+    rw (p.1, p.2) (λ b r. c.in_err-pass_rest.ensures.err b (c.in_ok-read_part.ensures.ok b r).to)
+
+pub overflow_sub-result : goal.overflow_sub-result
+overflow_sub-result g c =
+    let size = ap (λ (e : reading.Entry). e.size) c.entry-2.view_is in
+    let long = c.requires.long in
+    omega arith
+
+pub returns-clause-ok : goal.returns-clause-ok
+returns-clause-ok g c b r =
+    let p = c.in_ok-read_part.ensures.ok b r in
+    let content = report.content_of b (Some c.args.entry) in
+    let told : c.in-Ok.fields.0 ≡ report.raw_bext content =
+    ap (λ (x : report.RawBext × List ℕ). x.0) c.in-Ok.ensures.1 ∙ (ap report.raw_bext p.bytes ∙ bext_front content) in
+    let size : c.entry-2.inside.size - 602 ≡ c.args.entry.size - 602 = ap (λ (e : reading.Entry). e.size - 602) c.entry-2.view_is in (
+      c.in_ok-pass_rest.ensures.ok b p.to,
+      ap (λ (x : report.RawBext). (x, c.entry-2.inside.size - 602)) told ∙ ap (λ (n : ℕ). (report.raw_bext content, n)) size,
+    )

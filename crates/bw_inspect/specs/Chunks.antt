@@ -1,0 +1,101 @@
+-- What a chunk's head says, in the parts in which it is found.
+use Rattle.std.specs.Prelude.{ℕ, ◌+◌, ◌*◌, ◌≤◌, Bool, true, false, not, ◌&&◌, List, [], ◌∷◌, length, find, codes, Option, option_map, is_none, nat_lt, nat_le, if◌then◌else◌}
+use Rattle.bw_model.specs.Reading as reading
+use Rattle.bw_layout.specs.declared.sizes.Ds64.{Ds64}
+use Rattle.bw_inspect.specs.declared.chunk.ChunkKind.{ChunkKind}
+use Rattle.bw_inspect.specs.declared.chunk.ChunkKind.TheVariants.{Fmt, Bext, Data, Cue, Other}
+
+-- the kind of the chunks with an id
+abbrev pub kind_by : List ℕ → ChunkKind
+kind_by id =
+    if reading.is_id id (codes "fmt ") then Fmt
+    else if reading.is_id id (codes "bext") then Bext
+    else if reading.is_id id (codes "data") then Data
+    else if reading.is_id id (codes "cue ") then Cue
+    else Other
+
+abbrev pub is_fmt : ChunkKind → Bool
+is_fmt Fmt = true
+is_fmt Bext = false
+is_fmt Data = false
+is_fmt Cue = false
+is_fmt Other = false
+
+abbrev pub is_bext : ChunkKind → Bool
+is_bext Fmt = false
+is_bext Bext = true
+is_bext Data = false
+is_bext Cue = false
+is_bext Other = false
+
+abbrev pub is_cue : ChunkKind → Bool
+is_cue Fmt = false
+is_cue Bext = false
+is_cue Data = false
+is_cue Cue = true
+is_cue Other = false
+
+-- a file may have several chunks of the kind
+abbrev pub is_other : ChunkKind → Bool
+is_other Fmt = false
+is_other Bext = false
+is_other Data = false
+is_other Cue = false
+is_other Other = true
+
+-- the size in the first row with an id
+abbrev pub size_by : List (List ℕ × ℕ) → List ℕ → Option ℕ
+size_by rows id = option_map (λ row. row.1) (find (λ row. reading.is_id row.0 id) rows)
+
+-- what `ds64` tells
+abbrev pub sizes_by : Ds64 → reading.Sizes
+sizes_by z = record { form = z.form; «data» = z.data_size; table = z.table }
+
+abbrev pub sizes_of : Option Ds64 → Option reading.Sizes
+sizes_of = option_map sizes_by
+
+-- the faults before a head
+abbrev pub start_faults : ℕ → List reading.Entry → ℕ → List (Bool × reading.Fault)
+start_faults len seen p =
+    reading.line (nat_le 4096 (length seen)) reading.TooMany p
+    ∷ reading.line (nat_lt len (p + 8)) reading.Truncated p
+    ∷ []
+
+-- the faults that a head shows by itself
+abbrev pub size_faults : ℕ → ℕ → ChunkKind → Bool → Option ℕ → ℕ → List (Bool × reading.Fault)
+size_faults end p kind seen size c =
+    reading.line (is_none size) reading.NoSize p
+    ∷ reading.line (nat_lt reading.largest c) reading.TooLarge p
+    ∷ reading.line (nat_lt end (p + 8 + c)) reading.Truncated p
+    ∷ reading.line (not (is_other kind) && seen) reading.Twice p
+    ∷ reading.line (is_fmt kind && nat_lt c 16) reading.BadFmt p
+    ∷ reading.line (is_bext kind && nat_lt c 602) reading.BadBext p
+    ∷ reading.line (is_cue kind && nat_lt c 4) reading.BadCue p
+    ∷ []
+
+-- the faults behind a head; `count` is the number that stands there
+abbrev pub content_faults : ℕ → ℕ → ChunkKind → ℕ → ℕ → List (Bool × reading.Fault)
+content_faults len p kind count c =
+    reading.line (is_cue kind && nat_lt len (p + 12)) reading.Truncated p
+    ∷ reading.line (is_cue kind && nat_lt 65536 count) reading.TooMany p
+    ∷ reading.line (is_cue kind && nat_lt c (4 + 24 * count)) reading.BadCue p
+    ∷ reading.line (nat_lt len (p + 8 + c)) reading.Truncated p
+    ∷ []
+
+-- The faults of a content that begins with `front` bytes, which tell a number n of rows of so many bytes, at most
+-- `most`.
+abbrev pub counted_faults : ℕ → reading.Entry → ℕ → ℕ → ℕ → reading.FaultKind → ℕ → List (Bool × reading.Fault)
+counted_faults len e front most width bad n =
+    reading.line (nat_lt len (e.place + 8 + front)) reading.Truncated e.place
+    ∷ reading.line (nat_lt most n) reading.TooMany e.place
+    ∷ reading.line (nat_lt e.size (front + width * n)) bad e.place
+    ∷ reading.line (nat_lt len (e.place + 8 + e.size)) reading.Truncated e.place
+    ∷ []
+
+-- the sizes that a kind of chunk may have
+abbrev pub Allows : ChunkKind → ℕ → Type 0
+Allows Fmt n = 16 ≤ n
+Allows Bext n = 602 ≤ n
+Allows Data n = Unit {0}
+Allows Cue n = 4 ≤ n
+Allows Other n = Unit {0}

@@ -1,0 +1,59 @@
+-- What is read of a chunk's content, and what it tells.
+use Rattle.std.specs.Prelude.{◌≡◌, ℕ, ◌+◌, ◌<◌, ◌≤◌, Bool, IsTrue, List, drop, length, slice_range, Option, Some, None}
+use Rattle.bw_model.specs.Reading as reading
+use Rattle.bw_model.specs.Bytes.{first_that_holds, u32_at}
+use Rattle.bw_model.specs.Report.{content_of}
+use Rattle.bw_inspect.specs.declared.fault.InspectFault.{InspectFault}
+use Rattle.bw_inspect.specs.declared.fault.InspectKind.TheVariants.{Truncated}
+use Rattle.bw_inspect.specs.declared.chunk.ChunkKind.{ChunkKind}
+use Rattle.bw_inspect.specs.Faults.{fault_of, is_of_bytes}
+use Rattle.bw_inspect.specs.Places.{Halts}
+use Rattle.bw_inspect.specs.Chunks.{content_faults}
+use Rattle.bw_inspect.specs.Known.{Facts, learned}
+
+-- so many bytes of a chunk's content were read
+pub record ReadTo (b : List ℕ) (e : reading.Entry) (done : ℕ) (left : Option (List ℕ)) : Type 0 where
+  pub there : e.place + 8 + done ≤ length b
+  pub rest : left ≡ Some (drop (e.place + 8 + done) b)
+
+-- so it is of all the bytes, where so many bytes of a chunk's content were read
+abbrev pub InContent : Option (List ℕ) → reading.Entry → ℕ → (List ℕ → Type 0) → Type 0
+InContent left e done holds = (b : List ℕ) → ReadTo b e done left → holds b
+
+-- n more bytes of a chunk's content are read
+pub record IsPart (b : List ℕ) (e : reading.Entry) (done n : ℕ) (got : List ℕ) (left : Option (List ℕ)) : Type 0 where
+  pub bytes : got ≡ slice_range (content_of b (Some e)) done (done + n)
+  pub to : ReadTo b e (done + n) left
+
+-- b ends before so many bytes of the chunk's content, or reading was stopped there
+pub record IsCutShort (b : List ℕ) (e : reading.Entry) (upto : ℕ) (f : InspectFault) (left : Option (List ℕ)) : Type 0 where
+  pub halts : Halts b (e.place + 8 + upto) e.place f left
+  pub cut : IsTrue (is_of_bytes f.kind) →
+      (f ≡ record { kind = Truncated; offset = e.place }) × (length b < e.place + 8 + upto)
+
+-- a call stopped; where that is for the bytes, it is the first fault of these
+pub record IsStopped (b : List ℕ) (most place : ℕ) (faults : List (Bool × reading.Fault)) (f : InspectFault) (left : Option (List ℕ)) : Type 0 where
+  pub halts : Halts b most place f left
+  pub fault : (g : reading.Fault) → fault_of f ≡ Some g → first_that_holds faults ≡ Some g
+
+-- a call stopped in a chunk's content
+abbrev pub IsRefused : List ℕ → List (Bool × reading.Fault) → reading.Entry → InspectFault → Option (List ℕ) → Type 0
+IsRefused b faults e f left = IsStopped b (e.place + 8 + e.size) e.place faults f left
+
+-- the faults of a chunk's content
+abbrev pub faults_in : List ℕ → ChunkKind → reading.Entry → List (Bool × reading.Fault)
+faults_in b kind e = content_faults (length b) e.place kind (u32_at b (e.place + 8)) e.size
+
+-- the content was read, and has no fault
+pub record IsWhole (b : List ℕ) (kind : ChunkKind) (e : reading.Entry) (left : Option (List ℕ)) : Type 0 where
+  pub free : first_that_holds (faults_in b kind e) ≡ None
+  pub to : ReadTo b e e.size left
+
+-- the content was read, and is known
+pub record IsLearned (b : List ℕ) (kind : ChunkKind) (e : reading.Entry) (old new : Facts) (left : Option (List ℕ)) : Type 0 where
+  pub whole : IsWhole b kind e left
+  pub facts : new ≡ learned b kind e old
+
+-- the content has a fault, or wasn't read
+abbrev pub IsUnlearned : List ℕ → ChunkKind → reading.Entry → InspectFault → Option (List ℕ) → Type 0
+IsUnlearned b kind e f left = IsRefused b (faults_in b kind e) e f left

@@ -1,0 +1,118 @@
+-- The faults of a file, by number and in the words of the definitions.
+use Rattle.std.specs.Prelude.{ℕ, Bool, true, false, Option, Some, None, option_map, is_some, Result, Ok, Err, List, ◌++◌, codes, decimal, if◌then◌else◌}
+use Rattle.bw_layout.specs.Moves.{one_more}
+use Rattle.bw_model.specs.Reading as reading
+use Rattle.bw_inspect.specs.declared.fault.InspectKind.{InspectKind}
+use Rattle.bw_inspect.specs.declared.fault.InspectKind.TheVariants.{NotWave, Truncated, NoDs64, BadDs64, NoSize, Twice, NoFmt, NoData, BadFmt, BadBext, BadCue, TooMany, TooLarge, Read, Memory}
+use Rattle.bw_inspect.specs.declared.fault.InspectFault.{InspectFault}
+
+-- the number of a kind
+abbrev pub code_of : InspectKind → ℕ
+code_of NotWave = 1
+code_of Truncated = 2
+code_of NoDs64 = 3
+code_of BadDs64 = 4
+code_of NoSize = 5
+code_of Twice = 6
+code_of NoFmt = 7
+code_of NoData = 8
+code_of BadFmt = 9
+code_of BadBext = 10
+code_of BadCue = 11
+code_of TooMany = 12
+code_of TooLarge = 13
+code_of Read = 14
+code_of Memory = 15
+
+-- the name of a kind, as it is printed
+abbrev pub name_of : InspectKind → List ℕ
+name_of NotWave = codes "NotWave"
+name_of Truncated = codes "Truncated"
+name_of NoDs64 = codes "NoDs64"
+name_of BadDs64 = codes "BadDs64"
+name_of NoSize = codes "NoSize"
+name_of Twice = codes "Twice"
+name_of NoFmt = codes "NoFmt"
+name_of NoData = codes "NoData"
+name_of BadFmt = codes "BadFmt"
+name_of BadBext = codes "BadBext"
+name_of BadCue = codes "BadCue"
+name_of TooMany = codes "TooMany"
+name_of TooLarge = codes "TooLarge"
+name_of Read = codes "Read"
+name_of Memory = codes "Memory"
+
+-- a fault as it is printed
+abbrev pub fault_text : InspectFault → List ℕ
+fault_text f = name_of f.kind ++ codes " at " ++ decimal f.offset
+
+-- the fault of the bytes that a kind names: a failed read and want of memory aren't theirs
+abbrev pub kind_of : InspectKind → Option reading.FaultKind
+kind_of NotWave = Some reading.NotWave
+kind_of Truncated = Some reading.Truncated
+kind_of NoDs64 = Some reading.NoDs64
+kind_of BadDs64 = Some reading.BadDs64
+kind_of NoSize = Some reading.NoSize
+kind_of Twice = Some reading.Twice
+kind_of NoFmt = Some reading.NoFmt
+kind_of NoData = Some reading.NoData
+kind_of BadFmt = Some reading.BadFmt
+kind_of BadBext = Some reading.BadBext
+kind_of BadCue = Some reading.BadCue
+kind_of TooMany = Some reading.TooMany
+kind_of TooLarge = Some reading.TooLarge
+kind_of Read = None
+kind_of Memory = None
+
+-- the same with its place
+abbrev pub fault_of : InspectFault → Option reading.Fault
+fault_of f = option_map (λ k. record { kind = k; offset = f.offset }) (kind_of f.kind)
+
+-- the reader failed
+abbrev pub is_read : InspectKind → Bool
+is_read NotWave = false
+is_read Truncated = false
+is_read NoDs64 = false
+is_read BadDs64 = false
+is_read NoSize = false
+is_read Twice = false
+is_read NoFmt = false
+is_read NoData = false
+is_read BadFmt = false
+is_read BadBext = false
+is_read BadCue = false
+is_read TooMany = false
+is_read TooLarge = false
+is_read Read = true
+is_read Memory = false
+
+-- memory was refused
+abbrev pub is_memory : InspectKind → Bool
+is_memory NotWave = false
+is_memory Truncated = false
+is_memory NoDs64 = false
+is_memory BadDs64 = false
+is_memory NoSize = false
+is_memory Twice = false
+is_memory NoFmt = false
+is_memory NoData = false
+is_memory BadFmt = false
+is_memory BadBext = false
+is_memory BadCue = false
+is_memory TooMany = false
+is_memory TooLarge = false
+is_memory Read = false
+is_memory Memory = true
+
+-- the fault is one of the bytes
+abbrev pub is_of_bytes : InspectKind → Bool
+is_of_bytes k = is_some (kind_of k)
+
+-- the reader failed in a call with this result
+abbrev pub stopped : {X : Type 0} → Result X InspectFault → Bool
+stopped (Ok x) = false
+stopped (Err f) = is_read f.kind
+
+-- the reader's failures after a call: one more exactly where Read is answered
+abbrev pub counted : {X : Type 0} → Result X InspectFault → ℕ → ℕ
+counted r n = if stopped r then one_more n else n

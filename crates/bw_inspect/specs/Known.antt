@@ -1,0 +1,71 @@
+-- What is known from the chunks so far.
+use Rattle.std.specs.Prelude.{ℕ, ◌+◌, ◌-◌, ◌≤◌, Bool, false, List, [], length, codes, Option, Some, None, option_map, is_some, unwrap_or}
+use Rattle.bw_model.specs.Reading as reading
+use Rattle.bw_model.specs.Report as report
+use Rattle.bw_model.specs.Bytes.{u32_at}
+use Rattle.bw_inspect.specs.declared.walk.Known.{Known}
+use Rattle.bw_inspect.specs.declared.walk.Samples.{Samples}
+use Rattle.bw_inspect.specs.declared.chunk.ChunkKind.{ChunkKind}
+use Rattle.bw_inspect.specs.declared.chunk.ChunkKind.TheVariants.{Fmt, Bext, Data, Cue, Other}
+use Rattle.bw_inspect.specs.Reports.{bext_by}
+
+-- what is known, in the words of the definitions
+pub record Facts : Type 0 where
+  pub fmt : Option report.RawFmt
+  pub samples : Option (ℕ × ℕ)
+  pub bext : Option (report.RawBext × ℕ)
+  pub cues : Option (List report.RawCue)
+
+abbrev pub facts_of : Known → Facts
+facts_of k = record {
+  fmt = k.fmt;
+  samples = option_map (λ (s : Samples). (s.at, s.size)) k.samples;
+  bext = option_map bext_by k.bext;
+  cues = k.cues;
+}
+
+-- there are no more points than may be
+abbrev pub HasFewCues : Known → Type 0
+HasFewCues k = length (unwrap_or k.cues []) ≤ 65536
+
+-- before the first chunk
+abbrev pub nothing : Facts
+nothing = record { fmt = None; samples = None; bext = None; cues = None }
+
+-- what one chunk tells
+abbrev pub fmt_told : List ℕ → reading.Entry → report.RawFmt
+fmt_told b e = report.raw_fmt (report.content_of b (Some e))
+
+abbrev pub samples_told : reading.Entry → ℕ × ℕ
+samples_told e = (e.place + 8, e.size)
+
+abbrev pub bext_told : List ℕ → reading.Entry → report.RawBext × ℕ
+bext_told b e = (report.raw_bext (report.content_of b (Some e)), e.size - 602)
+
+abbrev pub cues_told : List ℕ → reading.Entry → List report.RawCue
+cues_told b e = report.raw_cues (report.content_of b (Some e)) 4 (u32_at (report.content_of b (Some e)) 0)
+
+-- what the chunks seen tell
+abbrev pub facts_in : List ℕ → List reading.Entry → Facts
+facts_in b seen = record {
+  fmt = option_map (fmt_told b) (reading.entry_of (codes "fmt ") seen);
+  samples = option_map samples_told (reading.entry_of (codes "data") seen);
+  bext = option_map (bext_told b) (reading.entry_of (codes "bext") seen);
+  cues = option_map (cues_told b) (reading.entry_of (codes "cue ") seen);
+}
+
+-- whether a chunk of that kind was seen
+abbrev pub has_kind : ChunkKind → Facts → Bool
+has_kind Fmt k = is_some k.fmt
+has_kind Bext k = is_some k.bext
+has_kind Data k = is_some k.samples
+has_kind Cue k = is_some k.cues
+has_kind Other k = false
+
+-- what is known with one more chunk
+abbrev pub learned : List ℕ → ChunkKind → reading.Entry → Facts → Facts
+learned b Fmt e k = record k { fmt = Some (fmt_told b e) }
+learned b Bext e k = record k { bext = Some (bext_told b e) }
+learned b Data e k = record k { samples = Some (samples_told e) }
+learned b Cue e k = record k { cues = Some (cues_told b e) }
+learned b Other e k = k

@@ -1,0 +1,12 @@
+pub mod Faults
+pub mod Reports
+pub mod Places
+pub mod Chunks
+pub mod Known
+pub mod Contents
+pub mod CueContents
+pub mod Tables
+pub mod Walks
+pub mod Outers
+pub mod Readings
+pub mod Laws

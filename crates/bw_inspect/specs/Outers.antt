@@ -1,0 +1,52 @@
+-- The outer header, in the parts in which it is read.
+use Rattle.std.specs.Prelude.{◌≡◌, ℕ, ◌+◌, ◌^◌, ◌||◌, not, Bool, false, List, [], ◌∷◌, length, drop, codes, Option, Some, None, Ok, Err, nat_lt, IsTrue, ◌≤◌}
+use Rattle.bw_model.specs.Reading as reading
+use Rattle.bw_model.specs.Bytes.{first_that_holds, u32_at}
+use Rattle.bw_layout.specs.declared.chunk.ChunkHead.{ChunkHead}
+use Rattle.bw_inspect.specs.declared.fault.InspectFault.{InspectFault}
+use Rattle.bw_inspect.specs.declared.walk.Walk.{Walk}
+use Rattle.bw_inspect.specs.declared.walk.Form.{Form}
+use Rattle.bw_inspect.specs.Faults.{fault_of, is_memory}
+use Rattle.bw_inspect.specs.Places.{Halts}
+use Rattle.bw_inspect.specs.Walks.{Stands, form_of}
+
+-- the ids of the forms that are read
+abbrev pub names_form : List ℕ → Bool
+names_form id = reading.is_id id (codes "RIFF") || (reading.is_id id (codes "BW64") || reading.is_id id (codes "RF64"))
+
+-- the faults of the first 12 bytes
+abbrev pub opening_faults : List ℕ → List (Bool × reading.Fault)
+opening_faults b =
+    reading.line (nat_lt (length b) 12) reading.NotWave 0
+    ∷ reading.line (not (reading.is_riff b || reading.is_wide b)) reading.NotWave 0
+    ∷ reading.line (not (reading.is_id (reading.id_at b 8) (codes "WAVE"))) reading.NotWave 8
+    ∷ []
+
+-- the faults of a form's size
+abbrev pub form_faults : ℕ → List (Bool × reading.Fault)
+form_faults size =
+    reading.line (nat_lt reading.largest size) reading.TooLarge 4
+    ∷ reading.line (nat_lt size 4) reading.NotWave 4
+    ∷ []
+
+-- the first 12 bytes were read, and have no fault
+pub record IsOpened (b : List ℕ) (h : ChunkHead) (left : Option (List ℕ)) : Type 0 where
+  pub free : first_that_holds (opening_faults b) ≡ None
+  pub spells : h.id ≡ reading.id_at b 0
+  pub tells : h.size32 ≡ u32_at b 4
+  pub rest : left ≡ Some (drop 12 b)
+
+-- so it is of all the bytes, where their first 12 were read and are not those of RIFF
+abbrev pub OnWide : ChunkHead → Option (List ℕ) → (List ℕ → Type 0) → Type 0
+OnWide h left holds = (b : List ℕ) → IsOpened b h left → reading.is_riff b ≡ false → holds b
+
+-- the outer header was read
+pub record Begins (b : List ℕ) (form : Form) (w : Walk) (left : Option (List ℕ)) : Type 0 where
+  pub header : reading.outer b ≡ Ok (form_of form)
+  pub stands : Stands b (form_of form) w left
+
+-- the outer header has a fault, or wasn't read; where memory was refused, no byte behind `ds64` was read
+pub record IsOutside (b : List ℕ) (f : InspectFault) (left : Option (List ℕ)) : Type 0 where
+  pub halts : Halts b (2 ^ 62 + 8) 12 f left
+  pub fault : (g : reading.Fault) → fault_of f ≡ Some g → reading.outer b ≡ Err g
+  pub memory : IsTrue (is_memory f.kind) → halts.reached ≤ 20 + u32_at b 16

@@ -1,0 +1,40 @@
+-- What is read at a place, and what is missed there.
+use Rattle.std.specs.Prelude.{◌≡◌, ℕ, ◌+◌, ◌<◌, ◌≤◌, IsTrue, not, List, length, drop, slice_range, Option, Some}
+use Rattle.bw_inspect.specs.declared.fault.InspectFault.{InspectFault}
+use Rattle.bw_inspect.specs.Faults.{is_read, is_memory}
+
+-- so it is of all the bytes, where the reader tells them and stands at their start
+abbrev pub Of : Option (List ℕ) → (List ℕ → Type 0) → Type 0
+Of left holds = (b : List ℕ) → left ≡ Some b → holds b
+
+-- so it is of all the bytes b, where the reader tells those from a place on
+abbrev pub AtPlace : Option (List ℕ) → ℕ → (List ℕ → Type 0) → Type 0
+AtPlace left place holds = (b : List ℕ) → left ≡ Some (drop place b) → holds b
+
+-- n bytes of b from a place on are read; these are left
+pub record IsGiven (b : List ℕ) (place n : ℕ) (got : List ℕ) (left : Option (List ℕ)) : Type 0 where
+  pub within : 0 < n → place + n ≤ length b
+  pub bytes : got ≡ slice_range b place (place + n)
+  pub rest : left ≡ Some (drop (place + n) b)
+
+-- n bytes of b from a place on are passed over
+pub record IsPassed (b : List ℕ) (place n : ℕ) (left : Option (List ℕ)) : Type 0 where
+  pub within : 0 < n → place + n ≤ length b
+  pub rest : left ≡ Some (drop (place + n) b)
+
+-- n bytes of b from a place on aren't read: b ends before, or the reader failed at the next byte that was wanted
+pub record IsMissed (b : List ℕ) (place n : ℕ) (cut f : InspectFault) (left : Option (List ℕ)) : Type 0 where
+  pub taken : ℕ
+  pub small : taken ≤ n
+  pub rest : left ≡ Some (drop (place + taken) b)
+  pub fails : IsTrue (is_read f.kind) → f.offset ≡ place + taken
+  pub cuts : IsTrue (not (is_read f.kind)) → (f ≡ cut) × (length b < place + n)
+
+-- A call stopped with a fault, at most so far into b: a failed read is told at the next byte that was wanted, want
+-- of memory at a chunk's place, behind whose head it is met.
+pub record Halts (b : List ℕ) (most place : ℕ) (f : InspectFault) (left : Option (List ℕ)) : Type 0 where
+  pub reached : ℕ
+  pub within : reached ≤ most
+  pub rest : left ≡ Some (drop reached b)
+  pub fails : IsTrue (is_read f.kind) → f.offset ≡ reached
+  pub memory : IsTrue (is_memory f.kind) → (f.offset ≡ place) × (place + 8 ≤ reached)

@@ -1,0 +1,70 @@
+-- What reading a file answers.
+use Rattle.std.specs.Prelude.{◌≡◌, ℕ, ◌+◌, ◌^◌, ◌≤◌, ◌⊎◌, IsTrue, List, length, drop, Option, Some, None}
+use Rattle.bw_model.specs.Bytes.{first_that_holds, u32_at}
+use Rattle.bw_model.specs.Reading as reading
+use Rattle.bw_model.specs.Report as report
+use Rattle.bw_inspect.specs.declared.fault.InspectFault.{InspectFault}
+use Rattle.bw_inspect.specs.declared.report.Report.{Report}
+use Rattle.bw_inspect.specs.declared.walk.Walk.{Walk}
+use Rattle.bw_inspect.specs.Faults.{fault_of, is_memory, is_read}
+use Rattle.bw_inspect.specs.Known.{facts_of, facts_in}
+use Rattle.bw_inspect.specs.Walks.{end_behind, seen_by}
+use Rattle.bw_inspect.specs.Reports.{told_by}
+
+-- so it is of all the bytes, where the walk knows what its chunks tell
+abbrev pub Knows : Walk → (List ℕ → Type 0) → Type 0
+Knows w holds = (b : List ℕ) → facts_of w.known ≡ facts_in b (seen_by w) → holds b
+
+-- the chunks have no fault at the form's end, and this is their report
+pub record IsTold (b : List ℕ) (form : reading.Form) (seen : List reading.Entry) (r : Report) : Type 0 where
+  pub tells : told_by r ≡ report.report_of b form seen
+  pub free : first_that_holds (reading.end_faults (reading.form_end form) seen) ≡ None
+
+-- at most so much of all the bytes was read
+pub record IsReadWithin (b : List ℕ) (most : ℕ) (left : Option (List ℕ)) : Type 0 where
+  pub reached : ℕ
+  pub within : reached ≤ most
+  pub rest : left ≡ Some (drop reached b)
+
+-- the bytes have a reading
+pub record HasReading (b : List ℕ) : Type 0 where
+  pub form : reading.Form
+  pub entries : List reading.Entry
+  pub reads : reading.IsReading b form entries
+
+-- the bytes have a reading, and this is its report; no byte behind the form was read
+pub record Tells (b : List ℕ) (r : Report) (left : Option (List ℕ)) : Type 0 where
+  pub reading_is : HasReading b
+  pub tells : told_by r ≡ report.report_of b reading_is.form reading_is.entries
+  pub within : IsReadWithin b (reading.form_end reading_is.form) left
+  pub small : reading_is.form.size ≤ 2 ^ 62
+
+-- so many bytes end behind the head of `ds64`, and not behind its content
+pub record EndInDs64 (b : List ℕ) (place reached : ℕ) : Type 0 where
+  pub place_is : place ≡ 12
+  pub begun : 20 ≤ reached
+  pub ends : reached ≤ 20 + u32_at b 16
+
+-- so many bytes end behind the head of the chunk at a place, and not behind its content
+pub record EndInChunk (b : List ℕ) (place reached : ℕ) : Type 0 where
+  pub form : reading.Form
+  -- the chunks before it
+  pub entries : List reading.Entry
+  pub front : reading.IsFront b form entries
+  pub place_is : place ≡ reading.next_place entries
+  pub begun : place + 8 ≤ reached
+  pub ends : reached ≤ end_behind b form entries
+
+-- the bytes have this fault, or weren't read
+pub record Refuses (b : List ℕ) (f : InspectFault) (left : Option (List ℕ)) : Type 0 where
+  pub fault : (g : reading.Fault) → fault_of f ≡ Some g → reading.IsFault b g
+  pub within : IsReadWithin b (2 ^ 62 + 8) left
+  -- a failed read is told at the next byte that was wanted
+  pub fails : IsTrue (is_read f.kind) → f.offset ≡ within.reached
+  -- want of memory at the place of the chunk that was read last: `ds64` behind the outer header, or a further one
+  pub memory : IsTrue (is_memory f.kind) → EndInDs64 b f.offset within.reached ⊎ EndInChunk b f.offset within.reached
+
+-- the lists are no longer than they may be, whatever the reader gave
+pub record IsBounded (r : Report) : Type 0 where
+  pub chunks : length r.chunks ≤ 4096
+  pub cues : length r.cues ≤ 65536

@@ -1,0 +1,76 @@
+-- Where a walk stands.
+use Rattle.std.specs.Prelude.{◌≡◌, ℕ, ◌+◌, ◌≤◌, ◌<◌, Bool, false, List, [], length, drop, Option, Some, Err, IsTrue, unwrap_or}
+use Rattle.bw_model.specs.Reading as reading
+use Rattle.bw_model.specs.Bytes.{u32_at, even_up}
+use Rattle.bw_layout.specs.declared.chunk.ChunkHead.{ChunkHead}
+use Rattle.bw_inspect.specs.declared.fault.InspectFault.{InspectFault}
+use Rattle.bw_inspect.specs.declared.walk.Walk.{Walk}
+use Rattle.bw_inspect.specs.declared.walk.Form.{Form}
+use Rattle.bw_inspect.specs.Faults.{fault_of, is_memory}
+use Rattle.bw_inspect.specs.Places.{Halts}
+use Rattle.bw_inspect.specs.Chunks.{sizes_of}
+use Rattle.bw_inspect.specs.Known.{HasFewCues, facts_of, facts_in}
+
+abbrev pub form_of : Form → reading.Form
+form_of f = record { id = f.id; size = f.size; sizes = sizes_of f.sizes }
+
+abbrev pub seen_by : Walk → List reading.Entry
+seen_by w = w.chunks.items
+
+-- the chunks so far are those of b, and the reader stands where the next head is wanted, if one is
+pub record Stands (b : List ℕ) (form : reading.Form) (w : Walk) (left : Option (List ℕ)) : Type 0 where
+  pub chunks : reading.FollowEachOther (reading.next b form) [] (seen_by w)
+  pub facts : facts_of w.known ≡ facts_in b (seen_by w)
+  pub place : w.place ≡ reading.next_place (seen_by w)
+  pub reached : ℕ
+  pub within : reached ≤ reading.form_end form
+  pub rest : left ≡ Some (drop reached b)
+  pub next : w.place + 8 ≤ reading.form_end form → left ≡ Some (drop w.place b)
+
+-- so it is of all the bytes, where a walk over them stands so
+abbrev pub OnWalk : reading.Form → Walk → Option (List ℕ) → (List ℕ → Type 0) → Type 0
+OnWalk form w left holds = (b : List ℕ) → Stands b form w left → holds b
+
+-- a head was read
+pub record IsHead (b : List ℕ) (p : ℕ) (h : ChunkHead) (left : Option (List ℕ)) : Type 0 where
+  pub within : p + 8 ≤ length b
+  pub spells : h.id ≡ reading.id_at b p
+  pub tells : h.size32 ≡ u32_at b (p + 4)
+  pub rest : left ≡ Some (drop (p + 8) b)
+
+-- where the head behind a chunk stands
+abbrev pub behind : reading.Entry → ℕ
+behind e = e.place + 8 + even_up e.size
+
+-- a chunk is behind the reader, and so is its pad byte where a further head is wanted
+pub record IsPassedOver (b : List ℕ) (end : ℕ) (e : reading.Entry) (left : Option (List ℕ)) : Type 0 where
+  pub reached : ℕ
+  pub within : reached ≤ end
+  pub rest : left ≡ Some (drop reached b)
+  pub next : behind e + 8 ≤ end → reached ≡ behind e
+
+-- no more chunks and points than may be
+pub record IsSmall (w : Walk) : Type 0 where
+  pub chunks : length (seen_by w) ≤ 4096
+  pub cues : HasFewCues w.known
+
+-- one chunk more
+pub record GrowsByOne (old new : List reading.Entry) : Type 0 where
+  pub few : length old < 4096
+  pub one : length new ≡ length old + 1
+
+-- one more chunk is seen, or none is wanted
+pub record Goes (b : List ℕ) (form : reading.Form) (more : Bool) (w : Walk) (left : Option (List ℕ)) : Type 0 where
+  pub stands : Stands b form w left
+  pub ends : more ≡ false → reading.form_end form < w.place + 8
+
+-- where the chunk behind those seen ends, without its pad byte
+abbrev pub end_behind : List ℕ → reading.Form → List reading.Entry → ℕ
+end_behind b form seen = reading.next_place seen + 8 + unwrap_or (reading.size_at b form (reading.next_place seen)) 0
+
+-- What comes behind the chunks seen is a fault, or wasn't read; where memory was refused, no byte behind that chunk
+-- was read.
+pub record IsFaulted (b : List ℕ) (form : reading.Form) (seen : List reading.Entry) (f : InspectFault) (left : Option (List ℕ)) : Type 0 where
+  pub halts : Halts b (reading.form_end form) (reading.next_place seen) f left
+  pub fault : (g : reading.Fault) → fault_of f ≡ Some g → reading.next b form seen ≡ Err g
+  pub memory : IsTrue (is_memory f.kind) → halts.reached ≤ end_behind b form seen

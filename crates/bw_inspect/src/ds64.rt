@@ -1,0 +1,161 @@
+//! The `ds64` chunk, with which a BW64 or RF64 file begins (ITU-R BS.2088).
+ghost use Rattle.std.specs.Prelude.{◌≡◌, ◌+◌, ◌*◌, ◌^◌, ◌≤◌, ◌<◌, IfOk, IfErr, Some};
+ghost use Rattle.bw_inspect.specs.Faults.{counted};
+ghost use Rattle.bw_inspect.specs.Places.{AtPlace};
+ghost use Rattle.bw_inspect.specs.Contents.{InContent, IsCutShort, IsRefused, IsStopped, ReadTo};
+ghost use Rattle.bw_inspect.specs.Chunks.{sizes_by};
+ghost use Rattle.bw_inspect.specs.Tables.{HasRows, IsDs64Head, IsDs64Read, IsFixed, ds64_head_faults, row_told, table_faults};
+
+use crate::chunk::is_named;
+use crate::content::{pass_rest, read_part};
+use crate::fault::{InspectFault, InspectKind, fault_at};
+use crate::report::ListedChunk;
+use crate::walk::read_head_at;
+use bw_layout::{ChunkId, Ds64, Ds64Fixed, SizeTable, Source, read_ds64_fixed, read_entry};
+use std::alloc::Global;
+
+/// Where a `ds64` chunk stands: behind the outer header.
+const PLACE: u64 = 12;
+
+/// The most entries of a table that are read.
+const MOST_ENTRIES: u32 = 4_096;
+
+/// Reads the head of the `ds64` chunk.
+///
+/// # Errors
+/// NoDs64, BadDs64; Read.
+pub(crate) fn read_ds64_head<R: Source>(reader: &mut R) -> Result<ListedChunk, InspectFault>
+    ensures count { R.failures reader.new ≡ counted result (R.failures reader.old) }
+    ensures place { IfOk result (λ e. e.place ≡ 12) }
+    ensures size { IfOk result (λ e. (28 ≤ e.size) × (e.size < 2 ^ 32)) }
+    ensures ok { IfOk result (λ e. AtPlace (R.left reader.old) 12 (λ b.
+        IsDs64Head b e (R.left reader.new))) }
+    ensures err { IfErr result (λ f. AtPlace (R.left reader.old) 12 (λ b.
+        IsStopped b 20 12 (ds64_head_faults b) f (R.left reader.new))) }
+{
+    let head = read_head_at(reader, PLACE, fault_at(InspectKind::NoDs64, PLACE))?;
+    if !is_named(head.id, *b"ds64") {
+        return Err(fault_at(InspectKind::NoDs64, PLACE));
+    }
+    if head.size32 < 28 || head.size32 == u32::MAX {
+        return Err(fault_at(InspectKind::BadDs64, PLACE));
+    }
+    Ok(ListedChunk {
+        id: head.id,
+        place: PLACE,
+        size: head.size32 as u64,
+    })
+}
+
+/// Reads what stands before the table.
+///
+/// # Errors
+/// Truncated, TooMany, BadDs64; Read.
+fn read_fixed<R: Source>(reader: &mut R, entry: ListedChunk) -> Result<Ds64Fixed, InspectFault>
+    requires room { entry.place + 8 + entry.size < 2 ^ 63 }
+    requires long { 28 ≤ entry.size }
+    ensures count { R.failures reader.new ≡ counted result (R.failures reader.old) }
+    ensures few { IfOk result (λ x. x.table_len ≤ 4_096) }
+    ensures fits { IfOk result (λ x. 28 + 12 * x.table_len ≤ entry.size) }
+    ensures ok { IfOk result (λ x. InContent (R.left reader.old) entry 0 (λ b.
+        IsFixed b entry x (R.left reader.new))) }
+    ensures err { IfErr result (λ f. InContent (R.left reader.old) entry 0 (λ b.
+        IsRefused b (table_faults b entry) entry f (R.left reader.new))) }
+{
+    let mut front = [0; 28];
+    read_part(reader, entry, 0, &mut front)?;
+    let Ok(fixed) = read_ds64_fixed(&front) else {
+        return Err(fault_at(InspectKind::BadDs64, entry.place));
+    };
+    if fixed.table_len > MOST_ENTRIES {
+        return Err(fault_at(InspectKind::TooMany, entry.place));
+    }
+    if 28 + 12 * fixed.table_len as u64 > entry.size {
+        return Err(fault_at(InspectKind::BadDs64, entry.place));
+    }
+    Ok(fixed)
+}
+
+/// Reads the next entry of the table, before which `done` entries were read.
+///
+/// # Errors
+/// Truncated; Read.
+fn read_row<R: Source>(
+    reader: &mut R,
+    entry: ListedChunk,
+    done: u64,
+) -> Result<(ChunkId, u64), InspectFault>
+    requires room { entry.place + 8 + entry.size < 2 ^ 63 }
+    requires few { done < 4_096 }
+    requires fits { 28 + 12 * done + 12 ≤ entry.size }
+    ensures count { R.failures reader.new ≡ counted result (R.failures reader.old) }
+    ensures ok { IfOk result (λ x. InContent (R.left reader.old) entry (28 + 12 * done) (λ b.
+        ReadTo b entry (28 + 12 * done + 12) (R.left reader.new)
+        × (x ≡ row_told b entry done))) }
+    ensures err { IfErr result (λ f. InContent (R.left reader.old) entry (28 + 12 * done) (λ b.
+        IsCutShort b entry entry.size f (R.left reader.new))) }
+{
+    let mut bytes = [0; 12];
+    read_part(reader, entry, 28 + 12 * done, &mut bytes)?;
+    let Ok(row) = read_entry(&bytes) else {
+        return Err(fault_at(InspectKind::BadDs64, entry.place));
+    };
+    Ok(row)
+}
+
+/// Reads so many entries of the table.
+///
+/// # Errors
+/// Truncated; Read; Memory.
+fn read_table<R: Source>(
+    alloc: Global,
+    reader: &mut R,
+    entry: ListedChunk,
+    count: u64,
+) -> Result<Vec<(ChunkId, u64)>, InspectFault>
+    requires room { entry.place + 8 + entry.size < 2 ^ 63 }
+    requires few { count ≤ 4_096 }
+    requires fits { 28 + 12 * count ≤ entry.size }
+    ensures count { R.failures reader.new ≡ counted result (R.failures reader.old) }
+    ensures ok { IfOk result (λ x. InContent (R.left reader.old) entry 28 (λ b.
+        HasRows b entry count x.items (R.left reader.new))) }
+    ensures err { IfErr result (λ f. InContent (R.left reader.old) entry 28 (λ b.
+        IsCutShort b entry entry.size f (R.left reader.new))) }
+{
+    let mut rows = Vec::new(alloc);
+    for done in 0..count {
+        let row = read_row(reader, entry, done)?;
+        let Ok(()) = rows.push(row) else {
+            return Err(fault_at(InspectKind::Memory, entry.place));
+        };
+    }
+    Ok(rows)
+}
+
+/// Reads the content of the `ds64` chunk; what follows its table is passed over.
+///
+/// # Errors
+/// Truncated, TooMany, BadDs64; Read; Memory.
+pub(crate) fn read_ds64<R: Source>(
+    alloc: Global,
+    reader: &mut R,
+    entry: ListedChunk,
+) -> Result<Ds64, InspectFault>
+    requires room { entry.place + 8 + entry.size < 2 ^ 63 }
+    requires long { 28 ≤ entry.size }
+    ensures count { R.failures reader.new ≡ counted result (R.failures reader.old) }
+    ensures ok { IfOk result (λ x. InContent (R.left reader.old) entry 0 (λ b.
+        IsDs64Read b entry x (R.left reader.new))) }
+    ensures err { IfErr result (λ f. InContent (R.left reader.old) entry 0 (λ b.
+        IsRefused b (table_faults b entry) entry f (R.left reader.new))) }
+{
+    let fixed = read_fixed(reader, entry)?;
+    let count = fixed.table_len as u64;
+    let rows = read_table(alloc, reader, entry, count)?;
+    pass_rest(reader, entry, 28 + 12 * count)?;
+    Ok(Ds64 {
+        form: fixed.form,
+        data_size: fixed.data_size,
+        table: SizeTable::new(rows),
+    })
+}

@@ -1,0 +1,101 @@
+//! Why a file isn't read.
+ghost use Rattle.std.specs.Prelude.{◌≡◌, ◌≤◌, Some};
+ghost use Rattle.bw_inspect.specs.Faults.{code_of, fault_text, name_of};
+
+use std::error::Error;
+use std::fmt;
+
+/// What is wrong, or what was missing.
+#[derive(Clone, Copy, Debug, PartialEq, Eq, Hash)]
+pub enum InspectKind {
+    /// No RIFF, BW64 or RF64 form of type `WAVE`.
+    NotWave = 1,
+    /// The input, the form or the chunk ends before what is told of it.
+    Truncated = 2,
+    /// A BW64 or RF64 file doesn't begin with `ds64`.
+    NoDs64 = 3,
+    /// `ds64` has a size that it can't have.
+    BadDs64 = 4,
+    /// A size isn't told anywhere.
+    NoSize = 5,
+    /// A second `fmt `, `bext`, `data` or `cue `.
+    Twice = 6,
+    /// No `fmt ` chunk.
+    NoFmt = 7,
+    /// No `data` chunk.
+    NoData = 8,
+    /// A `fmt ` chunk of fewer than 16 bytes.
+    BadFmt = 9,
+    /// A `bext` chunk of fewer than 602 bytes.
+    BadBext = 10,
+    /// A `cue ` chunk too short for its count and its points.
+    BadCue = 11,
+    /// More than 4,096 chunks or entries of `ds64`, or more than 65,536 cue points.
+    TooMany = 12,
+    /// A form or a chunk of more than 2^62 bytes.
+    TooLarge = 13,
+    /// The reader failed.
+    Read = 14,
+    /// Memory was refused.
+    Memory = 15,
+}
+
+impl InspectKind {
+    /// Its number.
+    pub fn code(self) -> u8
+        ensures value { result ≡ code_of self }
+        ensures range { result ≤ 15 }
+    {
+        self as u8
+    }
+}
+
+impl fmt::Display for InspectKind {
+    ghost output = { λ k. Some (name_of k) };
+
+    fn fmt<W: fmt::Write>(&self, f: &mut fmt::Formatter<W>) -> fmt::Result {
+        f.write_str(match self {
+            InspectKind::NotWave => "NotWave",
+            InspectKind::Truncated => "Truncated",
+            InspectKind::NoDs64 => "NoDs64",
+            InspectKind::BadDs64 => "BadDs64",
+            InspectKind::NoSize => "NoSize",
+            InspectKind::Twice => "Twice",
+            InspectKind::NoFmt => "NoFmt",
+            InspectKind::NoData => "NoData",
+            InspectKind::BadFmt => "BadFmt",
+            InspectKind::BadBext => "BadBext",
+            InspectKind::BadCue => "BadCue",
+            InspectKind::TooMany => "TooMany",
+            InspectKind::TooLarge => "TooLarge",
+            InspectKind::Read => "Read",
+            InspectKind::Memory => "Memory",
+        })
+    }
+}
+
+/// A fault, and where it was met.
+#[derive(Clone, Copy, Debug, PartialEq, Eq, Hash)]
+pub struct InspectFault {
+    pub kind: InspectKind,
+    /// In bytes from the file's start: of a chunk that is wrong, the place of its head; of a read
+    /// that failed, that of the next byte that was wanted.
+    pub offset: u64,
+}
+
+impl fmt::Display for InspectFault {
+    ghost output = { λ f. Some (fault_text f) };
+
+    fn fmt<W: fmt::Write>(&self, f: &mut fmt::Formatter<W>) -> fmt::Result {
+        write!(f, "{} at {}", self.kind, self.offset)
+    }
+}
+
+impl Error for InspectFault {}
+
+/// A fault at a place.
+pub(crate) fn fault_at(kind: InspectKind, offset: u64) -> InspectFault
+    ensures { result ≡ record { kind = kind; offset = offset } }
+{
+    InspectFault { kind, offset }
+}

@@ -1,0 +1,19 @@
+//! What a file of chunks holds: RIFF WAVE, BW64 (ITU-R BS.2088) and RF64 (EBU Tech 3306), read once and forward.
+#![tactic(auto)]
+
+mod chunk;
+mod content;
+mod cues;
+mod ds64;
+mod fault;
+pub mod laws;
+mod outer;
+mod places;
+mod reading;
+mod report;
+mod sizes;
+mod walk;
+
+pub use fault::{InspectFault, InspectKind};
+pub use reading::inspect;
+pub use report::{BextChunk, Chunks, Cues, ListedChunk, Report};

@@ -1,0 +1,145 @@
+//! The outer header of a file.
+ghost use Rattle.std.specs.Prelude.{◌≡◌, ◌+◌, ◌^◌, ◌≤◌, IsTrue, None, OnOk, IfOk, IfErr, ◌==◌, if◌then◌else◌};
+ghost use Rattle.bw_model.specs.Bytes.{first_that_holds, unsaid};
+ghost use Rattle.bw_inspect.specs.Faults.{counted, fault_of, is_of_bytes};
+ghost use Rattle.bw_inspect.specs.Places.{Of};
+ghost use Rattle.bw_inspect.specs.Contents.{IsStopped};
+ghost use Rattle.bw_inspect.specs.Outers.{Begins, IsOpened, IsOutside, OnWide, form_faults, names_form, opening_faults};
+ghost use Rattle.bw_inspect.specs.Walks.{IsSmall};
+
+use crate::chunk::is_named;
+use crate::ds64::{read_ds64, read_ds64_head};
+use crate::fault::{InspectFault, InspectKind, fault_at};
+use crate::places::read_at;
+use crate::walk::{Form, Walk, begin, list_chunk};
+use bw_layout::{ChunkHead, ChunkId, Source, read_id, read_u32};
+use std::alloc::Global;
+
+/// Whether an id is that of a form that is read.
+fn is_form(id: ChunkId) -> bool
+    ensures { result ≡ names_form id }
+{
+    is_named(id, *b"RIFF") || is_named(id, *b"BW64") || is_named(id, *b"RF64")
+}
+
+/// Reads the first 12 bytes of a file: the form's id, its size as far as four bytes tell it, and `WAVE`.
+///
+/// # Errors
+/// NotWave; Read.
+fn read_opening<R: Source>(reader: &mut R) -> Result<ChunkHead, InspectFault>
+    ensures count { R.failures reader.new ≡ counted result (R.failures reader.old) }
+    ensures ok { IfOk result (λ h. Of (R.left reader.old) (λ b.
+        IsOpened b h (R.left reader.new))) }
+    ensures err { IfErr result (λ f. Of (R.left reader.old) (λ b.
+        IsStopped b 12 12 (opening_faults b) f (R.left reader.new))) }
+{
+    let mut bytes = [0; 12];
+    read_at(reader, 0, &mut bytes, fault_at(InspectKind::NotWave, 0))?;
+    let id = ChunkId(read_id(&bytes, 0));
+    if !is_form(id) {
+        return Err(fault_at(InspectKind::NotWave, 0));
+    }
+    if !is_named(ChunkId(read_id(&bytes, 8)), *b"WAVE") {
+        return Err(fault_at(InspectKind::NotWave, 8));
+    }
+    Ok(ChunkHead {
+        id,
+        size32: read_u32(&bytes, 4),
+    })
+}
+
+/// Whether a form may have a size.
+///
+/// # Errors
+/// TooLarge, NotWave.
+fn check_form_size(size: u64) -> Result<(), InspectFault>
+    ensures small { OnOk result (size ≤ 2 ^ 62) }
+    ensures ok { OnOk result (first_that_holds (form_faults size) ≡ None) }
+    ensures kind { IfErr result (λ f. IsTrue (is_of_bytes f.kind)) }
+    ensures err { IfErr result (λ f. fault_of f ≡ first_that_holds (form_faults size)) }
+{
+    if size > 1 << 62 {
+        return Err(fault_at(InspectKind::TooLarge, 4));
+    }
+    if size < 4 {
+        return Err(fault_at(InspectKind::NotWave, 4));
+    }
+    Ok(())
+}
+
+/// The size of a form, where `ds64` tells one too: that of the outer header, if it can tell it.
+fn form_size(size32: u32, told: u64) -> u64
+    ensures { result ≡ (if size32 == unsaid then told else size32) }
+{
+    if size32 == u32::MAX {
+        told
+    } else {
+        size32 as u64
+    }
+}
+
+/// Reads what stands before the second chunk of a BW64 or RF64 file, behind its opening.
+fn read_wide<R: Source>(
+    alloc: Global,
+    reader: &mut R,
+    opening: ChunkHead,
+) -> Result<(Form, Walk), InspectFault>
+    ensures count { R.failures reader.new ≡ counted result (R.failures reader.old) }
+    ensures size { IfOk result (λ r. r.0.size ≤ 2 ^ 62) }
+    ensures place { IfOk result (λ r. r.1.place ≤ r.0.size + 9) }
+    ensures small { IfOk result (λ r. IsSmall r.1) }
+    ensures ok { IfOk result (λ r. OnWide opening (R.left reader.old) (λ b.
+        Begins b r.0 r.1 (R.left reader.new))) }
+    ensures err { IfErr result (λ f. OnWide opening (R.left reader.old) (λ b.
+        IsOutside b f (R.left reader.new))) }
+{
+    let entry = read_ds64_head(reader)?;
+    let sizes = read_ds64(alloc, reader, entry)?;
+    let size = form_size(opening.size32, sizes.form);
+    check_form_size(size)?;
+    if 8 + size < entry.place + 8 + entry.size {
+        return Err(fault_at(InspectKind::Truncated, entry.place));
+    }
+    let mut walk = begin(alloc);
+    list_chunk(alloc, reader, 8 + size, &mut walk, entry)?;
+    let form = Form {
+        id: opening.id,
+        size,
+        sizes: Some(sizes),
+    };
+    Ok((form, walk))
+}
+
+/// Reads the outer header, and in BW64 and RF64 the `ds64` chunk behind it.
+///
+/// # Errors
+/// The first fault of the outer header; Read; Memory.
+pub(crate) fn read_outer<R: Source>(
+    alloc: Global,
+    reader: &mut R,
+) -> Result<(Form, Walk), InspectFault>
+    ensures count { R.failures reader.new ≡ counted result (R.failures reader.old) }
+    ensures size { IfOk result (λ r. r.0.size ≤ 2 ^ 62) }
+    ensures place { IfOk result (λ r. r.1.place ≤ r.0.size + 9) }
+    ensures small { IfOk result (λ r. IsSmall r.1) }
+    ensures ok { IfOk result (λ r. Of (R.left reader.old) (λ b.
+        Begins b r.0 r.1 (R.left reader.new))) }
+    ensures err { IfErr result (λ f. Of (R.left reader.old) (λ b.
+        IsOutside b f (R.left reader.new))) }
+{
+    let opening = read_opening(reader)?;
+    if !is_named(opening.id, *b"RIFF") {
+        return read_wide(alloc, reader, opening);
+    }
+    if opening.size32 == u32::MAX {
+        return Err(fault_at(InspectKind::NoSize, 4));
+    }
+    let size = opening.size32 as u64;
+    check_form_size(size)?;
+    let form = Form {
+        id: opening.id,
+        size,
+        sizes: None,
+    };
+    Ok((form, begin(alloc)))
+}

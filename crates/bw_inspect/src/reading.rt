@@ -1,0 +1,77 @@
+//! Reading a whole file.
+ghost use Rattle.std.specs.Prelude.{◌≡◌, ℕ, ◌+◌, ◌^◌, ◌≤◌, List, IsTrue, None, IfOk, IfErr, false};
+ghost use Rattle.bw_model.specs.Bytes.{first_that_holds};
+ghost use Rattle.bw_model.specs.Reading.{end_faults};
+ghost use Rattle.bw_inspect.specs.Faults.{counted, fault_of, is_of_bytes};
+ghost use Rattle.bw_inspect.specs.Places.{Of};
+ghost use Rattle.bw_inspect.specs.Known.{facts_of, facts_in};
+ghost use Rattle.bw_inspect.specs.Walks.{IsSmall, form_of, seen_by};
+ghost use Rattle.bw_inspect.specs.Readings.{HasReading, IsBounded, IsTold, Knows, Refuses, Tells};
+
+use crate::fault::{InspectFault, InspectKind, fault_at};
+use crate::outer::read_outer;
+use crate::report::{Chunks, Cues, Report};
+use crate::walk::{Form, Known, Walk, next_chunk};
+use bw_layout::Source;
+use std::alloc::Global;
+
+/// The report of a walk that came to the form's end.
+///
+/// # Errors
+/// NoFmt, NoData.
+fn finish(alloc: Global, form: Form, walk: Walk) -> Result<Report, InspectFault>
+    requires { form.size ≤ 2 ^ 62 }
+    ensures ok { IfOk result (λ r. Knows walk (λ b. IsTold b (form_of form) (seen_by walk) r)) }
+    ensures bounded { IfOk result (λ r. IsSmall walk → IsBounded r) }
+    ensures kind { IfErr result (λ f. IsTrue (is_of_bytes f.kind)) }
+    ensures err { IfErr result (λ f. Knows walk (λ b.
+        fault_of f ≡ first_that_holds (end_faults (8 + form.size) (seen_by walk)))) }
+{
+    let end = 8 + form.size;
+    let Walk {
+        place: _,
+        chunks,
+        known,
+    } = walk;
+    let Known {
+        fmt,
+        samples,
+        bext,
+        cues,
+    } = known;
+    let Some(fmt) = fmt else {
+        return Err(fault_at(InspectKind::NoFmt, end));
+    };
+    let Some(samples) = samples else {
+        return Err(fault_at(InspectKind::NoData, end));
+    };
+    Ok(Report {
+        form: form.id,
+        size: form.size,
+        chunks: Chunks::new(chunks),
+        fmt,
+        data_at: samples.at,
+        data_size: samples.size,
+        bext,
+        cues: cues.unwrap_or(Cues::new(Vec::new(alloc))),
+    })
+}
+
+/// Reads a file once and forward, and tells what it holds. Content that isn't told is passed over and not kept.
+///
+/// # Errors
+/// The first fault of the file, at its place; Read, only where the reader failed in this call, at the offset of
+/// the next byte that was wanted; Memory, at the place of the chunk that needed it.
+pub fn inspect<R: Source>(alloc: Global, reader: &mut R) -> Result<Report, InspectFault>
+    ensures count { R.failures reader.new ≡ counted result (R.failures reader.old) }
+    ensures ok { IfOk result (λ r. Of (R.left reader.old) (λ b. Tells b r (R.left reader.new))) }
+    ensures err { IfErr result (λ f. Of (R.left reader.old) (λ b.
+        Refuses b f (R.left reader.new))) }
+    ensures bounded { IfOk result (λ r. IsBounded r) }
+    ensures only { IfErr result (λ f. Of (R.left reader.old) (λ b.
+        HasReading b → is_of_bytes f.kind ≡ false)) }
+{
+    let (form, mut walk) = read_outer(alloc, reader)?;
+    while next_chunk(alloc, reader, &form, &mut walk)? {}
+    finish(alloc, form, walk)
+}
