@@ -1,3 +1,4 @@
+pub mod Writing
 pub mod Faults
 pub mod Pieces
 pub mod Contents

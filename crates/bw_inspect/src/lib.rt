@@ -7,13 +7,17 @@ mod cues;
 mod ds64;
 mod fault;
 pub mod laws;
+mod line;
 mod outer;
 mod places;
 mod reading;
 mod report;
 mod sizes;
+mod text;
 mod walk;
+mod write;
 
 pub use fault::{InspectFault, InspectKind};
 pub use reading::inspect;
 pub use report::{BextChunk, Chunks, Cues, ListedChunk, Report};
+pub use write::{WriteFailed, write_report};

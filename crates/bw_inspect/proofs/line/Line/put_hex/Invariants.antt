@@ -1,0 +1,10 @@
+use Rattle.std.proofs.Common.{◌≡◌, ◌+◌, ◌*◌, ◌++◌, length, take}
+use Rattle.std.specs.Prelude.{flat_map}
+use Rattle.bw_model.specs.Report.{hex_byte}
+use Rattle.bw_inspect.proofs.line.Line.put_hex.Given as goal
+
+abbrev pub invariant-loop-byte : goal.invariant-loop-byte
+invariant-loop-byte l = record {
+  text : l.self ≡ l.initial.self ++ flat_map hex_byte (take l.byte-index l.bytes);
+  short : length l.self ≡ length l.initial.self + 2 * l.byte-index;
+}
