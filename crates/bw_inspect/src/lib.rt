@@ -12,8 +12,14 @@ mod outer;
 mod places;
 mod reading;
 mod report;
+#[cfg(test)]
+mod rows;
 mod sizes;
+#[cfg(test)]
+mod tests;
 mod text;
+#[cfg(test)]
+mod text_tests;
 mod walk;
 mod write;
 
