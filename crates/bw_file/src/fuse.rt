@@ -1,7 +1,6 @@
 //! A store that fails chosen calls.
-ghost use Rattle.std.specs.Prelude.{◌≡◌, ◌<◌, ◌==◌, ℕ, List, [], ◌∷◌, Option, None, true, not, IsTrue, IfOk, OnOk, OnErr, is_err, is_ok, length, filter, if◌then◌else◌};
+ghost use Rattle.std.specs.Prelude.{◌≡◌, ◌<◌, ◌==◌, ℕ, List, Option, true, not, IsTrue, IfOk, OnOk, OnErr, is_err, is_ok, length, filter, if◌then◌else◌};
 ghost use Rattle.bw_file.specs.Stores.{Counts, Creates, Written, MayTear, KeepsOthers, last_count};
-ghost use Rattle.bw_file.specs.Calls.{Create, WriteAt, Finish, Asks};
 ghost use Rattle.bw_file.specs.Fuses.{has_fuse, Blows, first_half, with_written};
 
 use crate::store::{Created, StoreFault, TakeStore};
@@ -83,7 +82,6 @@ impl<S: TakeStore> TakeStore for FuseStore<S> {
     fn create(&mut self, name: &Name) -> Result<Created, StoreFault>
         ensures failures { Counts self.old.tally.failures self.new.tally.failures (is_err result) }
         ensures calls { Counts self.old.tally.calls self.new.tally.calls true }
-        ensures asked { Asks (Create name.now ∷ []) None None }
         ensures honest { S.honest self.new.inner ≡ S.honest self.old.inner }
         ensures created { IsTrue (S.honest self.old.inner) → IfOk result (λ c.
             Creates c (S.contents self.old.inner name.now) (S.contents self.new.inner name.now)) }
@@ -111,7 +109,6 @@ impl<S: TakeStore> TakeStore for FuseStore<S> {
     fn write_at(&mut self, name: &Name, offset: u64, bytes: &[u8]) -> Result<(), StoreFault>
         ensures failures { Counts self.old.tally.failures self.new.tally.failures (is_err result) }
         ensures calls { Counts self.old.tally.calls self.new.tally.calls true }
-        ensures asked { Asks (WriteAt name.now offset (length bytes.now) ∷ []) None None }
         ensures honest { S.honest self.new.inner ≡ S.honest self.old.inner }
         ensures all { IsTrue (S.honest self.old.inner) → OnOk result (Written
             (S.contents self.old.inner name.now) offset bytes.now
@@ -151,7 +148,6 @@ impl<S: TakeStore> TakeStore for FuseStore<S> {
     fn finish(&mut self, name: &Name) -> Result<(), StoreFault>
         ensures failures { Counts self.old.tally.failures self.new.tally.failures (is_err result) }
         ensures calls { Counts self.old.tally.calls self.new.tally.calls true }
-        ensures asked { Asks (Finish name.now ∷ []) None None }
         ensures honest { S.honest self.new.inner ≡ S.honest self.old.inner }
         ensures unchanged { IsTrue (S.honest self.old.inner) → (other : List ℕ) →
             S.contents self.new.inner other ≡ S.contents self.old.inner other }

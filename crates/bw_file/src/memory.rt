@@ -82,19 +82,45 @@ impl TakeStore for MemoryStore {
 
     ghost honest = { λ s. true };
 
-    fn create(&mut self, name: &Name) -> Result<Created, StoreFault> {
+    fn create(&mut self, name: &Name) -> Result<Created, StoreFault>
+        ensures failures { Counts self.old.tally.failures self.new.tally.failures (is_err result) }
+        ensures calls { Counts self.old.tally.calls self.new.tally.calls true }
+        ensures created { IfOk result (λ c.
+            Creates c (content_of self.old.files name.now) (content_of self.new.files name.now)) }
+        ensures failed { OnErr result
+            (content_of self.new.files name.now ≡ content_of self.old.files name.now) }
+        ensures others { KeepsOthers
+            (content_of self.old.files) (content_of self.new.files) name.now }
+        ensures stands { IsSome (content_of self.old.files name.now) → IsOk result }
+    {
         let answer = make(&mut self.files, self.alloc, name);
         self.tally.count(answer.is_err());
         answer
     }
 
-    fn write_at(&mut self, name: &Name, offset: u64, bytes: &[u8]) -> Result<(), StoreFault> {
+    fn write_at(&mut self, name: &Name, offset: u64, bytes: &[u8]) -> Result<(), StoreFault>
+        ensures failures { Counts self.old.tally.failures self.new.tally.failures (is_err result) }
+        ensures calls { Counts self.old.tally.calls self.new.tally.calls true }
+        ensures written { OnOk result (Written (content_of self.old.files name.now)
+            offset bytes.now (content_of self.new.files name.now)) }
+        ensures failed { OnErr result
+            (content_of self.new.files name.now ≡ content_of self.old.files name.now) }
+        ensures others { KeepsOthers
+            (content_of self.old.files) (content_of self.new.files) name.now }
+        ensures over { IfSome (content_of self.old.files name.now) (λ old.
+            offset + length bytes.now ≤ length old → IsOk result) }
+    {
         let answer = write(&mut self.files, name, offset, bytes);
         self.tally.count(answer.is_err());
         answer
     }
 
-    fn finish(&mut self, name: &Name) -> Result<(), StoreFault> {
+    fn finish(&mut self, name: &Name) -> Result<(), StoreFault>
+        ensures failures { Counts self.old.tally.failures self.new.tally.failures (is_err result) }
+        ensures calls { Counts self.old.tally.calls self.new.tally.calls true }
+        ensures unchanged { self.new.files ≡ self.old.files }
+        ensures stands { IsOk result ↔ IsSome (content_of self.old.files name.now) }
+    {
         let stands = self.files.contains_key(name);
         self.tally.count(!stands);
         if stands { Ok(()) } else { Err(StoreFault) }
@@ -112,7 +138,7 @@ fn make(
     ensures failed { OnErr result
         (content_of files.new name.now ≡ content_of files.old name.now) }
     ensures others { KeepsOthers (content_of files.old) (content_of files.new) name.now }
-    ensures stands { OnErr result (content_of files.old name.now ≡ None) }
+    ensures stands { IsSome (content_of files.old name.now) → IsOk result }
 {
     if files.contains_key(name) {
         return Ok(Created::Exists);
@@ -135,6 +161,8 @@ fn write(
     ensures failed { OnErr result
         (content_of files.new name.now ≡ content_of files.old name.now) }
     ensures others { KeepsOthers (content_of files.old) (content_of files.new) name.now }
+    ensures over { IfSome (content_of files.old name.now) (λ old.
+        offset + length bytes.now ≤ length old → IsOk result) }
 {
     if offset > u64::MAX - bytes.len() as u64 {
         return Err(StoreFault);
@@ -151,6 +179,7 @@ fn overwrite(content: &mut Vec<u8>, offset: u64, bytes: &[u8]) -> Result<(), All
     requires { offset + length bytes.now < 2 ^ 64 }
     ensures ok { OnOk result (content.new.items ≡ overwritten content.old.items offset bytes.now) }
     ensures err { OnErr result (content.new.items ≡ content.old.items) }
+    ensures over { offset + length bytes.now ≤ length content.old.items → IsOk result }
 {
     let start = offset as usize;
     let end = start + bytes.len();
