@@ -1,18 +1,17 @@
--- The forms of `replay`, at a limit that is not known.
-use Rattle.std.proofs.Common.{◌≡◌, ℕ, List, [], ◌∷◌, ◌++◌, Bool, true, false, ◌==◌, ◌<◌, codes, refl, ap, subst, sym, ◌∙◌, arith, Option, Some, None, inl, inr}
+-- The forms of the commands, at limits and paths that are not known.
+use Rattle.std.proofs.Common.{◌≡◌, ℕ, List, [], ◌∷◌, ◌++◌, Bool, true, false, ◌==◌, ◌<◌, ◌≢◌, codes, refl, ap, subst, sym, ◌∙◌, arith, Option, Some, None, inl, inr}
 use Rattle.std.specs.Char.{digit_value}
 use Rattle.std.proofs.lemmas.Bool.{eqb-true}
 use Rattle.clap.specs.declared.error.ErrorKind.{ErrorKind}
-use Rattle.clap.specs.declared.error.ErrorKind.TheVariants.{DisplayHelp, DisplayVersion, MissingSubcommand}
+use Rattle.clap.specs.declared.error.ErrorKind.TheVariants.{DisplayHelp, DisplayVersion, MissingRequiredArgument, MissingSubcommand, UnknownArgument}
 use Rattle.clap.specs.Words.{IsAmong, Row, Text, fault_of, first_of, kind_of}
 use Rattle.clap.proofs.OnLiterals.{clap_on_literals}
 use Rattle.bw_args.specs.Commands.{command_line}
-use Rattle.bw_args.specs.Lines.{AsksFor, GivesLimit, IsLineOf, IsTaskOf, IsToldAs, RunsReplay, TellsHelp}
+use Rattle.bw_args.specs.Lines.{AsksFor, GivesLimit, Inspects, IsLineOf, IsPlain, IsToldAs, IsWishOf, RunsInspect, RunsReplay, TellsHelp, Wish, Inspecting, Replaying, wish_of}
 use Rattle.bw_args.specs.Numbers.{IsLimitText, default_limit, number_in}
 use Rattle.bw_args.specs.declared.CommandLine.{CommandLine}
 use Rattle.bw_args.specs.declared.CommandLine.TheVariants.{Run, Tell}
-use Rattle.bw_args.specs.declared.Task.{Task}
-use Rattle.bw_args.specs.declared.Task.TheVariants.{Replay}
+use Rattle.bw_args.specs.declared.Task.TheVariants.{Inspect, Replay}
 
 -- a digit is no hyphen, so the word is read as a value
 no_hyphen : (d : ℕ) (ds : Text) → IsLimitText (d ∷ ds) → (d == 45) ≡ false
@@ -24,12 +23,12 @@ no_hyphen d ds given = go (d == 45) refl
         let digit : digit_value 45 < 10 = subst (λ c. digit_value c < 10) (eqb-true d 45 e) given.0.0.1.0 in
         absurd (omega arith)
 
-plain_asks : (program : Text) → AsksFor (program ∷ codes "replay" ∷ []) (Replay default_limit)
+plain_asks : (program : Text) → AsksFor (program ∷ codes "replay" ∷ []) (Replaying default_limit)
 unfolding clap_on_literals
 plain_asks program = record { taken = refl; asked = (refl, refl) }
 
 apart_asks : (program text : Text) → IsLimitText text
-    → AsksFor (program ∷ codes "replay" ∷ codes "--limit" ∷ text ∷ []) (Replay (number_in text))
+    → AsksFor (program ∷ codes "replay" ∷ codes "--limit" ∷ text ∷ []) (Replaying (number_in text))
 unfolding clap_on_literals
 apart_asks program [] given = let bad : 0 < 0 = given.0.0.0 in absurd (omega arith)
 apart_asks program (d ∷ ds) given =
@@ -37,7 +36,7 @@ apart_asks program (d ∷ ds) given =
     record { taken = rw (value, value) (refl {a = []}); asked = simp value (refl, (given, refl)) }
 
 joined_asks : (program text : Text) → IsLimitText text
-    → AsksFor (program ∷ codes "replay" ∷ (codes "--limit=" ++ text) ∷ []) (Replay (number_in text))
+    → AsksFor (program ∷ codes "replay" ∷ (codes "--limit=" ++ text) ∷ []) (Replaying (number_in text))
 unfolding clap_on_literals
 joined_asks program text given = record { taken = refl; asked = (refl, (given, refl)) }
 
@@ -46,23 +45,42 @@ one_limit : (text : Option Text) (a b : ℕ) → GivesLimit text a → GivesLimi
 one_limit None a b x y = x ∙ sym y
 one_limit (Some text) a b x y = x.1 ∙ sym y.1
 
-one_task : (command : Option (Text × List Row)) (a b : Task) → IsTaskOf command a → IsTaskOf command b → a ≡ b
-one_task None a b x y = absurd x
-one_task (Some command) (Replay a) (Replay b) x y =
-    ap Replay (one_limit (first_of (codes "limit") command.1) a b x.1 y.1)
+one_wish : (command : Option (Text × List Row)) (a b : Wish) → IsWishOf command a → IsWishOf command b → a ≡ b
+one_wish None a b x y = absurd x
+one_wish (Some command) (Replaying a) (Replaying b) x y =
+    ap Replaying (one_limit (first_of (codes "limit") command.1) a b x.1 y.1)
+one_wish (Some command) (Inspecting a) (Inspecting b) x y =
+    let same : Some a ≡ Some b = sym x.1 ∙ y.1 in cc
+one_wish (Some command) (Replaying a) (Inspecting b) x y = let bad : codes "replay" ≡ codes "inspect" = sym x.0 ∙ y.0 in cc
+one_wish (Some command) (Inspecting a) (Replaying b) x y = let bad : codes "inspect" ≡ codes "replay" = sym x.0 ∙ y.0 in cc
 
--- words that ask for a task run it
-runs : (words : List Text) (line : CommandLine) (task : Task) → IsLineOf words line → AsksFor words task → line ≡ Run task
-runs words (Run other) task is asks = ap Run (one_task _ other task is.asked asks.asked)
-runs words (Tell error) task is asks = absurd (is.asks_nothing task asks)
+-- the line runs a task for this
+abbrev RunsFor : Wish → CommandLine → Type 0
+RunsFor wish (Run task) = wish_of task ≡ wish
+RunsFor wish (Tell error) = ⊥
+
+-- words that ask for something run it
+runs : (words : List Text) (line : CommandLine) (wish : Wish) → IsLineOf words line → AsksFor words wish → RunsFor wish line
+runs words (Run task) wish is asks = one_wish _ (wish_of task) wish is.asked asks.asked
+runs words (Tell error) wish is asks = absurd (is.asks_nothing wish asks)
+
+replays : (limit : ℕ) (line : CommandLine) → RunsFor (Replaying limit) line → line ≡ Run (Replay limit)
+replays limit (Run (Replay other)) e = let same : other ≡ limit = cc in ap (λ (n : ℕ). Run (Replay n)) same
+replays limit (Run (Inspect file)) e = cc
+replays limit (Tell error) e = absurd e
+
+inspects : (path : Text) (line : CommandLine) → RunsFor (Inspecting path) line → Inspects path line
+inspects path (Run (Inspect file)) e = cc
+inspects path (Run (Replay other)) e = cc
+inspects path (Tell error) e = absurd e
 
 pub runs_replay : (words : List Text) (line : CommandLine) → IsLineOf words line → RunsReplay words line
 runs_replay words line is = record {
-  plain = λ program e. runs words line _ is (subst (λ w. AsksFor w (Replay default_limit)) (sym e) (plain_asks program));
+  plain = λ program e. replays _ line (runs words line _ is (subst (λ w. AsksFor w (Replaying default_limit)) (sym e) (plain_asks program)));
   apart = λ program text given e.
-      runs words line _ is (subst (λ w. AsksFor w (Replay (number_in text))) (sym e) (apart_asks program text given));
+      replays _ line (runs words line _ is (subst (λ w. AsksFor w (Replaying (number_in text))) (sym e) (apart_asks program text given)));
   joined = λ program text given e.
-      runs words line _ is (subst (λ w. AsksFor w (Replay (number_in text))) (sym e) (joined_asks program text given));
+      replays _ line (runs words line _ is (subst (λ w. AsksFor w (Replaying (number_in text))) (sym e) (joined_asks program text given)));
 }
 
 -- words with a fault of one kind tell it
@@ -91,4 +109,39 @@ tells_help words line is = record {
   help = λ program e. tells DisplayHelp words line (ap (fault_of command_line) e ∙ help_fault program) is;
   version = λ program e. tells DisplayVersion words line (ap (fault_of command_line) e ∙ version_fault program) is;
   bare = λ program e. tells MissingSubcommand words line (ap (fault_of command_line) e ∙ bare_fault program) is;
+}
+
+plain_byte : (d : ℕ) → d ≢ 45 → (d == 45) ≡ false
+plain_byte d plain = go (d == 45) refl
+  where
+    go : (b : Bool) → (d == 45) ≡ b → b ≡ false
+    go false e = refl
+    go true e = absurd (plain (eqb-true d 45 e))
+
+file_asks : (program path : Text) → IsPlain path → AsksFor (program ∷ codes "inspect" ∷ path ∷ []) (Inspecting path)
+unfolding clap_on_literals
+file_asks program [] plain = record { taken = refl; asked = (refl, refl) }
+file_asks program (d ∷ ds) plain =
+    let value = plain_byte d plain in
+    record { taken = rw (value, value) (refl {a = []}); asked = simp value (refl, refl) }
+
+no_file_fault : (program : Text) → fault_of command_line (program ∷ codes "inspect" ∷ []) ≡ MissingRequiredArgument ∷ []
+unfolding clap_on_literals
+no_file_fault program = refl
+
+second_fault : (program path other : Text) → IsPlain path → IsPlain other
+    → fault_of command_line (program ∷ codes "inspect" ∷ path ∷ other ∷ []) ≡ UnknownArgument ∷ []
+unfolding clap_on_literals
+second_fault program [] [] p q = refl {a = UnknownArgument ∷ []}
+second_fault program [] (d ∷ ds) p q = let value = plain_byte d q in rw (value, value) (refl {a = UnknownArgument ∷ []})
+second_fault program (d ∷ ds) [] p q = let value = plain_byte d p in rw (value, value) (refl {a = UnknownArgument ∷ []})
+second_fault program (c ∷ cs) (d ∷ ds) p q = let v = plain_byte c p in let w = plain_byte d q in rw (v, v, w, w) (refl {a = UnknownArgument ∷ []})
+
+pub runs_inspect : (words : List Text) (line : CommandLine) → IsLineOf words line → RunsInspect words line
+runs_inspect words line is = record {
+  file = λ program path plain e.
+      inspects path line (runs words line _ is (subst (λ w. AsksFor w (Inspecting path)) (sym e) (file_asks program path plain)));
+  none = λ program e. tells MissingRequiredArgument words line (ap (fault_of command_line) e ∙ no_file_fault program) is;
+  second = λ program path other p q e.
+      tells UnknownArgument words line (ap (fault_of command_line) e ∙ second_fault program path other p q) is;
 }

@@ -6,10 +6,9 @@ use Rattle.clap.specs.declared.Error.{Error}
 use Rattle.clap.specs.declared.error.ErrorKind.TheVariants.{OutOfMemory, ValueValidation}
 use Rattle.clap.proofs.OnLiterals.{clap_on_literals}
 use Rattle.bw_args.specs.Commands.{command_line}
-use Rattle.bw_args.specs.Lines.{AsksFor, IsAsked, IsLineOf, IsTaskOf, IsToldOf}
+use Rattle.bw_args.specs.Lines.{AsksFor, IsAsked, IsLineOf, IsWishOf, IsToldOf, Wish}
 use Rattle.bw_args.specs.declared.CommandLine.{CommandLine}
 use Rattle.bw_args.specs.declared.CommandLine.TheVariants.{Tell}
-use Rattle.bw_args.specs.declared.Task.{Task}
 
 -- the contracts of `clap` are exact at this command line
 is_exact : is_simple_and_free command_line ≡ true
@@ -30,7 +29,7 @@ told_line a words error is kinds known =
     elim has [
       | inl memory ↦ absurd (known memory)
       | inr among ↦ record {
-        asks_nothing = λ task asks. subst (IsAmong (kind_of error)) asks.taken among;
+        asks_nothing = λ wish asks. subst (IsAmong (kind_of error)) asks.taken among;
         not_memory = known;
         reason = inl among;
       }
@@ -46,14 +45,14 @@ same_command : (a : App) (words : List Text) (command : Option (Text × List Row
 same_command a words command is found =
     found (ap is_simple is ∙ is_plain) ∙ ap (λ (b : App). subcommand_of b words) is
 
--- words that `clap` takes, and that ask for a task
-pub asked_line : (a : App) (words : List Text) (command : Option (Text × List Row)) (task : Task) → a ≡ command_line
+-- words that `clap` takes, and that ask for something
+pub asked_line : (a : App) (words : List Text) (command : Option (Text × List Row)) (wish : Wish) → a ≡ command_line
     → (is_simple_and_free a ≡ true → fault_of a words ≡ [])
     → (is_simple a ≡ true → command ≡ subcommand_of a words)
-    → IsTaskOf command task → AsksFor words task
-asked_line a words command task is free found given = record {
+    → IsWishOf command wish → AsksFor words wish
+asked_line a words command wish is free found given = record {
   taken = no_fault a words is free;
-  asked = subst (λ o. IsTaskOf o task) (same_command a words command is found) given;
+  asked = subst (λ o. IsWishOf o wish) (same_command a words command is found) given;
 }
 
 -- words that `clap` takes, with a value that is not of its form
@@ -62,7 +61,7 @@ pub bad_value_line : (a : App) (words : List Text) (command : Option (Text × Li
     → (is_simple a ≡ true → command ≡ subcommand_of a words)
     → IsAsked command None → kind_of error ≡ ValueValidation → IsToldOf words (kind_of error)
 bad_value_line a words command error is free found none kind = record {
-  asks_nothing = λ task asks. none task (subst (λ o. IsTaskOf o task) (sym (same_command a words command is found)) asks.asked);
+  asks_nothing = λ wish asks. none wish (subst (λ o. IsWishOf o wish) (sym (same_command a words command is found)) asks.asked);
   not_memory = λ memory. cc;
   reason = inr (no_fault a words is free, kind);
 }

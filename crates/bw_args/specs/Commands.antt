@@ -11,10 +11,18 @@ limit_option = record (new_rule (codes "limit")) { long = Some (codes "limit"); 
 abbrev pub replay_command : App
 replay_command = with_rule (new_app (codes "replay")) limit_option
 
+-- the word that names a file
+abbrev pub file_argument : Rule
+file_argument = record (new_rule (codes "file")) { value_names = 1; required = true }
+
+-- `inspect`
+abbrev pub inspect_command : App
+inspect_command = with_rule (new_app (codes "inspect")) file_argument
+
 -- the program, which has a version and wants a command
 abbrev pub program : App
 program = on_top (λ s. record s { has_version = true; subcommand_required = true }) (new_app (codes "bwingest"))
 
 -- the whole
 abbrev pub command_line : App
-command_line = with_subcommand program replay_command.top
+command_line = with_subcommand (with_subcommand program replay_command.top) inspect_command.top

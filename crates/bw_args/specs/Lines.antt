@@ -1,18 +1,18 @@
 -- What a command line asks for.
-use Rattle.std.specs.Prelude.{◌≡◌, ◌≢◌, ◌⊎◌, ⊤, ℕ, List, [], ◌∷◌, ◌++◌, Option, Some, None, codes}
+use Rattle.std.specs.Prelude.{◌≡◌, ◌≢◌, ◌⊎◌, ⊤, ℕ, List, [], ◌∷◌, ◌++◌, Option, Some, None, codes, string_bytes}
 use Rattle.clap.specs.Walk.{Row, Text, first_of}
 use Rattle.clap.specs.Simple.{subcommand_of}
 use Rattle.clap.specs.Faults.{fault_of}
 use Rattle.clap.specs.Kinds.{IsAmong}
 use Rattle.clap.specs.Values.{kind_of}
 use Rattle.clap.specs.declared.error.ErrorKind.{ErrorKind}
-use Rattle.clap.specs.declared.error.ErrorKind.TheVariants.{DisplayHelp, DisplayVersion, MissingSubcommand, OutOfMemory, ValueValidation}
+use Rattle.clap.specs.declared.error.ErrorKind.TheVariants.{DisplayHelp, DisplayVersion, MissingRequiredArgument, MissingSubcommand, OutOfMemory, UnknownArgument, ValueValidation}
 use Rattle.bw_args.specs.Numbers.{IsLimit, IsLimitText, default_limit, number_in}
 use Rattle.bw_args.specs.Commands.{command_line}
 use Rattle.bw_args.specs.declared.CommandLine.{CommandLine}
 use Rattle.bw_args.specs.declared.CommandLine.TheVariants.{Run, Tell}
 use Rattle.bw_args.specs.declared.Task.{Task}
-use Rattle.bw_args.specs.declared.Task.TheVariants.{Replay}
+use Rattle.bw_args.specs.declared.Task.TheVariants.{Replay, Inspect}
 
 -- the limit that an option gives, or the default
 abbrev pub GivesLimit : Option Text → ℕ → Type 0
@@ -24,37 +24,50 @@ abbrev pub IsLimitGiven : Option Text → Option ℕ → Type 0
 IsLimitGiven text (Some limit) = GivesLimit text limit
 IsLimitGiven text None = (limit : ℕ) → ¬ GivesLimit text limit
 
--- the command and its options ask for the task
-abbrev pub IsTaskOf : Option (Text × List Row) → Task → Type 0
-IsTaskOf None task = ⊥
-IsTaskOf (Some command) (Replay limit) =
+-- what may be asked for: a replay with this limit, or to inspect the file of this path
+pub data Wish : Type 0 where
+  Replaying : ℕ → Wish
+  Inspecting : Text → Wish
+
+-- what a task is about
+abbrev pub wish_of : Task → Wish
+wish_of (Replay limit) = Replaying limit
+wish_of (Inspect file) = Inspecting (string_bytes file)
+
+-- the command and its options ask for this
+abbrev pub IsWishOf : Option (Text × List Row) → Wish → Type 0
+IsWishOf None wish = ⊥
+IsWishOf (Some command) (Replaying limit) =
     (command.0 ≡ codes "replay") × GivesLimit (first_of (codes "limit") command.1) limit
+IsWishOf (Some command) (Inspecting path) =
+    (command.0 ≡ codes "inspect") × (first_of (codes "file") command.1 ≡ Some path)
 
 -- exactly the task that they ask for
 abbrev pub IsAsked : Option (Text × List Row) → Option Task → Type 0
-IsAsked command (Some task) = IsTaskOf command task
-IsAsked command None = (task : Task) → ¬ IsTaskOf command task
+IsAsked command (Some task) = IsWishOf command (wish_of task)
+IsAsked command None = (wish : Wish) → ¬ IsWishOf command wish
 
--- `clap` takes the words, of which the first is the program's name, and they ask for the task
-pub record AsksFor (words : List Text) (task : Task) : Type 0 where
+-- `clap` takes the words, of which the first is the program's name, and they ask for this
+pub record AsksFor (words : List Text) (wish : Wish) : Type 0 where
   pub taken : fault_of command_line words ≡ []
-  pub asked : IsTaskOf (subcommand_of command_line words) task
+  pub asked : IsWishOf (subcommand_of command_line words) wish
 
 -- the words ask for nothing, by `clap`'s walk over them or by a value; want of memory is never told
 pub record IsToldOf (words : List Text) (kind : ErrorKind) : Type 0 where
-  pub asks_nothing : (task : Task) → ¬ AsksFor words task
+  pub asks_nothing : (wish : Wish) → ¬ AsksFor words wish
   pub not_memory : kind ≢ OutOfMemory
   pub reason : IsAmong kind (fault_of command_line words)
       ⊎ ((fault_of command_line words ≡ []) × (kind ≡ ValueValidation))
 
 -- what the words come to
 abbrev pub IsLineOf : List Text → CommandLine → Type 0
-IsLineOf words (Run task) = AsksFor words task
+IsLineOf words (Run task) = AsksFor words (wish_of task)
 IsLineOf words (Tell error) = IsToldOf words (kind_of error)
 
 -- where a task runs, its limit is one
 abbrev pub HasLimit : CommandLine → Type 0
 HasLimit (Run (Replay limit)) = IsLimit limit
+HasLimit (Run (Inspect file)) = ⊤
 HasLimit (Tell error) = ⊤
 
 -- `replay`, `replay --limit N` and `replay --limit=N` run, whatever the program's name and the limit N
@@ -79,3 +92,23 @@ pub record TellsHelp (words : List Text) (line : CommandLine) : Type 0 where
   pub version : (program : Text) → words ≡ program ∷ codes "--version" ∷ []
       → IsToldAs DisplayVersion line
   pub bare : (program : Text) → words ≡ program ∷ [] → IsToldAs MissingSubcommand line
+
+-- the line inspects the file of this path
+abbrev pub Inspects : Text → CommandLine → Type 0
+Inspects path (Run (Inspect file)) = string_bytes file ≡ path
+Inspects path (Run (Replay limit)) = ⊥
+Inspects path (Tell error) = ⊥
+
+-- a word that is no option: it doesn't begin with a hyphen
+abbrev pub IsPlain : Text → Type 0
+IsPlain [] = ⊤
+IsPlain (byte ∷ bytes) = byte ≢ 45
+
+-- `inspect FILE` runs, whatever the program's name; no file and a second one are faults
+pub record RunsInspect (words : List Text) (line : CommandLine) : Type 0 where
+  pub file : (program path : Text) → IsPlain path
+      → words ≡ program ∷ codes "inspect" ∷ path ∷ [] → Inspects path line
+  pub none : (program : Text) → words ≡ program ∷ codes "inspect" ∷ []
+      → IsToldAs MissingRequiredArgument line
+  pub second : (program path other : Text) → IsPlain path → IsPlain other
+      → words ≡ program ∷ codes "inspect" ∷ path ∷ other ∷ [] → IsToldAs UnknownArgument line

@@ -1,8 +1,8 @@
 //! The commands of the program, as `clap` sees them, and the task that each asks for.
-ghost use Rattle.std.specs.Prelude.{◌≡◌, false, codes, IfOk};
-ghost use Rattle.clap.specs.Words.{app_of, first_value, found_of, subcommand_rows_of};
+ghost use Rattle.std.specs.Prelude.{◌≡◌, false, codes, Some, IfOk};
+ghost use Rattle.clap.specs.Words.{app_of, first_value, found_of, rows_of, subcommand_rows_of};
 ghost use Rattle.clap.specs.declared.builder.Command.TheViews.{out-Command};
-ghost use Rattle.bw_args.specs.Commands.{command_line, replay_command};
+ghost use Rattle.bw_args.specs.Commands.{command_line, inspect_command, replay_command};
 ghost use Rattle.bw_args.specs.Lines.{IsAsked, IsLimitGiven};
 
 use crate::{Task, numbers};
@@ -22,7 +22,8 @@ pub fn bwingest<'a>(alloc: Global) -> Result<Command<'a>, AllocError>
         .version("1.0.0")
         .about("An ingest server for field recordings")
         .subcommand_required(true)
-        .subcommand(replay(alloc)?)
+        .subcommand(replay(alloc)?)?
+        .subcommand(inspect(alloc)?)
 }
 
 fn replay<'a>(alloc: Global) -> Result<Command<'a>, AllocError>
@@ -37,17 +38,45 @@ fn replay<'a>(alloc: Global) -> Result<Command<'a>, AllocError>
         .arg(limit)
 }
 
+fn inspect<'a>(alloc: Global) -> Result<Command<'a>, AllocError>
+    ensures shape { IfOk result (λ c. app_of c ≡ inspect_command) }
+    ensures local { IfOk result (λ c. (out-Command c).has_globals ≡ false) }
+{
+    let file = Arg::new(alloc, "file")
+        .value_name("FILE")
+        .required(true)
+        .help("A RIFF WAVE, BW64 or RF64 file");
+    Command::new(alloc, "inspect")
+        .about("Tells what is in a file, or its first fault and where that is")
+        .arg(file)
+}
+
 /// The task that parsed words ask for; none where a value is not of its form.
-pub fn task(matches: &ArgMatches<'_>) -> Option<Task>
-    ensures { IsAsked (subcommand_rows_of matches.now) result }
+pub fn task(alloc: Global, matches: &ArgMatches<'_>) -> Result<Option<Task>, AllocError>
+    ensures { IfOk result (IsAsked (subcommand_rows_of matches.now)) }
 {
     match matches.subcommand() {
-        Some(("replay", options)) => {
-            let limit = replay_limit(options)?;
-            Some(Task::Replay { limit })
-        }
-        _ => None,
+        Some(("replay", options)) => Ok(replay_task(options)),
+        Some(("inspect", options)) => inspect_task(alloc, options),
+        _ => Ok(None),
     }
+}
+
+fn replay_task(options: &ArgMatches<'_>) -> Option<Task>
+    ensures { IsAsked (Some (codes "replay", rows_of (found_of options.now))) result }
+{
+    let limit = replay_limit(options)?;
+    Some(Task::Replay { limit })
+}
+
+fn inspect_task(alloc: Global, options: &ArgMatches<'_>) -> Result<Option<Task>, AllocError>
+    ensures { IfOk result (IsAsked (Some (codes "inspect", rows_of (found_of options.now)))) }
+{
+    let Some(path) = options.get_str("file") else {
+        return Ok(None);
+    };
+    let file = String::from_str(alloc, path)?;
+    Ok(Some(Task::Inspect { file }))
 }
 
 /// The limit that the options give, or the default; none where it is not of its form.

@@ -3,7 +3,7 @@
 
 ghost use Rattle.std.specs.Prelude.{◌≡◌, ◌↔◌, map, IfOk, IsErr, string_bytes};
 ghost use Rattle.clap.specs.Words.{kind_of};
-ghost use Rattle.bw_args.specs.Lines.{HasLimit, IsLineOf, RunsReplay, TellsHelp};
+ghost use Rattle.bw_args.specs.Lines.{HasLimit, IsLineOf, RunsInspect, RunsReplay, TellsHelp};
 
 mod commands;
 pub mod numbers;
@@ -20,6 +20,8 @@ pub enum Task {
     /// Run each line of standard input as an exchange. A file whose RIFF form would be longer than
     /// `limit` bytes is written as BW64.
     Replay { limit: u64 },
+    /// Tell what is in the file of this path.
+    Inspect { file: String },
 }
 
 /// What a command line comes to.
@@ -34,9 +36,9 @@ pub enum CommandLine {
 /// Reads a command line, of which the first word is the program's own name.
 ///
 /// Which words run a task, and of what kind an error is, is `clap`'s own account of its walk over
-/// them (`line`). In plain terms the contract says of three forms that they run (`replay`) and of
-/// three what they tell (`help`); that all others but `--` at the end are refused is tested by
-/// examples. Nothing is claimed of what the texts say and where they go.
+/// them (`line`). In plain terms the contract says of four forms that they run (`replay`,
+/// `inspect`) and of five what they tell (`help`, `inspect`); that all others but `--` at the end
+/// or before a file are refused is tested by examples. Nothing is claimed of what the texts say and where they go.
 ///
 /// # Errors
 /// `AllocError` where memory was refused.
@@ -44,6 +46,7 @@ pub fn parse(alloc: Global, words: &[String]) -> Result<CommandLine, AllocError>
     ensures line { IfOk result (IsLineOf (map string_bytes words.now)) }
     ensures limit { IfOk result HasLimit }
     ensures replay { IfOk result (RunsReplay (map string_bytes words.now)) }
+    ensures inspect { IfOk result (RunsInspect (map string_bytes words.now)) }
     ensures help { IfOk result (TellsHelp (map string_bytes words.now)) }
 {
     let mut command = commands::bwingest(alloc)?;
@@ -51,7 +54,7 @@ pub fn parse(alloc: Global, words: &[String]) -> Result<CommandLine, AllocError>
         Ok(matches) => matches,
         Err(error) => return told(error),
     };
-    match commands::task(&matches) {
+    match commands::task(alloc, &matches)? {
         Some(task) => Ok(CommandLine::Run(task)),
         None => {
             let error = command.error(ErrorKind::ValueValidation, commands::BAD_LIMIT)?;

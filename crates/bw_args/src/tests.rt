@@ -2,12 +2,15 @@ use crate::numbers::number;
 use crate::{CommandLine, Task, parse};
 use clap::Error;
 use std::alloc::{AllocError, Global};
+use std::process::Abort;
 use std::test::Fail;
 
 /// What a command line is to come to.
 #[derive(Clone, Copy, Debug, PartialEq, Eq)]
 enum Outcome {
     Replays(u64),
+    /// Inspects the file that the last word names.
+    Inspects,
     /// Text on standard output, status 0.
     Shows,
     /// Text on standard error, status 2.
@@ -26,9 +29,17 @@ fn parse_words(alloc: Global, words: &[&str]) -> Result<CommandLine, AllocError>
 
 fn outcome_of(alloc: Global, words: &[&str]) -> Result<Outcome, AllocError> {
     Ok(match parse_words(alloc, words)? {
-        CommandLine::Run(Task::Replay { limit }) => Outcome::Replays(limit),
+        CommandLine::Run(task) => run_outcome(&task, words),
         CommandLine::Tell(error) => told_outcome(&error),
     })
+}
+
+fn run_outcome(task: &Task, words: &[&str]) -> Outcome {
+    match task {
+        Task::Replay { limit } => Outcome::Replays(*limit),
+        Task::Inspect { file } if words.last() == Some(&file.as_str()) => Outcome::Inspects,
+        Task::Inspect { .. } => Outcome::Confuses,
+    }
 }
 
 fn told_outcome(error: &Error) -> Outcome {
@@ -39,7 +50,7 @@ fn told_outcome(error: &Error) -> Outcome {
     }
 }
 
-static LINES: [(&[&str], Outcome); 33] = [
+static LINES: [(&[&str], Outcome); 44] = [
     (&[], Outcome::Refuses),
     (&["bwingest"], Outcome::Refuses),
     (&["bwingest", "help"], Outcome::Shows),
@@ -91,12 +102,35 @@ static LINES: [(&[&str], Outcome); 33] = [
         &["bwingest", "replay", "--limit=8192", "--limit=8192"],
         Outcome::Refuses,
     ),
+    (&["bwingest", "inspect", "a.wav"], Outcome::Inspects),
+    (
+        &["bwingest", "inspect", "/tmp/two words"],
+        Outcome::Inspects,
+    ),
+    (&["bwingest", "inspect", "-"], Outcome::Inspects),
+    (&["bwingest", "inspect", "--", "-x"], Outcome::Inspects),
+    (&["bwingest", "inspect", "--help"], Outcome::Shows),
+    (&["bwingest", "help", "inspect"], Outcome::Shows),
+    (&["bwingest", "inspect"], Outcome::Refuses),
+    (&["bwingest", "inspect", "--"], Outcome::Refuses),
+    (&["bwingest", "inspect", "-x"], Outcome::Refuses),
+    (&["bwingest", "inspect", "a.wav", "b.wav"], Outcome::Refuses),
+    (
+        &["bwingest", "inspect", "--limit", "8192", "a.wav"],
+        Outcome::Refuses,
+    ),
 ];
+
+/// Ends the test where a line comes to something else.
+fn comes_to<R: Abort + AllocGlobal>(rt: &R, words: &[&str], wanted: Outcome) -> Result<(), Fail> {
+    assert_eq!(rt; outcome_of(rt.alloc(), words)?, wanted, "{words:?}");
+    Ok(())
+}
 
 #[test]
 fn each_line_runs_or_tells(rt: HostRuntime) -> Result<(), Fail> {
     for (words, wanted) in &LINES {
-        assert_eq!(rt; outcome_of(rt.alloc(), words)?, *wanted, "{words:?}");
+        comes_to(&rt, words, *wanted)?;
     }
     Ok(())
 }
@@ -135,20 +169,14 @@ static VALUES: [(&str, Outcome); 28] = [
 #[test]
 fn a_limit_is_even_and_in_range(rt: HostRuntime) -> Result<(), Fail> {
     for (value, wanted) in &VALUES {
-        let apart = ["bwingest", "replay", "--limit", value];
-        assert_eq!(rt;
-            outcome_of(rt.alloc(), &apart)?,
-            *wanted,
-            "--limit {value:?}"
-        );
+        comes_to(&rt, &["bwingest", "replay", "--limit", value], *wanted)?;
         let word = format!(in rt.alloc(); "--limit={value}")?;
-        let joined = ["bwingest", "replay", word.as_str()];
-        assert_eq!(rt; outcome_of(rt.alloc(), &joined)?, *wanted, "{word:?}");
+        comes_to(&rt, &["bwingest", "replay", word.as_str()], *wanted)?;
     }
     Ok(())
 }
 
-static TEXTS: [(&[&str], &str); 5] = [
+static TEXTS: [(&[&str], &str); 6] = [
     (&["/tmp/x", "--version"], "bwingest 1.0.0\n"),
     (&["/tmp/x", "--help"], "Usage: bwingest <COMMAND>\n"),
     (&["/tmp/x"], "Usage: bwingest <COMMAND>\n"),
@@ -156,6 +184,7 @@ static TEXTS: [(&[&str], &str); 5] = [
         &["/tmp/x", "replay", "--help"],
         "Usage: bwingest replay [OPTIONS]\n",
     ),
+    (&["/tmp/x", "inspect"], "Usage: bwingest inspect <FILE>\n"),
     (
         &["/tmp/x", "replay", "--limit", "5"],
         "'--limit <N>' takes an even number",
@@ -176,11 +205,17 @@ fn texts_name_the_program(rt: HostRuntime) -> Result<(), Fail> {
     Ok(())
 }
 
+static NUMBERS: [(&str, Option<u32>); 5] = [
+    ("0", Some(0)),
+    ("4294967295", Some(4_294_967_295)),
+    ("4294967296", None),
+    ("+1", None),
+    ("", None),
+];
+
 #[test]
 fn a_number_has_one_to_ten_digits(rt: HostRuntime) {
-    assert_eq!(rt; number("0"), Some(0));
-    assert_eq!(rt; number("4294967295"), Some(4_294_967_295));
-    assert_eq!(rt; number("4294967296"), None);
-    assert_eq!(rt; number("+1"), None);
-    assert_eq!(rt; number(""), None);
+    for (text, wanted) in &NUMBERS {
+        assert_eq!(rt; number(text), *wanted, "of {text:?}");
+    }
 }

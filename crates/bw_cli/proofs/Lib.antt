@@ -11,3 +11,4 @@ pub mod ReplayLemmas
 pub mod RunSteps
 pub mod TextLemmas
 pub mod Written
+pub mod InspectionLemmas

@@ -11,3 +11,4 @@ pub mod TakeFiles
 pub mod Exchanging
 pub mod Running
 pub mod Replays
+pub mod Inspections

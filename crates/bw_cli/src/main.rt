@@ -1,11 +1,18 @@
 //! The program `bwingest`: its commands, over standard input and output.
 #![tactic(auto)]
 
+ghost use Rattle.std.specs.Prelude.{◌≢◌};
+ghost use Rattle.bw_args.specs.Lines.{HasLimit};
+ghost use Rattle.bw_args.specs.declared.CommandLine.TheVariants.{Run};
+
 mod exchange;
 pub mod exit;
 mod fault;
 mod file;
 mod input;
+pub mod inspection;
+#[cfg(test)]
+mod inspection_tests;
 mod print;
 mod recording;
 pub mod replay;
@@ -15,11 +22,13 @@ mod tests;
 mod text;
 
 use bw_args::{CommandLine, Task, parse};
-use bw_layout::Limit;
+use bw_layout::{Limit, SeekSource};
 use clap::Error;
 use exit::Exit;
+use inspection::inspect_run;
 use replay::replay as play;
 use std::env;
+use std::fs::File;
 use std::io::{self, ErrorKind};
 use std::process::ExitCode;
 
@@ -64,7 +73,10 @@ fn refuse(rt: &HostRuntime, error: &io::Error) -> Exit {
 }
 
 /// Does what was asked for.
-fn perform(rt: &HostRuntime, task: &Task) -> Exit {
+fn perform(rt: &HostRuntime, task: &Task) -> Exit
+    requires { HasLimit (Run task.now) }
+    ensures { result ≢ Exit.Usage }
+{
     match task {
         Task::Replay { limit } => match Limit::new(*limit) {
             Some(limit) => play(
@@ -74,9 +86,38 @@ fn perform(rt: &HostRuntime, task: &Task) -> Exit {
                 &mut rt.stdout(),
                 &mut rt.stderr(),
             ),
-            None => Exit::Usage,
+            None => unreachable!(),
         },
+        Task::Inspect { file } => inspect_file(rt, file.as_str()),
     }
+}
+
+/// Tells what is in the file of a path.
+fn inspect_file(rt: &HostRuntime, path: &str) -> Exit
+    ensures { result ≢ Exit.Usage }
+{
+    match opened(rt, path) {
+        Ok(mut source) => inspect_run(rt.alloc(), &mut source, &mut rt.stdout(), &mut rt.stderr()),
+        Err(error) => {
+            let _ = eprintln!(rt; "{path} can't be opened: {error}");
+            match error.kind() {
+                ErrorKind::OutOfMemory => Exit::Memory,
+                _ => Exit::Device,
+            }
+        }
+    }
+}
+
+/// A reader of the file of a path. A pipe and a device have no length: they are read forward.
+fn opened(rt: &HostRuntime, path: &str) -> io::Result<SeekSource<File>> {
+    let file = File::open(rt, path)?;
+    let metadata = file.metadata()?;
+    let len = if metadata.is_file() {
+        metadata.len()
+    } else {
+        0
+    };
+    Ok(SeekSource::new(file, len))
 }
 
 /// Prints help, the version or what is wrong with the command line.
