@@ -1,7 +1,11 @@
 //! Worked files, for the tests.
 ghost use Rattle.std.specs.Prelude.{◌≡◌, ◌≤◌, IfOk, vec_len};
 
+use crate::reading::inspect;
+use crate::report::Report;
+use bw_layout::MemorySource;
 use std::alloc::{AllocError, Global};
+use std::test::Fail;
 
 /// An RF64 file: `ds64` tells the sizes of the form and the data.
 pub(crate) static RF64: &[u8] = b"RF64\xff\xff\xff\xffWAVE\
@@ -54,4 +58,12 @@ pub(crate) fn empty_chunks(alloc: Global, count: u32) -> Result<Vec<u8>, AllocEr
         file.extend_from_slice(b"abcd\0\0\0\0")?;
     }
     Ok(file)
+}
+
+/// The report of a file that has one.
+pub(crate) fn report_of(alloc: Global, file: &[u8]) -> Result<Report, Fail> {
+    match inspect(alloc, &mut MemorySource::new(file)) {
+        Ok(report) => Ok(report),
+        Err(_) => Err("a report")?,
+    }
 }

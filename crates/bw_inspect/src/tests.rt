@@ -4,7 +4,7 @@ ghost use Rattle.std.specs.Prelude.{◌≡◌, ◌+◌, ◌≤◌, length};
 use crate::fault::{InspectFault, InspectKind};
 use crate::reading::inspect;
 use crate::report::ListedChunk;
-use crate::rows::{RF64, TABLED, empty_chunks, marked_file, small_file};
+use crate::rows::{RF64, TABLED, empty_chunks, marked_file, report_of, small_file};
 use crate::write::write_report;
 use bw_layout::{ChunkId, MemorySink, MemorySource, Plain, SeekSource, Source};
 use std::alloc::Global;
@@ -52,9 +52,13 @@ fn fault_of_cut(len: usize) -> (InspectKind, u64) {
     }
 }
 
-/// The fault of a file, if it has one.
-fn fault_in(alloc: Global, file: &[u8]) -> Option<InspectFault> {
-    inspect(alloc, &mut MemorySource::new(file)).err()
+/// The fault of a file, if it has one. Where what isn't told is sought over, it is the same.
+fn fault_in(rt: &impl Abort, alloc: Global, file: &[u8]) -> Option<InspectFault> {
+    let read = inspect(alloc, &mut MemorySource::new(file)).err();
+    let mut seeking = SeekSource::new(Cursor::new(file), file.len() as u64);
+    let sought = inspect(alloc, &mut seeking).err();
+    assert_eq!(rt; sought, read, "sought over");
+    read
 }
 
 fn same_fault(rt: &impl Abort, found: Option<InspectFault>, kind: InspectKind, offset: u64) {
@@ -63,10 +67,10 @@ fn same_fault(rt: &impl Abort, found: Option<InspectFault>, kind: InspectKind, o
 }
 
 /// What is answered, as text.
-fn answer<R: Source>(alloc: Global, reader: &mut R) -> Result<Vec<u8>, Fail> {
+fn answer<R: Source>(rt: &impl Abort, alloc: Global, reader: &mut R) -> Result<Vec<u8>, Fail> {
     let mut sink = MemorySink::new(Vec::new(alloc));
     match inspect(alloc, reader) {
-        Ok(report) => write_report(&report, &mut sink).map_err(|_| "a text")?,
+        Ok(report) => assert!(rt; write_report(&report, &mut sink).is_ok()),
         Err(fault) => return Ok(format!(in alloc; "{fault}")?.into_bytes()),
     }
     Ok(sink.into_bytes())
@@ -99,9 +103,9 @@ fn each_cut_is_refused_at_the_chunk_that_it_cuts(rt: HostRuntime) -> Result<(), 
     let file = small_file(alloc)?;
     for len in 0..file.len() {
         let (kind, offset) = fault_of_cut(len);
-        same_fault(&rt, fault_in(alloc, &file[..len]), kind, offset);
+        same_fault(&rt, fault_in(&rt, alloc, &file[..len]), kind, offset);
     }
-    assert!(rt; fault_in(alloc, file.as_slice()).is_none());
+    assert!(rt; fault_in(&rt, alloc, file.as_slice()).is_none());
     Ok(())
 }
 
@@ -111,19 +115,19 @@ fn each_change_is_refused_at_its_place(rt: HostRuntime) -> Result<(), Fail> {
     for (place, bytes, kind, offset) in CHANGES {
         let mut file = Vec::from_slice(alloc, RF64)?;
         file[*place..*place + bytes.len()].copy_from_slice(bytes);
-        same_fault(&rt, fault_in(alloc, file.as_slice()), *kind, *offset);
+        same_fault(&rt, fault_in(&rt, alloc, file.as_slice()), *kind, *offset);
     }
     for (place, bytes, kind, offset) in MARKED_CHANGES {
         let mut file = marked_file(alloc)?;
         file[*place..*place + bytes.len()].copy_from_slice(bytes);
-        same_fault(&rt, fault_in(alloc, file.as_slice()), *kind, *offset);
+        same_fault(&rt, fault_in(&rt, alloc, file.as_slice()), *kind, *offset);
     }
     Ok(())
 }
 
 #[test]
 fn a_table_tells_the_size_of_its_first_row(rt: HostRuntime) -> Result<(), Fail> {
-    let report = inspect(rt.alloc(), &mut MemorySource::new(TABLED)).map_err(|_| "a report")?;
+    let report = report_of(rt.alloc(), TABLED)?;
     let list = ListedChunk {
         id: ChunkId(*b"LIST"),
         place: 86,
@@ -138,7 +142,7 @@ fn a_table_tells_the_size_of_its_first_row(rt: HostRuntime) -> Result<(), Fail> 
 #[test]
 fn markers_are_told(rt: HostRuntime) -> Result<(), Fail> {
     let file = marked_file(rt.alloc())?;
-    let text = answer(rt.alloc(), &mut MemorySource::new(file.as_slice()))?;
+    let text = answer(&rt, rt.alloc(), &mut MemorySource::new(file.as_slice()))?;
     assert!(rt;
         text.as_slice()
             .ends_with(b"\ncue id=7 position=2 offset=2\n")
@@ -152,7 +156,7 @@ fn the_last_pad_byte_may_be_absent(rt: HostRuntime) -> Result<(), Fail> {
     let mut file = small_file(alloc)?;
     file[686] = 3;
     file.truncate(693);
-    let report = inspect(alloc, &mut MemorySource::new(file.as_slice())).map_err(|_| "a report")?;
+    let report = report_of(alloc, file.as_slice())?;
     assert_eq!(rt; (report.data_at, report.data_size), (690, 3));
     Ok(())
 }
@@ -163,14 +167,14 @@ fn chunks_are_listed_up_to_4_096(rt: HostRuntime) -> Result<(), Fail> {
     let most = empty_chunks(alloc, 4_096)?;
     same_fault(
         &rt,
-        fault_in(alloc, most.as_slice()),
+        fault_in(&rt, alloc, most.as_slice()),
         InspectKind::NoFmt,
         32_780,
     );
     let more = empty_chunks(alloc, 4_097)?;
     same_fault(
         &rt,
-        fault_in(alloc, more.as_slice()),
+        fault_in(&rt, alloc, more.as_slice()),
         InspectKind::TooMany,
         32_780,
     );
@@ -196,6 +200,17 @@ fn a_failed_read_is_told_at_the_next_byte(rt: HostRuntime) -> Result<(), Fail> {
     Ok(())
 }
 
+/// Ends the test where a reader makes another answer.
+fn answers<R: Source + Drop>(
+    rt: &impl Abort,
+    alloc: Global,
+    mut reader: R,
+    want: &[u8],
+) -> Result<(), Fail> {
+    assert_eq!(rt; answer(rt, alloc, &mut reader)?.as_slice(), want);
+    Ok(())
+}
+
 #[test]
 fn the_answer_is_the_same_in_pieces_of_any_size(rt: HostRuntime) -> Result<(), Fail> {
     let alloc = rt.alloc();
@@ -203,18 +218,17 @@ fn the_answer_is_the_same_in_pieces_of_any_size(rt: HostRuntime) -> Result<(), F
     let mut cut = small_file(alloc)?;
     cut.truncate(500);
     for bytes in [RF64, TABLED, marked.as_slice(), cut.as_slice()] {
-        let want = answer(alloc, &mut MemorySource::new(bytes))?;
+        let want = answer(&rt, alloc, &mut MemorySource::new(bytes))?;
         for most in [1, 7, 65_536] {
             let pieces = Pieces {
                 bytes,
                 most,
                 fails: false,
             };
-            let found = answer(alloc, &mut Plain::new(pieces))?;
-            assert_eq!(rt; found.as_slice(), want.as_slice(), "in pieces of {most}");
+            answers(&rt, alloc, Plain::new(pieces), want.as_slice())?;
         }
-        let mut seeking = SeekSource::new(Cursor::new(bytes), bytes.len() as u64);
-        assert_eq!(rt; answer(alloc, &mut seeking)?.as_slice(), want.as_slice());
+        let seeking = SeekSource::new(Cursor::new(bytes), bytes.len() as u64);
+        answers(&rt, alloc, seeking, want.as_slice())?;
     }
     Ok(())
 }

@@ -1,8 +1,7 @@
 //! Worked reports, and a writer that fails in the midst of one.
-use crate::reading::inspect;
-use crate::rows::{RF64, small_file};
+use crate::rows::{RF64, report_of, small_file};
 use crate::write::{WriteFailed, write_report};
-use bw_layout::{MemorySink, MemorySource, Plain};
+use bw_layout::{MemorySink, Plain};
 use std::alloc::Global;
 use std::test::Fail;
 
@@ -33,9 +32,11 @@ static SMALL_TEXT: &str = "form RIFF 686\n\
 
 /// What a report of a file is written as.
 fn text_of(alloc: Global, file: &[u8]) -> Result<Vec<u8>, Fail> {
-    let report = inspect(alloc, &mut MemorySource::new(file)).map_err(|_| "a report")?;
+    let report = report_of(alloc, file)?;
     let mut sink = MemorySink::new(Vec::new(alloc));
-    write_report(&report, &mut sink).map_err(|_| "a text")?;
+    let Ok(()) = write_report(&report, &mut sink) else {
+        return Err("a text")?;
+    };
     Ok(sink.into_bytes())
 }
 
@@ -83,7 +84,7 @@ fn bytes_that_are_not_printable_are_told_by_their_digits(rt: HostRuntime) -> Res
 
 #[test]
 fn a_writer_that_fails_has_a_beginning_of_the_text(rt: HostRuntime) -> Result<(), Fail> {
-    let report = inspect(rt.alloc(), &mut MemorySource::new(RF64)).map_err(|_| "a report")?;
+    let report = report_of(rt.alloc(), RF64)?;
     let mut room = [0; 40];
     let mut sink = Plain::new(&mut room[..]);
     assert_eq!(rt; write_report(&report, &mut sink), Err(WriteFailed));
