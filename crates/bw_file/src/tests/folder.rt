@@ -10,11 +10,17 @@ use std::process;
 use std::test::Fail;
 
 /// An empty folder of this test's own.
-fn new_folder(rt: &HostRuntime, test: &str) -> Result<String, Fail> {
+fn new_folder(rt: &HostRuntime) -> Result<String, Fail> {
     let id = process::id(rt.process());
-    let folder = format!(in rt.alloc(); "/tmp/bw_file_{test}_{id}")?;
-    fs::create_dir(rt, folder.as_str())?;
-    Ok(folder)
+    for count in 0..1000 {
+        let folder = format!(in rt.alloc(); "/tmp/bw_file_{id}_{count}")?;
+        match fs::create_dir(rt, folder.as_str()) {
+            Ok(()) => return Ok(folder),
+            Err(e) if e.kind() == ErrorKind::AlreadyExists => {}
+            Err(e) => return Err(e)?,
+        }
+    }
+    Err("a thousand folders stand")?
 }
 
 /// Writes the file of two frames.
@@ -31,7 +37,7 @@ fn write_two_frames<S: TakeStore>(rt: &HostRuntime, store: &mut S) -> Result<(),
 #[test]
 fn a_folder_has_the_file_and_keeps_it(rt: HostRuntime) -> Result<(), Fail> {
     let alloc = rt.alloc();
-    let folder = new_folder(&rt, "keeps")?;
+    let folder = new_folder(&rt)?;
     let path = format!(in alloc; "{folder}/a1.wav")?;
     let wanted = file_of_row(alloc, two_frames())?;
     let mut store = FolderStore::new(&rt, alloc, folder.as_str())?;
@@ -52,7 +58,7 @@ fn a_folder_has_the_file_and_keeps_it(rt: HostRuntime) -> Result<(), Fail> {
 #[test]
 fn a_folder_that_is_none_fails_each_call(rt: HostRuntime) -> Result<(), Fail> {
     let alloc = rt.alloc();
-    let folder = new_folder(&rt, "none")?;
+    let folder = new_folder(&rt)?;
     let file = format!(in alloc; "{folder}/file")?;
     fs::write(&rt, file.as_str(), "not a folder")?;
     let missing = format!(in alloc; "{folder}/missing")?;
