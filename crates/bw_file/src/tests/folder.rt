@@ -6,7 +6,7 @@ use bw_layout::Limit;
 use bw_take::{Name, TakeState};
 use std::fs::{self, Files, Metadata, OpenFile, OpenOptions};
 use std::io::{self, ErrorKind, Read, Seek, SeekFrom, Write};
-use std::process;
+use std::process::{self, Abort};
 use std::test::Fail;
 
 /// An empty folder of this test's own.
@@ -21,6 +21,16 @@ fn new_folder(rt: &HostRuntime) -> Result<String, Fail> {
         }
     }
     Err("a thousand folders stand")?
+}
+
+/// Ends the test where the calls on a name succeed otherwise: `create`, a write, `finish`.
+fn succeeds<S: TakeStore>(rt: &impl Abort, store: &mut S, wanted: [bool; 3]) -> Result<(), Fail> {
+    let name = Name::new(b"a1").ok_or("a name")?;
+    let made = store.create(&name).is_ok();
+    let wrote = store.write_at(&name, 0, b"x").is_ok();
+    let finished = store.finish(&name).is_ok();
+    assert_eq!(rt; [made, wrote, finished], wanted);
+    Ok(())
 }
 
 /// Writes the file of two frames.
@@ -62,12 +72,9 @@ fn a_folder_that_is_none_fails_each_call(rt: HostRuntime) -> Result<(), Fail> {
     let file = format!(in alloc; "{folder}/file")?;
     fs::write(&rt, file.as_str(), "not a folder")?;
     let missing = format!(in alloc; "{folder}/missing")?;
-    let name = Name::new(b"a1").ok_or("a name")?;
     for none in [missing.as_str(), file.as_str()] {
         let mut store = FolderStore::new(&rt, alloc, none)?;
-        assert!(rt; store.create(&name).is_err(), "{none}");
-        assert!(rt; store.write_at(&name, 0, b"x").is_err(), "{none}");
-        assert!(rt; store.finish(&name).is_err(), "{none}");
+        succeeds(&rt, &mut store, [false, false, false])?;
     }
     fs::remove_dir_all(&rt, folder.as_str())?;
     Ok(())
@@ -192,21 +199,21 @@ impl Files for Disk {
     }
 }
 
+/// Where a disk fails, and whether `create`, a write and `finish` succeed over it.
+static DISKS: [(Asked, [bool; 3]); 5] = [
+    (Asked::Nothing, [true, true, true]),
+    (Asked::Open, [false, false, false]),
+    (Asked::Seek, [true, false, true]),
+    (Asked::Write, [true, false, true]),
+    (Asked::Sync, [true, true, false]),
+];
+
 #[test]
 fn a_file_is_synced_where_it_is_finished(rt: HostRuntime) -> Result<(), Fail> {
-    let name = Name::new(b"a1").ok_or("a name")?;
-    for (fails_at, makes, writes, finishes) in [
-        (Asked::Nothing, true, true, true),
-        (Asked::Open, false, false, false),
-        (Asked::Seek, true, false, true),
-        (Asked::Write, true, false, true),
-        (Asked::Sync, true, true, false),
-    ] {
+    for (fails_at, wanted) in &DISKS {
+        let fails_at = *fails_at;
         let mut store = FolderStore::new(Disk { fails_at }, rt.alloc(), "folder")?;
-        assert_eq!(rt; store.create(&name).is_ok(), makes, "{fails_at:?}");
-        let wrote = store.write_at(&name, 0, b"x").is_ok();
-        assert_eq!(rt; wrote, writes, "{fails_at:?}");
-        assert_eq!(rt; store.finish(&name).is_ok(), finishes, "{fails_at:?}");
+        succeeds(&rt, &mut store, *wanted)?;
     }
     Ok(())
 }

@@ -7,6 +7,8 @@ use crate::store::{Created, StoreFault, TakeStore};
 use crate::tally::Tally;
 use bw_layout::Limit;
 use bw_take::{Name, RequestRef, TakeState};
+use std::alloc::Global;
+use std::process::Abort;
 use std::test::Fail;
 
 /// A store that keeps the header of a file without a history, and forgets what stands behind it.
@@ -47,13 +49,13 @@ impl TakeStore for Front {
     }
 }
 
-/// A mono take: bits a sample, its blocks and their count, a last block, and the size of all data.
+/// A mono take: bits a sample, its blocks and their count, a last block, and the head of its data.
 struct Long {
     bits: u16,
     block: &'static [u8],
     count: u32,
     last: &'static [u8],
-    size: [u8; 4],
+    data_head: [u8; 8],
     /// One frame more.
     frame: &'static [u8],
 }
@@ -65,7 +67,7 @@ static LONG: [Long; 2] = [
         block: &[0; 32_768],
         count: 131_071,
         last: &[0; 32_084],
-        size: [0x54, 0xfd, 0xff, 0xff],
+        data_head: *b"data\x54\xfd\xff\xff",
         frame: &[0; 2],
     },
     Long {
@@ -73,47 +75,71 @@ static LONG: [Long; 2] = [
         block: &[0; 32_766],
         count: 131_079,
         last: &[0; 32_097],
-        size: [0x53, 0xfd, 0xff, 0xff],
+        data_head: *b"data\x53\xfd\xff\xff",
         frame: &[0; 3],
     },
 ];
 
+/// A take that grows, and the front of its file.
+#[derive(Drop)]
+struct Growing {
+    file: GrowingFile,
+    state: TakeState,
+    store: Front,
+}
+
+impl Growing {
+    fn new(alloc: Global) -> Result<Growing, Fail> {
+        let name = Name::new(b"a1").ok_or("a name")?;
+        let bytes = [0; 690];
+        let tally = Tally::new();
+        Ok(Growing {
+            file: GrowingFile::new(alloc, name, Limit::default())?,
+            state: TakeState::new(alloc),
+            store: Front { bytes, tally },
+        })
+    }
+
+    fn keep(&mut self, request: &RequestRef<'_>) -> Result<(), Fail> {
+        keep(&mut self.file, &mut self.store, &mut self.state, request)
+    }
+
+    fn append(&mut self, bytes: &[u8]) -> Result<(), Fail> {
+        self.keep(&RequestRef::Block { bytes })
+    }
+}
+
+/// Ends the test where the front of a file begins or ends with other bytes.
+fn has_heads(rt: &impl Abort, front: &[u8], outer: &[u8], data_head: &[u8]) {
+    assert!(rt; front.starts_with(outer) && front.ends_with(data_head));
+}
+
 #[test]
 fn a_file_is_riff_up_to_four_gibibytes(rt: HostRuntime) -> Result<(), Fail> {
     for long in &LONG {
-        let name = Name::new(b"a1").ok_or("a name")?;
-        let mut file = GrowingFile::new(rt.alloc(), name, Limit::default())?;
-        let mut state = TakeState::new(rt.alloc());
-        let mut store = Front {
-            bytes: [0; 690],
-            tally: Tally::new(),
-        };
-        let open = RequestRef::OpenTake {
+        let mut take = Growing::new(rt.alloc())?;
+        take.keep(&RequestRef::OpenTake {
             rate: 48_000,
             channels: 1,
             bits: long.bits,
             history: b"",
-        };
-        keep(&mut file, &mut store, &mut state, &open)?;
+        })?;
         for _ in 0..long.count {
-            let block = RequestRef::Block { bytes: long.block };
-            keep(&mut file, &mut store, &mut state, &block)?;
+            take.append(long.block)?;
         }
-        let last = RequestRef::Block { bytes: long.last };
-        keep(&mut file, &mut store, &mut state, &last)?;
-        assert_eq!(rt;
-            &store.bytes[..16],
-            b"RIFF\xfe\xff\xff\xffWAVEJUNK".as_slice()
-        );
-        assert_eq!(rt; &store.bytes[682..686], b"data".as_slice());
-        assert_eq!(rt; &store.bytes[686..], long.size.as_slice());
+        take.append(long.last)?;
+        let outer = b"RIFF\xfe\xff\xff\xffWAVEJUNK";
+        has_heads(&rt, take.store.bytes.as_slice(), outer, &long.data_head);
 
-        let more = RequestRef::Block { bytes: long.frame };
-        keep(&mut file, &mut store, &mut state, &more)?;
+        take.append(long.frame)?;
         let outer =
             b"BW64\xff\xff\xff\xffWAVEds64\x1c\0\0\0\0\0\0\0\x01\0\0\0\x56\xfd\xff\xff\0\0\0\0";
-        assert_eq!(rt; &store.bytes[..36], outer.as_slice());
-        assert_eq!(rt; &store.bytes[682..], b"data\xff\xff\xff\xff".as_slice());
+        has_heads(
+            &rt,
+            take.store.bytes.as_slice(),
+            outer,
+            b"data\xff\xff\xff\xff",
+        );
     }
     Ok(())
 }
