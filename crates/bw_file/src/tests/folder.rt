@@ -9,15 +9,22 @@ use std::io::{self, ErrorKind, Read, Seek, SeekFrom, Write};
 use std::process::{self, Abort};
 use std::test::Fail;
 
+/// Makes a folder, unless one stands there already.
+fn made(rt: &HostRuntime, folder: &str) -> io::Result<bool> {
+    match fs::create_dir(rt, folder) {
+        Ok(()) => Ok(true),
+        Err(error) if error.kind() == ErrorKind::AlreadyExists => Ok(false),
+        Err(error) => Err(error),
+    }
+}
+
 /// An empty folder of this test's own.
 fn new_folder(rt: &HostRuntime) -> Result<String, Fail> {
     let id = process::id(rt.process());
     for count in 0..1000 {
         let folder = format!(in rt.alloc(); "/tmp/bw_file_{id}_{count}")?;
-        match fs::create_dir(rt, folder.as_str()) {
-            Ok(()) => return Ok(folder),
-            Err(e) if e.kind() == ErrorKind::AlreadyExists => {}
-            Err(e) => return Err(e)?,
+        if made(rt, folder.as_str())? {
+            return Ok(folder);
         }
     }
     Err("a thousand folders stand")?
