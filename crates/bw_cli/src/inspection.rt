@@ -1,5 +1,5 @@
 //! The command `inspect`: what is in a file.
-ghost use Rattle.std.specs.Prelude.{◌≡◌, ◌≢◌, ◌⊎◌, OnOk, IfErr, IfSome};
+ghost use Rattle.std.specs.Prelude.{◌≡◌, ◌≢◌, ◌⊎◌, OnOk, IfErr};
 ghost use Rattle.bw_layout.specs.Moves.{Begins, Keeps, Writes};
 ghost use Rattle.bw_model.specs.Report.{report_text};
 ghost use Rattle.bw_inspect.specs.Places.{Of};
@@ -12,8 +12,8 @@ use crate::print::print;
 use arrayvec::ArrayString;
 use bw_inspect::{InspectFault, InspectKind, Report, inspect, write_report};
 use bw_layout::{MemorySink, Source};
+use itoa::Buffer;
 use std::alloc::Global;
-use std::fmt::Write as _;
 use std::io::Write;
 
 /// Reads a file, and writes its report, or the line of its first fault to `faults`.
@@ -71,20 +71,21 @@ fn print_report<W: Write>(alloc: Global, report: &Report, out: &mut W) -> Result
 fn tell<E: Write>(faults: &mut E, fault: &InspectFault)
     ensures { Begins (E.contents faults.old) (fault_line fault.now) (E.contents faults.new) }
 {
-    if let Some(line) = line_of(fault) {
-        let _ = print(faults, line.as_str().as_bytes());
-    }
+    let _ = print(faults, line_of(fault).as_str().as_bytes());
 }
 
-/// The line of a fault. It takes no memory, which may be what is wanting; 64 bytes are enough for each.
-fn line_of(fault: &InspectFault) -> Option<ArrayString<64>>
-    ensures { IfSome result (λ line. line.bytes ≡ fault_line fault.now) }
+/// The line of a fault. It takes no memory, which may be what is wanting.
+fn line_of(fault: &InspectFault) -> ArrayString<64>
+    ensures { result.bytes ≡ fault_line fault.now }
 {
+    let mut digits = Buffer::new();
     let mut line = ArrayString::new();
-    match writeln!(line, "inspect: {fault}") {
-        Ok(()) => Some(line),
-        Err(_) => None,
-    }
+    line.push_str("inspect: ");
+    line.push_str(fault.kind.name());
+    line.push_str(" at ");
+    line.push_str(digits.format(fault.offset));
+    line.push_str("\n");
+    line
 }
 
 /// How an inspection ends on a fault of this kind.

@@ -1,5 +1,5 @@
 //! Why a file isn't read.
-ghost use Rattle.std.specs.Prelude.{◌≡◌, ◌≤◌, Some};
+ghost use Rattle.std.specs.Prelude.{◌≡◌, ◌≤◌, length, Some};
 ghost use Rattle.bw_inspect.specs.Faults.{code_of, fault_text, name_of};
 
 use std::error::Error;
@@ -48,13 +48,13 @@ impl InspectKind {
     {
         self as u8
     }
-}
 
-impl fmt::Display for InspectKind {
-    ghost output = { λ k. Some (name_of k) };
-
-    fn fmt<W: fmt::Write>(&self, f: &mut fmt::Formatter<W>) -> fmt::Result {
-        f.write_str(match self {
+    /// Its name, as it is printed.
+    pub fn name(self) -> &'static str
+        ensures value { result.now ≡ name_of self }
+        ensures short { length result.now ≤ 9 }
+    {
+        match self {
             InspectKind::NotWave => "NotWave",
             InspectKind::Truncated => "Truncated",
             InspectKind::NoDs64 => "NoDs64",
@@ -70,7 +70,15 @@ impl fmt::Display for InspectKind {
             InspectKind::TooLarge => "TooLarge",
             InspectKind::Read => "Read",
             InspectKind::Memory => "Memory",
-        })
+        }
+    }
+}
+
+impl fmt::Display for InspectKind {
+    ghost output = { λ k. Some (name_of k) };
+
+    fn fmt<W: fmt::Write>(&self, f: &mut fmt::Formatter<W>) -> fmt::Result {
+        f.write_str(self.name())
     }
 }
 
