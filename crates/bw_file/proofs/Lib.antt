@@ -16,3 +16,4 @@ pub mod Closes
 pub mod Begins
 pub mod Parts
 pub mod Retouches
+pub mod SetFields

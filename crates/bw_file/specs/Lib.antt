@@ -7,3 +7,4 @@ pub mod Growing
 pub mod Headers
 pub mod Headings
 pub mod Plans
+pub mod OneField

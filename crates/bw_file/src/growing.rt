@@ -6,6 +6,7 @@ ghost use Rattle.bw_model.specs.Wire.{is_request};
 ghost use Rattle.bw_file.specs.Stores.{Counts, KeepsOthers};
 ghost use Rattle.bw_file.specs.Calls.{Asks, AsksFirst};
 ghost use Rattle.bw_file.specs.Plans.{name_plan, header_plan, begin_plan, append_plan, close_plan};
+ghost use Rattle.bw_file.specs.OneField.{Patches};
 ghost use Rattle.bw_file.specs.Growing.{Growing, Stores, Sets, Begins, AsksForName, IsFresh, is_new};
 
 use crate::heading::Heading;
@@ -195,6 +196,8 @@ impl GrowingFile {
         ensures whole { IsTrue self.old.dirty → OnOk result (Asks
             (header_plan self.old.name (data_place (length state.now.parts.history)))
             (S.asked store.old) (S.asked store.new)) }
+        ensures patch { IsFalse self.old.dirty →
+            OnOk result (Patches self.old.name (S.asked store.old) (S.asked store.new)) }
         ensures nothing { IsFalse self.old.dirty → bext.now ≡ state.now.parts.fields →
             S.calls store.new ≡ S.calls store.old }
         ensures honest { S.honest store.new ≡ S.honest store.old }

@@ -6,6 +6,7 @@ ghost use Rattle.bw_file.specs.Stores.{Counts, MayTear, KeepsOthers};
 ghost use Rattle.bw_file.specs.Calls.{Asks, AsksFirst};
 ghost use Rattle.bw_file.specs.Plans.{samples_plan, cues_plan, header_plan, sizes_plan, form_plan, grown_plan, closed_plan};
 ghost use Rattle.bw_file.specs.Headers.{PutsLast, PutsHeader, PutsOver, Updates};
+ghost use Rattle.bw_file.specs.OneField.{SetsOneField, Patches};
 ghost use Rattle.bw_file.specs.Headings.{header_of, place_of, is_riff};
 
 use crate::field::changed_part;
@@ -297,11 +298,15 @@ pub(crate) fn put_retouched_header<S: TakeStore>(
 ) -> Result<(), StoreFault>
     requires place { place_of retouched.now ≡ place_of heading.now }
     requires samples { data_len ≤ 2 ^ 62 }
+    requires field { SetsOneField (header_of heading.now data_len 0)
+        (header_of retouched.now data_len 0) }
     ensures failures { Counts (S.failures store.old) (S.failures store.new) (is_err result) }
     ensures calls { S.calls store.new ≤ S.calls store.old + 1 }
     ensures whole { IsFalse is_clean → OnOk result (Asks
         (header_plan name.now (place_of heading.now))
         (S.asked store.old) (S.asked store.new)) }
+    ensures patch { IsTrue is_clean →
+        OnOk result (Patches name.now (S.asked store.old) (S.asked store.new)) }
     ensures nothing { IsTrue is_clean →
         header_of retouched.now data_len 0 ≡ header_of heading.now data_len 0 →
         S.calls store.new ≡ S.calls store.old }
@@ -333,8 +338,11 @@ fn put_field<S: TakeStore>(
 ) -> Result<(), StoreFault>
     requires place { place_of retouched.now ≡ place_of heading.now }
     requires samples { data_len ≤ 2 ^ 62 }
+    requires field { SetsOneField (header_of heading.now data_len 0)
+        (header_of retouched.now data_len 0) }
     ensures failures { Counts (S.failures store.old) (S.failures store.new) (is_err result) }
     ensures calls { S.calls store.new ≤ S.calls store.old + 1 }
+    ensures patch { OnOk result (Patches name.now (S.asked store.old) (S.asked store.new)) }
     ensures nothing { header_of retouched.now data_len 0 ≡ header_of heading.now data_len 0 →
         S.calls store.new ≡ S.calls store.old }
     ensures honest { S.honest store.new ≡ S.honest store.old }

@@ -1,5 +1,5 @@
 //! Where the fields of `bext` stand in a file.
-ghost use Rattle.std.specs.Prelude.{◌≡◌, IfSome, is_some};
+ghost use Rattle.std.specs.Prelude.{◌≡◌, ◌+◌, ◌≤◌, IfSome, is_some};
 ghost use Rattle.bw_model.specs.Take.{shape_of};
 ghost use Rattle.bw_layout.specs.Places.{StandsAt};
 
@@ -9,6 +9,7 @@ ghost use Rattle.bw_layout.specs.Places.{StandsAt};
 pub fn field_place(tag: u8) -> Option<(u64, u64)>
     ensures known { is_some result ≡ is_some (shape_of tag) }
     ensures stands { IfSome result (λ p. StandsAt tag p.0 p.1) }
+    ensures range { IfSome result (λ p. p.0 + p.1 ≤ 690) }
 {
     match tag {
         1 => Some((80, 256)),

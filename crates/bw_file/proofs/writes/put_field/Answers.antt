@@ -1,4 +1,4 @@
-use Rattle.std.proofs.Common.{◌≡◌, ◌∙◌, ◌++◌, ◌-◌, ◌≤◌, sym, ap, length, drop, List, ℕ, Some, arith, length-append, length-drop}
+use Rattle.std.proofs.Common.{inr, ◌≡◌, ◌∙◌, ◌++◌, ◌-◌, ◌≤◌, sym, ap, length, drop, List, ℕ, Some, arith, length-append, length-drop}
 use Rattle.std.proofs.lemmas.Bool.Decides.{Decides-eqb}
 use Rattle.std.proofs.lemmas.List.{length-take-le}
 use Rattle.std.proofs.lemmas.Slice.Eq.{slice_eq-Decides}
@@ -26,7 +26,10 @@ returns-then-eq-clause-put g c =
 pub changed_part-from-requires : goal.changed_part-from-requires
 changed_part-from-requires g c =
     let halves = two_headers c.args.heading.now c.args.retouched.now c.args.data_len c.data_place.result c.bytes.result.now c.split_at.result.0.now c.split_at.result.1.now (c.bytes.ensures ∙ c.build_headers.ensures) c.data_place.ensures.value c.split_at.ensures.front c.split_at.ensures.back in
-    ap length halves.0 ∙ length-heading c.args.heading.now c.args.data_len ∙ sym c.requires.place ∙ sym (ap length halves.1 ∙ length-heading c.args.retouched.now c.args.data_len)
+    record {
+      same = ap length halves.0 ∙ length-heading c.args.heading.now c.args.data_len ∙ sym c.requires.place ∙ sym (ap length halves.1 ∙ length-heading c.args.retouched.now c.args.data_len);
+      field = rw (halves.0, halves.1) c.requires.field;
+    }
 
 pub returns-in_err-write_at-clause-torn : goal.returns-in_err-write_at-clause-torn
 returns-in_err-write_at-clause-torn g c =
@@ -72,3 +75,9 @@ returns-clause-nothing g c =
     let alike = (slice_eq-Decides Decides-eqb _ _ c.eq.result c.eq.ensures).1 (halves.0 ∙ sym same ∙ sym halves.1) in
     let differ = c.if-eq.false in
     cc
+
+pub returns-clause-patch : goal.returns-clause-patch
+returns-clause-patch g c =
+    let part = c.changed_part-from.ensures in
+    let long = length-range c.split_at.result.1.now c.changed_part-from.result.0 c.changed_part-from.result.1 part.ordered part.end in
+    inr (record { place = _; count = _; field = part.place; asked = rw long at c.in_ok-write_at.ensures.asked })

@@ -6,6 +6,7 @@ use Rattle.bw_file.specs.contracts.growing.GrowingFile.{the_view}
 use Rattle.bw_file.proofs.Judged.{open_for_field, is_some_open, no_fault}
 use Rattle.bw_file.proofs.Headed.{is_heading}
 use Rattle.bw_file.proofs.Retouches.{header_fails, retouched}
+use Rattle.bw_file.proofs.SetFields.{sets_one}
 use Rattle.bw_file.proofs.growing.GrowingFile.retouch.Goals as goal
 
 pub of-heading-requires : goal.of-heading-requires
@@ -45,3 +46,9 @@ returns-clause-file g c =
     let is_open = ap (λ (p : Parts). p.closed) same ∙ opened.not_closed in
     let in_all = c.data_len.ensures.value ∙ sym (ap (λ (p : Parts). p.samples_len) same) in
     retouched (the_view c.self.inside) t tag value c.of-heading.result c.with_bext-retouched.result heads then_heads with.format is_open c.data_len.result in_all _ _ ready (c.in_ok-put_retouched_header.ensures.put honest))
+
+pub put_retouched_header-requires-clause-field : goal.put_retouched_header-requires-clause-field
+put_retouched_header-requires-clause-field g c =
+    let of = c.of-heading.ensures in
+    let with = c.with_bext-retouched.ensures in
+    sets_one c.args.state.now.parts c.requires.tag c.requires.value c.of-heading.result c.with_bext-retouched.result c.data_len.result c.requires.stored of.bext (with.bext ∙ c.requires.fields) with.format with.history with.limit
