@@ -45,3 +45,12 @@ if command -v ffprobe >/dev/null; then
     report 'ffprobe FILE' 'ffprobe -v error -show_streams "$file"'
     report 'cat FILE | ffprobe -' 'cat "$file" | ffprobe -v error -show_streams -'
 fi
+if command -v taskset >/dev/null; then
+    # between two processors a pipe may be slower than what is read from it
+    processor=$(taskset -pc $$ | sed 's/.*[: ]\([0-9]*\).*/\1/')
+    taskset -pc "$processor" $$ >/dev/null
+    report 'cat FILE | bwingest inspect /dev/stdin, on one processor' \
+        'cat "$file" | "$program" inspect /dev/stdin'
+    report 'cat FILE | cat > /dev/null, on one processor' 'cat "$file" | cat'
+    report 'cat FILE > /dev/null, on one processor' 'cat "$file"'
+fi
