@@ -30,7 +30,8 @@ pub fn inspect_run<R: Source, W: Write, E: Write>(
     ensures refused { result ≡ Exit.Refused → Of (R.left input.old) (λ b.
         TellsFault b (E.contents faults.old) (E.contents faults.new)) }
     ensures device { result ≡ Exit.Device → Of (R.left input.old) (λ b.
-        IsUnread (R.failures input.old) (R.failures input.new) (W.contents out.old) (W.contents out.new)
+        IsUnread (R.failures input.old) (R.failures input.new)
+        (W.contents out.old) (W.contents out.new)
         ⊎ BeginsReport b (W.contents out.old) (W.contents out.new)) }
     ensures reader { result ≢ Exit.Device → R.failures input.new ≡ R.failures input.old }
     ensures quiet { result ≢ Exit.Done → result ≢ Exit.Device →
@@ -58,7 +59,8 @@ fn print_report<W: Write>(alloc: Global, report: &Report, out: &mut W) -> Result
     ensures ok { OnOk result
         (Writes (W.contents out.old) (report_text (told_by report.now)) (W.contents out.new)) }
     ensures err { IfErr result (λ fault.
-        StopsText (report_text (told_by report.now)) fault (W.contents out.old) (W.contents out.new)) }
+        StopsText (report_text (told_by report.now)) fault
+        (W.contents out.old) (W.contents out.new)) }
 {
     let mut text = MemorySink::new(Vec::new(alloc));
     let Ok(()) = write_report(report, &mut text) else {
