@@ -27,7 +27,7 @@ pub struct FolderStore<R: Files + Drop> {
     rt: R,
     alloc: Global,
     folder: String,
-    open: Vec<OpenTake<R::File>>,
+    takes: Vec<OpenTake<R::File>>,
     tally: Tally,
 }
 
@@ -38,7 +38,7 @@ impl<R: Files + Drop> FolderStore<R> {
     /// `AllocError` where memory was refused.
     pub fn new(rt: R, alloc: Global, folder: &str) -> Result<FolderStore<R>, AllocError>
         ensures folder { IfOk result (λ s. string_bytes s.folder ≡ folder.now) }
-        ensures open { IfOk result (λ s. s.open.items ≡ []) }
+        ensures takes { IfOk result (λ s. s.takes.items ≡ []) }
         ensures failures { IfOk result (λ s. s.tally.failures ≡ 0) }
         ensures calls { IfOk result (λ s. s.tally.calls ≡ 0) }
     {
@@ -46,7 +46,7 @@ impl<R: Files + Drop> FolderStore<R> {
             rt,
             alloc,
             folder: String::from_str(alloc, folder)?,
-            open: Vec::new(alloc),
+            takes: Vec::new(alloc),
             tally: Tally::new(),
         })
     }
@@ -65,20 +65,20 @@ impl<R: Files + Drop> FolderStore<R> {
     }
 
     fn make(&mut self, name: &Name) -> Result<Created, StoreFault>
-        ensures made { IfOk result (λ c. IsTrue (is_new c) → map (λ t. t.name) self.new.open.items
-            ≡ map (λ t. t.name) self.old.open.items ++ name.now ∷ []) }
+        ensures made { IfOk result (λ c. IsTrue (is_new c) → map (λ t. t.name) self.new.takes.items
+            ≡ map (λ t. t.name) self.old.takes.items ++ name.now ∷ []) }
         ensures stood { IfOk result (λ c. IsFalse (is_new c) →
-            self.new.open.items ≡ self.old.open.items) }
-        ensures failed { OnErr result (self.new.open.items ≡ self.old.open.items) }
+            self.new.takes.items ≡ self.old.takes.items) }
+        ensures failed { OnErr result (self.new.takes.items ≡ self.old.takes.items) }
         ensures tally { self.new.tally ≡ self.old.tally }
     {
         // All that needs memory comes first, so that a call that fails makes no file.
         let path = self.path(name)?;
-        self.open.reserve(1).map_err(|_| StoreFault)?;
+        self.takes.reserve(1).map_err(|_| StoreFault)?;
         match File::create_new(&self.rt, path.as_str()) {
             Ok(file) => {
                 let name = name.copy();
-                self.open
+                self.takes
                     .push(OpenTake { name, file })
                     .map_err(|_| StoreFault)?;
                 Ok(Created::New)
@@ -91,14 +91,14 @@ impl<R: Files + Drop> FolderStore<R> {
     fn write(&mut self, name: &Name, offset: u64, bytes: &[u8]) -> Result<(), StoreFault>
         ensures { self.new.tally ≡ self.old.tally }
     {
-        match self.open.iter_mut().find(|take| take.name == *name) {
+        match self.takes.iter_mut().find(|take| take.name == *name) {
             Some(take) => put(&mut take.file, offset, bytes).map_err(|_| StoreFault),
             None => Err(StoreFault),
         }
     }
 
     fn sync(&self, name: &Name) -> Result<(), StoreFault> {
-        match self.open.iter().find(|take| take.name == *name) {
+        match self.takes.iter().find(|take| take.name == *name) {
             Some(take) => take.file.sync_all().map_err(|_| StoreFault),
             None => Err(StoreFault),
         }
