@@ -1,7 +1,6 @@
 -- A turn of the sender's message keeps what was offered.
-use Rattle.std.proofs.Common.{◌≡◌, ◌≢◌, ℕ, ◌+◌, ◌-◌, ◌<◌, ◌≤◌, Bool, true, false, not, cond, ◌&&◌, ◌||◌, List, [], ◌∷◌, Option, Some, None, refl, sym, ◌∙◌, ap, subst, arith, ◌⊎◌, inl, inr}
+use Rattle.std.proofs.Common.{◌≡◌, ◌≢◌, ℕ, ◌+◌, ◌-◌, ◌<◌, ◌≤◌, Bool, true, false, not, cond, ◌&&◌, List, [], ◌∷◌, Option, Some, None, refl, sym, ◌∙◌, ap, subst, arith, ◌⊎◌, inl, inr}
 use Rattle.std.specs.Prelude.{slice_get, nat_le, nat_lt, is_none}
-use Rattle.std.specs.Str.{bytes_eq}
 use Rattle.std.proofs.lemmas.Bool.{ltb-true, leb-true, lt-ltb, lt-leb}
 use Rattle.std.proofs.lemmas.Bool.Decides.{eqb_tells}
 use Rattle.std.proofs.Math.Dec.{eqb}
@@ -10,10 +9,10 @@ use Rattle.bw_model.specs.Bytes.{at, put}
 use Rattle.bw_model.specs.Take.{Request}
 use Rattle.bw_model.specs.Wire.{Message, message_body}
 use Rattle.bw_model.specs.Replies.{Reply, Judged, Noticed, Notice, Held, TooFar, Conflict, TableFull, NoRoom, DelayedStore}
-use Rattle.bw_model.specs.Book.{Log, Book, log_of, is_known, no_log, run_end, verdict_at}
+use Rattle.bw_model.specs.Book.{Log, Book, log_of, is_known, run_end, verdict_at}
 use Rattle.bw_model.specs.Turn.{Luck, turn_by, served, own_reply, notice, window, is_admissible, admitted_after, drained_to, repeats, is_repeat, is_full, with_change, message_turn}
 use Rattle.bw_model.specs.World.{turns_down}
-use Rattle.bw_model.proofs.BookLemmas.{name_refl, log-with_log_same}
+use Rattle.bw_model.proofs.BookLemmas.{name_refl, log-with_log_same, unknown_log}
 use Rattle.bw_model.proofs.MapLemmas.{at-put_same, at-put_other, IsFilled, filled_to, verdict-put, filled-put}
 use Rattle.bw_model.proofs.Elements.{Each, each-append}
 use Rattle.bw_model.proofs.TrueReplies.{IsSound, IsTrueReply, IsFaithfulStep, notice_true, judged_true, verdicts_true, still}
@@ -117,14 +116,6 @@ served_true taken offered log m stop sound was near =
           (verdicts_true taken m.name new log.done (later - log.done) (let f = d.from in omega (arith, f)))
           (own_true taken s log.done later end m near a.here d.from);
     }
-
-unknown_log : (b : Book) (name : List ℕ) → is_known b name ≡ false → log_of b name ≡ no_log
-unknown_log [] name h = refl
-unknown_log (e ∷ b) name h = go (bytes_eq e.0 name) h (unknown_log b name)
-  where
-    go : (v : Bool) → v || is_known b name ≡ false → (is_known b name ≡ false → log_of b name ≡ no_log) → cond v e.1 (log_of b name) ≡ no_log
-    go true h ih = cc
-    go false h ih = ih h
 
 -- the turn of the sender's message
 pub own_message_true : (stood : List ℕ → Bool) (offered : List Request) (b : Book) (m : Message) (luck : Luck) →

@@ -1,0 +1,45 @@
+-- What holds of each book that turns lead to.
+use Rattle.std.specs.Prelude.{◌≡◌, ◌≤◌, ℕ, ◌+◌, Bool, true, false, IsTrue, is_some, List, [], ◌∷◌, length}
+use Rattle.std.specs.List.{list_any}
+use Rattle.bw_model.specs.Bytes.{first_free}
+use Rattle.bw_model.specs.Wire.{Frame}
+use Rattle.bw_model.specs.Book.{Log, Book, log_of, is_known}
+use Rattle.bw_model.specs.Turn.{Luck, turn, window, most_takes}
+
+-- Something was admitted, all numbers below `done`, and none past the window.
+pub record IsLog (log : Log) : Type 0 where
+  pub some : IsTrue (list_any is_some log.admitted)
+  pub all_done : log.done ≤ first_free log.admitted
+  pub none_past : length log.admitted ≤ log.done + window
+
+-- Each name stands once.
+abbrev pub HasEachOnce : Book → Type 0
+HasEachOnce [] = Unit {0}
+HasEachOnce (entry ∷ book) = (is_known book entry.0 ≡ false) × HasEachOnce book
+
+-- Each name stands once, under it a log that admitted something; there are no more names than a server
+-- takes.
+pub record IsBook (book : Book) : Type 0 where
+  pub once : HasEachOnce book
+  pub logs : (name : List ℕ) → IsTrue (is_known book name) → IsLog (log_of book name)
+  pub few : length book ≤ most_takes
+
+-- a book before any turn
+abbrev pub TheEmptyBookIsOne : Type 0
+TheEmptyBookIsOne = IsBook []
+
+-- each turn leaves a book
+abbrev pub TurnsKeepBooks : Type 0
+TurnsKeepBooks = (stood : List ℕ → Bool) (book : Book) (f : Frame) (luck : Luck) → IsBook book →
+    IsBook (turn stood book f luck).1
+
+-- no book has a name twice
+abbrev pub NoBookHasANameTwice : Type 0
+NoBookHasANameTwice = (entry : List ℕ × Log) (book : Book) → is_known book entry.0 ≡ true →
+    IsBook (entry ∷ book) → ⊥
+
+-- Books with the same names have as many entries: a table's names tell whether it is full.
+abbrev pub NamesTellTheLength : Type 0
+NamesTellTheLength =
+    (a b : Book) → IsBook a → IsBook b → ((name : List ℕ) → is_known a name ≡ is_known b name) →
+    length a ≡ length b
