@@ -1,6 +1,7 @@
 -- What a front is in the standards' own words, without a walk: RIFF's chunks, and the sizes of BS.2088's `ds64`.
 use Rattle.std.specs.Prelude.{◌≡◌, ◌≢◌, ◌↔◌, ◌⊎◌, ℕ, ◌+◌, ◌*◌, ◌≤◌, ◌<◌, false, Option, Some, None, Ok, IsTrue, List, [], ◌∷◌, ◌++◌, length, count_by, codes}
 use Rattle.std.specs.List.{list_any}
+use Rattle.bw_model.specs.Limits.{most_chunks, most_cues}
 use Rattle.bw_model.specs.Bytes.{u32_at, unsaid, even_up}
 use Rattle.bw_model.specs.Reading.{Entry, Form, Sizes, IsFront, IsReading, outer, form_end, next_place, id_at, is_id, single_ids, largest}
 
@@ -26,7 +27,7 @@ IsSized b form e =
 -- a `cue ` chunk has room for its count, and for as many points of 24 bytes
 pub record HasRoomForCues (b : List ℕ) (e : Entry) : Type 0 where
   pub count : 4 ≤ e.size
-  pub few : u32_at b (e.place + 8) ≤ 65536
+  pub few : u32_at b (e.place + 8) ≤ most_cues
   pub points : 4 + 24 * u32_at b (e.place + 8) ≤ e.size
 
 -- a chunk stands at its place
@@ -61,7 +62,7 @@ pub record StandsFirst (b : List ℕ) (form : Form) (entries : List Entry) : Typ
   pub header : outer b ≡ Ok form
   pub chunks : StandFrom b form 12 entries
   pub single : AreSingle entries
-  pub few : length entries ≤ 4096
+  pub few : length entries ≤ most_chunks
 
 -- a front is what stands first
 abbrev pub FrontsStandFirst : Type 0

@@ -2,6 +2,7 @@
 use Rattle.std.specs.Prelude.{◌≡◌, ◌≤◌, ℕ, ◌+◌, ◌*◌, ◌^◌, Bool, true, Option, Some, None, IsTrue, ◌&&◌, List, [], ◌∷◌, length, take, drop, map, slice_index_or, codes, nat_lt, nat_le, if◌then◌else◌}
 use Rattle.std.specs.List.{list_all}
 use Rattle.std.specs.Int.{w16, w64, from_le_bytes}
+use Rattle.bw_model.specs.Limits.{longest_history, most_markers}
 use Rattle.bw_model.specs.Bytes.{even_up}
 use Rattle.bw_model.specs.Take.{Request, Format, Take, AreFields, is_format, block_align}
 use Rattle.bw_model.specs.Layout.{is_version_1}
@@ -19,8 +20,8 @@ is_marker m = nat_lt m.0 (2 ^ 32) && nat_lt m.1 (2 ^ 32)
 pub record IsWithinLimits (f : Format) (t : Take) : Type 0 where
   pub format : IsTrue (is_format f)
   pub fields : AreFields t.fields
-  pub history : length t.history ≤ 4096
-  pub markers : length t.markers ≤ 1024
+  pub history : length t.history ≤ longest_history
+  pub markers : length t.markers ≤ most_markers
   pub numbers : IsTrue (list_all is_marker t.markers)
   pub form : form_len f t ≤ largest
 
