@@ -1,5 +1,5 @@
 -- What a write leaves of a content that is known in parts.
-use Rattle.std.proofs.Common.{◌≡◌, ℕ, ◌+◌, ◌-◌, List, ◌++◌, length, take, drop, Option, Some, sym, ◌∙◌, ap, arith, append_assoc, length-append}
+use Rattle.std.proofs.Common.{◌≡◌, ℕ, ◌+◌, ◌-◌, List, [], ◌∷◌, ◌++◌, length, take, drop, Option, Some, refl, sym, ◌∙◌, ap, arith, append_assoc, length-append}
 use Rattle.std.proofs.lemmas.List.{append-nil, drop_at, take_at}
 use Rattle.std.proofs.Math.Seq.{drop-append-add}
 use Rattle.bw_file.specs.Stores.{overwritten, Written}
@@ -7,7 +7,9 @@ use Rattle.bw_file.proofs.Tears.{written_is}
 
 -- bytes put where others end
 overwritten-append : (base rest bytes : List ℕ) (place : ℕ) → length base ≡ place → overwritten (base ++ rest) place bytes ≡ base ++ (bytes ++ drop (length bytes) rest)
-overwritten-append base rest bytes place e =
+overwritten-append base rest [] place e = refl
+overwritten-append base rest (byte ∷ more) place e =
+    let bytes = byte ∷ more in
     let long : length (base ++ rest) ≡ length base + length rest = length-append base rest in
     let gap : place - length (base ++ rest) ≡ 0 = omega (arith, long) in
     let front : take place (base ++ rest) ≡ base = take_at base rest place e in

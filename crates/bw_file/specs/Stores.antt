@@ -1,5 +1,5 @@
 -- What the calls of a store leave.
-use Rattle.std.specs.Prelude.{◌≡◌, ◌≢◌, ℕ, ◌+◌, ◌-◌, ◌<◌, ◌≤◌, max, List, [], ◌++◌, length, take, drop, slice_index, Option, Some, None, IsSome, Bool, IsTrue, IsFalse}
+use Rattle.std.specs.Prelude.{◌≡◌, ◌≢◌, ℕ, ◌+◌, ◌-◌, ◌<◌, ◌≤◌, max, List, [], ◌∷◌, ◌++◌, length, take, drop, slice_index, Option, Some, None, IsSome, Bool, IsTrue, IsFalse}
 use Rattle.bw_model.specs.Bytes.{zeros}
 use Rattle.bw_file.specs.declared.store.Created.{Created}
 use Rattle.bw_file.specs.declared.store.Created.TheVariants.{New, Exists}
@@ -19,9 +19,11 @@ abbrev pub Creates : Created → Option (List ℕ) → Option (List ℕ) → Typ
 Creates New before after = (before ≡ None) × (after ≡ Some [])
 Creates Exists before after = IsSome before × (after ≡ before)
 
--- the content with these bytes from a place on; a gap before the place reads as zeros
+-- the content with these bytes from a place on; a gap before them reads as zeros
 abbrev pub overwritten : List ℕ → ℕ → List ℕ → List ℕ
-overwritten old place bytes =
+overwritten old place [] = old
+overwritten old place (byte ∷ rest) =
+    let bytes = byte ∷ rest in
     take place old ++ zeros (place - length old) ++ bytes ++ drop (place + length bytes) old
 
 -- .. after a `write_at` that succeeds: the name stands

@@ -181,6 +181,9 @@ fn overwrite(content: &mut Vec<u8>, offset: u64, bytes: &[u8]) -> Result<(), All
     ensures err { OnErr result (content.new.items ≡ content.old.items) }
     ensures over { offset + length bytes.now ≤ length content.old.items → IsOk result }
 {
+    if bytes.is_empty() {
+        return Ok(());
+    }
     let start = offset as usize;
     let end = start + bytes.len();
     if end <= content.len() {

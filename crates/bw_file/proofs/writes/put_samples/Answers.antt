@@ -15,7 +15,7 @@ pub returns-in_ok-write_at-2-clause-torn : goal.returns-in_ok-write_at-2-clause-
 returns-in_ok-write_at-2-clause-torn g c =
     λ honest. tears_twice _ _ _ c.args.place _
     (written_tears _ _ c.args.place _ c.args.samples.now (omega arith) (c.in_ok-write_at.ensures.written honest))
-    (tears_wider _ _ _ 1 c.args.place _ (omega arith) (omega arith) (written_tears _ _ _ 1 _ (omega arith) (c.in_ok-write_at-2.ensures.written (c.write_at.ensures.honest ∙ honest))))
+    (tears_wider _ _ _ 1 c.args.place _ (omega arith) (omega arith) (written_tears _ _ _ 1 (0 ∷ []) (omega arith) (c.in_ok-write_at-2.ensures.written (c.write_at.ensures.honest ∙ honest))))
 
 pub returns-else-end-eq1-clause-torn : goal.returns-else-end-eq1-clause-torn
 returns-else-end-eq1-clause-torn g c =
