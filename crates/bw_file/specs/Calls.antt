@@ -1,5 +1,6 @@
 -- The calls that a store gets, in their order.
 use Rattle.std.specs.Prelude.{◌≡◌, ℕ, ◌≤◌, List, ◌++◌, length, take, Option, Some}
+use Rattle.bw_file.specs.Stores.{raised}
 
 -- a call on a name; of a write its offset and how many bytes
 pub data StoreCall : Type 0 where
@@ -16,6 +17,12 @@ pub record Ends (plan all : List StoreCall) (before : Option (List StoreCall)) :
 -- Where the store has noted all its calls, these came last.
 abbrev pub Asks : List StoreCall → Option (List StoreCall) → Option (List StoreCall) → Type 0
 Asks plan before after = (all : List StoreCall) → after ≡ Some all → Ends plan all before
+
+-- The store got these calls: its count rose by as many, and its notes end with them.
+pub record Gets (plan : List StoreCall) (count_before count_after : ℕ)
+    (before after : Option (List StoreCall)) : Type 0 where
+  pub counted : count_after ≡ raised count_before (length plan)
+  pub noted : Asks plan before after
 
 -- a front of these calls
 pub record EndsFirst (plan all : List StoreCall) (before : Option (List StoreCall)) : Type 0 where

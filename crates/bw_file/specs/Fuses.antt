@@ -1,7 +1,8 @@
 -- Which calls of a store behind fuses fail.
-use Rattle.std.specs.Prelude.{ℕ, ◌+◌, ◌/◌, min, Bool, IsTrue, IsFalse, List, length, take, ◌==◌}
+use Rattle.std.specs.Prelude.{ℕ, ◌/◌, Bool, true, false, IsTrue, IsFalse, List, [], length, take, ◌==◌, Option, None, if◌then◌else◌}
 use Rattle.std.specs.List.{list_any}
-use Rattle.bw_file.specs.Stores.{Counts, last_count}
+use Rattle.bw_file.specs.Stores.{Counts}
+use Rattle.bw_file.specs.Calls.{StoreCall}
 
 -- the call of this number is to fail
 abbrev pub has_fuse : List ℕ → ℕ → Bool
@@ -12,10 +13,19 @@ pub record Blows (fused fails : Bool) (inner_before inner_after : ℕ) : Type 0 
   pub at_fuse : IsTrue fused → IsTrue fails
   pub elsewhere : IsFalse fused → Counts inner_before inner_after fails
 
+-- what a store behind fuses notes: what the inner one does, as long as no fuse has blown
+abbrev pub passed_on : Bool → Option (List StoreCall) → Option (List StoreCall)
+passed_on true noted = None
+passed_on false noted = noted
+
+-- the calls that reach the inner store: none at a fuse
+abbrev pub unless_fused : Bool → List StoreCall → List StoreCall
+unless_fused fused plan = if fused then [] else plan
+
 -- the first half of some bytes, rounded down
 abbrev pub first_half : List ℕ → List ℕ
 first_half bytes = take (length bytes / 2) bytes
 
--- the count of the bytes written, which stays at its last value
-abbrev pub with_written : ℕ → ℕ → ℕ
-with_written count n = min (count + n) last_count
+-- the bytes of a write that reach the inner store: half of them at a fuse
+abbrev pub let_through : Bool → List ℕ → List ℕ
+let_through fused bytes = if fused then first_half bytes else bytes

@@ -1,7 +1,8 @@
 //! A store that fails chosen calls.
-ghost use Rattle.std.specs.Prelude.{◌≡◌, ◌<◌, ◌==◌, ℕ, List, Option, true, not, IsTrue, IfOk, OnOk, OnErr, is_err, is_ok, length, filter, if◌then◌else◌};
-ghost use Rattle.bw_file.specs.Stores.{Counts, Creates, Written, MayTear, KeepsOthers, last_count};
-ghost use Rattle.bw_file.specs.Fuses.{has_fuse, Blows, first_half, with_written};
+ghost use Rattle.std.specs.Prelude.{◌≡◌, ◌<◌, ◌==◌, ◌||◌, ◌∷◌, [], ℕ, List, Option, true, false, not, IsTrue, IfOk, OnOk, OnErr, is_err, is_ok, length, filter, if◌then◌else◌};
+ghost use Rattle.bw_file.specs.Stores.{Counts, Creates, Written, MayTear, KeepsOthers, last_count, raised};
+ghost use Rattle.bw_file.specs.Calls.{Create, WriteAt, Finish, Asks, Gets};
+ghost use Rattle.bw_file.specs.Fuses.{has_fuse, Blows, passed_on, unless_fused, let_through, first_half};
 
 use crate::store::{Created, StoreFault, TakeStore};
 use crate::tally::Tally;
@@ -14,6 +15,8 @@ use bw_take::Name;
 pub struct FuseStore<S: TakeStore> {
     inner: S,
     fuses: Vec<u64>,
+    /// A fuse has blown, so that the inner store didn't get all calls.
+    blown: bool,
     written: u64,
     tally: Tally,
 }
@@ -23,6 +26,7 @@ impl<S: TakeStore> FuseStore<S> {
     pub fn new(inner: S, fuses: Vec<u64>) -> FuseStore<S>
         ensures inner { result.inner ≡ inner }
         ensures fuses { result.fuses.items ≡ fuses.items }
+        ensures blown { result.blown ≡ false }
         ensures calls { result.tally.calls ≡ 0 }
         ensures failures { result.tally.failures ≡ 0 }
         ensures written { result.written ≡ 0 }
@@ -30,6 +34,7 @@ impl<S: TakeStore> FuseStore<S> {
         FuseStore {
             inner,
             fuses,
+            blown: false,
             written: 0,
             tally: Tally::new(),
         }
@@ -49,6 +54,13 @@ impl<S: TakeStore> FuseStore<S> {
         self.written
     }
 
+    /// Whether a fuse has blown.
+    pub fn has_blown(&self) -> bool
+        ensures { result ≡ self.now.blown }
+    {
+        self.blown
+    }
+
     /// The store behind the fuses.
     pub fn inner(&self) -> &S
         ensures { result.now ≡ self.now.inner }
@@ -63,6 +75,7 @@ impl<S: TakeStore> FuseStore<S> {
         let FuseStore {
             inner,
             fuses: _,
+            blown: _,
             written: _,
             tally: _,
         } = self;
@@ -77,11 +90,16 @@ impl<S: TakeStore> TakeStore for FuseStore<S> {
 
     ghost calls = { λ s. s.tally.calls };
 
+    ghost asked = { λ s. passed_on s.blown (S.asked s.inner) };
+
     ghost honest = { λ s. S.honest s.inner };
 
     fn create(&mut self, name: &Name) -> Result<Created, StoreFault>
         ensures failures { Counts self.old.tally.failures self.new.tally.failures (is_err result) }
         ensures calls { Counts self.old.tally.calls self.new.tally.calls true }
+        ensures asked { Asks (Create name.now ∷ [])
+            (passed_on self.old.blown (S.asked self.old.inner))
+            (passed_on self.new.blown (S.asked self.new.inner)) }
         ensures honest { S.honest self.new.inner ≡ S.honest self.old.inner }
         ensures created { IsTrue (S.honest self.old.inner) → IfOk result (λ c.
             Creates c (S.contents self.old.inner name.now) (S.contents self.new.inner name.now)) }
@@ -93,11 +111,19 @@ impl<S: TakeStore> TakeStore for FuseStore<S> {
             (S.failures self.old.inner) (S.failures self.new.inner) }
         ensures untouched { IsTrue (has_fuse self.old.fuses.items self.old.tally.calls) →
             self.new.inner ≡ self.old.inner }
+        ensures inner { Gets
+            (unless_fused (has_fuse self.old.fuses.items self.old.tally.calls)
+            (Create name.now ∷ []))
+            (S.calls self.old.inner) (S.calls self.new.inner)
+            (S.asked self.old.inner) (S.asked self.new.inner) }
+        ensures blown { self.new.blown ≡ (self.old.blown
+            || has_fuse self.old.fuses.items self.old.tally.calls) }
         ensures spent { self.new.fuses.items
             ≡ filter (λ f. not (f == self.old.tally.calls)) self.old.fuses.items }
         ensures written { self.new.written ≡ self.old.written }
     {
         let answer = if blow(&mut self.fuses, self.tally.calls()) {
+            self.blown = true;
             Err(StoreFault)
         } else {
             self.inner.create(name)
@@ -109,6 +135,9 @@ impl<S: TakeStore> TakeStore for FuseStore<S> {
     fn write_at(&mut self, name: &Name, offset: u64, bytes: &[u8]) -> Result<(), StoreFault>
         ensures failures { Counts self.old.tally.failures self.new.tally.failures (is_err result) }
         ensures calls { Counts self.old.tally.calls self.new.tally.calls true }
+        ensures asked { Asks (WriteAt name.now offset (length bytes.now) ∷ [])
+            (passed_on self.old.blown (S.asked self.old.inner))
+            (passed_on self.new.blown (S.asked self.new.inner)) }
         ensures honest { S.honest self.new.inner ≡ S.honest self.old.inner }
         ensures all { IsTrue (S.honest self.old.inner) → OnOk result (Written
             (S.contents self.old.inner name.now) offset bytes.now
@@ -126,13 +155,21 @@ impl<S: TakeStore> TakeStore for FuseStore<S> {
             S.failures self.new.inner ≡ S.failures self.old.inner →
             Written (S.contents self.old.inner name.now) offset (first_half bytes.now)
             (S.contents self.new.inner name.now) }
+        ensures inner { Gets
+            (WriteAt name.now offset (length (let_through
+            (has_fuse self.old.fuses.items self.old.tally.calls) bytes.now)) ∷ [])
+            (S.calls self.old.inner) (S.calls self.new.inner)
+            (S.asked self.old.inner) (S.asked self.new.inner) }
+        ensures blown { self.new.blown ≡ (self.old.blown
+            || has_fuse self.old.fuses.items self.old.tally.calls) }
         ensures spent { self.new.fuses.items
             ≡ filter (λ f. not (f == self.old.tally.calls)) self.old.fuses.items }
         ensures written { self.new.written ≡ (if is_ok result
-            then with_written self.old.written (length bytes.now)
+            then raised self.old.written (length bytes.now)
             else self.old.written) }
     {
         let answer = if blow(&mut self.fuses, self.tally.calls()) {
+            self.blown = true;
             write_half(&mut self.inner, name, offset, bytes);
             Err(StoreFault)
         } else {
@@ -148,6 +185,9 @@ impl<S: TakeStore> TakeStore for FuseStore<S> {
     fn finish(&mut self, name: &Name) -> Result<(), StoreFault>
         ensures failures { Counts self.old.tally.failures self.new.tally.failures (is_err result) }
         ensures calls { Counts self.old.tally.calls self.new.tally.calls true }
+        ensures asked { Asks (Finish name.now ∷ [])
+            (passed_on self.old.blown (S.asked self.old.inner))
+            (passed_on self.new.blown (S.asked self.new.inner)) }
         ensures honest { S.honest self.new.inner ≡ S.honest self.old.inner }
         ensures unchanged { IsTrue (S.honest self.old.inner) → (other : List ℕ) →
             S.contents self.new.inner other ≡ S.contents self.old.inner other }
@@ -155,11 +195,19 @@ impl<S: TakeStore> TakeStore for FuseStore<S> {
             (S.failures self.old.inner) (S.failures self.new.inner) }
         ensures untouched { IsTrue (has_fuse self.old.fuses.items self.old.tally.calls) →
             self.new.inner ≡ self.old.inner }
+        ensures inner { Gets
+            (unless_fused (has_fuse self.old.fuses.items self.old.tally.calls)
+            (Finish name.now ∷ []))
+            (S.calls self.old.inner) (S.calls self.new.inner)
+            (S.asked self.old.inner) (S.asked self.new.inner) }
+        ensures blown { self.new.blown ≡ (self.old.blown
+            || has_fuse self.old.fuses.items self.old.tally.calls) }
         ensures spent { self.new.fuses.items
             ≡ filter (λ f. not (f == self.old.tally.calls)) self.old.fuses.items }
         ensures written { self.new.written ≡ self.old.written }
     {
         let answer = if blow(&mut self.fuses, self.tally.calls()) {
+            self.blown = true;
             Err(StoreFault)
         } else {
             self.inner.finish(name)
@@ -181,6 +229,8 @@ fn blow(fuses: &mut Vec<u64>, call: u64) -> bool
 
 /// Writes the first half of the bytes, whether or not the store takes it.
 fn write_half<S: TakeStore>(store: &mut S, name: &Name, offset: u64, bytes: &[u8])
+    ensures gets { Gets (WriteAt name.now offset (length (first_half bytes.now)) ∷ [])
+        (S.calls store.old) (S.calls store.new) (S.asked store.old) (S.asked store.new) }
     ensures honest { S.honest store.new ≡ S.honest store.old }
     ensures torn { IsTrue (S.honest store.old) → MayTear
         (S.contents store.old name.now) offset (length bytes.now) (S.contents store.new name.now) }

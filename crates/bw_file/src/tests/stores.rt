@@ -35,7 +35,9 @@ fn a_memory_store_keeps_what_is_written(rt: HostRuntime) -> Result<(), Fail> {
 fn a_fuse_fails_its_call_once_and_lets_half_a_write_through(rt: HostRuntime) -> Result<(), Fail> {
     let a = Name::new(b"a").ok_or("a name")?;
     let mut store = FuseStore::new(MemoryStore::new(rt.alloc()), vec![in rt.alloc(); 3, 0, 5]?);
+    assert!(rt; !store.has_blown());
     assert!(rt; store.create(&a).is_err());
+    assert!(rt; store.has_blown());
     assert!(rt; store.inner().content(&a).is_none());
     assert_eq!(rt; store.create(&a)?, Created::New);
     store.write_at(&a, 0, b"abcdef")?;
