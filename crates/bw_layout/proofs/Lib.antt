@@ -1,6 +1,7 @@
 pub mod AroundBext
 pub mod BextParts
 pub mod FieldPlaces
+pub mod FieldRanges
 pub mod FieldsBack
 pub mod Forms
 pub mod HeaderKinds

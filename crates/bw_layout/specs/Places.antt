@@ -1,5 +1,5 @@
 -- Where the fields of `bext` stand in a file.
-use Rattle.std.specs.Prelude.{◌≡◌, ℕ, ◌+◌, ◌-◌, List, [], ◌++◌, take, drop, slice_range, slice_index_or, nat_le, if◌then◌else◌}
+use Rattle.std.specs.Prelude.{◌≡◌, ℕ, zero, suc, ◌+◌, ◌-◌, Option, None, List, [], ◌∷◌, ◌++◌, take, drop, slice_get, slice_range, slice_index_or, nat_le, if◌then◌else◌}
 use Rattle.std.specs.List.{concat}
 use Rattle.bw_model.specs.Bytes.{le16, zeros}
 use Rattle.bw_model.specs.Take.{Format, AreFields, with_field}
@@ -14,6 +14,28 @@ from_version fields =
 -- the bytes of a header that the field under a tag has a say in
 abbrev pub bytes_of : ℕ → List (List ℕ) → List ℕ
 bytes_of tag fields = if nat_le tag 7 then slice_index_or fields (tag - 1) [] else from_version fields
+
+-- The place and the number of the bytes that a field has a say in, by its tag from 1 on.
+abbrev pub field_ranges : List (ℕ × ℕ)
+field_ranges =
+    (80, 256)  -- Description
+    ∷ (336, 32)  -- Originator
+    ∷ (368, 32)  -- OriginatorReference
+    ∷ (400, 10)  -- OriginationDate
+    ∷ (410, 8)  -- OriginationTime
+    ∷ (418, 8)  -- TimeReference
+    ∷ (428, 64)  -- UMID
+    ∷ (426, 76)  -- LoudnessValue: from Version on, which tells whether one is given
+    ∷ (426, 76)  -- LoudnessRange
+    ∷ (426, 76)  -- MaxTruePeakLevel
+    ∷ (426, 76)  -- MaxMomentaryLoudness
+    ∷ (426, 76)  -- MaxShortTermLoudness
+    ∷ []
+
+-- the range under a tag
+abbrev pub range_of : ℕ → Option (ℕ × ℕ)
+range_of zero = None
+range_of (suc n) = slice_get field_ranges n
 
 -- In each header these bytes are the field's, and setting the field changes no others.
 pub record StandsAt (tag place count : ℕ) : Type 0 where

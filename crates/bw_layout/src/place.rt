@@ -1,12 +1,13 @@
 //! Where the fields of `bext` stand in a file.
 ghost use Rattle.std.specs.Prelude.{◌≡◌, ◌+◌, ◌≤◌, IfSome, is_some};
 ghost use Rattle.bw_model.specs.Take.{shape_of};
-ghost use Rattle.bw_layout.specs.Places.{StandsAt};
+ghost use Rattle.bw_layout.specs.Places.{StandsAt, range_of};
 
 /// The place in a file of the bytes that a field of `bext` has a say in, and how many they are.
 ///
 /// For the loudness they are those from Version on, since Version tells whether one is given.
 pub fn field_place(tag: u8) -> Option<(u64, u64)>
+    ensures place { result ≡ range_of tag }
     ensures known { is_some result ≡ is_some (shape_of tag) }
     ensures stands { IfSome result (λ p. StandsAt tag p.0 p.1) }
     ensures range { IfSome result (λ p. p.0 + p.1 ≤ 690) }
