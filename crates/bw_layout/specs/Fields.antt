@@ -1,5 +1,5 @@
 -- The setting of a field of `bext`.
-use Rattle.std.specs.Prelude.{◌≡◌, ℕ, Bool, ◌==◌, if◌then◌else◌, Option, Some, Result, List, option_map, OnOk, OnErr}
+use Rattle.std.specs.Prelude.{◌≡◌, ℕ, Bool, ◌==◌, if◌then◌else◌, Option, Some, Result, List, codes, option_map, OnOk, OnErr}
 use Rattle.std.specs.Char.{is_ascii_digit}
 use Rattle.bw_model.specs.Bytes.{unless}
 use Rattle.bw_model.specs.Take.{Shape, FieldFault, BadTag, BadLength, BadText, shape_fault, field_bytes}
@@ -11,6 +11,18 @@ abbrev pub error_of : FieldFault → FieldError
 error_of BadTag = E.Tag
 error_of BadLength = E.Length
 error_of BadText = E.Text
+
+-- the number of an error
+abbrev pub error_code : FieldError → ℕ
+error_code E.Tag = 1
+error_code E.Length = 2
+error_code E.Text = 3
+
+-- an error as it is printed
+abbrev pub error_text : FieldError → List ℕ
+error_text E.Tag = codes "no field has this tag"
+error_text E.Length = codes "the field takes no value of this length"
+error_text E.Text = codes "a byte of the value isn't allowed at its place"
 
 -- what a call that may meet a fault answers
 abbrev pub answer_of : Option FieldFault → Result (Unit {0}) FieldError

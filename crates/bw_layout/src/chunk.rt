@@ -1,5 +1,5 @@
 //! The ids and heads of chunks (RIFF, chapter 2, "Chunks").
-ghost use Rattle.std.specs.Prelude.{◌+◌, ◌≤◌, length, vec_len, vec_capacity};
+ghost use Rattle.std.specs.Prelude.{◌≡◌, ◌+◌, ◌≤◌, Some, codes, length, vec_len, vec_capacity};
 ghost use Rattle.std.specs.Result.{OkIff};
 ghost use Rattle.bw_model.specs.Layout.{head as head_bytes};
 ghost use Rattle.bw_layout.specs.Appending.{Gains, Appends};
@@ -38,7 +38,18 @@ pub struct ChunkHead {
 #[derive(Clone, Copy, Debug, PartialEq, Eq)]
 pub struct Short;
 
+impl Short {
+    /// Its number.
+    pub fn code(self) -> u8
+        ensures { result ≡ 1 }
+    {
+        1
+    }
+}
+
 impl fmt::Display for Short {
+    ghost output = { λ _. Some (codes "too few bytes") };
+
     fn fmt<W: fmt::Write>(&self, f: &mut fmt::Formatter<W>) -> fmt::Result {
         f.write_str("too few bytes")
     }

@@ -1,9 +1,9 @@
 //! One field of `bext` (EBU Tech 3285, Broadcast Audio Extension): which values it takes, and how they stand in it.
-ghost use Rattle.std.specs.Prelude.{◌≡◌, ℕ, ◌-◌, ◌≤◌, ◌++◌, length};
+ghost use Rattle.std.specs.Prelude.{◌≡◌, ℕ, ◌-◌, ◌≤◌, ◌++◌, Some, length};
 ghost use Rattle.bw_model.specs.Bytes.{zeros};
 ghost use Rattle.bw_model.specs.Take.{Text, Digits, Whole, Maybe, Level, matches, is_printable};
 ghost use Rattle.std.specs.List.{list_all};
-ghost use Rattle.bw_layout.specs.Fields.{SetsField, fits_place};
+ghost use Rattle.bw_layout.specs.Fields.{SetsField, error_code, error_text, fits_place};
 
 use std::error::Error;
 use std::fmt;
@@ -19,7 +19,19 @@ pub enum FieldError {
     Text = 3,
 }
 
+impl FieldError {
+    /// Its number.
+    pub fn code(self) -> u8
+        ensures value { result ≡ error_code self }
+        ensures range { result ≤ 3 }
+    {
+        self as u8
+    }
+}
+
 impl fmt::Display for FieldError {
+    ghost output = { λ error. Some (error_text error) };
+
     fn fmt<W: fmt::Write>(&self, f: &mut fmt::Formatter<W>) -> fmt::Result {
         f.write_str(match self {
             FieldError::Tag => "no field has this tag",
