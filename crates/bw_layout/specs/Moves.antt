@@ -1,5 +1,6 @@
 -- What readers and writers do to the bytes that they tell, and to their count of failures.
-use Rattle.std.specs.Prelude.{◌≡◌, ℕ, ◌+◌, ◌-◌, ◌^◌, ◌<◌, ◌≤◌, List, [], ◌++◌, length, take, drop, Option, Some, Result, is_ok, if◌then◌else◌, nat_lt}
+use Rattle.std.specs.Prelude.{◌≡◌, ℕ, ◌+◌, ◌-◌, ◌^◌, ◌<◌, ◌≤◌, List, [], ◌++◌, length, take, drop, min, Option, Some, Result, Ok, Err, IfOk, is_ok, if◌then◌else◌, nat_lt}
+use Rattle.std.specs.Io.Seek.{MovesTo}
 
 -- one more failure; the last value stays
 abbrev pub one_more : ℕ → ℕ
@@ -8,6 +9,11 @@ one_more n = if nat_lt n (2 ^ 64 - 1) then n + 1 else n
 -- the count of failures after a call: it rises exactly where the call failed
 abbrev pub failures_after : {X E : Type 0} → Result X E → ℕ → ℕ
 failures_after result n = if is_ok result then n else one_more n
+
+-- the bytes that were read or passed over, counted after a call that answers how many those were; the last value stays
+abbrev pub moved_after : {E : Type 0} → Result ℕ E → ℕ → ℕ
+moved_after (Ok n) m = min (m + n) (2 ^ 64 - 1)
+moved_after (Err e) m = m
 
 -- told bytes stay as they were
 abbrev pub Keeps : Option (List ℕ) → Option (List ℕ) → Type 0
@@ -33,6 +39,13 @@ pub record IsSkipped (xs : List ℕ) (most n : ℕ) (left : Option (List ℕ)) :
 -- a reader that tells its bytes passed over the next n of them
 abbrev pub Skips : Option (List ℕ) → ℕ → ℕ → Option (List ℕ) → Type 0
 Skips old most n new = (xs : List ℕ) → old ≡ Some xs → IsSkipped xs most n new
+
+-- Within so many bytes a skip seeks: it passes over as many as are wanted and there are, and moves a known position
+-- to the place behind them.
+abbrev pub SeeksOver : {E : Type 0} → ℕ → ℕ → ℕ → Option ℕ → Option ℕ → Result ℕ E → Type 0
+SeeksOver place len most old new result =
+    let count = min most (len - place) in
+    0 < count → IfOk result (λ n. n ≡ count) × MovesTo old new (place + count) result
 
 -- a writer that tells its bytes has these behind them
 abbrev pub Writes : Option (List ℕ) → List ℕ → Option (List ℕ) → Type 0

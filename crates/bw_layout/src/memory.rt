@@ -8,18 +8,22 @@ use crate::source::{IoFailed, Source};
 #[derive(Drop)]
 pub struct MemorySource<'a> {
     bytes: &'a [u8],
+    moved: u64,
 }
 
 impl<'a> MemorySource<'a> {
     pub fn new(bytes: &'a [u8]) -> MemorySource<'a>
-        ensures { result.bytes.now ≡ bytes.now }
+        ensures bytes { result.bytes.now ≡ bytes.now }
+        ensures moved { result.moved ≡ 0 }
     {
-        MemorySource { bytes }
+        MemorySource { bytes, moved: 0 }
     }
 }
 
 impl<'a> Source for MemorySource<'a> {
     ghost left = { λ s. Some s.bytes.now };
+
+    ghost moved = { λ s. s.moved };
 
     ghost failures = { λ s. 0 };
 
@@ -28,12 +32,14 @@ impl<'a> Source for MemorySource<'a> {
         let (piece, rest) = self.bytes.split_at(count);
         buf[..count].copy_from_slice(piece);
         self.bytes = rest;
+        self.moved = self.moved.saturating_add(count as u64);
         Ok(count)
     }
 
     fn skip(&mut self, most: u64) -> Result<u64, IoFailed> {
         let count = most.min(self.bytes.len() as u64);
         self.bytes = &self.bytes[count as usize..];
+        self.moved = self.moved.saturating_add(count);
         Ok(count)
     }
 }

@@ -1,26 +1,32 @@
 //! Readers and writers of std as a `Source` and a `Sink`.
 ghost use Rattle.std.specs.Prelude.{◌≡◌, ◌<◌, ◌≤◌, length, IfOk, OnErr};
-ghost use Rattle.bw_layout.specs.Moves.{failures_after, Keeps, Reads, Skips};
+ghost use Rattle.bw_layout.specs.Moves.{failures_after, moved_after, Keeps, Reads, Skips};
 
 use crate::sink::Sink;
 use crate::source::{IoFailed, Source};
 use std::io::{Read, Write};
 
-/// A reader or a writer of std, with a count of its failures.
+/// A reader or a writer of std, with a count of its failures, and of the bytes that were read.
 ///
 /// A write of no byte of a piece that has some counts as a failure.
 #[derive(Drop)]
 pub struct Plain<T> {
     pub(crate) inner: T,
+    pub(crate) moved: u64,
     pub(crate) failures: u64,
 }
 
 impl<T: Drop> Plain<T> {
     pub fn new(inner: T) -> Plain<T>
         ensures inner { result.inner ≡ inner }
+        ensures moved { result.moved ≡ 0 }
         ensures failures { result.failures ≡ 0 }
     {
-        Plain { inner, failures: 0 }
+        Plain {
+            inner,
+            moved: 0,
+            failures: 0,
+        }
     }
 
     /// The reader or writer of std itself.
@@ -34,6 +40,7 @@ impl<T: Drop> Plain<T> {
 impl<T: Read> Plain<T> {
     fn read_counted(&mut self, buf: &mut [u8]) -> Result<usize, IoFailed>
         ensures count { self.new.failures ≡ failures_after result self.old.failures }
+        ensures moved { self.new.moved ≡ moved_after result self.old.moved }
         ensures within { IfOk result (λ n. n ≤ length buf.old) }
         ensures ok { IfOk result (λ n.
             Reads (T.remaining self.old.inner) (length buf.old) n
@@ -45,6 +52,7 @@ impl<T: Read> Plain<T> {
             self.failures = self.failures.saturating_add(1);
             return Err(IoFailed);
         };
+        self.moved = self.moved.saturating_add(count as u64);
         Ok(count)
     }
 
@@ -52,6 +60,7 @@ impl<T: Read> Plain<T> {
     pub(crate) fn read_past(&mut self, piece: &mut [u8], most: u64) -> Result<u64, IoFailed>
         requires { 0 < length piece.old }
         ensures count { self.new.failures ≡ failures_after result self.old.failures }
+        ensures moved { self.new.moved ≡ moved_after result self.old.moved }
         ensures within { IfOk result (λ n. n ≤ most) }
         ensures ok { IfOk result (λ n.
             Skips (T.remaining self.old.inner) most n (T.remaining self.new.inner)) }
@@ -66,6 +75,8 @@ impl<T: Read> Plain<T> {
 
 impl<T: Read> Source for Plain<T> {
     ghost left = { λ s. T.remaining s.inner };
+
+    ghost moved = { λ s. s.moved };
 
     ghost failures = { λ s. s.failures };
 

@@ -1,6 +1,7 @@
 //! A file as a `Source` that seeks over what it passes by.
 ghost use Rattle.std.specs.Prelude.{◌≡◌, ◌≤◌, None, IfOk, OnOk, OnErr};
-ghost use Rattle.bw_layout.specs.Moves.{failures_after};
+ghost use Rattle.std.specs.Io.Seek.{MovesTo};
+ghost use Rattle.bw_layout.specs.Moves.{failures_after, moved_after, Keeps, Skips, SeeksOver};
 
 use crate::plain::Plain;
 use crate::source::{IoFailed, Source};
@@ -8,7 +9,8 @@ use std::io::{Read, Seek, SeekFrom};
 
 /// A reader of std that seeks over what is passed by, as far as its length is known, and reads on from there.
 ///
-/// It tells no bytes, since nothing says what a reader gives after a seek.
+/// It tells no bytes, since nothing says what a reader gives after a seek, nor where one stands after a read: its
+/// own place counts what was read and passed over, and a seek goes to the place that this makes.
 #[derive(Drop)]
 pub struct SeekSource<T> {
     plain: Plain<T>,
@@ -41,6 +43,8 @@ impl<T: Seek> SeekSource<T> {
         ensures count { self.new.plain.failures ≡ failures_after result self.old.plain.failures }
         ensures ok { OnOk result (self.new.place ≡ place) }
         ensures err { OnErr result (self.new.place ≡ self.old.place) }
+        ensures seeks { MovesTo (T.stream_position self.old.plain.inner)
+            (T.stream_position self.new.plain.inner) place result }
     {
         let Ok(_) = self.plain.inner.seek(SeekFrom::Start(place)) else {
             self.plain.failures = self.plain.failures.saturating_add(1);
@@ -54,6 +58,8 @@ impl<T: Seek> SeekSource<T> {
 impl<T: Read + Seek> Source for SeekSource<T> {
     ghost left = { λ s. None };
 
+    ghost moved = { λ s. s.place };
+
     ghost failures = { λ s. s.plain.failures };
 
     fn read(&mut self, buf: &mut [u8]) -> Result<usize, IoFailed> {
@@ -62,7 +68,16 @@ impl<T: Read + Seek> Source for SeekSource<T> {
         Ok(count)
     }
 
-    fn skip(&mut self, most: u64) -> Result<u64, IoFailed> {
+    fn skip(&mut self, most: u64) -> Result<u64, IoFailed>
+        ensures count { self.new.plain.failures ≡ failures_after result self.old.plain.failures }
+        ensures moved { self.new.place ≡ moved_after result self.old.place }
+        ensures within { IfOk result (λ n. n ≤ most) }
+        ensures ok { IfOk result (λ n. Skips None most n None) }
+        ensures err { OnErr result (Keeps None None) }
+        ensures seeks { SeeksOver self.old.place self.old.len most
+            (T.stream_position self.old.plain.inner) (T.stream_position self.new.plain.inner)
+            result }
+    {
         let count = most.min(self.len.saturating_sub(self.place));
         if count > 0 {
             self.seek_to(self.place + count)?;

@@ -1,14 +1,16 @@
 //! What bytes are read from: forward, once, and with a count of the failures.
 ghost use Rattle.std.specs.Prelude.{◌≡◌, ℕ, ◌≤◌, List, length, Option, IfOk, OnErr};
-ghost use Rattle.bw_layout.specs.Moves.{failures_after, Keeps, Reads, Skips};
+ghost use Rattle.bw_layout.specs.Moves.{failures_after, moved_after, Keeps, Reads, Skips};
 
 /// A reader or a writer failed.
 #[derive(Clone, Copy, PartialEq, Eq, Debug, Drop)]
 pub struct IoFailed;
 
-/// A reader: the bytes that it has left, where it tells them, and how often it failed.
+/// A reader: the bytes that it has left, where it tells them, how many it gave or passed over, and how often it failed.
 pub trait Source {
     ghost left: { Self → Option (List ℕ) };
+
+    ghost moved: { Self → ℕ };
 
     ghost failures: { Self → ℕ };
 
@@ -18,6 +20,7 @@ pub trait Source {
     /// `IoFailed` where the reader failed: no byte was used up.
     fn read(&mut self, buf: &mut [u8]) -> Result<usize, IoFailed>
         ensures count { failures self.new ≡ failures_after result (failures self.old) }
+        ensures moved { moved self.new ≡ moved_after result (moved self.old) }
         ensures within { IfOk result (λ n. n ≤ length buf.old) }
         ensures ok { IfOk result (λ n.
             Reads (left self.old) (length buf.old) n buf.new (left self.new)) }
@@ -29,6 +32,7 @@ pub trait Source {
     /// `IoFailed` where the reader failed: no byte was used up.
     fn skip(&mut self, most: u64) -> Result<u64, IoFailed>
         ensures count { failures self.new ≡ failures_after result (failures self.old) }
+        ensures moved { moved self.new ≡ moved_after result (moved self.old) }
         ensures within { IfOk result (λ n. n ≤ most) }
         ensures ok { IfOk result (λ n. Skips (left self.old) most n (left self.new)) }
         ensures err { OnErr result (Keeps (left self.old) (left self.new)) }
