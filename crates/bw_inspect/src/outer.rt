@@ -101,7 +101,7 @@ fn read_wide<R: Source>(
         return Err(fault_at(InspectKind::Truncated, entry.place));
     }
     let mut walk = begin(alloc);
-    list_chunk(alloc, reader, 8 + size, &mut walk, entry)?;
+    list_chunk(reader, 8 + size, &mut walk, entry)?;
     let form = Form {
         id: opening.id,
         size,

@@ -114,7 +114,6 @@ pub(crate) fn read_head_at<R: Source>(
 /// # Errors
 /// Read; Memory.
 pub(crate) fn list_chunk<R: Source>(
-    _alloc: Global,
     reader: &mut R,
     end: u64,
     walk: &mut Walk,
@@ -178,6 +177,6 @@ pub(crate) fn next_chunk<R: Source>(
     let size = checked_size(end, place, kind, was_seen(&walk.known, kind), told)?;
     let entry = ListedChunk { id, place, size };
     read_content(alloc, reader, &mut walk.known, kind, entry)?;
-    list_chunk(alloc, reader, end, walk, entry)?;
+    list_chunk(reader, end, walk, entry)?;
     Ok(true)
 }
