@@ -6,6 +6,7 @@ use Rattle.std.proofs.lemmas.Bool.{le-ltb}
 use Rattle.bw_model.specs.Bytes.{first_that_holds, u16_at, u32_at, u64_at}
 use Rattle.bw_model.specs.Reading as reading
 use Rattle.bw_model.specs.Report as report
+use Rattle.bw_layout.specs.Raw.{bext_at}
 use Rattle.bw_inspect.specs.declared.chunk.ChunkKind.{ChunkKind}
 use Rattle.bw_inspect.specs.declared.chunk.ChunkKind.TheVariants.{Bext}
 use Rattle.bw_inspect.specs.Chunks.{is_cue, content_faults}
@@ -56,9 +57,8 @@ fmt_front c =
     let h = u16_front c 16 14 (lit≤ tt) in
     cc
 
--- what `bext` says stands in its first 602 bytes
-pub bext_front : (c : List ℕ) → report.raw_bext (slice_range c 0 602) ≡ report.raw_bext c
-bext_front c =
+fields_front : (c : List ℕ) → report.raw_bext (slice_range c 0 602) ≡ report.raw_bext c
+fields_front c =
     let t1 = range_front c 602 0 256 (lit≤ tt) (lit≤ tt) in
     let t2 = range_front c 602 256 288 (lit≤ tt) (lit≤ tt) in
     let t3 = range_front c 602 288 320 (lit≤ tt) (lit≤ tt) in
@@ -74,6 +74,12 @@ bext_front c =
     let l5 = u16_front c 602 420 (lit≤ tt) in
     rw (t1, t2, t3, t4, t5, t6, n1, n2, l1, l2, l3, l4, l5) refl
 
+-- what `bext` says stands in its first 602 bytes, and so do its reserved bytes
+pub bext_front : (c : List ℕ) → bext_at (slice_range c 0 602) ≡ bext_at c
+bext_front c =
+    ap (λ (x : report.RawBext). (x, slice_range (slice_range c 0 602) 422 602)) (fields_front c)
+    ∙ ap (λ (z : List ℕ). (report.raw_bext c, z)) (range_front c 602 422 602 (lit≤ tt) (lit≤ tt))
+
 -- behind a head its content begins
 pub at_start : (b : List ℕ) (e : reading.Entry) (left : Option (List ℕ)) → e.place + 8 ≤ length b → left ≡ Some (drop (e.place + 8) b) → ReadTo b e 0 left
 at_start b e left h r = record {
@@ -86,8 +92,8 @@ pub read_as : (b : List ℕ) (e e' : reading.Entry) (done : ℕ) (left : Option 
 read_as b e e' done left same r = subst (λ (x : reading.Entry). ReadTo b x done left) same r
 
 -- what `bext` tells is known
-pub bext_learned : (b : List ℕ) (e : reading.Entry) (x : report.RawBext × ℕ) (old : Facts) (left : Option (List ℕ)) → ReadTo b e e.size left → x ≡ bext_told b e → IsLearned b Bext e old (record old { bext = Some x }) left
+pub bext_learned : (b : List ℕ) (e : reading.Entry) (x : (report.RawBext × List ℕ) × ℕ) (old : Facts) (left : Option (List ℕ)) → ReadTo b e e.size left → x ≡ bext_told b e → IsLearned b Bext e old (record old { bext = Some x }) left
 bext_learned b e x old left r q = record {
   whole = plain_whole b e Bext left refl r;
-  facts = ap (λ (y : report.RawBext × ℕ). record old { bext = Some y }) q;
+  facts = ap (λ (y : (report.RawBext × List ℕ) × ℕ). record old { bext = Some y }) q;
 }

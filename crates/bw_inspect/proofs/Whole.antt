@@ -64,6 +64,7 @@ told b form w r left small s past k = record {
     };
   };
   tells = k.tells;
+  reserved = k.reserved;
   within = record { reached = s.stands.reached; within = s.stands.within; rest = s.stands.rest };
   small = small;
 }

@@ -7,20 +7,25 @@ use Rattle.bw_inspect.specs.declared.walk.Known.{Known}
 use Rattle.bw_inspect.specs.declared.walk.Samples.{Samples}
 use Rattle.bw_inspect.specs.declared.chunk.ChunkKind.{ChunkKind}
 use Rattle.bw_inspect.specs.declared.chunk.ChunkKind.TheVariants.{Fmt, Bext, Data, Cue, Other}
-use Rattle.bw_inspect.specs.Reports.{bext_by}
+use Rattle.bw_inspect.specs.declared.report.BextChunk.{BextChunk}
+use Rattle.bw_layout.specs.Raw.{bext_at}
+
+-- a `bext` chunk with its reserved bytes, and its history's length
+abbrev pub bext_kept : BextChunk → (report.RawBext × List ℕ) × ℕ
+bext_kept x = (x.fields, x.history_len)
 
 -- what is known, in the words of the definitions
 pub record Facts : Type 0 where
   pub fmt : Option report.RawFmt
   pub samples : Option (ℕ × ℕ)
-  pub bext : Option (report.RawBext × ℕ)
+  pub bext : Option ((report.RawBext × List ℕ) × ℕ)
   pub cues : Option (List report.RawCue)
 
 abbrev pub facts_of : Known → Facts
 facts_of k = record {
   fmt = k.fmt;
   samples = option_map (λ (s : Samples). (s.at, s.size)) k.samples;
-  bext = option_map bext_by k.bext;
+  bext = option_map bext_kept k.bext;
   cues = k.cues;
 }
 
@@ -39,8 +44,8 @@ fmt_told b e = report.raw_fmt (report.content_of b (Some e))
 abbrev pub samples_told : reading.Entry → ℕ × ℕ
 samples_told e = (e.place + 8, e.size)
 
-abbrev pub bext_told : List ℕ → reading.Entry → report.RawBext × ℕ
-bext_told b e = (report.raw_bext (report.content_of b (Some e)), e.size - 602)
+abbrev pub bext_told : List ℕ → reading.Entry → (report.RawBext × List ℕ) × ℕ
+bext_told b e = (bext_at (report.content_of b (Some e)), e.size - 602)
 
 abbrev pub cues_told : List ℕ → reading.Entry → List report.RawCue
 cues_told b e = report.raw_cues (report.content_of b (Some e)) 4 (u32_at (report.content_of b (Some e)) 0)

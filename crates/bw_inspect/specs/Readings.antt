@@ -9,7 +9,7 @@ use Rattle.bw_inspect.specs.declared.walk.Walk.{Walk}
 use Rattle.bw_inspect.specs.Faults.{fault_of, is_memory, is_read}
 use Rattle.bw_inspect.specs.Known.{facts_of, facts_in}
 use Rattle.bw_inspect.specs.Walks.{end_behind, seen_by}
-use Rattle.bw_inspect.specs.Reports.{told_by}
+use Rattle.bw_inspect.specs.Reports.{told_by, reserved_by, reserved_in}
 
 -- so it is of all the bytes, where the walk knows what its chunks tell
 abbrev pub Knows : Walk → (List ℕ → Type 0) → Type 0
@@ -18,6 +18,7 @@ Knows w holds = (b : List ℕ) → facts_of w.known ≡ facts_in b (seen_by w) �
 -- the chunks have no fault at the form's end, and this is their report
 pub record IsTold (b : List ℕ) (form : reading.Form) (seen : List reading.Entry) (r : Report) : Type 0 where
   pub tells : told_by r ≡ report.report_of b form seen
+  pub reserved : reserved_by r ≡ reserved_in b seen
   pub free : first_that_holds (reading.end_faults (reading.form_end form) seen) ≡ None
 
 -- at most so much of all the bytes was read
@@ -36,6 +37,8 @@ pub record HasReading (b : List ℕ) : Type 0 where
 pub record Tells (b : List ℕ) (r : Report) (left : Option (List ℕ)) : Type 0 where
   pub reading_is : HasReading b
   pub tells : told_by r ≡ report.report_of b reading_is.form reading_is.entries
+  -- and these are the reserved bytes of its `bext`
+  pub reserved : reserved_by r ≡ reserved_in b reading_is.entries
   pub within : IsReadWithin b (reading.form_end reading_is.form) left
   pub small : reading_is.form.size ≤ 2 ^ 62
 

@@ -2,8 +2,7 @@
 ghost use Rattle.std.specs.Prelude.{◌≡◌, ◌+◌, ◌^◌, ◌≤◌, ◌<◌, length, IfOk, IfErr, OnOk};
 ghost use Rattle.bw_inspect.specs.Faults.{counted};
 ghost use Rattle.bw_inspect.specs.Chunks.{Allows};
-ghost use Rattle.bw_inspect.specs.Reports.{bext_by};
-ghost use Rattle.bw_inspect.specs.Known.{HasFewCues, facts_of, fmt_told, bext_told};
+ghost use Rattle.bw_inspect.specs.Known.{HasFewCues, facts_of, fmt_told, bext_kept, bext_told};
 ghost use Rattle.bw_inspect.specs.Contents.{InContent, IsCutShort, IsLearned, IsPart, IsUnlearned, ReadTo};
 
 use crate::chunk::ChunkKind;
@@ -84,7 +83,7 @@ fn read_bext_chunk<R: Source>(reader: &mut R, entry: ListedChunk) -> Result<Bext
     requires long { 602 ≤ entry.size }
     ensures count { R.failures reader.new ≡ counted result (R.failures reader.old) }
     ensures ok { IfOk result (λ x. InContent (R.left reader.old) entry 0 (λ b.
-        ReadTo b entry entry.size (R.left reader.new) × (bext_by x ≡ bext_told b entry))) }
+        ReadTo b entry entry.size (R.left reader.new) × (bext_kept x ≡ bext_told b entry))) }
     ensures err { IfErr result (λ f. InContent (R.left reader.old) entry 0 (λ b.
         IsCutShort b entry entry.size f (R.left reader.new))) }
 {

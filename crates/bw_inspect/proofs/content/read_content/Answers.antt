@@ -2,8 +2,7 @@ use Rattle.std.proofs.Common.{◌≤◌, subst}
 use Rattle.std.proofs.lemmas.Result.{err_from_is_err_and}
 use Rattle.bw_inspect.specs.declared.chunk.ChunkKind.{ChunkKind}
 use Rattle.bw_inspect.specs.Chunks.{Allows}
-use Rattle.bw_inspect.specs.Known.{facts_of}
-use Rattle.bw_inspect.specs.Reports.{bext_by}
+use Rattle.bw_inspect.specs.Known.{bext_kept, facts_of}
 use Rattle.bw_inspect.proofs.Contents.{bext_learned}
 use Rattle.bw_inspect.proofs.CueChunks.{cues_unlearned, cues_learned}
 use Rattle.bw_inspect.proofs.content.read_content.Goals as goal
@@ -17,7 +16,7 @@ returns-in_err-read_cues-in-Cue-clause-err g c =
 pub returns-in_ok-read_bext_chunk-in-Bext-clause-ok : goal.returns-in_ok-read_bext_chunk-in-Bext-clause-ok
 returns-in_ok-read_bext_chunk-in-Bext-clause-ok g c b r =
     let k = c.in_ok-read_bext_chunk-in-Bext.ensures.ok b r in
-    rw c.in-Bext.is (bext_learned b c.args.entry (bext_by c.in_ok-read_bext_chunk-in-Bext.field-0) (facts_of c.args.known.now) _ k.0 k.1)
+    rw c.in-Bext.is (bext_learned b c.args.entry (bext_kept c.in_ok-read_bext_chunk-in-Bext.field-0) (facts_of c.args.known.now) _ k.0 k.1)
 
 pub returns-in_ok-read_cues-in-Cue-clause-ok : goal.returns-in_ok-read_cues-in-Cue-clause-ok
 returns-in_ok-read_cues-in-Cue-clause-ok g c b r =
