@@ -9,6 +9,7 @@ use Rattle.bw_model.specs.Reading as reading
 use Rattle.bw_inspect.specs.declared.chunk.ChunkKind.{ChunkKind}
 use Rattle.bw_inspect.specs.declared.chunk.ChunkKind.TheVariants.{Fmt, Bext, Data, Cue, Other}
 use Rattle.bw_inspect.specs.Chunks.{kind_by, start_faults, size_faults, content_faults}
+use Rattle.bw_inspect.specs.Walks.{faults_at}
 use Rattle.bw_inspect.specs.Known.{facts_in, has_kind, learned, fmt_told, bext_told, samples_told, cues_told}
 
 -- what an id is, by its kind
@@ -49,10 +50,10 @@ parts_by b len end seen p id size count c Cue n = rw (n, some-map (cues_told b) 
 parts_by b len end seen p id size count c Other n = simp (n.0, n.1, n.2, n.3)
 
 -- the faults at a place, in parts
-pub faults_in_parts : (b : List ℕ) (form : reading.Form) (seen : List reading.Entry) (p c : ℕ) →
-    reading.chunk_faults (length b) (reading.form_end form) seen p (reading.head_at b form p) c
-    ≡ parts (length b) (reading.form_end form) seen p (kind_by (reading.id_at b p)) (has_kind (kind_by (reading.id_at b p)) (facts_in b seen)) (reading.size_at b form p) (u32_at b (p + 8)) c
-faults_in_parts b form seen p c = parts_by b (length b) (reading.form_end form) seen p (reading.id_at b p) (reading.size_at b form p) (u32_at b (p + 8)) c (kind_by (reading.id_at b p)) (named (reading.id_at b p))
+pub faults_in_parts : (len : ℕ) (b : List ℕ) (form : reading.Form) (seen : List reading.Entry) (p c : ℕ) →
+    reading.chunk_faults len (reading.form_end form) seen p (reading.head_at b form p) c
+    ≡ parts len (reading.form_end form) seen p (kind_by (reading.id_at b p)) (has_kind (kind_by (reading.id_at b p)) (facts_in b seen)) (reading.size_at b form p) (u32_at b (p + 8)) c
+faults_in_parts len b form seen p c = parts_by b len (reading.form_end form) seen p (reading.id_at b p) (reading.size_at b form p) (u32_at b (p + 8)) c (kind_by (reading.id_at b p)) (named (reading.id_at b p))
 
 pub first_none : {X : Type 0} (xs ys : List (Bool × X)) → first_that_holds xs ≡ None → first_that_holds (xs ++ ys) ≡ first_that_holds ys
 first_none [] ys e = refl
@@ -64,19 +65,15 @@ first_some [] ys g e = cc
 first_some ((true, x) ∷ xs) ys g e = e
 first_some ((false, x) ∷ xs) ys g e = first_some xs ys g e
 
--- the faults at a place
-abbrev pub faults_at : List ℕ → reading.Form → List reading.Entry → ℕ → List (Bool × reading.Fault)
-faults_at b form seen p = reading.chunk_faults (length b) (reading.form_end form) seen p (reading.head_at b form p) (unwrap_or (reading.size_at b form p) 0)
-
 pub next_err : (b : List ℕ) (form : reading.Form) (seen : List reading.Entry) (p : ℕ) (g : reading.Fault) → p ≡ reading.next_place seen → p + 8 ≤ reading.form_end form →
-    first_that_holds (faults_at b form seen p) ≡ Some g → reading.next b form seen ≡ Err g
+    first_that_holds (faults_at (length b) b form seen p) ≡ Some g → reading.next b form seen ≡ Err g
 unfolding reading.next
 next_err b form seen p g e l f =
     let goes_on : nat_le (p + 8) (reading.form_end form) ≡ true = le-leb (p + 8) (reading.form_end form) l in
     rw (← e, goes_on, f) refl
 
 pub next_ok : (b : List ℕ) (form : reading.Form) (seen : List reading.Entry) (p : ℕ) → p ≡ reading.next_place seen → p + 8 ≤ reading.form_end form →
-    first_that_holds (faults_at b form seen p) ≡ None → reading.next b form seen ≡ Ok (Some (record { id = reading.id_at b p; place = p; size = unwrap_or (reading.size_at b form p) 0 }))
+    first_that_holds (faults_at (length b) b form seen p) ≡ None → reading.next b form seen ≡ Ok (Some (record { id = reading.id_at b p; place = p; size = unwrap_or (reading.size_at b form p) 0 }))
 unfolding reading.next
 next_ok b form seen p e l f =
     let goes_on : nat_le (p + 8) (reading.form_end form) ≡ true = le-leb (p + 8) (reading.form_end form) l in

@@ -1,5 +1,5 @@
 -- Whose fault a fault is.
-use Rattle.std.proofs.Common.{◌≡◌, ℕ, ◌+◌, ◌≤◌, arith, Bool, true, false, List, drop, Option, Some, None, refl, sym, ◌∙◌, ap}
+use Rattle.std.proofs.Common.{◌≡◌, ℕ, ◌+◌, ◌≤◌, arith, Bool, true, false, List, length, drop, Option, Some, None, refl, sym, ◌∙◌, ap}
 use Rattle.std.specs.Prelude.{option_map, is_some, not}
 use Rattle.bw_model.specs.Reading as reading
 use Rattle.bw_inspect.specs.declared.fault.InspectFault.{InspectFault}
@@ -82,18 +82,28 @@ pub told_fault : (f : InspectFault) → is_of_bytes f.kind ≡ true → (g : rea
 told_fault f e = told_by (kind_of f.kind) f.offset e
 
 -- a call halts where it stands, for a fault of the bytes
-pub halts_by_bytes : (b : List ℕ) (most place reached : ℕ) (f : InspectFault) (left : Option (List ℕ)) → reached ≤ most → left ≡ Some (drop reached b) → is_of_bytes f.kind ≡ true → Halts b most place f left
-halts_by_bytes b most place reached f left w r k = record {
+pub halts_by_bytes : (b : List ℕ) (most place reached : ℕ) (wants : ℕ → Type 0) (f : InspectFault) (left : Option (List ℕ)) → reached ≤ most → reached ≤ length b → left ≡ Some (drop reached b) → is_of_bytes f.kind ≡ true →
+    Halts b most place wants f left
+halts_by_bytes b most place reached wants f left w l r k = record {
   reached = reached;
   within = w;
+  there = l;
   rest = r;
   fails = λ t. absurd (not_both (is_read f.kind) (bytes_no_read f.kind k) t);
   memory = λ t. absurd (not_both (is_memory f.kind) (bytes_no_memory f.kind k) t);
 }
 
 -- it may have gone further
-unfoldable pub halts_further : (b : List ℕ) (most more place : ℕ) (f : InspectFault) (left : Option (List ℕ)) → most ≤ more → Halts b most place f left → Halts b more place f left
-halts_further b most more place f left w h = record { reached = h.reached; within = let x = h.within in omega arith; rest = h.rest; fails = h.fails; memory = h.memory }
+unfoldable pub halts_further : (b : List ℕ) (most more place : ℕ) (wants further : ℕ → Type 0) (f : InspectFault) (left : Option (List ℕ)) → most ≤ more → ((n : ℕ) → wants n → further n) → Halts b most place wants f left →
+    Halts b more place further f left
+halts_further b most more place wants further f left w k h = record {
+  reached = h.reached;
+  within = let x = h.within in omega arith;
+  there = h.there;
+  rest = h.rest;
+  fails = h.fails;
+  memory = λ t. let m = h.memory t in (m.0, k h.reached m.1);
+}
 
 -- bytes that were missed are no want of memory
 pub missed_no_memory : (b : List ℕ) (place n : ℕ) (cut f : InspectFault) (left : Option (List ℕ)) → IsMissed b place n cut f left → is_of_bytes cut.kind ≡ true → is_memory f.kind ≡ true → ⊥
@@ -102,10 +112,12 @@ missed_no_memory b place n cut f left m k t =
     not_both (is_memory f.kind) (ap (λ (z : InspectFault). is_memory z.kind) x.0 ∙ bytes_no_memory cut.kind k) t
 
 -- they halt a call
-pub halts_missed : (b : List ℕ) (place n most p : ℕ) (cut f : InspectFault) (left : Option (List ℕ)) → IsMissed b place n cut f left → is_of_bytes cut.kind ≡ true → place + n ≤ most → Halts b most p f left
-halts_missed b place n most p cut f left m k w = record {
+pub halts_missed : (b : List ℕ) (place n most p : ℕ) (wants : ℕ → Type 0) (cut f : InspectFault) (left : Option (List ℕ)) → IsMissed b place n cut f left → is_of_bytes cut.kind ≡ true → place + n ≤ most → place ≤ length b →
+    Halts b most p wants f left
+halts_missed b place n most p wants cut f left m k w l = record {
   reached = place + m.taken;
   within = let x = m.small in omega arith;
+  there = let x = m.there in grind arith;
   rest = m.rest;
   fails = m.fails;
   memory = λ t. absurd (missed_no_memory b place n cut f left m k t);

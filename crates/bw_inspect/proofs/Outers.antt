@@ -1,16 +1,17 @@
 -- The outer header, in the parts in which it is read.
 use Rattle.std.proofs.Common.{◌≡◌, ℕ, ◌+◌, ◌^◌, ◌≤◌, Bool, true, false, cond, ◌&&◌, List, [], ◌∷◌, ◌++◌, length, drop, Option, Some, None, Ok, Err, refl, sym, ◌∙◌, ap, lit≤, arith}
 use Rattle.std.specs.Prelude.{codes, not, nat_lt, slice_range}
-use Rattle.std.proofs.lemmas.Bool.{lt-ltb, le-ltb}
+use Rattle.std.proofs.lemmas.Bool.{lt-ltb, le-ltb, ltb-false}
 use Rattle.bw_model.specs.Bytes.{first_that_holds, u32_at}
 use Rattle.bw_model.specs.Reading as reading
 use Rattle.bw_layout.specs.declared.chunk.ChunkHead.{ChunkHead}
 use Rattle.bw_inspect.specs.declared.fault.InspectFault.{InspectFault}
 use Rattle.bw_inspect.specs.declared.fault.InspectKind.TheVariants.{NotWave}
 use Rattle.bw_inspect.specs.Faults.{fault_of, is_of_bytes}
-use Rattle.bw_inspect.specs.Places.{IsGiven, IsMissed}
+use Rattle.bw_inspect.specs.Places.{IsGiven, IsMissed, Nowhere}
 use Rattle.bw_inspect.specs.Contents.{IsStopped}
-use Rattle.bw_inspect.specs.Outers.{IsOpened, IsOutside, form_faults, names_form, opening_faults}
+use Rattle.bw_inspect.specs.Outers.{IsOpened, IsOutside, WantsDs64, form_faults, names_form, opening_faults}
+use Rattle.bw_model.proofs.ChunkSteps.{none_holds}
 use Rattle.bw_inspect.proofs.Contents.{range_front, u32_front}
 use Rattle.bw_inspect.proofs.Faults.{bytes_no_read, of_bytes, halts_by_bytes, halts_further, halts_missed}
 
@@ -42,14 +43,21 @@ pub outer_ok : (b : List ℕ) → first_that_holds (reading.outer_faults b) ≡ 
 unfolding reading.outer
 outer_ok b e = rw (reading.outer, e) refl
 
+-- memory that is wanted nowhere is wanted by none
+pub none_wanted : (b : List ℕ) (n : ℕ) → Nowhere n → WantsDs64 b n
+none_wanted b n h = absurd h
+
+-- an opening without fault is there
+pub opening_there : (b : List ℕ) → first_that_holds (opening_faults b) ≡ None → 12 ≤ length b
+opening_there b free = ltb-false (length b) 12 (none_holds (opening_faults b) free).0
+
 -- a part's first fault is that of the outer header
-pub outside_by : (b : List ℕ) (most : ℕ) (faults : List (Bool × reading.Fault)) (f : InspectFault) (left : Option (List ℕ)) → most ≤ 2 ^ 62 + 8 → most ≤ 20 + u32_at b 16 → IsStopped b most 12 faults f left →
+pub outside_by : (b : List ℕ) (most : ℕ) (wants : ℕ → Type 0) (faults : List (Bool × reading.Fault)) (f : InspectFault) (left : Option (List ℕ)) → most ≤ 2 ^ 62 + 8 → ((n : ℕ) → wants n → WantsDs64 b n) → IsStopped b most 12 wants faults f left →
     ((g : reading.Fault) → first_that_holds faults ≡ Some g → first_that_holds (reading.outer_faults b) ≡ Some g) → IsOutside b f left
 unfolding halts_further
-outside_by b most faults f left w l s k = record {
-  halts = halts_further b most (2 ^ 62 + 8) 12 f left w s.halts;
+outside_by b most wants faults f left w l s k = record {
+  halts = halts_further b most (2 ^ 62 + 8) 12 wants (WantsDs64 b) f left w l s.halts;
   fault = λ g h. outer_err b g (k g (s.fault g h));
-  memory = λ t. let x = s.halts.within in omega arith;
 }
 
 -- the first 12 bytes
@@ -68,9 +76,9 @@ all_well : (b : List ℕ) → nat_lt (length b) 12 ≡ false → names_form (rea
 all_well b a n w = rw (a, n, w) refl
 
 -- b ends before
-pub opening_missed : (b : List ℕ) (cut f : InspectFault) (left : Option (List ℕ)) → cut ≡ record { kind = NotWave; offset = 0 } → IsMissed b 0 12 cut f left → IsStopped b 12 12 (opening_faults b) f left
+pub opening_missed : (b : List ℕ) (cut f : InspectFault) (left : Option (List ℕ)) → cut ≡ record { kind = NotWave; offset = 0 } → IsMissed b 0 12 cut f left → IsStopped b 12 12 Nowhere (opening_faults b) f left
 opening_missed b cut f left q m = record {
-  halts = halts_missed b 0 12 12 12 cut f left m (ap (λ (z : InspectFault). is_of_bytes z.kind) q) (lit≤ tt);
+  halts = halts_missed b 0 12 12 12 Nowhere cut f left m (ap (λ (z : InspectFault). is_of_bytes z.kind) q) (lit≤ tt) (omega arith);
   fault = λ g h. let x = m.cuts (ap not (bytes_no_read f.kind (of_bytes f g h))) in
       short b (lt-ltb (length b) 12 x.1) ∙ (sym (ap fault_of (x.0 ∙ q)) ∙ h);
 }
@@ -88,24 +96,25 @@ opened_size b buf e = ap (λ (z : List ℕ). u32_at z 4) e ∙ u32_front b 12 4 
 -- the opening was read
 pub record IsTaken (b buf : List ℕ) (left : Option (List ℕ)) : Type 0 where
   pub there : nat_lt (length b) 12 ≡ false
+  pub long : 12 ≤ length b
   pub bytes : buf ≡ slice_range b 0 12
   pub rest : left ≡ Some (drop 12 b)
 
 pub taken : (b buf : List ℕ) (left : Option (List ℕ)) → IsGiven b 0 12 buf left → IsTaken b buf left
-taken b buf left g = record { there = le-ltb (length b) 12 (g.within (lit≤ tt)); bytes = g.bytes; rest = g.rest }
+taken b buf left g = record { there = le-ltb (length b) 12 (g.within (lit≤ tt)); long = g.within (lit≤ tt); bytes = g.bytes; rest = g.rest }
 
 -- another form
-pub other_form : (b buf : List ℕ) (f : InspectFault) (left : Option (List ℕ)) → IsTaken b buf left → names_form (slice_range buf 0 4) ≡ false → f ≡ record { kind = NotWave; offset = 0 } → IsStopped b 12 12 (opening_faults b) f left
+pub other_form : (b buf : List ℕ) (f : InspectFault) (left : Option (List ℕ)) → IsTaken b buf left → names_form (slice_range buf 0 4) ≡ false → f ≡ record { kind = NotWave; offset = 0 } → IsStopped b 12 12 Nowhere (opening_faults b) f left
 other_form b buf f left t n q = record {
-  halts = halts_by_bytes b 12 12 12 f left (lit≤ tt) t.rest (ap (λ (z : InspectFault). is_of_bytes z.kind) q);
+  halts = halts_by_bytes b 12 12 12 Nowhere f left (lit≤ tt) t.long t.rest (ap (λ (z : InspectFault). is_of_bytes z.kind) q);
   fault = λ g h. no_form b t.there (ap names_form (sym (opened_id b buf t.bytes)) ∙ n) ∙ (sym (ap fault_of q) ∙ h);
 }
 
 -- another type
 pub other_type : (b buf : List ℕ) (f : InspectFault) (left : Option (List ℕ)) → IsTaken b buf left → names_form (slice_range buf 0 4) ≡ true → reading.is_id (slice_range buf 8 12) (codes "WAVE") ≡ false →
-    f ≡ record { kind = NotWave; offset = 8 } → IsStopped b 12 12 (opening_faults b) f left
+    f ≡ record { kind = NotWave; offset = 8 } → IsStopped b 12 12 Nowhere (opening_faults b) f left
 other_type b buf f left t n w q = record {
-  halts = halts_by_bytes b 12 12 12 f left (lit≤ tt) t.rest (ap (λ (z : InspectFault). is_of_bytes z.kind) q);
+  halts = halts_by_bytes b 12 12 12 Nowhere f left (lit≤ tt) t.long t.rest (ap (λ (z : InspectFault). is_of_bytes z.kind) q);
   fault = λ g h.
       no_wave b t.there (ap names_form (sym (opened_id b buf t.bytes)) ∙ n) (ap (λ (z : List ℕ). reading.is_id z (codes "WAVE")) (sym (opened_type b buf t.bytes)) ∙ w)
       ∙ (sym (ap fault_of q) ∙ h);

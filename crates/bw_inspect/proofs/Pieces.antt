@@ -64,12 +64,13 @@ ended b k e = let l = length-drop k b in let z : length (drop k b) ≡ 0 = ap le
 
 -- b ends before the n bytes that are wanted from a place on
 pub missed : (b : List ℕ) (place d n k : ℕ) (cut : InspectFault) (left left' : Option (List ℕ)) → left ≡ Some (drop (place + d) b) → left' ≡ Some (drop k (drop (place + d) b)) → k ≡ 0 →
-    d < n → drop (place + d) b ≡ [] → is_of_bytes cut.kind ≡ true → IsMissed b place n cut cut left'
-missed b place d n k cut left left' e e' z small empty c =
+    d < n → (0 < d → place + d ≤ length b) → drop (place + d) b ≡ [] → is_of_bytes cut.kind ≡ true → IsMissed b place n cut cut left'
+missed b place d n k cut left left' e e' z small there empty c =
     let l = ended b (place + d) empty in
     record {
       taken = d;
       small = omega arith;
+      there = there;
       rest = e' ∙ ap (λ (j : ℕ). Some (drop j (drop (place + d) b))) z;
       cuts = λ h. (refl, omega arith);
       fails = λ h. absurd (not_both (is_read cut.kind) (bytes_no_read cut.kind c) h);

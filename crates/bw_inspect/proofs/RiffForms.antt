@@ -13,18 +13,19 @@ use Rattle.bw_inspect.specs.declared.walk.Walk.{Walk}
 use Rattle.bw_inspect.specs.declared.walk.Form.{Form}
 use Rattle.bw_inspect.specs.Faults.{fault_of, is_of_bytes}
 use Rattle.bw_inspect.specs.Chunks.{sizes_of}
+use Rattle.bw_inspect.specs.Places.{Nowhere}
 use Rattle.bw_inspect.specs.Contents.{IsStopped}
-use Rattle.bw_inspect.specs.Outers.{Begins, IsOpened, IsOutside, form_faults, opening_faults}
+use Rattle.bw_inspect.specs.Outers.{Begins, IsOpened, IsOutside, WantsDs64, form_faults, opening_faults}
 use Rattle.bw_inspect.specs.Walks.{form_of}
-use Rattle.bw_inspect.proofs.Faults.{halts_by_bytes, no_memory}
+use Rattle.bw_inspect.proofs.Faults.{halts_by_bytes}
 use Rattle.bw_inspect.proofs.ChunkFaults.{first_none, first_some, same_bytes}
-use Rattle.bw_inspect.proofs.Outers.{last_fault, later_faults, outer_err, outer_ok, outside_by, riff_parts}
+use Rattle.bw_inspect.proofs.Outers.{last_fault, later_faults, none_wanted, opening_there, outer_err, outer_ok, outside_by, riff_parts}
 use Rattle.bw_inspect.proofs.WideBegins.{IsFresh, fresh_stands}
 
 -- a fault of the first 12 bytes
-pub opening_refused : (b : List ℕ) (f : InspectFault) (left : Option (List ℕ)) → IsStopped b 12 12 (opening_faults b) f left → IsOutside b f left
+pub opening_refused : (b : List ℕ) (f : InspectFault) (left : Option (List ℕ)) → IsStopped b 12 12 Nowhere (opening_faults b) f left → IsOutside b f left
 opening_refused b f left s =
-    outside_by b 12 (opening_faults b) f left (lit≤ tt) (omega arith) s
+    outside_by b 12 Nowhere (opening_faults b) f left (lit≤ tt) (none_wanted b) s
     (λ g k. first_some (opening_faults b) ((if reading.is_riff b then reading.riff_faults b else reading.ds64_faults b) ++ later_faults b) g k)
 
 -- RIFF is none of the others
@@ -40,8 +41,7 @@ unsaid_by b v e = ap (λ (u : Bool). cond u (Some (record { kind = reading.NoSiz
 -- the size isn't told
 pub unsaid_refused : (b : List ℕ) (h : ChunkHead) (f : InspectFault) (left : Option (List ℕ)) → IsOpened b h left → reading.is_riff b ≡ true → (h.size32 == unsaid) ≡ true → f ≡ record { kind = NoSize; offset = 4 } → IsOutside b f left
 unsaid_refused b h f left o r u q = record {
-  halts = halts_by_bytes b (2 ^ 62 + 8) 12 12 f left (lit≤ tt) o.rest (ap (λ (z : InspectFault). is_of_bytes z.kind) q);
-  memory = λ t. absurd (no_memory f (ap (λ (z : InspectFault). is_of_bytes z.kind) q) t);
+  halts = halts_by_bytes b (2 ^ 62 + 8) 12 12 (WantsDs64 b) f left (lit≤ tt) (opening_there b o.free) o.rest (ap (λ (z : InspectFault). is_of_bytes z.kind) q);
   fault = λ g k.
       outer_err b g (behind_opening b h left o r ∙ first_some (reading.riff_faults b) (later_faults b) g
       (unsaid_by b true (ap (λ (n : ℕ). n == unsaid) (sym o.tells) ∙ u) ∙ (sym (ap fault_of q) ∙ k)));
@@ -65,8 +65,7 @@ said b h left o r u =
 -- the size can't be
 pub size_refused : (b : List ℕ) (h : ChunkHead) (f : InspectFault) (left : Option (List ℕ)) → IsOpened b h left → IsSaid b h → is_of_bytes f.kind ≡ true → fault_of f ≡ first_that_holds (form_faults h.size32) → IsOutside b f left
 size_refused b h f left o s k q = record {
-  halts = halts_by_bytes b (2 ^ 62 + 8) 12 12 f left (lit≤ tt) o.rest k;
-  memory = λ t. absurd (no_memory f k t);
+  halts = halts_by_bytes b (2 ^ 62 + 8) 12 12 (WantsDs64 b) f left (lit≤ tt) (opening_there b o.free) o.rest k;
   fault = λ g t.
       outer_err b g (s.later ∙ first_some (form_faults (reading.form_size_at b)) (last_fault b) g (ap (λ (n : ℕ). first_that_holds (form_faults n)) s.size_is ∙ (sym q ∙ t)));
 }
@@ -87,5 +86,5 @@ riff_begins b h form w left o s i n z free f =
           ∙ (ap (λ (y : List ℕ). Ok (record { id = y; size = reading.form_size_at b; sizes = None })) (sym o.spells ∙ sym i)
           ∙ (ap (λ (k : ℕ). Ok (record { id = form.id; size = k; sizes = None })) (s.size_is ∙ sym n)
           ∙ ap (λ (y : Option Ds64). Ok (record { id = form.id; size = form.size; sizes = sizes_of y })) (sym z))));
-      stands = fresh_stands b (form_of form) w left f (omega arith) o.rest;
+      stands = fresh_stands b (form_of form) w left f (omega arith) (opening_there b o.free) o.rest;
     }

@@ -10,7 +10,7 @@ use Rattle.std.specs.Prelude.{slice_range}
 use Rattle.bw_inspect.specs.declared.fault.InspectFault.{InspectFault}
 use Rattle.bw_inspect.specs.declared.fault.InspectKind.TheVariants.{NoDs64, BadDs64}
 use Rattle.bw_inspect.specs.Faults.{fault_of, is_of_bytes}
-use Rattle.bw_inspect.specs.Places.{IsMissed}
+use Rattle.bw_inspect.specs.Places.{IsMissed, Nowhere}
 use Rattle.bw_inspect.specs.Contents.{IsStopped}
 use Rattle.bw_inspect.specs.Tables.{IsDs64Head, ds64_head_faults}
 use Rattle.bw_inspect.specs.Walks.{IsHead}
@@ -43,27 +43,27 @@ good_head : (b : List ℕ) → nat_lt (length b) 20 ≡ false → reading.is_id 
 good_head b a i s = rw (a, i, s) refl
 
 -- b ends before the head's end
-pub head_missed : (b : List ℕ) (cut f : InspectFault) (left : Option (List ℕ)) → cut ≡ record { kind = NoDs64; offset = 12 } → IsMissed b 12 8 cut f left → IsStopped b 20 12 (ds64_head_faults b) f left
-head_missed b cut f left q m = record {
-  halts = halts_missed b 12 8 20 12 cut f left m (ap (λ (z : InspectFault). is_of_bytes z.kind) q) (lit≤ tt);
+pub head_missed : (b : List ℕ) (cut f : InspectFault) (left : Option (List ℕ)) → cut ≡ record { kind = NoDs64; offset = 12 } → IsMissed b 12 8 cut f left → 12 ≤ length b → IsStopped b 20 12 Nowhere (ds64_head_faults b) f left
+head_missed b cut f left q m l = record {
+  halts = halts_missed b 12 8 20 12 Nowhere cut f left m (ap (λ (z : InspectFault). is_of_bytes z.kind) q) (lit≤ tt) l;
   fault = λ g h. let x = m.cuts (ap not (bytes_no_read f.kind (of_bytes f g h))) in
       no_head b (lt-ltb (length b) 20 x.1) ∙ (sym (ap fault_of (x.0 ∙ q)) ∙ h);
 }
 
 -- another chunk stands there
 pub other_chunk : (b : List ℕ) (head : ChunkHead) (f : InspectFault) (left : Option (List ℕ)) → IsHead b 12 head left → reading.is_id head.id (codes "ds64") ≡ false → f ≡ record { kind = NoDs64; offset = 12 } →
-    IsStopped b 20 12 (ds64_head_faults b) f left
+    IsStopped b 20 12 Nowhere (ds64_head_faults b) f left
 other_chunk b head f left h i q = record {
-  halts = halts_by_bytes b 20 12 20 f left (lit≤ tt) h.rest (ap (λ (z : InspectFault). is_of_bytes z.kind) q);
+  halts = halts_by_bytes b 20 12 20 Nowhere f left (lit≤ tt) h.within h.rest (ap (λ (z : InspectFault). is_of_bytes z.kind) q);
   fault = λ g t.
       other_head b (le-ltb (length b) 20 h.within) (ap (λ (z : List ℕ). reading.is_id z (codes "ds64")) (sym h.spells) ∙ i) ∙ (sym (ap fault_of q) ∙ t);
 }
 
 -- its size can't be
 pub size_refused : (b : List ℕ) (head : ChunkHead) (f : InspectFault) (left : Option (List ℕ)) → IsHead b 12 head left → reading.is_id head.id (codes "ds64") ≡ true → bad_size head.size32 ≡ true → f ≡ record { kind = BadDs64; offset = 12 } →
-    IsStopped b 20 12 (ds64_head_faults b) f left
+    IsStopped b 20 12 Nowhere (ds64_head_faults b) f left
 size_refused b head f left h i s q = record {
-  halts = halts_by_bytes b 20 12 20 f left (lit≤ tt) h.rest (ap (λ (z : InspectFault). is_of_bytes z.kind) q);
+  halts = halts_by_bytes b 20 12 20 Nowhere f left (lit≤ tt) h.within h.rest (ap (λ (z : InspectFault). is_of_bytes z.kind) q);
   fault = λ g t.
       bad_head b (le-ltb (length b) 20 h.within) (ap (λ (z : List ℕ). reading.is_id z (codes "ds64")) (sym h.spells) ∙ i) (ap bad_size (sym h.tells) ∙ s) ∙ (sym (ap fault_of q) ∙ t);
 }

@@ -1,5 +1,5 @@
 -- A whole file.
-use Rattle.std.proofs.Common.{◌≡◌, ℕ, ◌+◌, ◌^◌, ◌<◌, ◌≤◌, Bool, true, false, List, Option, Some, None, Result, Ok, Err, refl, sym, ◌∙◌, arith, inl, inr}
+use Rattle.std.proofs.Common.{◌≡◌, ℕ, ◌+◌, ◌^◌, ◌<◌, ◌≤◌, Bool, true, false, List, length, Option, Some, None, Result, Ok, Err, refl, sym, ◌∙◌, arith, inl, inr}
 use Rattle.std.specs.Prelude.{IfErr}
 use Rattle.bw_model.specs.Bytes.{first_that_holds}
 use Rattle.bw_model.specs.Reading as reading
@@ -10,7 +10,7 @@ use Rattle.bw_inspect.specs.declared.walk.Form.{Form}
 use Rattle.bw_inspect.specs.Faults.{is_read, is_memory, is_of_bytes, fault_of}
 use Rattle.bw_inspect.specs.Walks.{IsFaulted, form_of, seen_by}
 use Rattle.bw_inspect.specs.Outers.{Begins, IsOutside}
-use Rattle.bw_inspect.specs.Readings.{HasReading, IsTold, Refuses, Tells}
+use Rattle.bw_inspect.specs.Readings.{HasReading, IsPadAbsent, IsTold, Refuses, Tells}
 use Rattle.bw_inspect.proofs.Faults.{bytes_no_read, bytes_no_memory, not_both, told_fault}
 use Rattle.bw_inspect.proofs.Finish.{next_end}
 use Rattle.bw_model.proofs.ReadingLaws.{no_fault}
@@ -20,12 +20,25 @@ pub outside_refused : (b : List ℕ) (f : InspectFault) (left : Option (List ℕ
 outside_refused b f left o = record {
   fault = λ g h. inl (o.fault g h);
   within = record { reached = o.halts.reached; within = o.halts.within; rest = o.halts.rest };
+  there = λ t. absurd (let x = o.halts.there in omega arith);
   fails = o.halts.fails;
   memory = λ t.
       let m = o.halts.memory t in
-      let place : f.offset ≡ 12 = m.0 in
-      inl (record { place_is = m.0; begun = m.1; ends = o.memory t });
+      inl (record { place_is = m.0; wants = m.1 });
 }
+
+-- past the end of the bytes lies the pad byte of the last chunk alone
+pad_absent : (b : List ℕ) (form : Form) (w : Walk) (reached : ℕ) (left : Option (List ℕ)) → Begins b form w left → length b < reached → reached ≡ reading.next_place (seen_by w) → IsPadAbsent b reached
+pad_absent b form w reached left s past p =
+    let near = s.stands.near in
+    let place = s.stands.place in
+    record {
+      form = form_of form;
+      entries = seen_by w;
+      front = record { header = s.header; chunks = s.stands.chunks };
+      wanted = p;
+      one = omega arith;
+    }
 
 -- a chunk's fault
 pub step_refused : (b : List ℕ) (form : Form) (w : Walk) (f : InspectFault) (left left' : Option (List ℕ)) → form.size ≤ 2 ^ 62 → Begins b form w left → IsFaulted b (form_of form) (seen_by w) f left' → Refuses b f left'
@@ -33,13 +46,12 @@ step_refused b form w f left left' small s k =
     let front : reading.IsFront b (form_of form) (seen_by w) = record { header = s.header; chunks = s.stands.chunks } in
     record {
       fault = λ g h. inr (form_of form, (seen_by w, (front, k.fault g h)));
-      within = record { reached = k.halts.reached; within = let x = k.halts.within in omega arith; rest = k.halts.rest };
-      fails = k.halts.fails;
+      within = record { reached = k.reached; within = let x = k.within in omega arith; rest = k.rest };
+      there = λ t. pad_absent b form w k.reached left s t (k.there t);
+      fails = k.fails;
       memory = λ t.
-          let m = k.halts.memory t in
-          let place : f.offset ≡ reading.next_place (seen_by w) = m.0 in
-          let behind = m.1 in
-          inr (record { form = form_of form; entries = seen_by w; front = front; place_is = m.0; begun = omega arith; ends = k.memory t });
+          let m = k.memory t in
+          inr (record { form = form_of form; entries = seen_by w; front = front; place_is = m.0; wants = m.1 });
     }
 
 -- a fault at the form's end
@@ -48,6 +60,7 @@ pub end_refused : (b : List ℕ) (form : Form) (w : Walk) (f : InspectFault) (le
 end_refused b form w f left small s past k e = record {
   fault = λ g h. inr (form_of form, (seen_by w, (record { header = s.header; chunks = s.stands.chunks }, next_end b (form_of form) (seen_by w) w.place (Some g) s.stands.place (omega arith) (sym e ∙ h))));
   within = record { reached = s.stands.reached; within = let x = s.stands.within in omega arith; rest = s.stands.rest };
+  there = λ t. pad_absent b form w s.stands.reached left s t (s.stands.there t ∙ s.stands.place);
   fails = λ t. absurd (not_both (is_read f.kind) (bytes_no_read f.kind k) t);
   memory = λ t. absurd (not_both (is_memory f.kind) (bytes_no_memory f.kind k) t);
 }

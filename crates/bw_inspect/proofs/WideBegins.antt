@@ -29,13 +29,15 @@ pub record IsFresh (w : Walk) : Type 0 where
   pub known : facts_of w.known ≡ nothing
 
 -- it stands behind the outer header
-pub fresh_stands : (b : List ℕ) (form : reading.Form) (w : Walk) (left : Option (List ℕ)) → IsFresh w → 4 ≤ form.size → left ≡ Some (drop 12 b) → Stands b form w left
-fresh_stands b form w left f s r = record {
+pub fresh_stands : (b : List ℕ) (form : reading.Form) (w : Walk) (left : Option (List ℕ)) → IsFresh w → 4 ≤ form.size → 12 ≤ length b → left ≡ Some (drop 12 b) → Stands b form w left
+fresh_stands b form w left f s l r = record {
   chunks = subst (λ (es : List reading.Entry). reading.FollowEachOther (reading.next b form) [] es) (sym f.chunks) tt;
   facts = f.known ∙ ap (facts_in b) (sym f.chunks);
   place = f.place ∙ ap reading.next_place (sym f.chunks);
+  near = let p = f.place in omega arith;
   reached = 12;
   within = omega arith;
+  there = λ t. absurd (omega arith);
   rest = r;
   next = λ l. r ∙ ap (λ (p : ℕ). Some (drop p b)) (sym f.place);
 }
@@ -92,5 +94,5 @@ wide_begins b h e x form w v left mid left' o r i z free to small inside f k pla
           ∙ (ap (λ (y : reading.Form). Ok y) (form_is b h e x form.size left o r)
           ∙ (ap (λ (y : List ℕ). Ok (record { id = y; size = form.size; sizes = Some (sizes_by x) })) (sym i)
           ∙ ap (λ (y : Option Ds64). Ok (record { id = form.id; size = form.size; sizes = sizes_of y })) (sym z)));
-      stands = goes_on b told w v e (Some e.size) left mid left' (fresh_stands b told w left f four o.rest) headed sized (at ∙ sym f.place) learned seen place over;
+      stands = goes_on b told w v e (Some e.size) left mid left' (fresh_stands b told w left f four (omega arith) o.rest) headed sized (at ∙ sym f.place) learned seen place over;
     }

@@ -1,5 +1,5 @@
 -- The outer header of BW64 and RF64, behind its opening.
-use Rattle.std.proofs.Common.{◌≡◌, ℕ, zero, suc, ◌+◌, ◌*◌, ◌^◌, ◌≤◌, ◌<◌, Bool, true, false, ◌||◌, List, [], ◌∷◌, ◌++◌, length, Option, Some, None, refl, sym, ◌∙◌, ap, subst, arith, lit≤, add_assoc}
+use Rattle.std.proofs.Common.{◌≡◌, ℕ, zero, suc, ◌+◌, ◌*◌, ◌^◌, ◌≤◌, ◌<◌, Bool, true, false, ◌||◌, List, [], ◌∷◌, ◌++◌, length, Option, Some, None, refl, sym, ◌∙◌, ap, subst, arith, lit≤, add_assoc, inr}
 use Rattle.std.specs.Prelude.{codes, not, nat_lt, ◌==◌, slice_range}
 use Rattle.std.specs.Int.{w32, w64, from_le_bytes}
 use Rattle.std.proofs.lemmas.Bool.{ltb-false}
@@ -9,13 +9,14 @@ use Rattle.bw_model.specs.Report.{content_of}
 use Rattle.bw_layout.specs.declared.chunk.ChunkHead.{ChunkHead}
 use Rattle.bw_inspect.specs.declared.fault.InspectFault.{InspectFault}
 use Rattle.bw_inspect.specs.Chunks.{counted_faults}
+use Rattle.bw_inspect.specs.Places.{HasGrown, Nowhere}
 use Rattle.bw_inspect.specs.Contents.{IsStopped}
-use Rattle.bw_inspect.specs.Tables.{IsDs64Head, ds64_entry, ds64_head_faults, sizes_in, table_faults}
-use Rattle.bw_inspect.specs.Outers.{IsOpened, IsOutside, opening_faults}
+use Rattle.bw_inspect.specs.Tables.{IsDs64Head, WantsEntry, ds64_entry, ds64_head_faults, sizes_in, table_faults}
+use Rattle.bw_inspect.specs.Outers.{IsOpened, IsOutside, WantsDs64, opening_faults}
 use Rattle.bw_model.proofs.ChunkSteps.{none_holds}
 use Rattle.bw_inspect.proofs.Contents.{in_content}
 use Rattle.bw_inspect.proofs.ChunkFaults.{first_none, first_some}
-use Rattle.bw_inspect.proofs.Outers.{later_faults, wide_parts, outside_by}
+use Rattle.bw_inspect.proofs.Outers.{later_faults, none_wanted, wide_parts, outside_by}
 
 -- a number of a content, in all the bytes
 
@@ -78,9 +79,9 @@ behind_opening : (b : List ℕ) (h : ChunkHead) (left : Option (List ℕ)) → I
 behind_opening b h left o r = ap first_that_holds (all_parts b r) ∙ first_none (opening_faults b) (ds64_head_faults b ++ (row_faults b ++ later_faults b)) o.free
 
 -- a fault of the head of `ds64`
-pub head_refused : (b : List ℕ) (h : ChunkHead) (f : InspectFault) (left left' : Option (List ℕ)) → IsOpened b h left → reading.is_riff b ≡ false → IsStopped b 20 12 (ds64_head_faults b) f left' → IsOutside b f left'
+pub head_refused : (b : List ℕ) (h : ChunkHead) (f : InspectFault) (left left' : Option (List ℕ)) → IsOpened b h left → reading.is_riff b ≡ false → IsStopped b 20 12 Nowhere (ds64_head_faults b) f left' → IsOutside b f left'
 head_refused b h f left left' o r s =
-    outside_by b 20 (ds64_head_faults b) f left' (lit≤ tt) (omega arith) s
+    outside_by b 20 Nowhere (ds64_head_faults b) f left' (lit≤ tt) (none_wanted b) s
     (λ g k. behind_opening b h left o r ∙ first_some (ds64_head_faults b) (row_faults b ++ later_faults b) g k)
 
 pub not_false : (v : Bool) → not v ≡ false → v ≡ true
@@ -113,13 +114,30 @@ pub behind_head : (b : List ℕ) (h : ChunkHead) (left : Option (List ℕ)) → 
     first_that_holds (reading.outer_faults b) ≡ first_that_holds (row_faults b ++ later_faults b)
 behind_head b h left o r e = behind_opening b h left o r ∙ first_none (ds64_head_faults b) (row_faults b ++ later_faults b) e
 
+pub wide_by : (b : List ℕ) → first_that_holds (opening_faults b) ≡ None → reading.is_riff b ≡ false → reading.is_wide b ≡ true
+wide_by b free r =
+    let n = none_holds (opening_faults b) free in
+    ap (λ (v : Bool). v || reading.is_wide b) (sym r) ∙ not_false (reading.is_riff b || reading.is_wide b) n.1.0
+
+-- an entry that is to be listed
+entry_wanted : (b : List ℕ) (n : ℕ) → first_that_holds (opening_faults b) ≡ None → reading.is_wide b ≡ true → first_that_holds (ds64_head_faults b) ≡ None → WantsEntry b (ds64_entry b) n → WantsDs64 b n
+entry_wanted b n opening wide head w =
+    let rows = rows_there b (head_free b head).long in
+    inr (record {
+      wide = wide;
+      opening = opening;
+      head = head;
+      free = ap (λ (k : ℕ). first_that_holds (counted_faults (20 + u32_at b 16) (ds64_entry b) 28 4096 12 reading.BadDs64 k)) (sym rows) ∙ w.free;
+      grown = subst (λ (k : ℕ). HasGrown b 48 12 k n) rows w.grown;
+    })
+
 -- a fault of its content
 pub rows_refused : (b : List ℕ) (h : ChunkHead) (e : reading.Entry) (f : InspectFault) (left mid left' : Option (List ℕ)) → IsOpened b h left → reading.is_riff b ≡ false → IsDs64Head b e mid → e.size < 2 ^ 32 →
-    IsStopped b (e.place + 8 + e.size) e.place (table_faults b e) f left' → IsOutside b f left'
+    IsStopped b (e.place + 8 + e.size) e.place (WantsEntry b e) (table_faults b e) f left' → IsOutside b f left'
 rows_refused b h e f left mid left' o r d small s =
-    let s' : IsStopped b (20 + u32_at b 16) 12 (table_faults b (ds64_entry b)) f left' =
-    subst (λ (x : reading.Entry). IsStopped b (x.place + 8 + x.size) x.place (table_faults b x) f left') d.entry s in
+    let s' : IsStopped b (20 + u32_at b 16) 12 (WantsEntry b (ds64_entry b)) (table_faults b (ds64_entry b)) f left' =
+    subst (λ (x : reading.Entry). IsStopped b (x.place + 8 + x.size) x.place (WantsEntry b x) (table_faults b x) f left') d.entry s in
     let size : e.size ≡ u32_at b 16 = ap (λ (x : reading.Entry). x.size) d.entry in
     let most : 20 + u32_at b 16 ≤ 2 ^ 62 + 8 = omega arith in
-    outside_by b (20 + u32_at b 16) (table_faults b (ds64_entry b)) f left' most (omega arith) s'
+    outside_by b (20 + u32_at b 16) (WantsEntry b (ds64_entry b)) (table_faults b (ds64_entry b)) f left' most (λ n k. entry_wanted b n o.free (wide_by b o.free r) d.free k) s'
     (λ g k. behind_head b h left o r d.free ∙ first_some (row_faults b) (later_faults b) g (sym (ap first_that_holds (rows_are b (head_free b d.free).long)) ∙ k))

@@ -1,7 +1,7 @@
 -- A BW64 or RF64 file behind its `ds64`.
-use Rattle.std.proofs.Common.{◌≡◌, ℕ, ◌+◌, ◌*◌, ◌^◌, ◌≤◌, ◌<◌, Bool, true, false, cond, ◌&&◌, ◌||◌, List, Option, Some, None, sym, ◌∙◌, ap, subst, arith, []}
+use Rattle.std.proofs.Common.{◌≡◌, ℕ, ◌+◌, ◌*◌, ◌^◌, ◌≤◌, ◌<◌, Bool, true, false, cond, ◌&&◌, List, Option, Some, None, Ok, sym, ◌∙◌, ap, subst, arith, [], inl}
 use Rattle.std.specs.Prelude.{nat_lt, ◌==◌, if◌then◌else◌}
-use Rattle.std.proofs.lemmas.Bool.{lt-ltb, ltb-false}
+use Rattle.std.proofs.lemmas.Bool.{lt-ltb, le-ltb, ltb-false}
 use Rattle.bw_model.specs.Bytes.{first_that_holds, u32_at, u64_at, unsaid}
 use Rattle.bw_model.specs.Reading as reading
 use Rattle.bw_model.specs.Report.{content_of}
@@ -11,14 +11,14 @@ use Rattle.bw_inspect.specs.declared.fault.InspectFault.{InspectFault}
 use Rattle.bw_inspect.specs.declared.fault.InspectKind.TheVariants.{Truncated}
 use Rattle.bw_inspect.specs.Faults.{fault_of, is_of_bytes}
 use Rattle.bw_inspect.specs.Chunks.{sizes_by}
-use Rattle.bw_inspect.specs.Contents.{ReadTo, IsRefused}
+use Rattle.bw_inspect.specs.Contents.{ReadTo, IsEndOf, IsRefused}
 use Rattle.bw_inspect.specs.Tables.{IsDs64Head, IsDs64Read, ds64_entry, sizes_in, table_faults}
-use Rattle.bw_inspect.specs.Outers.{IsOpened, IsOutside, form_faults, opening_faults}
+use Rattle.bw_inspect.specs.Outers.{IsOpened, IsOutside, WantsDs64, form_faults}
 use Rattle.bw_model.proofs.ChunkSteps.{none_holds}
-use Rattle.bw_inspect.proofs.Faults.{halts_by_bytes, no_memory}
+use Rattle.bw_inspect.proofs.Faults.{halts_by_bytes}
 use Rattle.bw_inspect.proofs.ChunkFaults.{first_none, first_some}
-use Rattle.bw_inspect.proofs.Outers.{last_fault, later_faults, outer_err}
-use Rattle.bw_inspect.proofs.WideForms.{IsHeadFree, behind_head, head_free, not_false, row_faults, rows_are, sizes_there}
+use Rattle.bw_inspect.proofs.Outers.{last_fault, later_faults, outer_err, outer_ok}
+use Rattle.bw_inspect.proofs.WideForms.{IsHeadFree, behind_head, head_free, row_faults, rows_are, sizes_there, wide_by}
 
 -- `ds64` was read, and what it tells is known
 pub record IsWideRead (b : List ℕ) (h : ChunkHead) (e : reading.Entry) (x : Ds64) (size : ℕ) : Type 0 where
@@ -28,11 +28,6 @@ pub record IsWideRead (b : List ℕ) (h : ChunkHead) (e : reading.Entry) (x : Ds
   pub wide : reading.is_wide b ≡ true
   pub size_is : reading.form_size_at b ≡ size
   pub later : first_that_holds (reading.outer_faults b) ≡ first_that_holds (later_faults b)
-
-wide_by : (b : List ℕ) → first_that_holds (opening_faults b) ≡ None → reading.is_riff b ≡ false → reading.is_wide b ≡ true
-wide_by b free r =
-    let n = none_holds (opening_faults b) free in
-    ap (λ (v : Bool). v || reading.is_wide b) (sym r) ∙ not_false (reading.is_riff b || reading.is_wide b) n.1.0
 
 size_by : (v w : Bool) (a c : ℕ) → v ≡ true → (if v && w then a else c) ≡ (if w then a else c)
 size_by v w a c e = ap (λ (u : Bool). if u && w then a else c) e
@@ -64,8 +59,7 @@ pub form_refused : (b : List ℕ) (h : ChunkHead) (e : reading.Entry) (x : Ds64)
 form_refused b h e x size f left w r small k q =
     let place : e.place ≡ 12 = ap (λ (z : reading.Entry). z.place) w.entry in
     record {
-      halts = halts_by_bytes b (2 ^ 62 + 8) 12 (e.place + 8 + e.size) f left (omega arith) r.rest k;
-      memory = λ t. absurd (no_memory f k t);
+      halts = halts_by_bytes b (2 ^ 62 + 8) 12 (e.place + 8 + e.size) (WantsDs64 b) f left (omega arith) r.there r.rest k;
       fault = λ g t.
           outer_err b g (w.later ∙ first_some (form_faults (reading.form_size_at b)) (last_fault b) g (ap (λ (n : ℕ). first_that_holds (form_faults n)) w.size_is ∙ (sym q ∙ t)));
     }
@@ -90,25 +84,29 @@ past_form b h e x size f left w free r small past q =
     let test : nat_lt (8 + size) (20 + u32_at b 16) ≡ true = lt-ltb (8 + size) (20 + u32_at b 16) (omega arith) in
     let f' : f ≡ record { kind = Truncated; offset = 12 } = q ∙ ap (λ (n : ℕ). record { kind = Truncated; offset = n }) place in
     record {
-      halts = halts_by_bytes b (2 ^ 62 + 8) 12 (e.place + 8 + e.size) f left (omega arith) r.rest (ap (λ (z : InspectFault). is_of_bytes z.kind) q);
-      memory = λ t. absurd (no_memory f (ap (λ (z : InspectFault). is_of_bytes z.kind) q) t);
+      halts = halts_by_bytes b (2 ^ 62 + 8) 12 (e.place + 8 + e.size) (WantsDs64 b) f left (omega arith) r.there r.rest (ap (λ (z : InspectFault). is_of_bytes z.kind) q);
       fault = λ g t. outer_err b g (last_by b h e x size true w free test ∙ (sym (ap fault_of f') ∙ t));
     }
 
 -- it couldn't be listed
-pub listed_refused : (b : List ℕ) (h : ChunkHead) (e : reading.Entry) (x : Ds64) (size : ℕ) (f : InspectFault) (left : Option (List ℕ)) → IsWideRead b h e x size → e.size < 2 ^ 32 → IsRefused b [] e f left → IsOutside b f left
-listed_refused b h e x size f left w small s =
+pub listed_refused : (b : List ℕ) (h : ChunkHead) (e : reading.Entry) (x : Ds64) (size : ℕ) (f : InspectFault) (left : Option (List ℕ)) → IsWideRead b h e x size → first_that_holds (form_faults size) ≡ None → e.size < 2 ^ 32 → e.place + 8 + e.size ≤ 8 + size → IsRefused b (IsEndOf e) [] e f left → IsOutside b f left
+listed_refused b h e x size f left w free small inside s =
     let place : e.place ≡ 12 = ap (λ (z : reading.Entry). z.place) w.entry in
     let bytes : e.size ≡ u32_at b 16 = ap (λ (z : reading.Entry). z.size) w.entry in
     let most = s.halts.within in
+    let last : nat_lt (8 + size) (20 + u32_at b 16) ≡ false = le-ltb (8 + size) (20 + u32_at b 16) (omega arith) in
+    let header : reading.outer b ≡ Ok (reading.form_at b) = outer_ok b (last_by b h e x size false w free last) in
     record {
       halts = record {
         reached = s.halts.reached;
         within = omega arith;
+        there = s.halts.there;
         rest = s.halts.rest;
         fails = s.halts.fails;
-        memory = λ t. let m = s.halts.memory t in (m.0 ∙ place, omega arith);
+        memory = λ t.
+            let m = s.halts.memory t in
+            let end : s.halts.reached ≡ 20 + u32_at b 16 = (let z = m.1 in omega arith) in
+            (m.0 ∙ place, inl (record { wide = w.wide; form = reading.form_at b; header = header; ends = end }));
       };
       fault = λ g t. absurd (let y : None ≡ Some g = s.fault g t in cc);
-      memory = λ t. omega arith;
     }

@@ -1,5 +1,5 @@
 -- What is read of a chunk's content, and what it tells.
-use Rattle.std.specs.Prelude.{◌≡◌, ℕ, ◌+◌, ◌<◌, ◌≤◌, Bool, IsTrue, List, drop, length, slice_range, Option, Some, None}
+use Rattle.std.specs.Prelude.{◌≡◌, ℕ, ◌+◌, ◌<◌, ◌≤◌, Bool, true, IsTrue, List, drop, length, slice_range, Option, Some, None}
 use Rattle.bw_model.specs.Reading as reading
 use Rattle.bw_model.specs.Bytes.{first_that_holds, u32_at}
 use Rattle.bw_model.specs.Report.{content_of}
@@ -7,8 +7,8 @@ use Rattle.bw_inspect.specs.declared.fault.InspectFault.{InspectFault}
 use Rattle.bw_inspect.specs.declared.fault.InspectKind.TheVariants.{Truncated}
 use Rattle.bw_inspect.specs.declared.chunk.ChunkKind.{ChunkKind}
 use Rattle.bw_inspect.specs.Faults.{fault_of, is_of_bytes}
-use Rattle.bw_inspect.specs.Places.{Halts}
-use Rattle.bw_inspect.specs.Chunks.{content_faults}
+use Rattle.bw_inspect.specs.Places.{Halts, HasGrown}
+use Rattle.bw_inspect.specs.Chunks.{content_faults, counted_faults, is_cue}
 use Rattle.bw_inspect.specs.Known.{Facts, learned}
 
 -- so many bytes of a chunk's content were read
@@ -26,19 +26,34 @@ pub record IsPart (b : List ℕ) (e : reading.Entry) (done n : ℕ) (got : List 
   pub to : ReadTo b e (done + n) left
 
 -- b ends before so many bytes of the chunk's content, or reading was stopped there
-pub record IsCutShort (b : List ℕ) (e : reading.Entry) (upto : ℕ) (f : InspectFault) (left : Option (List ℕ)) : Type 0 where
-  pub halts : Halts b (e.place + 8 + upto) e.place f left
+pub record IsCutShort (b : List ℕ) (e : reading.Entry) (upto : ℕ) (wants : ℕ → Type 0) (f : InspectFault) (left : Option (List ℕ)) : Type 0 where
+  pub halts : Halts b (e.place + 8 + upto) e.place wants f left
   pub cut : IsTrue (is_of_bytes f.kind) →
       (f ≡ record { kind = Truncated; offset = e.place }) × (length b < e.place + 8 + upto)
 
 -- a call stopped; where that is for the bytes, it is the first fault of these
-pub record IsStopped (b : List ℕ) (most place : ℕ) (faults : List (Bool × reading.Fault)) (f : InspectFault) (left : Option (List ℕ)) : Type 0 where
-  pub halts : Halts b most place f left
+pub record IsStopped (b : List ℕ) (most place : ℕ) (wants : ℕ → Type 0) (faults : List (Bool × reading.Fault)) (f : InspectFault) (left : Option (List ℕ)) : Type 0 where
+  pub halts : Halts b most place wants f left
   pub fault : (g : reading.Fault) → fault_of f ≡ Some g → first_that_holds faults ≡ Some g
 
 -- a call stopped in a chunk's content
-abbrev pub IsRefused : List ℕ → List (Bool × reading.Fault) → reading.Entry → InspectFault → Option (List ℕ) → Type 0
-IsRefused b faults e f left = IsStopped b (e.place + 8 + e.size) e.place faults f left
+abbrev pub IsRefused : List ℕ → (ℕ → Type 0) → List (Bool × reading.Fault) → reading.Entry → InspectFault → Option (List ℕ) → Type 0
+IsRefused b wants faults e f left = IsStopped b (e.place + 8 + e.size) e.place wants faults f left
+
+-- the chunk was read to its end
+abbrev pub IsEndOf : reading.Entry → ℕ → Type 0
+IsEndOf e reached = reached ≡ e.place + 8 + e.size
+
+-- Some of the n rows were read that a content tells at its front; the content has no fault, but that b may end in it.
+pub record WantsRows (b : List ℕ) (e : reading.Entry) (front most width : ℕ) (bad : reading.FaultKind) (n reached : ℕ) : Type 0 where
+  pub free : first_that_holds (counted_faults (e.place + 8 + e.size) e front most width bad n) ≡ None
+  pub grown : HasGrown b (e.place + 8 + front) width n reached
+
+-- some points were read of a `cue ` chunk; its content has no fault, but that b may end in it
+pub record WantsPoints (b : List ℕ) (kind : ChunkKind) (e : reading.Entry) (reached : ℕ) : Type 0 where
+  pub is : is_cue kind ≡ true
+  pub free : first_that_holds (content_faults (e.place + 8 + e.size) e.place kind (u32_at b (e.place + 8)) e.size) ≡ None
+  pub grown : HasGrown b (e.place + 12) 24 (u32_at b (e.place + 8)) reached
 
 -- the faults of a chunk's content
 abbrev pub faults_in : List ℕ → ChunkKind → reading.Entry → List (Bool × reading.Fault)
@@ -56,4 +71,4 @@ pub record IsLearned (b : List ℕ) (kind : ChunkKind) (e : reading.Entry) (old 
 
 -- the content has a fault, or wasn't read
 abbrev pub IsUnlearned : List ℕ → ChunkKind → reading.Entry → InspectFault → Option (List ℕ) → Type 0
-IsUnlearned b kind e f left = IsRefused b (faults_in b kind e) e f left
+IsUnlearned b kind e f left = IsRefused b (WantsPoints b kind e) (faults_in b kind e) e f left

@@ -1,13 +1,15 @@
 -- The outer header, in the parts in which it is read.
-use Rattle.std.specs.Prelude.{◌≡◌, ℕ, ◌+◌, ◌^◌, ◌||◌, not, Bool, false, List, [], ◌∷◌, length, drop, codes, Option, Some, None, Ok, Err, nat_lt, IsTrue, ◌≤◌}
+use Rattle.std.specs.Prelude.{◌≡◌, ℕ, ◌+◌, ◌^◌, ◌||◌, ◌⊎◌, not, Bool, true, false, List, [], ◌∷◌, length, drop, codes, Option, Some, None, Ok, Err, nat_lt}
 use Rattle.bw_model.specs.Reading as reading
 use Rattle.bw_model.specs.Bytes.{first_that_holds, u32_at}
 use Rattle.bw_layout.specs.declared.chunk.ChunkHead.{ChunkHead}
 use Rattle.bw_inspect.specs.declared.fault.InspectFault.{InspectFault}
 use Rattle.bw_inspect.specs.declared.walk.Walk.{Walk}
 use Rattle.bw_inspect.specs.declared.walk.Form.{Form}
-use Rattle.bw_inspect.specs.Faults.{fault_of, is_memory}
-use Rattle.bw_inspect.specs.Places.{Halts}
+use Rattle.bw_inspect.specs.Faults.{fault_of}
+use Rattle.bw_inspect.specs.Places.{Halts, HasGrown}
+use Rattle.bw_inspect.specs.Chunks.{counted_faults}
+use Rattle.bw_inspect.specs.Tables.{ds64_entry, ds64_head_faults}
 use Rattle.bw_inspect.specs.Walks.{Stands, form_of}
 
 -- the ids of the forms that are read
@@ -45,8 +47,28 @@ pub record Begins (b : List ℕ) (form : Form) (w : Walk) (left : Option (List �
   pub header : reading.outer b ≡ Ok (form_of form)
   pub stands : Stands b (form_of form) w left
 
--- the outer header has a fault, or wasn't read; where memory was refused, no byte behind `ds64` was read
+-- the outer header has no fault, and its `ds64` was read to its end
+pub record IsDs64Whole (b : List ℕ) (reached : ℕ) : Type 0 where
+  pub wide : reading.is_wide b ≡ true
+  pub form : reading.Form
+  pub header : reading.outer b ≡ Ok form
+  pub ends : reached ≡ 20 + u32_at b 16
+
+-- `ds64` has no fault, but that b may end in it, and some of its entries were read
+pub record HasReadEntries (b : List ℕ) (reached : ℕ) : Type 0 where
+  pub wide : reading.is_wide b ≡ true
+  pub opening : first_that_holds (opening_faults b) ≡ None
+  pub head : first_that_holds (ds64_head_faults b) ≡ None
+  pub free :
+      first_that_holds (counted_faults (20 + u32_at b 16) (ds64_entry b) 28 4096 12 reading.BadDs64 (u32_at b 44))
+      ≡ None
+  pub grown : HasGrown b 48 12 (u32_at b 44) reached
+
+-- `ds64`, or an entry of it, is to be listed
+abbrev pub WantsDs64 : List ℕ → ℕ → Type 0
+WantsDs64 b reached = IsDs64Whole b reached ⊎ HasReadEntries b reached
+
+-- the outer header has a fault, or wasn't read
 pub record IsOutside (b : List ℕ) (f : InspectFault) (left : Option (List ℕ)) : Type 0 where
-  pub halts : Halts b (2 ^ 62 + 8) 12 f left
+  pub halts : Halts b (2 ^ 62 + 8) 12 (WantsDs64 b) f left
   pub fault : (g : reading.Fault) → fault_of f ≡ Some g → reading.outer b ≡ Err g
-  pub memory : IsTrue (is_memory f.kind) → halts.reached ≤ 20 + u32_at b 16

@@ -1,5 +1,5 @@
 -- What is read at a place, and what is missed there.
-use Rattle.std.specs.Prelude.{◌≡◌, ℕ, ◌+◌, ◌<◌, ◌≤◌, IsTrue, not, List, length, drop, slice_range, Option, Some}
+use Rattle.std.specs.Prelude.{◌≡◌, ℕ, ◌+◌, ◌*◌, ◌<◌, ◌≤◌, IsTrue, not, List, length, drop, slice_range, Option, Some}
 use Rattle.bw_inspect.specs.declared.fault.InspectFault.{InspectFault}
 use Rattle.bw_inspect.specs.Faults.{is_read, is_memory}
 
@@ -26,15 +26,30 @@ pub record IsPassed (b : List ℕ) (place n : ℕ) (left : Option (List ℕ)) : 
 pub record IsMissed (b : List ℕ) (place n : ℕ) (cut f : InspectFault) (left : Option (List ℕ)) : Type 0 where
   pub taken : ℕ
   pub small : taken ≤ n
+  pub there : 0 < taken → place + taken ≤ length b
   pub rest : left ≡ Some (drop (place + taken) b)
   pub fails : IsTrue (is_read f.kind) → f.offset ≡ place + taken
   pub cuts : IsTrue (not (is_read f.kind)) → (f ≡ cut) × (length b < place + n)
 
--- A call stopped with a fault, at most so far into b: a failed read is told at the next byte that was wanted, want
--- of memory at a chunk's place, behind whose head it is met.
-pub record Halts (b : List ℕ) (most place : ℕ) (f : InspectFault) (left : Option (List ℕ)) : Type 0 where
+-- memory is wanted nowhere
+abbrev pub Nowhere : ℕ → Type 0
+Nowhere reached = ⊥
+
+-- Rows of so many bytes, from a place on, were read and are to be listed: at least one, and at most so many; b has
+-- them.
+pub record HasGrown (b : List ℕ) (from width most reached : ℕ) : Type 0 where
+  pub rows : ℕ
+  pub some : 0 < rows
+  pub few : rows ≤ most
+  pub behind : reached ≡ from + width * rows
+  pub there : reached ≤ length b
+
+-- A call stopped with a fault within b, and at most so far into it: a failed read is told at the next byte that was
+-- wanted, want of memory at a chunk's place, where a list was to grow by what was read up to there.
+pub record Halts (b : List ℕ) (most place : ℕ) (wants : ℕ → Type 0) (f : InspectFault) (left : Option (List ℕ)) : Type 0 where
   pub reached : ℕ
   pub within : reached ≤ most
+  pub there : reached ≤ length b
   pub rest : left ≡ Some (drop reached b)
   pub fails : IsTrue (is_read f.kind) → f.offset ≡ reached
-  pub memory : IsTrue (is_memory f.kind) → (f.offset ≡ place) × (place + 8 ≤ reached)
+  pub memory : IsTrue (is_memory f.kind) → (f.offset ≡ place) × wants reached

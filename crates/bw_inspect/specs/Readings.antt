@@ -1,6 +1,6 @@
 -- What reading a file answers.
-use Rattle.std.specs.Prelude.{◌≡◌, ℕ, ◌+◌, ◌^◌, ◌≤◌, ◌⊎◌, IsTrue, List, length, drop, Option, Some, None}
-use Rattle.bw_model.specs.Bytes.{first_that_holds, u32_at}
+use Rattle.std.specs.Prelude.{◌≡◌, ℕ, ◌+◌, ◌^◌, ◌<◌, ◌≤◌, ◌⊎◌, IsTrue, List, length, drop, Option, Some, None}
+use Rattle.bw_model.specs.Bytes.{first_that_holds}
 use Rattle.bw_model.specs.Reading as reading
 use Rattle.bw_model.specs.Report as report
 use Rattle.bw_inspect.specs.declared.fault.InspectFault.{InspectFault}
@@ -8,7 +8,8 @@ use Rattle.bw_inspect.specs.declared.report.Report.{Report}
 use Rattle.bw_inspect.specs.declared.walk.Walk.{Walk}
 use Rattle.bw_inspect.specs.Faults.{fault_of, is_memory, is_read}
 use Rattle.bw_inspect.specs.Known.{facts_of, facts_in}
-use Rattle.bw_inspect.specs.Walks.{end_behind, seen_by}
+use Rattle.bw_inspect.specs.Walks.{WantsChunk, seen_by}
+use Rattle.bw_inspect.specs.Outers.{WantsDs64}
 use Rattle.bw_inspect.specs.Reports.{told_by, reserved_by, reserved_in}
 
 -- so it is of all the bytes, where the walk knows what its chunks tell
@@ -42,30 +43,39 @@ pub record Tells (b : List ℕ) (r : Report) (left : Option (List ℕ)) : Type 0
   pub within : IsReadWithin b (reading.form_end reading_is.form) left
   pub small : reading_is.form.size ≤ 2 ^ 62
 
--- so many bytes end behind the head of `ds64`, and not behind its content
-pub record EndInDs64 (b : List ℕ) (place reached : ℕ) : Type 0 where
+-- at this place `ds64` stands, and it or an entry of it is to be listed
+pub record ListsDs64 (b : List ℕ) (place reached : ℕ) : Type 0 where
   pub place_is : place ≡ 12
-  pub begun : 20 ≤ reached
-  pub ends : reached ≤ 20 + u32_at b 16
+  pub wants : WantsDs64 b reached
 
--- so many bytes end behind the head of the chunk at a place, and not behind its content
-pub record EndInChunk (b : List ℕ) (place reached : ℕ) : Type 0 where
+-- at this place a further chunk stands, and it or a point of it is to be listed
+pub record ListsChunk (b : List ℕ) (place reached : ℕ) : Type 0 where
   pub form : reading.Form
   -- the chunks before it
   pub entries : List reading.Entry
   pub front : reading.IsFront b form entries
   pub place_is : place ≡ reading.next_place entries
-  pub begun : place + 8 ≤ reached
-  pub ends : reached ≤ end_behind b form entries
+  pub wants : WantsChunk b form entries reached
+
+-- the next head is wanted here, one byte behind the end of b: the pad byte of the last chunk is absent
+pub record IsPadAbsent (b : List ℕ) (reached : ℕ) : Type 0 where
+  pub form : reading.Form
+  -- the chunks before it
+  pub entries : List reading.Entry
+  pub front : reading.IsFront b form entries
+  pub wanted : reached ≡ reading.next_place entries
+  pub one : reached ≡ length b + 1
 
 -- the bytes have this fault, or weren't read
 pub record Refuses (b : List ℕ) (f : InspectFault) (left : Option (List ℕ)) : Type 0 where
   pub fault : (g : reading.Fault) → fault_of f ≡ Some g → reading.IsFault b g
   pub within : IsReadWithin b (2 ^ 62 + 8) left
+  -- and none past the end of b, but for the pad byte of its last chunk
+  pub there : length b < within.reached → IsPadAbsent b within.reached
   -- a failed read is told at the next byte that was wanted
   pub fails : IsTrue (is_read f.kind) → f.offset ≡ within.reached
-  -- want of memory at the place of the chunk that was read last: `ds64` behind the outer header, or a further one
-  pub memory : IsTrue (is_memory f.kind) → EndInDs64 b f.offset within.reached ⊎ EndInChunk b f.offset within.reached
+  -- want of memory at the place of a chunk without fault that is to be listed, or a part of it: `ds64` or a further one
+  pub memory : IsTrue (is_memory f.kind) → ListsDs64 b f.offset within.reached ⊎ ListsChunk b f.offset within.reached
 
 -- the lists are no longer than they may be, whatever the reader gave
 pub record IsBounded (r : Report) : Type 0 where

@@ -6,7 +6,7 @@ use Rattle.bw_model.specs.Bytes.{first_that_holds, u32_at, u64_at, unsaid}
 use Rattle.bw_layout.specs.Tables.{Fixed, fixed_at}
 use Rattle.bw_layout.specs.declared.sizes.Ds64.{Ds64}
 use Rattle.bw_inspect.specs.Chunks.{counted_faults, sizes_by}
-use Rattle.bw_inspect.specs.Contents.{ReadTo}
+use Rattle.bw_inspect.specs.Contents.{ReadTo, WantsRows}
 
 -- the faults of its head
 abbrev pub ds64_head_faults : List ℕ → List (Bool × reading.Fault)
@@ -29,6 +29,10 @@ pub record IsDs64Head (b : List ℕ) (e : reading.Entry) (left : Option (List �
 -- the faults of its content
 abbrev pub table_faults : List ℕ → reading.Entry → List (Bool × reading.Fault)
 table_faults b e = counted_faults (length b) e 28 4096 12 reading.BadDs64 (u32_at (content_of b (Some e)) 24)
+
+-- some entries were read, and no fault was met
+abbrev pub WantsEntry : List ℕ → reading.Entry → ℕ → Type 0
+WantsEntry b e reached = WantsRows b e 28 4096 12 reading.BadDs64 (u32_at (content_of b (Some e)) 24) reached
 
 -- the entry behind so many
 abbrev pub row_told : List ℕ → reading.Entry → ℕ → List ℕ × ℕ

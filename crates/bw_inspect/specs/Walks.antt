@@ -1,13 +1,13 @@
 -- Where a walk stands.
-use Rattle.std.specs.Prelude.{◌≡◌, ℕ, ◌+◌, ◌≤◌, ◌<◌, Bool, false, List, [], length, drop, Option, Some, Err, IsTrue, unwrap_or}
+use Rattle.std.specs.Prelude.{◌≡◌, ℕ, ◌+◌, ◌≤◌, ◌<◌, ◌⊎◌, Bool, true, false, List, [], length, drop, Option, Some, None, Ok, Err, IsTrue, unwrap_or}
 use Rattle.bw_model.specs.Reading as reading
-use Rattle.bw_model.specs.Bytes.{u32_at, even_up}
+use Rattle.bw_model.specs.Bytes.{first_that_holds, u32_at, even_up}
 use Rattle.bw_layout.specs.declared.chunk.ChunkHead.{ChunkHead}
 use Rattle.bw_inspect.specs.declared.fault.InspectFault.{InspectFault}
 use Rattle.bw_inspect.specs.declared.walk.Walk.{Walk}
 use Rattle.bw_inspect.specs.declared.walk.Form.{Form}
-use Rattle.bw_inspect.specs.Faults.{fault_of, is_memory}
-use Rattle.bw_inspect.specs.Places.{Halts}
+use Rattle.bw_inspect.specs.Faults.{fault_of, is_memory, is_read}
+use Rattle.bw_inspect.specs.Places.{HasGrown}
 use Rattle.bw_inspect.specs.Chunks.{sizes_of}
 use Rattle.bw_inspect.specs.Known.{HasFewCues, facts_of, facts_in}
 
@@ -22,7 +22,10 @@ pub record Stands (b : List ℕ) (form : reading.Form) (w : Walk) (left : Option
   pub chunks : reading.FollowEachOther (reading.next b form) [] (seen_by w)
   pub facts : facts_of w.known ≡ facts_in b (seen_by w)
   pub place : w.place ≡ reading.next_place (seen_by w)
+  -- b may lack the pad byte of the last chunk
+  pub near : w.place ≤ length b + 1
   pub reached : ℕ
+  pub there : length b < reached → reached ≡ w.place
   pub within : reached ≤ reading.form_end form
   pub rest : left ≡ Some (drop reached b)
   pub next : w.place + 8 ≤ reading.form_end form → left ≡ Some (drop w.place b)
@@ -46,6 +49,7 @@ behind e = e.place + 8 + even_up e.size
 pub record IsPassedOver (b : List ℕ) (end : ℕ) (e : reading.Entry) (left : Option (List ℕ)) : Type 0 where
   pub reached : ℕ
   pub within : reached ≤ end
+  pub there : length b < reached → reached ≡ behind e
   pub rest : left ≡ Some (drop reached b)
   pub next : behind e + 8 ≤ end → reached ≡ behind e
 
@@ -68,9 +72,33 @@ pub record Goes (b : List ℕ) (form : reading.Form) (more : Bool) (w : Walk) (l
 abbrev pub end_behind : List ℕ → reading.Form → List reading.Entry → ℕ
 end_behind b form seen = reading.next_place seen + 8 + unwrap_or (reading.size_at b form (reading.next_place seen)) 0
 
--- What comes behind the chunks seen is a fault, or wasn't read; where memory was refused, no byte behind that chunk
--- was read.
+-- the faults of the chunk at a place behind those seen, where so many bytes of b are there
+abbrev pub faults_at : ℕ → List ℕ → reading.Form → List reading.Entry → ℕ → List (Bool × reading.Fault)
+faults_at len b form seen p =
+    reading.chunk_faults len (reading.form_end form) seen p (reading.head_at b form p) (unwrap_or (reading.size_at b form p) 0)
+
+-- the chunk behind those seen has no fault, and was read to its end
+pub record IsReadWhole (b : List ℕ) (form : reading.Form) (seen : List reading.Entry) (reached : ℕ) : Type 0 where
+  pub entry : reading.Entry
+  pub comes : reading.next b form seen ≡ Ok (Some entry)
+  pub ends : reached ≡ entry.place + 8 + entry.size
+
+-- the chunk behind those seen is a `cue ` chunk without fault, but that b may end in it, and some points were read
+pub record HasReadPoints (b : List ℕ) (form : reading.Form) (seen : List reading.Entry) (reached : ℕ) : Type 0 where
+  pub is_cue : reading.is_cue (reading.head_at b form (reading.next_place seen)) ≡ true
+  pub free : first_that_holds (faults_at (end_behind b form seen) b form seen (reading.next_place seen)) ≡ None
+  pub grown : HasGrown b (reading.next_place seen + 12) 24 (u32_at b (reading.next_place seen + 8)) reached
+
+-- the chunk behind those seen, or a point of it, is to be listed
+abbrev pub WantsChunk : List ℕ → reading.Form → List reading.Entry → ℕ → Type 0
+WantsChunk b form seen reached = IsReadWhole b form seen reached ⊎ HasReadPoints b form seen reached
+
+-- what comes behind the chunks seen is a fault, or wasn't read
 pub record IsFaulted (b : List ℕ) (form : reading.Form) (seen : List reading.Entry) (f : InspectFault) (left : Option (List ℕ)) : Type 0 where
-  pub halts : Halts b (reading.form_end form) (reading.next_place seen) f left
+  pub reached : ℕ
+  pub within : reached ≤ reading.form_end form
+  pub there : length b < reached → reached ≡ reading.next_place seen
+  pub rest : left ≡ Some (drop reached b)
+  pub fails : IsTrue (is_read f.kind) → f.offset ≡ reached
+  pub memory : IsTrue (is_memory f.kind) → (f.offset ≡ reading.next_place seen) × WantsChunk b form seen reached
   pub fault : (g : reading.Fault) → fault_of f ≡ Some g → reading.next b form seen ≡ Err g
-  pub memory : IsTrue (is_memory f.kind) → halts.reached ≤ end_behind b form seen

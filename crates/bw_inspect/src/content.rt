@@ -3,6 +3,7 @@ ghost use Rattle.std.specs.Prelude.{◌≡◌, ◌+◌, ◌^◌, ◌≤◌, ◌<
 ghost use Rattle.bw_inspect.specs.Faults.{counted};
 ghost use Rattle.bw_inspect.specs.Chunks.{Allows};
 ghost use Rattle.bw_inspect.specs.Known.{HasFewCues, facts_of, fmt_told, bext_kept, bext_told};
+ghost use Rattle.bw_inspect.specs.Places.{Nowhere};
 ghost use Rattle.bw_inspect.specs.Contents.{InContent, IsCutShort, IsLearned, IsPart, IsUnlearned, ReadTo};
 
 use crate::chunk::ChunkKind;
@@ -31,7 +32,7 @@ pub(crate) fn read_part<R: Source>(
     ensures ok { OnOk result (InContent (R.left reader.old) entry done (λ b.
         IsPart b entry done (length buf.old) buf.new (R.left reader.new))) }
     ensures err { IfErr result (λ f. InContent (R.left reader.old) entry done (λ b.
-        IsCutShort b entry (done + length buf.old) f (R.left reader.new))) }
+        IsCutShort b entry (done + length buf.old) Nowhere f (R.left reader.new))) }
 {
     let cut = fault_at(InspectKind::Truncated, entry.place);
     read_at(reader, entry.place + 8 + done, buf, cut)
@@ -52,7 +53,7 @@ pub(crate) fn pass_rest<R: Source>(
     ensures ok { OnOk result (InContent (R.left reader.old) entry done (λ b.
         ReadTo b entry entry.size (R.left reader.new))) }
     ensures err { IfErr result (λ f. InContent (R.left reader.old) entry done (λ b.
-        IsCutShort b entry entry.size f (R.left reader.new))) }
+        IsCutShort b entry entry.size Nowhere f (R.left reader.new))) }
 {
     let cut = fault_at(InspectKind::Truncated, entry.place);
     skip_at(reader, entry.place + 8 + done, entry.size - done, cut)
@@ -66,7 +67,7 @@ fn read_fmt_chunk<R: Source>(reader: &mut R, entry: ListedChunk) -> Result<RawFm
     ensures ok { IfOk result (λ x. InContent (R.left reader.old) entry 0 (λ b.
         ReadTo b entry entry.size (R.left reader.new) × (x ≡ fmt_told b entry))) }
     ensures err { IfErr result (λ f. InContent (R.left reader.old) entry 0 (λ b.
-        IsCutShort b entry entry.size f (R.left reader.new))) }
+        IsCutShort b entry entry.size Nowhere f (R.left reader.new))) }
 {
     let mut front = [0; 16];
     read_part(reader, entry, 0, &mut front)?;
@@ -85,7 +86,7 @@ fn read_bext_chunk<R: Source>(reader: &mut R, entry: ListedChunk) -> Result<Bext
     ensures ok { IfOk result (λ x. InContent (R.left reader.old) entry 0 (λ b.
         ReadTo b entry entry.size (R.left reader.new) × (bext_kept x ≡ bext_told b entry))) }
     ensures err { IfErr result (λ f. InContent (R.left reader.old) entry 0 (λ b.
-        IsCutShort b entry entry.size f (R.left reader.new))) }
+        IsCutShort b entry entry.size Nowhere f (R.left reader.new))) }
 {
     let mut front = [0; 602];
     read_part(reader, entry, 0, &mut front)?;

@@ -1,8 +1,9 @@
 //! The points of a `cue ` chunk (RIFF, chapter 3).
 ghost use Rattle.std.specs.Prelude.{◌≡◌, ◌+◌, ◌*◌, ◌^◌, ◌≤◌, ◌<◌, length, IfOk, IfErr};
 ghost use Rattle.bw_inspect.specs.Faults.{counted};
+ghost use Rattle.bw_inspect.specs.Places.{HasGrown, Nowhere};
 ghost use Rattle.bw_inspect.specs.Contents.{InContent, IsCutShort, IsRefused, ReadTo};
-ghost use Rattle.bw_inspect.specs.CueContents.{HasPoints, IsCounted, IsCued, cue_faults, point_told};
+ghost use Rattle.bw_inspect.specs.CueContents.{HasPoints, WantsPoint, IsCounted, IsCued, cue_faults, point_told};
 
 use crate::content::{pass_rest, read_part};
 use crate::fault::{InspectFault, InspectKind, fault_at};
@@ -26,7 +27,7 @@ fn read_count<R: Source>(reader: &mut R, entry: ListedChunk) -> Result<u64, Insp
     ensures ok { IfOk result (λ n. InContent (R.left reader.old) entry 0 (λ b.
         IsCounted b entry n (R.left reader.new))) }
     ensures err { IfErr result (λ f. InContent (R.left reader.old) entry 0 (λ b.
-        IsRefused b (cue_faults b entry) entry f (R.left reader.new))) }
+        IsRefused b Nowhere (cue_faults b entry) entry f (R.left reader.new))) }
 {
     let mut front = [0; 4];
     read_part(reader, entry, 0, &mut front)?;
@@ -58,7 +59,7 @@ fn read_point<R: Source>(
         ReadTo b entry (4 + 24 * done + 24) (R.left reader.new)
         × (x ≡ point_told b entry done))) }
     ensures err { IfErr result (λ f. InContent (R.left reader.old) entry (4 + 24 * done) (λ b.
-        IsCutShort b entry entry.size f (R.left reader.new))) }
+        IsCutShort b entry entry.size Nowhere f (R.left reader.new))) }
 {
     let mut bytes = [0; 24];
     read_part(reader, entry, 4 + 24 * done, &mut bytes)?;
@@ -86,7 +87,8 @@ fn read_points<R: Source>(
     ensures ok { IfOk result (λ x. InContent (R.left reader.old) entry 4 (λ b.
         HasPoints b entry count x.items (R.left reader.new))) }
     ensures err { IfErr result (λ f. InContent (R.left reader.old) entry 4 (λ b.
-        IsCutShort b entry entry.size f (R.left reader.new))) }
+        IsCutShort b entry entry.size (HasGrown b (entry.place + 8 + 4) 24 count) f
+        (R.left reader.new))) }
 {
     let mut points = Vec::new(alloc);
     for done in 0..count {
@@ -114,7 +116,7 @@ pub(crate) fn read_cues<R: Source>(
     ensures ok { IfOk result (λ x. InContent (R.left reader.old) entry 0 (λ b.
         IsCued b entry x (R.left reader.new))) }
     ensures err { IfErr result (λ f. InContent (R.left reader.old) entry 0 (λ b.
-        IsRefused b (cue_faults b entry) entry f (R.left reader.new))) }
+        IsRefused b (WantsPoint b entry) (cue_faults b entry) entry f (R.left reader.new))) }
 {
     let count = read_count(reader, entry)?;
     let points = read_points(alloc, reader, entry, count)?;

@@ -1,10 +1,10 @@
 //! The `ds64` chunk, with which a BW64 or RF64 file begins (ITU-R BS.2088).
-ghost use Rattle.std.specs.Prelude.{◌≡◌, ◌+◌, ◌*◌, ◌^◌, ◌≤◌, ◌<◌, IfOk, IfErr, Some};
+ghost use Rattle.std.specs.Prelude.{◌≡◌, ◌+◌, ◌*◌, ◌^◌, ◌≤◌, ◌<◌, length, IfOk, IfErr, Some};
 ghost use Rattle.bw_inspect.specs.Faults.{counted};
-ghost use Rattle.bw_inspect.specs.Places.{AtPlace};
+ghost use Rattle.bw_inspect.specs.Places.{AtPlace, HasGrown, Nowhere};
 ghost use Rattle.bw_inspect.specs.Contents.{InContent, IsCutShort, IsRefused, IsStopped, ReadTo};
 ghost use Rattle.bw_inspect.specs.Chunks.{sizes_by};
-ghost use Rattle.bw_inspect.specs.Tables.{HasRows, IsDs64Head, IsDs64Read, IsFixed, ds64_head_faults, row_told, table_faults};
+ghost use Rattle.bw_inspect.specs.Tables.{HasRows, WantsEntry, IsDs64Head, IsDs64Read, IsFixed, ds64_head_faults, row_told, table_faults};
 
 use crate::chunk::is_named;
 use crate::content::{pass_rest, read_part};
@@ -31,7 +31,7 @@ pub(crate) fn read_ds64_head<R: Source>(reader: &mut R) -> Result<ListedChunk, I
     ensures ok { IfOk result (λ e. AtPlace (R.left reader.old) 12 (λ b.
         IsDs64Head b e (R.left reader.new))) }
     ensures err { IfErr result (λ f. AtPlace (R.left reader.old) 12 (λ b.
-        IsStopped b 20 12 (ds64_head_faults b) f (R.left reader.new))) }
+        12 ≤ length b → IsStopped b 20 12 Nowhere (ds64_head_faults b) f (R.left reader.new))) }
 {
     let head = read_head_at(reader, PLACE, fault_at(InspectKind::NoDs64, PLACE))?;
     if !is_named(head.id, *b"ds64") {
@@ -60,7 +60,7 @@ fn read_fixed<R: Source>(reader: &mut R, entry: ListedChunk) -> Result<Ds64Fixed
     ensures ok { IfOk result (λ x. InContent (R.left reader.old) entry 0 (λ b.
         IsFixed b entry x (R.left reader.new))) }
     ensures err { IfErr result (λ f. InContent (R.left reader.old) entry 0 (λ b.
-        IsRefused b (table_faults b entry) entry f (R.left reader.new))) }
+        IsRefused b Nowhere (table_faults b entry) entry f (R.left reader.new))) }
 {
     let mut front = [0; 28];
     read_part(reader, entry, 0, &mut front)?;
@@ -93,7 +93,7 @@ fn read_row<R: Source>(
         ReadTo b entry (28 + 12 * done + 12) (R.left reader.new)
         × (x ≡ row_told b entry done))) }
     ensures err { IfErr result (λ f. InContent (R.left reader.old) entry (28 + 12 * done) (λ b.
-        IsCutShort b entry entry.size f (R.left reader.new))) }
+        IsCutShort b entry entry.size Nowhere f (R.left reader.new))) }
 {
     let mut bytes = [0; 12];
     read_part(reader, entry, 28 + 12 * done, &mut bytes)?;
@@ -120,7 +120,8 @@ fn read_table<R: Source>(
     ensures ok { IfOk result (λ x. InContent (R.left reader.old) entry 28 (λ b.
         HasRows b entry count x.items (R.left reader.new))) }
     ensures err { IfErr result (λ f. InContent (R.left reader.old) entry 28 (λ b.
-        IsCutShort b entry entry.size f (R.left reader.new))) }
+        IsCutShort b entry entry.size (HasGrown b (entry.place + 8 + 28) 12 count) f
+        (R.left reader.new))) }
 {
     let mut rows = Vec::new(alloc);
     for done in 0..count {
@@ -147,7 +148,7 @@ pub(crate) fn read_ds64<R: Source>(
     ensures ok { IfOk result (λ x. InContent (R.left reader.old) entry 0 (λ b.
         IsDs64Read b entry x (R.left reader.new))) }
     ensures err { IfErr result (λ f. InContent (R.left reader.old) entry 0 (λ b.
-        IsRefused b (table_faults b entry) entry f (R.left reader.new))) }
+        IsRefused b (WantsEntry b entry) (table_faults b entry) entry f (R.left reader.new))) }
 {
     let fixed = read_fixed(reader, entry)?;
     let count = fixed.table_len as u64;

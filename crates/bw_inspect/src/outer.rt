@@ -2,7 +2,7 @@
 ghost use Rattle.std.specs.Prelude.{◌≡◌, ◌+◌, ◌^◌, ◌≤◌, IsTrue, None, OnOk, IfOk, IfErr, ◌==◌, if◌then◌else◌};
 ghost use Rattle.bw_model.specs.Bytes.{first_that_holds, unsaid};
 ghost use Rattle.bw_inspect.specs.Faults.{counted, fault_of, is_of_bytes};
-ghost use Rattle.bw_inspect.specs.Places.{Of};
+ghost use Rattle.bw_inspect.specs.Places.{Nowhere, Of};
 ghost use Rattle.bw_inspect.specs.Contents.{IsStopped};
 ghost use Rattle.bw_inspect.specs.Outers.{Begins, IsOpened, IsOutside, OnWide, form_faults, names_form, opening_faults};
 ghost use Rattle.bw_inspect.specs.Walks.{IsSmall};
@@ -31,7 +31,7 @@ fn read_opening<R: Source>(reader: &mut R) -> Result<ChunkHead, InspectFault>
     ensures ok { IfOk result (λ h. Of (R.left reader.old) (λ b.
         IsOpened b h (R.left reader.new))) }
     ensures err { IfErr result (λ f. Of (R.left reader.old) (λ b.
-        IsStopped b 12 12 (opening_faults b) f (R.left reader.new))) }
+        IsStopped b 12 12 Nowhere (opening_faults b) f (R.left reader.new))) }
 {
     let mut bytes = [0; 12];
     read_at(reader, 0, &mut bytes, fault_at(InspectKind::NotWave, 0))?;

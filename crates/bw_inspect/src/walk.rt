@@ -4,7 +4,7 @@ ghost use Rattle.bw_model.specs.Bytes.{even_up};
 ghost use Rattle.bw_inspect.specs.Faults.{counted, is_of_bytes};
 ghost use Rattle.bw_inspect.specs.Places.{AtPlace, IsMissed};
 ghost use Rattle.bw_inspect.specs.Known.{facts_of, has_kind, nothing};
-ghost use Rattle.bw_inspect.specs.Contents.{InContent, IsRefused};
+ghost use Rattle.bw_inspect.specs.Contents.{InContent, IsEndOf, IsRefused};
 ghost use Rattle.bw_inspect.specs.Walks.{Goes, GrowsByOne, IsFaulted, IsHead, IsPassedOver, IsSmall, OnWalk, form_of, seen_by};
 
 use crate::chunk::{ChunkKind, checked_size, kind_by_id};
@@ -128,7 +128,7 @@ pub(crate) fn list_chunk<R: Source>(
     ensures ok { OnOk result (InContent (R.left reader.old) entry entry.size (λ b.
         IsPassedOver b end entry (R.left reader.new))) }
     ensures err { IfErr result (λ f. InContent (R.left reader.old) entry entry.size (λ b.
-        IsRefused b [] entry f (R.left reader.new))) }
+        IsRefused b (IsEndOf entry) [] entry f (R.left reader.new))) }
 {
     let Ok(()) = walk.chunks.push(entry) else {
         return Err(fault_at(InspectKind::Memory, entry.place));

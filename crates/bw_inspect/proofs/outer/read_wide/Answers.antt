@@ -1,5 +1,6 @@
 use Rattle.std.proofs.Common.{◌≡◌, ◌+◌, ◌<◌, ◌≤◌, subst, refl}
 use Rattle.std.proofs.lemmas.Result.{err_from_is_err_and}
+use Rattle.bw_inspect.proofs.Outers.{opening_there}
 use Rattle.bw_inspect.proofs.WideForms.{head_refused, rows_refused}
 use Rattle.bw_inspect.proofs.WideReads.{wide_read, form_refused, listed_refused, past_form}
 use Rattle.bw_inspect.proofs.WideBegins.{wide_begins}
@@ -10,7 +11,7 @@ use Rattle.bw_inspect.proofs.outer.read_wide.Goals as goal
 pub returns-in_err-entry-clause-err : goal.returns-in_err-entry-clause-err
 returns-in_err-entry-clause-err g c =
     let p = err_from_is_err_and c.from_residual.result c.from_residual.ensures.1 in
-    rw (p.1, p.2) (λ b o r. head_refused b c.args.opening _ _ _ o r (c.in_err-entry.ensures.err b o.rest))
+    rw (p.1, p.2) (λ b o r. head_refused b c.args.opening _ _ _ o r (c.in_err-entry.ensures.err b o.rest (opening_there b o.free)))
 
 pub returns-in_err-sizes-clause-err : goal.returns-in_err-sizes-clause-err
 returns-in_err-sizes-clause-err g c =
@@ -45,7 +46,8 @@ returns-in_err-list_chunk-clause-err g c =
     let d = c.in_ok-entry.ensures.ok b o.rest in
     let k = c.in_ok-sizes.ensures.ok b d.to in
     let w = wide_read b c.args.opening c.in_ok-entry.entry c.in_ok-sizes.sizes c.form_size-size.result _ _ _ o r d k c.form_size-size.ensures in
-    listed_refused b c.args.opening c.in_ok-entry.entry c.in_ok-sizes.sizes c.form_size-size.result _ _ w c.in_ok-entry.ensures.size.1 (c.in_err-list_chunk.ensures.err b k.to))
+    let inside = subst (λ (e : reading.Entry). e.place + 8 + e.size ≤ 8 + c.form_size-size.result) c.entry.view_is c.if-size-entry.false in
+    listed_refused b c.args.opening c.in_ok-entry.entry c.in_ok-sizes.sizes c.form_size-size.result _ _ w c.in_ok-check_form_size.ensures.ok c.in_ok-entry.ensures.size.1 inside (c.in_err-list_chunk.ensures.err b k.to))
 
 pub returns-clause-ok : goal.returns-clause-ok
 returns-clause-ok g c b o r =

@@ -9,7 +9,7 @@ returns-in-Ok-eq0-clause-err g c b e =
     let r = c.in-Ok-eq0.ensures.ok _ i.rest in
     let size = c.loop-done.invariant.size in
     let test = c.loop-done-test.true in
-    missed b c.args.place c.loop-done.done (length c.args.buf.now) c.in-Ok-eq0.field-0 c.args.cut _ _ i.rest r.rest c.in-Ok-eq0.field-0-test (omega arith)
+    missed b c.args.place c.loop-done.done (length c.args.buf.now) c.in-Ok-eq0.field-0 c.args.cut _ _ i.rest r.rest c.in-Ok-eq0.field-0-test (omega arith) i.within
     (r.end c.in-Ok-eq0.field-0-test (simp (length-take, length-drop) (omega arith))) c.requires.cut
 
 pub loop-done-preserved : goal.loop-done-preserved

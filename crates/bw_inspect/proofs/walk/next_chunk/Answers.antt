@@ -4,7 +4,7 @@ use Rattle.bw_model.specs.Reading as reading
 use Rattle.bw_inspect.specs.Walks.{form_of, seen_by}
 use Rattle.bw_inspect.specs.Known.{facts_of}
 use Rattle.bw_inspect.proofs.Contents.{at_start}
-use Rattle.bw_inspect.proofs.Steps.{too_many, head_cut, headed, sized, by_hand, size_faulted, content_faulted, learned_as, goes_on, stopped_behind}
+use Rattle.bw_inspect.proofs.Steps.{too_many, head_cut, headed, sized, by_hand, size_faulted, content_faulted, learned_as, goes_on, stopped_behind, whole_as}
 use Rattle.bw_inspect.proofs.walk.next_chunk.Goals as goal
 
 pub returns-then-len-ge-MOST_CHUNKS-clause-err : goal.returns-then-len-ge-MOST_CHUNKS-clause-err
@@ -55,7 +55,7 @@ returns-in_err-list_chunk-clause-err g c =
     let at = headed b form w c.in_ok-head.head c.size_told-told.result _ (omega arith) few h c.size_told-told.ensures in
     let z = sized form w c.in_ok-head.head.id c.kind_by_id-kind.result c.was_seen.result c.size_told-told.result c.in_ok-size.size c.kind_by_id-kind.ensures c.was_seen.ensures c.in_ok-size.ensures.is c.in_ok-size.ensures.ok c.in_ok-size.ensures.within in
     let l = c.in_ok-read_content.ensures.ok b (at_start b e _ h.within h.rest) in
-    stopped_behind b form w e c.size_told-told.result _ _ _ s at z refl (c.in_err-list_chunk.ensures.err b l.whole.to))
+    stopped_behind b form w e c.size_told-told.result _ _ _ _ s at z refl (whole_as b c.kind_by_id-kind.result _ e _ c.kind_by_id-kind.ensures l.whole) (c.in_err-list_chunk.ensures.err b l.whole.to))
 
 pub returns-clause-ok : goal.returns-clause-ok
 returns-clause-ok g c b s =
