@@ -1,5 +1,6 @@
 //! Readers and writers over memory.
-ghost use Rattle.std.specs.Prelude.{◌≡◌, ℕ, [], Some, OnErr, vec_len, vec_capacity, ◌<◌, ◌+◌, length};
+ghost use Rattle.std.specs.Prelude.{◌≡◌, ◌+◌, ◌≤◌, ◌++◌, true, length, Some, IfOk, IsOk, OnOk, OnErr, vec_len, vec_capacity};
+ghost use Rattle.bw_layout.specs.Moves.{failures_after};
 
 use crate::sink::Sink;
 use crate::source::{IoFailed, Source};
@@ -72,12 +73,28 @@ impl Sink for MemorySink {
 
     ghost failures = { λ s. s.failures };
 
-    fn write(&mut self, bytes: &[u8]) -> Result<usize, IoFailed> {
+    ghost is_flushed = { λ s. true };
+
+    fn write(&mut self, bytes: &[u8]) -> Result<usize, IoFailed>
+        ensures count { self.new.failures ≡ failures_after result self.old.failures }
+        ensures all { IfOk result (λ n. n ≡ length bytes.now) }
+        ensures ok { OnOk result (self.new.bytes.items ≡ self.old.bytes.items ++ bytes.now) }
+        ensures err { OnErr result (self.new.bytes.items ≡ self.old.bytes.items) }
+        ensures succeeds { vec_len self.old.bytes + length bytes.now ≤ vec_capacity self.old.bytes →
+            IsOk result }
+    {
         let Ok(()) = self.bytes.extend_from_slice(bytes) else {
             self.failures = self.failures.saturating_add(1);
             return Err(IoFailed);
         };
         Ok(bytes.len())
+    }
+
+    fn flush(&mut self) -> Result<(), IoFailed>
+        ensures ok { IsOk result }
+        ensures same { self.new ≡ self.old }
+    {
+        Ok(())
     }
 }
 

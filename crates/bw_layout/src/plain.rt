@@ -1,5 +1,5 @@
 //! Readers and writers of std as a `Source` and a `Sink`.
-ghost use Rattle.std.specs.Prelude.{◌≡◌, ◌<◌, ◌≤◌, length, IfOk, OnErr};
+ghost use Rattle.std.specs.Prelude.{◌≡◌, ◌<◌, ◌≤◌, length, true, IfOk, OnErr};
 ghost use Rattle.bw_layout.specs.Moves.{failures_after, moved_after, Keeps, Reads, Skips};
 
 use crate::sink::Sink;
@@ -14,6 +14,8 @@ pub struct Plain<T> {
     pub(crate) inner: T,
     pub(crate) moved: u64,
     pub(crate) failures: u64,
+    /// No byte was written since the last flush.
+    is_flushed: bool,
 }
 
 impl<T: Drop> Plain<T> {
@@ -21,11 +23,13 @@ impl<T: Drop> Plain<T> {
         ensures inner { result.inner ≡ inner }
         ensures moved { result.moved ≡ 0 }
         ensures failures { result.failures ≡ 0 }
+        ensures flushed { result.is_flushed ≡ true }
     {
         Plain {
             inner,
             moved: 0,
             failures: 0,
+            is_flushed: true,
         }
     }
 
@@ -94,7 +98,10 @@ impl<T: Write> Sink for Plain<T> {
 
     ghost failures = { λ s. s.failures };
 
+    ghost is_flushed = { λ s. s.is_flushed };
+
     fn write(&mut self, bytes: &[u8]) -> Result<usize, IoFailed> {
+        self.is_flushed = false;
         match self.inner.write(bytes) {
             Ok(count) if count > 0 || bytes.is_empty() => Ok(count),
             _ => {
@@ -102,6 +109,15 @@ impl<T: Write> Sink for Plain<T> {
                 Err(IoFailed)
             }
         }
+    }
+
+    fn flush(&mut self) -> Result<(), IoFailed> {
+        let Ok(()) = self.inner.flush() else {
+            self.failures = self.failures.saturating_add(1);
+            return Err(IoFailed);
+        };
+        self.is_flushed = true;
+        Ok(())
     }
 }
 

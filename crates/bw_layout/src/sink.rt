@@ -1,14 +1,16 @@
 //! What bytes are written to, with a count of the failures.
-ghost use Rattle.std.specs.Prelude.{◌≡◌, ℕ, ◌≤◌, ◌<◌, List, length, take, Option, IfOk, OnOk, OnErr};
+ghost use Rattle.std.specs.Prelude.{◌≡◌, ℕ, ◌≤◌, ◌<◌, Bool, true, List, length, take, Option, IfOk, OnOk, OnErr};
 ghost use Rattle.bw_layout.specs.Moves.{failures_after, Keeps, Writes, Begins};
 
 use crate::source::IoFailed;
 
-/// A writer: the bytes written so far, where it tells them, and how often it failed.
+/// A writer: the bytes written so far, where it tells them, how often it failed, and whether none of them is held back.
 pub trait Sink {
     ghost written: { Self → Option (List ℕ) };
 
     ghost failures: { Self → ℕ };
+
+    ghost is_flushed: { Self → Bool };
 
     /// Writes some of the first bytes, at least one where there are any.
     ///
@@ -21,6 +23,15 @@ pub trait Sink {
         ensures ok { IfOk result (λ n.
             Writes (written self.old) (take n bytes.now) (written self.new)) }
         ensures err { OnErr result (Keeps (written self.old) (written self.new)) };
+
+    /// Passes on what was held back of the bytes written so far.
+    ///
+    /// # Errors
+    /// `IoFailed` where the writer failed: some bytes may still be held back.
+    fn flush(&mut self) -> Result<(), IoFailed>
+        ensures count { failures self.new ≡ failures_after result (failures self.old) }
+        ensures kept { Keeps (written self.old) (written self.new) }
+        ensures ok { OnOk result (is_flushed self.new ≡ true) };
 }
 
 /// Writes all the bytes, in as many pieces as the writer takes.
