@@ -1,5 +1,5 @@
--- What verdicts mean, and their codes.
-use Rattle.std.specs.Prelude.{◌≡◌, ℕ, Some, None, Result, MatchResult}
+-- What verdicts mean, their codes, and the text for a code that is none.
+use Rattle.std.specs.Prelude.{◌≡◌, ℕ, List, ◌++◌, codes, decimal, Some, None, Result, MatchResult}
 use Rattle.bw_model.specs.Take as model
 use Rattle.bw_model.specs.Replies.{verdict_of as verdict_with_code}
 use Rattle.bw_take.specs.declared.verdict.Verdict.{Verdict}
@@ -24,3 +24,7 @@ verdict_of WrongTotal = model.WrongTotal
 abbrev pub Decodes : ℕ → Result Verdict UnknownVerdict → Type 0
 Decodes code r =
     MatchResult r (λ v. verdict_with_code code ≡ Some (verdict_of v)) (λ e. (verdict_with_code code ≡ None) × (e.0 ≡ code))
+
+-- what is told to people of a code that no verdict has
+abbrev pub unknown_text : UnknownVerdict → List ℕ
+unknown_text u = codes "no verdict has code " ++ decimal u.0

@@ -1,5 +1,5 @@
 //! What is kept of a take in memory: everything but its data.
-ghost use Rattle.std.specs.Prelude.{◌≡◌, ◌+◌, ◌^◌, ◌≤◌, None, IsSome, IfSome, IsTrue, IsOk, OnOk, true, false, length};
+ghost use Rattle.std.specs.Prelude.{◌≡◌, ◌+◌, ◌^◌, ◌≤◌, None, IsSome, IfSome, IsTrue, IsOk, OnOk, OnErr, true, false, length};
 ghost use Rattle.bw_model.specs.Take.{Stored, is_format, judge as verdict_on, frames as frames_of, new_take, parts as parts_of_take, AreFields};
 ghost use Rattle.bw_model.specs.Wire.{is_request};
 ghost use Rattle.bw_take.specs.Requests.{meaning};
@@ -140,12 +140,13 @@ impl TakeState {
     /// Makes room for so many requests to be stored.
     ///
     /// # Errors
-    /// `AllocError` where a growth was refused.
+    /// `AllocError` where a growth was refused: nothing changed.
     pub fn reserve_for(&mut self, requests: usize) -> Result<(), AllocError>
         requires { requests ≤ 16 }
         ensures parts { self.new.parts ≡ self.old.parts }
         ensures ok { OnOk result (requests ≤ self.new.room) }
         ensures kept { self.old.room ≤ self.new.room }
+        ensures err { OnErr result (self.new ≡ self.old) }
         ensures enough { requests ≤ self.old.room → IsOk result }
     {
         if requests <= self.room {

@@ -1,8 +1,8 @@
 //! What a server says of a request.
-ghost use Rattle.std.specs.Prelude.{◌≡◌, ◌≤◌, ◌↔◌, IsTrue};
+ghost use Rattle.std.specs.Prelude.{◌≡◌, ◌≤◌, ◌↔◌, IsTrue, Some};
 ghost use Rattle.bw_model.specs.Take.{Stored, is_stored as is_stored_verdict};
 ghost use Rattle.bw_model.specs.Replies.{verdict_code};
-ghost use Rattle.bw_take.specs.Verdicts.{verdict_of, Decodes};
+ghost use Rattle.bw_take.specs.Verdicts.{verdict_of, Decodes, unknown_text};
 
 use std::error::Error;
 use std::fmt;
@@ -91,6 +91,8 @@ impl TryFrom<u8> for Verdict {
 }
 
 impl fmt::Display for UnknownVerdict {
+    ghost output = { λ unknown. Some (unknown_text unknown) };
+
     fn fmt<W: fmt::Write>(&self, f: &mut fmt::Formatter<W>) -> fmt::Result {
         write!(f, "no verdict has code {}", self.0)
     }
