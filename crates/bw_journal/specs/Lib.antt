@@ -1,0 +1,3 @@
+pub mod Seals
+pub mod JournalHeaders
+pub mod Notes

@@ -1,0 +1,91 @@
+//! Journals by name, beside a store of takes.
+ghost use Rattle.std.specs.Prelude.{◌≡◌, ℕ, List, Bool, Option, None, false, IsOk, IsTrue, OnOk, OnErr, is_err};
+ghost use Rattle.bw_model.specs.Counts.{Counts};
+ghost use Rattle.bw_file.specs.Stores.{KeepsOthers};
+ghost use Rattle.bw_journal.specs.JournalHeaders.{Header};
+ghost use Rattle.bw_journal.specs.Notes.{Begins, BeginsInPart, Appends, AppendsInPart, KeepsHeaders};
+
+use bw_file::StoreFault;
+use bw_take::Name;
+
+/// Bytes by name that begin with a header and grow at their end.
+///
+/// The clauses on notes and headers speak of an honest journal: one that keeps what it answered
+/// with success.
+pub trait Journal: Drop {
+    /// What is noted under each name.
+    ghost notes: { Self → List ℕ → Option (List ℕ) };
+
+    /// What a name's journal begins with. Nobody passes it: the journal knows its limit, and
+    /// whether a file of the name stood.
+    ghost header: { Self → List ℕ → Header };
+
+    /// How many calls failed; the count stays at 2^64 - 1.
+    ghost failures: { Self → ℕ };
+
+    /// Whether the journal does what the clauses on notes and headers say.
+    ghost honest: { Self → Bool };
+
+    /// Writes the header of a name's journal, unless it stands there whole.
+    ///
+    /// # Errors
+    /// `StoreFault` where the journal failed: a front of the header may stand there then, and the
+    /// same call may be tried again.
+    fn begin(&mut self, name: &Name) -> Result<(), StoreFault>
+        ensures failures { Counts (failures self.old) (failures self.new) (is_err result) }
+        ensures honest { honest self.new ≡ honest self.old }
+        ensures headers { IsTrue (honest self.old) →
+            KeepsHeaders (header self.old) (header self.new) }
+        ensures begun { IsTrue (honest self.old) → OnOk result
+            (Begins (header self.old name.now) (notes self.old name.now) (notes self.new name.now)) }
+        ensures failed { IsTrue (honest self.old) → OnErr result (BeginsInPart
+            (header self.old name.now) (notes self.old name.now) (notes self.new name.now)) }
+        ensures others { IsTrue (honest self.old) →
+            KeepsOthers (notes self.old) (notes self.new) name.now };
+
+    /// Notes bytes under a name behind its first ones, in place of what a call that failed may have
+    /// left there: a front of the same bytes.
+    ///
+    /// # Errors
+    /// `StoreFault` where the journal failed: a front of the bytes may stand there then, and the
+    /// same call may be tried again.
+    fn note(&mut self, name: &Name, offset: u64, bytes: &[u8]) -> Result<(), StoreFault>
+        ensures failures { Counts (failures self.old) (failures self.new) (is_err result) }
+        ensures honest { honest self.new ≡ honest self.old }
+        ensures headers { IsTrue (honest self.old) →
+            KeepsHeaders (header self.old) (header self.new) }
+        ensures noted { IsTrue (honest self.old) → OnOk result
+            (Appends offset bytes.now (notes self.old name.now) (notes self.new name.now)) }
+        ensures failed { IsTrue (honest self.old) → OnErr result
+            (AppendsInPart offset bytes.now (notes self.old name.now) (notes self.new name.now)) }
+        ensures others { IsTrue (honest self.old) →
+            KeepsOthers (notes self.old) (notes self.new) name.now };
+}
+
+/// No journal: what is noted is forgotten, and no call fails.
+#[derive(Drop)]
+pub struct NoJournal;
+
+impl Journal for NoJournal {
+    ghost notes = { λ _ _. None };
+
+    ghost header = { λ _ _. record { limit = 0; stood = false } };
+
+    ghost failures = { λ _. 0 };
+
+    ghost honest = { λ _. false };
+
+    fn begin(&mut self, _name: &Name) -> Result<(), StoreFault>
+        ensures ok { IsOk result }
+        ensures unchanged { self.new ≡ self.old }
+    {
+        Ok(())
+    }
+
+    fn note(&mut self, _name: &Name, _offset: u64, _bytes: &[u8]) -> Result<(), StoreFault>
+        ensures ok { IsOk result }
+        ensures unchanged { self.new ≡ self.old }
+    {
+        Ok(())
+    }
+}
