@@ -62,11 +62,21 @@ impl GrowingFile {
         })
     }
 
-    /// Whether the last call failed.
+    /// Whether the next call writes the whole header: the last one failed, or was marked to be
+    /// tried again.
     pub fn is_dirty(&self) -> bool
         ensures { result ≡ self.now.dirty }
     {
         self.dirty
+    }
+
+    /// Marks the file for another try of the request that its last call stored.
+    ///
+    /// So it is where the store has the request and the journal behind it failed.
+    pub fn mark_dirty(&mut self)
+        ensures { self.new ≡ record self.old { dirty = true } }
+    {
+        self.dirty = true;
     }
 
     /// Makes the name, unless an earlier try made it, and writes the header of a take without data.
