@@ -1,22 +1,13 @@
 -- What the calls of a store leave.
 use Rattle.std.specs.Prelude.{◌≡◌, ◌≢◌, ℕ, ◌+◌, ◌-◌, ◌<◌, ◌≤◌, min, max, List, [], ◌∷◌, ◌++◌, length, take, drop, slice_index, Option, Some, None, IsSome, Bool, IsTrue, IsFalse}
 use Rattle.bw_model.specs.Bytes.{zeros}
+pub use Rattle.bw_model.specs.Counts.{Counts, last_count}
 use Rattle.bw_file.specs.declared.store.Created.{Created}
 use Rattle.bw_file.specs.declared.store.Created.TheVariants.{New, Exists}
-
--- the last value of a count of 64 bits
-abbrev pub last_count : ℕ
-last_count = 18446744073709551615
 
 -- a count that rose by so many, and stays at its last value
 abbrev pub raised : ℕ → ℕ → ℕ
 raised count n = max count (min (count + n) last_count)
-
--- A count rises by one in a call where the thing happens, and only there.
-pub record Counts (before after : ℕ) (happens : Bool) : Type 0 where
-  pub quiet : IsFalse happens → after ≡ before
-  pub rises : IsTrue happens → before < last_count → after ≡ before + 1
-  pub stays : last_count ≤ before → after ≡ before
 
 -- what a name has before and after a `create` that succeeds
 abbrev pub Creates : Created → Option (List ℕ) → Option (List ℕ) → Type 0
