@@ -1,5 +1,5 @@
 //! The contents of chunks.
-ghost use Rattle.std.specs.Prelude.{◌≡◌, ◌+◌, ◌^◌, ◌≤◌, ◌<◌, length, IfOk, IfErr, OnOk};
+ghost use Rattle.std.specs.Prelude.{◌≡◌, ◌+◌, ◌-◌, ◌^◌, ◌≤◌, ◌<◌, length, IfOk, IfErr, OnOk};
 ghost use Rattle.bw_inspect.specs.Faults.{counted};
 ghost use Rattle.bw_inspect.specs.Chunks.{Allows};
 ghost use Rattle.bw_inspect.specs.Known.{HasFewCues, facts_of, fmt_told, bext_kept, bext_told};
@@ -29,6 +29,7 @@ pub(crate) fn read_part<R: Source>(
     requires within { done + length buf.old ≤ entry.size }
     requires some { 0 < length buf.old }
     ensures count { R.failures reader.new ≡ counted result (R.failures reader.old) }
+    ensures most { R.moved reader.new ≤ R.moved reader.old + length buf.old }
     ensures ok { OnOk result (InContent (R.left reader.old) entry done (λ b.
         IsPart b entry done (length buf.old) buf.new (R.left reader.new))) }
     ensures err { IfErr result (λ f. InContent (R.left reader.old) entry done (λ b.
@@ -50,6 +51,7 @@ pub(crate) fn pass_rest<R: Source>(
     requires room { entry.place + 8 + entry.size < 2 ^ 63 }
     requires within { done ≤ entry.size }
     ensures count { R.failures reader.new ≡ counted result (R.failures reader.old) }
+    ensures most { R.moved reader.new ≤ R.moved reader.old + (entry.size - done) }
     ensures ok { OnOk result (InContent (R.left reader.old) entry done (λ b.
         ReadTo b entry entry.size (R.left reader.new))) }
     ensures err { IfErr result (λ f. InContent (R.left reader.old) entry done (λ b.
@@ -64,6 +66,7 @@ fn read_fmt_chunk<R: Source>(reader: &mut R, entry: ListedChunk) -> Result<RawFm
     requires room { entry.place + 8 + entry.size < 2 ^ 63 }
     requires long { 16 ≤ entry.size }
     ensures count { R.failures reader.new ≡ counted result (R.failures reader.old) }
+    ensures most { R.moved reader.new ≤ R.moved reader.old + entry.size }
     ensures ok { IfOk result (λ x. InContent (R.left reader.old) entry 0 (λ b.
         ReadTo b entry entry.size (R.left reader.new) × (x ≡ fmt_told b entry))) }
     ensures err { IfErr result (λ f. InContent (R.left reader.old) entry 0 (λ b.
@@ -83,6 +86,7 @@ fn read_bext_chunk<R: Source>(reader: &mut R, entry: ListedChunk) -> Result<Bext
     requires room { entry.place + 8 + entry.size < 2 ^ 63 }
     requires long { 602 ≤ entry.size }
     ensures count { R.failures reader.new ≡ counted result (R.failures reader.old) }
+    ensures most { R.moved reader.new ≤ R.moved reader.old + entry.size }
     ensures ok { IfOk result (λ x. InContent (R.left reader.old) entry 0 (λ b.
         ReadTo b entry entry.size (R.left reader.new) × (bext_kept x ≡ bext_told b entry))) }
     ensures err { IfErr result (λ f. InContent (R.left reader.old) entry 0 (λ b.
@@ -114,6 +118,7 @@ pub(crate) fn read_content<R: Source>(
     requires room { entry.place + 8 + entry.size < 2 ^ 63 }
     requires allowed { Allows kind entry.size }
     ensures count { R.failures reader.new ≡ counted result (R.failures reader.old) }
+    ensures most { R.moved reader.new ≤ R.moved reader.old + entry.size }
     ensures few { OnOk result (HasFewCues known.old → HasFewCues known.new) }
     ensures ok { OnOk result (InContent (R.left reader.old) entry 0 (λ b.
         IsLearned b kind entry (facts_of known.old) (facts_of known.new) (R.left reader.new))) }

@@ -22,6 +22,7 @@ fn read_count<R: Source>(reader: &mut R, entry: ListedChunk) -> Result<u64, Insp
     requires room { entry.place + 8 + entry.size < 2 ^ 63 }
     requires long { 4 ≤ entry.size }
     ensures count { R.failures reader.new ≡ counted result (R.failures reader.old) }
+    ensures most { R.moved reader.new ≤ R.moved reader.old + 4 }
     ensures few { IfOk result (λ n. n ≤ 65_536) }
     ensures fits { IfOk result (λ n. 4 + 24 * n ≤ entry.size) }
     ensures ok { IfOk result (λ n. InContent (R.left reader.old) entry 0 (λ b.
@@ -55,6 +56,7 @@ fn read_point<R: Source>(
     requires few { done < 65_536 }
     requires fits { 4 + 24 * done + 24 ≤ entry.size }
     ensures count { R.failures reader.new ≡ counted result (R.failures reader.old) }
+    ensures most { R.moved reader.new ≤ R.moved reader.old + 24 }
     ensures ok { IfOk result (λ x. InContent (R.left reader.old) entry (4 + 24 * done) (λ b.
         ReadTo b entry (4 + 24 * done + 24) (R.left reader.new)
         × (x ≡ point_told b entry done))) }
@@ -83,6 +85,7 @@ fn read_points<R: Source>(
     requires few { count ≤ 65_536 }
     requires fits { 4 + 24 * count ≤ entry.size }
     ensures count { R.failures reader.new ≡ counted result (R.failures reader.old) }
+    ensures most { R.moved reader.new ≤ R.moved reader.old + 24 * count }
     ensures all { IfOk result (λ x. length x.items ≡ count) }
     ensures ok { IfOk result (λ x. InContent (R.left reader.old) entry 4 (λ b.
         HasPoints b entry count x.items (R.left reader.new))) }
@@ -112,6 +115,7 @@ pub(crate) fn read_cues<R: Source>(
     requires room { entry.place + 8 + entry.size < 2 ^ 63 }
     requires long { 4 ≤ entry.size }
     ensures count { R.failures reader.new ≡ counted result (R.failures reader.old) }
+    ensures most { R.moved reader.new ≤ R.moved reader.old + entry.size }
     ensures few { IfOk result (λ x. length x ≤ 65_536) }
     ensures ok { IfOk result (λ x. InContent (R.left reader.old) entry 0 (λ b.
         IsCued b entry x (R.left reader.new))) }

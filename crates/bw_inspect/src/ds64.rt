@@ -26,6 +26,7 @@ const MOST_ENTRIES: u32 = 4_096;
 /// NoDs64, BadDs64; Read.
 pub(crate) fn read_ds64_head<R: Source>(reader: &mut R) -> Result<ListedChunk, InspectFault>
     ensures count { R.failures reader.new ≡ counted result (R.failures reader.old) }
+    ensures most { R.moved reader.new ≤ R.moved reader.old + 8 }
     ensures place { IfOk result (λ e. e.place ≡ 12) }
     ensures size { IfOk result (λ e. (28 ≤ e.size) × (e.size < 2 ^ 32)) }
     ensures ok { IfOk result (λ e. AtPlace (R.left reader.old) 12 (λ b.
@@ -55,6 +56,7 @@ fn read_fixed<R: Source>(reader: &mut R, entry: ListedChunk) -> Result<Ds64Fixed
     requires room { entry.place + 8 + entry.size < 2 ^ 63 }
     requires long { 28 ≤ entry.size }
     ensures count { R.failures reader.new ≡ counted result (R.failures reader.old) }
+    ensures most { R.moved reader.new ≤ R.moved reader.old + 28 }
     ensures few { IfOk result (λ x. x.table_len ≤ 4_096) }
     ensures fits { IfOk result (λ x. 28 + 12 * x.table_len ≤ entry.size) }
     ensures ok { IfOk result (λ x. InContent (R.left reader.old) entry 0 (λ b.
@@ -89,6 +91,7 @@ fn read_row<R: Source>(
     requires few { done < 4_096 }
     requires fits { 28 + 12 * done + 12 ≤ entry.size }
     ensures count { R.failures reader.new ≡ counted result (R.failures reader.old) }
+    ensures most { R.moved reader.new ≤ R.moved reader.old + 12 }
     ensures ok { IfOk result (λ x. InContent (R.left reader.old) entry (28 + 12 * done) (λ b.
         ReadTo b entry (28 + 12 * done + 12) (R.left reader.new)
         × (x ≡ row_told b entry done))) }
@@ -117,6 +120,7 @@ fn read_table<R: Source>(
     requires few { count ≤ 4_096 }
     requires fits { 28 + 12 * count ≤ entry.size }
     ensures count { R.failures reader.new ≡ counted result (R.failures reader.old) }
+    ensures most { R.moved reader.new ≤ R.moved reader.old + 12 * count }
     ensures ok { IfOk result (λ x. InContent (R.left reader.old) entry 28 (λ b.
         HasRows b entry count x.items (R.left reader.new))) }
     ensures err { IfErr result (λ f. InContent (R.left reader.old) entry 28 (λ b.
@@ -145,6 +149,7 @@ pub(crate) fn read_ds64<R: Source>(
     requires room { entry.place + 8 + entry.size < 2 ^ 63 }
     requires long { 28 ≤ entry.size }
     ensures count { R.failures reader.new ≡ counted result (R.failures reader.old) }
+    ensures most { R.moved reader.new ≤ R.moved reader.old + entry.size }
     ensures ok { IfOk result (λ x. InContent (R.left reader.old) entry 0 (λ b.
         IsDs64Read b entry x (R.left reader.new))) }
     ensures err { IfErr result (λ f. InContent (R.left reader.old) entry 0 (λ b.

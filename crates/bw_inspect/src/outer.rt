@@ -1,5 +1,5 @@
 //! The outer header of a file.
-ghost use Rattle.std.specs.Prelude.{◌≡◌, ◌+◌, ◌^◌, ◌≤◌, IsTrue, None, OnOk, IfOk, IfErr, ◌==◌, if◌then◌else◌};
+ghost use Rattle.std.specs.Prelude.{◌≡◌, ◌+◌, ◌^◌, ◌≤◌, min, IsTrue, None, OnOk, IfOk, IfErr, ◌==◌, if◌then◌else◌};
 ghost use Rattle.bw_model.specs.Bytes.{first_that_holds, unsaid};
 ghost use Rattle.bw_inspect.specs.Faults.{counted, fault_of, is_of_bytes};
 ghost use Rattle.bw_inspect.specs.Places.{Nowhere, Of};
@@ -28,6 +28,7 @@ fn is_form(id: ChunkId) -> bool
 /// NotWave; Read.
 fn read_opening<R: Source>(reader: &mut R) -> Result<ChunkHead, InspectFault>
     ensures count { R.failures reader.new ≡ counted result (R.failures reader.old) }
+    ensures most { R.moved reader.new ≤ R.moved reader.old + 12 }
     ensures ok { IfOk result (λ h. Of (R.left reader.old) (λ b.
         IsOpened b h (R.left reader.new))) }
     ensures err { IfErr result (λ f. Of (R.left reader.old) (λ b.
@@ -54,6 +55,7 @@ fn read_opening<R: Source>(reader: &mut R) -> Result<ChunkHead, InspectFault>
 /// TooLarge, NotWave.
 fn check_form_size(size: u64) -> Result<(), InspectFault>
     ensures small { OnOk result (size ≤ 2 ^ 62) }
+    ensures large { OnOk result (4 ≤ size) }
     ensures ok { OnOk result (first_that_holds (form_faults size) ≡ None) }
     ensures kind { IfErr result (λ f. IsTrue (is_of_bytes f.kind)) }
     ensures err { IfErr result (λ f. fault_of f ≡ first_that_holds (form_faults size)) }
@@ -85,6 +87,9 @@ fn read_wide<R: Source>(
     opening: ChunkHead,
 ) -> Result<(Form, Walk), InspectFault>
     ensures count { R.failures reader.new ≡ counted result (R.failures reader.old) }
+    ensures most { R.moved reader.new + 12 ≤ R.moved reader.old + (2 ^ 62 + 8) }
+    ensures passed { IfOk result (λ r.
+        R.moved reader.new + 12 ≤ R.moved reader.old + min r.1.place (8 + r.0.size)) }
     ensures size { IfOk result (λ r. r.0.size ≤ 2 ^ 62) }
     ensures place { IfOk result (λ r. r.1.place ≤ r.0.size + 9) }
     ensures small { IfOk result (λ r. IsSmall r.1) }
@@ -119,6 +124,9 @@ pub(crate) fn read_outer<R: Source>(
     reader: &mut R,
 ) -> Result<(Form, Walk), InspectFault>
     ensures count { R.failures reader.new ≡ counted result (R.failures reader.old) }
+    ensures most { R.moved reader.new ≤ R.moved reader.old + (2 ^ 62 + 8) }
+    ensures passed { IfOk result (λ r.
+        R.moved reader.new ≤ R.moved reader.old + min r.1.place (8 + r.0.size)) }
     ensures size { IfOk result (λ r. r.0.size ≤ 2 ^ 62) }
     ensures place { IfOk result (λ r. r.1.place ≤ r.0.size + 9) }
     ensures small { IfOk result (λ r. IsSmall r.1) }

@@ -19,6 +19,7 @@ pub(crate) fn read_at<R: Source>(
     requires room { place + length buf.old < 2 ^ 64 }
     requires cut { IsTrue (is_of_bytes cut.kind) }
     ensures count { R.failures reader.new ≡ counted result (R.failures reader.old) }
+    ensures most { R.moved reader.new ≤ R.moved reader.old + length buf.old }
     ensures ok { OnOk result (AtPlace (R.left reader.old) place (λ b.
         IsGiven b place (length buf.old) buf.new (R.left reader.new))) }
     ensures err { IfErr result (λ f. AtPlace (R.left reader.old) place (λ b.
@@ -48,6 +49,7 @@ pub(crate) fn skip_at<R: Source>(
     requires room { place + count < 2 ^ 64 }
     requires cut { IsTrue (is_of_bytes cut.kind) }
     ensures count { R.failures reader.new ≡ counted result (R.failures reader.old) }
+    ensures most { R.moved reader.new ≤ R.moved reader.old + count }
     ensures ok { OnOk result (AtPlace (R.left reader.old) place (λ b.
         IsPassed b place count (R.left reader.new))) }
     ensures err { IfErr result (λ f. AtPlace (R.left reader.old) place (λ b.
@@ -70,6 +72,7 @@ pub(crate) fn skip_at<R: Source>(
 /// Read.
 pub(crate) fn skip_pad<R: Source>(reader: &mut R, place: u64) -> Result<(), InspectFault>
     ensures count { R.failures reader.new ≡ counted result (R.failures reader.old) }
+    ensures most { R.moved reader.new ≤ R.moved reader.old + 1 }
     ensures ok { OnOk result (AtPlace (R.left reader.old) place (λ b.
         R.left reader.new ≡ Some (drop (place + 1) b))) }
     ensures kind { IfErr result (λ f. f ≡ record { kind = InspectKind.Read; offset = place }) }

@@ -22,6 +22,7 @@ use std::alloc::Global;
 fn finish(alloc: Global, form: Form, walk: Walk) -> Result<Report, InspectFault>
     requires { form.size ≤ 2 ^ 62 }
     ensures ok { IfOk result (λ r. Knows walk (λ b. IsTold b (form_of form) (seen_by walk) r)) }
+    ensures size { IfOk result (λ r. r.size ≡ form.size) }
     ensures bounded { IfOk result (λ r. IsSmall walk → IsBounded r) }
     ensures kind { IfErr result (λ f. IsTrue (is_of_bytes f.kind)) }
     ensures err { IfErr result (λ f. Knows walk (λ b.
@@ -64,6 +65,8 @@ fn finish(alloc: Global, form: Form, walk: Walk) -> Result<Report, InspectFault>
 /// the next byte that was wanted; Memory, at the place of the chunk that needed it.
 pub fn inspect<R: Source>(alloc: Global, reader: &mut R) -> Result<Report, InspectFault>
     ensures count { R.failures reader.new ≡ counted result (R.failures reader.old) }
+    ensures most { R.moved reader.new ≤ R.moved reader.old + (2 ^ 62 + 8) }
+    ensures within { IfOk result (λ r. R.moved reader.new ≤ R.moved reader.old + (8 + r.size)) }
     ensures ok { IfOk result (λ r. Of (R.left reader.old) (λ b. Tells b r (R.left reader.new))) }
     ensures err { IfErr result (λ f. Of (R.left reader.old) (λ b.
         Refuses b f (R.left reader.new))) }

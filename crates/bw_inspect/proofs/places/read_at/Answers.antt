@@ -17,6 +17,7 @@ loop-done-preserved g c = record {
   within = search rules;
   size = search rules;
   count = grind (arith, common_steps);
+  moved = let m = c.in-Ok.ensures.moved in let i = c.loop-done.invariant.moved in omega arith;
   bytes = λ b e.
       let i = c.loop-done.invariant.bytes b e in
       more_read b c.args.place c.loop-done.done c.in-Ok.count _ c.loop-done.buf c.read.new.buf _ _ i.within i.got c.loop-done.invariant.within (let n = c.in-Ok.ensures.within in search rules) (c.in-Ok.ensures.ok _ i.rest);

@@ -13,6 +13,7 @@ pub loop-done-preserved : goal.loop-done-preserved
 loop-done-preserved g c = record {
   within = let n = c.in-Ok.ensures.within in omega arith;
   count = grind (arith, common_steps);
+  moved = let m = c.in-Ok.ensures.moved in let i = c.loop-done.invariant.moved in omega arith;
   bytes = λ b e.
       let i = c.loop-done.invariant.bytes b e in
       more_passed b c.args.place c.loop-done.done c.in-Ok.some _ _ i.within (c.in-Ok.ensures.ok _ i.rest);

@@ -1,4 +1,4 @@
-use Rattle.std.proofs.Common.{◌∙◌}
+use Rattle.std.proofs.Common.{◌∙◌, arith}
 use Rattle.std.proofs.lemmas.Result.{err_from_is_err_and, IfOk-weaker}
 use Rattle.bw_inspect.proofs.Whole.{outside_refused, step_refused, end_refused, refused_outside, told, err_both}
 use Rattle.bw_inspect.proofs.reading.inspect.Goals as goal
@@ -30,6 +30,11 @@ loop-walk-preserved g c = record {
   place = c.in_ok-next_chunk.ensures.place;
   small = c.in_ok-next_chunk.ensures.few c.loop-walk.invariant.small;
   count = c.in_ok-next_chunk.ensures.count ∙ c.loop-walk.invariant.count;
+  moved =
+      let m = c.in_ok-next_chunk.ensures.most in
+      let p = c.in_ok-next_chunk.ensures.passed in
+      let i = c.loop-walk.invariant.moved in
+      omega arith;
   begins = λ b e. let s = c.loop-walk.invariant.begins b e in
       record { header = s.header; stands = (c.in_ok-next_chunk.ensures.ok b s.stands).stands };
 }
