@@ -3,6 +3,7 @@ pub mod Decoding
 pub mod Encoding
 pub mod ReplyDecoding
 pub mod Fronts
+pub mod BufferLaws
 pub mod FramerLaws
 pub mod FramerSteps
 pub mod ReplyFronts

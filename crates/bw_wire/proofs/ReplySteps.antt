@@ -1,5 +1,5 @@
 -- A reply framer's parts after each front of its bytes.
-use Rattle.std.proofs.Common.{◌≡◌, ◌≢◌, ℕ, ◌+◌, ◌≤◌, List, [], length, drop, Result, Ok, Err, refl, sym, ap, subst, ◌∙◌, arith}
+use Rattle.std.proofs.Common.{◌≡◌, ◌≢◌, ℕ, ◌+◌, ◌≤◌, List, length, drop, Result, Ok, Err, refl, sym, ap, subst, ◌∙◌, arith}
 use Rattle.bw_model.specs.Wire.{Reason, Length, Kind, Name, Number, Payload, Cut}
 use Rattle.bw_model.specs.Replies.{Reply}
 use Rattle.bw_model.specs.Stream.{first_reply}
@@ -7,13 +7,14 @@ use Rattle.bw_wire.specs.declared.framer.Phase.{Phase}
 use Rattle.bw_wire.specs.declared.framer.Phase.TheVariants as phases
 use Rattle.bw_wire.specs.declared.reason.Reason.{Reason as Cause}
 use Rattle.bw_wire.specs.declared.reply.Reply.{Reply as Answer}
+use Rattle.bw_wire.specs.Held.{Held, nothing_held, without_front}
 use Rattle.bw_wire.specs.Pending as pending
 use Rattle.bw_wire.specs.Pending.{Pending, Reading, Failed, Told, Nothing, Gives, Fails, took, settled, ended, reply_first, reply_in, after_reply, RepliesHoldAtMost}
 use Rattle.bw_wire.specs.Phases.{phase_of, pending_of, LetsGo, IsFramer}
 use Rattle.bw_wire.specs.Reasons.{reason_of}
 use Rattle.bw_wire.specs.Replies.{reply_of}
 use Rattle.bw_wire.specs.ReplyFronts.{IsWholeReply}
-use Rattle.bw_wire.proofs.FramerSteps.{took_front}
+use Rattle.bw_wire.proofs.FramerSteps.{room_kept-bound, nothing_kept, took_front}
 
 pub after_reply-failed : (p : Pending) (reason : Reason) → p.phase ≡ Failed reason → after_reply p ≡ (Fails reason p.used, p)
 unfolding after_reply
@@ -53,33 +54,33 @@ steps p q t e h = record {
   held = subst (RepliesHoldAtMost 46) (sym e) h;
 }
 
-pub reply_failed_steps : (items : List ℕ) (start used fed : ℕ) (phase : Phase) (cause : Cause) → phase ≡ phases.Failed cause → IsFramer items start used fed phase
-    → ReplySteps (pending_of items start used fed phase) (pending_of items start used fed phase) (Fails (reason_of cause) used)
-reply_failed_steps items start used fed phase cause e h =
-    let p = pending_of items start used fed phase in
-    let gone : items ≡ [] = subst (λ (x : Phase). LetsGo x items) e h.let_go in
-    steps p p (Fails (reason_of cause) used) (after_reply-failed p (reason_of cause) (ap phase_of e)) (omega (arith, ap (length {A = ℕ}) gone))
+pub reply_failed_steps : (held : Held) (start used fed : ℕ) (phase : Phase) (cause : Cause) → phase ≡ phases.Failed cause → IsFramer held start used fed phase
+    → ReplySteps (pending_of held start used fed phase) (pending_of held start used fed phase) (Fails (reason_of cause) used)
+reply_failed_steps held start used fed phase cause e h =
+    let p = pending_of held start used fed phase in
+    let gone : held ≡ nothing_held = subst (λ (x : Phase). LetsGo x held) e h.let_go in
+    steps p p (Fails (reason_of cause) used) (after_reply-failed p (reason_of cause) (ap phase_of e)) (nothing_kept _ held gone)
 
-pub reply_partial_steps : (items rest : List ℕ) (start used fed : ℕ) (phase : Phase) → phase ≡ phases.Reading → rest ≡ drop start items
-    → (first_reply (drop start items) ≡ Err Cut) × (length (drop start items) ≤ 46)
-    → ReplySteps (pending_of items start used fed phase) (pending_of rest 0 used fed phase) Nothing
-reply_partial_steps items rest start used fed phase e kept front =
-    let p = pending_of items start used fed phase in
-    subst (λ (x : List ℕ). ReplySteps p (pending_of x 0 used fed phase) Nothing) (sym kept)
-    (steps p (settled p) Nothing (after_reply-partial p (ap phase_of e) front.0) front.1)
+pub reply_partial_steps : (held later : Held) (start used fed : ℕ) (phase : Phase) → phase ≡ phases.Reading → later ≡ without_front held start
+    → (first_reply (drop start held.bytes) ≡ Err Cut) × (length (drop start held.bytes) ≤ 46)
+    → ReplySteps (pending_of held start used fed phase) (pending_of later 0 used fed phase) Nothing
+reply_partial_steps held later start used fed phase e kept front =
+    let p = pending_of held start used fed phase in
+    subst (λ (x : Held). ReplySteps p (pending_of x 0 used fed phase) Nothing) (sym kept)
+    (steps p (settled p) Nothing (after_reply-partial p (ap phase_of e) front.0) (front.1, room_kept-bound held.room))
 
-pub reply_bad_steps : (items rest : List ℕ) (start used fed : ℕ) (phase : Phase) (cause : Cause) → phase ≡ phases.Reading → rest ≡ []
-    → (first_reply (drop start items) ≡ Err (reason_of cause)) × (reason_of cause ≢ Cut)
-    → ReplySteps (pending_of items start used fed phase) (pending_of rest 0 used fed (phases.Failed cause)) (Fails (reason_of cause) used)
-reply_bad_steps items rest start used fed phase cause e gone front =
-    let p = pending_of items start used fed phase in
-    subst (λ (x : List ℕ). ReplySteps p (pending_of x 0 used fed (phases.Failed cause)) (Fails (reason_of cause) used)) (sym gone)
-    (steps p (ended p used (Failed (reason_of cause))) (Fails (reason_of cause) used) (after_reply-bad p (reason_of cause) (ap phase_of e) front.0 front.1) (omega arith))
+pub reply_bad_steps : (held later : Held) (start used fed : ℕ) (phase : Phase) (cause : Cause) → phase ≡ phases.Reading → later ≡ nothing_held
+    → (first_reply (drop start held.bytes) ≡ Err (reason_of cause)) × (reason_of cause ≢ Cut)
+    → ReplySteps (pending_of held start used fed phase) (pending_of later 0 used fed (phases.Failed cause)) (Fails (reason_of cause) used)
+reply_bad_steps held later start used fed phase cause e gone front =
+    let p = pending_of held start used fed phase in
+    subst (λ (x : Held). ReplySteps p (pending_of x 0 used fed (phases.Failed cause)) (Fails (reason_of cause) used)) (sym gone)
+    (steps p (ended p used (Failed (reason_of cause))) (Fails (reason_of cause) used) (after_reply-bad p (reason_of cause) (ap phase_of e) front.0 front.1) (omega arith, omega arith))
 
-pub reply_whole_steps : (items : List ℕ) (start used fed len : ℕ) (phase : Phase) (answer : Answer) → phase ≡ phases.Reading → IsWholeReply (drop start items) answer len
-    → ReplySteps (pending_of items start used fed phase) (pending_of items (start + 4 + len) (used + (4 + len)) fed phase) (Gives (reply_of answer))
-reply_whole_steps items start used fed len phase answer e front =
-    let p = pending_of items start used fed phase in
-    let more = drop (4 + len) (drop start items) in
-    subst (λ (q : Pending). ReplySteps p q (Gives (reply_of answer))) (took_front items start used fed len phase front.whole)
+pub reply_whole_steps : (held : Held) (start used fed len : ℕ) (phase : Phase) (answer : Answer) → phase ≡ phases.Reading → IsWholeReply (drop start held.bytes) answer len
+    → ReplySteps (pending_of held start used fed phase) (pending_of held (start + 4 + len) (used + (4 + len)) fed phase) (Gives (reply_of answer))
+reply_whole_steps held start used fed len phase answer e front =
+    let p = pending_of held start used fed phase in
+    let more = drop (4 + len) (drop start held.bytes) in
+    subst (λ (q : Pending). ReplySteps p q (Gives (reply_of answer))) (took_front held start used fed len phase front.whole)
     (steps p (took p more) (Gives (reply_of answer)) (after_reply-whole p (reply_of answer) more (ap phase_of e) front.first) tt)

@@ -1,4 +1,5 @@
 pub mod Reasons
+pub mod Faults
 pub mod Bodies
 pub mod Frames
 pub mod Addresses
@@ -7,6 +8,8 @@ pub mod Replies
 pub mod Encoded
 pub mod Fronts
 pub mod ReplyFronts
+pub mod Held
+pub mod Blocks
 pub mod Pending
 pub mod Phases
 pub mod Telling

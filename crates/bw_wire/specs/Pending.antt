@@ -3,6 +3,7 @@ use Rattle.std.specs.Prelude.{ℕ, ◌+◌, ◌-◌, ◌≤◌, Option, Some, No
 use Rattle.bw_model.specs.Wire.{Second, Frame, Says, Asks, Bye, Reason, Cut}
 use Rattle.bw_model.specs.Replies.{Reply}
 use Rattle.bw_model.specs.Stream.{first_frame, first_reply}
+use Rattle.bw_wire.specs.Held.{largest_kept, room_for, room_kept}
 
 pub data Phase : Type 0 where
   Reading : Phase
@@ -19,15 +20,22 @@ pub record Pending : Type 0 where
   pub fed : ℕ
   -- how many are held in memory, used ones counted
   pub held : ℕ
+  -- how many the block of memory has room for that holds them
+  pub room : ℕ
   pub phase : Phase
 
 -- before any piece
 abbrev pub fresh : Pending
-fresh = record { bytes = []; used = 0; fed = 0; held = 0; phase = Reading }
+fresh = record { bytes = []; used = 0; fed = 0; held = 0; room = 0; phase = Reading }
 
 -- with a piece more, which is dropped where nothing is read anymore
 abbrev pub piece_in : Phase → Pending → List ℕ → Pending
-piece_in Reading p piece = record p { bytes = p.bytes ++ piece; fed = p.fed + length piece; held = p.held + length piece }
+piece_in Reading p piece = record p {
+  bytes = p.bytes ++ piece;
+  fed = p.fed + length piece;
+  held = p.held + length piece;
+  room = room_for (p.held + length piece) p.room;
+}
 piece_in Left p piece = record p { fed = p.fed + length piece }
 piece_in (Failed reason) p piece = record p { fed = p.fed + length piece }
 
@@ -44,13 +52,13 @@ pub data Told (X : Type 0) : Type 0 where
 abbrev pub took : Pending → List ℕ → Pending
 took p more = record p { bytes = more; used = p.used + (length p.bytes - length more) }
 
--- with the used bytes let go
+-- with the used bytes let go, and a block that is too large to be kept
 abbrev pub settled : Pending → Pending
-settled p = record p { held = length p.bytes }
+settled p = record p { held = length p.bytes; room = room_kept p.room }
 
--- at the end, with all bytes let go
+-- at the end, with all bytes and the block let go
 abbrev pub ended : Pending → ℕ → Phase → Pending
-ended p used phase = record { bytes = []; used = used; fed = p.fed; held = 0; phase = phase }
+ended p used phase = record { bytes = []; used = used; fed = p.fed; held = 0; room = 0; phase = phase }
 
 abbrev pub after_first : Pending → Result (Frame × List ℕ) Reason → Told Frame × Pending
 after_first p (Ok (Says m, more)) = (Gives (Says m), took p more)
@@ -68,13 +76,21 @@ after_in (Failed reason) p = (Fails reason p.used, p)
 unfoldable pub after : Pending → Told Frame × Pending
 after p = after_in p.phase p
 
+-- the block isn't too large to be kept for a further piece
+abbrev pub IsKept : Pending → Type 0
+IsKept p = p.room ≤ largest_kept
+
+-- at most so many bytes are held, in a block that may be kept
+abbrev pub KeepsAtMost : ℕ → Pending → Type 0
+KeepsAtMost n p = (p.held ≤ n) × IsKept p
+
 -- where no message and no ask was told, so little is held
 abbrev pub HoldsAtMost : ℕ → Told Frame × Pending → Type 0
-HoldsAtMost n (Nothing, p) = p.held ≤ n
+HoldsAtMost n (Nothing, p) = KeepsAtMost n p
 HoldsAtMost n (Gives (Says m), p) = Unit {0}
 HoldsAtMost n (Gives (Asks name number), p) = Unit {0}
-HoldsAtMost n (Gives Bye, p) = p.held ≤ n
-HoldsAtMost n (Fails reason offset, p) = p.held ≤ n
+HoldsAtMost n (Gives Bye, p) = KeepsAtMost n p
+HoldsAtMost n (Fails reason offset, p) = KeepsAtMost n p
 
 abbrev pub reply_first : Pending → Result (Reply × List ℕ) Reason → Told Reply × Pending
 reply_first p (Ok (r, more)) = (Gives r, took p more)
@@ -92,9 +108,9 @@ after_reply p = reply_in p.phase p
 
 -- where no reply was told, so little is held
 abbrev pub RepliesHoldAtMost : ℕ → Told Reply × Pending → Type 0
-RepliesHoldAtMost n (Nothing, p) = p.held ≤ n
+RepliesHoldAtMost n (Nothing, p) = KeepsAtMost n p
 RepliesHoldAtMost n (Gives r, p) = Unit {0}
-RepliesHoldAtMost n (Fails reason offset, p) = p.held ≤ n
+RepliesHoldAtMost n (Fails reason offset, p) = KeepsAtMost n p
 
 -- nothing is read anymore
 abbrev pub IsOverIn : Phase → Type 0

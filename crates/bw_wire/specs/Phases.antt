@@ -1,8 +1,9 @@
 -- The parts of a framer.
-use Rattle.std.specs.Prelude.{◌≡◌, ℕ, ◌+◌, ◌-◌, ◌^◌, ◌≤◌, List, [], length, drop, Option, Some, None}
+use Rattle.std.specs.Prelude.{◌≡◌, ℕ, ◌+◌, ◌-◌, ◌^◌, ◌≤◌, length, drop, Option, Some, None}
 use Rattle.bw_wire.specs.declared.framer.Phase.{Phase}
 use Rattle.bw_wire.specs.declared.framer.Phase.TheVariants.{Reading, Left, Failed}
 use Rattle.bw_wire.specs.declared.reason.Reason.{Reason}
+use Rattle.bw_wire.specs.Held.{Held, nothing_held}
 use Rattle.bw_wire.specs.Pending as pending
 use Rattle.bw_wire.specs.Reasons.{reason_of}
 
@@ -15,19 +16,26 @@ abbrev pub phase_by : Option Reason → Phase
 phase_by None = Reading
 phase_by (Some reason) = Failed reason
 
--- a buffer, the place of its first byte that is not used up, how many were used and fed, and the phase
-abbrev pub pending_of : List ℕ → ℕ → ℕ → ℕ → Phase → pending.Pending
-pending_of items start used fed phase =
-    record { bytes = drop start items; used = used; fed = fed; held = length items; phase = phase_of phase }
+-- what is held, the place of its first byte that is not used up, how many were used and fed, and the phase
+abbrev pub pending_of : Held → ℕ → ℕ → ℕ → Phase → pending.Pending
+pending_of held start used fed phase = record {
+  bytes = drop start held.bytes;
+  used = used;
+  fed = fed;
+  held = length held.bytes;
+  room = held.room;
+  phase = phase_of phase;
+}
 
 -- at the end all bytes are let go
-abbrev pub LetsGo : Phase → List ℕ → Type 0
-LetsGo Reading items = Unit {0}
-LetsGo Left items = items ≡ []
-LetsGo (Failed reason) items = items ≡ []
+abbrev pub LetsGo : Phase → Held → Type 0
+LetsGo Reading held = Unit {0}
+LetsGo Left held = held ≡ nothing_held
+LetsGo (Failed reason) held = held ≡ nothing_held
 
-pub record IsFramer (items : List ℕ) (start used fed : ℕ) (phase : Phase) : Type 0 where
-  pub within : start ≤ length items
-  pub counted : used + (length items - start) ≤ fed
+pub record IsFramer (held : Held) (start used fed : ℕ) (phase : Phase) : Type 0 where
+  pub within : start ≤ length held.bytes
+  pub behind : start ≤ used
+  pub counted : used + (length held.bytes - start) ≤ fed
   pub bounded : fed ≤ 2 ^ 62
-  pub let_go : LetsGo phase items
+  pub let_go : LetsGo phase held

@@ -1,5 +1,5 @@
 -- What reasons mean, their codes, and their text.
-use Rattle.std.specs.Prelude.{◌≡◌, ℕ, List, Some, None, Result, MatchResult, codes}
+use Rattle.std.specs.Prelude.{◌≡◌, ℕ, List, ◌++◌, Some, None, Result, MatchResult, codes, decimal}
 use Rattle.bw_model.specs.Wire as model
 use Rattle.bw_model.specs.Replies.{reason_of as reason_with_code}
 use Rattle.bw_wire.specs.declared.reason.Reason.{Reason}
@@ -27,3 +27,7 @@ reason_text Name = codes "no name"
 reason_text Number = codes "no number"
 reason_text Payload = codes "a payload of another kind"
 reason_text Cut = codes "cut off"
+
+-- and of a code that no reason has
+abbrev pub unknown_text : UnknownCode → List ℕ
+unknown_text u = decimal u.0 ++ codes " is no code"

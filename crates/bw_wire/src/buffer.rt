@@ -1,18 +1,176 @@
-//! Bytes of a stream that are kept, of which some at the front are used up.
-ghost use Rattle.std.specs.Prelude.{◌≡◌, ◌≤◌, length, drop};
+//! Bytes of a stream that are kept, in a block of memory whose size is known.
+ghost use Rattle.std.specs.Prelude.{◌≡◌, ◌+◌, ◌≤◌, ◌<◌, ◌^◌, [], ◌++◌, length, take, drop, vec_len, vec_capacity, IsOk, OnOk, OnErr};
 
-/// The bytes from a place on.
-pub(crate) fn bytes_from(buffer: &Vec<u8>, start: usize) -> &[u8]
-    requires { start ≤ length buffer.now.items }
-    ensures { result.now ≡ drop start buffer.now.items }
-{
-    &buffer[start..]
+use std::alloc::{AllocError, Global};
+use std::marker::Model;
+use std::mem;
+
+/// Behind the whole frames at most so many bytes are left, of a frame that isn't whole.
+const LONGEST_REST: usize = 32_809;
+
+/// A larger block isn't kept for the next piece. With pieces of at most 64 KiB none is larger: with what is left of
+/// the piece before, it has at most twice 98,345 bytes.
+const LARGEST_KEPT: usize = 262_144;
+
+/// Bytes at the front of a block of memory, which has room for more behind them.
+///
+/// All of the block is written, with zeros behind the bytes: of a `Vec` that grows no contract says how large it may
+/// become, but of one that was reserved and filled.
+#[derive(Drop)]
+pub(crate) struct Buffer {
+    block: Vec<u8>,
+    len: usize,
+    /// Where the block is too large to be kept, another for what is left: there may be no memory for it then.
+    spare: Vec<u8>,
 }
 
-/// Lets so many bytes at the front go.
-pub(crate) fn drop_front(buffer: &mut Vec<u8>, count: usize)
-    requires { count ≤ length buffer.old.items }
-    ensures { buffer.new.items ≡ drop count buffer.old.items }
+impl Model for Buffer {
+    ghost use Rattle.bw_wire.specs.Held.{Held};
+
+    ghost Value = { Held };
+
+    ghost use Rattle.bw_wire.specs.Blocks.{held_in, IsBuffer};
+
+    ghost view = { held_in };
+
+    ghost invariant = { IsBuffer };
+}
+
+impl Buffer {
+    ghost use Rattle.bw_wire.specs.Held.{nothing_held, with_bytes, with_room, without_front};
+
+    /// No bytes, and no block.
+    pub(crate) fn new(alloc: Global) -> Buffer
+        ensures { result ≡ nothing_held }
+    {
+        Buffer {
+            block: Vec::new(alloc),
+            len: 0,
+            spare: Vec::new(alloc),
+        }
+    }
+
+    /// The bytes.
+    pub(crate) fn as_slice(&self) -> &[u8]
+        ensures { result.now ≡ self.now.bytes }
+    {
+        &self.block[..self.len]
+    }
+
+    /// How many bytes there are.
+    pub(crate) fn len(&self) -> usize
+        ensures { result ≡ length self.now.bytes }
+    {
+        self.len
+    }
+
+    /// The bytes from a place on.
+    pub(crate) fn bytes_from(&self, start: usize) -> &[u8]
+        requires { start ≤ length self.now.bytes }
+        ensures { result.now ≡ drop start self.now.bytes }
+    {
+        &self.as_slice()[start..]
+    }
+
+    /// Appends bytes.
+    ///
+    /// # Errors
+    /// `AllocError` where memory was refused: nothing changed.
+    pub(crate) fn append(&mut self, bytes: &[u8]) -> Result<(), AllocError>
+        requires { length self.old.bytes + length bytes.now ≤ 2 ^ 62 }
+        ensures ok { OnOk result (self.new ≡ with_bytes self.old bytes.now) }
+        ensures err { OnErr result (self.new ≡ self.old) }
+        ensures room { length self.old.bytes + length bytes.now ≤ self.old.room → IsOk result }
+        ensures empty { length bytes.now ≡ 0 → IsOk result }
+    {
+        let needed = self.len + bytes.len();
+        let room = self.block.len();
+        if needed > room {
+            self.grow(needed.max(2 * room))?;
+        }
+        copy_in(&mut self.block, self.len, bytes);
+        self.len = needed;
+        Ok(())
+    }
+
+    /// Makes the block so large.
+    fn grow(&mut self, size: usize) -> Result<(), AllocError>
+        requires { self.old.room < size }
+        ensures ok { OnOk result (self.new ≡ with_room self.old size) }
+        ensures err { OnErr result (self.new ≡ self.old) }
+    {
+        if size > LARGEST_KEPT && self.spare.is_empty() {
+            fill_up(&mut self.spare, LONGEST_REST)?;
+        }
+        let grown = fill_up(&mut self.block, size);
+        if self.block.len() <= LARGEST_KEPT {
+            let_go(&mut self.spare);
+        }
+        grown
+    }
+
+    /// Lets so many bytes at the front go, and with them a block that is too large to be kept.
+    pub(crate) fn drop_front(&mut self, count: usize)
+        requires within { count ≤ length self.old.bytes }
+        requires short { length self.old.bytes ≤ count + 32809 }
+        ensures { self.new ≡ without_front self.old count }
+    {
+        if self.block.len() > LARGEST_KEPT {
+            copy_in(&mut self.spare, 0, &self.block[count..self.len]);
+            mem::swap(&mut self.block, &mut self.spare);
+            let_go(&mut self.spare);
+            self.len -= count;
+            return;
+        }
+        if count == 0 {
+            return;
+        }
+        self.block.copy_within(count..self.len, 0);
+        self.len -= count;
+    }
+
+    /// Lets all bytes and the block go.
+    pub(crate) fn clear(&mut self)
+        ensures { self.new ≡ nothing_held }
+    {
+        let_go(&mut self.block);
+        let_go(&mut self.spare);
+        self.len = 0;
+    }
+}
+
+/// Makes a block so large, with zeros behind what it has.
+fn fill_up(block: &mut Vec<u8>, size: usize) -> Result<(), AllocError>
+    requires full { vec_capacity block.old ≡ vec_len block.old }
+    requires larger { vec_len block.old ≤ size }
+    ensures len { OnOk result (vec_len block.new ≡ size) }
+    ensures capacity { OnOk result (vec_capacity block.new ≡ size) }
+    ensures front { OnOk result (take (vec_len block.old) block.new.items ≡ block.old.items) }
+    ensures items { OnErr result (block.new.items ≡ block.old.items) }
+    ensures err { OnErr result (vec_capacity block.new ≡ vec_capacity block.old) }
 {
-    buffer.drain(..count);
+    block.reserve_exact(size - block.len())?;
+    while block.len() < size {
+        block.push_reserved(0);
+    }
+    Ok(())
+}
+
+/// Lets a block go.
+fn let_go(block: &mut Vec<u8>)
+    ensures items { block.new.items ≡ [] }
+    ensures capacity { vec_capacity block.new ≡ 0 }
+{
+    block.clear();
+    block.shrink_to_fit();
+}
+
+/// Puts bytes over as many that stand there.
+fn copy_in(block: &mut Vec<u8>, start: usize, bytes: &[u8])
+    requires { start + length bytes.now ≤ vec_len block.old }
+    ensures front { take (start + length bytes.now) block.new.items ≡ take start block.old.items ++ bytes.now }
+    ensures len { vec_len block.new ≡ vec_len block.old }
+    ensures capacity { vec_capacity block.new ≡ vec_capacity block.old }
+{
+    block[start..start + bytes.len()].copy_from_slice(bytes);
 }

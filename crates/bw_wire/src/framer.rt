@@ -1,7 +1,7 @@
 //! A stream of frames that comes in pieces.
 ghost use Rattle.std.specs.Prelude.{◌≡◌, ◌+◌, ◌≤◌, ◌^◌, length, IsOk, OnOk, OnErr};
 
-use crate::buffer::{bytes_from, drop_front};
+use crate::buffer::Buffer;
 use crate::fault::WireFault;
 use crate::front::{Front, front_of};
 use crate::message::{Ask, Frame, Message};
@@ -19,10 +19,11 @@ pub(crate) enum Phase {
 
 /// Takes the frames of an exchange out of its bytes, which come in pieces of any size.
 ///
-/// Take out all frames before feeding the next piece, so that little is held.
+/// Take out all frames before feeding the next piece, so that little is held: at most 32,809 bytes, in a block of at
+/// most 262,144.
 #[derive(Drop)]
 pub struct Framer {
-    buffer: Vec<u8>,
+    buffer: Buffer,
     start: usize,
     used: u64,
     fed: u64,
@@ -37,16 +38,16 @@ impl Model for Framer {
 
     ghost use Rattle.bw_wire.specs.Phases.{phase_of, IsFramer, pending_of};
 
-    ghost view = { λ f. pending_of f.buffer.items f.start f.used f.fed f.phase };
+    ghost view = { λ f. pending_of f.buffer f.start f.used f.fed f.phase };
 
-    ghost invariant = { λ f. IsFramer f.buffer.items f.start f.used f.fed f.phase };
+    ghost invariant = { λ f. IsFramer f.buffer f.start f.used f.fed f.phase };
 }
 
 impl Framer {
     ghost use Rattle.std.specs.Borrow.{sem};
     ghost use Rattle.std.specs.Io.BufRead.{Rests};
     ghost use Rattle.bw_wire.specs.contracts.framer.Framer.{the_row};
-    ghost use Rattle.bw_wire.specs.Pending.{fresh, with_piece, after, HoldsAtMost, end_fault, IsOver};
+    ghost use Rattle.bw_wire.specs.Pending.{fresh, with_piece, after, KeepsAtMost, IsKept, HoldsAtMost, end_fault, IsOver};
     ghost use Rattle.bw_wire.specs.Telling.{told, end_told};
 
     /// A framer at the start of a stream.
@@ -54,7 +55,7 @@ impl Framer {
         ensures { result ≡ fresh }
     {
         Framer {
-            buffer: Vec::new(alloc),
+            buffer: Buffer::new(alloc),
             start: 0,
             used: 0,
             fed: 0,
@@ -79,10 +80,13 @@ impl Framer {
         ensures ok { OnOk result (self.new ≡ with_piece self.old piece.now) }
         ensures err { OnErr result (self.new ≡ self.old) }
         ensures dropped { IsOver self.old → IsOk result }
+        ensures room { self.old.held + length piece.now ≤ self.old.room → IsOk result }
+        ensures empty { length piece.now ≡ 0 → IsOk result }
+        ensures bounded { KeepsAtMost 32809 self.old → length piece.now ≤ 65536 → IsKept self.new }
     {
         match self.phase {
             Phase::Reading => {
-                self.buffer.extend_from_slice(piece)?;
+                self.buffer.append(piece)?;
                 self.fed += piece.len() as u64;
                 Ok(())
             }
@@ -109,9 +113,9 @@ impl Framer {
             Phase::Failed(reason) => return Err(WireFault { reason, offset }),
         }
         let at = self.start + 4;
-        match front_of(bytes_from(&self.buffer, self.start)) {
+        match front_of(self.buffer.bytes_from(self.start)) {
             Front::Partial => {
-                drop_front(&mut self.buffer, self.start);
+                self.buffer.drop_front(self.start);
                 self.start = 0;
                 Ok(None)
             }
@@ -131,13 +135,13 @@ impl Framer {
             Front::Message(len) => {
                 self.start = at + len;
                 self.used += 4 + len as u64;
-                let body = &self.buffer[at..at + len];
+                let body = &self.buffer.as_slice()[at..at + len];
                 Ok(Some(Frame::Message(Message { body })))
             }
             Front::Ask(len) => {
                 self.start = at + len;
                 self.used += 4 + len as u64;
-                let body = &self.buffer[at..at + len];
+                let body = &self.buffer.as_slice()[at..at + len];
                 Ok(Some(Frame::Ask(Ask { body })))
             }
         }

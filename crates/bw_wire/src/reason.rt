@@ -3,8 +3,8 @@ ghost use Rattle.std.specs.Prelude.{◌≡◌, ◌≤◌, Some};
 ghost use Rattle.bw_model.specs.Wire.{reason_code};
 ghost use Rattle.bw_wire.specs.Reasons.{reason_of, DecodesReason};
 
+use std::error::Error;
 use std::fmt;
-use thiserror::Error;
 
 /// Why bytes are no frame: the first that holds.
 #[derive(Clone, Copy, Debug, PartialEq, Eq, Hash)]
@@ -34,9 +34,20 @@ impl Reason {
 }
 
 /// A byte that is no code.
-#[derive(Clone, Copy, Debug, PartialEq, Eq, Hash, Error)]
-#[error("{0} is no code")]
+#[derive(Clone, Copy, Debug, PartialEq, Eq, Hash)]
 pub struct UnknownCode(pub u8);
+
+impl fmt::Display for UnknownCode {
+    ghost use Rattle.bw_wire.specs.Reasons.{unknown_text};
+
+    ghost output = { λ unknown. Some (unknown_text unknown) };
+
+    fn fmt<W: fmt::Write>(&self, f: &mut fmt::Formatter<W>) -> fmt::Result {
+        write!(f, "{} is no code", self.0)
+    }
+}
+
+impl Error for UnknownCode {}
 
 impl TryFrom<u8> for Reason {
     type Error = UnknownCode;

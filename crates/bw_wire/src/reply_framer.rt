@@ -1,7 +1,7 @@
 //! A stream of replies that comes in pieces.
 ghost use Rattle.std.specs.Prelude.{◌≡◌, ◌+◌, ◌≤◌, ◌^◌, length, IsOk, OnOk, OnErr};
 
-use crate::buffer::{bytes_from, drop_front};
+use crate::buffer::Buffer;
 use crate::fault::WireFault;
 use crate::reason::Reason;
 use crate::reply::Reply;
@@ -11,10 +11,11 @@ use std::marker::Model;
 
 /// Takes the replies of an exchange out of its bytes, which come in pieces of any size.
 ///
-/// Take out all replies before feeding the next piece, so that little is held.
+/// Take out all replies before feeding the next piece, so that little is held: at most 46 bytes, in a block of at
+/// most 262,144.
 #[derive(Drop)]
 pub struct ReplyFramer {
-    buffer: Vec<u8>,
+    buffer: Buffer,
     start: usize,
     used: u64,
     fed: u64,
@@ -29,13 +30,13 @@ impl Model for ReplyFramer {
 
     ghost use Rattle.bw_wire.specs.Phases.{phase_by, IsFramer, pending_of};
 
-    ghost view = { λ f. pending_of f.buffer.items f.start f.used f.fed (phase_by f.failed) };
+    ghost view = { λ f. pending_of f.buffer f.start f.used f.fed (phase_by f.failed) };
 
-    ghost invariant = { λ f. IsFramer f.buffer.items f.start f.used f.fed (phase_by f.failed) };
+    ghost invariant = { λ f. IsFramer f.buffer f.start f.used f.fed (phase_by f.failed) };
 }
 
 impl ReplyFramer {
-    ghost use Rattle.bw_wire.specs.Pending.{fresh, with_piece, after_reply, RepliesHoldAtMost, end_fault, IsOver};
+    ghost use Rattle.bw_wire.specs.Pending.{fresh, with_piece, after_reply, KeepsAtMost, IsKept, RepliesHoldAtMost, end_fault, IsOver};
     ghost use Rattle.bw_wire.specs.Telling.{reply_told, end_told};
 
     /// A framer at the start of a stream.
@@ -43,7 +44,7 @@ impl ReplyFramer {
         ensures { result ≡ fresh }
     {
         ReplyFramer {
-            buffer: Vec::new(alloc),
+            buffer: Buffer::new(alloc),
             start: 0,
             used: 0,
             fed: 0,
@@ -68,10 +69,13 @@ impl ReplyFramer {
         ensures ok { OnOk result (self.new ≡ with_piece self.old piece.now) }
         ensures err { OnErr result (self.new ≡ self.old) }
         ensures dropped { IsOver self.old → IsOk result }
+        ensures room { self.old.held + length piece.now ≤ self.old.room → IsOk result }
+        ensures empty { length piece.now ≡ 0 → IsOk result }
+        ensures bounded { KeepsAtMost 46 self.old → length piece.now ≤ 65536 → IsKept self.new }
     {
         match self.failed {
             None => {
-                self.buffer.extend_from_slice(piece)?;
+                self.buffer.append(piece)?;
                 self.fed += piece.len() as u64;
                 Ok(())
             }
@@ -97,9 +101,9 @@ impl ReplyFramer {
                 offset: self.used,
             });
         }
-        match reply_front_of(bytes_from(&self.buffer, self.start)) {
+        match reply_front_of(self.buffer.bytes_from(self.start)) {
             ReplyFront::Partial => {
-                drop_front(&mut self.buffer, self.start);
+                self.buffer.drop_front(self.start);
                 self.start = 0;
                 Ok(None)
             }

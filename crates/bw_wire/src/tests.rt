@@ -36,8 +36,8 @@ fn take(alloc: Global) -> Result<Vec<u8>, Fail> {
 }
 
 fn feed(rt: &impl Abort, framer: &mut Framer, piece: &[u8]) -> Result<(), Fail> {
-    assert!(rt; framer.fed() <= 100_000);
-    assert!(rt; piece.len() <= 100_000);
+    assert!(rt; framer.fed() <= 1_000_000);
+    assert!(rt; piece.len() <= 1_000_000);
     framer.feed(piece)?;
     Ok(())
 }
@@ -341,6 +341,16 @@ fn a_number_has_a_limit(rt: HostRuntime) {
         &decode(one_more).err(),
         &Some(Reason::Number),
     );
+}
+
+/// Longer than any block that is kept for a further piece.
+#[test]
+fn a_long_piece_is_fed_where_memory_is_ample(rt: HostRuntime) -> Result<(), Fail> {
+    let piece = vec![in rt.alloc(); 0; 300_000]?;
+    let mut framer = Framer::new(rt.alloc());
+    feed(&rt, &mut framer, &piece)?;
+    same(&rt, "all of it", &framer.fed(), &300_000);
+    Ok(())
 }
 
 #[test]

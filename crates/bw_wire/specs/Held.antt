@@ -1,0 +1,39 @@
+-- Bytes that are held in a block of memory.
+use Rattle.std.specs.Prelude.{ℕ, ◌+◌, ◌*◌, List, [], ◌++◌, length, drop, max, nat_le, if◌then◌else◌}
+
+-- behind the whole frames at most so many bytes are left
+abbrev pub longest_rest : ℕ
+longest_rest = 32809
+
+-- a larger block isn't kept for a further piece
+abbrev pub largest_kept : ℕ
+largest_kept = 262144
+
+pub record Held : Type 0 where
+  -- the bytes
+  pub bytes : List ℕ
+  -- how many the block has room for
+  pub room : ℕ
+
+abbrev pub nothing_held : Held
+nothing_held = record { bytes = []; room = 0 }
+
+-- the room of a block once it has room for so many bytes: where it grows, at least twice its size
+abbrev pub room_for : ℕ → ℕ → ℕ
+room_for needed room = if nat_le needed room then room else max needed (2 * room)
+
+-- the room of the block that is kept behind the whole frames: a large one is let go
+abbrev pub room_kept : ℕ → ℕ
+room_kept room = if nat_le room largest_kept then room else longest_rest
+
+-- with a block of this size
+abbrev pub with_room : Held → ℕ → Held
+with_room h room = record h { room = room }
+
+-- with bytes more
+abbrev pub with_bytes : Held → List ℕ → Held
+with_bytes h bytes = record { bytes = h.bytes ++ bytes; room = room_for (length h.bytes + length bytes) h.room }
+
+-- without so many bytes at the front
+abbrev pub without_front : Held → ℕ → Held
+without_front h count = record { bytes = drop count h.bytes; room = room_kept h.room }
