@@ -22,14 +22,14 @@ pub record BeginsInPart (header : Header) (before after : Option (List ℕ)) : T
   pub kept : BeginsWith (header_bytes header) before → after ≡ before
 
 -- After a `note` that succeeds: the bytes stand behind so many others, in place of a front of them.
-abbrev pub Appends : ℕ → List ℕ → Option (List ℕ) → Option (List ℕ) → Type 0
-Appends offset bytes before after =
+abbrev pub Notes : ℕ → List ℕ → Option (List ℕ) → Option (List ℕ) → Type 0
+Notes offset bytes before after =
     (base : List ℕ) (count : ℕ) → before ≡ Some (base ++ take count bytes) → length base ≡ offset →
     after ≡ Some (base ++ bytes)
 
 -- .. that fails: a front of them stands there
-abbrev pub AppendsInPart : ℕ → List ℕ → Option (List ℕ) → Option (List ℕ) → Type 0
-AppendsInPart offset bytes before after =
+abbrev pub NotesInPart : ℕ → List ℕ → Option (List ℕ) → Option (List ℕ) → Type 0
+NotesInPart offset bytes before after =
     (base : List ℕ) (count : ℕ) → before ≡ Some (base ++ take count bytes) → length base ≡ offset →
     (reached : ℕ) × (after ≡ Some (base ++ take reached bytes))
 

@@ -3,7 +3,7 @@ ghost use Rattle.std.specs.Prelude.{◌≡◌, ℕ, List, Bool, Option, None, fa
 ghost use Rattle.bw_model.specs.Counts.{Counts};
 ghost use Rattle.bw_file.specs.Stores.{KeepsOthers};
 ghost use Rattle.bw_journal.specs.JournalHeaders.{Header};
-ghost use Rattle.bw_journal.specs.Notes.{Begins, BeginsInPart, Appends, AppendsInPart, KeepsHeaders};
+ghost use Rattle.bw_journal.specs.Notes.{Begins, BeginsInPart, Notes, NotesInPart, KeepsHeaders};
 
 use bw_file::StoreFault;
 use bw_take::Name;
@@ -55,9 +55,9 @@ pub trait Journal: Drop {
         ensures headers { IsTrue (honest self.old) →
             KeepsHeaders (header self.old) (header self.new) }
         ensures noted { IsTrue (honest self.old) → OnOk result
-            (Appends offset bytes.now (notes self.old name.now) (notes self.new name.now)) }
+            (Notes offset bytes.now (notes self.old name.now) (notes self.new name.now)) }
         ensures failed { IsTrue (honest self.old) → OnErr result
-            (AppendsInPart offset bytes.now (notes self.old name.now) (notes self.new name.now)) }
+            (NotesInPart offset bytes.now (notes self.old name.now) (notes self.new name.now)) }
         ensures others { IsTrue (honest self.old) →
             KeepsOthers (notes self.old) (notes self.new) name.now };
 }

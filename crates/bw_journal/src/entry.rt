@@ -1,0 +1,106 @@
+//! Entries of a journal, as they are read.
+ghost use Rattle.std.specs.Prelude.{◌≡◌, ◌+◌, ◌≤◌, IsTrue, IfSome, option_map, length};
+ghost use Rattle.bw_model.specs.Bytes.{zeros as zero_bytes};
+ghost use Rattle.bw_model.specs.Wire.{is_request};
+ghost use Rattle.bw_take.specs.Requests.{meaning};
+ghost use Rattle.bw_journal.specs.Entries.{block_noted, request_in, entry_in, first_entry as first_entry_in};
+ghost use Rattle.bw_journal.specs.Refs.{entry_found, entry_said};
+
+use crate::seal::opened;
+use bw_layout::read_u32;
+use bw_take::{RequestRef, Verdict};
+use bw_wire::decode_request;
+
+/// The kind byte of a block.
+pub(crate) const BLOCK: u8 = 2;
+
+/// A done number as a journal tells it: a block has zeros in place of its samples.
+#[derive(Clone, Copy, Debug)]
+pub struct EntryRef<'a> {
+    /// What its message said.
+    pub request: RequestRef<'a>,
+    /// What was answered.
+    pub verdict: Verdict,
+    /// The digest of its body (SHA-256, FIPS 180-4).
+    pub digest: &'a [u8],
+}
+
+/// The entry at the front of the bytes, and how many bytes it takes.
+///
+/// None where the front is torn, or is no entry. `zeros` are lent to it in place of samples.
+#[tactic(auto, unfolding(crate::specs::Entries::first_entry))]
+pub fn first_entry<'a>(bytes: &'a [u8], zeros: &'a [u8]) -> Option<(EntryRef<'a>, usize)>
+    requires { zeros.now ≡ zero_bytes 32768 }
+    ensures value { entry_found result ≡ first_entry_in bytes.now }
+    ensures digest { IfSome result (λ x. length x.0.digest.now ≡ 32) }
+    ensures fits { IfSome result (λ x. IsTrue (is_request (meaning x.0.request))) }
+    ensures within { IfSome result (λ x. x.1 ≤ length bytes.now) }
+{
+    let Some(content) = opened(bytes) else {
+        return None;
+    };
+    let Some(entry) = entry_of(content, zeros) else {
+        return None;
+    };
+    Some((entry, 10 + content.len()))
+}
+
+/// The entry with this content.
+#[tactic(auto, unfolding(crate::specs::Entries::entry_in))]
+fn entry_of<'a>(content: &'a [u8], zeros: &'a [u8]) -> Option<EntryRef<'a>>
+    requires { zeros.now ≡ zero_bytes 32768 }
+    ensures value { option_map entry_said result ≡ entry_in content.now }
+    ensures digest { IfSome result (λ e. length e.digest.now ≡ 32) }
+    ensures fits { IfSome result (λ e. IsTrue (is_request (meaning e.request))) }
+{
+    if content.len() < 34 {
+        return None;
+    }
+    let Ok(verdict) = Verdict::try_from(content[0]) else {
+        return None;
+    };
+    let Some(request) = request_of(&content[33..], zeros) else {
+        return None;
+    };
+    Some(EntryRef {
+        request,
+        verdict,
+        digest: &content[1..33],
+    })
+}
+
+/// The request that is noted so.
+fn request_of<'a>(noted: &'a [u8], zeros: &'a [u8]) -> Option<RequestRef<'a>>
+    requires { zeros.now ≡ zero_bytes 32768 }
+    ensures value { option_map meaning result ≡ request_in noted.now }
+    ensures fits { IfSome result (λ r. IsTrue (is_request (meaning r))) }
+{
+    let Some((kind, payload)) = noted.split_first() else {
+        return None;
+    };
+    if *kind == BLOCK {
+        return block_of(payload, zeros);
+    }
+    match decode_request(noted) {
+        Ok(request) => Some(request),
+        Err(_) => None,
+    }
+}
+
+/// The block of a length that is noted, with zeros as its samples.
+fn block_of<'a>(payload: &[u8], zeros: &'a [u8]) -> Option<RequestRef<'a>>
+    requires { zeros.now ≡ zero_bytes 32768 }
+    ensures value { option_map meaning result ≡ block_noted payload.now }
+    ensures fits { IfSome result (λ r. IsTrue (is_request (meaning r))) }
+{
+    if payload.len() != 4 {
+        return None;
+    }
+    let len = read_u32(payload, 0) as usize;
+    if len == 0 || len > 32_768 {
+        return None;
+    }
+    Some(RequestRef::Block {
+        bytes: &zeros[..len],
+    })
+}

@@ -1,0 +1,123 @@
+//! Writing an entry.
+ghost use Rattle.std.specs.Prelude.{◌≡◌, ◌+◌, ◌≤◌, IsTrue, length, take, vec_len, vec_capacity};
+ghost use Rattle.bw_model.specs.Wire.{is_request, kind as kind_of};
+ghost use Rattle.bw_layout.specs.Appending.{Appends, Gains};
+ghost use Rattle.bw_take.specs.Requests.{meaning};
+ghost use Rattle.bw_take.specs.Verdicts.{verdict_of};
+ghost use Rattle.bw_journal.specs.Entries.{Entry, noted as noted_of, noted_payload, content as content_of, entry_bytes, longest_entry};
+
+use crate::entry::BLOCK;
+use crate::seal::{check, push};
+use bw_take::{RequestRef, Verdict};
+use std::alloc::{AllocError, Global};
+
+/// Appends the entry of a done number: of a block its length, and not its samples.
+///
+/// # Errors
+/// `AllocError` where memory was refused.
+#[tactic(auto, using(crate::proofs::Lengths::entry_length), unfolding(crate::specs::Seals::sealed))]
+pub fn put_entry(
+    _alloc: Global,
+    out: &mut Vec<u8>,
+    verdict: Verdict,
+    digest: &[u8; 32],
+    request: &RequestRef<'_>,
+) -> Result<(), AllocError>
+    requires { IsTrue (is_request (meaning request.now)) }
+    ensures entry { let e : Entry = record {
+        request = meaning request.now; verdict = verdict_of verdict; digest = digest.now } in
+        Appends (entry_bytes e) (length (entry_bytes e)) result out.old out.new }
+    ensures short { let e : Entry = record {
+        request = meaning request.now; verdict = verdict_of verdict; digest = digest.now } in
+        length (entry_bytes e) ≤ longest_entry }
+{
+    let len = 33 + noted_len(request);
+    out.reserve(10 + len)?;
+    push(out, &(len as u16).to_le_bytes());
+    let start = out.len();
+    push_content(out, verdict, digest, request);
+    let check = check(&out[start..]);
+    push(out, &check[..8]);
+    Ok(())
+}
+
+/// Appends an entry's content, for which there is room.
+#[tactic(auto, unfolding(crate::specs::Entries::content))]
+fn push_content(
+    out: &mut Vec<u8>,
+    verdict: Verdict,
+    digest: &[u8; 32],
+    request: &RequestRef<'_>,
+)
+    requires fits { IsTrue (is_request (meaning request.now)) }
+    requires room { vec_len out.old + 33 + length (noted_of (meaning request.now))
+        ≤ vec_capacity out.old }
+    ensures { let e : Entry = record {
+        request = meaning request.now; verdict = verdict_of verdict; digest = digest.now } in
+        Gains (content_of e) (33 + length (noted_of (meaning request.now))) out.old out.new }
+{
+    push(out, &[verdict.code()]);
+    push(out, digest);
+    push(out, &[kind(request)]);
+    push_payload(out, request);
+}
+
+/// How many bytes are noted of a request.
+fn noted_len(request: &RequestRef<'_>) -> usize
+    requires { IsTrue (is_request (meaning request.now)) }
+    ensures value { result ≡ length (noted_of (meaning request.now)) }
+    ensures range { result ≤ 4107 }
+{
+    match request {
+        RequestRef::OpenTake { history, .. } => 11 + history.len(),
+        RequestRef::Block { .. } => 5,
+        RequestRef::Mark { .. } | RequestRef::CloseTake { .. } => 9,
+        RequestRef::SetField { value, .. } => 2 + value.len(),
+    }
+}
+
+fn kind(request: &RequestRef<'_>) -> u8
+    ensures { result ≡ kind_of (meaning request.now) }
+{
+    match request {
+        RequestRef::OpenTake { .. } => 1,
+        RequestRef::Block { .. } => BLOCK,
+        RequestRef::Mark { .. } => 3,
+        RequestRef::SetField { .. } => 4,
+        RequestRef::CloseTake { .. } => 5,
+    }
+}
+
+/// Appends a request's payload, and of a block its length, for which there is room.
+fn push_payload(out: &mut Vec<u8>, request: &RequestRef<'_>)
+    requires fits { IsTrue (is_request (meaning request.now)) }
+    requires room { vec_len out.old + length (noted_payload (meaning request.now))
+        ≤ vec_capacity out.old }
+    ensures { let bytes = noted_payload (meaning request.now) in
+        Gains bytes (length bytes) out.old out.new }
+{
+    match *request {
+        RequestRef::OpenTake {
+            rate,
+            channels,
+            bits,
+            history,
+        } => {
+            push(out, &rate.to_le_bytes());
+            push(out, &channels.to_le_bytes());
+            push(out, &bits.to_le_bytes());
+            push(out, &(history.len() as u16).to_le_bytes());
+            push(out, history);
+        }
+        RequestRef::Block { bytes } => push(out, &(bytes.len() as u32).to_le_bytes()),
+        RequestRef::Mark { id, frame } => {
+            push(out, &id.to_le_bytes());
+            push(out, &frame.to_le_bytes());
+        }
+        RequestRef::SetField { tag, value } => {
+            push(out, &[tag]);
+            push(out, value);
+        }
+        RequestRef::CloseTake { frames } => push(out, &frames.to_le_bytes()),
+    }
+}
