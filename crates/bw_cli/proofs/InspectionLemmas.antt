@@ -1,65 +1,71 @@
--- What an inspection writes, from what its steps write.
-use Rattle.std.proofs.Common.{◌≡◌, ℕ, List, [], ◌++◌, Option, Some, Result, Ok, Err, OnOk, OnErr, IfErr, refl, ap, subst, sym, ◌∙◌}
-use Rattle.std.proofs.lemmas.List.{append-nil}
-use Rattle.bw_layout.specs.Moves.{Begins, Writes}
-use Rattle.bw_model.specs.Reading.{Fault, FaultKind}
-use Rattle.bw_model.specs.Reading as reading
+-- What an inspection does, from what its steps do.
+use Rattle.std.proofs.Common.{◌≡◌, ◌∙◌, ◌⊎◌, ℕ, List, [], ◌++◌, Bool, true, false, not, Option, Some, Result, Ok, Err, inl, inr, refl, ap, subst, if◌then◌else◌}
+use Rattle.bw_layout.specs.Moves.{Keeps, Writes, one_more}
 use Rattle.bw_model.specs.Report.{report_text}
-use Rattle.bw_inspect.specs.Faults.{fault_of, kind_of}
+use Rattle.bw_inspect.specs.Places.{Of}
 use Rattle.bw_inspect.specs.Readings.{Refuses, Tells}
 use Rattle.bw_inspect.specs.Reports.{told_by}
+use Rattle.bw_inspect.specs.Faults.{is_read as is_read_fault}
 use Rattle.bw_inspect.specs.declared.fault.InspectFault.{InspectFault}
-use Rattle.bw_inspect.specs.declared.fault.InspectKind.{InspectKind}
-use Rattle.bw_inspect.specs.declared.fault.InspectKind.TheVariants.{NotWave, Truncated, NoDs64, BadDs64, NoSize, Twice, NoFmt, NoData, BadFmt, BadBext, BadCue, TooMany, TooLarge, Read, Memory}
 use Rattle.bw_inspect.specs.declared.report.Report.{Report}
-use Rattle.bw_cli.specs.declared.exit.Exit.TheVariants.{Device, Refused}
-use Rattle.bw_cli.specs.declared.fault.Fault.{Fault as Failure}
-use Rattle.bw_cli.specs.declared.fault.Fault.TheVariants as failures
-use Rattle.bw_cli.specs.Faults.{exit_on}
-use Rattle.bw_cli.specs.Inspections.{BeginsReport, Inspects, StopsText, TellsFault, exit_for, fault_line}
+use Rattle.bw_cli.specs.Deeds.{Deed}
+use Rattle.bw_cli.specs.Faults.{IsToldBy, exit_of}
+use Rattle.bw_cli.specs.Inspections.{IsInspection, IsPrintOfText, exit_for, fault_line}
+use Rattle.bw_cli.specs.Printing.{IsOf, Nothing, Print, failures_if}
+use Rattle.bw_cli.specs.declared.fault.Fault.{Fault}
 
--- the text of a report that is told is that of a reading
-pub report-written : (b : List ℕ) (r : Report) (left old new : Option (List ℕ)) → Tells b r left → Writes old (report_text (told_by r)) new → Inspects b old new
-report-written b r left old new t w =
-    record { reading_is = t.reading_is; wrote = subst (λ x. Writes old (report_text x) new) t.tells w }
+-- an inspection that came to a report
+pub report-told : (file : Option (List ℕ)) (r : Report) (left : Option (List ℕ)) (outcome : Result (Unit {0}) Fault)
+    (out faults : Print) → Of file (λ b. Tells b r left) → IsPrintOfText (report_text (told_by r)) outcome out
+    → IsToldBy outcome faults
+    → IsInspection file (record { reads_all = true; out = out; faults = faults; exit = exit_of outcome })
+report-told file r left outcome out faults tells prints told = inl (record {
+  outcome = outcome;
+  exit_is = refl;
+  reads = refl;
+  text = report_text (told_by r);
+  right = λ b e. record { reading_is = (tells b e).reading_is; is = ap report_text (tells b e).tells };
+  prints = prints;
+  tells = told;
+})
 
-pub report-begun : (b : List ℕ) (r : Report) (left old new : Option (List ℕ)) → Tells b r left → Begins old (report_text (told_by r)) new → BeginsReport b old new
-report-begun b r left old new t w =
-    record { reading_is = t.reading_is; wrote = subst (λ x. Begins old (report_text x) new) t.tells w }
+-- an inspection that came to a fault
+pub fault-told : (file : Option (List ℕ)) (f : InspectFault) (left : Option (List ℕ)) (faults : Print)
+    → Of file (λ b. Refuses b f left) → IsOf (fault_line f) faults
+    → IsInspection file (record { reads_all = not (is_read_fault f.kind); out = Nothing; faults = faults; exit = exit_for f.kind })
+fault-told file f left faults refuses told = inr (record {
+  fault = f;
+  exit_is = refl;
+  reads = refl;
+  right = λ b e met same. (refuses b e).fault met same;
+  prints = refl;
+  tells = told;
+})
 
--- a text that ends with Device was begun
-pub device-begins : (f : Failure) (text : List ℕ) (old new : Option (List ℕ)) → exit_on f ≡ Device → StopsText text f old new → Begins old text new
-device-begins failures.Unwritable text old new e s = s
-device-begins failures.Memory text old new e s = cc
-device-begins failures.TooLong text old new e s = absurd s
-device-begins (failures.NotHex n) text old new e s = absurd s
-device-begins (failures.NotInOrder n) text old new e s = absurd s
-device-begins failures.Unreadable text old new e s = absurd s
+-- the reader failed exactly where not all reads succeeded
+pub failures-not : (failed : Bool) (n : ℕ) → (if failed then one_more n else n) ≡ failures_if (not failed) n
+failures-not true n = refl
+failures-not false n = refl
 
--- a kind that refuses is one of the bytes
-refusing : (k : InspectKind) → exit_for k ≡ Refused → (kind : FaultKind) × (kind_of k ≡ Some kind)
-refusing NotWave e = (reading.NotWave, refl)
-refusing Truncated e = (reading.Truncated, refl)
-refusing NoDs64 e = (reading.NoDs64, refl)
-refusing BadDs64 e = (reading.BadDs64, refl)
-refusing NoSize e = (reading.NoSize, refl)
-refusing Twice e = (reading.Twice, refl)
-refusing NoFmt e = (reading.NoFmt, refl)
-refusing NoData e = (reading.NoData, refl)
-refusing BadFmt e = (reading.BadFmt, refl)
-refusing BadBext e = (reading.BadBext, refl)
-refusing BadCue e = (reading.BadCue, refl)
-refusing TooMany e = (reading.TooMany, refl)
-refusing TooLarge e = (reading.TooLarge, refl)
-refusing Read e = cc
-refusing Memory e = cc
-
-pub fault-told : (b : List ℕ) (f : InspectFault) (left old new : Option (List ℕ)) → exit_for f.kind ≡ Refused → Refuses b f left → Begins old (fault_line f) new → TellsFault b old new
-fault-told b f left old new e r told =
-    let k = refusing f.kind e in
-    let met : Fault = record { kind = k.0; offset = f.offset } in
-    let same : fault_of f ≡ Some met = rw k.1 refl in
-    record { fault = f; met = met; same = same; is = r.fault met same; told = told }
+-- what is true of a reader's bytes is true of those of its file
+pub inspected-at : (file left : Option (List ℕ)) (did : Deed) → Keeps file left → IsInspection left did → IsInspection file did
+inspected-at file left did keeps (inl r) = inl (record {
+  outcome = r.outcome;
+  exit_is = r.exit_is;
+  reads = r.reads;
+  text = r.text;
+  right = λ b e. r.right b (keeps b e);
+  prints = r.prints;
+  tells = r.tells;
+})
+inspected-at file left did keeps (inr r) = inr (record {
+  fault = r.fault;
+  exit_is = r.exit_is;
+  reads = r.reads;
+  right = λ b e. r.right b (keeps b e);
+  prints = r.prints;
+  tells = r.tells;
+})
 
 -- what is written into empty memory is all that is there
 pub text-made : (start made text : List ℕ) → start ≡ [] → Writes (Some start) text (Some made) → made ≡ text
@@ -67,23 +73,3 @@ text-made start made text e w =
     let h : Some made ≡ Some (start ++ text) = w start refl in
     let k : made ≡ start ++ text = cc in
     k ∙ ap (λ x. x ++ text) e
-
--- how printing a text stops
-pub print-stops : {X : Type 0} (result : Result X Failure) (bytes text : List ℕ) (old new : Option (List ℕ)) → bytes ≡ text
-    → OnErr result (Begins old bytes new) → IfErr result (λ f. f ≡ failures.Unwritable) → IfErr result (λ f. StopsText text f old new)
-print-stops (Ok x) bytes text old new e begun is = tt
-print-stops (Err f) bytes text old new e begun is =
-    subst (λ g. StopsText text g old new) (sym is) (subst (λ t. Begins old t new) e begun)
-
--- printed or not, a beginning is written
-pub print-begins : {X : Type 0} (result : Result X Failure) (bytes text : List ℕ) (old new : Option (List ℕ)) → bytes ≡ text
-    → OnOk result (Writes old bytes new) → OnErr result (Begins old bytes new) → Begins old text new
-print-begins (Ok x) bytes text old new e wrote begun =
-    λ xs is. record { part = text; rest = []; whole = append-nil text; stands = subst (λ t. new ≡ Some (xs ++ t)) e (wrote xs is) }
-print-begins (Err f) bytes text old new e wrote begun = subst (λ t. Begins old t new) e begun
-
--- printed whole, the text is written
-pub print-writes : {X : Type 0} (result : Result X Failure) (bytes text : List ℕ) (old new : Option (List ℕ)) → bytes ≡ text
-    → OnOk result (Writes old bytes new) → OnOk result (Writes old text new)
-print-writes (Ok x) bytes text old new e wrote = subst (λ t. Writes old t new) e wrote
-print-writes (Err f) bytes text old new e wrote = tt

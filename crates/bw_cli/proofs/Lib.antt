@@ -1,6 +1,10 @@
 pub mod CueLemmas
 pub mod FileLemmas
 pub mod LineLemmas
+pub mod InputLemmas
+pub mod PrintLemmas
+pub mod InspectionLemmas
+pub mod ProgramLemmas
 pub mod InOrderTurns
 pub mod StreamSteps
 pub mod ExchangeSteps
@@ -10,5 +14,3 @@ pub mod WithinExchange
 pub mod ReplayLemmas
 pub mod RunSteps
 pub mod TextLemmas
-pub mod Written
-pub mod InspectionLemmas

@@ -1,10 +1,12 @@
--- What a fault says of the input, and how the program ends on it.
-use Rattle.std.specs.Prelude.{◌≡◌, ℕ, List, Result, Err}
+-- What a fault says of the input, its line, and how the program ends on it.
+use Rattle.std.specs.Prelude.{◌≡◌, ℕ, ◌++◌, List, Bool, true, false, Result, Ok, Err, codes, decimal}
 use Rattle.bw_cli.specs.Input.{Asked, TooLong as AsksTooMuch, NotHex as AsksNoHex, NotInOrder as AsksNoOrder}
+use Rattle.bw_cli.specs.Printing.{Print, Nothing, IsOf}
+use Rattle.bw_cli.specs.Text.{line}
 use Rattle.bw_cli.specs.declared.fault.Fault.{Fault}
 use Rattle.bw_cli.specs.declared.fault.Fault.TheVariants.{TooLong, NotHex, NotInOrder, Unreadable, Unwritable, Memory}
 use Rattle.bw_cli.specs.declared.exit.Exit.{Exit}
-use Rattle.bw_cli.specs.declared.exit.Exit.TheVariants.{Refused as Exit-Refused, Device as Exit-Device, Memory as Exit-Memory}
+use Rattle.bw_cli.specs.declared.exit.Exit.TheVariants.{Done as Exit-Done, Refused as Exit-Refused, Device as Exit-Device, Memory as Exit-Memory}
 
 -- want of memory, or the first line that is not hex
 abbrev pub IsLineFault : Fault → Result (List (List ℕ)) ℕ → Type 0
@@ -24,6 +26,15 @@ Refuses Unreadable asked = Unit {0}
 Refuses Unwritable asked = Unit {0}
 Refuses Memory asked = Unit {0}
 
+-- a fault as it is told
+abbrev pub fault_text : Fault → List ℕ
+fault_text TooLong = codes "input too long"
+fault_text (NotHex n) = codes "line " ++ decimal n ++ codes ": not hex"
+fault_text (NotInOrder n) = codes "line " ++ decimal n ++ codes ": not in order"
+fault_text Unreadable = codes "the input can't be read"
+fault_text Unwritable = codes "the output can't be written"
+fault_text Memory = codes "out of memory"
+
 abbrev pub exit_on : Fault → Exit
 exit_on TooLong = Exit-Refused
 exit_on (NotHex n) = Exit-Refused
@@ -31,3 +42,27 @@ exit_on (NotInOrder n) = Exit-Refused
 exit_on Unreadable = Exit-Device
 exit_on Unwritable = Exit-Device
 exit_on Memory = Exit-Memory
+
+-- how the program ends on what a command comes to
+abbrev pub exit_of : Result (Unit {0}) Fault → Exit
+exit_of (Ok x) = Exit-Done
+exit_of (Err fault) = exit_on fault
+
+-- no read fails with this fault
+abbrev pub is_readable : Fault → Bool
+is_readable Unreadable = false
+is_readable TooLong = true
+is_readable (NotHex n) = true
+is_readable (NotInOrder n) = true
+is_readable Unwritable = true
+is_readable Memory = true
+
+-- no read failed in what a command comes to
+abbrev pub is_read : {X : Type 0} → Result X Fault → Bool
+is_read (Ok x) = true
+is_read (Err fault) = is_readable fault
+
+-- the fault's line alone is told, and of none nothing
+abbrev pub IsToldBy : Result (Unit {0}) Fault → Print → Type 0
+IsToldBy (Ok x) print = print ≡ Nothing
+IsToldBy (Err fault) print = IsOf (line (fault_text fault)) print

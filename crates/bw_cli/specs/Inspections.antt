@@ -1,44 +1,24 @@
 -- What an inspection writes, and how it ends.
-use Rattle.std.specs.Prelude.{◌≡◌, ℕ, List, [], ◌∷◌, ◌++◌, Option, Some, codes}
-use Rattle.bw_layout.specs.Moves.{Begins, Keeps, Writes, one_more}
+use Rattle.std.specs.Prelude.{◌≡◌, ◌⊎◌, ℕ, List, [], ◌∷◌, ◌++◌, Option, Some, Result, Ok, Err, not, true, codes}
 use Rattle.bw_model.specs.Reading.{Fault, IsFault}
 use Rattle.bw_model.specs.Report.{report_of, report_text}
-use Rattle.bw_inspect.specs.Faults.{fault_of, fault_text}
+use Rattle.bw_inspect.specs.Faults.{fault_of, fault_text, is_read as is_read_fault}
+use Rattle.bw_inspect.specs.Places.{Of}
 use Rattle.bw_inspect.specs.Readings.{HasReading}
 use Rattle.bw_inspect.specs.declared.fault.InspectFault.{InspectFault}
 use Rattle.bw_inspect.specs.declared.fault.InspectKind.{InspectKind}
 use Rattle.bw_inspect.specs.declared.fault.InspectKind.TheVariants.{NotWave, Truncated, NoDs64, BadDs64, NoSize, Twice, NoFmt, NoData, BadFmt, BadBext, BadCue, TooMany, TooLarge, Read, Memory}
+use Rattle.bw_cli.specs.Deeds.{Deed}
+use Rattle.bw_cli.specs.Faults.{IsToldBy, exit_of}
+use Rattle.bw_cli.specs.Printing.{Print, Nothing, Whole, Part, IsOf}
 use Rattle.bw_cli.specs.declared.exit.Exit.{Exit}
 use Rattle.bw_cli.specs.declared.exit.Exit.TheVariants.{Refused, Device, Memory as OutOfMemory}
 use Rattle.bw_cli.specs.declared.fault.Fault.{Fault as Failure}
 use Rattle.bw_cli.specs.declared.fault.Fault.TheVariants as failures
 
--- the bytes have a reading, and the text of its report is written behind what was there
-pub record Inspects (b : List ℕ) (old new : Option (List ℕ)) : Type 0 where
-  pub reading_is : HasReading b
-  pub wrote : Writes old (report_text (report_of b reading_is.form reading_is.entries)) new
-
--- the bytes have a reading, and a beginning of that text is written
-pub record BeginsReport (b : List ℕ) (old new : Option (List ℕ)) : Type 0 where
-  pub reading_is : HasReading b
-  pub wrote : Begins old (report_text (report_of b reading_is.form reading_is.entries)) new
-
 -- the line of a fault
 abbrev pub fault_line : InspectFault → List ℕ
 fault_line f = codes "inspect: " ++ fault_text f ++ 10 ∷ []
-
--- the bytes have a fault, and its line is written, or where that fails a beginning of it
-pub record TellsFault (b : List ℕ) (old new : Option (List ℕ)) : Type 0 where
-  pub fault : InspectFault
-  pub met : Fault
-  pub same : fault_of fault ≡ Some met
-  pub is : IsFault b met
-  pub told : Begins old (fault_line fault) new
-
--- the reader failed, and nothing is written
-pub record IsUnread (failed fails : ℕ) (old new : Option (List ℕ)) : Type 0 where
-  pub failed_again : fails ≡ one_more failed
-  pub kept : Keeps old new
 
 -- how an inspection ends on a fault of this kind
 abbrev pub exit_for : InspectKind → Exit
@@ -58,11 +38,40 @@ exit_for TooLarge = Refused
 exit_for Read = Device
 exit_for Memory = OutOfMemory
 
--- a text is not written whole: memory was refused before the first write, or the writer failed
-abbrev pub StopsText : List ℕ → Failure → Option (List ℕ) → Option (List ℕ) → Type 0
-StopsText text failures.Memory old new = Keeps old new
-StopsText text failures.Unwritable old new = Begins old text new
-StopsText text failures.TooLong old new = ⊥
-StopsText text (failures.NotHex n) old new = ⊥
-StopsText text (failures.NotInOrder n) old new = ⊥
-StopsText text failures.Unreadable old new = ⊥
+-- what is printed of a text: all, a beginning where the writer fails, or nothing where memory was refused before
+abbrev pub IsPrintOfText : List ℕ → Result (Unit {0}) Failure → Print → Type 0
+IsPrintOfText text (Ok x) print = print ≡ Whole text
+IsPrintOfText text (Err failures.Unwritable) print = print ≡ Part text
+IsPrintOfText text (Err failures.Memory) print = print ≡ Nothing
+IsPrintOfText text (Err failures.TooLong) print = ⊥
+IsPrintOfText text (Err (failures.NotHex n)) print = ⊥
+IsPrintOfText text (Err (failures.NotInOrder n)) print = ⊥
+IsPrintOfText text (Err failures.Unreadable) print = ⊥
+
+-- the bytes have a reading, and this is the text of its report
+pub record IsReportOf (b text : List ℕ) : Type 0 where
+  pub reading_is : HasReading b
+  pub is : text ≡ report_text (report_of b reading_is.form reading_is.entries)
+
+-- an inspection came to the report of the file's reading
+pub record IsReport (file : Option (List ℕ)) (did : Deed) : Type 0 where
+  pub outcome : Result (Unit {0}) Failure
+  pub exit_is : did.exit ≡ exit_of outcome
+  pub reads : did.reads_all ≡ true
+  pub text : List ℕ
+  pub right : Of file (λ b. IsReportOf b text)
+  pub prints : IsPrintOfText text outcome did.out
+  pub tells : IsToldBy outcome did.faults
+
+-- an inspection came to a fault, and a fault of the bytes is the file's first
+pub record IsFinding (file : Option (List ℕ)) (did : Deed) : Type 0 where
+  pub fault : InspectFault
+  pub exit_is : did.exit ≡ exit_for fault.kind
+  pub reads : did.reads_all ≡ not (is_read_fault fault.kind)
+  pub right : Of file (λ b. (met : Fault) → fault_of fault ≡ Some met → IsFault b met)
+  pub prints : did.out ≡ Nothing
+  pub tells : IsOf (fault_line fault) did.faults
+
+-- an inspection of this file did this
+abbrev pub IsInspection : Option (List ℕ) → Deed → Type 0
+IsInspection file did = IsReport file did ⊎ IsFinding file did

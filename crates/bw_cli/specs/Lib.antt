@@ -10,5 +10,8 @@ pub mod Keeping
 pub mod TakeFiles
 pub mod Exchanging
 pub mod Running
+pub mod Printing
 pub mod Replays
+pub mod Deeds
 pub mod Inspections
+pub mod Programs

@@ -1,22 +1,45 @@
--- What a replay writes.
-use Rattle.std.specs.Prelude.{◌≡◌, ℕ, Option, List, []}
-use Rattle.bw_layout.specs.Moves.{Writes, Begins}
-use Rattle.bw_cli.specs.Input.{Asked, asked_by, TooLong, NotHex, NotInOrder, Exchanges}
+-- What a replay reads and writes, and how it ends.
+use Rattle.std.specs.Prelude.{◌≡◌, ◌+◌, ◌≤◌, ℕ, Bool, Option, Some, List, drop, length, Result, Ok, Err}
+use Rattle.bw_inspect.specs.Places.{Of}
+use Rattle.bw_cli.specs.Faults.{Refuses, IsToldBy, exit_of, is_read}
+use Rattle.bw_cli.specs.Input.{Asked, asked_by, longest_input, TooLong, NotHex, NotInOrder, Exchanges}
+use Rattle.bw_cli.specs.Printing.{Print, Nothing, Whole, Part}
 use Rattle.bw_cli.specs.Text.{run_text}
+use Rattle.bw_cli.specs.declared.exit.Exit.{Exit}
+use Rattle.bw_cli.specs.declared.fault.Fault.{Fault}
+use Rattle.bw_cli.specs.declared.fault.Fault.TheVariants as faults
 
--- the input asks for exchanges in order, and the text of their run is written behind what was there
-pub record Replays (limit : ℕ) (input : List ℕ) (old new : Option (List ℕ)) : Type 0 where
-  pub inputs : List (List ℕ)
-  pub asked : asked_by input ≡ Exchanges inputs
-  pub wrote : Writes old (run_text limit inputs) new
+-- at most one byte more than the longest input was read
+pub record IsReadAhead (input : List ℕ) (left : Option (List ℕ)) : Type 0 where
+  pub reached : ℕ
+  pub within : reached ≤ longest_input + 1
+  pub inside : reached ≤ length input
+  pub rest : left ≡ Some (drop reached input)
 
--- the text of what an input asks for: nothing where it is refused
-abbrev pub asked_text : ℕ → Asked → List ℕ
-asked_text limit TooLong = []
-asked_text limit (NotHex n) = []
-asked_text limit (NotInOrder n) = []
-asked_text limit (Exchanges inputs) = run_text limit inputs
+-- the input asks for exchanges in order, and this is the text of their run
+abbrev pub IsTextFor : ℕ → Asked → List ℕ → Type 0
+IsTextFor limit (Exchanges inputs) text = text ≡ run_text limit inputs
+IsTextFor limit TooLong text = ⊥
+IsTextFor limit (NotHex n) text = ⊥
+IsTextFor limit (NotInOrder n) text = ⊥
 
--- a beginning of the text that the input asks for is written behind what was there
-abbrev pub BeginsReplay : ℕ → List ℕ → Option (List ℕ) → Option (List ℕ) → Type 0
-BeginsReplay limit input old new = Begins old (asked_text limit (asked_by input)) new
+-- the text of the run that an input asks for was to be printed
+pub record PrintsRun (limit : ℕ) (input : Option (List ℕ)) (printed : List ℕ → Print) (print : Print) : Type 0 where
+  pub text : List ℕ
+  pub is : print ≡ printed text
+  pub right : Of input (λ xs. IsTextFor limit (asked_by xs) text)
+
+-- nothing is printed, and a fault that refuses is the one that the input has
+pub record PrintsNothing (input : Option (List ℕ)) (fault : Fault) (print : Print) : Type 0 where
+  pub is : print ≡ Nothing
+  pub right : Of input (λ xs. Refuses fault (asked_by xs))
+
+-- what is printed of a replay that comes to this
+abbrev pub IsPrintOf : ℕ → Option (List ℕ) → Result (Unit {0}) Fault → Print → Type 0
+IsPrintOf limit input (Ok x) print = PrintsRun limit input Whole print
+IsPrintOf limit input (Err faults.Unwritable) print = PrintsRun limit input Part print
+IsPrintOf limit input (Err faults.TooLong) print = PrintsNothing input faults.TooLong print
+IsPrintOf limit input (Err (faults.NotHex n)) print = PrintsNothing input (faults.NotHex n) print
+IsPrintOf limit input (Err (faults.NotInOrder n)) print = PrintsNothing input (faults.NotInOrder n) print
+IsPrintOf limit input (Err faults.Unreadable) print = PrintsNothing input faults.Unreadable print
+IsPrintOf limit input (Err faults.Memory) print = PrintsNothing input faults.Memory print

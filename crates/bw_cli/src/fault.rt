@@ -1,25 +1,21 @@
 //! Why a command gives up.
-ghost use Rattle.std.specs.Prelude.{◌≡◌};
-ghost use Rattle.bw_cli.specs.Faults.{exit_on};
+ghost use Rattle.std.specs.Prelude.{◌≡◌, ◌≤◌, ◌+◌, [], ◌++◌, length, codes, decimal};
+ghost use Rattle.bw_cli.specs.Faults.{exit_on, fault_text};
+ghost use Rattle.bw_cli.specs.Text.{line};
 
 use crate::exit::Exit;
+use arrayvec::ArrayString;
+use itoa::Buffer;
 use std::alloc::{AllocError, AllocFailed};
-use thiserror::Error;
 
-/// Why a command gives up. Its text is the fault line; lines are counted from 1.
-#[derive(Debug, PartialEq, Eq, Drop, Error)]
+/// Why a command gives up. Lines are counted from 1.
+#[derive(Debug, PartialEq, Eq, Drop)]
 pub enum Fault {
-    #[error("input too long")]
     TooLong,
-    #[error("line {0}: not hex")]
     NotHex(u64),
-    #[error("line {0}: not in order")]
     NotInOrder(u64),
-    #[error("the input can't be read")]
     Unreadable,
-    #[error("the output can't be written")]
     Unwritable,
-    #[error("out of memory")]
     Memory,
 }
 
@@ -37,6 +33,45 @@ impl Fault {
             Fault::Memory => Exit::Memory,
         }
     }
+
+    /// The line that tells it. It takes no memory, which may be what is wanting.
+    pub fn line(&self) -> ArrayString<64>
+        ensures { result.bytes ≡ line (fault_text self.now) }
+    {
+        let mut line = ArrayString::new();
+        self.put_on(&mut line);
+        line.push_str("\n");
+        line
+    }
+
+    /// Puts its text on an empty line.
+    fn put_on(&self, line: &mut ArrayString<64>)
+        requires { line.old.bytes ≡ [] }
+        ensures text { line.new.bytes ≡ fault_text self.now }
+        ensures short { length line.new.bytes ≤ 60 }
+    {
+        match self {
+            Fault::TooLong => line.push_str("input too long"),
+            Fault::NotHex(number) => put_number(line, *number, ": not hex"),
+            Fault::NotInOrder(number) => put_number(line, *number, ": not in order"),
+            Fault::Unreadable => line.push_str("the input can't be read"),
+            Fault::Unwritable => line.push_str("the output can't be written"),
+            Fault::Memory => line.push_str("out of memory"),
+        }
+    }
+}
+
+/// Puts the number of a line and what is wrong with it on an empty line.
+fn put_number(line: &mut ArrayString<64>, number: u64, wrong: &str)
+    requires empty { line.old.bytes ≡ [] }
+    requires short { length wrong.now ≤ 35 }
+    ensures text { line.new.bytes ≡ codes "line " ++ decimal number ++ wrong.now }
+    ensures short { length line.new.bytes ≤ 25 + length wrong.now }
+{
+    let mut digits = Buffer::new();
+    line.push_str("line ");
+    line.push_str(digits.format(number));
+    line.push_str(wrong);
 }
 
 impl From<AllocError> for Fault {

@@ -1,51 +1,60 @@
-//! Standard input as lines of hex.
-ghost use Rattle.std.specs.Prelude.{◌≡◌, ℕ, ◌<◌, ◌≤◌, ◌∷◌, List, All, length, map, Ok, Some, IfOk, IfErr};
+//! An input as lines of hex.
+ghost use Rattle.std.specs.Prelude.{◌≡◌, ◌≢◌, ℕ, ◌<◌, ◌≤◌, ◌∷◌, List, All, length, map, Ok, Some, IfOk, IfErr};
 ghost use Rattle.std.specs.List.{position_or_len};
 ghost use Rattle.std.specs.Io.BufRead.{strip_last};
 ghost use Rattle.bw_cli.specs.Lines.{lines_of, decoded_from, is_line_end};
 ghost use Rattle.bw_cli.specs.Input.{spelled_by, longest_input, Exchanges};
-ghost use Rattle.bw_cli.specs.Faults.{IsLineFault, Refuses};
+ghost use Rattle.bw_cli.specs.Faults.{IsLineFault, Refuses, is_read};
+ghost use Rattle.bw_cli.specs.Printing.{failures_if};
+ghost use Rattle.bw_cli.specs.Replays.{IsReadAhead};
+ghost use Rattle.bw_inspect.specs.Places.{Of};
 
 use crate::fault::Fault;
+use bw_layout::Source;
 use hex::FromHexError;
 use std::alloc::Global;
-use std::io::{ErrorKind, Read};
 
 /// The most bytes of standard input.
-const LONGEST_INPUT: u64 = 16_777_216;
+const LONGEST_INPUT: usize = 16_777_216;
 
 /// The bytes of each exchange that an input spells, one line of hex for each.
-pub fn exchanges<R: Read + Drop>(alloc: Global, input: R) -> Result<Vec<Vec<u8>>, Fault>
-    ensures ok { IfOk result (λ found. (xs : List ℕ) → R.remaining input ≡ Some xs →
-        spelled_by xs ≡ Exchanges (map (λ x. x.items) found.items)) }
+pub fn exchanges<R: Source>(alloc: Global, input: &mut R) -> Result<Vec<Vec<u8>>, Fault>
+    ensures within { Of (R.left input.old) (λ xs. IsReadAhead xs (R.left input.new)) }
+    ensures count { R.failures input.new ≡ failures_if (is_read result) (R.failures input.old) }
+    ensures ok { IfOk result (λ found. Of (R.left input.old) (λ xs.
+        spelled_by xs ≡ Exchanges (map (λ x. x.items) found.items))) }
     ensures short { IfOk result (λ found. All (λ x. length x.items ≤ longest_input) found.items) }
-    ensures err { IfErr result (λ fault. (xs : List ℕ) → R.remaining input ≡ Some xs →
-        Refuses fault (spelled_by xs)) }
+    ensures err { IfErr result (λ fault. Of (R.left input.old) (λ xs.
+        Refuses fault (spelled_by xs))) }
+    ensures own { IfErr result (λ fault. fault ≢ Fault.Unwritable) }
 {
     let bytes = all_bytes(alloc, input)?;
     decoded_lines(alloc, bytes.as_slice())
 }
 
 /// All bytes of an input.
-fn all_bytes<R: Read + Drop>(alloc: Global, input: R) -> Result<Vec<u8>, Fault>
+fn all_bytes<R: Source>(alloc: Global, input: &mut R) -> Result<Vec<u8>, Fault>
+    ensures reads { Of (R.left input.old) (λ xs. IsReadAhead xs (R.left input.new)) }
+    ensures count { R.failures input.new ≡ failures_if (is_read result) (R.failures input.old) }
     ensures within { IfOk result (λ bytes. length bytes.items ≤ longest_input) }
-    ensures ok { IfOk result (λ bytes. (xs : List ℕ) →
-        R.remaining input ≡ Some xs → bytes.items ≡ xs) }
-    ensures err { IfErr result (λ fault. (xs : List ℕ) → R.remaining input ≡ Some xs →
-        Refuses fault (spelled_by xs)) }
+    ensures ok { IfOk result (λ bytes. Of (R.left input.old) (λ xs. bytes.items ≡ xs)) }
+    ensures err { IfErr result (λ fault. Of (R.left input.old) (λ xs.
+        Refuses fault (spelled_by xs))) }
+    ensures own { IfErr result (λ fault. fault ≢ Fault.Unwritable) }
 {
     let mut bytes = Vec::new(alloc);
-    let mut reader = input.take(LONGEST_INPUT + 1);
-    if let Err(error) = reader.read_to_end(&mut bytes) {
-        return Err(match error.kind() {
-            ErrorKind::OutOfMemory => Fault::Memory,
-            _ => Fault::Unreadable,
-        });
+    let mut piece = [0; 65_536];
+    while bytes.len() <= LONGEST_INPUT {
+        let room = (LONGEST_INPUT + 1 - bytes.len()).min(piece.len());
+        let Ok(count) = input.read(&mut piece[..room]) else {
+            return Err(Fault::Unreadable);
+        };
+        if count == 0 {
+            return Ok(bytes);
+        }
+        bytes.extend_from_slice(&piece[..count])?;
     }
-    if bytes.len() as u64 > LONGEST_INPUT {
-        return Err(Fault::TooLong);
-    }
-    Ok(bytes)
+    Err(Fault::TooLong)
 }
 
 /// The bytes that each line spells.

@@ -1,7 +1,7 @@
 //! `inspect` on a worked file: its report and its faults byte for byte, and devices that fail.
 use crate::exit::Exit;
 use crate::inspection::inspect_run;
-use bw_layout::{Plain, SeekSource, Source};
+use bw_layout::{MemorySink, Plain, SeekSource, Source};
 use std::alloc::{AllocError, Global};
 use std::io::{self, Cursor, ErrorKind, Read};
 use std::process::Abort;
@@ -44,10 +44,14 @@ struct Inspected {
 }
 
 fn run_on<R: Source + Drop>(alloc: Global, mut source: R) -> Inspected {
-    let mut out = Vec::new(alloc);
-    let mut faults = Vec::new(alloc);
+    let mut out = MemorySink::new(Vec::new(alloc));
+    let mut faults = MemorySink::new(Vec::new(alloc));
     let exit = inspect_run(alloc, &mut source, &mut out, &mut faults);
-    Inspected { exit, out, faults }
+    Inspected {
+        exit,
+        out: out.into_bytes(),
+        faults: faults.into_bytes(),
+    }
 }
 
 fn file(alloc: Global) -> Result<Vec<u8>, AllocError> {
@@ -127,10 +131,14 @@ fn a_write_that_fails_is_told(rt: HostRuntime) -> Result<(), Fail> {
     let bytes = file(rt.alloc())?;
     let mut source = Plain::new(bytes.as_slice());
     let mut room = [0; 14];
-    let mut faults = Vec::new(rt.alloc());
-    let exit = inspect_run(rt.alloc(), &mut source, &mut &mut room[..], &mut faults);
-    let out = room.to_vec(rt.alloc())?;
-    let found = Inspected { exit, out, faults };
+    let mut out = Plain::new(&mut room[..]);
+    let mut faults = MemorySink::new(Vec::new(rt.alloc()));
+    let exit = inspect_run(rt.alloc(), &mut source, &mut out, &mut faults);
+    let found = Inspected {
+        exit,
+        out: room.to_vec(rt.alloc())?,
+        faults: faults.into_bytes(),
+    };
     came_to(
         &rt,
         &found,
@@ -143,12 +151,16 @@ fn a_write_that_fails_is_told(rt: HostRuntime) -> Result<(), Fail> {
 
 #[test]
 fn a_fault_line_that_fails_changes_nothing(rt: HostRuntime) -> Result<(), Fail> {
-    let mut out = Vec::new(rt.alloc());
+    let mut out = MemorySink::new(Vec::new(rt.alloc()));
     let mut room = [0; 7];
     let mut source = Plain::new(b"RIFX".as_slice());
-    let exit = inspect_run(rt.alloc(), &mut source, &mut out, &mut &mut room[..]);
-    let faults = room.to_vec(rt.alloc())?;
-    let found = Inspected { exit, out, faults };
+    let mut faults = Plain::new(&mut room[..]);
+    let exit = inspect_run(rt.alloc(), &mut source, &mut out, &mut faults);
+    let found = Inspected {
+        exit,
+        out: out.into_bytes(),
+        faults: room.to_vec(rt.alloc())?,
+    };
     came_to(&rt, &found, Exit::Refused, b"", b"inspect");
     Ok(())
 }

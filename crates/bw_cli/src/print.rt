@@ -1,27 +1,35 @@
-//! Bytes to a writer of std.
-ghost use Rattle.std.specs.Prelude.{◌≡◌, OnOk, OnErr, IfErr};
-ghost use Rattle.bw_layout.specs.Moves.{Writes, Begins};
+//! Texts to a writer.
+ghost use Rattle.std.specs.Prelude.{◌≡◌, OnOk, OnErr};
+ghost use Rattle.bw_cli.specs.Faults.{exit_on, fault_text};
+ghost use Rattle.bw_cli.specs.Printing.{HasPrinted, HasStopped, IsOf, IsPrint, Print};
+ghost use Rattle.bw_cli.specs.Text.{line};
 
+use crate::exit::Exit;
 use crate::fault::Fault;
-use std::io::Write;
+use bw_layout::{IoFailed, Sink, write_all};
 
-/// Writes all the bytes, and whatever the writer held back of them.
-///
-/// `write_all` of std doesn't say what a failed call leaves.
-pub fn print<W: Write>(out: &mut W, bytes: &[u8]) -> Result<(), Fault>
-    ensures ok { OnOk result (Writes (W.contents out.old) bytes.now (W.contents out.new)) }
-    ensures begun { OnErr result (Begins (W.contents out.old) bytes.now (W.contents out.new)) }
-    ensures fault { IfErr result (λ fault. fault ≡ Fault.Unwritable) }
+/// Writes the whole text, and passes on what the writer held back of it.
+pub fn print<W: Sink>(out: &mut W, text: &[u8]) -> Result<(), IoFailed>
+    ensures ok { OnOk result (HasPrinted W.Sink text.now out.old out.new) }
+    ensures err { OnErr result (HasStopped W.Sink text.now out.old out.new) }
 {
-    let mut done = 0;
-    while done < bytes.len() {
-        match out.write(&bytes[done..]) {
-            Ok(count) if count > 0 => done += count,
-            _ => return Err(Fault::Unwritable),
-        }
-    }
-    let Ok(()) = out.flush() else {
-        return Err(Fault::Unwritable);
-    };
-    Ok(())
+    write_all(out, text)?;
+    out.flush()
+}
+
+/// Writes the text of a fault. That it can't be written changes nothing.
+pub fn tell<E: Sink>(faults: &mut E, text: &[u8])
+    ensures { (print : Print) × IsOf text.now print × IsPrint E.Sink print faults.old faults.new }
+{
+    let _ = print(faults, text);
+}
+
+/// Writes the line of a fault, and answers how the program ends on it.
+pub fn give_up<E: Sink>(faults: &mut E, fault: &Fault) -> Exit
+    ensures exit { result ≡ exit_on fault.now }
+    ensures line { (print : Print) × IsOf (line (fault_text fault.now)) print
+        × IsPrint E.Sink print faults.old faults.new }
+{
+    tell(faults, fault.line().as_str().as_bytes());
+    fault.exit()
 }

@@ -1,68 +1,58 @@
 //! The command `replay`: runs from standard input.
-ghost use Rattle.std.specs.Prelude.{◌≡◌, ◌≢◌, ℕ, List, Some, OnOk, OnErr, IfErr};
-ghost use Rattle.bw_layout.specs.Moves.{Keeps};
-ghost use Rattle.bw_cli.specs.Input.{asked_by, IsRefused};
-ghost use Rattle.bw_cli.specs.Faults.{Refuses};
-ghost use Rattle.bw_cli.specs.Replays.{Replays, BeginsReplay};
+ghost use Rattle.std.specs.Prelude.{◌≡◌, OnOk};
+ghost use Rattle.bw_inspect.specs.Places.{Of};
+ghost use Rattle.bw_cli.specs.Deeds.{Deed, HasWritten, IsReplay};
+ghost use Rattle.bw_cli.specs.Faults.{is_read};
+ghost use Rattle.bw_cli.specs.Printing.{IsPrint, Print, failures_if};
+ghost use Rattle.bw_cli.specs.Replays.{IsPrintOf, IsReadAhead};
 
 use crate::exit::Exit;
 use crate::fault::Fault;
 use crate::input::exchanges;
-use crate::print::print;
+use crate::print::{give_up, print};
 use crate::run::run_in_order;
 use crate::text::text_of_run;
-use bw_layout::Limit;
+use bw_layout::{Limit, Sink, Source};
 use std::alloc::Global;
-use std::io::{Read, Write};
 
 /// Runs each line of the input as an exchange, and writes replies and files as text.
 ///
 /// A fault's line goes to `faults`; one that can't be written changes nothing.
-pub fn replay<R: Read + Drop, W: Write, E: Write>(
+pub fn replay<R: Source, W: Sink, E: Sink>(
     alloc: Global,
     limit: Limit,
-    input: R,
+    input: &mut R,
     out: &mut W,
     faults: &mut E,
 ) -> Exit
-    ensures done { result ≡ Exit.Done → (xs : List ℕ) → R.remaining input ≡ Some xs →
-        Replays limit xs (W.contents out.old) (W.contents out.new) }
-    ensures refused { result ≡ Exit.Refused → (xs : List ℕ) → R.remaining input ≡ Some xs →
-        IsRefused (asked_by xs) }
-    ensures quiet { result ≢ Exit.Done → result ≢ Exit.Device →
-        Keeps (W.contents out.old) (W.contents out.new) }
-    ensures begun { result ≢ Exit.Done → (xs : List ℕ) → R.remaining input ≡ Some xs →
-        BeginsReplay limit xs (W.contents out.old) (W.contents out.new) }
-    ensures usage { result ≢ Exit.Usage }
+    ensures within { Of (R.left input.old) (λ xs. IsReadAhead xs (R.left input.new)) }
+    ensures did { (did : Deed) × (did.exit ≡ result) × IsReplay limit (R.left input.old) did
+        × (R.failures input.new ≡ failures_if did.reads_all (R.failures input.old))
+        × HasWritten W.Sink E.Sink did out.old out.new faults.old faults.new }
 {
     match play(alloc, limit, input, out) {
         Ok(()) => Exit::Done,
-        Err(fault) => {
-            let _ = writeln!(faults, "{fault}");
-            fault.exit()
-        }
+        Err(fault) => give_up(faults, &fault),
     }
 }
 
 /// Runs each line of the input, and writes the run's text.
-fn play<R: Read + Drop, W: Write>(
+fn play<R: Source, W: Sink>(
     alloc: Global,
     limit: Limit,
-    input: R,
+    input: &mut R,
     out: &mut W,
 ) -> Result<(), Fault>
-    ensures done { OnOk result ((xs : List ℕ) → R.remaining input ≡ Some xs →
-        Replays limit xs (W.contents out.old) (W.contents out.new)) }
-    ensures refused { IfErr result (λ fault. (xs : List ℕ) → R.remaining input ≡ Some xs →
-        Refuses fault (asked_by xs)) }
-    ensures quiet { IfErr result (λ fault. fault ≢ Fault.Unwritable →
-        Keeps (W.contents out.old) (W.contents out.new)) }
-    ensures begun { OnErr result ((xs : List ℕ) → R.remaining input ≡ Some xs →
-        BeginsReplay limit xs (W.contents out.old) (W.contents out.new)) }
+    ensures within { Of (R.left input.old) (λ xs. IsReadAhead xs (R.left input.new)) }
+    ensures count { R.failures input.new ≡ failures_if (is_read result) (R.failures input.old) }
+    ensures prints { (print : Print) × IsPrintOf limit (R.left input.old) result print
+        × IsPrint W.Sink print out.old out.new }
 {
     let inputs = exchanges(alloc, input)?;
     let run = run_in_order(alloc, inputs.as_slice())?;
     let text = text_of_run(alloc, limit, &run)?;
-    print(out, text.as_slice())?;
-    Ok(())
+    match print(out, text.as_slice()) {
+        Ok(()) => Ok(()),
+        Err(_) => Err(Fault::Unwritable),
+    }
 }

@@ -1,7 +1,7 @@
 //! `replay` on worked inputs: the bytes that the formats give, each refusal, and devices that fail.
 use crate::exit::Exit;
 use crate::replay::replay as play;
-use bw_layout::Limit;
+use bw_layout::{Limit, MemorySink, MemorySource, Plain};
 use std::alloc::{AllocError, Global};
 use std::io::{self, ErrorKind, Read, Write};
 use std::process::Abort;
@@ -55,10 +55,15 @@ struct Played {
 }
 
 fn run_on<R: Read + Drop>(alloc: Global, input: R) -> Played {
-    let mut out = Vec::new(alloc);
-    let mut faults = Vec::new(alloc);
-    let exit = play(alloc, Limit::default(), input, &mut out, &mut faults);
-    Played { exit, out, faults }
+    let mut input = Plain::new(input);
+    let mut out = MemorySink::new(Vec::new(alloc));
+    let mut faults = MemorySink::new(Vec::new(alloc));
+    let exit = play(alloc, Limit::default(), &mut input, &mut out, &mut faults);
+    Played {
+        exit,
+        out: out.into_bytes(),
+        faults: faults.into_bytes(),
+    }
 }
 
 fn joined(alloc: Global, pieces: &[&str]) -> Result<Vec<u8>, AllocError> {
@@ -464,16 +469,18 @@ fn tells_a_write_that_fails(rt: HostRuntime) -> Result<(), Fail> {
     let whole = run_on(alloc, input.as_slice());
     // 1,522 bytes are four pieces, and the flush is one more call
     for calls in 0..6 {
-        let mut faults = Vec::new(alloc);
+        let mut faults = MemorySink::new(Vec::new(alloc));
         let written = Vec::new(alloc);
-        let mut out = FailingWriter { written, calls };
+        let mut out = Plain::new(FailingWriter { written, calls });
         let exit = play(
             alloc,
             Limit::default(),
-            input.as_slice(),
+            &mut MemorySource::new(input.as_slice()),
             &mut out,
             &mut faults,
         );
+        let out = out.into_inner();
+        let faults = faults.into_bytes();
         let wanted = if calls < 5 { Exit::Device } else { Exit::Done };
         assert_eq!(rt; exit, wanted, "after {calls}");
         assert!(rt;
@@ -488,17 +495,17 @@ fn tells_a_write_that_fails(rt: HostRuntime) -> Result<(), Fail> {
 #[test]
 fn a_fault_line_that_fails_changes_nothing(rt: HostRuntime) -> Result<(), Fail> {
     let alloc = rt.alloc();
-    let mut out = Vec::new(alloc);
+    let mut out = MemorySink::new(Vec::new(alloc));
     let written = Vec::new(alloc);
-    let mut faults = FailingWriter { written, calls: 0 };
+    let mut faults = Plain::new(FailingWriter { written, calls: 0 });
     let exit = play(
         alloc,
         Limit::default(),
-        b"zz".as_slice(),
+        &mut MemorySource::new(b"zz"),
         &mut out,
         &mut faults,
     );
     assert_eq!(rt; exit, Exit::Refused);
-    assert!(rt; out.is_empty());
+    assert!(rt; out.into_bytes().is_empty());
     Ok(())
 }

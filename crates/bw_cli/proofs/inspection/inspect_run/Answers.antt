@@ -1,16 +1,42 @@
-use Rattle.std.proofs.Common.{inr, ◌∙◌, sym}
-use Rattle.bw_cli.proofs.InspectionLemmas.{report-written, report-begun, device-begins, fault-told}
+use Rattle.std.proofs.Common.{◌≡◌, ◌∙◌, Ok, Err, not, true, refl, sym, subst}
+use Rattle.bw_inspect.specs.Faults.{is_read as is_read_fault}
+use Rattle.bw_cli.specs.Faults.{exit_on}
+use Rattle.bw_cli.specs.Inspections.{exit_for, fault_line}
+use Rattle.bw_cli.specs.Printing.{IsOf, Nothing}
+use Rattle.bw_cli.specs.declared.exit.Exit.TheVariants.{Done}
+use Rattle.bw_cli.proofs.InspectionLemmas.{failures-not, fault-told, report-told}
 use Rattle.bw_cli.proofs.inspection.inspect_run.Goals as goal
 
-pub returns-in-Ok-print_report-clause-done : goal.returns-in-Ok-print_report-clause-done
-returns-in-Ok-print_report-clause-done g c _ b e =
-    report-written b c.in-Ok.report _ _ _ (c.in-Ok.ensures.ok b e) c.in-Ok-print_report.ensures.ok
+pub returns-in-Ok-print_report : goal.returns-in-Ok-print_report
+returns-in-Ok-print_report g c =
+    let p = c.in-Ok-print_report.ensures in (
+      record { reads_all = true; out = p.0; faults = Nothing; exit = Done },
+      refl,
+      report-told _ c.in-Ok.report _ (Ok tt) p.0 Nothing c.in-Ok.ensures.ok p.1 refl,
+      c.in-Ok.ensures.count,
+      record { printed = p.2; told = refl },
+    )
 
-pub returns-in-Ok-clause-device : goal.returns-in-Ok-clause-device
-returns-in-Ok-clause-device g c d b e =
-    inr (report-begun b c.in-Ok.report _ _ _ (c.in-Ok.ensures.ok b e)
-    (device-begins c.in-Err-print_report.fault _ _ _ (sym c.exit.ensures ∙ d) c.in-Err-print_report.ensures.err))
+pub returns-in-Ok : goal.returns-in-Ok
+returns-in-Ok g c =
+    let p = c.in-Err-print_report.ensures in
+    let l = c.give_up.ensures.line in (
+      record { reads_all = true; out = p.0; faults = l.0; exit = exit_on c.in-Err-print_report.fault },
+      sym c.give_up.ensures.exit,
+      report-told _ c.in-Ok.report _ (Err c.in-Err-print_report.fault) p.0 l.0 c.in-Ok.ensures.ok p.1 l.1,
+      c.in-Ok.ensures.count,
+      record { printed = p.2; told = l.2 },
+    )
 
-pub returns-clause-refused : goal.returns-clause-refused
-returns-clause-refused g c d b e =
-    fault-told b c.in-Err.fault _ _ _ (sym c.exit_on.ensures ∙ d) (c.in-Err.ensures.err b e) c.tell.ensures
+pub returns : goal.returns
+returns g c =
+    let f = c.in-Err.fault in
+    let l = c.tell.ensures in
+    let is : c.as_bytes.result.now ≡ fault_line f = c.as_bytes.ensures.value ∙ (c.as_str.ensures.value ∙ c.line_of.ensures) in
+    let told : IsOf (fault_line f) l.0 = rw is at l.1 in (
+      record { reads_all = not (is_read_fault f.kind); out = Nothing; faults = l.0; exit = exit_for f.kind },
+      sym c.exit_on.ensures,
+      fault-told _ f _ l.0 c.in-Err.ensures.err told,
+      c.in-Err.ensures.count ∙ failures-not (is_read_fault f.kind) _,
+      record { printed = refl; told = l.2 },
+    )

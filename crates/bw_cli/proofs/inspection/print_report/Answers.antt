@@ -1,13 +1,18 @@
-use Rattle.std.proofs.Common.{◌∙◌}
-use Rattle.bw_cli.proofs.InspectionLemmas.{text-made, print-stops, print-writes}
+use Rattle.std.proofs.Common.{◌≡◌, ◌∙◌, refl, subst}
+use Rattle.bw_model.specs.Report.{report_text}
+use Rattle.bw_inspect.specs.Reports.{told_by}
+use Rattle.bw_cli.specs.Printing.{HasPrinted, HasStopped, Whole, Part}
+use Rattle.bw_cli.proofs.InspectionLemmas.{text-made}
 use Rattle.bw_cli.proofs.inspection.print_report.Goals as goal
 
-pub returns-clause-ok : goal.returns-clause-ok
-returns-clause-ok g c =
-    let made = text-made _ _ _ (c.new-text.ensures.bytes ∙ c.new.ensures.items) c.in-Ok.ensures.ok in
-    print-writes c.print.result _ _ _ _ (c.as_slice.ensures.value ∙ c.into_bytes.ensures ∙ made) c.print.ensures.ok
+pub returns-in-Ok-print : goal.returns-in-Ok-print
+returns-in-Ok-print g c =
+    let made : c.as_slice.result.now ≡ report_text (told_by c.args.report.now) =
+    c.as_slice.ensures.value ∙ (c.into_bytes.ensures ∙ text-made _ _ _ (c.new-text.ensures.bytes ∙ c.new.ensures.items) c.in-Ok.ensures.ok) in
+    (Whole (report_text (told_by c.args.report.now)), refl, rw made at c.in-Ok-print.ensures.ok)
 
-pub returns-clause-err : goal.returns-clause-err
-returns-clause-err g c =
-    let made = text-made _ _ _ (c.new-text.ensures.bytes ∙ c.new.ensures.items) c.in-Ok.ensures.ok in
-    print-stops c.print.result _ _ _ _ (c.as_slice.ensures.value ∙ c.into_bytes.ensures ∙ made) c.print.ensures.begun c.print.ensures.fault
+pub returns : goal.returns
+returns g c =
+    let made : c.as_slice.result.now ≡ report_text (told_by c.args.report.now) =
+    c.as_slice.ensures.value ∙ (c.into_bytes.ensures ∙ text-made _ _ _ (c.new-text.ensures.bytes ∙ c.new.ensures.items) c.in-Ok.ensures.ok) in
+    (Part (report_text (told_by c.args.report.now)), refl, rw made at c.in-Err.ensures.err)

@@ -1,16 +1,34 @@
-use Rattle.std.proofs.Common.{◌≡◌, ◌∙◌, ℕ, List, map}
+use Rattle.std.proofs.Common.{◌≡◌, ◌∙◌, ℕ, List, map, refl}
+use Rattle.bw_cli.specs.Printing.{Whole, Part}
 use Rattle.bw_cli.specs.Running.{Ran}
 use Rattle.bw_cli.specs.Text.{run_text}
-use Rattle.bw_cli.proofs.ReplayLemmas.{asks-run}
+use Rattle.bw_cli.proofs.ReplayLemmas.{asks-run, text-asked}
 use Rattle.bw_cli.proofs.replay.play.Goals as goal
 
-pub returns-clause-done : goal.returns-clause-done
-returns-clause-done g c xs told =
+pub returns-in-Ok-clause-prints : goal.returns-in-Ok-clause-prints
+returns-in-Ok-clause-prints g c =
     let inputs : List (List ℕ) = map (λ x. x.items) c.in_ok-inputs.inputs.items in
     let ran : Ran inputs c.in_ok-run.run' = rw c.as_slice.ensures.value at c.in_ok-run.ensures.ok in
-    let text : c.as_slice-2.result.now ≡ run_text c.args.limit inputs = c.as_slice-2.ensures.value ∙ c.in_ok-text.ensures inputs ran in
-    record {
-      inputs = inputs;
-      asked = asks-run xs inputs c.in_ok-run.run' (c.in_ok-inputs.ensures.ok xs told) ran;
-      wrote = rw text at c.in_ok-print.ensures.ok;
-    }
+    let text : c.as_slice-2.result.now ≡ run_text c.args.limit inputs = c.as_slice-2.ensures.value ∙ c.in_ok-text.ensures inputs ran in (
+      Whole (run_text c.args.limit inputs),
+      record {
+        text = run_text c.args.limit inputs;
+        is = refl;
+        right = λ xs told. text-asked c.args.limit xs inputs (asks-run xs inputs c.in_ok-run.run' (c.in_ok-inputs.ensures.ok xs told) ran);
+      },
+      rw text at c.in-Ok.ensures.ok,
+    )
+
+pub returns-clause-prints : goal.returns-clause-prints
+returns-clause-prints g c =
+    let inputs : List (List ℕ) = map (λ x. x.items) c.in_ok-inputs.inputs.items in
+    let ran : Ran inputs c.in_ok-run.run' = rw c.as_slice.ensures.value at c.in_ok-run.ensures.ok in
+    let text : c.as_slice-2.result.now ≡ run_text c.args.limit inputs = c.as_slice-2.ensures.value ∙ c.in_ok-text.ensures inputs ran in (
+      Part (run_text c.args.limit inputs),
+      record {
+        text = run_text c.args.limit inputs;
+        is = refl;
+        right = λ xs told. text-asked c.args.limit xs inputs (asks-run xs inputs c.in_ok-run.run' (c.in_ok-inputs.ensures.ok xs told) ran);
+      },
+      rw text at c.in-Err.ensures.err,
+    )

@@ -1,0 +1,16 @@
+use Rattle.std.proofs.Common.{inr, true, refl, sym}
+use Rattle.bw_cli.specs.Printing.{Nothing}
+use Rattle.bw_cli.specs.declared.exit.Exit.TheVariants.{Memory}
+use Rattle.bw_cli.proofs.program.answer.Goals as goal
+
+pub returns-in-Err : goal.returns-in-Err
+returns-in-Err g c =
+    let l = c.give_up.ensures.line in (
+      record { reads_all = true; out = Nothing; faults = l.0; exit = Memory },
+      sym c.give_up.ensures.exit,
+      true,
+      inr (record { exit_is = refl; reads = refl; prints = refl; tells = l.1 }),
+      refl,
+      refl,
+      record { printed = refl; told = l.2 },
+    )

@@ -1,0 +1,29 @@
+-- What a command does.
+use Rattle.std.specs.Prelude.{◌≡◌, ℕ, Bool, Option, List, Result}
+use Rattle.bw_cli.specs.Faults.{IsToldBy, exit_of, is_read}
+use Rattle.bw_layout.specs.declared.sink.Sink.{Ghosts as Writer}
+use Rattle.bw_cli.specs.Printing.{Print, IsPrint}
+use Rattle.bw_cli.specs.Replays.{IsPrintOf}
+use Rattle.bw_cli.specs.declared.exit.Exit.{Exit}
+use Rattle.bw_cli.specs.declared.fault.Fault.{Fault}
+
+-- what a command did: whether its reads all succeeded, what it printed, what it told of faults, and how it ended
+pub record Deed : Type 0 where
+  pub reads_all : Bool
+  pub out : Print
+  pub faults : Print
+  pub exit : Exit
+
+-- this was printed and told
+pub record HasWritten {W E : Type 0} (w : Writer W) (e : Writer E) (did : Deed)
+    (out out' : W) (faults faults' : E) : Type 0 where
+  pub printed : IsPrint w did.out out out'
+  pub told : IsPrint e did.faults faults faults'
+
+-- a replay of this input did this
+pub record IsReplay (limit : ℕ) (input : Option (List ℕ)) (did : Deed) : Type 0 where
+  pub outcome : Result (Unit {0}) Fault
+  pub exit_is : did.exit ≡ exit_of outcome
+  pub reads : did.reads_all ≡ is_read outcome
+  pub prints : IsPrintOf limit input outcome did.out
+  pub tells : IsToldBy outcome did.faults

@@ -1,0 +1,118 @@
+-- What the program does for a command line.
+use Rattle.std.specs.Prelude.{◌≡◌, ◌⊎◌, ℕ, [], ◌∷◌, ◌++◌, Bool, true, false, Option, Some, List, Result, Err, codes, string_bytes}
+use Rattle.std.specs.declared.io.ErrorKind.{ErrorKind}
+use Rattle.std.specs.declared.io.ErrorKind.TheVariants as kinds
+use Rattle.clap.specs.Walk.{Text}
+use Rattle.clap.specs.Values.{kind_of}
+use Rattle.clap.specs.declared.error.ErrorKind.{ErrorKind as TextKind}
+use Rattle.clap.specs.declared.error.ErrorKind.TheVariants as texts
+use Rattle.bw_args.specs.Lines.{IsLineOf}
+use Rattle.bw_args.specs.declared.CommandLine.{CommandLine}
+use Rattle.bw_args.specs.declared.CommandLine.TheVariants.{Run, Tell}
+use Rattle.bw_args.specs.declared.Task.TheVariants.{Replay, Inspect}
+use Rattle.bw_cli.specs.Deeds.{Deed, IsReplay}
+use Rattle.bw_cli.specs.Faults.{IsToldBy, exit_of}
+use Rattle.bw_cli.specs.Inspections.{IsInspection, IsPrintOfText}
+use Rattle.bw_cli.specs.Printing.{Nothing, IsOf}
+use Rattle.bw_cli.specs.Text.{line}
+use Rattle.bw_cli.specs.declared.exit.Exit.{Exit}
+use Rattle.bw_cli.specs.declared.exit.Exit.TheVariants as exits
+use Rattle.bw_cli.specs.declared.fault.Fault.{Fault}
+use Rattle.bw_cli.specs.declared.fault.Fault.TheVariants as faults
+
+-- want of memory ended the program before it printed anything, and the line says so
+pub record IsWant (did : Deed) : Type 0 where
+  pub exit_is : did.exit ≡ exits.Memory
+  pub reads : did.reads_all ≡ true
+  pub prints : did.out ≡ Nothing
+  pub tells : IsToldBy (Err faults.Memory) did.faults
+
+-- how the program ends where the words can't be read: one that is no text is a fault of usage
+abbrev pub exit_without_words : ErrorKind → Exit
+exit_without_words kinds.OutOfMemory = exits.Memory
+exit_without_words kinds.InvalidData = exits.Usage
+exit_without_words _ = exits.Device
+
+-- the words of the command line can't be read
+pub record IsUnworded (did : Deed) : Type 0 where
+  pub kind : ErrorKind
+  pub exit_is : did.exit ≡ exit_without_words kind
+  pub reads : did.reads_all ≡ true
+  pub prints : did.out ≡ Nothing
+  pub tells : IsOf (line (codes "the command line can't be read")) did.faults
+
+-- how the program ends where a file can't be opened
+abbrev pub exit_unopened : ErrorKind → Exit
+exit_unopened kinds.OutOfMemory = exits.Memory
+exit_unopened _ = exits.Device
+
+-- what is told of a path whose file can't be opened
+abbrev pub unopened_text : Text → List ℕ → List ℕ
+unopened_text path reason = path ++ (codes " can't be opened: " ++ (reason ++ 10 ∷ []))
+
+-- the file of this path can't be opened, for a reason that is told
+pub record IsUnopened (path : Text) (did : Deed) : Type 0 where
+  pub kind : ErrorKind
+  pub exit_is : did.exit ≡ exit_unopened kind
+  pub reads : did.reads_all ≡ true
+  pub prints : did.out ≡ Nothing
+  pub reason : List ℕ
+  pub tells : IsOf (unopened_text path reason) did.faults
+
+-- help or the version is printed
+pub record IsHelp (did : Deed) : Type 0 where
+  pub outcome : Result (Unit {0}) Fault
+  pub exit_is : did.exit ≡ exit_of outcome
+  pub reads : did.reads_all ≡ true
+  pub text : List ℕ
+  pub prints : IsPrintOfText text outcome did.out
+  pub tells : IsToldBy outcome did.faults
+
+-- what is wrong with the command line is told
+pub record IsUsage (did : Deed) : Type 0 where
+  pub exit_is : did.exit ≡ exits.Usage
+  pub reads : did.reads_all ≡ true
+  pub prints : did.out ≡ Nothing
+  pub text : List ℕ
+  pub tells : IsOf text did.faults
+
+-- a text of this kind is told where it belongs
+abbrev pub IsTelling : TextKind → Deed → Type 0
+IsTelling texts.DisplayHelp did = IsHelp did
+IsTelling texts.DisplayVersion did = IsHelp did
+IsTelling _ did = IsUsage did ⊎ IsWant did
+
+-- what the program is given: the words of its command line, the bytes at each path, and those of its input
+pub record Given : Type 0 where
+  pub words : Option (List Text)
+  pub file_at : Text → Option (List ℕ)
+  pub input : Option (List ℕ)
+
+-- the file of a path was inspected, which the input has no part in
+pub record IsInspected (file : Option (List ℕ)) (did : Deed) : Type 0 where
+  pub reads : did.reads_all ≡ true
+  pub reads_file : Bool
+  pub is : IsInspection file (record did { reads_all = reads_file })
+
+-- what comes of a file that is to be inspected, where the system opens it, or not
+abbrev pub IsLook : Option (List ℕ) → Text → Bool → Deed → Type 0
+IsLook file path true did = IsInspected file did
+IsLook file path false did = IsUnopened path did ⊎ IsWant did
+
+-- what is done for a command line over these files and this input, where the system gives what is asked of it, or not
+abbrev pub IsDoneFor : (Text → Option (List ℕ)) → Option (List ℕ) → Bool → CommandLine → Deed → Type 0
+IsDoneFor file_at input gives_all (Run (Replay limit)) did = IsReplay limit input did × (gives_all ≡ true)
+IsDoneFor file_at input gives_all (Run (Inspect file)) did =
+    IsLook (file_at (string_bytes file)) (string_bytes file) gives_all did
+IsDoneFor file_at input gives_all (Tell error) did = IsTelling (kind_of error) did × (gives_all ≡ true)
+
+-- the words come to a command line, and this is done for it
+pub record IsAnswer (given : Given) (gives_all : Bool) (did : Deed) : Type 0 where
+  pub line : CommandLine
+  pub comes : (words : List Text) → given.words ≡ Some words → IsLineOf words line
+  pub done : IsDoneFor given.file_at given.input gives_all line did
+
+-- what the program does: where the system fails, that is told; where it doesn't, memory may
+abbrev pub IsProgram : Given → Bool → Deed → Type 0
+IsProgram given true did = IsAnswer given true did ⊎ IsWant did
+IsProgram given false did = IsAnswer given false did ⊎ IsUnworded did

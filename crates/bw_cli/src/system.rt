@@ -1,0 +1,36 @@
+//! What the program asks of the system that it runs on, beside its streams.
+ghost use Rattle.std.specs.Prelude.{◌≡◌, ℕ, List, Option, map, string_bytes, IfOk};
+ghost use Rattle.bw_layout.specs.Moves.{failures_after, Keeps};
+
+use bw_layout::Source;
+use std::io;
+
+/// A system: the words of the command line and the bytes at each path, where it tells them, and how often it failed.
+pub trait System {
+    type File: Source + Drop;
+
+    ghost words: { Self → Option (List (List ℕ)) };
+
+    ghost file_at: { Self → List ℕ → Option (List ℕ) };
+
+    ghost failures: { Self → ℕ };
+
+    /// The words of the command line, the program's own name first.
+    ///
+    /// # Errors
+    /// Where the system failed: `InvalidData` where a word is no text.
+    fn words(&mut self) -> io::Result<Vec<String>>
+        ensures count { failures self.new ≡ failures_after result (failures self.old) }
+        ensures files { file_at self.new ≡ file_at self.old }
+        ensures ok { IfOk result (λ found. (told : List (List ℕ)) →
+            words self.old ≡ Some told → map string_bytes found.items ≡ told) };
+
+    /// A reader of the file of a path, at its start.
+    ///
+    /// # Errors
+    /// Where the system failed.
+    fn open(&mut self, path: &str) -> io::Result<Self::File>
+        ensures count { failures self.new ≡ failures_after result (failures self.old) }
+        ensures ok { IfOk result (λ file.
+            Keeps (file_at self.old path.now) (Self.File.left file)) };
+}
