@@ -3,10 +3,12 @@ use Rattle.std.specs.Prelude.{◌≡◌, ◌≤◌, take, nat_le, if◌then◌el
 use Rattle.bw_wire.specs.declared.buffer.Buffer.TheInside.{Inside}
 use Rattle.bw_wire.specs.Held.{Held, longest_rest, largest_kept}
 
+-- the bytes at the front of the block, and how large it is
 abbrev pub held_in : Inside → Held
 held_in b = record { bytes = take b.len b.block.items; room = vec_capacity b.block }
 
--- both blocks are written up to their end, and the spare one is there where the other is too large to be kept
+-- both blocks are written to their end; the spare one is there where the other is too large to be
+-- kept
 pub record IsBuffer (b : Inside) : Type 0 where
   pub within : b.len ≤ vec_len b.block
   pub block : vec_capacity b.block ≡ vec_len b.block

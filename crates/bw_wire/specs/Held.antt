@@ -1,7 +1,7 @@
 -- Bytes that are held in a block of memory.
 use Rattle.std.specs.Prelude.{ℕ, ◌+◌, ◌*◌, List, [], ◌++◌, length, drop, max, nat_le, if◌then◌else◌}
 
--- behind the whole frames at most so many bytes are left
+-- so many bytes, at most, are left behind the whole frames
 abbrev pub longest_rest : ℕ
 longest_rest = 32809
 
@@ -9,12 +9,14 @@ longest_rest = 32809
 abbrev pub largest_kept : ℕ
 largest_kept = 262144
 
+-- bytes, and the room of their block
 pub record Held : Type 0 where
   -- the bytes
   pub bytes : List ℕ
   -- how many the block has room for
   pub room : ℕ
 
+-- no bytes, and no block
 abbrev pub nothing_held : Held
 nothing_held = record { bytes = []; room = 0 }
 

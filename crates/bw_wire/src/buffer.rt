@@ -168,7 +168,8 @@ fn let_go(block: &mut Vec<u8>)
 /// Puts bytes over as many that stand there.
 fn copy_in(block: &mut Vec<u8>, start: usize, bytes: &[u8])
     requires { start + length bytes.now ≤ vec_len block.old }
-    ensures front { take (start + length bytes.now) block.new.items ≡ take start block.old.items ++ bytes.now }
+    ensures front { take (start + length bytes.now) block.new.items
+        ≡ take start block.old.items ++ bytes.now }
     ensures len { vec_len block.new ≡ vec_len block.old }
     ensures capacity { vec_capacity block.new ≡ vec_capacity block.old }
 {
