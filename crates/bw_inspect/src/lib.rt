@@ -12,14 +12,8 @@ mod outer;
 mod places;
 mod reading;
 mod report;
-#[cfg(test)]
-mod rows;
 mod sizes;
-#[cfg(test)]
-mod tests;
 mod text;
-#[cfg(test)]
-mod text_tests;
 mod walk;
 mod write;
 

@@ -20,8 +20,6 @@ mod seek;
 mod sink;
 mod sizes;
 mod source;
-#[cfg(test)]
-mod tests;
 
 pub use broadcast::{Bext, put_bext};
 pub use chunk::{ChunkHead, ChunkId, Short, put_head, read_head};

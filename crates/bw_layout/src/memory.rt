@@ -97,39 +97,3 @@ impl Sink for MemorySink {
         Ok(())
     }
 }
-
-#[cfg(test)]
-mod tests {
-    use super::*;
-    use crate::sink::write_all;
-    use crate::tests::same;
-    use std::alloc::AllocError;
-
-    #[test]
-    fn a_slice_is_read_forward_and_once(rt: HostRuntime) -> Result<(), IoFailed> {
-        let mut source = MemorySource::new(b"abcdefg");
-        let mut buf = [0; 3];
-        same(&rt, "the first read", &source.read(&mut buf)?, &3);
-        same(&rt, "the front", &buf, b"abc");
-        same(&rt, "a skip", &source.skip(2)?, &2);
-        same(&rt, "the second read", &source.read(&mut buf)?, &2);
-        same(&rt, "what is left of the buffer", &buf, b"fgc");
-        same(&rt, "the last byte", &source.skip(1)?, &0);
-        same(&rt, "the end", &source.read(&mut buf)?, &0);
-        Ok(())
-    }
-
-    #[test]
-    fn what_is_written_stands_behind_what_was_there(rt: HostRuntime) -> Result<(), AllocError> {
-        let mut sink = MemorySink::new(vec![in rt.alloc(); 1, 2]?);
-        assert!(rt; write_all(&mut sink, &[3, 4, 5]).is_ok());
-        assert!(rt; write_all(&mut sink, &[]).is_ok());
-        same(
-            &rt,
-            "the bytes",
-            &sink.into_bytes().as_slice(),
-            &[1, 2, 3, 4, 5].as_slice(),
-        );
-        Ok(())
-    }
-}

@@ -39,18 +39,3 @@ pub fn read_id(bytes: &[u8], at: usize) -> [u8; 4]
     let part = &bytes[at..at + 4];
     [part[0], part[1], part[2], part[3]]
 }
-
-#[cfg(test)]
-mod tests {
-    use super::*;
-    use crate::tests::same;
-
-    #[test]
-    fn the_lowest_byte_stands_first(rt: HostRuntime) {
-        let bytes = [0, 1, 2, 3, 4, 5, 6, 7, 8, 9];
-        same(&rt, "two", &read_u16(&bytes, 1), &0x0201);
-        same(&rt, "four", &read_u32(&bytes, 6), &0x0908_0706);
-        same(&rt, "eight", &read_u64(&bytes, 1), &0x0807_0605_0403_0201);
-        same(&rt, "an id", &read_id(&bytes, 3), &[3, 4, 5, 6]);
-    }
-}

@@ -88,24 +88,3 @@ impl<T: Read + Seek> Source for SeekSource<T> {
         Ok(count)
     }
 }
-
-#[cfg(test)]
-mod tests {
-    use super::*;
-    use crate::tests::same;
-    use std::io::Cursor;
-
-    #[test]
-    fn a_skip_seeks_as_far_as_the_length_and_then_reads(rt: HostRuntime) -> Result<(), IoFailed> {
-        let mut source = SeekSource::new(Cursor::new(b"abcdefgh".as_slice()), 6);
-        let mut buf = [0; 2];
-        same(&rt, "the first read", &source.read(&mut buf)?, &2);
-        same(&rt, "a seek", &source.skip(3)?, &3);
-        same(&rt, "the second read", &source.read(&mut buf)?, &2);
-        same(&rt, "what it read", &buf, b"fg");
-        same(&rt, "a skip past the length", &source.skip(9)?, &1);
-        same(&rt, "the end", &source.skip(9)?, &0);
-        same(&rt, "no failure", &source.plain.failures, &0);
-        Ok(())
-    }
-}

@@ -5,8 +5,6 @@ mod judgement;
 mod name;
 mod request;
 mod state;
-#[cfg(test)]
-mod tests;
 mod verdict;
 
 pub use judgement::judge;

@@ -28,8 +28,3 @@ pub use reply::{Notice, Reply};
 pub use reply_decoder::decode_reply;
 pub use reply_encoder::encode_reply;
 pub use reply_framer::ReplyFramer;
-
-#[cfg(test)]
-mod reply_tests;
-#[cfg(test)]
-mod tests;

@@ -2,10 +2,10 @@
 ghost use Rattle.std.specs.Prelude.{IfOk};
 ghost use Rattle.bw_wire.specs.Replies.{HasWireNumbers};
 
-use crate::tests::same;
-use crate::*;
+use crate::compare::same;
 use arrayvec::ArrayVec;
 use bw_take::{Name, Verdict};
+use bw_wire::*;
 use std::process::Abort;
 use std::test::Fail;
 

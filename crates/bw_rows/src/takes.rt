@@ -3,16 +3,11 @@ ghost use Rattle.std.specs.Prelude.{◌≤◌, IsTrue};
 ghost use Rattle.bw_model.specs.Wire.{is_request};
 ghost use Rattle.bw_take.specs.Requests.{meaning};
 
-use crate::{Name, Request, RequestRef, TakeState, UnknownVerdict, Verdict, judge};
+use crate::compare::same;
+use bw_take::{Name, Request, RequestRef, TakeState, UnknownVerdict, Verdict, judge};
 use std::alloc::{AllocError, Global};
-use std::fmt::{Debug, Display};
 use std::process::Abort;
 use std::test::Fail;
-
-/// Ends the test where a value isn't the one wanted. A call of it is far cheaper to check than `assert_eq!`.
-fn same<T: PartialEq + Debug, L: Display + Copy>(rt: &impl Abort, of: L, found: &T, want: &T) {
-    assert_eq!(rt; found, want, "of {of}");
-}
 
 /// 48,000 Hz, one channel, 16 bits: a frame has two bytes.
 const MONO: RequestRef<'static> = RequestRef::OpenTake {

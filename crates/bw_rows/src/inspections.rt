@@ -1,11 +1,8 @@
 //! Worked files with their faults, readers that give pieces, and readers that fail.
 ghost use Rattle.std.specs.Prelude.{◌≡◌, ◌+◌, ◌≤◌, length};
 
-use crate::fault::{InspectFault, InspectKind};
-use crate::reading::inspect;
-use crate::report::ListedChunk;
-use crate::rows::{RF64, TABLED, empty_chunks, marked_file, report_of, small_file};
-use crate::write::write_report;
+use crate::files::{RF64, TABLED, empty_chunks, marked_file, report_of, small_file};
+use bw_inspect::{InspectFault, InspectKind, ListedChunk, inspect, write_report};
 use bw_layout::{ChunkId, MemorySink, MemorySource, Plain, SeekSource, Source};
 use std::alloc::Global;
 use std::io::{self, Cursor, Read};

@@ -1,21 +1,11 @@
 //! Worked frames and replies, in pieces of many sizes, and each call once.
 
-use crate::*;
+use crate::compare::same;
 use bw_take::{Name, RequestRef};
+use bw_wire::*;
 use std::alloc::Global;
-use std::fmt::{Debug, Display};
 use std::process::Abort;
 use std::test::Fail;
-
-/// Ends the test where a value isn't the one wanted. A call of it is far cheaper to check than `assert_eq!`.
-pub(crate) fn same<T: PartialEq + Debug, L: Display + Copy>(
-    rt: &impl Abort,
-    of: L,
-    found: &T,
-    want: &T,
-) {
-    assert_eq!(rt; found, want, "of {of}");
-}
 
 /// OPEN `a1` with number 0: 48,000 Hz, one channel, 16 bits, no history.
 const OPEN: &[u8; 22] = b"\x12\0\0\0\x01\x02a1\0\0\0\0\x80\xbb\0\0\x01\0\x10\0\0\0";

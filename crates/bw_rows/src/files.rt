@@ -1,8 +1,7 @@
-//! Worked files, for the tests.
+//! Worked files.
 ghost use Rattle.std.specs.Prelude.{◌≡◌, ◌≤◌, IfOk, vec_len};
 
-use crate::reading::inspect;
-use crate::report::Report;
+use bw_inspect::{Report, inspect};
 use bw_layout::MemorySource;
 use std::alloc::{AllocError, Global};
 use std::test::Fail;

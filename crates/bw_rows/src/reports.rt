@@ -1,6 +1,6 @@
 //! Worked reports, and a writer that fails in the midst of one.
-use crate::rows::{RF64, report_of, small_file};
-use crate::write::{WriteFailed, write_report};
+use crate::files::{RF64, report_of, small_file};
+use bw_inspect::{WriteFailed, write_report};
 use bw_layout::{MemorySink, Plain};
 use std::alloc::Global;
 use std::test::Fail;

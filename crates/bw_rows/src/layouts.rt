@@ -1,21 +1,10 @@
 //! Worked rows of the published layouts, and each call once.
 ghost use Rattle.std.specs.Prelude.{◌^◌, ◌≤◌};
 
-use crate::*;
+use crate::compare::same;
+use bw_layout::*;
 use std::alloc::{AllocError, Global};
-use std::fmt::{Debug, Display};
-use std::process::Abort;
 use std::test::Fail;
-
-/// Ends the test where a value isn't the one wanted. A call of it is far cheaper to check than `assert_eq!`.
-pub(crate) fn same<T: PartialEq + Debug, L: Display + Copy>(
-    rt: &impl Abort,
-    of: L,
-    found: &T,
-    want: &T,
-) {
-    assert_eq!(rt; found, want, "of {of}");
-}
 
 /// These bytes, one piece after another.
 fn joined(alloc: Global, pieces: &[&[u8]]) -> Result<Vec<u8>, AllocError> {

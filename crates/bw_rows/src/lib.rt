@@ -1,0 +1,23 @@
+//! Worked rows of layouts, requests, messages and inspections, with bytes from outside, and each call
+//! once: what no clause says. The crates below have no tests of their own, since a crate with tests is
+//! proved twice.
+#![tactic(auto)]
+
+#[cfg(test)]
+mod compare;
+#[cfg(test)]
+mod files;
+#[cfg(test)]
+mod inspections;
+#[cfg(test)]
+mod layouts;
+#[cfg(test)]
+mod messages;
+#[cfg(test)]
+mod readers;
+#[cfg(test)]
+mod replies;
+#[cfg(test)]
+mod reports;
+#[cfg(test)]
+mod takes;
