@@ -1,46 +1,84 @@
 -- Calls one after another.
-use Rattle.std.proofs.Common.{◌+◌, List, [], ◌++◌, length, take, Option, sym, ◌∙◌, ap, arith, append_assoc, length-append, subst}
+use Rattle.std.proofs.Common.{◌≡◌, ◌⊎◌, inl, inr, ℕ, ◌+◌, ◌<◌, ◌≤◌, true, List, [], ◌∷◌, ◌++◌, length, Option, refl, sym, ◌∙◌, ap, arith, append_assoc, length-append, subst}
 use Rattle.std.proofs.Math.Seq.{take-append-add}
-use Rattle.std.proofs.lemmas.List.{append-nil, take_all, take-append-le}
-use Rattle.bw_file.specs.Calls.{StoreCall, Asks, AsksFirst, Ends}
+use Rattle.std.proofs.lemmas.Bool.{cases_order}
+use Rattle.std.proofs.lemmas.List.{append-nil, take_all, take-append-le, length-take}
+use Rattle.bw_file.specs.Stores.{Counts, last_count, raised}
+use Rattle.bw_file.specs.Calls.{StoreCall, Asks, Gets, GetsFirst}
+
+-- a count that rises by one
+raised_by_one : (before after : ℕ) → Counts before after true → after ≡ raised before 1
+raised_by_one before after c = go (cases_order before last_count)
+  where
+    go : (before ≡ last_count) ⊎ ((before < last_count) ⊎ (last_count < before)) → after ≡ raised before 1
+    go (inl full) = let e = c.stays (omega arith) in omega arith
+    go (inr (inl less)) = let e = c.rises refl less in omega arith
+    go (inr (inr more)) = let e = c.stays (omega arith) in omega arith
 
 -- no call
-pub asks_none : (same : Option (List StoreCall)) → Asks [] same same
-asks_none same all e = record { noted = all; were = e; are = sym (append-nil all) }
+pub gets_none : (count : ℕ) (same : Option (List StoreCall)) → Gets [] count count same same
+gets_none count same = record {
+  counted = omega arith;
+  noted = λ all e. record { noted = all; were = e; are = sym (append-nil all) };
+}
 
-ends_then : (p q all : List StoreCall) (a b : Option (List StoreCall)) → Asks p a b → Ends q all b → Ends (p ++ q) all a
-ends_then p q all a b first s =
-    let f = first s.noted s.were in
-    record { noted = f.noted; were = f.were; are = s.are ∙ ap (λ (l : List StoreCall). l ++ q) f.are ∙ append_assoc f.noted p q }
+-- one call
+pub gets_one : {call : StoreCall} {a b : ℕ} {x y : Option (List StoreCall)} → Counts a b true → Asks (call ∷ []) x y → Gets (call ∷ []) a b x y
+gets_one {a = a} {b = b} counts asks = record { counted = raised_by_one a b counts; noted = asks }
 
 -- these calls, and then those
-pub asks_then : (p q : List StoreCall) (a b c : Option (List StoreCall)) → Asks p a b → Asks q b c → Asks (p ++ q) a c
-asks_then p q a b c first second all e = ends_then p q all a b first (second all e)
+pub gets_then : {p q : List StoreCall} {a b c : ℕ} {x y z : Option (List StoreCall)} → Gets p a b x y → Gets q b c y z → Gets (p ++ q) a c x z
+gets_then {p = p} {q = q} {a = a} {b = b} {c = c} first second =
+    let one = first.counted in
+    let two = second.counted in
+    record {
+      counted = omega (arith, length-append p q);
+      noted = λ all e.
+          let s = second.noted all e in
+          let f = first.noted s.noted s.were in
+          record { noted = f.noted; were = f.were; are = s.are ∙ ap (λ (l : List StoreCall). l ++ q) f.are ∙ append_assoc f.noted p q };
+    }
 
 -- .. and then the first of those
-pub asks_then_first : (p q : List StoreCall) (a b c : Option (List StoreCall)) → Asks p a b → AsksFirst q b c → AsksFirst (p ++ q) a c
-asks_then_first p q a b c first second all e =
-    let s = second all e in
+pub gets_then_first : {p q : List StoreCall} {a b c : ℕ} {x y z : Option (List StoreCall)} → Gets p a b x y → GetsFirst q b c y z → GetsFirst (p ++ q) a c x z
+gets_then_first {p = p} {q = q} {a = a} {c = c} {x = x} {z = z} first second =
+    let within = second.within in
     record {
-      count = length p + s.count;
-      within = omega (arith, length-append p q, s.within);
-      ends = subst (λ (l : List StoreCall). Ends l all a) (sym (take-append-add p q s.count)) (ends_then p (take s.count q) all a b first s.ends);
+      count = length p + second.count;
+      within = omega (arith, length-append p q);
+      gets = subst (λ (l : List StoreCall). Gets l a c x z) (sym (take-append-add p q second.count)) (gets_then first second.gets);
     }
 
 -- all of them are the first of them
-pub asks_all : (p : List StoreCall) (a b : Option (List StoreCall)) → Asks p a b → AsksFirst p a b
-asks_all p a b first all e = record {
+pub gets_all : {p : List StoreCall} {a b : ℕ} {x y : Option (List StoreCall)} → Gets p a b x y → GetsFirst p a b x y
+gets_all {p = p} {a = a} {b = b} {x = x} {y = y} first = record {
   count = length p;
   within = omega arith;
-  ends = subst (λ (l : List StoreCall). Ends l all a) (sym (take_all (length p) p (omega arith))) (first all e);
+  gets = subst (λ (l : List StoreCall). Gets l a b x y) (sym (take_all (length p) p (omega arith))) first;
 }
 
 -- the first of some are the first of more
-pub asks_before : (p q : List StoreCall) (a b : Option (List StoreCall)) → AsksFirst p a b → AsksFirst (p ++ q) a b
-asks_before p q a b first all e =
-    let s = first all e in
+pub gets_before : {p : List StoreCall} {a b : ℕ} {x y : Option (List StoreCall)} (q : List StoreCall) → GetsFirst p a b x y → GetsFirst (p ++ q) a b x y
+gets_before {p = p} {a = a} {b = b} {x = x} {y = y} q first =
+    let within = first.within in
     record {
-      count = s.count;
-      within = omega (arith, length-append p q, s.within);
-      ends = subst (λ (l : List StoreCall). Ends l all a) (sym (take-append-le s.count p q s.within)) s.ends;
+      count = first.count;
+      within = omega (arith, length-append p q);
+      gets = subst (λ (l : List StoreCall). Gets l a b x y) (sym (take-append-le first.count p q first.within)) first.gets;
     }
+
+-- the same calls, told otherwise
+pub gets_as : {p q : List StoreCall} {a b : ℕ} {x y : Option (List StoreCall)} → p ≡ q → Gets q a b x y → Gets p a b x y
+gets_as {a = a} {b = b} {x = x} {y = y} e h = subst (λ (l : List StoreCall). Gets l a b x y) (sym e) h
+
+pub first_as : {p q : List StoreCall} {a b : ℕ} {x y : Option (List StoreCall)} → p ≡ q → GetsFirst q a b x y → GetsFirst p a b x y
+first_as {a = a} {b = b} {x = x} {y = y} e h = subst (λ (l : List StoreCall). GetsFirst l a b x y) (sym e) h
+
+-- how far the count rises
+pub gets_at_most : {p : List StoreCall} {a b : ℕ} {x y : Option (List StoreCall)} (n : ℕ) → length p ≤ n → Gets p a b x y → b ≤ a + n
+gets_at_most {p = p} {a = a} {b = b} n few gets = let e = gets.counted in omega arith
+
+pub first_at_most : {p : List StoreCall} {a b : ℕ} {x y : Option (List StoreCall)} (n : ℕ) → length p ≤ n → GetsFirst p a b x y → b ≤ a + n
+first_at_most {p = p} n few first =
+    let within = first.within in
+    gets_at_most n (omega (arith, length-take first.count p)) first.gets

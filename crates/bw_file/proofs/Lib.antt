@@ -17,3 +17,5 @@ pub mod Begins
 pub mod Parts
 pub mod Retouches
 pub mod SetFields
+pub mod SetPlans
+pub mod Ranges

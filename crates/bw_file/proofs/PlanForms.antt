@@ -1,5 +1,5 @@
 -- What is asked of a store, by the cases of a call.
-use Rattle.std.proofs.Common.{◌≡◌, ℕ, ◌+◌, ◌*◌, ◌%◌, ◌<◌, ◌≤◌, Bool, true, false, not, cond, List, [], ◌∷◌, ◌++◌, length, Option, Result, Ok, Err, refl, sym, ◌∙◌, ap, arith, subst}
+use Rattle.std.proofs.Common.{◌≡◌, ℕ, ◌+◌, ◌*◌, ◌%◌, ◌<◌, ◌≤◌, Bool, true, false, not, cond, List, [], ◌∷◌, ◌++◌, length, Result, Ok, Err, refl, ◌∙◌, ap, arith}
 use Rattle.std.specs.Prelude.{codes, nat_le, flat_map, OnErr}
 use Rattle.std.proofs.lemmas.Bool.{eq-eqb, ne_eqb}
 use Rattle.std.proofs.lemmas.List.{append-nil}
@@ -8,7 +8,7 @@ use Rattle.bw_model.specs.Take.{Parts}
 use Rattle.bw_model.specs.Layout.{Chunk, chunk, cue_content}
 use Rattle.bw_model.specs.File.{cue_chunks}
 use Rattle.bw_model.proofs.Widths.{length-chunk_sized, length-cue_content}
-use Rattle.bw_file.specs.Calls.{StoreCall, WriteAt, Finish, Asks, AsksFirst}
+use Rattle.bw_file.specs.Calls.{WriteAt, Finish}
 use Rattle.bw_file.specs.Plans.{samples_plan, cues_plan, sizes_plan, form_plan, grown_plan, closed_plan, append_plan, close_plan}
 use Rattle.bw_file.specs.Growing.{Growing}
 use Rattle.bw_file.specs.declared.heading.Heading.{Heading}
@@ -18,13 +18,6 @@ use Rattle.bw_file.specs.Headings.{place_of, is_riff}
 pub on_err : {T E : Type 0} (r : Result T E) (P : Type 0) → P → OnErr r P
 on_err (Ok x) P h = tt
 on_err (Err e) P h = h
-
--- the same calls, told otherwise
-pub asks_as : (p q : List StoreCall) (a b : Option (List StoreCall)) → p ≡ q → Asks q a b → Asks p a b
-asks_as p q a b e h = subst (λ (l : List StoreCall). Asks l a b) (sym e) h
-
-pub first_as : (p q : List StoreCall) (a b : Option (List StoreCall)) → p ≡ q → AsksFirst q a b → AsksFirst p a b
-first_as p q a b e h = subst (λ (l : List StoreCall). AsksFirst l a b) (sym e) h
 
 pub padded : (name : List ℕ) (place n : ℕ) → (place + n) % 2 ≡ 1 → samples_plan name place n ≡ (WriteAt name place n ∷ []) ++ (WriteAt name (place + n) 1 ∷ [])
 padded name place n odd = ap (λ (b : Bool). WriteAt name place n ∷ cond b (WriteAt name (place + n) 1 ∷ []) []) (eq-eqb ((place + n) % 2) 1 odd)

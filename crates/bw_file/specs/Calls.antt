@@ -24,12 +24,9 @@ pub record Gets (plan : List StoreCall) (count_before count_after : ℕ)
   pub counted : count_after ≡ raised count_before (length plan)
   pub noted : Asks plan before after
 
--- a front of these calls
-pub record EndsFirst (plan all : List StoreCall) (before : Option (List StoreCall)) : Type 0 where
+-- It got the first of these, up to one that failed.
+pub record GetsFirst (plan : List StoreCall) (count_before count_after : ℕ)
+    (before after : Option (List StoreCall)) : Type 0 where
   pub count : ℕ
   pub within : count ≤ length plan
-  pub ends : Ends (take count plan) all before
-
--- .. or the first of these, up to one that failed
-abbrev pub AsksFirst : List StoreCall → Option (List StoreCall) → Option (List StoreCall) → Type 0
-AsksFirst plan before after = (all : List StoreCall) → after ≡ Some all → EndsFirst plan all before
+  pub gets : Gets (take count plan) count_before count_after before after

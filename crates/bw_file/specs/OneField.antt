@@ -1,29 +1,19 @@
 -- Two headers of a take, one field of whose `bext` is set.
-use Rattle.std.specs.Prelude.{◌≡◌, ◌⊎◌, ℕ, ◌+◌, ◌≤◌, Option, List, [], ◌∷◌, ◌++◌, length, take, drop, slice_range, true, is_some}
-use Rattle.bw_model.specs.Take.{shape_of}
-use Rattle.bw_layout.specs.Places.{StandsAt}
-use Rattle.bw_file.specs.Calls.{StoreCall, WriteAt, Asks}
+use Rattle.std.specs.Prelude.{◌≡◌, ◌⊎◌, ℕ, ◌+◌, ◌≤◌, Some, List, ◌++◌, length, take, drop, slice_range}
+use Rattle.bw_layout.specs.Places.{range_of}
 
--- These headers are the same but for the place of a field.
-pub record SetsOneField (before after : List ℕ) : Type 0 where
-  pub tag : ℕ
-  pub known : is_some (shape_of tag) ≡ true
+-- these headers have the same bytes in a range
+abbrev pub IsSameIn : ℕ × ℕ → List ℕ → List ℕ → Type 0
+IsSameIn range before after =
+    slice_range before range.0 (range.0 + range.1) ≡ slice_range after range.0 (range.0 + range.1)
+
+-- These headers are the same but for the field under this tag; no tag before it has a say in that.
+pub record SetsField (tag : ℕ) (before after : List ℕ) : Type 0 where
+  pub range : ℕ × ℕ
+  pub known : range_of tag ≡ Some range
   pub long : 690 ≤ length after
-  pub alike : (place count : ℕ) → StandsAt tag place count
-      → after ≡ take place before ++ slice_range after place (place + count) ++ drop (place + count) before
-
--- a field has so many bytes at this place of each header
-pub record IsFieldPlace (place count : ℕ) : Type 0 where
-  pub tag : ℕ
-  pub stands : StandsAt tag place count
-
--- the one call writes a field at its place
-pub record AsksField (name : List ℕ) (before after : Option (List StoreCall)) : Type 0 where
-  pub place : ℕ
-  pub count : ℕ
-  pub field : IsFieldPlace place count
-  pub asked : Asks (WriteAt name place count ∷ []) before after
-
--- .. or there is none
-abbrev pub Patches : List ℕ → Option (List StoreCall) → Option (List StoreCall) → Type 0
-Patches name before after = Asks [] before after ⊎ AsksField name before after
+  pub alike :
+      let end = range.0 + range.1 in
+      after ≡ take range.0 before ++ slice_range after range.0 end ++ drop end before
+  pub earlier : (other : ℕ) (at : ℕ × ℕ) → other ≤ tag → range_of other ≡ Some at →
+      (at ≡ range) ⊎ IsSameIn at before after

@@ -1,7 +1,9 @@
 -- What the calls of a growing file ask of the store, in their order.
-use Rattle.std.specs.Prelude.{ℕ, ◌+◌, ◌-◌, ◌*◌, ◌%◌, Bool, true, false, not, ◌&&◌, ◌==◌, nat_le, if◌then◌else◌, List, [], ◌∷◌, ◌++◌, length}
+use Rattle.std.specs.Prelude.{ℕ, ◌+◌, ◌-◌, ◌*◌, ◌%◌, Bool, true, false, not, ◌&&◌, ◌==◌, nat_le, if◌then◌else◌, Option, Some, None, List, [], ◌∷◌, ◌++◌, length}
+use Rattle.std.specs.Str.{bytes_eq}
 use Rattle.bw_model.specs.Take.{Parts}
 use Rattle.bw_model.specs.File.{form_size, data_place}
+use Rattle.bw_layout.specs.Places.{bytes_of, range_of}
 use Rattle.bw_file.specs.Calls.{StoreCall, Create, WriteAt, Finish}
 use Rattle.bw_file.specs.Growing.{Growing}
 
@@ -53,6 +55,21 @@ abbrev pub closed_plan : Bool → List ℕ → ℕ → Bool → Bool → ℕ →
 closed_plan is_clean name place was_riff is_riff count =
     change_plan is_clean was_riff is_riff (form_plan name count is_riff) (header_plan name place)
 
+-- a write in a range, where there is one
+abbrev pub range_plan : List ℕ → Option (ℕ × ℕ) → List StoreCall
+range_plan name None = []
+range_plan name (Some range) = WriteAt name range.0 range.1 ∷ []
+
+-- the field under a tag, where bytes change
+abbrev pub field_plan : List ℕ → ℕ → List ℕ → List ℕ → List StoreCall
+field_plan name tag before after =
+    if bytes_eq before after then [] else range_plan name (range_of tag)
+
+-- the header with that field: of a clean file the field alone, and else the whole header
+abbrev pub set_plan : Bool → List ℕ → ℕ → ℕ → List ℕ → List ℕ → List StoreCall
+set_plan is_clean name place tag before after =
+    if is_clean then field_plan name tag before after else header_plan name place
+
 -- the file is RIFF with this much data and so many cue points
 abbrev pub is_riff_at : Growing → Parts → ℕ → ℕ → Bool
 is_riff_at g p data_len count = nat_le (form_size (length p.history) data_len count) g.limit
@@ -70,6 +87,12 @@ append_plan g p n =
     let is_riff = is_riff_at g p (p.samples_len + n) 0 in
     samples_plan g.name (place + p.samples_len) n
     ++ grown_plan (not g.dirty) g.name place was_riff is_riff
+
+-- to set a field: its bytes where they change, or the whole header
+abbrev pub retouch_plan : Growing → Parts → List (List ℕ) → ℕ → List StoreCall
+retouch_plan g p set tag =
+    let place = data_place (length p.history) in
+    set_plan (not g.dirty) g.name place tag (bytes_of tag p.fields) (bytes_of tag set)
 
 -- to close: the cue points, then the header, and that the file is complete
 abbrev pub close_plan : Growing → Parts → List StoreCall

@@ -1,12 +1,10 @@
 //! The file of a take, which grows with it.
 ghost use Rattle.std.specs.Prelude.{◌≡◌, ◌≤◌, ◌+◌, ◌^◌, ◌*◌, ℕ, List, [], IsSome, IsTrue, IsFalse, IfOk, OnOk, OnErr, is_err, length, true, false};
 ghost use Rattle.bw_model.specs.Take.{Take, Stored, Open, Block, SetField, Close, judge, parts, frames, with_field};
-ghost use Rattle.bw_model.specs.File.{data_place};
 ghost use Rattle.bw_model.specs.Wire.{is_request};
 ghost use Rattle.bw_file.specs.Stores.{Counts, KeepsOthers};
-ghost use Rattle.bw_file.specs.Calls.{Asks, AsksFirst};
-ghost use Rattle.bw_file.specs.Plans.{name_plan, header_plan, begin_plan, append_plan, close_plan};
-ghost use Rattle.bw_file.specs.OneField.{Patches};
+ghost use Rattle.bw_file.specs.Calls.{Gets, GetsFirst};
+ghost use Rattle.bw_file.specs.Plans.{name_plan, begin_plan, append_plan, retouch_plan, close_plan};
 ghost use Rattle.bw_file.specs.Growing.{Growing, Stores, Sets, Begins, AsksForName, IsFresh, is_new};
 
 use crate::heading::Heading;
@@ -35,8 +33,8 @@ pub struct GrowingFile {
 }
 
 impl Model for GrowingFile {
-    ghost use Rattle.bw_file.specs.Calls.{Asks, AsksFirst};
-    ghost use Rattle.bw_file.specs.Plans.{name_plan, header_plan, begin_plan, append_plan, close_plan};
+    ghost use Rattle.bw_file.specs.Calls.{Gets, GetsFirst};
+    ghost use Rattle.bw_file.specs.Plans.{name_plan, begin_plan, append_plan, retouch_plan, close_plan};
     ghost use Rattle.bw_file.specs.Growing.{Growing};
 
     ghost Value = { Growing };
@@ -100,10 +98,10 @@ impl GrowingFile {
             (self.new ≡ record self.old { made = self.new.made; dirty = true }) }
         ensures failures { Counts (S.failures store.old) (S.failures store.new) (is_err result) }
         ensures calls { S.calls store.new ≤ S.calls store.old + 2 }
-        ensures order { IfOk result (λ c. Asks (begin_plan self.old (is_new c) (length history.now))
-            (S.asked store.old) (S.asked store.new)) }
-        ensures begun { OnErr result (AsksFirst (begin_plan self.old true (length history.now))
-            (S.asked store.old) (S.asked store.new)) }
+        ensures order { IfOk result (λ c. Gets (begin_plan self.old (is_new c) (length history.now))
+            (S.calls store.old) (S.calls store.new) (S.asked store.old) (S.asked store.new)) }
+        ensures begun { OnErr result (GetsFirst (begin_plan self.old true (length history.now))
+            (S.calls store.old) (S.calls store.new) (S.asked store.old) (S.asked store.new)) }
         ensures honest { S.honest store.new ≡ S.honest store.old }
         ensures others { IsTrue (S.honest store.old) →
             KeepsOthers (S.contents store.old) (S.contents store.new) self.old.name }
@@ -157,12 +155,12 @@ impl GrowingFile {
         ensures known { self.new ≡ record self.old { dirty = is_err result } }
         ensures failures { Counts (S.failures store.old) (S.failures store.new) (is_err result) }
         ensures calls { S.calls store.new ≤ S.calls store.old + 4 }
-        ensures order { OnOk result (Asks
+        ensures order { OnOk result (Gets
             (append_plan self.old state.now.parts (length samples.now))
-            (S.asked store.old) (S.asked store.new)) }
-        ensures begun { OnErr result (AsksFirst
+            (S.calls store.old) (S.calls store.new) (S.asked store.old) (S.asked store.new)) }
+        ensures begun { OnErr result (GetsFirst
             (append_plan self.old state.now.parts (length samples.now))
-            (S.asked store.old) (S.asked store.new)) }
+            (S.calls store.old) (S.calls store.new) (S.asked store.old) (S.asked store.new)) }
         ensures honest { S.honest store.new ≡ S.honest store.old }
         ensures others { IsTrue (S.honest store.old) →
             KeepsOthers (S.contents store.old) (S.contents store.new) self.old.name }
@@ -203,13 +201,14 @@ impl GrowingFile {
         ensures known { self.new ≡ record self.old { dirty = is_err result } }
         ensures failures { Counts (S.failures store.old) (S.failures store.new) (is_err result) }
         ensures calls { S.calls store.new ≤ S.calls store.old + 1 }
-        ensures whole { IsTrue self.old.dirty → OnOk result (Asks
-            (header_plan self.old.name (data_place (length state.now.parts.history)))
-            (S.asked store.old) (S.asked store.new)) }
-        ensures patch { IsFalse self.old.dirty →
-            OnOk result (Patches self.old.name (S.asked store.old) (S.asked store.new)) }
-        ensures nothing { IsFalse self.old.dirty → bext.now ≡ state.now.parts.fields →
-            S.calls store.new ≡ S.calls store.old }
+        ensures order { (tag : ℕ) (value : List ℕ) →
+            bext.now ≡ with_field state.now.parts.fields tag value →
+            OnOk result (Gets (retouch_plan self.old state.now.parts bext.now tag)
+            (S.calls store.old) (S.calls store.new) (S.asked store.old) (S.asked store.new)) }
+        ensures begun { (tag : ℕ) (value : List ℕ) →
+            bext.now ≡ with_field state.now.parts.fields tag value →
+            OnErr result (GetsFirst (retouch_plan self.old state.now.parts bext.now tag)
+            (S.calls store.old) (S.calls store.new) (S.asked store.old) (S.asked store.new)) }
         ensures honest { S.honest store.new ≡ S.honest store.old }
         ensures others { IsTrue (S.honest store.old) →
             KeepsOthers (S.contents store.old) (S.contents store.new) self.old.name }
@@ -248,10 +247,10 @@ impl GrowingFile {
         ensures known { self.new ≡ record self.old { dirty = is_err result } }
         ensures failures { Counts (S.failures store.old) (S.failures store.new) (is_err result) }
         ensures calls { S.calls store.new ≤ S.calls store.old + 3 }
-        ensures order { OnOk result (Asks (close_plan self.old state.now.parts)
-            (S.asked store.old) (S.asked store.new)) }
-        ensures begun { OnErr result (AsksFirst (close_plan self.old state.now.parts)
-            (S.asked store.old) (S.asked store.new)) }
+        ensures order { OnOk result (Gets (close_plan self.old state.now.parts)
+            (S.calls store.old) (S.calls store.new) (S.asked store.old) (S.asked store.new)) }
+        ensures begun { OnErr result (GetsFirst (close_plan self.old state.now.parts)
+            (S.calls store.old) (S.calls store.new) (S.asked store.old) (S.asked store.new)) }
         ensures honest { S.honest store.new ≡ S.honest store.old }
         ensures others { IsTrue (S.honest store.old) →
             KeepsOthers (S.contents store.old) (S.contents store.new) self.old.name }
@@ -290,11 +289,10 @@ fn make_name<S: TakeStore>(
     ensures made { IfOk result (λ c. made.new ≡ is_new c) }
     ensures err { OnErr result ((made.old ≡ false) × (made.new ≡ false)) }
     ensures failures { Counts (S.failures store.old) (S.failures store.new) (is_err result) }
-    ensures calls { S.calls store.new ≤ S.calls store.old + 1 }
-    ensures order { OnOk result (Asks (name_plan name.now made.old)
-        (S.asked store.old) (S.asked store.new)) }
-    ensures begun { OnErr result (AsksFirst (name_plan name.now made.old)
-        (S.asked store.old) (S.asked store.new)) }
+    ensures order { OnOk result (Gets (name_plan name.now made.old)
+        (S.calls store.old) (S.calls store.new) (S.asked store.old) (S.asked store.new)) }
+    ensures begun { OnErr result (GetsFirst (name_plan name.now made.old)
+        (S.calls store.old) (S.calls store.new) (S.asked store.old) (S.asked store.new)) }
     ensures honest { S.honest store.new ≡ S.honest store.old }
     ensures others { IsTrue (S.honest store.old) →
         KeepsOthers (S.contents store.old) (S.contents store.new) name.now }

@@ -1,15 +1,15 @@
 //! The writes of a growing file: each leaves what its caller can still repair.
-ghost use Rattle.std.specs.Prelude.{◌≡◌, ◌≤◌, ◌<◌, ◌+◌, ◌*◌, ◌%◌, ◌^◌, ◌++◌, IsTrue, IsFalse, OnOk, OnErr, length, is_err, flat_map, not};
+ghost use Rattle.std.specs.Prelude.{◌≡◌, ◌≤◌, ◌<◌, ◌+◌, ◌*◌, ◌%◌, ◌^◌, ◌++◌, ℕ, IsTrue, OnOk, OnErr, length, is_err, flat_map, not};
 ghost use Rattle.bw_model.specs.Layout.{chunk, pad};
 ghost use Rattle.bw_model.specs.File.{cue_chunks};
 ghost use Rattle.bw_file.specs.Stores.{Counts, MayTear, KeepsOthers};
-ghost use Rattle.bw_file.specs.Calls.{Asks, AsksFirst};
-ghost use Rattle.bw_file.specs.Plans.{samples_plan, cues_plan, header_plan, sizes_plan, form_plan, grown_plan, closed_plan};
+ghost use Rattle.bw_file.specs.Calls.{Gets, GetsFirst};
+ghost use Rattle.bw_file.specs.Plans.{samples_plan, cues_plan, header_plan, sizes_plan, form_plan, grown_plan, closed_plan, field_plan, set_plan};
 ghost use Rattle.bw_file.specs.Headers.{PutsLast, PutsHeader, PutsOver, Updates};
-ghost use Rattle.bw_file.specs.OneField.{SetsOneField, Patches};
+ghost use Rattle.bw_file.specs.OneField.{SetsField};
 ghost use Rattle.bw_file.specs.Headings.{header_of, place_of, is_riff};
 
-use crate::field::changed_part;
+use crate::field::changed_range;
 use crate::heading::Heading;
 use crate::room::Room;
 use crate::store::{StoreFault, TakeStore};
@@ -25,13 +25,12 @@ pub(crate) fn put_samples<S: TakeStore>(
 ) -> Result<(), StoreFault>
     requires { place + length samples.now < 2 ^ 63 }
     ensures failures { Counts (S.failures store.old) (S.failures store.new) (is_err result) }
-    ensures calls { S.calls store.new ≤ S.calls store.old + 2 }
-    ensures order { OnOk result (Asks
+    ensures order { OnOk result (Gets
         (samples_plan name.now place (length samples.now))
-        (S.asked store.old) (S.asked store.new)) }
-    ensures begun { OnErr result (AsksFirst
+        (S.calls store.old) (S.calls store.new) (S.asked store.old) (S.asked store.new)) }
+    ensures begun { OnErr result (GetsFirst
         (samples_plan name.now place (length samples.now))
-        (S.asked store.old) (S.asked store.new)) }
+        (S.calls store.old) (S.calls store.new) (S.asked store.old) (S.asked store.new)) }
     ensures honest { S.honest store.new ≡ S.honest store.old }
     ensures others { IsTrue (S.honest store.old) →
         KeepsOthers (S.contents store.old) (S.contents store.new) name.now }
@@ -60,13 +59,12 @@ pub(crate) fn put_cues<S: TakeStore>(
     requires place { place < 2 ^ 63 }
     requires markers { length markers.now ≤ 1024 }
     ensures failures { Counts (S.failures store.old) (S.failures store.new) (is_err result) }
-    ensures calls { S.calls store.new ≤ S.calls store.old + 1 }
-    ensures order { OnOk result (Asks
+    ensures order { OnOk result (Gets
         (cues_plan name.now place (length markers.now))
-        (S.asked store.old) (S.asked store.new)) }
-    ensures begun { OnErr result (AsksFirst
+        (S.calls store.old) (S.calls store.new) (S.asked store.old) (S.asked store.new)) }
+    ensures begun { OnErr result (GetsFirst
         (cues_plan name.now place (length markers.now))
-        (S.asked store.old) (S.asked store.new)) }
+        (S.calls store.old) (S.calls store.new) (S.asked store.old) (S.asked store.new)) }
     ensures honest { S.honest store.new ≡ S.honest store.old }
     ensures others { IsTrue (S.honest store.old) →
         KeepsOthers (S.contents store.old) (S.contents store.new) name.now }
@@ -96,13 +94,12 @@ pub(crate) fn put_header<S: TakeStore>(
     requires samples { data_len ≤ 2 ^ 62 }
     requires cues { cues ≤ 1024 }
     ensures failures { Counts (S.failures store.old) (S.failures store.new) (is_err result) }
-    ensures calls { S.calls store.new ≤ S.calls store.old + 1 }
-    ensures order { OnOk result (Asks
+    ensures order { OnOk result (Gets
         (header_plan name.now (place_of heading.now))
-        (S.asked store.old) (S.asked store.new)) }
-    ensures begun { OnErr result (AsksFirst
+        (S.calls store.old) (S.calls store.new) (S.asked store.old) (S.asked store.new)) }
+    ensures begun { OnErr result (GetsFirst
         (header_plan name.now (place_of heading.now))
-        (S.asked store.old) (S.asked store.new)) }
+        (S.calls store.old) (S.calls store.new) (S.asked store.old) (S.asked store.new)) }
     ensures honest { S.honest store.new ≡ S.honest store.old }
     ensures others { IsTrue (S.honest store.old) →
         KeepsOthers (S.contents store.old) (S.contents store.new) name.now }
@@ -135,15 +132,14 @@ pub(crate) fn put_grown_header<S: TakeStore>(
     requires grows { before ≤ after }
     requires samples { after ≤ 2 ^ 62 }
     ensures failures { Counts (S.failures store.old) (S.failures store.new) (is_err result) }
-    ensures calls { S.calls store.new ≤ S.calls store.old + 2 }
-    ensures order { OnOk result (Asks
+    ensures order { OnOk result (Gets
         (grown_plan is_clean name.now (place_of heading.now)
         (is_riff heading.now before 0) (is_riff heading.now after 0))
-        (S.asked store.old) (S.asked store.new)) }
-    ensures begun { OnErr result (AsksFirst
+        (S.calls store.old) (S.calls store.new) (S.asked store.old) (S.asked store.new)) }
+    ensures begun { OnErr result (GetsFirst
         (grown_plan is_clean name.now (place_of heading.now)
         (is_riff heading.now before 0) (is_riff heading.now after 0))
-        (S.asked store.old) (S.asked store.new)) }
+        (S.calls store.old) (S.calls store.new) (S.asked store.old) (S.asked store.new)) }
     ensures honest { S.honest store.new ≡ S.honest store.old }
     ensures others { IsTrue (S.honest store.old) →
         KeepsOthers (S.contents store.old) (S.contents store.new) name.now }
@@ -173,13 +169,12 @@ fn put_grown_sizes<S: TakeStore>(
     requires grows { before ≤ after }
     requires samples { after ≤ 2 ^ 62 }
     ensures failures { Counts (S.failures store.old) (S.failures store.new) (is_err result) }
-    ensures calls { S.calls store.new ≤ S.calls store.old + 2 }
-    ensures order { OnOk result (Asks
+    ensures order { OnOk result (Gets
         (sizes_plan name.now (place_of heading.now) (is_riff heading.now after 0))
-        (S.asked store.old) (S.asked store.new)) }
-    ensures begun { OnErr result (AsksFirst
+        (S.calls store.old) (S.calls store.new) (S.asked store.old) (S.asked store.new)) }
+    ensures begun { OnErr result (GetsFirst
         (sizes_plan name.now (place_of heading.now) (is_riff heading.now after 0))
-        (S.asked store.old) (S.asked store.new)) }
+        (S.calls store.old) (S.calls store.new) (S.asked store.old) (S.asked store.new)) }
     ensures honest { S.honest store.new ≡ S.honest store.old }
     ensures others { IsTrue (S.honest store.old) →
         KeepsOthers (S.contents store.old) (S.contents store.new) name.now }
@@ -218,15 +213,14 @@ pub(crate) fn put_closed_header<S: TakeStore>(
     requires samples { data_len ≤ 2 ^ 62 }
     requires cues { cues ≤ 1024 }
     ensures failures { Counts (S.failures store.old) (S.failures store.new) (is_err result) }
-    ensures calls { S.calls store.new ≤ S.calls store.old + 1 }
-    ensures order { OnOk result (Asks
+    ensures order { OnOk result (Gets
         (closed_plan is_clean name.now (place_of heading.now)
         (is_riff heading.now data_len 0) (is_riff heading.now data_len cues) cues)
-        (S.asked store.old) (S.asked store.new)) }
-    ensures begun { OnErr result (AsksFirst
+        (S.calls store.old) (S.calls store.new) (S.asked store.old) (S.asked store.new)) }
+    ensures begun { OnErr result (GetsFirst
         (closed_plan is_clean name.now (place_of heading.now)
         (is_riff heading.now data_len 0) (is_riff heading.now data_len cues) cues)
-        (S.asked store.old) (S.asked store.new)) }
+        (S.calls store.old) (S.calls store.new) (S.asked store.old) (S.asked store.new)) }
     ensures honest { S.honest store.new ≡ S.honest store.old }
     ensures others { IsTrue (S.honest store.old) →
         KeepsOthers (S.contents store.old) (S.contents store.new) name.now }
@@ -256,13 +250,12 @@ fn put_closed_size<S: TakeStore>(
     requires samples { data_len ≤ 2 ^ 62 }
     requires cues { cues ≤ 1024 }
     ensures failures { Counts (S.failures store.old) (S.failures store.new) (is_err result) }
-    ensures calls { S.calls store.new ≤ S.calls store.old + 1 }
-    ensures order { OnOk result (Asks
+    ensures order { OnOk result (Gets
         (form_plan name.now cues (is_riff heading.now data_len cues))
-        (S.asked store.old) (S.asked store.new)) }
-    ensures begun { OnErr result (AsksFirst
+        (S.calls store.old) (S.calls store.new) (S.asked store.old) (S.asked store.new)) }
+    ensures begun { OnErr result (GetsFirst
         (form_plan name.now cues (is_riff heading.now data_len cues))
-        (S.asked store.old) (S.asked store.new)) }
+        (S.calls store.old) (S.calls store.new) (S.asked store.old) (S.asked store.new)) }
     ensures honest { S.honest store.new ≡ S.honest store.old }
     ensures others { IsTrue (S.honest store.old) →
         KeepsOthers (S.contents store.old) (S.contents store.new) name.now }
@@ -298,18 +291,19 @@ pub(crate) fn put_retouched_header<S: TakeStore>(
 ) -> Result<(), StoreFault>
     requires place { place_of retouched.now ≡ place_of heading.now }
     requires samples { data_len ≤ 2 ^ 62 }
-    requires field { SetsOneField (header_of heading.now data_len 0)
-        (header_of retouched.now data_len 0) }
+    requires field { (tag : ℕ) × SetsField tag
+        (header_of heading.now data_len 0) (header_of retouched.now data_len 0) }
     ensures failures { Counts (S.failures store.old) (S.failures store.new) (is_err result) }
-    ensures calls { S.calls store.new ≤ S.calls store.old + 1 }
-    ensures whole { IsFalse is_clean → OnOk result (Asks
-        (header_plan name.now (place_of heading.now))
-        (S.asked store.old) (S.asked store.new)) }
-    ensures patch { IsTrue is_clean →
-        OnOk result (Patches name.now (S.asked store.old) (S.asked store.new)) }
-    ensures nothing { IsTrue is_clean →
-        header_of retouched.now data_len 0 ≡ header_of heading.now data_len 0 →
-        S.calls store.new ≡ S.calls store.old }
+    ensures order { (tag : ℕ) →
+        SetsField tag (header_of heading.now data_len 0) (header_of retouched.now data_len 0) →
+        OnOk result (Gets (set_plan is_clean name.now (place_of heading.now) tag
+        (header_of heading.now data_len 0) (header_of retouched.now data_len 0))
+        (S.calls store.old) (S.calls store.new) (S.asked store.old) (S.asked store.new)) }
+    ensures begun { (tag : ℕ) →
+        SetsField tag (header_of heading.now data_len 0) (header_of retouched.now data_len 0) →
+        OnErr result (GetsFirst (set_plan is_clean name.now (place_of heading.now) tag
+        (header_of heading.now data_len 0) (header_of retouched.now data_len 0))
+        (S.calls store.old) (S.calls store.new) (S.asked store.old) (S.asked store.new)) }
     ensures honest { S.honest store.new ≡ S.honest store.old }
     ensures others { IsTrue (S.honest store.old) →
         KeepsOthers (S.contents store.old) (S.contents store.new) name.now }
@@ -338,13 +332,19 @@ fn put_field<S: TakeStore>(
 ) -> Result<(), StoreFault>
     requires place { place_of retouched.now ≡ place_of heading.now }
     requires samples { data_len ≤ 2 ^ 62 }
-    requires field { SetsOneField (header_of heading.now data_len 0)
-        (header_of retouched.now data_len 0) }
+    requires field { (tag : ℕ) × SetsField tag
+        (header_of heading.now data_len 0) (header_of retouched.now data_len 0) }
     ensures failures { Counts (S.failures store.old) (S.failures store.new) (is_err result) }
-    ensures calls { S.calls store.new ≤ S.calls store.old + 1 }
-    ensures patch { OnOk result (Patches name.now (S.asked store.old) (S.asked store.new)) }
-    ensures nothing { header_of retouched.now data_len 0 ≡ header_of heading.now data_len 0 →
-        S.calls store.new ≡ S.calls store.old }
+    ensures order { (tag : ℕ) →
+        SetsField tag (header_of heading.now data_len 0) (header_of retouched.now data_len 0) →
+        OnOk result (Gets (field_plan name.now tag
+        (header_of heading.now data_len 0) (header_of retouched.now data_len 0))
+        (S.calls store.old) (S.calls store.new) (S.asked store.old) (S.asked store.new)) }
+    ensures begun { (tag : ℕ) →
+        SetsField tag (header_of heading.now data_len 0) (header_of retouched.now data_len 0) →
+        OnErr result (GetsFirst (field_plan name.now tag
+        (header_of heading.now data_len 0) (header_of retouched.now data_len 0))
+        (S.calls store.old) (S.calls store.new) (S.asked store.old) (S.asked store.new)) }
     ensures honest { S.honest store.new ≡ S.honest store.old }
     ensures others { IsTrue (S.honest store.old) →
         KeepsOthers (S.contents store.old) (S.contents store.new) name.now }
@@ -356,10 +356,10 @@ fn put_field<S: TakeStore>(
 {
     room.build_headers(heading, retouched, data_len);
     let (before, after) = room.bytes().split_at(heading.data_place() as usize);
-    if before == after {
+    let Some((place, len)) = changed_range(before, after) else {
         return Ok(());
-    }
-    let (from, to) = changed_part(before, after);
-    store.write_at(name, from as u64, &after[from..to])?;
+    };
+    let from = place as usize;
+    store.write_at(name, place, &after[from..from + len as usize])?;
     Ok(())
 }

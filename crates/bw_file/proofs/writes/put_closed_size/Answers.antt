@@ -2,8 +2,8 @@ use Rattle.std.proofs.Common.{◌≡◌, ◌≤◌, ◌<◌, length, refl, arith
 use Rattle.bw_model.specs.File.{form_size}
 use Rattle.bw_file.proofs.Sizes.{form_cues, both_above, riff_form, bw64_form}
 use Rattle.bw_file.proofs.Tears.{written_tears, tears_wider}
-use Rattle.bw_file.proofs.Asked.{asks_all}
-use Rattle.bw_file.proofs.PlanForms.{on_err, first_as, form_of, is_within, is_above}
+use Rattle.bw_file.proofs.Asked.{first_as, gets_all, gets_one}
+use Rattle.bw_file.proofs.PlanForms.{on_err, form_of, is_within, is_above}
 use Rattle.bw_file.proofs.writes.put_closed_size.Goals as goal
 
 pub returns-then-form-bytes-clause-torn : goal.returns-then-form-bytes-clause-torn
@@ -42,10 +42,10 @@ pub returns-in_err-write_at-clause-begun : goal.returns-in_err-write_at-clause-b
 returns-in_err-write_at-clause-begun g c =
     on_err _ _ (let four : length c.to_le_bytes.result ≡ 4 = rw c.to_le_bytes.ensures refl in
     let riff = is_within _ _ (omega (arith, c.form_size-form.ensures.value, c.bytes.ensures.value, c.if-form-bytes.true)) in
-    first_as _ _ _ _ (form_of c.args.name.now _ _ _ c.if-cues-eq0.false riff) (asks_all _ _ _ (rw four at c.write_at.ensures.asked)))
+    first_as (form_of c.args.name.now _ _ _ c.if-cues-eq0.false riff) (gets_all (gets_one c.write_at.ensures.calls (rw four at c.write_at.ensures.asked))))
 
 pub returns-in_err-write_at-2-clause-begun : goal.returns-in_err-write_at-2-clause-begun
 returns-in_err-write_at-2-clause-begun g c =
     on_err _ _ (let eight : length c.to_le_bytes-2.result ≡ 8 = rw c.to_le_bytes-2.ensures refl in
     let bw64 = is_above _ _ (omega (arith, c.form_size-form.ensures.value, c.bytes.ensures.value, c.if-form-bytes.false)) in
-    first_as _ _ _ _ (form_of c.args.name.now _ _ _ c.if-cues-eq0.false bw64) (asks_all _ _ _ (rw eight at c.write_at-2.ensures.asked)))
+    first_as (form_of c.args.name.now _ _ _ c.if-cues-eq0.false bw64) (gets_all (gets_one c.write_at-2.ensures.calls (rw eight at c.write_at-2.ensures.asked))))

@@ -2,8 +2,8 @@ use Rattle.std.proofs.Common.{◌≡◌, ◌≤◌, ◌<◌, length, ◌∙◌, 
 use Rattle.bw_model.specs.File.{form_size}
 use Rattle.bw_file.proofs.Sizes.{form_grows, both_above, riff_sizes, bw64_sizes}
 use Rattle.bw_file.proofs.Tears.{written_tears, tears_wider, tears_twice}
-use Rattle.bw_file.proofs.Asked.{asks_then, asks_all, asks_before}
-use Rattle.bw_file.proofs.PlanForms.{on_err, asks_as, first_as, sizes_of, is_within, is_above}
+use Rattle.bw_file.proofs.Asked.{first_as, gets_all, gets_as, gets_before, gets_one, gets_then}
+use Rattle.bw_file.proofs.PlanForms.{on_err, sizes_of, is_within, is_above}
 use Rattle.bw_file.proofs.writes.put_grown_sizes.Goals as goal
 
 pub returns-in_err-write_at-clause-torn : goal.returns-in_err-write_at-clause-torn
@@ -67,30 +67,30 @@ pub returns-in_err-write_at-clause-begun : goal.returns-in_err-write_at-clause-b
 returns-in_err-write_at-clause-begun g c =
     on_err _ _ (let four : length c.to_le_bytes.result ≡ 4 = rw c.to_le_bytes.ensures refl in
     let riff = is_within _ _ (omega (arith, c.form_size-form.ensures.value, c.bytes.ensures.value, c.if-form-bytes.true)) in
-    first_as _ _ _ _ (sizes_of c.args.name.now _ _ _ riff) (asks_before _ _ _ _ (asks_all _ _ _ (rw four at c.write_at.ensures.asked))))
+    first_as (sizes_of c.args.name.now _ _ _ riff) (gets_before _ (gets_all (gets_one c.write_at.ensures.calls (rw four at c.write_at.ensures.asked)))))
 
 pub returns-in_err-write_at-2-clause-begun : goal.returns-in_err-write_at-2-clause-begun
 returns-in_err-write_at-2-clause-begun g c =
     on_err _ _ (let form : length c.to_le_bytes.result ≡ 4 = rw c.to_le_bytes.ensures refl in
     let samples : length c.to_le_bytes-then-form-bytes.result ≡ 4 = rw c.to_le_bytes-then-form-bytes.ensures refl in
     let riff = is_within _ _ (omega (arith, c.form_size-form.ensures.value, c.bytes.ensures.value, c.if-form-bytes.true)) in
-    first_as _ _ _ _ (sizes_of c.args.name.now _ _ _ riff) (asks_all _ _ _ (asks_then _ _ _ _ _ (rw form at c.write_at.ensures.asked) (rw (samples, c.data_place.ensures.value) at c.write_at-then-form-bytes.ensures.asked))))
+    first_as (sizes_of c.args.name.now _ _ _ riff) (gets_all (gets_then (gets_one c.write_at.ensures.calls (rw form at c.write_at.ensures.asked)) (gets_one c.write_at-then-form-bytes.ensures.calls (rw (samples, c.data_place.ensures.value) at c.write_at-then-form-bytes.ensures.asked)))))
 
 pub returns-then-form-bytes-clause-order : goal.returns-then-form-bytes-clause-order
 returns-then-form-bytes-clause-order g c =
     let form : length c.to_le_bytes.result ≡ 4 = rw c.to_le_bytes.ensures refl in
     let samples : length c.to_le_bytes-then-form-bytes.result ≡ 4 = rw c.to_le_bytes-then-form-bytes.ensures refl in
     let riff = is_within _ _ (omega (arith, c.form_size-form.ensures.value, c.bytes.ensures.value, c.if-form-bytes.true)) in
-    asks_as _ _ _ _ (sizes_of c.args.name.now _ _ _ riff) (asks_then _ _ _ _ _ (rw form at c.write_at.ensures.asked) (rw (samples, c.data_place.ensures.value) at c.write_at-then-form-bytes.ensures.asked))
+    gets_as (sizes_of c.args.name.now _ _ _ riff) (gets_then (gets_one c.write_at.ensures.calls (rw form at c.write_at.ensures.asked)) (gets_one c.write_at-then-form-bytes.ensures.calls (rw (samples, c.data_place.ensures.value) at c.write_at-then-form-bytes.ensures.asked)))
 
 pub returns-in_err-write_at-3-clause-begun : goal.returns-in_err-write_at-3-clause-begun
 returns-in_err-write_at-3-clause-begun g c =
     on_err _ _ (let sizes : length c.patch_sizes.result ≡ 16 = rw c.patch_sizes.ensures refl in
     let bw64 = is_above _ _ (omega (arith, c.form_size-form.ensures.value, c.bytes.ensures.value, c.if-form-bytes.false)) in
-    first_as _ _ _ _ (sizes_of c.args.name.now _ _ _ bw64) (asks_all _ _ _ (rw sizes at c.write_at-2.ensures.asked)))
+    first_as (sizes_of c.args.name.now _ _ _ bw64) (gets_all (gets_one c.write_at-2.ensures.calls (rw sizes at c.write_at-2.ensures.asked))))
 
 pub returns-clause-order : goal.returns-clause-order
 returns-clause-order g c =
     let sizes : length c.patch_sizes.result ≡ 16 = rw c.patch_sizes.ensures refl in
     let bw64 = is_above _ _ (omega (arith, c.form_size-form.ensures.value, c.bytes.ensures.value, c.if-form-bytes.false)) in
-    asks_as _ _ _ _ (sizes_of c.args.name.now _ _ _ bw64) (rw sizes at c.write_at-2.ensures.asked)
+    gets_as (sizes_of c.args.name.now _ _ _ bw64) (gets_one c.write_at-2.ensures.calls (rw sizes at c.write_at-2.ensures.asked))

@@ -1,8 +1,7 @@
-use Rattle.std.proofs.Common.{◌∙◌, ◌∷◌, [], length, arith}
+use Rattle.std.proofs.Common.{◌∙◌, ◌∷◌, [], arith}
 use Rattle.bw_file.proofs.Tears.{written_tears, tears_wider, tears_twice}
-use Rattle.bw_file.proofs.Asked.{asks_then, asks_all, asks_before}
-use Rattle.bw_file.proofs.PlanForms.{on_err, padded, asks_as, first_as}
-use Rattle.bw_file.specs.Calls.{WriteAt}
+use Rattle.bw_file.proofs.Asked.{first_as, gets_all, gets_as, gets_before, gets_one, gets_then}
+use Rattle.bw_file.proofs.PlanForms.{on_err, padded}
 use Rattle.bw_file.proofs.writes.put_samples.Goals as goal
 
 pub returns-in_err-write_at-2-clause-torn : goal.returns-in_err-write_at-2-clause-torn
@@ -23,12 +22,12 @@ returns-else-end-eq1-clause-torn g c =
 
 pub returns-in_err-write_at-2-clause-begun : goal.returns-in_err-write_at-2-clause-begun
 returns-in_err-write_at-2-clause-begun g c =
-    on_err _ _ (first_as _ _ _ _ (padded c.args.name.now c.args.place _ (omega arith)) (asks_all _ _ _ (asks_then _ _ _ _ _ c.write_at.ensures.asked c.write_at-then-end-eq1.ensures.asked)))
+    on_err _ _ (first_as (padded c.args.name.now c.args.place _ (omega arith)) (gets_all (gets_then (gets_one c.write_at.ensures.calls c.write_at.ensures.asked) (gets_one c.write_at-then-end-eq1.ensures.calls c.write_at-then-end-eq1.ensures.asked))))
 
 pub returns-in_ok-write_at-2-clause-order : goal.returns-in_ok-write_at-2-clause-order
 returns-in_ok-write_at-2-clause-order g c =
-    asks_as _ _ _ _ (padded c.args.name.now c.args.place _ (omega arith)) (asks_then _ _ _ _ _ c.write_at.ensures.asked c.write_at-then-end-eq1.ensures.asked)
+    gets_as (padded c.args.name.now c.args.place _ (omega arith)) (gets_then (gets_one c.write_at.ensures.calls c.write_at.ensures.asked) (gets_one c.write_at-then-end-eq1.ensures.calls c.write_at-then-end-eq1.ensures.asked))
 
 pub returns-in_err-write_at-clause-begun : goal.returns-in_err-write_at-clause-begun
 returns-in_err-write_at-clause-begun g c =
-    on_err _ _ (asks_before (WriteAt c.args.name.now c.args.place (length c.args.samples.now) ∷ []) _ _ _ (asks_all _ _ _ c.write_at.ensures.asked))
+    on_err _ _ (gets_before _ (gets_all (gets_one c.write_at.ensures.calls c.write_at.ensures.asked)))

@@ -5,8 +5,8 @@ use Rattle.bw_file.specs.contracts.growing.GrowingFile.{the_view}
 use Rattle.bw_file.proofs.Judged.{open_for_block, is_some_open, some_in_block}
 use Rattle.bw_file.proofs.Headed.{is_heading}
 use Rattle.bw_file.proofs.Appends.{samples_fail, header_fails, appended}
-use Rattle.bw_file.proofs.Asked.{asks_then, asks_then_first, asks_before}
-use Rattle.bw_file.proofs.PlanForms.{on_err, asks_as, first_as, append_as}
+use Rattle.bw_file.proofs.Asked.{first_as, gets_as, gets_before, gets_then, gets_then_first}
+use Rattle.bw_file.proofs.PlanForms.{on_err, append_as}
 use Rattle.bw_file.proofs.growing.GrowingFile.append.Goals as goal
 
 pub of-heading-requires : goal.of-heading-requires
@@ -47,18 +47,18 @@ returns-clause-file g c =
 pub returns-in_err-put_samples-clause-begun : goal.returns-in_err-put_samples-clause-begun
 returns-in_err-put_samples-clause-begun g c =
     rw (← c.self.view_is) (on_err _ _ (let of = c.of-heading.ensures in
-    first_as _ _ _ _ (append_as (the_view c.self.inside) c.args.state.now.parts c.of-heading.result c.data_place.result c.data_len-before.result of.history of.limit c.data_place.ensures.value c.data_len-before.ensures.value _)
-    (asks_before _ _ _ _ c.in_err-put_samples.ensures.begun)))
+    first_as (append_as (the_view c.self.inside) c.args.state.now.parts c.of-heading.result c.data_place.result c.data_len-before.result of.history of.limit c.data_place.ensures.value c.data_len-before.ensures.value _)
+    (gets_before _ c.in_err-put_samples.ensures.begun)))
 
 pub returns-in_err-put_grown_header-clause-begun : goal.returns-in_err-put_grown_header-clause-begun
 returns-in_err-put_grown_header-clause-begun g c =
     rw (← c.self.view_is) (on_err _ _ (let of = c.of-heading.ensures in
-    first_as _ _ _ _ (append_as (the_view c.self.inside) c.args.state.now.parts c.of-heading.result c.data_place.result c.data_len-before.result of.history of.limit c.data_place.ensures.value c.data_len-before.ensures.value _)
-    (asks_then_first _ _ _ _ _ c.in_ok-put_samples.ensures.order c.in_err-put_grown_header.ensures.begun)))
+    first_as (append_as (the_view c.self.inside) c.args.state.now.parts c.of-heading.result c.data_place.result c.data_len-before.result of.history of.limit c.data_place.ensures.value c.data_len-before.ensures.value _)
+    (gets_then_first c.in_ok-put_samples.ensures.order c.in_err-put_grown_header.ensures.begun)))
 
 pub returns-clause-order : goal.returns-clause-order
 returns-clause-order g c =
     rw (← c.self.view_is) (
     let of = c.of-heading.ensures in
-    asks_as _ _ _ _ (append_as (the_view c.self.inside) c.args.state.now.parts c.of-heading.result c.data_place.result c.data_len-before.result of.history of.limit c.data_place.ensures.value c.data_len-before.ensures.value _)
-    (asks_then _ _ _ _ _ c.in_ok-put_samples.ensures.order c.in_ok-put_grown_header.ensures.order))
+    gets_as (append_as (the_view c.self.inside) c.args.state.now.parts c.of-heading.result c.data_place.result c.data_len-before.result of.history of.limit c.data_place.ensures.value c.data_len-before.ensures.value _)
+    (gets_then c.in_ok-put_samples.ensures.order c.in_ok-put_grown_header.ensures.order))

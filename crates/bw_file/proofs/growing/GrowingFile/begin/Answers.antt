@@ -3,7 +3,7 @@ use Rattle.std.proofs.lemmas.Result.{err_from_is_err_and}
 use Rattle.bw_model.specs.Take.{Parts, AreFields}
 use Rattle.bw_file.proofs.Judged.{unopened_for_open}
 use Rattle.bw_file.proofs.Begins.{fresh_begun, begun_torn, begun_whole, begun_between}
-use Rattle.bw_file.proofs.Asked.{asks_then, asks_then_first, asks_before}
+use Rattle.bw_file.proofs.Asked.{gets_before, gets_then, gets_then_first}
 use Rattle.bw_file.proofs.PlanForms.{on_err}
 use Rattle.bw_file.proofs.growing.GrowingFile.begin.Goals as goal
 
@@ -39,12 +39,12 @@ returns-clause-file g c =
 
 pub returns-in_err-make_name-clause-begun : goal.returns-in_err-make_name-clause-begun
 returns-in_err-make_name-clause-begun g c =
-    rw (← c.self.view_is) (on_err _ _ (asks_before _ _ _ _ c.in_err-make_name.ensures.begun))
+    rw (← c.self.view_is) (on_err _ _ (gets_before _ c.in_err-make_name.ensures.begun))
 
 pub returns-in_err-put_header-clause-begun : goal.returns-in_err-put_header-clause-begun
 returns-in_err-put_header-clause-begun g c =
-    rw (← c.self.view_is) (on_err _ _ (asks_then_first _ _ _ _ _ c.in_ok-make_name.ensures.order c.in_err-put_header.ensures.begun))
+    rw (← c.self.view_is) (on_err _ _ (gets_then_first c.in_ok-make_name.ensures.order c.in_err-put_header.ensures.begun))
 
 pub returns-clause-order : goal.returns-clause-order
 returns-clause-order g c =
-    rw (← c.self.view_is) (asks_then _ _ _ _ _ c.in_ok-make_name.ensures.order c.in_ok-put_header.ensures.order)
+    rw (← c.self.view_is) (gets_then c.in_ok-make_name.ensures.order c.in_ok-put_header.ensures.order)

@@ -6,8 +6,8 @@ use Rattle.bw_file.proofs.Judged.{open_for_close, is_some_open}
 use Rattle.bw_file.proofs.Headed.{is_heading}
 use Rattle.bw_file.proofs.Closes.{cues_fail, header_fails, closed}
 use Rattle.std.proofs.Common.{ℕ, List, length}
-use Rattle.bw_file.proofs.Asked.{asks_then, asks_then_first, asks_all, asks_before}
-use Rattle.bw_file.proofs.PlanForms.{on_err, asks_as, first_as, close_as}
+use Rattle.bw_file.proofs.Asked.{first_as, gets_all, gets_as, gets_before, gets_one, gets_then, gets_then_first}
+use Rattle.bw_file.proofs.PlanForms.{on_err, close_as}
 use Rattle.bw_file.proofs.growing.GrowingFile.close.Goals as goal
 
 pub of-heading-requires : goal.of-heading-requires
@@ -68,24 +68,24 @@ returns-clause-file g c =
 pub returns-in_err-put_cues-clause-begun : goal.returns-in_err-put_cues-clause-begun
 returns-in_err-put_cues-clause-begun g c =
     rw (← c.self.view_is) (on_err _ _ (let of = c.of-heading.ensures in
-    first_as _ _ _ _ (close_as (the_view c.self.inside) c.args.state.now.parts c.of-heading.result c.data_place.result c.data_len-data_len.result of.history of.limit c.data_place.ensures.value c.data_len-data_len.ensures.value _ (ap (λ (l : List (ℕ × ℕ)). length l) c.markers-markers.ensures.value))
-    (asks_before _ _ _ _ c.in_err-put_cues.ensures.begun)))
+    first_as (close_as (the_view c.self.inside) c.args.state.now.parts c.of-heading.result c.data_place.result c.data_len-data_len.result of.history of.limit c.data_place.ensures.value c.data_len-data_len.ensures.value _ (ap (λ (l : List (ℕ × ℕ)). length l) c.markers-markers.ensures.value))
+    (gets_before _ c.in_err-put_cues.ensures.begun)))
 
 pub returns-in_err-put_closed_header-clause-begun : goal.returns-in_err-put_closed_header-clause-begun
 returns-in_err-put_closed_header-clause-begun g c =
     rw (← c.self.view_is) (on_err _ _ (let of = c.of-heading.ensures in
-    first_as _ _ _ _ (close_as (the_view c.self.inside) c.args.state.now.parts c.of-heading.result c.data_place.result c.data_len-data_len.result of.history of.limit c.data_place.ensures.value c.data_len-data_len.ensures.value _ (ap (λ (l : List (ℕ × ℕ)). length l) c.markers-markers.ensures.value))
-    (asks_then_first _ _ _ _ _ c.in_ok-put_cues.ensures.order (asks_before _ _ _ _ c.in_err-put_closed_header.ensures.begun))))
+    first_as (close_as (the_view c.self.inside) c.args.state.now.parts c.of-heading.result c.data_place.result c.data_len-data_len.result of.history of.limit c.data_place.ensures.value c.data_len-data_len.ensures.value _ (ap (λ (l : List (ℕ × ℕ)). length l) c.markers-markers.ensures.value))
+    (gets_then_first c.in_ok-put_cues.ensures.order (gets_before _ c.in_err-put_closed_header.ensures.begun))))
 
 pub returns-in_err-finish-clause-begun : goal.returns-in_err-finish-clause-begun
 returns-in_err-finish-clause-begun g c =
     rw (← c.self.view_is) (on_err _ _ (let of = c.of-heading.ensures in
-    first_as _ _ _ _ (close_as (the_view c.self.inside) c.args.state.now.parts c.of-heading.result c.data_place.result c.data_len-data_len.result of.history of.limit c.data_place.ensures.value c.data_len-data_len.ensures.value _ (ap (λ (l : List (ℕ × ℕ)). length l) c.markers-markers.ensures.value))
-    (asks_then_first _ _ _ _ _ c.in_ok-put_cues.ensures.order (asks_then_first _ _ _ _ _ c.in_ok-put_closed_header.ensures.order (asks_all _ _ _ c.finish.ensures.asked)))))
+    first_as (close_as (the_view c.self.inside) c.args.state.now.parts c.of-heading.result c.data_place.result c.data_len-data_len.result of.history of.limit c.data_place.ensures.value c.data_len-data_len.ensures.value _ (ap (λ (l : List (ℕ × ℕ)). length l) c.markers-markers.ensures.value))
+    (gets_then_first c.in_ok-put_cues.ensures.order (gets_then_first c.in_ok-put_closed_header.ensures.order (gets_all (gets_one c.finish.ensures.calls c.finish.ensures.asked))))))
 
 pub returns-clause-order : goal.returns-clause-order
 returns-clause-order g c =
     rw (← c.self.view_is) (
     let of = c.of-heading.ensures in
-    asks_as _ _ _ _ (close_as (the_view c.self.inside) c.args.state.now.parts c.of-heading.result c.data_place.result c.data_len-data_len.result of.history of.limit c.data_place.ensures.value c.data_len-data_len.ensures.value _ (ap (λ (l : List (ℕ × ℕ)). length l) c.markers-markers.ensures.value))
-    (asks_then _ _ _ _ _ c.in_ok-put_cues.ensures.order (asks_then _ _ _ _ _ c.in_ok-put_closed_header.ensures.order c.finish.ensures.asked)))
+    gets_as (close_as (the_view c.self.inside) c.args.state.now.parts c.of-heading.result c.data_place.result c.data_len-data_len.result of.history of.limit c.data_place.ensures.value c.data_len-data_len.ensures.value _ (ap (λ (l : List (ℕ × ℕ)). length l) c.markers-markers.ensures.value))
+    (gets_then c.in_ok-put_cues.ensures.order (gets_then c.in_ok-put_closed_header.ensures.order (gets_one c.finish.ensures.calls c.finish.ensures.asked))))

@@ -6,7 +6,9 @@ use Rattle.bw_file.specs.contracts.growing.GrowingFile.{the_view}
 use Rattle.bw_file.proofs.Judged.{open_for_field, is_some_open, no_fault}
 use Rattle.bw_file.proofs.Headed.{is_heading}
 use Rattle.bw_file.proofs.Retouches.{header_fails, retouched}
-use Rattle.bw_file.proofs.SetFields.{sets_one}
+use Rattle.bw_file.proofs.SetFields.{is_known, sets_field}
+use Rattle.bw_file.proofs.SetPlans.{gets_planned, first_planned, gets_few, first_few}
+use Rattle.bw_file.proofs.PlanForms.{on_err}
 use Rattle.bw_file.proofs.growing.GrowingFile.retouch.Goals as goal
 
 pub of-heading-requires : goal.of-heading-requires
@@ -51,4 +53,39 @@ pub put_retouched_header-requires-clause-field : goal.put_retouched_header-requi
 put_retouched_header-requires-clause-field g c =
     let of = c.of-heading.ensures in
     let with = c.with_bext-retouched.ensures in
-    sets_one c.args.state.now.parts c.requires.tag c.requires.value c.of-heading.result c.with_bext-retouched.result c.data_len.result c.requires.stored of.bext (with.bext ∙ c.requires.fields) with.format with.history with.limit
+    let known = is_known c.args.state.now.parts c.requires.tag c.requires.value c.requires.stored in
+    (c.requires.tag, sets_field c.args.state.now.parts c.requires.tag c.requires.value c.of-heading.result c.with_bext-retouched.result c.data_len.result known of.bext (with.bext ∙ c.requires.fields) with.format with.history with.limit)
+
+pub returns-in_err-put_retouched_header-clause-begun : goal.returns-in_err-put_retouched_header-clause-begun
+returns-in_err-put_retouched_header-clause-begun g c =
+    rw (← c.self.view_is) (λ tag value set.
+    let of = c.of-heading.ensures in
+    let with = c.with_bext-retouched.ensures in
+    let known = is_known c.args.state.now.parts c.requires.tag c.requires.value c.requires.stored in
+    let sets = sets_field c.args.state.now.parts c.requires.tag c.requires.value c.of-heading.result c.with_bext-retouched.result c.data_len.result known of.bext (with.bext ∙ c.requires.fields) with.format with.history with.limit in
+    on_err _ _ (first_planned (the_view c.self.inside) c.args.state.now.parts c.of-heading.result c.with_bext-retouched.result c.data_len.result of.bext of.history with.format with.history with.limit c.requires.tag sets tag value c.args.bext.now with.bext set c.in_err-put_retouched_header.ensures.begun))
+
+pub returns-clause-order : goal.returns-clause-order
+returns-clause-order g c =
+    rw (← c.self.view_is) (λ tag value set.
+    let of = c.of-heading.ensures in
+    let with = c.with_bext-retouched.ensures in
+    let known = is_known c.args.state.now.parts c.requires.tag c.requires.value c.requires.stored in
+    let sets = sets_field c.args.state.now.parts c.requires.tag c.requires.value c.of-heading.result c.with_bext-retouched.result c.data_len.result known of.bext (with.bext ∙ c.requires.fields) with.format with.history with.limit in
+    gets_planned (the_view c.self.inside) c.args.state.now.parts c.of-heading.result c.with_bext-retouched.result c.data_len.result of.bext of.history with.format with.history with.limit c.requires.tag sets tag value c.args.bext.now with.bext set c.in_ok-put_retouched_header.ensures.order)
+
+pub returns-in_err-put_retouched_header-clause-calls : goal.returns-in_err-put_retouched_header-clause-calls
+returns-in_err-put_retouched_header-clause-calls g c =
+    let of = c.of-heading.ensures in
+    let with = c.with_bext-retouched.ensures in
+    let known = is_known c.args.state.now.parts c.requires.tag c.requires.value c.requires.stored in
+    let sets = sets_field c.args.state.now.parts c.requires.tag c.requires.value c.of-heading.result c.with_bext-retouched.result c.data_len.result known of.bext (with.bext ∙ c.requires.fields) with.format with.history with.limit in
+    first_few (the_view c.self.inside) c.args.state.now.parts c.of-heading.result c.with_bext-retouched.result c.data_len.result of.bext of.history with.format with.history with.limit c.requires.tag sets c.in_err-put_retouched_header.ensures.begun
+
+pub returns-clause-calls : goal.returns-clause-calls
+returns-clause-calls g c =
+    let of = c.of-heading.ensures in
+    let with = c.with_bext-retouched.ensures in
+    let known = is_known c.args.state.now.parts c.requires.tag c.requires.value c.requires.stored in
+    let sets = sets_field c.args.state.now.parts c.requires.tag c.requires.value c.of-heading.result c.with_bext-retouched.result c.data_len.result known of.bext (with.bext ∙ c.requires.fields) with.format with.history with.limit in
+    gets_few (the_view c.self.inside) c.args.state.now.parts c.of-heading.result c.with_bext-retouched.result c.data_len.result of.bext of.history with.format with.history with.limit c.requires.tag sets c.in_ok-put_retouched_header.ensures.order
