@@ -8,3 +8,4 @@ pub mod Headers
 pub mod Headings
 pub mod Plans
 pub mod OneField
+pub mod RowsOfCalls
