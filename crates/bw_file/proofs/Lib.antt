@@ -19,3 +19,4 @@ pub mod Retouches
 pub mod SetFields
 pub mod SetPlans
 pub mod Ranges
+pub mod TakePaths

@@ -9,3 +9,5 @@ pub mod Headings
 pub mod Plans
 pub mod OneField
 pub mod RowsOfCalls
+pub mod Disks
+pub mod Folders

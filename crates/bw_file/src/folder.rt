@@ -1,14 +1,17 @@
 //! A store in a folder.
-ghost use Rattle.std.specs.Prelude.{◌≡◌, None, false, IsTrue, IsFalse, IfOk, OnErr, [], ◌∷◌, ◌++◌, map, codes, string_bytes};
-ghost use Rattle.bw_file.specs.Growing.{is_new};
+ghost use Rattle.std.specs.Prelude.{◌≡◌, ◌<◌, ℕ, List, [], true, IsTrue, IsErr, IfOk, OnOk, OnErr, IsSome, IfSome, ◌↔◌, is_err, string_bytes, length};
+ghost use Rattle.std.specs.List.{All, Contains, HoldsAt};
+ghost use Rattle.bw_file.specs.Stores.{Counts, Creates, Written, MayTear, KeepsOthers};
+ghost use Rattle.bw_file.specs.Disks.{IsOneCall, AsksOnce, Syncs};
+ghost use Rattle.bw_file.specs.Folders.{take_path, content_in, open_names, opened_by};
 
+use crate::disk::Disk;
 use crate::store::{Created, StoreFault, TakeStore};
+use crate::system::SystemDisk;
 use crate::tally::Tally;
 use bw_take::Name;
 use std::alloc::{AllocError, Global};
-use std::fs::{File, Files, OpenFile};
-use std::io;
-use std::io::{ErrorKind, Seek, SeekFrom, Write};
+use std::fs::Files;
 
 /// A take's file, which stays open.
 #[derive(Drop)]
@@ -19,31 +22,50 @@ struct OpenTake<F: Drop> {
 
 /// The files `NAME.wav` of one folder.
 ///
-/// Only files that this store made are written: a name that stands is never opened. A call fails
-/// where the folder or the file does, and where memory is refused. That the disk keeps what it
-/// answered with success is a premise, which no clause can say.
+/// Only files that this store made are written: a name that stands is never opened. Over an honest
+/// disk it is an honest store. A call fails where the disk does, where memory is refused, and, but for
+/// `create`, for a name that this store did not make.
 #[derive(Drop)]
-pub struct FolderStore<R: Files + Drop> {
-    rt: R,
+pub struct FolderStore<D: Disk> {
+    disk: D,
     alloc: Global,
     folder: String,
-    takes: Vec<OpenTake<R::File>>,
+    takes: Vec<OpenTake<D::File>>,
     tally: Tally,
+    ghost paths: { IsTrue (D.honest disk) → All
+        (λ take. D.path_of take.file ≡ take_path (string_bytes folder) take.name) takes.items },
 }
 
-impl<R: Files + Drop> FolderStore<R> {
-    /// The store of a folder, which need not be there yet.
+impl<R: Files + Drop> FolderStore<SystemDisk<R>> {
+    /// The store of a folder of the system, which need not be there yet.
     ///
     /// # Errors
     /// `AllocError` where memory was refused.
-    pub fn new(rt: R, alloc: Global, folder: &str) -> Result<FolderStore<R>, AllocError>
+    pub fn new(rt: R, alloc: Global, folder: &str) -> Result<FolderStore<SystemDisk<R>>, AllocError>
+        ensures rt { IfOk result (λ s. s.disk.rt ≡ rt) }
+        ensures folder { IfOk result (λ s. string_bytes s.folder ≡ folder.now) }
+        ensures takes { IfOk result (λ s. s.takes.items ≡ []) }
+        ensures failures { IfOk result (λ s. s.tally.failures ≡ 0) }
+        ensures calls { IfOk result (λ s. s.tally.calls ≡ 0) }
+    {
+        FolderStore::over(SystemDisk::new(rt), alloc, folder)
+    }
+}
+
+impl<D: Disk> FolderStore<D> {
+    /// The store of a folder of a disk.
+    ///
+    /// # Errors
+    /// `AllocError` where memory was refused.
+    pub fn over(disk: D, alloc: Global, folder: &str) -> Result<FolderStore<D>, AllocError>
+        ensures disk { IfOk result (λ s. s.disk ≡ disk) }
         ensures folder { IfOk result (λ s. string_bytes s.folder ≡ folder.now) }
         ensures takes { IfOk result (λ s. s.takes.items ≡ []) }
         ensures failures { IfOk result (λ s. s.tally.failures ≡ 0) }
         ensures calls { IfOk result (λ s. s.tally.calls ≡ 0) }
     {
         Ok(FolderStore {
-            rt,
+            disk,
             alloc,
             folder: String::from_str(alloc, folder)?,
             takes: Vec::new(alloc),
@@ -51,9 +73,10 @@ impl<R: Files + Drop> FolderStore<R> {
         })
     }
 
+    #[tactic(auto, unfolding(crate::specs::Folders::take_path))]
     fn path(&self, name: &Name) -> Result<String, StoreFault>
-        ensures { IfOk result (λ p. string_bytes p
-            ≡ string_bytes self.now.folder ++ codes "/" ++ name.now ++ codes ".wav") }
+        ensures { IfOk result (λ p.
+            string_bytes p ≡ take_path (string_bytes self.now.folder) name.now) }
     {
         let Ok(text) = std::str::from_utf8(name.as_bytes()) else {
             return Err(StoreFault);
@@ -64,77 +87,146 @@ impl<R: Files + Drop> FolderStore<R> {
         }
     }
 
+    #[tactic(auto, using(crate::proofs::TakePaths::take_path_injective))]
     fn make(&mut self, name: &Name) -> Result<Created, StoreFault>
-        ensures made { IfOk result (λ c. IsTrue (is_new c) → map (λ t. t.name) self.new.takes.items
-            ≡ map (λ t. t.name) self.old.takes.items ++ name.now ∷ []) }
-        ensures stood { IfOk result (λ c. IsFalse (is_new c) →
-            self.new.takes.items ≡ self.old.takes.items) }
-        ensures failed { OnErr result (self.new.takes.items ≡ self.old.takes.items) }
         ensures tally { self.new.tally ≡ self.old.tally }
+        ensures folder { self.new.folder ≡ self.old.folder }
+        ensures honest { D.honest self.new.disk ≡ D.honest self.old.disk }
+        ensures created { IsTrue (D.honest self.old.disk) → IfOk result (λ c. Creates c
+            (content_in (D.contents self.old.disk) (string_bytes self.old.folder) name.now)
+            (content_in (D.contents self.new.disk) (string_bytes self.old.folder) name.now)) }
+        ensures failed { IsTrue (D.honest self.old.disk) → OnErr result
+            (content_in (D.contents self.new.disk) (string_bytes self.old.folder) name.now
+            ≡ content_in (D.contents self.old.disk) (string_bytes self.old.folder) name.now) }
+        ensures others { IsTrue (D.honest self.old.disk) → KeepsOthers
+            (content_in (D.contents self.old.disk) (string_bytes self.old.folder))
+            (content_in (D.contents self.new.disk) (string_bytes self.old.folder)) name.now }
+        ensures synced { IsTrue (D.honest self.old.disk) →
+            (path : List ℕ) → D.synced self.new.disk path ≡ D.synced self.old.disk path }
+        ensures asks { AsksOnce D.calls D.failures self.old.disk self.new.disk result }
+        ensures opened { open_names self.new.takes.items
+            ≡ opened_by result name.now (open_names self.old.takes.items) }
     {
         // All that needs memory comes first, so that a call that fails makes no file.
         let path = self.path(name)?;
         self.takes.reserve(1).map_err(|_| StoreFault)?;
-        match File::create_new(&self.rt, path.as_str()) {
-            Ok(file) => {
-                let name = name.copy();
-                self.takes
-                    .push(OpenTake { name, file })
-                    .map_err(|_| StoreFault)?;
-                Ok(Created::New)
-            }
-            Err(e) if e.kind() == ErrorKind::AlreadyExists => Ok(Created::Exists),
-            Err(_) => Err(StoreFault),
-        }
-    }
-
-    fn write(&mut self, name: &Name, offset: u64, bytes: &[u8]) -> Result<(), StoreFault>
-        ensures { self.new.tally ≡ self.old.tally }
-    {
-        match self.takes.iter_mut().find(|take| take.name == *name) {
-            Some(take) => put(&mut take.file, offset, bytes).map_err(|_| StoreFault),
-            None => Err(StoreFault),
-        }
-    }
-
-    fn sync(&self, name: &Name) -> Result<(), StoreFault> {
-        match self.takes.iter().find(|take| take.name == *name) {
-            Some(take) => take.file.sync_all().map_err(|_| StoreFault),
-            None => Err(StoreFault),
-        }
+        let Some(file) = self.disk.create_new(path.as_str()).map_err(|_| StoreFault)? else {
+            return Ok(Created::Exists);
+        };
+        let name = name.copy();
+        self.takes
+            .push(OpenTake { name, file })
+            .map_err(|_| StoreFault)?;
+        Ok(Created::New)
     }
 }
 
-impl<R: Files + Drop> TakeStore for FolderStore<R> {
-    ghost contents = { λ s name. None };
+impl<D: Disk> TakeStore for FolderStore<D> {
+    ghost contents = { λ s name. content_in (D.contents s.disk) (string_bytes s.folder) name };
 
     ghost failures = { λ s. s.tally.failures };
 
     ghost calls = { λ s. s.tally.calls };
 
-    ghost honest = { λ s. false };
+    ghost honest = { λ s. D.honest s.disk };
 
-    fn create(&mut self, name: &Name) -> Result<Created, StoreFault> {
+    fn create(&mut self, name: &Name) -> Result<Created, StoreFault>
+        ensures failures { Counts self.old.tally.failures self.new.tally.failures (is_err result) }
+        ensures calls { Counts self.old.tally.calls self.new.tally.calls true }
+        ensures folder { self.new.folder ≡ self.old.folder }
+        ensures honest { D.honest self.new.disk ≡ D.honest self.old.disk }
+        ensures created { IsTrue (D.honest self.old.disk) → IfOk result (λ c. Creates c
+            (content_in (D.contents self.old.disk) (string_bytes self.old.folder) name.now)
+            (content_in (D.contents self.new.disk) (string_bytes self.new.folder) name.now)) }
+        ensures failed { IsTrue (D.honest self.old.disk) → OnErr result
+            (content_in (D.contents self.new.disk) (string_bytes self.new.folder) name.now
+            ≡ content_in (D.contents self.old.disk) (string_bytes self.old.folder) name.now) }
+        ensures others { IsTrue (D.honest self.old.disk) → KeepsOthers
+            (content_in (D.contents self.old.disk) (string_bytes self.old.folder))
+            (content_in (D.contents self.new.disk) (string_bytes self.new.folder)) name.now }
+        ensures synced { IsTrue (D.honest self.old.disk) →
+            (path : List ℕ) → D.synced self.new.disk path ≡ D.synced self.old.disk path }
+        ensures asks { AsksOnce D.calls D.failures self.old.disk self.new.disk result }
+        ensures opened { open_names self.new.takes.items
+            ≡ opened_by result name.now (open_names self.old.takes.items) }
+    {
         let answer = self.make(name);
         self.tally.count(answer.is_err());
         answer
     }
 
-    fn write_at(&mut self, name: &Name, offset: u64, bytes: &[u8]) -> Result<(), StoreFault> {
-        let answer = self.write(name, offset, bytes);
+    #[tactic(auto, using(crate::proofs::TakePaths::take_path_injective))]
+    fn write_at(&mut self, name: &Name, offset: u64, bytes: &[u8]) -> Result<(), StoreFault>
+        ensures failures { Counts self.old.tally.failures self.new.tally.failures (is_err result) }
+        ensures calls { Counts self.old.tally.calls self.new.tally.calls true }
+        ensures folder { self.new.folder ≡ self.old.folder }
+        ensures honest { D.honest self.new.disk ≡ D.honest self.old.disk }
+        ensures written { IsTrue (D.honest self.old.disk) → OnOk result (Written
+            (content_in (D.contents self.old.disk) (string_bytes self.old.folder) name.now)
+            offset bytes.now
+            (content_in (D.contents self.new.disk) (string_bytes self.new.folder) name.now)) }
+        ensures failed { IsTrue (D.honest self.old.disk) → OnErr result (MayTear
+            (content_in (D.contents self.old.disk) (string_bytes self.old.folder) name.now)
+            offset (length bytes.now)
+            (content_in (D.contents self.new.disk) (string_bytes self.new.folder) name.now)) }
+        ensures others { IsTrue (D.honest self.old.disk) → KeepsOthers
+            (content_in (D.contents self.old.disk) (string_bytes self.old.folder))
+            (content_in (D.contents self.new.disk) (string_bytes self.new.folder)) name.now }
+        ensures synced { IsTrue (D.honest self.old.disk) →
+            (path : List ℕ) → D.synced self.new.disk path ≡ D.synced self.old.disk path }
+        ensures own { Contains (open_names self.old.takes.items) name.now →
+            IsOneCall D.calls D.failures self.old.disk self.new.disk (is_err result) }
+        ensures foreign { (Contains (open_names self.old.takes.items) name.now → ⊥) →
+            IsErr result × (self.new.disk ≡ self.old.disk) }
+        ensures opened { open_names self.new.takes.items ≡ open_names self.old.takes.items }
+    {
+        let Some(place) = find(&self.takes, name) else {
+            self.tally.count(true);
+            return Err(StoreFault);
+        };
+        let take = &mut self.takes[place];
+        let answer = self
+            .disk
+            .write_at(&mut take.file, offset, bytes)
+            .map_err(|_| StoreFault);
         self.tally.count(answer.is_err());
         answer
     }
 
-    fn finish(&mut self, name: &Name) -> Result<(), StoreFault> {
-        let answer = self.sync(name);
+    #[tactic(auto, using(crate::proofs::TakePaths::take_path_injective))]
+    fn finish(&mut self, name: &Name) -> Result<(), StoreFault>
+        ensures failures { Counts self.old.tally.failures self.new.tally.failures (is_err result) }
+        ensures calls { Counts self.old.tally.calls self.new.tally.calls true }
+        ensures folder { self.new.folder ≡ self.old.folder }
+        ensures takes { self.new.takes ≡ self.old.takes }
+        ensures honest { D.honest self.new.disk ≡ D.honest self.old.disk }
+        ensures unchanged { IsTrue (D.honest self.old.disk) →
+            (path : List ℕ) → D.contents self.new.disk path ≡ D.contents self.old.disk path }
+        ensures synced { IsTrue (D.honest self.old.disk) → Syncs result
+            (content_in (D.contents self.old.disk) (string_bytes self.old.folder) name.now)
+            (content_in (D.synced self.old.disk) (string_bytes self.old.folder))
+            (content_in (D.synced self.new.disk) (string_bytes self.new.folder)) name.now }
+        ensures own { Contains (open_names self.old.takes.items) name.now →
+            IsOneCall D.calls D.failures self.old.disk self.new.disk (is_err result) }
+        ensures foreign { (Contains (open_names self.old.takes.items) name.now → ⊥) →
+            IsErr result × (self.new.disk ≡ self.old.disk) }
+    {
+        let Some(place) = find(&self.takes, name) else {
+            self.tally.count(true);
+            return Err(StoreFault);
+        };
+        let take = &self.takes[place];
+        let answer = self.disk.sync(&take.file).map_err(|_| StoreFault);
         self.tally.count(answer.is_err());
         answer
     }
 }
 
-/// Writes bytes into a file from an offset on.
-fn put<F: Seek + Write>(file: &mut F, offset: u64, bytes: &[u8]) -> io::Result<()> {
-    file.seek(SeekFrom::Start(offset))?;
-    file.write_all(bytes)
+/// The place of a name among the open takes.
+fn find<F: Drop>(takes: &[OpenTake<F>], name: &Name) -> Option<usize>
+    ensures open { IsSome result ↔ Contains (open_names takes.now) name.now }
+    ensures place { IfSome result (λ place. (place < length takes.now)
+        × HoldsAt (λ take. take.name ≡ name.now) takes.now place) }
+{
+    takes.iter().position(|take| take.name == *name)
 }

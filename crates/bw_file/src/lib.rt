@@ -1,6 +1,7 @@
 //! Stores of takes, and the growing file of a take.
 #![tactic(auto)]
 
+mod disk;
 mod field;
 mod folder;
 mod fuse;
@@ -10,14 +11,17 @@ mod laws;
 mod memory;
 mod room;
 mod store;
+mod system;
 mod tally;
 #[cfg(test)]
 mod tests;
 mod writes;
 
+pub use disk::{Disk, DiskFault};
 pub use folder::FolderStore;
 pub use fuse::FuseStore;
 pub use growing::GrowingFile;
 pub use laws::rows_of_calls;
 pub use memory::MemoryStore;
 pub use store::{Created, StoreFault, TakeStore};
+pub use system::SystemDisk;

@@ -1,10 +1,11 @@
-//! A store over a real folder, and over a disk that fails where it is asked for one thing.
+//! A store over a real folder, and over a system that fails once.
 use super::play::{file_of_row, keep};
 use super::rows::two_frames;
 use crate::{Created, FolderStore, GrowingFile, TakeStore};
 use bw_layout::Limit;
 use bw_take::{Name, TakeState};
-use std::fs::{self, Files, Metadata, OpenFile, OpenOptions};
+use std::cell::Cell;
+use std::fs::{self, File, Files, Metadata, OpenFile, OpenOptions};
 use std::io::{self, ErrorKind, Read, Seek, SeekFrom, Write};
 use std::process::{self, Abort};
 use std::test::Fail;
@@ -87,61 +88,74 @@ fn a_folder_that_is_none_fails_each_call(rt: HostRuntime) -> Result<(), Fail> {
     Ok(())
 }
 
-/// What a disk can be asked for.
+/// What a system can be asked for.
 #[derive(Clone, Copy, Debug, PartialEq, Eq)]
 enum Asked {
     Open,
     Seek,
+    /// A write, of which the first half comes through.
     Write,
+    /// A write, of which nothing comes through.
+    Rest,
     Sync,
     Nothing,
 }
 
-/// A disk that keeps nothing, and fails where it is asked for one thing.
-#[derive(Clone, Copy, Drop)]
-struct Disk {
-    fails_at: Asked,
+/// The files of the system, of whose calls one fails, once.
+#[derive(Drop)]
+struct Failing<'a> {
+    rt: &'a HostRuntime,
+    fails_at: &'a Cell<Asked>,
 }
 
-impl Disk {
-    fn answer(self, asked: Asked) -> io::Result<()> {
-        if self.fails_at == asked {
-            Err(io::Error::from(ErrorKind::Other))
-        } else {
-            Ok(())
-        }
+#[derive(Drop)]
+struct FailingFile<'a> {
+    file: File,
+    fails_at: &'a Cell<Asked>,
+}
+
+/// Fails where this is what is to fail.
+fn ask(fails_at: &Cell<Asked>, asked: Asked) -> io::Result<()> {
+    if fails_at.get() == asked {
+        fails_at.set(Asked::Nothing);
+        return Err(io::Error::from(ErrorKind::Other));
     }
+    Ok(())
 }
 
 fn unsupported<T>() -> io::Result<T> {
     Err(io::Error::from(ErrorKind::Unsupported))
 }
 
-impl Read for Disk {
-    fn read(&mut self, _buf: &mut [u8]) -> io::Result<usize> {
-        Ok(0)
+impl<'a> Read for FailingFile<'a> {
+    fn read(&mut self, buf: &mut [u8]) -> io::Result<usize> {
+        self.file.read(buf)
     }
 }
 
-impl Write for Disk {
+impl<'a> Write for FailingFile<'a> {
     fn write(&mut self, buf: &[u8]) -> io::Result<usize> {
-        self.answer(Asked::Write)?;
-        Ok(buf.len())
+        ask(self.fails_at, Asked::Rest)?;
+        if self.fails_at.get() == Asked::Write {
+            self.fails_at.set(Asked::Rest);
+            return self.file.write(&buf[..buf.len() / 2]);
+        }
+        self.file.write(buf)
     }
 
     fn flush(&mut self) -> io::Result<()> {
-        Ok(())
+        self.file.flush()
     }
 }
 
-impl Seek for Disk {
-    fn seek(&mut self, _to: SeekFrom) -> io::Result<u64> {
-        self.answer(Asked::Seek)?;
-        Ok(0)
+impl<'a> Seek for FailingFile<'a> {
+    fn seek(&mut self, to: SeekFrom) -> io::Result<u64> {
+        ask(self.fails_at, Asked::Seek)?;
+        self.file.seek(to)
     }
 }
 
-impl OpenFile for Disk {
+impl<'a> OpenFile for FailingFile<'a> {
     fn metadata(&self) -> io::Result<Metadata> {
         unsupported()
     }
@@ -151,7 +165,8 @@ impl OpenFile for Disk {
     }
 
     fn sync_all(&self) -> io::Result<()> {
-        self.answer(Asked::Sync)
+        ask(self.fails_at, Asked::Sync)?;
+        self.file.sync_all()
     }
 
     fn sync_data(&self) -> io::Result<()> {
@@ -159,17 +174,21 @@ impl OpenFile for Disk {
     }
 }
 
-impl Files for Disk {
-    type File = Disk;
+impl<'a> Files for Failing<'a> {
+    type File = FailingFile<'a>;
 
-    type Dir = Disk;
+    type Dir = FailingFile<'a>;
 
-    fn open_file(&self, _how: &OpenOptions, _path: &str) -> io::Result<Disk> {
-        self.answer(Asked::Open)?;
-        Ok(*self)
+    fn open_file(&self, how: &OpenOptions, path: &str) -> io::Result<FailingFile<'a>> {
+        ask(self.fails_at, Asked::Open)?;
+        let file = self.rt.open_file(how, path)?;
+        Ok(FailingFile {
+            file,
+            fails_at: self.fails_at,
+        })
     }
 
-    fn open_dir(&self, _path: &str) -> io::Result<Disk> {
+    fn open_dir(&self, _path: &str) -> io::Result<FailingFile<'a>> {
         unsupported()
     }
 
@@ -206,21 +225,64 @@ impl Files for Disk {
     }
 }
 
-/// Where a disk fails, and whether `create`, a write and `finish` succeed over it.
-static DISKS: [(Asked, [bool; 3]); 5] = [
-    (Asked::Nothing, [true, true, true]),
-    (Asked::Open, [false, false, false]),
-    (Asked::Seek, [true, false, true]),
-    (Asked::Write, [true, false, true]),
-    (Asked::Sync, [true, true, false]),
+/// A call of a store, on the take a1.
+#[derive(Clone, Copy, Debug, PartialEq, Eq)]
+enum Step {
+    Create,
+    Write,
+    Finish,
+}
+
+/// Whether the call succeeds.
+fn runs<S: TakeStore>(store: &mut S, name: &Name, step: Step) -> bool {
+    match step {
+        Step::Create => store.create(name).is_ok(),
+        Step::Write => store.write_at(name, 0, b"abcd").is_ok(),
+        Step::Finish => store.finish(name).is_ok(),
+    }
+}
+
+/// What fails, the call that fails by it, and what stands under its path then.
+static FAILURES: [(Asked, Step, Option<&[u8]>); 5] = [
+    (Asked::Open, Step::Create, None),
+    (Asked::Seek, Step::Write, Some(b"")),
+    (Asked::Write, Step::Write, Some(b"ab")),
+    (Asked::Rest, Step::Write, Some(b"")),
+    (Asked::Sync, Step::Finish, Some(b"abcd")),
 ];
 
-#[test]
-fn a_file_is_synced_where_it_is_finished(rt: HostRuntime) -> Result<(), Fail> {
-    for (fails_at, wanted) in &DISKS {
-        let fails_at = *fails_at;
-        let mut store = FolderStore::new(Disk { fails_at }, rt.alloc(), "folder")?;
-        succeeds(&rt, &mut store, *wanted)?;
+/// Whether this stands at a path.
+fn stands(rt: &HostRuntime, path: &str, wanted: Option<&[u8]>) -> bool {
+    match (fs::read(rt, path), wanted) {
+        (Ok(content), Some(wanted)) => content.as_slice() == wanted,
+        (Err(error), None) => error.kind() == ErrorKind::NotFound,
+        _ => false,
     }
+}
+
+#[test]
+fn a_call_that_failed_may_be_tried_again(rt: HostRuntime) -> Result<(), Fail> {
+    let alloc = rt.alloc();
+    let folder = new_folder(&rt)?;
+    let path = format!(in alloc; "{folder}/a1.wav")?;
+    let name = Name::new(b"a1").ok_or("a name")?;
+    for (asked, fails, left) in &FAILURES {
+        let fails_at = Cell::new(*asked);
+        let system = Failing {
+            rt: &rt,
+            fails_at: &fails_at,
+        };
+        let mut store = FolderStore::new(system, alloc, folder.as_str())?;
+        for step in [Step::Create, Step::Write, Step::Finish] {
+            if step == *fails {
+                assert!(rt; !runs(&mut store, &name, step), "{asked:?}");
+                assert!(rt; stands(&rt, path.as_str(), *left), "{asked:?}");
+            }
+            assert!(rt; runs(&mut store, &name, step), "{asked:?} {step:?}");
+        }
+        assert!(rt; stands(&rt, path.as_str(), Some(b"abcd")), "{asked:?}");
+        fs::remove_file(&rt, path.as_str())?;
+    }
+    fs::remove_dir_all(&rt, folder.as_str())?;
     Ok(())
 }

@@ -1,0 +1,23 @@
+-- Where the takes of a folder stand on a disk.
+use Rattle.std.specs.Prelude.{ℕ, List, [], ◌∷◌, ◌++◌, codes, map, Option, Result, Ok, Err}
+use Rattle.bw_file.specs.declared.store.Created.{Created}
+use Rattle.bw_file.specs.declared.store.Created.TheVariants.{New, Exists}
+use Rattle.bw_file.specs.declared.folder.OpenTake.{OpenTake}
+
+-- the path of a take's file in a folder
+unfoldable pub take_path : List ℕ → List ℕ → List ℕ
+take_path folder name = folder ++ codes "/" ++ name ++ codes ".wav"
+
+-- what stands under a take's name, by what stands at each path
+abbrev pub content_in : (List ℕ → Option (List ℕ)) → List ℕ → List ℕ → Option (List ℕ)
+content_in contents folder name = contents (take_path folder name)
+
+-- the names of open takes
+abbrev pub open_names : {F : Type 0} → List (OpenTake F) → List (List ℕ)
+open_names takes = map (λ take. take.name) takes
+
+-- .. after a `create`: a name that is made is open
+abbrev pub opened_by : {E : Type 0} → Result Created E → List ℕ → List (List ℕ) → List (List ℕ)
+opened_by (Ok New) name names = names ++ name ∷ []
+opened_by (Ok Exists) name names = names
+opened_by (Err fault) name names = names

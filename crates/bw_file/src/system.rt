@@ -1,0 +1,74 @@
+//! The disk of the system.
+ghost use Rattle.std.specs.Prelude.{◌≡◌, [], None, false};
+
+use crate::disk::{Disk, DiskFault};
+use crate::tally::Tally;
+use std::fs::{File, Files, OpenFile};
+use std::io;
+use std::io::{ErrorKind, Seek, SeekFrom, Write};
+
+/// The files of the system, each call one of std's. No clause can say what they hold: that this disk
+/// is an honest one is a premise.
+#[derive(Drop)]
+pub struct SystemDisk<R> {
+    rt: R,
+    tally: Tally,
+}
+
+impl<R> SystemDisk<R> {
+    /// The disk that a runtime gives.
+    pub fn new(rt: R) -> SystemDisk<R>
+        ensures rt { result.rt ≡ rt }
+        ensures failures { result.tally.failures ≡ 0 }
+        ensures calls { result.tally.calls ≡ 0 }
+    {
+        SystemDisk {
+            rt,
+            tally: Tally::new(),
+        }
+    }
+}
+
+impl<R: Files + Drop> Disk for SystemDisk<R> {
+    type File = R::File;
+
+    ghost contents = { λ d path. None };
+
+    ghost synced = { λ d path. None };
+
+    ghost path_of = { λ file. [] };
+
+    ghost failures = { λ d. d.tally.failures };
+
+    ghost calls = { λ d. d.tally.calls };
+
+    ghost honest = { λ d. false };
+
+    fn create_new(&mut self, path: &str) -> Result<Option<R::File>, DiskFault> {
+        let answer = match File::create_new(&self.rt, path) {
+            Ok(file) => Ok(Some(file)),
+            Err(e) if e.kind() == ErrorKind::AlreadyExists => Ok(None),
+            Err(_) => Err(DiskFault),
+        };
+        self.tally.count(answer.is_err());
+        answer
+    }
+
+    fn write_at(&mut self, file: &mut R::File, offset: u64, bytes: &[u8]) -> Result<(), DiskFault> {
+        let answer = put(file, offset, bytes).map_err(|_| DiskFault);
+        self.tally.count(answer.is_err());
+        answer
+    }
+
+    fn sync(&mut self, file: &R::File) -> Result<(), DiskFault> {
+        let answer = file.sync_all().map_err(|_| DiskFault);
+        self.tally.count(answer.is_err());
+        answer
+    }
+}
+
+/// Writes bytes into a file from an offset on.
+fn put<F: Seek + Write>(file: &mut F, offset: u64, bytes: &[u8]) -> io::Result<()> {
+    file.seek(SeekFrom::Start(offset))?;
+    file.write_all(bytes)
+}
