@@ -34,7 +34,10 @@ with_room h room = record h { room = room }
 
 -- with bytes more
 abbrev pub with_bytes : Held → List ℕ → Held
-with_bytes h bytes = record { bytes = h.bytes ++ bytes; room = room_for (length h.bytes + length bytes) h.room }
+with_bytes h bytes = record {
+  bytes = h.bytes ++ bytes;
+  room = room_for (length h.bytes + length bytes) h.room;
+}
 
 -- without so many bytes at the front
 abbrev pub without_front : Held → ℕ → Held

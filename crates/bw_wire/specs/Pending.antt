@@ -58,7 +58,8 @@ settled p = record p { held = length p.bytes; room = room_kept p.room }
 
 -- at the end, with all bytes and the block let go
 abbrev pub ended : Pending → ℕ → Phase → Pending
-ended p used phase = record { bytes = []; used = used; fed = p.fed; held = 0; room = 0; phase = phase }
+ended p used phase =
+    record { bytes = []; used = used; fed = p.fed; held = 0; room = 0; phase = phase }
 
 abbrev pub after_first : Pending → Result (Frame × List ℕ) Reason → Told Frame × Pending
 after_first p (Ok (Says m, more)) = (Gives (Says m), took p more)
