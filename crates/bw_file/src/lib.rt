@@ -13,8 +13,6 @@ mod room;
 mod store;
 mod system;
 mod tally;
-#[cfg(test)]
-mod tests;
 mod writes;
 
 pub use disk::{Disk, DiskFault};
@@ -24,4 +22,5 @@ pub use growing::GrowingFile;
 pub use laws::rows_of_calls;
 pub use memory::MemoryStore;
 pub use store::{Created, StoreFault, TakeStore};
+pub use tally::Tally;
 pub use system::SystemDisk;

@@ -2,15 +2,16 @@
 ghost use Rattle.std.specs.Prelude.{◌≡◌, true};
 ghost use Rattle.bw_file.specs.Stores.{Counts};
 
-/// The counts of a store. Both stay at their last value.
+/// The counts of a store: of its calls, and of those that failed. Both stay at their last value.
 #[derive(Drop)]
-pub(crate) struct Tally {
-    calls: u64,
-    failures: u64,
+pub struct Tally {
+    pub calls: u64,
+    pub failures: u64,
 }
 
 impl Tally {
-    pub(crate) fn new() -> Tally
+    /// No call came.
+    pub fn new() -> Tally
         ensures { result ≡ record { calls = 0; failures = 0 } }
     {
         Tally {
@@ -19,14 +20,15 @@ impl Tally {
         }
     }
 
-    pub(crate) fn calls(&self) -> u64
+    /// How many calls came.
+    pub fn calls(&self) -> u64
         ensures { result ≡ self.now.calls }
     {
         self.calls
     }
 
     /// Counts a call, and its failure.
-    pub(crate) fn count(&mut self, fails: bool)
+    pub fn count(&mut self, fails: bool)
         ensures calls { Counts self.old.calls self.new.calls true }
         ensures failures { Counts self.old.failures self.new.failures fails }
     {

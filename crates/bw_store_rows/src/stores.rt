@@ -1,8 +1,8 @@
 //! The stores by themselves, and names that stand.
-use super::play::{ask, is_storable};
-use super::recorder::{Call, Recorder};
-use super::rows::MONO_TAKE;
-use crate::{Created, FuseStore, GrowingFile, MemoryStore, TakeStore};
+use crate::play::{ask, is_storable};
+use crate::recorder::{Call, Recorder};
+use crate::rows::MONO_TAKE;
+use bw_file::{Created, FuseStore, GrowingFile, MemoryStore, TakeStore};
 use bw_layout::Limit;
 use bw_take::{Name, TakeState};
 use std::test::Fail;

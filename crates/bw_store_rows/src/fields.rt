@@ -1,8 +1,8 @@
 //! Each field of `bext` in a clean file: one write at its place, and none where nothing changes.
-use super::play::keep;
-use super::recorder::{Call, Recorder};
-use super::rows::MONO_TAKE;
-use crate::{GrowingFile, MemoryStore};
+use crate::play::keep;
+use crate::recorder::{Call, Recorder};
+use crate::rows::MONO_TAKE;
+use bw_file::{GrowingFile, MemoryStore};
 use bw_layout::Limit;
 use bw_take::{Name, RequestRef, TakeState};
 use std::test::Fail;

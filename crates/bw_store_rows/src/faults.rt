@@ -1,6 +1,6 @@
 //! A fault at each call, and at each two: what is tried again leaves the file that no fault leaves.
-use super::play::check;
-use super::rows::LONG;
+use crate::play::check;
+use crate::rows::LONG;
 use std::test::Fail;
 
 #[test]

@@ -5,8 +5,8 @@ ghost use Rattle.bw_model.specs.Wire.{is_request};
 ghost use Rattle.bw_take.specs.Requests.{meaning};
 ghost use Rattle.bw_take.specs.States.{samples_in};
 
-use super::recorder::{Call, Recorder};
-use crate::{Created, FuseStore, GrowingFile, MemoryStore, StoreFault, TakeStore};
+use crate::recorder::{Call, Recorder};
+use bw_file::{Created, FuseStore, GrowingFile, MemoryStore, StoreFault, TakeStore};
 use bw_layout::{Fmt, Limit};
 use bw_take::{Name, RequestRef, TakeState, Verdict, judge};
 use std::alloc::{AllocError, Global};

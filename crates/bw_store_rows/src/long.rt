@@ -1,10 +1,8 @@
 //! A take whose data grow past the largest file that RIFF can tell.
 ghost use Rattle.std.specs.Prelude.{None, false};
 
-use super::play::keep;
-use crate::GrowingFile;
-use crate::store::{Created, StoreFault, TakeStore};
-use crate::tally::Tally;
+use crate::play::keep;
+use bw_file::{Created, GrowingFile, StoreFault, TakeStore, Tally};
 use bw_layout::Limit;
 use bw_take::{Name, RequestRef, TakeState};
 use std::alloc::Global;

@@ -1,6 +1,6 @@
 //! Worked takes: which calls their files take, and what stands in them then.
-use super::play::{Row, Step, check};
-use super::recorder::Call::{Create, Finish, Write};
+use crate::play::{Row, Step, check};
+use crate::recorder::Call::{Create, Finish, Write};
 use bw_take::RequestRef;
 use bw_take::Verdict::{BadField, BadMarker, DuplicateMarker, Stored};
 use std::test::Fail;

@@ -1,7 +1,7 @@
 //! A store over a real folder, and over a system that fails once.
-use super::play::{file_of_row, keep};
-use super::rows::two_frames;
-use crate::{Created, FolderStore, GrowingFile, TakeStore};
+use crate::play::{file_of_row, keep};
+use crate::rows::two_frames;
+use bw_file::{Created, FolderStore, GrowingFile, TakeStore};
 use bw_layout::Limit;
 use bw_take::{Name, TakeState};
 use std::cell::Cell;
