@@ -11,3 +11,4 @@ pub mod OneField
 pub mod RowsOfCalls
 pub mod Disks
 pub mod Folders
+pub mod StoreSteps

@@ -1,7 +1,8 @@
 //! A store that fails chosen calls.
 ghost use Rattle.std.specs.Prelude.{◌≡◌, ◌<◌, ◌==◌, ◌||◌, ◌∷◌, [], ℕ, List, Option, true, false, not, IsTrue, IfOk, OnOk, OnErr, is_err, is_ok, length, filter, if◌then◌else◌};
 ghost use Rattle.bw_file.specs.Stores.{Counts, Creates, Written, MayTear, KeepsOthers, last_count, raised};
-ghost use Rattle.bw_file.specs.Calls.{Create, WriteAt, Finish, Asks, Gets};
+ghost use Rattle.bw_file.specs.Calls.{Create, WriteAt, Finish, Asks};
+ghost use Rattle.bw_file.specs.StoreSteps.{WasAsked};
 ghost use Rattle.bw_file.specs.Fuses.{has_fuse, Blows, passed_on, unless_fused, let_through, first_half};
 
 use crate::store::{Created, StoreFault, TakeStore};
@@ -111,11 +112,10 @@ impl<S: TakeStore> TakeStore for FuseStore<S> {
             (S.failures self.old.inner) (S.failures self.new.inner) }
         ensures untouched { IsTrue (has_fuse self.old.fuses.items self.old.tally.calls) →
             self.new.inner ≡ self.old.inner }
-        ensures inner { Gets
+        ensures inner { WasAsked S.TakeStore
             (unless_fused (has_fuse self.old.fuses.items self.old.tally.calls)
             (Create name.now ∷ []))
-            (S.calls self.old.inner) (S.calls self.new.inner)
-            (S.asked self.old.inner) (S.asked self.new.inner) }
+            self.old.inner self.new.inner }
         ensures blown { self.new.blown ≡ (self.old.blown
             || has_fuse self.old.fuses.items self.old.tally.calls) }
         ensures spent { self.new.fuses.items
@@ -155,11 +155,10 @@ impl<S: TakeStore> TakeStore for FuseStore<S> {
             S.failures self.new.inner ≡ S.failures self.old.inner →
             Written (S.contents self.old.inner name.now) offset (first_half bytes.now)
             (S.contents self.new.inner name.now) }
-        ensures inner { Gets
+        ensures inner { WasAsked S.TakeStore
             (WriteAt name.now offset (length (let_through
             (has_fuse self.old.fuses.items self.old.tally.calls) bytes.now)) ∷ [])
-            (S.calls self.old.inner) (S.calls self.new.inner)
-            (S.asked self.old.inner) (S.asked self.new.inner) }
+            self.old.inner self.new.inner }
         ensures blown { self.new.blown ≡ (self.old.blown
             || has_fuse self.old.fuses.items self.old.tally.calls) }
         ensures spent { self.new.fuses.items
@@ -195,11 +194,10 @@ impl<S: TakeStore> TakeStore for FuseStore<S> {
             (S.failures self.old.inner) (S.failures self.new.inner) }
         ensures untouched { IsTrue (has_fuse self.old.fuses.items self.old.tally.calls) →
             self.new.inner ≡ self.old.inner }
-        ensures inner { Gets
+        ensures inner { WasAsked S.TakeStore
             (unless_fused (has_fuse self.old.fuses.items self.old.tally.calls)
             (Finish name.now ∷ []))
-            (S.calls self.old.inner) (S.calls self.new.inner)
-            (S.asked self.old.inner) (S.asked self.new.inner) }
+            self.old.inner self.new.inner }
         ensures blown { self.new.blown ≡ (self.old.blown
             || has_fuse self.old.fuses.items self.old.tally.calls) }
         ensures spent { self.new.fuses.items
@@ -229,8 +227,8 @@ fn blow(fuses: &mut Vec<u64>, call: u64) -> bool
 
 /// Writes the first half of the bytes, whether or not the store takes it.
 fn write_half<S: TakeStore>(store: &mut S, name: &Name, offset: u64, bytes: &[u8])
-    ensures gets { Gets (WriteAt name.now offset (length (first_half bytes.now)) ∷ [])
-        (S.calls store.old) (S.calls store.new) (S.asked store.old) (S.asked store.new) }
+    ensures asked { WasAsked S.TakeStore
+        (WriteAt name.now offset (length (first_half bytes.now)) ∷ []) store.old store.new }
     ensures honest { S.honest store.new ≡ S.honest store.old }
     ensures torn { IsTrue (S.honest store.old) → MayTear
         (S.contents store.old name.now) offset (length bytes.now) (S.contents store.new name.now) }

@@ -2,8 +2,7 @@
 ghost use Rattle.std.specs.Prelude.{◌≡◌, ◌≤◌, ◌+◌, ◌^◌, ◌*◌, ℕ, List, [], IsSome, IsTrue, IsFalse, IfOk, OnOk, OnErr, is_err, length, true, false};
 ghost use Rattle.bw_model.specs.Take.{Take, Stored, Open, Block, SetField, Close, judge, parts, frames, with_field};
 ghost use Rattle.bw_model.specs.Wire.{is_request};
-ghost use Rattle.bw_file.specs.Stores.{Counts, KeepsOthers};
-ghost use Rattle.bw_file.specs.Calls.{Gets, GetsFirst};
+ghost use Rattle.bw_file.specs.StoreSteps.{Shared, WasAsked, WasAskedFirst};
 ghost use Rattle.bw_file.specs.Plans.{name_plan, begin_plan, append_plan, retouch_plan, close_plan};
 ghost use Rattle.bw_file.specs.Growing.{Growing, Stores, Sets, Begins, AsksForName, IsFresh, is_new};
 
@@ -33,8 +32,6 @@ pub struct GrowingFile {
 }
 
 impl Model for GrowingFile {
-    ghost use Rattle.bw_file.specs.Calls.{Gets, GetsFirst};
-    ghost use Rattle.bw_file.specs.Plans.{name_plan, begin_plan, append_plan, retouch_plan, close_plan};
     ghost use Rattle.bw_file.specs.Growing.{Growing};
 
     ghost Value = { Growing };
@@ -96,15 +93,12 @@ impl GrowingFile {
             self.new ≡ record self.old { made = is_new c; dirty = false }) }
         ensures err { OnErr result
             (self.new ≡ record self.old { made = self.new.made; dirty = true }) }
-        ensures failures { Counts (S.failures store.old) (S.failures store.new) (is_err result) }
+        ensures shared { Shared S.TakeStore (is_err result) self.old.name store.old store.new }
         ensures calls { S.calls store.new ≤ S.calls store.old + 2 }
-        ensures order { IfOk result (λ c. Gets (begin_plan self.old (is_new c) (length history.now))
-            (S.calls store.old) (S.calls store.new) (S.asked store.old) (S.asked store.new)) }
-        ensures begun { OnErr result (GetsFirst (begin_plan self.old true (length history.now))
-            (S.calls store.old) (S.calls store.new) (S.asked store.old) (S.asked store.new)) }
-        ensures honest { S.honest store.new ≡ S.honest store.old }
-        ensures others { IsTrue (S.honest store.old) →
-            KeepsOthers (S.contents store.old) (S.contents store.new) self.old.name }
+        ensures order { IfOk result (λ c. WasAsked S.TakeStore
+            (begin_plan self.old (is_new c) (length history.now)) store.old store.new) }
+        ensures begun { OnErr result (WasAskedFirst S.TakeStore
+            (begin_plan self.old true (length history.now)) store.old store.new) }
         ensures name { IsTrue (S.honest store.old) → AsksForName self.old.made self.new.made
             (S.contents store.old self.old.name) (S.contents store.new self.old.name) }
         ensures stood { IsTrue (S.honest store.old) →
@@ -153,17 +147,12 @@ impl GrowingFile {
         requires stored { judge state.now.parts (Block samples.now) ≡ Stored }
         requires samples { state.now.parts.samples_len + length samples.now ≤ 2 ^ 62 }
         ensures known { self.new ≡ record self.old { dirty = is_err result } }
-        ensures failures { Counts (S.failures store.old) (S.failures store.new) (is_err result) }
+        ensures shared { Shared S.TakeStore (is_err result) self.old.name store.old store.new }
         ensures calls { S.calls store.new ≤ S.calls store.old + 4 }
-        ensures order { OnOk result (Gets
-            (append_plan self.old state.now.parts (length samples.now))
-            (S.calls store.old) (S.calls store.new) (S.asked store.old) (S.asked store.new)) }
-        ensures begun { OnErr result (GetsFirst
-            (append_plan self.old state.now.parts (length samples.now))
-            (S.calls store.old) (S.calls store.new) (S.asked store.old) (S.asked store.new)) }
-        ensures honest { S.honest store.new ≡ S.honest store.old }
-        ensures others { IsTrue (S.honest store.old) →
-            KeepsOthers (S.contents store.old) (S.contents store.new) self.old.name }
+        ensures order { OnOk result (WasAsked S.TakeStore
+            (append_plan self.old state.now.parts (length samples.now)) store.old store.new) }
+        ensures begun { OnErr result (WasAskedFirst S.TakeStore
+            (append_plan self.old state.now.parts (length samples.now)) store.old store.new) }
         ensures file { IsTrue (S.honest store.old) → (t : Take) → parts t ≡ state.now.parts →
             Stores result self.old t (Block samples.now)
             (S.contents store.old self.old.name) (S.contents store.new self.old.name) }
@@ -199,19 +188,16 @@ impl GrowingFile {
     ) -> Result<(), StoreFault>
         requires { Sets state.now.parts bext.now }
         ensures known { self.new ≡ record self.old { dirty = is_err result } }
-        ensures failures { Counts (S.failures store.old) (S.failures store.new) (is_err result) }
+        ensures shared { Shared S.TakeStore (is_err result) self.old.name store.old store.new }
         ensures calls { S.calls store.new ≤ S.calls store.old + 1 }
         ensures order { (tag : ℕ) (value : List ℕ) →
             bext.now ≡ with_field state.now.parts.fields tag value →
-            OnOk result (Gets (retouch_plan self.old state.now.parts bext.now tag)
-            (S.calls store.old) (S.calls store.new) (S.asked store.old) (S.asked store.new)) }
+            OnOk result (WasAsked S.TakeStore
+            (retouch_plan self.old state.now.parts bext.now tag) store.old store.new) }
         ensures begun { (tag : ℕ) (value : List ℕ) →
             bext.now ≡ with_field state.now.parts.fields tag value →
-            OnErr result (GetsFirst (retouch_plan self.old state.now.parts bext.now tag)
-            (S.calls store.old) (S.calls store.new) (S.asked store.old) (S.asked store.new)) }
-        ensures honest { S.honest store.new ≡ S.honest store.old }
-        ensures others { IsTrue (S.honest store.old) →
-            KeepsOthers (S.contents store.old) (S.contents store.new) self.old.name }
+            OnErr result (WasAskedFirst S.TakeStore
+            (retouch_plan self.old state.now.parts bext.now tag) store.old store.new) }
         ensures file { IsTrue (S.honest store.old) → (t : Take) → parts t ≡ state.now.parts →
             (tag : ℕ) (value : List ℕ) → bext.now ≡ with_field t.fields tag value →
             Stores result self.old t (SetField tag value)
@@ -245,15 +231,12 @@ impl GrowingFile {
     ) -> Result<(), StoreFault>
         requires { judge state.now.parts (Close (frames state.now.parts)) ≡ Stored }
         ensures known { self.new ≡ record self.old { dirty = is_err result } }
-        ensures failures { Counts (S.failures store.old) (S.failures store.new) (is_err result) }
+        ensures shared { Shared S.TakeStore (is_err result) self.old.name store.old store.new }
         ensures calls { S.calls store.new ≤ S.calls store.old + 3 }
-        ensures order { OnOk result (Gets (close_plan self.old state.now.parts)
-            (S.calls store.old) (S.calls store.new) (S.asked store.old) (S.asked store.new)) }
-        ensures begun { OnErr result (GetsFirst (close_plan self.old state.now.parts)
-            (S.calls store.old) (S.calls store.new) (S.asked store.old) (S.asked store.new)) }
-        ensures honest { S.honest store.new ≡ S.honest store.old }
-        ensures others { IsTrue (S.honest store.old) →
-            KeepsOthers (S.contents store.old) (S.contents store.new) self.old.name }
+        ensures order { OnOk result (WasAsked S.TakeStore
+            (close_plan self.old state.now.parts) store.old store.new) }
+        ensures begun { OnErr result (WasAskedFirst S.TakeStore
+            (close_plan self.old state.now.parts) store.old store.new) }
         ensures file { IsTrue (S.honest store.old) → (t : Take) → parts t ≡ state.now.parts →
             Stores result self.old t (Close (frames state.now.parts))
             (S.contents store.old self.old.name) (S.contents store.new self.old.name) }
@@ -288,14 +271,11 @@ fn make_name<S: TakeStore>(
 ) -> Result<Created, StoreFault>
     ensures made { IfOk result (λ c. made.new ≡ is_new c) }
     ensures err { OnErr result ((made.old ≡ false) × (made.new ≡ false)) }
-    ensures failures { Counts (S.failures store.old) (S.failures store.new) (is_err result) }
-    ensures order { OnOk result (Gets (name_plan name.now made.old)
-        (S.calls store.old) (S.calls store.new) (S.asked store.old) (S.asked store.new)) }
-    ensures begun { OnErr result (GetsFirst (name_plan name.now made.old)
-        (S.calls store.old) (S.calls store.new) (S.asked store.old) (S.asked store.new)) }
-    ensures honest { S.honest store.new ≡ S.honest store.old }
-    ensures others { IsTrue (S.honest store.old) →
-        KeepsOthers (S.contents store.old) (S.contents store.new) name.now }
+    ensures shared { Shared S.TakeStore (is_err result) name.now store.old store.new }
+    ensures order { OnOk result (WasAsked S.TakeStore
+        (name_plan name.now made.old) store.old store.new) }
+    ensures begun { OnErr result (WasAskedFirst S.TakeStore
+        (name_plan name.now made.old) store.old store.new) }
     ensures name { IsTrue (S.honest store.old) → AsksForName made.old made.new
         (S.contents store.old name.now) (S.contents store.new name.now) }
     ensures stood { IsTrue (S.honest store.old) →

@@ -2,8 +2,8 @@
 ghost use Rattle.std.specs.Prelude.{◌≡◌, ◌≤◌, ◌<◌, ◌+◌, ◌*◌, ◌%◌, ◌^◌, ◌++◌, ℕ, IsTrue, OnOk, OnErr, length, is_err, flat_map, not};
 ghost use Rattle.bw_model.specs.Layout.{chunk, pad};
 ghost use Rattle.bw_model.specs.File.{cue_chunks};
-ghost use Rattle.bw_file.specs.Stores.{Counts, MayTear, KeepsOthers};
-ghost use Rattle.bw_file.specs.Calls.{Gets, GetsFirst};
+ghost use Rattle.bw_file.specs.Stores.{MayTear};
+ghost use Rattle.bw_file.specs.StoreSteps.{Shared, WasAsked, WasAskedFirst};
 ghost use Rattle.bw_file.specs.Plans.{samples_plan, cues_plan, header_plan, sizes_plan, form_plan, grown_plan, closed_plan, field_plan, set_plan};
 ghost use Rattle.bw_file.specs.Headers.{PutsLast, PutsHeader, PutsOver, Updates};
 ghost use Rattle.bw_file.specs.OneField.{SetsField};
@@ -24,16 +24,11 @@ pub(crate) fn put_samples<S: TakeStore>(
     samples: &[u8],
 ) -> Result<(), StoreFault>
     requires { place + length samples.now < 2 ^ 63 }
-    ensures failures { Counts (S.failures store.old) (S.failures store.new) (is_err result) }
-    ensures order { OnOk result (Gets
-        (samples_plan name.now place (length samples.now))
-        (S.calls store.old) (S.calls store.new) (S.asked store.old) (S.asked store.new)) }
-    ensures begun { OnErr result (GetsFirst
-        (samples_plan name.now place (length samples.now))
-        (S.calls store.old) (S.calls store.new) (S.asked store.old) (S.asked store.new)) }
-    ensures honest { S.honest store.new ≡ S.honest store.old }
-    ensures others { IsTrue (S.honest store.old) →
-        KeepsOthers (S.contents store.old) (S.contents store.new) name.now }
+    ensures shared { Shared S.TakeStore (is_err result) name.now store.old store.new }
+    ensures order { OnOk result (WasAsked S.TakeStore
+        (samples_plan name.now place (length samples.now)) store.old store.new) }
+    ensures begun { OnErr result (WasAskedFirst S.TakeStore
+        (samples_plan name.now place (length samples.now)) store.old store.new) }
     ensures torn { IsTrue (S.honest store.old) → MayTear (S.contents store.old name.now) place
         (length samples.now + (place + length samples.now) % 2) (S.contents store.new name.now) }
     ensures put { IsTrue (S.honest store.old) → OnOk result
@@ -58,16 +53,11 @@ pub(crate) fn put_cues<S: TakeStore>(
 ) -> Result<(), StoreFault>
     requires place { place < 2 ^ 63 }
     requires markers { length markers.now ≤ 1024 }
-    ensures failures { Counts (S.failures store.old) (S.failures store.new) (is_err result) }
-    ensures order { OnOk result (Gets
-        (cues_plan name.now place (length markers.now))
-        (S.calls store.old) (S.calls store.new) (S.asked store.old) (S.asked store.new)) }
-    ensures begun { OnErr result (GetsFirst
-        (cues_plan name.now place (length markers.now))
-        (S.calls store.old) (S.calls store.new) (S.asked store.old) (S.asked store.new)) }
-    ensures honest { S.honest store.new ≡ S.honest store.old }
-    ensures others { IsTrue (S.honest store.old) →
-        KeepsOthers (S.contents store.old) (S.contents store.new) name.now }
+    ensures shared { Shared S.TakeStore (is_err result) name.now store.old store.new }
+    ensures order { OnOk result (WasAsked S.TakeStore
+        (cues_plan name.now place (length markers.now)) store.old store.new) }
+    ensures begun { OnErr result (WasAskedFirst S.TakeStore
+        (cues_plan name.now place (length markers.now)) store.old store.new) }
     ensures torn { IsTrue (S.honest store.old) → MayTear (S.contents store.old name.now) place
         (length (flat_map chunk (cue_chunks markers.now))) (S.contents store.new name.now) }
     ensures put { IsTrue (S.honest store.old) → OnOk result
@@ -93,16 +83,11 @@ pub(crate) fn put_header<S: TakeStore>(
 ) -> Result<(), StoreFault>
     requires samples { data_len ≤ 2 ^ 62 }
     requires cues { cues ≤ 1024 }
-    ensures failures { Counts (S.failures store.old) (S.failures store.new) (is_err result) }
-    ensures order { OnOk result (Gets
-        (header_plan name.now (place_of heading.now))
-        (S.calls store.old) (S.calls store.new) (S.asked store.old) (S.asked store.new)) }
-    ensures begun { OnErr result (GetsFirst
-        (header_plan name.now (place_of heading.now))
-        (S.calls store.old) (S.calls store.new) (S.asked store.old) (S.asked store.new)) }
-    ensures honest { S.honest store.new ≡ S.honest store.old }
-    ensures others { IsTrue (S.honest store.old) →
-        KeepsOthers (S.contents store.old) (S.contents store.new) name.now }
+    ensures shared { Shared S.TakeStore (is_err result) name.now store.old store.new }
+    ensures order { OnOk result (WasAsked S.TakeStore
+        (header_plan name.now (place_of heading.now)) store.old store.new) }
+    ensures begun { OnErr result (WasAskedFirst S.TakeStore
+        (header_plan name.now (place_of heading.now)) store.old store.new) }
     ensures torn { IsTrue (S.honest store.old) → MayTear (S.contents store.old name.now) 0
         (place_of heading.now) (S.contents store.new name.now) }
     ensures put { IsTrue (S.honest store.old) → OnOk result
@@ -131,18 +116,13 @@ pub(crate) fn put_grown_header<S: TakeStore>(
 ) -> Result<(), StoreFault>
     requires grows { before ≤ after }
     requires samples { after ≤ 2 ^ 62 }
-    ensures failures { Counts (S.failures store.old) (S.failures store.new) (is_err result) }
-    ensures order { OnOk result (Gets
+    ensures shared { Shared S.TakeStore (is_err result) name.now store.old store.new }
+    ensures order { OnOk result (WasAsked S.TakeStore
         (grown_plan is_clean name.now (place_of heading.now)
-        (is_riff heading.now before 0) (is_riff heading.now after 0))
-        (S.calls store.old) (S.calls store.new) (S.asked store.old) (S.asked store.new)) }
-    ensures begun { OnErr result (GetsFirst
+        (is_riff heading.now before 0) (is_riff heading.now after 0)) store.old store.new) }
+    ensures begun { OnErr result (WasAskedFirst S.TakeStore
         (grown_plan is_clean name.now (place_of heading.now)
-        (is_riff heading.now before 0) (is_riff heading.now after 0))
-        (S.calls store.old) (S.calls store.new) (S.asked store.old) (S.asked store.new)) }
-    ensures honest { S.honest store.new ≡ S.honest store.old }
-    ensures others { IsTrue (S.honest store.old) →
-        KeepsOthers (S.contents store.old) (S.contents store.new) name.now }
+        (is_riff heading.now before 0) (is_riff heading.now after 0)) store.old store.new) }
     ensures torn { IsTrue (S.honest store.old) → MayTear (S.contents store.old name.now) 0
         (place_of heading.now) (S.contents store.new name.now) }
     ensures put { IsTrue (S.honest store.old) → OnOk result
@@ -168,16 +148,13 @@ fn put_grown_sizes<S: TakeStore>(
     requires kind { is_riff heading.now before 0 ≡ is_riff heading.now after 0 }
     requires grows { before ≤ after }
     requires samples { after ≤ 2 ^ 62 }
-    ensures failures { Counts (S.failures store.old) (S.failures store.new) (is_err result) }
-    ensures order { OnOk result (Gets
+    ensures shared { Shared S.TakeStore (is_err result) name.now store.old store.new }
+    ensures order { OnOk result (WasAsked S.TakeStore
         (sizes_plan name.now (place_of heading.now) (is_riff heading.now after 0))
-        (S.calls store.old) (S.calls store.new) (S.asked store.old) (S.asked store.new)) }
-    ensures begun { OnErr result (GetsFirst
+        store.old store.new) }
+    ensures begun { OnErr result (WasAskedFirst S.TakeStore
         (sizes_plan name.now (place_of heading.now) (is_riff heading.now after 0))
-        (S.calls store.old) (S.calls store.new) (S.asked store.old) (S.asked store.new)) }
-    ensures honest { S.honest store.new ≡ S.honest store.old }
-    ensures others { IsTrue (S.honest store.old) →
-        KeepsOthers (S.contents store.old) (S.contents store.new) name.now }
+        store.old store.new) }
     ensures torn { IsTrue (S.honest store.old) → MayTear (S.contents store.old name.now) 0
         (place_of heading.now) (S.contents store.new name.now) }
     ensures put { IsTrue (S.honest store.old) → OnOk result
@@ -212,18 +189,15 @@ pub(crate) fn put_closed_header<S: TakeStore>(
 ) -> Result<(), StoreFault>
     requires samples { data_len ≤ 2 ^ 62 }
     requires cues { cues ≤ 1024 }
-    ensures failures { Counts (S.failures store.old) (S.failures store.new) (is_err result) }
-    ensures order { OnOk result (Gets
+    ensures shared { Shared S.TakeStore (is_err result) name.now store.old store.new }
+    ensures order { OnOk result (WasAsked S.TakeStore
         (closed_plan is_clean name.now (place_of heading.now)
         (is_riff heading.now data_len 0) (is_riff heading.now data_len cues) cues)
-        (S.calls store.old) (S.calls store.new) (S.asked store.old) (S.asked store.new)) }
-    ensures begun { OnErr result (GetsFirst
+        store.old store.new) }
+    ensures begun { OnErr result (WasAskedFirst S.TakeStore
         (closed_plan is_clean name.now (place_of heading.now)
         (is_riff heading.now data_len 0) (is_riff heading.now data_len cues) cues)
-        (S.calls store.old) (S.calls store.new) (S.asked store.old) (S.asked store.new)) }
-    ensures honest { S.honest store.new ≡ S.honest store.old }
-    ensures others { IsTrue (S.honest store.old) →
-        KeepsOthers (S.contents store.old) (S.contents store.new) name.now }
+        store.old store.new) }
     ensures torn { IsTrue (S.honest store.old) → MayTear (S.contents store.old name.now) 0
         (place_of heading.now) (S.contents store.new name.now) }
     ensures put { IsTrue (S.honest store.old) → OnOk result
@@ -249,16 +223,11 @@ fn put_closed_size<S: TakeStore>(
     requires kind { is_riff heading.now data_len 0 ≡ is_riff heading.now data_len cues }
     requires samples { data_len ≤ 2 ^ 62 }
     requires cues { cues ≤ 1024 }
-    ensures failures { Counts (S.failures store.old) (S.failures store.new) (is_err result) }
-    ensures order { OnOk result (Gets
-        (form_plan name.now cues (is_riff heading.now data_len cues))
-        (S.calls store.old) (S.calls store.new) (S.asked store.old) (S.asked store.new)) }
-    ensures begun { OnErr result (GetsFirst
-        (form_plan name.now cues (is_riff heading.now data_len cues))
-        (S.calls store.old) (S.calls store.new) (S.asked store.old) (S.asked store.new)) }
-    ensures honest { S.honest store.new ≡ S.honest store.old }
-    ensures others { IsTrue (S.honest store.old) →
-        KeepsOthers (S.contents store.old) (S.contents store.new) name.now }
+    ensures shared { Shared S.TakeStore (is_err result) name.now store.old store.new }
+    ensures order { OnOk result (WasAsked S.TakeStore
+        (form_plan name.now cues (is_riff heading.now data_len cues)) store.old store.new) }
+    ensures begun { OnErr result (WasAskedFirst S.TakeStore
+        (form_plan name.now cues (is_riff heading.now data_len cues)) store.old store.new) }
     ensures torn { IsTrue (S.honest store.old) → MayTear (S.contents store.old name.now) 0
         (place_of heading.now) (S.contents store.new name.now) }
     ensures put { IsTrue (S.honest store.old) → OnOk result
@@ -293,20 +262,19 @@ pub(crate) fn put_retouched_header<S: TakeStore>(
     requires samples { data_len ≤ 2 ^ 62 }
     requires field { (tag : ℕ) × SetsField tag
         (header_of heading.now data_len 0) (header_of retouched.now data_len 0) }
-    ensures failures { Counts (S.failures store.old) (S.failures store.new) (is_err result) }
+    ensures shared { Shared S.TakeStore (is_err result) name.now store.old store.new }
     ensures order { (tag : ℕ) →
         SetsField tag (header_of heading.now data_len 0) (header_of retouched.now data_len 0) →
-        OnOk result (Gets (set_plan is_clean name.now (place_of heading.now) tag
+        OnOk result (WasAsked S.TakeStore
+        (set_plan is_clean name.now (place_of heading.now) tag
         (header_of heading.now data_len 0) (header_of retouched.now data_len 0))
-        (S.calls store.old) (S.calls store.new) (S.asked store.old) (S.asked store.new)) }
+        store.old store.new) }
     ensures begun { (tag : ℕ) →
         SetsField tag (header_of heading.now data_len 0) (header_of retouched.now data_len 0) →
-        OnErr result (GetsFirst (set_plan is_clean name.now (place_of heading.now) tag
+        OnErr result (WasAskedFirst S.TakeStore
+        (set_plan is_clean name.now (place_of heading.now) tag
         (header_of heading.now data_len 0) (header_of retouched.now data_len 0))
-        (S.calls store.old) (S.calls store.new) (S.asked store.old) (S.asked store.new)) }
-    ensures honest { S.honest store.new ≡ S.honest store.old }
-    ensures others { IsTrue (S.honest store.old) →
-        KeepsOthers (S.contents store.old) (S.contents store.new) name.now }
+        store.old store.new) }
     ensures torn { IsTrue (S.honest store.old) → MayTear (S.contents store.old name.now) 0
         (place_of heading.now) (S.contents store.new name.now) }
     ensures put { IsTrue (S.honest store.old) → OnOk result
@@ -334,20 +302,19 @@ fn put_field<S: TakeStore>(
     requires samples { data_len ≤ 2 ^ 62 }
     requires field { (tag : ℕ) × SetsField tag
         (header_of heading.now data_len 0) (header_of retouched.now data_len 0) }
-    ensures failures { Counts (S.failures store.old) (S.failures store.new) (is_err result) }
+    ensures shared { Shared S.TakeStore (is_err result) name.now store.old store.new }
     ensures order { (tag : ℕ) →
         SetsField tag (header_of heading.now data_len 0) (header_of retouched.now data_len 0) →
-        OnOk result (Gets (field_plan name.now tag
+        OnOk result (WasAsked S.TakeStore
+        (field_plan name.now tag
         (header_of heading.now data_len 0) (header_of retouched.now data_len 0))
-        (S.calls store.old) (S.calls store.new) (S.asked store.old) (S.asked store.new)) }
+        store.old store.new) }
     ensures begun { (tag : ℕ) →
         SetsField tag (header_of heading.now data_len 0) (header_of retouched.now data_len 0) →
-        OnErr result (GetsFirst (field_plan name.now tag
+        OnErr result (WasAskedFirst S.TakeStore
+        (field_plan name.now tag
         (header_of heading.now data_len 0) (header_of retouched.now data_len 0))
-        (S.calls store.old) (S.calls store.new) (S.asked store.old) (S.asked store.new)) }
-    ensures honest { S.honest store.new ≡ S.honest store.old }
-    ensures others { IsTrue (S.honest store.old) →
-        KeepsOthers (S.contents store.old) (S.contents store.new) name.now }
+        store.old store.new) }
     ensures torn { IsTrue (S.honest store.old) → MayTear (S.contents store.old name.now) 0
         (place_of heading.now) (S.contents store.new name.now) }
     ensures put { IsTrue (S.honest store.old) → OnOk result

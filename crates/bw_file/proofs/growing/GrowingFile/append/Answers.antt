@@ -32,7 +32,7 @@ returns-in_err-put_grown_header-clause-file g c =
     let is_open = ap (λ (p : Parts). p.closed) same ∙ opened.not_closed in
     let so_far = c.data_len-before.ensures.value ∙ sym (ap (λ (p : Parts). p.samples_len) same) in
     let answer = err_from_is_err_and c.from_residual-in_err-put_grown_header.result c.from_residual-in_err-put_grown_header.ensures.1 in
-    rw answer.1 (header_fails (the_view c.self.inside) t c.args.samples.now c.of-heading.result heads is_open (some_in_block _ c.requires.fits) c.data_place.result c.data_len-before.result c.data_place.ensures.value so_far _ _ _ ready (c.put_samples.ensures.torn honest) (c.put_grown_header.ensures.torn (c.put_samples.ensures.honest ∙ honest))))
+    rw answer.1 (header_fails (the_view c.self.inside) t c.args.samples.now c.of-heading.result heads is_open (some_in_block _ c.requires.fits) c.data_place.result c.data_len-before.result c.data_place.ensures.value so_far _ _ _ ready (c.put_samples.ensures.torn honest) (c.put_grown_header.ensures.torn (c.put_samples.ensures.shared.honest ∙ honest))))
 
 pub returns-clause-file : goal.returns-clause-file
 returns-clause-file g c =
@@ -42,7 +42,7 @@ returns-clause-file g c =
     let heads = is_heading t c.args.state.now.parts c.of-heading.result c.self.inside.limit same of.format of.bext of.history of.limit in
     let is_open = ap (λ (p : Parts). p.closed) same ∙ opened.not_closed in
     let so_far = c.data_len-before.ensures.value ∙ sym (ap (λ (p : Parts). p.samples_len) same) in
-    appended (the_view c.self.inside) t c.args.samples.now c.of-heading.result heads is_open (some_in_block _ c.requires.fits) c.data_place.result c.data_len-before.result c.data_place.ensures.value so_far _ _ _ ready (c.in_ok-put_samples.ensures.put honest) (c.in_ok-put_grown_header.ensures.put (c.put_samples.ensures.honest ∙ honest)))
+    appended (the_view c.self.inside) t c.args.samples.now c.of-heading.result heads is_open (some_in_block _ c.requires.fits) c.data_place.result c.data_len-before.result c.data_place.ensures.value so_far _ _ _ ready (c.in_ok-put_samples.ensures.put honest) (c.in_ok-put_grown_header.ensures.put (c.put_samples.ensures.shared.honest ∙ honest)))
 
 pub returns-in_err-put_samples-clause-begun : goal.returns-in_err-put_samples-clause-begun
 returns-in_err-put_samples-clause-begun g c =

@@ -19,7 +19,7 @@ returns-in_err-put_header-clause-file g c =
     let no_samples = sym in_all ∙ c.data_len.ensures.unopened unopened.no_format in
     let fresh = rw c.in-New.is at (c.in_ok-make_name.ensures.fresh honest) in
     let was = fresh_begun t c.self.inside.limit c.args.format c.args.history.now no_format is_open fields no_samples c.self.inside.made _ _ begun (fresh refl) in
-    let torn = begun_torn t c.self.inside.limit c.args.format c.args.history.now no_format is_open fields no_samples _ _ was (c.put_header.ensures.torn (c.make_name.ensures.honest ∙ honest)) in
+    let torn = begun_torn t c.self.inside.limit c.args.format c.args.history.now no_format is_open fields no_samples _ _ was (c.put_header.ensures.torn (c.make_name.ensures.shared.honest ∙ honest)) in
     let answer = err_from_is_err_and c.from_residual-in_err-put_header.result c.from_residual-in_err-put_header.ensures.1 in
     rw answer.1 (begun_between t c.self.inside.limit c.args.format c.args.history.now no_format is_open fields no_samples _ torn))
 
@@ -35,7 +35,7 @@ returns-clause-file g c =
     let no_samples = sym in_all ∙ c.data_len.ensures.unopened unopened.no_format in
     let fresh = rw c.in-New.is at (c.in_ok-make_name.ensures.fresh honest) in
     let was = fresh_begun t c.self.inside.limit c.args.format c.args.history.now no_format is_open fields no_samples c.self.inside.made _ _ begun (fresh refl) in
-    begun_whole t c.self.inside.limit c.args.format c.args.history.now no_format is_open fields no_samples _ _ was (rw (set, in_all) at (c.in_ok-put_header.ensures.first (c.make_name.ensures.honest ∙ honest))))
+    begun_whole t c.self.inside.limit c.args.format c.args.history.now no_format is_open fields no_samples _ _ was (rw (set, in_all) at (c.in_ok-put_header.ensures.first (c.make_name.ensures.shared.honest ∙ honest))))
 
 pub returns-in_err-make_name-clause-begun : goal.returns-in_err-make_name-clause-begun
 returns-in_err-make_name-clause-begun g c =

@@ -35,7 +35,7 @@ returns-in_err-put_closed_header-clause-file g c =
     let in_all = c.data_len-data_len.ensures.value ∙ sym (ap (λ (p : Parts). p.samples_len) same) in
     let marked = c.markers-markers.ensures.value ∙ sym (ap (λ (p : Parts). p.markers) same) in
     let answer = err_from_is_err_and c.from_residual-in_err-put_closed_header.result c.from_residual-in_err-put_closed_header.ensures.1 in
-    rw answer.1 (header_fails (the_view c.self.inside) t (frames c.args.state.now.parts) c.of-heading.result heads is_open c.data_place.result c.data_len-data_len.result c.markers-markers.result.now c.data_place.ensures.value in_all marked _ _ _ ready (c.put_cues.ensures.torn honest) (c.put_closed_header.ensures.torn (c.put_cues.ensures.honest ∙ honest))))
+    rw answer.1 (header_fails (the_view c.self.inside) t (frames c.args.state.now.parts) c.of-heading.result heads is_open c.data_place.result c.data_len-data_len.result c.markers-markers.result.now c.data_place.ensures.value in_all marked _ _ _ ready (c.put_cues.ensures.torn honest) (c.put_closed_header.ensures.torn (c.put_cues.ensures.shared.honest ∙ honest))))
 
 pub returns-in_err-finish-clause-file : goal.returns-in_err-finish-clause-file
 returns-in_err-finish-clause-file g c =
@@ -46,8 +46,8 @@ returns-in_err-finish-clause-file g c =
     let is_open = ap (λ (p : Parts). p.closed) same ∙ opened.not_closed in
     let in_all = c.data_len-data_len.ensures.value ∙ sym (ap (λ (p : Parts). p.samples_len) same) in
     let marked = c.markers-markers.ensures.value ∙ sym (ap (λ (p : Parts). p.markers) same) in
-    let honest_then = c.put_cues.ensures.honest ∙ honest in
-    let stays = c.finish.ensures.unchanged (c.put_closed_header.ensures.honest ∙ honest_then) c.self.inside.name in
+    let honest_then = c.put_cues.ensures.shared.honest ∙ honest in
+    let stays = c.finish.ensures.unchanged (c.put_closed_header.ensures.shared.honest ∙ honest_then) c.self.inside.name in
     let between = header_fails (the_view c.self.inside) t (frames c.args.state.now.parts) c.of-heading.result heads is_open c.data_place.result c.data_len-data_len.result c.markers-markers.result.now c.data_place.ensures.value in_all marked _ _ _ ready (c.put_cues.ensures.torn honest) (c.put_closed_header.ensures.torn honest_then) in
     let answer = err_from_is_err_and c.from_residual-in_err-finish.result c.from_residual-in_err-finish.ensures.1 in
     rw (answer.1, stays) between)
@@ -61,8 +61,8 @@ returns-clause-file g c =
     let is_open = ap (λ (p : Parts). p.closed) same ∙ opened.not_closed in
     let in_all = c.data_len-data_len.ensures.value ∙ sym (ap (λ (p : Parts). p.samples_len) same) in
     let marked = c.markers-markers.ensures.value ∙ sym (ap (λ (p : Parts). p.markers) same) in
-    let honest_then = c.put_cues.ensures.honest ∙ honest in
-    let stays = c.finish.ensures.unchanged (c.put_closed_header.ensures.honest ∙ honest_then) c.self.inside.name in
+    let honest_then = c.put_cues.ensures.shared.honest ∙ honest in
+    let stays = c.finish.ensures.unchanged (c.put_closed_header.ensures.shared.honest ∙ honest_then) c.self.inside.name in
     stays ∙ closed (the_view c.self.inside) t (frames c.args.state.now.parts) c.of-heading.result heads is_open c.data_place.result c.data_len-data_len.result c.markers-markers.result.now c.data_place.ensures.value in_all marked _ _ _ ready (c.in_ok-put_cues.ensures.put honest) (c.in_ok-put_closed_header.ensures.put honest_then))
 
 pub returns-in_err-put_cues-clause-begun : goal.returns-in_err-put_cues-clause-begun
