@@ -3,13 +3,14 @@ use Rattle.std.specs.Prelude.{◌≡◌, ◌⊎◌, ℕ, List, Option, Some, Non
 use Rattle.bw_file.specs.Stores.{Counts, Creates, KeepsOthers}
 use Rattle.bw_file.specs.declared.store.Created.TheVariants.{New, Exists}
 
--- what a path has before and after a `create_new` that succeeds: it answers a file where it made one
+-- what a path has before and after a `create_new` that succeeds: it answers the file that it made
 abbrev pub Makes : {F : Type 0} → Option F → Option (List ℕ) → Option (List ℕ) → Type 0
 Makes (Some file) before after = Creates New before after
 Makes None before after = Creates Exists before after
 
 -- One call of a disk is counted, and counted among the failures where it fails.
-pub record IsOneCall {D : Type 0} (calls failures : D → ℕ) (old new : D) (fails : Bool) : Type 0 where
+pub record IsOneCall {D : Type 0} (calls failures : D → ℕ) (old new : D) (fails : Bool) :
+    Type 0 where
   pub counted : Counts (calls old) (calls new) true
   pub failed : Counts (failures old) (failures new) fails
 

@@ -55,7 +55,8 @@ pub trait Disk: Drop {
         ensures synced { IsTrue (honest self.old) →
             (other : List ℕ) → synced self.new other ≡ synced self.old other };
 
-    /// Puts bytes over what stands in a file from an offset on, and past its end; a gap reads as zeros.
+    /// Puts bytes over what stands in a file from an offset on, and past its end; a gap reads as
+    /// zeros.
     ///
     /// # Errors
     /// `DiskFault` where the disk failed: any bytes may stand in the range then.

@@ -23,8 +23,8 @@ struct OpenTake<F: Drop> {
 /// The files `NAME.wav` of one folder.
 ///
 /// Only files that this store made are written: a name that stands is never opened. Over an honest
-/// disk it is an honest store. A call fails where the disk does, where memory is refused, and, but for
-/// `create`, for a name that this store did not make.
+/// disk it is an honest store. A call fails where the disk does; `create` also where memory is
+/// refused, and the others for a name that this store did not make.
 #[derive(Drop)]
 pub struct FolderStore<D: Disk> {
     disk: D,

@@ -12,7 +12,12 @@ use Rattle.bw_file.proofs.folder.find.Goals as goal
 module _ {F : Type 0} (takes : List (OpenTake F)) (name : List ℕ) where
   -- the first take of this name is at this place, or there is none
   abbrev IsFirst : Option ℕ → Type 0
-  IsFirst r = MatchOption r (AllWithin (λ (take : OpenTake F). take.name ≡ name → ⊥) takes 0 (length takes)) (λ i. (i < length takes) × HoldsAt (λ (take : OpenTake F). take.name ≡ name) takes i × AllWithin (λ (take : OpenTake F). take.name ≡ name → ⊥) takes 0 i)
+  IsFirst r =
+      MatchOption r
+      (AllWithin (λ (take : OpenTake F). take.name ≡ name → ⊥) takes 0 (length takes))
+      (λ i. (i < length takes)
+      × HoldsAt (λ (take : OpenTake F). take.name ≡ name) takes i
+      × AllWithin (λ (take : OpenTake F). take.name ≡ name → ⊥) takes 0 i)
 
   some_take : (all : List (OpenTake F)) (k : ℕ) → k < length all → OpenTake F
   some_take [] k h = absurd (omega arith)
@@ -36,7 +41,8 @@ module _ {F : Type 0} (takes : List (OpenTake F)) (name : List ℕ) where
       let d = some_take takes i found.0 in
       (λ some. (i, rw length-map found.0, named i d found.0 ∙ found.1 d), λ among. refl)
 
-  place_of : (r : Option ℕ) → IsFirst r → IfSome r (λ place. (place < length takes) × HoldsAt (λ (take : OpenTake F). take.name ≡ name) takes place)
+  place_of : (r : Option ℕ) → IsFirst r
+      → IfSome r (λ place. (place < length takes) × HoldsAt (λ (take : OpenTake F). take.name ≡ name) takes place)
   place_of None none = tt
   place_of (Some i) found = (found.0, found.1)
 
@@ -44,5 +50,13 @@ pub returns : goal.returns
 returns g c =
     let takes = c.args.takes.now in
     let name = c.args.name.now in
-    let first = IsFirst-from_position _ _ c.position.result (λ take. take.name ≡ name) (λ take. take.name ≡ name → ⊥) c.position.ensures.ran (YieldsList-from_slice takes cc) (λ x q k. search (rules, tests, bytes_eq-Decides)) (λ x q k. search (rules, tests, bytes_eq-Decides)) in
-    record { «open» = contains takes name c.position.result first; place = place_of takes name c.position.result first }
+    let told = c.position.ensures.ran in
+    let first =
+    IsFirst-from_position _ _ c.position.result (λ take. take.name ≡ name) (λ take. take.name ≡ name → ⊥) told
+    (YieldsList-from_slice takes cc)
+    (λ x q k. search (rules, tests, bytes_eq-Decides))
+    (λ x q k. search (rules, tests, bytes_eq-Decides)) in
+    record {
+      «open» = contains takes name c.position.result first;
+      place = place_of takes name c.position.result first;
+    }
