@@ -1,12 +1,12 @@
 -- What the getters of `clap` say of the task.
-use Rattle.std.proofs.Common.{◌≡◌, ℕ, List, Option, Some, None, codes, refl, subst, sym, ◌∙◌, arith}
+use Rattle.std.proofs.Common.{◌≡◌, ℕ, List, Option, Some, None, Result, Ok, Err, OnErr, codes, refl, subst, sym, ◌∙◌, arith}
 use Rattle.clap.specs.Words.{Row, Text, first_of, first_value, rows_of}
 use Rattle.clap.specs.declared.parser.matches.Found.{Found}
 use Rattle.clap.proofs.WalkLemmas.{first_value-rows}
-use Rattle.bw_args.specs.Lines.{GivesLimit, HasLimit, IsLimitGiven, IsWishOf, Wish, Replaying, Inspecting, wish_of}
+use Rattle.bw_args.specs.Lines.{GivesLimit, HasLimit, IsLimitGiven, IsLineFor, IsWishOf, Wish, Replaying, Inspecting}
 use Rattle.bw_args.specs.Numbers.{IsLimit}
-use Rattle.bw_args.specs.declared.CommandLine.TheVariants.{Run}
-use Rattle.bw_args.specs.declared.Task.{Task}
+use Rattle.bw_args.specs.declared.CommandLine.{CommandLine}
+use Rattle.bw_args.specs.declared.CommandLine.TheVariants.{Run, BadLimit, Tell}
 use Rattle.bw_args.specs.declared.Task.TheVariants.{Replay, Inspect}
 
 -- the limit that is given is the one that is asked for
@@ -37,7 +37,14 @@ given_limit (Some text) limit given = subst IsLimit (sym given.1) given.0.1
 given_limit None limit given = subst IsLimit (sym given) (refl, omega arith, omega arith)
 
 -- a replay that is asked for has a limit
-pub asked_limit : (command : Option (Text × List Row)) (task : Task) → IsWishOf command (wish_of task) → HasLimit (Run task)
-asked_limit (Some command) (Replay limit) asked = given_limit (first_of (codes "limit") command.1) limit asked.1
-asked_limit (Some command) (Inspect file) asked = tt
-asked_limit None task asked = absurd asked
+pub line_limit : (command : Option (Text × List Row)) (line : CommandLine) → IsLineFor command line → HasLimit line
+line_limit (Some command) (Run (Replay limit)) asked = given_limit (first_of (codes "limit") command.1) limit asked.1
+line_limit (Some command) (Run (Inspect file)) asked = tt
+line_limit None (Run task) asked = absurd asked
+line_limit command BadLimit asked = tt
+line_limit command (Tell error) asked = tt
+
+-- what holds in any case holds of a fault
+pub on_err : {X Y P : Type 0} (r : Result X Y) → P → OnErr r P
+on_err (Ok x) p = tt
+on_err (Err e) p = p

@@ -10,7 +10,7 @@ use Rattle.bw_args.specs.Commands.{command_line}
 use Rattle.bw_args.specs.Lines.{AsksFor, GivesLimit, Inspects, IsLineOf, IsPlain, IsToldAs, IsWishOf, RunsInspect, RunsReplay, TellsHelp, Wish, Inspecting, Replaying, wish_of}
 use Rattle.bw_args.specs.Numbers.{IsLimitText, default_limit, number_in}
 use Rattle.bw_args.specs.declared.CommandLine.{CommandLine}
-use Rattle.bw_args.specs.declared.CommandLine.TheVariants.{Run, Tell}
+use Rattle.bw_args.specs.declared.CommandLine.TheVariants.{Run, BadLimit, Tell}
 use Rattle.bw_args.specs.declared.Task.TheVariants.{Inspect, Replay}
 
 -- a digit is no hyphen, so the word is read as a value
@@ -57,21 +57,25 @@ one_wish (Some command) (Inspecting a) (Replaying b) x y = let bad : codes "insp
 -- the line runs a task for this
 abbrev RunsFor : Wish → CommandLine → Type 0
 RunsFor wish (Run task) = wish_of task ≡ wish
+RunsFor wish BadLimit = ⊥
 RunsFor wish (Tell error) = ⊥
 
 -- words that ask for something run it
 runs : (words : List Text) (line : CommandLine) (wish : Wish) → IsLineOf words line → AsksFor words wish → RunsFor wish line
 runs words (Run task) wish is asks = one_wish _ (wish_of task) wish is.asked asks.asked
+runs words BadLimit wish is asks = absurd (is.asks_nothing wish asks)
 runs words (Tell error) wish is asks = absurd (is.asks_nothing wish asks)
 
 replays : (limit : ℕ) (line : CommandLine) → RunsFor (Replaying limit) line → line ≡ Run (Replay limit)
 replays limit (Run (Replay other)) e = let same : other ≡ limit = cc in ap (λ (n : ℕ). Run (Replay n)) same
 replays limit (Run (Inspect file)) e = cc
+replays limit BadLimit e = absurd e
 replays limit (Tell error) e = absurd e
 
 inspects : (path : Text) (line : CommandLine) → RunsFor (Inspecting path) line → Inspects path line
 inspects path (Run (Inspect file)) e = cc
 inspects path (Run (Replay other)) e = cc
+inspects path BadLimit e = absurd e
 inspects path (Tell error) e = absurd e
 
 pub runs_replay : (words : List Text) (line : CommandLine) → IsLineOf words line → RunsReplay words line
@@ -87,10 +91,9 @@ runs_replay words line is = record {
 tells : (kind : ErrorKind) (words : List Text) (line : CommandLine) → fault_of command_line words ≡ kind ∷ []
     → IsLineOf words line → IsToldAs kind line
 tells kind words (Run task) fault is = let bad : kind ∷ [] ≡ [] = sym fault ∙ is.taken in cc
-tells kind words (Tell error) fault is = elim is.reason [
-  | inl among ↦ elim (subst (IsAmong (kind_of error)) fault among) [ inl same ↦ same | inr none ↦ absurd none ]
-  | inr value ↦ let bad : kind ∷ [] ≡ [] = sym fault ∙ value.0 in cc
-]
+tells kind words BadLimit fault is = let bad : kind ∷ [] ≡ [] = sym fault ∙ is.taken in cc
+tells kind words (Tell error) fault is =
+    elim (subst (IsAmong (kind_of error)) fault is.reason) [ inl same ↦ same | inr none ↦ absurd none ]
 
 help_fault : (program : Text) → fault_of command_line (program ∷ codes "--help" ∷ []) ≡ DisplayHelp ∷ []
 unfolding clap_on_literals

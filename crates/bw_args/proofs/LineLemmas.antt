@@ -1,14 +1,14 @@
 -- What a parse by `clap` says of the words.
-use Rattle.std.proofs.Common.{◌≡◌, ◌≢◌, List, [], true, false, refl, ap, subst, sym, ◌∙◌, inl, inr, Option, None, Result, Ok, Err, IfOk, IsErr}
+use Rattle.std.proofs.Common.{◌≡◌, ◌≢◌, List, [], true, false, refl, ap, subst, sym, ◌∙◌, inl, inr, Option, Result, Ok, Err, IfOk, IsErr}
 use Rattle.std.specs.declared.alloc.AllocError.{AllocError}
 use Rattle.clap.specs.Words.{App, Text, HasKind, IsAmong, Row, fault_of, is_simple, is_simple_and_free, kind_of, subcommand_of}
 use Rattle.clap.specs.declared.Error.{Error}
-use Rattle.clap.specs.declared.error.ErrorKind.TheVariants.{OutOfMemory, ValueValidation}
+use Rattle.clap.specs.declared.error.ErrorKind.TheVariants.{OutOfMemory}
 use Rattle.clap.proofs.OnLiterals.{clap_on_literals}
 use Rattle.bw_args.specs.Commands.{command_line}
-use Rattle.bw_args.specs.Lines.{AsksFor, IsAsked, IsLineOf, IsWishOf, IsToldOf, Wish}
+use Rattle.bw_args.specs.Lines.{AsksFor, IsLineFor, IsLineOf, IsWishOf, IsToldOf, Wish, wish_of}
 use Rattle.bw_args.specs.declared.CommandLine.{CommandLine}
-use Rattle.bw_args.specs.declared.CommandLine.TheVariants.{Tell}
+use Rattle.bw_args.specs.declared.CommandLine.TheVariants.{Run, BadLimit, Tell}
 
 -- the contracts of `clap` are exact at this command line
 is_exact : is_simple_and_free command_line ≡ true
@@ -31,7 +31,7 @@ told_line a words error is kinds known =
       | inr among ↦ record {
         asks_nothing = λ wish asks. subst (IsAmong (kind_of error)) asks.taken among;
         not_memory = known;
-        reason = inl among;
+        reason = among;
       }
     ]
 
@@ -46,7 +46,7 @@ same_command a words command is found =
     found (ap is_simple is ∙ is_plain) ∙ ap (λ (b : App). subcommand_of b words) is
 
 -- words that `clap` takes, and that ask for something
-pub asked_line : (a : App) (words : List Text) (command : Option (Text × List Row)) (wish : Wish) → a ≡ command_line
+asked_line : (a : App) (words : List Text) (command : Option (Text × List Row)) (wish : Wish) → a ≡ command_line
     → (is_simple_and_free a ≡ true → fault_of a words ≡ [])
     → (is_simple a ≡ true → command ≡ subcommand_of a words)
     → IsWishOf command wish → AsksFor words wish
@@ -55,16 +55,17 @@ asked_line a words command wish is free found given = record {
   asked = subst (λ o. IsWishOf o wish) (same_command a words command is found) given;
 }
 
--- words that `clap` takes, with a value that is not of its form
-pub bad_value_line : (a : App) (words : List Text) (command : Option (Text × List Row)) (error : Error) → a ≡ command_line
+-- the line that words come to, which `clap` takes
+pub line_asked : (a : App) (words : List Text) (command : Option (Text × List Row)) (line : CommandLine) → a ≡ command_line
     → (is_simple_and_free a ≡ true → fault_of a words ≡ [])
     → (is_simple a ≡ true → command ≡ subcommand_of a words)
-    → IsAsked command None → kind_of error ≡ ValueValidation → IsToldOf words (kind_of error)
-bad_value_line a words command error is free found none kind = record {
+    → IsLineFor command line → IsLineOf words line
+line_asked a words command (Run task) is free found given = asked_line a words command (wish_of task) is free found given
+line_asked a words command BadLimit is free found none = record {
+  taken = no_fault a words is free;
   asks_nothing = λ wish asks. none wish (subst (λ o. IsWishOf o wish) (sym (same_command a words command is found)) asks.asked);
-  not_memory = λ memory. cc;
-  reason = inr (no_fault a words is free, kind);
 }
+line_asked a words command (Tell error) is free found given = absurd given
 
 -- the line that tells an error, where memory did not run out
 pub told_result : (result : Result CommandLine AllocError) (words : List Text) (error : Error)

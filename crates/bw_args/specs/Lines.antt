@@ -1,16 +1,16 @@
 -- What a command line asks for.
-use Rattle.std.specs.Prelude.{◌≡◌, ◌≢◌, ◌⊎◌, ⊤, ℕ, List, [], ◌∷◌, ◌++◌, Option, Some, None, codes, string_bytes}
+use Rattle.std.specs.Prelude.{◌≡◌, ◌≢◌, ⊤, ℕ, List, [], ◌∷◌, ◌++◌, Option, Some, None, codes, string_bytes}
 use Rattle.clap.specs.Walk.{Row, Text, first_of}
 use Rattle.clap.specs.Simple.{subcommand_of}
 use Rattle.clap.specs.Faults.{fault_of}
 use Rattle.clap.specs.Kinds.{IsAmong}
 use Rattle.clap.specs.Values.{kind_of}
 use Rattle.clap.specs.declared.error.ErrorKind.{ErrorKind}
-use Rattle.clap.specs.declared.error.ErrorKind.TheVariants.{DisplayHelp, DisplayVersion, MissingRequiredArgument, MissingSubcommand, OutOfMemory, UnknownArgument, ValueValidation}
+use Rattle.clap.specs.declared.error.ErrorKind.TheVariants.{DisplayHelp, DisplayVersion, MissingRequiredArgument, MissingSubcommand, OutOfMemory, UnknownArgument}
 use Rattle.bw_args.specs.Numbers.{IsLimit, IsLimitText, default_limit, number_in}
 use Rattle.bw_args.specs.Commands.{command_line}
 use Rattle.bw_args.specs.declared.CommandLine.{CommandLine}
-use Rattle.bw_args.specs.declared.CommandLine.TheVariants.{Run, Tell}
+use Rattle.bw_args.specs.declared.CommandLine.TheVariants.{Run, BadLimit, Tell}
 use Rattle.bw_args.specs.declared.Task.{Task}
 use Rattle.bw_args.specs.declared.Task.TheVariants.{Replay, Inspect}
 
@@ -47,27 +47,43 @@ abbrev pub IsAsked : Option (Text × List Row) → Option Task → Type 0
 IsAsked command (Some task) = IsWishOf command (wish_of task)
 IsAsked command None = (wish : Wish) → ¬ IsWishOf command wish
 
+-- they ask for a file, whose path is kept
+abbrev pub AsksForFile : Option (Text × List Row) → Type 0
+AsksForFile command = (path : Text) × IsWishOf command (Inspecting path)
+
+-- exactly the line that they come to
+abbrev pub IsLineFor : Option (Text × List Row) → CommandLine → Type 0
+IsLineFor command (Run task) = IsWishOf command (wish_of task)
+IsLineFor command BadLimit = (wish : Wish) → ¬ IsWishOf command wish
+IsLineFor command (Tell error) = ⊥
+
 -- `clap` takes the words, of which the first is the program's name, and they ask for this
 pub record AsksFor (words : List Text) (wish : Wish) : Type 0 where
   pub taken : fault_of command_line words ≡ []
   pub asked : IsWishOf (subcommand_of command_line words) wish
 
--- the words ask for nothing, by `clap`'s walk over them or by a value; want of memory is never told
+-- the words ask for nothing by `clap`'s walk over them; want of memory is never told
 pub record IsToldOf (words : List Text) (kind : ErrorKind) : Type 0 where
   pub asks_nothing : (wish : Wish) → ¬ AsksFor words wish
   pub not_memory : kind ≢ OutOfMemory
   pub reason : IsAmong kind (fault_of command_line words)
-      ⊎ ((fault_of command_line words ≡ []) × (kind ≡ ValueValidation))
+
+-- `clap` takes the words, and they ask for nothing by a value
+pub record HasBadLimit (words : List Text) : Type 0 where
+  pub taken : fault_of command_line words ≡ []
+  pub asks_nothing : (wish : Wish) → ¬ AsksFor words wish
 
 -- what the words come to
 abbrev pub IsLineOf : List Text → CommandLine → Type 0
 IsLineOf words (Run task) = AsksFor words (wish_of task)
+IsLineOf words BadLimit = HasBadLimit words
 IsLineOf words (Tell error) = IsToldOf words (kind_of error)
 
 -- where a task runs, its limit is one
 abbrev pub HasLimit : CommandLine → Type 0
 HasLimit (Run (Replay limit)) = IsLimit limit
 HasLimit (Run (Inspect file)) = ⊤
+HasLimit BadLimit = ⊤
 HasLimit (Tell error) = ⊤
 
 -- `replay`, `replay --limit N` and `replay --limit=N` run, whatever the program's name and the limit N
@@ -84,6 +100,7 @@ pub record RunsReplay (words : List Text) (line : CommandLine) : Type 0 where
 -- the line tells an error of this kind
 abbrev pub IsToldAs : ErrorKind → CommandLine → Type 0
 IsToldAs kind (Run task) = ⊥
+IsToldAs kind BadLimit = ⊥
 IsToldAs kind (Tell error) = kind_of error ≡ kind
 
 -- `--help` and `--version` are answered, and no command at all is a fault, whatever the program's name
@@ -97,6 +114,7 @@ pub record TellsHelp (words : List Text) (line : CommandLine) : Type 0 where
 abbrev pub Inspects : Text → CommandLine → Type 0
 Inspects path (Run (Inspect file)) = string_bytes file ≡ path
 Inspects path (Run (Replay limit)) = ⊥
+Inspects path BadLimit = ⊥
 Inspects path (Tell error) = ⊥
 
 -- a word that is no option: it doesn't begin with a hyphen

@@ -1,17 +1,13 @@
-//! The commands of the program, as `clap` sees them, and the task that each asks for.
-ghost use Rattle.std.specs.Prelude.{◌≡◌, false, codes, Some, IfOk};
+//! The commands of the program, as `clap` sees them, and what each comes to.
+ghost use Rattle.std.specs.Prelude.{◌≡◌, false, codes, Some, IfOk, OnErr};
 ghost use Rattle.clap.specs.Words.{app_of, first_value, found_of, rows_of, subcommand_rows_of};
 ghost use Rattle.clap.specs.declared.builder.Command.TheViews.{out-Command};
 ghost use Rattle.bw_args.specs.Commands.{command_line, inspect_command, replay_command};
-ghost use Rattle.bw_args.specs.Lines.{IsAsked, IsLimitGiven};
+ghost use Rattle.bw_args.specs.Lines.{AsksForFile, IsAsked, IsLimitGiven, IsLineFor};
 
-use crate::{Task, numbers};
+use crate::{CommandLine, Task, numbers};
 use clap::{Arg, ArgMatches, Command};
 use std::alloc::{AllocError, Global};
-
-/// What is said of a limit that is none.
-pub const BAD_LIMIT: &str =
-    "'--limit <N>' takes an even number from 8192 to 4294967294, in at most ten digits";
 
 /// The whole command line.
 pub fn bwingest<'a>(alloc: Global) -> Result<Command<'a>, AllocError>
@@ -51,9 +47,21 @@ fn inspect<'a>(alloc: Global) -> Result<Command<'a>, AllocError>
         .arg(file)
 }
 
+/// What parsed words come to. Only the path of a file takes memory, so that a bad limit is told whatever is left of it.
+pub fn line(alloc: Global, matches: &ArgMatches<'_>) -> Result<CommandLine, AllocError>
+    ensures ok { IfOk result (IsLineFor (subcommand_rows_of matches.now)) }
+    ensures err { OnErr result (AsksForFile (subcommand_rows_of matches.now)) }
+{
+    match task(alloc, matches)? {
+        Some(task) => Ok(CommandLine::Run(task)),
+        None => Ok(CommandLine::BadLimit),
+    }
+}
+
 /// The task that parsed words ask for; none where a value is not of its form.
-pub fn task(alloc: Global, matches: &ArgMatches<'_>) -> Result<Option<Task>, AllocError>
-    ensures { IfOk result (IsAsked (subcommand_rows_of matches.now)) }
+fn task(alloc: Global, matches: &ArgMatches<'_>) -> Result<Option<Task>, AllocError>
+    ensures ok { IfOk result (IsAsked (subcommand_rows_of matches.now)) }
+    ensures err { OnErr result (AsksForFile (subcommand_rows_of matches.now)) }
 {
     match matches.subcommand() {
         Some(("replay", options)) => Ok(replay_task(options)),
@@ -70,7 +78,9 @@ fn replay_task(options: &ArgMatches<'_>) -> Option<Task>
 }
 
 fn inspect_task(alloc: Global, options: &ArgMatches<'_>) -> Result<Option<Task>, AllocError>
-    ensures { IfOk result (IsAsked (Some (codes "inspect", rows_of (found_of options.now)))) }
+    ensures ok { IfOk result (IsAsked (Some (codes "inspect", rows_of (found_of options.now)))) }
+    ensures err { OnErr result
+        (AsksForFile (Some (codes "inspect", rows_of (found_of options.now)))) }
 {
     let Some(path) = options.get_str("file") else {
         return Ok(None);

@@ -28,10 +28,21 @@ pub enum Task {
 #[derive(Drop)]
 pub enum CommandLine {
     Run(Task),
-    /// Help, the version or a usage fault, and never want of memory. `Error::print` writes it to
-    /// standard output or standard error, and `Error::exit_code` is the status, 0 or 2.
+    /// A limit that is none, which is a usage fault: `BAD_LIMIT` is its text.
+    BadLimit,
+    /// Help, the version or another usage fault, and never want of memory. `Error::use_stderr` says
+    /// where its text goes, and `Error::exit_code` is the status, 0 or 2.
     Tell(Error),
 }
+
+/// What is said of a limit that is none.
+pub const BAD_LIMIT: &str = "\
+error: '--limit <N>' takes an even number from 8192 to 4294967294, in at most ten digits
+
+Usage: bwingest <COMMAND>
+
+For more information, try '--help'.
+";
 
 /// Reads a command line, of which the first word is the program's own name.
 ///
@@ -50,16 +61,9 @@ pub fn parse(alloc: Global, words: &[String]) -> Result<CommandLine, AllocError>
     ensures help { IfOk result (TellsHelp (map string_bytes words.now)) }
 {
     let mut command = commands::bwingest(alloc)?;
-    let matches = match command.try_get_matches_from_mut(words) {
-        Ok(matches) => matches,
-        Err(error) => return told(error),
-    };
-    match commands::task(alloc, &matches)? {
-        Some(task) => Ok(CommandLine::Run(task)),
-        None => {
-            let error = command.error(ErrorKind::ValueValidation, commands::BAD_LIMIT)?;
-            Ok(CommandLine::Tell(error))
-        }
+    match command.try_get_matches_from_mut(words) {
+        Ok(matches) => commands::line(alloc, &matches),
+        Err(error) => told(error),
     }
 }
 

@@ -7,8 +7,9 @@ use Rattle.clap.specs.Values.{kind_of}
 use Rattle.clap.specs.declared.error.ErrorKind.{ErrorKind as TextKind}
 use Rattle.clap.specs.declared.error.ErrorKind.TheVariants as texts
 use Rattle.bw_args.specs.Lines.{IsLineOf}
+use Rattle.bw_args.specs.declared.TheConstants.{BAD_LIMIT}
 use Rattle.bw_args.specs.declared.CommandLine.{CommandLine}
-use Rattle.bw_args.specs.declared.CommandLine.TheVariants.{Run, Tell}
+use Rattle.bw_args.specs.declared.CommandLine.TheVariants.{Run, BadLimit, Tell}
 use Rattle.bw_args.specs.declared.Task.TheVariants.{Replay, Inspect}
 use Rattle.bw_cli.specs.Deeds.{Deed, IsReplay}
 use Rattle.bw_cli.specs.Faults.{IsToldBy, exit_of}
@@ -76,6 +77,13 @@ pub record IsUsage (did : Deed) : Type 0 where
   pub text : List ℕ
   pub tells : IsOf text did.faults
 
+-- that a limit is none is told
+pub record IsBadLimit (did : Deed) : Type 0 where
+  pub exit_is : did.exit ≡ exits.Usage
+  pub reads : did.reads_all ≡ true
+  pub prints : did.out ≡ Nothing
+  pub tells : IsOf BAD_LIMIT.now did.faults
+
 -- a text of this kind is told where it belongs
 abbrev pub IsTelling : TextKind → Deed → Type 0
 IsTelling texts.DisplayHelp did = IsHelp did
@@ -104,6 +112,7 @@ abbrev pub IsDoneFor : (Text → Option (List ℕ)) → Option (List ℕ) → Bo
 IsDoneFor file_at input gives_all (Run (Replay limit)) did = IsReplay limit input did × (gives_all ≡ true)
 IsDoneFor file_at input gives_all (Run (Inspect file)) did =
     IsLook (file_at (string_bytes file)) (string_bytes file) gives_all did
+IsDoneFor file_at input gives_all BadLimit did = IsBadLimit did × (gives_all ≡ true)
 IsDoneFor file_at input gives_all (Tell error) did = IsTelling (kind_of error) did × (gives_all ≡ true)
 
 -- the words come to a command line, and this is done for it

@@ -14,7 +14,7 @@ use crate::inspection::inspect_run;
 use crate::print::{give_up, print, tell};
 use crate::replay::replay;
 use crate::system::System;
-use bw_args::{CommandLine, Task, parse};
+use bw_args::{BAD_LIMIT, CommandLine, Task, parse};
 use bw_layout::{Limit, Sink, Source};
 use clap::Error;
 use std::alloc::{AllocError, Global};
@@ -117,6 +117,10 @@ fn perform<S: System, R: Source, W: Sink, E: Sink>(
         },
         CommandLine::Run(Task::Inspect { file }) => {
             inspect_file(alloc, system, file.as_str(), out, faults)
+        }
+        CommandLine::BadLimit => {
+            tell(faults, BAD_LIMIT.as_bytes());
+            Exit::Usage
         }
         CommandLine::Tell(text) => show(alloc, text, out, faults),
     }

@@ -1,10 +1,13 @@
 use Rattle.std.proofs.Common.{Some, ap, ◌∙◌}
 use Rattle.clap.specs.Words.{found_of}
-use Rattle.bw_args.proofs.Asked.{file_asked, no_file_asked}
+use Rattle.bw_args.proofs.Asked.{file_asked, no_file_asked, on_err}
 use Rattle.bw_args.proofs.commands.inspect_task.Goals as goal
 
-pub returns-in_default : goal.returns-in_default
-returns-in_default c = no_file_asked (found_of c.args.options.now) c.in_default.ensures
+pub returns-in_default-clause-ok : goal.returns-in_default-clause-ok
+returns-in_default-clause-ok c = no_file_asked (found_of c.args.options.now) c.in_default.ensures
 
-pub returns : goal.returns
-returns c = file_asked (found_of c.args.options.now) _ (ap Some c.in_ok-file.ensures.ok ∙ c.in-Some.ensures)
+pub returns-clause-ok : goal.returns-clause-ok
+returns-clause-ok c = file_asked (found_of c.args.options.now) _ (ap Some c.in_ok-file.ensures.ok ∙ c.in-Some.ensures)
+
+pub returns-in_err-file-clause-err : goal.returns-in_err-file-clause-err
+returns-in_err-file-clause-err c = on_err c.from_residual.result (_, file_asked (found_of c.args.options.now) _ c.in-Some.ensures)

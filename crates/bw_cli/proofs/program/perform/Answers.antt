@@ -1,0 +1,18 @@
+use Rattle.std.proofs.Common.{true, refl}
+use Rattle.bw_cli.specs.Printing.{IsOf, Nothing}
+use Rattle.bw_cli.specs.declared.exit.Exit.TheVariants.{Usage}
+use Rattle.bw_args.specs.declared.TheConstants.{BAD_LIMIT}
+use Rattle.bw_cli.proofs.program.perform.Goals as goal
+
+pub returns-in-BadLimit : goal.returns-in-BadLimit
+returns-in-BadLimit g c =
+    let l = c.tell.ensures in
+    let told : IsOf BAD_LIMIT.now l.0 = rw c.as_bytes.ensures.value at l.1 in (
+      record { reads_all = true; out = Nothing; faults = l.0; exit = Usage },
+      refl,
+      true,
+      rw c.in-BadLimit.is (record { exit_is = refl; reads = refl; prints = refl; tells = told }, refl),
+      refl,
+      refl,
+      record { printed = refl; told = l.2 },
+    )
