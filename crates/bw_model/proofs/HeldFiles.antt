@@ -54,3 +54,6 @@ held_files limit store kept_of book h honest name quiet = stood (store.first nam
         store.contents name ≡ elim o [ Some bytes ↦ Some bytes | None ↦ file_of (take_in false book name) limit ]
     stood None e = known (is_known book name) refl e
     stood (Some bytes) e = h.others honest name (inl (ap is_some e)) ∙ e
+
+pub name_taken_known : NameTakenIsKnown
+name_taken_known stood name log kept n h below told = (h.told n below told, h.taken (h.told n below told))
