@@ -1,5 +1,5 @@
 -- What an inspection does, from what its steps do.
-use Rattle.std.proofs.Common.{◌≡◌, ◌∙◌, ◌⊎◌, ℕ, List, [], ◌++◌, Bool, true, false, not, Option, Some, Result, Ok, Err, inl, inr, refl, ap, subst, if◌then◌else◌}
+use Rattle.std.proofs.Common.{◌≡◌, ◌∙◌, ℕ, List, [], ◌++◌, Bool, true, false, not, Option, Some, Result, inl, inr, refl, ap, if◌then◌else◌}
 use Rattle.bw_layout.specs.Moves.{Keeps, Writes, one_more}
 use Rattle.bw_model.specs.Report.{report_text}
 use Rattle.bw_inspect.specs.Places.{Of}

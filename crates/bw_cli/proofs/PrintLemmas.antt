@@ -1,5 +1,5 @@
 -- What printing in steps leaves.
-use Rattle.std.proofs.Common.{◌≡◌, ◌⊎◌, ℕ, List, [], ◌++◌, Result, Ok, Err, OnOk, OnErr, inl, inr, refl, ◌∙◌, append-nil}
+use Rattle.std.proofs.Common.{◌≡◌, ℕ, List, [], Result, Ok, Err, OnOk, OnErr, inl, inr, refl, append-nil}
 use Rattle.bw_layout.specs.Moves.{Keeps, Writes, failures_after}
 use Rattle.bw_layout.specs.declared.sink.Sink.{Ghosts as Writer}
 use Rattle.bw_cli.specs.Printing.{HasPrinted, HasStopped, IsOf, IsPrint, Print, Whole, Part}

@@ -1,11 +1,10 @@
 -- What a replay reads and writes, and how it ends.
-use Rattle.std.specs.Prelude.{◌≡◌, ◌+◌, ◌≤◌, ℕ, Bool, Option, Some, List, drop, length, Result, Ok, Err}
+use Rattle.std.specs.Prelude.{◌≡◌, ◌+◌, ◌≤◌, ℕ, Option, Some, List, drop, length, Result, Ok, Err}
 use Rattle.bw_inspect.specs.Places.{Of}
-use Rattle.bw_cli.specs.Faults.{Refuses, IsToldBy, exit_of, is_read}
+use Rattle.bw_cli.specs.Faults.{Refuses}
 use Rattle.bw_cli.specs.Input.{Asked, asked_by, longest_input, TooLong, NotHex, NotInOrder, Exchanges}
 use Rattle.bw_cli.specs.Printing.{Print, Nothing, Whole, Part}
 use Rattle.bw_cli.specs.Text.{run_text}
-use Rattle.bw_cli.specs.declared.exit.Exit.{Exit}
 use Rattle.bw_cli.specs.declared.fault.Fault.{Fault}
 use Rattle.bw_cli.specs.declared.fault.Fault.TheVariants as faults
 

@@ -1,7 +1,5 @@
-use Rattle.std.proofs.Common.{arith, ◌≡◌, ◌∙◌, ◌+◌, ◌≤◌, ◌<◌, length, take}
+use Rattle.std.proofs.Common.{arith, ◌∙◌}
 use Rattle.std.proofs.lemmas.Grind.{common_steps}
-use Rattle.std.proofs.lemmas.List.{length-take}
-use Rattle.bw_cli.specs.Input.{longest_input}
 use Rattle.bw_cli.proofs.InputLemmas.{front-is-all, more-front, read-ahead}
 use Rattle.bw_cli.proofs.input.all_bytes.Goals as goal
 

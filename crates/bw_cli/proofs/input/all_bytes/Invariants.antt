@@ -1,4 +1,4 @@
-use Rattle.std.proofs.Common.{◌≡◌, ◌-◌, ◌+◌, ◌≤◌, List, ℕ, length, take, drop, Some}
+use Rattle.std.proofs.Common.{◌≡◌, ◌-◌, ◌+◌, ◌≤◌, length}
 use Rattle.bw_inspect.specs.Places.{Of}
 use Rattle.bw_cli.specs.Input.{longest_input}
 use Rattle.bw_cli.proofs.InputLemmas.{HasFront}

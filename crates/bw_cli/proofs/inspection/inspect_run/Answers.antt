@@ -1,4 +1,4 @@
-use Rattle.std.proofs.Common.{◌≡◌, ◌∙◌, Ok, Err, not, true, refl, sym, subst}
+use Rattle.std.proofs.Common.{◌≡◌, ◌∙◌, Ok, Err, not, true, refl, sym}
 use Rattle.bw_inspect.specs.Faults.{is_read as is_read_fault}
 use Rattle.bw_cli.specs.Faults.{exit_on}
 use Rattle.bw_cli.specs.Inspections.{exit_for, fault_line}

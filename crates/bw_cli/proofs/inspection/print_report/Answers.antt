@@ -1,7 +1,7 @@
-use Rattle.std.proofs.Common.{◌≡◌, ◌∙◌, refl, subst}
+use Rattle.std.proofs.Common.{◌≡◌, ◌∙◌, refl}
 use Rattle.bw_model.specs.Report.{report_text}
 use Rattle.bw_inspect.specs.Reports.{told_by}
-use Rattle.bw_cli.specs.Printing.{HasPrinted, HasStopped, Whole, Part}
+use Rattle.bw_cli.specs.Printing.{Whole, Part}
 use Rattle.bw_cli.proofs.InspectionLemmas.{text-made}
 use Rattle.bw_cli.proofs.inspection.print_report.Goals as goal
 

@@ -1,4 +1,4 @@
-use Rattle.std.proofs.Common.{◌≡◌, ◌∙◌, string_bytes}
+use Rattle.std.proofs.Common.{string_bytes}
 use Rattle.bw_cli.specs.Programs.{unopened_text}
 use Rattle.bw_cli.proofs.ProgramLemmas.{reasoned}
 use Rattle.bw_cli.proofs.program.unopened_line.Goals as goal
