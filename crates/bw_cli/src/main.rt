@@ -12,6 +12,8 @@ pub mod inspection;
 mod inspection_tests;
 mod print;
 pub mod program;
+#[cfg(test)]
+mod program_tests;
 mod recording;
 pub mod replay;
 mod run;

@@ -7,7 +7,7 @@ use Rattle.bw_model.specs.Take.{Take, Request, Closed, parts, judge, judge_open,
 use Rattle.bw_model.specs.File.{file_of}
 use Rattle.bw_model.specs.Book.{Log, Book, is_known, made}
 use Rattle.bw_model.specs.Exchange.{take_in}
-use Rattle.bw_model.specs.Holds.{Kept, HasFile, IsInTheMiddle, HeldBooksLeaveFiles}
+use Rattle.bw_model.specs.Holds.{Kept, HasFile, IsInTheMiddle, HeldBooksLeaveFiles, NameTakenIsKnown}
 use Rattle.bw_model.proofs.BookLemmas.{unknown_log}
 
 -- nothing is stored on a closed take
