@@ -1,2 +1,14 @@
 pub mod EntryReads
 pub mod Lengths
+pub mod ReplaySteps
+pub mod SealLaws
+pub mod HeaderReads
+pub mod SpeltLaws
+pub mod HeaderStands
+pub mod BareLaws
+pub mod TellLaws
+pub mod CutLaws
+pub mod Taken
+pub mod RecoveryLaws
+pub mod RepairLaws
+pub mod BetweenLaws

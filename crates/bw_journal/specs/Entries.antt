@@ -76,7 +76,7 @@ unfoldable pub entry_in : List ℕ → Option Entry
 entry_in bytes =
     if nat_lt (length bytes) 34 then None
     else made_of (verdict_of (slice_index bytes 0)) (take 32 (drop 1 bytes))
-        (request_in (drop 33 bytes))
+    (request_in (drop 33 bytes))
 
 -- the entry, and how many bytes it takes
 abbrev pub entry_of : List ℕ → Option (Entry × ℕ)

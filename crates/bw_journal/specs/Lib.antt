@@ -5,3 +5,8 @@ pub mod Notes
 pub mod Replays
 pub mod Refs
 pub mod HeaderRefs
+pub mod Faults
+pub mod Stories
+pub mod Noted
+pub mod Stops
+pub mod Recovery

@@ -1,7 +1,7 @@
 //! What a journal begins with.
-ghost use Rattle.std.specs.Prelude.{◌≡◌, ◌≤◌, ◌||◌, Bool, length, drop, option_map, is_some, IfSome};
-ghost use Rattle.bw_journal.specs.JournalHeaders.{header_bytes, header_content, header_in, first_header, is_torn_header, is_torn, flag_of};
-ghost use Rattle.bw_journal.specs.HeaderRefs.{header_said};
+ghost use Rattle.std.specs.Prelude.{◌≡◌, ◌≤◌, IfSome, length, option_map};
+ghost use Rattle.bw_journal.specs.JournalHeaders.{header_bytes, header_in, first_header as first_header_in, is_torn_header as is_torn_header_of, is_torn as is_torn_of};
+ghost use Rattle.bw_journal.specs.HeaderRefs.{header_said, header_found};
 
 use crate::seal::{check, opened};
 use bw_layout::{Limit, read_u32};
@@ -36,4 +36,54 @@ impl JournalHeader {
         bytes[11..].copy_from_slice(&check[..8]);
         bytes
     }
+}
+
+/// The header at the front of the bytes: its limit, and whether a file of the name stood.
+#[tactic(auto, unfolding(crate::specs::JournalHeaders::first_header))]
+pub(crate) fn first_header(bytes: &[u8]) -> Option<(u32, bool)>
+    ensures value { option_map header_found result ≡ first_header_in bytes.now }
+    ensures long { IfSome result (λ _. 19 ≤ length bytes.now) }
+{
+    let Some(content) = opened(bytes) else {
+        return None;
+    };
+    header_of(content)
+}
+
+/// The header with this content.
+#[tactic(auto, unfolding(crate::specs::JournalHeaders::header_in))]
+fn header_of(content: &[u8]) -> Option<(u32, bool)>
+    ensures value { option_map header_found result ≡ header_in content.now }
+    ensures long { IfSome result (λ _. length content.now ≡ 9) }
+{
+    if content.len() != 9 || content[..4] != MAGIC[..] {
+        return None;
+    }
+    let limit = read_u32(content, 4);
+    match content[8] {
+        0 => Some((limit, false)),
+        1 => Some((limit, true)),
+        _ => None,
+    }
+}
+
+/// Whether the bytes are the beginning of a header of this limit, and not all of it.
+pub(crate) fn is_torn_header(limit: Limit, bytes: &[u8]) -> bool
+    ensures { result ≡ is_torn_header_of limit bytes.now }
+{
+    is_torn(
+        bytes,
+        &JournalHeader {
+            limit,
+            stood: false,
+        }
+        .to_bytes(),
+    ) || is_torn(bytes, &JournalHeader { limit, stood: true }.to_bytes())
+}
+
+/// Whether the bytes begin the others, and are fewer.
+fn is_torn(bytes: &[u8], whole: &[u8]) -> bool
+    ensures { result ≡ is_torn_of bytes.now whole.now }
+{
+    bytes.len() < whole.len() && bytes == &whole[..bytes.len()]
 }

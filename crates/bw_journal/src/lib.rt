@@ -2,12 +2,17 @@
 #![tactic(auto)]
 
 mod entry;
+mod fault;
 mod header;
 mod journal;
+pub mod laws;
+mod reader;
 mod seal;
 mod writer;
 
 pub use entry::{EntryRef, first_entry};
+pub use fault::ReplayFault;
 pub use header::JournalHeader;
 pub use journal::{Journal, NoJournal};
+pub use reader::{Replayed, replay};
 pub use writer::put_entry;

@@ -25,10 +25,16 @@ pub fn put_entry(
 ) -> Result<(), AllocError>
     requires { IsTrue (is_request (meaning request.now)) }
     ensures entry { let e : Entry = record {
-        request = meaning request.now; verdict = verdict_of verdict; digest = digest.now } in
+      request = meaning request.now;
+      verdict = verdict_of verdict;
+      digest = digest.now;
+    } in
         Appends (entry_bytes e) (length (entry_bytes e)) result out.old out.new }
     ensures short { let e : Entry = record {
-        request = meaning request.now; verdict = verdict_of verdict; digest = digest.now } in
+      request = meaning request.now;
+      verdict = verdict_of verdict;
+      digest = digest.now;
+    } in
         length (entry_bytes e) ≤ longest_entry }
 {
     let len = 33 + noted_len(request);
@@ -43,17 +49,15 @@ pub fn put_entry(
 
 /// Appends an entry's content, for which there is room.
 #[tactic(auto, unfolding(crate::specs::Entries::content))]
-fn push_content(
-    out: &mut Vec<u8>,
-    verdict: Verdict,
-    digest: &[u8; 32],
-    request: &RequestRef<'_>,
-)
+fn push_content(out: &mut Vec<u8>, verdict: Verdict, digest: &[u8; 32], request: &RequestRef<'_>)
     requires fits { IsTrue (is_request (meaning request.now)) }
     requires room { vec_len out.old + 33 + length (noted_of (meaning request.now))
         ≤ vec_capacity out.old }
     ensures { let e : Entry = record {
-        request = meaning request.now; verdict = verdict_of verdict; digest = digest.now } in
+      request = meaning request.now;
+      verdict = verdict_of verdict;
+      digest = digest.now;
+    } in
         Gains (content_of e) (33 + length (noted_of (meaning request.now))) out.old out.new }
 {
     push(out, &[verdict.code()]);

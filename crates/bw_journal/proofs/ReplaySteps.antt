@@ -1,0 +1,61 @@
+-- A replay, entry by entry.
+use Rattle.std.proofs.Common.{◌≡◌, ℕ, suc, ◌+◌, Bool, true, false, cond, Option, Some, None, Ok, Err, List, [], length, drop, refl, sym, ap, ◌∙◌}
+use Rattle.bw_model.specs.Take.{Parts, new_take, parts}
+use Rattle.bw_journal.specs.Entries.{Entry, first_entry}
+use Rattle.std.proofs.lemmas.Bool.{eq-eqb}
+use Rattle.bw_model.specs.Bytes.{unless}
+use Rattle.bw_journal.specs.JournalHeaders.{Header, header_len, first_header}
+use Rattle.bw_journal.specs.Replays.{Story, Fault, OtherLimit, OtherVerdict, told, is_judged, replayed, replayed_entries, tail_fault, ended, replayed_behind, replay}
+
+-- nothing is told yet
+pub begins : (k used : ℕ) (stood : Bool) (bytes : List ℕ) (p : Parts) (table : List ℕ) → k ≡ length bytes →
+    used ≡ header_len → p ≡ parts (new_take stood) → table ≡ [] →
+    replayed k bytes (record { parts = p; table = table; used = used }) ≡ replayed_entries stood bytes
+unfolding replayed_entries
+begins k used stood bytes p table e front is empty =
+    ap (λ (n : ℕ). replayed n bytes (record { parts = p; table = table; used = used })) e
+    ∙ ap (λ (n : ℕ). replayed (length bytes) bytes (record { parts = p; table = table; used = n })) front
+    ∙ ap (λ (q : Parts). replayed (length bytes) bytes (record { parts = q; table = table; used = header_len })) is
+    ∙ ap (λ (t : List ℕ). replayed (length bytes) bytes
+    (record { parts = parts (new_take stood); table = t; used = header_len })) empty
+
+-- what is told by these parts and this table
+pub same_story : (m : ℕ) (bytes : List ℕ) (s : Story) (x : Entry × ℕ) (p : Parts) (table : List ℕ)
+    → p ≡ (told s x).parts → table ≡ (told s x).table
+    → replayed m bytes (record { parts = p; table = table; used = s.used + x.1 }) ≡ replayed m bytes (told s x)
+same_story m bytes s x p table is rows =
+    ap (λ (q : Parts). replayed m bytes (record { parts = q; table = table; used = s.used + x.1 })) is
+    ∙ ap (λ (t : List ℕ). replayed m bytes (record { parts = (told s x).parts; table = t; used = s.used + x.1 })) rows
+
+-- one more entry is told
+pub goes_on : (k m : ℕ) (bytes : List ℕ) (s : Story) (x : Entry × ℕ) → k ≡ suc m →
+    first_entry (drop s.used bytes) ≡ Some x → is_judged s.parts x.0 ≡ true
+    → replayed k bytes s ≡ replayed m bytes (told s x)
+goes_on k m bytes s x e found judged = ap (λ (n : ℕ). replayed n bytes s) e ∙ rw (found, replayed) (rw judged refl)
+
+-- the rest is torn
+pub stops : (k m : ℕ) (bytes : List ℕ) (s : Story) → k ≡ suc m → first_entry (drop s.used bytes) ≡ None →
+    replayed k bytes s ≡ Ok s
+stops k m bytes s e found = ap (λ (n : ℕ). replayed n bytes s) e ∙ rw (found, replayed) refl
+
+-- an entry isn't judged as it says
+pub differs : (k m : ℕ) (bytes : List ℕ) (s : Story) (x : Entry × ℕ) → k ≡ suc m →
+    first_entry (drop s.used bytes) ≡ Some x → is_judged s.parts x.0 ≡ false
+    → replayed k bytes s ≡ Err OtherVerdict
+differs k m bytes s x e found judged = ap (λ (n : ℕ). replayed n bytes s) e ∙ rw (found, replayed) (rw judged refl)
+
+-- all is told
+pub ends : (k : ℕ) (bytes : List ℕ) (s : Story) → k ≡ 0 → replayed k bytes s ≡ Ok s
+ends k bytes s e = ap (λ (n : ℕ). replayed n bytes s) e
+
+-- what follows the entries isn't a front of one
+pub refused_tail : (limit : ℕ) (bytes : List ℕ) (h : Header) (s : Story) (f : Fault) → Some h ≡ first_header bytes →
+    h.limit ≡ limit → replayed_entries h.stood bytes ≡ Ok s → tail_fault (drop s.used bytes) ≡ Some f →
+    replay limit bytes ≡ Err f
+unfolding replay
+refused_tail limit bytes h s f found is told wrong =
+    ap (replayed_behind limit bytes) (sym found)
+    ∙ ap (λ (v : Bool). cond v (ended bytes (replayed_entries h.stood bytes)) (Err OtherLimit))
+        (eq-eqb h.limit limit is)
+    ∙ ap (ended bytes) told
+    ∙ ap (λ (o : Option Fault). unless o s) wrong

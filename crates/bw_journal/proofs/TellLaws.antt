@@ -1,0 +1,246 @@
+-- A journal tells what the server kept.
+use Rattle.std.proofs.Common.{◌≡◌, ℕ, zero, suc, ◌+◌, ◌≤◌, Bool, true, false, cond, Option, Some, None, Ok, Err, List, [], ◌∷◌, ◌++◌, length, take, drop, refl, sym, ap, ◌∙◌, append_assoc, arith}
+use Rattle.std.specs.Prelude.{fold, nat_lt}
+use Rattle.std.specs.List.{list_all}
+use Rattle.std.proofs.lemmas.Bool.{and_parts, eq-eqb, le-ltb}
+use Rattle.std.proofs.lemmas.List.{drop_at, length-append, length-take-le, take-append-drop}
+use Rattle.std.proofs.lemmas.List.Sums.{fold-append}
+use Rattle.sha2.specs.Sha256.{sha256}
+use Rattle.sha2.proofs.Facts256.{length-sha256}
+use Rattle.bw_model.specs.Bytes.{at, unless}
+use Rattle.bw_model.specs.Take.{Take, Request, Verdict, new_take, parts, after, verdict}
+use Rattle.bw_model.specs.Wire.{is_request}
+use Rattle.bw_model.specs.Replies.{verdict_code}
+use Rattle.bw_model.specs.Book.{Log, made, step, verdict_at, verdict_by}
+use Rattle.bw_model.specs.Holds.{body_of, finished_from}
+use Rattle.bw_model.proofs.MapLemmas.{at-drop}
+use Rattle.bw_journal.specs.Entries.{Entry, entry_bytes, entries_bytes, first_entry, content}
+use Rattle.bw_journal.specs.Seals.{opened}
+use Rattle.bw_journal.specs.JournalHeaders.{Header, header_bytes, header_len, first_header}
+use Rattle.bw_journal.specs.Replays.{Story, Fault, OtherLimit, replayed, replay, replayed_behind, replayed_entries, ended, tail_fault, beginning}
+use Rattle.bw_journal.specs.Noted.{IsNotable, IsHeader, bare_entry, IsCut, IsWhole, fits, entries_from, packed, journal_of, story_of_log, JournalsTellLogs}
+use Rattle.bw_journal.proofs.ReplaySteps.{goes_on, stops}
+use Rattle.bw_journal.proofs.Lengths.{sealed-length, length-header_bytes}
+use Rattle.bw_journal.proofs.SealLaws.{content-length, opened-cut, entries_read_back, entries_are_short, cut_entries_are_none}
+use Rattle.bw_journal.proofs.HeaderReads.{headers_read_back}
+use Rattle.bw_journal.proofs.BareLaws.{parts_alike, entry_judged}
+
+-- the entries and the outcomes of requests, from a take and a number on
+abbrev entry_by : Take → List ℕ → ℕ → Request → Entry
+entry_by t name n r = record { request = r; verdict = verdict t r; digest = sha256 (body_of name n r) }
+
+abbrev entries_by : Take → List ℕ → ℕ → List (Option Request) → List Entry
+entries_by t name n [] = []
+entries_by t name n (None ∷ rest) = []
+entries_by t name n (Some r ∷ rest) = entry_by t name n r ∷ entries_by (after t r) name (suc n) rest
+
+abbrev finished_by : Take → List ℕ → ℕ → List (Option Request) → List (List ℕ × Verdict)
+finished_by t name n [] = []
+finished_by t name n (None ∷ rest) = []
+finished_by t name n (Some r ∷ rest) =
+    (sha256 (body_of name n r), verdict t r) ∷ finished_by (after t r) name (suc n) rest
+
+-- what is behind the first of a list's places
+at_place : {X : Type 0} (n : ℕ) (s : List X) (x : X) (more : List X) → drop n s ≡ x ∷ more →
+    (drop (suc n) s ≡ more) × (take (suc n) s ≡ take n s ++ x ∷ [])
+at_place zero [] x more e = absurd cc
+at_place (suc n) [] x more e = absurd cc
+at_place zero (y ∷ s) x more e = (cc, cc)
+at_place (suc n) (y ∷ s) x more e = let h = at_place n s x more e in (h.0, ap (λ (z : List _). y ∷ z) h.1)
+
+made_next : (stood : Bool) (s : List (Option Request)) (n : ℕ) (r : Request) →
+    take (suc n) s ≡ take n s ++ Some r ∷ [] → made stood s (suc n) ≡ after (made stood s n) r
+unfolding made
+made_next stood s n r e = ap (fold step (new_take stood)) e ∙ fold-append step (new_take stood) (take n s) (Some r ∷ [])
+
+verdict_here : (stood : Bool) (s : List (Option Request)) (n : ℕ) (r : Request) (more : List (Option Request)) →
+    drop n s ≡ Some r ∷ more → verdict_at stood s n ≡ verdict (made stood s n) r
+verdict_here stood s n r more e =
+    let there : at s n ≡ Some r = sym (at-drop n 0 n s (omega arith)) ∙ ap (λ (z : List (Option Request)). at z 0) e in
+    ap (verdict_by (made stood s n)) there
+
+entries_same : (stood : Bool) (s : List (Option Request)) (name : List ℕ) (n : ℕ) (rest more : List (Option Request)) →
+    drop n s ≡ rest ++ more
+    → entries_from stood s name n rest ≡ entries_by (made stood s n) name n rest
+entries_same stood s name n [] more e = refl
+entries_same stood s name n (None ∷ rest) more e = refl
+entries_same stood s name n (Some r ∷ rest) more e =
+    let h = at_place n s (Some r) (rest ++ more) e in
+    ap (λ (v : Verdict). record { request = r; verdict = v; digest = sha256 (body_of name n r) } ∷ entries_from stood s
+        name (suc n) rest) (verdict_here stood s n r (rest ++ more) e)
+    ∙ ap (λ (es : List Entry). entry_by (made stood s n) name n r ∷ es) (entries_same stood s name (suc n) rest more h.0
+        ∙ ap (λ (t : Take). entries_by t name (suc n) rest) (made_next stood s n r h.1))
+
+finished_same : (stood : Bool) (s : List (Option Request)) (name : List ℕ) (n : ℕ) (rest more : List (Option Request)) →
+    drop n s ≡ rest ++ more
+    → finished_from stood s name n rest ≡ finished_by (made stood s n) name n rest
+finished_same stood s name n [] more e = refl
+finished_same stood s name n (None ∷ rest) more e = refl
+finished_same stood s name n (Some r ∷ rest) more e =
+    let h = at_place n s (Some r) (rest ++ more) e in
+    ap (λ (v : Verdict). (sha256 (body_of name n r), v) ∷ finished_from stood s name (suc n) rest)
+        (verdict_here stood s n r (rest ++ more) e)
+    ∙ ap (λ (rows : List (List ℕ × Verdict)). (sha256 (body_of name n r), verdict (made stood s n) r) ∷ rows)
+    (finished_same stood s name (suc n) rest more h.0
+        ∙ ap (λ (t : Take). finished_by t name (suc n) rest) (made_next stood s n r h.1))
+
+notable : (t : Take) (name : List ℕ) (n : ℕ) (r : Request) → is_request r ≡ true → IsNotable (entry_by t name n r)
+notable t name n r h = (h, length-sha256 (body_of name n r))
+
+-- the story behind all of the requests
+abbrev story_by : Take → List ℕ → ℕ → List (Option Request) → List ℕ → List ℕ → Story
+story_by t name n rest front table = record {
+  parts = parts (fold step t rest);
+  table = table ++ packed (finished_by t name n rest);
+  used = length front + length (entries_bytes (entries_by t name n rest));
+}
+
+nothing_more : {X : Type 0} (xs : List X) → xs ++ [] ≡ xs
+nothing_more [] = refl
+nothing_more (x ∷ xs) = ap (λ (z : List _). x ∷ z) (nothing_more xs)
+
+-- entries, one after another, up to what is cut
+tells : (t : Take) (name : List ℕ) (n : ℕ) (rest : List (Option Request)) (front tail table : List ℕ) (steps : ℕ)
+    → list_all fits rest ≡ true → IsCut tail → length rest ≤ steps
+    → replayed steps (front ++ (entries_bytes (entries_by t name n rest) ++ tail))
+        (record { parts = parts t; table = table; used = length front })
+    ≡ Ok (story_by t name n rest front table)
+tells t name n [] front tail table steps h cut enough = stop steps ∙ ap Ok same
+  where
+    same : record { parts = parts t; table = table; used = length front } ≡ story_by t name n [] front table
+    same =
+        ap (λ (x : List ℕ). record { parts = parts t; table = x; used = length front }) (sym (nothing_more table))
+        ∙ ap (λ (k : ℕ). record { parts = parts t; table = table ++ []; used = k })
+            (let e : length front ≡ length front + 0 = omega arith in e)
+
+    stop : (k : ℕ) →
+        replayed k (front ++ tail) (record { parts = parts t; table = table; used = length front }) ≡ Ok
+        (record { parts = parts t; table = table; used = length front })
+    stop zero = refl
+    stop (suc k) =
+        stops (suc k) k (front ++ tail) (record { parts = parts t; table = table; used = length front }) refl
+        (ap first_entry (drop_at front tail (length front) refl) ∙ cut_entries_are_none tail cut)
+tells t name n (None ∷ rest) front tail table steps h cut enough = absurd cc
+tells t name n (Some r ∷ rest) front tail table zero h cut enough = absurd (omega arith)
+tells t name n (Some r ∷ rest) front tail table (suc k) h cut enough =
+    let e = entry_by t name n r in
+    let ok = and_parts (is_request r) (list_all fits rest) h in
+    let later = entries_bytes (entries_by (after t r) name (suc n) rest) in
+    let bytes = front ++ ((entry_bytes e ++ later) ++ tail) in
+    let s : Story = record { parts = parts t; table = table; used = length front } in
+    let found : first_entry (drop (length front) bytes) ≡ Some (bare_entry e, length (entry_bytes e)) =
+    ap first_entry (drop_at front ((entry_bytes e ++ later) ++ tail) (length front) refl
+        ∙ append_assoc (entry_bytes e) later tail)
+    ∙ entries_read_back e (later ++ tail) (notable t name n r ok.0) in
+    let moved : bytes ≡ (front ++ entry_bytes e) ++ (later ++ tail) =
+    ap (λ (x : List ℕ). front ++ x) (append_assoc (entry_bytes e) later tail)
+        ∙ sym (append_assoc front (entry_bytes e) (later ++ tail)) in
+    let row = sha256 (body_of name n r) ++ verdict_code (verdict t r) ∷ [] in
+    let further =
+        tells (after t r) name (suc n) rest (front ++ entry_bytes e) tail (table ++ row) k ok.1 cut (omega arith) in
+    goes_on (suc k) k bytes s (bare_entry e, length (entry_bytes e)) refl found
+        (entry_judged t r (sha256 (body_of name n r)))
+    ∙ ap (λ (p : _). replayed k bytes
+        (record { parts = p; table = table ++ row; used = length front + length (entry_bytes e) })) (parts_alike t r)
+    ∙ ap (λ (b : List ℕ). replayed k b
+        (record { parts = parts (after t r); table = table ++ row; used = length front + length (entry_bytes e) }))
+        moved
+    ∙ ap (λ (u : ℕ). replayed k ((front ++ entry_bytes e) ++ (later ++ tail))
+        (record { parts = parts (after t r); table = table ++ row; used = u }))
+        (sym (length-append front (entry_bytes e)))
+    ∙ further
+    ∙ ap (λ (x : List ℕ). Ok
+        (record { parts = parts (fold step (after t r) rest); table = x; used = length (front ++ entry_bytes e) + length
+        later }))
+    (append_assoc table row (packed (finished_by (after t r) name (suc n) rest)))
+    ∙ ap (λ (u : ℕ). Ok
+        (record { parts = parts (fold step (after t r) rest); table = table ++
+        (row ++ packed (finished_by (after t r) name (suc n) rest)); used = u }))
+    (ap (λ (u : ℕ). u + length later) (length-append front (entry_bytes e))
+        ∙ (let e' : length front + length (entry_bytes e) + length later ≡ length front +
+        (length (entry_bytes e) + length later) = omega arith in e')
+    ∙ ap (λ (u : ℕ). length front + u) (sym (length-append (entry_bytes e) later)))
+
+-- an entry has at least a byte
+many : (t : Take) (name : List ℕ) (n : ℕ) (rest : List (Option Request)) → list_all fits rest ≡ true →
+    length rest ≤ length (entries_bytes (entries_by t name n rest))
+many t name n [] h = omega arith
+many t name n (None ∷ rest) h = absurd cc
+many t name n (Some r ∷ rest) h =
+    let e = entry_by t name n r in
+    let ok = and_parts (is_request r) (list_all fits rest) h in
+    let more = many (after t r) name (suc n) rest ok.1 in
+    omega (arith, more, sealed-length (content e), length-append (entry_bytes e)
+        (entries_bytes (entries_by (after t r) name (suc n) rest)))
+
+-- behind the last entry stands a front of another, and nothing is wrong with it
+no_fault : (tail : List ℕ) → IsCut tail → tail_fault tail ≡ None
+unfolding tail_fault
+no_fault tail h =
+    let whole = length (entry_bytes h.entry) in
+    let most : whole ≤ 4150 = entries_are_short h.entry h.notable in
+    let cut = h.short in
+    let long : length tail ≡ h.count =
+    ap length h.front ∙ length-take-le h.count (entry_bytes h.entry) (omega (arith, cut)) in
+    let closed : opened tail ≡ None =
+    ap opened h.front ∙ opened-cut (content h.entry) h.count (content-length h.entry h.notable).1 h.short in
+    let test : nat_lt 4150 (length tail) ≡ false = le-ltb 4150 (length tail) (omega (arith, most, cut, long)) in
+    rw (closed, test) refl
+
+-- what the entries tell is told of the journal
+told_behind : (h : Header) (front es tail : List ℕ) (s : Story) → front ≡ header_bytes h → IsHeader h → IsCut tail →
+    s.used ≡ length (front ++ es) → replayed_entries h.stood ((front ++ es) ++ tail) ≡ Ok s →
+    replay h.limit ((front ++ es) ++ tail) ≡ Ok s
+unfolding replay
+told_behind h front es tail s is small cut used told =
+    let bytes = (front ++ es) ++ tail in
+    let found : first_header bytes ≡ Some h =
+    ap first_header (append_assoc front es tail ∙ ap (λ (x : List ℕ). x ++ (es ++ tail)) is)
+    ∙ headers_read_back h (es ++ tail) small in
+    let rest : drop s.used bytes ≡ tail = ap (λ (n : ℕ). drop n bytes) used ∙ drop_at (front ++ es) tail _ refl in
+    ap (replayed_behind h.limit bytes) found
+    ∙ ap (λ (v : Bool). cond v (ended bytes (replayed_entries h.stood bytes)) (Err OtherLimit))
+        (eq-eqb h.limit h.limit refl)
+    ∙ ap (ended bytes) told
+    ∙ ap (λ (o : Option Fault). unless o s) (ap tail_fault rest ∙ no_fault tail cut)
+
+entries_tell : (h : Header) (name : List ℕ) (log : Log) (tail : List ℕ) → IsWhole log → IsCut tail →
+    replayed_entries h.stood (journal_of h name log ++ tail) ≡ Ok (story_of_log h name log)
+unfolding replayed_entries made
+entries_tell h name log tail whole cut =
+    let stood = h.stood in
+    let s = log.admitted in
+    let rest = take log.done s in
+    let front = header_bytes h in
+    let front_long : length front ≡ header_len = length-header_bytes h in
+    let parted : drop 0 s ≡ rest ++ drop log.done s = sym (take-append-drop log.done s) in
+    let t = new_take stood in
+    let es = entries_bytes (entries_by t name 0 rest) in
+    let same : entries_from stood s name 0 rest ≡ entries_by t name 0 rest =
+    entries_same stood s name 0 rest (drop log.done s) parted in
+    let enough : length rest ≤ length ((front ++ es) ++ tail) =
+    omega (arith, many t name 0 rest whole.each, length-append (front ++ es) tail, length-append front es) in
+    ap (λ (x : List Entry). replayed (length ((front ++ entries_bytes x) ++ tail)) ((front ++ entries_bytes x) ++ tail)
+        (beginning stood)) same
+    ∙ ap (λ (u : ℕ). replayed (length ((front ++ es) ++ tail)) ((front ++ es) ++ tail)
+    (record { parts = parts t; table = []; used = u })) (sym front_long)
+    ∙ ap (λ (b : List ℕ). replayed (length ((front ++ es) ++ tail)) b
+    (record { parts = parts t; table = []; used = length front })) (append_assoc front es tail)
+    ∙ tells t name 0 rest front tail [] (length ((front ++ es) ++ tail)) whole.each cut enough
+    ∙ ap (λ (u : ℕ). Ok
+        (record { parts = parts (fold step t rest); table = packed (finished_by t name 0 rest); used = u }))
+    (sym (length-append front es))
+    ∙ ap (λ (x : List (List ℕ × Verdict)). Ok
+        (record { parts = parts (fold step t rest); table = packed x; used = length (front ++ es) }))
+    (sym (finished_same stood s name 0 rest (drop log.done s) parted))
+    ∙ ap (λ (x : List Entry). Ok (record {
+      parts = parts (fold step t rest);
+      table = packed (finished_from stood s name 0 rest);
+      used = length (front ++ entries_bytes x);
+    })) (sym same)
+
+pub journals_tell_logs : JournalsTellLogs
+journals_tell_logs h name log tail small whole cut =
+    told_behind h (header_bytes h)
+    (entries_bytes (entries_from h.stood log.admitted name 0 (take log.done log.admitted))) tail
+    (story_of_log h name log) refl small cut refl (entries_tell h name log tail whole cut)

@@ -1,0 +1,6 @@
+-- What the code knows behind a replay.
+use Rattle.bw_journal.specs.Replays.{Story}
+use Rattle.bw_journal.specs.declared.reader.Replayed.{Replayed}
+
+abbrev pub story_of : Replayed → Story
+story_of r = record { parts = r.state.parts; table = r.table.items; used = r.used }

@@ -1,0 +1,62 @@
+//! Why a journal tells nothing.
+ghost use Rattle.std.specs.Prelude.{◌≡◌, ◌≤◌, None};
+ghost use Rattle.bw_journal.specs.Faults.{code_of};
+
+use std::alloc::{AllocError, AllocFailed};
+use thiserror::Error;
+
+/// Why a journal tells nothing: the first that holds.
+#[derive(Clone, Copy, Debug, PartialEq, Eq, Hash, Error)]
+pub enum ReplayFault {
+    /// A beginning of its header is all that stands: the journal is to be begun again.
+    #[error("the journal's header is torn")]
+    NotBegun = 1,
+    /// No header stands at its front.
+    #[error("not a journal")]
+    NotAJournal = 2,
+    /// Its header has another limit than the server.
+    #[error("the journal has another limit")]
+    OtherLimit = 3,
+    /// An entry has another verdict than the request's judgement: other rules made it.
+    #[error("an entry isn't judged as it says")]
+    OtherVerdict = 4,
+    /// The bytes behind the last entry are whole, but none that this program writes.
+    #[error("an entry isn't known")]
+    NotAnEntry = 5,
+    /// More bytes follow the last entry than one can have: more was lost than one write.
+    #[error("what follows the last entry is longer than one")]
+    LongTail = 6,
+    /// Memory was refused.
+    #[error("out of memory")]
+    Memory = 7,
+}
+
+impl ReplayFault {
+    /// Its number.
+    pub fn code(self) -> u8
+        ensures value { result ≡ code_of self }
+        ensures range { result ≤ 7 }
+    {
+        self as u8
+    }
+}
+
+impl From<AllocError> for ReplayFault {
+    ghost use Rattle.bw_journal.specs.declared.fault.ReplayFault.TheVariants.{Memory};
+
+    ghost from_gives = { λ _ fault. fault ≡ Memory };
+
+    fn from(_: AllocError) -> ReplayFault {
+        ReplayFault::Memory
+    }
+}
+
+impl<T: Drop> From<AllocFailed<T>> for ReplayFault {
+    ghost use Rattle.bw_journal.specs.declared.fault.ReplayFault.TheVariants.{Memory};
+
+    ghost from_gives = { λ _ fault. fault ≡ Memory };
+
+    fn from(_: AllocFailed<T>) -> ReplayFault {
+        ReplayFault::Memory
+    }
+}

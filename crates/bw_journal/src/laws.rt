@@ -1,0 +1,42 @@
+//! Laws of journals. Each function's contract is one; nothing runs.
+ghost use Rattle.bw_journal.specs.Noted.{EntriesReadBack, ReadEntriesStand, CutEntriesAreNone, EntriesAreShort, HeadersReadBack, ReadHeadersStand, CutHeadersAreNotBegun, JournalsTellLogs};
+ghost use Rattle.bw_journal.specs.Stops.{BooksAreCut, CutBooksAreBooks};
+ghost use Rattle.bw_journal.specs.Recovery.{HeldFilesSurvive, FilesAreRepaired, RecoveryHolds, ClosedFilesAreWhole, NewFilesAreBetween};
+
+/// An entry is read again from its bytes, whatever follows; where one is read, its bytes stand; and
+/// none is read from a front of one.
+pub fn law_entries()
+    ensures back { EntriesReadBack }
+    ensures stand { ReadEntriesStand }
+    ensures cut { CutEntriesAreNone }
+    ensures short { EntriesAreShort }
+{}
+
+/// The same of headers: a front of one tells that the journal is to be begun.
+pub fn law_headers()
+    ensures back { HeadersReadBack }
+    ensures stand { ReadHeadersStand }
+    ensures cut { CutHeadersAreNotBegun }
+{}
+
+/// A journal whose last entry may have been cut tells what the server kept of the done numbers.
+pub fn law_journals()
+    ensures { JournalsTellLogs }
+{}
+
+/// A stop leaves the done numbers, and a book.
+pub fn law_books()
+    ensures cut { BooksAreCut }
+    ensures left { CutBooksAreBooks }
+{}
+
+/// At each moment a server's files are those of its done numbers, or between them and the next;
+/// behind their repair a server with what the journals tell holds the book that the stop left; and
+/// files of closed takes need no repair.
+pub fn law_recovery()
+    ensures survive { HeldFilesSurvive }
+    ensures repaired { FilesAreRepaired }
+    ensures holds { RecoveryHolds }
+    ensures closed { ClosedFilesAreWhole }
+    ensures again { NewFilesAreBetween }
+{}

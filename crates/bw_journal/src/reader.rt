@@ -1,0 +1,166 @@
+//! What a journal tells of a take and of its verdicts.
+ghost use Rattle.std.specs.Prelude.{◌≡◌, ◌+◌, ◌^◌, ◌≤◌, ◌++◌, ◌∷◌, [], None, Ok, IsTrue, IsNone, IfSome, IfOk, OnOk, IfErr, length, false};
+ghost use Rattle.bw_model.specs.Bytes.{zeros as zero_bytes};
+ghost use Rattle.bw_model.specs.Take.{new_take, parts as parts_of_take};
+ghost use Rattle.bw_model.specs.Replies.{verdict_code};
+ghost use Rattle.bw_model.specs.Wire.{is_request};
+ghost use Rattle.bw_take.specs.Requests.{meaning};
+ghost use Rattle.bw_take.specs.Verdicts.{verdict_of};
+ghost use Rattle.bw_journal.specs.Replays.{OtherVerdict as other_verdict, replay as replay_of, replayed_entries, tail_fault as tail_fault_of, is_judged, parts_after, Fault};
+ghost use Rattle.bw_journal.specs.Refs.{entry_said};
+ghost use Rattle.bw_journal.specs.Stories.{story_of};
+ghost use Rattle.bw_journal.specs.Faults.{IsFault, fault_of};
+
+use crate::entry::{EntryRef, first_entry};
+use crate::fault::ReplayFault;
+use crate::header::{JournalHeader, first_header, is_torn_header};
+use crate::seal::opened;
+use bw_layout::Limit;
+use bw_take::{TakeState, judge};
+use std::alloc::{AllocError, Global};
+
+/// An entry has at most so many bytes.
+const ENTRY_MAX: usize = 4150;
+
+/// What a journal tells of a take.
+#[derive(Drop)]
+pub struct Replayed {
+    /// The take without its data, and with whether a file of its name stood.
+    pub state: TakeState,
+    /// The digest and the verdict's code of each number, 33 bytes each.
+    pub table: Vec<u8>,
+    /// How many bytes of the journal are its header and whole entries.
+    pub used: usize,
+    /// How many bytes follow: a front of an entry, which is to be cut.
+    pub torn: usize,
+}
+
+/// What the journal of a name tells a server of this limit.
+///
+/// An entry that is torn at the end is passed over, and told by its length.
+///
+/// # Errors
+/// The first reason why it tells nothing; `Memory` where a growth was refused.
+#[tactic(auto, unfolding(crate::specs::Replays::replay))]
+pub fn replay(alloc: Global, limit: Limit, bytes: &[u8]) -> Result<Replayed, ReplayFault>
+    requires { length bytes.now ≤ 2 ^ 40 }
+    ensures ok { IfOk result (λ r. replay_of limit bytes.now ≡ Ok (story_of r)) }
+    ensures torn { IfOk result (λ r. r.used + r.torn ≡ length bytes.now) }
+    ensures err { IfErr result (λ e. IsFault e (replay_of limit bytes.now)) }
+{
+    let Some((found, stood)) = first_header(bytes) else {
+        return Err(if is_torn_header(limit, bytes) {
+            ReplayFault::NotBegun
+        } else {
+            ReplayFault::NotAJournal
+        });
+    };
+    if u64::from(found) != limit.bytes() {
+        return Err(ReplayFault::OtherLimit);
+    }
+    let replayed = replay_entries(alloc, stood, bytes)?;
+    match tail_fault(&bytes[replayed.used..]) {
+        Some(fault) => Err(fault),
+        None => Ok(replayed),
+    }
+}
+
+/// What is wrong with the bytes behind the last entry, if they aren't a torn entry.
+#[tactic(auto, unfolding(crate::specs::Replays::tail_fault))]
+fn tail_fault(tail: &[u8]) -> Option<ReplayFault>
+    ensures none { IsNone result → tail_fault_of tail.now ≡ None }
+    ensures some { IfSome result (λ e. fault_of e ≡ tail_fault_of tail.now) }
+{
+    if opened(tail).is_some() {
+        Some(ReplayFault::NotAnEntry)
+    } else if tail.len() > ENTRY_MAX {
+        Some(ReplayFault::LongTail)
+    } else {
+        None
+    }
+}
+
+/// What the entries behind a header tell, up to the first that is torn.
+fn replay_entries(alloc: Global, stood: bool, bytes: &[u8]) -> Result<Replayed, ReplayFault>
+    requires header { 19 ≤ length bytes.now }
+    requires few { length bytes.now ≤ 2 ^ 40 }
+    ensures ok { IfOk result (λ r. replayed_entries stood bytes.now ≡ Ok (story_of r)) }
+    ensures torn { IfOk result (λ r. r.used + r.torn ≡ length bytes.now) }
+    ensures err { IfErr result (λ e. IsFault e (replayed_entries stood bytes.now)) }
+{
+    let zeros = make_zeros(alloc)?;
+    let mut state = unopened(alloc, stood);
+    let mut table = Vec::new(alloc);
+    let mut used = JournalHeader::LEN;
+    for _step in 0..bytes.len() {
+        let Some((entry, len)) = first_entry(&bytes[used..], zeros.as_slice()) else {
+            let torn = bytes.len() - used;
+            return Ok(Replayed {
+                state,
+                table,
+                used,
+                torn,
+            });
+        };
+        if let Err(fault) = apply(&mut state, &mut table, &entry) {
+            return Err(fault);
+        }
+        used += len;
+    }
+    let torn = bytes.len() - used;
+    Ok(Replayed {
+        state,
+        table,
+        used,
+        torn,
+    })
+}
+
+/// As many zeros as a block has bytes at most.
+fn make_zeros(alloc: Global) -> Result<Vec<u8>, AllocError>
+    ensures { IfOk result (λ v. v.items ≡ zero_bytes 32768) }
+{
+    let zeros = vec![in alloc; 0u8; 32_768]?;
+    Ok(zeros)
+}
+
+/// A take before any request.
+fn unopened(alloc: Global, stood: bool) -> TakeState
+    ensures { result.parts ≡ parts_of_take (new_take stood) }
+{
+    let mut state = TakeState::new(alloc);
+    if stood {
+        state.set_taken();
+    }
+    state
+}
+
+/// Adds an entry to what is known.
+fn apply(
+    state: &mut TakeState,
+    table: &mut Vec<u8>,
+    entry: &EntryRef<'_>,
+) -> Result<(), ReplayFault>
+    requires fits { IsTrue (is_request (meaning entry.now.request)) }
+    requires samples { state.old.parts.samples_len + 32768 ≤ 2 ^ 62 }
+    ensures judged { OnOk result (IsTrue (is_judged state.old.parts (entry_said entry.now))) }
+    ensures parts { OnOk result (state.new.parts ≡ parts_after state.old.parts
+        (verdict_of entry.now.verdict) (meaning entry.now.request)) }
+    ensures table { OnOk result (table.new.items ≡ table.old.items
+        ++ (entry.now.digest.now ++ verdict_code (verdict_of entry.now.verdict) ∷ [])) }
+    ensures samples { OnOk result
+        (state.new.parts.samples_len ≤ state.old.parts.samples_len + 32768) }
+    ensures err { IfErr result (λ e. (f : Fault) → fault_of e ≡ Some f →
+        (f ≡ other_verdict) × (is_judged state.old.parts (entry_said entry.now) ≡ false)) }
+{
+    if judge(state, &entry.request).code() != entry.verdict.code() {
+        return Err(ReplayFault::OtherVerdict);
+    }
+    table.extend_from_slice(entry.digest)?;
+    table.push(entry.verdict.code())?;
+    if entry.verdict.is_stored() {
+        state.reserve_for(1)?;
+        state.commit(&entry.request);
+    }
+    Ok(())
+}
