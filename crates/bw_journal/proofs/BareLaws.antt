@@ -24,9 +24,16 @@ judged_alike p r = ap (λ (v : Verdict). if p.closed then Closed else v) (judged
 
 stored_alike : (t : Take) (r : Request) → parts_with (parts t) (bare r) ≡ parts (with_request t r)
 stored_alike t (Block bytes) =
-    ap (λ (n : ℕ). record
-        { format = t.format; fields = t.fields; history = t.history; samples_len = n; markers = t.markers; taken =
-        t.taken; closed = t.closed })
+    ap (λ (n : ℕ). record {
+      format = t.format;
+      fields = t.fields;
+      history = t.history;
+      samples_len = n;
+      markers = t.markers;
+      taken =
+          t.taken;
+      closed = t.closed;
+    })
     (ap (λ (n : ℕ). length t.samples + n) (zeros-length (length bytes)) ∙ sym (length-append t.samples bytes))
 stored_alike t (Open f history) = refl
 stored_alike t (Mark id frame) = refl

@@ -56,8 +56,8 @@ block_between t f limit bytes fields still =
     let p' = pad (length (s ++ bytes)) in
     let old = open_file (of_format t f) f limit fields still in
     let new =
-        open_file (with_request (of_format t f) (Block bytes)) f limit fields still
-        ∙ ap (λ (z : List ℕ). hd' ++ z) (append_assoc s bytes p') in
+    open_file (with_request (of_format t f) (Block bytes)) f limit fields still
+    ∙ ap (λ (z : List ℕ). hd' ++ z) (append_assoc s bytes p') in
     let h : length hd ≡ place = length-header f t.fields t.history (length s) 0 limit fields in
     let h' : length hd' ≡ place = length-header f t.fields t.history (length (s ++ bytes)) 0 limit fields in
     let old_len = ap length old ∙ length-three hd s p in
@@ -65,14 +65,14 @@ block_between t f limit bytes fields still =
     let a : length p ≡ length s % 2 = zeros-length (length s % 2) in
     let b : length p' ≡ length (s ++ bytes) % 2 = zeros-length (length (s ++ bytes) % 2) in
     kept_same _ _ hd hd' s p (bytes ++ p') place (place + length s) old new h h' refl
-        (omega (arith, old_len, new_len, a, b, h, h', length-append s bytes, length-append bytes p'))
+    (omega (arith, old_len, new_len, a, b, h, h', length-append s bytes, length-append bytes p'))
 
 mark_between : (t : Take) (f : Format) (limit id frame : ℕ) → AreFields t.fields → t.closed ≡ false
     → IsBetween (of_format t f) limit (Mark id frame) (file_of (with_request (of_format t f) (Mark id frame)) limit)
 mark_between t f limit id frame fields still =
     let same =
-        open_file (with_request (of_format t f) (Mark id frame)) f limit fields still
-        ∙ sym (open_file (of_format t f) f limit fields still) in
+    open_file (with_request (of_format t f) (Mark id frame)) f limit fields still
+    ∙ sym (open_file (of_format t f) f limit fields still) in
     let len = ap length same in
     record {
       no_shorter = omega (arith, len);
@@ -83,7 +83,7 @@ mark_between t f limit id frame fields still =
 field_between : (t : Take) (f : Format) (limit tag : ℕ) (value : List ℕ) → AreFields t.fields →
     AreFields (with_field t.fields tag value) → t.closed ≡ false
     → IsBetween (of_format t f) limit (SetField tag value)
-        (file_of (with_request (of_format t f) (SetField tag value)) limit)
+    (file_of (with_request (of_format t f) (SetField tag value)) limit)
 field_between t f limit tag value fields set still =
     let s = t.samples in
     let place = data_place (length t.history) in
@@ -93,14 +93,14 @@ field_between t f limit tag value fields set still =
     let whole : s ++ p ≡ (s ++ p) ++ [] = sym (nothing_more (s ++ p)) in
     let old = open_file (of_format t f) f limit fields still ∙ ap (λ (z : List ℕ). hd ++ z) whole in
     let new =
-        open_file (with_request (of_format t f) (SetField tag value)) f limit set still
-        ∙ ap (λ (z : List ℕ). hd' ++ z) whole in
+    open_file (with_request (of_format t f) (SetField tag value)) f limit set still
+    ∙ ap (λ (z : List ℕ). hd' ++ z) whole in
     let h : length hd ≡ place = length-header f t.fields t.history (length s) 0 limit fields in
     let h' : length hd' ≡ place = length-header f (with_field t.fields tag value) t.history (length s) 0 limit set in
     let old_len = ap length old ∙ length-three hd (s ++ p) [] in
     let new_len = ap length new ∙ length-three hd' (s ++ p) [] in
     kept_same _ _ hd hd' (s ++ p) [] [] place _ old new h h' (omega (arith, old_len, h))
-        (omega (arith, old_len, new_len, h, h'))
+    (omega (arith, old_len, new_len, h, h'))
 
 close_between : (t : Take) (f : Format) (limit total : ℕ) → AreFields t.fields → t.closed ≡ false
     → IsBetween (of_format t f) limit (Close total) (file_of (with_request (of_format t f) (Close total)) limit)
@@ -112,7 +112,7 @@ close_between t f limit total fields still =
     let p = pad (length s) in
     let cue = flat_map chunk (cue_chunks t.markers) in
     let old =
-        open_file (of_format t f) f limit fields still ∙ ap (λ (z : List ℕ). hd ++ z) (sym (nothing_more (s ++ p))) in
+    open_file (of_format t f) f limit fields still ∙ ap (λ (z : List ℕ). hd ++ z) (sym (nothing_more (s ++ p))) in
     let new =
     header_of_file f (with_request (of_format t f) (Close total)) limit fields
     ∙ ap (λ (z : List ℕ). z ++ cue) (append_assoc hd' s p)
@@ -122,12 +122,12 @@ close_between t f limit total fields still =
     let old_len = ap length old ∙ length-three hd (s ++ p) [] in
     let new_len = ap length new ∙ length-three hd' (s ++ p) cue in
     kept_same _ _ hd hd' (s ++ p) [] cue place _ old new h h' (omega (arith, old_len, h))
-        (omega (arith, old_len, new_len, h, h'))
+    (omega (arith, old_len, new_len, h, h'))
 
 -- an OPEN on a take without a file
 open_between : (t : Take) (limit : ℕ) (f : Format) (history : List ℕ)
     → IsBetween (record t { format = None }) limit (Open f history)
-        (file_of (with_request (record t { format = None }) (Open f history)) limit)
+    (file_of (with_request (record t { format = None }) (Open f history)) limit)
 open_between t limit f history = omega arith
 
 abbrev Between : Take → ℕ → Request → Option Format → Type 0
@@ -173,7 +173,7 @@ new_files_are_between t limit r fields stored = go r stored (stored_open (parts 
             no e = cc
         by_format (Some f) e = subst (Between t limit (SetField tag value)) (sym e)
             (field_between t f limit tag value fields
-                (fields-with t.fields tag value fields (set_without_fault (parts t) tag value stored)) ready.0)
+            (fields-with t.fields tag value fields (set_without_fault (parts t) tag value stored)) ready.0)
     go (Close total) stored ready = by_format t.format refl
       where
         by_format : (o : Option Format) → t.format ≡ o → Between t limit (Close total) t.format

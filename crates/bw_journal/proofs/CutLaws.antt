@@ -100,12 +100,12 @@ logs_cut (entry ∷ book) name = go (nat_lt 0 entry.1.done) refl (bytes_eq entry
     go : (d : Bool) → nat_lt 0 entry.1.done ≡ d → (v : Bool) → bytes_eq entry.0 name ≡ v →
         log_of (cut_book book) name ≡ cut_log (log_of book name)
         → log_of (cond d ((entry.0, cut_log entry.1) ∷ cut_book book) (without entry.0 (cut_book book))) name ≡ cut_log
-            (cond (bytes_eq entry.0 name) entry.1 (log_of book name))
+        (cond (bytes_eq entry.0 name) entry.1 (log_of book name))
     go true some v same ih = pick v same ih
       where
         pick : (v : Bool) → bytes_eq entry.0 name ≡ v → log_of (cut_book book) name ≡ cut_log (log_of book name)
             → cond (bytes_eq entry.0 name) (cut_log entry.1) (log_of (cut_book book) name) ≡ cut_log
-                (cond (bytes_eq entry.0 name) entry.1 (log_of book name))
+            (cond (bytes_eq entry.0 name) entry.1 (log_of book name))
         pick true same ih = rw same refl
         pick false same ih = rw same ih
     go false some true same ih = log-without_same (cut_book book) entry.0 name same ∙ sym (nothing_done entry.1 some)
@@ -119,7 +119,7 @@ knows_cut (entry ∷ book) name = go (nat_lt 0 entry.1.done) refl (bytes_eq entr
     go : (d : Bool) → nat_lt 0 entry.1.done ≡ d → (v : Bool) → bytes_eq entry.0 name ≡ v →
         is_known (cut_book book) name ≡ nat_lt 0 (log_of book name).done
         → is_known (cond d ((entry.0, cut_log entry.1) ∷ cut_book book) (without entry.0 (cut_book book))) name ≡ nat_lt
-            0 (cond (bytes_eq entry.0 name) entry.1 (log_of book name)).done
+        0 (cond (bytes_eq entry.0 name) entry.1 (log_of book name)).done
     go true some true same ih = rw same (sym some)
     go true some false same ih = rw same ih
     go false some true same ih = known-without_same (cut_book book) entry.0 name same ∙ rw same (sym some)

@@ -32,8 +32,8 @@ pub block_reads : (p z : List ℕ) (n : ℕ) → length p ≡ 4 → n ≡ u32_at
     Some (Block (take n z)) ≡ block_noted p
 block_reads p z n len is low high e =
     let tests =
-        and_from (length p == 4) (is_within 1 32768 (u32_at p 0)) (eq-eqb _ _ len)
-        (subst (λ (k : ℕ). is_within 1 32768 k ≡ true) is (within n low high)) in
+    and_from (length p == 4) (is_within 1 32768 (u32_at p 0)) (eq-eqb _ _ len)
+    (subst (λ (k : ℕ). is_within 1 32768 k ≡ true) is (within n low high)) in
     ap (λ (x : List ℕ). Some (Block x)) (some_zeros n z high e)
     ∙ ap (λ (k : ℕ). Some (Block (zeros k))) is
     ∙ sym (ap (λ (b : Bool). cond b (Some (Block (zeros (u32_at p 0)))) None) tests)
@@ -42,7 +42,7 @@ pub block_fits : (z : List ℕ) (n : ℕ) → 1 ≤ n → n ≤ 32768 → z ≡ 
 block_fits z n low high e =
     subst (λ (x : List ℕ). is_request (Block x) ≡ true) (sym (some_zeros n z high e))
     (and_from (is_within 1 32768 (length (zeros n))) (are_bytes (zeros n))
-        (subst (λ (k : ℕ). is_within 1 32768 k ≡ true) (sym (zeros-length n)) (within n low high)) (zeros-are_bytes n))
+    (subst (λ (k : ℕ). is_within 1 32768 k ≡ true) (sym (zeros-length n)) (within n low high)) (zeros-are_bytes n))
 
 pub entry_reads : (bytes : List ℕ) (v : Verdict) (r : Request) → 34 ≤ length bytes →
     verdict_of (slice_index bytes 0) ≡ Some v → Some r ≡ request_in (take (length bytes - 33) (drop 33 bytes))
@@ -52,7 +52,7 @@ entry_reads bytes v r long code request =
     let test : nat_lt (length bytes) 34 ≡ false = le-ltb (length bytes) 34 long in
     sym (
     ap (λ (b : Bool). cond b None
-        (made_of (verdict_of (slice_index bytes 0)) (take 32 (drop 1 bytes)) (request_in (drop 33 bytes)))) test
+    (made_of (verdict_of (slice_index bytes 0)) (take 32 (drop 1 bytes)) (request_in (drop 33 bytes)))) test
     ∙ ap (λ (o : Option Verdict). made_of o (take 32 (drop 1 bytes)) (request_in (drop 33 bytes))) code
     ∙ ap (made_of (Some v) (take 32 (drop 1 bytes))) (ap request_in (sym (take_rest bytes 33)) ∙ sym request)
     )
@@ -60,16 +60,16 @@ entry_reads bytes v r long code request =
 pub opened_reads : (bytes : List ℕ) (n a b : ℕ) → n ≡ u16_at bytes 0 → 2 ≤ length bytes → 10 + n ≤ length bytes →
     a ≡ n → b ≡ 8
     → bytes_eq (take b (drop (2 + n) bytes)) (check (take a (drop 2 bytes))) ≡ true →
-        Some (take a (drop 2 bytes)) ≡ opened bytes
+    Some (take a (drop 2 bytes)) ≡ opened bytes
 unfolding opened
 opened_reads bytes n a b is long whole ea eb good =
     let m = u16_at bytes 0 in
     let first : nat_lt (length bytes) 2 ≡ false = le-ltb (length bytes) 2 long in
     let second : nat_lt (length bytes) (10 + u16_at bytes 0) ≡ false =
-        le-ltb (length bytes) (10 + u16_at bytes 0) (omega arith) in
+    le-ltb (length bytes) (10 + u16_at bytes 0) (omega arith) in
     let ea' : a ≡ u16_at bytes 0 = omega arith in
     let found : bytes_eq (take 8 (drop (2 + u16_at bytes 0) bytes)) (check (take (u16_at bytes 0) (drop 2 bytes))) ≡
-        true =
+    true =
     subst (λ (k : ℕ). bytes_eq (take 8 (drop (2 + k) bytes)) (check (take (u16_at bytes 0) (drop 2 bytes))) ≡ true) is
     (subst (λ (k : ℕ). bytes_eq (take 8 (drop (2 + n) bytes)) (check (take k (drop 2 bytes))) ≡ true) ea'
     (subst (λ (k : ℕ). bytes_eq (take k (drop (2 + n) bytes)) (check (take a (drop 2 bytes))) ≡ true) eb good)) in
@@ -83,7 +83,7 @@ entry_missing bytes v long code request =
     let test : nat_lt (length bytes) 34 ≡ false = le-ltb (length bytes) 34 long in
     sym (
     ap (λ (b : Bool). cond b None
-        (made_of (verdict_of (slice_index bytes 0)) (take 32 (drop 1 bytes)) (request_in (drop 33 bytes)))) test
+    (made_of (verdict_of (slice_index bytes 0)) (take 32 (drop 1 bytes)) (request_in (drop 33 bytes)))) test
     ∙ ap (λ (o : Option Verdict). made_of o (take 32 (drop 1 bytes)) (request_in (drop 33 bytes))) code
     ∙ ap (made_of (Some v) (take 32 (drop 1 bytes))) (ap request_in (sym (take_rest bytes 33)) ∙ sym request)
     )
@@ -99,12 +99,12 @@ pub decoded_fits : (bytes : List ℕ) (r : Request) → are_bytes bytes ≡ true
 decoded_fits [] r fits e = absurd cc
 decoded_fits (k ∷ p) r fits e =
     let parts =
-        unless_ok (first_that_holds ((not (is_within 1 5 k), Kind) ∷ (not (is_payload k p), Payload) ∷ []))
-        (request_of k p) r e in
+    unless_ok (first_that_holds ((not (is_within 1 5 k), Kind) ∷ (not (is_payload k p), Payload) ∷ []))
+    (request_of k p) r e in
     let tests = two_pass (not (is_within 1 5 k)) (not (is_payload k p)) parts.0 in
     let low = and_parts (nat_le 1 k) (nat_le k 5) (not-false _ tests.0) in
     let small : k ≤ 5 = leb-true k 5 low.1 in
     let whole =
-        payload_from_test k p (and_parts (is_below 256 k) (are_bytes p) fits).1 (not-false _ tests.1)
-        (λ six. omega (arith, six)) in
+    payload_from_test k p (and_parts (is_below 256 k) (are_bytes p) fits).1 (not-false _ tests.1)
+    (λ six. omega (arith, six)) in
     subst (λ (x : Request). is_request x ≡ true) parts.1 whole.fits

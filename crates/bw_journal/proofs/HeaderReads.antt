@@ -61,7 +61,7 @@ cut_headers_are_not_begun h count small short =
     let long : length (header_bytes h) ≡ header_len = length-header_bytes h in
     let none : first_header bytes ≡ None =
     ap (option_and_then header_in) (opened-cut (header_content h) count (content_short h) (omega (arith, long, short)))
-        in
+    in
     ap (replayed_behind h.limit bytes) none
     ∙ ap (λ (v : Bool). cond v (Err NotBegun) (Err NotAJournal))
     (torn_header h.limit h.stood bytes (front_torn (header_bytes h) count (omega (arith, long, short))))

@@ -58,7 +58,7 @@ content_stands c h fits e = go ((length c == 9) && bytes_eq (take 4 c) magic) re
         let left : length (drop 4 c) ≡ length c - 4 = length-drop 4 c in
         let number : le32 (u32_at c 4) ++ drop 4 (drop 4 c) ≡ drop 4 c =
         (written-number_at w32 (2 ^ 32) wide32 (drop 4 c) 0 (are_bytes-parts 4 c fits).1 (omega (arith, nine, left))).0
-            in (
+        in (
           nine,
           ap (λ (n : ℕ). magic ++ (le32 n ++ flag h.stood ∷ [])) w.0
               ∙ ap (λ (b : ℕ). magic ++ (le32 (u32_at c 4) ++ b ∷ [])) (flag_stands _ _ w.1)

@@ -12,3 +12,4 @@ pub mod Taken
 pub mod RecoveryLaws
 pub mod RepairLaws
 pub mod BetweenLaws
+pub mod Starts

@@ -41,7 +41,7 @@ held_files_survive limit store kept_of book holds honest name none = go (known_o
   where
     go : (is_known book name ≡ true) ⊎ (is_known book name ≡ false) →
         IsOnTheWay (made false (log_of book name).admitted (log_of book name).done) limit
-            (at (log_of book name).admitted (log_of book name).done) (store.contents name)
+        (at (log_of book name).admitted (log_of book name).done) (store.contents name)
     go (inl known) =
         let kept = some_kept (kept_of name) (sym (holds.names name) ∙ known) in
         middle kept.0.dirty _ _ (holds.files honest name kept.0 kept.1 none).whole
@@ -68,9 +68,9 @@ finished-cut stood s name d n [] h = refl
 finished-cut stood s name d n (None ∷ rest) h = refl
 finished-cut stood s name d n (Some r ∷ rest) h =
     ap (λ (v : Verdict). (sha256 (body_of name n r), v) ∷ finished_from stood s name (suc n) rest)
-        (sym (verdict-cut stood s d n (omega arith)))
+    (sym (verdict-cut stood s d n (omega arith)))
     ∙ ap (λ (rows : List (List ℕ × Verdict)). (sha256 (body_of name n r), verdict_at stood (take d s) n) ∷ rows)
-        (finished-cut stood s name d (suc n) rest (omega arith))
+    (finished-cut stood s name d (suc n) rest (omega arith))
 
 at-past : {X : Type 0} (d i : ℕ) (s : List (Option X)) → at (take d s) (d + i) ≡ None
 at-past zero i s = refl
@@ -86,7 +86,7 @@ holds_name stood name log found whole = record {
       finished-cut stood log.admitted name log.done 0 (take log.done log.admitted) (let l = whole.long in
       omega (arith, l))
       ∙ ap (finished_from stood (take log.done log.admitted) name 0)
-          (sym (take-take log.done log.done log.admitted (omega arith)));
+      (sym (take-take log.done log.done log.admitted (omega arith)));
   held = λ i. sym (ap (option_map (body_of name (log.done + i))) (at-past log.done i log.admitted));
   state = ap (λ (t : Take). record (parts t) { taken = (parts (made stood log.admitted log.done)).taken })
       (sym (made-cut stood log.admitted log.done log.done (omega arith)));
@@ -103,21 +103,21 @@ recovery_holds limit first contents honest book is wholes repaired =
       each = λ name kept e.
           subst (λ (l : Log). HoldsName (is_some (first name)) name l kept) (sym ((books_are_cut book).logs name))
           (subst (HoldsName (is_some (first name)) name (cut_log (log_of book name))) (picked name kept e)
-              (holds_name (is_some (first name)) name (log_of book name) (contents name) (wholes name)));
+          (holds_name (is_some (first name)) name (log_of book name) (contents name) (wholes name)));
       others = λ h name which. left name (first name) refl which;
       theirs =
           λ h name kept e stood. ap (λ (k : Kept). k.has_made) (sym (picked name kept e))
           ∙ ap (λ (v : Bool). not v && is_some (contents name)) (is_there (first name) stood);
       files = λ h name kept e none.
           let t : made false (log_of (cut_book book) name).admitted (log_of (cut_book book) name).done ≡ made false
-              (log_of book name).admitted (log_of book name).done =
+          (log_of book name).admitted (log_of book name).done =
           ap (λ (l : Log). made false l.admitted l.done) ((books_are_cut book).logs name)
-              ∙ made-cut false (log_of book name).admitted (log_of book name).done (log_of book name).done (omega arith)
-              in
+          ∙ made-cut false (log_of book name).admitted (log_of book name).done (log_of book name).done (omega arith)
+          in
           subst (λ (k : Kept). HasFile
-              (made false (log_of (cut_book book) name).admitted (log_of (cut_book book) name).done) limit
-              (at (log_of (cut_book book) name).admitted (log_of (cut_book book) name).done) k (contents name))
-              (picked name kept e)
+          (made false (log_of (cut_book book) name).admitted (log_of (cut_book book) name).done) limit
+          (at (log_of (cut_book book) name).admitted (log_of (cut_book book) name).done) k (contents name))
+          (picked name kept e)
           (record {
             whole = repaired.files name none ∙ ap (λ (x : Take). file_of x limit) (sym t);
             made_here = ap (λ (o : Option (List ℕ)). not (is_some o) && is_some (contents name)) none;
@@ -146,15 +146,15 @@ recovery_holds limit first contents honest book is wholes repaired =
     left name None e (inl h) = absurd (false_true (subst (λ (o : Option (List ℕ)). IsSome o) e h))
     left name None e (inr unknown) =
         let none_done : (log_of book name).done ≡ 0 =
-            (let h = ltb-false 0 (log_of book name).done (sym ((books_are_cut book).known name) ∙ unknown) in
-            omega arith) in
+        (let h = ltb-false 0 (log_of book name).done (sym ((books_are_cut book).known name) ∙ unknown) in
+        omega arith) in
         repaired.files name e ∙ ap (λ (d : ℕ). file_of (made false (log_of book name).admitted d) limit) none_done
-            ∙ sym e
+        ∙ sym e
 
 pub closed_files_are_whole : ClosedFilesAreWhole
 unfolding judge
 closed_files_are_whole t limit waits found closed (inl h) = h
 closed_files_are_whole t limit waits found closed (inr h) =
     absurd (false_true
-        (subst (λ (v : Bool). IsTrue (is_stored (cond v Closed (judge_open (parts t) t.format h.request)))) closed
-        h.to_store))
+    (subst (λ (v : Bool). IsTrue (is_stored (cond v Closed (judge_open (parts t) t.format h.request)))) closed
+    h.to_store))

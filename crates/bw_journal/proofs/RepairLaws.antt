@@ -24,13 +24,13 @@ same_part : (xs ys : List ℕ) (a b p n : ℕ) → slice_range xs a b ≡ slice_
     take n (drop p xs) ≡ take n (drop p ys)
 same_part xs ys a b p n e low high =
     part_of xs a b p n low high ∙ ap (λ (z : List ℕ). drop (p - a) (take (p - a + n) z)) e
-        ∙ sym (part_of ys a b p n low high)
+    ∙ sym (part_of ys a b p n low high)
 
 -- the samples stand in what is between two files
 stand : (old new found hd samples rest : List ℕ) (place from to : ℕ) → old ≡ hd ++ (samples ++ rest) →
     length hd ≡ place → from ≤ place → place + length samples ≤ to
     → Repairable old new from to found → (place + length samples ≤ length found)
-        × (take (length samples) (drop place found) ≡ samples)
+    × (take (length samples) (drop place found) ≡ samples)
 stand old new found hd samples rest place from to e h low high r =
     let least = r.no_shorter in
     let whole : length old ≡ length hd + (length samples + length rest) =
@@ -49,20 +49,20 @@ nothing_more (x ∷ xs) = ap (λ (z : List ℕ). x ∷ z) (nothing_more xs)
 -- the file of an open take
 pub open_file : (t : Take) (f : Format) (limit : ℕ) → AreFields t.fields → t.closed ≡ false
     → file_with f t limit ≡ header f t.fields t.history (length t.samples) 0 limit ++
-        (t.samples ++ pad (length t.samples))
+    (t.samples ++ pad (length t.samples))
 open_file t f limit fields still =
     let none : cues t.closed t.markers ≡ [] = ap (λ (v : Bool). cues v t.markers) still in
     let hd = header f t.fields t.history (length t.samples) 0 limit in
     header_of_file f t limit fields
     ∙ ap (λ (ms : List (ℕ × ℕ)). header f t.fields t.history (length t.samples) (length ms) limit ++ t.samples ++ pad
-        (length t.samples) ++ flat_map chunk (cue_chunks ms)) none
+    (length t.samples) ++ flat_map chunk (cue_chunks ms)) none
     ∙ nothing_more (hd ++ t.samples ++ pad (length t.samples))
     ∙ append_assoc hd t.samples (pad (length t.samples))
 
 -- bytes with the samples at their place are repaired
 by_samples : (t : Take) (f : Format) (limit : ℕ) (found : List ℕ) → AreFields t.fields → t.closed ≡ false
     → (data_place (length t.history) + length t.samples ≤ length found)
-        × (take (length t.samples) (drop (data_place (length t.history)) found) ≡ t.samples)
+    × (take (length t.samples) (drop (data_place (length t.history)) found) ≡ t.samples)
     → IsRepairedBy t f limit found
 by_samples t f limit found fields still h = record {
   long = h.0;
@@ -77,7 +77,7 @@ some_same e = cc
 repaired : (t : Take) (f : Format) (limit : ℕ) (waits : Option Request) (found : List ℕ) → AreFields t.fields →
     t.closed ≡ false
     → IsOnTheWay (record t { format = Some f }) limit waits (Some found) →
-        IsRepairedBy (record t { format = Some f }) f limit found
+    IsRepairedBy (record t { format = Some f }) f limit found
 repaired t f limit waits found fields still way =
     by_samples (record t { format = Some f }) f limit found fields still (go way)
   where
@@ -100,7 +100,7 @@ repaired t f limit waits found fields still way =
     old_long =
         let whole : length old ≡ length hd + (length t.samples + length (pad (length t.samples))) =
         ap length parted ∙ length-append hd (t.samples ++ pad (length t.samples))
-            ∙ ap (λ (n : ℕ). length hd + n) (length-append t.samples (pad (length t.samples))) in
+        ∙ ap (λ (n : ℕ). length hd + n) (length-append t.samples (pad (length t.samples))) in
         omega (arith, head_long, whole)
 
     between : (r : Request) → IsBetween (record t { format = Some f }) limit r (Some found)
@@ -127,8 +127,12 @@ repaired t f limit waits found fields still way =
         stand old old found hd t.samples (pad (length t.samples)) place place (length old) parted head_long
         (omega arith) old_long
         (let same : found ≡ old = some_same e in
-            record { no_shorter = ap_le same; no_longer = ap_ge same; kept = ap
-            (λ (z : List ℕ). slice_range z place (length old)) same })
+        record {
+          no_shorter = ap_le same;
+          no_longer = ap_ge same;
+          kept = ap
+              (λ (z : List ℕ). slice_range z place (length old)) same;
+        })
       where
         ap_le : found ≡ old → length old ≤ length found
         ap_le s = let l = ap length s in omega (arith, l)
@@ -140,5 +144,5 @@ repaired t f limit waits found fields still way =
 pub files_are_repaired : FilesAreRepaired
 files_are_repaired t f limit waits found fields format still way =
     subst (λ (o : Option Format). IsOnTheWay (record t { format = o }) limit waits (Some found) →
-        IsRepairedBy (record t { format = o }) f limit found) (sym format)
+    IsRepairedBy (record t { format = o }) f limit found) (sym format)
     (repaired t f limit waits found fields still) way

@@ -56,6 +56,6 @@ unfolding replay
 refused_tail limit bytes h s f found is told wrong =
     ap (replayed_behind limit bytes) (sym found)
     ∙ ap (λ (v : Bool). cond v (ended bytes (replayed_entries h.stood bytes)) (Err OtherLimit))
-        (eq-eqb h.limit limit is)
+    (eq-eqb h.limit limit is)
     ∙ ap (ended bytes) told
     ∙ ap (λ (o : Option Fault). unless o s) wrong

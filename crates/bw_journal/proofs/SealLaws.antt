@@ -23,13 +23,13 @@ use Rattle.bw_journal.specs.Noted.{IsNotable, bare_entry, EntriesReadBack, Entri
 payload_short : (r : Request) → is_request r ≡ true → length (payload r) ≤ 32768
 payload_short (Open f history) h =
     let four =
-        and_parts
-        (is_below (2 ^ 32) f.rate && is_below (2 ^ 16) f.channels && is_below (2 ^ 16) f.bits && nat_le (length history)
-        4096) (are_bytes history) h in
+    and_parts
+    (is_below (2 ^ 32) f.rate && is_below (2 ^ 16) f.channels && is_below (2 ^ 16) f.bits && nat_le (length history)
+    4096) (are_bytes history) h in
     let short =
-        leb-true _ _
-        (and_parts (is_below (2 ^ 32) f.rate && is_below (2 ^ 16) f.channels && is_below (2 ^ 16) f.bits)
-        (nat_le (length history) 4096) four.0).1 in
+    leb-true _ _
+    (and_parts (is_below (2 ^ 32) f.rate && is_below (2 ^ 16) f.channels && is_below (2 ^ 16) f.bits)
+    (nat_le (length history) 4096) four.0).1 in
     omega arith
 payload_short (Block bytes) h =
     let within = (and_parts (is_within 1 32768 (length bytes)) (are_bytes bytes) h).0 in
@@ -37,9 +37,9 @@ payload_short (Block bytes) h =
 payload_short (Mark id frame) h = omega arith
 payload_short (SetField tag value) h =
     let short =
-        leb-true _ _
-        (and_parts (is_below 256 tag) (nat_le (length value) 256)
-        (and_parts (is_below 256 tag && nat_le (length value) 256) (are_bytes value) h).0).1 in
+    leb-true _ _
+    (and_parts (is_below 256 tag) (nat_le (length value) 256)
+    (and_parts (is_below 256 tag && nat_le (length value) 256) (are_bytes value) h).0).1 in
     omega arith
 payload_short (Close total) h = omega arith
 
@@ -54,20 +54,20 @@ opened-sealed c more short =
     let b = sealed c ++ more in
     let parts = sealed_parts c more short in
     let len : length b ≡ 10 + length c + length more =
-        length-append (sealed c) more ∙ ap (λ (n : ℕ). n + length more) (sealed-length c) in
+    length-append (sealed c) more ∙ ap (λ (n : ℕ). n + length more) (sealed-length c) in
     let apart : (c ++ check c) ++ more ≡ c ++ (check c ++ more) = append_assoc c (check c) more in
     let behind : drop (2 + length c) b ≡ check c ++ more =
     sym (drop-drop (length c) 2 b) ∙ ap (drop (length c)) (parts.1 ∙ apart)
-        ∙ drop_at c (check c ++ more) (length c) refl in
+    ∙ drop_at c (check c ++ more) (length c) refl in
     let front : take (length c) (drop 2 b) ≡ c =
-        ap (take (length c)) (parts.1 ∙ apart) ∙ take_at c (check c ++ more) (length c) refl in
+    ap (take (length c)) (parts.1 ∙ apart) ∙ take_at c (check c ++ more) (length c) refl in
     let good : bytes_eq (take 8 (drop (2 + length c) b)) (check (take (length c) (drop 2 b))) ≡ true =
     ap (λ (x : List ℕ). bytes_eq (take 8 x) (check (take (length c) (drop 2 b)))) behind
     ∙ ap (λ (x : List ℕ). bytes_eq x (check (take (length c) (drop 2 b)))) (take_at (check c) more 8 (check-length c))
     ∙ ap (λ (x : List ℕ). bytes_eq (check c) (check x)) front
     ∙ name_refl (check c) in
     sym (opened_reads b (length c) (length c) 8 (sym parts.0) (omega arith) (omega arith) refl refl good)
-        ∙ ap Some front
+    ∙ ap Some front
 
 -- a front of sealed bytes isn't opened
 short_none : (b : List ℕ) → length b < 2 → opened b ≡ None
@@ -102,7 +102,7 @@ opened-cut c k short cut =
     go (inr more) =
         let len : length (take k (sealed c)) ≡ k = length-take-le k (sealed c) (omega arith) in
         let number : u16_at (take k (sealed c)) 0 ≡ length c =
-            front_number k (sealed c) more ∙ number_of_sealed c short in
+        front_number k (sealed c) more ∙ number_of_sealed c short in
         cut_none (take k (sealed c)) (omega arith) (omega (arith, sealed-length c, number, len))
 
 -- contents
@@ -133,7 +133,7 @@ request_again (Block bytes) h =
     let within = (and_parts (is_within 1 32768 (length bytes)) (are_bytes bytes) h).0 in
     let few = leb-true _ _ (and_parts (nat_le 1 (length bytes)) (nat_le (length bytes) 32768) within).1 in
     let n : u32_at (le32 (length bytes)) 0 ≡ length bytes =
-        number_at-written w32 (2 ^ 32) wide32 (length bytes) [] (omega arith) in
+    number_at-written w32 (2 ^ 32) wide32 (length bytes) [] (omega arith) in
     ap (λ (k : ℕ). cond (is_within 1 32768 k) (Some (Block (zeros k))) None) n
     ∙ ap (λ (b : Bool). cond b (Some (Block (zeros (length bytes)))) None) within
 request_again (Mark id frame) h = decoded_again (Mark id frame) h
@@ -152,7 +152,7 @@ unfolding content
 content-length e h =
     let n = noted-length e.request h.0 in
     let whole : length (content e) ≡ 1 + (length e.digest + length (noted e.request)) =
-        ap suc (length-append e.digest (noted e.request)) ∙ omega arith in
+    ap suc (length-append e.digest (noted e.request)) ∙ omega arith in
     (omega (arith, whole, n, h.1), omega (arith, whole, n, h.1))
 
 pub entry_again : (e : Entry) → IsNotable e → entry_in (content e) ≡ Some (bare_entry e)
@@ -161,11 +161,11 @@ entry_again e h =
     let c = content e in
     let long = (content-length e h).0 in
     let rest : take (length c - 33) (drop 33 c) ≡ noted e.request =
-        take_rest c 33 ∙ drop_at e.digest (noted e.request) 32 h.1 in
+    take_rest c 33 ∙ drop_at e.digest (noted e.request) 32 h.1 in
     sym (entry_reads c e.verdict (bare e.request) long (verdict_again e.verdict) (sym (ap request_in rest
-        ∙ request_again e.request h.0)))
+    ∙ request_again e.request h.0)))
     ∙ ap (λ (d : List ℕ). Some (record { request = bare e.request; verdict = e.verdict; digest = d }))
-        (take_at e.digest (noted e.request) 32 h.1)
+    (take_at e.digest (noted e.request) 32 h.1)
 
 pub entries_read_back : EntriesReadBack
 unfolding first_entry
@@ -185,7 +185,7 @@ noted_short : (r : Request) → is_request r ≡ true → length (noted r) ≤ 4
 noted_short (Open f history) h =
     let four = and_parts
     (is_below (2 ^ 32) f.rate && is_below (2 ^ 16) f.channels && is_below (2 ^ 16) f.bits && nat_le (length history)
-        4096)
+    4096)
     (are_bytes history) h in
     let short = leb-true _ _
     (and_parts (is_below (2 ^ 32) f.rate && is_below (2 ^ 16) f.channels && is_below (2 ^ 16) f.bits)

@@ -39,7 +39,7 @@ opened_stands bytes c fits e =
     let n = u16_at bytes 0 in
     let d = drop 2 bytes in
     let t = chain (nat_lt (length bytes) 2) (nat_lt (length bytes) (10 + n))
-        (bytes_eq (take 8 (drop (2 + n) bytes)) (check (take n d))) (take n d) c e in
+    (bytes_eq (take 8 (drop (2 + n) bytes)) (check (take n d))) (take n d) c e in
     let long = ltb-false _ _ t.0 in
     let whole = ltb-false _ _ t.1 in
     let d_len : length d ≡ length bytes - 2 = length-drop 2 bytes in
@@ -49,17 +49,19 @@ opened_stands bytes c fits e =
     let rest = drop 8 (drop n d) in
     let behind : drop (2 + n) bytes ≡ drop n d = sym (drop-drop n 2 bytes) in
     let good : take 8 (drop n d) ≡ check c =
-        ap (take 8) (sym behind) ∙ same_name chk (check (take n d)) t.2 ∙ ap check t.3 in
+    ap (take 8) (sym behind) ∙ same_name chk (check (take n d)) t.2 ∙ ap check t.3 in
     let parted : bytes ≡ (le16 (length c) ++ c ++ check c) ++ rest =
     sym number
     ∙ ap (λ (k : ℕ). le16 k ++ d) (sym c_len)
     ∙ ap (λ (x : List ℕ). le16 (length c) ++ x) (sym (take-append-drop n d) ∙ ap (λ (x : List ℕ). x ++ drop n d) t.3
-        ∙ ap (λ (x : List ℕ). c ++ x) (sym (take-append-drop 8 (drop n d)) ∙ ap (λ (x : List ℕ). x ++ rest) good))
+    ∙ ap (λ (x : List ℕ). c ++ x) (sym (take-append-drop 8 (drop n d)) ∙ ap (λ (x : List ℕ). x ++ rest) good))
     ∙ ap (λ (x : List ℕ). le16 (length c) ++ x) (sym (append_assoc c (check c) rest))
     ∙ sym (append_assoc (le16 (length c)) (c ++ check c) rest)
-    ∙ ap (λ (x : List ℕ). x ++ rest) (sym (append_assoc (le16 (length c)) c (check c))) in
-    (ap (take (10 + length c)) parted
-        ∙ take_at (le16 (length c) ++ c ++ check c) rest (10 + length c) (sealed-length c), sym t.3)
+    ∙ ap (λ (x : List ℕ). x ++ rest) (sym (append_assoc (le16 (length c)) c (check c))) in (
+      ap (take (10 + length c)) parted
+          ∙ take_at (le16 (length c) ++ c ++ check c) rest (10 + length c) (sealed-length c),
+      sym t.3,
+    )
 
 found_passes : {X : Type 0} (test : X → Bool) (xs : List X) (x : X) → find test xs ≡ Some x → test x ≡ true
 found_passes test [] x e = absurd (none_some e)
@@ -96,10 +98,10 @@ block_stands p r fits e = go ((length p == 4) && is_within 1 32768 (u32_at p 0))
         let four = eqb-true _ _ (and_parts (length p == 4) (is_within 1 32768 (u32_at p 0)) t).0 in
         let number = (written-number_at w32 (2 ^ 32) wide32 p 0 fits (omega arith)).0 in
         let whole : le32 (u32_at p 0) ≡ p =
-            sym (nothing (le32 (u32_at p 0)))
-            ∙ ap (λ (x : List ℕ). le32 (u32_at p 0) ++ x) (sym (drop_all 4 p (omega arith))) ∙ number in
+        sym (nothing (le32 (u32_at p 0)))
+        ∙ ap (λ (x : List ℕ). le32 (u32_at p 0) ++ x) (sym (drop_all 4 p (omega arith))) ∙ number in
         ap noted (sym (some_inj e)) ∙ ap (λ (k : ℕ). 2 ∷ le32 k) (zeros-length (u32_at p 0))
-            ∙ ap (λ (x : List ℕ). 2 ∷ x) whole
+        ∙ ap (λ (x : List ℕ). 2 ∷ x) whole
       where
         nothing : (xs : List ℕ) → xs ++ [] ≡ xs
         nothing [] = refl
@@ -120,18 +122,18 @@ request_stands (k ∷ p) r fits e = go (k == 2) refl e
         found (Err f) d e = absurd (none_some e)
         found (Ok q) d e =
             let parts =
-                unless_ok (first_that_holds ((not (is_within 1 5 k), Kind) ∷ (not (is_payload k p), Payload) ∷ []))
-                (request_of k p) q d in
+            unless_ok (first_that_holds ((not (is_within 1 5 k), Kind) ∷ (not (is_payload k p), Payload) ∷ []))
+            (request_of k p) q d in
             let tests = two_pass (not (is_within 1 5 k)) (not (is_payload k p)) parts.0 in
             let low = and_parts (nat_le 1 k) (nat_le k 5) (not-false _ tests.0) in
             let small : k ≤ 5 = leb-true k 5 low.1 in
             let w = payload_from_test k p (and_parts (is_below 256 k) (are_bytes p) fits).1 (not-false _ tests.1)
-                (λ six. omega (arith, six)) in
+            (λ six. omega (arith, six)) in
             let same : request_of k p ≡ r = parts.1 ∙ some_inj e in
             let is_kind : kind r ≡ k = ap kind (sym same) ∙ w.kind_is in
             let is_payload_of : payload r ≡ p = ap payload (sym same) ∙ w.payload_is in
             plainly_noted r (λ two. other (sym is_kind ∙ two)) ∙ ap (λ (n : ℕ). n ∷ payload r) is_kind
-                ∙ ap (λ (x : List ℕ). k ∷ x) is_payload_of
+            ∙ ap (λ (x : List ℕ). k ∷ x) is_payload_of
           where
             other : k ≡ 2 → ⊥
             other two = false_true (sym t ∙ ap (λ (n : ℕ). n == 2) two)
@@ -143,9 +145,12 @@ made_parts : (v : Option Verdict) (d : List ℕ) (r : Option Request) (e : Entry
     (v ≡ Some e.verdict) × (r ≡ Some e.request) × (d ≡ e.digest)
 made_parts None d r e h = absurd (none_some h)
 made_parts (Some v) d None e h = absurd (none_some h)
-made_parts (Some v) d (Some r) e h =
-    (ap (λ (x : Entry). Some x.verdict) (some_inj h), ap (λ (x : Entry). Some x.request) (some_inj h), ap
-    (λ (x : Entry). x.digest) (some_inj h))
+made_parts (Some v) d (Some r) e h = (
+  ap (λ (x : Entry). Some x.verdict) (some_inj h),
+  ap (λ (x : Entry). Some x.request) (some_inj h),
+  ap
+      (λ (x : Entry). x.digest) (some_inj h),
+)
 
 -- the content is the entry's
 content_stands : (c : List ℕ) (e : Entry) → are_bytes c ≡ true → entry_in c ≡ Some e → content e ≡ c
@@ -159,8 +164,8 @@ content_stands (k ∷ b) e fits h = go (nat_lt (length (k ∷ b)) 34) h
     go false h =
         let m = made_parts (verdict_of k) (take 32 b) (request_in (drop 32 b)) e h in
         let rest =
-            request_stands (drop 32 b) e.request
-            (are_bytes-parts 32 b (and_parts (is_below 256 k) (are_bytes b) fits).1).1 m.1 in
+        request_stands (drop 32 b) e.request
+        (are_bytes-parts 32 b (and_parts (is_below 256 k) (are_bytes b) fits).1).1 m.1 in
         ap (λ (n : ℕ). n ∷ (e.digest ++ noted e.request)) (code_of_verdict k e.verdict m.0)
         ∙ ap (λ (x : List ℕ). k ∷ (e.digest ++ x)) rest
         ∙ ap (λ (x : List ℕ). k ∷ (x ++ drop 32 b)) (sym m.2)
@@ -183,6 +188,6 @@ read_entries_stand bytes e n fits h = go (opened bytes) refl h
             let s = opened_stands bytes c fits p in
             let c_fits : are_bytes c ≡ true =
             subst (λ (x : List ℕ). are_bytes x ≡ true) (sym s.1)
-                (are_bytes-parts (u16_at bytes 0) (drop 2 bytes) (are_bytes-parts 2 bytes fits).1).0 in
+            (are_bytes-parts (u16_at bytes 0) (drop 2 bytes) (are_bytes-parts 2 bytes fits).1).0 in
             ap (λ (k : ℕ). take k bytes) (sym (ap (λ (z : Entry × ℕ). z.1) pair)) ∙ s.0
             ∙ ap sealed (sym (content_stands c y c_fits q)) ∙ ap (λ (z : Entry × ℕ). entry_bytes z.0) pair

@@ -43,7 +43,7 @@ untaken_open : (p : Parts) (o : Option Format) (r : Request) → p.taken ≡ fal
 untaken_open p (Some g) (Open f history) e = refl
 untaken_open p None (Open f history) e =
     ap (λ (v : Bool). is_name_taken
-        (cond (not (is_format f && list_all is_history_byte history)) BadFormat (cond v NameTaken Stored))) e
+    (cond (not (is_format f && list_all is_history_byte history)) BadFormat (cond v NameTaken Stored))) e
     ∙ other_two (not (is_format f && list_all is_history_byte history)) BadFormat Stored refl refl
 untaken_open p None (Block bytes) e = refl
 untaken_open p None (Mark id frame) e = refl

@@ -67,9 +67,9 @@ entries_same stood s name n (None ∷ rest) more e = refl
 entries_same stood s name n (Some r ∷ rest) more e =
     let h = at_place n s (Some r) (rest ++ more) e in
     ap (λ (v : Verdict). record { request = r; verdict = v; digest = sha256 (body_of name n r) } ∷ entries_from stood s
-        name (suc n) rest) (verdict_here stood s n r (rest ++ more) e)
+    name (suc n) rest) (verdict_here stood s n r (rest ++ more) e)
     ∙ ap (λ (es : List Entry). entry_by (made stood s n) name n r ∷ es) (entries_same stood s name (suc n) rest more h.0
-        ∙ ap (λ (t : Take). entries_by t name (suc n) rest) (made_next stood s n r h.1))
+    ∙ ap (λ (t : Take). entries_by t name (suc n) rest) (made_next stood s n r h.1))
 
 finished_same : (stood : Bool) (s : List (Option Request)) (name : List ℕ) (n : ℕ) (rest more : List (Option Request)) →
     drop n s ≡ rest ++ more
@@ -79,10 +79,10 @@ finished_same stood s name n (None ∷ rest) more e = refl
 finished_same stood s name n (Some r ∷ rest) more e =
     let h = at_place n s (Some r) (rest ++ more) e in
     ap (λ (v : Verdict). (sha256 (body_of name n r), v) ∷ finished_from stood s name (suc n) rest)
-        (verdict_here stood s n r (rest ++ more) e)
+    (verdict_here stood s n r (rest ++ more) e)
     ∙ ap (λ (rows : List (List ℕ × Verdict)). (sha256 (body_of name n r), verdict (made stood s n) r) ∷ rows)
     (finished_same stood s name (suc n) rest more h.0
-        ∙ ap (λ (t : Take). finished_by t name (suc n) rest) (made_next stood s n r h.1))
+    ∙ ap (λ (t : Take). finished_by t name (suc n) rest) (made_next stood s n r h.1))
 
 notable : (t : Take) (name : List ℕ) (n : ℕ) (r : Request) → is_request r ≡ true → IsNotable (entry_by t name n r)
 notable t name n r h = (h, length-sha256 (body_of name n r))
@@ -103,7 +103,7 @@ nothing_more (x ∷ xs) = ap (λ (z : List _). x ∷ z) (nothing_more xs)
 tells : (t : Take) (name : List ℕ) (n : ℕ) (rest : List (Option Request)) (front tail table : List ℕ) (steps : ℕ)
     → list_all fits rest ≡ true → IsCut tail → length rest ≤ steps
     → replayed steps (front ++ (entries_bytes (entries_by t name n rest) ++ tail))
-        (record { parts = parts t; table = table; used = length front })
+    (record { parts = parts t; table = table; used = length front })
     ≡ Ok (story_by t name n rest front table)
 tells t name n [] front tail table steps h cut enough = stop steps ∙ ap Ok same
   where
@@ -111,7 +111,7 @@ tells t name n [] front tail table steps h cut enough = stop steps ∙ ap Ok sam
     same =
         ap (λ (x : List ℕ). record { parts = parts t; table = x; used = length front }) (sym (nothing_more table))
         ∙ ap (λ (k : ℕ). record { parts = parts t; table = table ++ []; used = k })
-            (let e : length front ≡ length front + 0 = omega arith in e)
+        (let e : length front ≡ length front + 0 = omega arith in e)
 
     stop : (k : ℕ) →
         replayed k (front ++ tail) (record { parts = parts t; table = table; used = length front }) ≡ Ok
@@ -130,35 +130,43 @@ tells t name n (Some r ∷ rest) front tail table (suc k) h cut enough =
     let s : Story = record { parts = parts t; table = table; used = length front } in
     let found : first_entry (drop (length front) bytes) ≡ Some (bare_entry e, length (entry_bytes e)) =
     ap first_entry (drop_at front ((entry_bytes e ++ later) ++ tail) (length front) refl
-        ∙ append_assoc (entry_bytes e) later tail)
+    ∙ append_assoc (entry_bytes e) later tail)
     ∙ entries_read_back e (later ++ tail) (notable t name n r ok.0) in
     let moved : bytes ≡ (front ++ entry_bytes e) ++ (later ++ tail) =
     ap (λ (x : List ℕ). front ++ x) (append_assoc (entry_bytes e) later tail)
-        ∙ sym (append_assoc front (entry_bytes e) (later ++ tail)) in
+    ∙ sym (append_assoc front (entry_bytes e) (later ++ tail)) in
     let row = sha256 (body_of name n r) ++ verdict_code (verdict t r) ∷ [] in
     let further =
-        tells (after t r) name (suc n) rest (front ++ entry_bytes e) tail (table ++ row) k ok.1 cut (omega arith) in
+    tells (after t r) name (suc n) rest (front ++ entry_bytes e) tail (table ++ row) k ok.1 cut (omega arith) in
     goes_on (suc k) k bytes s (bare_entry e, length (entry_bytes e)) refl found
-        (entry_judged t r (sha256 (body_of name n r)))
+    (entry_judged t r (sha256 (body_of name n r)))
     ∙ ap (λ (p : _). replayed k bytes
-        (record { parts = p; table = table ++ row; used = length front + length (entry_bytes e) })) (parts_alike t r)
+    (record { parts = p; table = table ++ row; used = length front + length (entry_bytes e) })) (parts_alike t r)
     ∙ ap (λ (b : List ℕ). replayed k b
-        (record { parts = parts (after t r); table = table ++ row; used = length front + length (entry_bytes e) }))
-        moved
+    (record { parts = parts (after t r); table = table ++ row; used = length front + length (entry_bytes e) }))
+    moved
     ∙ ap (λ (u : ℕ). replayed k ((front ++ entry_bytes e) ++ (later ++ tail))
-        (record { parts = parts (after t r); table = table ++ row; used = u }))
-        (sym (length-append front (entry_bytes e)))
+    (record { parts = parts (after t r); table = table ++ row; used = u }))
+    (sym (length-append front (entry_bytes e)))
     ∙ further
     ∙ ap (λ (x : List ℕ). Ok
-        (record { parts = parts (fold step (after t r) rest); table = x; used = length (front ++ entry_bytes e) + length
-        later }))
+    (record {
+      parts = parts (fold step (after t r) rest);
+      table = x;
+      used = length (front ++ entry_bytes e) + length
+          later;
+    }))
     (append_assoc table row (packed (finished_by (after t r) name (suc n) rest)))
     ∙ ap (λ (u : ℕ). Ok
-        (record { parts = parts (fold step (after t r) rest); table = table ++
-        (row ++ packed (finished_by (after t r) name (suc n) rest)); used = u }))
+    (record {
+      parts = parts (fold step (after t r) rest);
+      table = table ++
+          (row ++ packed (finished_by (after t r) name (suc n) rest));
+      used = u;
+    }))
     (ap (λ (u : ℕ). u + length later) (length-append front (entry_bytes e))
-        ∙ (let e' : length front + length (entry_bytes e) + length later ≡ length front +
-        (length (entry_bytes e) + length later) = omega arith in e')
+    ∙ (let e' : length front + length (entry_bytes e) + length later ≡ length front +
+    (length (entry_bytes e) + length later) = omega arith in e')
     ∙ ap (λ (u : ℕ). length front + u) (sym (length-append (entry_bytes e) later)))
 
 -- an entry has at least a byte
@@ -170,8 +178,13 @@ many t name n (Some r ∷ rest) h =
     let e = entry_by t name n r in
     let ok = and_parts (is_request r) (list_all fits rest) h in
     let more = many (after t r) name (suc n) rest ok.1 in
-    omega (arith, more, sealed-length (content e), length-append (entry_bytes e)
-        (entries_bytes (entries_by (after t r) name (suc n) rest)))
+    omega (
+      arith,
+      more,
+      sealed-length (content e),
+      length-append (entry_bytes e)
+          (entries_bytes (entries_by (after t r) name (suc n) rest)),
+    )
 
 -- behind the last entry stands a front of another, and nothing is wrong with it
 no_fault : (tail : List ℕ) → IsCut tail → tail_fault tail ≡ None
@@ -200,7 +213,7 @@ told_behind h front es tail s is small cut used told =
     let rest : drop s.used bytes ≡ tail = ap (λ (n : ℕ). drop n bytes) used ∙ drop_at (front ++ es) tail _ refl in
     ap (replayed_behind h.limit bytes) found
     ∙ ap (λ (v : Bool). cond v (ended bytes (replayed_entries h.stood bytes)) (Err OtherLimit))
-        (eq-eqb h.limit h.limit refl)
+    (eq-eqb h.limit h.limit refl)
     ∙ ap (ended bytes) told
     ∙ ap (λ (o : Option Fault). unless o s) (ap tail_fault rest ∙ no_fault tail cut)
 
@@ -221,17 +234,17 @@ entries_tell h name log tail whole cut =
     let enough : length rest ≤ length ((front ++ es) ++ tail) =
     omega (arith, many t name 0 rest whole.each, length-append (front ++ es) tail, length-append front es) in
     ap (λ (x : List Entry). replayed (length ((front ++ entries_bytes x) ++ tail)) ((front ++ entries_bytes x) ++ tail)
-        (beginning stood)) same
+    (beginning stood)) same
     ∙ ap (λ (u : ℕ). replayed (length ((front ++ es) ++ tail)) ((front ++ es) ++ tail)
     (record { parts = parts t; table = []; used = u })) (sym front_long)
     ∙ ap (λ (b : List ℕ). replayed (length ((front ++ es) ++ tail)) b
     (record { parts = parts t; table = []; used = length front })) (append_assoc front es tail)
     ∙ tells t name 0 rest front tail [] (length ((front ++ es) ++ tail)) whole.each cut enough
     ∙ ap (λ (u : ℕ). Ok
-        (record { parts = parts (fold step t rest); table = packed (finished_by t name 0 rest); used = u }))
+    (record { parts = parts (fold step t rest); table = packed (finished_by t name 0 rest); used = u }))
     (sym (length-append front es))
     ∙ ap (λ (x : List (List ℕ × Verdict)). Ok
-        (record { parts = parts (fold step t rest); table = packed x; used = length (front ++ es) }))
+    (record { parts = parts (fold step t rest); table = packed x; used = length (front ++ es) }))
     (sym (finished_same stood s name 0 rest (drop log.done s) parted))
     ∙ ap (λ (x : List Entry). Ok (record {
       parts = parts (fold step t rest);

@@ -3,6 +3,7 @@ pub mod JournalHeaders
 pub mod Entries
 pub mod Notes
 pub mod Replays
+pub mod MemoryHeaders
 pub mod Refs
 pub mod HeaderRefs
 pub mod Faults

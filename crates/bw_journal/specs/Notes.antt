@@ -1,25 +1,45 @@
 -- What the calls of a journal leave under a name.
-use Rattle.std.specs.Prelude.{◌≡◌, ◌⊎◌, ℕ, Option, Some, None, List, ◌++◌, length, take}
+use Rattle.std.specs.Prelude.{◌≡◌, ◌⊎◌, ◌<◌, ◌≤◌, ◌&&◌, ℕ, Bool, Option, Some, None, List, ◌++◌, length, take, nat_le}
+use Rattle.std.specs.Str.{bytes_eq}
 use Rattle.bw_journal.specs.JournalHeaders.{Header, header_bytes}
 
 -- nothing stands, or a front of these bytes
 abbrev pub IsFrontOf : List ℕ → Option (List ℕ) → Type 0
 IsFrontOf bytes found = (found ≡ None) ⊎ ((count : ℕ) × (found ≡ Some (take count bytes)))
 
+-- nothing stands, or a front of them that isn't all of them
+abbrev pub IsShortOf : List ℕ → Option (List ℕ) → Type 0
+IsShortOf bytes found =
+    (found ≡ None)
+    ⊎ ((count : ℕ) × (found ≡ Some (take count bytes)) × (count < length bytes))
+
 -- these bytes stand, whatever follows them
 abbrev pub BeginsWith : List ℕ → Option (List ℕ) → Type 0
 BeginsWith bytes found = (rest : List ℕ) × (found ≡ Some (bytes ++ rest))
 
--- after a `begin` that succeeds: the header stands whole, and what stood behind it is kept
-pub record Begins (header : Header) (before after : Option (List ℕ)) : Type 0 where
-  pub stands : BeginsWith (header_bytes header) after
-  pub written : IsFrontOf (header_bytes header) before → after ≡ Some (header_bytes header)
-  pub kept : BeginsWith (header_bytes header) before → after ≡ before
+-- the same as a test
+abbrev pub has_front : List ℕ → List ℕ → Bool
+has_front bytes content =
+    nat_le (length bytes) (length content) && bytes_eq (take (length bytes) content) bytes
 
--- .. that fails: no more than a front of the header was written, and none over a whole one
-pub record BeginsInPart (header : Header) (before after : Option (List ℕ)) : Type 0 where
-  pub front : IsFrontOf (header_bytes header) before → IsFrontOf (header_bytes header) after
-  pub kept : BeginsWith (header_bytes header) before → after ≡ before
+-- where these bytes begin a content: they stand whole then, and what stood behind them is kept
+pub record Starts (bytes : List ℕ) (before after : Option (List ℕ)) : Type 0 where
+  pub stands : BeginsWith bytes after
+  pub written : IsFrontOf bytes before → after ≡ Some bytes
+  pub kept : BeginsWith bytes before → after ≡ before
+
+-- .. or no more than a front of them was written, and nothing over all of them
+pub record StartsInPart (bytes : List ℕ) (before after : Option (List ℕ)) : Type 0 where
+  pub front : IsFrontOf bytes before → IsFrontOf bytes after
+  pub kept : BeginsWith bytes before → after ≡ before
+
+-- after a `begin` that succeeds
+abbrev pub Begins : Header → Option (List ℕ) → Option (List ℕ) → Type 0
+Begins header before after = Starts (header_bytes header) before after
+
+-- .. that fails
+abbrev pub BeginsInPart : Header → Option (List ℕ) → Option (List ℕ) → Type 0
+BeginsInPart header before after = StartsInPart (header_bytes header) before after
 
 -- After a `note` that succeeds: the bytes stand behind so many others, in place of a front of them.
 abbrev pub Notes : ℕ → List ℕ → Option (List ℕ) → Option (List ℕ) → Type 0
@@ -32,6 +52,12 @@ abbrev pub NotesInPart : ℕ → List ℕ → Option (List ℕ) → Option (List
 NotesInPart offset bytes before after =
     (base : List ℕ) (count : ℕ) → before ≡ Some (base ++ take count bytes) → length base ≡ offset →
     (reached : ℕ) × (after ≡ Some (base ++ take reached bytes))
+
+-- the bytes stand behind so many others, in place of whatever stood there
+abbrev pub NotesOver : ℕ → List ℕ → Option (List ℕ) → Option (List ℕ) → Type 0
+NotesOver offset bytes before after =
+    (old : List ℕ) × (before ≡ Some old) × (offset ≤ length old)
+    × (after ≡ Some (take offset old ++ bytes))
 
 -- each name's journal begins with what it began with
 abbrev pub KeepsHeaders : (List ℕ → Header) → (List ℕ → Header) → Type 0

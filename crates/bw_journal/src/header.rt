@@ -82,7 +82,7 @@ pub(crate) fn is_torn_header(limit: Limit, bytes: &[u8]) -> bool
 }
 
 /// Whether the bytes begin the others, and are fewer.
-fn is_torn(bytes: &[u8], whole: &[u8]) -> bool
+pub(crate) fn is_torn(bytes: &[u8], whole: &[u8]) -> bool
     ensures { result ≡ is_torn_of bytes.now whole.now }
 {
     bytes.len() < whole.len() && bytes == &whole[..bytes.len()]

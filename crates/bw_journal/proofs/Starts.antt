@@ -1,0 +1,95 @@
+-- What begins contents, and what is noted behind them.
+use Rattle.std.proofs.Common.{◌≡◌, ℕ, zero, suc, ◌+◌, ◌<◌, ◌≤◌, Bool, true, ◌&&◌, ◌⊎◌, inl, inr, Option, Some, None, List, [], ◌∷◌, ◌++◌, length, take, drop, refl, sym, ap, subst, ◌∙◌, arith}
+use Rattle.std.specs.Prelude.{nat_le, nat_lt, option_map}
+use Rattle.std.specs.Str.{bytes_eq}
+use Rattle.std.proofs.lemmas.Bool.{and_parts, ltb-true}
+use Rattle.std.proofs.lemmas.List.{take_at, take-append-drop, length-append, length-take-le}
+use Rattle.bw_model.proofs.BookLemmas.{same_name}
+use Rattle.bw_model.proofs.Elements.{some_inj}
+use Rattle.bw_journal.specs.JournalHeaders.{is_torn}
+use Rattle.bw_journal.specs.Notes.{IsFrontOf, IsShortOf, BeginsWith, has_front, Starts, StartsInPart, Notes, NotesInPart, NotesOver}
+
+none_some : {X : Type 0} {x : X} → None ≡ Some x → ⊥
+none_some e = cc
+
+nothing_more : (xs : List ℕ) → xs ++ [] ≡ xs
+nothing_more [] = refl
+nothing_more (x ∷ xs) = ap (λ (z : List ℕ). x ∷ z) (nothing_more xs)
+
+empty : (xs : List ℕ) → length xs ≤ 0 → xs ≡ []
+empty [] h = refl
+empty (x ∷ xs) h = absurd (omega arith)
+
+length-take_whole : (n : ℕ) (xs : List ℕ) → length (take n xs) ≤ length xs
+length-take_whole zero xs = omega arith
+length-take_whole (suc n) [] = omega arith
+length-take_whole (suc n) (x ∷ xs) = let more : length (take n xs) ≤ length xs = length-take_whole n xs in omega arith
+
+-- the bytes stand at the front of a content that passed the test
+pub front_begins : (bytes content : List ℕ) → has_front bytes content ≡ true → BeginsWith bytes (Some content)
+front_begins bytes content e =
+    let tests = and_parts (nat_le (length bytes) (length content)) (bytes_eq (take (length bytes) content) bytes) e in (
+      drop (length bytes) content,
+      ap Some (sym (take-append-drop (length bytes) content)
+          ∙ ap (λ (x : List ℕ). x ++ drop (length bytes) content) (same_name (take (length bytes) content) bytes tests.1)),
+    )
+
+-- a content that is torn is a front
+pub torn_short : (bytes content : List ℕ) → is_torn content bytes ≡ true → IsShortOf bytes (Some content)
+torn_short bytes content e =
+    let tests = and_parts (nat_lt (length content) (length bytes)) (bytes_eq content (take (length content) bytes)) e in
+    inr (length content, ap Some (same_name content (take (length content) bytes) tests.1), ltb-true (length content) (length bytes) tests.0)
+
+-- all of the bytes, and a front of them
+whole_front : (bytes : List ℕ) (found : Option (List ℕ)) → BeginsWith bytes found → IsFrontOf bytes found → found ≡ Some bytes
+whole_front bytes found (rest, is) (inl none) = absurd (none_some (sym none ∙ is))
+whole_front bytes found (rest, is) (inr (count, front)) =
+    let same : bytes ++ rest ≡ take count bytes = some_inj (sym is ∙ front) in
+    let long : length bytes + length rest ≡ length (take count bytes) = sym (length-append bytes rest) ∙ ap length same in
+    let short = length-take_whole count bytes in
+    is ∙ ap (λ (r : List ℕ). Some (bytes ++ r)) (empty rest (omega (arith, long, short))) ∙ ap Some (nothing_more bytes)
+
+not_short : (bytes : List ℕ) (found : Option (List ℕ)) → IsShortOf bytes found → BeginsWith bytes found → ⊥
+not_short bytes found (inl none) (rest, is) = none_some (sym none ∙ is)
+not_short bytes found (inr (count, front, short)) (rest, is) =
+    let long : length bytes + length rest ≡ length (take count bytes) =
+    sym (length-append bytes rest) ∙ ap length (some_inj (sym is ∙ front)) in
+    let few : length (take count bytes) ≡ count = length-take-le count bytes (omega (arith, short)) in
+    omega (arith, long, few, short)
+
+pub starts_whole : (bytes : List ℕ) (before after : Option (List ℕ)) → BeginsWith bytes before → after ≡ before →
+    Starts bytes before after
+starts_whole bytes before after w same = record {
+  stands = (w.0, same ∙ w.1);
+  written = λ front. same ∙ whole_front bytes before w front;
+  kept = λ x. same;
+}
+
+pub starts_short : (bytes : List ℕ) (before after : Option (List ℕ)) → IsShortOf bytes before → after ≡ Some bytes →
+    Starts bytes before after
+starts_short bytes before after short is = record {
+  stands = ([], is ∙ ap Some (sym (nothing_more bytes)));
+  written = λ front. is;
+  kept = λ whole. absurd (not_short bytes before short whole);
+}
+
+pub starts_not : (bytes : List ℕ) (before after : Option (List ℕ)) → after ≡ before → StartsInPart bytes before after
+starts_not bytes before after same = record {
+  front = λ front. subst (IsFrontOf bytes) (sym same) front;
+  kept = λ whole. same;
+}
+
+-- what is noted over whatever stood there is noted in place of a front
+pub notes_over : (offset : ℕ) (bytes : List ℕ) (before after : Option (List ℕ)) → NotesOver offset bytes before after →
+    Notes offset bytes before after
+notes_over offset bytes before after (old, is, fits, new) = λ base count was long.
+    new ∙ ap (λ (x : List ℕ). Some (take offset x ++ bytes)) (some_inj (sym is ∙ was))
+    ∙ ap (λ (x : List ℕ). Some (x ++ bytes)) (take_at base (take count bytes) offset long)
+
+pub notes_cut : (offset : ℕ) (bytes : List ℕ) (before after : Option (List ℕ)) → after ≡ option_map (take offset) before →
+    NotesInPart offset bytes before after
+notes_cut offset bytes before after is = λ base count was long. (
+  zero,
+  is ∙ ap (option_map (take offset)) was
+      ∙ ap Some (take_at base (take count bytes) offset long ∙ sym (nothing_more base)),
+)

@@ -1,0 +1,263 @@
+//! A journal in memory.
+ghost use Rattle.std.specs.Prelude.{◌≡◌, ◌≤◌, ◌++◌, ◌∷◌, [], ℕ, List, Option, Some, None, IsTrue, OnOk, OnErr, is_err, option_map, length, take, true, false};
+ghost use Rattle.std.specs.Option.{option_copied};
+ghost use Rattle.std.specs.Str.{bytes_eq};
+ghost use Rattle.std.specs.List.{list_any};
+ghost use Rattle.bw_model.specs.Counts.{Counts};
+ghost use Rattle.bw_file.specs.Memory.{content_of};
+ghost use Rattle.bw_file.specs.Stores.{KeepsOthers};
+ghost use Rattle.bw_journal.specs.Notes.{BeginsWith, Starts, Begins, KeepsHeaders, IsShortOf, NotesOver, has_front};
+ghost use Rattle.bw_journal.specs.MemoryHeaders.{header_for};
+
+use crate::header::{JournalHeader, is_torn};
+use crate::journal::Journal;
+use bw_file::StoreFault;
+use bw_layout::Limit;
+use bw_take::Name;
+use std::alloc::{AllocError, Global};
+use std::collections::BTreeMap;
+
+/// Journals in memory. A call fails where memory is refused, and where other bytes stand.
+#[derive(Drop)]
+pub struct MemoryJournal {
+    alloc: Global,
+    limit: Limit,
+    stood: Vec<Name>,
+    notes: BTreeMap<Name, Vec<u8>>,
+    failures: u64,
+}
+
+impl MemoryJournal {
+    /// No journals yet, for a server of this limit.
+    pub fn new(alloc: Global, limit: Limit) -> MemoryJournal
+        ensures honest { IsTrue (⟦<MemoryJournal as Journal>⟧.honest result) }
+        ensures empty { (name : List ℕ) → ⟦<MemoryJournal as Journal>⟧.notes result name ≡ None }
+        ensures headers { (name : List ℕ) → ⟦<MemoryJournal as Journal>⟧.header result name
+            ≡ record { limit = limit; stood = false } }
+        ensures failures { ⟦<MemoryJournal as Journal>⟧.failures result ≡ 0 }
+    {
+        MemoryJournal {
+            alloc,
+            limit,
+            stood: Vec::new(alloc),
+            notes: BTreeMap::new(alloc),
+            failures: 0,
+        }
+    }
+
+    /// Notes that a file of a name stood. That is no call of the journal.
+    ///
+    /// # Errors
+    /// `AllocError` where memory was refused.
+    pub fn set_stood(&mut self, name: &Name) -> Result<(), AllocError>
+        ensures ok { OnOk result (self.new.stood.items ≡ self.old.stood.items ++ name.now ∷ []) }
+        ensures err { OnErr result (self.new.stood.items ≡ self.old.stood.items) }
+        ensures rest { (self.new.limit ≡ self.old.limit) × (self.new.notes ≡ self.old.notes)
+            × (self.new.failures ≡ self.old.failures) }
+    {
+        match self.stood.push(name.copy()) {
+            Ok(()) => Ok(()),
+            Err(_) => Err(AllocError),
+        }
+    }
+
+    /// Puts bytes under a name, in place of what stood there. That is no call of the journal.
+    ///
+    /// # Errors
+    /// `AllocError` where memory was refused: nothing changed then.
+    pub fn plant(&mut self, name: &Name, bytes: &[u8]) -> Result<(), AllocError>
+        ensures ok { OnOk result (content_of self.new.notes name.now ≡ Some bytes.now) }
+        ensures err { OnErr result (content_of self.new.notes name.now ≡ content_of self.old.notes name.now) }
+        ensures others { KeepsOthers (content_of self.old.notes) (content_of self.new.notes) name.now }
+        ensures rest { (self.new.limit ≡ self.old.limit) × (self.new.stood ≡ self.old.stood)
+            × (self.new.failures ≡ self.old.failures) }
+    {
+        put(&mut self.notes, self.alloc, name, bytes)
+    }
+
+    /// What is noted under a name.
+    pub fn content(&self, name: &Name) -> Option<&[u8]>
+        ensures { option_copied result ≡ ⟦<MemoryJournal as Journal>⟧.notes self.now name.now }
+    {
+        content_in(&self.notes, name)
+    }
+}
+
+impl Journal for MemoryJournal {
+    ghost notes = { λ j name. content_of j.notes name };
+
+    ghost header = { λ j name. header_for j name };
+
+    ghost failures = { λ j. j.failures };
+
+    ghost honest = { λ _. true };
+
+    fn begin(&mut self, name: &Name) -> Result<(), StoreFault>
+        ensures failures { Counts self.old.failures self.new.failures (is_err result) }
+        ensures headers { KeepsHeaders (header_for self.old) (header_for self.new) }
+        ensures begun { OnOk result (Begins (header_for self.old name.now)
+            (content_of self.old.notes name.now) (content_of self.new.notes name.now)) }
+        ensures failed { OnErr result
+            (content_of self.new.notes name.now ≡ content_of self.old.notes name.now) }
+        ensures others { KeepsOthers
+            (content_of self.old.notes) (content_of self.new.notes) name.now }
+    {
+        let header = JournalHeader {
+            limit: self.limit,
+            stood: has_name(self.stood.as_slice(), name),
+        };
+        let answer = start(&mut self.notes, self.alloc, name, &header.to_bytes());
+        count(&mut self.failures, answer.is_err());
+        answer
+    }
+
+    fn note(&mut self, name: &Name, offset: u64, bytes: &[u8]) -> Result<(), StoreFault>
+        ensures failures { Counts self.old.failures self.new.failures (is_err result) }
+        ensures headers { KeepsHeaders (header_for self.old) (header_for self.new) }
+        ensures over { OnOk result (NotesOver offset bytes.now
+            (content_of self.old.notes name.now) (content_of self.new.notes name.now)) }
+        ensures cut { OnErr result (content_of self.new.notes name.now
+            ≡ option_map (take offset) (content_of self.old.notes name.now)) }
+        ensures others { KeepsOthers
+            (content_of self.old.notes) (content_of self.new.notes) name.now }
+    {
+        let answer = append(&mut self.notes, name, offset, bytes);
+        count(&mut self.failures, answer.is_err());
+        answer
+    }
+}
+
+/// Counts a failure, up to the last value of the count.
+fn count(failures: &mut u64, fails: bool)
+    ensures { Counts failures.old failures.new fails }
+{
+    if fails {
+        *failures = failures.saturating_add(1);
+    }
+}
+
+/// Whether a name is among others.
+fn has_name(names: &[Name], name: &Name) -> bool
+    ensures { result ≡ list_any (λ x. bytes_eq x name.now) names.now }
+{
+    names.iter().any(|x| x == name)
+}
+
+/// What stands under a name.
+fn content_in<'a>(notes: &'a BTreeMap<Name, Vec<u8>>, name: &Name) -> Option<&'a [u8]>
+    ensures { option_copied result ≡ content_of notes.now name.now }
+{
+    match notes.get(name) {
+        Some(content) => Some(content.as_slice()),
+        None => None,
+    }
+}
+
+/// Puts bytes under a name, in place of what stood there.
+fn put(
+    notes: &mut BTreeMap<Name, Vec<u8>>,
+    alloc: Global,
+    name: &Name,
+    bytes: &[u8],
+) -> Result<(), AllocError>
+    ensures ok { OnOk result (content_of notes.new name.now ≡ Some bytes.now) }
+    ensures err { OnErr result (content_of notes.new name.now ≡ content_of notes.old name.now) }
+    ensures others { KeepsOthers (content_of notes.old) (content_of notes.new) name.now }
+{
+    let content = bytes.to_vec(alloc)?;
+    match notes.insert(name.copy(), content) {
+        Ok(_) => Ok(()),
+        Err(_) => Err(AllocError),
+    }
+}
+
+/// What stands of a header under a name.
+#[derive(Clone, Copy, Debug, PartialEq, Eq)]
+enum Standing {
+    /// All of it, whatever follows.
+    Whole,
+    /// Nothing, or a beginning that isn't all of it.
+    Front,
+    /// Other bytes.
+    Other,
+}
+
+/// What stands of a header.
+#[tactic(auto, using(crate::proofs::Starts::front_begins, crate::proofs::Starts::torn_short))]
+fn compare(found: Option<&[u8]>, header: &[u8]) -> Standing
+    ensures whole { result ≡ Standing.Whole → BeginsWith header.now (option_copied found.entry) }
+    ensures front { result ≡ Standing.Front → IsShortOf header.now (option_copied found.entry) }
+{
+    match found {
+        None => Standing::Front,
+        Some(content) => {
+            if has_front_of(content, header) {
+                Standing::Whole
+            } else if is_torn(content, header) {
+                Standing::Front
+            } else {
+                Standing::Other
+            }
+        }
+    }
+}
+
+/// Whether a header stands at the front of a content.
+fn has_front_of(content: &[u8], header: &[u8]) -> bool
+    ensures { result ≡ has_front header.now content.now }
+{
+    content.len() >= header.len() && &content[..header.len()] == header
+}
+
+/// Writes a header, unless it stands there whole.
+#[tactic(auto, using(crate::proofs::Starts::starts_whole, crate::proofs::Starts::starts_short))]
+fn start(
+    notes: &mut BTreeMap<Name, Vec<u8>>,
+    alloc: Global,
+    name: &Name,
+    header: &[u8],
+) -> Result<(), StoreFault>
+    ensures begun { OnOk result (Starts header.now
+        (content_of notes.old name.now) (content_of notes.new name.now)) }
+    ensures failed { OnErr result
+        (content_of notes.new name.now ≡ content_of notes.old name.now) }
+    ensures others { KeepsOthers (content_of notes.old) (content_of notes.new) name.now }
+{
+    match compare(content_in(notes, name), header) {
+        Standing::Whole => Ok(()),
+        Standing::Other => Err(StoreFault),
+        Standing::Front => put(notes, alloc, name, header).map_err(|_| StoreFault),
+    }
+}
+
+/// Notes bytes behind the first ones of a name's content, in place of what stood there.
+fn append(
+    notes: &mut BTreeMap<Name, Vec<u8>>,
+    name: &Name,
+    offset: u64,
+    bytes: &[u8],
+) -> Result<(), StoreFault>
+    ensures over { OnOk result (NotesOver offset bytes.now
+        (content_of notes.old name.now) (content_of notes.new name.now)) }
+    ensures cut { OnErr result (content_of notes.new name.now
+        ≡ option_map (take offset) (content_of notes.old name.now)) }
+    ensures others { KeepsOthers (content_of notes.old) (content_of notes.new) name.now }
+{
+    match notes.get_mut(name) {
+        Some(content) => replace_tail(content, offset, bytes),
+        None => Err(StoreFault),
+    }
+}
+
+/// Puts bytes behind the first ones of a content, in place of what stood there.
+fn replace_tail(content: &mut Vec<u8>, offset: u64, bytes: &[u8]) -> Result<(), StoreFault>
+    ensures fits { OnOk result (offset ≤ length content.old.items) }
+    ensures ok { OnOk result (content.new.items ≡ take offset content.old.items ++ bytes.now) }
+    ensures err { OnErr result (content.new.items ≡ take offset content.old.items) }
+{
+    if offset > content.len() as u64 {
+        return Err(StoreFault);
+    }
+    content.truncate(offset as usize);
+    content.extend_from_slice(bytes).map_err(|_| StoreFault)
+}
