@@ -1,5 +1,5 @@
 -- What begins contents, and what is noted behind them.
-use Rattle.std.proofs.Common.{◌≡◌, ℕ, zero, suc, ◌+◌, ◌<◌, ◌≤◌, Bool, true, ◌&&◌, ◌⊎◌, inl, inr, Option, Some, None, List, [], ◌∷◌, ◌++◌, length, take, drop, refl, sym, ap, subst, ◌∙◌, arith}
+use Rattle.std.proofs.Common.{Result, Ok, Err, OnOk, OnErr, ◌≡◌, ℕ, zero, suc, ◌+◌, ◌<◌, ◌≤◌, Bool, true, ◌&&◌, ◌⊎◌, inl, inr, Option, Some, None, List, [], ◌∷◌, ◌++◌, length, take, drop, refl, sym, ap, subst, ◌∙◌, arith}
 use Rattle.std.specs.Prelude.{nat_le, nat_lt, option_map}
 use Rattle.std.specs.Str.{bytes_eq}
 use Rattle.std.proofs.lemmas.Bool.{and_parts, ltb-true}
@@ -93,3 +93,19 @@ notes_cut offset bytes before after is = λ base count was long. (
   is ∙ ap (option_map (take offset)) was
       ∙ ap Some (take_at base (take count bytes) offset long ∙ sym (nothing_more base)),
 )
+
+-- a front of the bytes that is noted over whatever stood there
+notes_front : (offset count : ℕ) (bytes : List ℕ) (before after : Option (List ℕ)) →
+    NotesOver offset (take count bytes) before after → NotesInPart offset bytes before after
+notes_front offset k bytes before after (old, is, fits, new) = λ base count was long. (
+  k,
+  new ∙ ap (λ (x : List ℕ). Some (take offset x ++ take k bytes)) (some_inj (sym is ∙ was))
+      ∙ ap (λ (x : List ℕ). Some (x ++ take k bytes)) (take_at base (take count bytes) offset long),
+)
+
+-- .. or that wasn't
+pub either_part : {T E : Type 0} (answer : Result T E) (offset count : ℕ) (bytes : List ℕ) (before after : Option (List ℕ)) →
+    OnOk answer (NotesOver offset (take count bytes) before after) → OnErr answer (after ≡ option_map (take offset) before) →
+    NotesInPart offset bytes before after
+either_part (Ok x) offset count bytes before after over cut = notes_front offset count bytes before after over
+either_part (Err e) offset count bytes before after over cut = notes_cut offset bytes before after cut

@@ -3,6 +3,7 @@
 
 mod entry;
 mod fault;
+mod fuse;
 mod header;
 mod journal;
 pub mod laws;
@@ -13,6 +14,7 @@ mod writer;
 
 pub use entry::{EntryRef, first_entry};
 pub use fault::ReplayFault;
+pub use fuse::FuseJournal;
 pub use header::JournalHeader;
 pub use journal::{Journal, NoJournal};
 pub use memory::MemoryJournal;

@@ -128,7 +128,7 @@ impl Journal for MemoryJournal {
 }
 
 /// Counts a failure, up to the last value of the count.
-fn count(failures: &mut u64, fails: bool)
+pub(crate) fn count(failures: &mut u64, fails: bool)
     ensures { Counts failures.old failures.new fails }
 {
     if fails {

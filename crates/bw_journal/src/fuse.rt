@@ -1,0 +1,170 @@
+//! A journal in memory that fails chosen calls.
+ghost use Rattle.std.specs.Prelude.{◌≡◌, ◌==◌, List, not, true, IsTrue, IsErr, OnOk, OnErr, is_err, filter};
+ghost use Rattle.bw_model.specs.Counts.{Counts};
+ghost use Rattle.bw_file.specs.Fuses.{has_fuse};
+ghost use Rattle.bw_file.specs.Memory.{content_of};
+ghost use Rattle.bw_file.specs.Stores.{KeepsOthers};
+ghost use Rattle.bw_journal.specs.MemoryHeaders.{header_for};
+ghost use Rattle.bw_journal.specs.Notes.{Begins, KeepsHeaders, NotesOver, NotesInPart};
+
+use crate::journal::Journal;
+use crate::memory::{MemoryJournal, count};
+use bw_file::StoreFault;
+use bw_take::Name;
+
+/// A journal behind fuses: the calls of chosen numbers, counted from 0, fail, each once.
+///
+/// A `note` that fails so notes the first half of its bytes, rounded down; a `begin` nothing.
+#[derive(Drop)]
+pub struct FuseJournal {
+    inner: MemoryJournal,
+    fuses: Vec<u64>,
+    calls: u64,
+    failures: u64,
+}
+
+impl FuseJournal {
+    /// A journal whose calls of these numbers fail.
+    pub fn new(inner: MemoryJournal, fuses: Vec<u64>) -> FuseJournal
+        ensures inner { result.inner ≡ inner }
+        ensures fuses { result.fuses.items ≡ fuses.items }
+        ensures calls { result.calls ≡ 0 }
+        ensures failures { result.failures ≡ 0 }
+    {
+        FuseJournal {
+            inner,
+            fuses,
+            calls: 0,
+            failures: 0,
+        }
+    }
+
+    /// How many calls came, those that failed among them.
+    pub fn calls(&self) -> u64
+        ensures { result ≡ self.now.calls }
+    {
+        self.calls
+    }
+
+    /// The journal behind the fuses.
+    pub fn inner(&self) -> &MemoryJournal
+        ensures { result.now ≡ self.now.inner }
+    {
+        &self.inner
+    }
+
+    /// The journal behind the fuses, without them.
+    pub fn into_inner(self) -> MemoryJournal
+        ensures { result ≡ self.inner }
+    {
+        let FuseJournal {
+            inner,
+            fuses: _,
+            calls: _,
+            failures: _,
+        } = self;
+        inner
+    }
+}
+
+impl Journal for FuseJournal {
+    ghost notes = { λ j name. content_of j.inner.notes name };
+
+    ghost header = { λ j name. header_for j.inner name };
+
+    ghost failures = { λ j. j.failures };
+
+    ghost honest = { λ _. true };
+
+    fn begin(&mut self, name: &Name) -> Result<(), StoreFault>
+        ensures failures { Counts self.old.failures self.new.failures (is_err result) }
+        ensures calls { Counts self.old.calls self.new.calls true }
+        ensures headers { KeepsHeaders (header_for self.old.inner) (header_for self.new.inner) }
+        ensures begun { OnOk result (Begins (header_for self.old.inner name.now)
+            (content_of self.old.inner.notes name.now)
+            (content_of self.new.inner.notes name.now)) }
+        ensures failed { OnErr result (content_of self.new.inner.notes name.now
+            ≡ content_of self.old.inner.notes name.now) }
+        ensures others { KeepsOthers
+            (content_of self.old.inner.notes) (content_of self.new.inner.notes) name.now }
+        ensures blows { IsTrue (has_fuse self.old.fuses.items self.old.calls) → IsErr result }
+        ensures spent { self.new.fuses.items
+            ≡ filter (λ f. not (f == self.old.calls)) self.old.fuses.items }
+    {
+        let answer = if blow(&mut self.fuses, self.calls) {
+            Err(StoreFault)
+        } else {
+            self.inner.begin(name)
+        };
+        count(&mut self.calls, true);
+        count(&mut self.failures, answer.is_err());
+        answer
+    }
+
+    fn note(&mut self, name: &Name, offset: u64, bytes: &[u8]) -> Result<(), StoreFault>
+        ensures failures { Counts self.old.failures self.new.failures (is_err result) }
+        ensures calls { Counts self.old.calls self.new.calls true }
+        ensures headers { KeepsHeaders (header_for self.old.inner) (header_for self.new.inner) }
+        ensures over { OnOk result (NotesOver offset bytes.now
+            (content_of self.old.inner.notes name.now)
+            (content_of self.new.inner.notes name.now)) }
+        ensures failed { OnErr result (NotesInPart offset bytes.now
+            (content_of self.old.inner.notes name.now)
+            (content_of self.new.inner.notes name.now)) }
+        ensures others { KeepsOthers
+            (content_of self.old.inner.notes) (content_of self.new.inner.notes) name.now }
+        ensures blows { IsTrue (has_fuse self.old.fuses.items self.old.calls) → IsErr result }
+        ensures spent { self.new.fuses.items
+            ≡ filter (λ f. not (f == self.old.calls)) self.old.fuses.items }
+    {
+        let answer = if blow(&mut self.fuses, self.calls) {
+            note_half(&mut self.inner, name, offset, bytes);
+            Err(StoreFault)
+        } else {
+            note_all(&mut self.inner, name, offset, bytes)
+        };
+        count(&mut self.calls, true);
+        count(&mut self.failures, answer.is_err());
+        answer
+    }
+}
+
+/// Whether the call of this number is to fail. Its fuse is spent then.
+fn blow(fuses: &mut Vec<u64>, call: u64) -> bool
+    ensures told { result ≡ has_fuse fuses.old.items call }
+    ensures spent { fuses.new.items ≡ filter (λ f. not (f == call)) fuses.old.items }
+{
+    let has = fuses.contains(&call);
+    fuses.retain(|fuse| *fuse != call);
+    has
+}
+
+/// Notes the bytes.
+#[tactic(auto, using(crate::proofs::Starts::notes_cut))]
+fn note_all(
+    journal: &mut MemoryJournal,
+    name: &Name,
+    offset: u64,
+    bytes: &[u8],
+) -> Result<(), StoreFault>
+    ensures headers { KeepsHeaders (header_for journal.old) (header_for journal.new) }
+    ensures over { OnOk result (NotesOver offset bytes.now
+        (content_of journal.old.notes name.now) (content_of journal.new.notes name.now)) }
+    ensures failed { OnErr result (NotesInPart offset bytes.now
+        (content_of journal.old.notes name.now) (content_of journal.new.notes name.now)) }
+    ensures others { KeepsOthers
+        (content_of journal.old.notes) (content_of journal.new.notes) name.now }
+{
+    journal.note(name, offset, bytes)
+}
+
+/// Notes the first half of the bytes, whether or not the journal takes it.
+fn note_half(journal: &mut MemoryJournal, name: &Name, offset: u64, bytes: &[u8])
+    ensures headers { KeepsHeaders (header_for journal.old) (header_for journal.new) }
+    ensures part { NotesInPart offset bytes.now
+        (content_of journal.old.notes name.now) (content_of journal.new.notes name.now) }
+    ensures others { KeepsOthers
+        (content_of journal.old.notes) (content_of journal.new.notes) name.now }
+{
+    let _ = journal.note(name, offset, &bytes[..bytes.len() / 2]);
+}
