@@ -57,6 +57,24 @@ impl GrowingFile {
         })
     }
 
+    /// The file of a take that is open and stands whole in a store, as a server finds it that goes
+    /// on from a journal.
+    ///
+    /// # Errors
+    /// `AllocError` where the room was refused.
+    pub fn resume(alloc: Global, name: Name, limit: Limit) -> Result<GrowingFile, AllocError>
+        ensures { IfOk result
+            (λ f. f ≡ record { name = name; limit = limit; made = true; dirty = false }) }
+    {
+        Ok(GrowingFile {
+            name,
+            limit,
+            made: true,
+            dirty: false,
+            room: Room::new(alloc)?,
+        })
+    }
+
     /// Whether the next call writes the whole header: the last one failed, or was marked to be
     /// tried again.
     pub fn is_dirty(&self) -> bool
