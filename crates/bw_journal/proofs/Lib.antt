@@ -13,3 +13,4 @@ pub mod RecoveryLaws
 pub mod RepairLaws
 pub mod BetweenLaws
 pub mod Starts
+pub mod StopLaws

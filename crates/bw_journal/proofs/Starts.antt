@@ -1,5 +1,5 @@
 -- What begins contents, and what is noted behind them.
-use Rattle.std.proofs.Common.{Result, Ok, Err, OnOk, OnErr, ◌≡◌, ℕ, zero, suc, ◌+◌, ◌<◌, ◌≤◌, Bool, true, ◌&&◌, ◌⊎◌, inl, inr, Option, Some, None, List, [], ◌∷◌, ◌++◌, length, take, drop, refl, sym, ap, subst, ◌∙◌, arith}
+use Rattle.std.proofs.Common.{Result, Ok, Err, OnOk, OnErr, ◌≡◌, ℕ, zero, suc, ◌+◌, ◌≤◌, true, inl, inr, Option, Some, None, List, [], ◌∷◌, ◌++◌, length, take, drop, refl, sym, ap, subst, ◌∙◌, arith}
 use Rattle.std.specs.Prelude.{nat_le, nat_lt, option_map}
 use Rattle.std.specs.Str.{bytes_eq}
 use Rattle.std.proofs.lemmas.Bool.{and_parts, ltb-true}
@@ -31,21 +31,25 @@ front_begins bytes content e =
     let tests = and_parts (nat_le (length bytes) (length content)) (bytes_eq (take (length bytes) content) bytes) e in (
       drop (length bytes) content,
       ap Some (sym (take-append-drop (length bytes) content)
-          ∙ ap (λ (x : List ℕ). x ++ drop (length bytes) content) (same_name (take (length bytes) content) bytes tests.1)),
+          ∙ ap (λ (x : List ℕ). x ++ drop (length bytes) content)
+              (same_name (take (length bytes) content) bytes tests.1)),
     )
 
 -- a content that is torn is a front
 pub torn_short : (bytes content : List ℕ) → is_torn content bytes ≡ true → IsShortOf bytes (Some content)
 torn_short bytes content e =
     let tests = and_parts (nat_lt (length content) (length bytes)) (bytes_eq content (take (length content) bytes)) e in
-    inr (length content, ap Some (same_name content (take (length content) bytes) tests.1), ltb-true (length content) (length bytes) tests.0)
+    inr (length content, ap Some (same_name content (take (length content) bytes) tests.1), ltb-true (length content)
+        (length bytes) tests.0)
 
 -- all of the bytes, and a front of them
-whole_front : (bytes : List ℕ) (found : Option (List ℕ)) → BeginsWith bytes found → IsFrontOf bytes found → found ≡ Some bytes
+whole_front : (bytes : List ℕ) (found : Option (List ℕ)) → BeginsWith bytes found → IsFrontOf bytes found →
+    found ≡ Some bytes
 whole_front bytes found (rest, is) (inl none) = absurd (none_some (sym none ∙ is))
 whole_front bytes found (rest, is) (inr (count, front)) =
     let same : bytes ++ rest ≡ take count bytes = some_inj (sym is ∙ front) in
-    let long : length bytes + length rest ≡ length (take count bytes) = sym (length-append bytes rest) ∙ ap length same in
+    let long : length bytes + length rest ≡ length (take count bytes) =
+        sym (length-append bytes rest) ∙ ap length same in
     let short = length-take_whole count bytes in
     is ∙ ap (λ (r : List ℕ). Some (bytes ++ r)) (empty rest (omega (arith, long, short))) ∙ ap Some (nothing_more bytes)
 
@@ -86,7 +90,8 @@ notes_over offset bytes before after (old, is, fits, new) = λ base count was lo
     new ∙ ap (λ (x : List ℕ). Some (take offset x ++ bytes)) (some_inj (sym is ∙ was))
     ∙ ap (λ (x : List ℕ). Some (x ++ bytes)) (take_at base (take count bytes) offset long)
 
-pub notes_cut : (offset : ℕ) (bytes : List ℕ) (before after : Option (List ℕ)) → after ≡ option_map (take offset) before →
+pub notes_cut : (offset : ℕ) (bytes : List ℕ) (before after : Option (List ℕ)) →
+    after ≡ option_map (take offset) before →
     NotesInPart offset bytes before after
 notes_cut offset bytes before after is = λ base count was long. (
   zero,
@@ -104,8 +109,10 @@ notes_front offset k bytes before after (old, is, fits, new) = λ base count was
 )
 
 -- .. or that wasn't
-pub either_part : {T E : Type 0} (answer : Result T E) (offset count : ℕ) (bytes : List ℕ) (before after : Option (List ℕ)) →
-    OnOk answer (NotesOver offset (take count bytes) before after) → OnErr answer (after ≡ option_map (take offset) before) →
+pub either_part : {T E : Type 0} (answer : Result T E) (offset count : ℕ) (bytes : List ℕ)
+    (before after : Option (List ℕ)) →
+    OnOk answer (NotesOver offset (take count bytes) before after) →
+        OnErr answer (after ≡ option_map (take offset) before) →
     NotesInPart offset bytes before after
 either_part (Ok x) offset count bytes before after over cut = notes_front offset count bytes before after over
 either_part (Err e) offset count bytes before after over cut = notes_cut offset bytes before after cut

@@ -1,7 +1,7 @@
 //! A journal in memory that fails chosen calls.
-ghost use Rattle.std.specs.Prelude.{◌≡◌, ◌==◌, List, not, true, IsTrue, IsErr, OnOk, OnErr, is_err, filter};
-ghost use Rattle.bw_model.specs.Counts.{Counts};
-ghost use Rattle.bw_file.specs.Fuses.{has_fuse};
+ghost use Rattle.std.specs.Prelude.{◌≡◌, ◌<◌, ◌==◌, List, not, true, IsTrue, OnOk, OnErr, is_err, filter};
+ghost use Rattle.bw_model.specs.Counts.{Counts, last_count};
+ghost use Rattle.bw_file.specs.Fuses.{has_fuse, Blows, first_half};
 ghost use Rattle.bw_file.specs.Memory.{content_of};
 ghost use Rattle.bw_file.specs.Stores.{KeepsOthers};
 ghost use Rattle.bw_journal.specs.MemoryHeaders.{header_for};
@@ -87,7 +87,8 @@ impl Journal for FuseJournal {
             ≡ content_of self.old.inner.notes name.now) }
         ensures others { KeepsOthers
             (content_of self.old.inner.notes) (content_of self.new.inner.notes) name.now }
-        ensures blows { IsTrue (has_fuse self.old.fuses.items self.old.calls) → IsErr result }
+        ensures blows { Blows (has_fuse self.old.fuses.items self.old.calls) (is_err result)
+            self.old.inner.failures self.new.inner.failures }
         ensures spent { self.new.fuses.items
             ≡ filter (λ f. not (f == self.old.calls)) self.old.fuses.items }
     {
@@ -113,7 +114,14 @@ impl Journal for FuseJournal {
             (content_of self.new.inner.notes name.now)) }
         ensures others { KeepsOthers
             (content_of self.old.inner.notes) (content_of self.new.inner.notes) name.now }
-        ensures blows { IsTrue (has_fuse self.old.fuses.items self.old.calls) → IsErr result }
+        ensures blows { Blows (has_fuse self.old.fuses.items self.old.calls) (is_err result)
+            self.old.inner.failures self.new.inner.failures }
+        ensures half { IsTrue (has_fuse self.old.fuses.items self.old.calls) →
+            self.old.inner.failures < last_count →
+            self.new.inner.failures ≡ self.old.inner.failures →
+            NotesOver offset (first_half bytes.now)
+            (content_of self.old.inner.notes name.now)
+            (content_of self.new.inner.notes name.now) }
         ensures spent { self.new.fuses.items
             ≡ filter (λ f. not (f == self.old.calls)) self.old.fuses.items }
     {
@@ -147,6 +155,7 @@ fn note_all(
     offset: u64,
     bytes: &[u8],
 ) -> Result<(), StoreFault>
+    ensures failures { Counts journal.old.failures journal.new.failures (is_err result) }
     ensures headers { KeepsHeaders (header_for journal.old) (header_for journal.new) }
     ensures over { OnOk result (NotesOver offset bytes.now
         (content_of journal.old.notes name.now) (content_of journal.new.notes name.now)) }
@@ -162,6 +171,9 @@ fn note_all(
 fn note_half(journal: &mut MemoryJournal, name: &Name, offset: u64, bytes: &[u8])
     ensures headers { KeepsHeaders (header_for journal.old) (header_for journal.new) }
     ensures part { NotesInPart offset bytes.now
+        (content_of journal.old.notes name.now) (content_of journal.new.notes name.now) }
+    ensures half { journal.old.failures < last_count → journal.new.failures ≡ journal.old.failures →
+        NotesOver offset (first_half bytes.now)
         (content_of journal.old.notes name.now) (content_of journal.new.notes name.now) }
     ensures others { KeepsOthers
         (content_of journal.old.notes) (content_of journal.new.notes) name.now }

@@ -1,6 +1,6 @@
 //! Laws of journals. Each function's contract is one; nothing runs.
 ghost use Rattle.bw_journal.specs.Noted.{EntriesReadBack, ReadEntriesStand, CutEntriesAreNone, EntriesAreShort, HeadersReadBack, ReadHeadersStand, CutHeadersAreNotBegun, JournalsTellLogs};
-ghost use Rattle.bw_journal.specs.Stops.{BooksAreCut, CutBooksAreBooks};
+ghost use Rattle.bw_journal.specs.Stops.{BooksAreCut, CutBooksAreBooks, EachWorldGoesOn};
 ghost use Rattle.bw_journal.specs.Recovery.{HeldFilesSurvive, FilesAreRepaired, RecoveryHolds, ClosedFilesAreWhole, NewFilesAreBetween};
 
 /// An entry is read again from its bytes, whatever follows; where one is read, its bytes stand; and
@@ -24,10 +24,12 @@ pub fn law_journals()
     ensures { JournalsTellLogs }
 {}
 
-/// A stop leaves the done numbers, and a book.
-pub fn law_books()
-    ensures cut { BooksAreCut }
+/// A stop leaves the done numbers, and a book. In every world of a sender, a network and servers that
+/// stop and are followed by others, each verdict that was ever written stays that of a done number.
+pub fn law_stops()
+    ensures books { BooksAreCut }
     ensures left { CutBooksAreBooks }
+    ensures worlds { EachWorldGoesOn }
 {}
 
 /// At each moment a server's files are those of its done numbers, or between them and the next;
