@@ -1,2 +1,5 @@
 pub mod Packing
 pub mod Slots
+pub mod OwnFiles
+pub mod WriteForms
+pub mod CarryForms

@@ -1,3 +1,5 @@
 pub mod Bodies
 pub mod Windows
 pub mod Ledgers
+pub mod Writing
+pub mod Carrying

@@ -2,5 +2,7 @@
 #![tactic(auto)]
 
 mod body;
+mod carrying;
 mod ledger;
 mod window;
+mod writing;

@@ -1,0 +1,24 @@
+-- What judging a request, and writing it where it is to be stored, leaves.
+use Rattle.std.specs.Prelude.{◌≡◌, Bool, true, false, Option, None, IsSome, List, ℕ, Result, MatchResult, IfOk}
+use Rattle.bw_model.specs.Take.{Take, Parts, Request, Stored, judge, parts, after}
+use Rattle.bw_take.specs.Verdicts.{verdict_of}
+use Rattle.bw_take.specs.declared.verdict.Verdict.{Verdict}
+use Rattle.bw_file.specs.Growing.{Growing}
+use Rattle.bw_file.specs.declared.store.StoreFault.{StoreFault}
+use Rattle.bw_session.specs.Writing.{is_mark, HasOwnFile, HasWholeFile}
+
+-- The request is to be stored, by a call of the file.
+pub record Touches (p : Parts) (r : Request) : Type 0 where
+  pub stored : judge p r ≡ Stored
+  pub unmarked : is_mark r ≡ false
+
+-- What stands after a request was judged and written. The name of an unopened take that stood is left as it was, and tells the verdict.
+pub record Carries (answer : Result Verdict StoreFault) (r : Request) (p q : Parts)
+    (old new : Growing) (before found : Option (List ℕ)) : Type 0 where
+  pub own : (t : Take) → parts t ≡ p → HasOwnFile t r old before →
+      MatchResult answer
+      (λ _. (q ≡ p) × HasWholeFile (after t r) new found)
+      (λ _. HasOwnFile t r new found)
+  pub stood : p.format ≡ None → old.made ≡ false → IsSome before →
+      (found ≡ before) × (new.made ≡ false)
+      × IfOk answer (λ v. verdict_of v ≡ judge (record p { taken = true }) r)

@@ -1,0 +1,45 @@
+-- What a request that is to be stored does to the file of its take.
+use Rattle.std.specs.Prelude.{◌≡◌, ℕ, Bool, true, false, Option, Some, None, IsSome, is_some, IsTrue, IsFalse, List, Result, MatchResult, IfOk, OnOk, OnErr}
+use Rattle.std.specs.Bool.{MatchBool}
+use Rattle.bw_model.specs.Take.{Take, Parts, Request, Open, Block, Mark, SetField, Close, parts, with_request}
+use Rattle.bw_model.specs.File.{file_of}
+use Rattle.bw_model.specs.Holds.{IsInTheMiddle}
+use Rattle.bw_file.specs.Growing.{Growing, is_new}
+use Rattle.bw_file.specs.declared.store.Created.{Created}
+use Rattle.bw_file.specs.declared.store.StoreFault.{StoreFault}
+
+-- a marker changes nothing in the file of an open take
+abbrev pub is_mark : Request → Bool
+is_mark (Open f history) = false
+is_mark (Block bytes) = false
+is_mark (Mark id frame) = true
+is_mark (SetField tag value) = false
+is_mark (Close total) = false
+
+-- The file of a name that did not stand: the take's, or on a dirty file what an earlier try of the request that waits may have left.
+pub record HasOwnFile (t : Take) (waits : Request) (g : Growing) (found : Option (List ℕ)) :
+    Type 0 where
+  pub whole : MatchBool g.dirty (IsInTheMiddle t g.limit (Some waits) found) (found ≡ file_of t g.limit)
+  pub made_here : g.made ≡ is_some found
+
+-- the take's file, whole
+pub record HasWholeFile (t : Take) (g : Growing) (found : Option (List ℕ)) : Type 0 where
+  pub whole : found ≡ file_of t g.limit
+  pub made_here : g.made ≡ is_some found
+
+-- What the growing file knows after a request was written: it is clean, or after a fault dirty.
+pub record Knows (answer : Result Created StoreFault) (r : Request) (old new : Growing) :
+    Type 0 where
+  pub same : new ≡ record old { made = new.made; dirty = new.dirty }
+  pub clean : OnOk answer (new.dirty ≡ false)
+  pub dirty : OnErr answer ((new.dirty ≡ true) × (is_mark r ≡ false))
+
+-- What stands after a request was written. The name of an unopened take that stood is left as it was.
+pub record Writes (answer : Result Created StoreFault) (r : Request) (p : Parts)
+    (old new : Growing) (before after : Option (List ℕ)) : Type 0 where
+  pub own : (t : Take) → parts t ≡ p → HasOwnFile t r old before →
+      MatchResult answer
+      (λ c. IsTrue (is_new c) × HasWholeFile (with_request t r) new after)
+      (λ _. HasOwnFile t r new after)
+  pub stood : p.format ≡ None → old.made ≡ false → IsSome before →
+      (after ≡ before) × (new.made ≡ false) × IfOk answer (λ c. IsFalse (is_new c))

@@ -1,0 +1,59 @@
+//! Judging a request, and carrying it out in the file.
+ghost use Rattle.std.specs.Prelude.{◌≡◌, ◌+◌, ◌^◌, ◌≤◌, IsTrue, IfOk, OnOk, OnErr, is_err, false, true};
+ghost use Rattle.bw_model.specs.Take.{judge as verdict_on};
+ghost use Rattle.bw_model.specs.Wire.{is_request};
+ghost use Rattle.bw_take.specs.Requests.{meaning};
+ghost use Rattle.bw_take.specs.States.{samples_in};
+ghost use Rattle.bw_take.specs.Verdicts.{verdict_of};
+ghost use Rattle.bw_file.specs.Stores.{Counts, KeepsOthers};
+ghost use Rattle.bw_session.specs.Carrying.{Touches, Carries};
+
+use crate::writing::write_request;
+use bw_file::{Created, GrowingFile, StoreFault, TakeStore};
+use bw_take::{RequestRef, TakeState, Verdict, judge};
+
+/// Judges a request, and writes it to the file where it is to be stored; the state is as it was.
+///
+/// Where the take's name stood in the store, which only a request to open it finds out, the state
+/// knows it afterwards, and the request is judged by that.
+///
+/// # Errors
+/// `StoreFault` where a call of the store failed: nothing but the file changed.
+pub(crate) fn carry_out<S: TakeStore>(
+    store: &mut S,
+    growing: &mut GrowingFile,
+    state: &mut TakeState,
+    request: &RequestRef<'_>,
+) -> Result<Verdict, StoreFault>
+    requires fits { IsTrue (is_request (meaning request.now)) }
+    requires samples { state.old.parts.samples_len + samples_in (meaning request.now) ≤ 2 ^ 62 }
+    requires dirty { IsTrue growing.old.dirty → Touches state.old.parts (meaning request.now) }
+    ensures failures { Counts (S.failures store.old) (S.failures store.new) (is_err result) }
+    ensures calls { S.calls store.new ≤ S.calls store.old + 4 }
+    ensures honest { S.honest store.new ≡ S.honest store.old }
+    ensures others { IsTrue (S.honest store.old) →
+        KeepsOthers (S.contents store.old) (S.contents store.new) growing.old.name }
+    ensures known { growing.new ≡ record growing.old { made = growing.new.made; dirty = growing.new.dirty } }
+    ensures room { state.new.room ≡ state.old.room }
+    ensures parts { state.new.parts ≡ record state.old.parts { taken = state.new.parts.taken } }
+    ensures verdict { IfOk result (λ v. verdict_of v ≡ verdict_on state.new.parts (meaning request.now)) }
+    ensures clean { OnOk result (growing.new.dirty ≡ false) }
+    ensures unchanged { OnErr result (state.new ≡ state.old) }
+    ensures touched { OnErr result (Touches state.old.parts (meaning request.now)) }
+    ensures dirty { OnErr result (growing.new.dirty ≡ true) }
+    ensures file { IsTrue (S.honest store.old) →
+        Carries result (meaning request.now) state.old.parts state.new.parts growing.old growing.new
+        (S.contents store.old growing.old.name) (S.contents store.new growing.old.name) }
+{
+    let verdict = judge(state, request);
+    if !verdict.is_stored() {
+        return Ok(verdict);
+    }
+    match write_request(store, growing, state, request)? {
+        Created::New => Ok(verdict),
+        Created::Exists => {
+            state.set_taken();
+            Ok(judge(state, request))
+        }
+    }
+}
