@@ -32,15 +32,19 @@ front_begins bytes content e =
       drop (length bytes) content,
       ap Some (sym (take-append-drop (length bytes) content)
           ∙ ap (λ (x : List ℕ). x ++ drop (length bytes) content)
-              (same_name (take (length bytes) content) bytes tests.1)),
+          (same_name (take (length bytes) content) bytes tests.1)),
     )
 
 -- a content that is torn is a front
 pub torn_short : (bytes content : List ℕ) → is_torn content bytes ≡ true → IsShortOf bytes (Some content)
 torn_short bytes content e =
     let tests = and_parts (nat_lt (length content) (length bytes)) (bytes_eq content (take (length content) bytes)) e in
-    inr (length content, ap Some (same_name content (take (length content) bytes) tests.1), ltb-true (length content)
-        (length bytes) tests.0)
+    inr (
+      length content,
+      ap Some (same_name content (take (length content) bytes) tests.1),
+      ltb-true (length content)
+          (length bytes) tests.0,
+    )
 
 -- all of the bytes, and a front of them
 whole_front : (bytes : List ℕ) (found : Option (List ℕ)) → BeginsWith bytes found → IsFrontOf bytes found →
@@ -49,7 +53,7 @@ whole_front bytes found (rest, is) (inl none) = absurd (none_some (sym none ∙ 
 whole_front bytes found (rest, is) (inr (count, front)) =
     let same : bytes ++ rest ≡ take count bytes = some_inj (sym is ∙ front) in
     let long : length bytes + length rest ≡ length (take count bytes) =
-        sym (length-append bytes rest) ∙ ap length same in
+    sym (length-append bytes rest) ∙ ap length same in
     let short = length-take_whole count bytes in
     is ∙ ap (λ (r : List ℕ). Some (bytes ++ r)) (empty rest (omega (arith, long, short))) ∙ ap Some (nothing_more bytes)
 
@@ -61,12 +65,17 @@ not_short bytes found (inr (count, front, short)) (rest, is) =
     let few : length (take count bytes) ≡ count = length-take-le count bytes (omega (arith, short)) in
     omega (arith, long, few, short)
 
+short_front : (bytes : List ℕ) (found : Option (List ℕ)) → IsShortOf bytes found → IsFrontOf bytes found
+short_front bytes found (inl none) = inl none
+short_front bytes found (inr (count, front, short)) = inr (count, front)
+
 pub starts_whole : (bytes : List ℕ) (before after : Option (List ℕ)) → BeginsWith bytes before → after ≡ before →
     Starts bytes before after
 starts_whole bytes before after w same = record {
   stands = (w.0, same ∙ w.1);
   written = λ front. same ∙ whole_front bytes before w front;
   kept = λ x. same;
+  only = inl same;
 }
 
 pub starts_short : (bytes : List ℕ) (before after : Option (List ℕ)) → IsShortOf bytes before → after ≡ Some bytes →
@@ -75,12 +84,14 @@ starts_short bytes before after short is = record {
   stands = ([], is ∙ ap Some (sym (nothing_more bytes)));
   written = λ front. is;
   kept = λ whole. absurd (not_short bytes before short whole);
+  only = inr (short_front bytes before short);
 }
 
 pub starts_not : (bytes : List ℕ) (before after : Option (List ℕ)) → after ≡ before → StartsInPart bytes before after
 starts_not bytes before after same = record {
   front = λ front. subst (IsFrontOf bytes) (sym same) front;
   kept = λ whole. same;
+  only = inl same;
 }
 
 -- what is noted over whatever stood there is noted in place of a front
@@ -112,7 +123,7 @@ notes_front offset k bytes before after (old, is, fits, new) = λ base count was
 pub either_part : {T E : Type 0} (answer : Result T E) (offset count : ℕ) (bytes : List ℕ)
     (before after : Option (List ℕ)) →
     OnOk answer (NotesOver offset (take count bytes) before after) →
-        OnErr answer (after ≡ option_map (take offset) before) →
+    OnErr answer (after ≡ option_map (take offset) before) →
     NotesInPart offset bytes before after
 either_part (Ok x) offset count bytes before after over cut = notes_front offset count bytes before after over
 either_part (Err e) offset count bytes before after over cut = notes_cut offset bytes before after cut

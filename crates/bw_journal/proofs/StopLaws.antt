@@ -37,7 +37,7 @@ cut_kept stood w k =
       were = subst (λ (l : Log). Each (WasOffered name w.sender.offered l.done) w.sent) same k.were;
       told = subst (λ (l : Log). Each (IsTrueReply (stood name) name l) w.replies) same
           (each-map (IsTrueReply (stood name) name log) (IsTrueReply (stood name) name (cut_log log)) w.replies
-              (true_cut (stood name) name log) k.told);
+          (true_cut (stood name) name log) k.told);
       known = subst (λ (l : Log). (n : ℕ) (v : Verdict) → at w.sender.verdicts n ≡ Some v →
           (n < l.done) × (v ≡ verdict_at (stood name) l.admitted n)) same
           (λ n v e. let x = k.known n v e in (x.0, x.1 ∙ sym (verdict-cut (stood name) log.admitted log.done n x.0)));

@@ -27,11 +27,15 @@ pub record Starts (bytes : List ℕ) (before after : Option (List ℕ)) : Type 0
   pub stands : BeginsWith bytes after
   pub written : IsFrontOf bytes before → after ≡ Some bytes
   pub kept : BeginsWith bytes before → after ≡ before
+  -- other bytes are never written over
+  pub only : (after ≡ before) ⊎ IsFrontOf bytes before
 
 -- .. or no more than a front of them was written, and nothing over all of them
 pub record StartsInPart (bytes : List ℕ) (before after : Option (List ℕ)) : Type 0 where
   pub front : IsFrontOf bytes before → IsFrontOf bytes after
   pub kept : BeginsWith bytes before → after ≡ before
+  -- other bytes are never written over
+  pub only : (after ≡ before) ⊎ IsFrontOf bytes before
 
 -- after a `begin` that succeeds
 abbrev pub Begins : Header → Option (List ℕ) → Option (List ℕ) → Type 0
