@@ -3,3 +3,4 @@ pub mod Slots
 pub mod OwnFiles
 pub mod WriteForms
 pub mod CarryForms
+pub mod LogSteps

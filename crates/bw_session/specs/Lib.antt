@@ -3,3 +3,4 @@ pub mod Windows
 pub mod Ledgers
 pub mod Writing
 pub mod Carrying
+pub mod Keeping

@@ -4,5 +4,6 @@
 mod body;
 mod carrying;
 mod ledger;
+mod settling;
 mod window;
 mod writing;
