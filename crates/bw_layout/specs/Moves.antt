@@ -1,5 +1,5 @@
 -- What readers and writers do to the bytes that they tell, and to their count of failures.
-use Rattle.std.specs.Prelude.{◌≡◌, ℕ, ◌+◌, ◌-◌, ◌^◌, ◌<◌, ◌≤◌, List, [], ◌++◌, length, take, drop, min, Option, Some, Result, Ok, Err, IfOk, is_ok, if◌then◌else◌, nat_lt}
+use Rattle.std.specs.Prelude.{◌≡◌, ℕ, ◌+◌, ◌-◌, ◌^◌, ◌<◌, ◌≤◌, List, [], ◌++◌, length, take, drop, min, Option, Some, Result, Ok, Err, IfOk, MatchResult, is_ok, if◌then◌else◌, nat_lt}
 use Rattle.std.specs.Io.Seek.{MovesTo}
 
 -- one more failure; the last value stays
@@ -46,6 +46,11 @@ abbrev pub SeeksOver : {E : Type 0} → ℕ → ℕ → ℕ → Option ℕ → O
 SeeksOver place len most old new result =
     let count = min most (len - place) in
     0 < count → IfOk result (λ n. n ≡ count) × MovesTo old new (place + count) result
+
+-- Behind so many bytes a skip reads on: it passes over the next bytes that the reader itself has.
+abbrev pub ReadsOn : {E : Type 0} → ℕ → ℕ → ℕ → Option (List ℕ) → Option (List ℕ) → Result ℕ E → Type 0
+ReadsOn place len most old new result =
+    min most (len - place) ≡ 0 → MatchResult result (λ n. Skips old most n new) (λ _. Keeps old new)
 
 -- a writer that tells its bytes has these behind them
 abbrev pub Writes : Option (List ℕ) → List ℕ → Option (List ℕ) → Type 0

@@ -1,6 +1,6 @@
 //! Readers and writers of std as a `Source` and a `Sink`.
-ghost use Rattle.std.specs.Prelude.{◌≡◌, ◌<◌, ◌≤◌, length, true, IfOk, OnErr};
-ghost use Rattle.bw_layout.specs.Moves.{failures_after, moved_after, Keeps, Reads, Skips};
+ghost use Rattle.std.specs.Prelude.{◌≡◌, ◌<◌, ◌≤◌, length, take, true, false, IfOk, OnErr};
+ghost use Rattle.bw_layout.specs.Moves.{failures_after, moved_after, Keeps, Reads, Skips, Writes};
 
 use crate::sink::Sink;
 use crate::source::{IoFailed, Source};
@@ -100,7 +100,15 @@ impl<T: Write> Sink for Plain<T> {
 
     ghost is_flushed = { λ s. s.is_flushed };
 
-    fn write(&mut self, bytes: &[u8]) -> Result<usize, IoFailed> {
+    fn write(&mut self, bytes: &[u8]) -> Result<usize, IoFailed>
+        ensures count { self.new.failures ≡ failures_after result self.old.failures }
+        ensures within { IfOk result (λ n. n ≤ length bytes.now) }
+        ensures some { IfOk result (λ n. 0 < length bytes.now → 0 < n) }
+        ensures ok { IfOk result (λ n.
+            Writes (T.contents self.old.inner) (take n bytes.now) (T.contents self.new.inner)) }
+        ensures err { OnErr result (Keeps (T.contents self.old.inner) (T.contents self.new.inner)) }
+        ensures held { self.new.is_flushed ≡ false }
+    {
         self.is_flushed = false;
         match self.inner.write(bytes) {
             Ok(count) if count > 0 || bytes.is_empty() => Ok(count),

@@ -1,7 +1,7 @@
 //! A file as a `Source` that seeks over what it passes by.
-ghost use Rattle.std.specs.Prelude.{◌≡◌, ◌≤◌, None, IfOk, OnOk, OnErr};
+ghost use Rattle.std.specs.Prelude.{◌≡◌, ◌≤◌, None, length, IfOk, OnOk, OnErr};
 ghost use Rattle.std.specs.Io.Seek.{MovesTo};
-ghost use Rattle.bw_layout.specs.Moves.{failures_after, moved_after, Keeps, Skips, SeeksOver};
+ghost use Rattle.bw_layout.specs.Moves.{failures_after, moved_after, Keeps, Reads, ReadsOn, Skips, SeeksOver};
 
 use crate::plain::Plain;
 use crate::source::{IoFailed, Source};
@@ -9,8 +9,8 @@ use std::io::{Read, Seek, SeekFrom};
 
 /// A reader of std that seeks over what is passed by, as far as its length is known, and reads on from there.
 ///
-/// It tells no bytes, since nothing says what a reader gives after a seek, nor where one stands after a read: its
-/// own place counts what was read and passed over, and a seek goes to the place that this makes.
+/// It tells no bytes, since nothing says what a reader gives after a seek, nor where one stands after a read: what it
+/// reads is what the reader itself gives next. Its own place counts what was read and passed over, and a seek goes to the place that this makes.
 #[derive(Drop)]
 pub struct SeekSource<T> {
     plain: Plain<T>,
@@ -62,7 +62,16 @@ impl<T: Read + Seek> Source for SeekSource<T> {
 
     ghost failures = { λ s. s.plain.failures };
 
-    fn read(&mut self, buf: &mut [u8]) -> Result<usize, IoFailed> {
+    fn read(&mut self, buf: &mut [u8]) -> Result<usize, IoFailed>
+        ensures count { self.new.plain.failures ≡ failures_after result self.old.plain.failures }
+        ensures moved { self.new.place ≡ moved_after result self.old.place }
+        ensures within { IfOk result (λ n. n ≤ length buf.old) }
+        ensures given { IfOk result (λ n.
+            Reads (T.remaining self.old.plain.inner) (length buf.old) n
+            buf.new (T.remaining self.new.plain.inner)) }
+        ensures kept { OnErr result
+            (Keeps (T.remaining self.old.plain.inner) (T.remaining self.new.plain.inner)) }
+    {
         let count = self.plain.read(buf)?;
         self.place = self.place.saturating_add(count as u64);
         Ok(count)
@@ -77,6 +86,8 @@ impl<T: Read + Seek> Source for SeekSource<T> {
         ensures seeks { SeeksOver self.old.place self.old.len most
             (T.stream_position self.old.plain.inner) (T.stream_position self.new.plain.inner)
             result }
+        ensures reads { ReadsOn self.old.place self.old.len most
+            (T.remaining self.old.plain.inner) (T.remaining self.new.plain.inner) result }
     {
         let count = most.min(self.len.saturating_sub(self.place));
         if count > 0 {
