@@ -20,3 +20,4 @@ pub mod SetFields
 pub mod SetPlans
 pub mod Ranges
 pub mod TakePaths
+pub mod MemoryDisks

@@ -2,6 +2,7 @@ pub mod Stores
 pub mod Calls
 pub mod Memory
 pub mod MemoryNames
+pub mod MemoryDisks
 pub mod Fuses
 pub mod Growing
 pub mod Headers

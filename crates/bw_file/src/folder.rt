@@ -73,6 +73,13 @@ impl<D: Disk> FolderStore<D> {
         })
     }
 
+    /// The disk of the folder.
+    pub fn disk(&self) -> &D
+        ensures { result.now ≡ self.now.disk }
+    {
+        &self.disk
+    }
+
     #[tactic(auto, unfolding(crate::specs::Folders::take_path))]
     fn path(&self, name: &Name) -> Result<String, StoreFault>
         ensures { IfOk result (λ p.

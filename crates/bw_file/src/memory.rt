@@ -175,7 +175,7 @@ fn write(
 
 /// Puts bytes over what stands from an offset on, and past its end.
 #[tactic(auto, using(crate::proofs::Bytes::overwritten_past))]
-fn overwrite(content: &mut Vec<u8>, offset: u64, bytes: &[u8]) -> Result<(), AllocError>
+pub(crate) fn overwrite(content: &mut Vec<u8>, offset: u64, bytes: &[u8]) -> Result<(), AllocError>
     requires { offset + length bytes.now < 2 ^ 64 }
     ensures ok { OnOk result (content.new.items ≡ overwritten content.old.items offset bytes.now) }
     ensures err { OnErr result (content.new.items ≡ content.old.items) }
