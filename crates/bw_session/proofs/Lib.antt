@@ -4,3 +4,4 @@ pub mod OwnFiles
 pub mod WriteForms
 pub mod CarryForms
 pub mod LogSteps
+pub mod FrontForms

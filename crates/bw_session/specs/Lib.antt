@@ -4,3 +4,4 @@ pub mod Ledgers
 pub mod Writing
 pub mod Carrying
 pub mod Keeping
+pub mod Fronts

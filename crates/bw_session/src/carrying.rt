@@ -1,12 +1,14 @@
 //! Judging a request, and carrying it out in the file.
-ghost use Rattle.std.specs.Prelude.{◌≡◌, ◌+◌, ◌^◌, ◌≤◌, IsTrue, IfOk, OnOk, OnErr, is_err, false, true};
-ghost use Rattle.bw_model.specs.Take.{judge as verdict_on};
+ghost use Rattle.std.specs.Prelude.{ℕ, List, Option, ◌≡◌, ◌+◌, ◌^◌, ◌≤◌, IsTrue, IfOk, OnOk, OnErr, is_err, false, true};
+ghost use Rattle.bw_model.specs.Take.{Verdict as Judgement, judge as verdict_on};
+ghost use Rattle.bw_model.specs.Book.{Log};
 ghost use Rattle.bw_model.specs.Wire.{is_request};
 ghost use Rattle.bw_take.specs.Requests.{meaning};
 ghost use Rattle.bw_take.specs.States.{samples_in};
 ghost use Rattle.bw_take.specs.Verdicts.{verdict_of};
 ghost use Rattle.bw_file.specs.Stores.{Counts, KeepsOthers};
 ghost use Rattle.bw_session.specs.Carrying.{Touches, Carries};
+ghost use Rattle.bw_session.specs.Fronts.{HoldsFront, CarriesFront};
 
 use crate::writing::write_request;
 use bw_file::{Created, GrowingFile, StoreFault, TakeStore};
@@ -36,6 +38,7 @@ pub(crate) fn carry_out<S: TakeStore>(
     ensures known { growing.new ≡ record growing.old { made = growing.new.made; dirty = growing.new.dirty } }
     ensures room { state.new.room ≡ state.old.room }
     ensures parts { state.new.parts ≡ record state.old.parts { taken = state.new.parts.taken } }
+    ensures taken { IsTrue state.old.parts.taken → IsTrue state.new.parts.taken }
     ensures verdict { IfOk result (λ v. verdict_of v ≡ verdict_on state.new.parts (meaning request.now)) }
     ensures clean { OnOk result (growing.new.dirty ≡ false) }
     ensures unchanged { OnErr result (state.new ≡ state.old) }
@@ -44,6 +47,12 @@ pub(crate) fn carry_out<S: TakeStore>(
     ensures file { IsTrue (S.honest store.old) →
         Carries result (meaning request.now) state.old.parts state.new.parts growing.old growing.new
         (S.contents store.old growing.old.name) (S.contents store.new growing.old.name) }
+    ensures front { IsTrue (S.honest store.old) →
+        (first : Option (List ℕ)) (log : Log) (finished : List (List ℕ × Judgement)) →
+        HoldsFront first log state.old.parts finished (meaning request.now) growing.old
+        (S.contents store.old growing.old.name) →
+        CarriesFront result first log state.new.parts finished (meaning request.now) growing.new
+        (S.contents store.new growing.old.name) }
 {
     let verdict = judge(state, request);
     if !verdict.is_stored() {

@@ -1,0 +1,45 @@
+-- What a server keeps of a name whose next number is to be done.
+use Rattle.std.specs.Prelude.{◌≡◌, ℕ, false, Option, Some, None, is_some, List, Result, MatchResult}
+use Rattle.bw_model.specs.Take.{Take, Parts, Request, Verdict, verdict, after}
+use Rattle.bw_model.specs.Book.{Log, made}
+use Rattle.bw_take.specs.Verdicts.{verdict_of}
+use Rattle.bw_take.specs.declared.verdict.Verdict.{Verdict as Judgement}
+use Rattle.bw_file.specs.Growing.{Growing}
+use Rattle.bw_file.specs.declared.store.StoreFault.{StoreFault}
+use Rattle.bw_session.specs.Writing.{HasOwnFile, HasWholeFile}
+use Rattle.bw_session.specs.Keeping.{KeepsDone}
+
+-- the take that a log's done numbers make, under a name with these contents at the start
+abbrev pub take_of : Option (List ℕ) → Log → Take
+take_of first log = made (is_some first) log.admitted log.done
+
+-- What an honest store has while this request waits: of a name that stood what stood, else the take's file, or what an earlier try may have left.
+abbrev pub FileStands : Option (List ℕ) → Take → Request → Growing → Option (List ℕ) → Type 0
+FileStands None t waits g found = HasOwnFile t waits g found
+FileStands (Some bytes) t waits g found = (found ≡ Some bytes) × (g.made ≡ false)
+
+-- .. once it is done: what stood, else the take's file
+abbrev pub FileFollows : Option (List ℕ) → Take → Growing → Option (List ℕ) → Type 0
+FileFollows None t g found = HasWholeFile t g found
+FileFollows (Some bytes) t g found = (found ≡ Some bytes) × (g.made ≡ false)
+
+-- State, table and file are those of the log's done numbers, and this request is the next.
+pub record HoldsFront (first : Option (List ℕ)) (log : Log) (p : Parts) (finished : List (List ℕ × Verdict))
+    (r : Request) (g : Growing) (found : Option (List ℕ)) : Type 0 where
+  pub memory : KeepsDone (is_some first) g.name log p finished
+  pub file : FileStands first (take_of first log) r g found
+
+-- The next request has its verdict, and the file is that of the take behind it.
+pub record Carried (first : Option (List ℕ)) (log : Log) (v : Verdict) (p : Parts) (finished : List (List ℕ × Verdict))
+    (r : Request) (g : Growing) (found : Option (List ℕ)) : Type 0 where
+  pub verdict_is : v ≡ verdict (take_of first log) r
+  pub memory : KeepsDone (is_some first) g.name log p finished
+  pub file : FileFollows first (after (take_of first log) r) g found
+
+-- It is carried out, or waits on.
+abbrev pub CarriesFront : Result Judgement StoreFault → Option (List ℕ) → Log → Parts →
+    List (List ℕ × Verdict) → Request → Growing → Option (List ℕ) → Type 0
+CarriesFront answer first log p finished r g found =
+    MatchResult answer
+    (λ v. Carried first log (verdict_of v) p finished r g found)
+    (λ _. HoldsFront first log p finished r g found)
