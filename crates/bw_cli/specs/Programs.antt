@@ -34,9 +34,8 @@ exit_without_words kinds.OutOfMemory = exits.Memory
 exit_without_words kinds.InvalidData = exits.Usage
 exit_without_words _ = exits.Device
 
--- the words of the command line can't be read
-pub record IsUnworded (did : Deed) : Type 0 where
-  pub kind : ErrorKind
+-- the words of the command line can't be read, for an error of this kind
+pub record IsUnworded (kind : ErrorKind) (did : Deed) : Type 0 where
   pub exit_is : did.exit ≡ exit_without_words kind
   pub reads : did.reads_all ≡ true
   pub prints : did.out ≡ Nothing
@@ -51,9 +50,8 @@ exit_unopened _ = exits.Device
 abbrev pub unopened_text : Text → List ℕ → List ℕ
 unopened_text path reason = path ++ (codes " can't be opened: " ++ (reason ++ 10 ∷ []))
 
--- the file of this path can't be opened, for a reason that is told
-pub record IsUnopened (path : Text) (did : Deed) : Type 0 where
-  pub kind : ErrorKind
+-- the file of this path can't be opened, for an error of this kind, whose reason is told
+pub record IsUnopened (path : Text) (kind : ErrorKind) (did : Deed) : Type 0 where
   pub exit_is : did.exit ≡ exit_unopened kind
   pub reads : did.reads_all ≡ true
   pub prints : did.out ≡ Nothing
@@ -105,7 +103,7 @@ pub record IsInspected (file : Option (List ℕ)) (did : Deed) : Type 0 where
 -- what comes of a file that is to be inspected, where the system opens it, or not
 abbrev pub IsLook : Option (List ℕ) → Text → Bool → Deed → Type 0
 IsLook file path true did = IsInspected file did
-IsLook file path false did = IsUnopened path did ⊎ IsWant did
+IsLook file path false did = ((kind : ErrorKind) × IsUnopened path kind did) ⊎ IsWant did
 
 -- what is done for a command line over these files and this input, where the system gives what is asked of it, or not
 abbrev pub IsDoneFor : (Text → Option (List ℕ)) → Option (List ℕ) → Bool → CommandLine → Deed → Type 0
@@ -124,4 +122,4 @@ pub record IsAnswer (given : Given) (gives_all : Bool) (did : Deed) : Type 0 whe
 -- what the program does: where the system fails, that is told; where it doesn't, memory may
 abbrev pub IsProgram : Given → Bool → Deed → Type 0
 IsProgram given true did = IsAnswer given true did ⊎ IsWant did
-IsProgram given false did = IsAnswer given false did ⊎ IsUnworded did
+IsProgram given false did = IsAnswer given false did ⊎ ((kind : ErrorKind) × IsUnworded kind did)

@@ -1,12 +1,13 @@
 //! What the program does: its words, and what they ask for.
 ghost use Rattle.std.specs.Prelude.{◌≡◌, ◌⊎◌, ℕ, Bool, true, List, Some, map, IfOk, string_bytes};
+ghost use Rattle.std.specs.IoError.{error_kind};
 ghost use Rattle.std.specs.Process.{exit_status};
 ghost use Rattle.clap.specs.Values.{kind_of};
 ghost use Rattle.bw_args.specs.Lines.{HasLimit};
 ghost use Rattle.bw_cli.specs.Deeds.{Deed, HasWritten};
 ghost use Rattle.bw_cli.specs.Exits.{status_of};
 ghost use Rattle.bw_cli.specs.Printing.{IsPrint, failures_if};
-ghost use Rattle.bw_cli.specs.Programs.{IsDoneFor, IsLook, IsProgram, IsTelling, IsUnopened, IsWant, exit_without_words, unopened_text};
+ghost use Rattle.bw_cli.specs.Programs.{IsDoneFor, IsLook, IsProgram, IsTelling, IsUnopened, IsUnworded, IsWant, exit_without_words, unopened_text};
 
 use crate::exit::Exit;
 use crate::fault::Fault;
@@ -62,11 +63,17 @@ fn obey<S: System, R: Source, W: Sink, E: Sink>(
 {
     match system.words() {
         Ok(words) => answer(alloc, words.as_slice(), system, input, out, faults),
-        Err(error) => {
-            tell(faults, b"the command line can't be read\n");
-            exit_without(error.kind())
-        }
+        Err(error) => tell_unworded(&error, faults),
     }
+}
+
+/// Tells that the words of the command line can't be read.
+fn tell_unworded<E: Sink>(error: &io::Error, faults: &mut E) -> Exit
+    ensures { (did : Deed) × (did.exit ≡ result) × IsUnworded (error_kind error.now) did
+        × IsPrint E.Sink did.faults faults.old faults.new }
+{
+    tell(faults, b"the command line can't be read\n");
+    exit_without(error.kind())
 }
 
 /// Does what these words ask for.
@@ -148,7 +155,8 @@ fn inspect_file<S: System, W: Sink, E: Sink>(
 
 /// Tells why the file of a path can't be opened.
 fn tell_unopened<E: Sink>(alloc: Global, path: &str, error: &io::Error, faults: &mut E) -> Exit
-    ensures { (did : Deed) × (did.exit ≡ result) × (IsUnopened path.now did ⊎ IsWant did)
+    ensures { (did : Deed) × (did.exit ≡ result)
+        × (IsUnopened path.now (error_kind error.now) did ⊎ IsWant did)
         × IsPrint E.Sink did.faults faults.old faults.new }
 {
     let Ok(line) = unopened_line(alloc, path, error) else {

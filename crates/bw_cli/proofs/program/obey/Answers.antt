@@ -11,12 +11,5 @@ returns-in-Ok g c =
 
 pub returns-in-Err : goal.returns-in-Err
 returns-in-Err g c =
-    let l = c.tell.ensures in (
-      record { reads_all = true; out = Nothing; faults = l.0; exit = exit_without_words c.kind.result },
-      sym c.exit_without.ensures,
-      false,
-      inr (record { kind = c.kind.result; exit_is = refl; reads = refl; prints = refl; tells = l.1 }),
-      c.in-Err.ensures.count,
-      refl,
-      record { printed = refl; told = l.2 },
-    )
+    let l = c.tell_unworded.ensures in
+    (l.0, l.1, false, inr (_, l.2), c.in-Err.ensures.count, rw l.2.reads refl, record { printed = rw l.2.prints refl; told = l.3 })

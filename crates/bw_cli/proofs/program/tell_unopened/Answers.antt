@@ -1,6 +1,6 @@
-use Rattle.std.proofs.Common.{◌≡◌, ◌∙◌, inl, inr, true, refl, sym}
+use Rattle.std.proofs.Common.{◌≡◌, ◌∙◌, inl, inr, ap, true, refl, sym, rules}
 use Rattle.bw_cli.specs.Printing.{IsOf, Nothing}
-use Rattle.bw_cli.specs.Programs.{unopened_text}
+use Rattle.bw_cli.specs.Programs.{exit_unopened, unopened_text}
 use Rattle.bw_cli.specs.declared.exit.Exit.TheVariants.{Device, Memory}
 use Rattle.bw_cli.proofs.ProgramLemmas.{exit-device}
 use Rattle.bw_cli.proofs.program.tell_unopened.Goals as goal
@@ -19,10 +19,17 @@ returns-in-OutOfMemory g c =
     let l = c.tell.ensures in
     let r = c.in-Ok.ensures in
     let is : c.as_bytes.result.now ≡ unopened_text c.args.path.now r.0 = c.as_bytes.ensures.value ∙ (c.as_str.ensures.value ∙ r.1) in
-    let told : IsOf (unopened_text c.args.path.now r.0) l.0 = rw is at l.1 in (
+    let told : IsOf (unopened_text c.args.path.now r.0) l.0 = rw is at l.1 in
+    let ends : Memory ≡ exit_unopened c.kind.result = rw c.in-OutOfMemory.is refl in (
       record { reads_all = true; out = Nothing; faults = l.0; exit = Memory },
       refl,
-      inl (record { kind = c.kind.result; exit_is = rw c.in-OutOfMemory.is refl; reads = refl; prints = refl; reason = r.0; tells = told }),
+      inl (record {
+        exit_is = ends ∙ ap exit_unopened c.kind.ensures;
+        reads = refl;
+        prints = refl;
+        reason = r.0;
+        tells = told;
+      }),
       l.2,
     )
 
@@ -31,9 +38,17 @@ returns g c =
     let l = c.tell.ensures in
     let r = c.in-Ok.ensures in
     let is : c.as_bytes.result.now ≡ unopened_text c.args.path.now r.0 = c.as_bytes.ensures.value ∙ (c.as_str.ensures.value ∙ r.1) in
-    let told : IsOf (unopened_text c.args.path.now r.0) l.0 = rw is at l.1 in (
+    let told : IsOf (unopened_text c.args.path.now r.0) l.0 = rw is at l.1 in
+    let ends : Device ≡ exit_unopened c.kind.result =
+    sym (exit-device c.kind.result c.in_default-kind.not-OutOfMemory) in (
       record { reads_all = true; out = Nothing; faults = l.0; exit = Device },
       refl,
-      inl (record { kind = c.kind.result; exit_is = sym (exit-device c.kind.result c.in_default-kind.not-OutOfMemory); reads = refl; prints = refl; reason = r.0; tells = told }),
+      inl (record {
+        exit_is = ends ∙ ap exit_unopened c.kind.ensures;
+        reads = refl;
+        prints = refl;
+        reason = r.0;
+        tells = told;
+      }),
       l.2,
     )
