@@ -1,7 +1,7 @@
-//! A store over a real folder, and over a system that fails once.
+//! A store over a real folder, over a disk in memory, and over a system that fails once.
 use crate::play::{file_of_row, keep};
 use crate::rows::two_frames;
-use bw_file::{Created, FolderStore, GrowingFile, TakeStore};
+use bw_file::{Created, FolderStore, GrowingFile, MemoryDisk, TakeStore};
 use bw_layout::Limit;
 use bw_take::{Name, TakeState};
 use std::cell::Cell;
@@ -70,6 +70,19 @@ fn a_folder_has_the_file_and_keeps_it(rt: HostRuntime) -> Result<(), Fail> {
     assert!(rt; later.finish(&name).is_err());
     assert!(rt; fs::read(&rt, path.as_str())?.as_slice() == wanted.as_slice());
     fs::remove_dir_all(&rt, folder.as_str())?;
+    Ok(())
+}
+
+#[test]
+fn a_folder_of_a_disk_in_memory_has_the_file(rt: HostRuntime) -> Result<(), Fail> {
+    let alloc = rt.alloc();
+    let wanted = file_of_row(alloc, two_frames())?;
+    let mut store = FolderStore::over(MemoryDisk::new(alloc), alloc, "takes")?;
+    write_two_frames(&rt, &mut store)?;
+    assert_eq!(rt;
+        store.disk().content("takes/a1.wav"),
+        Some(wanted.as_slice())
+    );
     Ok(())
 }
 
