@@ -68,6 +68,11 @@ stands files path =
     some_map (λ (file : StoredFile). file.content.items) (find (stands_at path) files)
     ∙ find_some (stands_at path) files
 
+-- .. and nowhere else
+pub none_stands : (files : List StoredFile) (path : List ℕ) → is_some (position (stands_at path) files) ≡ false →
+    is_some (content_at files path) ≡ true → ⊥
+none_stands files path none some = let f : true ≡ false = sym some ∙ stands files path ∙ none in cc
+
 module _ (files : List StoredFile) (path : List ℕ) (i : ℕ) (old new : StoredFile)
     (is : position (stands_at path) files ≡ Some i) (was : old ≡ get_or files i old)
     (same : string_bytes new.path ≡ string_bytes old.path) where

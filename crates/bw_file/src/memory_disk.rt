@@ -1,8 +1,8 @@
 //! A disk in memory.
-ghost use Rattle.std.specs.Prelude.{◌≡◌, ℕ, List, None, true, IsTrue, IfOk, IfSome, OnOk, OnErr, string_bytes, length};
+ghost use Rattle.std.specs.Prelude.{◌≡◌, ◌≤◌, ◌+◌, ℕ, List, None, true, IsTrue, IsOk, IfOk, IsSome, IfSome, OnOk, OnErr, is_err, string_bytes, length};
 ghost use Rattle.std.specs.Option.{option_copied};
 ghost use Rattle.std.specs.List.{position};
-ghost use Rattle.bw_file.specs.Stores.{Written, MayTear, KeepsOthers};
+ghost use Rattle.bw_file.specs.Stores.{Counts, Written, MayTear, KeepsOthers};
 ghost use Rattle.bw_file.specs.Disks.{Makes, Syncs};
 ghost use Rattle.bw_file.specs.MemoryDisks.{stands_at, content_at, synced_at};
 
@@ -78,7 +78,21 @@ impl Disk for MemoryDisk {
 
     ghost honest = { λ d. true };
 
-    fn create_new(&mut self, path: &str) -> Result<Option<MemoryFile>, DiskFault> {
+    fn create_new(&mut self, path: &str) -> Result<Option<MemoryFile>, DiskFault>
+        ensures failures { Counts self.old.tally.failures self.new.tally.failures (is_err result) }
+        ensures calls { Counts self.old.tally.calls self.new.tally.calls true }
+        ensures path { IfOk result (λ made.
+            IfSome made (λ file. string_bytes file.path ≡ path.now)) }
+        ensures made { IfOk result (λ made. Makes made
+            (content_at self.old.files.items path.now)
+            (content_at self.new.files.items path.now)) }
+        ensures failed { OnErr result (self.new.files.items ≡ self.old.files.items) }
+        ensures others { KeepsOthers
+            (content_at self.old.files.items) (content_at self.new.files.items) path.now }
+        ensures synced { (other : List ℕ) →
+            synced_at self.new.files.items other ≡ synced_at self.old.files.items other }
+        ensures stands { IsSome (content_at self.old.files.items path.now) → IsOk result }
+    {
         let answer = make(&mut self.files, self.alloc, path);
         self.tally.count(answer.is_err());
         answer
@@ -89,13 +103,40 @@ impl Disk for MemoryDisk {
         file: &mut MemoryFile,
         offset: u64,
         bytes: &[u8],
-    ) -> Result<(), DiskFault> {
+    ) -> Result<(), DiskFault>
+        ensures failures { Counts self.old.tally.failures self.new.tally.failures (is_err result) }
+        ensures calls { Counts self.old.tally.calls self.new.tally.calls true }
+        ensures path { file.new ≡ file.old }
+        ensures written { OnOk result (Written
+            (content_at self.old.files.items (string_bytes file.old.path)) offset bytes.now
+            (content_at self.new.files.items (string_bytes file.old.path))) }
+        ensures failed { OnErr result
+            (content_at self.new.files.items (string_bytes file.old.path)
+            ≡ content_at self.old.files.items (string_bytes file.old.path)) }
+        ensures others { KeepsOthers (content_at self.old.files.items)
+            (content_at self.new.files.items) (string_bytes file.old.path) }
+        ensures synced { (other : List ℕ) →
+            synced_at self.new.files.items other ≡ synced_at self.old.files.items other }
+        ensures over { IfSome (content_at self.old.files.items (string_bytes file.old.path))
+            (λ old. offset + length bytes.now ≤ length old → IsOk result) }
+    {
         let answer = write(&mut self.files, file.path.as_str(), offset, bytes);
         self.tally.count(answer.is_err());
         answer
     }
 
-    fn sync(&mut self, file: &MemoryFile) -> Result<(), DiskFault> {
+    fn sync(&mut self, file: &MemoryFile) -> Result<(), DiskFault>
+        ensures failures { Counts self.old.tally.failures self.new.tally.failures (is_err result) }
+        ensures calls { Counts self.old.tally.calls self.new.tally.calls true }
+        ensures unchanged { (other : List ℕ) →
+            content_at self.new.files.items other ≡ content_at self.old.files.items other }
+        ensures synced { Syncs result
+            (content_at self.old.files.items (string_bytes file.now.path))
+            (synced_at self.old.files.items) (synced_at self.new.files.items)
+            (string_bytes file.now.path) }
+        ensures stands { OnOk result
+            (IsSome (content_at self.old.files.items (string_bytes file.now.path))) }
+    {
         let answer = keep(&mut self.files, self.alloc, file.path.as_str());
         self.tally.count(answer.is_err());
         answer
@@ -124,6 +165,7 @@ fn make(
         (content_at files.old.items) (content_at files.new.items) path.now }
     ensures synced { (other : List ℕ) →
         synced_at files.new.items other ≡ synced_at files.old.items other }
+    ensures stands { IsSome (content_at files.old.items path.now) → IsOk result }
 {
     if find(files, path).is_some() {
         return Ok(None);
@@ -155,6 +197,8 @@ fn write(
         (content_at files.old.items) (content_at files.new.items) path.now }
     ensures synced { (other : List ℕ) →
         synced_at files.new.items other ≡ synced_at files.old.items other }
+    ensures over { IfSome (content_at files.old.items path.now) (λ old.
+        offset + length bytes.now ≤ length old → IsOk result) }
 {
     if offset > u64::MAX - bytes.len() as u64 {
         return Err(DiskFault);
@@ -171,6 +215,7 @@ fn keep(files: &mut Vec<StoredFile>, alloc: Global, path: &str) -> Result<(), Di
         content_at files.new.items other ≡ content_at files.old.items other }
     ensures synced { Syncs result (content_at files.old.items path.now)
         (synced_at files.old.items) (synced_at files.new.items) path.now }
+    ensures stands { OnOk result (IsSome (content_at files.old.items path.now)) }
 {
     let Some(place) = find(files, path) else {
         return Err(DiskFault);

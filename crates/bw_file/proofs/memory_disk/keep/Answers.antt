@@ -1,4 +1,4 @@
-use Rattle.std.proofs.Common.{◌≡◌, ℕ, List, Some, get_or, slice_set, ap, refl, sym, ◌∙◌, rules}
+use Rattle.std.proofs.Common.{◌≡◌, ℕ, List, Some, get_or, slice_set, is_some, ap, refl, sym, ◌∙◌, rules}
 use Rattle.std.specs.List.{position}
 use Rattle.bw_file.specs.declared.memory_disk.StoredFile.{StoredFile}
 use Rattle.bw_file.specs.MemoryDisks.{stands_at, synced_at}
@@ -37,3 +37,8 @@ returns-clause-synced c = record {
   others = λ other ne. ap synced_of
       (others c.args.files.now.items c.args.path.now c.in-Some.place (old c) (new c) (is c) (was c) refl other ne);
 }
+
+pub returns-clause-stands : goal.returns-clause-stands
+returns-clause-stands c =
+    ap is_some
+    (content_before c.args.files.now.items c.args.path.now c.in-Some.place (old c) (new c) (is c) (was c) refl)

@@ -2,7 +2,7 @@ use Rattle.std.proofs.Common.{◌≡◌, [], ◌∷◌, ◌++◌, true, false, N
 use Rattle.std.specs.List.{position}
 use Rattle.bw_file.specs.declared.memory_disk.StoredFile.{StoredFile}
 use Rattle.bw_file.specs.MemoryDisks.{stands_at}
-use Rattle.bw_file.proofs.MemoryDisks.{stands, nothing, made, made_others, made_unsynced}
+use Rattle.bw_file.proofs.MemoryDisks.{stands, none_stands, nothing, made, made_others, made_unsynced}
 use Rattle.bw_file.proofs.memory_disk.make.Goals as goal
 
 pub returns-then-is_some-clause-made : goal.returns-then-is_some-clause-made
@@ -37,3 +37,15 @@ returns-clause-others c =
 pub returns-clause-synced : goal.returns-clause-synced
 returns-clause-synced c =
     rw (pushed c) (made_unsynced c.args.files.now.items c.args.path.now (new c) (none c) (at c) refl)
+
+pub returns-in_err-map_err-clause-stands : goal.returns-in_err-map_err-clause-stands
+returns-in_err-map_err-clause-stands c =
+    λ some. absurd (none_stands c.args.files.now.items c.args.path.now (search rules) some)
+
+pub returns-in_err-map_err-2-clause-stands : goal.returns-in_err-map_err-2-clause-stands
+returns-in_err-map_err-2-clause-stands c =
+    λ some. absurd (none_stands c.args.files.now.items c.args.path.now (search rules) some)
+
+pub returns-in_err-map_err-3-clause-stands : goal.returns-in_err-map_err-3-clause-stands
+returns-in_err-map_err-3-clause-stands c =
+    λ some. absurd (none_stands c.args.files.now.items c.args.path.now (search rules) some)

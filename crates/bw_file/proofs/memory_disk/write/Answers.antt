@@ -1,8 +1,8 @@
-use Rattle.std.proofs.Common.{◌≡◌, Some, get_or, slice_set, refl, ap, rules}
+use Rattle.std.proofs.Common.{◌≡◌, Some, get_or, slice_set, refl, ap, ◌∙◌, rules}
 use Rattle.std.specs.List.{position}
 use Rattle.bw_file.specs.declared.memory_disk.StoredFile.{StoredFile}
 use Rattle.bw_file.specs.MemoryDisks.{stands_at, content_at}
-use Rattle.bw_file.proofs.MemoryDisks.{content_of, synced_of, content_before, content_after, others, left}
+use Rattle.bw_file.proofs.MemoryDisks.{none_of, stands, content_of, synced_of, content_before, content_after, others, left}
 use Rattle.bw_file.proofs.memory_disk.write.Goals as goal
 
 module _ (c : goal.After-map_err) where
@@ -40,3 +40,10 @@ pub returns-clause-synced : goal.returns-clause-synced
 returns-clause-synced c =
     left c.args.files.now.items c.args.path.now c.in-Some.place (old c) (new c) (is c) (was c) refl
     synced_of refl
+
+pub returns-in_default-clause-over : goal.returns-in_default-clause-over
+returns-in_default-clause-over c =
+    rw (none_of _ (stands c.args.files.now.items c.args.path.now ∙ search rules)) tt
+
+pub returns-clause-over : goal.returns-clause-over
+returns-clause-over c = rw (content_was c) (search rules)
