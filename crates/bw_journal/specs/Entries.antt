@@ -82,6 +82,7 @@ entry_in bytes =
 abbrev pub entry_of : List ℕ → Option (Entry × ℕ)
 entry_of bytes = option_map (λ e. (e, 10 + length bytes)) (entry_in bytes)
 
--- The entry at the front of these bytes, and how many it takes; none where the front is torn or isn't one.
+-- The entry at the front of these bytes, and how many it takes; none where the front is torn or
+-- isn't one.
 unfoldable pub first_entry : List ℕ → Option (Entry × ℕ)
 first_entry bytes = option_and_then entry_of (opened bytes)

@@ -10,7 +10,8 @@ use Rattle.bw_model.specs.Holds.{Store, Kept, IsBetween, IsInTheMiddle, Holds, f
 use Rattle.bw_journal.specs.Noted.{IsWhole}
 use Rattle.bw_journal.specs.Stops.{cut_book}
 
--- a take's file, or where a request that is to be stored waits, what is between its old and its new bytes
+-- a take's file, or where a request that is to be stored waits, what is between its old and its new
+-- bytes
 abbrev pub IsOnTheWay : Take → ℕ → Option Request → Option (List ℕ) → Type 0
 IsOnTheWay t limit waits found =
     (found ≡ file_of t limit) ⊎ IsInTheMiddle t limit waits found
@@ -64,8 +65,8 @@ abbrev pub ClosedFilesAreWhole : Type 0
 ClosedFilesAreWhole = (t : Take) (limit : ℕ) (waits : Option Request) (found : Option (List ℕ)) →
     t.closed ≡ true → IsOnTheWay t limit waits found → found ≡ file_of t limit
 
--- A file between two requests has its take's samples. It is repaired by a cut behind them, a pad byte
--- and the header: no sample is read or written.
+-- A file between two requests has its take's samples. It is repaired by a cut behind them, a pad
+-- byte and the header: no sample is read or written.
 pub record IsRepairedBy (t : Take) (f : Format) (limit : ℕ) (found : List ℕ) : Type 0 where
   pub long : data_place (length t.history) + length t.samples ≤ length found
   pub whole : header f t.fields t.history (length t.samples) 0 limit

@@ -73,7 +73,8 @@ replayed (suc steps) bytes s = elim (first_entry (drop s.used bytes)) [
 unfoldable pub replayed_entries : Bool → List ℕ → Result Story Fault
 replayed_entries stood bytes = replayed (length bytes) bytes (beginning stood)
 
--- what is wrong with the bytes behind the last entry, if they aren't a torn entry: the first that holds
+-- what is wrong with the bytes behind the last entry, if they aren't a torn entry: the first that
+-- holds
 unfoldable pub tail_fault : List ℕ → Option Fault
 tail_fault tail = first_that_holds (
     (is_some (opened tail), NotAnEntry)

@@ -41,7 +41,8 @@ pub data Step : Type 0 where
   Happens : Event → Luck → Step
   Stops : Step
 
--- A stop within a turn is a turn in which a call of the store failed, none of whose replies arrives, and then a stop.
+-- A stop within a turn is a turn in which a call of the store failed, none of whose replies arrives,
+-- and then a stop.
 abbrev pub after_step : (List ℕ → Bool) → World → Step → World
 after_step stood w (Happens e luck) = happens stood w e luck
 after_step stood w Stops = record w { book = cut_book w.book }
@@ -51,7 +52,8 @@ abbrev pub after_steps : (List ℕ → Bool) → World → List Step → World
 after_steps stood w [] = w
 after_steps stood w (s ∷ ss) = after_steps stood (after_step stood w s) ss
 
--- Each verdict that was ever written for the sender's name is that of a done number, before and after each stop.
+-- Each verdict that was ever written for the sender's name is that of a done number, before and
+-- after each stop.
 abbrev pub AnswersStay : (List ℕ → Bool) → World → Type 0
 AnswersStay stood w =
     (k n : ℕ) (v : Verdict) → slice_get w.replies k ≡ Some (Judged w.sender.name n v) →

@@ -24,8 +24,8 @@ pub fn law_journals()
     ensures { JournalsTellLogs }
 {}
 
-/// A stop leaves the done numbers, and a book. In every world of a sender, a network and servers that
-/// stop and are followed by others, each verdict that was ever written stays that of a done number.
+/// A stop leaves the done numbers, and a book. In every world of a sender, a network and servers
+/// that stop and are followed by others, each verdict that was ever written stays that of a done number.
 pub fn law_stops()
     ensures books { BooksAreCut }
     ensures left { CutBooksAreBooks }

@@ -67,8 +67,10 @@ impl MemoryJournal {
     /// `AllocError` where memory was refused: nothing changed then.
     pub fn plant(&mut self, name: &Name, bytes: &[u8]) -> Result<(), AllocError>
         ensures ok { OnOk result (content_of self.new.notes name.now ≡ Some bytes.now) }
-        ensures err { OnErr result (content_of self.new.notes name.now ≡ content_of self.old.notes name.now) }
-        ensures others { KeepsOthers (content_of self.old.notes) (content_of self.new.notes) name.now }
+        ensures err { OnErr result
+            (content_of self.new.notes name.now ≡ content_of self.old.notes name.now) }
+        ensures others { KeepsOthers
+            (content_of self.old.notes) (content_of self.new.notes) name.now }
         ensures rest { (self.new.limit ≡ self.old.limit) × (self.new.stood ≡ self.old.stood)
             × (self.new.failures ≡ self.old.failures) }
     {
