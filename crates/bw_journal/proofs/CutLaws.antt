@@ -1,10 +1,10 @@
 -- What a stop leaves of a book.
 use Rattle.std.proofs.Common.{◌≡◌, ℕ, zero, suc, ◌<◌, ◌≤◌, Bool, true, false, cond, not, ◌||◌, ◌⊎◌, inl, inr, IsTrue, List, [], ◌∷◌, take, length, Option, Some, None, refl, sym, ◌∙◌, ap, subst, arith}
 use Rattle.std.specs.Prelude.{fold, nat_lt, is_some}
-use Rattle.std.specs.List.{list_any}
+use Rattle.std.specs.List.{list_all, list_any}
 use Rattle.std.specs.Str.{bytes_eq}
 use Rattle.std.proofs.lemmas.List.{take-take}
-use Rattle.std.proofs.lemmas.Bool.{ltb-false, ltb-true, false≢true}
+use Rattle.std.proofs.lemmas.Bool.{and_from, and_parts, ltb-false, ltb-true, false≢true}
 use Rattle.bw_model.specs.Bytes.{at, first_free}
 use Rattle.bw_model.specs.Take.{Request, new_take}
 use Rattle.bw_model.specs.Book.{Log, Book, no_log, log_of, is_known, made, step, verdict_at, verdict_by}
@@ -12,6 +12,7 @@ use Rattle.bw_model.proofs.BookLemmas.{same_name}
 use Rattle.bw_journal.specs.Stops.{cut_log, without, cut_book, BooksAreCut, CutBooksAreBooks}
 use Rattle.bw_model.specs.BookRules.{IsLog, HasEachOnce}
 use Rattle.bw_model.specs.Turn.{most_takes}
+use Rattle.bw_model.specs.ReadBack.{is_admitted}
 use Rattle.bw_model.proofs.BookLemmas.{unknown_log}
 
 none_some : {X : Type 0} {x : X} → None ≡ Some x → ⊥
@@ -147,6 +148,13 @@ length-take_most zero s = omega arith
 length-take_most (suc d) [] = omega arith
 length-take_most (suc d) (x ∷ s) = let more : length (take d s) ≤ d = length-take_most d s in omega arith
 
+fits-take : (d : ℕ) (s : List (Option Request)) → list_all is_admitted s ≡ true → list_all is_admitted (take d s) ≡ true
+fits-take zero s h = refl
+fits-take (suc d) [] h = refl
+fits-take (suc d) (x ∷ s) h =
+    let both = and_parts (is_admitted x) (list_all is_admitted s) h in
+    and_from (is_admitted x) (list_all is_admitted (take d s)) both.0 (fits-take d s both.1)
+
 log_left : (log : Log) → IsLog log → 0 < log.done → IsLog (cut_log log)
 log_left log h some =
     let most : length (take log.done log.admitted) ≤ log.done = length-take_most log.done log.admitted in
@@ -154,6 +162,7 @@ log_left log h some =
       some = some_left log.done log.admitted some h.all_done;
       all_done = cut-done log.done log.admitted h.all_done;
       none_past = omega (arith, most);
+      fits = fits-take log.done log.admitted h.fits;
     }
 
 known-without : (book : Book) (x y : List ℕ) → is_known book y ≡ false → is_known (without x book) y ≡ false

@@ -1,12 +1,13 @@
 -- Each turn leaves a book, and a book's names tell its length.
 use Rattle.std.proofs.Common.{◌≡◌, ℕ, suc, zero, ◌+◌, ◌<◌, ◌≤◌, Bool, true, false, not, cond, ◌&&◌, ◌||◌, List, [], ◌∷◌, length, drop, Option, Some, None, refl, sym, ◌∙◌, ap, subst, arith, rules}
 use Rattle.std.specs.Prelude.{IsTrue, is_some, is_none, nat_le, nat_lt}
-use Rattle.std.specs.List.{list_any}
+use Rattle.std.specs.List.{list_all, list_any}
 use Rattle.std.specs.Str.{bytes_eq}
-use Rattle.std.proofs.lemmas.Bool.{and_parts, false≢true, ltb-true, leb-false}
+use Rattle.std.proofs.lemmas.Bool.{and_parts, and_from, false≢true, ltb-true, leb-false}
 use Rattle.bw_model.specs.Bytes.{at, put, first_free}
 use Rattle.bw_model.specs.Take.{Request}
-use Rattle.bw_model.specs.Wire.{Message, Says, Asks, Bye}
+use Rattle.bw_model.specs.Wire.{Message, Says, Asks, Bye, Second, last_number, is_name, is_request}
+use Rattle.bw_model.specs.ReadBack.{is_admitted as spelled}
 use Rattle.bw_model.specs.Replies.{Reply, TooFar, TableFull, NoRoom}
 use Rattle.bw_model.specs.Book.{Log, Book, log_of, is_known, with_log, no_log, run_end}
 use Rattle.bw_model.specs.Turn.{Luck, turn, turn_by, served, notice, window, most_takes, is_admissible, admitted_after, drained_to, is_full, with_change, message_turn}
@@ -91,6 +92,25 @@ some_admitted log m h = go (is_admissible log m.number) h
     go false h = h refl
     go true h = some-put log.admitted m.number m.request
 
+fits-put : (s : List (Option Request)) (n : ℕ) (r : Request) → list_all spelled s ≡ true → is_request r ≡ true →
+    list_all spelled (put s n r) ≡ true
+fits-put [] zero r h fits = and_from (is_request r) true fits refl
+fits-put [] (suc n) r h fits = fits-put [] n r refl fits
+fits-put (y ∷ ys) zero r h fits =
+    and_from (is_request r) (list_all spelled ys) fits
+    (and_parts (spelled y) (list_all spelled ys) h).1
+fits-put (y ∷ ys) (suc n) r h fits =
+    let both = and_parts (spelled y) (list_all spelled ys) h in
+    and_from (spelled y) (list_all spelled (put ys n r)) both.0 (fits-put ys n r both.1 fits)
+
+fits_admitted : (log : Log) (m : Message) → IsTrue (list_all spelled log.admitted) → is_request m.request ≡ true →
+    IsTrue (list_all spelled (admitted_after log m))
+fits_admitted log m h fits = go (is_admissible log m.number)
+  where
+    go : (v : Bool) → IsTrue (list_all spelled (cond v (put log.admitted m.number m.request) log.admitted))
+    go false = h
+    go true = fits-put log.admitted m.number m.request h fits
+
 -- where draining ends
 pub record IsDrained (log : Log) (s : List (Option Request)) (later : ℕ) : Type 0 where
   pub from : log.done ≤ later
@@ -109,15 +129,21 @@ is_drained log s stop h = go stop
     go (Some k) = record { from = omega (arith, end); to = omega arith; all_done = omega (arith, end) }
 
 served_log : (taken : Bool) (log : Log) (m : Message) (stop : Option ℕ) → IsServable log →
-    (is_admissible log m.number ≡ false → IsTrue (list_any is_some log.admitted)) → IsLog (served taken log m stop).1
+    (is_admissible log m.number ≡ false → IsTrue (list_any is_some log.admitted)) →
+    IsTrue (list_all spelled log.admitted) → is_request m.request ≡ true → IsLog (served taken log m stop).1
 unfolding served
-served_log taken log m stop h some =
+served_log taken log m stop h some were fits =
     let s = admitted_after log m in
     let a = is_admitted log m h in
     let d = is_drained log s stop a.all_done in
     let from = d.from in
     let near = a.none_past in
-    record { some = some_admitted log m some; all_done = d.all_done; none_past = omega (arith, from, near) }
+    record {
+      some = some_admitted log m some;
+      all_done = d.all_done;
+      none_past = omega (arith, from, near);
+      fits = fits_admitted log m were fits;
+    }
 
 -- Books.
 
@@ -186,6 +212,13 @@ is_servable b name h = go (is_known b name) refl
         subst IsServable (sym (unknown_log b name k)) (record { all_done = omega arith; none_past = omega arith })
     go true k = let l = h.logs name k in record { all_done = l.all_done; none_past = l.none_past }
 
+all_fit : (b : Book) (name : List ℕ) → IsBook b → IsTrue (list_all spelled (log_of b name).admitted)
+all_fit b name h = go (is_known b name) refl
+  where
+    go : (v : Bool) → is_known b name ≡ v → IsTrue (list_all spelled (log_of b name).admitted)
+    go false k = ap (λ (l : Log). list_all spelled l.admitted) (unknown_log b name k)
+    go true k = (h.logs name k).fits
+
 book-with_log : (b : Book) (x : List ℕ) (l : Log) → IsBook b → IsLog l → (is_known b x ≡ false → is_full b ≡ false) →
     IsBook (with_log b x l)
 book-with_log b x l h log room = record {
@@ -204,10 +237,10 @@ book-with_log b x l h log room = record {
         let free : length b < most_takes = leb-false most_takes (length b) (room k) in
         omega (arith, more, free)
 
-message_keeps : (stood : List ℕ → Bool) (b : Book) (m : Message) (luck : Luck) → IsBook b →
+message_keeps : (stood : List ℕ → Bool) (b : Book) (m : Message) (luck : Luck) → is_request m.request ≡ true → IsBook b →
     IsBook (message_turn (stood m.name) b m luck).1
 unfolding turn_by
-message_keeps stood b m luck h =
+message_keeps stood b m luck fit h =
     go (is_known b m.name) refl (nat_le window m.number) refl (is_full b) refl
     (is_admissible log m.number && luck.refused)
   where
@@ -221,7 +254,8 @@ message_keeps stood b m luck h =
         (is_admissible log m.number ≡ false → IsTrue (list_any is_some log.admitted)) →
         Goal ((served (stood m.name) log m luck.stop).0, Some (served (stood m.name) log m luck.stop).1)
     kept room some =
-        book-with_log b m.name _ h (served_log (stood m.name) log m luck.stop (is_servable b m.name h) some) room
+        book-with_log b m.name _ h
+        (served_log (stood m.name) log m luck.stop (is_servable b m.name h) some (all_fit b m.name h) fit) room
 
     admissible : is_known b m.name ≡ false → nat_le window m.number ≡ false → is_admissible log m.number ≡ true
     admissible k near =
@@ -244,9 +278,11 @@ message_keeps stood b m luck h =
 
 pub turns_keep_books : TurnsKeepBooks
 unfolding turn
-turns_keep_books stood book (Says m) luck h = message_keeps stood book m luck h
-turns_keep_books stood book (Asks name n) luck h = h
-turns_keep_books stood book Bye luck h = h
+turns_keep_books stood book (Says m) luck spells h =
+    let front = is_name m.name && nat_le m.number (last_number Second) in
+    message_keeps stood book m luck (and_parts front (is_request m.request) spells).1 h
+turns_keep_books stood book (Asks name n) luck spells h = h
+turns_keep_books stood book Bye luck spells h = h
 
 pub empty_book : IsBook []
 empty_book = record { once = tt; logs = λ name known. absurd (false≢true known); few = omega arith }

@@ -1,16 +1,19 @@
 -- What holds of each book that turns lead to.
 use Rattle.std.specs.Prelude.{◌≡◌, ◌≤◌, ℕ, ◌+◌, Bool, true, false, IsTrue, is_some, List, [], ◌∷◌, length}
-use Rattle.std.specs.List.{list_any}
+use Rattle.std.specs.List.{list_all, list_any}
 use Rattle.bw_model.specs.Bytes.{first_free}
-use Rattle.bw_model.specs.Wire.{Frame}
+use Rattle.bw_model.specs.Wire.{Frame, Second, is_frame}
+use Rattle.bw_model.specs.ReadBack.{is_admitted}
 use Rattle.bw_model.specs.Book.{Log, Book, log_of, is_known}
 use Rattle.bw_model.specs.Turn.{Luck, turn, window, most_takes}
 
--- Something was admitted, all numbers below `done`, and none past the window.
+-- Something was admitted, all numbers below `done`, and none past the window; each request has a
+-- spelling, so that no two of them have one body.
 pub record IsLog (log : Log) : Type 0 where
   pub some : IsTrue (list_any is_some log.admitted)
   pub all_done : log.done ≤ first_free log.admitted
   pub none_past : length log.admitted ≤ log.done + window
+  pub fits : IsTrue (list_all is_admitted log.admitted)
 
 -- Each name stands once.
 abbrev pub HasEachOnce : Book → Type 0
@@ -28,10 +31,10 @@ pub record IsBook (book : Book) : Type 0 where
 abbrev pub TheEmptyBookIsOne : Type 0
 TheEmptyBookIsOne = IsBook []
 
--- each turn leaves a book
+-- each turn of a frame that has a spelling leaves a book
 abbrev pub TurnsKeepBooks : Type 0
-TurnsKeepBooks = (stood : List ℕ → Bool) (book : Book) (f : Frame) (luck : Luck) → IsBook book →
-    IsBook (turn stood book f luck).1
+TurnsKeepBooks = (stood : List ℕ → Bool) (book : Book) (f : Frame) (luck : Luck) →
+    IsTrue (is_frame Second f) → IsBook book → IsBook (turn stood book f luck).1
 
 -- no book has a name twice
 abbrev pub NoBookHasANameTwice : Type 0
