@@ -12,7 +12,8 @@ pub record Touches (p : Parts) (r : Request) : Type 0 where
   pub stored : judge p r ≡ Stored
   pub unmarked : is_mark r ≡ false
 
--- What stands after a request was judged and written. The name of an unopened take that stood is left as it was, and tells the verdict.
+-- What stands after a request was judged and written. The name of an unopened take that stood is
+-- left as it was, and tells the verdict.
 pub record Carries (answer : Result Verdict StoreFault) (r : Request) (p q : Parts)
     (old new : Growing) (before found : Option (List ℕ)) : Type 0 where
   pub own : (t : Take) → parts t ≡ p → HasOwnFile t r old before →

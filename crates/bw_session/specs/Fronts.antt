@@ -13,7 +13,8 @@ use Rattle.bw_session.specs.Keeping.{KeepsDone}
 abbrev pub take_of : Option (List ℕ) → Log → Take
 take_of first log = made (is_some first) log.admitted log.done
 
--- What an honest store has while this request waits: of a name that stood what stood, else the take's file, or what an earlier try may have left.
+-- What an honest store has while this request waits: of a name that stood what stood, else the
+-- take's file, or what an earlier try may have left.
 abbrev pub FileStands : Option (List ℕ) → Take → Request → Growing → Option (List ℕ) → Type 0
 FileStands None t waits g found = HasOwnFile t waits g found
 FileStands (Some bytes) t waits g found = (found ≡ Some bytes) × (g.made ≡ false)
@@ -24,14 +25,14 @@ FileFollows None t g found = HasWholeFile t g found
 FileFollows (Some bytes) t g found = (found ≡ Some bytes) × (g.made ≡ false)
 
 -- State, table and file are those of the log's done numbers, and this request is the next.
-pub record HoldsFront (first : Option (List ℕ)) (log : Log) (p : Parts) (finished : List (List ℕ × Verdict))
-    (r : Request) (g : Growing) (found : Option (List ℕ)) : Type 0 where
+pub record HoldsFront (first : Option (List ℕ)) (log : Log) (p : Parts)
+    (finished : List (List ℕ × Verdict)) (r : Request) (g : Growing) (found : Option (List ℕ)) : Type 0 where
   pub memory : KeepsDone (is_some first) g.name log p finished
   pub file : FileStands first (take_of first log) r g found
 
 -- The next request has its verdict, and the file is that of the take behind it.
-pub record Carried (first : Option (List ℕ)) (log : Log) (v : Verdict) (p : Parts) (finished : List (List ℕ × Verdict))
-    (r : Request) (g : Growing) (found : Option (List ℕ)) : Type 0 where
+pub record Carried (first : Option (List ℕ)) (log : Log) (v : Verdict) (p : Parts)
+    (finished : List (List ℕ × Verdict)) (r : Request) (g : Growing) (found : Option (List ℕ)) : Type 0 where
   pub verdict_is : v ≡ verdict (take_of first log) r
   pub memory : KeepsDone (is_some first) g.name log p finished
   pub file : FileFollows first (after (take_of first log) r) g found

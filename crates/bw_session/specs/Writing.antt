@@ -16,10 +16,12 @@ is_mark (Mark id frame) = true
 is_mark (SetField tag value) = false
 is_mark (Close total) = false
 
--- The file of a name that did not stand: the take's, or on a dirty file what an earlier try of the request that waits may have left.
+-- The file of a name that did not stand: the take's, or on a dirty file what an earlier try of the
+-- request that waits may have left.
 pub record HasOwnFile (t : Take) (waits : Request) (g : Growing) (found : Option (List ℕ)) :
     Type 0 where
-  pub whole : MatchBool g.dirty (IsInTheMiddle t g.limit (Some waits) found) (found ≡ file_of t g.limit)
+  pub whole : MatchBool g.dirty
+      (IsInTheMiddle t g.limit (Some waits) found) (found ≡ file_of t g.limit)
   pub made_here : g.made ≡ is_some found
 
 -- the take's file, whole
@@ -34,7 +36,8 @@ pub record Knows (answer : Result Created StoreFault) (r : Request) (old new : G
   pub clean : OnOk answer (new.dirty ≡ false)
   pub dirty : OnErr answer ((new.dirty ≡ true) × (is_mark r ≡ false))
 
--- What stands after a request was written. The name of an unopened take that stood is left as it was.
+-- What stands after a request was written. The name of an unopened take that stood is left as it
+-- was.
 pub record Writes (answer : Result Created StoreFault) (r : Request) (p : Parts)
     (old new : Growing) (before after : Option (List ℕ)) : Type 0 where
   pub own : (t : Take) → parts t ≡ p → HasOwnFile t r old before →

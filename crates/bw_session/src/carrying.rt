@@ -35,11 +35,13 @@ pub(crate) fn carry_out<S: TakeStore>(
     ensures honest { S.honest store.new ≡ S.honest store.old }
     ensures others { IsTrue (S.honest store.old) →
         KeepsOthers (S.contents store.old) (S.contents store.new) growing.old.name }
-    ensures known { growing.new ≡ record growing.old { made = growing.new.made; dirty = growing.new.dirty } }
+    ensures known { growing.new ≡
+        record growing.old { made = growing.new.made; dirty = growing.new.dirty } }
     ensures room { state.new.room ≡ state.old.room }
     ensures parts { state.new.parts ≡ record state.old.parts { taken = state.new.parts.taken } }
     ensures taken { IsTrue state.old.parts.taken → IsTrue state.new.parts.taken }
-    ensures verdict { IfOk result (λ v. verdict_of v ≡ verdict_on state.new.parts (meaning request.now)) }
+    ensures verdict { IfOk result
+        (λ v. verdict_of v ≡ verdict_on state.new.parts (meaning request.now)) }
     ensures clean { OnOk result (growing.new.dirty ≡ false) }
     ensures unchanged { OnErr result (state.new ≡ state.old) }
     ensures touched { OnErr result (Touches state.old.parts (meaning request.now)) }

@@ -60,7 +60,8 @@ impl Ledger {
         self.bytes.len() as u64
     }
 
-    /// Makes room for so many more. It grows by a factor, so that long takes are not copied over and over.
+    /// Makes room for so many more. It grows by a factor, so that long takes are not copied over
+    /// and over.
     ///
     /// # Errors
     /// `AllocError` where the growth was refused.

@@ -14,7 +14,8 @@ ghost use Rattle.bw_session.specs.Keeping.{KeepsDone};
 use crate::ledger::Ledger;
 use bw_take::{RequestRef, TakeState, Verdict};
 
-/// Keeps a number as done: its request in the state, its body's digest and its verdict in the ledger.
+/// Keeps a number as done: its request in the state, its body's digest and its verdict
+/// in the ledger.
 ///
 /// It takes no memory from an allocator and can't fail.
 pub(crate) fn settle(
@@ -40,7 +41,8 @@ pub(crate) fn settle(
         at log.admitted log.done ≡ Some (meaning request.now) →
         digest.now ≡ sha256 (body_of name log.done (meaning request.now)) →
         verdict_of verdict ≡ verdict_in (made stood log.admitted log.done) (meaning request.now) →
-        KeepsDone stood name (record log { done = suc log.done }) state.new.parts ledger.new.outcomes }
+        KeepsDone stood name (record log { done = suc log.done })
+        state.new.parts ledger.new.outcomes }
 {
     if verdict.is_stored() {
         state.commit(request);
