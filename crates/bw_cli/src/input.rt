@@ -1,5 +1,5 @@
 //! An input as lines of hex.
-ghost use Rattle.std.specs.Prelude.{◌≡◌, ◌≢◌, ℕ, ◌<◌, ◌≤◌, ◌∷◌, List, All, length, map, Ok, Some, IfOk, IfErr};
+ghost use Rattle.std.specs.Prelude.{◌≡◌, ◌≢◌, ℕ, ◌+◌, ◌<◌, ◌≤◌, ◌∷◌, List, All, length, map, Ok, Some, IfOk, IfErr};
 ghost use Rattle.std.specs.List.{position_or_len};
 ghost use Rattle.std.specs.Io.BufRead.{strip_last};
 ghost use Rattle.bw_cli.specs.Lines.{lines_of, decoded_from, is_line_end};
@@ -20,6 +20,7 @@ const LONGEST_INPUT: usize = 16_777_216;
 /// The bytes of each exchange that an input spells, one line of hex for each.
 pub fn exchanges<R: Source>(alloc: Global, input: &mut R) -> Result<Vec<Vec<u8>>, Fault>
     ensures within { Of (R.left input.old) (λ xs. IsReadAhead xs (R.left input.new)) }
+    ensures most { R.moved input.new ≤ R.moved input.old + (longest_input + 1) }
     ensures count { R.failures input.new ≡ failures_if (is_read result) (R.failures input.old) }
     ensures ok { IfOk result (λ found. Of (R.left input.old) (λ xs.
         spelled_by xs ≡ Exchanges (map (λ x. x.items) found.items))) }
@@ -35,6 +36,7 @@ pub fn exchanges<R: Source>(alloc: Global, input: &mut R) -> Result<Vec<Vec<u8>>
 /// All bytes of an input.
 fn all_bytes<R: Source>(alloc: Global, input: &mut R) -> Result<Vec<u8>, Fault>
     ensures reads { Of (R.left input.old) (λ xs. IsReadAhead xs (R.left input.new)) }
+    ensures most { R.moved input.new ≤ R.moved input.old + (longest_input + 1) }
     ensures count { R.failures input.new ≡ failures_if (is_read result) (R.failures input.old) }
     ensures within { IfOk result (λ bytes. length bytes.items ≤ longest_input) }
     ensures ok { IfOk result (λ bytes. Of (R.left input.old) (λ xs. bytes.items ≡ xs)) }

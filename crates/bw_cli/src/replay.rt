@@ -1,8 +1,9 @@
 //! The command `replay`: runs from standard input.
-ghost use Rattle.std.specs.Prelude.{◌≡◌, OnOk};
+ghost use Rattle.std.specs.Prelude.{◌≡◌, ◌+◌, ◌≤◌, OnOk};
 ghost use Rattle.bw_inspect.specs.Places.{Of};
 ghost use Rattle.bw_cli.specs.Deeds.{Deed, HasWritten, IsReplay};
 ghost use Rattle.bw_cli.specs.Faults.{is_read};
+ghost use Rattle.bw_cli.specs.Input.{longest_input};
 ghost use Rattle.bw_cli.specs.Printing.{IsPrint, Print, failures_if};
 ghost use Rattle.bw_cli.specs.Replays.{IsPrintOf, IsReadAhead};
 
@@ -26,6 +27,7 @@ pub fn replay<R: Source, W: Sink, E: Sink>(
     faults: &mut E,
 ) -> Exit
     ensures within { Of (R.left input.old) (λ xs. IsReadAhead xs (R.left input.new)) }
+    ensures most { R.moved input.new ≤ R.moved input.old + (longest_input + 1) }
     ensures did { (did : Deed) × (did.exit ≡ result) × IsReplay limit (R.left input.old) did
         × (R.failures input.new ≡ failures_if did.reads_all (R.failures input.old))
         × HasWritten W.Sink E.Sink did out.old out.new faults.old faults.new }
@@ -44,6 +46,7 @@ fn play<R: Source, W: Sink>(
     out: &mut W,
 ) -> Result<(), Fault>
     ensures within { Of (R.left input.old) (λ xs. IsReadAhead xs (R.left input.new)) }
+    ensures most { R.moved input.new ≤ R.moved input.old + (longest_input + 1) }
     ensures count { R.failures input.new ≡ failures_if (is_read result) (R.failures input.old) }
     ensures prints { (print : Print) × IsPrintOf limit (R.left input.old) result print
         × IsPrint W.Sink print out.old out.new }

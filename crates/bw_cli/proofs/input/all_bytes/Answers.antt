@@ -19,6 +19,7 @@ pub loop-piece-preserved : goal.loop-piece-preserved
 loop-piece-preserved g c = record {
   within = grind (arith, common_steps, c.in-Ok.ensures.within, c.in_ok-extend_from_slice.ensures.items);
   count = c.in-Ok.ensures.count ∙ c.loop-piece.invariant.count;
+  moved = grind (arith, common_steps, c.in-Ok.ensures.moved, c.loop-piece.invariant.moved, c.in_ok-extend_from_slice.ensures.items, c.in-Ok.ensures.within);
   front = λ b e.
       let front = c.loop-piece.invariant.front b e in
       rw c.in_ok-extend_from_slice.ensures.items (more-front b _ _ _ _ _ _ _ front (c.in-Ok.ensures.ok _ front.rest) (grind (arith, common_steps, c.in-Ok.ensures.within)));

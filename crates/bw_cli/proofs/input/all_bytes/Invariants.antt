@@ -8,6 +8,7 @@ abbrev pub invariant-loop-piece : goal.invariant-loop-piece
 invariant-loop-piece g l = record {
   within : length l.bytes.items ≤ longest_input + 1;
   count : g.R.Source.failures l.input ≡ g.R.Source.failures l.fn.input;
+  moved : g.R.Source.moved l.input ≤ g.R.Source.moved l.fn.input + length l.bytes.items;
   front : Of (g.R.Source.left l.fn.input) (λ xs. HasFront xs l.bytes.items (g.R.Source.left l.input));
 }
 
