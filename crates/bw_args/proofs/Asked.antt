@@ -1,5 +1,6 @@
 -- What the getters of `clap` say of the task.
-use Rattle.std.proofs.Common.{◌≡◌, ℕ, List, Option, Some, None, Result, Ok, Err, OnErr, codes, refl, subst, sym, ◌∙◌, arith}
+use Rattle.std.proofs.Common.{◌≡◌, ℕ, List, Option, Some, None, Result, Ok, Err, OnErr, codes, refl, subst, sym, ◌∙◌}
+use Rattle.std.proofs.Common.{arith}
 use Rattle.clap.specs.Words.{Row, Text, first_of, first_value, rows_of}
 use Rattle.clap.specs.declared.parser.matches.Found.{Found}
 use Rattle.clap.proofs.WalkLemmas.{first_value-rows}
@@ -17,7 +18,8 @@ given_asked found limit given = (refl, subst (λ t. GivesLimit t limit) (first_v
 -- where none is given that is of its form, nothing is asked for
 pub none_asked : (found : Found) → IsLimitGiven (first_value found (codes "limit")) None
     → (wish : Wish) → ¬ IsWishOf (Some (codes "replay", rows_of found)) wish
-none_asked found given (Replaying n) asked = given n (subst (λ t. GivesLimit t n) (sym (first_value-rows found (codes "limit"))) asked.1)
+none_asked found given (Replaying n) asked =
+  given n (subst (λ t. GivesLimit t n) (sym (first_value-rows found (codes "limit"))) asked.1)
 none_asked found given (Inspecting path) asked = let bad : codes "replay" ≡ codes "inspect" = asked.0 in cc
 
 -- the file that is given is the one that is asked for

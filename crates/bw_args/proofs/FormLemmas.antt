@@ -1,13 +1,16 @@
 -- The forms of the commands, at limits and paths that are not known.
-use Rattle.std.proofs.Common.{◌≡◌, ℕ, List, [], ◌∷◌, ◌++◌, Bool, true, false, ◌==◌, ◌<◌, ◌≢◌, codes, refl, ap, subst, sym, ◌∙◌, arith, Option, Some, None, inl, inr}
+use Rattle.std.proofs.Common.{◌≡◌, ℕ, List, [], ◌∷◌, ◌++◌, Bool, true, false, ◌==◌, ◌<◌, ◌≢◌, codes, refl, ap, subst}
+use Rattle.std.proofs.Common.{sym, ◌∙◌, arith, Option, Some, None, inl, inr}
 use Rattle.std.specs.Char.{digit_value}
 use Rattle.std.proofs.lemmas.Bool.{eqb-true}
 use Rattle.clap.specs.declared.error.ErrorKind.{ErrorKind}
-use Rattle.clap.specs.declared.error.ErrorKind.TheVariants.{DisplayHelp, DisplayVersion, MissingRequiredArgument, MissingSubcommand, UnknownArgument}
+use Rattle.clap.specs.declared.error.ErrorKind.TheVariants.{DisplayHelp, DisplayVersion, MissingRequiredArgument}
+use Rattle.clap.specs.declared.error.ErrorKind.TheVariants.{MissingSubcommand, UnknownArgument}
 use Rattle.clap.specs.Words.{IsAmong, Row, Text, fault_of, first_of, kind_of}
 use Rattle.clap.proofs.OnLiterals.{clap_on_literals}
 use Rattle.bw_args.specs.Commands.{command_line}
-use Rattle.bw_args.specs.Lines.{AsksFor, GivesLimit, Inspects, IsLineOf, IsPlain, IsToldAs, IsWishOf, RunsInspect, RunsReplay, TellsHelp, Wish, Inspecting, Replaying, wish_of}
+use Rattle.bw_args.specs.Lines.{AsksFor, GivesLimit, Inspects, IsLineOf, IsPlain, IsToldAs, IsWishOf, RunsInspect}
+use Rattle.bw_args.specs.Lines.{RunsReplay, TellsHelp, Wish, Inspecting, Replaying, wish_of}
 use Rattle.bw_args.specs.Numbers.{IsLimitText, default_limit, number_in}
 use Rattle.bw_args.specs.declared.CommandLine.{CommandLine}
 use Rattle.bw_args.specs.declared.CommandLine.TheVariants.{Run, BadLimit, Tell}
@@ -51,8 +54,10 @@ one_wish (Some command) (Replaying a) (Replaying b) x y =
     ap Replaying (one_limit (first_of (codes "limit") command.1) a b x.1 y.1)
 one_wish (Some command) (Inspecting a) (Inspecting b) x y =
     let same : Some a ≡ Some b = sym x.1 ∙ y.1 in cc
-one_wish (Some command) (Replaying a) (Inspecting b) x y = let bad : codes "replay" ≡ codes "inspect" = sym x.0 ∙ y.0 in cc
-one_wish (Some command) (Inspecting a) (Replaying b) x y = let bad : codes "inspect" ≡ codes "replay" = sym x.0 ∙ y.0 in cc
+one_wish (Some command) (Replaying a) (Inspecting b) x y = let bad : codes "replay" ≡ codes "inspect" =
+  sym x.0 ∙ y.0 in cc
+one_wish (Some command) (Inspecting a) (Replaying b) x y = let bad : codes "inspect" ≡ codes "replay" =
+  sym x.0 ∙ y.0 in cc
 
 -- the line runs a task for this
 abbrev RunsFor : Wish → CommandLine → Type 0
@@ -61,7 +66,8 @@ RunsFor wish BadLimit = ⊥
 RunsFor wish (Tell error) = ⊥
 
 -- words that ask for something run it
-runs : (words : List Text) (line : CommandLine) (wish : Wish) → IsLineOf words line → AsksFor words wish → RunsFor wish line
+runs : (words : List Text) (line : CommandLine) (wish : Wish) → IsLineOf words line → AsksFor words wish →
+  RunsFor wish line
 runs words (Run task) wish is asks = one_wish _ (wish_of task) wish is.asked asks.asked
 runs words BadLimit wish is asks = absurd (is.asks_nothing wish asks)
 runs words (Tell error) wish is asks = absurd (is.asks_nothing wish asks)
@@ -80,11 +86,14 @@ inspects path (Tell error) e = absurd e
 
 pub runs_replay : (words : List Text) (line : CommandLine) → IsLineOf words line → RunsReplay words line
 runs_replay words line is = record {
-  plain = λ program e. replays _ line (runs words line _ is (subst (λ w. AsksFor w (Replaying default_limit)) (sym e) (plain_asks program)));
+  plain = λ program e. replays _ line
+    (runs words line _ is (subst (λ w. AsksFor w (Replaying default_limit)) (sym e) (plain_asks program)));
   apart = λ program text given e.
-      replays _ line (runs words line _ is (subst (λ w. AsksFor w (Replaying (number_in text))) (sym e) (apart_asks program text given)));
+      replays _ line (runs words line _ is
+        (subst (λ w. AsksFor w (Replaying (number_in text))) (sym e) (apart_asks program text given)));
   joined = λ program text given e.
-      replays _ line (runs words line _ is (subst (λ w. AsksFor w (Replaying (number_in text))) (sym e) (joined_asks program text given)));
+      replays _ line (runs words line _ is
+        (subst (λ w. AsksFor w (Replaying (number_in text))) (sym e) (joined_asks program text given)));
 }
 
 -- words with a fault of one kind tell it
@@ -138,13 +147,16 @@ unfolding clap_on_literals
 second_fault program [] [] p q = refl {a = UnknownArgument ∷ []}
 second_fault program [] (d ∷ ds) p q = let value = plain_byte d q in rw (value, value) (refl {a = UnknownArgument ∷ []})
 second_fault program (d ∷ ds) [] p q = let value = plain_byte d p in rw (value, value) (refl {a = UnknownArgument ∷ []})
-second_fault program (c ∷ cs) (d ∷ ds) p q = let v = plain_byte c p in let w = plain_byte d q in rw (v, v, w, w) (refl {a = UnknownArgument ∷ []})
+second_fault program (c ∷ cs) (d ∷ ds) p q = let v = plain_byte c p in let w =
+  plain_byte d q in rw (v, v, w, w) (refl {a = UnknownArgument ∷ []})
 
 pub runs_inspect : (words : List Text) (line : CommandLine) → IsLineOf words line → RunsInspect words line
 runs_inspect words line is = record {
   file = λ program path plain e.
-      inspects path line (runs words line _ is (subst (λ w. AsksFor w (Inspecting path)) (sym e) (file_asks program path plain)));
-  none = λ program e. tells MissingRequiredArgument words line (ap (fault_of command_line) e ∙ no_file_fault program) is;
+      inspects path line (runs words line _ is
+        (subst (λ w. AsksFor w (Inspecting path)) (sym e) (file_asks program path plain)));
+  none = λ program e. tells MissingRequiredArgument words line
+    (ap (fault_of command_line) e ∙ no_file_fault program) is;
   second = λ program path other p q e.
       tells UnknownArgument words line (ap (fault_of command_line) e ∙ second_fault program path other p q) is;
 }

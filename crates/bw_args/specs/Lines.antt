@@ -1,12 +1,16 @@
 -- What a command line asks for.
-use Rattle.std.specs.Prelude.{◌≡◌, ◌≢◌, ⊤, ℕ, List, [], ◌∷◌, ◌++◌, Option, Some, None, codes, string_bytes}
+use Rattle.std.specs.Prelude.{◌≡◌, ◌≢◌, ⊤, ℕ, List, [], ◌∷◌, ◌++◌, Option, Some, None, codes}
+use Rattle.std.specs.Prelude.{string_bytes}
 use Rattle.clap.specs.Walk.{Row, Text, first_of}
 use Rattle.clap.specs.Simple.{subcommand_of}
 use Rattle.clap.specs.Faults.{fault_of}
 use Rattle.clap.specs.Kinds.{IsAmong}
 use Rattle.clap.specs.Values.{kind_of}
 use Rattle.clap.specs.declared.error.ErrorKind.{ErrorKind}
-use Rattle.clap.specs.declared.error.ErrorKind.TheVariants.{DisplayHelp, DisplayVersion, MissingRequiredArgument, MissingSubcommand, OutOfMemory, UnknownArgument}
+use Rattle.clap.specs.declared.error.ErrorKind.TheVariants.{DisplayHelp, DisplayVersion}
+use Rattle.clap.specs.declared.error.ErrorKind.TheVariants.{MissingRequiredArgument}
+use Rattle.clap.specs.declared.error.ErrorKind.TheVariants.{MissingSubcommand, OutOfMemory}
+use Rattle.clap.specs.declared.error.ErrorKind.TheVariants.{UnknownArgument}
 use Rattle.bw_args.specs.Numbers.{IsLimit, IsLimitText, default_limit, number_in}
 use Rattle.bw_args.specs.Commands.{command_line}
 use Rattle.bw_args.specs.declared.CommandLine.{CommandLine}
@@ -86,7 +90,8 @@ HasLimit (Run (Inspect file)) = ⊤
 HasLimit BadLimit = ⊤
 HasLimit (Tell error) = ⊤
 
--- `replay`, `replay --limit N` and `replay --limit=N` run, whatever the program's name and the limit N
+-- `replay`, `replay --limit N` and `replay --limit=N` run, whatever the program's name and the
+-- limit N
 pub record RunsReplay (words : List Text) (line : CommandLine) : Type 0 where
   pub plain : (program : Text) → words ≡ program ∷ codes "replay" ∷ []
       → line ≡ Run (Replay default_limit)
@@ -103,7 +108,8 @@ IsToldAs kind (Run task) = ⊥
 IsToldAs kind BadLimit = ⊥
 IsToldAs kind (Tell error) = kind_of error ≡ kind
 
--- `--help` and `--version` are answered, and no command at all is a fault, whatever the program's name
+-- `--help` and `--version` are answered, and no command at all is a fault, whatever the program's
+-- name
 pub record TellsHelp (words : List Text) (line : CommandLine) : Type 0 where
   pub help : (program : Text) → words ≡ program ∷ codes "--help" ∷ [] → IsToldAs DisplayHelp line
   pub version : (program : Text) → words ≡ program ∷ codes "--version" ∷ []

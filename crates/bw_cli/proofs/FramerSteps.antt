@@ -1,16 +1,20 @@
 -- What a framer's answer says of the bytes that are left.
-use Rattle.std.proofs.Common.{◌≡◌, ◌≢◌, ℕ, ◌<◌, List, [], ◌∷◌, length, Option, Some, None, Result, Ok, Err, refl, sym, ◌∙◌, ap, subst, arith}
+use Rattle.std.proofs.Common.{◌≡◌, ◌≢◌, ℕ, ◌<◌, List, [], ◌∷◌, length, Option, Some, None, Result, Ok, Err, refl, sym}
+use Rattle.std.proofs.Common.{◌∙◌, ap, subst, arith}
 use Rattle.bw_model.specs.Wire.{Frame, Says, Asks, Bye, Reason, Length, Kind, Name, Number, Payload, Cut, Second}
 use Rattle.bw_model.specs.Stream.{first_frame}
-use Rattle.bw_wire.specs.Pending.{Pending, Reading, Told, Nothing, Gives, Fails, took, settled, after, after_in, after_first, cut_at, end_in, end_fault}
+use Rattle.bw_wire.specs.Pending.{Pending, Reading, Told, Nothing, Gives, Fails, took, compacted, after, after_in}
+use Rattle.bw_wire.specs.Pending.{after_first, cut_at, end_in, end_fault}
 
 -- what is told is the first frame of the bytes, or why there is none
 abbrev pub IsNext : Pending → Told Frame × Pending → Type 0
-IsNext p (Nothing, later) = (first_frame Second p.bytes ≡ Err Cut) × (later ≡ settled p)
-IsNext p (Gives (Says m), later) = (more : List ℕ) × (first_frame Second p.bytes ≡ Ok (Says m, more)) × (later ≡ took p more)
+IsNext p (Nothing, later) = (first_frame Second p.bytes ≡ Err Cut) × (later ≡ compacted p)
+IsNext p (Gives (Says m), later) =
+  (more : List ℕ) × (first_frame Second p.bytes ≡ Ok (Says m, more)) × (later ≡ took p more)
 IsNext p (Gives (Asks name n), later) = (more : List ℕ) × (first_frame Second p.bytes ≡ Ok (Asks name n, more))
 IsNext p (Gives Bye, later) = (more : List ℕ) × (first_frame Second p.bytes ≡ Ok (Bye, more))
-IsNext p (Fails reason offset, later) = (first_frame Second p.bytes ≡ Err reason) × (offset ≡ p.used) × (0 < length p.bytes)
+IsNext p (Fails reason offset, later) =
+  (first_frame Second p.bytes ≡ Err reason) × (offset ≡ p.used) × (0 < length p.bytes)
 
 -- no bytes are a frame that is cut off
 not_empty : (bytes : List ℕ) (reason : Reason) → first_frame Second bytes ≡ Err reason → reason ≢ Cut → 0 < length bytes

@@ -1,5 +1,6 @@
 -- Reading an input piece by piece.
-use Rattle.std.proofs.Common.{◌≡◌, ◌∙◌, ◌+◌, ◌≤◌, ◌<◌, ℕ, List, ◌++◌, length, take, drop, Option, Some, refl, ap, sym, arith, length-append, length-take-le, append-nil}
+use Rattle.std.proofs.Common.{◌≡◌, ◌∙◌, ◌+◌, ◌≤◌, ◌<◌, ℕ, List, ◌++◌, length, take, drop, Option, Some, refl, ap, sym}
+use Rattle.std.proofs.Common.{arith, length-append, length-take-le, append-nil}
 use Rattle.std.proofs.lemmas.List.{take-append-drop, length-drop, drop-drop}
 use Rattle.std.proofs.Math.Seq.{take-add}
 use Rattle.bw_layout.specs.Moves.{IsRead}
@@ -43,7 +44,8 @@ more-front xs bytes buf got most n left later front read e =
     let size = length-drop (length bytes) xs in
     let given : got ≡ take n (drop (length bytes) xs) = e ∙ read.given in
     let long : length (bytes ++ got) ≡ length bytes + n =
-    length-append bytes got ∙ ap (λ k. length bytes + k) (ap length given ∙ length-take-le n (drop (length bytes) xs) within) in
+    length-append bytes got
+      ∙ ap (λ k. length bytes + k) (ap length given ∙ length-take-le n (drop (length bytes) xs) within) in
     record {
       is = rw (long, take-add (length bytes) n xs, front.is, given) refl;
       inside = rw long (omega arith);

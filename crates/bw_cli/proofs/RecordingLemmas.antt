@@ -1,5 +1,6 @@
 -- What a recording keeps, and answers to the next message.
-use Rattle.std.proofs.Common.{◌≡◌, ℕ, ◌+◌, Bool, true, List, [], ◌∷◌, ◌++◌, Option, Some, None, refl, sym, ◌∙◌, ap, cond, false}
+use Rattle.std.proofs.Common.{◌≡◌, ℕ, ◌+◌, Bool, true, List, [], ◌∷◌, ◌++◌, Option, Some, None, refl, sym, ◌∙◌, ap}
+use Rattle.std.proofs.Common.{cond, false}
 use Rattle.bw_model.specs.Take.{Take, Verdict, parts, new_take, after, verdict, judge}
 use Rattle.bw_model.specs.Wire.{Message, Says}
 use Rattle.bw_model.specs.Replies.{Judged}
@@ -7,8 +8,8 @@ use Rattle.bw_model.specs.Book.{Book}
 use Rattle.bw_model.specs.Turn.{turn, good}
 use Rattle.bw_cli.specs.InOrder.{is_next, progress_behind}
 use Rattle.bw_cli.specs.Recording.{book_with, take_with}
-use Rattle.bw_cli.specs.Runs.{nothing_stands}
-use Rattle.bw_cli.specs.Keeping.{progress_of, Keeps, Answers}
+use Rattle.bw_model.specs.Exchange.{nothing_stands}
+use Rattle.bw_cli.specs.Keeping.{progress_of, KeepsBook, Answers}
 use Rattle.bw_cli.specs.declared.recording.Recording.{Recording}
 use Rattle.bw_cli.proofs.InOrderTurns.{turn-next, take_with-push}
 
@@ -18,7 +19,8 @@ unfolding take_with
 take_with-none = refl
 
 -- a recording without a message
-pub keeps-new : (r : Recording) → r.name ≡ None → r.next ≡ 0 → r.state.parts ≡ parts (new_take false) → r.samples.items ≡ [] → Keeps r []
+pub keeps-new : (r : Recording) → r.name ≡ None → r.next ≡ 0 → r.state.parts ≡ parts (new_take false) →
+  r.samples.items ≡ [] → KeepsBook r []
 keeps-new r name next state samples = record {
   requests = [];
   count = record { count = next; unnamed = λ e. refl };
@@ -29,9 +31,11 @@ keeps-new r name next state samples = record {
 
 -- The next message, whose request was judged and applied.
 pub answers : (old new : Recording) (m : Message) (v : Verdict) →
-    is_next (progress_of old) m.name m.number ≡ true → new.name ≡ Some m.name → new.next ≡ old.next + 1 → v ≡ judge old.state.parts m.request →
+    is_next (progress_of old) m.name m.number ≡ true → new.name ≡ Some m.name → new.next ≡ old.next + 1 →
+      v ≡ judge old.state.parts m.request →
     ((t : Take) → parts t ≡ old.state.parts → parts (after t m.request) ≡ new.state.parts) →
-    ((t : Take) → parts t ≡ old.state.parts → old.samples.items ≡ t.samples → new.samples.items ≡ (after t m.request).samples) →
+    ((t : Take) → parts t ≡ old.state.parts → old.samples.items ≡ t.samples →
+      new.samples.items ≡ (after t m.request).samples) →
     Answers old new m (Judged m.name m.number v)
 answers old new m v due name next judged state samples = record {
   progress = progress;
@@ -51,8 +55,10 @@ answers old new m v due name next judged state samples = record {
         },
         ap (λ (b : Book). turn nothing_stands b (Says m) good) k.leaves
             ∙ (step.answered
-            ∙ (ap (λ (w : Verdict). (Judged m.name m.number w ∷ [], book_with (Some m.name) (rs ++ m.request ∷ []))) told
-            ∙ ap (λ (n : Option (List ℕ)). (Judged m.name m.number v ∷ [], book_with n (rs ++ m.request ∷ []))) (sym name))),
+            ∙ (ap (λ (w : Verdict). (Judged m.name m.number w ∷ [], book_with (Some m.name) (rs ++ m.request ∷ [])))
+              told
+            ∙ ap (λ (n : Option (List ℕ)). (Judged m.name m.number v ∷ [], book_with n (rs ++ m.request ∷ [])))
+              (sym name))),
       );
 }
   where

@@ -7,7 +7,8 @@ use Rattle.bw_cli.specs.Replays.{IsPrintOf}
 use Rattle.bw_cli.specs.declared.exit.Exit.{Exit}
 use Rattle.bw_cli.specs.declared.fault.Fault.{Fault}
 
--- what a command did: whether its reads all succeeded, what it printed, what it told of faults, and how it ended
+-- what a command did: whether its reads all succeeded, what it printed, what it told of faults, and
+-- how it ended
 pub record Deed : Type 0 where
   pub reads_all : Bool
   pub out : Print

@@ -9,8 +9,9 @@ use Rattle.bw_model.specs.Exchange as model
 use Rattle.bw_wire.specs.declared.fault.WireFault.{WireFault}
 use Rattle.bw_wire.specs.Reasons.{reason_of}
 use Rattle.bw_cli.specs.InOrder.{progress_behind, progress_after}
-use Rattle.bw_cli.specs.Keeping.{progress_of, Keeps}
-use Rattle.bw_cli.specs.Runs.{nothing_stands, Told, told_of}
+use Rattle.bw_cli.specs.Keeping.{progress_of, KeepsBook}
+use Rattle.bw_model.specs.Exchange.{nothing_stands}
+use Rattle.bw_cli.specs.Runs.{ToldExchange, told_of}
 use Rattle.bw_cli.specs.declared.recording.Recording.{Recording}
 use Rattle.bw_cli.specs.declared.exchange.Exchange.{Exchange}
 use Rattle.bw_cli.specs.declared.exchange.ExchangeEnd.{ExchangeEnd}
@@ -24,7 +25,7 @@ end_of ends.EndOfInput = EndOfInput
 end_of (ends.BadFrame fault) = BadFrame (reason_of fault.reason) fault.offset
 
 -- the exchange tells this, by replies that have spellings
-pub record Tells (e : Exchange) (t : Told) : Type 0 where
+pub record TellsExchange (e : Exchange) (t : ToldExchange) : Type 0 where
   pub replies : e.replies.items ≡ model.replies_bytes t.replies
   pub spelled : IsTrue (list_all is_reply t.replies)
   pub end : end_of e.end ≡ t.end
@@ -35,21 +36,24 @@ IsNotNext NotInOrder r m = progress_behind (progress_of r) (Says m) ≡ None
 IsNotNext Memory r m = Unit {0}
 
 -- the bytes are in order, and this is their exchange behind a run that left this book
-pub record IsExchange (old new : Recording) (input : List ℕ) (book : Book) (e : Exchange) : Type 0 where
+pub record IsExchange (old new : Recording) (input : List ℕ) (book : Book)
+  (e : Exchange) : Type 0 where
   pub ordered : progress_after (progress_of old) (stream_of Second input).0 ≡ Some (progress_of new)
-  pub tells : Tells e (told_of (model.exchange nothing_stands book input))
-  pub keeps : Keeps new (model.exchange nothing_stands book input).book
+  pub tells : TellsExchange e (told_of (model.exchange nothing_stands book input))
+  pub keeps : KeepsBook new (model.exchange nothing_stands book input).book
 
 abbrev pub Exchanges : Recording → Recording → List ℕ → Exchange → Type 0
-Exchanges old new input e = (book : Book) → Keeps old book → IsExchange old new input book e
+Exchanges old new input e = (book : Book) → KeepsBook old book → IsExchange old new input book e
 
 -- a fault that tells of the order is that the bytes break it
 abbrev pub Breaks : ExchangeFault → Recording → List ℕ → Type 0
-Breaks NotInOrder r input = (book : Book) → Keeps r book → progress_after (progress_of r) (stream_of Second input).0 ≡ None
+Breaks NotInOrder r input =
+  (book : Book) → KeepsBook r book → progress_after (progress_of r) (stream_of Second input).0 ≡ None
 Breaks Memory r input = Unit {0}
 
 -- the exchange ends at this fault, which these frames and its reply answer
 pub record EndsBad (frames : List ℕ) (fault : WireFault) (e : Exchange) : Type 0 where
-  pub replies : e.replies.items ≡ frames ++ framed (reply_body (Refused (reason_of fault.reason) fault.offset))
+  pub replies : e.replies.items
+    ≡ frames ++ framed (reply_body (Refused (reason_of fault.reason) fault.offset))
   pub spelled : IsTrue (is_reply (Refused (reason_of fault.reason) fault.offset))
   pub end : e.end ≡ ends.BadFrame fault

@@ -1,12 +1,17 @@
 -- What a fault says of the input, its line, and how the program ends on it.
-use Rattle.std.specs.Prelude.{◌≡◌, ℕ, ◌++◌, List, Bool, true, false, Result, Ok, Err, codes, decimal}
-use Rattle.bw_cli.specs.Input.{Asked, TooLong as AsksTooMuch, NotHex as AsksNoHex, NotInOrder as AsksNoOrder}
+use Rattle.std.specs.Prelude.{◌≡◌, ℕ, ◌++◌, List, Bool, true, false, Result, Ok, Err, codes}
+use Rattle.std.specs.Prelude.{decimal}
+use Rattle.bw_cli.specs.Input.{Asked, TooLong as AsksTooMuch, NotHex as AsksNoHex}
+use Rattle.bw_cli.specs.Input.{NotInOrder as AsksNoOrder}
 use Rattle.bw_cli.specs.Printing.{Print, Nothing, IsOf}
 use Rattle.bw_cli.specs.Text.{line}
 use Rattle.bw_cli.specs.declared.fault.Fault.{Fault}
-use Rattle.bw_cli.specs.declared.fault.Fault.TheVariants.{TooLong, NotHex, NotInOrder, Unreadable, Unwritable, Memory}
+use Rattle.bw_cli.specs.declared.fault.Fault.TheVariants.{TooLong, NotHex, NotInOrder, Unreadable}
+use Rattle.bw_cli.specs.declared.fault.Fault.TheVariants.{Unwritable, Memory}
 use Rattle.bw_cli.specs.declared.exit.Exit.{Exit}
-use Rattle.bw_cli.specs.declared.exit.Exit.TheVariants.{Done as Exit-Done, Refused as Exit-Refused, Device as Exit-Device, Memory as Exit-Memory}
+use Rattle.bw_cli.specs.declared.exit.Exit.TheVariants.{Done as Exit-Done, Refused as Exit-Refused}
+use Rattle.bw_cli.specs.declared.exit.Exit.TheVariants.{Device as Exit-Device}
+use Rattle.bw_cli.specs.declared.exit.Exit.TheVariants.{Memory as Exit-Memory}
 
 -- want of memory, or the first line that is not hex
 abbrev pub IsLineFault : Fault → Result (List (List ℕ)) ℕ → Type 0
@@ -18,13 +23,13 @@ IsLineFault Unreadable lines = ⊥
 IsLineFault Unwritable lines = ⊥
 
 -- a fault that refuses is the one that the input has
-abbrev pub Refuses : Fault → Asked → Type 0
-Refuses TooLong asked = asked ≡ AsksTooMuch
-Refuses (NotHex n) asked = asked ≡ AsksNoHex n
-Refuses (NotInOrder n) asked = asked ≡ AsksNoOrder n
-Refuses Unreadable asked = Unit {0}
-Refuses Unwritable asked = Unit {0}
-Refuses Memory asked = Unit {0}
+abbrev pub RefusesInput : Fault → Asked → Type 0
+RefusesInput TooLong asked = asked ≡ AsksTooMuch
+RefusesInput (NotHex n) asked = asked ≡ AsksNoHex n
+RefusesInput (NotInOrder n) asked = asked ≡ AsksNoOrder n
+RefusesInput Unreadable asked = Unit {0}
+RefusesInput Unwritable asked = Unit {0}
+RefusesInput Memory asked = Unit {0}
 
 -- a fault as it is told
 abbrev pub fault_text : Fault → List ℕ

@@ -1,5 +1,6 @@
 -- What the bytes of standard input ask for.
-use Rattle.std.specs.Prelude.{ℕ, Option, Some, None, List, length, Result, Ok, Err, nat_lt, if◌then◌else◌}
+use Rattle.std.specs.Prelude.{ℕ, Option, Some, None, List, length, Result, Ok, Err, nat_lt}
+use Rattle.std.specs.Prelude.{if◌then◌else◌}
 use Rattle.bw_cli.specs.Lines.{lines_of, decoded_from}
 use Rattle.bw_cli.specs.InOrder.{no_progress, first_unordered}
 
@@ -22,7 +23,8 @@ asked_by_lines (Err n) = NotHex n
 
 -- the exchanges that the lines spell, whatever their order
 abbrev pub spelled_by : List ℕ → Asked
-spelled_by input = if nat_lt longest_input (length input) then TooLong else asked_by_lines (decoded_from 1 (lines_of input))
+spelled_by input = if nat_lt longest_input (length input) then TooLong
+  else asked_by_lines (decoded_from 1 (lines_of input))
 
 abbrev pub unless_unordered : Option ℕ → List (List ℕ) → Asked
 unless_unordered None inputs = Exchanges inputs

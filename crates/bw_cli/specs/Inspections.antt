@@ -1,5 +1,6 @@
 -- What an inspection writes, and how it ends.
-use Rattle.std.specs.Prelude.{◌≡◌, ◌⊎◌, ℕ, List, [], ◌∷◌, ◌++◌, Option, Some, Result, Ok, Err, not, true, codes}
+use Rattle.std.specs.Prelude.{◌≡◌, ◌⊎◌, ℕ, List, [], ◌∷◌, ◌++◌, Option, Some, Result, Ok, Err, not}
+use Rattle.std.specs.Prelude.{true, codes}
 use Rattle.bw_model.specs.Reading.{Fault, IsFault}
 use Rattle.bw_model.specs.Report.{report_of, report_text}
 use Rattle.bw_inspect.specs.Faults.{fault_of, fault_text, is_read as is_read_fault}
@@ -7,7 +8,10 @@ use Rattle.bw_inspect.specs.Places.{Of}
 use Rattle.bw_inspect.specs.Readings.{HasReading}
 use Rattle.bw_inspect.specs.declared.fault.InspectFault.{InspectFault}
 use Rattle.bw_inspect.specs.declared.fault.InspectKind.{InspectKind}
-use Rattle.bw_inspect.specs.declared.fault.InspectKind.TheVariants.{NotWave, Truncated, NoDs64, BadDs64, NoSize, Twice, NoFmt, NoData, BadFmt, BadBext, BadCue, TooMany, TooLarge, Read, Memory}
+use Rattle.bw_inspect.specs.declared.fault.InspectKind.TheVariants.{NotWave, Truncated, NoDs64}
+use Rattle.bw_inspect.specs.declared.fault.InspectKind.TheVariants.{BadDs64, NoSize, Twice, NoFmt}
+use Rattle.bw_inspect.specs.declared.fault.InspectKind.TheVariants.{NoData, BadFmt, BadBext, BadCue}
+use Rattle.bw_inspect.specs.declared.fault.InspectKind.TheVariants.{TooMany, TooLarge, Read, Memory}
 use Rattle.bw_cli.specs.Deeds.{Deed}
 use Rattle.bw_cli.specs.Faults.{IsToldBy, exit_of}
 use Rattle.bw_cli.specs.Printing.{Print, Nothing, Whole, Part, IsOf}
@@ -38,7 +42,8 @@ exit_for TooLarge = Refused
 exit_for Read = Device
 exit_for Memory = OutOfMemory
 
--- what is printed of a text: all, a beginning where the writer fails, or nothing where memory was refused before
+-- what is printed of a text: all, a beginning where the writer fails, or nothing where memory was
+-- refused before
 abbrev pub IsPrintOfText : List ℕ → Result (Unit {0}) Failure → Print → Type 0
 IsPrintOfText text (Ok x) print = print ≡ Whole text
 IsPrintOfText text (Err failures.Unwritable) print = print ≡ Part text

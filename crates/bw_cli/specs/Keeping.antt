@@ -7,14 +7,14 @@ use Rattle.bw_model.specs.Book.{Book}
 use Rattle.bw_model.specs.Turn.{turn, good}
 use Rattle.bw_cli.specs.InOrder.{Progress, progress_behind}
 use Rattle.bw_cli.specs.Recording.{book_with, take_with, HasRequests}
-use Rattle.bw_cli.specs.Runs.{nothing_stands}
+use Rattle.bw_model.specs.Exchange.{nothing_stands}
 use Rattle.bw_cli.specs.declared.recording.Recording.{Recording}
 
 abbrev pub progress_of : Recording → Progress
 progress_of r = record { name = r.name; next = r.next }
 
 -- the recording is of a run that left this book
-pub record Keeps (r : Recording) (book : Book) : Type 0 where
+pub record KeepsBook (r : Recording) (book : Book) : Type 0 where
   pub requests : List Request
   pub count : HasRequests (progress_of r) requests
   pub leaves : book ≡ book_with r.name requests
@@ -24,5 +24,6 @@ pub record Keeps (r : Recording) (book : Book) : Type 0 where
 -- the message is the run's next, and its turn answers this reply alone
 pub record Answers (old new : Recording) (m : Message) (reply : Reply) : Type 0 where
   pub progress : progress_behind (progress_of old) (Says m) ≡ Some (progress_of new)
-  pub turns : (book : Book) → Keeps old book →
-      (later : Book) × Keeps new later × (turn nothing_stands book (Says m) good ≡ (reply ∷ [], later))
+  pub turns : (book : Book) → KeepsBook old book →
+      (later : Book) × KeepsBook new later
+        × (turn nothing_stands book (Says m) good ≡ (reply ∷ [], later))

@@ -1,5 +1,6 @@
 -- Lines of hex, each the bytes of one exchange.
-use Rattle.std.specs.Prelude.{ℕ, ◌+◌, Bool, List, [], ◌∷◌, ◌++◌, length, Result, Ok, Err, ◌==◌, if◌then◌else◌}
+use Rattle.std.specs.Prelude.{ℕ, ◌+◌, Bool, List, [], ◌∷◌, ◌++◌, length, Result, Ok, Err, ◌==◌}
+use Rattle.std.specs.Prelude.{if◌then◌else◌}
 use Rattle.std.specs.Io.BufRead.{strip_last}
 use Rattle.hex.specs.Hex.{decode_of}
 use Rattle.hex.specs.declared.error.FromHexError.{FromHexError}
@@ -7,16 +8,19 @@ use Rattle.hex.specs.declared.error.FromHexError.{FromHexError}
 abbrev pub is_line_end : ℕ → Bool
 is_line_end byte = byte == 10
 
--- the lines of bytes behind the first bytes of a line. Byte 10 ends a line, and one byte 13 before it goes with it
+-- the lines of bytes behind the first bytes of a line. Byte 10 ends a line, and one byte 13 before
+-- it goes with it
 unfoldable pub lines_from : List ℕ → List ℕ → List (List ℕ)
 lines_from line [] = if length line == 0 then [] else line ∷ []
-lines_from line (c ∷ cs) = if is_line_end c then strip_last 13 line ∷ lines_from [] cs else lines_from (line ++ c ∷ []) cs
+lines_from line (c ∷ cs) =
+  if is_line_end c then strip_last 13 line ∷ lines_from [] cs else lines_from (line ++ c ∷ []) cs
 
 abbrev pub lines_of : List ℕ → List (List ℕ)
 lines_of bytes = lines_from [] bytes
 
 -- the bytes of a line and of those behind it, or the number of the first that is not hex
-abbrev pub with_line : ℕ → Result (List ℕ) FromHexError → Result (List (List ℕ)) ℕ → Result (List (List ℕ)) ℕ
+abbrev pub with_line : ℕ → Result (List ℕ) FromHexError → Result (List (List ℕ)) ℕ →
+  Result (List (List ℕ)) ℕ
 with_line n (Err e) more = Err n
 with_line n (Ok bytes) (Err m) = Err m
 with_line n (Ok bytes) (Ok lines) = Ok (bytes ∷ lines)

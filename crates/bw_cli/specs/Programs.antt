@@ -1,5 +1,6 @@
 -- What the program does for a command line.
-use Rattle.std.specs.Prelude.{◌≡◌, ◌⊎◌, ℕ, [], ◌∷◌, ◌++◌, Bool, true, false, Option, Some, List, Result, Err, codes, string_bytes}
+use Rattle.std.specs.Prelude.{◌≡◌, ◌⊎◌, ℕ, [], ◌∷◌, ◌++◌, Bool, true, false, Option, Some, List}
+use Rattle.std.specs.Prelude.{Result, Err, codes, string_bytes}
 use Rattle.std.specs.declared.io.ErrorKind.{ErrorKind}
 use Rattle.std.specs.declared.io.ErrorKind.TheVariants as kinds
 use Rattle.clap.specs.Walk.{Text}
@@ -88,7 +89,8 @@ IsTelling texts.DisplayHelp did = IsHelp did
 IsTelling texts.DisplayVersion did = IsHelp did
 IsTelling _ did = IsUsage did ⊎ IsWant did
 
--- what the program is given: the words of its command line, the bytes at each path, and those of its input
+-- what the program is given: the words of its command line, the bytes at each path, and those of
+-- its input
 pub record Given : Type 0 where
   pub words : Option (List Text)
   pub file_at : Text → Option (List ℕ)
@@ -105,13 +107,17 @@ abbrev pub IsLook : Option (List ℕ) → Text → Bool → Deed → Type 0
 IsLook file path true did = IsInspected file did
 IsLook file path false did = ((kind : ErrorKind) × IsUnopened path kind did) ⊎ IsWant did
 
--- what is done for a command line over these files and this input, where the system gives what is asked of it, or not
-abbrev pub IsDoneFor : (Text → Option (List ℕ)) → Option (List ℕ) → Bool → CommandLine → Deed → Type 0
-IsDoneFor file_at input gives_all (Run (Replay limit)) did = IsReplay limit input did × (gives_all ≡ true)
+-- what is done for a command line over these files and this input, where the system gives what is
+-- asked of it, or not
+abbrev pub IsDoneFor : (Text → Option (List ℕ)) → Option (List ℕ) → Bool → CommandLine → Deed →
+  Type 0
+IsDoneFor file_at input gives_all (Run (Replay limit)) did =
+  IsReplay limit input did × (gives_all ≡ true)
 IsDoneFor file_at input gives_all (Run (Inspect file)) did =
     IsLook (file_at (string_bytes file)) (string_bytes file) gives_all did
 IsDoneFor file_at input gives_all BadLimit did = IsBadLimit did × (gives_all ≡ true)
-IsDoneFor file_at input gives_all (Tell error) did = IsTelling (kind_of error) did × (gives_all ≡ true)
+IsDoneFor file_at input gives_all (Tell error) did =
+  IsTelling (kind_of error) did × (gives_all ≡ true)
 
 -- the words come to a command line, and this is done for it
 pub record IsAnswer (given : Given) (gives_all : Bool) (did : Deed) : Type 0 where

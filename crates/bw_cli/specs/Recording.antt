@@ -1,4 +1,5 @@
--- What a server holds of a run in order: one name, whose requests have the numbers 0, 1, 2 and so on and are all done.
+-- What a server holds of a run in order: one name, whose requests have the numbers 0, 1, 2 and so
+-- on and are all done.
 use Rattle.std.specs.Prelude.{◌≡◌, Option, Some, None, List, [], ◌∷◌, ℕ, length, map, fold, false}
 use Rattle.bw_model.specs.Take.{Take, Request, Block, new_take, after}
 use Rattle.bw_model.specs.Book.{Log, Book}

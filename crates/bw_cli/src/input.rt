@@ -4,7 +4,7 @@ ghost use Rattle.std.specs.List.{position_or_len};
 ghost use Rattle.std.specs.Io.BufRead.{strip_last};
 ghost use Rattle.bw_cli.specs.Lines.{lines_of, decoded_from, is_line_end};
 ghost use Rattle.bw_cli.specs.Input.{spelled_by, longest_input, Exchanges};
-ghost use Rattle.bw_cli.specs.Faults.{IsLineFault, Refuses, is_read};
+ghost use Rattle.bw_cli.specs.Faults.{IsLineFault, RefusesInput, is_read};
 ghost use Rattle.bw_cli.specs.Printing.{failures_if};
 ghost use Rattle.bw_cli.specs.Replays.{IsReadAhead};
 ghost use Rattle.bw_inspect.specs.Places.{Of};
@@ -26,7 +26,7 @@ pub fn exchanges<R: Source>(alloc: Global, input: &mut R) -> Result<Vec<Vec<u8>>
         spelled_by xs ≡ Exchanges (map (λ x. x.items) found.items))) }
     ensures short { IfOk result (λ found. All (λ x. length x.items ≤ longest_input) found.items) }
     ensures err { IfErr result (λ fault. Of (R.left input.old) (λ xs.
-        Refuses fault (spelled_by xs))) }
+        RefusesInput fault (spelled_by xs))) }
     ensures own { IfErr result (λ fault. fault ≢ Fault.Unwritable) }
 {
     let bytes = all_bytes(alloc, input)?;
@@ -41,7 +41,7 @@ fn all_bytes<R: Source>(alloc: Global, input: &mut R) -> Result<Vec<u8>, Fault>
     ensures within { IfOk result (λ bytes. length bytes.items ≤ longest_input) }
     ensures ok { IfOk result (λ bytes. Of (R.left input.old) (λ xs. bytes.items ≡ xs)) }
     ensures err { IfErr result (λ fault. Of (R.left input.old) (λ xs.
-        Refuses fault (spelled_by xs))) }
+        RefusesInput fault (spelled_by xs))) }
     ensures own { IfErr result (λ fault. fault ≢ Fault.Unwritable) }
 {
     let mut bytes = Vec::new(alloc);

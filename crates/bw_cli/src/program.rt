@@ -67,7 +67,7 @@ fn obey<S: System, R: Source, W: Sink, E: Sink>(
     }
 }
 
-/// Tells that the words of the command line can't be read.
+/// TellsExchange that the words of the command line can't be read.
 fn tell_unworded<E: Sink>(error: &io::Error, faults: &mut E) -> Exit
     ensures { (did : Deed) × (did.exit ≡ result) × IsUnworded (error_kind error.now) did
         × IsPrint E.Sink did.faults faults.old faults.new }
@@ -133,7 +133,7 @@ fn perform<S: System, R: Source, W: Sink, E: Sink>(
     }
 }
 
-/// Tells what is in the file of a path.
+/// TellsExchange what is in the file of a path.
 fn inspect_file<S: System, W: Sink, E: Sink>(
     alloc: Global,
     system: &mut S,
@@ -153,7 +153,7 @@ fn inspect_file<S: System, W: Sink, E: Sink>(
     }
 }
 
-/// Tells why the file of a path can't be opened.
+/// TellsExchange why the file of a path can't be opened.
 fn tell_unopened<E: Sink>(alloc: Global, path: &str, error: &io::Error, faults: &mut E) -> Exit
     ensures { (did : Deed) × (did.exit ≡ result)
         × (IsUnopened path.now (error_kind error.now) did ⊎ IsWant did)

@@ -35,13 +35,13 @@ pub struct TakeFile {
 impl Recording {
     ghost use Rattle.bw_model.specs.Book.{Book};
     ghost use Rattle.bw_cli.specs.Text.{files_text};
-    ghost use Rattle.bw_cli.specs.Keeping.{progress_of, Keeps, Answers};
+    ghost use Rattle.bw_cli.specs.Keeping.{progress_of, KeepsBook, Answers};
     ghost use Rattle.bw_cli.specs.TakeFiles.{text_of_file};
 
     /// Before the first message.
     pub fn new(alloc: Global) -> Recording
         ensures progress { progress_of result ≡ no_progress }
-        ensures book { Keeps result [] }
+        ensures book { KeepsBook result [] }
     {
         Recording {
             name: None,
@@ -84,7 +84,7 @@ impl Recording {
 
     /// The take's file, if it was opened.
     pub fn file(&self, alloc: Global, limit: Limit) -> Result<Option<TakeFile>, AllocError>
-        ensures { IfOk result (λ file. (book : Book) → Keeps self.now book →
+        ensures { IfOk result (λ file. (book : Book) → KeepsBook self.now book →
             text_of_file file ≡ files_text limit book) }
     {
         let Some(name) = &self.name else {

@@ -7,8 +7,8 @@ ghost use Rattle.bw_model.specs.Replies.{Reply, is_reply};
 ghost use Rattle.bw_model.specs.Exchange.{replies_bytes};
 ghost use Rattle.bw_model.specs.Book.{Book};
 ghost use Rattle.bw_cli.specs.Text.{line, reply_line, end_name as name_of_end, exchanges_text, file_text, files_text, run_text};
-ghost use Rattle.bw_cli.specs.Runs.{Told};
-ghost use Rattle.bw_cli.specs.Keeping.{Keeps};
+ghost use Rattle.bw_cli.specs.Runs.{ToldExchange};
+ghost use Rattle.bw_cli.specs.Keeping.{KeepsBook};
 ghost use Rattle.bw_cli.specs.Exchanging.{end_of};
 ghost use Rattle.bw_cli.specs.Running.{AllTell, Ran};
 
@@ -31,7 +31,7 @@ pub fn text_of_run(alloc: Global, limit: Limit, run: &Run) -> Result<Vec<u8>, Al
 
 /// Adds the exchanges, each with its replies.
 fn put_exchanges(alloc: Global, out: &mut Vec<u8>, exchanges: &[Exchange]) -> Result<(), AllocError>
-    ensures { OnOk result ((told : List Told) → AllTell exchanges.now told →
+    ensures { OnOk result ((told : List ToldExchange) → AllTell exchanges.now told →
         out.new.items ≡ out.old.items ++ exchanges_text 0 told) }
 {
     for (index, exchange) in exchanges.iter().enumerate() {
@@ -105,7 +105,7 @@ fn put_files(
     limit: Limit,
     recording: &Recording,
 ) -> Result<(), AllocError>
-    ensures { OnOk result ((book : Book) → Keeps recording.now book →
+    ensures { OnOk result ((book : Book) → KeepsBook recording.now book →
         out.new.items ≡ out.old.items ++ files_text limit book) }
 {
     match recording.file(alloc, limit)? {

@@ -12,7 +12,8 @@ pub record IsHeading (t : Take) (limit : ℕ) (h : Heading) : Type 0 where
   pub place : place_of h ≡ data_place (length t.history)
   pub header : (data_len cues : ℕ) → header_of h data_len cues ≡ header h.format t.fields t.history data_len cues limit
 
-pub is_heading : (t : Take) (p : Parts) (h : Heading) (limit : ℕ) → parts t ≡ p → Some h.format ≡ p.format → h.bext.now ≡ p.fields → h.history.now ≡ p.history → h.limit ≡ limit → IsHeading t limit h
+pub is_heading : (t : Take) (p : Parts) (h : Heading) (limit : ℕ) → parts t ≡ p → Some h.format ≡ p.format →
+  h.bext.now ≡ p.fields → h.history.now ≡ p.history → h.limit ≡ limit → IsHeading t limit h
 is_heading t p h limit same format fields history at_limit =
     let set = fields ∙ sym (ap (λ (q : Parts). q.fields) same) in
     let told = history ∙ sym (ap (λ (q : Parts). q.history) same) in

@@ -1,7 +1,8 @@
 -- What a request that is to be stored says of its take.
 use Rattle.std.proofs.Common.{◌≡◌, ℕ, ◌<◌, Bool, true, false, cond, List, length, Option, Some, None, refl, arith}
 use Rattle.std.specs.Prelude.{IsTrue, IsSome, is_some}
-use Rattle.bw_model.specs.Take.{Format, Parts, Request, FieldFault, Open, Block, SetField, Close, Stored, Closed, NotOpen, BadField, judge, judge_open, field_fault}
+use Rattle.bw_model.specs.Take.{Format, Parts, Request, FieldFault, Open, Block, SetField, Close, Stored, Closed}
+use Rattle.bw_model.specs.Take.{NotOpen, BadField, judge, judge_open, field_fault}
 use Rattle.bw_model.specs.Wire.{is_request}
 
 -- the take is open
@@ -11,7 +12,8 @@ pub record IsOpen (p : Parts) : Type 0 where
   pub not_closed : p.closed ≡ false
 
 module _ (p : Parts) (r : Request) (needs_format : judge_open p None r ≡ NotOpen) where
-  opened : (closed : Bool) (format : Option Format) → cond closed Closed (judge_open p format r) ≡ Stored → (closed ≡ false) × ((f : Format) × (format ≡ Some f))
+  opened : (closed : Bool) (format : Option Format) → cond closed Closed (judge_open p format r) ≡ Stored →
+    (closed ≡ false) × ((f : Format) × (format ≡ Some f))
   opened true format e = cc
   opened false None e = let both = needs_format in cc
   opened false (Some f) e = (refl, (f, refl))
@@ -43,11 +45,13 @@ unfaulted : (fault : Option FieldFault) → cond (is_some fault) BadField Stored
 unfaulted None e = refl
 unfaulted (Some fault) e = cc
 
-pub no_fault : (p : Parts) (tag : ℕ) (value : List ℕ) → judge p (SetField tag value) ≡ Stored → field_fault tag value ≡ None
+pub no_fault : (p : Parts) (tag : ℕ) (value : List ℕ) → judge p (SetField tag value) ≡ Stored →
+  field_fault tag value ≡ None
 unfolding judge
 no_fault p tag value e = go p.closed p.format e
   where
-    go : (closed : Bool) (format : Option Format) → cond closed Closed (judge_open p format (SetField tag value)) ≡ Stored → field_fault tag value ≡ None
+    go : (closed : Bool) (format : Option Format) →
+      cond closed Closed (judge_open p format (SetField tag value)) ≡ Stored → field_fault tag value ≡ None
     go true format e = cc
     go false None e = cc
     go false (Some f) e = unfaulted (field_fault tag value) e
@@ -61,7 +65,8 @@ pub unopened_for_open : (p : Parts) (f : Format) (history : List ℕ) → judge 
 unfolding judge
 unopened_for_open p f history e = let o = go p.closed p.format e in record { no_format = o.1; not_closed = o.0 }
   where
-    go : (closed : Bool) (format : Option Format) → cond closed Closed (judge_open p format (Open f history)) ≡ Stored → (closed ≡ false) × (format ≡ None)
+    go : (closed : Bool) (format : Option Format) →
+      cond closed Closed (judge_open p format (Open f history)) ≡ Stored → (closed ≡ false) × (format ≡ None)
     go true format e = cc
     go false None e = (refl, refl)
     go false (Some g) e = cc

@@ -1,5 +1,6 @@
 -- What a change of one file of a disk in memory does at each path.
-use Rattle.std.proofs.Common.{◌≡◌, ◌≢◌, ℕ, List, [], ◌∷◌, ◌++◌, Bool, true, false, Option, Some, None, Vec, cond, get_or, slice_set, string_bytes, is_some, refl, sym, ◌∙◌, ap, arith, inl, inr}
+use Rattle.std.proofs.Common.{◌≡◌, ◌≢◌, ℕ, List, [], ◌∷◌, ◌++◌, Bool, true, false, Option, Some, None, Vec, cond}
+use Rattle.std.proofs.Common.{get_or, slice_set, string_bytes, is_some, refl, sym, ◌∙◌, ap, arith, inl, inr}
 use Rattle.std.specs.List.{position, find, position_or_len, slice_get}
 use Rattle.std.specs.Option.{option_or, option_map, option_and_then}
 use Rattle.std.specs.Str.{bytes_eq}

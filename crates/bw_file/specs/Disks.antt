@@ -1,5 +1,6 @@
 -- What the calls of a disk leave.
-use Rattle.std.specs.Prelude.{◌≡◌, ◌⊎◌, ℕ, List, Option, Some, None, Bool, true, false, Result, MatchResult}
+use Rattle.std.specs.Prelude.{◌≡◌, ◌⊎◌, ℕ, List, Option, Some, None, Bool, true, false, Result}
+use Rattle.std.specs.Prelude.{MatchResult}
 use Rattle.bw_file.specs.Stores.{Counts, Creates, KeepsOthers}
 use Rattle.bw_file.specs.declared.store.Created.TheVariants.{New, Exists}
 

@@ -1,5 +1,6 @@
 -- Which calls of a store behind fuses fail.
-use Rattle.std.specs.Prelude.{ℕ, ◌/◌, Bool, true, false, IsTrue, IsFalse, List, [], length, take, ◌==◌, Option, None, if◌then◌else◌}
+use Rattle.std.specs.Prelude.{ℕ, ◌/◌, Bool, true, false, IsTrue, IsFalse, List, [], length, take}
+use Rattle.std.specs.Prelude.{◌==◌, Option, None, if◌then◌else◌}
 use Rattle.std.specs.List.{list_any}
 use Rattle.bw_file.specs.Stores.{Counts}
 use Rattle.bw_file.specs.Calls.{StoreCall}

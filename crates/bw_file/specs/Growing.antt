@@ -1,7 +1,9 @@
 -- The growing file of a take: what it knows, and what its calls leave.
-use Rattle.std.specs.Prelude.{◌≡◌, ℕ, Bool, true, false, Option, Some, None, IsSome, IsTrue, IsFalse, List, [], Result, MatchResult}
+use Rattle.std.specs.Prelude.{◌≡◌, ℕ, Bool, true, false, Option, Some, None, IsSome, IsTrue}
+use Rattle.std.specs.Prelude.{IsFalse, List, [], Result, MatchResult}
 use Rattle.std.specs.Bool.{MatchBool}
-use Rattle.bw_model.specs.Take.{Take, Parts, Request, SetField, Stored, judge, with_request, with_field}
+use Rattle.bw_model.specs.Take.{Take, Parts, Request, SetField, Stored, judge, with_request}
+use Rattle.bw_model.specs.Take.{with_field}
 use Rattle.bw_model.specs.File.{file_of}
 use Rattle.bw_model.specs.Holds.{IsBetween}
 use Rattle.bw_file.specs.declared.store.Created.{Created}
@@ -45,9 +47,9 @@ abbrev pub IsBegun : Growing → Take → Request → Option (List ℕ) → Type
 IsBegun g t r found = IsSome found × IsBetween t g.limit r found
 
 -- A name that is made then has the file of the opened take, or after a fault a beginning of it.
-abbrev pub Begins : {T E : Type 0} → Result T E → Growing → Bool → Take → Request →
+abbrev pub BeginsFile : {T E : Type 0} → Result T E → Growing → Bool → Take → Request →
     Option (List ℕ) → Option (List ℕ) → Type 0
-Begins answer g made t r before after =
+BeginsFile answer g made t r before after =
     (IsTrue g.made → IsBegun g t r before) → IsTrue made →
     MatchResult answer
     (λ _. after ≡ file_of (with_request t r) g.limit)

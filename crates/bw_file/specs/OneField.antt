@@ -1,5 +1,6 @@
 -- Two headers of a take, one field of whose `bext` is set.
-use Rattle.std.specs.Prelude.{◌≡◌, ◌⊎◌, ℕ, ◌+◌, ◌≤◌, Some, List, ◌++◌, length, take, drop, slice_range}
+use Rattle.std.specs.Prelude.{◌≡◌, ◌⊎◌, ℕ, ◌+◌, ◌≤◌, Some, List, ◌++◌, length, take, drop}
+use Rattle.std.specs.Prelude.{slice_range}
 use Rattle.bw_layout.specs.Places.{range_of}
 
 -- these headers have the same bytes in a range

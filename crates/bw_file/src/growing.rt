@@ -4,7 +4,7 @@ ghost use Rattle.bw_model.specs.Take.{Take, Stored, Open, Block, SetField, Close
 ghost use Rattle.bw_model.specs.Wire.{is_request};
 ghost use Rattle.bw_file.specs.StoreSteps.{Shared, WasAsked, WasAskedFirst};
 ghost use Rattle.bw_file.specs.Plans.{name_plan, begin_plan, append_plan, retouch_plan, close_plan};
-ghost use Rattle.bw_file.specs.Growing.{Growing, Stores, Sets, Begins, AsksForName, IsFresh, is_new};
+ghost use Rattle.bw_file.specs.Growing.{Growing, Stores, Sets, BeginsFile, AsksForName, IsFresh, is_new};
 
 use crate::heading::Heading;
 use crate::room::Room;
@@ -122,7 +122,7 @@ impl GrowingFile {
         ensures stood { IsTrue (S.honest store.old) →
             IfOk result (λ c. IsFalse (is_new c) → IsSome (S.contents store.old self.old.name)) }
         ensures file { IsTrue (S.honest store.old) → (t : Take) → parts t ≡ state.now.parts →
-            Begins result self.old self.new.made t (Open format history.now)
+            BeginsFile result self.old self.new.made t (Open format history.now)
             (S.contents store.old self.old.name) (S.contents store.new self.old.name) }
     {
         self.dirty = true;

@@ -1,10 +1,13 @@
 -- Whose fault a fault is.
-use Rattle.std.proofs.Common.{◌≡◌, ℕ, ◌+◌, ◌≤◌, arith, Bool, true, false, List, length, drop, Option, Some, None, refl, sym, ◌∙◌, ap}
+use Rattle.std.proofs.Common.{◌≡◌, ℕ, ◌+◌, ◌≤◌, arith, Bool, true, false, List, length, drop, Option, Some, None, refl}
+use Rattle.std.proofs.Common.{sym, ◌∙◌, ap}
 use Rattle.std.specs.Prelude.{option_map, is_some, not}
 use Rattle.bw_model.specs.Reading as reading
 use Rattle.bw_inspect.specs.declared.fault.InspectFault.{InspectFault}
 use Rattle.bw_inspect.specs.declared.fault.InspectKind.{InspectKind}
-use Rattle.bw_inspect.specs.declared.fault.InspectKind.TheVariants.{NotWave, Truncated, NoDs64, BadDs64, NoSize, Twice, NoFmt, NoData, BadFmt, BadBext, BadCue, TooMany, TooLarge, Read, Memory}
+use Rattle.bw_inspect.specs.declared.fault.InspectKind.TheVariants.{NotWave, Truncated, NoDs64, BadDs64, NoSize, Twice}
+use Rattle.bw_inspect.specs.declared.fault.InspectKind.TheVariants.{NoFmt, NoData, BadFmt, BadBext, BadCue, TooMany}
+use Rattle.bw_inspect.specs.declared.fault.InspectKind.TheVariants.{TooLarge, Read, Memory}
 use Rattle.bw_inspect.specs.Faults.{is_read, is_memory, is_of_bytes, kind_of, fault_of}
 use Rattle.bw_inspect.specs.Places.{Halts, IsMissed}
 
@@ -65,7 +68,8 @@ memory_no_read Memory e = refl
 pub not_both : (v : Bool) → v ≡ false → v ≡ true → ⊥
 not_both v f t = let x : false ≡ true = sym f ∙ t in cc
 
-named : (o : Option reading.FaultKind) (n : ℕ) (g : reading.Fault) → option_map (λ (k : reading.FaultKind). record { kind = k; offset = n }) o ≡ Some g → is_some o ≡ true
+named : (o : Option reading.FaultKind) (n : ℕ) (g : reading.Fault) →
+  option_map (λ (k : reading.FaultKind). record { kind = k; offset = n }) o ≡ Some g → is_some o ≡ true
 named None n g e = cc
 named (Some k) n g e = refl
 
@@ -73,16 +77,20 @@ named (Some k) n g e = refl
 pub of_bytes : (f : InspectFault) (g : reading.Fault) → fault_of f ≡ Some g → is_of_bytes f.kind ≡ true
 of_bytes f g e = named (kind_of f.kind) f.offset g e
 
-told_by : (o : Option reading.FaultKind) (n : ℕ) → is_some o ≡ true → (g : reading.Fault) × (option_map {U = reading.Fault} (λ (k : reading.FaultKind). record { kind = k; offset = n }) o ≡ Some g)
-told_by None n e = cc
-told_by (Some k) n e = (record { kind = k; offset = n }, refl)
+kind_told : (o : Option reading.FaultKind) (n : ℕ) → is_some o ≡ true →
+  (g : reading.Fault) × (option_map {U = reading.Fault} (λ (k : reading.FaultKind). record { kind = k; offset = n }) o
+  ≡ Some g)
+kind_told None n e = cc
+kind_told (Some k) n e = (record { kind = k; offset = n }, refl)
 
 -- and such a fault is named
 pub told_fault : (f : InspectFault) → is_of_bytes f.kind ≡ true → (g : reading.Fault) × (fault_of f ≡ Some g)
-told_fault f e = told_by (kind_of f.kind) f.offset e
+told_fault f e = kind_told (kind_of f.kind) f.offset e
 
 -- a call halts where it stands, for a fault of the bytes
-pub halts_by_bytes : (b : List ℕ) (most place reached : ℕ) (wants : ℕ → Type 0) (f : InspectFault) (left : Option (List ℕ)) → reached ≤ most → reached ≤ length b → left ≡ Some (drop reached b) → is_of_bytes f.kind ≡ true →
+pub halts_by_bytes : (b : List ℕ) (most place reached : ℕ) (wants : ℕ → Type 0) (f : InspectFault)
+  (left : Option (List ℕ)) → reached ≤ most → reached ≤ length b → left ≡ Some (drop reached b) →
+  is_of_bytes f.kind ≡ true →
     Halts b most place wants f left
 halts_by_bytes b most place reached wants f left w l r k = record {
   reached = reached;
@@ -94,7 +102,8 @@ halts_by_bytes b most place reached wants f left w l r k = record {
 }
 
 -- it may have gone further
-unfoldable pub halts_further : (b : List ℕ) (most more place : ℕ) (wants further : ℕ → Type 0) (f : InspectFault) (left : Option (List ℕ)) → most ≤ more → ((n : ℕ) → wants n → further n) → Halts b most place wants f left →
+unfoldable pub halts_further : (b : List ℕ) (most more place : ℕ) (wants further : ℕ → Type 0) (f : InspectFault)
+  (left : Option (List ℕ)) → most ≤ more → ((n : ℕ) → wants n → further n) → Halts b most place wants f left →
     Halts b more place further f left
 halts_further b most more place wants further f left w k h = record {
   reached = h.reached;
@@ -106,13 +115,16 @@ halts_further b most more place wants further f left w k h = record {
 }
 
 -- bytes that were missed are no want of memory
-pub missed_no_memory : (b : List ℕ) (place n : ℕ) (cut f : InspectFault) (left : Option (List ℕ)) → IsMissed b place n cut f left → is_of_bytes cut.kind ≡ true → is_memory f.kind ≡ true → ⊥
+pub missed_no_memory : (b : List ℕ) (place n : ℕ) (cut f : InspectFault) (left : Option (List ℕ)) →
+  IsMissed b place n cut f left → is_of_bytes cut.kind ≡ true → is_memory f.kind ≡ true → ⊥
 missed_no_memory b place n cut f left m k t =
     let x = m.cuts (ap not (memory_no_read f.kind t)) in
     not_both (is_memory f.kind) (ap (λ (z : InspectFault). is_memory z.kind) x.0 ∙ bytes_no_memory cut.kind k) t
 
 -- they halt a call
-pub halts_missed : (b : List ℕ) (place n most p : ℕ) (wants : ℕ → Type 0) (cut f : InspectFault) (left : Option (List ℕ)) → IsMissed b place n cut f left → is_of_bytes cut.kind ≡ true → place + n ≤ most → place ≤ length b →
+pub halts_missed : (b : List ℕ) (place n most p : ℕ) (wants : ℕ → Type 0) (cut f : InspectFault)
+  (left : Option (List ℕ)) → IsMissed b place n cut f left → is_of_bytes cut.kind ≡ true → place + n ≤ most →
+  place ≤ length b →
     Halts b most p wants f left
 halts_missed b place n most p wants cut f left m k w l = record {
   reached = place + m.taken;

@@ -1,5 +1,6 @@
 -- A whole file.
-use Rattle.std.proofs.Common.{◌≡◌, ℕ, ◌+◌, ◌^◌, ◌<◌, ◌≤◌, Bool, true, false, List, length, Option, Some, None, Result, Ok, Err, refl, sym, ◌∙◌, arith, inl, inr}
+use Rattle.std.proofs.Common.{◌≡◌, ℕ, ◌+◌, ◌^◌, ◌<◌, ◌≤◌, Bool, true, false, List, length, Option, Some, None, Result}
+use Rattle.std.proofs.Common.{Ok, Err, refl, sym, ◌∙◌, arith, inl, inr}
 use Rattle.std.specs.Prelude.{IfErr}
 use Rattle.bw_model.specs.Bytes.{first_that_holds}
 use Rattle.bw_model.specs.Reading as reading
@@ -9,7 +10,7 @@ use Rattle.bw_inspect.specs.declared.walk.Walk.{Walk}
 use Rattle.bw_inspect.specs.declared.walk.Form.{Form}
 use Rattle.bw_inspect.specs.Faults.{is_read, is_memory, is_of_bytes, fault_of}
 use Rattle.bw_inspect.specs.Walks.{IsFaulted, form_of, seen_by}
-use Rattle.bw_inspect.specs.Outers.{Begins, IsOutside}
+use Rattle.bw_inspect.specs.Outers.{BeginsForm, IsOutside}
 use Rattle.bw_inspect.specs.Readings.{HasReading, IsPadAbsent, IsTold, Refuses, Tells}
 use Rattle.bw_inspect.proofs.Faults.{bytes_no_read, bytes_no_memory, not_both, told_fault}
 use Rattle.bw_inspect.proofs.Finish.{next_end}
@@ -28,7 +29,8 @@ outside_refused b f left o = record {
 }
 
 -- past the end of the bytes lies the pad byte of the last chunk alone
-pad_absent : (b : List ℕ) (form : Form) (w : Walk) (reached : ℕ) (left : Option (List ℕ)) → Begins b form w left → length b < reached → reached ≡ reading.next_place (seen_by w) → IsPadAbsent b reached
+pad_absent : (b : List ℕ) (form : Form) (w : Walk) (reached : ℕ) (left : Option (List ℕ)) → BeginsForm b form w left →
+  length b < reached → reached ≡ reading.next_place (seen_by w) → IsPadAbsent b reached
 pad_absent b form w reached left s past p =
     let near = s.stands.near in
     let place = s.stands.place in
@@ -41,7 +43,8 @@ pad_absent b form w reached left s past p =
     }
 
 -- a chunk's fault
-pub step_refused : (b : List ℕ) (form : Form) (w : Walk) (f : InspectFault) (left left' : Option (List ℕ)) → form.size ≤ 2 ^ 62 → Begins b form w left → IsFaulted b (form_of form) (seen_by w) f left' → Refuses b f left'
+pub step_refused : (b : List ℕ) (form : Form) (w : Walk) (f : InspectFault) (left left' : Option (List ℕ)) →
+  form.size ≤ 2 ^ 62 → BeginsForm b form w left → IsFaulted b (form_of form) (seen_by w) f left' → Refuses b f left'
 step_refused b form w f left left' small s k =
     let front : reading.IsFront b (form_of form) (seen_by w) = record { header = s.header; chunks = s.stands.chunks } in
     record {
@@ -55,10 +58,14 @@ step_refused b form w f left left' small s k =
     }
 
 -- a fault at the form's end
-pub end_refused : (b : List ℕ) (form : Form) (w : Walk) (f : InspectFault) (left : Option (List ℕ)) → form.size ≤ 2 ^ 62 → Begins b form w left → reading.form_end (form_of form) < w.place + 8 → is_of_bytes f.kind ≡ true →
+pub end_refused : (b : List ℕ) (form : Form) (w : Walk) (f : InspectFault) (left : Option (List ℕ)) →
+  form.size ≤ 2 ^ 62 → BeginsForm b form w left → reading.form_end (form_of form) < w.place + 8 →
+  is_of_bytes f.kind ≡ true →
     fault_of f ≡ first_that_holds (reading.end_faults (8 + form.size) (seen_by w)) → Refuses b f left
 end_refused b form w f left small s past k e = record {
-  fault = λ g h. inr (form_of form, (seen_by w, (record { header = s.header; chunks = s.stands.chunks }, next_end b (form_of form) (seen_by w) w.place (Some g) s.stands.place (omega arith) (sym e ∙ h))));
+  fault = λ g h. inr (form_of form,
+    (seen_by w, (record { header = s.header; chunks = s.stands.chunks },
+    next_end b (form_of form) (seen_by w) w.place (Some g) s.stands.place (omega arith) (sym e ∙ h))));
   within = record { reached = s.stands.reached; within = let x = s.stands.within in omega arith; rest = s.stands.rest };
   there = λ t. pad_absent b form w s.stands.reached left s t (s.stands.there t ∙ s.stands.place);
   fails = λ t. absurd (not_both (is_read f.kind) (bytes_no_read f.kind k) t);
@@ -66,7 +73,9 @@ end_refused b form w f left small s past k e = record {
 }
 
 -- the report of the reading
-pub told : (b : List ℕ) (form : Form) (w : Walk) (r : Report) (left : Option (List ℕ)) → form.size ≤ 2 ^ 62 → Begins b form w left → reading.form_end (form_of form) < w.place + 8 → IsTold b (form_of form) (seen_by w) r → Tells b r left
+pub told : (b : List ℕ) (form : Form) (w : Walk) (r : Report) (left : Option (List ℕ)) → form.size ≤ 2 ^ 62 →
+  BeginsForm b form w left → reading.form_end (form_of form) < w.place + 8 → IsTold b (form_of form) (seen_by w) r →
+  Tells b r left
 told b form w r left small s past k = record {
   reading_is = record {
     form = form_of form;
@@ -82,14 +91,18 @@ told b form w r left small s past k = record {
   small = small;
 }
 
-pub err_both : {X : Type 0} (r : Result X InspectFault) (A B C : InspectFault → Type 0) → IfErr r A → IfErr r B → ((f : InspectFault) → A f → B f → C f) → IfErr r C
+pub err_both : {X : Type 0} (r : Result X InspectFault) (A B C : InspectFault → Type 0) → IfErr r A → IfErr r B →
+  ((f : InspectFault) → A f → B f → C f) → IfErr r C
 err_both (Ok x) A B C a b k = tt
 err_both (Err f) A B C a b k = k f a b
 
-refused_by : (b : List ℕ) (f : InspectFault) (left : Option (List ℕ)) (v : Bool) → is_of_bytes f.kind ≡ v → Refuses b f left → HasReading b → is_of_bytes f.kind ≡ false
-refused_by b f left true e r h = let g = told_fault f e in absurd (no_fault b h.form h.entries g.0 h.reads (r.fault g.0 g.1))
+refused_by : (b : List ℕ) (f : InspectFault) (left : Option (List ℕ)) (v : Bool) → is_of_bytes f.kind ≡ v →
+  Refuses b f left → HasReading b → is_of_bytes f.kind ≡ false
+refused_by b f left true e r h = let g =
+  told_fault f e in absurd (no_fault b h.form h.entries g.0 h.reads (r.fault g.0 g.1))
 refused_by b f left false e r h = e
 
 -- bytes with a reading are refused for none of their own faults
-pub refused_outside : (b : List ℕ) (f : InspectFault) (left : Option (List ℕ)) → Refuses b f left → HasReading b → is_of_bytes f.kind ≡ false
+pub refused_outside : (b : List ℕ) (f : InspectFault) (left : Option (List ℕ)) → Refuses b f left → HasReading b →
+  is_of_bytes f.kind ≡ false
 refused_outside b f left r h = refused_by b f left (is_of_bytes f.kind) refl r h

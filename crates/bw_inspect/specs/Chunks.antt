@@ -1,5 +1,7 @@
 -- What a chunk's head says, in the parts in which it is found.
-use Rattle.std.specs.Prelude.{ℕ, ◌+◌, ◌*◌, ◌≤◌, Bool, true, false, not, ◌&&◌, List, [], ◌∷◌, length, find, codes, Option, option_map, is_none, nat_lt, nat_le, if◌then◌else◌}
+use Rattle.std.specs.Prelude.{ℕ, ◌+◌, ◌*◌, ◌≤◌, Bool, true, false, not, ◌&&◌, List, [], ◌∷◌, length}
+use Rattle.std.specs.Prelude.{find, codes, Option, option_map, is_none, nat_lt, nat_le}
+use Rattle.std.specs.Prelude.{if◌then◌else◌}
 use Rattle.bw_model.specs.Reading as reading
 use Rattle.bw_layout.specs.declared.sizes.Ds64.{Ds64}
 use Rattle.bw_inspect.specs.declared.chunk.ChunkKind.{ChunkKind}
@@ -82,9 +84,10 @@ content_faults len p kind count c =
     ∷ reading.line (nat_lt len (p + 8 + c)) reading.Truncated p
     ∷ []
 
--- The faults of a content that begins with `front` bytes, which tell a number n of rows of so many bytes, at most
--- `most`.
-abbrev pub counted_faults : ℕ → reading.Entry → ℕ → ℕ → ℕ → reading.FaultKind → ℕ → List (Bool × reading.Fault)
+-- The faults of a content that begins with `front` bytes, which tell a number n of rows of so many
+-- bytes, at most `most`.
+abbrev pub counted_faults : ℕ → reading.Entry → ℕ → ℕ → ℕ → reading.FaultKind → ℕ →
+  List (Bool × reading.Fault)
 counted_faults len e front most width bad n =
     reading.line (nat_lt len (e.place + 8 + front)) reading.Truncated e.place
     ∷ reading.line (nat_lt most n) reading.TooMany e.place

@@ -1,5 +1,6 @@
 -- What is known from the chunks so far.
-use Rattle.std.specs.Prelude.{ℕ, ◌+◌, ◌-◌, ◌≤◌, Bool, false, List, [], length, codes, Option, Some, None, option_map, is_some, unwrap_or}
+use Rattle.std.specs.Prelude.{ℕ, ◌+◌, ◌-◌, ◌≤◌, Bool, false, List, [], length, codes, Option, Some}
+use Rattle.std.specs.Prelude.{None, option_map, is_some, unwrap_or}
 use Rattle.bw_model.specs.Reading as reading
 use Rattle.bw_model.specs.Report as report
 use Rattle.bw_model.specs.Bytes.{u32_at}
@@ -48,7 +49,8 @@ abbrev pub bext_told : List ℕ → reading.Entry → (report.RawBext × List �
 bext_told b e = (bext_at (report.content_of b (Some e)), e.size - 602)
 
 abbrev pub cues_told : List ℕ → reading.Entry → List report.RawCue
-cues_told b e = report.raw_cues (report.content_of b (Some e)) 4 (u32_at (report.content_of b (Some e)) 0)
+cues_told b e = report.raw_cues (report.content_of b (Some e)) 4
+  (u32_at (report.content_of b (Some e)) 0)
 
 -- what the chunks seen tell
 abbrev pub facts_in : List ℕ → List reading.Entry → Facts

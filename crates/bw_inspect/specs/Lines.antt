@@ -1,6 +1,8 @@
 -- Lines of the report by their parts.
-use Rattle.std.specs.Prelude.{ℕ, List, [], ◌∷◌, ◌++◌, codes, decimal, flat_map, take_while, not, ◌==◌, Option, option_map, unwrap_or}
-use Rattle.bw_model.specs.Report.{RawBext, words, number_field, field, hex_byte, text_byte, frames_of, text_lines, loudness_line, bext_lines}
+use Rattle.std.specs.Prelude.{ℕ, List, [], ◌∷◌, ◌++◌, codes, decimal, flat_map, take_while, not}
+use Rattle.std.specs.Prelude.{◌==◌, Option, option_map, unwrap_or}
+use Rattle.bw_model.specs.Report.{RawBext, words, number_field, field, hex_byte, text_byte}
+use Rattle.bw_model.specs.Report.{frames_of, text_lines, loudness_line, bext_lines}
 use Rattle.bw_inspect.specs.declared.report.BextChunk.{BextChunk}
 
 -- the line of the form

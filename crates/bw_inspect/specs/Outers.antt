@@ -1,5 +1,6 @@
 -- The outer header, in the parts in which it is read.
-use Rattle.std.specs.Prelude.{◌≡◌, ℕ, ◌+◌, ◌^◌, ◌||◌, ◌⊎◌, not, Bool, true, false, List, [], ◌∷◌, length, drop, codes, Option, Some, None, Ok, Err, nat_lt}
+use Rattle.std.specs.Prelude.{◌≡◌, ℕ, ◌+◌, ◌^◌, ◌||◌, ◌⊎◌, not, Bool, true, false, List, [], ◌∷◌}
+use Rattle.std.specs.Prelude.{length, drop, codes, Option, Some, None, Ok, Err, nat_lt}
 use Rattle.bw_model.specs.Reading as reading
 use Rattle.bw_model.specs.Bytes.{first_that_holds, u32_at}
 use Rattle.bw_layout.specs.declared.chunk.ChunkHead.{ChunkHead}
@@ -14,7 +15,8 @@ use Rattle.bw_inspect.specs.Walks.{Stands, form_of}
 
 -- the ids of the forms that are read
 abbrev pub names_form : List ℕ → Bool
-names_form id = reading.is_id id (codes "RIFF") || (reading.is_id id (codes "BW64") || reading.is_id id (codes "RF64"))
+names_form id = reading.is_id id (codes "RIFF")
+  || (reading.is_id id (codes "BW64") || reading.is_id id (codes "RF64"))
 
 -- the faults of the first 12 bytes
 abbrev pub opening_faults : List ℕ → List (Bool × reading.Fault)
@@ -43,7 +45,7 @@ abbrev pub OnWide : ChunkHead → Option (List ℕ) → (List ℕ → Type 0) �
 OnWide h left holds = (b : List ℕ) → IsOpened b h left → reading.is_riff b ≡ false → holds b
 
 -- the outer header was read
-pub record Begins (b : List ℕ) (form : Form) (w : Walk) (left : Option (List ℕ)) : Type 0 where
+pub record BeginsForm (b : List ℕ) (form : Form) (w : Walk) (left : Option (List ℕ)) : Type 0 where
   pub header : reading.outer b ≡ Ok (form_of form)
   pub stands : Stands b (form_of form) w left
 
@@ -60,7 +62,8 @@ pub record HasReadEntries (b : List ℕ) (reached : ℕ) : Type 0 where
   pub opening : first_that_holds (opening_faults b) ≡ None
   pub head : first_that_holds (ds64_head_faults b) ≡ None
   pub free :
-      first_that_holds (counted_faults (20 + u32_at b 16) (ds64_entry b) 28 4096 12 reading.BadDs64 (u32_at b 44))
+      first_that_holds (counted_faults (20 + u32_at b 16) (ds64_entry b) 28 4096 12 reading.BadDs64
+        (u32_at b 44))
       ≡ None
   pub grown : HasGrown b 48 12 (u32_at b 44) reached
 

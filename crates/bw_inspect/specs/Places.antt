@@ -1,5 +1,6 @@
 -- What is read at a place, and what is missed there.
-use Rattle.std.specs.Prelude.{◌≡◌, ℕ, ◌+◌, ◌*◌, ◌<◌, ◌≤◌, IsTrue, not, List, length, drop, slice_range, Option, Some}
+use Rattle.std.specs.Prelude.{◌≡◌, ℕ, ◌+◌, ◌*◌, ◌<◌, ◌≤◌, IsTrue, not, List, length, drop}
+use Rattle.std.specs.Prelude.{slice_range, Option, Some}
 use Rattle.bw_inspect.specs.declared.fault.InspectFault.{InspectFault}
 use Rattle.bw_inspect.specs.Faults.{is_read, is_memory}
 
@@ -22,8 +23,10 @@ pub record IsPassed (b : List ℕ) (place n : ℕ) (left : Option (List ℕ)) : 
   pub within : 0 < n → place + n ≤ length b
   pub rest : left ≡ Some (drop (place + n) b)
 
--- n bytes of b from a place on aren't read: b ends before, or the reader failed at the next byte that was wanted
-pub record IsMissed (b : List ℕ) (place n : ℕ) (cut f : InspectFault) (left : Option (List ℕ)) : Type 0 where
+-- n bytes of b from a place on aren't read: b ends before, or the reader failed at the next byte
+-- that was wanted
+pub record IsMissed (b : List ℕ) (place n : ℕ) (cut f : InspectFault)
+  (left : Option (List ℕ)) : Type 0 where
   pub taken : ℕ
   pub small : taken ≤ n
   pub there : 0 < taken → place + taken ≤ length b
@@ -35,8 +38,8 @@ pub record IsMissed (b : List ℕ) (place n : ℕ) (cut f : InspectFault) (left 
 abbrev pub Nowhere : ℕ → Type 0
 Nowhere reached = ⊥
 
--- Rows of so many bytes, from a place on, were read and are to be listed: at least one, and at most so many; b has
--- them.
+-- Rows of so many bytes, from a place on, were read and are to be listed: at least one, and at most
+-- so many; b has them.
 pub record HasGrown (b : List ℕ) (from width most reached : ℕ) : Type 0 where
   pub rows : ℕ
   pub some : 0 < rows
@@ -44,9 +47,11 @@ pub record HasGrown (b : List ℕ) (from width most reached : ℕ) : Type 0 wher
   pub behind : reached ≡ from + width * rows
   pub there : reached ≤ length b
 
--- A call stopped with a fault within b, and at most so far into it: a failed read is told at the next byte that was
--- wanted, want of memory at a chunk's place, where a list was to grow by what was read up to there.
-pub record Halts (b : List ℕ) (most place : ℕ) (wants : ℕ → Type 0) (f : InspectFault) (left : Option (List ℕ)) : Type 0 where
+-- A call stopped with a fault within b, and at most so far into it: a failed read is told at the
+-- next byte that was wanted, want of memory at a chunk's place, where a list was to grow by what
+-- was read up to there.
+pub record Halts (b : List ℕ) (most place : ℕ) (wants : ℕ → Type 0) (f : InspectFault)
+  (left : Option (List ℕ)) : Type 0 where
   pub reached : ℕ
   pub within : reached ≤ most
   pub there : reached ≤ length b

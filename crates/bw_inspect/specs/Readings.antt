@@ -1,5 +1,6 @@
 -- What reading a file answers.
-use Rattle.std.specs.Prelude.{◌≡◌, ℕ, ◌+◌, ◌^◌, ◌<◌, ◌≤◌, ◌⊎◌, IsTrue, List, length, drop, Option, Some, None}
+use Rattle.std.specs.Prelude.{◌≡◌, ℕ, ◌+◌, ◌^◌, ◌<◌, ◌≤◌, ◌⊎◌, IsTrue, List, length, drop, Option}
+use Rattle.std.specs.Prelude.{Some, None}
 use Rattle.bw_model.specs.Bytes.{first_that_holds}
 use Rattle.bw_model.specs.Reading as reading
 use Rattle.bw_model.specs.Report as report
@@ -17,7 +18,8 @@ abbrev pub Knows : Walk → (List ℕ → Type 0) → Type 0
 Knows w holds = (b : List ℕ) → facts_of w.known ≡ facts_in b (seen_by w) → holds b
 
 -- the chunks have no fault at the form's end, and this is their report
-pub record IsTold (b : List ℕ) (form : reading.Form) (seen : List reading.Entry) (r : Report) : Type 0 where
+pub record IsTold (b : List ℕ) (form : reading.Form) (seen : List reading.Entry)
+  (r : Report) : Type 0 where
   pub tells : told_by r ≡ report.report_of b form seen
   pub reserved : reserved_by r ≡ reserved_in b seen
   pub free : first_that_holds (reading.end_faults (reading.form_end form) seen) ≡ None
@@ -57,7 +59,8 @@ pub record ListsChunk (b : List ℕ) (place reached : ℕ) : Type 0 where
   pub place_is : place ≡ reading.next_place entries
   pub wants : WantsChunk b form entries reached
 
--- the next head is wanted here, one byte behind the end of b: the pad byte of the last chunk is absent
+-- the next head is wanted here, one byte behind the end of b: the pad byte of the last chunk is
+-- absent
 pub record IsPadAbsent (b : List ℕ) (reached : ℕ) : Type 0 where
   pub form : reading.Form
   -- the chunks before it
@@ -74,8 +77,10 @@ pub record Refuses (b : List ℕ) (f : InspectFault) (left : Option (List ℕ)) 
   pub there : length b < within.reached → IsPadAbsent b within.reached
   -- a failed read is told at the next byte that was wanted
   pub fails : IsTrue (is_read f.kind) → f.offset ≡ within.reached
-  -- want of memory at the place of a chunk without fault that is to be listed, or a part of it: `ds64` or a further one
-  pub memory : IsTrue (is_memory f.kind) → ListsDs64 b f.offset within.reached ⊎ ListsChunk b f.offset within.reached
+  -- want of memory at the place of a chunk without fault that is to be listed, or a part of it:
+  -- `ds64` or a further one
+  pub memory : IsTrue (is_memory f.kind) →
+    ListsDs64 b f.offset within.reached ⊎ ListsChunk b f.offset within.reached
 
 -- the lists are no longer than they may be, whatever the reader gave
 pub record IsBounded (r : Report) : Type 0 where

@@ -4,7 +4,7 @@ ghost use Rattle.bw_model.specs.Bytes.{first_that_holds, unsaid};
 ghost use Rattle.bw_inspect.specs.Faults.{counted, fault_of, is_of_bytes};
 ghost use Rattle.bw_inspect.specs.Places.{Nowhere, Of};
 ghost use Rattle.bw_inspect.specs.Contents.{IsStopped};
-ghost use Rattle.bw_inspect.specs.Outers.{Begins, IsOpened, IsOutside, OnWide, form_faults, names_form, opening_faults};
+ghost use Rattle.bw_inspect.specs.Outers.{BeginsForm, IsOpened, IsOutside, OnWide, form_faults, names_form, opening_faults};
 ghost use Rattle.bw_inspect.specs.Walks.{IsSmall};
 
 use crate::chunk::is_named;
@@ -94,7 +94,7 @@ fn read_wide<R: Source>(
     ensures place { IfOk result (λ r. r.1.place ≤ r.0.size + 9) }
     ensures small { IfOk result (λ r. IsSmall r.1) }
     ensures ok { IfOk result (λ r. OnWide opening (R.left reader.old) (λ b.
-        Begins b r.0 r.1 (R.left reader.new))) }
+        BeginsForm b r.0 r.1 (R.left reader.new))) }
     ensures err { IfErr result (λ f. OnWide opening (R.left reader.old) (λ b.
         IsOutside b f (R.left reader.new))) }
 {
@@ -131,7 +131,7 @@ pub(crate) fn read_outer<R: Source>(
     ensures place { IfOk result (λ r. r.1.place ≤ r.0.size + 9) }
     ensures small { IfOk result (λ r. IsSmall r.1) }
     ensures ok { IfOk result (λ r. Of (R.left reader.old) (λ b.
-        Begins b r.0 r.1 (R.left reader.new))) }
+        BeginsForm b r.0 r.1 (R.left reader.new))) }
     ensures err { IfErr result (λ f. Of (R.left reader.old) (λ b.
         IsOutside b f (R.left reader.new))) }
 {

@@ -1,8 +1,11 @@
 -- Without its samples a request is judged alike, and leaves the same parts.
-use Rattle.std.proofs.Common.{◌≡◌, ℕ, ◌+◌, ◌%◌, Bool, true, false, cond, Option, Some, None, List, length, refl, sym, ap, ◌∙◌, length-append}
+use Rattle.std.proofs.Common.{◌≡◌, ℕ, ◌+◌, ◌%◌, Bool, true, false, cond, Option, Some, None, List, length, refl, sym}
+use Rattle.std.proofs.Common.{ap, ◌∙◌, length-append}
 use Rattle.std.specs.Prelude.{◌==◌, if◌then◌else◌}
 use Rattle.std.proofs.lemmas.Bool.{eq-eqb}
-use Rattle.bw_model.specs.Take.{Take, Parts, Format, Request, Open, Block, Mark, SetField, Close, Verdict, Stored, BadBlock, Closed, judge, judge_open, block_align, parts, verdict, is_stored, with_request, after}
+use Rattle.bw_model.specs.Take.{Take, Parts, Format, Request, Open, Block, Mark, SetField, Close, Verdict, Stored}
+use Rattle.bw_model.specs.Take.{BadBlock, Closed, judge, judge_open, block_align, parts, verdict, is_stored}
+use Rattle.bw_model.specs.Take.{with_request, after}
 use Rattle.bw_model.specs.Replies.{verdict_code}
 use Rattle.bw_take.specs.States.{parts_with}
 use Rattle.bw_journal.specs.Entries.{bare}

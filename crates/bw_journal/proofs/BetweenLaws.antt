@@ -1,9 +1,11 @@
 -- The file with a request is between the one without it and itself.
-use Rattle.std.proofs.Common.{◌≡◌, ℕ, ◌+◌, ◌-◌, ◌%◌, ◌≤◌, Bool, true, false, cond, List, [], ◌++◌, length, take, Option, Some, None, refl, sym, ◌∙◌, ap, subst, arith, append_assoc, length-append}
+use Rattle.std.proofs.Common.{◌≡◌, ℕ, ◌+◌, ◌-◌, ◌%◌, ◌≤◌, Bool, true, false, cond, List, [], ◌++◌, length, take, Option}
+use Rattle.std.proofs.Common.{Some, None, refl, sym, ◌∙◌, ap, subst, arith, append_assoc, length-append}
 use Rattle.std.specs.Prelude.{slice_range, flat_map}
 use Rattle.std.proofs.lemmas.List.{take_at, drop_at}
 use Rattle.bw_model.specs.Layout.{pad, chunk}
-use Rattle.bw_model.specs.Take.{Take, Parts, Format, Request, Open, Block, Mark, SetField, Close, Verdict, Stored, Closed, judge, judge_open, AreFields, parts, with_request, with_field}
+use Rattle.bw_model.specs.Take.{Take, Parts, Format, Request, Open, Block, Mark, SetField, Close, Verdict, Stored}
+use Rattle.bw_model.specs.Take.{Closed, judge, judge_open, AreFields, parts, with_request, with_field}
 use Rattle.bw_model.specs.File.{file_of, file_with, header, data_place, Repairable, cue_chunks}
 use Rattle.bw_model.specs.Holds.{IsBetween}
 use Rattle.bw_model.proofs.HeaderLaws.{header_of_file, length-header}

@@ -1,5 +1,6 @@
 -- Headers are read as they are written.
-use Rattle.std.proofs.Common.{◌≡◌, ℕ, ◌<◌, ◌^◌, Bool, true, false, cond, ◌&&◌, ◌||◌, Some, None, Err, List, [], ◌∷◌, ◌++◌, length, take, refl, ap, ◌∙◌, arith}
+use Rattle.std.proofs.Common.{◌≡◌, ℕ, ◌<◌, ◌^◌, Bool, true, false, cond, ◌&&◌, ◌||◌, Some, None, Err, List, [], ◌∷◌}
+use Rattle.std.proofs.Common.{◌++◌, length, take, refl, ap, ◌∙◌, arith}
 use Rattle.std.specs.Prelude.{option_and_then, nat_lt}
 use Rattle.std.specs.Int.{w32}
 use Rattle.std.specs.Str.{bytes_eq}
@@ -8,7 +9,8 @@ use Rattle.std.proofs.lemmas.List.{length-take-le}
 use Rattle.bw_model.specs.Bytes.{le32, u32_at}
 use Rattle.bw_model.proofs.ByteNumbers.{wide32, number_at-written}
 use Rattle.bw_model.proofs.BookLemmas.{name_refl}
-use Rattle.bw_journal.specs.JournalHeaders.{Header, flag, flag_of, magic, header_content, header_bytes, header_len, header_with, header_in, first_header, is_torn, is_torn_header}
+use Rattle.bw_journal.specs.JournalHeaders.{Header, flag, flag_of, magic, header_content, header_bytes, header_len}
+use Rattle.bw_journal.specs.JournalHeaders.{header_with, header_in, first_header, is_torn, is_torn_header}
 use Rattle.bw_journal.specs.Noted.{IsHeader, HeadersReadBack, CutHeadersAreNotBegun}
 use Rattle.bw_journal.specs.Replays.{NotBegun, NotAJournal, replay, replayed_behind}
 use Rattle.bw_journal.proofs.Lengths.{length-header_bytes}

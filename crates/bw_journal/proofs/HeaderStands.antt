@@ -1,5 +1,6 @@
 -- Where a header is read, its bytes stand.
-use Rattle.std.proofs.Common.{◌≡◌, ℕ, zero, suc, ◌+◌, ◌^◌, ◌-◌, Bool, true, false, cond, ◌&&◌, Option, Some, None, List, [], ◌∷◌, ◌++◌, length, take, drop, refl, sym, ap, subst, ◌∙◌, arith}
+use Rattle.std.proofs.Common.{◌≡◌, ℕ, zero, suc, ◌+◌, ◌^◌, ◌-◌, Bool, true, false, cond, ◌&&◌, Option, Some, None, List}
+use Rattle.std.proofs.Common.{[], ◌∷◌, ◌++◌, length, take, drop, refl, sym, ap, subst, ◌∙◌, arith}
 use Rattle.std.specs.Prelude.{option_and_then, slice_index, ◌==◌}
 use Rattle.std.specs.Int.{w32}
 use Rattle.std.specs.Str.{bytes_eq}
@@ -11,7 +12,8 @@ use Rattle.bw_model.proofs.ByteNumbers.{are_bytes-parts, wide32, written-number_
 use Rattle.bw_model.proofs.BookLemmas.{same_name}
 use Rattle.bw_model.proofs.Elements.{some_inj}
 use Rattle.bw_journal.specs.Seals.{sealed, opened}
-use Rattle.bw_journal.specs.JournalHeaders.{Header, flag, flag_of, magic, header_content, header_bytes, header_len, header_with, header_in, first_header}
+use Rattle.bw_journal.specs.JournalHeaders.{Header, flag, flag_of, magic, header_content, header_bytes, header_len}
+use Rattle.bw_journal.specs.JournalHeaders.{header_with, header_in, first_header}
 use Rattle.bw_journal.specs.Noted.{ReadHeadersStand}
 use Rattle.bw_journal.proofs.SpeltLaws.{opened_stands}
 

@@ -1,5 +1,7 @@
 -- A server that goes on holds what the stop left.
-use Rattle.std.proofs.Common.{◌≡◌, ℕ, zero, suc, ◌+◌, ◌≤◌, Bool, true, false, cond, not, ◌&&◌, ◌⊎◌, inl, inr, IsTrue, List, [], ◌∷◌, length, take, Option, Some, None, IsSome, is_some, option_map, refl, sym, ◌∙◌, ap, subst, arith}
+use Rattle.std.proofs.Common.{◌≡◌, ℕ, zero, suc, ◌+◌, ◌≤◌, Bool, true, false, cond, not, ◌&&◌, ◌⊎◌, inl, inr, IsTrue}
+use Rattle.std.proofs.Common.{List, [], ◌∷◌, length, take, Option, Some, None, IsSome, is_some, option_map, refl, sym}
+use Rattle.std.proofs.Common.{◌∙◌, ap, subst, arith}
 use Rattle.std.specs.Prelude.{nat_lt}
 use Rattle.std.specs.Bool.{MatchBool}
 use Rattle.std.specs.List.{list_all}
@@ -14,7 +16,8 @@ use Rattle.bw_model.specs.Book.{Log, log_of, is_known, made, verdict_at}
 use Rattle.bw_model.specs.Holds.{Kept, body_of, finished_from, HasFile, HoldsName}
 use Rattle.bw_journal.specs.Noted.{IsWhole, fits}
 use Rattle.bw_journal.specs.Stops.{cut_log, cut_book}
-use Rattle.bw_journal.specs.Recovery.{IsOnTheWay, HeldFilesSurvive, kept_by, kept_after, RecoveryHolds, ClosedFilesAreWhole}
+use Rattle.bw_journal.specs.Recovery.{IsOnTheWay, HeldFilesSurvive, kept_by, kept_after, RecoveryHolds}
+use Rattle.bw_journal.specs.Recovery.{ClosedFilesAreWhole}
 use Rattle.bw_model.proofs.BookLemmas.{unknown_log}
 use Rattle.bw_journal.proofs.CutLaws.{made-cut, verdict-cut, books_are_cut, cut_books_are_books}
 use Rattle.bw_journal.proofs.Taken.{taken-made, taken_told}

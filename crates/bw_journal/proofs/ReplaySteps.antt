@@ -1,11 +1,13 @@
 -- A replay, entry by entry.
-use Rattle.std.proofs.Common.{◌≡◌, ℕ, suc, ◌+◌, Bool, true, false, cond, Option, Some, None, Ok, Err, List, [], length, drop, refl, sym, ap, ◌∙◌}
+use Rattle.std.proofs.Common.{◌≡◌, ℕ, suc, ◌+◌, Bool, true, false, cond, Option, Some, None, Ok, Err, List, [], length}
+use Rattle.std.proofs.Common.{drop, refl, sym, ap, ◌∙◌}
 use Rattle.bw_model.specs.Take.{Parts, new_take, parts}
 use Rattle.bw_journal.specs.Entries.{Entry, first_entry}
 use Rattle.std.proofs.lemmas.Bool.{eq-eqb}
 use Rattle.bw_model.specs.Bytes.{unless}
 use Rattle.bw_journal.specs.JournalHeaders.{Header, header_len, first_header}
-use Rattle.bw_journal.specs.Replays.{Story, Fault, OtherLimit, OtherVerdict, told, is_judged, replayed, replayed_entries, tail_fault, ended, replayed_behind, replay}
+use Rattle.bw_journal.specs.Replays.{Story, Fault, OtherLimit, OtherVerdict, told, is_judged, replayed}
+use Rattle.bw_journal.specs.Replays.{replayed_entries, tail_fault, ended, replayed_behind, replay}
 
 -- nothing is told yet
 pub begins : (k used : ℕ) (stood : Bool) (bytes : List ℕ) (p : Parts) (table : List ℕ) → k ≡ length bytes →

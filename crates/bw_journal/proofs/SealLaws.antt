@@ -1,12 +1,15 @@
 -- What is sealed is opened again, and what is cut isn't.
-use Rattle.std.proofs.Common.{◌≡◌, ℕ, zero, suc, ◌+◌, ◌-◌, ◌≤◌, ◌<◌, ◌^◌, Bool, true, cond, ◌&&◌, Some, None, List, [], ◌∷◌, ◌++◌, length, take, drop, refl, sym, ap, ◌∙◌, ◌⊎◌, inl, inr, append_assoc, arith}
+use Rattle.std.proofs.Common.{◌≡◌, ℕ, zero, suc, ◌+◌, ◌-◌, ◌≤◌, ◌<◌, ◌^◌, Bool, true, cond, ◌&&◌, Some, None, List, []}
+use Rattle.std.proofs.Common.{◌∷◌, ◌++◌, length, take, drop, refl, sym, ap, ◌∙◌, ◌⊎◌, inl, inr, append_assoc, arith}
 use Rattle.std.specs.Prelude.{option_map, option_and_then, nat_le}
 use Rattle.std.specs.Int.{w16, w32}
 use Rattle.std.specs.Str.{bytes_eq}
 use Rattle.std.proofs.lemmas.Bool.{and_parts, le-ltb, lt-ltb, leb-true}
 use Rattle.std.proofs.lemmas.List.{take_at, drop_at, drop-drop, take_rest, length-append, length-take-le}
 use Rattle.bw_model.specs.Bytes.{le32, u16_at, u32_at, zeros, is_within}
-use Rattle.bw_model.specs.Take.{Request, Open, Block, Mark, SetField, Close, Verdict, Stored, NameTaken, AlreadyOpen, NotOpen, Closed, BadFormat, BadBlock, BadMarker, DuplicateMarker, TooManyMarkers, BadField, WrongTotal}
+use Rattle.bw_model.specs.Take.{Request, Open, Block, Mark, SetField, Close, Verdict, Stored, NameTaken, AlreadyOpen}
+use Rattle.bw_model.specs.Take.{NotOpen, Closed, BadFormat, BadBlock, BadMarker, DuplicateMarker, TooManyMarkers}
+use Rattle.bw_model.specs.Take.{BadField, WrongTotal}
 use Rattle.bw_model.specs.Wire.{kind, payload, is_request, are_bytes, is_below, decoded_request}
 use Rattle.bw_model.specs.Replies.{verdict_code, verdict_of}
 use Rattle.bw_model.proofs.ByteNumbers.{wide16, wide32, number_at-written}

@@ -1,5 +1,7 @@
 -- Where an entry is read, its bytes stand.
-use Rattle.std.proofs.Common.{◌≡◌, ℕ, ◌+◌, ◌-◌, ◌≤◌, ◌^◌, ◌≢◌, Bool, true, false, cond, not, ◌&&◌, Option, Some, None, Result, Ok, Err, List, [], ◌∷◌, ◌++◌, length, take, drop, refl, sym, ap, subst, ◌∙◌, append_assoc, arith}
+use Rattle.std.proofs.Common.{◌≡◌, ℕ, ◌+◌, ◌-◌, ◌≤◌, ◌^◌, ◌≢◌, Bool, true, false, cond, not, ◌&&◌, Option, Some, None}
+use Rattle.std.proofs.Common.{Result, Ok, Err, List, [], ◌∷◌, ◌++◌, length, take, drop, refl, sym, ap, subst, ◌∙◌}
+use Rattle.std.proofs.Common.{append_assoc, arith}
 use Rattle.std.specs.Prelude.{option_map, option_and_then, nat_le, nat_lt, ◌==◌, find}
 use Rattle.std.specs.Int.{w16, w32}
 use Rattle.std.specs.Str.{bytes_eq}
@@ -7,7 +9,8 @@ use Rattle.std.proofs.lemmas.Bool.{and_parts, eqb-true, leb-true, ltb-false, not
 use Rattle.std.proofs.lemmas.List.{take_at, drop-drop, drop_all, length-take-le, length-drop, take-append-drop}
 use Rattle.bw_model.specs.Bytes.{le16, le32, u16_at, u32_at, zeros, is_within, first_that_holds}
 use Rattle.bw_model.specs.Take.{Request, Open, Block, Mark, SetField, Close, Verdict}
-use Rattle.bw_model.specs.Wire.{kind, payload, is_payload, are_bytes, is_below, request_of, decoded_request, Reason, Kind, Payload}
+use Rattle.bw_model.specs.Wire.{kind, payload, is_payload, are_bytes, is_below, request_of, decoded_request, Reason}
+use Rattle.bw_model.specs.Wire.{Kind, Payload}
 use Rattle.bw_model.specs.Replies.{verdict_code, verdict_of, verdicts}
 use Rattle.bw_model.proofs.ByteNumbers.{are_bytes-parts, wide16, wide32, written-number_at}
 use Rattle.bw_model.proofs.BookLemmas.{same_name}
@@ -15,7 +18,8 @@ use Rattle.bw_model.proofs.Elements.{some_inj}
 use Rattle.bw_model.proofs.Payloads.{payload_from_test}
 use Rattle.bw_model.proofs.SpellingLaws.{unless_ok}
 use Rattle.bw_journal.specs.Seals.{check, sealed, opened}
-use Rattle.bw_journal.specs.Entries.{Entry, noted, content, entry_bytes, entry_in, entry_of, first_entry, made_of, request_in, block_noted, value_in}
+use Rattle.bw_journal.specs.Entries.{Entry, noted, content, entry_bytes, entry_in, entry_of, first_entry, made_of}
+use Rattle.bw_journal.specs.Entries.{request_in, block_noted, value_in}
 use Rattle.bw_journal.specs.Noted.{ReadEntriesStand}
 use Rattle.bw_journal.proofs.EntryReads.{zeros-length}
 use Rattle.bw_journal.proofs.Lengths.{sealed-length}

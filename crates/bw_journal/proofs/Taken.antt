@@ -1,9 +1,13 @@
 -- A take is taken from its beginning on, or never; and a NameTaken tells it.
-use Rattle.std.proofs.Common.{◌≡◌, ℕ, ◌%◌, Bool, true, false, cond, not, ◌&&◌, List, [], ◌∷◌, length, take, Option, Some, None, refl, sym, ◌∙◌, ap}
+use Rattle.std.proofs.Common.{◌≡◌, ℕ, ◌%◌, Bool, true, false, cond, not, ◌&&◌, List, [], ◌∷◌, length, take, Option}
+use Rattle.std.proofs.Common.{Some, None, refl, sym, ◌∙◌, ap}
 use Rattle.std.specs.Prelude.{fold, is_some, nat_le, nat_lt, ◌==◌}
 use Rattle.std.specs.List.{list_all, list_any}
 use Rattle.bw_model.specs.Bytes.{at}
-use Rattle.bw_model.specs.Take.{Take, Parts, Format, Request, Open, Block, Mark, SetField, Close, Verdict, Stored, NameTaken, Closed, BadFormat, BadBlock, BadMarker, DuplicateMarker, TooManyMarkers, BadField, WrongTotal, judge, judge_open, new_take, parts, after, verdict, is_stored, with_request, is_format, is_history_byte, block_align, frames, field_fault}
+use Rattle.bw_model.specs.Take.{Take, Parts, Format, Request, Open, Block, Mark, SetField, Close, Verdict, Stored}
+use Rattle.bw_model.specs.Take.{NameTaken, Closed, BadFormat, BadBlock, BadMarker, DuplicateMarker, TooManyMarkers}
+use Rattle.bw_model.specs.Take.{BadField, WrongTotal, judge, judge_open, new_take, parts, after, verdict, is_stored}
+use Rattle.bw_model.specs.Take.{with_request, is_format, is_history_byte, block_align, frames, field_fault}
 use Rattle.bw_model.specs.Book.{made, step, verdict_at, verdict_by}
 
 -- the taken flag is that of the beginning

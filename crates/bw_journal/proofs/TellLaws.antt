@@ -1,5 +1,6 @@
 -- A journal tells what the server kept.
-use Rattle.std.proofs.Common.{◌≡◌, ℕ, zero, suc, ◌+◌, ◌≤◌, Bool, true, false, cond, Option, Some, None, Ok, Err, List, [], ◌∷◌, ◌++◌, length, take, drop, refl, sym, ap, ◌∙◌, append_assoc, arith}
+use Rattle.std.proofs.Common.{◌≡◌, ℕ, zero, suc, ◌+◌, ◌≤◌, Bool, true, false, cond, Option, Some, None, Ok, Err, List}
+use Rattle.std.proofs.Common.{[], ◌∷◌, ◌++◌, length, take, drop, refl, sym, ap, ◌∙◌, append_assoc, arith}
 use Rattle.std.specs.Prelude.{fold, nat_lt}
 use Rattle.std.specs.List.{list_all}
 use Rattle.std.proofs.lemmas.Bool.{and_parts, eq-eqb, le-ltb}
@@ -17,11 +18,14 @@ use Rattle.bw_model.proofs.MapLemmas.{at-drop}
 use Rattle.bw_journal.specs.Entries.{Entry, entry_bytes, entries_bytes, first_entry, content}
 use Rattle.bw_journal.specs.Seals.{opened}
 use Rattle.bw_journal.specs.JournalHeaders.{Header, header_bytes, header_len, first_header}
-use Rattle.bw_journal.specs.Replays.{Story, Fault, OtherLimit, replayed, replay, replayed_behind, replayed_entries, ended, tail_fault, beginning}
-use Rattle.bw_journal.specs.Noted.{IsNotable, IsHeader, bare_entry, IsCut, IsWhole, fits, entries_from, packed, journal_of, story_of_log, JournalsTellLogs}
+use Rattle.bw_journal.specs.Replays.{Story, Fault, OtherLimit, replayed, replay, replayed_behind, replayed_entries}
+use Rattle.bw_journal.specs.Replays.{ended, tail_fault, beginning}
+use Rattle.bw_journal.specs.Noted.{IsNotable, IsHeader, bare_entry, IsCut, IsWhole, fits, entries_from, packed}
+use Rattle.bw_journal.specs.Noted.{journal_of, story_of_log, JournalsTellLogs}
 use Rattle.bw_journal.proofs.ReplaySteps.{goes_on, stops}
 use Rattle.bw_journal.proofs.Lengths.{sealed-length, length-header_bytes}
-use Rattle.bw_journal.proofs.SealLaws.{content-length, opened-cut, entries_read_back, entries_are_short, cut_entries_are_none}
+use Rattle.bw_journal.proofs.SealLaws.{content-length, opened-cut, entries_read_back, entries_are_short}
+use Rattle.bw_journal.proofs.SealLaws.{cut_entries_are_none}
 use Rattle.bw_journal.proofs.HeaderReads.{headers_read_back}
 use Rattle.bw_journal.proofs.BareLaws.{parts_alike, entry_judged}
 

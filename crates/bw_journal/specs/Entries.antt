@@ -1,5 +1,7 @@
 -- What a journal has of a done number.
-use Rattle.std.specs.Prelude.{ℕ, ◌+◌, ◌&&◌, Option, Some, None, option_map, option_and_then, Result, Ok, Err, List, [], ◌∷◌, ◌++◌, length, take, drop, flat_map, slice_index, nat_lt, ◌==◌, if◌then◌else◌}
+use Rattle.std.specs.Prelude.{ℕ, ◌+◌, ◌&&◌, Option, Some, None, option_map, option_and_then, Result}
+use Rattle.std.specs.Prelude.{Ok, Err, List, [], ◌∷◌, ◌++◌, length, take, drop, flat_map}
+use Rattle.std.specs.Prelude.{slice_index, nat_lt, ◌==◌, if◌then◌else◌}
 use Rattle.bw_model.specs.Bytes.{le32, u32_at, zeros, is_within}
 use Rattle.bw_model.specs.Take.{Request, Open, Block, Mark, SetField, Close, Verdict}
 use Rattle.bw_model.specs.Wire.{kind, payload, decoded_request}

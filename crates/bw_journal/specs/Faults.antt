@@ -1,8 +1,15 @@
 -- The faults of a journal as the code has them.
 use Rattle.std.specs.Prelude.{◌≡◌, ℕ, Option, Some, None, Result, Err}
-use Rattle.bw_journal.specs.Replays.{Story, Fault, NotBegun, NotAJournal, OtherLimit, OtherVerdict, NotAnEntry, LongTail, fault_code}
+use Rattle.bw_journal.specs.Replays.{Story, Fault, NotBegun, NotAJournal, OtherLimit, OtherVerdict}
+use Rattle.bw_journal.specs.Replays.{NotAnEntry, LongTail, fault_code}
 use Rattle.bw_journal.specs.declared.fault.ReplayFault.{ReplayFault}
-use Rattle.bw_journal.specs.declared.fault.ReplayFault.TheVariants.{NotBegun as CodeNotBegun, NotAJournal as CodeNotAJournal, OtherLimit as CodeOtherLimit, OtherVerdict as CodeOtherVerdict, NotAnEntry as CodeNotAnEntry, LongTail as CodeLongTail, Memory}
+use Rattle.bw_journal.specs.declared.fault.ReplayFault.TheVariants.{NotBegun as CodeNotBegun}
+use Rattle.bw_journal.specs.declared.fault.ReplayFault.TheVariants.{NotAJournal as CodeNotAJournal}
+use Rattle.bw_journal.specs.declared.fault.ReplayFault.TheVariants.{OtherLimit as CodeOtherLimit}
+use Rattle.bw_journal.specs.declared.fault.ReplayFault.TheVariants.{OtherVerdict as CodeOtherVerdict}
+use Rattle.bw_journal.specs.declared.fault.ReplayFault.TheVariants.{NotAnEntry as CodeNotAnEntry}
+use Rattle.bw_journal.specs.declared.fault.ReplayFault.TheVariants.{LongTail as CodeLongTail}
+use Rattle.bw_journal.specs.declared.fault.ReplayFault.TheVariants.{Memory}
 
 -- what is wrong with the journal; nothing, where memory was refused
 abbrev pub fault_of : ReplayFault → Option Fault

@@ -1,5 +1,6 @@
 -- The journal of a name, and what may stand of it after a stop.
-use Rattle.std.specs.Prelude.{◌≡◌, ℕ, suc, ◌<◌, ◌≤◌, ◌^◌, Bool, false, Option, Some, None, Ok, Err, IsTrue, List, [], ◌∷◌, ◌++◌, length, take, flat_map}
+use Rattle.std.specs.Prelude.{◌≡◌, ℕ, suc, ◌<◌, ◌≤◌, ◌^◌, Bool, false, Option, Some, None, Ok, Err}
+use Rattle.std.specs.Prelude.{IsTrue, List, [], ◌∷◌, ◌++◌, length, take, flat_map}
 use Rattle.std.specs.List.{list_all}
 use Rattle.sha2.specs.Sha256.{sha256}
 use Rattle.bw_model.specs.Take.{Request, Verdict, parts}
@@ -8,7 +9,8 @@ use Rattle.bw_model.specs.Replies.{verdict_code}
 use Rattle.bw_model.specs.Book.{Log, made, verdict_at}
 use Rattle.bw_model.specs.Holds.{body_of, finished_from}
 use Rattle.bw_journal.specs.JournalHeaders.{Header, header_bytes, header_len, first_header}
-use Rattle.bw_journal.specs.Entries.{Entry, bare, entry_bytes, entries_bytes, first_entry, longest_entry}
+use Rattle.bw_journal.specs.Entries.{Entry, bare, entry_bytes, entries_bytes, first_entry}
+use Rattle.bw_journal.specs.Entries.{longest_entry}
 use Rattle.bw_journal.specs.Replays.{Story, NotBegun, replay}
 
 -- the entry of a done number

@@ -1,5 +1,6 @@
 -- What the calls of a journal leave under a name.
-use Rattle.std.specs.Prelude.{◌≡◌, ◌⊎◌, ◌<◌, ◌≤◌, ◌&&◌, ℕ, Bool, Option, Some, None, List, ◌++◌, length, take, nat_le}
+use Rattle.std.specs.Prelude.{◌≡◌, ◌⊎◌, ◌<◌, ◌≤◌, ◌&&◌, ℕ, Bool, Option, Some, None, List, ◌++◌}
+use Rattle.std.specs.Prelude.{length, take, nat_le}
 use Rattle.std.specs.Str.{bytes_eq}
 use Rattle.bw_journal.specs.JournalHeaders.{Header, header_bytes}
 
@@ -38,8 +39,8 @@ pub record StartsInPart (bytes : List ℕ) (before after : Option (List ℕ)) : 
   pub only : (after ≡ before) ⊎ IsFrontOf bytes before
 
 -- after a `begin` that succeeds
-abbrev pub Begins : Header → Option (List ℕ) → Option (List ℕ) → Type 0
-Begins header before after = Starts (header_bytes header) before after
+abbrev pub BeginsNotes : Header → Option (List ℕ) → Option (List ℕ) → Type 0
+BeginsNotes header before after = Starts (header_bytes header) before after
 
 -- .. that fails
 abbrev pub BeginsInPart : Header → Option (List ℕ) → Option (List ℕ) → Type 0

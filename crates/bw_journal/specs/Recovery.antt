@@ -1,7 +1,10 @@
 -- What a folder has after a stop at any moment, and what a server that goes on over it holds.
-use Rattle.std.specs.Prelude.{◌≡◌, ◌⊎◌, ℕ, ◌+◌, ◌≤◌, Bool, true, false, not, ◌&&◌, Option, Some, None, IsSome, IsTrue, is_some, List, [], ◌++◌, length, take, drop, nat_lt, if◌then◌else◌}
+use Rattle.std.specs.Prelude.{◌≡◌, ◌⊎◌, ℕ, ◌+◌, ◌≤◌, Bool, true, false, not, ◌&&◌, Option, Some}
+use Rattle.std.specs.Prelude.{None, IsSome, IsTrue, is_some, List, [], ◌++◌, length, take, drop}
+use Rattle.std.specs.Prelude.{nat_lt, if◌then◌else◌}
 use Rattle.bw_model.specs.Bytes.{at}
-use Rattle.bw_model.specs.Take.{Take, Format, Request, Stored, AreFields, judge, parts, with_request}
+use Rattle.bw_model.specs.Take.{Take, Format, Request, Stored, AreFields, judge, parts}
+use Rattle.bw_model.specs.Take.{with_request}
 use Rattle.bw_model.specs.File.{file_of, file_with, header, data_place}
 use Rattle.bw_model.specs.Layout.{pad}
 use Rattle.bw_model.specs.Book.{Log, Book, log_of, made}

@@ -1,5 +1,6 @@
 -- What a journal tells of a take and of its verdicts, and why it may tell nothing.
-use Rattle.std.specs.Prelude.{ℕ, zero, suc, ◌+◌, Bool, Option, Some, None, is_some, Result, Ok, Err, List, [], ◌∷◌, ◌++◌, drop, length, nat_lt, ◌==◌, if◌then◌else◌}
+use Rattle.std.specs.Prelude.{ℕ, zero, suc, ◌+◌, Bool, Option, Some, None, is_some, Result, Ok, Err}
+use Rattle.std.specs.Prelude.{List, [], ◌∷◌, ◌++◌, drop, length, nat_lt, ◌==◌, if◌then◌else◌}
 use Rattle.bw_model.specs.Bytes.{first_that_holds, unless}
 use Rattle.bw_model.specs.Take.{Parts, Request, Verdict, judge, new_take, parts, is_stored}
 use Rattle.bw_model.specs.Replies.{verdict_code}

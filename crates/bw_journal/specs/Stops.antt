@@ -1,5 +1,6 @@
 -- What a stop leaves of a book, and worlds in which servers stop.
-use Rattle.std.specs.Prelude.{◌≡◌, ◌<◌, ℕ, not, Some, List, [], ◌∷◌, take, filter, slice_get, nat_lt, if◌then◌else◌, Bool}
+use Rattle.std.specs.Prelude.{◌≡◌, ◌<◌, ℕ, not, Some, List, [], ◌∷◌, take, filter, slice_get}
+use Rattle.std.specs.Prelude.{nat_lt, if◌then◌else◌, Bool}
 use Rattle.std.specs.Str.{bytes_eq}
 use Rattle.bw_model.specs.Take.{Verdict}
 use Rattle.bw_model.specs.Replies.{Judged}
@@ -41,8 +42,8 @@ pub data Step : Type 0 where
   Happens : Event → Luck → Step
   Stops : Step
 
--- A stop within a turn is a turn in which a call of the store failed, none of whose replies arrives,
--- and then a stop.
+-- A stop within a turn is a turn in which a call of the store failed, none of whose replies
+-- arrives, and then a stop.
 abbrev pub after_step : (List ℕ → Bool) → World → Step → World
 after_step stood w (Happens e luck) = happens stood w e luck
 after_step stood w Stops = record w { book = cut_book w.book }

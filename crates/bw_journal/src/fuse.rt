@@ -5,7 +5,7 @@ ghost use Rattle.bw_file.specs.Fuses.{has_fuse, Blows, first_half};
 ghost use Rattle.bw_file.specs.Memory.{content_of};
 ghost use Rattle.bw_file.specs.Stores.{KeepsOthers};
 ghost use Rattle.bw_journal.specs.MemoryHeaders.{header_for};
-ghost use Rattle.bw_journal.specs.Notes.{Begins, KeepsHeaders, NotesOver, NotesInPart};
+ghost use Rattle.bw_journal.specs.Notes.{BeginsNotes, KeepsHeaders, NotesOver, NotesInPart};
 
 use crate::journal::Journal;
 use crate::memory::{MemoryJournal, count};
@@ -80,7 +80,7 @@ impl Journal for FuseJournal {
         ensures failures { Counts self.old.failures self.new.failures (is_err result) }
         ensures calls { Counts self.old.calls self.new.calls true }
         ensures headers { KeepsHeaders (header_for self.old.inner) (header_for self.new.inner) }
-        ensures begun { OnOk result (Begins (header_for self.old.inner name.now)
+        ensures begun { OnOk result (BeginsNotes (header_for self.old.inner name.now)
             (content_of self.old.inner.notes name.now)
             (content_of self.new.inner.notes name.now)) }
         ensures failed { OnErr result (content_of self.new.inner.notes name.now

@@ -3,7 +3,7 @@ ghost use Rattle.std.specs.Prelude.{◌≡◌, ℕ, List, Bool, Option, None, fa
 ghost use Rattle.bw_model.specs.Counts.{Counts};
 ghost use Rattle.bw_file.specs.Stores.{KeepsOthers};
 ghost use Rattle.bw_journal.specs.JournalHeaders.{Header};
-ghost use Rattle.bw_journal.specs.Notes.{Begins, BeginsInPart, Notes, NotesInPart, KeepsHeaders};
+ghost use Rattle.bw_journal.specs.Notes.{BeginsNotes, BeginsInPart, Notes, NotesInPart, KeepsHeaders};
 
 use bw_file::StoreFault;
 use bw_take::Name;
@@ -37,7 +37,7 @@ pub trait Journal: Drop {
         ensures headers { IsTrue (honest self.old) →
             KeepsHeaders (header self.old) (header self.new) }
         ensures begun { IsTrue (honest self.old) → OnOk result
-            (Begins (header self.old name.now) (notes self.old name.now) (notes self.new name.now)) }
+            (BeginsNotes (header self.old name.now) (notes self.old name.now) (notes self.new name.now)) }
         ensures failed { IsTrue (honest self.old) → OnErr result (BeginsInPart
             (header self.old name.now) (notes self.old name.now) (notes self.new name.now)) }
         ensures others { IsTrue (honest self.old) →

@@ -6,7 +6,7 @@ ghost use Rattle.std.specs.List.{list_any};
 ghost use Rattle.bw_model.specs.Counts.{Counts};
 ghost use Rattle.bw_file.specs.Memory.{content_of};
 ghost use Rattle.bw_file.specs.Stores.{KeepsOthers};
-ghost use Rattle.bw_journal.specs.Notes.{BeginsWith, Starts, Begins, KeepsHeaders, IsShortOf, NotesOver, has_front};
+ghost use Rattle.bw_journal.specs.Notes.{BeginsWith, Starts, BeginsNotes, KeepsHeaders, IsShortOf, NotesOver, has_front};
 ghost use Rattle.bw_journal.specs.MemoryHeaders.{header_for};
 
 use crate::header::{JournalHeader, is_torn};
@@ -97,7 +97,7 @@ impl Journal for MemoryJournal {
     fn begin(&mut self, name: &Name) -> Result<(), StoreFault>
         ensures failures { Counts self.old.failures self.new.failures (is_err result) }
         ensures headers { KeepsHeaders (header_for self.old) (header_for self.new) }
-        ensures begun { OnOk result (Begins (header_for self.old name.now)
+        ensures begun { OnOk result (BeginsNotes (header_for self.old name.now)
             (content_of self.old.notes name.now) (content_of self.new.notes name.now)) }
         ensures failed { OnErr result
             (content_of self.new.notes name.now ≡ content_of self.old.notes name.now) }

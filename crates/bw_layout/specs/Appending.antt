@@ -1,5 +1,6 @@
 -- What a call that appends bytes does to a Vec.
-use Rattle.std.specs.Prelude.{◌≡◌, ℕ, ◌+◌, ◌≤◌, List, ◌++◌, Result, OnOk, OnErr, IsOk, Vec, vec_len, vec_capacity}
+use Rattle.std.specs.Prelude.{◌≡◌, ℕ, ◌+◌, ◌≤◌, List, ◌++◌, Result, OnOk, OnErr, IsOk, Vec, vec_len}
+use Rattle.std.specs.Prelude.{vec_capacity}
 use Rattle.std.specs.declared.alloc.AllocError.{AllocError}
 
 -- the Vec has gained these bytes, so many, at its end
@@ -8,8 +9,10 @@ pub record Gains {Z : Type 0} (bytes : List ℕ) (count : ℕ) (old new : Vec �
   pub len : vec_len new ≡ vec_len old + count
   pub capacity : vec_capacity old ≤ vec_capacity new
 
--- These bytes, so many, are appended, or memory was refused and the items stay; where the Vec has the room it can't be refused.
-pub record Appends {Z : Type 0} (bytes : List ℕ) (count : ℕ) (answer : Result (Unit {0}) AllocError) (old new : Vec ℕ Z) : Type 0 where
+-- These bytes, so many, are appended, or memory was refused and the items stay; where the Vec has
+-- the room it can't be refused.
+pub record Appends {Z : Type 0} (bytes : List ℕ) (count : ℕ)
+  (answer : Result (Unit {0}) AllocError) (old new : Vec ℕ Z) : Type 0 where
   pub ok : OnOk answer (new.items ≡ old.items ++ bytes)
   pub len : OnOk answer (vec_len new ≡ vec_len old + count)
   pub err : OnErr answer (new.items ≡ old.items)

@@ -1,8 +1,10 @@
 -- The setting of a field of `bext`.
-use Rattle.std.specs.Prelude.{◌≡◌, ℕ, Bool, ◌==◌, if◌then◌else◌, Option, Some, Result, List, codes, option_map, OnOk, OnErr}
+use Rattle.std.specs.Prelude.{◌≡◌, ℕ, Bool, ◌==◌, if◌then◌else◌, Option, Some, Result, List, codes}
+use Rattle.std.specs.Prelude.{option_map, OnOk, OnErr}
 use Rattle.std.specs.Char.{is_ascii_digit}
 use Rattle.bw_model.specs.Bytes.{unless}
-use Rattle.bw_model.specs.Take.{Shape, FieldFault, BadTag, BadLength, BadText, shape_fault, field_bytes}
+use Rattle.bw_model.specs.Take.{Shape, FieldFault, BadTag, BadLength, BadText, shape_fault}
+use Rattle.bw_model.specs.Take.{field_bytes}
 use Rattle.bw_layout.specs.declared.field.FieldError.{FieldError}
 use Rattle.bw_layout.specs.declared.field.FieldError.TheVariants as E
 
@@ -32,8 +34,10 @@ answer_of fault = unless (option_map error_of fault) tt
 abbrev pub fits_place : ℕ → ℕ → Bool
 fits_place form c = if form == 100 then is_ascii_digit c else form == c
 
--- A field of this shape is set: the answer is the value's fault, and without one the field has the value.
-pub record SetsField (shape : Shape) (value : List ℕ) (answer : Result (Unit {0}) FieldError) (old new : List ℕ) : Type 0 where
+-- A field of this shape is set: the answer is the value's fault, and without one the field has the
+-- value.
+pub record SetsField (shape : Shape) (value : List ℕ) (answer : Result (Unit {0}) FieldError)
+  (old new : List ℕ) : Type 0 where
   pub told : answer ≡ answer_of (shape_fault (Some shape) value)
   pub ok : OnOk answer (new ≡ field_bytes shape value)
   pub err : OnErr answer (new ≡ old)

@@ -1,37 +1,29 @@
 -- Reading what was put gives it back, whatever bytes follow.
-use Rattle.std.specs.Prelude.{◌≡◌, ℕ, ◌*◌, ◌^◌, ◌<◌, IsTrue, List, [], ◌++◌, All, length, map, take, drop, slice_index_or, if◌then◌else◌}
+use Rattle.std.specs.Prelude.{◌≡◌, ℕ, ◌*◌, ◌^◌, ◌<◌, IsTrue, List, [], ◌++◌, All, length, map, take}
+use Rattle.std.specs.Prelude.{drop, slice_index_or, if◌then◌else◌}
 use Rattle.std.specs.Int.{w16, w64, from_le_bytes}
 use Rattle.bw_model.specs.Bytes.{zeros, u32_at}
 use Rattle.bw_model.specs.Take.{Format, block_align, is_format, AreFields}
-use Rattle.bw_model.specs.Layout.{head, fmt_content, is_version_1, bext_fixed, cue_point, cue_content}
+use Rattle.bw_model.specs.Layout.{head, fmt_content, is_version_1, bext_fixed, cue_point}
+use Rattle.bw_model.specs.Layout.{cue_content}
 use Rattle.bw_model.specs.Reading.{table_at}
 use Rattle.bw_model.specs.Report.{RawFmt, RawBext, RawCue, raw_fmt, raw_cues}
+use Rattle.bw_model.specs.ReadBack.{told_fmt, told_bext, told_cue}
 use Rattle.bw_layout.specs.Heads.{head_at}
 use Rattle.bw_layout.specs.Raw.{raw_cue, bext_at}
 use Rattle.bw_layout.specs.Tables.{entry_bytes, ds64_with_table, entry_at, fixed_at}
 
 abbrev pub HeadsReadBack : Type 0
-HeadsReadBack = (id rest : List ℕ) (size : ℕ) → length id ≡ 4 → size < 2 ^ 32 → head_at (head id size ++ rest) ≡ record { id = id; size32 = size }
-
--- the numbers of a format's chunk
-abbrev pub numbers_of : Format → RawFmt
-numbers_of f = record { tag = 1; channels = f.channels; rate = f.rate; bytes_per_second = f.rate * block_align f; align = block_align f; bits = f.bits }
+HeadsReadBack = (id rest : List ℕ) (size : ℕ) → length id ≡ 4 → size < 2 ^ 32 →
+  head_at (head id size ++ rest) ≡ record { id = id; size32 = size }
 
 abbrev pub FormatsReadBack : Type 0
-FormatsReadBack = (f : Format) (rest : List ℕ) → IsTrue (is_format f) → raw_fmt (fmt_content f ++ rest) ≡ numbers_of f
-
--- what a `bext` chunk with these fields tells
-abbrev pub told_by : List (List ℕ) → RawBext
-told_by fields = record {
-  texts = take 5 fields;
-  time = from_le_bytes w64 (slice_index_or fields 5 []);
-  version = if is_version_1 fields then 1 else 2;
-  umid = slice_index_or fields 6 [];
-  loudness = if is_version_1 fields then [] else map (from_le_bytes w16) (drop 7 fields);
-}
+FormatsReadBack = (f : Format) (rest : List ℕ) → IsTrue (is_format f) →
+  raw_fmt (fmt_content f ++ rest) ≡ told_fmt f
 
 abbrev pub FieldsReadBack : Type 0
-FieldsReadBack = (fields : List (List ℕ)) (rest : List ℕ) → AreFields fields → bext_at (bext_fixed fields ++ rest) ≡ (told_by fields, zeros 180)
+FieldsReadBack = (fields : List (List ℕ)) (rest : List ℕ) → AreFields fields →
+  bext_at (bext_fixed fields ++ rest) ≡ (told_bext fields, zeros 180)
 
 -- an entry of four bytes and a size of eight
 pub record IsEntry (e : List ℕ × ℕ) : Type 0 where
@@ -39,32 +31,37 @@ pub record IsEntry (e : List ℕ × ℕ) : Type 0 where
   pub size : e.1 < 2 ^ 64
 
 abbrev pub EntriesReadBack : Type 0
-EntriesReadBack = (e : List ℕ × ℕ) (rest : List ℕ) → IsEntry e → entry_at (entry_bytes e ++ rest) ≡ e
+EntriesReadBack = (e : List ℕ × ℕ) (rest : List ℕ) → IsEntry e →
+  entry_at (entry_bytes e ++ rest) ≡ e
 
 -- the sizes of a `ds64` chunk are read back
-pub record Ds64ReadsBack (form data_size : ℕ) (table : List (List ℕ × ℕ)) (rest : List ℕ) : Type 0 where
-  pub fixed : fixed_at (ds64_with_table form data_size table ++ rest) ≡ record { form = form; data_size = data_size; table_len = length table }
+pub record Ds64ReadsBack (form data_size : ℕ) (table : List (List ℕ × ℕ))
+  (rest : List ℕ) : Type 0 where
+  pub fixed : fixed_at (ds64_with_table form data_size table ++ rest)
+    ≡ record { form = form; data_size = data_size; table_len = length table }
   pub entries : table_at (ds64_with_table form data_size table ++ rest) 28 (length table) ≡ table
 
 abbrev pub EachDs64ReadsBack : Type 0
 EachDs64ReadsBack =
-    (form data_size : ℕ) (table : List (List ℕ × ℕ)) (rest : List ℕ) → form < 2 ^ 64 → data_size < 2 ^ 64 → length table < 2 ^ 32 → All IsEntry table → Ds64ReadsBack form data_size table rest
+    (form data_size : ℕ) (table : List (List ℕ × ℕ)) (rest : List ℕ) → form < 2 ^ 64 →
+      data_size < 2 ^ 64 → length table < 2 ^ 32 → All IsEntry table →
+      Ds64ReadsBack form data_size table rest
 
--- a marker whose numbers have four bytes, and its reading
+-- a marker whose numbers have four bytes
 pub record IsMarker (m : ℕ × ℕ) : Type 0 where
   pub id : m.0 < 2 ^ 32
   pub frame : m.1 < 2 ^ 32
 
-abbrev pub cue_of : ℕ × ℕ → RawCue
-cue_of m = record { id = m.0; position = m.1; offset = m.1 }
-
 abbrev pub CuePointsReadBack : Type 0
-CuePointsReadBack = (m : ℕ × ℕ) (rest : List ℕ) → IsMarker m → raw_cue (cue_point m ++ rest) ≡ cue_of m
+CuePointsReadBack = (m : ℕ × ℕ) (rest : List ℕ) → IsMarker m →
+  raw_cue (cue_point m ++ rest) ≡ told_cue m
 
 -- the cue points of a `cue ` chunk are read back
 pub record CuesReadBack (markers : List (ℕ × ℕ)) (rest : List ℕ) : Type 0 where
   pub count : u32_at (cue_content markers ++ rest) 0 ≡ length markers
-  pub points : raw_cues (cue_content markers ++ rest) 4 (length markers) ≡ map cue_of markers
+  pub points : raw_cues (cue_content markers ++ rest) 4 (length markers) ≡ map told_cue markers
 
 abbrev pub EachCueChunkReadsBack : Type 0
-EachCueChunkReadsBack = (markers : List (ℕ × ℕ)) (rest : List ℕ) → length markers < 2 ^ 32 → All IsMarker markers → CuesReadBack markers rest
+EachCueChunkReadsBack =
+  (markers : List (ℕ × ℕ)) (rest : List ℕ) → length markers < 2 ^ 32 → All IsMarker markers →
+  CuesReadBack markers rest

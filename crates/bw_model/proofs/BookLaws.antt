@@ -1,5 +1,6 @@
 -- Each turn leaves a book, and a book's names tell its length.
-use Rattle.std.proofs.Common.{◌≡◌, ℕ, suc, zero, ◌+◌, ◌<◌, ◌≤◌, Bool, true, false, not, cond, ◌&&◌, ◌||◌, List, [], ◌∷◌, length, drop, Option, Some, None, refl, sym, ◌∙◌, ap, subst, arith, rules}
+use Rattle.std.proofs.Common.{◌≡◌, ℕ, suc, zero, ◌+◌, ◌<◌, ◌≤◌, Bool, true, false, not, cond, ◌&&◌, ◌||◌, List, [], ◌∷◌}
+use Rattle.std.proofs.Common.{length, drop, Option, Some, None, refl, sym, ◌∙◌, ap, subst, arith, rules}
 use Rattle.std.specs.Prelude.{IsTrue, is_some, is_none, nat_le, nat_lt}
 use Rattle.std.specs.List.{list_all, list_any}
 use Rattle.std.specs.Str.{bytes_eq}
@@ -10,10 +11,13 @@ use Rattle.bw_model.specs.Wire.{Message, Says, Asks, Bye, Second, last_number, i
 use Rattle.bw_model.specs.ReadBack.{is_admitted as spelled}
 use Rattle.bw_model.specs.Replies.{Reply, TooFar, TableFull, NoRoom}
 use Rattle.bw_model.specs.Book.{Log, Book, log_of, is_known, with_log, no_log, run_end}
-use Rattle.bw_model.specs.Turn.{Luck, turn, turn_by, served, notice, window, most_takes, is_admissible, admitted_after, drained_to, is_full, with_change, message_turn}
-use Rattle.bw_model.specs.BookRules.{IsLog, HasEachOnce, IsBook, TurnsKeepBooks, NoBookHasANameTwice, NamesTellTheLength}
+use Rattle.bw_model.specs.Turn.{Luck, turn, turn_by, served, notice, window, most_takes, is_admissible, admitted_after}
+use Rattle.bw_model.specs.Turn.{drained_to, is_full, with_change, message_turn}
+use Rattle.bw_model.specs.BookRules.{IsLog, HasEachOnce, IsBook, TurnsKeepBooks, NoBookHasANameTwice}
+use Rattle.bw_model.specs.BookRules.{NamesTellTheLength}
 use Rattle.bw_model.proofs.MapLemmas.{first_free-put}
-use Rattle.bw_model.proofs.BookLemmas.{same_name, name_refl, log-with_log_same, log-with_log_other, known-with_log_other, unknown_log}
+use Rattle.bw_model.proofs.BookLemmas.{same_name, name_refl, log-with_log_same, log-with_log_other}
+use Rattle.bw_model.proofs.BookLemmas.{known-with_log_other, unknown_log}
 
 -- Maps.
 
@@ -237,7 +241,8 @@ book-with_log b x l h log room = record {
         let free : length b < most_takes = leb-false most_takes (length b) (room k) in
         omega (arith, more, free)
 
-message_keeps : (stood : List ℕ → Bool) (b : Book) (m : Message) (luck : Luck) → is_request m.request ≡ true → IsBook b →
+message_keeps : (stood : List ℕ → Bool) (b : Book) (m : Message) (luck : Luck) → is_request m.request ≡ true →
+  IsBook b →
     IsBook (message_turn (stood m.name) b m luck).1
 unfolding turn_by
 message_keeps stood b m luck fit h =

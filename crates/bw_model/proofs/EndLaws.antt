@@ -1,10 +1,14 @@
 -- A reading fills its form, and each list of bytes has a reading or a fault.
-use Rattle.std.proofs.Common.{◌≡◌, ℕ, suc, zero, ◌+◌, ◌<◌, ◌≤◌, Bool, true, false, cond, List, [], ◌∷◌, ◌++◌, length, Option, Some, None, Result, Ok, Err, inl, inr, refl, sym, ◌∙◌, ap, subst, arith, length-append, append_assoc}
+use Rattle.std.proofs.Common.{◌≡◌, ℕ, suc, zero, ◌+◌, ◌<◌, ◌≤◌, Bool, true, false, cond, List, [], ◌∷◌, ◌++◌, length}
+use Rattle.std.proofs.Common.{Option, Some, None, Result, Ok, Err, inl, inr, refl, sym, ◌∙◌, ap, subst, arith}
+use Rattle.std.proofs.Common.{length-append, append_assoc}
 use Rattle.std.specs.Prelude.{nat_le, is_none, is_some, codes, unwrap_or}
 use Rattle.std.proofs.lemmas.Bool.{false≢true, leb-false, lt-leb}
 use Rattle.std.proofs.lemmas.List.{append-nil}
 use Rattle.bw_model.specs.Bytes.{first_that_holds, unless}
-use Rattle.bw_model.specs.Reading.{Entry, Form, Fault, FollowEachOther, IsFront, IsReading, IsFault, BytesReadOrFault, outer, next, next_place, head_at, chunk_faults, end_faults, form_end, entry_of, walk, read}
+use Rattle.bw_model.specs.Reading.{Entry, Form, Fault, FollowEachOther, IsFront, IsReading, IsFault, BytesReadOrFault}
+use Rattle.bw_model.specs.Reading.{outer, next, next_place, head_at, chunk_faults, end_faults, form_end, entry_of, walk}
+use Rattle.bw_model.specs.Reading.{read}
 use Rattle.bw_model.specs.Front.{StandsFirst, FillsForm, count_of, ReadingsFillForms}
 use Rattle.bw_model.proofs.ChunkSteps.{none_holds, first-none, steps_to}
 use Rattle.bw_model.proofs.FrontLaws.{none-count, count-none, fronts}
@@ -23,7 +27,8 @@ unfolding next
 ends_to b form seen n =
     let h = head_at b form p in
     let c = unwrap_or h.size 0 in
-    go (nat_le (p + 8) end) refl (first_that_holds (chunk_faults (length b) end seen p h c)) (record { id = h.id; place = p; size = c }) (first_that_holds (end_faults end seen)) refl n
+    go (nat_le (p + 8) end) refl (first_that_holds (chunk_faults (length b) end seen p h c))
+      (record { id = h.id; place = p; size = c }) (first_that_holds (end_faults end seen)) refl n
   where
     p : ℕ
     p = next_place seen
@@ -31,7 +36,8 @@ ends_to b form seen n =
     end : ℕ
     end = form_end form
 
-    go : (v : Bool) → nat_le (p + 8) end ≡ v → (x : Option Fault) (e : Entry) (y : Option Fault) → first_that_holds (end_faults end seen) ≡ y →
+    go : (v : Bool) → nat_le (p + 8) end ≡ v → (x : Option Fault) (e : Entry) (y : Option Fault) →
+      first_that_holds (end_faults end seen) ≡ y →
         cond {A = Result (Option Entry) Fault} v (unless x (Some e)) (unless y None) ≡ Ok None → Ends form seen
     go true q None e y r n = absurd (apart n)
       where
@@ -56,9 +62,13 @@ ends_from b form seen h =
     let p = next_place seen in
     let end = form_end form in
     let c = unwrap_or (head_at b form p).size 0 in
-    ap (λ (v : Bool). cond v (unless (first_that_holds (chunk_faults (length b) end seen p (head_at b form p) c)) (Some (record { id = (head_at b form p).id; place = p; size = c }))) (unless (first_that_holds (end_faults end seen)) None))
+    ap (λ (v : Bool). cond v
+      (unless (first_that_holds (chunk_faults (length b) end seen p (head_at b form p) c))
+      (Some (record { id = (head_at b form p).id; place = p; size = c })))
+      (unless (first_that_holds (end_faults end seen)) None))
     (lt-leb (p + 8) end h.ends)
-    ∙ ap (λ (y : Option Fault). unless {X = Option Entry} y None) (first-none (end_faults end seen) (h.fmt, (h.samples, tt)))
+    ∙ ap (λ (y : Option Fault). unless {X = Option Entry} y None)
+      (first-none (end_faults end seen) (h.fmt, (h.samples, tt)))
 
 -- found and counted
 counted : (id : List ℕ) (es : List Entry) → is_none (entry_of id es) ≡ false → count_of id es ≤ 1 → count_of id es ≡ 1
@@ -86,17 +96,21 @@ readings b form entries = (to, from)
     to r =
         let s = (fronts b form entries).0 r.front in
         let e = ends_to b form entries r.ends in
-        (s, record { ends = e.ends; fmt = counted (codes "fmt ") entries e.fmt (s.single (codes "fmt ") refl); samples = counted (codes "data") entries e.samples (s.single (codes "data") refl) })
+        (s, record { ends = e.ends; fmt = counted (codes "fmt ") entries e.fmt (s.single (codes "fmt ") refl);
+          samples = counted (codes "data") entries e.samples (s.single (codes "data") refl) })
 
     from : StandsFirst b form entries × FillsForm form entries → IsReading b form entries
     from h = record {
       front = (fronts b form entries).1 h.0;
-      ends = ends_from b form entries (record { ends = h.1.ends; fmt = found (codes "fmt ") entries h.1.fmt; samples = found (codes "data") entries h.1.samples });
+      ends = ends_from b form entries
+        (record { ends = h.1.ends; fmt = found (codes "fmt ") entries h.1.fmt;
+        samples = found (codes "data") entries h.1.samples });
     }
 
 -- one more chunk behind those that follow each other
 follow-push : (comes : List Entry → Result (Option Entry) Fault) (before seen : List Entry) (e : Entry) →
-    FollowEachOther comes before seen → comes (before ++ seen) ≡ Ok (Some e) → FollowEachOther comes before (seen ++ e ∷ [])
+    FollowEachOther comes before seen → comes (before ++ seen) ≡ Ok (Some e) →
+      FollowEachOther comes before (seen ++ e ∷ [])
 follow-push comes before [] e f h = (ap comes (sym (append-nil before)) ∙ h, tt)
 follow-push comes before (d ∷ seen) e f h =
     (f.0, follow-push comes (before ++ d ∷ []) seen e f.1 (ap comes (append_assoc before (d ∷ []) seen) ∙ h))
@@ -127,7 +141,8 @@ read_whole b form seen r = record {
         subst (λ (x : Form × List Entry). IsReading b x.0 x.1) pairs r
 
 faults_at : (b : List ℕ) (fault : Fault) → IsFault b fault → Walks b (Err fault)
-faults_at b fault h = record { reading = λ g es e. absurd (apart g es e); fault = λ f e. subst (IsFault b) (same f e) h }
+faults_at b fault h = record { reading = λ g es e. absurd (apart g es e);
+  fault = λ f e. subst (IsFault b) (same f e) h }
   where
     broken : Result (Form × List Entry) Fault
     broken = Err fault
@@ -138,13 +153,16 @@ faults_at b fault h = record { reading = λ g es e. absurd (apart g es e); fault
     same : (f : Fault) → broken ≡ Err f → fault ≡ f
     same f e = cc
 
-walks : (steps : ℕ) (b : List ℕ) (form : Form) (seen : List Entry) → IsFront b form seen → length seen + steps ≡ 4097 → length seen ≤ 4096 → Walks b (walk steps b form seen)
+walks : (steps : ℕ) (b : List ℕ) (form : Form) (seen : List Entry) → IsFront b form seen → length seen + steps ≡ 4097 →
+  length seen ≤ 4096 → Walks b (walk steps b form seen)
 unfolding walk
 walks zero b form seen front all few = absurd (omega arith)
-walks (suc steps) b form seen front all few = go (next b form seen) refl (λ e f k l. walks steps b form (seen ++ e ∷ []) f k l)
+walks (suc steps) b form seen front all few =
+  go (next b form seen) refl (λ e f k l. walks steps b form (seen ++ e ∷ []) f k l)
   where
     go : (x : Result (Option Entry) Fault) → next b form seen ≡ x →
-        ((e : Entry) → IsFront b form (seen ++ e ∷ []) → length (seen ++ e ∷ []) + steps ≡ 4097 → length (seen ++ e ∷ []) ≤ 4096 → Walks b (walk steps b form (seen ++ e ∷ []))) →
+        ((e : Entry) → IsFront b form (seen ++ e ∷ []) → length (seen ++ e ∷ []) + steps ≡ 4097 →
+          length (seen ++ e ∷ []) ≤ 4096 → Walks b (walk steps b form (seen ++ e ∷ []))) →
         Walks b (elim x [
           | Err fault ↦ Err fault
           | Ok more ↦ elim more [ None ↦ Ok (form, seen) | Some e ↦ walk steps b form (seen ++ e ∷ []) ]
@@ -155,7 +173,8 @@ walks (suc steps) b form seen front all few = go (next b form seen) refl (λ e f
         let step = steps_to b form seen e q in
         let room : length seen < 4096 = step.few in
         let longer = length-append seen (e ∷ []) in
-        ih e (record { header = front.header; chunks = follow-push (next b form) [] seen e front.chunks q }) (omega (arith, longer)) (omega (arith, longer))
+        ih e (record { header = front.header; chunks = follow-push (next b form) [] seen e front.chunks q })
+          (omega (arith, longer)) (omega (arith, longer))
 
 pub reads : BytesReadOrFault
 unfolding read
@@ -163,6 +182,7 @@ reads b =
     let w = go (outer b) refl in
     record { reading = w.reading; fault = w.fault }
   where
-    go : (x : Result Form Fault) → outer b ≡ x → Walks b (elim x [ Err fault ↦ Err fault | Ok form ↦ walk 4097 b form [] ])
+    go : (x : Result Form Fault) → outer b ≡ x →
+      Walks b (elim x [ Err fault ↦ Err fault | Ok form ↦ walk 4097 b form [] ])
     go (Err fault) q = faults_at b fault (inl q)
     go (Ok form) q = walks 4097 b form [] (record { header = q; chunks = tt }) refl (omega arith)

@@ -1,21 +1,27 @@
 -- A run in number order that no want was told of leaves nothing pending.
-use Rattle.std.proofs.Common.{◌≡◌, ℕ, suc, zero, ◌+◌, ◌-◌, ◌<◌, ◌≤◌, Bool, true, false, not, cond, ◌&&◌, List, [], ◌∷◌, ◌++◌, length, Option, Some, None, refl, sym, ◌∙◌, ap, subst, arith, ◌⊎◌, inl, inr}
+use Rattle.std.proofs.Common.{◌≡◌, ℕ, suc, zero, ◌+◌, ◌-◌, ◌<◌, ◌≤◌, Bool, true, false, not, cond, ◌&&◌, List, [], ◌∷◌}
+use Rattle.std.proofs.Common.{◌++◌, length, Option, Some, None, refl, sym, ◌∙◌, ap, subst, arith, ◌⊎◌, inl, inr}
 use Rattle.std.specs.Prelude.{map, is_some, is_none, nat_le, nat_lt}
 use Rattle.std.specs.List.{list_any}
 use Rattle.std.specs.Str.{bytes_eq}
 use Rattle.std.proofs.lemmas.List.Sums.{fold-append}
 use Rattle.std.proofs.lemmas.List.Folds.{list_any-append}
-use Rattle.std.proofs.lemmas.Bool.{false≢true, or_parts, and_from, and_right, and_left, cases_eq, cases_lt, leb-true, leb-false, lt-ltb, le-ltb, lt-leb}
+use Rattle.std.proofs.lemmas.Bool.{false≢true, or_parts, and_from, and_right, and_left, cases_eq, cases_lt, leb-true}
+use Rattle.std.proofs.lemmas.Bool.{leb-false, lt-ltb, le-ltb, lt-leb}
 use Rattle.sha2.specs.Sha256.{sha256}
 use Rattle.bw_model.specs.Bytes.{at, put, first_free}
 use Rattle.bw_model.specs.Take.{Request}
 use Rattle.bw_model.specs.Wire.{Message, Frame, Says, Asks, Bye, message_body}
 use Rattle.bw_model.specs.Replies.{Reply, Judged, Noticed, Held, TooFar, Conflict, DelayedStore}
 use Rattle.bw_model.specs.Book.{Log, Book, log_of, is_known, with_log, run_end, verdict_at}
-use Rattle.bw_model.specs.Turn.{Luck, turn, turn_by, served, own_reply, verdicts_from, window, is_admissible, admitted_after, drained_to, is_repeat, repeats, is_full, most_takes, with_change, message_turn, book_behind, book_after, run}
-use Rattle.bw_model.specs.NumberOrder.{with_frame, came_under, IsNextOrCame, AreInOrder, tells_want, lacks, OrderLeavesNothingPending}
+use Rattle.bw_model.specs.Turn.{Luck, turn, turn_by, served, own_reply, verdicts_from, window, is_admissible}
+use Rattle.bw_model.specs.Turn.{admitted_after, drained_to, is_repeat, repeats, is_full, most_takes, with_change}
+use Rattle.bw_model.specs.Turn.{message_turn, book_behind, book_after, run}
+use Rattle.bw_model.specs.NumberOrder.{with_frame, came_under, IsNextOrCame, AreInOrder, tells_want, lacks}
+use Rattle.bw_model.specs.NumberOrder.{OrderLeavesNothingPending}
 use Rattle.bw_model.proofs.MapLemmas.{at-put_same, at-below, at-first_free}
-use Rattle.bw_model.proofs.BookLemmas.{same_name, name_refl, log-with_log_same, log-with_log_other, known-with_log_same, known-with_log_other, unknown_log}
+use Rattle.bw_model.proofs.BookLemmas.{same_name, name_refl, log-with_log_same, log-with_log_other, known-with_log_same}
+use Rattle.bw_model.proofs.BookLemmas.{known-with_log_other, unknown_log}
 use Rattle.bw_model.proofs.BookLaws.{first_free-drop, length-with_log_grows}
 use Rattle.bw_model.proofs.TurnLaws.{outcome}
 
@@ -53,7 +59,8 @@ nothing_past s n h = go (at s n) refl
 
 -- One name.
 
--- its log has no gap and nothing pending, and has what came under the name; an unknown one had no place, or nothing came
+-- its log has no gap and nothing pending, and has what came under the name; an unknown one had no place, or nothing
+-- came
 record IsInStep (name : List ℕ) (b : Book) (came : List (Option Request)) : Type 0 where
   whole : IsWhole (log_of b name).admitted
   ended : (log_of b name).done ≡ length (log_of b name).admitted

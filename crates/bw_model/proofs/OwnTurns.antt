@@ -1,5 +1,6 @@
 -- A turn of the sender's message keeps what was offered.
-use Rattle.std.proofs.Common.{◌≡◌, ◌≢◌, ℕ, ◌+◌, ◌-◌, ◌<◌, ◌≤◌, Bool, true, false, not, cond, ◌&&◌, List, [], ◌∷◌, Option, Some, None, refl, sym, ◌∙◌, ap, subst, arith, ◌⊎◌, inl, inr}
+use Rattle.std.proofs.Common.{◌≡◌, ◌≢◌, ℕ, ◌+◌, ◌-◌, ◌<◌, ◌≤◌, Bool, true, false, not, cond, ◌&&◌, List, [], ◌∷◌}
+use Rattle.std.proofs.Common.{Option, Some, None, refl, sym, ◌∙◌, ap, subst, arith, ◌⊎◌, inl, inr}
 use Rattle.std.specs.Prelude.{slice_get, nat_le, nat_lt, is_none}
 use Rattle.std.proofs.lemmas.Bool.{ltb-true, leb-true, lt-ltb, lt-leb}
 use Rattle.std.proofs.lemmas.Bool.Decides.{eqb_tells}
@@ -8,23 +9,28 @@ use Rattle.sha2.specs.Sha256.{sha256}
 use Rattle.bw_model.specs.Bytes.{at, put}
 use Rattle.bw_model.specs.Take.{Request}
 use Rattle.bw_model.specs.Wire.{Message, message_body}
-use Rattle.bw_model.specs.Replies.{Reply, Judged, Noticed, Notice, Held, TooFar, Conflict, TableFull, NoRoom, DelayedStore}
+use Rattle.bw_model.specs.Replies.{Reply, Judged, Noticed, Notice, Held, TooFar, Conflict, TableFull, NoRoom}
+use Rattle.bw_model.specs.Replies.{DelayedStore}
 use Rattle.bw_model.specs.Book.{Log, Book, log_of, is_known, run_end, verdict_at}
-use Rattle.bw_model.specs.Turn.{Luck, turn_by, served, own_reply, notice, window, is_admissible, admitted_after, drained_to, repeats, is_repeat, is_full, with_change, message_turn}
+use Rattle.bw_model.specs.Turn.{Luck, turn_by, served, own_reply, notice, window, is_admissible, admitted_after}
+use Rattle.bw_model.specs.Turn.{drained_to, repeats, is_repeat, is_full, with_change, message_turn}
 use Rattle.bw_model.specs.World.{turns_down}
 use Rattle.bw_model.proofs.BookLemmas.{name_refl, log-with_log_same, unknown_log}
 use Rattle.bw_model.proofs.MapLemmas.{at-put_same, at-put_other, IsFilled, filled_to, verdict-put, filled-put}
 use Rattle.bw_model.proofs.Elements.{Each, each-append}
-use Rattle.bw_model.proofs.TrueReplies.{IsSound, IsTrueReply, IsFaithfulStep, notice_true, judged_true, verdicts_true, still}
+use Rattle.bw_model.proofs.TrueReplies.{IsSound, IsTrueReply, IsFaithfulStep, notice_true, judged_true, verdicts_true}
+use Rattle.bw_model.proofs.TrueReplies.{still}
 
 -- what the message's admission leaves
-record IsAdmission (taken : Bool) (offered : List Request) (log : Log) (m : Message) (s : List (Option Request)) : Type 0 where
+record IsAdmission (taken : Bool) (offered : List Request) (log : Log) (m : Message)
+  (s : List (Option Request)) : Type 0 where
   here : at s m.number ≡ Some m.request
   admitted : (n : ℕ) (r : Request) → at s n ≡ Some r → slice_get offered n ≡ Some r
   filled : IsFilled s log.done
   same : (n : ℕ) → n < log.done → verdict_at taken s n ≡ verdict_at taken log.admitted n
 
-admission : (taken : Bool) (offered : List Request) (log : Log) (m : Message) → IsSound offered log → slice_get offered m.number ≡ Some m.request → m.number < log.done + window →
+admission : (taken : Bool) (offered : List Request) (log : Log) (m : Message) → IsSound offered log →
+  slice_get offered m.number ≡ Some m.request → m.number < log.done + window →
     IsAdmission taken offered log m (admitted_after log m)
 admission taken offered log m sound was below = go (at log.admitted m.number) refl
   where
@@ -36,7 +42,8 @@ admission taken offered log m sound was below = go (at log.admitted m.number) re
 
     go : (x : Option Request) → at s m.number ≡ x → IsAdmission taken offered log m (admitted_after log m)
     go None e =
-        let yes : is_admissible log m.number ≡ true = ap (λ (z : Option Request). is_none z && nat_lt m.number (log.done + window)) e ∙ fits in
+        let yes : is_admissible log m.number ≡ true =
+            ap (λ (z : Option Request). is_none z && nat_lt m.number (log.done + window)) e ∙ fits in
         subst (λ (v : Bool). IsAdmission taken offered log m (cond v (put s m.number m.request) s)) (sym yes) (record {
           here = at-put_same s m.number m.request;
           admitted = λ n r h. old n r h;
@@ -47,12 +54,15 @@ admission taken offered log m sound was below = go (at log.admitted m.number) re
         old : (n : ℕ) (r : Request) → at (put s m.number m.request) n ≡ Some r → slice_get offered n ≡ Some r
         old n r h = by_place (eqb_tells n m.number)
           where
-            by_place : ((eqb n m.number ≡ true) × (n ≡ m.number)) ⊎ ((eqb n m.number ≡ false) × (n ≢ m.number)) → slice_get offered n ≡ Some r
+            by_place : ((eqb n m.number ≡ true) × (n ≡ m.number)) ⊎ ((eqb n m.number ≡ false) × (n ≢ m.number)) →
+              slice_get offered n ≡ Some r
             by_place (inl p) =
-                ap (slice_get offered) p.1 ∙ was ∙ sym (at-put_same s m.number m.request) ∙ ap (at (put s m.number m.request)) (sym p.1) ∙ h
+                ap (slice_get offered) p.1 ∙ was ∙ sym (at-put_same s m.number m.request)
+                  ∙ ap (at (put s m.number m.request)) (sym p.1) ∙ h
             by_place (inr p) = sound.admitted n r (sym (at-put_other s m.number n m.request p.1) ∙ h)
     go (Some x) e =
-        let no : is_admissible log m.number ≡ false = ap (λ (z : Option Request). is_none z && nat_lt m.number (log.done + window)) e in
+        let no : is_admissible log m.number ≡ false =
+            ap (λ (z : Option Request). is_none z && nat_lt m.number (log.done + window)) e in
         subst (λ (v : Bool). IsAdmission taken offered log m (cond v (put s m.number m.request) s)) (sym no) (record {
           here = e ∙ sym (sound.admitted m.number x e) ∙ was;
           admitted = sound.admitted;
@@ -74,8 +84,11 @@ own_true : (taken : Bool) (s : List (Option Request)) (done later end : ℕ) (m 
     Each (IsTrueReply taken m.name (record { admitted = s; done = later })) (own_reply taken s done later end m)
 unfolding own_reply
 own_true taken s done later end m near here from =
-    subst (λ (v : Bool). Each P (cond v (Noticed m.name m.number TooFar later ∷ []) (cond (not (is_repeat s m)) conflict rest))) (sym (lt-leb (done + window) m.number near))
-    (subst (λ (v : Bool). Each P (cond (not v) conflict rest)) (sym same) (go (nat_le done m.number && nat_lt m.number later) (nat_lt m.number done) refl (nat_lt later end)))
+    subst (λ (v : Bool). Each P
+      (cond v (Noticed m.name m.number TooFar later ∷ []) (cond (not (is_repeat s m)) conflict rest)))
+      (sym (lt-leb (done + window) m.number near))
+    (subst (λ (v : Bool). Each P (cond (not v) conflict rest)) (sym same)
+      (go (nat_le done m.number && nat_lt m.number later) (nat_lt m.number done) refl (nat_lt later end)))
   where
     P : Reply → Type 0
     P = IsTrueReply taken m.name (record { admitted = s; done = later })
@@ -87,14 +100,19 @@ own_true taken s done later end m near here from =
     last z = cond z (Noticed m.name m.number DelayedStore later ∷ []) (Noticed m.name m.number Held later ∷ [])
 
     rest : List Reply
-    rest = cond (nat_le done m.number && nat_lt m.number later) [] (cond (nat_lt m.number done) (Judged m.name m.number (verdict_at taken s m.number) ∷ []) (last (nat_lt later end)))
+    rest = cond (nat_le done m.number && nat_lt m.number later) []
+      (cond (nat_lt m.number done) (Judged m.name m.number (verdict_at taken s m.number) ∷ [])
+      (last (nat_lt later end)))
 
     same : is_repeat s m ≡ true
     same = ap (repeats m) here ∙ name_refl (sha256 (message_body m))
 
-    go : (x y : Bool) → nat_lt m.number done ≡ y → (z : Bool) → Each P (cond x [] (cond y (Judged m.name m.number (verdict_at taken s m.number) ∷ []) (last z)))
+    go : (x y : Bool) → nat_lt m.number done ≡ y → (z : Bool) →
+      Each P (cond x [] (cond y (Judged m.name m.number (verdict_at taken s m.number) ∷ []) (last z)))
     go true y e z = tt
-    go false true e z = let h : m.number < done = ltb-true m.number done e in (judged_true taken m.name (record { admitted = s; done = later }) m.number (omega arith), tt)
+    go false true e z = let h : m.number < done =
+      ltb-true m.number done e
+      in (judged_true taken m.name (record { admitted = s; done = later }) m.number (omega arith), tt)
     go false false e true = (notice_true taken m.name m.name _ m.number later DelayedStore refl, tt)
     go false false e false = (notice_true taken m.name m.name _ m.number later Held refl, tt)
 
@@ -119,8 +137,10 @@ served_true taken offered log m stop sound was near =
 
 -- the turn of the sender's message
 pub own_message_true : (stood : List ℕ → Bool) (offered : List Request) (b : Book) (m : Message) (luck : Luck) →
-    IsSound offered (log_of b m.name) → slice_get offered m.number ≡ Some m.request → m.number < (log_of b m.name).done + window →
-    IsFaithfulStep (stood m.name) offered m.name (log_of b m.name) (log_of (message_turn (stood m.name) b m luck).1 m.name) (message_turn (stood m.name) b m luck).0
+    IsSound offered (log_of b m.name) → slice_get offered m.number ≡ Some m.request →
+      m.number < (log_of b m.name).done + window →
+    IsFaithfulStep (stood m.name) offered m.name (log_of b m.name)
+      (log_of (message_turn (stood m.name) b m luck).1 m.name) (message_turn (stood m.name) b m luck).0
 unfolding turn_by
 own_message_true stood offered b m luck sound was near =
     go (is_known b m.name) refl (nat_le window m.number) refl (is_full b) (is_admissible log m.number && luck.refused)
@@ -131,18 +151,23 @@ own_message_true stood offered b m luck sound was near =
     Goal : List Reply × Option Log → Type 0
     Goal x = IsFaithfulStep (stood m.name) offered m.name log (log_of (with_change b m.name x.1) m.name) x.0
 
-    kept : (code : Notice) (next : ℕ) → turns_down m.name (Noticed m.name m.number code next) ≡ false → Goal (Noticed m.name m.number code next ∷ [], None)
-    kept code next w = still (stood m.name) offered m.name log _ sound (notice_true (stood m.name) m.name m.name log m.number next code w, tt)
+    kept : (code : Notice) (next : ℕ) → turns_down m.name (Noticed m.name m.number code next) ≡ false →
+      Goal (Noticed m.name m.number code next ∷ [], None)
+    kept code next w = still (stood m.name) offered m.name log _ sound
+      (notice_true (stood m.name) m.name m.name log m.number next code w, tt)
 
     served_goal : Goal ((served (stood m.name) log m luck.stop).0, Some (served (stood m.name) log m luck.stop).1)
     served_goal =
-        subst (λ (z : Log). IsFaithfulStep (stood m.name) offered m.name log z (served (stood m.name) log m luck.stop).0)
+        subst (λ (z : Log). IsFaithfulStep (stood m.name) offered m.name log z
+          (served (stood m.name) log m luck.stop).0)
         (sym (log-with_log_same b m.name (served (stood m.name) log m luck.stop).1))
         (served_true (stood m.name) offered log m luck.stop sound was near)
 
-    go : (known : Bool) → is_known b m.name ≡ known → (far : Bool) → nat_le window m.number ≡ far → (full refused : Bool) →
+    go : (known : Bool) → is_known b m.name ≡ known → (far : Bool) → nat_le window m.number ≡ far →
+      (full refused : Bool) →
         Goal (cond (not known && far) (notice m TooFar 0, None) (cond (not known && full) (notice m TableFull 0, None)
-        (cond refused (notice m NoRoom log.done, None) ((served (stood m.name) log m luck.stop).0, Some (served (stood m.name) log m luck.stop).1))))
+        (cond refused (notice m NoRoom log.done, None)
+          ((served (stood m.name) log m luck.stop).0, Some (served (stood m.name) log m luck.stop).1))))
     go false k true f full refused =
         let none : log.done ≡ 0 = ap (λ (l : Log). l.done) (unknown_log b m.name k) in
         let over : window ≤ m.number = leb-true window m.number f in

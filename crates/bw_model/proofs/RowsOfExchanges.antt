@@ -1,7 +1,11 @@
 -- The worked rows compute: bytes in, bytes out, and the file that they leave.
 use Rattle.std.proofs.Common.{refl}
 use Rattle.bw_model.proofs.Computing.{computing}
-use Rattle.bw_model.specs.RowsOfExchanges.{OpenAloneRow, InOrderRow, EmptyTakeRow, OddDataRow, OddHistoryRow, FileLengthsRow, AnyOrderRow, RepeatedRow, ConflictRow, ConflictHeldRow, ConflictOfClosesRow, WindowRow, FullWindowRow, TwoExchangesRow, BadBlockRow, WrongTotalRow, CueRow, DescriptionRow, LoudnessRow, NoLoudnessRow, AskEmptyRow, AskRow, AskAheadRow, ByeRow, CutExchangeRow}
+use Rattle.bw_model.specs.RowsOfExchanges.{OpenAloneRow, InOrderRow, EmptyTakeRow, OddDataRow, OddHistoryRow}
+use Rattle.bw_model.specs.RowsOfExchanges.{FileLengthsRow, AnyOrderRow, RepeatedRow, ConflictRow, ConflictHeldRow}
+use Rattle.bw_model.specs.RowsOfExchanges.{ConflictOfClosesRow, WindowRow, FullWindowRow, TwoExchangesRow, BadBlockRow}
+use Rattle.bw_model.specs.RowsOfExchanges.{WrongTotalRow, CueRow, DescriptionRow, LoudnessRow, NoLoudnessRow}
+use Rattle.bw_model.specs.RowsOfExchanges.{AskEmptyRow, AskRow, AskAheadRow, ByeRow, CutExchangeRow}
 
 pub open_alone : OpenAloneRow
 unfolding computing

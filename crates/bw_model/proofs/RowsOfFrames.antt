@@ -1,7 +1,10 @@
 -- The worked rows compute: frames that are whole, too long, cut or misspelt, and replies.
 use Rattle.std.proofs.Common.{refl}
 use Rattle.bw_model.proofs.Computing.{computing}
-use Rattle.bw_model.specs.RowsOfFrames.{ZeroLengthRow, TooLongRow, CutLengthRow, ByeAndMoreRow, AskPayloadRow, LargeNumberRow, TooLargeNumberRow, MisspeltRow, KindsRow, RequestKindsRow, LongestBlockRow, LongestFrameRow, LongestBlockReadRow, BlockTooLongRow, NextRow, CodesRow}
+use Rattle.bw_model.specs.RowsOfFrames.{ZeroLengthRow, TooLongRow, CutLengthRow, ByeAndMoreRow, AskPayloadRow}
+use Rattle.bw_model.specs.RowsOfFrames.{LargeNumberRow, TooLargeNumberRow, MisspeltRow, KindsRow, RequestKindsRow}
+use Rattle.bw_model.specs.RowsOfFrames.{LongestBlockRow, LongestFrameRow, LongestBlockReadRow, BlockTooLongRow, NextRow}
+use Rattle.bw_model.specs.RowsOfFrames.{CodesRow}
 
 pub zero_length : ZeroLengthRow
 unfolding computing

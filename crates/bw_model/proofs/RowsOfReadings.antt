@@ -1,7 +1,9 @@
 -- The worked rows compute: forms that are read, and forms that are refused.
 use Rattle.std.proofs.Common.{refl}
 use Rattle.bw_model.proofs.Computing.{computing}
-use Rattle.bw_model.specs.RowsOfReadings.{ReadsSmallRow, ReadsWithoutPadRow, ReadsRf64Row, ReadsTabledRow, CutOuterRow, CutChunksRow, NoDs64Row, WrongFormSizeRow, WrongDataSizeRow, WrongTableRow, UntoldSizeRow, UnsaidRiffRow, WrongCueRow, ShortChunksRow}
+use Rattle.bw_model.specs.RowsOfReadings.{ReadsSmallRow, ReadsWithoutPadRow, ReadsRf64Row, ReadsTabledRow, CutOuterRow}
+use Rattle.bw_model.specs.RowsOfReadings.{CutChunksRow, NoDs64Row, WrongFormSizeRow, WrongDataSizeRow, WrongTableRow}
+use Rattle.bw_model.specs.RowsOfReadings.{UntoldSizeRow, UnsaidRiffRow, WrongCueRow, ShortChunksRow}
 
 pub reads_small : ReadsSmallRow
 unfolding computing

@@ -1,7 +1,8 @@
 -- The worked rows compute: the text of a report.
 use Rattle.std.proofs.Common.{refl}
 use Rattle.bw_model.proofs.Computing.{computing}
-use Rattle.bw_model.specs.RowsOfReports.{ReportRf64Row, ReportTabledRow, ReportSmallRow, ReportLoudnessRow, ReportMarkedRow}
+use Rattle.bw_model.specs.RowsOfReports.{ReportRf64Row, ReportTabledRow, ReportSmallRow, ReportLoudnessRow}
+use Rattle.bw_model.specs.RowsOfReports.{ReportMarkedRow}
 
 pub report_rf64 : ReportRf64Row
 unfolding computing

@@ -1,7 +1,9 @@
 -- The worked rows compute: what is stored of a take, and its file at the limit.
 use Rattle.std.proofs.Common.{refl}
 use Rattle.bw_model.proofs.Computing.{computing}
-use Rattle.bw_model.specs.RowsOfTakes.{FormatsRow, HistoryBytesRow, BeforeAndBehindRow, ManyMarkersRow, AllowedFieldsRow, FieldLengthsRow, FieldBytesRow, LargestRiffRow, LargestOddRiffRow, SmallestWideRow, AtLimitRow, MarkedRow, OverLimitRow}
+use Rattle.bw_model.specs.RowsOfTakes.{FormatsRow, HistoryBytesRow, BeforeAndBehindRow, ManyMarkersRow}
+use Rattle.bw_model.specs.RowsOfTakes.{AllowedFieldsRow, FieldLengthsRow, FieldBytesRow, LargestRiffRow}
+use Rattle.bw_model.specs.RowsOfTakes.{LargestOddRiffRow, SmallestWideRow, AtLimitRow, MarkedRow, OverLimitRow}
 
 pub formats : FormatsRow
 unfolding computing

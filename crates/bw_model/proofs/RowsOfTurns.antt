@@ -1,7 +1,9 @@
 -- The worked rows compute: turns in which the store fails, memory is refused, or the table of names is full.
 use Rattle.std.proofs.Common.{refl}
 use Rattle.bw_model.proofs.Computing.{computing}
-use Rattle.bw_model.specs.RowsOfTurns.{FailedBlockRow, OtherBehindFailureRow, FailedTwiceRow, StoppedDrainRow, SeventeenRepliesRow, FailedAnywhereRow, FullTableRow, FullTableTooFarRow, FullTableAskRow, NoRoomRow, NameTakenRow}
+use Rattle.bw_model.specs.RowsOfTurns.{FailedBlockRow, OtherBehindFailureRow, FailedTwiceRow, StoppedDrainRow}
+use Rattle.bw_model.specs.RowsOfTurns.{SeventeenRepliesRow, FailedAnywhereRow, FullTableRow, FullTableTooFarRow}
+use Rattle.bw_model.specs.RowsOfTurns.{FullTableAskRow, NoRoomRow, NameTakenRow}
 
 pub failed_block : FailedBlockRow
 unfolding computing

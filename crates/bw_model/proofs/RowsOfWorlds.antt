@@ -1,7 +1,8 @@
 -- The worked rows compute: what a sender counts, and a rehearsal.
 use Rattle.std.proofs.Common.{refl}
 use Rattle.bw_model.proofs.Computing.{computing}
-use Rattle.bw_model.specs.RowsOfWorlds.{BatchRow, HearsRow, RefusedRow, NoticesRow, OffersRow, RehearsalRow, RehearsalRepliesRow, RehearsalAskRow}
+use Rattle.bw_model.specs.RowsOfWorlds.{BatchRow, HearsRow, RefusedRow, NoticesRow, OffersRow, RehearsalRow}
+use Rattle.bw_model.specs.RowsOfWorlds.{RehearsalRepliesRow, RehearsalAskRow}
 
 pub batch : BatchRow
 unfolding computing

@@ -1,5 +1,6 @@
 -- What the replies of a turn tell, and the count of the store's failures beside them.
-use Rattle.std.proofs.Common.{◌≡◌, ℕ, suc, zero, ◌+◌, ◌-◌, ◌<◌, ◌≤◌, Bool, true, false, not, cond, ◌&&◌, ◌||◌, List, [], ◌∷◌, length, drop, Option, Some, None, refl, sym, ◌∙◌, ap, arith, length-append}
+use Rattle.std.proofs.Common.{◌≡◌, ℕ, suc, zero, ◌+◌, ◌-◌, ◌<◌, ◌≤◌, Bool, true, false, not, cond, ◌&&◌, ◌||◌, List, []}
+use Rattle.std.proofs.Common.{◌∷◌, length, drop, Option, Some, None, refl, sym, ◌∙◌, ap, arith, length-append}
 use Rattle.std.specs.Prelude.{is_some, nat_le, nat_lt}
 use Rattle.std.specs.List.{list_any}
 use Rattle.std.specs.Option.{option_map_or}
@@ -10,9 +11,11 @@ use Rattle.bw_model.specs.Take.{Request}
 use Rattle.bw_model.specs.Wire.{Message, Frame, Says, Asks, Bye}
 use Rattle.bw_model.specs.Replies.{Reply, Judged, Noticed, Held, TooFar, Conflict, TableFull, NoRoom, DelayedStore}
 use Rattle.bw_model.specs.Book.{Log, Book, log_of, is_known, with_log, run_end, verdict_at}
-use Rattle.bw_model.specs.Turn.{Luck, turn, turn_by, served, own_reply, verdicts_from, notice, window, is_admissible, admitted_after, drained_to, is_repeat, is_full, with_change, is_turned_away}
+use Rattle.bw_model.specs.Turn.{Luck, turn, turn_by, served, own_reply, verdicts_from, notice, window, is_admissible}
+use Rattle.bw_model.specs.Turn.{admitted_after, drained_to, is_repeat, is_full, with_change, is_turned_away}
 use Rattle.bw_model.specs.BookRules.{IsBook}
-use Rattle.bw_model.specs.CountedTurn.{is_pending, is_delayed, stops_short, book_told, TurnsGiveFewReplies, RepliesTellTheBook, DelaysAreCounted, QuietTurnsDrain}
+use Rattle.bw_model.specs.CountedTurn.{is_pending, is_delayed, stops_short, book_told, TurnsGiveFewReplies}
+use Rattle.bw_model.specs.CountedTurn.{RepliesTellTheBook, DelaysAreCounted, QuietTurnsDrain}
 use Rattle.bw_model.proofs.MapLemmas.{at-drop, at-first_free}
 use Rattle.bw_model.proofs.BookLemmas.{log-with_log_same, unknown_log}
 use Rattle.bw_model.proofs.BookLaws.{first_free-length, is_servable, is_admitted, is_drained}

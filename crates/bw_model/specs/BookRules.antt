@@ -1,5 +1,6 @@
 -- What holds of each book that turns lead to.
-use Rattle.std.specs.Prelude.{◌≡◌, ◌≤◌, ℕ, ◌+◌, Bool, true, false, IsTrue, is_some, List, [], ◌∷◌, length}
+use Rattle.std.specs.Prelude.{◌≡◌, ◌≤◌, ℕ, ◌+◌, Bool, true, false, IsTrue, is_some, List, [], ◌∷◌}
+use Rattle.std.specs.Prelude.{length}
 use Rattle.std.specs.List.{list_all, list_any}
 use Rattle.bw_model.specs.Bytes.{first_free}
 use Rattle.bw_model.specs.Wire.{Frame, Second, is_frame}
@@ -20,8 +21,8 @@ abbrev pub HasEachOnce : Book → Type 0
 HasEachOnce [] = Unit {0}
 HasEachOnce (entry ∷ book) = (is_known book entry.0 ≡ false) × HasEachOnce book
 
--- Each name stands once, under it a log that admitted something; there are no more names than a server
--- takes.
+-- Each name stands once, under it a log that admitted something; there are no more names than a
+-- server takes.
 pub record IsBook (book : Book) : Type 0 where
   pub once : HasEachOnce book
   pub logs : (name : List ℕ) → IsTrue (is_known book name) → IsLog (log_of book name)

@@ -1,5 +1,7 @@
 -- A turn beside the store's count of failures, and what follows from it.
-use Rattle.std.specs.Prelude.{◌≡◌, ℕ, suc, ◌+◌, ◌<◌, ◌≤◌, Bool, true, false, not, ◌&&◌, ◌||◌, IsTrue, IsFalse, is_some, Option, None, List, length, nat_le, if◌then◌else◌}
+use Rattle.std.specs.Prelude.{◌≡◌, ℕ, suc, ◌+◌, ◌<◌, ◌≤◌, Bool, true, false, not, ◌&&◌, ◌||◌}
+use Rattle.std.specs.Prelude.{IsTrue, IsFalse, is_some, Option, None, List, length, nat_le}
+use Rattle.std.specs.Prelude.{if◌then◌else◌}
 use Rattle.std.specs.Option.{option_map_or}
 use Rattle.std.specs.List.{list_any}
 use Rattle.bw_model.specs.Bytes.{at}
@@ -7,7 +9,8 @@ use Rattle.bw_model.specs.Counts.{Counts, last_count}
 use Rattle.bw_model.specs.Wire.{Message, Frame, Says, Asks, Bye}
 use Rattle.bw_model.specs.Replies.{Reply, Judged, Noticed, Refused, Notice, NoRoom, DelayedStore}
 use Rattle.bw_model.specs.Book.{Log, Book, log_of, is_known, with_log}
-use Rattle.bw_model.specs.Turn.{Luck, turn, turn_by, window, is_admissible, admitted_after, notice, is_full, is_turned_away}
+use Rattle.bw_model.specs.Turn.{Luck, turn, turn_by, window, is_admissible, admitted_after, notice}
+use Rattle.bw_model.specs.Turn.{is_full, is_turned_away}
 use Rattle.bw_model.specs.BookRules.{IsBook}
 
 -- an admitted number waits for its verdict, and all below it have theirs
@@ -33,7 +36,8 @@ IsWithoutRoom book (Says m) replies =
 IsWithoutRoom book (Asks name n) replies = ⊥
 IsWithoutRoom book Bye replies = ⊥
 
--- A server whose store's failures were counted before and after may answer so, and go on with this book.
+-- A server whose store's failures were counted before and after may answer so, and go on with this
+-- book.
 pub record IsTurn (stood : List ℕ → Bool) (before after : ℕ) (book : Book) (f : Frame)
     (replies : List Reply) (later : Book) : Type 0 where
   pub luck : Luck
@@ -68,7 +72,8 @@ abbrev pub TurnsGiveFewReplies : Type 0
 TurnsGiveFewReplies = (stood : List ℕ → Bool) (book : Book) (f : Frame) (luck : Luck) →
     IsBook book → length (turn stood book f luck).0 ≤ suc window
 
--- The later book follows from the earlier one, the message, the replies and the number of those done then.
+-- The later book follows from the earlier one, the message, the replies and the number of those
+-- done then.
 abbrev pub RepliesTellTheBook : Type 0
 RepliesTellTheBook = (stood : List ℕ → Bool) (book : Book) (m : Message) (luck : Luck) →
     let x = turn stood book (Says m) luck in

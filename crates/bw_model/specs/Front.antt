@@ -1,9 +1,12 @@
--- What a front is in the standards' own words, without a walk: RIFF's chunks, and the sizes of BS.2088's `ds64`.
-use Rattle.std.specs.Prelude.{◌≡◌, ◌≢◌, ◌↔◌, ◌⊎◌, ℕ, ◌+◌, ◌*◌, ◌≤◌, ◌<◌, false, Option, Some, None, Ok, IsTrue, List, [], ◌∷◌, ◌++◌, length, count_by, codes}
+-- What a front is in the standards' own words, without a walk: RIFF's chunks, and the sizes of
+-- BS.2088's `ds64`.
+use Rattle.std.specs.Prelude.{◌≡◌, ◌≢◌, ◌↔◌, ◌⊎◌, ℕ, ◌+◌, ◌*◌, ◌≤◌, ◌<◌, false, Option, Some, None}
+use Rattle.std.specs.Prelude.{Ok, IsTrue, List, [], ◌∷◌, ◌++◌, length, count_by, codes}
 use Rattle.std.specs.List.{list_any}
 use Rattle.bw_model.specs.Limits.{most_chunks, most_cues}
 use Rattle.bw_model.specs.Bytes.{u32_at, unsaid, even_up}
-use Rattle.bw_model.specs.Reading.{Entry, Form, Sizes, IsFront, IsReading, outer, form_end, next_place, id_at, is_id, single_ids, largest}
+use Rattle.bw_model.specs.Reading.{Entry, Form, Sizes, IsFront, IsReading, outer, form_end}
+use Rattle.bw_model.specs.Reading.{next_place, id_at, is_id, single_ids, largest}
 
 -- the first row of the table with this id
 pub record IsFirstRow (table : List (List ℕ × ℕ)) (id : List ℕ) (size : ℕ) : Type 0 where
@@ -16,7 +19,8 @@ pub record IsFirstRow (table : List (List ℕ × ℕ)) (id : List ℕ) (size : �
 abbrev pub IsTold : Option Sizes → List ℕ → ℕ → Type 0
 IsTold None id size = ⊥
 IsTold (Some sizes) id size =
-    ((id ≡ codes "data") × (size ≡ sizes.«data»)) ⊎ ((id ≢ codes "data") × IsFirstRow sizes.table id size)
+    ((id ≡ codes "data") × (size ≡ sizes.«data»))
+      ⊎ ((id ≢ codes "data") × IsFirstRow sizes.table id size)
 
 -- a chunk's size is that of its head; where that says nothing, `ds64` tells it
 abbrev pub IsSized : List ℕ → Form → Entry → Type 0
@@ -55,7 +59,8 @@ count_of id entries = count_by (λ e. is_id e.id id) entries
 
 -- `fmt `, `bext`, `data` and `cue ` stand at most once
 abbrev pub AreSingle : List Entry → Type 0
-AreSingle entries = (id : List ℕ) → IsTrue (list_any (is_id id) single_ids) → count_of id entries ≤ 1
+AreSingle entries = (id : List ℕ) → IsTrue (list_any (is_id id) single_ids) →
+  count_of id entries ≤ 1
 
 -- the chunks stand one behind another from the outer header on
 pub record StandsFirst (b : List ℕ) (form : Form) (entries : List Entry) : Type 0 where

@@ -1,5 +1,7 @@
--- Runs in which each message's number is at most the least that its name lacked, and what they leave.
-use Rattle.std.specs.Prelude.{◌≡◌, ◌≤◌, ℕ, Bool, true, false, IsFalse, Option, List, [], ◌∷◌, ◌++◌, fold, map, if◌then◌else◌}
+-- Runs in which each message's number is at most the least that its name lacked, and what they
+-- leave.
+use Rattle.std.specs.Prelude.{◌≡◌, ◌≤◌, ℕ, Bool, true, false, IsFalse, Option, List, [], ◌∷◌, ◌++◌}
+use Rattle.std.specs.Prelude.{fold, map, if◌then◌else◌}
 use Rattle.std.specs.List.{list_any}
 use Rattle.std.specs.Str.{bytes_eq}
 use Rattle.bw_model.specs.Bytes.{put, first_free}

@@ -1,8 +1,14 @@
 -- How replies are spelled.
-use Rattle.std.specs.Prelude.{◌↔◌, ◌≡◌, ℕ, ◌+◌, ◌^◌, ◌&&◌, Bool, Option, None, option_map, ok_or, Result, Ok, Err, IsTrue, List, [], ◌∷◌, ◌++◌, length, find, nat_le, ◌==◌, if◌then◌else◌}
+use Rattle.std.specs.Prelude.{◌↔◌, ◌≡◌, ℕ, ◌+◌, ◌^◌, ◌&&◌, Bool, Option, None, option_map, ok_or}
+use Rattle.std.specs.Prelude.{Result, Ok, Err, IsTrue, List, [], ◌∷◌, ◌++◌, length, find, nat_le}
+use Rattle.std.specs.Prelude.{◌==◌, if◌then◌else◌}
 use Rattle.bw_model.specs.Bytes.{le32, le64, u32_at, u64_at}
-use Rattle.bw_model.specs.Take.{Verdict, Stored, NameTaken, AlreadyOpen, NotOpen, Closed, BadFormat, BadBlock, BadMarker, DuplicateMarker, TooManyMarkers, BadField, WrongTotal}
-use Rattle.bw_model.specs.Wire.{Second, last_number, is_name, is_below, are_bytes, addressed, Reason, Length, Kind, Name, Number, Payload, Cut, reason_code, is_name_bad, is_number_bad, name_in, number_in, payload_in}
+use Rattle.bw_model.specs.Take.{Verdict, Stored, NameTaken, AlreadyOpen, NotOpen, Closed, BadFormat}
+use Rattle.bw_model.specs.Take.{BadBlock, BadMarker, DuplicateMarker, TooManyMarkers, BadField}
+use Rattle.bw_model.specs.Take.{WrongTotal}
+use Rattle.bw_model.specs.Wire.{Second, last_number, is_name, is_below, are_bytes, addressed}
+use Rattle.bw_model.specs.Wire.{Reason, Length, Kind, Name, Number, Payload, Cut, reason_code}
+use Rattle.bw_model.specs.Wire.{is_name_bad, is_number_bad, name_in, number_in, payload_in}
 
 -- what a server says of a message beside a verdict
 pub data Notice : Type 0 where
@@ -51,7 +57,8 @@ notice_code Next = 39
 -- a reply's bytes
 abbrev pub reply_body : Reply → List ℕ
 reply_body (Judged name number verdict) = addressed 0x81 name number ++ verdict_code verdict ∷ []
-reply_body (Noticed name number notice next) = addressed 0x82 name number ++ notice_code notice ∷ le32 next
+reply_body (Noticed name number notice next) =
+  addressed 0x82 name number ++ notice_code notice ∷ le32 next
 reply_body (Refused reason offset) = 0x83 ∷ reason_code reason ∷ le64 offset
 
 -- a name and a number that a reply may have
@@ -61,7 +68,8 @@ is_addressed name number = is_name name && nat_le number (last_number Second)
 -- which replies have a spelling
 abbrev pub is_reply : Reply → Bool
 is_reply (Judged name number verdict) = is_addressed name number
-is_reply (Noticed name number notice next) = is_addressed name number && nat_le next (last_number Second + 1)
+is_reply (Noticed name number notice next) =
+  is_addressed name number && nat_le next (last_number Second + 1)
 is_reply (Refused reason offset) = is_below (2 ^ 64) offset
 
 -- the bytes spell the reply, with none left over
@@ -107,7 +115,8 @@ noticed_by name number (code ∷ next) =
 abbrev pub refused_by : List ℕ → Option Reply
 refused_by [] = None
 refused_by (code ∷ offset) =
-    if length offset == 8 then option_map (λ r. Refused r (u64_at offset 0)) (reason_of code) else None
+    if length offset == 8 then option_map (λ r. Refused r (u64_at offset 0)) (reason_of code)
+      else None
 
 -- a reply that begins with a name and a number
 abbrev pub addressed_reply : List ℕ → (List ℕ → ℕ → List ℕ → Option Reply) → Result Reply Reason

@@ -1,5 +1,6 @@
 -- The words in which the worked rows are written.
-use Rattle.std.specs.Prelude.{◌≡◌, ℕ, ◌-◌, ◌*◌, ◌+◌, Bool, false, Option, Some, None, List, [], ◌∷◌, ◌++◌, codes, fold, map, nat_lt, if◌then◌else◌}
+use Rattle.std.specs.Prelude.{◌≡◌, ℕ, ◌-◌, ◌*◌, ◌+◌, Bool, false, Option, Some, None, List, [], ◌∷◌}
+use Rattle.std.specs.Prelude.{◌++◌, codes, fold, map, nat_lt, if◌then◌else◌}
 use Prim.Native.String.{String}
 use Rattle.bw_model.specs.Bytes.{zeros, le32}
 use Rattle.bw_model.specs.Take.{Format, Take, new_take, Request, after}
@@ -8,7 +9,7 @@ use Rattle.bw_model.specs.Replies.{Reply}
 use Rattle.bw_model.specs.Stream.{End}
 use Rattle.bw_model.specs.Book.{Book}
 use Rattle.bw_model.specs.Turn.{Luck, run, book_after}
-use Rattle.bw_model.specs.Exchange.{exchange, content_in, replies_bytes}
+use Rattle.bw_model.specs.Exchange.{exchange, content_in, nothing_stands, replies_bytes}
 use Rattle.bw_model.specs.Reading.{Entry, Form}
 
 -- the value of a digit of hex
@@ -107,10 +108,6 @@ judged n code = hex "0900000081026131" ++ le32 n ++ code ∷ []
 abbrev pub noticed : ℕ → ℕ → ℕ → List ℕ
 noticed n code next = hex "0d00000082026131" ++ le32 n ++ code ∷ le32 next
 
--- no name stood in the store at the start
-abbrev pub nothing_stands : List ℕ → Bool
-nothing_stands name = false
-
 -- the file of `a1` in a store that was empty at the start
 abbrev pub file_in : Book → Option (List ℕ)
 file_in book = content_in (λ name. None) default_limit book a1
@@ -121,7 +118,8 @@ Outcome = List ℕ × End × Option (List ℕ)
 
 -- what comes of these bytes on a new server
 abbrev pub outcome : List ℕ → Outcome
-outcome input = let x = exchange nothing_stands [] input in (replies_bytes x.replies, x.end, file_in x.book)
+outcome input = let x =
+  exchange nothing_stands [] input in (replies_bytes x.replies, x.end, file_in x.book)
 
 -- a new server answers so, ends so, and leaves this file
 abbrev pub Answers : List ℕ → List ℕ → End → Option (List ℕ) → Type 0
@@ -143,7 +141,8 @@ answers_to ts = map (λ t. t.replies) (run nothing_stands [] ts)
 
 -- the replies of each turn on a new server, and the file of `a1` behind them
 abbrev pub Turns : List (Frame × Luck) → List (List Reply) → Option (List ℕ) → Type 0
-Turns ts replies file = (answers_to ts ≡ replies) × (file_in (book_after nothing_stands [] ts) ≡ file)
+Turns ts replies file =
+  (answers_to ts ≡ replies) × (file_in (book_after nothing_stands [] ts) ≡ file)
 
 -- Readings.
 

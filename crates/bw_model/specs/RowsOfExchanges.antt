@@ -1,16 +1,20 @@
 -- Worked rows: bytes in, bytes out, and the file that they leave.
-use Rattle.std.specs.Prelude.{◌≡◌, ℕ, suc, zero, Option, Some, None, List, [], ◌∷◌, ◌++◌, codes, map, length, take, drop}
+use Rattle.std.specs.Prelude.{◌≡◌, ℕ, suc, zero, Option, Some, None, List, [], ◌∷◌, ◌++◌, codes}
+use Rattle.std.specs.Prelude.{map, length, take, drop}
 use Rattle.bw_model.specs.Bytes.{zeros, le32}
 use Rattle.bw_model.specs.Wire.{Cut}
 use Rattle.bw_model.specs.Stream.{End, EndOfInput, SaidBye, BadFrame}
-use Rattle.bw_model.specs.Exchange.{Exchange, exchanges, replies_bytes}
-use Rattle.bw_model.specs.RowWords.{hex, plain_header, mono_fmt, two_frames, empty_file, small_file, odd_file, cue_file, open_0, block_1, other_1, close_2, judged, noticed, Answers, nothing_stands, file_in, outcome}
+use Rattle.bw_model.specs.Exchange.{Exchange, exchanges, nothing_stands, replies_bytes}
+use Rattle.bw_model.specs.RowWords.{hex, plain_header, mono_fmt, two_frames, empty_file, small_file}
+use Rattle.bw_model.specs.RowWords.{odd_file, cue_file, open_0, block_1, other_1, close_2, judged}
+use Rattle.bw_model.specs.RowWords.{noticed, Answers, file_in, outcome}
 
 -- In order.
 
 -- OPEN alone makes a file of no data
 abbrev pub OpenAloneRow : Type 0
-OpenAloneRow = Answers open_0 (hex "0900000081026131" ++ hex "0000000000") EndOfInput (Some empty_file)
+OpenAloneRow = Answers open_0 (hex "0900000081026131" ++ hex "0000000000") EndOfInput
+  (Some empty_file)
 
 -- OPEN, BLOCK and CLOSE make the file of two frames
 abbrev pub InOrderRow : Type 0
@@ -85,7 +89,8 @@ wrong_close_2 = hex "1000000005026131020000000300000000000000"
 abbrev pub ConflictOfClosesRow : Type 0
 ConflictOfClosesRow = Answers
     (close_2 ++ wrong_close_2 ++ block_1 ++ open_0 ++ wrong_close_2)
-    (noticed 2 0x20 0 ++ noticed 2 0x22 0 ++ noticed 1 0x20 0 ++ judged 0 0 ++ judged 1 0 ++ judged 2 0
+    (noticed 2 0x20 0 ++ noticed 2 0x22 0 ++ noticed 1 0x20 0 ++ judged 0 0 ++ judged 1 0
+      ++ judged 2 0
     ++ noticed 2 0x22 3)
     EndOfInput (Some small_file)
 
@@ -105,14 +110,16 @@ for_each bytes n (suc count) = bytes n ++ for_each bytes (suc n) count
 abbrev pub block : ℕ → List ℕ
 block n = hex "0c00000002026131" ++ le32 n ++ two_frames
 
--- fifteen numbers wait, a sixteenth is too far, OPEN gets sixteen verdicts, and then number 16 has room
+-- fifteen numbers wait, a sixteenth is too far, OPEN gets sixteen verdicts, and then number 16 has
+-- room
 abbrev pub FullWindowRow : Type 0
 FullWindowRow = Answers
     (for_each block 1 15 ++ block 16 ++ open_0 ++ block 16)
     (for_each (λ n. noticed n 0x20 0) 1 15 ++ noticed 16 0x21 0 ++ for_each (λ n. judged n 0) 0 16
     ++ judged 16 0)
     EndOfInput
-    (Some (plain_header (hex "ea020000") mono_fmt (hex "40000000") ++ for_each (λ n. two_frames) 1 16))
+    (Some (plain_header (hex "ea020000") mono_fmt (hex "40000000")
+      ++ for_each (λ n. two_frames) 1 16))
 
 -- the replies of an exchange, and the file behind it
 abbrev pub told : Exchange → List ℕ × Option (List ℕ)
@@ -122,7 +129,8 @@ told x = (replies_bytes x.replies, file_in x.book)
 abbrev pub TwoExchangesRow : Type 0
 TwoExchangesRow =
     map told (exchanges nothing_stands [] ((open_0 ++ close_2) ∷ block_1 ∷ []))
-    ≡ (hex "09000000810261310000000000" ++ hex "0d00000082026131020000002001000000", Some empty_file)
+    ≡ (hex "09000000810261310000000000" ++ hex "0d00000082026131020000002001000000",
+      Some empty_file)
     ∷ (judged 1 0 ++ judged 2 0, Some small_file) ∷ []
 
 -- Requests that are not stored.
@@ -149,7 +157,8 @@ WrongTotalRow = Answers
 abbrev pub CueRow : Type 0
 CueRow = Answers
     (open_0 ++ block_1 ++ hex "10000000030261310200000007000000" ++ hex "02000000"
-    ++ hex "1000000003026131030000000700000001000000" ++ hex "1000000003026131040000000800000003000000"
+    ++ hex "1000000003026131030000000700000001000000"
+      ++ hex "1000000003026131040000000800000003000000"
     ++ hex "1000000005026131050000000200000000000000")
     (judged 0 0 ++ judged 1 0 ++ judged 2 0 ++ judged 3 8 ++ judged 4 7 ++ judged 5 0)
     EndOfInput (Some cue_file)
@@ -216,7 +225,8 @@ cut_to n = let x = outcome (take n (open_0 ++ block_1 ++ close_2)) in (x.0, x.1)
 abbrev pub cut_at : ℕ → List ℕ
 cut_at place = hex "0a0000008306" ++ place ∷ hex "00000000000000"
 
--- an exchange cut at its frames' edges and within them: what is whole is answered, and the rest is Cut at its place
+-- an exchange cut at its frames' edges and within them: what is whole is answered, and the rest is
+-- Cut at its place
 abbrev pub CutExchangeRow : Type 0
 CutExchangeRow = map cut_to (0 ∷ 1 ∷ 21 ∷ 22 ∷ 23 ∷ 37 ∷ 38 ∷ 39 ∷ 57 ∷ [])
     ≡ ([], EndOfInput)

@@ -1,7 +1,8 @@
 -- Worked rows: frames that are whole, too long, cut or misspelt, and replies.
 use Rattle.std.specs.Prelude.{◌≡◌, Ok, Err, Some, None, [], ◌∷◌, ◌++◌, map, take, replicate}
 use Rattle.bw_model.specs.Take.{Block, BadBlock}
-use Rattle.bw_model.specs.Wire.{Frame, Says, Second, decoded, decoded_request, framed, body, Length, Kind, Name, Number, Payload, Cut}
+use Rattle.bw_model.specs.Wire.{Frame, Says, Second, decoded, decoded_request, framed, body, Length}
+use Rattle.bw_model.specs.Wire.{Kind, Name, Number, Payload, Cut}
 use Rattle.bw_model.specs.Replies.{Judged, Noticed, Refused, Held, Next, decoded_reply}
 use Rattle.bw_model.specs.Stream.{EndOfInput, BadFrame}
 use Rattle.bw_model.specs.RowWords.{hex, empty_file, a1, open_0, judged, says, Answers, outcome}
@@ -49,7 +50,8 @@ TooLargeNumberRow = Answers
     (hex "0a00000083040000000000000000")
     (BadFrame Number 0) None
 
--- a name with an `A`, a name of 33 bytes and no name at all are reason 3, nine bytes for MARK are reason 5
+-- a name with an `A`, a name of 33 bytes and no name at all are reason 3, nine bytes for MARK are
+-- reason 5
 abbrev pub MisspeltRow : Type 0
 MisspeltRow = map (λ bytes. (outcome bytes).1) (
     hex "0c000000020241310100000001000200"
@@ -96,10 +98,12 @@ BlockTooLongRow = decoded Second (hex "0202613101000000" ++ replicate 32769 7) �
 
 -- a reply's next may be 16,777,216, one past the last number, and no more
 abbrev pub NextRow : Type 0
-NextRow = map decoded_reply (hex "82026131000000002000000001" ∷ hex "82026131000000002001000001" ∷ [])
+NextRow = map decoded_reply
+  (hex "82026131000000002000000001" ∷ hex "82026131000000002001000001" ∷ [])
     ≡ Ok (Noticed a1 0 Held 16777216) ∷ Err Payload ∷ []
 
--- the codes of verdicts end at 11, those of notices are 32 to 37 and 39, and those of reasons 1 to 6
+-- the codes of verdicts end at 11, those of notices are 32 to 37 and 39, and those of reasons 1 to
+-- 6
 abbrev pub CodesRow : Type 0
 CodesRow =
     map decoded_reply (hex "810261310100000006" ∷ hex "81026131010000000c"

@@ -4,7 +4,8 @@ use Prim.Native.String.{String}
 use Rattle.bw_model.specs.Reading.{Entry, Form}
 use Rattle.bw_model.specs.Report.{report_of, report_text}
 use Rattle.bw_model.specs.RowWords.{hex, empty_file, small_file, cue_file, entry, riff}
-use Rattle.bw_model.specs.RowsOfReadings.{rf64, rf64_form, rf64_entries, tabled, tabled_form, tabled_entries, small_entries}
+use Rattle.bw_model.specs.RowsOfReadings.{rf64, rf64_form, rf64_entries, tabled, tabled_form}
+use Rattle.bw_model.specs.RowsOfReadings.{tabled_entries, small_entries}
 
 -- a reading's report has this text
 abbrev pub Reports : List ℕ → Form → List Entry → List ℕ → Type 0
@@ -53,7 +54,8 @@ ReportSmallRow = Reports
 -- the file of a loudness: version 2, and what isn't given is unset
 abbrev pub loud_file : List ℕ
 loud_file =
-    take 426 empty_file ++ hex "0200" ++ drop 428 (take 492 empty_file) ++ hex "04f7ff7fff7fff7fff7f"
+    take 426 empty_file ++ hex "0200" ++ drop 428 (take 492 empty_file)
+      ++ hex "04f7ff7fff7fff7fff7f"
     ++ drop 502 empty_file
 
 -- a loudness that is given is told by its number, and the others are unset
@@ -66,7 +68,8 @@ ReportLoudnessRow = Reports
     ∷ "bext version=2 time=0 history=0" ∷ []) ++ no_text_lines
     ++ lines ("loudness value=-2300 range=unset peak=unset momentary=unset short=unset" ∷ []))
 
--- the file with a cue point, a text with a backslash and a line end in its Description, and 3 as its time reference
+-- the file with a cue point, a text with a backslash and a line end in its Description, and 3 as
+-- its time reference
 abbrev pub marked_file : List ℕ
 marked_file =
     take 80 cue_file ++ hex "415c0a" ++ drop 83 (take 418 cue_file) ++ hex "03" ++ drop 419 cue_file

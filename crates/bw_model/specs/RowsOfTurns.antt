@@ -1,13 +1,17 @@
 -- Worked rows: turns in which the store fails, memory is refused, or the table of names is full.
-use Rattle.std.specs.Prelude.{◌≡◌, ℕ, zero, suc, Bool, true, Option, Some, None, List, [], ◌∷◌, ◌++◌, codes, map, flat_map, take, drop, if◌then◌else◌}
+use Rattle.std.specs.Prelude.{◌≡◌, ℕ, zero, suc, Bool, true, Option, Some, None, List, [], ◌∷◌}
+use Rattle.std.specs.Prelude.{◌++◌, codes, map, flat_map, take, drop, if◌then◌else◌}
 use Rattle.std.specs.Str.{bytes_eq}
 use Rattle.bw_model.specs.Take.{Open, Block, Mark, SetField, Close, Stored, NameTaken, NotOpen}
 use Rattle.bw_model.specs.Wire.{Frame, Says, Asks}
-use Rattle.bw_model.specs.Replies.{Reply, Judged, Noticed, Held, TooFar, Conflict, TableFull, NoRoom, DelayedStore, Next}
+use Rattle.bw_model.specs.Replies.{Reply, Judged, Noticed, Held, TooFar, Conflict, TableFull}
+use Rattle.bw_model.specs.Replies.{NoRoom, DelayedStore, Next}
 use Rattle.bw_model.specs.Book.{Book}
 use Rattle.bw_model.specs.Turn.{Luck, good, turn, run, book_after}
-use Rattle.bw_model.specs.Exchange.{content_in}
-use Rattle.bw_model.specs.RowWords.{a1, mono, two_frames, other_frames, default_limit, small_file, cue_file, hex, says, fails_after, nothing_stands, answers_to, file_in, Turns}
+use Rattle.bw_model.specs.Exchange.{content_in, nothing_stands}
+use Rattle.bw_model.specs.RowWords.{a1, mono, two_frames, other_frames, default_limit, small_file}
+use Rattle.bw_model.specs.RowWords.{cue_file, hex, says, fails_after, answers_to}
+use Rattle.bw_model.specs.RowWords.{file_in, Turns}
 
 -- the messages of two frames, and a BLOCK with other bytes
 abbrev pub says_open : Frame
@@ -26,7 +30,8 @@ says_close = says 2 (Close 2)
 abbrev pub stored : ℕ → Reply
 stored n = Judged a1 n Stored
 
--- a block whose store call fails is delayed and stored when it comes again; other bytes under its number are a conflict then
+-- a block whose store call fails is delayed and stored when it comes again; other bytes under its
+-- number are a conflict then
 abbrev pub FailedBlockRow : Type 0
 FailedBlockRow = Turns
     ((says_open, good) ∷ (says_block, fails_after 0) ∷ (says_block, good) ∷ (says_other, good) ∷ [])
@@ -38,14 +43,16 @@ FailedBlockRow = Turns
 abbrev pub OtherBehindFailureRow : Type 0
 OtherBehindFailureRow = Turns
     ((says_open, good) ∷ (says_block, fails_after 0) ∷ (says_other, good) ∷ [])
-    ((stored 0 ∷ []) ∷ (Noticed a1 1 DelayedStore 1 ∷ []) ∷ (stored 1 ∷ Noticed a1 1 Conflict 2 ∷ [])
+    ((stored 0 ∷ []) ∷ (Noticed a1 1 DelayedStore 1 ∷ [])
+      ∷ (stored 1 ∷ Noticed a1 1 Conflict 2 ∷ [])
     ∷ [])
     (Some small_file)
 
 -- of three tries the third is stored, and the frames stand once
 abbrev pub FailedTwiceRow : Type 0
 FailedTwiceRow = Turns
-    ((says_open, good) ∷ (says_block, fails_after 0) ∷ (says_block, fails_after 0) ∷ (says_block, good)
+    ((says_open, good) ∷ (says_block, fails_after 0) ∷ (says_block, fails_after 0)
+      ∷ (says_block, good)
     ∷ (says_other, good) ∷ [])
     ((stored 0 ∷ []) ∷ (Noticed a1 1 DelayedStore 1 ∷ []) ∷ (Noticed a1 1 DelayedStore 1 ∷ [])
     ∷ (stored 1 ∷ []) ∷ (Noticed a1 1 Conflict 2 ∷ []) ∷ [])
@@ -59,7 +66,8 @@ StoppedDrainRow = Turns
     ∷ (stored 1 ∷ stored 2 ∷ []) ∷ [])
     (Some small_file)
 
--- fifteen numbers wait while OPEN's store call fails; a sixteenth then drains all, sixteen verdicts and its own TooFar
+-- fifteen numbers wait while OPEN's store call fails; a sixteenth then drains all, sixteen verdicts
+-- and its own TooFar
 abbrev pub waiting : ℕ → ℕ → List (Frame × Luck)
 waiting n zero = []
 waiting n (suc count) = (says n (Block two_frames), good) ∷ waiting (suc n) count
@@ -77,7 +85,8 @@ stored_each n (suc count) = stored n ∷ stored_each (suc n) count
 -- one turn gives seventeen replies
 abbrev pub SeventeenRepliesRow : Type 0
 SeventeenRepliesRow =
-    answers_to (waiting 1 15 ++ (says_open, fails_after 0) ∷ (says 16 (Block two_frames), good) ∷ [])
+    answers_to (waiting 1 15 ++ (says_open, fails_after 0) ∷ (says 16 (Block two_frames), good)
+      ∷ [])
     ≡ held_each 1 15 ++ (Noticed a1 0 DelayedStore 0 ∷ [])
     ∷ (stored_each 0 16 ++ Noticed a1 16 TooFar 16 ∷ []) ∷ []
 
@@ -103,7 +112,8 @@ sent_twice w x y z =
 abbrev pub rain_file : Option (List ℕ)
 rain_file = Some (take 80 cue_file ++ hex "5261696e" ++ drop 84 cue_file)
 
--- wherever the store fails once, that number alone is delayed, and the file is the one of a run without a failure
+-- wherever the store fails once, that number alone is delayed, and the file is the one of a run
+-- without a failure
 abbrev pub FailedAnywhereRow : Type 0
 FailedAnywhereRow =
     sent_twice good good good good ∷ sent_twice (fails_after 0) good good good
@@ -118,7 +128,8 @@ FailedAnywhereRow =
 abbrev pub names_from : ℕ → ℕ → Book
 names_from first zero = []
 names_from first (suc count) =
-    (first ∷ [], record { admitted = None ∷ Some (Block two_frames) ∷ []; done = 0 }) ∷ names_from (suc first) count
+    (first ∷ [], record { admitted = None ∷ Some (Block two_frames) ∷ []; done = 0 })
+      ∷ names_from (suc first) count
 
 -- what 256 known names leave a further one
 abbrev pub full_turn : Frame → List Reply × Book
@@ -134,7 +145,8 @@ FullTableRow = full_turn (further 1) ≡ (Noticed (codes "b2") 1 TableFull 0 ∷
 
 -- a number past the window is told so first
 abbrev pub FullTableTooFarRow : Type 0
-FullTableTooFarRow = full_turn (further 16) ≡ (Noticed (codes "b2") 16 TooFar 0 ∷ [], names_from 0 256)
+FullTableTooFarRow = full_turn (further 16)
+  ≡ (Noticed (codes "b2") 16 TooFar 0 ∷ [], names_from 0 256)
 
 -- an ask needs no room
 abbrev pub FullTableAskRow : Type 0

@@ -1,13 +1,19 @@
 -- Worked rows: what a sender counts, and a rehearsal.
-use Rattle.std.specs.Prelude.{◌≡◌, ℕ, Some, None, List, [], ◌∷◌, ◌++◌, codes, fold, length, map, replicate, slice_get}
+use Rattle.std.specs.Prelude.{◌≡◌, ℕ, Some, None, List, [], ◌∷◌, ◌++◌, codes, fold, length, map}
+use Rattle.std.specs.Prelude.{replicate, slice_get}
 use Rattle.bw_model.specs.Take.{Request, Open, Block, Mark, Close, Stored, BadBlock}
 use Rattle.bw_model.specs.Replies.{Reply, Judged, Noticed, Refused, Held, Next}
 use Rattle.bw_model.specs.Wire.{Bye, Cut}
 use Rattle.bw_model.specs.Stream.{frames_bytes}
 use Rattle.bw_model.specs.Book.{log_of}
 use Rattle.bw_model.specs.Turn.{good}
-use Rattle.bw_model.specs.World.{Sender, World, Event, Offer, Send, Deliver, Bring, Ask, new_world, world_after, settled, stored, refused, pending, offer, offer_fault, BeforeOpen, AfterClose, WindowFull, hear, heard, Heard, Counted, Known, Noted, Stranger}
-use Rattle.bw_model.specs.RowWords.{hex, a1, mono, two_frames, open_0, block_1, close_2, small_file, file_in, nothing_stands, says}
+use Rattle.bw_model.specs.World.{Sender, World, Event, Offer, Send, Deliver, Bring, Ask, new_world}
+use Rattle.bw_model.specs.World.{world_after, settled, stored, refused, pending, offer, offer_fault}
+use Rattle.bw_model.specs.World.{BeforeOpen, AfterClose, WindowFull, hear, heard, Heard, Counted}
+use Rattle.bw_model.specs.World.{Known, Noted, Stranger}
+use Rattle.bw_model.specs.RowWords.{hex, a1, mono, two_frames, open_0, block_1, close_2, small_file}
+use Rattle.bw_model.specs.Exchange.{nothing_stands}
+use Rattle.bw_model.specs.RowWords.{file_in, says}
 
 -- The sender.
 
@@ -47,7 +53,8 @@ HearsRow =
     × (stored (behind first_batch) ≡ 1)
     × (pending (behind first_batch) 0 ≡ Some (1, Block two_frames))
 
--- a refused block is settled and not stored, its first verdict stays, and other names and numbers are strange
+-- a refused block is settled and not stored, its first verdict stays, and other names and numbers
+-- are strange
 abbrev pub second_batch : List Reply
 second_batch = first_batch ++ Judged a1 1 BadBlock ∷ []
 
@@ -59,7 +66,8 @@ RefusedRow =
     × (hears (behind second_batch) (Judged a1 1 Stored ∷ Judged (codes "b2") 1 Stored
     ∷ Judged a1 3 Stored ∷ []) ≡ Known ∷ Stranger ∷ Stranger ∷ [])
 
--- Next of its own name is noted whatever its number, another notice of a number that wasn't offered is strange, and so is a bad frame
+-- Next of its own name is noted whatever its number, another notice of a number that wasn't offered
+-- is strange, and so is a bad frame
 abbrev pub NoticesRow : Type 0
 NoticesRow =
     hears (sender_of small_take) (Noticed a1 9 Next 0 ∷ Noticed a1 9 Held 0
@@ -98,7 +106,8 @@ counts w =
 abbrev pub whole : List Event
 whole = rehearsal ++ Bring 4 ∷ []
 
--- before the verdict of number 1 comes, one number is settled; then all are, and the file is that of two frames
+-- before the verdict of number 1 comes, one number is settled; then all are, and the file is that
+-- of two frames
 abbrev pub RehearsalRow : Type 0
 RehearsalRow =
     (counts (rehearsed rehearsal) ≡ 3 ∷ 3 ∷ 5 ∷ 3 ∷ 1 ∷ 1 ∷ [])

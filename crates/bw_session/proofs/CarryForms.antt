@@ -1,9 +1,12 @@
 -- What judging a request and carrying it out leaves, by what came of it.
-use Rattle.std.proofs.Common.{◌≡◌, Bool, true, false, cond, not, ◌&&◌, List, ℕ, Option, Some, None, Ok, Err, refl, sym, ◌∙◌, ap, subst}
+use Rattle.std.proofs.Common.{◌≡◌, Bool, true, false, cond, not, ◌&&◌, List, ℕ, Option, Some, None, Ok, Err, refl, sym}
+use Rattle.std.proofs.Common.{◌∙◌, ap, subst}
 use Rattle.std.specs.Prelude.{IsTrue}
 use Rattle.std.specs.List.{list_all}
 use Rattle.std.specs.Bool.{MatchBool}
-use Rattle.bw_model.specs.Take.{Take, Parts, Format, Request, Open, Block, Mark, SetField, Close, Stored, Closed, BadFormat, NameTaken, parts, judge, judge_open, is_format, is_history_byte, verdict, is_stored, with_request, after}
+use Rattle.bw_model.specs.Take.{Take, Parts, Format, Request, Open, Block, Mark, SetField, Close, Stored, Closed}
+use Rattle.bw_model.specs.Take.{BadFormat, NameTaken, parts, judge, judge_open, is_format, is_history_byte, verdict}
+use Rattle.bw_model.specs.Take.{is_stored, with_request, after}
 use Rattle.bw_model.specs.File.{file_of}
 use Rattle.bw_model.specs.Holds.{IsInTheMiddle}
 use Rattle.bw_take.specs.Verdicts.{verdict_of}
@@ -46,7 +49,8 @@ pub after_refused : (t : Take) (p : Parts) (r : Request) → parts t ≡ p → i
 after_refused t p r e s =
     sym (ap (λ (v : Bool). cond v (with_request t r) t) (ap (λ (q : Parts). is_stored (judge q r)) e ∙ s))
 
-pub after_stored : (t : Take) (p : Parts) (r : Request) → parts t ≡ p → is_stored (judge p r) ≡ true → with_request t r ≡ after t r
+pub after_stored : (t : Take) (p : Parts) (r : Request) → parts t ≡ p → is_stored (judge p r) ≡ true →
+  with_request t r ≡ after t r
 after_stored t p r e s =
     sym (ap (λ (v : Bool). cond v (with_request t r) t) (ap (λ (q : Parts). is_stored (judge q r)) e ∙ s))
 
@@ -77,7 +81,8 @@ pub carries_new : (v : Verdict) (p : Parts) (r : Request) (g g' : Growing) (befo
 carries_new v p r g g' before found e s w =
     let stored : is_stored (judge p r) ≡ true = ap is_stored (sym e) ∙ s in
     record {
-      own = λ t same h. (refl, subst (λ (u : Take). HasWholeFile u g' found) (after_stored t p r same stored) (w.own t same h).1);
+      own = λ t same h. (refl,
+        subst (λ (u : Take). HasWholeFile u g' found) (after_stored t p r same stored) (w.own t same h).1);
       stood = λ none unmade stood. no_false (sym (w.stood none unmade stood).2);
     }
 
@@ -90,7 +95,8 @@ carries_exists v p q r g g' before found taken e w = record {
       let left = w.stood none unmade stood in (left.0, left.1, e ∙ ap (λ (x : Parts). judge x r) taken);
 }
 
-pub carries_err : (fault fault' : StoreFault) (p : Parts) (r : Request) (g g' : Growing) (before found : Option (List ℕ)) →
+pub carries_err : (fault fault' : StoreFault) (p : Parts) (r : Request) (g g' : Growing)
+  (before found : Option (List ℕ)) →
     Writes (Err fault) r p g g' before found → Carries (Err fault') r p p g g' before found
 carries_err fault fault' p r g g' before found w = record {
   own = λ t same h. w.own t same h;

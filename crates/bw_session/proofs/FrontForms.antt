@@ -1,8 +1,11 @@
 -- What is held of a name whose next request was judged and carried out.
-use Rattle.std.proofs.Common.{◌≡◌, ℕ, Bool, true, false, cond, not, ◌&&◌, List, [], ◌∷◌, Option, Some, None, Result, Ok, Err, refl, sym, ◌∙◌, ap, subst}
+use Rattle.std.proofs.Common.{◌≡◌, ℕ, Bool, true, false, cond, not, ◌&&◌, List, [], ◌∷◌, Option, Some, None, Result, Ok}
+use Rattle.std.proofs.Common.{Err, refl, sym, ◌∙◌, ap, subst}
 use Rattle.std.specs.Prelude.{IsTrue, is_some, fold, take, IfOk, OnErr}
 use Rattle.std.specs.List.{list_all}
-use Rattle.bw_model.specs.Take.{Take, Parts, Format, Request, Open, Block, Mark, SetField, Close, Verdict, BadFormat, NameTaken, new_take, parts, judge, is_format, is_history_byte, is_stored, verdict, with_request, after}
+use Rattle.bw_model.specs.Take.{Take, Parts, Format, Request, Open, Block, Mark, SetField, Close, Verdict, BadFormat}
+use Rattle.bw_model.specs.Take.{NameTaken, new_take, parts, judge, is_format, is_history_byte, is_stored, verdict}
+use Rattle.bw_model.specs.Take.{with_request, after}
 use Rattle.bw_model.specs.Book.{Log, made, step}
 use Rattle.bw_take.specs.Verdicts.{verdict_of}
 use Rattle.bw_take.specs.declared.verdict.Verdict.{Verdict as Judgement}
@@ -79,7 +82,8 @@ stood_parts : (name : List ℕ) (log : Log) (p : Parts) (finished : List (List �
     KeepsDone true name log p finished → record p { taken = true } ≡ parts (made true log.admitted log.done)
 stood_parts name log p finished k =
     ap (λ (x : Parts). record x { taken = true }) k.state_is
-    ∙ ap (λ (b : Bool). record (parts (made true log.admitted log.done)) { taken = b }) (sym (made-taken true log.admitted log.done))
+    ∙ ap (λ (b : Bool). record (parts (made true log.admitted log.done)) { taken = b })
+      (sym (made-taken true log.admitted log.done))
 
 unopened : (name : List ℕ) (log : Log) (p : Parts) (finished : List (List ℕ × Verdict)) →
     KeepsDone true name log p finished → p.format ≡ None
@@ -113,12 +117,14 @@ carries_front (Ok v) (Some bytes) log p q finished r g g' before found c e more 
     let left = c.stood (unopened g.name log p finished h.memory) h.file.1 (ap is_some h.file.0) in
     record {
       verdict_is = left.2 ∙ ap (λ (x : Parts). judge x r) (stood_parts g.name log p finished h.memory);
-      memory = subst (λ (x : List ℕ). KeepsDone true x log q finished) (sym name) (keeps_taken g.name log p q finished h.memory e more);
+      memory = subst (λ (x : List ℕ). KeepsDone true x log q finished) (sym name)
+        (keeps_taken g.name log p q finished h.memory e more);
       file = (left.0 ∙ h.file.0, left.1);
     }
 carries_front (Err fault) (Some bytes) log p q finished r g g' before found c e more name judged unchanged h =
     let left = c.stood (unopened g.name log p finished h.memory) h.file.1 (ap is_some h.file.0) in
     record {
-      memory = subst (λ (x : List ℕ). KeepsDone true x log q finished) (sym name) (keeps_taken g.name log p q finished h.memory e more);
+      memory = subst (λ (x : List ℕ). KeepsDone true x log q finished) (sym name)
+        (keeps_taken g.name log p q finished h.memory e more);
       file = (left.0 ∙ h.file.0, left.1);
     }

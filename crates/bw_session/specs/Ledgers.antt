@@ -1,5 +1,6 @@
 -- Digests and verdicts of done numbers, packed into 33 bytes each.
-use Rattle.std.specs.Prelude.{◌≡◌, ℕ, zero, suc, ◌%◌, ◌/◌, List, [], ◌∷◌, length, take, drop, slice_index, unwrap_or, IsSome}
+use Rattle.std.specs.Prelude.{◌≡◌, ℕ, zero, suc, ◌%◌, ◌/◌, List, [], ◌∷◌, length, take, drop}
+use Rattle.std.specs.Prelude.{slice_index, unwrap_or, IsSome}
 use Rattle.bw_model.specs.Take.{Verdict, Stored}
 use Rattle.bw_model.specs.Replies.{verdict_of}
 

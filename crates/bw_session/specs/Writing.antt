@@ -1,7 +1,9 @@
 -- What a request that is to be stored does to the file of its take.
-use Rattle.std.specs.Prelude.{◌≡◌, ℕ, Bool, true, false, Option, Some, None, IsSome, is_some, IsTrue, IsFalse, List, Result, MatchResult, IfOk, OnOk, OnErr}
+use Rattle.std.specs.Prelude.{◌≡◌, ℕ, Bool, true, false, Option, Some, None, IsSome, is_some}
+use Rattle.std.specs.Prelude.{IsTrue, IsFalse, List, Result, MatchResult, IfOk, OnOk, OnErr}
 use Rattle.std.specs.Bool.{MatchBool}
-use Rattle.bw_model.specs.Take.{Take, Parts, Request, Open, Block, Mark, SetField, Close, parts, with_request}
+use Rattle.bw_model.specs.Take.{Take, Parts, Request, Open, Block, Mark, SetField, Close, parts}
+use Rattle.bw_model.specs.Take.{with_request}
 use Rattle.bw_model.specs.File.{file_of}
 use Rattle.bw_model.specs.Holds.{IsInTheMiddle}
 use Rattle.bw_file.specs.Growing.{Growing, is_new}

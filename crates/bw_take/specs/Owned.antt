@@ -1,7 +1,9 @@
 -- What owned requests mean.
 use Rattle.bw_model.specs.Take.{Request, Open, Block, Mark, SetField, Close}
 use Rattle.bw_take.specs.declared.request.Owned.{Owned}
-use Rattle.bw_take.specs.declared.request.Owned.TheVariants.{OpenTake, Block as OwnedBlock, Mark as OwnedMark, SetField as OwnedSetField, CloseTake}
+use Rattle.bw_take.specs.declared.request.Owned.TheVariants.{OpenTake, Block as OwnedBlock}
+use Rattle.bw_take.specs.declared.request.Owned.TheVariants.{Mark as OwnedMark}
+use Rattle.bw_take.specs.declared.request.Owned.TheVariants.{SetField as OwnedSetField, CloseTake}
 
 abbrev pub owned_meaning : Owned → Request
 owned_meaning (OpenTake rate channels bits history) =

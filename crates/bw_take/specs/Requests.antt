@@ -2,7 +2,10 @@
 use Rattle.std.specs.Prelude.{ℕ, List, []}
 use Rattle.bw_model.specs.Take.{Request, Open, Block, Mark, SetField, Close}
 use Rattle.bw_take.specs.declared.request.RequestRef.{RequestRef}
-use Rattle.bw_take.specs.declared.request.RequestRef.TheVariants.{OpenTake, Block as BlockRef, Mark as MarkRef, SetField as SetFieldRef, CloseTake}
+use Rattle.bw_take.specs.declared.request.RequestRef.TheVariants.{OpenTake, Block as BlockRef}
+use Rattle.bw_take.specs.declared.request.RequestRef.TheVariants.{Mark as MarkRef}
+use Rattle.bw_take.specs.declared.request.RequestRef.TheVariants.{SetField as SetFieldRef}
+use Rattle.bw_take.specs.declared.request.RequestRef.TheVariants.{CloseTake}
 
 abbrev pub meaning : RequestRef → Request
 meaning (OpenTake rate channels bits history) =

@@ -1,6 +1,8 @@
 -- What is kept of a take in memory.
-use Rattle.std.specs.Prelude.{◌≡◌, ℕ, ◌+◌, ◌^◌, ◌≤◌, Some, None, IfSome, IsTrue, true, [], ◌∷◌, ◌++◌, length}
-use Rattle.bw_model.specs.Take.{Take, Parts, Request, Open, Block, Mark, SetField, Close, new_take, parts, after, is_format, with_field, AreFields}
+use Rattle.std.specs.Prelude.{◌≡◌, ℕ, ◌+◌, ◌^◌, ◌≤◌, Some, None, IfSome, IsTrue, true, [], ◌∷◌}
+use Rattle.std.specs.Prelude.{◌++◌, length}
+use Rattle.bw_model.specs.Take.{Take, Parts, Request, Open, Block, Mark, SetField, Close, new_take}
+use Rattle.bw_model.specs.Take.{parts, after, is_format, with_field, AreFields}
 
 pub record State : Type 0 where
   -- the take, but for its data

@@ -3,7 +3,10 @@ use Rattle.std.specs.Prelude.{◌≡◌, ℕ, List, ◌++◌, codes, decimal, So
 use Rattle.bw_model.specs.Take as model
 use Rattle.bw_model.specs.Replies.{verdict_of as verdict_with_code}
 use Rattle.bw_take.specs.declared.verdict.Verdict.{Verdict}
-use Rattle.bw_take.specs.declared.verdict.Verdict.TheVariants.{Stored, NameTaken, AlreadyOpen, NotOpen, Closed, BadFormat, BadBlock, BadMarker, DuplicateMarker, TooManyMarkers, BadField, WrongTotal}
+use Rattle.bw_take.specs.declared.verdict.Verdict.TheVariants.{Stored, NameTaken, AlreadyOpen}
+use Rattle.bw_take.specs.declared.verdict.Verdict.TheVariants.{NotOpen, Closed, BadFormat, BadBlock}
+use Rattle.bw_take.specs.declared.verdict.Verdict.TheVariants.{BadMarker, DuplicateMarker}
+use Rattle.bw_take.specs.declared.verdict.Verdict.TheVariants.{TooManyMarkers, BadField, WrongTotal}
 use Rattle.bw_take.specs.declared.verdict.UnknownVerdict.{UnknownVerdict}
 
 abbrev pub verdict_of : Verdict → model.Verdict
@@ -23,7 +26,8 @@ verdict_of WrongTotal = model.WrongTotal
 -- the verdict with this code, or that there is none
 abbrev pub Decodes : ℕ → Result Verdict UnknownVerdict → Type 0
 Decodes code r =
-    MatchResult r (λ v. verdict_with_code code ≡ Some (verdict_of v)) (λ e. (verdict_with_code code ≡ None) × (e.0 ≡ code))
+    MatchResult r (λ v. verdict_with_code code ≡ Some (verdict_of v))
+      (λ e. (verdict_with_code code ≡ None) × (e.0 ≡ code))
 
 -- what is told to people of a code that no verdict has
 abbrev pub unknown_text : UnknownVerdict → List ℕ

@@ -1,7 +1,8 @@
 -- What stands in the body of a frame.
 use Rattle.std.specs.Prelude.{ℕ, Bool, true, false, ◌&&◌, Result, Ok, Err, List, drop, slice_index}
 use Rattle.bw_model.specs.Take.{Request}
-use Rattle.bw_model.specs.Wire.{Second, Message, Frame, Says, Asks, Bye, Reason, name_in, number_in, payload_in, request_of, are_bytes, decoded}
+use Rattle.bw_model.specs.Wire.{Second, Message, Frame, Says, Asks, Bye, Reason, name_in, number_in}
+use Rattle.bw_model.specs.Wire.{payload_in, request_of, are_bytes, decoded}
 
 -- the name, the number and the request of a body that has them
 unfoldable pub body_name : List ℕ → List ℕ
@@ -15,7 +16,8 @@ body_request bytes = request_of (slice_index bytes 0) (payload_in (drop 1 bytes)
 
 -- the message that a body spells, where it spells one
 abbrev pub message_in : List ℕ → Message
-message_in bytes = record { name = body_name bytes; number = body_number bytes; request = body_request bytes }
+message_in bytes = record { name = body_name bytes; number = body_number bytes;
+  request = body_request bytes }
 
 abbrev pub is_message_read : Result Frame Reason → Bool
 is_message_read (Ok (Says m)) = true

@@ -3,7 +3,8 @@ use Rattle.std.specs.Prelude.{◌≡◌, ℕ, Some, None, Result, MatchResult}
 use Rattle.bw_model.specs.Replies as model
 use Rattle.bw_wire.specs.declared.reason.UnknownCode.{UnknownCode}
 use Rattle.bw_wire.specs.declared.reply.Notice.{Notice}
-use Rattle.bw_wire.specs.declared.reply.Notice.TheVariants.{Held, TooFar, Conflict, TableFull, NoRoom, DelayedStore, Next}
+use Rattle.bw_wire.specs.declared.reply.Notice.TheVariants.{Held, TooFar, Conflict, TableFull}
+use Rattle.bw_wire.specs.declared.reply.Notice.TheVariants.{NoRoom, DelayedStore, Next}
 
 abbrev pub notice_of : Notice → model.Notice
 notice_of Held = model.Held
@@ -17,4 +18,5 @@ notice_of Next = model.Next
 -- the notice with this code, or that there is none
 abbrev pub DecodesNotice : ℕ → Result Notice UnknownCode → Type 0
 DecodesNotice code r =
-    MatchResult r (λ notice. model.notice_of code ≡ Some (notice_of notice)) (λ e. (model.notice_of code ≡ None) × (e.0 ≡ code))
+    MatchResult r (λ notice. model.notice_of code ≡ Some (notice_of notice))
+      (λ e. (model.notice_of code ≡ None) × (e.0 ≡ code))

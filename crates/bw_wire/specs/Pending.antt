@@ -1,5 +1,6 @@
 -- What a framer keeps of a stream, what it tells next, and what it then keeps.
-use Rattle.std.specs.Prelude.{ℕ, ◌+◌, ◌-◌, ◌≤◌, Option, Some, None, Result, Ok, Err, List, [], ◌∷◌, ◌++◌, length}
+use Rattle.std.specs.Prelude.{ℕ, ◌+◌, ◌-◌, ◌≤◌, Option, Some, None, Result, Ok, Err, List, [], ◌∷◌}
+use Rattle.std.specs.Prelude.{◌++◌, length}
 use Rattle.bw_model.specs.Wire.{Second, Frame, Says, Asks, Bye, Reason, Cut}
 use Rattle.bw_model.specs.Replies.{Reply}
 use Rattle.bw_model.specs.Stream.{first_frame, first_reply}
@@ -53,8 +54,8 @@ abbrev pub took : Pending → List ℕ → Pending
 took p more = record p { bytes = more; used = p.used + (length p.bytes - length more) }
 
 -- with the used bytes let go, and a block that is too large to be kept
-abbrev pub settled : Pending → Pending
-settled p = record p { held = length p.bytes; room = room_kept p.room }
+abbrev pub compacted : Pending → Pending
+compacted p = record p { held = length p.bytes; room = room_kept p.room }
 
 -- at the end, with all bytes and the block let go
 abbrev pub ended : Pending → ℕ → Phase → Pending
@@ -65,7 +66,7 @@ abbrev pub after_first : Pending → Result (Frame × List ℕ) Reason → Told 
 after_first p (Ok (Says m, more)) = (Gives (Says m), took p more)
 after_first p (Ok (Asks name number, more)) = (Gives (Asks name number), took p more)
 after_first p (Ok (Bye, more)) = (Gives Bye, ended p (p.used + (length p.bytes - length more)) Left)
-after_first p (Err Cut) = (Nothing, settled p)
+after_first p (Err Cut) = (Nothing, compacted p)
 after_first p (Err reason) = (Fails reason p.used, ended p p.used (Failed reason))
 
 abbrev pub after_in : Phase → Pending → Told Frame × Pending
@@ -95,7 +96,7 @@ HoldsAtMost n (Fails reason offset, p) = KeepsAtMost n p
 
 abbrev pub reply_first : Pending → Result (Reply × List ℕ) Reason → Told Reply × Pending
 reply_first p (Ok (r, more)) = (Gives r, took p more)
-reply_first p (Err Cut) = (Nothing, settled p)
+reply_first p (Err Cut) = (Nothing, compacted p)
 reply_first p (Err reason) = (Fails reason p.used, ended p p.used (Failed reason))
 
 abbrev pub reply_in : Phase → Pending → Told Reply × Pending

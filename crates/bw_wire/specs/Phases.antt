@@ -16,7 +16,8 @@ abbrev pub phase_by : Option Reason → Phase
 phase_by None = Reading
 phase_by (Some reason) = Failed reason
 
--- what is held, the place of its first byte that is not used up, how many were used and fed, the phase
+-- what is held, the place of its first byte that is not used up, how many were used and fed, the
+-- phase
 abbrev pub pending_of : Held → ℕ → ℕ → ℕ → Phase → pending.Pending
 pending_of held start used fed phase = record {
   bytes = drop start held.bytes;

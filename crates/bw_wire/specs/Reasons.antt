@@ -3,7 +3,8 @@ use Rattle.std.specs.Prelude.{◌≡◌, ℕ, List, ◌++◌, Some, None, Result
 use Rattle.bw_model.specs.Wire as model
 use Rattle.bw_model.specs.Replies.{reason_of as reason_with_code}
 use Rattle.bw_wire.specs.declared.reason.Reason.{Reason}
-use Rattle.bw_wire.specs.declared.reason.Reason.TheVariants.{Length, Kind, Name, Number, Payload, Cut}
+use Rattle.bw_wire.specs.declared.reason.Reason.TheVariants.{Length, Kind, Name, Number, Payload}
+use Rattle.bw_wire.specs.declared.reason.Reason.TheVariants.{Cut}
 use Rattle.bw_wire.specs.declared.reason.UnknownCode.{UnknownCode}
 
 abbrev pub reason_of : Reason → model.Reason
@@ -17,7 +18,8 @@ reason_of Cut = model.Cut
 -- the reason with this code, or that there is none
 abbrev pub DecodesReason : ℕ → Result Reason UnknownCode → Type 0
 DecodesReason code r =
-    MatchResult r (λ reason. reason_with_code code ≡ Some (reason_of reason)) (λ e. (reason_with_code code ≡ None) × (e.0 ≡ code))
+    MatchResult r (λ reason. reason_with_code code ≡ Some (reason_of reason))
+      (λ e. (reason_with_code code ≡ None) × (e.0 ≡ code))
 
 -- what is told to people
 abbrev pub reason_text : Reason → List ℕ

@@ -17,7 +17,8 @@ reply_of (BadFrame reason offset) = model.Refused (reason_of reason) offset
 -- its numbers are those of messages
 abbrev pub HasWireNumbers : Reply → Type 0
 HasWireNumbers (Verdict name number verdict) = number ≤ last_number Second
-HasWireNumbers (Notice name number code next) = (number ≤ last_number Second) × (next ≤ last_number Second + 1)
+HasWireNumbers (Notice name number code next) =
+  (number ≤ last_number Second) × (next ≤ last_number Second + 1)
 HasWireNumbers (BadFrame reason offset) = Unit {0}
 
 -- what a decoder answers

@@ -14,5 +14,6 @@ pub record IsWholeReply (bytes : List ℕ) (reply : Reply) (len : ℕ) : Type 0 
 
 abbrev pub IsReplyFront : List ℕ → ReplyFront → Type 0
 IsReplyFront bytes Partial = (first_reply bytes ≡ Err Cut) × (length bytes ≤ 46)
-IsReplyFront bytes (Bad reason) = (first_reply bytes ≡ Err (reason_of reason)) × (reason_of reason ≢ Cut)
+IsReplyFront bytes (Bad reason) =
+  (first_reply bytes ≡ Err (reason_of reason)) × (reason_of reason ≢ Cut)
 IsReplyFront bytes (Whole reply len) = IsWholeReply bytes reply len

@@ -1,11 +1,13 @@
 -- Whole runs of framers.
-use Rattle.std.specs.Prelude.{◌≡◌, ◌≢◌, ℕ, Option, Some, None, Err, IsTrue, List, [], ◌∷◌, ◌++◌, flat_map, length}
+use Rattle.std.specs.Prelude.{◌≡◌, ◌≢◌, ℕ, Option, Some, None, Err, IsTrue, List, [], ◌∷◌, ◌++◌}
+use Rattle.std.specs.Prelude.{flat_map, length}
 use Rattle.std.specs.List.{list_all}
 use Rattle.bw_model.specs.Wire.{Second, Frame, Says, Asks, Bye, Reason, Cut, are_bytes}
 use Rattle.bw_model.specs.Replies.{Reply, is_reply}
 use Rattle.bw_model.specs.Exchange.{replies_bytes}
 use Rattle.bw_model.specs.Stream.{End, EndOfInput, SaidBye, BadFrame, first_reply, stream_of}
-use Rattle.bw_wire.specs.Pending.{Pending, Told, Nothing, Gives, Fails, fresh, with_piece, after, after_reply, end_fault}
+use Rattle.bw_wire.specs.Pending.{Pending, Told, Nothing, Gives, Fails, fresh, with_piece, after}
+use Rattle.bw_wire.specs.Pending.{after_reply, end_fault}
 
 -- a call: a piece is fed, or the next frame is taken
 pub data Call : Type 0 where
@@ -55,14 +57,17 @@ pub record FollowsStream (bytes : List ℕ) (r : Run Frame) : Type 0 where
   -- a front of the messages and asks
   pub front : (later : List Frame) × ((stream_of Second bytes).0 ≡ r.given ++ later)
   -- all of them, where nothing more is there; the end is then that of the input
-  pub nothing : (after r.state).0 ≡ Nothing → stream_of Second bytes ≡ (r.given, end_of (end_fault r.state))
+  pub nothing : (after r.state).0 ≡ Nothing →
+    stream_of Second bytes ≡ (r.given, end_of (end_fault r.state))
   pub bye : (after r.state).0 ≡ Gives Bye → stream_of Second bytes ≡ (r.given, SaidBye)
-  pub fault : (reason : Reason) (offset : ℕ) → (after r.state).0 ≡ Fails reason offset → stream_of Second bytes ≡ (r.given, BadFrame reason offset)
+  pub fault : (reason : Reason) (offset : ℕ) → (after r.state).0 ≡ Fails reason offset →
+    stream_of Second bytes ≡ (r.given, BadFrame reason offset)
   -- that the input is cut is never told before its end
   pub not_cut : (offset : ℕ) → (after r.state).0 ≢ Fails Cut offset
 
 abbrev pub RunsFollowStreams : Type 0
-RunsFollowStreams = (calls : List Call) → IsTrue (are_bytes (fed_in calls)) → FollowsStream (fed_in calls) (run calls)
+RunsFollowStreams = (calls : List Call) → IsTrue (are_bytes (fed_in calls)) →
+  FollowsStream (fed_in calls) (run calls)
 
 -- the replies among what is told
 abbrev pub replies_told : Told Reply → List Reply
@@ -72,7 +77,8 @@ replies_told (Fails reason offset) = []
 
 abbrev pub reply_step : Run Reply → Call → Run Reply
 reply_step r (Feeds piece) = record { given = r.given; state = with_piece r.state piece }
-reply_step r Takes = record { given = r.given ++ replies_told (after_reply r.state).0; state = (after_reply r.state).1 }
+reply_step r Takes = record { given = r.given ++ replies_told (after_reply r.state).0;
+  state = (after_reply r.state).1 }
 
 abbrev pub reply_run_from : Run Reply → List Call → Run Reply
 reply_run_from r [] = r
@@ -92,11 +98,15 @@ pub record FollowsReplies (bytes : List ℕ) (r : Run Reply) : Type 0 where
   -- a front of the replies
   pub front : (rest : List ℕ) × Spelled bytes r.given rest
   -- all of them, where nothing more is there; the end is then that of the input
-  pub nothing : (after_reply r.state).0 ≡ Nothing → Spelled bytes r.given r.state.bytes × (first_reply r.state.bytes ≡ Err Cut)
+  pub nothing : (after_reply r.state).0 ≡ Nothing →
+    Spelled bytes r.given r.state.bytes × (first_reply r.state.bytes ≡ Err Cut)
   pub fault : (reason : Reason) (offset : ℕ) → (after_reply r.state).0 ≡ Fails reason offset
-      → (rest : List ℕ) × Spelled bytes r.given rest × (first_reply rest ≡ Err reason) × (offset ≡ length (replies_bytes r.given))
+      → (rest : List ℕ) × Spelled bytes r.given rest × (first_reply rest ≡ Err reason)
+        × (offset ≡ length (replies_bytes r.given))
   -- that the input is cut is never told before its end
   pub not_cut : (offset : ℕ) → (after_reply r.state).0 ≢ Fails Cut offset
 
 abbrev pub ReplyRunsFollowReplies : Type 0
-ReplyRunsFollowReplies = (calls : List Call) → IsTrue (are_bytes (fed_in calls)) → FollowsReplies (fed_in calls) (reply_run calls)
+ReplyRunsFollowReplies =
+  (calls : List Call) → IsTrue (are_bytes (fed_in calls)) →
+  FollowsReplies (fed_in calls) (reply_run calls)

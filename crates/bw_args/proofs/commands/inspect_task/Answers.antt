@@ -10,4 +10,5 @@ pub returns-clause-ok : goal.returns-clause-ok
 returns-clause-ok c = file_asked (found_of c.args.options.now) _ (ap Some c.in_ok-file.ensures.ok ∙ c.in-Some.ensures)
 
 pub returns-in_err-file-clause-err : goal.returns-in_err-file-clause-err
-returns-in_err-file-clause-err c = on_err c.from_residual.result (_, file_asked (found_of c.args.options.now) _ c.in-Some.ensures)
+returns-in_err-file-clause-err c =
+  on_err c.from_residual.result (_, file_asked (found_of c.args.options.now) _ c.in-Some.ensures)

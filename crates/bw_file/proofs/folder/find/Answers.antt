@@ -1,4 +1,5 @@
-use Rattle.std.proofs.Common.{◌≡◌, ◌<◌, ℕ, List, [], ◌∷◌, Option, Some, None, length, get_or, refl, rules, tests, sym, ◌∙◌, arith}
+use Rattle.std.proofs.Common.{◌≡◌, ◌<◌, ℕ, List, [], ◌∷◌, Option, Some, None, length, get_or, refl, rules, tests, sym}
+use Rattle.std.proofs.Common.{◌∙◌, arith}
 use Rattle.std.specs.Prelude.{IsSome, IfSome, ◌↔◌}
 use Rattle.std.specs.Option.{MatchOption}
 use Rattle.std.specs.List.{AllWithin, Contains, HoldsAt}

@@ -2,7 +2,8 @@ use Rattle.std.proofs.Common.{◌≡◌, Some, get_or, slice_set, refl, ap, ◌�
 use Rattle.std.specs.List.{position}
 use Rattle.bw_file.specs.declared.memory_disk.StoredFile.{StoredFile}
 use Rattle.bw_file.specs.MemoryDisks.{stands_at, content_at}
-use Rattle.bw_file.proofs.MemoryDisks.{none_of, stands, content_of, synced_of, content_before, content_after, others, left}
+use Rattle.bw_file.proofs.MemoryDisks.{none_of, stands, content_of, synced_of, content_before, content_after, others}
+use Rattle.bw_file.proofs.MemoryDisks.{left}
 use Rattle.bw_file.proofs.memory_disk.write.Goals as goal
 
 module _ (c : goal.After-map_err) where

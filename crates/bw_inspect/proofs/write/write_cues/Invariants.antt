@@ -7,5 +7,6 @@ use Rattle.bw_inspect.proofs.write.write_cues.Given as goal
 abbrev pub invariant-loop-cue : goal.invariant-loop-cue
 invariant-loop-cue g l = record {
   count : g.W.Sink.failures l.writer ≡ g.W.Sink.failures l.fn.writer;
-  written : Writes (g.W.Sink.written l.fn.writer) (flat_map cue_line (take l.cue-index l.cue-items)) (g.W.Sink.written l.writer);
+  written : Writes (g.W.Sink.written l.fn.writer) (flat_map cue_line (take l.cue-index l.cue-items))
+    (g.W.Sink.written l.writer);
 }

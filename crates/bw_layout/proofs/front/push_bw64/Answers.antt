@@ -6,7 +6,8 @@ use Rattle.bw_layout.proofs.front.push_bw64.Goals as goal
 pub returns : goal.returns
 unfolding bw64_header
 returns c = record {
-  items = rw (c.push_head-2.ensures.items, c.push_middle.ensures.items, c.push_ds64.ensures.items, c.push_bytes.ensures.items, c.push_head.ensures.items) (simp append_assoc);
+  items = rw (c.push_head-2.ensures.items, c.push_middle.ensures.items, c.push_ds64.ensures.items,
+    c.push_bytes.ensures.items, c.push_head.ensures.items) (simp append_assoc);
   len = omega arith;
   capacity = omega arith;
 }

@@ -1,4 +1,5 @@
-use Rattle.bw_layout.proofs.ReadBack.{heads_read_back, formats_read_back, entries_read_back, ds64_reads_back, cue_points_read_back, cues_read_back}
+use Rattle.bw_layout.proofs.ReadBack.{heads_read_back, formats_read_back, entries_read_back, ds64_reads_back}
+use Rattle.bw_layout.proofs.ReadBack.{cue_points_read_back, cues_read_back}
 use Rattle.bw_layout.proofs.FieldsBack.{fields_read_back}
 use Rattle.bw_layout.proofs.laws.law_read_back.Goals as goal
 

@@ -1,4 +1,5 @@
-use Rattle.bw_layout.proofs.FieldPlaces.{stands_1, stands_2, stands_3, stands_4, stands_5, stands_6, stands_7, loudness_stands}
+use Rattle.bw_layout.proofs.FieldPlaces.{stands_1, stands_2, stands_3, stands_4, stands_5, stands_6, stands_7}
+use Rattle.bw_layout.proofs.FieldPlaces.{loudness_stands}
 use Rattle.std.proofs.Common.{arith}
 use Rattle.bw_layout.proofs.place.field_place.Goals as goal
 

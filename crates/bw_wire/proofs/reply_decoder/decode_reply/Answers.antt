@@ -15,4 +15,5 @@ pub returns-in-131 : goal.returns-in-131
 returns-in-131 c = c.bad_frame.ensures ∙ sym (reply-refused c.args.body.now c.in-len1-up.len_at_least c.in-131.is)
 
 pub returns-in_default-kind : goal.returns-in_default-kind
-returns-in_default-kind c = sym (reply-unknown c.args.body.now c.in-len1-up.len_at_least (omega arith) (omega arith) (omega arith))
+returns-in_default-kind c =
+  sym (reply-unknown c.args.body.now c.in-len1-up.len_at_least (omega arith) (omega arith) (omega arith))

@@ -18,10 +18,14 @@ returns-in_err-put_header-clause-file g c =
     let in_all = c.data_len.ensures.value ∙ sym (ap (λ (p : Parts). p.samples_len) same) in
     let no_samples = sym in_all ∙ c.data_len.ensures.unopened unopened.no_format in
     let fresh = rw c.in-New.is at (c.in_ok-make_name.ensures.fresh honest) in
-    let was = fresh_begun t c.self.inside.limit c.args.format c.args.history.now no_format is_open fields no_samples c.self.inside.made _ _ begun (fresh refl) in
-    let torn = begun_torn t c.self.inside.limit c.args.format c.args.history.now no_format is_open fields no_samples _ _ was (c.put_header.ensures.torn (c.make_name.ensures.shared.honest ∙ honest)) in
-    let answer = err_from_is_err_and c.from_residual-in_err-put_header.result c.from_residual-in_err-put_header.ensures.1 in
-    rw answer.1 (begun_between t c.self.inside.limit c.args.format c.args.history.now no_format is_open fields no_samples _ torn))
+    let was = fresh_begun t c.self.inside.limit c.args.format c.args.history.now no_format is_open fields no_samples
+        c.self.inside.made _ _ begun (fresh refl) in
+    let torn = begun_torn t c.self.inside.limit c.args.format c.args.history.now no_format is_open fields no_samples _
+        _ was (c.put_header.ensures.torn (c.make_name.ensures.shared.honest ∙ honest)) in
+    let answer = err_from_is_err_and c.from_residual-in_err-put_header.result
+        c.from_residual-in_err-put_header.ensures.1 in
+    rw answer.1 (begun_between t c.self.inside.limit c.args.format c.args.history.now no_format is_open fields
+      no_samples _ torn))
 
 pub returns-clause-file : goal.returns-clause-file
 returns-clause-file g c =
@@ -34,8 +38,10 @@ returns-clause-file g c =
     let in_all = c.data_len.ensures.value ∙ sym (ap (λ (p : Parts). p.samples_len) same) in
     let no_samples = sym in_all ∙ c.data_len.ensures.unopened unopened.no_format in
     let fresh = rw c.in-New.is at (c.in_ok-make_name.ensures.fresh honest) in
-    let was = fresh_begun t c.self.inside.limit c.args.format c.args.history.now no_format is_open fields no_samples c.self.inside.made _ _ begun (fresh refl) in
-    begun_whole t c.self.inside.limit c.args.format c.args.history.now no_format is_open fields no_samples _ _ was (rw (set, in_all) at (c.in_ok-put_header.ensures.first (c.make_name.ensures.shared.honest ∙ honest))))
+    let was = fresh_begun t c.self.inside.limit c.args.format c.args.history.now no_format is_open fields no_samples
+        c.self.inside.made _ _ begun (fresh refl) in
+    begun_whole t c.self.inside.limit c.args.format c.args.history.now no_format is_open fields no_samples _ _ was
+      (rw (set, in_all) at (c.in_ok-put_header.ensures.first (c.make_name.ensures.shared.honest ∙ honest))))
 
 pub returns-in_err-make_name-clause-begun : goal.returns-in_err-make_name-clause-begun
 returns-in_err-make_name-clause-begun g c =
@@ -43,7 +49,8 @@ returns-in_err-make_name-clause-begun g c =
 
 pub returns-in_err-put_header-clause-begun : goal.returns-in_err-put_header-clause-begun
 returns-in_err-put_header-clause-begun g c =
-    rw (← c.self.view_is) (on_err _ _ (gets_then_first c.in_ok-make_name.ensures.order c.in_err-put_header.ensures.begun))
+    rw (← c.self.view_is) (on_err _ _
+      (gets_then_first c.in_ok-make_name.ensures.order c.in_err-put_header.ensures.begun))
 
 pub returns-clause-order : goal.returns-clause-order
 returns-clause-order g c =

@@ -18,7 +18,9 @@ pub with_bext-retouched-requires : goal.with_bext-retouched-requires
 with_bext-retouched-requires g c =
     let p = c.args.state.now.parts in
     let fields = subst AreFields c.of-heading.ensures.bext c.of-heading.result.widths in
-    subst AreFields (sym c.requires.fields) (fields-with p.fields c.requires.tag c.requires.value fields (no_fault p c.requires.tag c.requires.value c.requires.stored))
+    subst AreFields (sym c.requires.fields)
+      (fields-with p.fields c.requires.tag c.requires.value fields
+      (no_fault p c.requires.tag c.requires.value c.requires.stored))
 
 pub returns-in_err-put_retouched_header-clause-file : goal.returns-in_err-put_retouched_header-clause-file
 returns-in_err-put_retouched_header-clause-file g c =
@@ -26,14 +28,18 @@ returns-in_err-put_retouched_header-clause-file g c =
     let opened = open_for_field _ _ _ c.requires.stored in
     let of = c.of-heading.ensures in
     let with = c.with_bext-retouched.ensures in
-    let heads = is_heading t c.args.state.now.parts c.of-heading.result c.self.inside.limit same of.format of.bext of.history of.limit in
+    let heads = is_heading t c.args.state.now.parts c.of-heading.result c.self.inside.limit same of.format of.bext
+        of.history of.limit in
     let told = of.history ∙ sym (ap (λ (p : Parts). p.history) same) in
     let later = with_request t (SetField tag value) in
-    let then_heads = is_heading later (parts later) c.with_bext-retouched.result c.self.inside.limit refl (ap Some with.format ∙ sym heads.format) (with.bext ∙ set) (with.history ∙ told) (with.limit ∙ of.limit) in
+    let then_heads = is_heading later (parts later) c.with_bext-retouched.result c.self.inside.limit refl
+        (ap Some with.format ∙ sym heads.format) (with.bext ∙ set) (with.history ∙ told) (with.limit ∙ of.limit) in
     let is_open = ap (λ (p : Parts). p.closed) same ∙ opened.not_closed in
     let in_all = c.data_len.ensures.value ∙ sym (ap (λ (p : Parts). p.samples_len) same) in
     let answer = err_from_is_err_and c.from_residual.result c.from_residual.ensures.1 in
-    rw answer.1 (header_fails (the_view c.self.inside) t tag value c.of-heading.result c.with_bext-retouched.result heads then_heads with.format is_open c.data_len.result in_all _ _ ready (c.put_retouched_header.ensures.torn honest)))
+    rw answer.1 (header_fails
+      (the_view c.self.inside) t tag value c.of-heading.result c.with_bext-retouched.result heads then_heads
+      with.format is_open c.data_len.result in_all _ _ ready (c.put_retouched_header.ensures.torn honest)))
 
 pub returns-clause-file : goal.returns-clause-file
 returns-clause-file g c =
@@ -41,20 +47,25 @@ returns-clause-file g c =
     let opened = open_for_field _ _ _ c.requires.stored in
     let of = c.of-heading.ensures in
     let with = c.with_bext-retouched.ensures in
-    let heads = is_heading t c.args.state.now.parts c.of-heading.result c.self.inside.limit same of.format of.bext of.history of.limit in
+    let heads = is_heading t c.args.state.now.parts c.of-heading.result c.self.inside.limit same of.format of.bext
+        of.history of.limit in
     let told = of.history ∙ sym (ap (λ (p : Parts). p.history) same) in
     let later = with_request t (SetField tag value) in
-    let then_heads = is_heading later (parts later) c.with_bext-retouched.result c.self.inside.limit refl (ap Some with.format ∙ sym heads.format) (with.bext ∙ set) (with.history ∙ told) (with.limit ∙ of.limit) in
+    let then_heads = is_heading later (parts later) c.with_bext-retouched.result c.self.inside.limit refl
+        (ap Some with.format ∙ sym heads.format) (with.bext ∙ set) (with.history ∙ told) (with.limit ∙ of.limit) in
     let is_open = ap (λ (p : Parts). p.closed) same ∙ opened.not_closed in
     let in_all = c.data_len.ensures.value ∙ sym (ap (λ (p : Parts). p.samples_len) same) in
-    retouched (the_view c.self.inside) t tag value c.of-heading.result c.with_bext-retouched.result heads then_heads with.format is_open c.data_len.result in_all _ _ ready (c.in_ok-put_retouched_header.ensures.put honest))
+    retouched (the_view c.self.inside) t tag value c.of-heading.result c.with_bext-retouched.result heads then_heads
+      with.format is_open c.data_len.result in_all _ _ ready (c.in_ok-put_retouched_header.ensures.put honest))
 
 pub put_retouched_header-requires-clause-field : goal.put_retouched_header-requires-clause-field
 put_retouched_header-requires-clause-field g c =
     let of = c.of-heading.ensures in
     let with = c.with_bext-retouched.ensures in
     let known = is_known c.args.state.now.parts c.requires.tag c.requires.value c.requires.stored in
-    (c.requires.tag, sets_field c.args.state.now.parts c.requires.tag c.requires.value c.of-heading.result c.with_bext-retouched.result c.data_len.result known of.bext (with.bext ∙ c.requires.fields) with.format with.history with.limit)
+    (c.requires.tag, sets_field c.args.state.now.parts c.requires.tag c.requires.value c.of-heading.result
+      c.with_bext-retouched.result c.data_len.result known of.bext
+      (with.bext ∙ c.requires.fields) with.format with.history with.limit)
 
 pub returns-in_err-put_retouched_header-clause-begun : goal.returns-in_err-put_retouched_header-clause-begun
 returns-in_err-put_retouched_header-clause-begun g c =
@@ -62,8 +73,13 @@ returns-in_err-put_retouched_header-clause-begun g c =
     let of = c.of-heading.ensures in
     let with = c.with_bext-retouched.ensures in
     let known = is_known c.args.state.now.parts c.requires.tag c.requires.value c.requires.stored in
-    let sets = sets_field c.args.state.now.parts c.requires.tag c.requires.value c.of-heading.result c.with_bext-retouched.result c.data_len.result known of.bext (with.bext ∙ c.requires.fields) with.format with.history with.limit in
-    on_err _ _ (first_planned (the_view c.self.inside) c.args.state.now.parts c.of-heading.result c.with_bext-retouched.result c.data_len.result of.bext of.history with.format with.history with.limit c.requires.tag sets tag value c.args.bext.now with.bext set c.in_err-put_retouched_header.ensures.begun))
+    let sets = sets_field c.args.state.now.parts c.requires.tag c.requires.value c.of-heading.result
+        c.with_bext-retouched.result c.data_len.result known of.bext
+        (with.bext ∙ c.requires.fields) with.format with.history with.limit in
+    on_err _ _ (first_planned
+      (the_view c.self.inside) c.args.state.now.parts c.of-heading.result c.with_bext-retouched.result
+      c.data_len.result of.bext of.history with.format with.history with.limit c.requires.tag sets tag value
+      c.args.bext.now with.bext set c.in_err-put_retouched_header.ensures.begun))
 
 pub returns-clause-order : goal.returns-clause-order
 returns-clause-order g c =
@@ -71,21 +87,33 @@ returns-clause-order g c =
     let of = c.of-heading.ensures in
     let with = c.with_bext-retouched.ensures in
     let known = is_known c.args.state.now.parts c.requires.tag c.requires.value c.requires.stored in
-    let sets = sets_field c.args.state.now.parts c.requires.tag c.requires.value c.of-heading.result c.with_bext-retouched.result c.data_len.result known of.bext (with.bext ∙ c.requires.fields) with.format with.history with.limit in
-    gets_planned (the_view c.self.inside) c.args.state.now.parts c.of-heading.result c.with_bext-retouched.result c.data_len.result of.bext of.history with.format with.history with.limit c.requires.tag sets tag value c.args.bext.now with.bext set c.in_ok-put_retouched_header.ensures.order)
+    let sets = sets_field c.args.state.now.parts c.requires.tag c.requires.value c.of-heading.result
+        c.with_bext-retouched.result c.data_len.result known of.bext
+        (with.bext ∙ c.requires.fields) with.format with.history with.limit in
+    gets_planned (the_view c.self.inside) c.args.state.now.parts c.of-heading.result c.with_bext-retouched.result
+      c.data_len.result of.bext of.history with.format with.history with.limit c.requires.tag sets tag value
+      c.args.bext.now with.bext set c.in_ok-put_retouched_header.ensures.order)
 
 pub returns-in_err-put_retouched_header-clause-calls : goal.returns-in_err-put_retouched_header-clause-calls
 returns-in_err-put_retouched_header-clause-calls g c =
     let of = c.of-heading.ensures in
     let with = c.with_bext-retouched.ensures in
     let known = is_known c.args.state.now.parts c.requires.tag c.requires.value c.requires.stored in
-    let sets = sets_field c.args.state.now.parts c.requires.tag c.requires.value c.of-heading.result c.with_bext-retouched.result c.data_len.result known of.bext (with.bext ∙ c.requires.fields) with.format with.history with.limit in
-    first_few (the_view c.self.inside) c.args.state.now.parts c.of-heading.result c.with_bext-retouched.result c.data_len.result of.bext of.history with.format with.history with.limit c.requires.tag sets c.in_err-put_retouched_header.ensures.begun
+    let sets = sets_field c.args.state.now.parts c.requires.tag c.requires.value c.of-heading.result
+        c.with_bext-retouched.result c.data_len.result known of.bext
+        (with.bext ∙ c.requires.fields) with.format with.history with.limit in
+    first_few (the_view c.self.inside) c.args.state.now.parts c.of-heading.result c.with_bext-retouched.result
+      c.data_len.result of.bext of.history with.format with.history with.limit c.requires.tag sets
+      c.in_err-put_retouched_header.ensures.begun
 
 pub returns-clause-calls : goal.returns-clause-calls
 returns-clause-calls g c =
     let of = c.of-heading.ensures in
     let with = c.with_bext-retouched.ensures in
     let known = is_known c.args.state.now.parts c.requires.tag c.requires.value c.requires.stored in
-    let sets = sets_field c.args.state.now.parts c.requires.tag c.requires.value c.of-heading.result c.with_bext-retouched.result c.data_len.result known of.bext (with.bext ∙ c.requires.fields) with.format with.history with.limit in
-    gets_few (the_view c.self.inside) c.args.state.now.parts c.of-heading.result c.with_bext-retouched.result c.data_len.result of.bext of.history with.format with.history with.limit c.requires.tag sets c.in_ok-put_retouched_header.ensures.order
+    let sets = sets_field c.args.state.now.parts c.requires.tag c.requires.value c.of-heading.result
+        c.with_bext-retouched.result c.data_len.result known of.bext
+        (with.bext ∙ c.requires.fields) with.format with.history with.limit in
+    gets_few (the_view c.self.inside) c.args.state.now.parts c.of-heading.result c.with_bext-retouched.result
+      c.data_len.result of.bext of.history with.format with.history with.limit c.requires.tag sets
+      c.in_ok-put_retouched_header.ensures.order

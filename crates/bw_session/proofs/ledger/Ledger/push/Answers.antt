@@ -10,12 +10,14 @@ invariant_of-self c =
     let old : List ℕ = c.self.inside.bytes.items in
     let i = c.self.invariant.whole in
     let whole : length old ≡ 33 * (length old / 33) = grind arith in
-    let len : length c.pack.new.bytes.items ≡ length old + 33 = let e = c.pack.ensures.items in grind (arith, common_steps) in
+    let len : length c.pack.new.bytes.items ≡ length old + 33 = let e =
+        c.pack.ensures.items in grind (arith, common_steps) in
     let count : length c.pack.new.bytes.items / 33 ≡ suc (length old / 33) = grind arith in
     record {
       whole = grind arith;
       coded = rw (count, c.pack.ensures.items)
-          (codes_push (length old / 33) old c.args.digest.now (verdict_of c.args.verdict) whole (search rules) c.self.invariant.coded);
+          (codes_push (length old / 33) old c.args.digest.now (verdict_of c.args.verdict) whole
+            (search rules) c.self.invariant.coded);
     }
 
 pub returns-clause-outcomes : goal.returns-clause-outcomes
@@ -23,7 +25,8 @@ returns-clause-outcomes c =
     let old : List ℕ = c.self.inside.bytes.items in
     let i = c.self.invariant.whole in
     let whole : length old ≡ 33 * (length old / 33) = grind arith in
-    let len : length c.pack.new.bytes.items ≡ length old + 33 = let e = c.pack.ensures.items in grind (arith, common_steps) in
+    let len : length c.pack.new.bytes.items ≡ length old + 33 = let e =
+        c.pack.ensures.items in grind (arith, common_steps) in
     let count : length c.pack.new.bytes.items / 33 ≡ suc (length old / 33) = grind arith in
     rw (count, c.pack.ensures.items, ← c.self.view_is)
     (entries_push (length old / 33) old c.args.digest.now (verdict_of c.args.verdict) whole (search rules))

@@ -17,17 +17,20 @@ loop-slot-preserved c =
           let some : is_some c.get.result ≡ true = search rules in
           record {
             counted = w.count-is ∙ (ap (λ n. n + 1) c.loop-slot.invariant.counted
-                ∙ sym (count_more c.args.self.now c.loop-slot.slot below (copied-some c.get.result _ true c.get.ensures.value some)));
+                ∙ sym (count_more c.args.self.now c.loop-slot.slot below
+                  (copied-some c.get.result _ true c.get.ensures.value some)));
             few = omega arith;
           }
       | else-is_some w ↦
           let none : is_some c.get.result ≡ false = search rules in
           record {
             counted = w.count-is ∙ (c.loop-slot.invariant.counted
-                ∙ sym (count_same c.args.self.now c.loop-slot.slot below (copied-some c.get.result _ false c.get.ensures.value none)));
+                ∙ sym (count_same c.args.self.now c.loop-slot.slot below
+                  (copied-some c.get.result _ false c.get.ensures.value none)));
             few = omega arith;
           }
     ]
 
 pub returns-clause-value : goal.returns-clause-value
-returns-clause-value c = c.loop-slot.invariant.counted ∙ ap count_held (take_all c.loop-slot.slot c.args.self.now (search rules))
+returns-clause-value c =
+  c.loop-slot.invariant.counted ∙ ap count_held (take_all c.loop-slot.slot c.args.self.now (search rules))

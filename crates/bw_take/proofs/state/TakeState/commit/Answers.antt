@@ -2,7 +2,8 @@ use Rattle.std.proofs.Common.{◌≤◌, refl, arith, length, ap}
 use Rattle.bw_model.specs.Take.{Parts, Open, Mark, Block, SetField, Close}
 use Rattle.bw_layout.specs.Formats.{format_of}
 use Rattle.bw_take.specs.Kept.{parts_of}
-use Rattle.bw_take.proofs.StoredLemmas.{opened_once, opened_by_allowed, set_without_fault, history_fits, some_where, IsSound-parts_with, FollowsTakes-parts_with}
+use Rattle.bw_take.proofs.StoredLemmas.{opened_once, opened_by_allowed, set_without_fault, history_fits, some_where}
+use Rattle.bw_take.proofs.StoredLemmas.{IsSound-parts_with, FollowsTakes-parts_with}
 use Rattle.bw_take.proofs.state.TakeState.commit.Goals as goal
 
 pub unwrap-requires : goal.unwrap-requires
@@ -12,7 +13,9 @@ unwrap-requires c =
     let empty = ap (λ (p : Parts). length p.history) (c.self.invariant.sound.unopened none) in
     let room = rw (← c.self.view_is) at c.requires.room in
     let capacity = c.self.invariant.history none room in
-    let fits : length c.in-OpenTake.history.now ≤ 4096 = history_fits (format_of c.in-OpenTake.rate c.in-OpenTake.channels c.in-OpenTake.bits) _ (rw c.in-OpenTake.is at c.requires.fits) in
+    let fits : length c.in-OpenTake.history.now ≤ 4096 =
+        history_fits (format_of c.in-OpenTake.rate c.in-OpenTake.channels c.in-OpenTake.bits) _
+        (rw c.in-OpenTake.is at c.requires.fits) in
     c.extend_from_slice.ensures.succeeds (omega (arith, c.self.inside.history.ok.0))
 
 pub invariant_of-self : goal.invariant_of-self
@@ -24,7 +27,9 @@ invariant_of-self c =
     let empty = ap (λ (p : Parts). p.history) (c.self.invariant.sound.unopened none) in
     let items = rw (c.unwrap.ensures, empty) at c.extend_from_slice.ensures.items in
     record {
-      sound = rw (format, items) (IsSound-parts_with (parts_of c.self.inside) (Open _ _) c.self.invariant.sound stored fits (omega arith) c.self.invariant.sound.fields);
+      sound = rw (format, items)
+        (IsSound-parts_with (parts_of c.self.inside) (Open _ _) c.self.invariant.sound stored fits
+        (omega arith) c.self.invariant.sound.fields);
       history = λ none some. cc;
       markers = omega arith;
     }
@@ -53,7 +58,8 @@ invariant_of-self-in-Block c =
     let fits = rw c.in-Block.is at c.requires.fits in
     let bound = rw (← c.self.view_is, c.in-Block.is) at c.requires.samples in
     record {
-      sound = IsSound-parts_with (parts_of c.self.inside) (Block _) c.self.invariant.sound stored fits bound c.self.invariant.sound.fields;
+      sound = IsSound-parts_with (parts_of c.self.inside)
+        (Block _) c.self.invariant.sound stored fits bound c.self.invariant.sound.fields;
       history = λ none some. c.self.invariant.history none (omega arith);
       markers = omega arith;
     }
@@ -63,7 +69,9 @@ invariant_of-self-in-Mark c =
     let stored = rw (← c.self.view_is, c.in-Mark.is) at c.requires.stored in
     let fits = rw c.in-Mark.is at c.requires.fits in
     record {
-      sound = rw c.push_reserved.ensures.items (IsSound-parts_with (parts_of c.self.inside) (Mark _ _) c.self.invariant.sound stored fits (omega arith) c.self.invariant.sound.fields);
+      sound = rw c.push_reserved.ensures.items
+        (IsSound-parts_with (parts_of c.self.inside) (Mark _ _) c.self.invariant.sound stored fits
+        (omega arith) c.self.invariant.sound.fields);
       history = λ none some. c.self.invariant.history none (omega arith);
       markers = omega arith;
     }
@@ -75,7 +83,8 @@ invariant_of-self-in-SetField c =
     let set = rw c.unwrap-in-SetField.ensures at c.set.ensures.ok in
     let widths = rw set at c.set.ensures.widths in
     record {
-      sound = rw set (IsSound-parts_with (parts_of c.self.inside) (SetField _ _) c.self.invariant.sound stored fits (omega arith) widths);
+      sound = rw set (IsSound-parts_with (parts_of c.self.inside) (SetField _ _) c.self.invariant.sound stored fits
+        (omega arith) widths);
       history = λ none some. c.self.invariant.history none (omega arith);
       markers = omega arith;
     }
@@ -85,7 +94,8 @@ invariant_of-self-in-CloseTake c =
     let stored = rw (← c.self.view_is, c.in-CloseTake.is) at c.requires.stored in
     let fits = rw c.in-CloseTake.is at c.requires.fits in
     record {
-      sound = IsSound-parts_with (parts_of c.self.inside) (Close _) c.self.invariant.sound stored fits (omega arith) c.self.invariant.sound.fields;
+      sound = IsSound-parts_with (parts_of c.self.inside) (Close _) c.self.invariant.sound stored fits
+        (omega arith) c.self.invariant.sound.fields;
       history = λ none some. c.self.invariant.history none (omega arith);
       markers = omega arith;
     }

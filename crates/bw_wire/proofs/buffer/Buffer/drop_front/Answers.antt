@@ -1,7 +1,8 @@
 use Rattle.std.proofs.Common.{◌≤◌, length, vec_capacity, subst, ◌∙◌, sym, arith}
 use Rattle.bw_wire.specs.Held.{Held, without_front}
 use Rattle.bw_wire.specs.Blocks.{held_in}
-use Rattle.bw_wire.proofs.BufferLaws.{room_kept-small, room_kept-large, spare-large, within_front, moved, shifted, held-parts}
+use Rattle.bw_wire.proofs.BufferLaws.{room_kept-small, room_kept-large, spare-large, within_front, moved, shifted}
+use Rattle.bw_wire.proofs.BufferLaws.{held-parts}
 use Rattle.bw_wire.proofs.buffer.Buffer.drop_front.Goals as goal
 
 pub returns-then-len-gt-LARGEST_KEPT : goal.returns-then-len-gt-LARGEST_KEPT

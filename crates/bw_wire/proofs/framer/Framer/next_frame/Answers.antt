@@ -5,7 +5,8 @@ use Rattle.bw_wire.specs.Bodies.{body_name, body_number, message_in, is_message_
 use Rattle.bw_wire.specs.Fronts.{IsMessageFront, IsAskFront, IsByeFront}
 use Rattle.bw_wire.specs.Pending.{Gives}
 use Rattle.bw_wire.specs.Reasons.{reason_of}
-use Rattle.bw_wire.proofs.FramerSteps.{left_steps, failed_steps, partial_steps, bad_steps, bye_steps, message_steps, ask_steps, lent_body}
+use Rattle.bw_wire.proofs.FramerSteps.{left_steps, failed_steps, partial_steps, bad_steps, bye_steps, message_steps}
+use Rattle.bw_wire.proofs.FramerSteps.{ask_steps, lent_body}
 use Rattle.bw_wire.proofs.framer.Framer.next_frame.Goals as goal
 
 pub returns-in-Left : goal.returns-in-Left
@@ -23,22 +24,27 @@ returns-in-Failed c =
 pub returns-in-Partial : goal.returns-in-Partial
 returns-in-Partial c =
     let f = c.self.inside in
-    let front = subst (λ (b : List ℕ). (first_frame Second b ≡ Err Cut) × (length b ≤ 32809)) c.bytes_from.ensures c.in-Partial.ensures in
-    let s = partial_steps f.buffer c.drop_front.new.self f.start f.used f.fed f.phase c.in-Reading.is c.drop_front.ensures front in
+    let front = subst (λ (b : List ℕ). (first_frame Second b ≡ Err Cut) × (length b ≤ 32809)) c.bytes_from.ensures
+        c.in-Partial.ensures in
+    let s = partial_steps f.buffer c.drop_front.new.self f.start f.used f.fed f.phase c.in-Reading.is
+        c.drop_front.ensures front in
     rw (← c.self.view_is) ((refl, (λ _. tt), s.next), record { left = tt; told = s.told; held = s.held })
 
 pub returns-in-Bad : goal.returns-in-Bad
 returns-in-Bad c =
     let f = c.self.inside in
-    let front = subst (λ (b : List ℕ). (first_frame Second b ≡ Err (reason_of c.in-Bad.reason)) × (reason_of c.in-Bad.reason ≢ Cut)) c.bytes_from.ensures c.in-Bad.ensures in
-    let s = bad_steps f.buffer c.clear.new.self f.start f.used f.fed f.phase c.in-Bad.reason c.in-Reading.is c.clear.ensures front in
+    let front = subst (λ (b : List ℕ). (first_frame Second b ≡ Err (reason_of c.in-Bad.reason))
+        × (reason_of c.in-Bad.reason ≢ Cut)) c.bytes_from.ensures c.in-Bad.ensures in
+    let s = bad_steps f.buffer c.clear.new.self f.start f.used f.fed f.phase c.in-Bad.reason c.in-Reading.is
+        c.clear.ensures front in
     rw (← c.self.view_is) ((refl, (λ _. tt), s.next), record { left = tt; told = s.told; held = s.held })
 
 pub returns-in-Bye : goal.returns-in-Bye
 returns-in-Bye c =
     let f = c.self.inside in
     let front = subst (λ (b : List ℕ). IsByeFront b c.in-Bye.len) c.bytes_from.ensures c.in-Bye.ensures in
-    let s = bye_steps f.buffer c.clear-in-Bye.new.self f.start f.used f.fed c.in-Bye.len f.phase c.in-Reading.is c.clear-in-Bye.ensures front in
+    let s = bye_steps f.buffer c.clear-in-Bye.new.self f.start f.used f.fed c.in-Bye.len f.phase c.in-Reading.is
+        c.clear-in-Bye.ensures front in
     rw (← c.self.view_is) ((refl, (λ _. tt), s.next), record { left = tt; told = s.told; held = s.held })
 
 pub invariant_of-self-in-Message-2 : goal.invariant_of-self-in-Message-2
@@ -61,7 +67,8 @@ returns-in-Message c =
     let front = subst (λ (b : List ℕ). IsMessageFront b c.in-Message.len) c.bytes_from.ensures c.in-Message.ensures in
     let s = message_steps f.buffer f.start f.used f.fed c.in-Message.len f.phase c.in-Reading.is front in
     let lent = lent_body c.as_slice.result.now f.buffer.bytes f.start c.in-Message.len c.as_slice.ensures in
-    rw (← c.self.view_is) ((refl, (λ _. tt), s.next), record { left = tt; told = ap (λ (b : List ℕ). Gives (Says (message_in b))) lent ∙ s.told; held = s.held })
+    rw (← c.self.view_is) ((refl, (λ _. tt), s.next),
+      record { left = tt; told = ap (λ (b : List ℕ). Gives (Says (message_in b))) lent ∙ s.told; held = s.held })
 
 pub returns-in-Ask : goal.returns-in-Ask
 returns-in-Ask c =
@@ -69,4 +76,6 @@ returns-in-Ask c =
     let front = subst (λ (b : List ℕ). IsAskFront b c.in-Ask.len) c.bytes_from.ensures c.in-Ask.ensures in
     let s = ask_steps f.buffer f.start f.used f.fed c.in-Ask.len f.phase c.in-Reading.is front in
     let lent = lent_body c.as_slice-in-Ask.result.now f.buffer.bytes f.start c.in-Ask.len c.as_slice-in-Ask.ensures in
-    rw (← c.self.view_is) ((refl, (λ _. tt), s.next), record { left = tt; told = ap (λ (b : List ℕ). Gives (Asks (body_name b) (body_number b))) lent ∙ s.told; held = s.held })
+    rw (← c.self.view_is) ((refl, (λ _. tt), s.next),
+      record { left = tt; told = ap (λ (b : List ℕ). Gives (Asks (body_name b) (body_number b))) lent ∙ s.told;
+      held = s.held })

@@ -9,7 +9,8 @@ pub behind_kind-requires : goal.behind_kind-requires
 behind_kind-requires c = (ask_body c.args.self.now.body.now c.args.self.now.spells).addressed.some
 
 pub number-requires : goal.number-requires
-number-requires c = subst HasAddress (sym c.behind_kind.ensures) (ask_body c.args.self.now.body.now c.args.self.now.spells).addressed.address
+number-requires c = subst HasAddress (sym c.behind_kind.ensures)
+  (ask_body c.args.self.now.body.now c.args.self.now.spells).addressed.address
 
 pub returns-clause-value : goal.returns-clause-value
 unfolding body_number
@@ -17,4 +18,6 @@ returns-clause-value c = c.number.ensures ∙ ap number_in c.behind_kind.ensures
 
 pub returns-clause-range : goal.returns-clause-range
 unfolding body_number
-returns-clause-range c = rw (c.number.ensures, c.behind_kind.ensures) (ask_body c.args.self.now.body.now c.args.self.now.spells).addressed.number
+returns-clause-range c =
+  rw (c.number.ensures, c.behind_kind.ensures)
+  (ask_body c.args.self.now.body.now c.args.self.now.spells).addressed.number

@@ -8,7 +8,8 @@ pub behind_kind-requires : goal.behind_kind-requires
 behind_kind-requires c = (message_body c.args.self.now.body.now c.args.self.now.spells).addressed.some
 
 pub name-requires : goal.name-requires
-name-requires c = ap is_name_bad c.behind_kind.ensures ∙ (message_body c.args.self.now.body.now c.args.self.now.spells).addressed.named
+name-requires c = ap is_name_bad c.behind_kind.ensures
+  ∙ (message_body c.args.self.now.body.now c.args.self.now.spells).addressed.named
 
 pub returns : goal.returns
 unfolding body_name

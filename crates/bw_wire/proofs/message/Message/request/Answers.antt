@@ -14,7 +14,8 @@ pub behind_kind-requires : goal.behind_kind-requires
 behind_kind-requires c = (message_body c.args.self.now.body.now c.args.self.now.spells).addressed.some
 
 pub payload-requires : goal.payload-requires
-payload-requires c = subst HasAddress (sym c.behind_kind.ensures) (message_body c.args.self.now.body.now c.args.self.now.spells).addressed.address
+payload-requires c = subst HasAddress (sym c.behind_kind.ensures)
+  (message_body c.args.self.now.body.now c.args.self.now.spells).addressed.address
 
 pub request_of-requires-clause-request : goal.request_of-requires-clause-request
 request_of-requires-clause-request c = (message_body c.args.self.now.body.now c.args.self.now.spells).kind
