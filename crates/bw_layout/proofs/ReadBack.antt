@@ -12,7 +12,8 @@ use Rattle.bw_model.specs.Reading.{table_at}
 use Rattle.bw_model.specs.Report.{RawFmt, RawCue, raw_cues}
 use Rattle.bw_layout.specs.declared.chunk.ChunkHead.{ChunkHead}
 use Rattle.bw_layout.specs.ReadBack.{HeadsReadBack, FormatsReadBack, EntriesReadBack, EachDs64ReadsBack}
-use Rattle.bw_layout.specs.ReadBack.{CuePointsReadBack, EachCueChunkReadsBack, told_cue, IsEntry, IsMarker}
+use Rattle.bw_model.specs.ReadBack.{told_cue}
+use Rattle.bw_layout.specs.ReadBack.{CuePointsReadBack, EachCueChunkReadsBack, IsEntry, IsMarker}
 use Rattle.bw_layout.specs.Tables.{Fixed, entry_bytes, entry_at, ds64_with_table}
 use Rattle.bw_layout.proofs.Joints.{range_at_seam}
 
