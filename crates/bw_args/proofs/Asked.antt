@@ -19,7 +19,7 @@ given_asked found limit given = (refl, subst (λ t. GivesLimit t limit) (first_v
 pub none_asked : (found : Found) → IsLimitGiven (first_value found (codes "limit")) None
     → (wish : Wish) → ¬ IsWishOf (Some (codes "replay", rows_of found)) wish
 none_asked found given (Replaying n) asked =
-  given n (subst (λ t. GivesLimit t n) (sym (first_value-rows found (codes "limit"))) asked.1)
+    given n (subst (λ t. GivesLimit t n) (sym (first_value-rows found (codes "limit"))) asked.1)
 none_asked found given (Inspecting path) asked = let bad : codes "replay" ≡ codes "inspect" = asked.0 in cc
 
 -- the file that is given is the one that is asked for

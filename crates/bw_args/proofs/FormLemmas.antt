@@ -55,9 +55,9 @@ one_wish (Some command) (Replaying a) (Replaying b) x y =
 one_wish (Some command) (Inspecting a) (Inspecting b) x y =
     let same : Some a ≡ Some b = sym x.1 ∙ y.1 in cc
 one_wish (Some command) (Replaying a) (Inspecting b) x y = let bad : codes "replay" ≡ codes "inspect" =
-  sym x.0 ∙ y.0 in cc
+    sym x.0 ∙ y.0 in cc
 one_wish (Some command) (Inspecting a) (Replaying b) x y = let bad : codes "inspect" ≡ codes "replay" =
-  sym x.0 ∙ y.0 in cc
+    sym x.0 ∙ y.0 in cc
 
 -- the line runs a task for this
 abbrev RunsFor : Wish → CommandLine → Type 0
@@ -67,7 +67,7 @@ RunsFor wish (Tell error) = ⊥
 
 -- words that ask for something run it
 runs : (words : List Text) (line : CommandLine) (wish : Wish) → IsLineOf words line → AsksFor words wish →
-  RunsFor wish line
+    RunsFor wish line
 runs words (Run task) wish is asks = one_wish _ (wish_of task) wish is.asked asks.asked
 runs words BadLimit wish is asks = absurd (is.asks_nothing wish asks)
 runs words (Tell error) wish is asks = absurd (is.asks_nothing wish asks)
@@ -87,13 +87,13 @@ inspects path (Tell error) e = absurd e
 pub runs_replay : (words : List Text) (line : CommandLine) → IsLineOf words line → RunsReplay words line
 runs_replay words line is = record {
   plain = λ program e. replays _ line
-    (runs words line _ is (subst (λ w. AsksFor w (Replaying default_limit)) (sym e) (plain_asks program)));
+      (runs words line _ is (subst (λ w. AsksFor w (Replaying default_limit)) (sym e) (plain_asks program)));
   apart = λ program text given e.
       replays _ line (runs words line _ is
-        (subst (λ w. AsksFor w (Replaying (number_in text))) (sym e) (apart_asks program text given)));
+      (subst (λ w. AsksFor w (Replaying (number_in text))) (sym e) (apart_asks program text given)));
   joined = λ program text given e.
       replays _ line (runs words line _ is
-        (subst (λ w. AsksFor w (Replaying (number_in text))) (sym e) (joined_asks program text given)));
+      (subst (λ w. AsksFor w (Replaying (number_in text))) (sym e) (joined_asks program text given)));
 }
 
 -- words with a fault of one kind tell it
@@ -148,15 +148,15 @@ second_fault program [] [] p q = refl {a = UnknownArgument ∷ []}
 second_fault program [] (d ∷ ds) p q = let value = plain_byte d q in rw (value, value) (refl {a = UnknownArgument ∷ []})
 second_fault program (d ∷ ds) [] p q = let value = plain_byte d p in rw (value, value) (refl {a = UnknownArgument ∷ []})
 second_fault program (c ∷ cs) (d ∷ ds) p q = let v = plain_byte c p in let w =
-  plain_byte d q in rw (v, v, w, w) (refl {a = UnknownArgument ∷ []})
+    plain_byte d q in rw (v, v, w, w) (refl {a = UnknownArgument ∷ []})
 
 pub runs_inspect : (words : List Text) (line : CommandLine) → IsLineOf words line → RunsInspect words line
 runs_inspect words line is = record {
   file = λ program path plain e.
       inspects path line (runs words line _ is
-        (subst (λ w. AsksFor w (Inspecting path)) (sym e) (file_asks program path plain)));
+      (subst (λ w. AsksFor w (Inspecting path)) (sym e) (file_asks program path plain)));
   none = λ program e. tells MissingRequiredArgument words line
-    (ap (fault_of command_line) e ∙ no_file_fault program) is;
+      (ap (fault_of command_line) e ∙ no_file_fault program) is;
   second = λ program path other p q e.
       tells UnknownArgument words line (ap (fault_of command_line) e ∙ second_fault program path other p q) is;
 }

@@ -59,16 +59,16 @@ asked_line a words command wish is free found given = record {
 
 -- the line that words come to, which `clap` takes
 pub line_asked : (a : App) (words : List Text) (command : Option (Text × List Row)) (line : CommandLine) →
-  a ≡ command_line
+    a ≡ command_line
     → (is_simple_and_free a ≡ true → fault_of a words ≡ [])
     → (is_simple a ≡ true → command ≡ subcommand_of a words)
     → IsLineFor command line → IsLineOf words line
 line_asked a words command (Run task) is free found given =
-  asked_line a words command (wish_of task) is free found given
+    asked_line a words command (wish_of task) is free found given
 line_asked a words command BadLimit is free found none = record {
   taken = no_fault a words is free;
   asks_nothing = λ wish asks. none wish
-    (subst (λ o. IsWishOf o wish) (sym (same_command a words command is found)) asks.asked);
+      (subst (λ o. IsWishOf o wish) (sym (same_command a words command is found)) asks.asked);
 }
 line_asked a words command (Tell error) is free found given = absurd given
 

@@ -22,7 +22,7 @@ inspect_command = with_rule (new_app (codes "inspect")) file_argument
 -- the program, which has a version and wants a command
 abbrev pub program : App
 program = on_top (λ s. record s { has_version = true; subcommand_required = true })
-  (new_app (codes "bwingest"))
+    (new_app (codes "bwingest"))
 
 -- the whole
 abbrev pub command_line : App

@@ -23,7 +23,7 @@ pub record IsAddressed (rest : List ℕ) : Type 0 where
   pub payload_fits : are_bytes (payload_in rest) ≡ true
 
 addressed_cons : (n : ℕ) (xs : List ℕ) → are_bytes (n ∷ xs) ≡ true → is_name_bad (n ∷ xs) ≡ false →
-  nat_lt (length (behind_name (n ∷ xs))) 4 ≡ false → IsAddressed (n ∷ xs)
+    nat_lt (length (behind_name (n ∷ xs))) 4 ≡ false → IsAddressed (n ∷ xs)
 addressed_cons n xs fits name_ok number_ok =
     let tests = or_parts (nat_lt (suc (length xs)) (1 + n)) (not (is_name (name_in (n ∷ xs)))) name_ok in
     let within : 1 + n ≤ suc (length xs) = ltb-false (suc (length xs)) (1 + n) tests.0 in
@@ -37,20 +37,20 @@ addressed_cons n xs fits name_ok number_ok =
           ∙ ap (λ (k : ℕ). k ∷ (take n xs ++ drop n xs)) (sym len)
           ∙ ap (λ (x : List ℕ). length x ∷ (x ++ drop n xs)) (sym (name_in-cons n xs))
           ∙ ap (λ (x : List ℕ). length (name_in (n ∷ xs)) ∷ (name_in (n ∷ xs) ++ x))
-            (sym (behind_name-cons n xs) ∙ sym number);
+          (sym (behind_name-cons n xs) ∙ sym number);
       named = not-false (is_name (name_in (n ∷ xs))) tests.1;
       payload_fits = (are_bytes-parts 4 (behind_name (n ∷ xs)) rest_fits).1;
     }
 
 -- bytes with no fault in name and number
 pub addressed_from_tests : (last : ℕ) (rest : List ℕ) → are_bytes rest ≡ true → is_name_bad rest ≡ false →
-  is_number_bad last rest ≡ false → IsAddressed rest × (nat_le (number_in rest) last ≡ true)
+    is_number_bad last rest ≡ false → IsAddressed rest × (nat_le (number_in rest) last ≡ true)
 addressed_from_tests last rest fits name_ok number_ok =
     let tests = or_parts (nat_lt (length (behind_name rest)) 4) (nat_lt last (number_in rest)) number_ok in
     (go rest fits name_ok tests.0, le-leb (number_in rest) last (ltb-false last (number_in rest) tests.1))
   where
     go : (rest : List ℕ) → are_bytes rest ≡ true → is_name_bad rest ≡ false →
-      nat_lt (length (behind_name rest)) 4 ≡ false → IsAddressed rest
+        nat_lt (length (behind_name rest)) 4 ≡ false → IsAddressed rest
     go [] fits name_ok number_ok = absurd cc
     go (n ∷ xs) fits name_ok number_ok = addressed_cons n xs fits name_ok number_ok
 
@@ -68,13 +68,13 @@ reads-addressed name number payload named below =
     let more = le32 number ++ payload in
     let rest = length name ∷ (name ++ more) in
     let name_is : name_in rest ≡ name =
-        name_in-cons (length name) (name ++ more) ∙ take_at name more (length name) refl in
+    name_in-cons (length name) (name ++ more) ∙ take_at name more (length name) refl in
     let behind_is : behind_name rest ≡ more =
-        behind_name-cons (length name) (name ++ more) ∙ drop_at name more (length name) refl in
+    behind_name-cons (length name) (name ++ more) ∙ drop_at name more (length name) refl in
     record {
       name_is = name_is;
       number_is = ap (λ (b : List ℕ). u32_at b 0) behind_is
-        ∙ number_at-written w32 (2 ^ 32) wide32 number payload below;
+          ∙ number_at-written w32 (2 ^ 32) wide32 number payload below;
       payload_is = ap (drop 4) behind_is;
       name_good =
           or_from (nat_lt (length rest) (1 + length name)) (not (is_name (name_in rest)))

@@ -242,7 +242,7 @@ book-with_log b x l h log room = record {
         omega (arith, more, free)
 
 message_keeps : (stood : List ℕ → Bool) (b : Book) (m : Message) (luck : Luck) → is_request m.request ≡ true →
-  IsBook b →
+    IsBook b →
     IsBook (message_turn (stood m.name) b m luck).1
 unfolding turn_by
 message_keeps stood b m luck fit h =

@@ -21,10 +21,10 @@ IsBytes-from_test (b ∷ bs) h (suc i) = IsBytes-from_test bs (and_parts (is_bel
 
 -- the front and the rest of bytes are bytes
 pub are_bytes-parts : (n : ℕ) (bytes : List ℕ) → are_bytes bytes ≡ true →
-  (are_bytes (take n bytes) ≡ true) × (are_bytes (drop n bytes) ≡ true)
+    (are_bytes (take n bytes) ≡ true) × (are_bytes (drop n bytes) ≡ true)
 are_bytes-parts n bytes h =
     and_parts (are_bytes (take n bytes)) (are_bytes (drop n bytes))
-      (sym (list_all-append (is_below 256) (take n bytes) (drop n bytes)) ∙ ap are_bytes (take-append-drop n bytes) ∙ h)
+    (sym (list_all-append (is_below 256) (take n bytes) (drop n bytes)) ∙ ap are_bytes (take-append-drop n bytes) ∙ h)
 
 pub are_bytes-tail : (xs ys : List ℕ) → are_bytes (xs ++ ys) ≡ true → are_bytes ys ≡ true
 are_bytes-tail xs ys h = (and_parts (are_bytes xs) (are_bytes ys) (sym (list_all-append (is_below 256) xs ys) ∙ h)).1
@@ -32,7 +32,7 @@ are_bytes-tail xs ys h = (and_parts (are_bytes xs) (are_bytes ys) (sym (list_all
 -- the numbers below the limit are those of this width
 pub record IsWide (w : Width) (limit : ℕ) : Type 0 where
   pub back : (bytes : List ℕ) → length bytes ≡ byte_len w → IsBytes bytes →
-    to_le_bytes w (from_le_bytes w bytes) ≡ bytes
+      to_le_bytes w (from_le_bytes w bytes) ≡ bytes
   pub again : (n : ℕ) → n < limit → from_le_bytes w (to_le_bytes w n) ≡ n
   pub below : (bytes : List ℕ) → IsBytes bytes → from_le_bytes w bytes < limit
   pub len : (n : ℕ) → length (to_le_bytes w n) ≡ byte_len w
@@ -67,20 +67,20 @@ number_at w bytes p = from_le_bytes w (slice_range bytes p (p + byte_len w))
 
 -- what stands at a place is a number and what follows it
 pub written-number_at : (w : Width) (limit : ℕ) (wide : IsWide w limit) (bytes : List ℕ) (p : ℕ) →
-  are_bytes bytes ≡ true → p + byte_len w ≤ length bytes
+    are_bytes bytes ≡ true → p + byte_len w ≤ length bytes
     → (to_le_bytes w (number_at w bytes p) ++ drop (p + byte_len w) bytes ≡ drop p bytes)
-      × (number_at w bytes p < limit)
+    × (number_at w bytes p < limit)
 written-number_at w limit wide bytes p fits long =
     let piece : take (p + byte_len w - p) (drop p bytes) ≡ take (byte_len w) (drop p bytes) =
-        ap (λ (n : ℕ). take n (drop p bytes)) (omega arith) in
+    ap (λ (n : ℕ). take n (drop p bytes)) (omega arith) in
     let rest_fits = (are_bytes-parts p bytes fits).1 in
     let piece_fits = IsBytes-from_test (take (byte_len w) (drop p bytes))
-        (are_bytes-parts (byte_len w) (drop p bytes) rest_fits).0 in
+    (are_bytes-parts (byte_len w) (drop p bytes) rest_fits).0 in
     let len : length (take (byte_len w) (drop p bytes)) ≡ byte_len w =
-        length-take-le (byte_len w) (drop p bytes) (omega (arith, length-drop p bytes)) in
+    length-take-le (byte_len w) (drop p bytes) (omega (arith, length-drop p bytes)) in
     rw piece (
       ap (λ (x : List ℕ). x ++ drop (p + byte_len w) bytes)
-        (wide.back (take (byte_len w) (drop p bytes)) len piece_fits)
+          (wide.back (take (byte_len w) (drop p bytes)) len piece_fits)
           ∙ ap (λ (x : List ℕ). take (byte_len w) (drop p bytes) ++ x) (sym (drop-drop (byte_len w) p bytes))
           ∙ take-append-drop (byte_len w) (drop p bytes),
       wide.below (take (byte_len w) (drop p bytes)) piece_fits,
@@ -88,7 +88,7 @@ written-number_at w limit wide bytes p fits long =
 
 -- a number in front of other bytes is read again
 pub number_at-written : (w : Width) (limit : ℕ) (wide : IsWide w limit) (n : ℕ) (rest : List ℕ) → n < limit →
-  number_at w (to_le_bytes w n ++ rest) 0 ≡ n
+    number_at w (to_le_bytes w n ++ rest) 0 ≡ n
 number_at-written w limit wide n rest lt =
     let piece : 0 + byte_len w - 0 ≡ byte_len w = omega arith in
     rw piece (rw (take_at (to_le_bytes w n) rest (byte_len w) (wide.len n)) (wide.again n lt))

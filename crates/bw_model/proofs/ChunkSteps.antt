@@ -22,7 +22,7 @@ none_holds [] e = tt
 none_holds (l ∷ ls) e = go l.0 refl e (none_holds ls)
   where
     go : (v : Bool) → l.0 ≡ v → cond v (Some l.1) (first_that_holds ls) ≡ None →
-      (first_that_holds ls ≡ None → NoneHolds ls) → (l.0 ≡ false) × NoneHolds ls
+        (first_that_holds ls ≡ None → NoneHolds ls) → (l.0 ≡ false) × NoneHolds ls
     go true p e ih = absurd (some e)
       where
         some : Some l.1 ≡ None → ⊥
@@ -35,7 +35,7 @@ first-none (l ∷ ls) h = ap (λ (v : Bool). cond v (Some l.1) (first_that_holds
 
 -- the row that `find` gives is the first
 first_row : (table : List (List ℕ × ℕ)) (id : List ℕ) (size : ℕ) →
-  option_map (λ row. row.1) (find (λ row. is_id row.0 id) table) ≡ Some size → IsFirstRow table id size
+    option_map (λ row. row.1) (find (λ row. is_id row.0 id) table) ≡ Some size → IsFirstRow table id size
 first_row [] id size e = absurd (none e)
   where
     none : None ≡ Some size → ⊥
@@ -43,33 +43,41 @@ first_row [] id size e = absurd (none e)
 first_row (row ∷ table) id size e = go (is_id row.0 id) refl e (first_row table id size)
   where
     go : (v : Bool) → is_id row.0 id ≡ v →
-      option_map (λ row. row.1) (cond v (Some row) (find (λ row. is_id row.0 id) table)) ≡ Some size →
+        option_map (λ row. row.1) (cond v (Some row) (find (λ row. is_id row.0 id) table)) ≡ Some size →
         (option_map (λ row. row.1) (find (λ row. is_id row.0 id) table) ≡ Some size → IsFirstRow table id size) →
-          IsFirstRow (row ∷ table) id size
+        IsFirstRow (row ∷ table) id size
     go true p e ih =
         let named : row.0 ≡ id = same_name row.0 id p in
         let sized : row.1 ≡ size = cc in
-        record { before = []; behind = table;
-          whole = ap (λ (z : List ℕ). (z, row.1) ∷ table) named ∙ ap (λ (n : ℕ). (id, n) ∷ table) sized; first = refl }
+        record {
+          before = [];
+          behind = table;
+          whole = ap (λ (z : List ℕ). (z, row.1) ∷ table) named ∙ ap (λ (n : ℕ). (id, n) ∷ table) sized;
+          first = refl;
+        }
     go false p e ih =
         let rest = ih e in
-        record { before = row ∷ rest.before; behind = rest.behind;
-          whole = ap (λ (z : List (List ℕ × ℕ)). row ∷ z) rest.whole; first =
-          ap (λ (v : Bool). v || list_any (λ row. is_id row.0 id) rest.before) p ∙ rest.first }
+        record {
+          before = row ∷ rest.before;
+          behind = rest.behind;
+          whole = ap (λ (z : List (List ℕ × ℕ)). row ∷ z) rest.whole;
+          first =
+              ap (λ (v : Bool). v || list_any (λ row. is_id row.0 id) rest.before) p ∙ rest.first;
+        }
 
 row_first : (before behind : List (List ℕ × ℕ)) (id : List ℕ) (size : ℕ) →
-  list_any (λ row. is_id row.0 id) before ≡ false →
+    list_any (λ row. is_id row.0 id) before ≡ false →
     option_map (λ row. row.1) (find (λ row. is_id row.0 id) (before ++ (id, size) ∷ behind)) ≡ Some size
 row_first [] behind id size h =
-  ap (λ (v : Bool). option_map (λ row. row.1) (cond v (Some (id, size)) (find (λ row. is_id row.0 id) behind)))
-  (name_refl id)
+    ap (λ (v : Bool). option_map (λ row. row.1) (cond v (Some (id, size)) (find (λ row. is_id row.0 id) behind)))
+    (name_refl id)
 row_first (row ∷ before) behind id size h = go (is_id row.0 id) h (λ q. row_first before behind id size q)
   where
     go : (v : Bool) → v || list_any (λ row. is_id row.0 id) before ≡ false →
         (list_any (λ row. is_id row.0 id) before ≡ false →
-          option_map (λ row. row.1) (find (λ row. is_id row.0 id) (before ++ (id, size) ∷ behind)) ≡ Some size) →
+        option_map (λ row. row.1) (find (λ row. is_id row.0 id) (before ++ (id, size) ∷ behind)) ≡ Some size) →
         option_map (λ row. row.1) (cond v (Some row) (find (λ row. is_id row.0 id) (before ++ (id, size) ∷ behind)))
-          ≡ Some size
+        ≡ Some size
     go true h ih = cc
     go false h ih = ih h
 
@@ -83,11 +91,13 @@ told None id size e = absurd (none e)
 told (Some s) id size e = go (is_id id (codes "data")) refl e
   where
     go : (v : Bool) → is_id id (codes "data") ≡ v →
-      cond v (Some s.«data») (option_map (λ row. row.1) (find (λ row. is_id row.0 id) s.table)) ≡ Some size →
-      IsTold (Some s) id size
+        cond v (Some s.«data») (option_map (λ row. row.1) (find (λ row. is_id row.0 id) s.table)) ≡ Some size →
+        IsTold (Some s) id size
     go true p e = inl (same_name id (codes "data") p, (let h : s.«data» ≡ size = cc in sym h))
-    go false p e = inr ((λ q. false≢true (sym p ∙ ap (λ (z : List ℕ). is_id z (codes "data")) q)),
-      first_row s.table id size e)
+    go false p e = inr (
+      (λ q. false≢true (sym p ∙ ap (λ (z : List ℕ). is_id z (codes "data")) q)),
+      first_row s.table id size e,
+    )
 
 tells : (sizes : Option Sizes) (id : List ℕ) (size : ℕ) → IsTold sizes id size → told_size sizes id ≡ Some size
 tells None id size h = absurd h
@@ -95,7 +105,7 @@ tells (Some s) id size (inl h) =
     ap (λ (z : List ℕ). told_size (Some s) z) h.0 ∙ ap (λ (n : ℕ). Some n) (sym h.1)
 tells (Some s) id size (inr h) =
     ap (λ (v : Bool). cond v (Some s.«data») (option_map (λ row. row.1) (find (λ row. is_id row.0 id) s.table)))
-      (other (is_id id (codes "data")) refl)
+    (other (is_id id (codes "data")) refl)
     ∙ ap (λ (t : List (List ℕ × ℕ)). option_map (λ row. row.1) (find (λ row. is_id row.0 id) t)) h.1.whole
     ∙ row_first h.1.before h.1.behind id size h.1.first
   where
@@ -117,17 +127,19 @@ record IsListed (len end : ℕ) (seen : List Entry) (p : ℕ) (h : Head) (e : En
   entry : listed p h (unwrap_or h.size 0) ≡ e
 
 is_listed : (len end : ℕ) (seen : List Entry) (p : ℕ) (h : Head) (e : Entry) → next_by len end seen p h ≡ Ok (Some e) →
-  IsListed len end seen p h e
+    IsListed len end seen p h e
 is_listed len end seen p h e n =
-  go (nat_le (p + 8) end) (first_that_holds (chunk_faults len end seen p h (unwrap_or h.size 0))) refl
-  (first_that_holds (end_faults end seen)) n
+    go (nat_le (p + 8) end) (first_that_holds (chunk_faults len end seen p h (unwrap_or h.size 0))) refl
+    (first_that_holds (end_faults end seen)) n
   where
     go : (v : Bool) (x : Option Fault) → first_that_holds (chunk_faults len end seen p h (unwrap_or h.size 0)) ≡ x →
-      (y : Option Fault) →
+        (y : Option Fault) →
         cond {A = Result (Option Entry) Fault} v (unless x (Some (listed p h (unwrap_or h.size 0)))) (unless y None)
-          ≡ Ok (Some e) → IsListed len end seen p h e
-    go true None q y n = record { faults = none_holds (chunk_faults len end seen p h (unwrap_or h.size 0)) q;
-      entry = same n }
+        ≡ Ok (Some e) → IsListed len end seen p h e
+    go true None q y n = record {
+      faults = none_holds (chunk_faults len end seen p h (unwrap_or h.size 0)) q;
+      entry = same n;
+    }
       where
         same : lists (Some (listed p h (unwrap_or h.size 0))) ≡ lists (Some e) → listed p h (unwrap_or h.size 0) ≡ e
         same n = cc
@@ -161,11 +173,11 @@ has_size (Some c) h = refl
 
 -- the size that stands or is told
 sized : (b : List ℕ) (form : Form) (p c : ℕ) → size_at b form p ≡ Some c →
-  IsSized b form (record { id = id_at b p; place = p; size = c })
+    IsSized b form (record { id = id_at b p; place = p; size = c })
 sized b form p c h = go (u32_at b (p + 4) == unsaid) refl h
   where
     go : (v : Bool) → (u32_at b (p + 4) == unsaid) ≡ v →
-      cond v (told_size form.sizes (id_at b p)) (Some (u32_at b (p + 4))) ≡ Some c →
+        cond v (told_size form.sizes (id_at b p)) (Some (u32_at b (p + 4))) ≡ Some c →
         IsSized b form (record { id = id_at b p; place = p; size = c })
     go true q h = inr (eqb-true (u32_at b (p + 4)) unsaid q, told form.sizes (id_at b p) c h)
     go false q h = inl (eqb-false (u32_at b (p + 4)) unsaid q, same h)
@@ -174,13 +186,13 @@ sized b form p c h = go (u32_at b (p + 4) == unsaid) refl h
         same h = cc
 
 sizes : (b : List ℕ) (form : Form) (p c : ℕ) → IsSized b form (record { id = id_at b p; place = p; size = c }) →
-  size_at b form p ≡ Some c
+    size_at b form p ≡ Some c
 sizes b form p c (inl h) =
     ap (λ (v : Bool). cond v (told_size form.sizes (id_at b p)) (Some (u32_at b (p + 4))))
-      (ne_eqb (u32_at b (p + 4)) unsaid h.0) ∙ ap (λ (n : ℕ). Some n) (sym h.1)
+    (ne_eqb (u32_at b (p + 4)) unsaid h.0) ∙ ap (λ (n : ℕ). Some n) (sym h.1)
 sizes b form p c (inr h) =
     ap (λ (v : Bool). cond v (told_size form.sizes (id_at b p)) (Some (u32_at b (p + 4))))
-      (eq-eqb (u32_at b (p + 4)) unsaid h.0) ∙ tells form.sizes (id_at b p) c h.1
+    (eq-eqb (u32_at b (p + 4)) unsaid h.0) ∙ tells form.sizes (id_at b p) c h.1
 
 -- what it takes that a chunk is listed behind those seen
 pub record Step (b : List ℕ) (form : Form) (seen : List Entry) (e : Entry) : Type 0 where
@@ -191,7 +203,7 @@ pub record Step (b : List ℕ) (form : Form) (seen : List Entry) (e : Entry) : T
 
 faultless : (b : List ℕ) (form : Form) (seen : List Entry) (p c : ℕ) → p ≡ next_place seen → size_at b form p ≡ Some c →
     NoneHolds (chunk_faults (length b) (form_end form) seen p (head_at b form p) c) →
-      Step b form seen (record { id = id_at b p; place = p; size = c })
+    Step b form seen (record { id = id_at b p; place = p; size = c })
 faultless b form seen p c e s h =
     let id = id_at b p in
     let count = u32_at b (p + 8) in
@@ -217,23 +229,23 @@ faultless b form seen p c e s h =
     }
 
 pub steps_to : (b : List ℕ) (form : Form) (seen : List Entry) (e : Entry) → next b form seen ≡ Ok (Some e) →
-  Step b form seen e
+    Step b form seen e
 unfolding next
 steps_to b form seen e n =
     let p = next_place seen in
     let l = is_listed (length b) (form_end form) seen p (head_at b form p) e n in
     subst (λ (z : Entry). Step b form seen z) l.entry
     (faultless b form seen p (unwrap_or (size_at b form p) 0) refl
-      (has_size (size_at b form p) l.faults.1.1.0) l.faults)
+    (has_size (size_at b form p) l.faults.1.1.0) l.faults)
 
 -- A chunk that stands at its place is listed.
 
 no_faults : (b : List ℕ) (form : Form) (seen : List Entry) (p c : ℕ) (id : List ℕ) → size_at b form p ≡ Some c →
-  length seen < 4096 →
+    length seen < 4096 →
     IsChunkAt b form (record { id = id; place = p; size = c }) →
-      list_any (is_id id) single_ids && is_some (entry_of id seen) ≡ false →
+    list_any (is_id id) single_ids && is_some (entry_of id seen) ≡ false →
     NoneHolds (chunk_faults (length b) (form_end form) seen p
-      (record { id = id; size = Some c; count = u32_at b (p + 8) }) c)
+    (record { id = id; size = Some c; count = u32_at b (p + 8) }) c)
 no_faults b form seen p c id s few h new =
     let count = u32_at b (p + 8) in
     let inside : p + 8 + c ≤ length b = h.in_bytes in (
@@ -256,12 +268,12 @@ no_faults b form seen p c id s few h new =
                       on_id id (codes "cue ") (nat_lt c 4) (λ q. le-ltb c 4 (h.cue q).count),
                       (
                         on_id id (codes "cue ") (nat_lt (length b) (p + 12))
-                          (λ q. le-ltb (length b) (p + 12) (let four : 4 ≤ c = (h.cue q).count in omega arith)),
+                            (λ q. le-ltb (length b) (p + 12) (let four : 4 ≤ c = (h.cue q).count in omega arith)),
                         (
                           on_id id (codes "cue ") (nat_lt 65536 count) (λ q. le-ltb 65536 count (h.cue q).few),
                           (
                             on_id id (codes "cue ") (nat_lt c (4 + 24 * count))
-                              (λ q. le-ltb c (4 + 24 * count) (h.cue q).points),
+                                (λ q. le-ltb c (4 + 24 * count) (h.cue q).points),
                             (
                               le-ltb (length b) (p + 8 + c) inside,
                               tt,
@@ -280,7 +292,7 @@ no_faults b form seen p c id s few h new =
     )
 
 pub step_from : (b : List ℕ) (form : Form) (seen : List Entry) (e : Entry) → Step b form seen e →
-  next b form seen ≡ Ok (Some e)
+    next b form seen ≡ Ok (Some e)
 unfolding next
 step_from b form seen e h =
     let p = next_place seen in
@@ -289,21 +301,21 @@ step_from b form seen e h =
     let end = form_end form in
     let count = u32_at b (p + 8) in
     let h' : IsChunkAt b form (record { id = e.id; place = p; size = c }) =
-        subst (λ (q : ℕ). IsChunkAt b form (record { id = e.id; place = q; size = c })) h.place h.chunk in
+    subst (λ (q : ℕ). IsChunkAt b form (record { id = e.id; place = q; size = c })) h.place h.chunk in
     let spelled : id_at b p ≡ e.id = h'.spelled in
     let size : size_at b form p ≡ Some c =
-        sizes b form p c (subst (λ (i : List ℕ). IsSized b form (record { id = i; place = p; size = c }))
-        (sym spelled) h'.sized) in
+    sizes b form p c (subst (λ (i : List ℕ). IsSized b form (record { id = i; place = p; size = c }))
+    (sym spelled) h'.sized) in
     let inside : p + 8 + c ≤ end = h'.in_form in
     let goes_on : nat_le (p + 8) end ≡ true = le-leb (p + 8) end (omega arith) in
     let faults = first-none (chunk_faults len end seen p (record { id = e.id; size = Some c; count = count }) c)
-        (no_faults b form seen p c e.id size h.few h' h.new) in
+    (no_faults b form seen p c e.id size h.few h' h.new) in
     let place : p ≡ e.place = sym h.place in
     ap (λ (i : List ℕ). next_by len end seen p (record { id = i; size = size_at b form p; count = count })) spelled
     ∙ ap (λ (z : Option ℕ). next_by len end seen p (record { id = e.id; size = z; count = count })) size
     ∙ ap (λ (v : Bool). cond v
-      (unless (first_that_holds (chunk_faults len end seen p (record { id = e.id; size = Some c; count = count }) c))
-      (Some (record { id = e.id; place = p; size = c }))) (unless (first_that_holds (end_faults end seen)) None))
-      goes_on
+    (unless (first_that_holds (chunk_faults len end seen p (record { id = e.id; size = Some c; count = count }) c))
+    (Some (record { id = e.id; place = p; size = c }))) (unless (first_that_holds (end_faults end seen)) None))
+    goes_on
     ∙ ap (λ (x : Option Fault). unless x (Some (record { id = e.id; place = p; size = c }))) faults
     ∙ ap (λ (q : ℕ). lists (Some (record { id = e.id; place = q; size = c }))) place

@@ -15,6 +15,6 @@ use Rattle.bw_model.specs.World.{happens}
 
 unfoldable pub computing : ⊤
 unfolding judge file_with form_of form_len header outer next walk read report_of report_text decoded decoded_reply
-  first_frame stream_of made served own_reply turn_by turn happens digits sha256 digest_bytes hash_after compress
-  rounds schedule first_words
+    first_frame stream_of made served own_reply turn_by turn happens digits sha256 digest_bytes hash_after compress
+    rounds schedule first_words
 computing = tt

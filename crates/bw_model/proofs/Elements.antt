@@ -27,7 +27,7 @@ each-map P Q [] f h = tt
 each-map P Q (x ∷ xs) f h = (f x h.0, each-map P Q xs f h.1)
 
 pub get-push : {X : Type 0} (xs : List X) (y : X) (n : ℕ) (x : X) → slice_get xs n ≡ Some x →
-  slice_get (xs ++ y ∷ []) n ≡ Some x
+    slice_get (xs ++ y ∷ []) n ≡ Some x
 get-push [] y n x e = absurd (none e)
   where
     none : {X : Type 0} {x : X} → None ≡ Some x → ⊥

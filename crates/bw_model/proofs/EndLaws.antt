@@ -28,7 +28,7 @@ ends_to b form seen n =
     let h = head_at b form p in
     let c = unwrap_or h.size 0 in
     go (nat_le (p + 8) end) refl (first_that_holds (chunk_faults (length b) end seen p h c))
-      (record { id = h.id; place = p; size = c }) (first_that_holds (end_faults end seen)) refl n
+    (record { id = h.id; place = p; size = c }) (first_that_holds (end_faults end seen)) refl n
   where
     p : ℕ
     p = next_place seen
@@ -37,7 +37,7 @@ ends_to b form seen n =
     end = form_end form
 
     go : (v : Bool) → nat_le (p + 8) end ≡ v → (x : Option Fault) (e : Entry) (y : Option Fault) →
-      first_that_holds (end_faults end seen) ≡ y →
+        first_that_holds (end_faults end seen) ≡ y →
         cond {A = Result (Option Entry) Fault} v (unless x (Some e)) (unless y None) ≡ Ok None → Ends form seen
     go true q None e y r n = absurd (apart n)
       where
@@ -63,12 +63,12 @@ ends_from b form seen h =
     let end = form_end form in
     let c = unwrap_or (head_at b form p).size 0 in
     ap (λ (v : Bool). cond v
-      (unless (first_that_holds (chunk_faults (length b) end seen p (head_at b form p) c))
-      (Some (record { id = (head_at b form p).id; place = p; size = c })))
-      (unless (first_that_holds (end_faults end seen)) None))
+    (unless (first_that_holds (chunk_faults (length b) end seen p (head_at b form p) c))
+    (Some (record { id = (head_at b form p).id; place = p; size = c })))
+    (unless (first_that_holds (end_faults end seen)) None))
     (lt-leb (p + 8) end h.ends)
     ∙ ap (λ (y : Option Fault). unless {X = Option Entry} y None)
-      (first-none (end_faults end seen) (h.fmt, (h.samples, tt)))
+    (first-none (end_faults end seen) (h.fmt, (h.samples, tt)))
 
 -- found and counted
 counted : (id : List ℕ) (es : List Entry) → is_none (entry_of id es) ≡ false → count_of id es ≤ 1 → count_of id es ≡ 1
@@ -95,22 +95,30 @@ readings b form entries = (to, from)
     to : IsReading b form entries → StandsFirst b form entries × FillsForm form entries
     to r =
         let s = (fronts b form entries).0 r.front in
-        let e = ends_to b form entries r.ends in
-        (s, record { ends = e.ends; fmt = counted (codes "fmt ") entries e.fmt (s.single (codes "fmt ") refl);
-          samples = counted (codes "data") entries e.samples (s.single (codes "data") refl) })
+        let e = ends_to b form entries r.ends in (
+          s,
+          record {
+            ends = e.ends;
+            fmt = counted (codes "fmt ") entries e.fmt (s.single (codes "fmt ") refl);
+            samples = counted (codes "data") entries e.samples (s.single (codes "data") refl);
+          },
+        )
 
     from : StandsFirst b form entries × FillsForm form entries → IsReading b form entries
     from h = record {
       front = (fronts b form entries).1 h.0;
       ends = ends_from b form entries
-        (record { ends = h.1.ends; fmt = found (codes "fmt ") entries h.1.fmt;
-        samples = found (codes "data") entries h.1.samples });
+          (record {
+            ends = h.1.ends;
+            fmt = found (codes "fmt ") entries h.1.fmt;
+            samples = found (codes "data") entries h.1.samples;
+          });
     }
 
 -- one more chunk behind those that follow each other
 follow-push : (comes : List Entry → Result (Option Entry) Fault) (before seen : List Entry) (e : Entry) →
     FollowEachOther comes before seen → comes (before ++ seen) ≡ Ok (Some e) →
-      FollowEachOther comes before (seen ++ e ∷ [])
+    FollowEachOther comes before (seen ++ e ∷ [])
 follow-push comes before [] e f h = (ap comes (sym (append-nil before)) ∙ h, tt)
 follow-push comes before (d ∷ seen) e f h =
     (f.0, follow-push comes (before ++ d ∷ []) seen e f.1 (ap comes (append_assoc before (d ∷ []) seen) ∙ h))
@@ -141,8 +149,10 @@ read_whole b form seen r = record {
         subst (λ (x : Form × List Entry). IsReading b x.0 x.1) pairs r
 
 faults_at : (b : List ℕ) (fault : Fault) → IsFault b fault → Walks b (Err fault)
-faults_at b fault h = record { reading = λ g es e. absurd (apart g es e);
-  fault = λ f e. subst (IsFault b) (same f e) h }
+faults_at b fault h = record {
+  reading = λ g es e. absurd (apart g es e);
+  fault = λ f e. subst (IsFault b) (same f e) h;
+}
   where
     broken : Result (Form × List Entry) Fault
     broken = Err fault
@@ -154,15 +164,15 @@ faults_at b fault h = record { reading = λ g es e. absurd (apart g es e);
     same f e = cc
 
 walks : (steps : ℕ) (b : List ℕ) (form : Form) (seen : List Entry) → IsFront b form seen → length seen + steps ≡ 4097 →
-  length seen ≤ 4096 → Walks b (walk steps b form seen)
+    length seen ≤ 4096 → Walks b (walk steps b form seen)
 unfolding walk
 walks zero b form seen front all few = absurd (omega arith)
 walks (suc steps) b form seen front all few =
-  go (next b form seen) refl (λ e f k l. walks steps b form (seen ++ e ∷ []) f k l)
+    go (next b form seen) refl (λ e f k l. walks steps b form (seen ++ e ∷ []) f k l)
   where
     go : (x : Result (Option Entry) Fault) → next b form seen ≡ x →
         ((e : Entry) → IsFront b form (seen ++ e ∷ []) → length (seen ++ e ∷ []) + steps ≡ 4097 →
-          length (seen ++ e ∷ []) ≤ 4096 → Walks b (walk steps b form (seen ++ e ∷ []))) →
+        length (seen ++ e ∷ []) ≤ 4096 → Walks b (walk steps b form (seen ++ e ∷ []))) →
         Walks b (elim x [
           | Err fault ↦ Err fault
           | Ok more ↦ elim more [ None ↦ Ok (form, seen) | Some e ↦ walk steps b form (seen ++ e ∷ []) ]
@@ -174,7 +184,7 @@ walks (suc steps) b form seen front all few =
         let room : length seen < 4096 = step.few in
         let longer = length-append seen (e ∷ []) in
         ih e (record { header = front.header; chunks = follow-push (next b form) [] seen e front.chunks q })
-          (omega (arith, longer)) (omega (arith, longer))
+        (omega (arith, longer)) (omega (arith, longer))
 
 pub reads : BytesReadOrFault
 unfolding read
@@ -183,6 +193,6 @@ reads b =
     record { reading = w.reading; fault = w.fault }
   where
     go : (x : Result Form Fault) → outer b ≡ x →
-      Walks b (elim x [ Err fault ↦ Err fault | Ok form ↦ walk 4097 b form [] ])
+        Walks b (elim x [ Err fault ↦ Err fault | Ok form ↦ walk 4097 b form [] ])
     go (Err fault) q = faults_at b fault (inl q)
     go (Ok form) q = walks 4097 b form [] (record { header = q; chunks = tt }) refl (omega arith)

@@ -32,11 +32,11 @@ no_longer Level n h = go (or_cases (n == 0) (n == 2) h)
 
 padded-length : (v : List ℕ) (w : ℕ) → length v ≤ w → length (v ++ zeros (w - length v)) ≡ w
 padded-length v w h = length-append v (zeros (w - length v))
-  ∙ ap (λ (k : ℕ). length v + k) (length-replicate (w - length v) 0) ∙ omega arith
+    ∙ ap (λ (k : ℕ). length v + k) (length-replicate (w - length v) 0) ∙ omega arith
 
 -- a field's bytes have its width
 pub length-field_bytes : (s : Shape) (v : List ℕ) → is_length_allowed s (length v) ≡ true →
-  length (field_bytes s v) ≡ width s
+    length (field_bytes s v) ≡ width s
 length-field_bytes (Text w) v h = padded-length v w (no_longer (Text w) (length v) h)
 length-field_bytes (Digits form) v h = padded-length v (length form) (no_longer (Digits form) (length v) h)
 length-field_bytes (Whole w) v h = padded-length v w (no_longer (Whole w) (length v) h)
@@ -58,8 +58,8 @@ allowed None v h = absurd (none h)
 allowed (Some s) v h = go (is_length_allowed s (length v)) refl h
   where
     go : (x : Bool) → is_length_allowed s (length v) ≡ x →
-      cond (not x) (Some BadLength) (cond (not (are_bytes_allowed s v)) (Some BadText) None) ≡ None →
-      IsAllowed (Some s) v
+        cond (not x) (Some BadLength) (cond (not (are_bytes_allowed s v)) (Some BadText) None) ≡ None →
+        IsAllowed (Some s) v
     go true e h = record { the = s; has = refl; long = e }
     go false e h = absurd (none h)
       where
@@ -68,7 +68,7 @@ allowed (Some s) v h = go (is_length_allowed s (length v)) refl h
 
 -- one field in place of another of its width
 set-keeps : (fs : List (List ℕ)) (ss : List Shape) (n : ℕ) (s : Shape) (x : List ℕ) → map length fs ≡ map width ss →
-  slice_get ss n ≡ Some s → length x ≡ width s →
+    slice_get ss n ≡ Some s → length x ≡ width s →
     map length (slice_set fs n x) ≡ map width ss
 set-keeps [] ss n s x e g l = e
 set-keeps (f ∷ fs) [] n s x e g l = absurd (none g)
@@ -83,14 +83,14 @@ set-keeps (f ∷ fs) (r ∷ ss) (suc n) s x e g l =
     let first : length f ≡ width r = cc in
     let rest : map length fs ≡ map width ss = cc in
     ap (λ (w : ℕ). w ∷ map length (slice_set fs n x)) first
-      ∙ ap (λ (ns : List ℕ). width r ∷ ns) (set-keeps fs ss n s x rest g l)
+    ∙ ap (λ (ns : List ℕ). width r ∷ ns) (set-keeps fs ss n s x rest g l)
 
 -- setting a field keeps the widths
 pub fields-with : (fields : List (List ℕ)) (tag : ℕ) (v : List ℕ) → AreFields fields → field_fault tag v ≡ None →
-  AreFields (with_field fields tag v)
+    AreFields (with_field fields tag v)
 fields-with fields zero v h e = h
 fields-with fields (suc n) v h e =
     let a = allowed (shape_of (suc n)) v e in
     subst (λ (x : Option Shape). map (length {A = ℕ})
-      (elim x [ None ↦ fields | Some s ↦ slice_set fields n (field_bytes s v) ]) ≡ map width shapes) (sym a.has)
+    (elim x [ None ↦ fields | Some s ↦ slice_set fields n (field_bytes s v) ]) ≡ map width shapes) (sym a.has)
     (set-keeps fields shapes n a.the (field_bytes a.the v) h a.has (length-field_bytes a.the v a.long))

@@ -14,12 +14,12 @@ use Rattle.bw_model.proofs.ChunkSteps.{NoneHolds, first-none}
 form_of_faultless : (b : List ℕ) → NoneHolds (outer_faults b) → outer b ≡ Ok (form_at b)
 unfolding outer
 form_of_faultless b h =
-  ap (λ (x : Option Fault). elim x [ None ↦ Ok (form_at b) | Some f ↦ Err f ]) (first-none (outer_faults b) h)
+    ap (λ (x : Option Fault). elim x [ None ↦ Ok (form_at b) | Some f ↦ Err f ]) (first-none (outer_faults b) h)
 
 -- a RIFF form
 pub riff-outer : (size : ℕ) (rest : List ℕ) → size ≤ 4294967294 → 4 ≤ size →
     outer (head (codes "RIFF") size ++ (codes "WAVE" ++ rest))
-      ≡ Ok (record { id = codes "RIFF"; size = size; sizes = None })
+    ≡ Ok (record { id = codes "RIFF"; size = size; sizes = None })
 riff-outer size rest small some =
     form_of_faultless b (
       le-ltb (length b) 12 (omega arith),
@@ -51,8 +51,11 @@ riff-outer size rest small some =
 -- a BW64 form, whose `ds64` tells the sizes
 pub wide-outer : (size data_size : ℕ) (rest : List ℕ) → 40 ≤ size → size ≤ largest → data_size ≤ largest →
     outer (head (codes "BW64") unsaid ++ (codes "WAVE" ++ (chunk (ds64_chunk size data_size) ++ rest)))
-    ≡ Ok (record { id = codes "BW64"; size = size;
-      sizes = Some (record { form = size; «data» = data_size; table = [] }) })
+    ≡ Ok (record {
+      id = codes "BW64";
+      size = size;
+      sizes = Some (record { form = size; «data» = data_size; table = [] });
+    })
 wide-outer size data_size rest some small data_small =
     form_of_faultless b (
       le-ltb (length b) 12 (omega arith),
@@ -76,8 +79,10 @@ wide-outer size data_size rest some small data_small =
                         le-ltb (length b) 48 (omega arith),
                         (
                           le-ltb largest (u64_at b 20) (omega (arith, form_said)),
-                          (le-ltb (u64_at b 20) 4 (omega (arith, form_said)),
-                            (le-ltb (8 + u64_at b 20) 48 (omega (arith, form_said)), tt)),
+                          (
+                            le-ltb (u64_at b 20) 4 (omega (arith, form_said)),
+                            (le-ltb (8 + u64_at b 20) 48 (omega (arith, form_said)), tt),
+                          ),
                         ),
                       ),
                     ),

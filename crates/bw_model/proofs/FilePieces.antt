@@ -22,27 +22,27 @@ own c = (length c.content, c)
 
 abbrev pub pieces : Format → Take → Chunk → ℕ → List Piece
 pieces f t first data_size =
-  own first ∷ own (fmt_chunk f) ∷ own (bext_chunk t.fields t.history) ∷ (data_size, data_chunk t.samples)
-  ∷ map own (chunks_behind t)
+    own first ∷ own (fmt_chunk f) ∷ own (bext_chunk t.fields t.history) ∷ (data_size, data_chunk t.samples)
+    ∷ map own (chunks_behind t)
 
 -- the form is its pieces behind `WAVE`
 pub form-pieces : (outer : List ℕ) (f : Format) (t : Take) (first : Chunk) (data_size : ℕ) →
     outer ++ form_of f t first data_size
-      ≡ (outer ++ codes "WAVE") ++ (flat_map piece_bytes (pieces f t first data_size) ++ [])
+    ≡ (outer ++ codes "WAVE") ++ (flat_map piece_bytes (pieces f t first data_size) ++ [])
 unfolding form_of
 form-pieces outer f t first data_size =
     ap (λ (z : List ℕ). outer
-      ++ (codes "WAVE" ++ chunk first ++ flat_map chunk (chunks_before f t)
-      ++ chunk_sized data_size (data_chunk t.samples) ++ z)) (sym (owns (chunks_behind t)))
+    ++ (codes "WAVE" ++ chunk first ++ flat_map chunk (chunks_before f t)
+    ++ chunk_sized data_size (data_chunk t.samples) ++ z)) (sym (owns (chunks_behind t)))
     ∙ joined outer (codes "WAVE") (chunk first) (chunk (fmt_chunk f)) (chunk (bext_chunk t.fields t.history))
-      (chunk_sized data_size (data_chunk t.samples)) (flat_map piece_bytes (map own (chunks_behind t)))
+    (chunk_sized data_size (data_chunk t.samples)) (flat_map piece_bytes (map own (chunks_behind t)))
   where
     owns : (cs : List Chunk) → flat_map piece_bytes (map own cs) ≡ flat_map chunk cs
     owns [] = refl
     owns (c ∷ cs) = ap (λ (z : List ℕ). chunk c ++ z) (owns cs)
 
     joined : (o w a b c d e : List ℕ) →
-      o ++ (w ++ a ++ (b ++ (c ++ [])) ++ d ++ e) ≡ (o ++ w) ++ ((a ++ (b ++ (c ++ (d ++ e)))) ++ [])
+        o ++ (w ++ a ++ (b ++ (c ++ [])) ++ d ++ e) ≡ (o ++ w) ++ ((a ++ (b ++ (c ++ (d ++ e)))) ++ [])
     joined o w a b c d e = simp (append_assoc, append-nil)
 
 -- an id is not another
@@ -51,9 +51,9 @@ other_id id want h e = false≢true (sym h ∙ ap (λ (z : List ℕ). is_id z wa
 
 -- the `bext` chunk's length
 pub length-bext_content : (fields : List (List ℕ)) (history : List ℕ) → AreFields fields →
-  length (bext_fixed fields ++ history) ≡ 602 + length history
+    length (bext_fixed fields ++ history) ≡ 602 + length history
 length-bext_content fields history h =
-  length-append (bext_fixed fields) history ∙ ap (λ (k : ℕ). k + length history) (length-bext_fixed fields h)
+    length-append (bext_fixed fields) history ∙ ap (λ (k : ℕ). k + length history) (length-bext_fixed fields h)
 
 fmt_piece : (form : Form) (f : Format) → IsPiece form (own (fmt_chunk f))
 fmt_piece form f = record {
@@ -66,7 +66,7 @@ fmt_piece form f = record {
 }
 
 bext_piece : (form : Form) (fields : List (List ℕ)) (history : List ℕ) → AreFields fields → length history ≤ 4096 →
-  IsPiece form (own (bext_chunk fields history))
+    IsPiece form (own (bext_chunk fields history))
 bext_piece form fields history h short =
     let n : length (bext_fixed fields ++ history) ≡ 602 + length history = length-bext_content fields history h in
     record {
@@ -79,7 +79,7 @@ bext_piece form fields history h short =
     }
 
 data_piece : (form : Form) (size : ℕ) (samples : List ℕ) → SaysSize form (size, data_chunk samples) →
-  length samples ≤ largest → IsPiece form (size, data_chunk samples)
+    length samples ≤ largest → IsPiece form (size, data_chunk samples)
 data_piece form size samples said small = record {
   id = refl;
   said = said;
@@ -94,7 +94,7 @@ pub count-cues : (markers : List (ℕ × ℕ)) → length markers < 2 ^ 32 → u
 count-cues markers small = from_le_bytes-to_le_bytes_4 (length markers) small
 
 cue_pieces : (form : Form) (markers : List (ℕ × ℕ)) → length markers ≤ 1024 →
-  ArePieces form (map own (cue_chunks markers))
+    ArePieces form (map own (cue_chunks markers))
 cue_pieces form [] few = tt
 cue_pieces form (m ∷ ms) few = (
   record {
@@ -116,12 +116,18 @@ cue_pieces form (m ∷ ms) few = (
 
 pub are_pieces : (form : Form) (f : Format) (t : Take) (first : Chunk) (data_size : ℕ) →
     IsPiece form (own first) → AreFields t.fields → length t.history ≤ 4096 →
-      SaysSize form (data_size, data_chunk t.samples) → length t.samples ≤ largest →
+    SaysSize form (data_size, data_chunk t.samples) → length t.samples ≤ largest →
     length (cues t.closed t.markers) ≤ 1024 → ArePieces form (pieces f t first data_size)
-are_pieces form f t first data_size is_first fields history said samples few =
-    (is_first, (fmt_piece form f,
-      (bext_piece form t.fields t.history fields history,
-      (data_piece form data_size t.samples said samples, cue_pieces form (cues t.closed t.markers) few))))
+are_pieces form f t first data_size is_first fields history said samples few = (
+  is_first,
+  (
+    fmt_piece form f,
+    (
+      bext_piece form t.fields t.history fields history,
+      (data_piece form data_size t.samples said samples, cue_pieces form (cues t.closed t.markers) few),
+    ),
+  ),
+)
 
 -- the pieces as they are listed
 abbrev pub listed : List ℕ → Take → List Entry
@@ -133,23 +139,23 @@ listed id t =
     ∷ read_cues (data_place (length t.history) + even_up (length t.samples)) (cues t.closed t.markers)
 
 cue-listed : (p q : ℕ) (markers : List (ℕ × ℕ)) → p ≡ q →
-  entries_from p (map own (cue_chunks markers)) ≡ read_cues q markers
+    entries_from p (map own (cue_chunks markers)) ≡ read_cues q markers
 cue-listed p q [] e = refl
 cue-listed p q (m ∷ ms) e =
     ap (λ (r : ℕ). record { id = codes "cue "; place = r; size = length (cue_content (m ∷ ms)) } ∷ []) e
     ∙ ap (λ (n : ℕ). record { id = codes "cue "; place = q; size = n } ∷ []) (length-cue_content (m ∷ ms))
 
 pub pieces-listed : (f : Format) (t : Take) (first : Chunk) (data_size : ℕ) → length first.content ≡ 28 →
-  AreFields t.fields → entries_from 12 (pieces f t first data_size) ≡ listed first.id t
+    AreFields t.fields → entries_from 12 (pieces f t first data_size) ≡ listed first.id t
 pieces-listed f t first data_size l h =
     ap (λ (a : ℕ). by_lengths a (length (bext_fixed t.fields ++ t.history))) l
     ∙ ap (by_lengths 28) (length-bext_content t.fields t.history h)
     ∙ ap (λ (p : ℕ). front ++ record { id = codes "data"; place = p; size = d } ∷ entries_from (p + 8 + even_up d) cue)
-      samples
+    samples
     ∙ ap (λ (es : List Entry). front
-      ++ record { id = codes "data"; place = 682 + even_up (length t.history); size = d } ∷ es)
+    ++ record { id = codes "data"; place = 682 + even_up (length t.history); size = d } ∷ es)
     (cue-listed (682 + even_up (length t.history) + 8 + even_up d) (data_place (length t.history) + even_up d)
-      (cues t.closed t.markers) (omega arith))
+    (cues t.closed t.markers) (omega arith))
   where
     d : ℕ
     d = length t.samples
@@ -168,7 +174,7 @@ pieces-listed f t first data_size l h =
     by_lengths : ℕ → ℕ → List Entry
     by_lengths a n =
         record { id = first.id; place = 12; size = a }
-          ∷ record { id = codes "fmt "; place = 12 + 8 + even_up a; size = 16 }
+        ∷ record { id = codes "fmt "; place = 12 + 8 + even_up a; size = 16 }
         ∷ record { id = codes "bext"; place = 12 + 8 + even_up a + 8 + even_up 16; size = n }
         ∷ record { id = codes "data"; place = behind a n; size = d } ∷ entries_from (behind a n + 8 + even_up d) cue
 

@@ -25,7 +25,7 @@ use Rattle.bw_model.proofs.FileReads.{file_reads}
 
 -- a chunk's bytes, at its place and with its size in other words
 content-at : (b : List ℕ) (p q n : ℕ) (c : Chunk) → StandsAt b p (own c) → length c.id ≡ 4 → p ≡ q →
-  length c.content ≡ n → slice_range b (q + 8) (q + 8 + n) ≡ c.content
+    length c.content ≡ n → slice_range b (q + 8) (q + 8 + n) ≡ c.content
 content-at b p q n c s l place size =
     ap (λ (m : ℕ). slice_range b (q + 8) (q + 8 + m)) (sym size)
     ∙ ap (λ (r : ℕ). slice_range b (r + 8) (r + 8 + length c.content)) (sym place)
@@ -33,45 +33,53 @@ content-at b p q n c s l place size =
 
 -- the cue points that stand from a place on
 cues-told : (b : List ℕ) (p q : ℕ) (markers : List (ℕ × ℕ)) → AllStand b p (map own (cue_chunks markers)) → p ≡ q →
-  length markers ≤ 1024 → IsTrue (list_all is_marker markers) →
+    length markers ≤ 1024 → IsTrue (list_all is_marker markers) →
     raw_cues (content_of b (entry_of (codes "cue ") (read_cues q markers))) 4
-      (u32_at (content_of b (entry_of (codes "cue ") (read_cues q markers))) 0) ≡ map told_cue markers
+    (u32_at (content_of b (entry_of (codes "cue ") (read_cues q markers))) 0) ≡ map told_cue markers
 cues-told b p q [] s place few h = refl
 cues-told b p q (m ∷ ms) s place few h =
     ap (λ (c : List ℕ). raw_cues c 4 (u32_at c 0))
     (content-at b p q (4 + 24 * length (m ∷ ms))
-      (record { id = codes "cue "; content = cue_content (m ∷ ms) }) s.0 refl place (length-cue_content (m ∷ ms)))
+    (record { id = codes "cue "; content = cue_content (m ∷ ms) }) s.0 refl place (length-cue_content (m ∷ ms)))
     ∙ raw-cues (m ∷ ms) (omega arith) h
 
 -- the report, where the chunks stand in one of the two forms
 report-own : (f : Format) (t : Take) (outer : List ℕ) (first : Chunk) (data_size : ℕ) (form : Form) →
-  length outer ≡ 8 → IsWithinLimits f t →
+    length outer ≡ 8 → IsWithinLimits f t →
     IsOwnForm f t first data_size form (bytes_of outer f t first data_size) →
     report_of (bytes_of outer f t first data_size) form (listed first.id t)
-    ≡ record { form = form.id; size = form_len f t; chunks = listed first.id t; fmt = told_fmt f;
-      data_at = data_place (length t.history); data_size = length t.samples; bext =
-      Some (told_bext t.fields, length t.history); cues = map told_cue (cues t.closed t.markers) }
+    ≡ record {
+      form = form.id;
+      size = form_len f t;
+      chunks = listed first.id t;
+      fmt = told_fmt f;
+      data_at = data_place (length t.history);
+      data_size = length t.samples;
+      bext =
+          Some (told_bext t.fields, length t.history);
+      cues = map told_cue (cues t.closed t.markers);
+    }
 unfolding report_of
 report-own f t outer first data_size form eight within h =
     ap (λ (e : Option Entry). by_entries e (entry_of (codes "bext") es) (entry_of (codes "data") es)
-      (entry_of (codes "cue ") es)) (skip (codes "fmt ") h.fmt)
+    (entry_of (codes "cue ") es)) (skip (codes "fmt ") h.fmt)
     ∙ ap (λ (e : Option Entry). by_entries (Some fmt_entry) e (entry_of (codes "data") es)
-      (entry_of (codes "cue ") es)) (skip (codes "bext") h.bext)
+    (entry_of (codes "cue ") es)) (skip (codes "bext") h.bext)
     ∙ ap (λ (e : Option Entry). by_entries (Some fmt_entry) (Some bext_entry) e (entry_of (codes "cue ") es))
-      (skip (codes "data") h.samples)
+    (skip (codes "data") h.samples)
     ∙ ap (by_entries (Some fmt_entry) (Some bext_entry) (Some data_entry)) (skip (codes "cue ") h.cue)
     ∙ ap (λ (n : ℕ). made n (raw_fmt (content_of b (Some fmt_entry))) (d_place + 8)
-      (raw_bext (content_of b (Some bext_entry))) (602 + length t.history - 602) (raw_cues cue 4 (u32_at cue 0))) h.size
+    (raw_bext (content_of b (Some bext_entry))) (602 + length t.history - 602) (raw_cues cue 4 (u32_at cue 0))) h.size
     ∙ ap (λ (x : RawFmt). made (form_len f t) x (d_place + 8) (raw_bext (content_of b (Some bext_entry)))
-      (602 + length t.history - 602) (raw_cues cue 4 (u32_at cue 0))) fmt_told
+    (602 + length t.history - 602) (raw_cues cue 4 (u32_at cue 0))) fmt_told
     ∙ ap (λ (n : ℕ). made (form_len f t) (told_fmt f) n (raw_bext (content_of b (Some bext_entry)))
-      (602 + length t.history - 602) (raw_cues cue 4 (u32_at cue 0))) place
+    (602 + length t.history - 602) (raw_cues cue 4 (u32_at cue 0))) place
     ∙ ap (λ (x : RawBext). made (form_len f t) (told_fmt f) (data_place (length t.history)) x
-      (602 + length t.history - 602) (raw_cues cue 4 (u32_at cue 0))) bext_told
+    (602 + length t.history - 602) (raw_cues cue 4 (u32_at cue 0))) bext_told
     ∙ ap (λ (n : ℕ). made (form_len f t) (told_fmt f) (data_place (length t.history)) (told_bext t.fields) n
-      (raw_cues cue 4 (u32_at cue 0))) history
+    (raw_cues cue 4 (u32_at cue 0))) history
     ∙ ap (made (form_len f t) (told_fmt f) (data_place (length t.history)) (told_bext t.fields) (length t.history))
-      cues_are
+    cues_are
   where
     b : List ℕ
     b = bytes_of outer f t first data_size
@@ -99,8 +107,16 @@ report-own f t outer first data_size form eight within h =
 
     made : ℕ → RawFmt → ℕ → RawBext → ℕ → List RawCue → Report
     made size fmt at bext history cues =
-      record { form = form.id; size = size; chunks = es; fmt = fmt; data_at = at; data_size = length t.samples;
-      bext = Some (bext, history); cues = cues }
+        record {
+          form = form.id;
+          size = size;
+          chunks = es;
+          fmt = fmt;
+          data_at = at;
+          data_size = length t.samples;
+          bext = Some (bext, history);
+          cues = cues;
+        }
 
     by_entries : Option Entry → Option Entry → Option Entry → Option Entry → Report
     by_entries fmt bext samples cue = record {
@@ -115,9 +131,9 @@ report-own f t outer first data_size form eight within h =
     }
 
     skip : (want : List ℕ) → is_id first.id want ≡ false →
-      entry_of want es ≡ entry_of want (fmt_entry ∷ bext_entry ∷ data_entry ∷ behind)
+        entry_of want es ≡ entry_of want (fmt_entry ∷ bext_entry ∷ data_entry ∷ behind)
     skip want other = ap (λ (v : Bool). cond v (Some (record { id = first.id; place = 12; size = 28 }))
-      (entry_of want (fmt_entry ∷ bext_entry ∷ data_entry ∷ behind))) other
+        (entry_of want (fmt_entry ∷ bext_entry ∷ data_entry ∷ behind))) other
 
     all : AllStand b 12 (pieces f t first data_size)
     all = own_stand f t outer first data_size form eight within h
@@ -130,12 +146,12 @@ report-own f t outer first data_size form eight within h =
 
     fmt_told : raw_fmt (content_of b (Some fmt_entry)) ≡ told_fmt f
     fmt_told = ap raw_fmt (content-at b (12 + 8 + even_up (length first.content)) 48 16 (fmt_chunk f) all.1.0 refl
-      (omega (arith, long)) refl) ∙ raw-fmt f within.format
+        (omega (arith, long)) refl) ∙ raw-fmt f within.format
 
     bext_told : raw_bext (content_of b (Some bext_entry)) ≡ told_bext t.fields
     bext_told =
         ap raw_bext (content-at b (12 + 8 + even_up (length first.content) + 8 + even_up 16) 72
-          (602 + length t.history) (bext_chunk t.fields t.history) all.1.1.0 refl (omega (arith, long)) bext_size)
+        (602 + length t.history) (bext_chunk t.fields t.history) all.1.1.0 refl (omega (arith, long)) bext_size)
         ∙ raw-bext t.fields t.history within.fields
 
     place : d_place + 8 ≡ data_place (length t.history)
@@ -154,13 +170,13 @@ report-own f t outer first data_size form eight within h =
 
     cues_are : raw_cues cue 4 (u32_at cue 0) ≡ map told_cue (cues t.closed t.markers)
     cues_are = cues-told b (12 + 8 + even_up (length first.content) + 8 + even_up 16 + 8
-      + even_up (length (bext_fixed t.fields ++ t.history)) + 8 + even_up (length t.samples))
+        + even_up (length (bext_fixed t.fields ++ t.history)) + 8 + even_up (length t.samples))
         (data_place (length t.history) + even_up (length t.samples)) (cues t.closed t.markers) all.1.1.1.1
-          (omega (arith, long, bext_size)) (few t.closed) (numbers t.closed)
+        (omega (arith, long, bext_size)) (few t.closed) (numbers t.closed)
 
 -- the report of the file, in either kind of form
 file_report : (f : Format) (t : Take) (limit : ℕ) → IsWithinLimits f t → limit ≤ 4294967294 →
-  report_of (file_with f t limit) (read_form f t limit) (read_chunks f t limit) ≡ told_report f t limit
+    report_of (file_with f t limit) (read_form f t limit) (read_chunks f t limit) ≡ told_report f t limit
 unfolding file_with
 file_report f t limit within below = go (nat_le n limit) refl (file_len f t limit)
   where
@@ -171,21 +187,29 @@ file_report f t limit within below = go (nat_le n limit) refl (file_len f t limi
     ds64 = ds64_chunk n (length t.samples)
 
     told : Form → List Entry → Report
-    told form chunks = record { form = form.id; size = n; chunks = chunks; fmt = told_fmt f;
-      data_at = data_place (length t.history); data_size = length t.samples; bext =
-      Some (told_bext t.fields, length t.history); cues = map told_cue (cues t.closed t.markers) }
+    told form chunks = record {
+      form = form.id;
+      size = n;
+      chunks = chunks;
+      fmt = told_fmt f;
+      data_at = data_place (length t.history);
+      data_size = length t.samples;
+      bext =
+          Some (told_bext t.fields, length t.history);
+      cues = map told_cue (cues t.closed t.markers);
+    }
 
     go : (v : Bool) → nat_le n limit ≡ v → length (cond v (narrow_bytes f t) (broad_bytes f t)) ≡ 8 + n →
         report_of (cond v (narrow_bytes f t) (broad_bytes f t)) (cond v (narrow f t) (broad f t))
-          (listed (cond v (codes "JUNK") (codes "ds64")) t)
+        (listed (cond v (codes "JUNK") (codes "ds64")) t)
         ≡ told (cond v (narrow f t) (broad f t)) (listed (cond v (codes "JUNK") (codes "ds64")) t)
     go true v whole =
         let fits : n ≤ limit = leb-true n limit v in
         report-own f t (head (codes "RIFF") n) junk_chunk (length t.samples) (narrow f t) refl within
-          (narrow-own f t within (omega arith) whole)
+        (narrow-own f t within (omega arith) whole)
     go false v whole =
         report-own f t (head (codes "BW64") unsaid) ds64 unsaid (broad f t) refl within (broad-own f t within whole)
 
 pub reads_back : FilesReadBack
 reads_back f t limit within below =
-  record { reading = file_reads f t limit within below; report = file_report f t limit within below }
+    record { reading = file_reads f t limit within below; report = file_report f t limit within below }

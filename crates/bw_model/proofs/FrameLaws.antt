@@ -22,10 +22,10 @@ use Rattle.bw_model.proofs.SpellingLaws.{read_is_spelled, spelled_is_read}
 payload_length : (r : Request) → is_request r ≡ true → length (payload r) ≤ 32768
 payload_length (Open f history) h =
     let four = and_parts (is_below (2 ^ 32) f.rate && is_below (2 ^ 16) f.channels && is_below (2 ^ 16) f.bits
-        && nat_le (length history) 4096) (are_bytes history) h in
+    && nat_le (length history) 4096) (are_bytes history) h in
     let short = leb-true _ _
-        (and_parts (is_below (2 ^ 32) f.rate && is_below (2 ^ 16) f.channels && is_below (2 ^ 16) f.bits)
-        (nat_le (length history) 4096) four.0).1 in
+    (and_parts (is_below (2 ^ 32) f.rate && is_below (2 ^ 16) f.channels && is_below (2 ^ 16) f.bits)
+    (nat_le (length history) 4096) four.0).1 in
     omega arith
 payload_length (Block bytes) h =
     let within = (and_parts (is_within 1 32768 (length bytes)) (are_bytes bytes) h).0 in
@@ -33,8 +33,8 @@ payload_length (Block bytes) h =
 payload_length (Mark id frame) h = omega arith
 payload_length (SetField tag value) h =
     let short = leb-true _ _
-        (and_parts (is_below 256 tag) (nat_le (length value) 256)
-        (and_parts (is_below 256 tag && nat_le (length value) 256) (are_bytes value) h).0).1 in
+    (and_parts (is_below 256 tag) (nat_le (length value) 256)
+    (and_parts (is_below 256 tag && nat_le (length value) 256) (are_bytes value) h).0).1 in
     omega arith
 payload_length (Close total) h = omega arith
 
@@ -45,13 +45,18 @@ name_length name h =
 
 -- how long a frame's body is
 pub body_length : (v : Version) (f : Frame) → is_frame v f ≡ true →
-  (1 ≤ length (body f)) × (length (body f) ≤ longest_body)
+    (1 ≤ length (body f)) × (length (body f) ≤ longest_body)
 body_length v (Says m) h =
     let address = and_parts (is_name m.name && nat_le m.number (last_number v)) (is_request m.request) h in
     let n = name_length m.name (and_parts (is_name m.name) (nat_le m.number (last_number v)) address.0).0 in
-    let p = payload_length m.request address.1 in
-    (omega arith, omega (arith, length-append m.name (le32 m.number),
-      length-append (m.name ++ le32 m.number) (payload m.request)))
+    let p = payload_length m.request address.1 in (
+      omega arith,
+      omega (
+        arith,
+        length-append m.name (le32 m.number),
+        length-append (m.name ++ le32 m.number) (payload m.request),
+      ),
+    )
 body_length First (Asks name number) h = absurd cc
 body_length Second (Asks name number) h =
     let n = name_length name (and_parts (is_name name) (nat_le number (last_number Second)) h).0 in
@@ -59,20 +64,20 @@ body_length Second (Asks name number) h =
 body_length v Bye h = (omega arith, omega arith)
 
 addressed_length : (k : ℕ) (name : List ℕ) (number : ℕ) (more : List ℕ) → length name ≤ 32 →
-  length (addressed k name number ++ more) ≤ 38 + length more
+    length (addressed k name number ++ more) ≤ 38 + length more
 addressed_length k name number more short =
-  omega (arith, length-append name (le32 number), length-append (name ++ le32 number) more)
+    omega (arith, length-append name (le32 number), length-append (name ++ le32 number) more)
 
 -- how long a reply's body is
 pub reply_length : (r : Reply) → is_reply r ≡ true →
-  (1 ≤ length (reply_body r)) × (length (reply_body r) ≤ longest_reply)
+    (1 ≤ length (reply_body r)) × (length (reply_body r) ≤ longest_reply)
 reply_length (Judged name number verdict) h =
     let short = name_length name (and_parts (is_name name) (nat_le number (last_number Second)) h).0 in
     (omega arith, omega (arith, addressed_length 0x81 name number (verdict_code verdict ∷ []) short))
 reply_length (Noticed name number notice next) h =
     let short = name_length name
-        (and_parts (is_name name) (nat_le number (last_number Second))
-        (and_parts (is_addressed name number) (nat_le next (last_number Second + 1)) h).0).0 in
+    (and_parts (is_name name) (nat_le number (last_number Second))
+    (and_parts (is_addressed name number) (nat_le next (last_number Second + 1)) h).0).0 in
     (omega arith, omega (arith, addressed_length 0x82 name number (notice_code notice ∷ le32 next) short))
 reply_length (Refused reason offset) h = (omega arith, omega arith)
 
@@ -84,31 +89,35 @@ pub record HasBody (longest : ℕ) (bytes : List ℕ) : Type 0 where
   pub whole : 4 + u32_at bytes 0 ≤ length bytes
 
 three_pass : (a b c : Bool) → first_that_holds ((a, Cut) ∷ (b, Length) ∷ (c, Cut) ∷ []) ≡ None →
-  (a ≡ false) × (b ≡ false) × (c ≡ false)
+    (a ≡ false) × (b ≡ false) × (c ≡ false)
 three_pass true b c e = absurd cc
 three_pass false true c e = absurd cc
 three_pass false false true e = absurd cc
 three_pass false false false e = (refl, refl, refl)
 
 pub has_body : (longest : ℕ) (bytes : List ℕ) → first_that_holds (framing_faults longest bytes) ≡ None →
-  HasBody longest bytes
+    HasBody longest bytes
 has_body longest bytes e =
     let tests = three_pass (nat_lt (length bytes) 4) ((u32_at bytes 0 == 0) || nat_lt longest (u32_at bytes 0))
-        (nat_lt (length bytes) (4 + u32_at bytes 0)) e in
+    (nat_lt (length bytes) (4 + u32_at bytes 0)) e in
     let lens = or_parts (u32_at bytes 0 == 0) (nat_lt longest (u32_at bytes 0)) tests.1 in
     let some : u32_at bytes 0 ≡ 0 → ⊥ = eqb-false _ _ lens.0 in
-    record { head = ltb-false _ _ tests.0; some = omega arith; short = ltb-false _ _ lens.1;
-      whole = ltb-false _ _ tests.2 }
+    record {
+      head = ltb-false _ _ tests.0;
+      some = omega arith;
+      short = ltb-false _ _ lens.1;
+      whole = ltb-false _ _ tests.2;
+    }
 
 pub framing_passes : (longest : ℕ) (bytes : List ℕ) → HasBody longest bytes →
-  first_that_holds (framing_faults longest bytes) ≡ None
+    first_that_holds (framing_faults longest bytes) ≡ None
 framing_passes longest bytes h =
     let length_good = or_from (u32_at bytes 0 == 0) (nat_lt longest (u32_at bytes 0))
-        (ne_eqb (u32_at bytes 0) 0 (omega (arith, h.some))) (le-ltb _ _ h.short) in
+    (ne_eqb (u32_at bytes 0) 0 (omega (arith, h.some))) (le-ltb _ _ h.short) in
     none_of (le-ltb _ _ h.head) length_good (le-ltb _ _ h.whole)
   where
     none_of : {a b c : Bool} → a ≡ false → b ≡ false → c ≡ false →
-      first_that_holds ((a, Cut) ∷ (b, Length) ∷ (c, Cut) ∷ []) ≡ None
+        first_that_holds ((a, Cut) ∷ (b, Length) ∷ (c, Cut) ∷ []) ≡ None
     none_of ea eb ec = rw (ea, eb, ec) refl
 
 -- a fault of the framing, or what the body says
@@ -118,13 +127,13 @@ first_by more read None = before more read
 
 pub first_frame-by : (v : Version) (bytes : List ℕ)
     → first_frame v bytes ≡ first_by (drop (4 + u32_at bytes 0) bytes)
-      (decoded v (take (u32_at bytes 0) (drop 4 bytes))) (first_that_holds (framing_faults longest_body bytes))
+    (decoded v (take (u32_at bytes 0) (drop 4 bytes))) (first_that_holds (framing_faults longest_body bytes))
 unfolding first_frame
 first_frame-by v bytes = refl
 
 pub first_reply-by : (bytes : List ℕ)
     → first_reply bytes ≡ first_by (drop (4 + u32_at bytes 0) bytes)
-      (decoded_reply (take (u32_at bytes 0) (drop 4 bytes))) (first_that_holds (framing_faults longest_reply bytes))
+    (decoded_reply (take (u32_at bytes 0) (drop 4 bytes))) (first_that_holds (framing_faults longest_reply bytes))
 unfolding first_reply
 first_reply-by bytes = refl
 
@@ -134,25 +143,25 @@ pub first_frame-body : (v : Version) (bytes : List ℕ) → HasBody longest_body
 first_frame-body v bytes h =
     first_frame-by v bytes
     ∙ ap (first_by (drop (4 + u32_at bytes 0) bytes) (decoded v (take (u32_at bytes 0) (drop 4 bytes))))
-      (framing_passes longest_body bytes h)
+    (framing_passes longest_body bytes h)
 
 pub first_reply-body : (bytes : List ℕ) → HasBody longest_reply bytes
     → first_reply bytes ≡ before (drop (4 + u32_at bytes 0) bytes)
-      (decoded_reply (take (u32_at bytes 0) (drop 4 bytes)))
+    (decoded_reply (take (u32_at bytes 0) (drop 4 bytes)))
 first_reply-body bytes h =
     first_reply-by bytes
     ∙ ap (first_by (drop (4 + u32_at bytes 0) bytes) (decoded_reply (take (u32_at bytes 0) (drop 4 bytes))))
-      (framing_passes longest_reply bytes h)
+    (framing_passes longest_reply bytes h)
 
 -- the parts of bytes from whose front a value was read
 pub record ReadsFirst {X : Type 0} (longest : ℕ) (bytes : List ℕ) (read : List ℕ → Result X Reason) (x : X)
-  (more : List ℕ) : Type 0 where
+    (more : List ℕ) : Type 0 where
   pub has : HasBody longest bytes
   pub reads : read (take (u32_at bytes 0) (drop 4 bytes)) ≡ Ok x
   pub rest : drop (4 + u32_at bytes 0) bytes ≡ more
 
 read_by : {X : Type 0} (more : List ℕ) (read : Result X Reason) (fault : Option Reason) (x : X) (rest : List ℕ) →
-  first_by more read fault ≡ Ok (x, rest) → (fault ≡ None) × (read ≡ Ok x) × (more ≡ rest)
+    first_by more read fault ≡ Ok (x, rest) → (fault ≡ None) × (read ≡ Ok x) × (more ≡ rest)
 read_by more read (Some reason) x rest e = absurd cc
 read_by more (Err reason) None x rest e = absurd cc
 read_by {X} more (Ok y) None x rest e =
@@ -161,33 +170,33 @@ read_by {X} more (Ok y) None x rest e =
 
 first_from : {X : Type 0} (longest : ℕ) (bytes : List ℕ) (read : List ℕ → Result X Reason) (x : X) (more : List ℕ)
     → first_by (drop (4 + u32_at bytes 0) bytes) (read (take (u32_at bytes 0) (drop 4 bytes)))
-      (first_that_holds (framing_faults longest bytes)) ≡ Ok (x, more)
+    (first_that_holds (framing_faults longest bytes)) ≡ Ok (x, more)
     → ReadsFirst longest bytes read x more
 first_from longest bytes read x more e =
     let parts = read_by (drop (4 + u32_at bytes 0) bytes) (read (take (u32_at bytes 0) (drop 4 bytes)))
-        (first_that_holds (framing_faults longest bytes)) x more e in
+    (first_that_holds (framing_faults longest bytes)) x more e in
     record { has = has_body longest bytes parts.0; reads = parts.1; rest = parts.2 }
 
 pub reads_frame : (v : Version) (bytes : List ℕ) (f : Frame) (more : List ℕ) → first_frame v bytes ≡ Ok (f, more) →
-  ReadsFirst longest_body bytes (decoded v) f more
+    ReadsFirst longest_body bytes (decoded v) f more
 reads_frame v bytes f more e = first_from longest_body bytes (decoded v) f more (sym (first_frame-by v bytes) ∙ e)
 
 pub reads_reply : (bytes : List ℕ) (r : Reply) (more : List ℕ) → first_reply bytes ≡ Ok (r, more) →
-  ReadsFirst longest_reply bytes decoded_reply r more
+    ReadsFirst longest_reply bytes decoded_reply r more
 reads_reply bytes r more e = first_from longest_reply bytes decoded_reply r more (sym (first_reply-by bytes) ∙ e)
 
 -- bytes from whose front a value was read begin with its body behind its length
 stands : {X : Type 0} (longest : ℕ) (bytes : List ℕ) (read : List ℕ → Result X Reason) (x : X)
-  (more spelling : List ℕ) → are_bytes bytes ≡ true → ReadsFirst longest bytes read x more
+    (more spelling : List ℕ) → are_bytes bytes ≡ true → ReadsFirst longest bytes read x more
     → take (u32_at bytes 0) (drop 4 bytes) ≡ spelling → bytes ≡ framed spelling ++ more
 stands longest bytes read x more spelling fits r spelled =
     let n = u32_at bytes 0 in
     let len : length (take n (drop 4 bytes)) ≡ n =
-        length-take-le n (drop 4 bytes) (omega (arith, length-drop 4 bytes, r.has.whole)) in
+    length-take-le n (drop 4 bytes) (omega (arith, length-drop 4 bytes, r.has.whole)) in
     let head = (written-number_at w32 (2 ^ 32) wide32 bytes 0 fits r.has.head).0 in
     let tail : take n (drop 4 bytes) ++ more ≡ drop 4 bytes =
-        ap (λ (x : List ℕ). take n (drop 4 bytes) ++ x) (sym r.rest ∙ sym (drop-drop n 4 bytes))
-        ∙ take-append-drop n (drop 4 bytes) in
+    ap (λ (x : List ℕ). take n (drop 4 bytes) ++ x) (sym r.rest ∙ sym (drop-drop n 4 bytes))
+    ∙ take-append-drop n (drop 4 bytes) in
     sym head
     ∙ ap (λ (x : List ℕ). le32 n ++ x) (sym tail)
     ∙ ap (λ (k : ℕ). le32 k ++ (take n (drop 4 bytes) ++ more)) (sym len)
@@ -198,7 +207,7 @@ body_fits bytes fits = (are_bytes-parts (u32_at bytes 0) (drop 4 bytes) (are_byt
 
 -- a frame that was read stands at the front, and what was left is what follows it
 pub read_frame_stands : (v : Version) (bytes : List ℕ) (f : Frame) (more : List ℕ) → are_bytes bytes ≡ true →
-  first_frame v bytes ≡ Ok (f, more)
+    first_frame v bytes ≡ Ok (f, more)
     → (is_frame v f ≡ true) × (bytes ≡ framed (body f) ++ more)
 read_frame_stands v bytes f more fits e =
     let r = reads_frame v bytes f more e in
@@ -206,7 +215,7 @@ read_frame_stands v bytes f more fits e =
     (s.fits, stands longest_body bytes (decoded v) f more (body f) fits r s.spelled)
 
 pub read_reply_stands : (bytes : List ℕ) (r : Reply) (more : List ℕ) → are_bytes bytes ≡ true →
-  first_reply bytes ≡ Ok (r, more)
+    first_reply bytes ≡ Ok (r, more)
     → (is_reply r ≡ true) × (bytes ≡ framed (reply_body r) ++ more)
 read_reply_stands bytes r more fits e =
     let reads = reads_reply bytes r more e in
@@ -215,31 +224,37 @@ read_reply_stands bytes r more fits e =
 
 -- bytes that begin with a body behind its length
 framed_has : (longest : ℕ) (spelling more : List ℕ) → 1 ≤ length spelling → length spelling ≤ longest →
-  length spelling < 2 ^ 32
+    length spelling < 2 ^ 32
     → HasBody longest (framed spelling ++ more) × (u32_at (framed spelling ++ more) 0 ≡ length spelling)
 framed_has longest spelling more least most small =
     let bytes = framed spelling ++ more in
     let n-is : u32_at bytes 0 ≡ length spelling =
-        number_at-written w32 (2 ^ 32) wide32 (length spelling) (spelling ++ more) small in
-    (record { head = omega arith; some = omega arith; short = omega arith;
-      whole = omega (arith, length-append spelling more) }, n-is)
+    number_at-written w32 (2 ^ 32) wide32 (length spelling) (spelling ++ more) small in (
+      record {
+        head = omega arith;
+        some = omega arith;
+        short = omega arith;
+        whole = omega (arith, length-append spelling more);
+      },
+      n-is,
+    )
 
 first_of_framed : {X : Type 0} (read : List ℕ → Result X Reason) (x : X) (spelling more : List ℕ) →
-  u32_at (framed spelling ++ more) 0 ≡ length spelling → read spelling ≡ Ok x
+    u32_at (framed spelling ++ more) 0 ≡ length spelling → read spelling ≡ Ok x
     → before (drop (4 + u32_at (framed spelling ++ more) 0) (framed spelling ++ more))
-      (read (take (u32_at (framed spelling ++ more) 0) (spelling ++ more))) ≡ Ok (x, more)
+    (read (take (u32_at (framed spelling ++ more) 0) (spelling ++ more))) ≡ Ok (x, more)
 first_of_framed read x spelling more n-is reads =
     let bytes = framed spelling ++ more in
     ap (λ (n : ℕ). before (drop (4 + n) bytes) (read (take n (spelling ++ more)))) n-is
     ∙ ap (λ (y : List ℕ). before (drop (4 + length spelling) bytes) (read y))
-      (take_at spelling more (length spelling) refl)
+    (take_at spelling more (length spelling) refl)
     ∙ ap (before (drop (4 + length spelling) bytes)) reads
     ∙ ap (λ (y : List ℕ). Ok (x, y))
-      (sym (drop-drop (length spelling) 4 bytes) ∙ drop_at spelling more (length spelling) refl)
+    (sym (drop-drop (length spelling) 4 bytes) ∙ drop_at spelling more (length spelling) refl)
 
 -- a frame at the front is the first
 pub first_frame-framed : (v : Version) (f : Frame) (more : List ℕ) → is_frame v f ≡ true →
-  first_frame v (framed (body f) ++ more) ≡ Ok (f, more)
+    first_frame v (framed (body f) ++ more) ≡ Ok (f, more)
 first_frame-framed v f more h =
     let len = body_length v f h in
     let has = framed_has longest_body (body f) more len.0 len.1 (omega (arith, len.1)) in
@@ -247,7 +262,7 @@ first_frame-framed v f more h =
     ∙ first_of_framed (decoded v) f (body f) more has.1 (spelled_is_read v f h)
 
 pub first_reply-framed : (r : Reply) (more : List ℕ) → is_reply r ≡ true →
-  first_reply (framed (reply_body r) ++ more) ≡ Ok (r, more)
+    first_reply (framed (reply_body r) ++ more) ≡ Ok (r, more)
 first_reply-framed r more h =
     let len = reply_length r h in
     let has = framed_has longest_reply (reply_body r) more len.0 len.1 (omega (arith, len.1)) in

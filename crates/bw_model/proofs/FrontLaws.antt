@@ -15,7 +15,7 @@ use Rattle.bw_model.proofs.ChunkSteps.{Step, steps_to, step_from}
 -- Chunks of one id.
 
 pub count-cons : (id : List ℕ) (e : Entry) (es : List Entry) →
-  count_of id (e ∷ es) ≡ cond (is_id e.id id) 1 0 + count_of id es
+    count_of id (e ∷ es) ≡ cond (is_id e.id id) 1 0 + count_of id es
 count-cons id e es = sum_by-cons (λ (x : Entry). cond (is_id x.id id) 1 0) e es
 
 count-append : (id : List ℕ) (es ds : List Entry) → count_of id (es ++ ds) ≡ count_of id es + count_of id ds
@@ -30,7 +30,7 @@ count-none id [] h = refl
 count-none id (e ∷ es) h = count-cons id e es ∙ go (is_id e.id id) h (count-none id es)
   where
     go : (v : Bool) → is_some (cond v (Some e) (entry_of id es)) ≡ false →
-      (is_some (entry_of id es) ≡ false → count_of id es ≡ 0) → cond v 1 0 + count_of id es ≡ 0
+        (is_some (entry_of id es) ≡ false → count_of id es ≡ 0) → cond v 1 0 + count_of id es ≡ 0
     go true h ih = absurd (false≢true (sym h))
     go false h ih = let none : count_of id es ≡ 0 = ih h in omega arith
 
@@ -39,19 +39,19 @@ none-count id [] h = refl
 none-count id (e ∷ es) h = go (is_id e.id id) (sym (count-cons id e es) ∙ h) (none-count id es)
   where
     go : (v : Bool) → cond v 1 0 + count_of id es ≡ 0 → (count_of id es ≡ 0 → is_some (entry_of id es) ≡ false) →
-      is_some (cond v (Some e) (entry_of id es)) ≡ false
+        is_some (cond v (Some e) (entry_of id es)) ≡ false
     go true h ih = absurd (omega (arith, h))
     go false h ih = ih (let none : count_of id es ≡ 0 = omega (arith, h) in none)
 
 -- where the next chunk stands
 pub place-push : (q : ℕ) (seen : List Entry) (e : Entry) →
-  fold (λ p e. e.place + 8 + even_up e.size) q (seen ++ e ∷ []) ≡ e.place + 8 + even_up e.size
+    fold (λ p e. e.place + 8 + even_up e.size) q (seen ++ e ∷ []) ≡ e.place + 8 + even_up e.size
 place-push q [] e = refl
 place-push q (s ∷ seen) e = place-push (s.place + 8 + even_up s.size) seen e
 
 -- one more that isn't there yet leaves each single chunk single
 single-push : (seen : List Entry) (e : Entry) →
-  list_any (is_id e.id) single_ids && is_some (entry_of e.id seen) ≡ false → AreSingle seen → AreSingle (seen ++ e ∷ [])
+    list_any (is_id e.id) single_ids && is_some (entry_of e.id seen) ≡ false → AreSingle seen → AreSingle (seen ++ e ∷ [])
 single-push seen e new h id single =
     let joined = count-append id seen (e ∷ []) ∙ ap (λ (n : ℕ). count_of id seen + n) (count-cons id e []) in
     subst (λ (n : ℕ). n ≤ 1) (sym joined) (go (is_id e.id id) refl)
@@ -61,9 +61,9 @@ single-push seen e new h id single =
     go true q =
         let own : e.id ≡ id = same_name e.id id q in
         let one : list_any (is_id e.id) single_ids ≡ true =
-            ap (λ (i : List ℕ). list_any (is_id i) single_ids) own ∙ single in
+        ap (λ (i : List ℕ). list_any (is_id i) single_ids) own ∙ single in
         let none : is_some (entry_of e.id seen) ≡ false =
-            sym (ap (λ (v : Bool). v && is_some (entry_of e.id seen)) one) ∙ new in
+        sym (ap (λ (v : Bool). v && is_some (entry_of e.id seen)) one) ∙ new in
         let zero : count_of id seen ≡ 0 = ap (λ (i : List ℕ). count_of i seen) (sym own) ∙ count-none e.id seen none in
         omega arith
 
@@ -74,7 +74,7 @@ record Stand (b : List ℕ) (form : Form) (seen es : List Entry) : Type 0 where
   few : length (seen ++ es) ≤ 4096
 
 stands : (b : List ℕ) (form : Form) (seen es : List Entry) → FollowEachOther (next b form) seen es → AreSingle seen →
-  length seen ≤ 4096 → Stand b form seen es
+    length seen ≤ 4096 → Stand b form seen es
 stands b form seen [] f single few = record {
   chunks = tt;
   single = subst AreSingle (sym (append-nil seen)) single;
@@ -92,7 +92,7 @@ stands b form seen (e ∷ es) f single few =
     }
 
 follow : (b : List ℕ) (form : Form) (seen es : List Entry) → Stand b form seen es →
-  FollowEachOther (next b form) seen es
+    FollowEachOther (next b form) seen es
 follow b form seen [] h = tt
 follow b form seen (e ∷ es) h =
     let few : length (seen ++ e ∷ es) ≤ 4096 = h.few in
@@ -124,8 +124,10 @@ fronts b form entries = (to, from)
   where
     to : IsFront b form entries → StandsFirst b form entries
     to f = let h = stands b form [] entries f.chunks no_chunks (omega arith)
-      in record { header = f.header; chunks = h.chunks; single = h.single; few = h.few }
+        in record { header = f.header; chunks = h.chunks; single = h.single; few = h.few }
 
     from : StandsFirst b form entries → IsFront b form entries
-    from h = record { header = h.header;
-      chunks = follow b form [] entries (record { chunks = h.chunks; single = h.single; few = h.few }) }
+    from h = record {
+      header = h.header;
+      chunks = follow b form [] entries (record { chunks = h.chunks; single = h.single; few = h.few });
+    }

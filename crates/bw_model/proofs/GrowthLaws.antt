@@ -16,12 +16,16 @@ u32_at-grows bytes piece h = ap (λ (x : List ℕ). from_le_bytes w32 x) (take-a
 
 body-grows : (longest : ℕ) (bytes piece : List ℕ) → HasBody longest bytes
     → HasBody longest (bytes ++ piece)
-      × (take (u32_at (bytes ++ piece) 0) (drop 4 (bytes ++ piece)) ≡ take (u32_at bytes 0) (drop 4 bytes))
+    × (take (u32_at (bytes ++ piece) 0) (drop 4 (bytes ++ piece)) ≡ take (u32_at bytes 0) (drop 4 bytes))
 body-grows longest bytes piece h =
     let n-is = u32_at-grows bytes piece h.head in
     let len = length-append bytes piece in (
-      record { head = omega (arith, h.head); some = omega (arith, h.some); short = omega (arith, h.short);
-        whole = omega (arith, h.whole) },
+      record {
+        head = omega (arith, h.head);
+        some = omega (arith, h.some);
+        short = omega (arith, h.short);
+        whole = omega (arith, h.whole);
+      },
       ap (λ (n : ℕ). take n (drop 4 (bytes ++ piece))) n-is
           ∙ ap (take (u32_at bytes 0)) (drop-append-le 4 bytes piece h.head)
           ∙ take-append-le (u32_at bytes 0) (drop 4 bytes) piece (omega (arith, h.whole, length-drop 4 bytes)),
@@ -29,13 +33,13 @@ body-grows longest bytes piece h =
 
 -- a fault that isn't for want of bytes stays
 bad_grows : {X : Type 0} (longest : ℕ) (bytes piece more later : List ℕ) (read : List ℕ → Result X Reason)
-  (reason : Reason) (a b c : Bool) → reason ≢ Cut
+    (reason : Reason) (a b c : Bool) → reason ≢ Cut
     → nat_lt (length bytes) 4 ≡ a → ((u32_at bytes 0 == 0) || nat_lt longest (u32_at bytes 0)) ≡ b →
-      nat_lt (length bytes) (4 + u32_at bytes 0) ≡ c
+    nat_lt (length bytes) (4 + u32_at bytes 0) ≡ c
     → first_by more (read (take (u32_at bytes 0) (drop 4 bytes)))
-      (first_that_holds ((a, Cut) ∷ (b, Length) ∷ (c, Cut) ∷ [])) ≡ Err reason
+    (first_that_holds ((a, Cut) ∷ (b, Length) ∷ (c, Cut) ∷ [])) ≡ Err reason
     → first_by later (read (take (u32_at (bytes ++ piece) 0) (drop 4 (bytes ++ piece))))
-      (first_that_holds (framing_faults longest (bytes ++ piece))) ≡ Err reason
+    (first_that_holds (framing_faults longest (bytes ++ piece))) ≡ Err reason
 bad_grows longest bytes piece more later read reason true b c other ea eb ec e = absurd (other cc)
 bad_grows longest bytes piece more later read reason false false true other ea eb ec e = absurd (other cc)
 bad_grows longest bytes piece more later read reason false true c other ea eb ec e =
@@ -46,7 +50,7 @@ bad_grows {X} longest bytes piece more later read reason false false false other
     let has = has_body longest bytes (rw (ea, eb, ec) refl) in
     let grown = body-grows longest bytes piece has in
     ap (first_by later (read (take (u32_at (bytes ++ piece) 0) (drop 4 (bytes ++ piece)))))
-      (framing_passes longest (bytes ++ piece) grown.0)
+    (framing_passes longest (bytes ++ piece) grown.0)
     ∙ ap (λ (x : List ℕ). before later (read x)) grown.1
     ∙ still (read (take (u32_at bytes 0) (drop 4 bytes))) e
   where
@@ -55,17 +59,17 @@ bad_grows {X} longest bytes piece more later read reason false false false other
     still (Err other) e = cc
 
 pub first_frame-bad_grows : (v : Version) (bytes piece : List ℕ) (reason : Reason) → reason ≢ Cut →
-  first_frame v bytes ≡ Err reason → first_frame v (bytes ++ piece) ≡ Err reason
+    first_frame v bytes ≡ Err reason → first_frame v (bytes ++ piece) ≡ Err reason
 first_frame-bad_grows v bytes piece reason other e =
     first_frame-by v (bytes ++ piece)
     ∙ bad_grows longest_body bytes piece (drop (4 + u32_at bytes 0) bytes)
-      (drop (4 + u32_at (bytes ++ piece) 0) (bytes ++ piece)) (decoded v) reason _ _ _ other refl refl refl
+    (drop (4 + u32_at (bytes ++ piece) 0) (bytes ++ piece)) (decoded v) reason _ _ _ other refl refl refl
     (sym (first_frame-by v bytes) ∙ e)
 
 pub first_reply-bad_grows : (bytes piece : List ℕ) (reason : Reason) → reason ≢ Cut → first_reply bytes ≡ Err reason →
-  first_reply (bytes ++ piece) ≡ Err reason
+    first_reply (bytes ++ piece) ≡ Err reason
 first_reply-bad_grows bytes piece reason other e =
     first_reply-by (bytes ++ piece)
     ∙ bad_grows longest_reply bytes piece (drop (4 + u32_at bytes 0) bytes)
-      (drop (4 + u32_at (bytes ++ piece) 0) (bytes ++ piece)) decoded_reply reason _ _ _ other refl refl refl
+    (drop (4 + u32_at (bytes ++ piece) 0) (bytes ++ piece)) decoded_reply reason _ _ _ other refl refl refl
     (sym (first_reply-by bytes) ∙ e)

@@ -13,18 +13,18 @@ use Rattle.bw_model.specs.File.{EachFileHasItsHeader, HeadersReachTheData, FormS
 use Rattle.bw_model.proofs.Widths.{length-bext_fixed, length-chunk_sized, length-cue_content}
 
 length-bext : (fields : List (List ℕ)) (history : List ℕ) → AreFields fields →
-  length (chunk (bext_chunk fields history)) ≡ 610 + even_up (length history)
+    length (chunk (bext_chunk fields history)) ≡ 610 + even_up (length history)
 length-bext fields history h =
     let n = length (bext_fixed fields ++ history) in
     let content : n ≡ 602 + length history =
-        length-append (bext_fixed fields) history ∙ ap (λ (k : ℕ). k + length history) (length-bext_fixed fields h) in
+    length-append (bext_fixed fields) history ∙ ap (λ (k : ℕ). k + length history) (length-bext_fixed fields h) in
     length-chunk_sized n (bext_chunk fields history) refl ∙ ap (λ (k : ℕ). 8 + even_up k) content ∙ omega arith
 
 -- the bytes before the data, in both kinds of form
 joined-header : (id : List ℕ) (size : ℕ) (first bext : List ℕ) (f : Format) (data_size : ℕ) → length id ≡ 4 →
-  length first ≡ 36 →
+    length first ≡ 36 →
     length (head id size ++ codes "WAVE" ++ first ++ (chunk (fmt_chunk f) ++ bext) ++ head (codes "data") data_size)
-      ≡ 80 + length bext
+    ≡ 80 + length bext
 joined-header id size first bext f data_size i l = simp length-append (omega (arith, i, l))
 
 -- the data begin behind the header
@@ -43,22 +43,22 @@ length-header f fields history data_len cue_count limit h = go (nat_le size limi
 
     go : (v : Bool) → length (cond v
         (head (codes "RIFF") size ++ codes "WAVE" ++ chunk junk_chunk ++ (chunk (fmt_chunk f) ++ bext)
-          ++ head (codes "data") data_len)
+        ++ head (codes "data") data_len)
         (head (codes "BW64") unsaid ++ codes "WAVE" ++ chunk (ds64_chunk size data_len)
-          ++ (chunk (fmt_chunk f) ++ bext) ++ head (codes "data") unsaid))
+        ++ (chunk (fmt_chunk f) ++ bext) ++ head (codes "data") unsaid))
         ≡ data_place (length history)
     go true = joined-header (codes "RIFF") size (chunk junk_chunk) bext f data_len refl refl ∙ whole
     go false = joined-header (codes "BW64") unsaid (chunk (ds64_chunk size data_len)) bext f unsaid refl refl ∙ whole
 
 length-cue_chunks : (markers : List (ℕ × ℕ)) →
-  length (flat_map chunk (cue_chunks markers)) ≡ cond (length markers == 0) 0 (12 + 24 * length markers)
+    length (flat_map chunk (cue_chunks markers)) ≡ cond (length markers == 0) 0 (12 + 24 * length markers)
 length-cue_chunks [] = refl
 length-cue_chunks (m ∷ ms) =
     let content = length-cue_content (m ∷ ms) in
     let n = length (cue_content (m ∷ ms)) in
     let some : (length (m ∷ ms) == 0) ≡ false = ne_eqb (length (m ∷ ms)) 0 (λ e. omega (arith, e)) in
     ap length (append-nil (chunk (cue_chunk (m ∷ ms)))) ∙ length-chunk_sized n (cue_chunk (m ∷ ms)) refl
-      ∙ ap (λ (k : ℕ). 8 + even_up k) content
+    ∙ ap (λ (k : ℕ). 8 + even_up k) content
     ∙ omega arith ∙ sym (cond-false (length (m ∷ ms) == 0) 0 (12 + 24 * length (m ∷ ms)) some)
   where
     cue_chunk : List (ℕ × ℕ) → Chunk
@@ -66,7 +66,7 @@ length-cue_chunks (m ∷ ms) =
 
 joined-form : (wave first fmt bext data_bytes behind : List ℕ) → length wave ≡ 4 → length first ≡ 36 → length fmt ≡ 24 →
     length (wave ++ first ++ (fmt ++ (bext ++ [])) ++ data_bytes ++ behind)
-      ≡ 64 + length bext + length data_bytes + length behind
+    ≡ 64 + length bext + length data_bytes + length behind
 joined-form wave first fmt bext data_bytes behind k l m = simp (length-append, append-nil) (omega (arith, k, l, m))
 
 -- the form size is the length of what stands behind it
@@ -78,12 +78,12 @@ form_len-form_size f t h =
     let data_bytes = length-chunk_sized n (data_chunk t.samples) refl in
     let behind = length-cue_chunks (cues t.closed t.markers) in
     joined-form (codes "WAVE") (chunk junk_chunk) (chunk (fmt_chunk f)) (chunk (bext_chunk t.fields t.history))
-      (chunk_sized n (data_chunk t.samples)) (flat_map chunk (chunks_behind t)) refl refl refl
+    (chunk_sized n (data_chunk t.samples)) (flat_map chunk (chunks_behind t)) refl refl refl
     ∙ omega (arith, bext, data_bytes, behind)
 
 header-joined : (outer wave first fmt bext data_head samples pad behind : List ℕ) →
     outer ++ (wave ++ first ++ (fmt ++ (bext ++ [])) ++ (data_head ++ (samples ++ pad)) ++ behind)
-      ≡ (outer ++ wave ++ first ++ (fmt ++ bext) ++ data_head) ++ samples ++ pad ++ behind
+    ≡ (outer ++ wave ++ first ++ (fmt ++ bext) ++ data_head) ++ samples ++ pad ++ behind
 header-joined outer wave first fmt bext data_head samples pad behind = simp (append_assoc, append-nil)
 
 -- the header, the data, their pad byte and the cue points are the file
@@ -108,20 +108,20 @@ header_of_file f t limit h = ap with_size (form_len-form_size f t h) ∙ go (nat
 
     front : List ℕ → Chunk → ℕ → List ℕ
     front outer first data_size =
-      outer ++ codes "WAVE" ++ chunk first ++ (chunk (fmt_chunk f) ++ chunk (bext_chunk t.fields t.history))
-      ++ head (codes "data") data_size
+        outer ++ codes "WAVE" ++ chunk first ++ (chunk (fmt_chunk f) ++ chunk (bext_chunk t.fields t.history))
+        ++ head (codes "data") data_size
 
     rest : List ℕ → List ℕ
     rest header = header ++ t.samples ++ pad n ++ flat_map chunk (chunks_behind t)
 
     joined : (outer : List ℕ) (first : Chunk) (data_size : ℕ) →
-      outer ++ form_of f t first data_size ≡ rest (front outer first data_size)
+        outer ++ form_of f t first data_size ≡ rest (front outer first data_size)
     joined outer first data_size =
-      header-joined outer (codes "WAVE") (chunk first) (chunk (fmt_chunk f)) (chunk (bext_chunk t.fields t.history))
-      (head (codes "data") data_size) t.samples (pad n) (flat_map chunk (chunks_behind t))
+        header-joined outer (codes "WAVE") (chunk first) (chunk (fmt_chunk f)) (chunk (bext_chunk t.fields t.history))
+        (head (codes "data") data_size) t.samples (pad n) (flat_map chunk (chunks_behind t))
 
     go : (v : Bool) → cond v (riff size) (wide size)
-      ≡ rest (cond v (front (head (codes "RIFF") size) junk_chunk n)
-      (front (head (codes "BW64") unsaid) (ds64_chunk size n) unsaid))
+        ≡ rest (cond v (front (head (codes "RIFF") size) junk_chunk n)
+        (front (head (codes "BW64") unsaid) (ds64_chunk size n) unsaid))
     go true = joined (head (codes "RIFF") size) junk_chunk n
     go false = joined (head (codes "BW64") unsaid) (ds64_chunk size n) unsaid

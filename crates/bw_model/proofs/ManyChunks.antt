@@ -73,8 +73,8 @@ front : (n k m : ℕ) → n ≡ k + m → k ≤ 4096 → n ≤ 4097 → IsFront 
 front n k m e few small = (fronts b form (listed 12 k)).1 (record {
   header = riff-outer (4 + 8 * n) (empty_chunks n) (omega arith) (omega arith);
   chunks = pieces-stand b form 12 (empties k) whole (are_empties form k)
-    (all-stand b form 12 (empties k) outer (empty_chunks m) (are_empties form k) refl
-    (ap (λ (z : List ℕ). outer ++ z) (split k m n e)));
+      (all-stand b form 12 (empties k) outer (empty_chunks m) (are_empties form k) refl
+      (ap (λ (z : List ℕ). outer ++ z) (split k m n e)));
   single = λ id h. let none = none-listed id 12 k (other id h) in omega arith;
   few = let long = length-listed 12 k in omega arith;
 })
@@ -100,14 +100,14 @@ placed p (suc k) = let rest = placed (p + 8 + even_up 0) k in omega arith
 
 -- behind all of them the form ends
 ends : (n : ℕ) → n ≤ 4096 →
-  next (form_of n) (riff (4 + 8 * n)) (listed 12 n) ≡ Err (record { kind = NoFmt; offset = 8 + (4 + 8 * n) })
+    next (form_of n) (riff (4 + 8 * n)) (listed 12 n) ≡ Err (record { kind = NoFmt; offset = 8 + (4 + 8 * n) })
 unfolding next
 ends n small =
     ap (λ (v : Bool). cond v (unless (first_that_holds faults) (Some (record { id = h.id; place = p; size = c })))
-      (unless (first_that_holds (end_faults end seen)) None)) past
+    (unless (first_that_holds (end_faults end seen)) None)) past
     ∙ ap (λ (v : Bool). unless {X = Option Entry}
-      (cond v (Some (record { kind = NoFmt; offset = end }))
-      (first_that_holds (line (is_none (entry_of (codes "data") seen)) NoData end ∷ []))) None)
+    (cond v (Some (record { kind = NoFmt; offset = end }))
+    (first_that_holds (line (is_none (entry_of (codes "data") seen)) NoData end ∷ []))) None)
     (none (entry_of (codes "fmt ") seen) (none-count (codes "fmt ") seen (none-listed (codes "fmt ") 12 n refl)))
   where
     seen : List Entry
@@ -137,15 +137,15 @@ ends n small =
 
 -- behind 4,096 comes one too many
 one_more : (n k : ℕ) → n ≡ k + 1 → k ≡ 4096 →
-  next (form_of n) (riff (4 + 8 * n)) (listed 12 k) ≡ Err (record { kind = TooMany; offset = 12 + 8 * k })
+    next (form_of n) (riff (4 + 8 * n)) (listed 12 k) ≡ Err (record { kind = TooMany; offset = 12 + 8 * k })
 unfolding next
 one_more n k e all =
     ap (λ (v : Bool). cond v
-      (unless (first_that_holds (chunk_faults (length (form_of n)) end seen p h c)) (Some found))
-      (unless (first_that_holds (end_faults end seen)) None)) goes_on
+    (unless (first_that_holds (chunk_faults (length (form_of n)) end seen p h c)) (Some found))
+    (unless (first_that_holds (end_faults end seen)) None)) goes_on
     ∙ ap (λ (v : Bool). unless
-      (cond v (Some (record { kind = TooMany; offset = p }))
-      (first_that_holds (drop 1 (chunk_faults (length (form_of n)) end seen p h c)))) (Some found)) many
+    (cond v (Some (record { kind = TooMany; offset = p }))
+    (first_that_holds (drop 1 (chunk_faults (length (form_of n)) end seen p h c)))) (Some found)) many
     ∙ ap (λ (q : ℕ). fault q) (placed 12 k)
   where
     seen : List Entry
@@ -176,9 +176,13 @@ one_more n k e all =
     many = le-leb 4096 (length seen) (let long = length-listed 12 k in omega arith)
 
 pub many_chunks : ManyChunksRow
-many_chunks = inr (riff 32772,
-  (listed 12 4096, (front 4096 4096 0 refl (omega arith) (omega arith), ends 4096 (omega arith))))
+many_chunks = inr (
+  riff 32772,
+  (listed 12 4096, (front 4096 4096 0 refl (omega arith) (omega arith), ends 4096 (omega arith))),
+)
 
 pub too_many_chunks : TooManyChunksRow
-too_many_chunks = inr (riff 32780,
-  (listed 12 4096, (front 4097 4096 1 refl (omega arith) (omega arith), one_more 4097 4096 refl refl)))
+too_many_chunks = inr (
+  riff 32780,
+  (listed 12 4096, (front 4097 4096 1 refl (omega arith) (omega arith), one_more 4097 4096 refl refl)),
+)

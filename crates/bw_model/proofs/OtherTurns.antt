@@ -23,14 +23,14 @@ IsOf name (Noticed x n code next) = x ≡ name
 IsOf name (Refused reason place) = Unit {0}
 
 other_reply : (taken : Bool) (name x : List ℕ) (log : Log) (r : Reply) → bytes_eq x name ≡ false → IsOf x r →
-  IsTrueReply taken name log r
+    IsTrueReply taken name log r
 other_reply taken name x log (Judged y n v) off is = record { judged = λ k w e. absurd (not_own k w e); welcome = refl }
   where
     not_own : (k : ℕ) (w : Verdict) → Judged y n v ≡ Judged name k w → ⊥
     not_own k w e = let own : y ≡ name =
-      cc in false≢true (sym off ∙ ap (λ (z : List ℕ). bytes_eq z name) (sym is ∙ own) ∙ name_refl name)
+        cc in false≢true (sym off ∙ ap (λ (z : List ℕ). bytes_eq z name) (sym is ∙ own) ∙ name_refl name)
 other_reply taken name x log (Noticed y n code next) off is =
-  notice_true taken name y log n next code (w (is_too_far_or_conflict code))
+    notice_true taken name y log n next code (w (is_too_far_or_conflict code))
   where
     off' : bytes_eq y name ≡ false
     off' = ap (λ (z : List ℕ). bytes_eq z name) is ∙ off
@@ -39,28 +39,28 @@ other_reply taken name x log (Noticed y n code next) off is =
     w true = off'
     w false = refl
 other_reply taken name x log (Refused reason place) off is =
-  record { judged = λ k w e. absurd (not_judged e); welcome = refl }
+    record { judged = λ k w e. absurd (not_judged e); welcome = refl }
   where
     not_judged : {k : ℕ} {w : Verdict} → Refused reason place ≡ Judged name k w → ⊥
     not_judged e = cc
 
 verdicts_of : (taken : Bool) (s : List (Option Request)) (name : List ℕ) (n k : ℕ) →
-  Each (IsOf name) (verdicts_from taken s name n k)
+    Each (IsOf name) (verdicts_from taken s name n k)
 verdicts_of taken s name n zero = tt
 verdicts_of taken s name n (suc k) = (refl, verdicts_of taken s name (suc n) k)
 
 own_of : (taken : Bool) (s : List (Option Request)) (done later end : ℕ) (m : Message) →
-  Each (IsOf m.name) (own_reply taken s done later end m)
+    Each (IsOf m.name) (own_reply taken s done later end m)
 unfolding own_reply
 own_of taken s done later end m =
     go (nat_le (done + window) m.number) (not (is_repeat s m)) (nat_le done m.number && nat_lt m.number later)
-      (nat_lt m.number done) (nat_lt later end)
+    (nat_lt m.number done) (nat_lt later end)
   where
     go : (v w x y z : Bool) →
-      Each (IsOf m.name) (cond v (Noticed m.name m.number TooFar later ∷ [])
-      (cond w (Noticed m.name m.number Conflict later ∷ [])
-      (cond x [] (cond y (Judged m.name m.number (verdict_at taken s m.number) ∷ [])
-      (cond z (Noticed m.name m.number DelayedStore later ∷ []) (Noticed m.name m.number Held later ∷ []))))))
+        Each (IsOf m.name) (cond v (Noticed m.name m.number TooFar later ∷ [])
+        (cond w (Noticed m.name m.number Conflict later ∷ [])
+        (cond x [] (cond y (Judged m.name m.number (verdict_at taken s m.number) ∷ [])
+        (cond z (Noticed m.name m.number DelayedStore later ∷ []) (Noticed m.name m.number Held later ∷ []))))))
     go true w x y z = (refl, tt)
     go false true x y z = (refl, tt)
     go false false true y z = tt
@@ -69,10 +69,10 @@ own_of taken s done later end m =
     go false false false false false = (refl, tt)
 
 message_of : (taken known full : Bool) (log : Log) (m : Message) (luck : Luck) →
-  Each (IsOf m.name) (turn_by taken known full log m luck).0
+    Each (IsOf m.name) (turn_by taken known full log m luck).0
 unfolding served turn_by
 message_of taken known full log m luck =
-  go (not known && nat_le window m.number) (not known && full) (is_admissible log m.number && luck.refused)
+    go (not known && nat_le window m.number) (not known && full) (is_admissible log m.number && luck.refused)
   where
     s : List (Option Request)
     s = admitted_after log m
@@ -81,29 +81,29 @@ message_of taken known full log m luck =
     later = drained_to log.done (run_end s log.done) luck.stop
 
     go : (u v w : Bool) → Each (IsOf m.name)
-      (cond {A = List Reply × Option Log} u (notice m TooFar 0, None)
-      (cond v (notice m TableFull 0, None)
-      (cond w (notice m NoRoom log.done, None)
-      ((served taken log m luck.stop).0, Some (served taken log m luck.stop).1)))).0
+        (cond {A = List Reply × Option Log} u (notice m TooFar 0, None)
+        (cond v (notice m TableFull 0, None)
+        (cond w (notice m NoRoom log.done, None)
+        ((served taken log m luck.stop).0, Some (served taken log m luck.stop).1)))).0
     go true v w = (refl, tt)
     go false true w = (refl, tt)
     go false false true = (refl, tt)
     go false false false = each-append (IsOf m.name) _ _ (verdicts_of taken s m.name log.done (later - log.done))
-      (own_of taken s log.done later (run_end s log.done) m)
+        (own_of taken s log.done later (run_end s log.done) m)
 
 -- a turn of another name
 pub other_true : (stood : List ℕ → Bool) (offered : List Request) (name : List ℕ) (b : Book) (f : Frame)
-  (luck : Luck) → is_of name f ≡ false →
+    (luck : Luck) → is_of name f ≡ false →
     IsSound offered (log_of b name) →
-      IsFaithfulStep (stood name) offered name (log_of b name) (log_of (turn stood b f luck).1 name)
-      (turn stood b f luck).0
+    IsFaithfulStep (stood name) offered name (log_of b name) (log_of (turn stood b f luck).1 name)
+    (turn stood b f luck).0
 unfolding turn turn_by
 other_true stood offered name b (Says m) luck off sound =
     let x = turn_by (stood m.name) (is_known b m.name) (is_full b) (log_of b m.name) m luck in
     subst (λ (l : Log). IsFaithfulStep (stood name) offered name (log_of b name) l x.0) (sym (same x.1))
     (still (stood name) offered name (log_of b name) x.0 sound
     (each-map (IsOf m.name) (IsTrueReply (stood name) name (log_of b name)) x.0
-      (λ r h. other_reply (stood name) name m.name (log_of b name) r off h)
+    (λ r h. other_reply (stood name) name m.name (log_of b name) r off h)
     (message_of (stood m.name) (is_known b m.name) (is_full b) (log_of b m.name) m luck)))
   where
     same : (c : Option Log) → log_of (with_change b m.name c) name ≡ log_of b name
@@ -111,5 +111,5 @@ other_true stood offered name b (Says m) luck off sound =
     same (Some l) = log-with_log_other b m.name name l off
 other_true stood offered name b (Asks x n) luck off sound =
     still (stood name) offered name (log_of b name) _ sound
-      (notice_true (stood name) name x (log_of b name) n (log_of b x).done Next refl, tt)
+    (notice_true (stood name) name x (log_of b name) n (log_of b x).done Next refl, tt)
 other_true stood offered name b Bye luck off sound = still (stood name) offered name (log_of b name) [] sound tt

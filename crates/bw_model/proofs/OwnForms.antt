@@ -17,7 +17,7 @@ use Rattle.bw_model.proofs.FileForms.{riff-outer, wide-outer}
 -- a first chunk of 28 bytes
 first_piece : (form : Form) (first : Chunk) → length first.id ≡ 4 → length first.content ≡ 28 →
     is_id first.id (codes "fmt ") ≡ false → is_id first.id (codes "bext") ≡ false →
-      is_id first.id (codes "cue ") ≡ false → IsPiece form (own first)
+    is_id first.id (codes "cue ") ≡ false → IsPiece form (own first)
 first_piece form first four long fmt bext cue = record {
   id = four;
   said = inl (refl, omega (arith, long));
@@ -45,7 +45,7 @@ abbrev pub bytes_of : List ℕ → Format → Take → Chunk → ℕ → List �
 bytes_of outer f t first data_size = outer ++ form_of f t first data_size
 
 pub own_pieces : (f : Format) (t : Take) (first : Chunk) (data_size : ℕ) (form : Form) (b : List ℕ) →
-  IsWithinLimits f t → IsOwnForm f t first data_size form b → ArePieces form (pieces f t first data_size)
+    IsWithinLimits f t → IsOwnForm f t first data_size form b → ArePieces form (pieces f t first data_size)
 own_pieces f t first data_size form b within h =
     are_pieces form f t first data_size h.piece within.fields within.history h.said small (few t.closed)
   where
@@ -60,14 +60,14 @@ own_pieces f t first data_size form b within h =
     few false = omega arith
 
 pub own_stand : (f : Format) (t : Take) (outer : List ℕ) (first : Chunk) (data_size : ℕ) (form : Form) →
-  length outer ≡ 8 → IsWithinLimits f t →
+    length outer ≡ 8 → IsWithinLimits f t →
     IsOwnForm f t first data_size form (bytes_of outer f t first data_size) →
-      AllStand (bytes_of outer f t first data_size) 12 (pieces f t first data_size)
+    AllStand (bytes_of outer f t first data_size) 12 (pieces f t first data_size)
 own_stand f t outer first data_size form eight within h =
     let start : 12 ≡ length (outer ++ codes "WAVE") = omega (arith, length-append outer (codes "WAVE"), eight) in
     all-stand (bytes_of outer f t first data_size) form 12 (pieces f t first data_size) (outer ++ codes "WAVE") []
     (own_pieces f t first data_size form (bytes_of outer f t first data_size) within h) start
-      (form-pieces outer f t first data_size)
+    (form-pieces outer f t first data_size)
 
 -- the two forms of a take's file
 
@@ -75,8 +75,11 @@ abbrev pub narrow : Format → Take → Form
 narrow f t = record { id = codes "RIFF"; size = form_len f t; sizes = None }
 
 abbrev pub broad : Format → Take → Form
-broad f t = record { id = codes "BW64"; size = form_len f t;
-  sizes = Some (record { form = form_len f t; «data» = length t.samples; table = [] }) }
+broad f t = record {
+  id = codes "BW64";
+  size = form_len f t;
+  sizes = Some (record { form = form_len f t; «data» = length t.samples; table = [] });
+}
 
 abbrev pub narrow_bytes : Format → Take → List ℕ
 narrow_bytes f t = bytes_of (head (codes "RIFF") (form_len f t)) f t junk_chunk (length t.samples)
@@ -86,10 +89,10 @@ broad_bytes f t = bytes_of (head (codes "BW64") unsaid) f t (ds64_chunk (form_le
 
 rest : Format → Take → ℕ → List ℕ
 rest f t size = flat_map chunk (chunks_before f t) ++ chunk_sized size (data_chunk t.samples)
-  ++ flat_map chunk (chunks_behind t)
+    ++ flat_map chunk (chunks_behind t)
 
 pub narrow-own : (f : Format) (t : Take) → IsWithinLimits f t → form_len f t ≤ 4294967294 →
-  length (narrow_bytes f t) ≡ 8 + form_len f t →
+    length (narrow_bytes f t) ≡ 8 + form_len f t →
     IsOwnForm f t junk_chunk (length t.samples) (narrow f t) (narrow_bytes f t)
 unfolding form_of rest
 narrow-own f t within fits whole =

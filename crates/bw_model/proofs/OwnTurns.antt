@@ -23,14 +23,14 @@ use Rattle.bw_model.proofs.TrueReplies.{still}
 
 -- what the message's admission leaves
 record IsAdmission (taken : Bool) (offered : List Request) (log : Log) (m : Message)
-  (s : List (Option Request)) : Type 0 where
+    (s : List (Option Request)) : Type 0 where
   here : at s m.number ≡ Some m.request
   admitted : (n : ℕ) (r : Request) → at s n ≡ Some r → slice_get offered n ≡ Some r
   filled : IsFilled s log.done
   same : (n : ℕ) → n < log.done → verdict_at taken s n ≡ verdict_at taken log.admitted n
 
 admission : (taken : Bool) (offered : List Request) (log : Log) (m : Message) → IsSound offered log →
-  slice_get offered m.number ≡ Some m.request → m.number < log.done + window →
+    slice_get offered m.number ≡ Some m.request → m.number < log.done + window →
     IsAdmission taken offered log m (admitted_after log m)
 admission taken offered log m sound was below = go (at log.admitted m.number) refl
   where
@@ -43,7 +43,7 @@ admission taken offered log m sound was below = go (at log.admitted m.number) re
     go : (x : Option Request) → at s m.number ≡ x → IsAdmission taken offered log m (admitted_after log m)
     go None e =
         let yes : is_admissible log m.number ≡ true =
-            ap (λ (z : Option Request). is_none z && nat_lt m.number (log.done + window)) e ∙ fits in
+        ap (λ (z : Option Request). is_none z && nat_lt m.number (log.done + window)) e ∙ fits in
         subst (λ (v : Bool). IsAdmission taken offered log m (cond v (put s m.number m.request) s)) (sym yes) (record {
           here = at-put_same s m.number m.request;
           admitted = λ n r h. old n r h;
@@ -55,14 +55,14 @@ admission taken offered log m sound was below = go (at log.admitted m.number) re
         old n r h = by_place (eqb_tells n m.number)
           where
             by_place : ((eqb n m.number ≡ true) × (n ≡ m.number)) ⊎ ((eqb n m.number ≡ false) × (n ≢ m.number)) →
-              slice_get offered n ≡ Some r
+                slice_get offered n ≡ Some r
             by_place (inl p) =
                 ap (slice_get offered) p.1 ∙ was ∙ sym (at-put_same s m.number m.request)
-                  ∙ ap (at (put s m.number m.request)) (sym p.1) ∙ h
+                ∙ ap (at (put s m.number m.request)) (sym p.1) ∙ h
             by_place (inr p) = sound.admitted n r (sym (at-put_other s m.number n m.request p.1) ∙ h)
     go (Some x) e =
         let no : is_admissible log m.number ≡ false =
-            ap (λ (z : Option Request). is_none z && nat_lt m.number (log.done + window)) e in
+        ap (λ (z : Option Request). is_none z && nat_lt m.number (log.done + window)) e in
         subst (λ (v : Bool). IsAdmission taken offered log m (cond v (put s m.number m.request) s)) (sym no) (record {
           here = e ∙ sym (sound.admitted m.number x e) ∙ was;
           admitted = sound.admitted;
@@ -85,10 +85,10 @@ own_true : (taken : Bool) (s : List (Option Request)) (done later end : ℕ) (m 
 unfolding own_reply
 own_true taken s done later end m near here from =
     subst (λ (v : Bool). Each P
-      (cond v (Noticed m.name m.number TooFar later ∷ []) (cond (not (is_repeat s m)) conflict rest)))
-      (sym (lt-leb (done + window) m.number near))
+    (cond v (Noticed m.name m.number TooFar later ∷ []) (cond (not (is_repeat s m)) conflict rest)))
+    (sym (lt-leb (done + window) m.number near))
     (subst (λ (v : Bool). Each P (cond (not v) conflict rest)) (sym same)
-      (go (nat_le done m.number && nat_lt m.number later) (nat_lt m.number done) refl (nat_lt later end)))
+    (go (nat_le done m.number && nat_lt m.number later) (nat_lt m.number done) refl (nat_lt later end)))
   where
     P : Reply → Type 0
     P = IsTrueReply taken m.name (record { admitted = s; done = later })
@@ -101,18 +101,18 @@ own_true taken s done later end m near here from =
 
     rest : List Reply
     rest = cond (nat_le done m.number && nat_lt m.number later) []
-      (cond (nat_lt m.number done) (Judged m.name m.number (verdict_at taken s m.number) ∷ [])
-      (last (nat_lt later end)))
+        (cond (nat_lt m.number done) (Judged m.name m.number (verdict_at taken s m.number) ∷ [])
+        (last (nat_lt later end)))
 
     same : is_repeat s m ≡ true
     same = ap (repeats m) here ∙ name_refl (sha256 (message_body m))
 
     go : (x y : Bool) → nat_lt m.number done ≡ y → (z : Bool) →
-      Each P (cond x [] (cond y (Judged m.name m.number (verdict_at taken s m.number) ∷ []) (last z)))
+        Each P (cond x [] (cond y (Judged m.name m.number (verdict_at taken s m.number) ∷ []) (last z)))
     go true y e z = tt
     go false true e z = let h : m.number < done =
-      ltb-true m.number done e
-      in (judged_true taken m.name (record { admitted = s; done = later }) m.number (omega arith), tt)
+        ltb-true m.number done e
+        in (judged_true taken m.name (record { admitted = s; done = later }) m.number (omega arith), tt)
     go false false e true = (notice_true taken m.name m.name _ m.number later DelayedStore refl, tt)
     go false false e false = (notice_true taken m.name m.name _ m.number later Held refl, tt)
 
@@ -138,9 +138,9 @@ served_true taken offered log m stop sound was near =
 -- the turn of the sender's message
 pub own_message_true : (stood : List ℕ → Bool) (offered : List Request) (b : Book) (m : Message) (luck : Luck) →
     IsSound offered (log_of b m.name) → slice_get offered m.number ≡ Some m.request →
-      m.number < (log_of b m.name).done + window →
+    m.number < (log_of b m.name).done + window →
     IsFaithfulStep (stood m.name) offered m.name (log_of b m.name)
-      (log_of (message_turn (stood m.name) b m luck).1 m.name) (message_turn (stood m.name) b m luck).0
+    (log_of (message_turn (stood m.name) b m luck).1 m.name) (message_turn (stood m.name) b m luck).0
 unfolding turn_by
 own_message_true stood offered b m luck sound was near =
     go (is_known b m.name) refl (nat_le window m.number) refl (is_full b) (is_admissible log m.number && luck.refused)
@@ -152,22 +152,22 @@ own_message_true stood offered b m luck sound was near =
     Goal x = IsFaithfulStep (stood m.name) offered m.name log (log_of (with_change b m.name x.1) m.name) x.0
 
     kept : (code : Notice) (next : ℕ) → turns_down m.name (Noticed m.name m.number code next) ≡ false →
-      Goal (Noticed m.name m.number code next ∷ [], None)
+        Goal (Noticed m.name m.number code next ∷ [], None)
     kept code next w = still (stood m.name) offered m.name log _ sound
-      (notice_true (stood m.name) m.name m.name log m.number next code w, tt)
+        (notice_true (stood m.name) m.name m.name log m.number next code w, tt)
 
     served_goal : Goal ((served (stood m.name) log m luck.stop).0, Some (served (stood m.name) log m luck.stop).1)
     served_goal =
         subst (λ (z : Log). IsFaithfulStep (stood m.name) offered m.name log z
-          (served (stood m.name) log m luck.stop).0)
+        (served (stood m.name) log m luck.stop).0)
         (sym (log-with_log_same b m.name (served (stood m.name) log m luck.stop).1))
         (served_true (stood m.name) offered log m luck.stop sound was near)
 
     go : (known : Bool) → is_known b m.name ≡ known → (far : Bool) → nat_le window m.number ≡ far →
-      (full refused : Bool) →
+        (full refused : Bool) →
         Goal (cond (not known && far) (notice m TooFar 0, None) (cond (not known && full) (notice m TableFull 0, None)
         (cond refused (notice m NoRoom log.done, None)
-          ((served (stood m.name) log m luck.stop).0, Some (served (stood m.name) log m luck.stop).1))))
+        ((served (stood m.name) log m luck.stop).0, Some (served (stood m.name) log m luck.stop).1))))
     go false k true f full refused =
         let none : log.done ≡ 0 = ap (λ (l : Log). l.done) (unknown_log b m.name k) in
         let over : window ≤ m.number = leb-true window m.number f in

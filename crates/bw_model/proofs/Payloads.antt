@@ -34,7 +34,7 @@ pub record IsPayloadOf (k : ℕ) (p : List ℕ) : Type 0 where
   pub fits : is_request (request_of k p) ≡ true
 
 open_payload : (p : List ℕ) → are_bytes p ≡ true → 10 ≤ length p → length p ≡ 10 + u16_at p 8 → u16_at p 8 ≤ 4096 →
-  IsPayloadOf 1 p
+    IsPayloadOf 1 p
 open_payload p fits long len small =
     let rate = written-number_at w32 (2 ^ 32) wide32 p 0 fits (omega arith) in
     let channels = written-number_at w16 (2 ^ 16) wide16 p 4 fits (omega arith) in
@@ -45,19 +45,19 @@ open_payload p fits long len small =
       kind_is = refl;
       payload_is =
           ap (λ (n : ℕ). le32 (u32_at p 0) ++ (le16 (u16_at p 4) ++ (le16 (u16_at p 6) ++ (le16 n ++ drop 10 p))))
-            len_is
+          len_is
           ∙ ap (λ (x : List ℕ). le32 (u32_at p 0) ++ (le16 (u16_at p 4) ++ (le16 (u16_at p 6) ++ x))) history_len.0
           ∙ ap (λ (x : List ℕ). le32 (u32_at p 0) ++ (le16 (u16_at p 4) ++ x)) bits.0
           ∙ ap (λ (x : List ℕ). le32 (u32_at p 0) ++ x) channels.0
           ∙ rate.0;
       fits =
           and_from (is_below (2 ^ 32) (u32_at p 0) && is_below (2 ^ 16) (u16_at p 4) && is_below (2 ^ 16) (u16_at p 6)
-            && nat_le (length (drop 10 p)) 4096) (are_bytes (drop 10 p))
+          && nat_le (length (drop 10 p)) 4096) (are_bytes (drop 10 p))
           (and_from (is_below (2 ^ 32) (u32_at p 0) && is_below (2 ^ 16) (u16_at p 4)
-            && is_below (2 ^ 16) (u16_at p 6)) (nat_le (length (drop 10 p)) 4096)
+          && is_below (2 ^ 16) (u16_at p 6)) (nat_le (length (drop 10 p)) 4096)
           (and_from (is_below (2 ^ 32) (u32_at p 0) && is_below (2 ^ 16) (u16_at p 4)) (is_below (2 ^ 16) (u16_at p 6))
           (and_from (is_below (2 ^ 32) (u32_at p 0)) (is_below (2 ^ 16) (u16_at p 4)) (lt-ltb _ _ rate.1)
-            (lt-ltb _ _ channels.1)) (lt-ltb _ _ bits.1))
+          (lt-ltb _ _ channels.1)) (lt-ltb _ _ bits.1))
           (le-leb _ _ (omega arith))) (are_bytes-parts 10 p fits).1;
     }
 
@@ -72,7 +72,7 @@ mark_payload p fits len =
           ∙ ap (λ (x : List ℕ). le32 (u32_at p 0) ++ x) frame.0
           ∙ id.0;
       fits = and_from (is_below (2 ^ 32) (u32_at p 0)) (is_below (2 ^ 32) (u32_at p 4)) (lt-ltb _ _ id.1)
-        (lt-ltb _ _ frame.1);
+          (lt-ltb _ _ frame.1);
     }
 
 field_payload : (p : List ℕ) → are_bytes p ≡ true → is_within 1 257 (length p) ≡ true → IsPayloadOf 4 p
@@ -103,16 +103,19 @@ payload_from_test k p fits h request =
     elim (one_of _ _ _ _ _ _ h) [
       | first e ↦
           let at = and_parts ((k == 1) && nat_le 10 (length p) && (length p == 10 + u16_at p 8))
-              (nat_le (u16_at p 8) 4096) e in
+          (nat_le (u16_at p 8) 4096) e in
           let at' = and_parts ((k == 1) && nat_le 10 (length p)) (length p == 10 + u16_at p 8) at.0 in
           let at'' = and_parts (k == 1) (nat_le 10 (length p)) at'.0 in
           subst (λ (n : ℕ). IsPayloadOf n p) (sym (eqb-true k 1 at''.0))
-            (open_payload p fits (leb-true _ _ at''.1) (eqb-true _ _ at'.1) (leb-true _ _ at.1))
+          (open_payload p fits (leb-true _ _ at''.1) (eqb-true _ _ at'.1) (leb-true _ _ at.1))
       | second e ↦
           let at = and_parts (k == 2) (is_within 1 32768 (length p)) e in
           subst (λ (n : ℕ). IsPayloadOf n p) (sym (eqb-true k 2 at.0))
-            (record { kind_is = refl; payload_is = refl;
-            fits = and_from (is_within 1 32768 (length p)) (are_bytes p) at.1 fits })
+          (record {
+            kind_is = refl;
+            payload_is = refl;
+            fits = and_from (is_within 1 32768 (length p)) (are_bytes p) at.1 fits;
+          })
       | third e ↦
           let at = and_parts (k == 3) (length p == 8) e in
           subst (λ (n : ℕ). IsPayloadOf n p) (sym (eqb-true k 3 at.0)) (mark_payload p fits (eqb-true _ _ at.1))
@@ -135,23 +138,23 @@ pub record ReadsRequest (r : Request) : Type 0 where
 pub reads_request : (r : Request) → is_request r ≡ true → ReadsRequest r
 reads_request (Open f history) h =
     let four = and_parts (is_below (2 ^ 32) f.rate && is_below (2 ^ 16) f.channels && is_below (2 ^ 16) f.bits
-        && nat_le (length history) 4096) (are_bytes history) h in
+    && nat_le (length history) 4096) (are_bytes history) h in
     let three = and_parts (is_below (2 ^ 32) f.rate && is_below (2 ^ 16) f.channels && is_below (2 ^ 16) f.bits)
-        (nat_le (length history) 4096) four.0 in
+    (nat_le (length history) 4096) four.0 in
     let two = and_parts (is_below (2 ^ 32) f.rate && is_below (2 ^ 16) f.channels) (is_below (2 ^ 16) f.bits) three.0 in
     let one = and_parts (is_below (2 ^ 32) f.rate) (is_below (2 ^ 16) f.channels) two.0 in
     let short = leb-true (length history) 4096 three.1 in
     let p = payload (Open f history) in
     let rate : u32_at p 0 ≡ f.rate = number_at-written w32 (2 ^ 32) wide32 f.rate (drop 4 p) (ltb-true _ _ one.0) in
     let channels : u16_at p 4 ≡ f.channels =
-        number_at-written w16 (2 ^ 16) wide16 f.channels (drop 6 p) (ltb-true _ _ one.1) in
+    number_at-written w16 (2 ^ 16) wide16 f.channels (drop 6 p) (ltb-true _ _ one.1) in
     let bits : u16_at p 6 ≡ f.bits = number_at-written w16 (2 ^ 16) wide16 f.bits (drop 8 p) (ltb-true _ _ two.1) in
     let len : u16_at p 8 ≡ length history =
-        number_at-written w16 (2 ^ 16) wide16 (length history) history (omega arith) in
+    number_at-written w16 (2 ^ 16) wide16 (length history) history (omega arith) in
     let tests =
     and_from (nat_le 10 (length p) && (length p == 10 + u16_at p 8)) (nat_le (u16_at p 8) 4096)
     (and_from (nat_le 10 (length p)) (length p == 10 + u16_at p 8) (le-leb _ _ (omega arith))
-      (eq-eqb _ _ (omega arith)))
+    (eq-eqb _ _ (omega arith)))
     (le-leb _ _ (omega arith)) in
     record {
       passes = rw tests;
@@ -170,15 +173,21 @@ reads_request (Mark id frame) h =
       passes = refl;
       request_is =
           ap (λ (n : ℕ). Mark n (u32_at (le32 id ++ le32 frame) 4))
-            (number_at-written w32 (2 ^ 32) wide32 id (le32 frame) (ltb-true _ _ fits.0))
+          (number_at-written w32 (2 ^ 32) wide32 id (le32 frame) (ltb-true _ _ fits.0))
           ∙ ap (Mark id) (number_at-written w32 (2 ^ 32) wide32 frame [] (ltb-true _ _ fits.1));
       kind_fits = refl;
     }
 reads_request (SetField tag value) h =
     let fits = and_parts (is_below 256 tag && nat_le (length value) 256) (are_bytes value) h in
     let short = leb-true _ _ (and_parts (is_below 256 tag) (nat_le (length value) 256) fits.0).1 in
-    record { passes = rw (le-leb 1 (suc (length value)) (omega arith), le-leb (suc (length value)) 257 (omega arith));
-      request_is = refl; kind_fits = refl }
+    record {
+      passes = rw (le-leb 1 (suc (length value)) (omega arith), le-leb (suc (length value)) 257 (omega arith));
+      request_is = refl;
+      kind_fits = refl;
+    }
 reads_request (Close total) h =
-    record { passes = refl; request_is = ap Close (number_at-written w64 (2 ^ 64) wide64 total [] (ltb-true _ _ h));
-      kind_fits = refl }
+    record {
+      passes = refl;
+      request_is = ap Close (number_at-written w64 (2 ^ 64) wide64 total [] (ltb-true _ _ h));
+      kind_fits = refl;
+    }

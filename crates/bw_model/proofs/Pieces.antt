@@ -13,19 +13,19 @@ use Rattle.bw_model.proofs.Widths.{length-chunk_sized}
 
 -- n bytes from a place on, of what stands behind the front
 pub range-behind : (front x rest : List ℕ) (p i n : ℕ) → p ≡ length front → i + n ≤ length x →
-  slice_range (front ++ (x ++ rest)) (p + i) (p + i + n) ≡ take n (drop i x)
+    slice_range (front ++ (x ++ rest)) (p + i) (p + i + n) ≡ take n (drop i x)
 range-behind front x rest p i n e l =
     let count : p + i + n - (p + i) ≡ n = omega arith in
     let here : i ≤ length x = omega arith in
     let room : n ≤ length (drop i x) = omega (arith, length-drop i x) in
     ap (λ (k : ℕ). take k (drop (p + i) (front ++ (x ++ rest)))) count
     ∙ ap (take n) (sym (drop-drop i p (front ++ (x ++ rest))) ∙ ap (drop i) (drop_at front (x ++ rest) p (sym e))
-      ∙ drop-append-le i x rest here)
+    ∙ drop-append-le i x rest here)
     ∙ take-append-le n (drop i x) rest room
 
 -- what stands behind the front, whole
 pub range-whole : (front x rest : List ℕ) (p n : ℕ) → p ≡ length front → n ≡ length x →
-  slice_range (front ++ (x ++ rest)) p (p + n) ≡ x
+    slice_range (front ++ (x ++ rest)) p (p + n) ≡ x
 range-whole front x rest p n e l =
     let count : p + n - p ≡ n = omega arith in
     ap (λ (k : ℕ). take k (drop p (front ++ (x ++ rest)))) count
@@ -53,7 +53,7 @@ pub record StandsAt (b : List ℕ) (p : ℕ) (x : Piece) : Type 0 where
 in_parts : (b : List ℕ) (p : ℕ) (x : Piece) (s : StandsAt b p x) →
     b ≡ s.front ++ (x.1.id ++ (le32 x.0 ++ (x.1.content ++ (pad (piece_size x) ++ s.rest))))
 in_parts b p x s = s.bytes
-  ∙ ap (λ (z : List ℕ). s.front ++ z) (parts x.1.id (le32 x.0) x.1.content (pad (piece_size x)) s.rest)
+    ∙ ap (λ (z : List ℕ). s.front ++ z) (parts x.1.id (le32 x.0) x.1.content (pad (piece_size x)) s.rest)
   where
     parts : (i n c d r : List ℕ) → (i ++ n ++ (c ++ d)) ++ r ≡ i ++ (n ++ (c ++ (d ++ r)))
     parts i n c d r = simp append_assoc
@@ -64,7 +64,7 @@ id-stands b p x s l =
     ∙ range-whole s.front x.1.id (le32 x.0 ++ (x.1.content ++ (pad (piece_size x) ++ s.rest))) p 4 s.place (sym l)
 
 size-stands : (b : List ℕ) (p : ℕ) (x : Piece) → StandsAt b p x → length x.1.id ≡ 4 → x.0 < 2 ^ 32 →
-  u32_at b (p + 4) ≡ x.0
+    u32_at b (p + 4) ≡ x.0
 size-stands b p x s l small =
     let rest : List ℕ = x.1.content ++ (pad (piece_size x) ++ s.rest) in
     let place : p + 4 ≡ length (s.front ++ x.1.id) = omega (arith, length-append s.front x.1.id, s.place) in
@@ -74,15 +74,15 @@ size-stands b p x s l small =
 
 -- the bytes of a content, from its start on
 pub content-stands : (b : List ℕ) (p : ℕ) (x : Piece) (i n : ℕ) → StandsAt b p x → length x.1.id ≡ 4 →
-  i + n ≤ piece_size x →
+    i + n ≤ piece_size x →
     slice_range b (p + 8 + i) (p + 8 + i + n) ≡ take n (drop i x.1.content)
 content-stands b p x i n s l inside =
     let front : List ℕ = s.front ++ (x.1.id ++ le32 x.0) in
     let rest : List ℕ = pad (piece_size x) ++ s.rest in
     let place : p + 8 ≡ length front =
-        omega (arith, length-append s.front (x.1.id ++ le32 x.0), length-append x.1.id (le32 x.0), s.place) in
+    omega (arith, length-append s.front (x.1.id ++ le32 x.0), length-append x.1.id (le32 x.0), s.place) in
     ap (λ (z : List ℕ). slice_range z (p + 8 + i) (p + 8 + i + n))
-      (in_parts b p x s ∙ joined s.front x.1.id (le32 x.0) (x.1.content ++ rest))
+    (in_parts b p x s ∙ joined s.front x.1.id (le32 x.0) (x.1.content ++ rest))
     ∙ range-behind front x.1.content rest (p + 8) i n place inside
   where
     joined : (f i n r : List ℕ) → f ++ (i ++ (n ++ r)) ≡ (f ++ (i ++ n)) ++ r
@@ -90,11 +90,11 @@ content-stands b p x i n s l inside =
 
 -- the content, whole
 pub content-whole : (b : List ℕ) (p : ℕ) (x : Piece) → StandsAt b p x → length x.1.id ≡ 4 →
-  slice_range b (p + 8) (p + 8 + piece_size x) ≡ x.1.content
+    slice_range b (p + 8) (p + 8 + piece_size x) ≡ x.1.content
 content-whole b p x s l =
     let start : p + 8 ≡ p + 8 + 0 = omega arith in
     ap (λ (q : ℕ). slice_range b q (q + piece_size x)) start ∙ content-stands b p x 0 (piece_size x) s l (omega arith)
-      ∙ take_all (piece_size x) x.1.content (omega arith)
+    ∙ take_all (piece_size x) x.1.content (omega arith)
 
 -- what a piece has to be
 pub record HasCount (content : List ℕ) : Type 0 where
@@ -104,7 +104,7 @@ pub record HasCount (content : List ℕ) : Type 0 where
 
 abbrev pub SaysSize : Form → Piece → Type 0
 SaysSize form x = ((x.0 ≡ piece_size x) × (piece_size x < unsaid))
-  ⊎ ((x.0 ≡ unsaid) × IsTold form.sizes x.1.id (piece_size x))
+    ⊎ ((x.0 ≡ unsaid) × IsTold form.sizes x.1.id (piece_size x))
 
 pub record IsPiece (form : Form) (x : Piece) : Type 0 where
   pub id : length x.1.id ≡ 4
@@ -119,21 +119,29 @@ entry_for p x = record { id = x.1.id; place = p; size = piece_size x }
 
 length-stands : (b : List ℕ) (p : ℕ) (x : Piece) → StandsAt b p x → length x.1.id ≡ 4 → p + 8 + piece_size x ≤ length b
 length-stands b p x s l =
-  omega (arith, ap length s.bytes, length-append s.front (piece_bytes x ++ s.rest),
-  length-append (piece_bytes x) s.rest, length-chunk_sized x.0 x.1 l, s.place)
+    omega (
+      arith,
+      ap length s.bytes,
+      length-append s.front (piece_bytes x ++ s.rest),
+      length-append (piece_bytes x) s.rest,
+      length-chunk_sized x.0 x.1 l,
+      s.place,
+    )
 
 sized : (b : List ℕ) (form : Form) (p : ℕ) (x : Piece) → StandsAt b p x → length x.1.id ≡ 4 → SaysSize form x →
-  IsSized b form (entry_for p x)
+    IsSized b form (entry_for p x)
 sized b form p x s l (inl h) =
     let below : piece_size x < unsaid = h.1 in
     let stands = size-stands b p x s l (let same : x.0 ≡ piece_size x = h.0 in omega arith) in
-    inl ((λ e. let said : u32_at b (p + 4) ≡ x.0 = stands in let same : x.0 ≡ piece_size x = h.0 in omega (arith, e)),
-      sym (stands ∙ h.0))
+    inl (
+      (λ e. let said : u32_at b (p + 4) ≡ x.0 = stands in let same : x.0 ≡ piece_size x = h.0 in omega (arith, e)),
+      sym (stands ∙ h.0),
+    )
 sized b form p x s l (inr h) = inr (size-stands b p x s l (let same : x.0 ≡ unsaid = h.0 in omega arith) ∙ h.0, h.1)
 
 -- a piece that stands in bytes is a chunk there
 piece-stands : (b : List ℕ) (form : Form) (p : ℕ) (x : Piece) → form_end form ≡ length b → StandsAt b p x →
-  IsPiece form x → IsChunkAt b form (entry_for p x)
+    IsPiece form x → IsChunkAt b form (entry_for p x)
 piece-stands b form p x whole s h =
     let inside = length-stands b p x s h.id in
     record {
@@ -151,7 +159,7 @@ piece-stands b form p x whole s h =
     room k =
         let start : p + 8 ≡ p + 8 + 0 = omega arith in
         let same : u32_at b (p + 8) ≡ u32_at x.1.content 0 =
-            ap (u32_at b) start ∙ ap (from_le_bytes w32) (content-stands b p x 0 4 s h.id k.count) in
+        ap (u32_at b) start ∙ ap (from_le_bytes w32) (content-stands b p x 0 4 s h.id k.count) in
         record {
           count = k.count;
           few = subst (λ (n : ℕ). n ≤ 65536) (sym same) k.few;
@@ -177,17 +185,17 @@ pub all-stand : (b : List ℕ) (form : Form) (p : ℕ) (xs : List Piece) (front 
 all-stand b form p [] front rest h place bytes = tt
 all-stand b form p (x ∷ xs) front rest h place bytes =
     let split : b ≡ front ++ (piece_bytes x ++ (flat_map piece_bytes xs ++ rest)) =
-        bytes ∙ ap (λ (z : List ℕ). front ++ z) (append_assoc (piece_bytes x) (flat_map piece_bytes xs) rest) in
+    bytes ∙ ap (λ (z : List ℕ). front ++ z) (append_assoc (piece_bytes x) (flat_map piece_bytes xs) rest) in
     let next : p + 8 + even_up (piece_size x) ≡ length (front ++ piece_bytes x) =
-        omega (arith, length-append front (piece_bytes x), length-chunk_sized x.0 x.1 h.0.id, place) in (
+    omega (arith, length-append front (piece_bytes x), length-chunk_sized x.0 x.1 h.0.id, place) in (
       record { front = front; rest = flat_map piece_bytes xs ++ rest; place = place; bytes = split },
       all-stand b form (p + 8 + even_up (piece_size x)) xs (front ++ piece_bytes x) rest h.1 next
-        (split ∙ sym (append_assoc front (piece_bytes x) (flat_map piece_bytes xs ++ rest))),
+          (split ∙ sym (append_assoc front (piece_bytes x) (flat_map piece_bytes xs ++ rest))),
     )
 
 -- pieces that stand in bytes are chunks there
 pub pieces-stand : (b : List ℕ) (form : Form) (p : ℕ) (xs : List Piece) → form_end form ≡ length b →
-  ArePieces form xs → AllStand b p xs → StandFrom b form p (entries_from p xs)
+    ArePieces form xs → AllStand b p xs → StandFrom b form p (entries_from p xs)
 pieces-stand b form p [] whole h s = tt
 pieces-stand b form p (x ∷ xs) whole h s =
     (refl, piece-stands b form p x whole s.0 h.0, pieces-stand b form (p + 8 + even_up (piece_size x)) xs whole h.1 s.1)

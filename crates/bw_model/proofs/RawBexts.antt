@@ -16,7 +16,7 @@ use Rattle.bw_model.proofs.Pieces.{range-whole}
 
 -- a part of joined lists, behind the parts before it
 part : (before : List (List ℕ)) (x : List ℕ) (behind : List (List ℕ)) (p n : ℕ) → sum (map length before) ≡ p →
-  length x ≡ n → slice_range (concat (before ++ x ∷ behind)) p (p + n) ≡ x
+    length x ≡ n → slice_range (concat (before ++ x ∷ behind)) p (p + n) ≡ x
 part before x behind p n place l =
     ap (λ (z : List ℕ). slice_range z p (p + n)) (concat-append before (x ∷ behind))
     ∙ range-whole (concat before) x (concat behind) p n (sym (length-concat before ∙ place)) (sym l)
@@ -34,31 +34,36 @@ front_widths = 256 ∷ 32 ∷ 32 ∷ 10 ∷ 8 ∷ 8 ∷ 2 ∷ 64 ∷ []
 -- the five levels, where the version has them
 abbrev levels_of : List ℕ → List ℕ
 levels_of c = cond (nat_le 2 (u16_at c 346))
-  (u16_at c 412 ∷ u16_at c 414 ∷ u16_at c 416 ∷ u16_at c 418 ∷ u16_at c 420 ∷ []) []
+    (u16_at c 412 ∷ u16_at c 414 ∷ u16_at c 416 ∷ u16_at c 418 ∷ u16_at c 420 ∷ []) []
 
 -- what is read up to the UMID
 raw-front : (a b c d e f v g : List ℕ) (behind : List (List ℕ)) →
-  length a ∷ length b ∷ length c ∷ length d ∷ length e ∷ length f ∷ length v ∷ length g ∷ [] ≡ front_widths →
+    length a ∷ length b ∷ length c ∷ length d ∷ length e ∷ length f ∷ length v ∷ length g ∷ [] ≡ front_widths →
     raw_bext (concat (a ∷ b ∷ c ∷ d ∷ e ∷ f ∷ v ∷ g ∷ behind))
-    ≡ record { texts = a ∷ b ∷ c ∷ d ∷ e ∷ []; time = from_le_bytes w64 f; version = from_le_bytes w16 v; umid = g;
-      loudness = levels_of (concat (a ∷ b ∷ c ∷ d ∷ e ∷ f ∷ v ∷ g ∷ behind)) }
+    ≡ record {
+      texts = a ∷ b ∷ c ∷ d ∷ e ∷ [];
+      time = from_le_bytes w64 f;
+      version = from_le_bytes w16 v;
+      umid = g;
+      loudness = levels_of (concat (a ∷ b ∷ c ∷ d ∷ e ∷ f ∷ v ∷ g ∷ behind));
+    }
 raw-front a b c d e f v g behind h =
     ap (λ (x : List ℕ). made x (at 256 32) (at 288 32) (at 320 10) (at 330 8) (at 338 8) (at 346 2) (at 348 64))
-      (part [] a (b ∷ c ∷ d ∷ e ∷ f ∷ v ∷ g ∷ behind) 0 256 refl (width 0))
+    (part [] a (b ∷ c ∷ d ∷ e ∷ f ∷ v ∷ g ∷ behind) 0 256 refl (width 0))
     ∙ ap (λ (x : List ℕ). made a x (at 288 32) (at 320 10) (at 330 8) (at 338 8) (at 346 2) (at 348 64))
-      (part (a ∷ []) b (c ∷ d ∷ e ∷ f ∷ v ∷ g ∷ behind) 256 32 (before 1) (width 1))
+    (part (a ∷ []) b (c ∷ d ∷ e ∷ f ∷ v ∷ g ∷ behind) 256 32 (before 1) (width 1))
     ∙ ap (λ (x : List ℕ). made a b x (at 320 10) (at 330 8) (at 338 8) (at 346 2) (at 348 64))
-      (part (a ∷ b ∷ []) c (d ∷ e ∷ f ∷ v ∷ g ∷ behind) 288 32 (before 2) (width 2))
+    (part (a ∷ b ∷ []) c (d ∷ e ∷ f ∷ v ∷ g ∷ behind) 288 32 (before 2) (width 2))
     ∙ ap (λ (x : List ℕ). made a b c x (at 330 8) (at 338 8) (at 346 2) (at 348 64))
-      (part (a ∷ b ∷ c ∷ []) d (e ∷ f ∷ v ∷ g ∷ behind) 320 10 (before 3) (width 3))
+    (part (a ∷ b ∷ c ∷ []) d (e ∷ f ∷ v ∷ g ∷ behind) 320 10 (before 3) (width 3))
     ∙ ap (λ (x : List ℕ). made a b c d x (at 338 8) (at 346 2) (at 348 64))
-      (part (a ∷ b ∷ c ∷ d ∷ []) e (f ∷ v ∷ g ∷ behind) 330 8 (before 4) (width 4))
+    (part (a ∷ b ∷ c ∷ d ∷ []) e (f ∷ v ∷ g ∷ behind) 330 8 (before 4) (width 4))
     ∙ ap (λ (x : List ℕ). made a b c d e x (at 346 2) (at 348 64))
-      (part (a ∷ b ∷ c ∷ d ∷ e ∷ []) f (v ∷ g ∷ behind) 338 8 (before 5) (width 5))
+    (part (a ∷ b ∷ c ∷ d ∷ e ∷ []) f (v ∷ g ∷ behind) 338 8 (before 5) (width 5))
     ∙ ap (λ (x : List ℕ). made a b c d e f x (at 348 64))
-      (part (a ∷ b ∷ c ∷ d ∷ e ∷ f ∷ []) v (g ∷ behind) 346 2 (before 6) (width 6))
+    (part (a ∷ b ∷ c ∷ d ∷ e ∷ f ∷ []) v (g ∷ behind) 346 2 (before 6) (width 6))
     ∙ ap (λ (x : List ℕ). made a b c d e f v x)
-      (part (a ∷ b ∷ c ∷ d ∷ e ∷ f ∷ v ∷ []) g behind 348 64 (before 7) (width 7))
+    (part (a ∷ b ∷ c ∷ d ∷ e ∷ f ∷ v ∷ []) g behind 348 64 (before 7) (width 7))
   where
     ws : List ℕ
     ws = length a ∷ length b ∷ length c ∷ length d ∷ length e ∷ length f ∷ length v ∷ length g ∷ []
@@ -76,11 +81,16 @@ raw-front a b c d e f v g behind h =
     before k = widths_to ws front_widths k h
 
     made : List ℕ → List ℕ → List ℕ → List ℕ → List ℕ → List ℕ → List ℕ → List ℕ → RawBext
-    made a b c d e f v g = record { texts = a ∷ b ∷ c ∷ d ∷ e ∷ []; time = from_le_bytes w64 f;
-      version = from_le_bytes w16 v; umid = g; loudness = levels_of whole }
+    made a b c d e f v g = record {
+      texts = a ∷ b ∷ c ∷ d ∷ e ∷ [];
+      time = from_le_bytes w64 f;
+      version = from_le_bytes w16 v;
+      umid = g;
+      loudness = levels_of whole;
+    }
 
 version_said : (a b c d e f v g : List ℕ) (behind : List (List ℕ)) →
-  length a ∷ length b ∷ length c ∷ length d ∷ length e ∷ length f ∷ length v ∷ length g ∷ [] ≡ front_widths →
+    length a ∷ length b ∷ length c ∷ length d ∷ length e ∷ length f ∷ length v ∷ length g ∷ [] ≡ front_widths →
     u16_at (concat (a ∷ b ∷ c ∷ d ∷ e ∷ f ∷ v ∷ g ∷ behind)) 346 ≡ from_le_bytes w16 v
 version_said a b c d e f v g behind h = ap (λ (r : RawBext). r.version) (raw-front a b c d e f v g behind h)
 
@@ -90,26 +100,26 @@ all_widths = 256 ∷ 32 ∷ 32 ∷ 10 ∷ 8 ∷ 8 ∷ 2 ∷ 64 ∷ 2 ∷ 2 ∷ 2
 -- the five levels of version 2
 levels-read : (a b c d e f g h i j k l : List ℕ) (behind : List (List ℕ)) →
     length a ∷ length b ∷ length c ∷ length d ∷ length e ∷ length f ∷ 2 ∷ length g ∷ length h ∷ length i ∷ length j
-      ∷ length k ∷ length l ∷ [] ≡ all_widths →
+    ∷ length k ∷ length l ∷ [] ≡ all_widths →
     levels_of (concat (a ∷ b ∷ c ∷ d ∷ e ∷ f ∷ le16 2 ∷ g ∷ h ∷ i ∷ j ∷ k ∷ l ∷ behind))
-      ≡ map (from_le_bytes w16) (h ∷ i ∷ j ∷ k ∷ l ∷ [])
+    ≡ map (from_le_bytes w16) (h ∷ i ∷ j ∷ k ∷ l ∷ [])
 levels-read a b c d e f g h i j k l behind w =
     ap (λ (n : ℕ). cond (nat_le 2 n) (levels (at 412) (at 414) (at 416) (at 418) (at 420)) [])
-      (version_said a b c d e f (le16 2) g (h ∷ i ∷ j ∷ k ∷ l ∷ behind) (ap (take 8) w))
+    (version_said a b c d e f (le16 2) g (h ∷ i ∷ j ∷ k ∷ l ∷ behind) (ap (take 8) w))
     ∙ ap (λ (x : List ℕ). levels x (at 414) (at 416) (at 418) (at 420))
-      (part (a ∷ b ∷ c ∷ d ∷ e ∷ f ∷ le16 2 ∷ g ∷ []) h (i ∷ j ∷ k ∷ l ∷ behind) 412 2 (before 8) (width 8))
+    (part (a ∷ b ∷ c ∷ d ∷ e ∷ f ∷ le16 2 ∷ g ∷ []) h (i ∷ j ∷ k ∷ l ∷ behind) 412 2 (before 8) (width 8))
     ∙ ap (λ (x : List ℕ). levels h x (at 416) (at 418) (at 420))
-      (part (a ∷ b ∷ c ∷ d ∷ e ∷ f ∷ le16 2 ∷ g ∷ h ∷ []) i (j ∷ k ∷ l ∷ behind) 414 2 (before 9) (width 9))
+    (part (a ∷ b ∷ c ∷ d ∷ e ∷ f ∷ le16 2 ∷ g ∷ h ∷ []) i (j ∷ k ∷ l ∷ behind) 414 2 (before 9) (width 9))
     ∙ ap (λ (x : List ℕ). levels h i x (at 418) (at 420))
-      (part (a ∷ b ∷ c ∷ d ∷ e ∷ f ∷ le16 2 ∷ g ∷ h ∷ i ∷ []) j (k ∷ l ∷ behind) 416 2 (before 10) (width 10))
+    (part (a ∷ b ∷ c ∷ d ∷ e ∷ f ∷ le16 2 ∷ g ∷ h ∷ i ∷ []) j (k ∷ l ∷ behind) 416 2 (before 10) (width 10))
     ∙ ap (λ (x : List ℕ). levels h i j x (at 420))
-      (part (a ∷ b ∷ c ∷ d ∷ e ∷ f ∷ le16 2 ∷ g ∷ h ∷ i ∷ j ∷ []) k (l ∷ behind) 418 2 (before 11) (width 11))
+    (part (a ∷ b ∷ c ∷ d ∷ e ∷ f ∷ le16 2 ∷ g ∷ h ∷ i ∷ j ∷ []) k (l ∷ behind) 418 2 (before 11) (width 11))
     ∙ ap (λ (x : List ℕ). levels h i j k x)
-      (part (a ∷ b ∷ c ∷ d ∷ e ∷ f ∷ le16 2 ∷ g ∷ h ∷ i ∷ j ∷ k ∷ []) l behind 420 2 (before 12) (width 12))
+    (part (a ∷ b ∷ c ∷ d ∷ e ∷ f ∷ le16 2 ∷ g ∷ h ∷ i ∷ j ∷ k ∷ []) l behind 420 2 (before 12) (width 12))
   where
     ws : List ℕ
     ws = length a ∷ length b ∷ length c ∷ length d ∷ length e ∷ length f ∷ 2 ∷ length g ∷ length h ∷ length i
-      ∷ length j ∷ length k ∷ length l ∷ []
+        ∷ length j ∷ length k ∷ length l ∷ []
 
     whole : List ℕ
     whole = concat (a ∷ b ∷ c ∷ d ∷ e ∷ f ∷ le16 2 ∷ g ∷ h ∷ i ∷ j ∷ k ∷ l ∷ behind)
@@ -128,22 +138,22 @@ levels-read a b c d e f g h i j k l behind w =
 
 -- the fixed part and the history, part by part
 parts_of_1 : (a b c d e f v g z r y : List ℕ) →
-  ((a ++ (b ++ (c ++ (d ++ (e ++ (f ++ [])))))) ++ v ++ (g ++ []) ++ z ++ r) ++ y
-  ≡ concat (a ∷ b ∷ c ∷ d ∷ e ∷ f ∷ v ∷ g ∷ z ∷ r ∷ y ∷ [])
+    ((a ++ (b ++ (c ++ (d ++ (e ++ (f ++ [])))))) ++ v ++ (g ++ []) ++ z ++ r) ++ y
+    ≡ concat (a ∷ b ∷ c ∷ d ∷ e ∷ f ∷ v ∷ g ∷ z ∷ r ∷ y ∷ [])
 parts_of_1 a b c d e f v g z r y = simp (append_assoc, append-nil)
 
 parts_of_2 : (a b c d e f v g h i j k l r y : List ℕ) →
-  ((a ++ (b ++ (c ++ (d ++ (e ++ (f ++ [])))))) ++ v ++ (g ++ []) ++ (h ++ (i ++ (j ++ (k ++ (l ++ []))))) ++ r) ++ y
+    ((a ++ (b ++ (c ++ (d ++ (e ++ (f ++ [])))))) ++ v ++ (g ++ []) ++ (h ++ (i ++ (j ++ (k ++ (l ++ []))))) ++ r) ++ y
     ≡ concat (a ∷ b ∷ c ∷ d ∷ e ∷ f ∷ v ∷ g ∷ h ∷ i ∷ j ∷ k ∷ l ∷ r ∷ y ∷ [])
 parts_of_2 a b c d e f v g h i j k l r y = simp (append_assoc, append-nil)
 
 twelve : (a b c d e f g h i j k l history : List ℕ) → AreFields (a ∷ b ∷ c ∷ d ∷ e ∷ f ∷ g ∷ h ∷ i ∷ j ∷ k ∷ l ∷ []) →
     raw_bext (bext_fixed (a ∷ b ∷ c ∷ d ∷ e ∷ f ∷ g ∷ h ∷ i ∷ j ∷ k ∷ l ∷ []) ++ history)
-      ≡ told_bext (a ∷ b ∷ c ∷ d ∷ e ∷ f ∷ g ∷ h ∷ i ∷ j ∷ k ∷ l ∷ [])
+    ≡ told_bext (a ∷ b ∷ c ∷ d ∷ e ∷ f ∷ g ∷ h ∷ i ∷ j ∷ k ∷ l ∷ [])
 twelve a b c d e f g h i j k l history w = go (is_version_1 (a ∷ b ∷ c ∷ d ∷ e ∷ f ∷ g ∷ h ∷ i ∷ j ∷ k ∷ l ∷ []))
   where
     widths : length a ∷ length b ∷ length c ∷ length d ∷ length e ∷ length f ∷ 2 ∷ length g ∷ length h ∷ length i
-      ∷ length j ∷ length k ∷ length l ∷ [] ≡ all_widths
+        ∷ length j ∷ length k ∷ length l ∷ [] ≡ all_widths
     widths = ap (λ (ws : List ℕ). take 6 ws ++ 2 ∷ drop 6 ws) w
 
     texts : List ℕ
@@ -154,21 +164,26 @@ twelve a b c d e f g h i j k l history w = go (is_version_1 (a ∷ b ∷ c ∷ d
 
     made : ℕ → List ℕ → RawBext
     made version loudness =
-      record { texts = a ∷ b ∷ c ∷ d ∷ e ∷ []; time = from_le_bytes w64 f; version = version; umid = g;
-      loudness = loudness }
+        record {
+          texts = a ∷ b ∷ c ∷ d ∷ e ∷ [];
+          time = from_le_bytes w64 f;
+          version = version;
+          umid = g;
+          loudness = loudness;
+        }
 
     one : List ℕ
     one = concat (a ∷ b ∷ c ∷ d ∷ e ∷ f ∷ le16 1 ∷ g ∷ zeros 10 ∷ zeros 180 ∷ history ∷ [])
 
     go : (v : Bool) → raw_bext
-      ((texts ++ cond v (le16 1) (le16 2) ++ (g ++ []) ++ cond v (zeros 10) levels ++ zeros 180) ++ history)
+        ((texts ++ cond v (le16 1) (le16 2) ++ (g ++ []) ++ cond v (zeros 10) levels ++ zeros 180) ++ history)
         ≡ made (cond v 1 2) (cond v [] (map (from_le_bytes w16) (h ∷ i ∷ j ∷ k ∷ l ∷ [])))
     go true =
         ap raw_bext (parts_of_1 a b c d e f (le16 1) g (zeros 10) (zeros 180) history)
         ∙ raw-front a b c d e f (le16 1) g (zeros 10 ∷ zeros 180 ∷ history ∷ []) (ap (take 8) widths)
         ∙ ap (λ (n : ℕ). made 1
-          (cond (nat_le 2 n) (u16_at one 412 ∷ u16_at one 414 ∷ u16_at one 416 ∷ u16_at one 418 ∷ u16_at one 420
-          ∷ []) []))
+        (cond (nat_le 2 n) (u16_at one 412 ∷ u16_at one 414 ∷ u16_at one 416 ∷ u16_at one 418 ∷ u16_at one 420
+        ∷ []) []))
         (version_said a b c d e f (le16 1) g (zeros 10 ∷ zeros 180 ∷ history ∷ []) (ap (take 8) widths))
     go false =
         ap raw_bext (parts_of_2 a b c d e f (le16 2) g h i j k l (zeros 180) history)
@@ -177,6 +192,6 @@ twelve a b c d e f g h i j k l history w = go (is_version_1 (a ∷ b ∷ c ∷ d
 
 -- the fields and the version are read as they were set
 pub raw-bext : (fields : List (List ℕ)) (history : List ℕ) → AreFields fields →
-  raw_bext (bext_fixed fields ++ history) ≡ told_bext fields
+    raw_bext (bext_fixed fields ++ history) ≡ told_bext fields
 raw-bext (a ∷ b ∷ c ∷ d ∷ e ∷ f ∷ g ∷ h ∷ i ∷ j ∷ k ∷ l ∷ []) history w = twelve a b c d e f g h i j k l history w
 raw-bext fields history w = absurd (omega (arith, ap length w))

@@ -24,22 +24,26 @@ record IsSmall (f : Format) : Type 0 where
 is_small : (f : Format) → IsTrue (is_format f) → IsSmall f
 is_small f h =
     let outer = and_parts (nat_le 1 f.rate && nat_le f.rate 768000 && (nat_le 1 f.channels && nat_le f.channels 64))
-        ((f.bits == 16) || (f.bits == 24) || (f.bits == 32)) h in
+    ((f.bits == 16) || (f.bits == 24) || (f.bits == 32)) h in
     let inner = and_parts (nat_le 1 f.rate && nat_le f.rate 768000)
-        (nat_le 1 f.channels && nat_le f.channels 64) outer.0 in
+    (nat_le 1 f.channels && nat_le f.channels 64) outer.0 in
     let rate : f.rate ≤ 768000 =
-        leb-true f.rate 768000 (and_parts (nat_le 1 f.rate) (nat_le f.rate 768000) inner.0).1 in
+    leb-true f.rate 768000 (and_parts (nat_le 1 f.rate) (nat_le f.rate 768000) inner.0).1 in
     let channels : f.channels ≤ 64 =
-        leb-true f.channels 64 (and_parts (nat_le 1 f.channels) (nat_le f.channels 64) inner.1).1 in
+    leb-true f.channels 64 (and_parts (nat_le 1 f.channels) (nat_le f.channels 64) inner.1).1 in
     bits rate channels (or_cases ((f.bits == 16) || (f.bits == 24)) (f.bits == 32) outer.1)
   where
     at : f.rate ≤ 768000 → f.channels ≤ 64 → (n : ℕ) → f.bits ≡ n → n ≤ 32 → n / 8 ≤ 4 → IsSmall f
     at rate channels n e small bytes =
-      record { rate = rate; channels = channels; bits = omega (arith, e);
-      bytes = subst (λ (m : ℕ). m / 8 ≤ 4) (sym e) bytes }
+        record {
+          rate = rate;
+          channels = channels;
+          bits = omega (arith, e);
+          bytes = subst (λ (m : ℕ). m / 8 ≤ 4) (sym e) bytes;
+        }
 
     bits : f.rate ≤ 768000 → f.channels ≤ 64 → ((f.bits == 16) || (f.bits == 24) ≡ true) ⊎ ((f.bits == 32) ≡ true) →
-      IsSmall f
+        IsSmall f
     bits rate channels (inr e) = at rate channels 32 (eqb-true f.bits 32 e) (omega arith) (omega arith)
     bits rate channels (inl e) = two (or_cases (f.bits == 16) (f.bits == 24) e)
       where
@@ -50,17 +54,17 @@ is_small f h =
 pub raw-fmt : (f : Format) → IsTrue (is_format f) → raw_fmt (fmt_content f) ≡ told_fmt f
 raw-fmt f h =
     ap (λ (n : ℕ). made n (u16_at c 2) (u32_at c 4) (u32_at c 8) (u16_at c 12) (u16_at c 14))
-      (from_le_bytes-to_le_bytes_2 1 (omega arith))
+    (from_le_bytes-to_le_bytes_2 1 (omega arith))
     ∙ ap (λ (n : ℕ). made 1 n (u32_at c 4) (u32_at c 8) (u16_at c 12) (u16_at c 14))
-      (from_le_bytes-to_le_bytes_2 f.channels (omega (arith, small.channels)))
+    (from_le_bytes-to_le_bytes_2 f.channels (omega (arith, small.channels)))
     ∙ ap (λ (n : ℕ). made 1 f.channels n (u32_at c 8) (u16_at c 12) (u16_at c 14))
-      (from_le_bytes-to_le_bytes_4 f.rate (omega (arith, small.rate)))
+    (from_le_bytes-to_le_bytes_4 f.rate (omega (arith, small.rate)))
     ∙ ap (λ (n : ℕ). made 1 f.channels f.rate n (u16_at c 12) (u16_at c 14))
-      (from_le_bytes-to_le_bytes_4 (f.rate * block_align f) (omega (arith, bytes)))
+    (from_le_bytes-to_le_bytes_4 (f.rate * block_align f) (omega (arith, bytes)))
     ∙ ap (λ (n : ℕ). made 1 f.channels f.rate (f.rate * block_align f) n (u16_at c 14))
-      (from_le_bytes-to_le_bytes_2 (block_align f) (omega (arith, align)))
+    (from_le_bytes-to_le_bytes_2 (block_align f) (omega (arith, align)))
     ∙ ap (λ (n : ℕ). made 1 f.channels f.rate (f.rate * block_align f) (block_align f) n)
-      (from_le_bytes-to_le_bytes_2 f.bits (omega (arith, small.bits)))
+    (from_le_bytes-to_le_bytes_2 f.bits (omega (arith, small.bits)))
   where
     small : IsSmall f
     small = is_small f h
@@ -73,7 +77,7 @@ raw-fmt f h =
 
     made : ℕ → ℕ → ℕ → ℕ → ℕ → ℕ → RawFmt
     made tag channels rate bytes align bits =
-      record { tag = tag; channels = channels; rate = rate; bytes_per_second = bytes; align = align; bits = bits }
+        record { tag = tag; channels = channels; rate = rate; bytes_per_second = bytes; align = align; bits = bits }
 
     c : List ℕ
     c = fmt_content f
@@ -82,16 +86,16 @@ raw-fmt f h =
 
 -- a number that stands behind a front
 shifted : (front x : List ℕ) (p i q : ℕ) → p ≡ length front → q ≡ p + i →
-  u32_at (front ++ x) q ≡ from_le_bytes w32 (take 4 (drop i x))
+    u32_at (front ++ x) q ≡ from_le_bytes w32 (take 4 (drop i x))
 shifted front x p i q e at =
     let count : p + i + 4 - (p + i) ≡ 4 = omega arith in
     ap (u32_at (front ++ x)) at
     ∙ ap (λ (k : ℕ). from_le_bytes w32 (take k (drop (p + i) (front ++ x)))) count
     ∙ ap (λ (z : List ℕ). from_le_bytes w32 (take 4 z))
-      (sym (drop-drop i p (front ++ x)) ∙ ap (drop i) (drop_at front x p (sym e)))
+    (sym (drop-drop i p (front ++ x)) ∙ ap (drop i) (drop_at front x p (sym e)))
 
 cues_behind : (front : List ℕ) (p : ℕ) (ms : List (ℕ × ℕ)) → p ≡ length front → IsTrue (list_all is_marker ms) →
-  raw_cues (front ++ flat_map cue_point ms) p (length ms) ≡ map told_cue ms
+    raw_cues (front ++ flat_map cue_point ms) p (length ms) ≡ map told_cue ms
 cues_behind front p [] e h = refl
 cues_behind front p (m ∷ ms) e h =
     let both = and_parts (is_marker m) (list_all is_marker ms) h in
@@ -100,25 +104,25 @@ cues_behind front p (m ∷ ms) e h =
     let c : List ℕ = front ++ (cue_point m ++ rest) in
     let behind : p + 24 ≡ length (front ++ cue_point m) = omega (arith, length-append front (cue_point m)) in
     let id : u32_at c p ≡ m.0 =
-        shifted front (cue_point m ++ rest) p 0 p e (omega arith)
-        ∙ from_le_bytes-to_le_bytes_4 m.0 (ltb-true m.0 (2 ^ 32) small.0) in
+    shifted front (cue_point m ++ rest) p 0 p e (omega arith)
+    ∙ from_le_bytes-to_le_bytes_4 m.0 (ltb-true m.0 (2 ^ 32) small.0) in
     let position : u32_at c (p + 4) ≡ m.1 =
-        shifted front (cue_point m ++ rest) p 4 (p + 4) e refl
-        ∙ from_le_bytes-to_le_bytes_4 m.1 (ltb-true m.1 (2 ^ 32) small.1) in
+    shifted front (cue_point m ++ rest) p 4 (p + 4) e refl
+    ∙ from_le_bytes-to_le_bytes_4 m.1 (ltb-true m.1 (2 ^ 32) small.1) in
     let offset : u32_at c (p + 20) ≡ m.1 =
-        shifted front (cue_point m ++ rest) p 20 (p + 20) e refl
-        ∙ from_le_bytes-to_le_bytes_4 m.1 (ltb-true m.1 (2 ^ 32) small.1) in
+    shifted front (cue_point m ++ rest) p 20 (p + 20) e refl
+    ∙ from_le_bytes-to_le_bytes_4 m.1 (ltb-true m.1 (2 ^ 32) small.1) in
     ap (λ (n : ℕ). record { id = n; position = u32_at c (p + 4); offset = u32_at c (p + 20) }
-      ∷ raw_cues c (p + 24) (length ms)) id
+    ∷ raw_cues c (p + 24) (length ms)) id
     ∙ ap (λ (n : ℕ). record { id = m.0; position = n; offset = u32_at c (p + 20) } ∷ raw_cues c (p + 24) (length ms))
-      position
+    position
     ∙ ap (λ (n : ℕ). record { id = m.0; position = m.1; offset = n } ∷ raw_cues c (p + 24) (length ms)) offset
     ∙ ap (λ (cs : List RawCue). told_cue m ∷ cs)
     (ap (λ (z : List ℕ). raw_cues z (p + 24) (length ms)) (sym (append_assoc front (cue_point m) rest))
-      ∙ cues_behind (front ++ cue_point m) (p + 24) ms behind both.1)
+    ∙ cues_behind (front ++ cue_point m) (p + 24) ms behind both.1)
 
 pub raw-cues : (ms : List (ℕ × ℕ)) → length ms < 2 ^ 32 → IsTrue (list_all is_marker ms) →
-  raw_cues (cue_content ms) 4 (u32_at (cue_content ms) 0) ≡ map told_cue ms
+    raw_cues (cue_content ms) 4 (u32_at (cue_content ms) 0) ≡ map told_cue ms
 raw-cues ms few h =
     ap (raw_cues (cue_content ms) 4) (from_le_bytes-to_le_bytes_4 (length ms) few)
     ∙ cues_behind (le32 (length ms)) 4 ms refl h

@@ -23,7 +23,7 @@ found_passes test [] x e = absurd cc
 found_passes test (y ∷ ys) x e = go (test y) refl (found_passes test ys x) e
   where
     go : (b : Bool) → test y ≡ b → (find test ys ≡ Some x → test x ≡ true) → cond b (Some y) (find test ys) ≡ Some x →
-      test x ≡ true
+        test x ≡ true
     go true b-is later e = ap test (sym (some_is y x e)) ∙ b-is
       where
         some_is : {X : Type 0} (y x : X) → Some y ≡ Some x → y ≡ x
@@ -31,7 +31,7 @@ found_passes test (y ∷ ys) x e = go (test y) refl (found_passes test ys x) e
     go false b-is later e = later e
 
 mapped_some : {X Y : Type 0} (f : X → Y) (o : Option X) (y : Y) → option_map f o ≡ Some y →
-  (x : X) × (o ≡ Some x) × (f x ≡ y)
+    (x : X) × (o ≡ Some x) × (f x ≡ y)
 mapped_some f None y e = absurd cc
 mapped_some f (Some x) y e = (x, refl, cc)
 
@@ -77,33 +77,41 @@ reason_of-code Cut = refl
 
 -- what follows name and number spells the reply
 judged_spelled : (name : List ℕ) (number : ℕ) (p : List ℕ) (r : Reply) → judged_by name number p ≡ Some r →
-  (v : Verdict) × (r ≡ Judged name number v) × (p ≡ verdict_code v ∷ [])
+    (v : Verdict) × (r ≡ Judged name number v) × (p ≡ verdict_code v ∷ [])
 judged_spelled name number [] r e = absurd cc
 judged_spelled name number (code ∷ more) r e =
     let g = guarded_some (length more == 0) (option_map (Judged name number) (verdict_of code)) r e in
     let m = mapped_some (Judged name number) (verdict_of code) r g.1 in
-    let coded : verdict_code m.0 ≡ code = eqb-true _ _ (found_passes (λ v. verdict_code v == code) verdicts m.0 m.1) in
-    (m.0, sym m.2, ap (λ (n : ℕ). n ∷ more) (sym coded)
-      ∙ ap (λ (x : List ℕ). verdict_code m.0 ∷ x) (nil_from_length more (eqb-true _ _ g.0)))
+    let coded : verdict_code m.0 ≡ code = eqb-true _ _ (found_passes (λ v. verdict_code v == code) verdicts m.0 m.1) in (
+      m.0,
+      sym m.2,
+      ap (λ (n : ℕ). n ∷ more) (sym coded)
+          ∙ ap (λ (x : List ℕ). verdict_code m.0 ∷ x) (nil_from_length more (eqb-true _ _ g.0)),
+    )
 
 noticed_spelled : (name : List ℕ) (number : ℕ) (p : List ℕ) (r : Reply) → are_bytes p ≡ true →
-  noticed_by name number p ≡ Some r
+    noticed_by name number p ≡ Some r
     → (n : Notice) × (next : ℕ) × (r ≡ Noticed name number n next) × (p ≡ notice_code n ∷ le32 next)
-      × (nat_le next (last_number Second + 1) ≡ true)
+    × (nat_le next (last_number Second + 1) ≡ true)
 noticed_spelled name number [] r fits e = absurd cc
 noticed_spelled name number (code ∷ next) r fits e =
     let g = guarded_some ((length next == 4) && nat_le (u32_at next 0) (last_number Second + 1))
-        (option_map (λ n. Noticed name number n (u32_at next 0)) (notice_of code)) r e in
+    (option_map (λ n. Noticed name number n (u32_at next 0)) (notice_of code)) r e in
     let tests = and_parts (length next == 4) (nat_le (u32_at next 0) (last_number Second + 1)) g.0 in
     let len : length next ≡ 4 = eqb-true _ _ tests.0 in
     let m = mapped_some (λ n. Noticed name number n (u32_at next 0)) (notice_of code) r g.1 in
     let coded : notice_code m.0 ≡ code = eqb-true _ _ (found_passes (λ n. notice_code n == code) notices m.0 m.1) in
     let written = written-number_at w32 (2 ^ 32) wide32 next 0 (and_parts (is_below 256 code) (are_bytes next) fits).1
-        (omega arith) in
+    (omega arith) in
     let spelled : le32 (u32_at next 0) ≡ next =
-        ap (λ (x : List ℕ). le32 (u32_at next 0) ++ x) (sym (drop_all 4 next (omega arith))) ∙ written.0 in
-    (m.0, u32_at next 0, sym m.2, ap (λ (n : ℕ). n ∷ next) (sym coded)
-      ∙ ap (λ (x : List ℕ). notice_code m.0 ∷ x) (sym spelled), tests.1)
+    ap (λ (x : List ℕ). le32 (u32_at next 0) ++ x) (sym (drop_all 4 next (omega arith))) ∙ written.0 in (
+      m.0,
+      u32_at next 0,
+      sym m.2,
+      ap (λ (n : ℕ). n ∷ next) (sym coded)
+          ∙ ap (λ (x : List ℕ). notice_code m.0 ∷ x) (sym spelled),
+      tests.1,
+    )
 
 refused_spelled : (p : List ℕ) (r : Reply) → are_bytes p ≡ true → refused_by p ≡ Some r → SpellsReply (0x83 ∷ p) r
 refused_spelled [] r fits e = absurd cc
@@ -113,24 +121,24 @@ refused_spelled (code ∷ offset) r fits e =
     let m = mapped_some (λ r. Refused r (u64_at offset 0)) (reason_of code) r g.1 in
     let coded : reason_code m.0 ≡ code = eqb-true _ _ (found_passes (λ r. reason_code r == code) reasons m.0 m.1) in
     let written = written-number_at w64 (2 ^ 64) wide64 offset 0
-        (and_parts (is_below 256 code) (are_bytes offset) fits).1 (omega arith) in
+    (and_parts (is_below 256 code) (are_bytes offset) fits).1 (omega arith) in
     let spelled : le64 (u64_at offset 0) ≡ offset =
-        ap (λ (x : List ℕ). le64 (u64_at offset 0) ++ x) (sym (drop_all 8 offset (omega arith))) ∙ written.0 in
+    ap (λ (x : List ℕ). le64 (u64_at offset 0) ++ x) (sym (drop_all 8 offset (omega arith))) ∙ written.0 in
     subst (SpellsReply (0x83 ∷ code ∷ offset)) m.2 (record {
       fits = lt-ltb _ _ written.1;
       spelled = ap (λ (n : ℕ). 0x83 ∷ n ∷ offset) (sym coded)
-        ∙ ap (λ (x : List ℕ). 0x83 ∷ reason_code m.0 ∷ x) (sym spelled);
+          ∙ ap (λ (x : List ℕ). 0x83 ∷ reason_code m.0 ∷ x) (sym spelled);
     })
 
 -- an addressed reply that is read
 addressed_read : (rest : List ℕ) (reply_by : List ℕ → ℕ → List ℕ → Option Reply) (r : Reply) →
-  addressed_reply rest reply_by ≡ Ok r
+    addressed_reply rest reply_by ≡ Ok r
     → (is_name_bad rest ≡ false) × (is_number_bad (last_number Second) rest ≡ false)
-      × (reply_by (name_in rest) (number_in rest) (payload_in rest) ≡ Some r)
+    × (reply_by (name_in rest) (number_in rest) (payload_in rest) ≡ Some r)
 addressed_read rest reply_by r e = go (is_name_bad rest) (is_number_bad (last_number Second) rest) e
   where
     go : (a b : Bool) → cond a (Err Name)
-      (cond b (Err Number) (ok_or (reply_by (name_in rest) (number_in rest) (payload_in rest)) Payload)) ≡ Ok r
+        (cond b (Err Number) (ok_or (reply_by (name_in rest) (number_in rest) (payload_in rest)) Payload)) ≡ Ok r
         → (a ≡ false) × (b ≡ false) × (reply_by (name_in rest) (number_in rest) (payload_in rest) ≡ Some r)
     go true b e = absurd cc
     go false true e = absurd cc
@@ -138,7 +146,7 @@ addressed_read rest reply_by r e = go (is_name_bad rest) (is_number_bad (last_nu
 
 judged_body : (rest : List ℕ) (r : Reply) → are_bytes rest ≡ true
     → (is_name_bad rest ≡ false) × (is_number_bad (last_number Second) rest ≡ false)
-      × (judged_by (name_in rest) (number_in rest) (payload_in rest) ≡ Some r)
+    × (judged_by (name_in rest) (number_in rest) (payload_in rest) ≡ Some r)
     → SpellsReply (0x81 ∷ rest) r
 judged_body rest r fits read =
     let a = addressed_from_tests (last_number Second) rest fits read.0 read.1 in
@@ -149,12 +157,12 @@ judged_body rest r fits read =
           ap (λ (x : List ℕ). 0x81 ∷ x) a.0.spelled
           ∙ ap (λ (x : List ℕ). 0x81 ∷ length (name_in rest) ∷ (name_in rest ++ (le32 (number_in rest) ++ x))) j.2
           ∙ ap (λ (x : List ℕ). 0x81 ∷ length (name_in rest) ∷ x)
-            (sym (append_assoc (name_in rest) (le32 (number_in rest)) (verdict_code j.0 ∷ [])));
+          (sym (append_assoc (name_in rest) (le32 (number_in rest)) (verdict_code j.0 ∷ [])));
     })
 
 noticed_body : (rest : List ℕ) (r : Reply) → are_bytes rest ≡ true
     → (is_name_bad rest ≡ false) × (is_number_bad (last_number Second) rest ≡ false)
-      × (noticed_by (name_in rest) (number_in rest) (payload_in rest) ≡ Some r)
+    × (noticed_by (name_in rest) (number_in rest) (payload_in rest) ≡ Some r)
     → SpellsReply (0x82 ∷ rest) r
 noticed_body rest r fits read =
     let a = addressed_from_tests (last_number Second) rest fits read.0 read.1 in
@@ -167,44 +175,44 @@ noticed_body rest r fits read =
           ap (λ (x : List ℕ). 0x82 ∷ x) a.0.spelled
           ∙ ap (λ (x : List ℕ). 0x82 ∷ length (name_in rest) ∷ (name_in rest ++ (le32 (number_in rest) ++ x))) j.3
           ∙ ap (λ (x : List ℕ). 0x82 ∷ length (name_in rest) ∷ x)
-            (sym (append_assoc (name_in rest) (le32 (number_in rest)) (notice_code j.0 ∷ le32 j.1)));
+          (sym (append_assoc (name_in rest) (le32 (number_in rest)) (notice_code j.0 ∷ le32 j.1)));
     })
 
 reply_spelled : (k : ℕ) (rest : List ℕ) (r : Reply) (verdict notice refusal : Bool) → are_bytes rest ≡ true
     → (k == 0x81) ≡ verdict → (k == 0x82) ≡ notice → (k == 0x83) ≡ refusal
     → cond verdict (addressed_reply rest judged_by)
-      (cond notice (addressed_reply rest noticed_by) (cond refusal (ok_or (refused_by rest) Payload) (Err Kind))) ≡ Ok r
+    (cond notice (addressed_reply rest noticed_by) (cond refusal (ok_or (refused_by rest) Payload) (Err Kind))) ≡ Ok r
     → SpellsReply (k ∷ rest) r
 reply_spelled k rest r true notice refusal fits k-is _ _ e =
     subst (λ (n : ℕ). SpellsReply (n ∷ rest) r) (sym (eqb-true k 0x81 k-is))
-      (judged_body rest r fits (addressed_read rest judged_by r e))
+    (judged_body rest r fits (addressed_read rest judged_by r e))
 reply_spelled k rest r false true refusal fits _ k-is _ e =
     subst (λ (n : ℕ). SpellsReply (n ∷ rest) r) (sym (eqb-true k 0x82 k-is))
-      (noticed_body rest r fits (addressed_read rest noticed_by r e))
+    (noticed_body rest r fits (addressed_read rest noticed_by r e))
 reply_spelled k rest r false false true fits _ _ k-is e =
-  subst (λ (n : ℕ). SpellsReply (n ∷ rest) r) (sym (eqb-true k 0x83 k-is))
-  (refused_spelled rest r fits (or_fault _ r e))
+    subst (λ (n : ℕ). SpellsReply (n ∷ rest) r) (sym (eqb-true k 0x83 k-is))
+    (refused_spelled rest r fits (or_fault _ r e))
 reply_spelled k rest r false false false fits _ _ _ e = absurd cc
 
 -- what is read is spelled so
 pub reply_read_is_spelled : (bytes : List ℕ) (r : Reply) → are_bytes bytes ≡ true → decoded_reply bytes ≡ Ok r →
-  SpellsReply bytes r
+    SpellsReply bytes r
 unfolding decoded_reply
 reply_read_is_spelled [] r fits e = absurd cc
 reply_read_is_spelled (k ∷ rest) r fits e =
-  reply_spelled k rest r (k == 0x81) (k == 0x82) (k == 0x83)
-  (and_parts (is_below 256 k) (are_bytes rest) fits).1 refl refl refl e
+    reply_spelled k rest r (k == 0x81) (k == 0x82) (k == 0x83)
+    (and_parts (is_below 256 k) (are_bytes rest) fits).1 refl refl refl e
 
 addressed_reads : (name : List ℕ) (number : ℕ) (payload : List ℕ) (reply_by : List ℕ → ℕ → List ℕ → Option Reply)
-  (r : Reply) → is_addressed name number ≡ true
+    (r : Reply) → is_addressed name number ≡ true
     → reply_by name number payload ≡ Some r →
-      addressed_reply (length name ∷ ((name ++ le32 number) ++ payload)) reply_by ≡ Ok r
+    addressed_reply (length name ∷ ((name ++ le32 number) ++ payload)) reply_by ≡ Ok r
 addressed_reads name number payload reply_by r h given =
     let tests = and_parts (is_name name) (nat_le number (last_number Second)) h in
     let low = leb-true _ _ tests.1 in
     let q = reads-addressed name number payload tests.0 (omega arith) in
     let number_good : is_number_bad (last_number Second) (length name ∷ (name ++ (le32 number ++ payload))) ≡ false =
-        or_from _ _ q.long (le-ltb _ _ (rw q.number_is low)) in
+    or_from _ _ q.long (le-ltb _ _ (rw q.number_is low)) in
     ap (λ (x : List ℕ). addressed_reply (length name ∷ x) reply_by) (append_assoc name (le32 number) payload)
     ∙ rw (q.name_good, number_good, q.name_is, q.number_is, q.payload_is, given) refl
 
@@ -213,18 +221,18 @@ pub spelled_reply_is_read : (r : Reply) → is_reply r ≡ true → decoded_repl
 unfolding decoded_reply
 spelled_reply_is_read (Judged name number verdict) h =
     addressed_reads name number (verdict_code verdict ∷ []) judged_by (Judged name number verdict) h
-      (ap (option_map (Judged name number)) (verdict_of-code verdict))
+    (ap (option_map (Judged name number)) (verdict_of-code verdict))
 spelled_reply_is_read (Noticed name number notice next) h =
     let tests = and_parts (is_addressed name number) (nat_le next (last_number Second + 1)) h in
     let low = leb-true _ _ tests.1 in
     let next_is : u32_at (le32 next) 0 ≡ next = number_at-written w32 (2 ^ 32) wide32 next [] (omega arith) in
     addressed_reads name number (notice_code notice ∷ le32 next) noticed_by (Noticed name number notice next) tests.0
-      (rw (next_is, tests.1, notice_of-code notice) refl)
+    (rw (next_is, tests.1, notice_of-code notice) refl)
 spelled_reply_is_read (Refused reason offset) h =
     let offset_is : u64_at (le64 offset) 0 ≡ offset =
-        number_at-written w64 (2 ^ 64) wide64 offset [] (ltb-true _ _ h) in
+    number_at-written w64 (2 ^ 64) wide64 offset [] (ltb-true _ _ h) in
     rw (offset_is, reason_of-code reason) refl
 
 pub decodes_reply_spellings : DecodesReplySpellings
 decodes_reply_spellings bytes r fits =
-  (reply_read_is_spelled bytes r fits, λ s. ap decoded_reply s.spelled ∙ spelled_reply_is_read r s.fits)
+    (reply_read_is_spelled bytes r fits, λ s. ap decoded_reply s.spelled ∙ spelled_reply_is_read r s.fits)

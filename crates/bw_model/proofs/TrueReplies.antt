@@ -28,38 +28,38 @@ pub record IsTrueReply (taken : Bool) (name : List ℕ) (log : Log) (r : Reply) 
 
 -- a turn of a message that was offered
 pub record IsFaithfulStep (taken : Bool) (offered : List Request) (name : List ℕ) (old new : Log)
-  (replies : List Reply) : Type 0 where
+    (replies : List Reply) : Type 0 where
   pub sound : IsSound offered new
   pub grows : Grows taken old new
   pub told : Each (IsTrueReply taken name new) replies
 
 pub notice_true : (taken : Bool) (name x : List ℕ) (log : Log) (n next : ℕ) (code : Notice) →
-  turns_down name (Noticed x n code next) ≡ false → IsTrueReply taken name log (Noticed x n code next)
+    turns_down name (Noticed x n code next) ≡ false → IsTrueReply taken name log (Noticed x n code next)
 notice_true taken name x log n next code w = record { judged = λ k v e. absurd (not_judged e); welcome = w }
   where
     not_judged : {k : ℕ} {v : Verdict} → Noticed x n code next ≡ Judged name k v → ⊥
     not_judged e = cc
 
 pub judged_true : (taken : Bool) (name : List ℕ) (log : Log) (n : ℕ) → n < log.done →
-  IsTrueReply taken name log (Judged name n (verdict_at taken log.admitted n))
+    IsTrueReply taken name log (Judged name n (verdict_at taken log.admitted n))
 judged_true taken name log n below = record { judged = λ k v e. told k v e; welcome = refl }
   where
     told : (k : ℕ) (v : Verdict) → Judged name n (verdict_at taken log.admitted n) ≡ Judged name k v →
-      (k < log.done) × (v ≡ verdict_at taken log.admitted k)
+        (k < log.done) × (v ≡ verdict_at taken log.admitted k)
     told k v e =
         let same : n ≡ k = cc in
         let verdicts : verdict_at taken log.admitted n ≡ v = cc in
         (subst (λ (z : ℕ). z < log.done) same below, sym verdicts ∙ ap (verdict_at taken log.admitted) same)
 
 pub verdicts_true : (taken : Bool) (name : List ℕ) (log : Log) (n k : ℕ) → n + k ≤ log.done →
-  Each (IsTrueReply taken name log) (verdicts_from taken log.admitted name n k)
+    Each (IsTrueReply taken name log) (verdicts_from taken log.admitted name n k)
 verdicts_true taken name log n zero h = tt
 verdicts_true taken name log n (suc k) h =
-  (judged_true taken name log n (omega arith), verdicts_true taken name log (suc n) k (omega arith))
+    (judged_true taken name log n (omega arith), verdicts_true taken name log (suc n) k (omega arith))
 
 -- nothing changed
 pub still : (taken : Bool) (offered : List Request) (name : List ℕ) (log : Log) (replies : List Reply) →
-  IsSound offered log → Each (IsTrueReply taken name log) replies →
+    IsSound offered log → Each (IsTrueReply taken name log) replies →
     IsFaithfulStep taken offered name log log replies
 still taken offered name log replies sound told =
-  record { sound = sound; grows = record { done = omega arith; verdicts = λ n h. refl }; told = told }
+    record { sound = sound; grows = record { done = omega arith; verdicts = λ n h. refl }; told = told }

@@ -31,7 +31,7 @@ turns_stay (f ∷ fs) h =
 
 -- only kind 9 is read as the end
 frame_in-no_bye : (six : Bool) (name : List ℕ) (number : ℕ) (m : Message) →
-  cond six (Asks name number) (Says m) ≡ Bye → ⊥
+    cond six (Asks name number) (Says m) ≡ Bye → ⊥
 frame_in-no_bye true name number m e = cc
 frame_in-no_bye false name number m e = cc
 
@@ -41,25 +41,25 @@ bye_stays [] e = absurd cc
 bye_stays (k ∷ rest) e = by_kind (k == 9) e
   where
     by_kind : (nine : Bool) →
-      cond nine (cond (length rest == 0) (Ok Bye) (Err Payload))
-      (unless (first_that_holds (body_faults First k rest)) (frame_in k rest)) ≡ Ok Bye
+        cond nine (cond (length rest == 0) (Ok Bye) (Err Payload))
+        (unless (first_that_holds (body_faults First k rest)) (frame_in k rest)) ≡ Ok Bye
         → cond nine (cond (length rest == 0) (Ok Bye) (Err Payload))
-          (unless (first_that_holds (body_faults Second k rest)) (frame_in k rest)) ≡ Ok Bye
+        (unless (first_that_holds (body_faults Second k rest)) (frame_in k rest)) ≡ Ok Bye
     by_kind true e = e
     by_kind false e =
         absurd (frame_in-no_bye (k == 6) (name_in rest) (number_in rest)
-          (record { name = name_in rest; number = number_in rest; request = request_of k (payload_in rest) })
+        (record { name = name_in rest; number = number_in rest; request = request_of k (payload_in rest) })
         (unless_ok (first_that_holds (body_faults First k rest)) (frame_in k rest) Bye e).1)
 
 first_bye_stays : (bytes more : List ℕ) → first_frame First bytes ≡ Ok (Bye, more) →
-  first_frame Second bytes ≡ Ok (Bye, more)
+    first_frame Second bytes ≡ Ok (Bye, more)
 first_bye_stays bytes more e =
     let r = reads_frame First bytes Bye more e in
     first_frame-body Second bytes r.has ∙ rw (bye_stays (take (u32_at bytes 0) (drop 4 bytes)) r.reads, r.rest) refl
 
 -- an exchange said the end only where its frame comes next
 said_bye : (place : ℕ) (x : Result (Frame × List ℕ) Reason) → end_by place x ≡ Some SaidBye →
-  (more : List ℕ) × (x ≡ Ok (Bye, more))
+    (more : List ℕ) × (x ≡ Ok (Bye, more))
 said_bye place (Ok (Says m, more)) e = absurd cc
 said_bye place (Ok (Asks name number, more)) e = absurd cc
 said_bye place (Ok (Bye, more)) e = (more, refl)
@@ -72,15 +72,19 @@ no_input_end place (Ok (Bye, more)) e = cc
 no_input_end place (Err reason) e = cc
 
 end_stays : (place : ℕ) (rest : List ℕ) (end : End) → end_at First place rest ≡ Some end →
-  (end ≡ EndOfInput) ⊎ (end ≡ SaidBye) → end_at Second place rest ≡ Some end
+    (end ≡ EndOfInput) ⊎ (end ≡ SaidBye) → end_at Second place rest ≡ Some end
 end_stays place [] end e which = e
 end_stays place (b ∷ bs) end e (inl which) =
-  absurd (no_input_end place (first_frame First (b ∷ bs)) (e ∙ ap Some which))
+    absurd (no_input_end place (first_frame First (b ∷ bs)) (e ∙ ap Some which))
 end_stays place (b ∷ bs) end e (inr which) =
     let bye = said_bye place (first_frame First (b ∷ bs)) (e ∙ ap Some which) in
     ap (end_by place) (first_bye_stays (b ∷ bs) bye.0 bye.1) ∙ sym (ap Some which)
 
 pub first_version_stays : FirstVersionStays
 first_version_stays bytes fs end s which =
-    record { rest = s.rest; each = turns_stay fs s.each; whole = s.whole;
-      ends = end_stays (length (frames_bytes fs)) s.rest end s.ends which }
+    record {
+      rest = s.rest;
+      each = turns_stay fs s.each;
+      whole = s.whole;
+      ends = end_stays (length (frames_bytes fs)) s.rest end s.ends which;
+    }

@@ -13,21 +13,21 @@ use Rattle.bw_model.specs.Layout.{Chunk, chunk_sized, head, pad, bext_fixed, is_
 pub length-concat : (xss : List (List ℕ)) → length (concat xss) ≡ sum (map length xss)
 length-concat [] = refl
 length-concat (xs ∷ xss) =
-  length-append xs (concat xss) ∙ ap (λ (n : ℕ). length xs + n) (length-concat xss)
-  ∙ sym (sum_by-cons (λ n. n) (length xs) (map length xss))
+    length-append xs (concat xss) ∙ ap (λ (n : ℕ). length xs + n) (length-concat xss)
+    ∙ sym (sum_by-cons (λ n. n) (length xs) (map length xss))
 
 length-first_fields : (fields : List (List ℕ)) (n : ℕ) → AreFields fields →
-  length (concat (take n fields)) ≡ sum (take n (map width shapes))
+    length (concat (take n fields)) ≡ sum (take n (map width shapes))
 length-first_fields fields n h = length-concat (take n fields) ∙ ap sum (sym (take-map length n fields) ∙ ap (take n) h)
 
 length-later_fields : (fields : List (List ℕ)) (n k : ℕ) → AreFields fields →
-  length (concat (take k (drop n fields))) ≡ sum (take k (drop n (map width shapes)))
+    length (concat (take k (drop n fields))) ≡ sum (take k (drop n (map width shapes)))
 length-later_fields fields n k h =
-  length-concat (take k (drop n fields))
-  ∙ ap sum (sym (take-map length k (drop n fields)) ∙ ap (take k) (sym (drop-map length n fields) ∙ ap (drop n) h))
+    length-concat (take k (drop n fields))
+    ∙ ap sum (sym (take-map length k (drop n fields)) ∙ ap (take k) (sym (drop-map length n fields) ∙ ap (drop n) h))
 
 length-last_fields : (fields : List (List ℕ)) (n : ℕ) → AreFields fields →
-  length (concat (drop n fields)) ≡ sum (drop n (map width shapes))
+    length (concat (drop n fields)) ≡ sum (drop n (map width shapes))
 length-last_fields fields n h = length-concat (drop n fields) ∙ ap sum (sym (drop-map length n fields) ∙ ap (drop n) h)
 
 -- the fixed part of `bext` has 602 bytes
@@ -58,21 +58,21 @@ length-bext_fixed fields h = go (is_version_1 fields)
 
 -- a chunk has 8 bytes before its content, and one behind it where that is odd
 pub length-chunk_sized : (size : ℕ) (c : Chunk) → length c.id ≡ 4 →
-  length (chunk_sized size c) ≡ 8 + even_up (length c.content)
+    length (chunk_sized size c) ≡ 8 + even_up (length c.content)
 length-chunk_sized size c l =
     length-append (head c.id size) (c.content ++ pad (length c.content))
     ∙ ap (λ (k : ℕ). k + length (c.content ++ pad (length c.content)))
-      (length-append c.id (le32 size) ∙ ap (λ (k : ℕ). k + 4) l)
+    (length-append c.id (le32 size) ∙ ap (λ (k : ℕ). k + 4) l)
     ∙ ap (λ (k : ℕ). 8 + k)
-      (length-append c.content (pad (length c.content))
-      ∙ ap (λ (k : ℕ). length c.content + k) (length-replicate (length c.content % 2) 0))
+    (length-append c.content (pad (length c.content))
+    ∙ ap (λ (k : ℕ). length c.content + k) (length-replicate (length c.content % 2) 0))
 
 -- a cue point has 24 bytes
 pub length-cue_content : (markers : List (ℕ × ℕ)) → length (cue_content markers) ≡ 4 + 24 * length markers
 length-cue_content markers =
-  length-append (le32 (length markers)) (flat_map cue_point markers) ∙ ap (λ (k : ℕ). 4 + k) (points markers)
+    length-append (le32 (length markers)) (flat_map cue_point markers) ∙ ap (λ (k : ℕ). 4 + k) (points markers)
   where
     points : (ms : List (ℕ × ℕ)) → length (flat_map cue_point ms) ≡ 24 * length ms
     points [] = refl
     points (m ∷ ms) = length-append (cue_point m) (flat_map cue_point ms)
-      ∙ (let rest = points ms in omega (arith, rest))
+        ∙ (let rest = points ms in omega (arith, rest))

@@ -20,7 +20,7 @@ abbrev pub IsTold : Option Sizes → List ℕ → ℕ → Type 0
 IsTold None id size = ⊥
 IsTold (Some sizes) id size =
     ((id ≡ codes "data") × (size ≡ sizes.«data»))
-      ⊎ ((id ≢ codes "data") × IsFirstRow sizes.table id size)
+    ⊎ ((id ≢ codes "data") × IsFirstRow sizes.table id size)
 
 -- a chunk's size is that of its head; where that says nothing, `ds64` tells it
 abbrev pub IsSized : List ℕ → Form → Entry → Type 0
@@ -60,7 +60,7 @@ count_of id entries = count_by (λ e. is_id e.id id) entries
 -- `fmt `, `bext`, `data` and `cue ` stand at most once
 abbrev pub AreSingle : List Entry → Type 0
 AreSingle entries = (id : List ℕ) → IsTrue (list_any (is_id id) single_ids) →
-  count_of id entries ≤ 1
+    count_of id entries ≤ 1
 
 -- the chunks stand one behind another from the outer header on
 pub record StandsFirst (b : List ℕ) (form : Form) (entries : List Entry) : Type 0 where

@@ -36,31 +36,46 @@ abbrev pub read_form : Format → Take → ℕ → Form
 read_form f t limit =
     if is_narrow f t limit
     then record { id = codes "RIFF"; size = form_len f t; sizes = None }
-    else record { id = codes "BW64"; size = form_len f t;
-        sizes = Some (record { form = form_len f t; «data» = length t.samples; table = [] }) }
+    else record {
+      id = codes "BW64";
+      size = form_len f t;
+      sizes = Some (record { form = form_len f t; «data» = length t.samples; table = [] });
+    }
 
 -- the `cue ` chunk, where there are markers
 abbrev pub read_cues : ℕ → List (ℕ × ℕ) → List Entry
 read_cues place [] = []
 read_cues place (m ∷ ms) =
-  record { id = codes "cue "; place = place; size = 4 + 24 * length (m ∷ ms) } ∷ []
+    record { id = codes "cue "; place = place; size = 4 + 24 * length (m ∷ ms) } ∷ []
 
 -- its chunks, each with the place of its head and the size of its content
 abbrev pub read_chunks : Format → Take → ℕ → List Entry
 read_chunks f t limit =
-    record { id = if is_narrow f t limit then codes "JUNK" else codes "ds64"; place = 12;
-      size = 28 }
+    record {
+      id = if is_narrow f t limit then codes "JUNK" else codes "ds64";
+      place = 12;
+      size = 28;
+    }
     ∷ record { id = codes "fmt "; place = 48; size = 16 }
     ∷ record { id = codes "bext"; place = 72; size = 602 + length t.history }
-    ∷ record { id = codes "data"; place = 682 + even_up (length t.history);
-      size = length t.samples }
+    ∷ record {
+      id = codes "data";
+      place = 682 + even_up (length t.history);
+      size = length t.samples;
+    }
     ∷ read_cues (data_place (length t.history) + even_up (length t.samples))
-      (cues t.closed t.markers)
+    (cues t.closed t.markers)
 
 -- the numbers of `fmt `, of the format
 abbrev pub told_fmt : Format → RawFmt
-told_fmt f = record { tag = 1; channels = f.channels; rate = f.rate;
-  bytes_per_second = f.rate * block_align f; align = block_align f; bits = f.bits }
+told_fmt f = record {
+  tag = 1;
+  channels = f.channels;
+  rate = f.rate;
+  bytes_per_second = f.rate * block_align f;
+  align = block_align f;
+  bits = f.bits;
+}
 
 -- the field under the tag n + 1
 abbrev pub field_at : List (List ℕ) → ℕ → List ℕ
@@ -114,7 +129,7 @@ is_admitted (Some r) = is_request r
 -- of each take that such requests make, and whose form is at most 2^62 bytes, the file reads back
 abbrev pub MadeFilesReadBack : Type 0
 MadeFilesReadBack = (taken : Bool) (admitted : List (Option Request)) (n : ℕ) (f : Format)
-  (limit : ℕ) →
+    (limit : ℕ) →
     IsTrue (list_all is_admitted admitted) →
     (made taken admitted n).format ≡ Some f → form_len f (made taken admitted n) ≤ largest →
-      limit ≤ 4294967294 → ReadsBack f (made taken admitted n) limit
+    limit ≤ 4294967294 → ReadsBack f (made taken admitted n) limit

@@ -58,7 +58,7 @@ notice_code Next = 39
 abbrev pub reply_body : Reply → List ℕ
 reply_body (Judged name number verdict) = addressed 0x81 name number ++ verdict_code verdict ∷ []
 reply_body (Noticed name number notice next) =
-  addressed 0x82 name number ++ notice_code notice ∷ le32 next
+    addressed 0x82 name number ++ notice_code notice ∷ le32 next
 reply_body (Refused reason offset) = 0x83 ∷ reason_code reason ∷ le64 offset
 
 -- a name and a number that a reply may have
@@ -69,7 +69,7 @@ is_addressed name number = is_name name && nat_le number (last_number Second)
 abbrev pub is_reply : Reply → Bool
 is_reply (Judged name number verdict) = is_addressed name number
 is_reply (Noticed name number notice next) =
-  is_addressed name number && nat_le next (last_number Second + 1)
+    is_addressed name number && nat_le next (last_number Second + 1)
 is_reply (Refused reason offset) = is_below (2 ^ 64) offset
 
 -- the bytes spell the reply, with none left over
@@ -116,7 +116,7 @@ abbrev pub refused_by : List ℕ → Option Reply
 refused_by [] = None
 refused_by (code ∷ offset) =
     if length offset == 8 then option_map (λ r. Refused r (u64_at offset 0)) (reason_of code)
-      else None
+    else None
 
 -- a reply that begins with a name and a number
 abbrev pub addressed_reply : List ℕ → (List ℕ → ℕ → List ℕ → Option Reply) → Result Reply Reason

@@ -119,7 +119,7 @@ Outcome = List ℕ × End × Option (List ℕ)
 -- what comes of these bytes on a new server
 abbrev pub outcome : List ℕ → Outcome
 outcome input = let x =
-  exchange nothing_stands [] input in (replies_bytes x.replies, x.end, file_in x.book)
+    exchange nothing_stands [] input in (replies_bytes x.replies, x.end, file_in x.book)
 
 -- a new server answers so, ends so, and leaves this file
 abbrev pub Answers : List ℕ → List ℕ → End → Option (List ℕ) → Type 0
@@ -142,7 +142,7 @@ answers_to ts = map (λ t. t.replies) (run nothing_stands [] ts)
 -- the replies of each turn on a new server, and the file of `a1` behind them
 abbrev pub Turns : List (Frame × Luck) → List (List Reply) → Option (List ℕ) → Type 0
 Turns ts replies file =
-  (answers_to ts ≡ replies) × (file_in (book_after nothing_stands [] ts) ≡ file)
+    (answers_to ts ≡ replies) × (file_in (book_after nothing_stands [] ts) ≡ file)
 
 -- Readings.
 

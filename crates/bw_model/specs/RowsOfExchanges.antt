@@ -14,7 +14,7 @@ use Rattle.bw_model.specs.RowWords.{noticed, Answers, file_in, outcome}
 -- OPEN alone makes a file of no data
 abbrev pub OpenAloneRow : Type 0
 OpenAloneRow = Answers open_0 (hex "0900000081026131" ++ hex "0000000000") EndOfInput
-  (Some empty_file)
+    (Some empty_file)
 
 -- OPEN, BLOCK and CLOSE make the file of two frames
 abbrev pub InOrderRow : Type 0
@@ -90,7 +90,7 @@ abbrev pub ConflictOfClosesRow : Type 0
 ConflictOfClosesRow = Answers
     (close_2 ++ wrong_close_2 ++ block_1 ++ open_0 ++ wrong_close_2)
     (noticed 2 0x20 0 ++ noticed 2 0x22 0 ++ noticed 1 0x20 0 ++ judged 0 0 ++ judged 1 0
-      ++ judged 2 0
+    ++ judged 2 0
     ++ noticed 2 0x22 3)
     EndOfInput (Some small_file)
 
@@ -119,7 +119,7 @@ FullWindowRow = Answers
     ++ judged 16 0)
     EndOfInput
     (Some (plain_header (hex "ea020000") mono_fmt (hex "40000000")
-      ++ for_each (λ n. two_frames) 1 16))
+    ++ for_each (λ n. two_frames) 1 16))
 
 -- the replies of an exchange, and the file behind it
 abbrev pub told : Exchange → List ℕ × Option (List ℕ)
@@ -129,8 +129,10 @@ told x = (replies_bytes x.replies, file_in x.book)
 abbrev pub TwoExchangesRow : Type 0
 TwoExchangesRow =
     map told (exchanges nothing_stands [] ((open_0 ++ close_2) ∷ block_1 ∷ []))
-    ≡ (hex "09000000810261310000000000" ++ hex "0d00000082026131020000002001000000",
-      Some empty_file)
+    ≡ (
+      hex "09000000810261310000000000" ++ hex "0d00000082026131020000002001000000",
+      Some empty_file,
+    )
     ∷ (judged 1 0 ++ judged 2 0, Some small_file) ∷ []
 
 -- Requests that are not stored.
@@ -158,7 +160,7 @@ abbrev pub CueRow : Type 0
 CueRow = Answers
     (open_0 ++ block_1 ++ hex "10000000030261310200000007000000" ++ hex "02000000"
     ++ hex "1000000003026131030000000700000001000000"
-      ++ hex "1000000003026131040000000800000003000000"
+    ++ hex "1000000003026131040000000800000003000000"
     ++ hex "1000000005026131050000000200000000000000")
     (judged 0 0 ++ judged 1 0 ++ judged 2 0 ++ judged 3 8 ++ judged 4 7 ++ judged 5 0)
     EndOfInput (Some cue_file)

@@ -99,7 +99,7 @@ BlockTooLongRow = decoded Second (hex "0202613101000000" ++ replicate 32769 7) �
 -- a reply's next may be 16,777,216, one past the last number, and no more
 abbrev pub NextRow : Type 0
 NextRow = map decoded_reply
-  (hex "82026131000000002000000001" ∷ hex "82026131000000002001000001" ∷ [])
+    (hex "82026131000000002000000001" ∷ hex "82026131000000002001000001" ∷ [])
     ≡ Ok (Noticed a1 0 Held 16777216) ∷ Err Payload ∷ []
 
 -- the codes of verdicts end at 11, those of notices are 32 to 37 and 39, and those of reasons 1 to

@@ -21,7 +21,7 @@ Faults inputs faults = map read inputs ≡ map (λ f. Err (record { kind = f.0; 
 -- the chunks of the file of two frames
 abbrev pub small_entries : List Entry
 small_entries = entry "JUNK" 12 28 ∷ entry "fmt " 48 16 ∷ entry "bext" 72 602 ∷ entry "data" 682 4
-  ∷ []
+    ∷ []
 
 -- the file of two frames
 abbrev pub ReadsSmallRow : Type 0
@@ -49,8 +49,11 @@ rf64 = rf64_with (hex "5a00000000000000") (hex "0400000000000000") (hex "0000000
 -- its outer header
 abbrev pub rf64_form : Form
 rf64_form =
-    record { id = codes "RF64"; size = 90;
-      sizes = Some (record { form = 90; «data» = 4; table = [] }) }
+    record {
+      id = codes "RF64";
+      size = 90;
+      sizes = Some (record { form = 90; «data» = 4; table = [] });
+    }
 
 -- its chunks
 abbrev pub rf64_entries : List Entry
@@ -66,7 +69,7 @@ tabled =
     codes "BW64" ++ hex "ffffffff" ++ codes "WAVE" ++ codes "ds64" ++ hex "28000000"
     ++ hex "6600000000000000" ++ hex "0400000000000000" ++ zeros 8 ++ hex "01000000" ++ codes "LIST"
     ++ hex "0400000000000000" ++ codes "fmt " ++ hex "12000000" ++ mono_fmt ++ zeros 2
-      ++ codes "LIST"
+    ++ codes "LIST"
     ++ hex "ffffffff" ++ zeros 4 ++ codes "data" ++ hex "ffffffff" ++ two_frames
 
 -- its outer header
@@ -80,7 +83,7 @@ tabled_form = record {
 -- its chunks
 abbrev pub tabled_entries : List Entry
 tabled_entries = entry "ds64" 12 40 ∷ entry "fmt " 60 18 ∷ entry "LIST" 86 4 ∷ entry "data" 98 4
-  ∷ []
+    ∷ []
 
 -- a size field that says nothing is told by the table
 abbrev pub ReadsTabledRow : Type 0
@@ -135,24 +138,24 @@ WrongDataSizeRow = Faults
 -- the RF64 file with another table length
 abbrev pub with_table : List ℕ → List ℕ
 with_table entries = rf64_with (hex "5a00000000000000") (hex "0400000000000000") entries
-  (hex "04000000")
+    (hex "04000000")
 
 -- a table that its `ds64` has no room for, and one of 4,097 rows
 abbrev pub WrongTableRow : Type 0
 WrongTableRow = Faults (with_table (hex "01000000") ∷ with_table (hex "01100000") ∷ [])
-  ((BadDs64, 12) ∷ (TooMany, 12) ∷ [])
+    ((BadDs64, 12) ∷ (TooMany, 12) ∷ [])
 
 -- a size that nothing tells
 abbrev pub UntoldSizeRow : Type 0
 UntoldSizeRow = Faults
     (rf64_with (hex "5a00000000000000") (hex "0400000000000000") (hex "00000000") (hex "ffffffff")
-      ∷ [])
+    ∷ [])
     ((NoSize, 74) ∷ [])
 
 -- a RIFF form can't leave its size unsaid
 abbrev pub UnsaidRiffRow : Type 0
 UnsaidRiffRow = Faults ((codes "RIFF" ++ hex "ffffffff" ++ drop 8 small_file) ∷ [])
-  ((NoSize, 4) ∷ [])
+    ((NoSize, 4) ∷ [])
 
 -- the file with a cue point: a count that its chunk has no room for, one that is too great, and
 -- `fmt ` named `data`

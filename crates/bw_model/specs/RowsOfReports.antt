@@ -55,7 +55,7 @@ ReportSmallRow = Reports
 abbrev pub loud_file : List ℕ
 loud_file =
     take 426 empty_file ++ hex "0200" ++ drop 428 (take 492 empty_file)
-      ++ hex "04f7ff7fff7fff7fff7f"
+    ++ hex "04f7ff7fff7fff7fff7f"
     ++ drop 502 empty_file
 
 -- a loudness that is given is told by its number, and the others are unset

@@ -20,7 +20,7 @@ abbrev pub FormatsRow : Type 0
 FormatsRow =
     (with_format 1 1 16 ∷ with_format 768000 64 32 ∷ with_format 48000 2 24 ∷ [])
     ++ (with_format 0 1 16 ∷ with_format 768001 1 16 ∷ with_format 48000 0 16
-      ∷ with_format 48000 65 16
+    ∷ with_format 48000 65 16
     ∷ with_format 48000 1 8 ∷ with_format 48000 1 20 ∷ [])
     ≡ (Stored ∷ Stored ∷ Stored ∷ [])
     ++ (BadFormat ∷ BadFormat ∷ BadFormat ∷ BadFormat ∷ BadFormat ∷ BadFormat ∷ [])
@@ -33,7 +33,7 @@ abbrev pub HistoryBytesRow : Type 0
 HistoryBytesRow =
     map with_byte (13 ∷ 10 ∷ 32 ∷ 126 ∷ []) ++ map with_byte (31 ∷ 127 ∷ 9 ∷ 0 ∷ [])
     ≡ (Stored ∷ Stored ∷ Stored ∷ Stored ∷ [])
-      ++ (BadFormat ∷ BadFormat ∷ BadFormat ∷ BadFormat ∷ [])
+    ++ (BadFormat ∷ BadFormat ∷ BadFormat ∷ BadFormat ∷ [])
 
 -- each request before OPEN, and each on a closed take; a second OPEN
 abbrev pub requests : List Request
@@ -46,7 +46,7 @@ BeforeAndBehindRow =
     ++ map (verdict (take_of (Open mono [] ∷ Close 0 ∷ []))) (Open mono [] ∷ requests)
     ++ verdict (take_of (Open mono [] ∷ [])) (Open mono []) ∷ []
     ≡ (NotOpen ∷ NotOpen ∷ NotOpen ∷ NotOpen ∷ [])
-      ++ (Closed ∷ Closed ∷ Closed ∷ Closed ∷ Closed ∷ [])
+    ++ (Closed ∷ Closed ∷ Closed ∷ Closed ∷ Closed ∷ [])
     ++ AlreadyOpen ∷ []
 
 -- 1,024 markers fit, and no more
@@ -65,7 +65,7 @@ abbrev pub AllowedFieldsRow : Type 0
 AllowedFieldsRow =
     field_fault 1 (replicate 256 126) ∷ field_fault 2 (replicate 32 32) ∷ field_fault 3 []
     ∷ field_fault 4 (codes "2024-05-01") ∷ field_fault 5 (codes "23:59:59")
-      ∷ field_fault 6 (zeros 8)
+    ∷ field_fault 6 (zeros 8)
     ∷ field_fault 7 (zeros 64) ∷ field_fault 12 (hex "ff7f") ∷ []
     ≡ None ∷ None ∷ None ∷ None ∷ None ∷ None ∷ None ∷ None ∷ []
 
@@ -73,10 +73,10 @@ AllowedFieldsRow =
 abbrev pub FieldLengthsRow : Type 0
 FieldLengthsRow =
     field_fault 1 (replicate 257 126) ∷ field_fault 2 (replicate 33 32)
-      ∷ field_fault 4 (codes "2024-5-1")
+    ∷ field_fault 4 (codes "2024-5-1")
     ∷ field_fault 6 [] ∷ field_fault 7 (zeros 63) ∷ field_fault 12 (0 ∷ []) ∷ []
     ≡ Some BadLength ∷ Some BadLength ∷ Some BadLength ∷ Some BadLength ∷ Some BadLength
-      ∷ Some BadLength ∷ []
+    ∷ Some BadLength ∷ []
 
 -- bytes that aren't allowed at their place, and tags that no field has
 abbrev pub FieldBytesRow : Type 0
@@ -98,7 +98,7 @@ LargestRiffRow = header_of_len 4294966612 ≡ plain_header (hex "feffffff") mono
 -- one byte less makes the same form, by its pad byte
 abbrev pub LargestOddRiffRow : Type 0
 LargestOddRiffRow = header_of_len 4294966611
-  ≡ plain_header (hex "feffffff") mono_fmt (hex "53fdffff")
+    ≡ plain_header (hex "feffffff") mono_fmt (hex "53fdffff")
 
 -- one byte more makes BW64: both 32-bit sizes say nothing, and `ds64` tells them
 abbrev pub SmallestWideRow : Type 0

@@ -44,7 +44,7 @@ abbrev pub OtherBehindFailureRow : Type 0
 OtherBehindFailureRow = Turns
     ((says_open, good) ∷ (says_block, fails_after 0) ∷ (says_other, good) ∷ [])
     ((stored 0 ∷ []) ∷ (Noticed a1 1 DelayedStore 1 ∷ [])
-      ∷ (stored 1 ∷ Noticed a1 1 Conflict 2 ∷ [])
+    ∷ (stored 1 ∷ Noticed a1 1 Conflict 2 ∷ [])
     ∷ [])
     (Some small_file)
 
@@ -52,7 +52,7 @@ OtherBehindFailureRow = Turns
 abbrev pub FailedTwiceRow : Type 0
 FailedTwiceRow = Turns
     ((says_open, good) ∷ (says_block, fails_after 0) ∷ (says_block, fails_after 0)
-      ∷ (says_block, good)
+    ∷ (says_block, good)
     ∷ (says_other, good) ∷ [])
     ((stored 0 ∷ []) ∷ (Noticed a1 1 DelayedStore 1 ∷ []) ∷ (Noticed a1 1 DelayedStore 1 ∷ [])
     ∷ (stored 1 ∷ []) ∷ (Noticed a1 1 Conflict 2 ∷ []) ∷ [])
@@ -86,7 +86,7 @@ stored_each n (suc count) = stored n ∷ stored_each (suc n) count
 abbrev pub SeventeenRepliesRow : Type 0
 SeventeenRepliesRow =
     answers_to (waiting 1 15 ++ (says_open, fails_after 0) ∷ (says 16 (Block two_frames), good)
-      ∷ [])
+    ∷ [])
     ≡ held_each 1 15 ++ (Noticed a1 0 DelayedStore 0 ∷ [])
     ∷ (stored_each 0 16 ++ Noticed a1 16 TooFar 16 ∷ []) ∷ []
 
@@ -129,7 +129,7 @@ abbrev pub names_from : ℕ → ℕ → Book
 names_from first zero = []
 names_from first (suc count) =
     (first ∷ [], record { admitted = None ∷ Some (Block two_frames) ∷ []; done = 0 })
-      ∷ names_from (suc first) count
+    ∷ names_from (suc first) count
 
 -- what 256 known names leave a further one
 abbrev pub full_turn : Frame → List Reply × Book
@@ -146,7 +146,7 @@ FullTableRow = full_turn (further 1) ≡ (Noticed (codes "b2") 1 TableFull 0 ∷
 -- a number past the window is told so first
 abbrev pub FullTableTooFarRow : Type 0
 FullTableTooFarRow = full_turn (further 16)
-  ≡ (Noticed (codes "b2") 16 TooFar 0 ∷ [], names_from 0 256)
+    ≡ (Noticed (codes "b2") 16 TooFar 0 ∷ [], names_from 0 256)
 
 -- an ask needs no room
 abbrev pub FullTableAskRow : Type 0

@@ -7,7 +7,7 @@ use Rattle.bw_args.proofs.parse.Goals as goal
 pub returns-in-Ok-clause-line : goal.returns-in-Ok-clause-line
 returns-in-Ok-clause-line c = IfOk-weaker c.line.result _ _
     (λ line given. line_asked _ _ _ line c.in_ok-command.ensures c.in-Ok.ensures.kinds
-      (λ simple. (c.in-Ok.ensures.ok.2 simple).1) given)
+    (λ simple. (c.in-Ok.ensures.ok.2 simple).1) given)
     c.line.ensures.ok
 
 pub returns-clause-line : goal.returns-clause-line

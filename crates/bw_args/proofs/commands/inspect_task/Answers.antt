@@ -11,4 +11,4 @@ returns-clause-ok c = file_asked (found_of c.args.options.now) _ (ap Some c.in_o
 
 pub returns-in_err-file-clause-err : goal.returns-in_err-file-clause-err
 returns-in_err-file-clause-err c =
-  on_err c.from_residual.result (_, file_asked (found_of c.args.options.now) _ c.in-Some.ensures)
+    on_err c.from_residual.result (_, file_asked (found_of c.args.options.now) _ c.in-Some.ensures)
