@@ -7,8 +7,6 @@ ghost use Rattle.bw_args.specs.Lines.{HasLimit, IsLineOf, RunsInspect, RunsRepla
 
 mod commands;
 pub mod numbers;
-#[cfg(test)]
-mod tests;
 
 use clap::Error;
 use clap::error::ErrorKind;

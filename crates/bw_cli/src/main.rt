@@ -1,6 +1,8 @@
 //! The program `bwingest`: its commands, over standard input and output.
 #![tactic(auto)]
 
+#[cfg(test)]
+mod command_line_tests;
 mod exchange;
 pub mod exit;
 mod fault;

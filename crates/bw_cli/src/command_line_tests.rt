@@ -1,5 +1,6 @@
-use crate::numbers::number;
-use crate::{CommandLine, Task, parse};
+//! What no clause says of command lines: that they are taken or refused, by examples, and what texts they tell.
+use bw_args::numbers::number;
+use bw_args::{CommandLine, Task, parse};
 use clap::Error;
 use std::alloc::{AllocError, Global};
 use std::process::Abort;
