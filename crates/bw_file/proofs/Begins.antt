@@ -17,7 +17,7 @@ abbrev unopened : Take → Take
 unopened t = record t { format = None }
 
 module _ (t : Take) (limit : ℕ) (f : Format) (history : List ℕ) (no_format : t.format ≡ None)
-  (is_open : t.closed ≡ false) (fields : AreFields t.fields) (no_samples : length t.samples ≡ 0) where
+    (is_open : t.closed ≡ false) (fields : AreFields t.fields) (no_samples : length t.samples ≡ 0) where
   abbrev later : Take
   later = with_request t (Open f history)
 
@@ -28,7 +28,7 @@ module _ (t : Take) (limit : ℕ) (f : Format) (history : List ℕ) (no_format :
       file_open f later limit fields is_open ∙ rw none (append-nil (header f t.fields history 0 0 limit))
 
   begun_file : (found : Option (List ℕ)) → found ≡ Some (header f t.fields history (length t.samples) 0 limit) →
-    found ≡ file_of later limit
+      found ≡ file_of later limit
   begun_file found is = is ∙ ap Some (sym is_header)
 
   has_no_format : unopened t ≡ t
@@ -41,19 +41,19 @@ module _ (t : Take) (limit : ℕ) (f : Format) (history : List ℕ) (no_format :
   length-file = ap length is_header ∙ length-header f t.fields history (length t.samples) 0 limit fields
 
   between_short : (bytes : List ℕ) → IsBetween t limit (Open f history) (Some bytes) →
-    length bytes ≤ data_place (length history)
+      length bytes ≤ data_place (length history)
   between_short bytes between =
       let short : IsShort t bytes =
-          subst (λ (u : Take). IsBetween u limit (Open f history) (Some bytes) → IsShort u bytes) has_no_format
-          (λ h. h) between in
+      subst (λ (u : Take). IsBetween u limit (Open f history) (Some bytes) → IsShort u bytes) has_no_format
+      (λ h. h) between in
       omega (arith, short, length-file)
 
   short_between : (bytes : List ℕ) → length bytes ≤ data_place (length history) →
-    IsBetween t limit (Open f history) (Some bytes)
+      IsBetween t limit (Open f history) (Some bytes)
   short_between bytes short =
       let fits : IsShort t bytes = omega (arith, short, length-file) in
       subst (λ (u : Take). IsShort u bytes → IsBetween u limit (Open f history) (Some bytes)) has_no_format
-        (λ h. h) fits
+      (λ h. h) fits
 
   -- bytes no more than the header's
   pub record Begun (found : Option (List ℕ)) : Type 0 where
@@ -67,14 +67,14 @@ module _ (t : Take) (limit : ℕ) (f : Format) (history : List ℕ) (no_format :
 
   pub begun_between : (found : Option (List ℕ)) → Begun found → IsSome found × IsBetween t limit (Open f history) found
   begun_between found b =
-    subst (λ (o : Option (List ℕ)). IsSome o × IsBetween t limit (Open f history) o) (sym b.is)
-    (refl, short_between b.bytes b.short)
+      subst (λ (o : Option (List ℕ)). IsSome o × IsBetween t limit (Open f history) o) (sym b.is)
+      (refl, short_between b.bytes b.short)
 
   begun_empty : (found : Option (List ℕ)) → found ≡ Some [] → Begun found
   begun_empty found is = record { bytes = []; is = is; short = omega arith }
 
   pub begun_torn : (before after : Option (List ℕ)) → Begun before →
-    MayTear before 0 (data_place (length history)) after → Begun after
+      MayTear before 0 (data_place (length history)) after → Begun after
   begun_torn before after b w =
       let s = w.1 b.bytes b.is in
       let short = b.short in
@@ -82,14 +82,14 @@ module _ (t : Take) (limit : ℕ) (f : Format) (history : List ℕ) (no_format :
       record { bytes = s.0; is = s.1; short = omega arith }
 
   pub begun_whole : (before after : Option (List ℕ)) → Begun before →
-    PutsLast 0 (header f t.fields history (length t.samples) 0 limit) before after → after ≡ file_of later limit
+      PutsLast 0 (header f t.fields history (length t.samples) 0 limit) before after → after ≡ file_of later limit
   begun_whole before after b put =
       let short = b.short in
       begun_file after (put [] b.bytes b.is refl
-        (omega (arith, length-header f t.fields history (length t.samples) 0 limit fields)))
+      (omega (arith, length-header f t.fields history (length t.samples) 0 limit fields)))
 
   -- a name that is made now, or was so before
   pub fresh_begun : (made : Bool) (before after : Option (List ℕ)) →
-    (IsTrue made → IsSome before × IsBetween t limit (Open f history) before) → IsFresh made before after → Begun after
+      (IsTrue made → IsSome before × IsBetween t limit (Open f history) before) → IsFresh made before after → Begun after
   fresh_begun true before after was fresh = subst Begun (sym fresh) (begun before (was refl))
   fresh_begun false before after was fresh = begun_empty after fresh

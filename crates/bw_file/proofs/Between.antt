@@ -8,24 +8,24 @@ use Rattle.bw_file.specs.Stores.{Torn}
 
 -- a range of bytes that a torn write doesn't touch
 range_stays : (found torn : List ℕ) (from to place n : ℕ) → to ≤ length found → Torn found place n torn →
-  (place + n ≤ from) ⊎ (to ≤ place) → slice_range torn from to ≡ slice_range found from to
+    (place + n ≤ from) ⊎ (to ≤ place) → slice_range torn from to ≡ slice_range found from to
 range_stays found torn from to place n fits t apart =
     let low = t.no_shorter in
     let short : length (take (to - from) (drop from torn)) ≡ to - from =
-        length-take-le (to - from) (drop from torn) (omega (arith, length-drop from torn)) in
+    length-take-le (to - from) (drop from torn) (omega (arith, length-drop from torn)) in
     let long : length (take (to - from) (drop from found)) ≡ to - from =
-        length-take-le (to - from) (drop from found) (omega (arith, length-drop from found)) in
+    length-take-le (to - from) (drop from found) (omega (arith, length-drop from found)) in
     same_lists _ _ (short ∙ sym long) (λ k d h.
     let small : k < to - from = omega (arith, short) in
     let inside : from + k < length found = omega arith in
     let same : get_or torn (from + k) 0 ≡ get_or found (from + k) 0 =
-        elim apart [ inl b ↦ t.behind (from + k) (omega arith) | inr b ↦ t.before (from + k) (omega arith) ] in
+    elim apart [ inl b ↦ t.behind (from + k) (omega arith) | inr b ↦ t.before (from + k) (omega arith) ] in
     get_or-take (to - from) (drop from torn) k d small ∙ get_or-drop from torn k d ∙ grind (arith, places, same))
 
 -- what a torn write of bytes that the request may change leaves
 pub repairable_torn : (old new found torn : List ℕ) (from to place n : ℕ) → to ≤ length old →
-  Repairable old new from to found → Torn found place n torn → (place + n ≤ from) ⊎ (to ≤ place) →
-  place + n ≤ length new → Repairable old new from to torn
+    Repairable old new from to found → Torn found place n torn → (place + n ≤ from) ⊎ (to ≤ place) →
+    place + n ≤ length new → Repairable old new from to torn
 repairable_torn old new found torn from to place n fits r t apart room =
     let low = r.no_shorter in
     let high = r.no_longer in
@@ -50,28 +50,28 @@ pub record Parted (front_len : ℕ) (kept : List ℕ) (most : ℕ) (found : List
   pub rest_is : length rest ≤ most
 
 range_at : (front kept tail : List ℕ) (from to : ℕ) → length front ≡ from → from + length kept ≡ to →
-  slice_range (front ++ (kept ++ tail)) from to ≡ kept
+    slice_range (front ++ (kept ++ tail)) from to ≡ kept
 range_at front kept tail from to f t =
     let n : to - from ≡ length kept = omega arith in
     ap (take (to - from)) (drop_at front (kept ++ tail) from f) ∙ take_at kept tail (to - from) (sym n)
 
 pub repairable_parts : (front kept tail new found : List ℕ) (from to : ℕ) → length front ≡ from →
-  from + length kept ≡ to → Repairable (front ++ (kept ++ tail)) new from to found →
-  Parted from kept (length new - to) found
+    from + length kept ≡ to → Repairable (front ++ (kept ++ tail)) new from to found →
+    Parted from kept (length new - to) found
 repairable_parts front kept tail new found from to f t r =
     let low = r.no_shorter in
     let high = r.no_longer in
     let long : length (front ++ (kept ++ tail)) ≡ from + (length kept + length tail) =
-        omega (arith, length-append front (kept ++ tail), length-append kept tail) in
+    omega (arith, length-append front (kept ++ tail), length-append kept tail) in
     let n : to - from ≡ length kept = omega arith in
     let stands : take (to - from) (drop from found) ≡ kept = r.kept ∙ range_at front kept tail from to f t in
     record {
       front = take from found;
       rest = drop (to - from) (drop from found);
       parts = sym (take-append-drop from found)
-        ∙ ap (λ (l : List ℕ). take from found ++ l)
-        (sym (take-append-drop (to - from) (drop from found))
-        ∙ ap (λ (l : List ℕ). l ++ drop (to - from) (drop from found)) stands);
+          ∙ ap (λ (l : List ℕ). take from found ++ l)
+          (sym (take-append-drop (to - from) (drop from found))
+          ∙ ap (λ (l : List ℕ). l ++ drop (to - from) (drop from found)) stands);
       front_is = length-take-le from found (omega arith);
       rest_is = omega (arith, length-drop (to - from) (drop from found), length-drop from found);
     }

@@ -24,24 +24,24 @@ module _ (f : Format) (t : Take) (limit : ℕ) (fields : AreFields t.fields) whe
   place = data_place (length t.history)
 
   joined : (header samples pad behind : List ℕ) →
-    header ++ samples ++ pad ++ behind ≡ header ++ ((samples ++ pad) ++ behind)
+      header ++ samples ++ pad ++ behind ≡ header ++ ((samples ++ pad) ++ behind)
   joined header samples pad behind = simp append_assoc
 
   pub file_open : t.closed ≡ false → file_with f t limit ≡ head_with (length t.samples) 0 ++ (body ++ [])
   file_open is_open = header_of_file f t limit fields
-    ∙ rw is_open (joined (head_with (length t.samples) 0) t.samples (pad (length t.samples)) [])
+      ∙ rw is_open (joined (head_with (length t.samples) 0) t.samples (pad (length t.samples)) [])
 
   pub file_closed : (total : ℕ) →
-    file_with f (with_request t (Close total)) limit
-    ≡ head_with (length t.samples) (length t.markers) ++ (body ++ cue_chunk)
+      file_with f (with_request t (Close total)) limit
+      ≡ head_with (length t.samples) (length t.markers) ++ (body ++ cue_chunk)
   file_closed total = header_of_file f (with_request t (Close total)) limit fields
-    ∙ joined (head_with (length t.samples) (length t.markers)) t.samples (pad (length t.samples)) cue_chunk
+      ∙ joined (head_with (length t.samples) (length t.markers)) t.samples (pad (length t.samples)) cue_chunk
 
   pub length-body : length body ≡ length t.samples + length t.samples % 2
   length-body = length-append t.samples (pad (length t.samples))
-    ∙ ap (λ (n : ℕ). length t.samples + n) (length-pad (length t.samples))
+      ∙ ap (λ (n : ℕ). length t.samples + n) (length-pad (length t.samples))
 
   pub length-file : (data_len cues : ℕ) (rest : List ℕ) → length (head_with data_len cues ++ rest) ≡ place + length rest
   length-file data_len cues rest =
-    length-append (head_with data_len cues) rest
-    ∙ ap (λ (n : ℕ). n + length rest) (length-header f t.fields t.history data_len cues limit fields)
+      length-append (head_with data_len cues) rest
+      ∙ ap (λ (n : ℕ). n + length rest) (length-header f t.fields t.history data_len cues limit fields)

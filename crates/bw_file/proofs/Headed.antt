@@ -2,8 +2,8 @@
 use Rattle.std.proofs.Common.{◌≡◌, ℕ, List, length, Some, sym, ◌∙◌, ap, subst}
 use Rattle.bw_model.specs.Take.{Take, Parts, AreFields, parts}
 use Rattle.bw_model.specs.File.{header, data_place}
-use Rattle.bw_file.specs.declared.heading.Heading.{Heading}
-use Rattle.bw_file.specs.Headings.{header_of, place_of}
+use Rattle.bw_layout.specs.declared.heading.Heading.{Heading}
+use Rattle.bw_layout.specs.Headings.{header_of, place_of}
 
 -- what it says is the take's
 pub record IsHeading (t : Take) (limit : ℕ) (h : Heading) : Type 0 where
@@ -13,7 +13,7 @@ pub record IsHeading (t : Take) (limit : ℕ) (h : Heading) : Type 0 where
   pub header : (data_len cues : ℕ) → header_of h data_len cues ≡ header h.format t.fields t.history data_len cues limit
 
 pub is_heading : (t : Take) (p : Parts) (h : Heading) (limit : ℕ) → parts t ≡ p → Some h.format ≡ p.format →
-  h.bext.now ≡ p.fields → h.history.now ≡ p.history → h.limit ≡ limit → IsHeading t limit h
+    h.bext.now ≡ p.fields → h.history.now ≡ p.history → h.limit ≡ limit → IsHeading t limit h
 is_heading t p h limit same format fields history at_limit =
     let set = fields ∙ sym (ap (λ (q : Parts). q.fields) same) in
     let told = history ∙ sym (ap (λ (q : Parts). q.history) same) in

@@ -13,7 +13,7 @@ pub record IsOpen (p : Parts) : Type 0 where
 
 module _ (p : Parts) (r : Request) (needs_format : judge_open p None r ≡ NotOpen) where
   opened : (closed : Bool) (format : Option Format) → cond closed Closed (judge_open p format r) ≡ Stored →
-    (closed ≡ false) × ((f : Format) × (format ≡ Some f))
+      (closed ≡ false) × ((f : Format) × (format ≡ Some f))
   opened true format e = cc
   opened false None e = let both = needs_format in cc
   opened false (Some f) e = (refl, (f, refl))
@@ -46,12 +46,12 @@ unfaulted None e = refl
 unfaulted (Some fault) e = cc
 
 pub no_fault : (p : Parts) (tag : ℕ) (value : List ℕ) → judge p (SetField tag value) ≡ Stored →
-  field_fault tag value ≡ None
+    field_fault tag value ≡ None
 unfolding judge
 no_fault p tag value e = go p.closed p.format e
   where
     go : (closed : Bool) (format : Option Format) →
-      cond closed Closed (judge_open p format (SetField tag value)) ≡ Stored → field_fault tag value ≡ None
+        cond closed Closed (judge_open p format (SetField tag value)) ≡ Stored → field_fault tag value ≡ None
     go true format e = cc
     go false None e = cc
     go false (Some f) e = unfaulted (field_fault tag value) e
@@ -66,7 +66,7 @@ unfolding judge
 unopened_for_open p f history e = let o = go p.closed p.format e in record { no_format = o.1; not_closed = o.0 }
   where
     go : (closed : Bool) (format : Option Format) →
-      cond closed Closed (judge_open p format (Open f history)) ≡ Stored → (closed ≡ false) × (format ≡ None)
+        cond closed Closed (judge_open p format (Open f history)) ≡ Stored → (closed ≡ false) × (format ≡ None)
     go true format e = cc
     go false None e = (refl, refl)
     go false (Some g) e = cc

@@ -22,12 +22,16 @@ apart : (name other : List ℕ) → other ≢ name → is_at (slice_cmp nat_cmp 
 apart name other ne =
     let same : slice_cmp nat_cmp name other ≡ Equal → name ≡ other = exact_bytes name other in
     elim (slice_cmp nat_cmp name other) as
-      (λ o. (o ≡ Equal → name ≡ other) → is_at (λ (q : List ℕ). o) other ≡ false) [ Less ↦ (λ h. refl) | Equal ↦
-      (λ h. absurd (ne (sym (h refl)))) | Greater ↦ (λ h. refl) ] same
+    (λ o. (o ≡ Equal → name ≡ other) → is_at (λ (q : List ℕ). o) other ≡ false) [
+      | Less ↦ (λ h. refl)
+      | Equal ↦
+          (λ h. absurd (ne (sym (h refl))))
+      | Greater ↦ (λ h. refl)
+    ] same
 
 -- a change at one name leaves what the others have
 pub updates_others : (files new : BTreeMap (List ℕ) (Vec ℕ Global)) (name : List ℕ) (w : Option (Vec ℕ Global)) →
-  Updates (slice_cmp nat_cmp) files new name w → KeepsOthers (content_of files) (content_of new) name
+    Updates (slice_cmp nat_cmp) files new name w → KeepsOthers (content_of files) (content_of new) name
 updates_others files new name w u =
     λ other ne. ap (option_map (λ (v : Vec ℕ Global). v.items)) (u.2 other (apart name other ne))
 
@@ -39,8 +43,8 @@ is_some-map o = grind arith
 
 -- a name stands where it is among the keys
 pub stands_iff : (files : BTreeMap (List ℕ) (Vec ℕ Global)) (name : List ℕ) →
-  is_some (get (slice_cmp nat_cmp) files name) ≡ is_member (eq_by_cmp (slice_cmp nat_cmp)) (keys files) name →
-  IsSome (content_of files name) ↔ Contains (keys files) name
+    is_some (get (slice_cmp nat_cmp) files name) ≡ is_member (eq_by_cmp (slice_cmp nat_cmp)) (keys files) name →
+    IsSome (content_of files name) ↔ Contains (keys files) name
 stands_iff files name has =
     let same = is_some-map (get (slice_cmp nat_cmp) files name) ∙ has in
     let decides = is_member-Decides same_name (keys files) name in

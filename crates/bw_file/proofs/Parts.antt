@@ -7,7 +7,7 @@ pub parts_at : (l : List ℕ) (from to : ℕ) → from ≤ to → l ≡ take fro
 parts_at l from to ordered =
     let end : from + (to - from) ≡ to = omega arith in
     let middle : drop from l ≡ slice_range l from to ++ drop to l =
-        sym (take-append-drop (to - from) (drop from l))
-        ∙ ap (λ (r : List ℕ). slice_range l from to ++ r)
-        (drop-drop (to - from) from l ∙ ap (λ (n : ℕ). drop n l) end) in
+    sym (take-append-drop (to - from) (drop from l))
+    ∙ ap (λ (r : List ℕ). slice_range l from to ++ r)
+    (drop-drop (to - from) from l ∙ ap (λ (n : ℕ). drop n l) end) in
     sym (take-append-drop from l) ∙ ap (λ (r : List ℕ). take from l ++ r) middle

@@ -8,7 +8,7 @@ use Rattle.bw_file.proofs.Tears.{written_is}
 
 -- bytes put where others end
 overwritten-append : (base rest bytes : List ℕ) (place : ℕ) → length base ≡ place →
-  overwritten (base ++ rest) place bytes ≡ base ++ (bytes ++ drop (length bytes) rest)
+    overwritten (base ++ rest) place bytes ≡ base ++ (bytes ++ drop (length bytes) rest)
 overwritten-append base rest [] place e = refl
 overwritten-append base rest (byte ∷ more) place e =
     let bytes = byte ∷ more in
@@ -16,19 +16,19 @@ overwritten-append base rest (byte ∷ more) place e =
     let gap : place - length (base ++ rest) ≡ 0 = omega (arith, long) in
     let front : take place (base ++ rest) ≡ base = take_at base rest place e in
     let back : drop (place + length bytes) (base ++ rest) ≡ drop (length bytes) rest =
-        rw (sym e) (drop-append-add base rest (length bytes)) in
+    rw (sym e) (drop-append-add base rest (length bytes)) in
     rw (front, gap, back, append-nil base) (append_assoc base bytes (drop (length bytes) rest))
 
 pub put_behind : (before after : Option (List ℕ)) (base rest bytes : List ℕ) (place : ℕ) →
-  before ≡ Some (base ++ rest) → length base ≡ place → Written before place bytes after →
-  after ≡ Some (base ++ (bytes ++ drop (length bytes) rest))
+    before ≡ Some (base ++ rest) → length base ≡ place → Written before place bytes after →
+    after ≡ Some (base ++ (bytes ++ drop (length bytes) rest))
 put_behind before after base rest bytes place e h w =
     written_is before after (base ++ rest) place bytes e w ∙ ap Some (overwritten-append base rest bytes place h)
 
 -- .. over as many
 pub put_over : (before after : Option (List ℕ)) (base old tail bytes : List ℕ) (place : ℕ) →
-  before ≡ Some (base ++ (old ++ tail)) → length base ≡ place → length old ≡ length bytes →
-  Written before place bytes after → after ≡ Some (base ++ (bytes ++ tail))
+    before ≡ Some (base ++ (old ++ tail)) → length base ≡ place → length old ≡ length bytes →
+    Written before place bytes after → after ≡ Some (base ++ (bytes ++ tail))
 put_over before after base old tail bytes place e h l w =
     put_behind before after base (old ++ tail) bytes place e h w
-      ∙ ap (λ (r : List ℕ). Some (base ++ (bytes ++ r))) (drop_at old tail (length bytes) l)
+    ∙ ap (λ (r : List ℕ). Some (base ++ (bytes ++ r))) (drop_at old tail (length bytes) l)

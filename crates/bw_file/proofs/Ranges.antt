@@ -28,7 +28,7 @@ AreSameBelow now before after = (t : ℕ) (at : ℕ × ℕ) → t < now → rang
 
 -- headers that are the same in the field are the same
 same_where_same : (tag : ℕ) (before after : List ℕ) (s : SetsField tag before after) → IsSameIn s.range before after →
-  after ≡ before
+    after ≡ before
 same_where_same tag before after s same =
     let from = s.range.0 in
     let to = s.range.0 + s.range.1 in
@@ -41,7 +41,7 @@ module _ (before after : List ℕ) (now : ℕ) (below : AreSameBelow now before 
   -- none differs
   pub all_same : 12 < now → (tag : ℕ) → SetsField tag before after → after ≡ before
   all_same past tag s = same_where_same tag before after s
-    (below tag s.range (let high = range_tags tag s.range s.known in omega arith) s.known)
+      (below tag s.range (let high = range_tags tag s.range s.known in omega arith) s.known)
 
   module _ (range : ℕ × ℕ) (is : range_of now ≡ Some range) where
     -- the next is the same too
@@ -50,13 +50,13 @@ module _ (before after : List ℕ) (now : ℕ) (below : AreSameBelow now before 
       where
         go : (t ≡ now) ⊎ ((t < now) ⊎ (now < t)) → IsSameIn at before after
         go (inl here) = let one : range ≡ at = let both : Some range ≡ Some at =
-          sym is ∙ ap range_of (sym here) ∙ e in cc in subst (λ (r : ℕ × ℕ). IsSameIn r before after) one same
+            sym is ∙ ap range_of (sym here) ∙ e in cc in subst (λ (r : ℕ × ℕ). IsSameIn r before after) one same
         go (inr (inl less)) = below t at less e
         go (inr (inr more)) = absurd (omega arith)
 
     -- the first that differs is the field's
     pub first_differs : (IsSameIn range before after → ⊥) → (tag : ℕ) → SetsField tag before after →
-      range_of tag ≡ Some range
+        range_of tag ≡ Some range
     first_differs differ tag s = go (cases_order tag now)
       where
         same : after ≡ before → IsSameIn range before after
@@ -69,30 +69,30 @@ module _ (before after : List ℕ) (now : ℕ) (below : AreSameBelow now before 
         go : (tag ≡ now) ⊎ ((tag < now) ⊎ (now < tag)) → range_of tag ≡ Some range
         go (inl here) = ap range_of here ∙ is
         go (inr (inl less)) = absurd
-          (differ (same (same_where_same tag before after s (below tag s.range less s.known))))
+            (differ (same (same_where_same tag before after s (below tag s.range less s.known))))
         go (inr (inr more)) = go_on (s.earlier now range (omega arith) is)
 
 -- .. and all but the field is the same
 pub alike_at : (tag : ℕ) (before after : List ℕ) (s : SetsField tag before after) (range : ℕ × ℕ) →
-  range_of tag ≡ Some range →
-  after ≡ take range.0 before ++ slice_range after range.0 (range.0 + range.1) ++ drop (range.0 + range.1) before
+    range_of tag ≡ Some range →
+    after ≡ take range.0 before ++ slice_range after range.0 (range.0 + range.1) ++ drop (range.0 + range.1) before
 alike_at tag before after s range is =
     let one : s.range ≡ range = let both : Some s.range ≡ Some range = sym s.known ∙ is in cc in
     subst (λ (r : ℕ × ℕ). after ≡ take r.0 before ++ slice_range after r.0 (r.0 + r.1) ++ drop (r.0 + r.1) before) one
-      s.alike
+    s.alike
 
 -- nothing is written of a clean file where the bytes are the same
 pub set_same : (name : List ℕ) (tag : ℕ) (before after : List ℕ) → after ≡ before →
-  field_plan name tag before after ≡ []
+    field_plan name tag before after ≡ []
 set_same name tag before after same =
     ap (λ (b : Bool). cond b [] (range_plan name (range_of tag))) ((bytes_eq-Decides before after).1 (sym same))
 
 -- .. and else the field
 pub set_other : (name : List ℕ) (tag : ℕ) (before after : List ℕ) (range : ℕ × ℕ) → (before ≡ after → ⊥) →
-  range_of tag ≡ Some range → field_plan name tag before after ≡ WriteAt name range.0 range.1 ∷ []
+    range_of tag ≡ Some range → field_plan name tag before after ≡ WriteAt name range.0 range.1 ∷ []
 set_other name tag before after range other is =
     ap (λ (b : Bool). cond b [] (range_plan name (range_of tag)))
-      (go (bytes_eq before after) (bytes_eq-Decides before after).0)
+    (go (bytes_eq before after) (bytes_eq-Decides before after).0)
     ∙ ap (range_plan name) is
   where
     go : (b : Bool) → (b ≡ true → before ≡ after) → b ≡ false

@@ -10,8 +10,8 @@ use Rattle.bw_model.specs.Holds.{IsBetween}
 use Rattle.bw_model.proofs.HeaderLaws.{length-header}
 use Rattle.bw_file.specs.Stores.{MayTear, Written}
 use Rattle.bw_file.specs.Growing.{Growing, IsReady}
-use Rattle.bw_file.specs.declared.heading.Heading.{Heading}
-use Rattle.bw_file.specs.Headings.{header_of, place_of}
+use Rattle.bw_layout.specs.declared.heading.Heading.{Heading}
+use Rattle.bw_layout.specs.Headings.{header_of, place_of}
 use Rattle.bw_file.specs.Headers.{PutsOver}
 use Rattle.bw_file.proofs.Between.{repairable_parts}
 use Rattle.bw_file.proofs.Parts.{parts_at}
@@ -22,7 +22,7 @@ use Rattle.bw_file.proofs.Files.{body, place, file_open}
 
 -- a part of a header is put over the old one, where the rest is the same
 pub part_put : (c0 c1 : Option (List ℕ)) (old new tail : List ℕ) (from to : ℕ) → from ≤ to → to ≤ length old →
-  to ≤ length new → new ≡ take from old ++ slice_range new from to ++ drop to old →
+    to ≤ length new → new ≡ take from old ++ slice_range new from to ++ drop to old →
     c0 ≡ Some (old ++ tail) → Written c0 from (slice_range new from to) c1 → c1 ≡ Some (new ++ tail)
 part_put c0 c1 old new tail from to ordered in_old in_new same e w =
     let front = take from old in
@@ -32,22 +32,22 @@ part_put c0 c1 old new tail from to ordered in_old in_new same e w =
     let regroup : (a b c r : List ℕ) → (a ++ (b ++ c)) ++ r ≡ a ++ (b ++ (c ++ r)) = λ a b c r. simp append_assoc in
     let join : (a b c r : List ℕ) → a ++ (b ++ (c ++ r)) ≡ (a ++ b ++ c) ++ r = λ a b c r. simp append_assoc in
     let long : (l : List ℕ) → to ≤ length l → length (slice_range l from to) ≡ to - from =
-        λ l fits. length-take-le (to - from) (drop from l) (omega (arith, length-drop from l, fits)) in
+    λ l fits. length-take-le (to - from) (drop from l) (omega (arith, length-drop from l, fits)) in
     let as_long = long old in_old ∙ sym (long new in_new) in
     put_over c0 c1 front part (rest ++ tail) (slice_range new from to) from
-      (e ∙ ap (λ (l : List ℕ). Some (l ++ tail)) split ∙ ap Some (regroup front part rest tail))
-      (length-take-le from old (omega arith)) as_long w
+    (e ∙ ap (λ (l : List ℕ). Some (l ++ tail)) split ∙ ap Some (regroup front part rest tail))
+    (length-take-le from old (omega arith)) as_long w
     ∙ ap Some (join front (slice_range new from to) rest tail ∙ ap (λ (l : List ℕ). l ++ tail) (sym same))
 
 -- two headers that were built one behind the other
 pub two_headers : (first second : Heading) (data_len mid : ℕ) (bytes front back : List ℕ) →
-  bytes ≡ header_of first data_len 0 ++ header_of second data_len 0 → mid ≡ place_of first → front ≡ take mid bytes →
-  back ≡ drop mid bytes →
+    bytes ≡ header_of first data_len 0 ++ header_of second data_len 0 → mid ≡ place_of first → front ≡ take mid bytes →
+    back ≡ drop mid bytes →
     (front ≡ header_of first data_len 0) × (back ≡ header_of second data_len 0)
 two_headers first second data_len mid bytes front back are at_place is_front is_back =
     let long : length (header_of first data_len 0) ≡ mid =
-        length-header first.format first.bext.now first.history.now data_len 0 first.limit first.widths ∙ sym at_place
-        in (
+    length-header first.format first.bext.now first.history.now data_len 0 first.limit first.widths ∙ sym at_place
+    in (
       is_front ∙ ap (take mid) are ∙ take_at (header_of first data_len 0) (header_of second data_len 0) mid long,
       is_back ∙ ap (drop mid) are ∙ drop_at (header_of first data_len 0) (header_of second data_len 0) mid long,
     )
@@ -56,7 +56,7 @@ pub length-heading : (h : Heading) (data_len : ℕ) → length (header_of h data
 length-heading h data_len = length-header h.format h.bext.now h.history.now data_len 0 h.limit h.widths
 
 module _ (g : Growing) (t : Take) (tag : ℕ) (value : List ℕ) (f : Format) (format : t.format ≡ Some f)
-  (is_open : t.closed ≡ false) (fields : AreFields t.fields) (set : AreFields (with_field t.fields tag value)) where
+    (is_open : t.closed ≡ false) (fields : AreFields t.fields) (set : AreFields (with_field t.fields tag value)) where
   abbrev later : Take
   later = with_request t (SetField tag value)
 
@@ -88,10 +88,14 @@ module _ (g : Growing) (t : Take) (tag : ℕ) (value : List ℕ) (f : Format) (f
   length-head set_fields are = length-header f set_fields t.history d 0 g.limit are
 
   length-whole : (set_fields : List (List ℕ)) → AreFields set_fields →
-    length (header_with set_fields ++ (samples ++ [])) ≡ data_at + length samples
+      length (header_with set_fields ++ (samples ++ [])) ≡ data_at + length samples
   length-whole set_fields are =
-    omega (arith, length-append (header_with set_fields) (samples ++ []), length-append samples [],
-    length-head set_fields are)
+      omega (
+        arith,
+        length-append (header_with set_fields) (samples ++ []),
+        length-append samples [],
+        length-head set_fields are,
+      )
 
   length-old : length old ≡ data_at + length samples
   length-old = ap length old_parts ∙ length-whole t.fields fields
@@ -104,38 +108,42 @@ module _ (g : Growing) (t : Take) (tag : ℕ) (value : List ℕ) (f : Format) (f
 
   -- a fault while the header is written
   torn_header : (c0 c1 : Option (List ℕ)) → IsReady g t (SetField tag value) c0 → MayTear c0 0 data_at c1 →
-    IsBetween t g.limit (SetField tag value) c1
+      IsBetween t g.limit (SetField tag value) c1
   torn_header c0 c1 ready w =
       let stands = ready_stands t g.limit f format (SetField tag value) g.dirty c0 tt same_length ready in
       stands_between t g.limit f format (SetField tag value) c1 tt
-        (stands_torn old new data_at (length old) c0 c1 0 data_at (omega arith) stands w (inl (omega arith))
-        (omega (arith, length-new)))
+      (stands_torn old new data_at (length old) c0 c1 0 data_at (omega arith) stands w (inl (omega arith))
+      (omega (arith, length-new)))
 
   Fronted : Bool → Option (List ℕ) → Type 0
   Fronted dirty c0 = (front : List ℕ) × (c0 ≡ Some (front ++ (samples ++ []))) × (length front ≡ data_at)
-    × (not dirty ≡ true → front ≡ header_with t.fields)
+      × (not dirty ≡ true → front ≡ header_with t.fields)
 
   fronted : (dirty : Bool) (c0 : Option (List ℕ)) →
-    MatchBool dirty (IsBetween t g.limit (SetField tag value) c0) (c0 ≡ file_of t g.limit) → Fronted dirty c0
+      MatchBool dirty (IsBetween t g.limit (SetField tag value) c0) (c0 ≡ file_of t g.limit) → Fronted dirty c0
   unfolding Fronted
   fronted true c0 ready =
       let s = ready_stands t g.limit f format (SetField tag value) true c0 tt same_length ready in
       let to : data_at + length samples ≡ length old = sym length-old in
       let p = repairable_parts (header_with t.fields) samples [] new s.bytes data_at (length old)
-          (length-head t.fields fields) to
-          (subst (λ (o : List ℕ). Repairable o new data_at (length old) s.bytes) old_parts s.repairable) in
+      (length-head t.fields fields) to
+      (subst (λ (o : List ℕ). Repairable o new data_at (length old) s.bytes) old_parts s.repairable) in
       let short = p.rest_is in
-      let none : p.rest ≡ [] = nil_from_length p.rest (omega (arith, length-old, length-new)) in
-      (p.front, s.is ∙ ap Some p.parts
-        ∙ ap (λ (l : List ℕ). Some (p.front ++ (samples ++ l))) none, p.front_is, λ e. absurd (cc))
+      let none : p.rest ≡ [] = nil_from_length p.rest (omega (arith, length-old, length-new)) in (
+        p.front,
+        s.is ∙ ap Some p.parts
+            ∙ ap (λ (l : List ℕ). Some (p.front ++ (samples ++ l))) none,
+        p.front_is,
+        λ e. absurd (cc),
+      )
   fronted false c0 ready =
       let clean = ready_clean t g.limit f format (SetField tag value) false c0 ready refl in
       (header_with t.fields, clean ∙ ap Some old_parts, length-head t.fields fields, λ e. refl)
 
   -- the file with the field
   whole : (c0 c1 : Option (List ℕ)) → IsReady g t (SetField tag value) c0 →
-    PutsOver (not g.dirty) (header_with t.fields) (header_with (with_field t.fields tag value)) c0 c1 →
-    c1 ≡ file_of later g.limit
+      PutsOver (not g.dirty) (header_with t.fields) (header_with (with_field t.fields tag value)) c0 c1 →
+      c1 ≡ file_of later g.limit
   unfolding Fronted
   whole c0 c1 ready over =
       let x = fronted g.dirty c0 ready in
@@ -145,17 +153,17 @@ module _ (g : Growing) (t : Take) (tag : ℕ) (value : List ℕ) (f : Format) (f
 
 -- .. in the words of the call
 module _ (g : Growing) (t : Take) (tag : ℕ) (value : List ℕ) (h after : Heading) (heads : IsHeading t g.limit h)
-  (then_heads : IsHeading (with_request t (SetField tag value)) g.limit after) (same_format : after.format ≡ h.format)
-  (is_open : t.closed ≡ false) (data_len : ℕ) (in_all : data_len ≡ length t.samples) where
+    (then_heads : IsHeading (with_request t (SetField tag value)) g.limit after) (same_format : after.format ≡ h.format)
+    (is_open : t.closed ≡ false) (data_len : ℕ) (in_all : data_len ≡ length t.samples) where
   pub header_fails : (c0 c1 : Option (List ℕ)) → IsReady g t (SetField tag value) c0 → MayTear c0 0 (place_of h) c1 →
-    IsBetween t g.limit (SetField tag value) c1
+      IsBetween t g.limit (SetField tag value) c1
   header_fails c0 c1 ready w =
-    torn_header g t tag value h.format heads.format is_open heads.fields then_heads.fields c0 c1 ready
-    (rw heads.place at w)
+      torn_header g t tag value h.format heads.format is_open heads.fields then_heads.fields c0 c1 ready
+      (rw heads.place at w)
 
   pub retouched : (c0 c1 : Option (List ℕ)) → IsReady g t (SetField tag value) c0 →
-    PutsOver (not g.dirty) (header_of h data_len 0) (header_of after data_len 0) c0 c1 →
-    c1 ≡ file_of (with_request t (SetField tag value)) g.limit
+      PutsOver (not g.dirty) (header_of h data_len 0) (header_of after data_len 0) c0 c1 →
+      c1 ≡ file_of (with_request t (SetField tag value)) g.limit
   retouched c0 c1 ready over =
       whole g t tag value h.format heads.format is_open heads.fields then_heads.fields c0 c1 ready
-        (rw (heads.header data_len 0, then_heads.header data_len 0, same_format, in_all) at over)
+      (rw (heads.header data_len 0, then_heads.header data_len 0, same_format, in_all) at over)

@@ -9,8 +9,8 @@ use Rattle.bw_model.specs.File.{header}
 use Rattle.bw_layout.specs.Places.{bytes_of, range_of}
 use Rattle.bw_layout.proofs.FieldRanges.{range_stands, range_shared, range_known}
 use Rattle.bw_file.specs.OneField.{SetsField, IsSameIn}
-use Rattle.bw_file.specs.Headings.{header_of}
-use Rattle.bw_file.specs.declared.heading.Heading.{Heading}
+use Rattle.bw_layout.specs.Headings.{header_of}
+use Rattle.bw_layout.specs.declared.heading.Heading.{Heading}
 use Rattle.bw_file.proofs.Judged.{no_fault}
 use Rattle.bw_file.proofs.Parts.{parts_at}
 use Rattle.bw_file.proofs.Retouches.{length-heading}
@@ -21,38 +21,38 @@ shaped None value e = cc
 shaped (Some s) value e = refl
 
 pub is_known : (p : Parts) (tag : ℕ) (value : List ℕ) → judge p (SetField tag value) ≡ Stored →
-  is_some (shape_of tag) ≡ true
+    is_some (shape_of tag) ≡ true
 is_known p tag value stored = shaped (shape_of tag) value (no_fault p tag value stored)
 
 -- a field stays as it is where a later one is set
 keeps_earlier : (fields : List (List ℕ)) (tag other : ℕ) (value : List ℕ) → 1 ≤ other → other < tag →
-  get_or (with_field fields tag value) (other - 1) [] ≡ get_or fields (other - 1) []
+    get_or (with_field fields tag value) (other - 1) [] ≡ get_or fields (other - 1) []
 keeps_earlier fields zero other value low before = refl
 keeps_earlier fields (suc n) other value low before = go (slice_get shapes n)
   where
     go : (shape : Option Shape) →
-      get_or (elim shape [ None ↦ fields | Some s ↦ slice_set fields n (field_bytes s value) ]) (other - 1) []
-      ≡ get_or fields (other - 1) []
+        get_or (elim shape [ None ↦ fields | Some s ↦ slice_set fields n (field_bytes s value) ]) (other - 1) []
+        ≡ get_or fields (other - 1) []
     go None = refl
     go (Some s) = let apart : other - 1 ≡ n → ⊥ =
-      λ e. omega arith in get_or-set_other fields n (other - 1) (field_bytes s value) [] apart
+        λ e. omega arith in get_or-set_other fields n (other - 1) (field_bytes s value) [] apart
 
 -- no field is set where there is none
 pub sets_none : (fields : List (List ℕ)) (tag : ℕ) (value : List ℕ) (known : Bool) → is_some (shape_of tag) ≡ known →
-  (known ≡ true → ⊥) → with_field fields tag value ≡ fields
+    (known ≡ true → ⊥) → with_field fields tag value ≡ fields
 sets_none fields zero value known e none = refl
 sets_none fields (suc n) value known e none = go (slice_get shapes n) e
   where
     go : (shape : Option Shape) → is_some shape ≡ known →
-      elim shape [ None ↦ fields | Some s ↦ slice_set fields n (field_bytes s value) ] ≡ fields
+        elim shape [ None ↦ fields | Some s ↦ slice_set fields n (field_bytes s value) ] ≡ fields
     go None e = refl
     go (Some s) e = absurd (none (sym e))
 
 -- the header of a take and that of the same take with a field set
 module _ (p : Parts) (tag : ℕ) (value : List ℕ) (old new : Heading) (data_len : ℕ)
-  (known : is_some (shape_of tag) ≡ true) (was : old.bext.now ≡ p.fields)
-  (set : new.bext.now ≡ with_field p.fields tag value) (format : new.format ≡ old.format)
-  (history : new.history.now ≡ old.history.now) (limit : new.limit ≡ old.limit) where
+    (known : is_some (shape_of tag) ≡ true) (was : old.bext.now ≡ p.fields)
+    (set : new.bext.now ≡ with_field p.fields tag value) (format : new.format ≡ old.format)
+    (history : new.history.now ≡ old.history.now) (limit : new.limit ≡ old.limit) where
   abbrev before : List ℕ
   before = header_of old data_len 0
 
@@ -60,11 +60,11 @@ module _ (p : Parts) (tag : ℕ) (value : List ℕ) (old new : Heading) (data_le
   after = header_of new data_len 0
 
   old_bytes : (t : ℕ) (at : ℕ × ℕ) → range_of t ≡ Some at →
-    slice_range before at.0 (at.0 + at.1) ≡ bytes_of t old.bext.now
+      slice_range before at.0 (at.0 + at.1) ≡ bytes_of t old.bext.now
   old_bytes t at e = (range_stands t at e).bytes old.format old.bext.now old.history.now data_len 0 old.limit old.widths
 
   new_bytes : (t : ℕ) (at : ℕ × ℕ) → range_of t ≡ Some at →
-    slice_range after at.0 (at.0 + at.1) ≡ bytes_of t new.bext.now
+      slice_range after at.0 (at.0 + at.1) ≡ bytes_of t new.bext.now
   new_bytes t at e = (range_stands t at e).bytes new.format new.bext.now new.history.now data_len 0 new.limit new.widths
 
   fields : new.bext.now ≡ with_field old.bext.now tag value
@@ -72,37 +72,37 @@ module _ (p : Parts) (tag : ℕ) (value : List ℕ) (old new : Heading) (data_le
 
   -- all but the field's bytes are the same
   around : (at : ℕ × ℕ) → range_of tag ≡ Some at →
-    after ≡ take at.0 before ++ slice_range after at.0 (at.0 + at.1) ++ drop (at.0 + at.1) before
+      after ≡ take at.0 before ++ slice_range after at.0 (at.0 + at.1) ++ drop (at.0 + at.1) before
   around at e =
       let head : List (List ℕ) → List ℕ = λ fs. header old.format fs old.history.now data_len 0 old.limit in
       let is : after ≡ head new.bext.now = rw (format, history, limit) refl in
       is
       ∙ ap head fields
       ∙ (range_stands tag at e).others old.format old.bext.now value old.history.now data_len 0 old.limit old.widths
-        (subst AreFields fields new.widths)
+      (subst AreFields fields new.widths)
       ∙ ap (λ (m : List ℕ). take at.0 before ++ m ++ drop (at.0 + at.1) before)
-        (ap (bytes_of tag) (sym fields) ∙ sym (new_bytes tag at e))
+      (ap (bytes_of tag) (sym fields) ∙ sym (new_bytes tag at e))
 
   -- the field of an earlier tag, which has its own bytes or those of this one
   earlier : (range : ℕ × ℕ) → range_of tag ≡ Some range → (other : ℕ) (at : ℕ × ℕ) → other ≤ tag →
-    range_of other ≡ Some at → (at ≡ range) ⊎ IsSameIn at before after
+      range_of other ≡ Some at → (at ≡ range) ⊎ IsSameIn at before after
   earlier range is zero at low e = cc
   earlier range is (suc n) at low e = go (cases_order (suc n) tag) (cases_order n 7)
     where
       go : (suc n ≡ tag) ⊎ ((suc n < tag) ⊎ (tag < suc n)) → (n ≡ 7) ⊎ ((n < 7) ⊎ (7 < n)) →
-        (at ≡ range) ⊎ IsSameIn at before after
+          (at ≡ range) ⊎ IsSameIn at before after
       go (inl same) any = let both : Some at ≡ Some range = sym e ∙ ap range_of same ∙ is in inl (cc)
       go (inr (inl less)) (inr (inl text)) =
           let small : nat_le (suc n) 7 ≡ true = grind arith in
           let one : (fs : List (List ℕ)) → bytes_of (suc n) fs ≡ get_or fs (suc n - 1) [] = λ fs. rw small refl in
           inr (old_bytes (suc n) at e ∙ one old.bext.now
-            ∙ sym (ap (λ (fs : List (List ℕ)). get_or fs (suc n - 1) []) fields
-            ∙ keeps_earlier old.bext.now tag (suc n) value (omega arith) less) ∙ sym (one new.bext.now)
-            ∙ sym (new_bytes (suc n) at e))
+          ∙ sym (ap (λ (fs : List (List ℕ)). get_or fs (suc n - 1) []) fields
+          ∙ keeps_earlier old.bext.now tag (suc n) value (omega arith) less) ∙ sym (one new.bext.now)
+          ∙ sym (new_bytes (suc n) at e))
       go (inr (inl less)) (inl loud) =
-        inl (range_shared (suc n) at e (omega arith) ∙ sym (range_shared tag range is (omega arith)))
+          inl (range_shared (suc n) at e (omega arith) ∙ sym (range_shared tag range is (omega arith)))
       go (inr (inl less)) (inr (inr loud)) =
-        inl (range_shared (suc n) at e (omega arith) ∙ sym (range_shared tag range is (omega arith)))
+          inl (range_shared (suc n) at e (omega arith) ∙ sym (range_shared tag range is (omega arith)))
       go (inr (inr more)) any = absurd (omega arith)
 
   pub sets_field : SetsField tag before after

@@ -10,21 +10,21 @@ use Rattle.bw_file.specs.Calls.{StoreCall, Gets, GetsFirst}
 use Rattle.bw_file.specs.Plans.{set_plan, range_plan, retouch_plan}
 use Rattle.bw_file.specs.Growing.{Growing}
 use Rattle.bw_file.specs.OneField.{SetsField}
-use Rattle.bw_file.specs.Headings.{header_of, place_of}
-use Rattle.bw_file.specs.declared.heading.Heading.{Heading}
+use Rattle.bw_layout.specs.Headings.{header_of, place_of}
+use Rattle.bw_layout.specs.declared.heading.Heading.{Heading}
 use Rattle.bw_file.proofs.Asked.{gets_at_most, first_at_most}
 use Rattle.bw_file.proofs.SetFields.{sets_field, sets_none, same_header, same_bytes}
 
 -- bytes that are the same where others are ask the same
 as_alike : (is_clean : Bool) (name : List ℕ) (place tag : ℕ) (before after old new : List ℕ) →
-  bytes_eq before after ≡ bytes_eq old new →
-  set_plan is_clean name place tag before after ≡ set_plan is_clean name place tag old new
+    bytes_eq before after ≡ bytes_eq old new →
+    set_plan is_clean name place tag before after ≡ set_plan is_clean name place tag old new
 as_alike true name place tag before after old new e = ap (λ (b : Bool). cond b [] (range_plan name (range_of tag))) e
 as_alike false name place tag before after old new e = refl
 
 -- where nothing changes, the tag doesn't matter
 as_same : (is_clean : Bool) (name : List ℕ) (place first tag : ℕ) (before after old new : List ℕ) → before ≡ after →
-  old ≡ new → set_plan is_clean name place first before after ≡ set_plan is_clean name place tag old new
+    old ≡ new → set_plan is_clean name place first before after ≡ set_plan is_clean name place tag old new
 as_same true name place first tag before after old new same e =
     ap (λ (b : Bool). cond b [] (range_plan name (range_of first))) ((bytes_eq-Decides before after).1 same)
     ∙ sym (ap (λ (b : Bool). cond b [] (range_plan name (range_of tag))) ((bytes_eq-Decides old new).1 e))
@@ -32,7 +32,7 @@ as_same false name place first tag before after old new same e = refl
 
 -- it is one call at most
 length-set_plan : (is_clean : Bool) (name : List ℕ) (place tag : ℕ) (before after : List ℕ) →
-  length (set_plan is_clean name place tag before after) ≤ 1
+    length (set_plan is_clean name place tag before after) ≤ 1
 length-set_plan true name place tag before after = go (bytes_eq before after) (range_of tag)
   where
     go : (same : Bool) (range : Option (ℕ × ℕ)) → length (cond same [] (range_plan name range)) ≤ 1
@@ -42,8 +42,8 @@ length-set_plan true name place tag before after = go (bytes_eq before after) (r
 length-set_plan false name place tag before after = omega arith
 
 module _ (g : Growing) (p : Parts) (old new : Heading) (data_len : ℕ) (was : old.bext.now ≡ p.fields)
-  (told : old.history.now ≡ p.history) (format : new.format ≡ old.format) (history : new.history.now ≡ old.history.now)
-  (limit : new.limit ≡ old.limit) where
+    (told : old.history.now ≡ p.history) (format : new.format ≡ old.format) (history : new.history.now ≡ old.history.now)
+    (limit : new.limit ≡ old.limit) where
   abbrev before : List ℕ
   before = header_of old data_len 0
 
@@ -58,11 +58,11 @@ module _ (g : Growing) (p : Parts) (old new : Heading) (data_len : ℕ) (was : o
 
   -- what holds of the calls by the headers holds of the plan
   planned : (Q : List StoreCall → Type 0) (first tag : ℕ) (value : List ℕ) (fields : List (List ℕ)) →
-    new.bext.now ≡ fields → SetsField first before after → fields ≡ with_field p.fields tag value →
-    ((t : ℕ) → SetsField t before after → Q (set_plan (not g.dirty) g.name (place_of old) t before after)) →
-    Q (retouch_plan g p fields tag)
+      new.bext.now ≡ fields → SetsField first before after → fields ≡ with_field p.fields tag value →
+      ((t : ℕ) → SetsField t before after → Q (set_plan (not g.dirty) g.name (place_of old) t before after)) →
+      Q (retouch_plan g p fields tag)
   planned Q first tag value fields is sets set asks =
-    subst (λ (fs : List (List ℕ)). Q (retouch_plan g p fs tag)) is (go (is_some (shape_of tag)) refl)
+      subst (λ (fs : List (List ℕ)). Q (retouch_plan g p fs tag)) is (go (is_some (shape_of tag)) refl)
     where
       sets_tag : new.bext.now ≡ with_field p.fields tag value
       sets_tag = is ∙ set
@@ -70,40 +70,40 @@ module _ (g : Growing) (p : Parts) (old new : Heading) (data_len : ℕ) (was : o
       go : (known : Bool) → is_some (shape_of tag) ≡ known → Q (retouch_plan g p new.bext.now tag)
       go true known =
           let decides = same_from_decides (bytes_eq before after)
-              (bytes_eq (bytes_of tag p.fields) (bytes_of tag new.bext.now)) (bytes_eq-Decides before after)
+          (bytes_eq (bytes_of tag p.fields) (bytes_of tag new.bext.now)) (bytes_eq-Decides before after)
           (Decides-like (bytes_eq (bytes_of tag p.fields) (bytes_of tag new.bext.now))
-            (same_header p tag value old new data_len known was sets_tag format history limit)
-            (same_bytes p tag value old new data_len known was sets_tag format history limit)
-            (bytes_eq-Decides (bytes_of tag p.fields) (bytes_of tag new.bext.now))) in
+          (same_header p tag value old new data_len known was sets_tag format history limit)
+          (same_bytes p tag value old new data_len known was sets_tag format history limit)
+          (bytes_eq-Decides (bytes_of tag p.fields) (bytes_of tag new.bext.now))) in
           subst Q (as_alike (not g.dirty) g.name (place_of old) tag before after (bytes_of tag p.fields)
-            (bytes_of tag new.bext.now) decides ∙ to_plan tag)
-            (asks tag (sets_field p tag value old new data_len known was sets_tag format history limit))
+          (bytes_of tag new.bext.now) decides ∙ to_plan tag)
+          (asks tag (sets_field p tag value old new data_len known was sets_tag format history limit))
       go false known =
           let same : new.bext.now ≡ p.fields = sets_tag ∙ sets_none p.fields tag value false known (λ e. cc) in
           let headers : before ≡ after = sym (rw (format, history, limit, same, sym was) refl) in
           subst Q (as_same (not g.dirty) g.name (place_of old) first tag before after (bytes_of tag p.fields)
-            (bytes_of tag new.bext.now) headers (ap (bytes_of tag) (sym same)) ∙ to_plan tag) (asks first sets)
+          (bytes_of tag new.bext.now) headers (ap (bytes_of tag) (sym same)) ∙ to_plan tag) (asks first sets)
 
   abbrev asked : ℕ → List StoreCall
   asked t = set_plan (not g.dirty) g.name (place_of old) t before after
 
   module _ (first : ℕ) (sets : SetsField first before after) {a b : ℕ} {x y : Option (List StoreCall)} where
     pub gets_planned : (tag : ℕ) (value : List ℕ) (fields : List (List ℕ)) → new.bext.now ≡ fields →
-      fields ≡ with_field p.fields tag value → ((t : ℕ) → SetsField t before after → Gets (asked t) a b x y) →
-      Gets (retouch_plan g p fields tag) a b x y
+        fields ≡ with_field p.fields tag value → ((t : ℕ) → SetsField t before after → Gets (asked t) a b x y) →
+        Gets (retouch_plan g p fields tag) a b x y
     gets_planned tag value fields is set gets =
-      planned (λ (l : List StoreCall). Gets l a b x y) first tag value fields is sets set gets
+        planned (λ (l : List StoreCall). Gets l a b x y) first tag value fields is sets set gets
 
     pub first_planned : (tag : ℕ) (value : List ℕ) (fields : List (List ℕ)) → new.bext.now ≡ fields →
-      fields ≡ with_field p.fields tag value → ((t : ℕ) → SetsField t before after → GetsFirst (asked t) a b x y) →
-      GetsFirst (retouch_plan g p fields tag) a b x y
+        fields ≡ with_field p.fields tag value → ((t : ℕ) → SetsField t before after → GetsFirst (asked t) a b x y) →
+        GetsFirst (retouch_plan g p fields tag) a b x y
     first_planned tag value fields is set gets =
-      planned (λ (l : List StoreCall). GetsFirst l a b x y) first tag value fields is sets set gets
+        planned (λ (l : List StoreCall). GetsFirst l a b x y) first tag value fields is sets set gets
 
     pub gets_few : ((t : ℕ) → SetsField t before after → Gets (asked t) a b x y) → b ≤ a + 1
     gets_few gets = gets_at_most 1 (length-set_plan (not g.dirty) g.name (place_of old) first before after)
-      (gets first sets)
+        (gets first sets)
 
     pub first_few : ((t : ℕ) → SetsField t before after → GetsFirst (asked t) a b x y) → b ≤ a + 1
     first_few gets = first_at_most 1 (length-set_plan (not g.dirty) g.name (place_of old) first before after)
-      (gets first sets)
+        (gets first sets)

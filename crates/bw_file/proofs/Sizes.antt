@@ -14,7 +14,7 @@ use Rattle.bw_file.proofs.Puts.{put_over}
 
 -- longer data have no smaller form size
 pub form_grows : (history_len before after : ℕ) → before ≤ after →
-  form_size history_len before 0 ≤ form_size history_len after 0
+    form_size history_len before 0 ≤ form_size history_len after 0
 form_grows history_len before after h = grind arith
 
 pub form_cues : (history_len data_len cues : ℕ) → form_size history_len data_len 0 ≤ form_size history_len data_len cues
@@ -43,20 +43,20 @@ module _ (f : Format) (fields : List (List ℕ)) (history : List ℕ) (limit : �
   behind = le64 0 ++ le32 0 ++ middle f fields history ++ head (codes "data") unsaid
 
   riff_joined : (id form wave junk mid data_id data_size : List ℕ) →
-    ((id ++ form) ++ wave ++ junk ++ mid) ++ (data_id ++ data_size)
-    ≡ id ++ (form ++ ((wave ++ junk ++ mid ++ data_id) ++ data_size))
+      ((id ++ form) ++ wave ++ junk ++ mid) ++ (data_id ++ data_size)
+      ≡ id ++ (form ++ ((wave ++ junk ++ mid ++ data_id) ++ data_size))
   riff_joined id form wave junk mid data_id data_size = simp append_assoc
 
   riff_parts : (data_len cues : ℕ) → form_for data_len cues ≤ limit →
-    head_for data_len cues ≡ codes "RIFF" ++ (le32 (form_for data_len cues) ++ (between ++ le32 data_len))
+      head_for data_len cues ≡ codes "RIFF" ++ (le32 (form_for data_len cues) ++ (between ++ le32 data_len))
   unfolding riff_header between
   riff_parts data_len cues small =
       header_riff f fields history data_len cues limit (form_for data_len cues) refl small
       ∙ riff_joined (codes "RIFF") (le32 (form_for data_len cues)) (codes "WAVE") (chunk junk_chunk)
-        (middle f fields history) (codes "data") (le32 data_len)
+      (middle f fields history) (codes "data") (le32 data_len)
 
   bw64_parts : (data_len cues : ℕ) → limit < form_for data_len cues →
-    head_for data_len cues ≡ outer ++ (le64 (form_for data_len cues) ++ (le64 data_len ++ behind))
+      head_for data_len cues ≡ outer ++ (le64 (form_for data_len cues) ++ (le64 data_len ++ behind))
   unfolding bw64_header ds64 outer behind
   bw64_parts data_len cues large = header_bw64 f fields history data_len cues limit (form_for data_len cues) refl large
 
@@ -66,7 +66,7 @@ module _ (f : Format) (fields : List (List ℕ)) (history : List ℕ) (limit : �
 
   -- the data size stands in the last four bytes
   length-between : (data_len cues : ℕ) → AreFields fields → form_for data_len cues ≤ limit →
-    8 + length between ≡ data_place (length history) - 4
+      8 + length between ≡ data_place (length history) - 4
   length-between data_len cues h small =
       let parts = ap length (riff_parts data_len cues small) in
       let long = length-append between (le32 data_len) in
@@ -77,62 +77,62 @@ module _ (f : Format) (fields : List (List ℕ)) (history : List ℕ) (limit : �
 
   -- both sizes of a RIFF file
   pub riff_sizes : (before after cues : ℕ) (c0 c1 c2 : Option (List ℕ)) (tail : List ℕ) → AreFields fields →
-    form_for before cues ≤ limit → form_for after cues ≤ limit →
+      form_for before cues ≤ limit → form_for after cues ≤ limit →
       c0 ≡ Some (head_for before cues ++ tail) → Written c0 4 (le32 (form_for after cues)) c1 →
-        Written c1 (data_place (length history) - 4) (le32 after) c2 → c2 ≡ Some (head_for after cues ++ tail)
+      Written c1 (data_place (length history) - 4) (le32 after) c2 → c2 ≡ Some (head_for after cues ++ tail)
   riff_sizes before after cues c0 c1 c2 tail h small_before small_after e w1 w2 =
       let form = le32 (form_for after cues) in
       let first = put_over c0 c1 (codes "RIFF") (le32 (form_for before cues)) ((between ++ le32 before) ++ tail) form 4
-          (e ∙ ap (λ (l : List ℕ). Some (l ++ tail)) (riff_parts before cues small_before)
-          ∙ ap Some (regroup (codes "RIFF") (le32 (form_for before cues)) (between ++ le32 before) tail)) refl refl
-          w1 in
+      (e ∙ ap (λ (l : List ℕ). Some (l ++ tail)) (riff_parts before cues small_before)
+      ∙ ap Some (regroup (codes "RIFF") (le32 (form_for before cues)) (between ++ le32 before) tail)) refl refl
+      w1 in
       let front = codes "RIFF" ++ (form ++ between) in
       let at_data : (data_size : List ℕ) →
-          codes "RIFF" ++ (form ++ ((between ++ data_size) ++ tail)) ≡ front ++ (data_size ++ tail) =
-          λ data_size. simp append_assoc in
+      codes "RIFF" ++ (form ++ ((between ++ data_size) ++ tail)) ≡ front ++ (data_size ++ tail) =
+      λ data_size. simp append_assoc in
       let long : length front ≡ data_place (length history) - 4 =
-          omega (arith, length-between after cues h small_after, length-append form between) in
+      omega (arith, length-between after cues h small_after, length-append form between) in
       put_over c1 c2 front (le32 before) tail (le32 after) (data_place (length history) - 4)
-        (first ∙ ap Some (at_data (le32 before))) long refl w2
+      (first ∙ ap Some (at_data (le32 before))) long refl w2
       ∙ ap Some (sym (at_data (le32 after)) ∙ sym (regroup (codes "RIFF") form (between ++ le32 after) tail)
-        ∙ ap (λ (l : List ℕ). l ++ tail) (sym (riff_parts after cues small_after)))
+      ∙ ap (λ (l : List ℕ). l ++ tail) (sym (riff_parts after cues small_after)))
 
   -- its form size
   pub riff_form : (data_len before after : ℕ) (c0 c1 : Option (List ℕ)) (tail : List ℕ) →
-    form_for data_len before ≤ limit → form_for data_len after ≤ limit →
+      form_for data_len before ≤ limit → form_for data_len after ≤ limit →
       c0 ≡ Some (head_for data_len before ++ tail) → Written c0 4 (le32 (form_for data_len after)) c1 →
-        c1 ≡ Some (head_for data_len after ++ tail)
+      c1 ≡ Some (head_for data_len after ++ tail)
   riff_form data_len before after c0 c1 tail small_before small_after e w =
       let rest = between ++ le32 data_len in
       put_over c0 c1 (codes "RIFF") (le32 (form_for data_len before)) (rest ++ tail) (le32 (form_for data_len after)) 4
-        (e ∙ ap (λ (l : List ℕ). Some (l ++ tail)) (riff_parts data_len before small_before)
-        ∙ ap Some (regroup (codes "RIFF") (le32 (form_for data_len before)) rest tail)) refl refl w
+      (e ∙ ap (λ (l : List ℕ). Some (l ++ tail)) (riff_parts data_len before small_before)
+      ∙ ap Some (regroup (codes "RIFF") (le32 (form_for data_len before)) rest tail)) refl refl w
       ∙ ap Some (sym (regroup (codes "RIFF") (le32 (form_for data_len after)) rest tail)
-        ∙ ap (λ (l : List ℕ). l ++ tail) (sym (riff_parts data_len after small_after)))
+      ∙ ap (λ (l : List ℕ). l ++ tail) (sym (riff_parts data_len after small_after)))
 
   -- both sizes of a BW64 file
   pub bw64_sizes : (before after cues : ℕ) (c0 c1 : Option (List ℕ)) (tail : List ℕ) → limit < form_for before cues →
-    limit < form_for after cues →
+      limit < form_for after cues →
       c0 ≡ Some (head_for before cues ++ tail) → Written c0 20 (le64 (form_for after cues) ++ le64 after) c1 →
-        c1 ≡ Some (head_for after cues ++ tail)
+      c1 ≡ Some (head_for after cues ++ tail)
   bw64_sizes before after cues c0 c1 tail large_before large_after e w =
       let sizes : ℕ → List ℕ = λ d. le64 (form_for d cues) ++ le64 d in
       let joined : (d : ℕ) → outer ++ (sizes d ++ (behind ++ tail))
-          ≡ (outer ++ (le64 (form_for d cues) ++ (le64 d ++ behind))) ++ tail = λ d. simp append_assoc in
+      ≡ (outer ++ (le64 (form_for d cues) ++ (le64 d ++ behind))) ++ tail = λ d. simp append_assoc in
       put_over c0 c1 outer (sizes before) (behind ++ tail) (sizes after) 20
-        (e ∙ ap (λ (l : List ℕ). Some (l ++ tail)) (bw64_parts before cues large_before)
-        ∙ ap Some (sym (joined before))) length-outer refl w
+      (e ∙ ap (λ (l : List ℕ). Some (l ++ tail)) (bw64_parts before cues large_before)
+      ∙ ap Some (sym (joined before))) length-outer refl w
       ∙ ap Some (joined after ∙ ap (λ (l : List ℕ). l ++ tail) (sym (bw64_parts after cues large_after)))
 
   -- its form size
   pub bw64_form : (data_len before after : ℕ) (c0 c1 : Option (List ℕ)) (tail : List ℕ) →
-    limit < form_for data_len before → limit < form_for data_len after →
+      limit < form_for data_len before → limit < form_for data_len after →
       c0 ≡ Some (head_for data_len before ++ tail) → Written c0 20 (le64 (form_for data_len after)) c1 →
-        c1 ≡ Some (head_for data_len after ++ tail)
+      c1 ≡ Some (head_for data_len after ++ tail)
   bw64_form data_len before after c0 c1 tail large_before large_after e w =
       let rest = le64 data_len ++ behind in
       put_over c0 c1 outer (le64 (form_for data_len before)) (rest ++ tail) (le64 (form_for data_len after)) 20
-        (e ∙ ap (λ (l : List ℕ). Some (l ++ tail)) (bw64_parts data_len before large_before)
-        ∙ ap Some (regroup outer (le64 (form_for data_len before)) rest tail)) length-outer refl w
+      (e ∙ ap (λ (l : List ℕ). Some (l ++ tail)) (bw64_parts data_len before large_before)
+      ∙ ap Some (regroup outer (le64 (form_for data_len before)) rest tail)) length-outer refl w
       ∙ ap Some (sym (regroup outer (le64 (form_for data_len after)) rest tail)
-        ∙ ap (λ (l : List ℕ). l ++ tail) (sym (bw64_parts data_len after large_after)))
+      ∙ ap (λ (l : List ℕ). l ++ tail) (sym (bw64_parts data_len after large_after)))

@@ -5,7 +5,7 @@ use Rattle.bw_file.specs.Stores.{overwritten, Torn}
 
 -- a whole write, and one of fewer bytes, are such
 pub overwritten_torn : (old bytes : List ℕ) (place n : ℕ) → length bytes ≤ n →
-  Torn old place n (overwritten old place bytes)
+    Torn old place n (overwritten old place bytes)
 overwritten_torn old bytes place n h =
     record {
       no_shorter = grind (arith, places);
@@ -16,7 +16,7 @@ overwritten_torn old bytes place n h =
 
 -- torn in a wider range
 pub torn_wider : (old new : List ℕ) (place n first m : ℕ) → first ≤ place → place + n ≤ first + m →
-  Torn old place n new → Torn old first m new
+    Torn old place n new → Torn old first m new
 torn_wider old new place n first m low high torn =
     let no_shorter = torn.no_shorter in
     let no_longer = torn.no_longer in
@@ -29,7 +29,7 @@ torn_wider old new place n first m low high torn =
 
 -- torn twice in one range
 pub torn_torn : (old middle new : List ℕ) (place n : ℕ) → Torn old place n middle → Torn middle place n new →
-  Torn old place n new
+    Torn old place n new
 torn_torn old middle new place n first second =
     let a = first.no_shorter in
     let b = first.no_longer in

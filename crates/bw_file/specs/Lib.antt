@@ -6,7 +6,6 @@ pub mod MemoryDisks
 pub mod Fuses
 pub mod Growing
 pub mod Headers
-pub mod Headings
 pub mod Plans
 pub mod OneField
 pub mod RowsOfCalls

@@ -1,7 +1,6 @@
 -- What the calls of a store leave.
 use Rattle.std.specs.Prelude.{◌≡◌, ◌≢◌, ℕ, ◌+◌, ◌-◌, ◌<◌, ◌≤◌, min, max, List, [], ◌∷◌, ◌++◌}
-use Rattle.std.specs.Prelude.{length, take, drop, slice_index, Option, Some, None, IsSome, Bool}
-use Rattle.std.specs.Prelude.{IsTrue, IsFalse}
+use Rattle.std.specs.Prelude.{length, take, drop, slice_index, Option, Some, None, IsSome}
 use Rattle.bw_model.specs.Bytes.{zeros}
 pub use Rattle.bw_model.specs.Counts.{Counts, last_count}
 use Rattle.bw_file.specs.declared.store.Created.{Created}

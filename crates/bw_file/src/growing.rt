@@ -1,18 +1,18 @@
 //! The file of a take, which grows with it.
-ghost use Rattle.std.specs.Prelude.{◌≡◌, ◌≤◌, ◌+◌, ◌^◌, ◌*◌, ℕ, List, [], IsSome, IsTrue, IsFalse, IfOk, OnOk, OnErr, is_err, length, true, false};
+ghost use Rattle.std.specs.Prelude.{◌≡◌, ◌≤◌, ◌+◌, ◌^◌, ◌*◌, ℕ, List, [], Some, IsSome, IsTrue, IsFalse, IfOk, OnOk, OnErr, is_err, length, true, false};
+ghost use Rattle.bw_model.specs.Limits.{largest};
 ghost use Rattle.bw_model.specs.Take.{Take, Stored, Open, Block, SetField, Close, judge, parts, frames, with_field};
 ghost use Rattle.bw_model.specs.Wire.{is_request};
 ghost use Rattle.bw_file.specs.StoreSteps.{Shared, WasAsked, WasAskedFirst};
 ghost use Rattle.bw_file.specs.Plans.{name_plan, begin_plan, append_plan, retouch_plan, close_plan};
 ghost use Rattle.bw_file.specs.Growing.{Growing, Stores, Sets, BeginsFile, AsksForName, IsFresh, is_new};
 
-use crate::heading::Heading;
-use crate::room::Room;
+use crate::buffer::Buffer;
 use crate::store::{Created, StoreFault, TakeStore};
 use crate::writes::{
     put_closed_header, put_cues, put_grown_header, put_header, put_retouched_header, put_samples,
 };
-use bw_layout::{Bext, Fmt, Limit};
+use bw_layout::{Bext, Fmt, Heading, Limit};
 use bw_take::{Name, TakeState};
 use std::alloc::{AllocError, Global};
 use std::marker::Model;
@@ -20,7 +20,7 @@ use std::marker::Model;
 /// The file of one take, which is whole after each call that succeeds.
 ///
 /// After a call that failed the file is dirty, and the same call may be tried again: it writes the
-/// whole header then, and else what changed in it. The room in which a header is built is there
+/// whole header then, and else what changed in it. The memory in which a header is built is there
 /// from the start.
 #[derive(Drop)]
 pub struct GrowingFile {
@@ -28,7 +28,7 @@ pub struct GrowingFile {
     limit: Limit,
     made: bool,
     dirty: bool,
-    room: Room,
+    buffer: Buffer,
 }
 
 impl Model for GrowingFile {
@@ -43,7 +43,7 @@ impl GrowingFile {
     /// The file of a take that isn't opened: nothing stands in a store yet.
     ///
     /// # Errors
-    /// `AllocError` where the room was refused.
+    /// `AllocError` where memory was refused.
     pub fn new(alloc: Global, name: Name, limit: Limit) -> Result<GrowingFile, AllocError>
         ensures { IfOk result
             (λ f. f ≡ record { name = name; limit = limit; made = false; dirty = false }) }
@@ -53,7 +53,7 @@ impl GrowingFile {
             limit,
             made: false,
             dirty: false,
-            room: Room::new(alloc)?,
+            buffer: Buffer::new(alloc)?,
         })
     }
 
@@ -61,7 +61,7 @@ impl GrowingFile {
     /// on from a journal.
     ///
     /// # Errors
-    /// `AllocError` where the room was refused.
+    /// `AllocError` where memory was refused.
     pub fn resume(alloc: Global, name: Name, limit: Limit) -> Result<GrowingFile, AllocError>
         ensures { IfOk result
             (λ f. f ≡ record { name = name; limit = limit; made = true; dirty = false }) }
@@ -71,7 +71,7 @@ impl GrowingFile {
             limit,
             made: true,
             dirty: false,
-            room: Room::new(alloc)?,
+            buffer: Buffer::new(alloc)?,
         })
     }
 
@@ -133,16 +133,11 @@ impl GrowingFile {
                 return Ok(Created::Exists);
             }
         }
-        let heading = Heading {
-            format,
-            bext: state.bext(),
-            history,
-            limit: self.limit,
-        };
+        let heading = Heading::new(format, state.bext(), history, self.limit);
         put_header(
             store,
             &self.name,
-            &mut self.room,
+            &mut self.buffer,
             &heading,
             state.data_len(),
             0,
@@ -163,7 +158,7 @@ impl GrowingFile {
     ) -> Result<(), StoreFault>
         requires fits { IsTrue (is_request (Block samples.now)) }
         requires stored { judge state.now.parts (Block samples.now) ≡ Stored }
-        requires samples { state.now.parts.samples_len + length samples.now ≤ 2 ^ 62 }
+        requires samples { state.now.parts.samples_len + length samples.now ≤ largest }
         ensures known { self.new ≡ record self.old { dirty = is_err result } }
         ensures shared { Shared S.TakeStore (is_err result) self.old.name store.old store.new }
         ensures calls { S.calls store.new ≤ S.calls store.old + 4 }
@@ -177,7 +172,7 @@ impl GrowingFile {
     {
         let is_clean = !self.dirty;
         self.dirty = true;
-        let heading = Heading::of(state, self.limit);
+        let heading = heading_of(state, self.limit);
         let before = state.data_len();
         let after = before + samples.len() as u64;
         put_samples(store, &self.name, heading.data_place() + before, samples)?;
@@ -185,7 +180,7 @@ impl GrowingFile {
             is_clean,
             store,
             &self.name,
-            &mut self.room,
+            &mut self.buffer,
             &heading,
             before,
             after,
@@ -223,13 +218,13 @@ impl GrowingFile {
     {
         let is_clean = !self.dirty;
         self.dirty = true;
-        let heading = Heading::of(state, self.limit);
+        let heading = heading_of(state, self.limit);
         let retouched = heading.with_bext(bext);
         put_retouched_header(
             is_clean,
             store,
             &self.name,
-            &mut self.room,
+            &mut self.buffer,
             &heading,
             &retouched,
             state.data_len(),
@@ -261,16 +256,16 @@ impl GrowingFile {
     {
         let is_clean = !self.dirty;
         self.dirty = true;
-        let heading = Heading::of(state, self.limit);
+        let heading = heading_of(state, self.limit);
         let data_len = state.data_len();
         let markers = state.markers();
         let end = heading.data_place() + data_len + data_len % 2;
-        put_cues(store, &self.name, &mut self.room, end, markers)?;
+        put_cues(store, &self.name, &mut self.buffer, end, markers)?;
         put_closed_header(
             is_clean,
             store,
             &self.name,
-            &mut self.room,
+            &mut self.buffer,
             &heading,
             data_len,
             markers.len() as u64,
@@ -279,6 +274,22 @@ impl GrowingFile {
         self.dirty = false;
         Ok(())
     }
+}
+
+/// The heading of a take that is open.
+fn heading_of(state: &TakeState, limit: Limit) -> Heading<'_>
+    requires { IsSome state.now.parts.format }
+    ensures format { Some result.format ≡ state.now.parts.format }
+    ensures bext { result.bext.now ≡ state.now.parts.fields }
+    ensures history { result.history.now ≡ state.now.parts.history }
+    ensures limit { result.limit ≡ limit }
+{
+    Heading::new(
+        state.format().unwrap(),
+        state.bext(),
+        state.history(),
+        limit,
+    )
 }
 
 /// Makes the name, unless it is made: `New` where it is then.

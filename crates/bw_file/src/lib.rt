@@ -1,16 +1,15 @@
 //! Stores of takes, and the growing file of a take.
 #![tactic(auto)]
 
+mod buffer;
+mod change;
 mod disk;
-mod field;
 mod folder;
 mod fuse;
 mod growing;
-mod heading;
 mod laws;
 mod memory;
 mod memory_disk;
-mod room;
 mod store;
 mod system;
 mod tally;

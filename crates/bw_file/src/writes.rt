@@ -1,5 +1,6 @@
 //! The writes of a growing file: each leaves what its caller can still repair.
 ghost use Rattle.std.specs.Prelude.{◌≡◌, ◌≤◌, ◌<◌, ◌+◌, ◌*◌, ◌%◌, ◌^◌, ◌++◌, ℕ, IsTrue, OnOk, OnErr, length, is_err, flat_map, not};
+ghost use Rattle.bw_model.specs.Limits.{largest, most_markers};
 ghost use Rattle.bw_model.specs.Layout.{chunk, pad};
 ghost use Rattle.bw_model.specs.File.{cue_chunks};
 ghost use Rattle.bw_file.specs.Stores.{MayTear};
@@ -7,13 +8,12 @@ ghost use Rattle.bw_file.specs.StoreSteps.{Shared, WasAsked, WasAskedFirst};
 ghost use Rattle.bw_file.specs.Plans.{samples_plan, cues_plan, header_plan, sizes_plan, form_plan, grown_plan, closed_plan, field_plan, set_plan};
 ghost use Rattle.bw_file.specs.Headers.{PutsLast, PutsHeader, PutsOver, Updates};
 ghost use Rattle.bw_file.specs.OneField.{SetsField};
-ghost use Rattle.bw_file.specs.Headings.{header_of, place_of, is_riff};
+ghost use Rattle.bw_layout.specs.Headings.{header_of, place_of, fits_riff};
 
-use crate::field::changed_range;
-use crate::heading::Heading;
-use crate::room::Room;
+use crate::buffer::Buffer;
+use crate::change::changed_range;
 use crate::store::{StoreFault, TakeStore};
-use bw_layout::{CuePoint, patch_sizes};
+use bw_layout::{CuePoint, Heading, patch_sizes};
 use bw_take::Name;
 
 /// Puts samples where the data end, and a pad byte where the file's length would be odd.
@@ -47,12 +47,12 @@ pub(crate) fn put_samples<S: TakeStore>(
 pub(crate) fn put_cues<S: TakeStore>(
     store: &mut S,
     name: &Name,
-    room: &mut Room,
+    buffer: &mut Buffer,
     place: u64,
     markers: &[CuePoint],
 ) -> Result<(), StoreFault>
     requires place { place < 2 ^ 63 }
-    requires markers { length markers.now ≤ 1024 }
+    requires markers { length markers.now ≤ most_markers }
     ensures shared { Shared S.TakeStore (is_err result) name.now store.old store.new }
     ensures order { OnOk result (WasAsked S.TakeStore
         (cues_plan name.now place (length markers.now)) store.old store.new) }
@@ -67,8 +67,8 @@ pub(crate) fn put_cues<S: TakeStore>(
     if markers.is_empty() {
         return Ok(());
     }
-    room.build_cues(markers);
-    store.write_at(name, place, room.bytes())?;
+    buffer.build_cues(markers);
+    store.write_at(name, place, buffer.bytes())?;
     Ok(())
 }
 
@@ -76,13 +76,13 @@ pub(crate) fn put_cues<S: TakeStore>(
 pub(crate) fn put_header<S: TakeStore>(
     store: &mut S,
     name: &Name,
-    room: &mut Room,
+    buffer: &mut Buffer,
     heading: &Heading<'_>,
     data_len: u64,
     cues: u64,
 ) -> Result<(), StoreFault>
-    requires samples { data_len ≤ 2 ^ 62 }
-    requires cues { cues ≤ 1024 }
+    requires samples { data_len ≤ largest }
+    requires cues { cues ≤ most_markers }
     ensures shared { Shared S.TakeStore (is_err result) name.now store.old store.new }
     ensures order { OnOk result (WasAsked S.TakeStore
         (header_plan name.now (place_of heading.now)) store.old store.new) }
@@ -97,8 +97,8 @@ pub(crate) fn put_header<S: TakeStore>(
         (PutsLast 0 (header_of heading.now data_len cues)
         (S.contents store.old name.now) (S.contents store.new name.now)) }
 {
-    room.build_header(heading, data_len, cues);
-    store.write_at(name, 0, room.bytes())?;
+    buffer.build_header(heading, data_len, cues);
+    store.write_at(name, 0, buffer.bytes())?;
     Ok(())
 }
 
@@ -109,20 +109,20 @@ pub(crate) fn put_grown_header<S: TakeStore>(
     is_clean: bool,
     store: &mut S,
     name: &Name,
-    room: &mut Room,
+    buffer: &mut Buffer,
     heading: &Heading<'_>,
     before: u64,
     after: u64,
 ) -> Result<(), StoreFault>
     requires grows { before ≤ after }
-    requires samples { after ≤ 2 ^ 62 }
+    requires samples { after ≤ largest }
     ensures shared { Shared S.TakeStore (is_err result) name.now store.old store.new }
     ensures order { OnOk result (WasAsked S.TakeStore
         (grown_plan is_clean name.now (place_of heading.now)
-        (is_riff heading.now before 0) (is_riff heading.now after 0)) store.old store.new) }
+        (fits_riff heading.now before 0) (fits_riff heading.now after 0)) store.old store.new) }
     ensures begun { OnErr result (WasAskedFirst S.TakeStore
         (grown_plan is_clean name.now (place_of heading.now)
-        (is_riff heading.now before 0) (is_riff heading.now after 0)) store.old store.new) }
+        (fits_riff heading.now before 0) (fits_riff heading.now after 0)) store.old store.new) }
     ensures torn { IsTrue (S.honest store.old) → MayTear (S.contents store.old name.now) 0
         (place_of heading.now) (S.contents store.new name.now) }
     ensures put { IsTrue (S.honest store.old) → OnOk result
@@ -133,7 +133,7 @@ pub(crate) fn put_grown_header<S: TakeStore>(
         put_grown_sizes(store, name, heading, before, after)?;
         return Ok(());
     }
-    put_header(store, name, room, heading, after, 0)?;
+    put_header(store, name, buffer, heading, after, 0)?;
     Ok(())
 }
 
@@ -145,15 +145,15 @@ fn put_grown_sizes<S: TakeStore>(
     before: u64,
     after: u64,
 ) -> Result<(), StoreFault>
-    requires kind { is_riff heading.now before 0 ≡ is_riff heading.now after 0 }
+    requires kind { fits_riff heading.now before 0 ≡ fits_riff heading.now after 0 }
     requires grows { before ≤ after }
-    requires samples { after ≤ 2 ^ 62 }
+    requires samples { after ≤ largest }
     ensures shared { Shared S.TakeStore (is_err result) name.now store.old store.new }
     ensures order { OnOk result (WasAsked S.TakeStore
-        (sizes_plan name.now (place_of heading.now) (is_riff heading.now after 0))
+        (sizes_plan name.now (place_of heading.now) (fits_riff heading.now after 0))
         store.old store.new) }
     ensures begun { OnErr result (WasAskedFirst S.TakeStore
-        (sizes_plan name.now (place_of heading.now) (is_riff heading.now after 0))
+        (sizes_plan name.now (place_of heading.now) (fits_riff heading.now after 0))
         store.old store.new) }
     ensures torn { IsTrue (S.honest store.old) → MayTear (S.contents store.old name.now) 0
         (place_of heading.now) (S.contents store.new name.now) }
@@ -182,21 +182,21 @@ pub(crate) fn put_closed_header<S: TakeStore>(
     is_clean: bool,
     store: &mut S,
     name: &Name,
-    room: &mut Room,
+    buffer: &mut Buffer,
     heading: &Heading<'_>,
     data_len: u64,
     cues: u64,
 ) -> Result<(), StoreFault>
-    requires samples { data_len ≤ 2 ^ 62 }
-    requires cues { cues ≤ 1024 }
+    requires samples { data_len ≤ largest }
+    requires cues { cues ≤ most_markers }
     ensures shared { Shared S.TakeStore (is_err result) name.now store.old store.new }
     ensures order { OnOk result (WasAsked S.TakeStore
         (closed_plan is_clean name.now (place_of heading.now)
-        (is_riff heading.now data_len 0) (is_riff heading.now data_len cues) cues)
+        (fits_riff heading.now data_len 0) (fits_riff heading.now data_len cues) cues)
         store.old store.new) }
     ensures begun { OnErr result (WasAskedFirst S.TakeStore
         (closed_plan is_clean name.now (place_of heading.now)
-        (is_riff heading.now data_len 0) (is_riff heading.now data_len cues) cues)
+        (fits_riff heading.now data_len 0) (fits_riff heading.now data_len cues) cues)
         store.old store.new) }
     ensures torn { IsTrue (S.honest store.old) → MayTear (S.contents store.old name.now) 0
         (place_of heading.now) (S.contents store.new name.now) }
@@ -208,7 +208,7 @@ pub(crate) fn put_closed_header<S: TakeStore>(
         put_closed_size(store, name, heading, data_len, cues)?;
         return Ok(());
     }
-    put_header(store, name, room, heading, data_len, cues)?;
+    put_header(store, name, buffer, heading, data_len, cues)?;
     Ok(())
 }
 
@@ -220,14 +220,14 @@ fn put_closed_size<S: TakeStore>(
     data_len: u64,
     cues: u64,
 ) -> Result<(), StoreFault>
-    requires kind { is_riff heading.now data_len 0 ≡ is_riff heading.now data_len cues }
-    requires samples { data_len ≤ 2 ^ 62 }
-    requires cues { cues ≤ 1024 }
+    requires kind { fits_riff heading.now data_len 0 ≡ fits_riff heading.now data_len cues }
+    requires samples { data_len ≤ largest }
+    requires cues { cues ≤ most_markers }
     ensures shared { Shared S.TakeStore (is_err result) name.now store.old store.new }
     ensures order { OnOk result (WasAsked S.TakeStore
-        (form_plan name.now cues (is_riff heading.now data_len cues)) store.old store.new) }
+        (form_plan name.now cues (fits_riff heading.now data_len cues)) store.old store.new) }
     ensures begun { OnErr result (WasAskedFirst S.TakeStore
-        (form_plan name.now cues (is_riff heading.now data_len cues)) store.old store.new) }
+        (form_plan name.now cues (fits_riff heading.now data_len cues)) store.old store.new) }
     ensures torn { IsTrue (S.honest store.old) → MayTear (S.contents store.old name.now) 0
         (place_of heading.now) (S.contents store.new name.now) }
     ensures put { IsTrue (S.honest store.old) → OnOk result
@@ -253,13 +253,13 @@ pub(crate) fn put_retouched_header<S: TakeStore>(
     is_clean: bool,
     store: &mut S,
     name: &Name,
-    room: &mut Room,
+    buffer: &mut Buffer,
     heading: &Heading<'_>,
     retouched: &Heading<'_>,
     data_len: u64,
 ) -> Result<(), StoreFault>
     requires place { place_of retouched.now ≡ place_of heading.now }
-    requires samples { data_len ≤ 2 ^ 62 }
+    requires samples { data_len ≤ largest }
     requires field { (tag : ℕ) × SetsField tag
         (header_of heading.now data_len 0) (header_of retouched.now data_len 0) }
     ensures shared { Shared S.TakeStore (is_err result) name.now store.old store.new }
@@ -282,10 +282,10 @@ pub(crate) fn put_retouched_header<S: TakeStore>(
         (S.contents store.old name.now) (S.contents store.new name.now)) }
 {
     if is_clean {
-        put_field(store, name, room, heading, retouched, data_len)?;
+        put_field(store, name, buffer, heading, retouched, data_len)?;
         return Ok(());
     }
-    put_header(store, name, room, retouched, data_len, 0)?;
+    put_header(store, name, buffer, retouched, data_len, 0)?;
     Ok(())
 }
 
@@ -293,13 +293,13 @@ pub(crate) fn put_retouched_header<S: TakeStore>(
 fn put_field<S: TakeStore>(
     store: &mut S,
     name: &Name,
-    room: &mut Room,
+    buffer: &mut Buffer,
     heading: &Heading<'_>,
     retouched: &Heading<'_>,
     data_len: u64,
 ) -> Result<(), StoreFault>
     requires place { place_of retouched.now ≡ place_of heading.now }
-    requires samples { data_len ≤ 2 ^ 62 }
+    requires samples { data_len ≤ largest }
     requires field { (tag : ℕ) × SetsField tag
         (header_of heading.now data_len 0) (header_of retouched.now data_len 0) }
     ensures shared { Shared S.TakeStore (is_err result) name.now store.old store.new }
@@ -321,8 +321,8 @@ fn put_field<S: TakeStore>(
         (Updates (header_of heading.now data_len 0) (header_of retouched.now data_len 0)
         (S.contents store.old name.now) (S.contents store.new name.now)) }
 {
-    room.build_headers(heading, retouched, data_len);
-    let (before, after) = room.bytes().split_at(heading.data_place() as usize);
+    buffer.build_headers(heading, retouched, data_len);
+    let (before, after) = buffer.bytes().split_at(heading.data_place() as usize);
     let Some((place, len)) = changed_range(before, after) else {
         return Ok(());
     };

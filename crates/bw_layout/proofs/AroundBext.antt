@@ -12,7 +12,7 @@ use Rattle.bw_model.proofs.Widths.{length-bext_fixed}
 abbrev pub front : Bool → ℕ → ℕ → Format → ℕ → List ℕ
 front v form data_len f n =
     cond v (head (codes "RIFF") form) (head (codes "BW64") unsaid) ++ codes "WAVE"
-      ++ cond v (chunk junk_chunk) (chunk (ds64_chunk form data_len)) ++ chunk (fmt_chunk f) ++ head (codes "bext") n
+    ++ cond v (chunk junk_chunk) (chunk (ds64_chunk form data_len)) ++ chunk (fmt_chunk f) ++ head (codes "bext") n
 
 abbrev pub rear : Bool → ℕ → List ℕ → ℕ → List ℕ
 rear v data_len history n = history ++ pad n ++ cond v (head (codes "data") data_len) (head (codes "data") unsaid)
@@ -27,18 +27,18 @@ length-front false form data_len f n = refl
 
 regrouped : (outer wave first fmt size fixed history pad data_head : List ℕ) →
     outer ++ wave ++ first ++ (fmt ++ (size ++ ((fixed ++ history) ++ pad))) ++ data_head
-      ≡ (outer ++ wave ++ first ++ fmt ++ size) ++ (fixed ++ (history ++ pad ++ data_head))
+    ≡ (outer ++ wave ++ first ++ fmt ++ size) ++ (fixed ++ (history ++ pad ++ data_head))
 regrouped outer wave first fmt size fixed history pad data_head = simp append_assoc
 
 pub header_around : (f : Format) (fields : List (List ℕ)) (history : List ℕ) (data_len cues limit : ℕ) →
-  AreFields fields →
+    AreFields fields →
     let form = form_size (length history) data_len cues in let n = 602 + length history in
     header f fields history data_len cues limit
-      ≡ around (front (nat_le form limit) form data_len f n) (rear (nat_le form limit) data_len history n) fields
+    ≡ around (front (nat_le form limit) form data_len f n) (rear (nat_le form limit) data_len history n) fields
 unfolding header
 header_around f fields history data_len cues limit h =
     ap whole (length-append (bext_fixed fields) history
-      ∙ ap (λ (k : ℕ). k + length history) (length-bext_fixed fields h)) ∙ go (nat_le form limit)
+    ∙ ap (λ (k : ℕ). k + length history) (length-bext_fixed fields h)) ∙ go (nat_le form limit)
   where
     form : ℕ
     form = form_size (length history) data_len cues
@@ -53,14 +53,14 @@ header_around f fields history data_len cues limit h =
     whole k = cond (nat_le form limit)
         (head (codes "RIFF") form ++ codes "WAVE" ++ chunk junk_chunk ++ middle k ++ head (codes "data") data_len)
         (head (codes "BW64") unsaid ++ codes "WAVE" ++ chunk (ds64_chunk form data_len) ++ middle k
-          ++ head (codes "data") unsaid)
+        ++ head (codes "data") unsaid)
 
     go : (v : Bool) → cond v
         (head (codes "RIFF") form ++ codes "WAVE" ++ chunk junk_chunk ++ middle n ++ head (codes "data") data_len)
         (head (codes "BW64") unsaid ++ codes "WAVE" ++ chunk (ds64_chunk form data_len) ++ middle n
-          ++ head (codes "data") unsaid)
+        ++ head (codes "data") unsaid)
         ≡ around (front v form data_len f n) (rear v data_len history n) fields
     go true = regrouped (head (codes "RIFF") form) (codes "WAVE") (chunk junk_chunk) (chunk (fmt_chunk f))
-      (head (codes "bext") n) (bext_fixed fields) history (pad n) (head (codes "data") data_len)
+        (head (codes "bext") n) (bext_fixed fields) history (pad n) (head (codes "data") data_len)
     go false = regrouped (head (codes "BW64") unsaid) (codes "WAVE") (chunk (ds64_chunk form data_len))
-      (chunk (fmt_chunk f)) (head (codes "bext") n) (bext_fixed fields) history (pad n) (head (codes "data") unsaid)
+        (chunk (fmt_chunk f)) (head (codes "bext") n) (bext_fixed fields) history (pad n) (head (codes "data") unsaid)

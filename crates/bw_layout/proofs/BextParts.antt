@@ -21,8 +21,8 @@ pub record Widths (a b c d e t u : List ℕ) (levels : List (List ℕ)) : Type 0
 
 -- what holds of named fields holds of all
 pub by_name : (P : List (List ℕ) → Type 0) →
-  ((a b c d e t u : List ℕ) (levels : List (List ℕ)) → Widths a b c d e t u levels →
-  P (a ∷ b ∷ c ∷ d ∷ e ∷ t ∷ u ∷ levels)) →
+    ((a b c d e t u : List ℕ) (levels : List (List ℕ)) → Widths a b c d e t u levels →
+    P (a ∷ b ∷ c ∷ d ∷ e ∷ t ∷ u ∷ levels)) →
     (fields : List (List ℕ)) → AreFields fields → P fields
 by_name P named [] h = cc
 by_name P named (a ∷ []) h = cc
@@ -33,8 +33,16 @@ by_name P named (a ∷ b ∷ c ∷ d ∷ e ∷ []) h = cc
 by_name P named (a ∷ b ∷ c ∷ d ∷ e ∷ t ∷ []) h = cc
 by_name P named (a ∷ b ∷ c ∷ d ∷ e ∷ t ∷ u ∷ levels) h =
     named a b c d e t u levels
-      (record { a-width = cc; b-width = cc; c-width = cc; d-width = cc; e-width = cc; t-width = cc; u-width = cc;
-      level-widths = cc })
+    (record {
+      a-width = cc;
+      b-width = cc;
+      c-width = cc;
+      d-width = cc;
+      e-width = cc;
+      t-width = cc;
+      u-width = cc;
+      level-widths = cc;
+    })
 
 -- the fixed part with its ends, cut at each field
 
@@ -42,35 +50,35 @@ abbrev pub fixed : (p a b c d e t v u l z q : List ℕ) → List ℕ
 fixed p a b c d e t v u l z q = p ++ (((a ++ (b ++ (c ++ (d ++ (e ++ (t ++ [])))))) ++ v ++ (u ++ []) ++ l ++ z) ++ q)
 
 pub cut1 : (p a b c d e t v u l z q : List ℕ) →
-  fixed p a b c d e t v u l z q ≡ p ++ (a ++ (b ++ c ++ d ++ e ++ t ++ v ++ u ++ l ++ z ++ q))
+    fixed p a b c d e t v u l z q ≡ p ++ (a ++ (b ++ c ++ d ++ e ++ t ++ v ++ u ++ l ++ z ++ q))
 cut1 p a b c d e t v u l z q = simp (append_assoc, append-nil)
 
 pub cut2 : (p a b c d e t v u l z q : List ℕ) →
-  fixed p a b c d e t v u l z q ≡ (p ++ a) ++ (b ++ (c ++ d ++ e ++ t ++ v ++ u ++ l ++ z ++ q))
+    fixed p a b c d e t v u l z q ≡ (p ++ a) ++ (b ++ (c ++ d ++ e ++ t ++ v ++ u ++ l ++ z ++ q))
 cut2 p a b c d e t v u l z q = simp (append_assoc, append-nil)
 
 pub cut3 : (p a b c d e t v u l z q : List ℕ) →
-  fixed p a b c d e t v u l z q ≡ (p ++ a ++ b) ++ (c ++ (d ++ e ++ t ++ v ++ u ++ l ++ z ++ q))
+    fixed p a b c d e t v u l z q ≡ (p ++ a ++ b) ++ (c ++ (d ++ e ++ t ++ v ++ u ++ l ++ z ++ q))
 cut3 p a b c d e t v u l z q = simp (append_assoc, append-nil)
 
 pub cut4 : (p a b c d e t v u l z q : List ℕ) →
-  fixed p a b c d e t v u l z q ≡ (p ++ a ++ b ++ c) ++ (d ++ (e ++ t ++ v ++ u ++ l ++ z ++ q))
+    fixed p a b c d e t v u l z q ≡ (p ++ a ++ b ++ c) ++ (d ++ (e ++ t ++ v ++ u ++ l ++ z ++ q))
 cut4 p a b c d e t v u l z q = simp (append_assoc, append-nil)
 
 pub cut5 : (p a b c d e t v u l z q : List ℕ) →
-  fixed p a b c d e t v u l z q ≡ (p ++ a ++ b ++ c ++ d) ++ (e ++ (t ++ v ++ u ++ l ++ z ++ q))
+    fixed p a b c d e t v u l z q ≡ (p ++ a ++ b ++ c ++ d) ++ (e ++ (t ++ v ++ u ++ l ++ z ++ q))
 cut5 p a b c d e t v u l z q = simp (append_assoc, append-nil)
 
 pub cut6 : (p a b c d e t v u l z q : List ℕ) →
-  fixed p a b c d e t v u l z q ≡ (p ++ a ++ b ++ c ++ d ++ e) ++ (t ++ (v ++ u ++ l ++ z ++ q))
+    fixed p a b c d e t v u l z q ≡ (p ++ a ++ b ++ c ++ d ++ e) ++ (t ++ (v ++ u ++ l ++ z ++ q))
 cut6 p a b c d e t v u l z q = simp (append_assoc, append-nil)
 
 pub cut7 : (p a b c d e t v u l z q : List ℕ) →
-  fixed p a b c d e t v u l z q ≡ (p ++ a ++ b ++ c ++ d ++ e ++ t ++ v) ++ (u ++ (l ++ z ++ q))
+    fixed p a b c d e t v u l z q ≡ (p ++ a ++ b ++ c ++ d ++ e ++ t ++ v) ++ (u ++ (l ++ z ++ q))
 cut7 p a b c d e t v u l z q = simp (append_assoc, append-nil)
 
 pub cut8 : (p a b c d e t v u l z q : List ℕ) →
-  fixed p a b c d e t v u l z q ≡ (p ++ a ++ b ++ c ++ d ++ e ++ t) ++ ((v ++ u ++ l) ++ (z ++ q))
+    fixed p a b c d e t v u l z q ≡ (p ++ a ++ b ++ c ++ d ++ e ++ t) ++ ((v ++ u ++ l) ++ (z ++ q))
 cut8 p a b c d e t v u l z q = simp (append_assoc, append-nil)
 
 -- what Version and the loudness are, by the five fields of the loudness
@@ -93,11 +101,11 @@ length-version levels = go (version_1 levels)
 length-concat : (xss : List (List ℕ)) → length (concat xss) ≡ sum (map length xss)
 length-concat [] = refl
 length-concat (xs ∷ xss) =
-  length-append xs (concat xss) ∙ ap (λ (n : ℕ). length xs + n) (length-concat xss)
-  ∙ sym (sum_by-cons (λ n. n) (length xs) (map length xss))
+    length-append xs (concat xss) ∙ ap (λ (n : ℕ). length xs + n) (length-concat xss)
+    ∙ sym (sum_by-cons (λ n. n) (length xs) (map length xss))
 
 pub length-loudness : (levels : List (List ℕ)) → map length levels ≡ 2 ∷ 2 ∷ 2 ∷ 2 ∷ 2 ∷ [] →
-  length (loudness levels) ≡ 10
+    length (loudness levels) ≡ 10
 length-loudness levels widths = go (version_1 levels)
   where
     go : (v : Bool) → length (cond v (zeros 10) (concat levels)) ≡ 10
@@ -106,11 +114,11 @@ length-loudness levels widths = go (version_1 levels)
 
 -- the seven fields before the loudness
 pub texts-length : (p a b c d e t u : List ℕ) (levels : List (List ℕ)) → length p ≡ 80 → Widths a b c d e t u levels →
-  length (p ++ a ++ b ++ c ++ d ++ e ++ t) ≡ 426
+    length (p ++ a ++ b ++ c ++ d ++ e ++ t) ≡ 426
 texts-length p a b c d e t u levels p-length w =
     simp length-append (omega (arith, p-length, w.a-width, w.b-width, w.c-width, w.d-width, w.e-width, w.t-width))
 
 pub wide-length : (a b c d e t u : List ℕ) (levels : List (List ℕ)) → Widths a b c d e t u levels →
-  length (version levels ++ u ++ loudness levels) ≡ 76
+    length (version levels ++ u ++ loudness levels) ≡ 76
 wide-length a b c d e t u levels w =
     simp length-append (omega (arith, length-version levels, w.u-width, length-loudness levels w.level-widths))

@@ -19,27 +19,27 @@ record Seams (tag place count : ℕ) (p q : List ℕ) (fields : List (List ℕ))
   count-is : length (bytes_of tag fields) ≡ count
   old : around p q fields ≡ before ++ (bytes_of tag fields ++ behind)
   new : (value : List ℕ) →
-    around p q (with_field fields tag value) ≡ before ++ (bytes_of tag (with_field fields tag value) ++ behind)
+      around p q (with_field fields tag value) ≡ before ++ (bytes_of tag (with_field fields tag value) ++ behind)
 
 -- seams between any ends are enough
 from_seams : (tag place count : ℕ) →
-  ((p q : List ℕ) → length p ≡ 80 → (fields : List (List ℕ)) → AreFields fields → Seams tag place count p q fields) →
-  StandsAt tag place count
+    ((p q : List ℕ) → length p ≡ 80 → (fields : List (List ℕ)) → AreFields fields → Seams tag place count p q fields) →
+    StandsAt tag place count
 from_seams tag place count seams = record {
   bytes = λ f fields history data_len cues limit h.
       let s = seams (p f history data_len cues limit) (q history data_len cues limit)
-          (p-length f history data_len cues limit) fields h in
+      (p-length f history data_len cues limit) fields h in
       ap (λ (l : List ℕ). slice_range l place (place + count))
-        (header_around f fields history data_len cues limit h ∙ s.old)
+      (header_around f fields history data_len cues limit h ∙ s.old)
       ∙ range_at_seam s.before (bytes_of tag fields) s.behind place count s.place-is s.count-is;
   others = λ f fields value history data_len cues limit h h'.
       let s = seams (p f history data_len cues limit) (q history data_len cues limit)
-          (p-length f history data_len cues limit) fields h in
+      (p-length f history data_len cues limit) fields h in
       let y = bytes_of tag (with_field fields tag value) in
       header_around f (with_field fields tag value) history data_len cues limit h' ∙ s.new value
       ∙ changed_at_seam s.before (bytes_of tag fields) y s.behind place count s.place-is s.count-is
       ∙ ap (λ (l : List ℕ). take place l ++ y ++ drop (place + count) l)
-        (sym (header_around f fields history data_len cues limit h ∙ s.old));
+      (sym (header_around f fields history data_len cues limit h ∙ s.old));
 }
   where
     form : List ℕ → ℕ → ℕ → ℕ
@@ -47,16 +47,16 @@ from_seams tag place count seams = record {
 
     p : Format → List ℕ → ℕ → ℕ → ℕ → List ℕ
     p f history data_len cues limit =
-      front (nat_le (form history data_len cues) limit) (form history data_len cues) data_len f (602 + length history)
+        front (nat_le (form history data_len cues) limit) (form history data_len cues) data_len f (602 + length history)
 
     q : List ℕ → ℕ → ℕ → ℕ → List ℕ
     q history data_len cues limit =
-      rear (nat_le (form history data_len cues) limit) data_len history (602 + length history)
+        rear (nat_le (form history data_len cues) limit) data_len history (602 + length history)
 
     p-length : (f : Format) (history : List ℕ) (data_len cues limit : ℕ) → length (p f history data_len cues limit) ≡ 80
     p-length f history data_len cues limit =
-      length-front (nat_le (form history data_len cues) limit) (form history data_len cues) data_len f
-      (602 + length history)
+        length-front (nat_le (form history data_len cues) limit) (form history data_len cues) data_len f
+        (602 + length history)
 
 pub stands_1 : StandsAt 1 80 256
 stands_1 = from_seams 1 80 256 (λ p q p-length. by_name (Seams 1 80 256 p q) (λ a b c d e t u levels w. record {
@@ -96,7 +96,7 @@ stands_4 = from_seams 4 400 10 (λ p q p-length. by_name (Seams 4 400 10 p q) (�
   count-is = w.d-width;
   old = cut4 p a b c d e t (version levels) u (loudness levels) (zeros 180) q;
   new = λ value. cut4 p a b c (field_bytes (Digits (codes "dddd-dd-dd")) value) e t (version levels) u
-    (loudness levels) (zeros 180) q;
+      (loudness levels) (zeros 180) q;
 }))
 
 pub stands_5 : StandsAt 5 410 8
@@ -107,7 +107,7 @@ stands_5 = from_seams 5 410 8 (λ p q p-length. by_name (Seams 5 410 8 p q) (λ 
   count-is = w.e-width;
   old = cut5 p a b c d e t (version levels) u (loudness levels) (zeros 180) q;
   new = λ value. cut5 p a b c d (field_bytes (Digits (codes "dd:dd:dd")) value) t (version levels) u (loudness levels)
-    (zeros 180) q;
+      (zeros 180) q;
 }))
 
 pub stands_6 : StandsAt 6 418 8
@@ -125,7 +125,7 @@ stands_7 = from_seams 7 428 64 (λ p q p-length. by_name (Seams 7 428 64 p q) (�
   before = p ++ a ++ b ++ c ++ d ++ e ++ t ++ version levels;
   behind = loudness levels ++ zeros 180 ++ q;
   place-is = length-append (p ++ a ++ b ++ c ++ d ++ e ++ t) (version levels)
-    ∙ omega (arith, texts-length p a b c d e t u levels p-length w, length-version levels);
+      ∙ omega (arith, texts-length p a b c d e t u levels p-length w, length-version levels);
   count-is = w.u-width;
   old = cut7 p a b c d e t (version levels) u (loudness levels) (zeros 180) q;
   new = λ value. cut7 p a b c d e t (version levels) (field_bytes (Maybe 64) value) (loudness levels) (zeros 180) q;
@@ -139,8 +139,8 @@ stands_8 = from_seams 8 426 76 (λ p q p-length. by_name (Seams 8 426 76 p q) (�
   count-is = wide-length a b c d e t u levels w;
   old = cut8 p a b c d e t (version levels) u (loudness levels) (zeros 180) q;
   new = λ value. let changed =
-    slice_set levels 0 (field_bytes Level value)
-    in cut8 p a b c d e t (version changed) u (loudness changed) (zeros 180) q;
+      slice_set levels 0 (field_bytes Level value)
+      in cut8 p a b c d e t (version changed) u (loudness changed) (zeros 180) q;
 }))
 
 pub stands_9 : StandsAt 9 426 76
@@ -151,8 +151,8 @@ stands_9 = from_seams 9 426 76 (λ p q p-length. by_name (Seams 9 426 76 p q) (�
   count-is = wide-length a b c d e t u levels w;
   old = cut8 p a b c d e t (version levels) u (loudness levels) (zeros 180) q;
   new = λ value. let changed =
-    slice_set levels 1 (field_bytes Level value)
-    in cut8 p a b c d e t (version changed) u (loudness changed) (zeros 180) q;
+      slice_set levels 1 (field_bytes Level value)
+      in cut8 p a b c d e t (version changed) u (loudness changed) (zeros 180) q;
 }))
 
 pub stands_10 : StandsAt 10 426 76
@@ -163,8 +163,8 @@ stands_10 = from_seams 10 426 76 (λ p q p-length. by_name (Seams 10 426 76 p q)
   count-is = wide-length a b c d e t u levels w;
   old = cut8 p a b c d e t (version levels) u (loudness levels) (zeros 180) q;
   new = λ value. let changed =
-    slice_set levels 2 (field_bytes Level value)
-    in cut8 p a b c d e t (version changed) u (loudness changed) (zeros 180) q;
+      slice_set levels 2 (field_bytes Level value)
+      in cut8 p a b c d e t (version changed) u (loudness changed) (zeros 180) q;
 }))
 
 pub stands_11 : StandsAt 11 426 76
@@ -175,8 +175,8 @@ stands_11 = from_seams 11 426 76 (λ p q p-length. by_name (Seams 11 426 76 p q)
   count-is = wide-length a b c d e t u levels w;
   old = cut8 p a b c d e t (version levels) u (loudness levels) (zeros 180) q;
   new = λ value. let changed =
-    slice_set levels 3 (field_bytes Level value)
-    in cut8 p a b c d e t (version changed) u (loudness changed) (zeros 180) q;
+      slice_set levels 3 (field_bytes Level value)
+      in cut8 p a b c d e t (version changed) u (loudness changed) (zeros 180) q;
 }))
 
 pub stands_12 : StandsAt 12 426 76
@@ -187,8 +187,8 @@ stands_12 = from_seams 12 426 76 (λ p q p-length. by_name (Seams 12 426 76 p q)
   count-is = wide-length a b c d e t u levels w;
   old = cut8 p a b c d e t (version levels) u (loudness levels) (zeros 180) q;
   new = λ value. let changed =
-    slice_set levels 4 (field_bytes Level value)
-    in cut8 p a b c d e t (version changed) u (loudness changed) (zeros 180) q;
+      slice_set levels 4 (field_bytes Level value)
+      in cut8 p a b c d e t (version changed) u (loudness changed) (zeros 180) q;
 }))
 
 -- the five loudness fields share their place

@@ -14,7 +14,7 @@ EachFrom P tag [] = Unit {0}
 EachFrom P tag (at ∷ rest) = P tag at × EachFrom P (suc tag) rest
 
 each_from : (P : ℕ → ℕ × ℕ → Type 0) (tag : ℕ) (ranges : List (ℕ × ℕ)) (n : ℕ) (at : ℕ × ℕ) → EachFrom P tag ranges →
-  slice_get ranges n ≡ Some at → P (tag + n) at
+    slice_get ranges n ≡ Some at → P (tag + n) at
 each_from P tag [] n at all e = cc
 each_from P tag (first ∷ rest) zero at all e =
     let here : tag ≡ tag + zero = omega arith in
@@ -25,7 +25,7 @@ each_from P tag (first ∷ rest) (suc n) at all e =
     subst (λ (t : ℕ). P t at) later (each_from P (suc tag) rest n at all.1 e)
 
 each_range : (P : ℕ → ℕ × ℕ → Type 0) (tag : ℕ) (at : ℕ × ℕ) → EachFrom P 1 field_ranges → range_of tag ≡ Some at →
-  P tag at
+    P tag at
 each_range P zero at all e = cc
 each_range P (suc n) at all e =
     let next : 1 + n ≡ suc n = omega arith in
@@ -113,6 +113,6 @@ range_known (suc n) known =
     (_, slice_get-get_or field_ranges n (0, 0) low)
   where
     some_within : {X : Type 0} (xs : List X) (k : ℕ) (found : Option X) → slice_get xs k ≡ found →
-      is_some found ≡ true → k < length xs
+        is_some found ≡ true → k < length xs
     some_within xs k (Some x) is known = slice_get_within xs k x is
     some_within xs k None is known = cc

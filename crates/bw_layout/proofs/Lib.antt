@@ -1,5 +1,6 @@
 pub mod AroundBext
 pub mod BextParts
+pub mod CueChunks
 pub mod FieldPlaces
 pub mod FieldRanges
 pub mod FieldsBack

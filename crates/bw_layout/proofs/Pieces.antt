@@ -7,7 +7,7 @@ use Rattle.bw_layout.specs.Moves.{IsBegun}
 -- n more of the bytes behind the first d of them
 pub append-take-drop : (ys xs : List ℕ) (d n : ℕ) → (ys ++ take d xs) ++ take n (drop d xs) ≡ ys ++ take (d + n) xs
 append-take-drop ys xs d n =
-  append_assoc ys (take d xs) (take n (drop d xs)) ∙ ap (λ (zs : List ℕ). ys ++ zs) (sym (take-add d n xs))
+    append_assoc ys (take d xs) (take n (drop d xs)) ∙ ap (λ (zs : List ℕ). ys ++ zs) (sym (take-add d n xs))
 
 -- the first d of the bytes are a beginning
 pub begun-take : (ys xs : List ℕ) (d : ℕ) (w : Option (List ℕ)) → w ≡ Some (ys ++ take d xs) → IsBegun ys xs w

@@ -24,7 +24,7 @@ heads_read_back (a ∷ b ∷ []) rest size four small = absurd (omega arith)
 heads_read_back (a ∷ b ∷ c ∷ []) rest size four small = absurd (omega arith)
 heads_read_back (a ∷ b ∷ c ∷ d ∷ []) rest size four small =
     ap (λ (n : ℕ). let head : ChunkHead = record { id = a ∷ b ∷ c ∷ d ∷ []; size32 = n } in head)
-      (from_le_bytes-to_le_bytes_4 size small)
+    (from_le_bytes-to_le_bytes_4 size small)
 heads_read_back (a ∷ b ∷ c ∷ d ∷ e ∷ ids) rest size four small = absurd (omega arith)
 
 -- the ranges of a format's numbers
@@ -49,11 +49,11 @@ formats_read_back f rest h =
     let second : f.rate * block_align f < 2 ^ 32 = grind arith in
     same_numbers _ 1 _ f.channels _ f.rate _ (f.rate * block_align f) _ (block_align f) _ f.bits
     refl (from_le_bytes-to_le_bytes_2 f.channels (omega arith)) (from_le_bytes-to_le_bytes_4 f.rate (omega arith))
-      (from_le_bytes-to_le_bytes_4 (f.rate * block_align f) second)
+    (from_le_bytes-to_le_bytes_4 (f.rate * block_align f) second)
     (from_le_bytes-to_le_bytes_2 (block_align f) (omega arith)) (from_le_bytes-to_le_bytes_2 f.bits (omega arith))
 
 entry_read_back : (id rest : List ℕ) (size : ℕ) → length id ≡ 4 → size < 2 ^ 64 →
-  entry_at ((id ++ le64 size) ++ rest) ≡ (id, size)
+    entry_at ((id ++ le64 size) ++ rest) ≡ (id, size)
 entry_read_back [] rest size four small = cc
 entry_read_back (a ∷ []) rest size four small = absurd (omega arith)
 entry_read_back (a ∷ b ∷ []) rest size four small = absurd (omega arith)
@@ -79,27 +79,27 @@ record EntryStep (front id size more : List ℕ) (p : ℕ) (b : List ℕ) : Type
   next-place : length (front ++ (id ++ size)) ≡ p + 12
 
 entry_step : (front id size es rest : List ℕ) (p : ℕ) → length front ≡ p → length id ≡ 4 → length size ≡ 8 →
-  EntryStep front id size (es ++ rest) p (front ++ (((id ++ size) ++ es) ++ rest))
+    EntryStep front id size (es ++ rest) p (front ++ (((id ++ size) ++ es) ++ rest))
 entry_step front id size es rest p place four eight =
     let at-id : front ++ (((id ++ size) ++ es) ++ rest) ≡ front ++ (id ++ (size ++ (es ++ rest))) = simp append_assoc in
     let at-size : front ++ (((id ++ size) ++ es) ++ rest) ≡ (front ++ id) ++ (size ++ (es ++ rest)) =
-        simp append_assoc in
+    simp append_assoc in
     record {
       id-is = ap (λ (b : List ℕ). slice_range b p (p + 4)) at-id
-        ∙ range_at_seam front id (size ++ (es ++ rest)) p 4 place four;
+          ∙ range_at_seam front id (size ++ (es ++ rest)) p 4 place four;
       size-is = ap (λ (b : List ℕ). slice_range b (p + 4) (p + 4 + 8)) at-size
-        ∙ range_at_seam (front ++ id) size (es ++ rest) (p + 4) 8 (length-append front id ∙ omega arith) eight;
+          ∙ range_at_seam (front ++ id) size (es ++ rest) (p + 4) 8 (length-append front id ∙ omega arith) eight;
       next = simp append_assoc;
       next-place = simp length-append (omega arith);
     }
 
 same_entries : (i i' : List ℕ) (n n' : ℕ) (t t' : List (List ℕ × ℕ)) → i ≡ i' → n ≡ n' → t ≡ t' →
-  (let e : List ℕ × ℕ = (i, n) in e ∷ t) ≡ (let e : List ℕ × ℕ = (i', n') in e ∷ t')
+    (let e : List ℕ × ℕ = (i, n) in e ∷ t) ≡ (let e : List ℕ × ℕ = (i', n') in e ∷ t')
 same_entries i i' n n' t t' ie ne te = cc
 
 -- the table behind a front
 table_read_back : (table : List (List ℕ × ℕ)) (front rest : List ℕ) (p : ℕ) → length front ≡ p → All IsEntry table →
-  table_at (front ++ (flat_map entry_bytes table ++ rest)) p (length table) ≡ table
+    table_at (front ++ (flat_map entry_bytes table ++ rest)) p (length table) ≡ table
 table_read_back [] front rest p place entries = refl
 table_read_back (e ∷ es) front rest p place entries =
     let is = All-head IsEntry e es entries in
@@ -107,7 +107,7 @@ table_read_back (e ∷ es) front rest p place entries =
     same_entries _ e.0 _ e.1 _ es
     step.id-is (ap (from_le_bytes w64) step.size-is ∙ from_le_bytes-to_le_bytes_8 e.1 is.size)
     (ap (λ (b : List ℕ). table_at b (p + 12) (length es)) step.next
-      ∙ table_read_back es (front ++ entry_bytes e) rest (p + 12) step.next-place (All-tail IsEntry e es entries))
+    ∙ table_read_back es (front ++ entry_bytes e) rest (p + 12) step.next-place (All-tail IsEntry e es entries))
 
 pub ds64_reads_back : EachDs64ReadsBack
 unfolding ds64_with_table
@@ -115,9 +115,9 @@ ds64_reads_back form data_size table rest form-fits data-fits table-fits entries
     let front = le64 form ++ le64 data_size ++ le64 0 ++ le32 (length table) in
     record {
       fixed = same_fixed _ form _ data_size _ (length table) (from_le_bytes-to_le_bytes_8 form form-fits)
-        (from_le_bytes-to_le_bytes_8 data_size data-fits) (from_le_bytes-to_le_bytes_4 (length table) table-fits);
+          (from_le_bytes-to_le_bytes_8 data_size data-fits) (from_le_bytes-to_le_bytes_4 (length table) table-fits);
       entries = ap (λ (b : List ℕ). table_at b 28 (length table))
-        (append_assoc front (flat_map entry_bytes table) rest) ∙ table_read_back table front rest 28 refl entries;
+          (append_assoc front (flat_map entry_bytes table) rest) ∙ table_read_back table front rest 28 refl entries;
     }
 
 same_cue : (i i' p p' o o' : ℕ) → i ≡ i' → p ≡ p' → o ≡ o' →
@@ -129,7 +129,7 @@ same_cue i i' p p' o o' ie pe oe = cc
 pub cue_points_read_back : CuePointsReadBack
 cue_points_read_back m rest is =
     same_cue _ m.0 _ m.1 _ m.1 (from_le_bytes-to_le_bytes_4 m.0 is.id) (from_le_bytes-to_le_bytes_4 m.1 is.frame)
-      (from_le_bytes-to_le_bytes_4 m.1 is.frame)
+    (from_le_bytes-to_le_bytes_4 m.1 is.frame)
 
 -- a cue point behind a front, of any pieces of four bytes
 record PointStep (front a b c d e f more : List ℕ) (p : ℕ) (bytes : List ℕ) : Type 0 where
@@ -140,7 +140,7 @@ record PointStep (front a b c d e f more : List ℕ) (p : ℕ) (bytes : List ℕ
   next-place : length (front ++ (a ++ b ++ c ++ d ++ e ++ f)) ≡ p + 24
 
 point_step : (front a b c d e f ms rest : List ℕ) (p : ℕ) → length front ≡ p → length a ≡ 4 → length b ≡ 4 →
-  length c ≡ 4 → length d ≡ 4 → length e ≡ 4 → length f ≡ 4 →
+    length c ≡ 4 → length d ≡ 4 → length e ≡ 4 → length f ≡ 4 →
     PointStep front a b c d e f (ms ++ rest) p (front ++ (((a ++ b ++ c ++ d ++ e ++ f) ++ ms) ++ rest))
 point_step front a b c d e f ms rest p place la lb lc ld le lf =
     let bytes = front ++ (((a ++ b ++ c ++ d ++ e ++ f) ++ ms) ++ rest) in
@@ -150,17 +150,17 @@ point_step front a b c d e f ms rest p place la lb lc ld le lf =
     record {
       id-is = ap (λ (x : List ℕ). slice_range x p (p + 4)) at-id ∙ range_at_seam front a _ p 4 place la;
       position-is = ap (λ (x : List ℕ). slice_range x (p + 4) (p + 4 + 4)) at-position
-        ∙ range_at_seam (front ++ a) b _ (p + 4) 4 (length-append front a ∙ omega arith) lb;
+          ∙ range_at_seam (front ++ a) b _ (p + 4) 4 (length-append front a ∙ omega arith) lb;
       offset-is = ap (λ (x : List ℕ). slice_range x (p + 20) (p + 20 + 4)) at-offset
           ∙ range_at_seam (front ++ a ++ b ++ c ++ d ++ e) f (ms ++ rest) (p + 20) 4
-            (simp length-append (omega arith)) lf;
+          (simp length-append (omega arith)) lf;
       next = simp append_assoc;
       next-place = simp length-append (omega arith);
     }
 
 same_cues : (i i' p p' o o' : ℕ) (t t' : List RawCue) → i ≡ i' → p ≡ p' → o ≡ o' → t ≡ t' →
     (let left : RawCue = record { id = i; position = p; offset = o } in left ∷ t)
-      ≡ (let right : RawCue = record { id = i'; position = p'; offset = o' } in right ∷ t')
+    ≡ (let right : RawCue = record { id = i'; position = p'; offset = o' } in right ∷ t')
 same_cues i i' p p' o o' t t' ie pe oe te = cc
 
 number_back : (n : ℕ) (bytes : List ℕ) → n < 2 ^ 32 → bytes ≡ le32 n → from_le_bytes w32 bytes ≡ n
@@ -168,17 +168,17 @@ number_back n bytes fits is = ap (from_le_bytes w32) is ∙ from_le_bytes-to_le_
 
 -- the points behind a front
 points_read_back : (markers : List (ℕ × ℕ)) (front rest : List ℕ) (p : ℕ) → length front ≡ p → All IsMarker markers →
-  raw_cues (front ++ (flat_map cue_point markers ++ rest)) p (length markers) ≡ map told_cue markers
+    raw_cues (front ++ (flat_map cue_point markers ++ rest)) p (length markers) ≡ map told_cue markers
 points_read_back [] front rest p place are = refl
 points_read_back (m ∷ ms) front rest p place are =
     let is = All-head IsMarker m ms are in
     let step = point_step front (le32 m.0) (le32 m.1) (codes "data") (le32 0) (le32 0) (le32 m.1)
-        (flat_map cue_point ms) rest p place refl refl refl refl refl refl in
+    (flat_map cue_point ms) rest p place refl refl refl refl refl refl in
     same_cues _ m.0 _ m.1 _ m.1 _ (map told_cue ms)
     (number_back m.0 _ is.id step.id-is) (number_back m.1 _ is.frame step.position-is)
-      (number_back m.1 _ is.frame step.offset-is)
+    (number_back m.1 _ is.frame step.offset-is)
     (ap (λ (b : List ℕ). raw_cues b (p + 24) (length ms)) step.next
-      ∙ points_read_back ms (front ++ cue_point m) rest (p + 24) step.next-place (All-tail IsMarker m ms are))
+    ∙ points_read_back ms (front ++ cue_point m) rest (p + 24) step.next-place (All-tail IsMarker m ms are))
 
 pub cues_read_back : EachCueChunkReadsBack
 cues_read_back markers rest few are =
@@ -186,5 +186,5 @@ cues_read_back markers rest few are =
     record {
       count = from_le_bytes-to_le_bytes_4 (length markers) few;
       points = ap (λ (b : List ℕ). raw_cues b 4 (length markers))
-        (append_assoc front (flat_map cue_point markers) rest) ∙ points_read_back markers front rest 4 refl are;
+          (append_assoc front (flat_map cue_point markers) rest) ∙ points_read_back markers front rest 4 refl are;
     }

@@ -12,7 +12,7 @@ pub record Gains {Z : Type 0} (bytes : List ℕ) (count : ℕ) (old new : Vec �
 -- These bytes, so many, are appended, or memory was refused and the items stay; where the Vec has
 -- the room it can't be refused.
 pub record Appends {Z : Type 0} (bytes : List ℕ) (count : ℕ)
-  (answer : Result (Unit {0}) AllocError) (old new : Vec ℕ Z) : Type 0 where
+    (answer : Result (Unit {0}) AllocError) (old new : Vec ℕ Z) : Type 0 where
   pub ok : OnOk answer (new.items ≡ old.items ++ bytes)
   pub len : OnOk answer (vec_len new ≡ vec_len old + count)
   pub err : OnErr answer (new.items ≡ old.items)

@@ -37,7 +37,7 @@ fits_place form c = if form == 100 then is_ascii_digit c else form == c
 -- A field of this shape is set: the answer is the value's fault, and without one the field has the
 -- value.
 pub record SetsField (shape : Shape) (value : List ℕ) (answer : Result (Unit {0}) FieldError)
-  (old new : List ℕ) : Type 0 where
+    (old new : List ℕ) : Type 0 where
   pub told : answer ≡ answer_of (shape_fault (Some shape) value)
   pub ok : OnOk answer (new ≡ field_bytes shape value)
   pub err : OnErr answer (new ≡ old)

@@ -17,18 +17,18 @@ ds64 form data_len = chunk (ds64_chunk form data_len)
 unfoldable pub riff_header : Format → List (List ℕ) → List ℕ → ℕ → ℕ → List ℕ
 riff_header f fields history form data_len =
     head (codes "RIFF") form ++ codes "WAVE" ++ chunk junk_chunk ++ middle f fields history
-      ++ head (codes "data") data_len
+    ++ head (codes "data") data_len
 
 -- BW64: both stand in `ds64`
 unfoldable pub bw64_header : Format → List (List ℕ) → List ℕ → ℕ → ℕ → List ℕ
 bw64_header f fields history form data_len =
     head (codes "BW64") unsaid ++ codes "WAVE" ++ ds64 form data_len ++ middle f fields history
-      ++ head (codes "data") unsaid
+    ++ head (codes "data") unsaid
 
 -- a RIFF header between its two sizes
 unfoldable pub riff_middle : Format → List (List ℕ) → List ℕ → List ℕ
 riff_middle f fields history =
-  codes "WAVE" ++ chunk junk_chunk ++ middle f fields history ++ codes "data"
+    codes "WAVE" ++ chunk junk_chunk ++ middle f fields history ++ codes "data"
 
 -- a BW64 header before its two sizes, and behind them
 unfoldable pub bw64_front : List ℕ
@@ -36,32 +36,32 @@ bw64_front = head (codes "BW64") unsaid ++ codes "WAVE" ++ head (codes "ds64") 2
 
 unfoldable pub bw64_rear : Format → List (List ℕ) → List ℕ → List ℕ
 bw64_rear f fields history =
-  le64 0 ++ le32 0 ++ middle f fields history ++ head (codes "data") unsaid
+    le64 0 ++ le32 0 ++ middle f fields history ++ head (codes "data") unsaid
 
 -- In RIFF the form size stands at 4, the data size behind a middle that neither has a say in.
 pub record RiffSizesStand (f : Format) (fields : List (List ℕ)) (history : List ℕ)
-  (data_len cues limit : ℕ) : Type 0 where
+    (data_len cues limit : ℕ) : Type 0 where
   pub whole : header f fields history data_len cues limit
-    ≡ codes "RIFF" ++ le32 (form_size (length history) data_len cues)
-    ++ riff_middle f fields history ++ le32 data_len
+      ≡ codes "RIFF" ++ le32 (form_size (length history) data_len cues)
+      ++ riff_middle f fields history ++ le32 data_len
   pub middle_length : length (riff_middle f fields history) ≡ 678 + even_up (length history)
 
 abbrev pub EachRiffHasItsSizes : Type 0
 EachRiffHasItsSizes =
     (f : Format) (fields : List (List ℕ)) (history : List ℕ) (data_len cues limit : ℕ) →
-      AreFields fields → form_size (length history) data_len cues ≤ limit →
+    AreFields fields → form_size (length history) data_len cues ≤ limit →
     RiffSizesStand f fields history data_len cues limit
 
 -- In BW64 both stand at 20, between a front and a rear that they have no say in.
 pub record Bw64SizesStand (f : Format) (fields : List (List ℕ)) (history : List ℕ)
-  (data_len cues limit : ℕ) : Type 0 where
+    (data_len cues limit : ℕ) : Type 0 where
   pub whole : header f fields history data_len cues limit
-    ≡ bw64_front ++ (le64 (form_size (length history) data_len cues) ++ le64 data_len)
-    ++ bw64_rear f fields history
+      ≡ bw64_front ++ (le64 (form_size (length history) data_len cues) ++ le64 data_len)
+      ++ bw64_rear f fields history
   pub front_length : length bw64_front ≡ 20
 
 abbrev pub EachBw64HasItsSizes : Type 0
 EachBw64HasItsSizes =
     (f : Format) (fields : List (List ℕ)) (history : List ℕ) (data_len cues limit : ℕ) →
-      limit < form_size (length history) data_len cues →
+    limit < form_size (length history) data_len cues →
     Bw64SizesStand f fields history data_len cues limit

@@ -1,7 +1,9 @@
 pub mod Appending
+pub mod Cues
 pub mod Fields
 pub mod Formats
 pub mod Headers
+pub mod Headings
 pub mod Heads
 pub mod Limits
 pub mod Moves

@@ -54,7 +54,7 @@ SeeksOver place len most old new result =
 
 -- Behind so many bytes a skip reads on: it passes over the next bytes that the reader itself has.
 abbrev pub ReadsOn : {E : Type 0} → ℕ → ℕ → ℕ → Option (List ℕ) → Option (List ℕ) → Result ℕ E →
-  Type 0
+    Type 0
 ReadsOn place len most old new result =
     min most (len - place) ≡ 0 → MatchResult result (λ n. Skips old most n new) (λ _. Keeps old new)
 

@@ -15,15 +15,15 @@ use Rattle.bw_layout.specs.Tables.{entry_bytes, ds64_with_table, entry_at, fixed
 
 abbrev pub HeadsReadBack : Type 0
 HeadsReadBack = (id rest : List ℕ) (size : ℕ) → length id ≡ 4 → size < 2 ^ 32 →
-  head_at (head id size ++ rest) ≡ record { id = id; size32 = size }
+    head_at (head id size ++ rest) ≡ record { id = id; size32 = size }
 
 abbrev pub FormatsReadBack : Type 0
 FormatsReadBack = (f : Format) (rest : List ℕ) → IsTrue (is_format f) →
-  raw_fmt (fmt_content f ++ rest) ≡ told_fmt f
+    raw_fmt (fmt_content f ++ rest) ≡ told_fmt f
 
 abbrev pub FieldsReadBack : Type 0
 FieldsReadBack = (fields : List (List ℕ)) (rest : List ℕ) → AreFields fields →
-  bext_at (bext_fixed fields ++ rest) ≡ (told_bext fields, zeros 180)
+    bext_at (bext_fixed fields ++ rest) ≡ (told_bext fields, zeros 180)
 
 -- an entry of four bytes and a size of eight
 pub record IsEntry (e : List ℕ × ℕ) : Type 0 where
@@ -32,20 +32,20 @@ pub record IsEntry (e : List ℕ × ℕ) : Type 0 where
 
 abbrev pub EntriesReadBack : Type 0
 EntriesReadBack = (e : List ℕ × ℕ) (rest : List ℕ) → IsEntry e →
-  entry_at (entry_bytes e ++ rest) ≡ e
+    entry_at (entry_bytes e ++ rest) ≡ e
 
 -- the sizes of a `ds64` chunk are read back
 pub record Ds64ReadsBack (form data_size : ℕ) (table : List (List ℕ × ℕ))
-  (rest : List ℕ) : Type 0 where
+    (rest : List ℕ) : Type 0 where
   pub fixed : fixed_at (ds64_with_table form data_size table ++ rest)
-    ≡ record { form = form; data_size = data_size; table_len = length table }
+      ≡ record { form = form; data_size = data_size; table_len = length table }
   pub entries : table_at (ds64_with_table form data_size table ++ rest) 28 (length table) ≡ table
 
 abbrev pub EachDs64ReadsBack : Type 0
 EachDs64ReadsBack =
     (form data_size : ℕ) (table : List (List ℕ × ℕ)) (rest : List ℕ) → form < 2 ^ 64 →
-      data_size < 2 ^ 64 → length table < 2 ^ 32 → All IsEntry table →
-      Ds64ReadsBack form data_size table rest
+    data_size < 2 ^ 64 → length table < 2 ^ 32 → All IsEntry table →
+    Ds64ReadsBack form data_size table rest
 
 -- a marker whose numbers have four bytes
 pub record IsMarker (m : ℕ × ℕ) : Type 0 where
@@ -54,7 +54,7 @@ pub record IsMarker (m : ℕ × ℕ) : Type 0 where
 
 abbrev pub CuePointsReadBack : Type 0
 CuePointsReadBack = (m : ℕ × ℕ) (rest : List ℕ) → IsMarker m →
-  raw_cue (cue_point m ++ rest) ≡ told_cue m
+    raw_cue (cue_point m ++ rest) ≡ told_cue m
 
 -- the cue points of a `cue ` chunk are read back
 pub record CuesReadBack (markers : List (ℕ × ℕ)) (rest : List ℕ) : Type 0 where
@@ -63,5 +63,5 @@ pub record CuesReadBack (markers : List (ℕ × ℕ)) (rest : List ℕ) : Type 0
 
 abbrev pub EachCueChunkReadsBack : Type 0
 EachCueChunkReadsBack =
-  (markers : List (ℕ × ℕ)) (rest : List ℕ) → length markers < 2 ^ 32 → All IsMarker markers →
-  CuesReadBack markers rest
+    (markers : List (ℕ × ℕ)) (rest : List ℕ) → length markers < 2 ^ 32 → All IsMarker markers →
+    CuesReadBack markers rest

@@ -9,7 +9,7 @@ entry_bytes e = e.0 ++ le64 e.1
 -- form and data size, no sample count, the table's length and the table
 unfoldable pub ds64_with_table : ℕ → ℕ → List (List ℕ × ℕ) → List ℕ
 ds64_with_table form data_size table =
-  le64 form ++ le64 data_size ++ le64 0 ++ le32 (length table) ++ flat_map entry_bytes table
+    le64 form ++ le64 data_size ++ le64 0 ++ le32 (length table) ++ flat_map entry_bytes table
 
 -- the entry at the front of these bytes
 abbrev pub entry_at : List ℕ → List ℕ × ℕ

@@ -2,13 +2,14 @@
 ghost use Rattle.std.specs.Prelude.{◌≡◌, ◌+◌, ◌≤◌, ◌++◌, OnOk, OnErr, length, take, drop, vec_len, vec_capacity, if◌then◌else◌};
 ghost use Rattle.std.specs.List.{concat};
 ghost use Rattle.bw_model.specs.Bytes.{zeros};
+ghost use Rattle.bw_model.specs.Limits.{longest_history};
 ghost use Rattle.bw_model.specs.Take.{field_fault, with_field, no_fields, AreFields};
 ghost use Rattle.bw_model.specs.Layout.{is_version_1, bext_fixed};
 ghost use Rattle.bw_layout.specs.Appending.{Gains, Appends};
 ghost use Rattle.bw_layout.specs.Fields.{answer_of};
 
 use crate::field::{FieldError, NOT_GIVEN, set_digits, set_level, set_maybe, set_text, set_whole};
-use crate::room::{push_bytes, push_u16};
+use crate::push::{push_bytes, push_u16};
 use std::alloc::{AllocError, Global};
 use std::marker::Model;
 
@@ -112,6 +113,16 @@ impl Bext {
         }
     }
 
+    /// The fields as they are, each of the width that its type gives it.
+    pub(crate) fn as_wide(&self) -> &Bext
+        ensures same { result.now ≡ self.now }
+        ensures widths { AreFields result.now }
+    {
+        // Without a read of a field nothing tells of their types.
+        let _first = &self.description;
+        self
+    }
+
     /// Whether no loudness is given, so that the chunk is of version 1.
     fn is_version_1(&self) -> bool
         ensures { result ≡ is_version_1 self.now }
@@ -142,7 +153,7 @@ pub fn put_bext(
     bext: &Bext,
     history: &[u8],
 ) -> Result<(), AllocError>
-    requires { length history.now ≤ 4096 }
+    requires { length history.now ≤ longest_history }
     ensures { let bytes = bext_fixed bext.now ++ history.now in
         Appends bytes (602 + length history.now) result out.old out.new }
 {

@@ -6,7 +6,7 @@ ghost use Rattle.bw_layout.specs.Appending.{Gains, Appends};
 ghost use Rattle.bw_layout.specs.Heads.{head_at};
 
 use crate::number::{read_id, read_u32};
-use crate::room::{push_bytes, push_u32};
+use crate::push::{push_bytes, push_u32};
 use std::alloc::{AllocError, Global};
 use std::error::Error;
 use std::fmt;

@@ -1,9 +1,13 @@
 //! Cue points and the `cue ` chunk (RIFF, chapter 3).
 ghost use Rattle.std.specs.Prelude.{◌+◌, ◌*◌, ◌≤◌, length, vec_len, vec_capacity, flat_map};
-ghost use Rattle.bw_model.specs.Layout.{cue_point, cue_content};
+ghost use Rattle.bw_model.specs.Limits.{most_markers};
+ghost use Rattle.bw_model.specs.Layout.{chunk, cue_point, cue_content};
+ghost use Rattle.bw_model.specs.File.{cue_chunks};
 ghost use Rattle.bw_layout.specs.Appending.{Gains, Appends};
+ghost use Rattle.bw_layout.specs.Cues.{cue_chunk_length};
 
-use crate::room::{push_bytes, push_u32};
+use crate::chunk::{ChunkId, push_head};
+use crate::push::{push_bytes, push_u32};
 use std::alloc::{AllocError, Global};
 use std::marker::Model;
 
@@ -24,19 +28,47 @@ impl Model for CuePoint {
     ghost inverse = { λ v. record { id = v.0; frame = v.1 } };
 }
 
+/// Appends the `cue ` chunk of these points, in their order; nothing where there are none.
+///
+/// # Errors
+/// Memory was refused.
+#[tactic(auto, using(std::proofs::lemmas::List::append_assoc, crate::proofs::CueChunks::cue_chunk_is, crate::proofs::CueChunks::length_of_some))]
+pub fn put_cue_chunk(_alloc: Global, out: &mut Vec<u8>, cues: &[CuePoint]) -> Result<(), AllocError>
+    requires { length cues.now ≤ most_markers }
+    ensures { Appends (flat_map chunk (cue_chunks cues.now)) (cue_chunk_length (length cues.now))
+        result out.old out.new }
+{
+    if cues.is_empty() {
+        return Ok(());
+    }
+    let size = 4 + 24 * cues.len();
+    out.reserve(8 + size)?;
+    push_head(out, ChunkId(*b"cue "), size as u32);
+    push_cues(out, cues);
+    Ok(())
+}
+
 /// Appends the content of a `cue ` chunk: points of the data chunk, in their order.
 ///
 /// # Errors
 /// Memory was refused.
-#[tactic(auto, using(std::proofs::lemmas::List::append_assoc))]
 pub fn put_cues(_alloc: Global, out: &mut Vec<u8>, cues: &[CuePoint]) -> Result<(), AllocError>
-    requires { length cues.now ≤ 1024 }
+    requires { length cues.now ≤ most_markers }
     ensures { Appends (cue_content cues.now) (4 + 24 * length cues.now) result out.old out.new }
 {
     out.reserve(4 + 24 * cues.len())?;
+    push_cues(out, cues);
+    Ok(())
+}
+
+#[tactic(auto, using(std::proofs::lemmas::List::append_assoc))]
+fn push_cues(out: &mut Vec<u8>, cues: &[CuePoint])
+    requires points { length cues.now ≤ most_markers }
+    requires room { vec_len out.old + 4 + 24 * length cues.now ≤ vec_capacity out.old }
+    ensures { Gains (cue_content cues.now) (4 + 24 * length cues.now) out.old out.new }
+{
     push_u32(out, cues.len() as u32);
     push_points(out, cues);
-    Ok(())
 }
 
 fn push_points(out: &mut Vec<u8>, cues: &[CuePoint])

@@ -6,7 +6,7 @@ ghost use Rattle.bw_model.specs.Layout.{fmt_content};
 ghost use Rattle.bw_layout.specs.Appending.{Gains, Appends};
 ghost use Rattle.bw_layout.specs.Formats.{format_of};
 
-use crate::room::{push_u16, push_u32};
+use crate::push::{push_u16, push_u32};
 use std::alloc::{AllocError, Global};
 use std::marker::Model;
 

@@ -2,12 +2,13 @@
 ghost use Rattle.std.specs.Prelude.{◌≡◌, ◌+◌, ◌*◌, ◌≤◌, ◌++◌, length, vec_len, vec_capacity, flat_map, take};
 ghost use Rattle.std.specs.Result.{OkIff};
 ghost use Rattle.bw_model.specs.Bytes.{le32, le64};
+ghost use Rattle.bw_model.specs.Limits.{most_entries};
 ghost use Rattle.bw_layout.specs.Appending.{Gains, Appends};
 ghost use Rattle.bw_layout.specs.Tables.{entry_bytes, ds64_with_table, entry_at, fixed_at};
 
 use crate::chunk::{ChunkId, Short};
 use crate::number::{read_id, read_u32, read_u64};
-use crate::room::{push_bytes, push_u32, push_u64};
+use crate::push::{push_bytes, push_u32, push_u64};
 use std::alloc::{AllocError, Global};
 use std::marker::Model;
 
@@ -85,7 +86,7 @@ impl Model for Ds64Fixed {
 /// Memory was refused.
 #[tactic(auto, using(std::proofs::lemmas::List::append_assoc), unfolding(crate::specs::Tables::ds64_with_table))]
 pub fn put_ds64(_alloc: Global, out: &mut Vec<u8>, sizes: &Ds64) -> Result<(), AllocError>
-    requires { length sizes.now.table ≤ 4096 }
+    requires { length sizes.now.table ≤ most_entries }
     ensures { let table = sizes.now.table in
         let bytes = ds64_with_table sizes.now.form sizes.now.data_size table in
         Appends bytes (28 + 12 * length table) result out.old out.new }

@@ -5,4 +5,4 @@ use Rattle.bw_file.proofs.fuse.blow.Goals as goal
 pub returns-clause-spent : goal.returns-clause-spent
 returns-clause-spent c =
     filter_same _ (λ (f : ℕ). not (f == c.args.call)) _
-      (λ x b f r. search rules) c.args.fuses.now.items c.retain.new.self.items c.retain.ensures.filtered
+    (λ x b f r. search rules) c.args.fuses.now.items c.retain.new.self.items c.retain.ensures.filtered

@@ -11,7 +11,7 @@ returns-then-form-bytes-clause-torn g c =
     λ honest.
     let four : length c.to_le_bytes.result ≡ 4 = rw c.to_le_bytes.ensures refl in
     tears_wider _ _ 4 4 0 _ (omega arith) (omega arith)
-      (written_tears _ _ 4 4 _ (omega (arith, four)) (c.in_ok-write_at.ensures.written honest))
+    (written_tears _ _ 4 4 _ (omega (arith, four)) (c.in_ok-write_at.ensures.written honest))
 
 pub returns-then-form-bytes-clause-put : goal.returns-then-form-bytes-clause-put
 returns-then-form-bytes-clause-put g c =
@@ -19,9 +19,9 @@ returns-then-form-bytes-clause-put g c =
     let h = c.args.heading.now in
     let form = c.form_size-form.ensures.value in
     let small : form_size (length h.history.now) c.args.data_len c.args.cues ≤ h.limit =
-        omega (arith, form, c.bytes.ensures.value, c.if-form-bytes.true) in
+    omega (arith, form, c.bytes.ensures.value, c.if-form-bytes.true) in
     let was_small : form_size (length h.history.now) c.args.data_len 0 ≤ h.limit =
-        omega (arith, form_cues (length h.history.now) c.args.data_len c.args.cues, small) in
+    omega (arith, form_cues (length h.history.now) c.args.data_len c.args.cues, small) in
     riff_form h.format h.bext.now h.history.now h.limit c.args.data_len 0 c.args.cues _ _ tail was_small small stood
     (rw (c.to_le_bytes.ensures, form) at (c.in_ok-write_at.ensures.written honest))
 
@@ -30,7 +30,7 @@ returns-clause-torn g c =
     λ honest.
     let eight : length c.to_le_bytes-2.result ≡ 8 = rw c.to_le_bytes-2.ensures refl in
     tears_wider _ _ 20 8 0 _ (omega arith) (omega arith)
-      (written_tears _ _ 20 8 _ (omega (arith, eight)) (c.in_ok-write_at-2.ensures.written honest))
+    (written_tears _ _ 20 8 _ (omega (arith, eight)) (c.in_ok-write_at-2.ensures.written honest))
 
 pub returns-clause-put : goal.returns-clause-put
 returns-clause-put g c =
@@ -38,9 +38,9 @@ returns-clause-put g c =
     let h = c.args.heading.now in
     let form = c.form_size-form.ensures.value in
     let large : h.limit < form_size (length h.history.now) c.args.data_len c.args.cues =
-        omega (arith, form, c.bytes.ensures.value, c.if-form-bytes.false) in
+    omega (arith, form, c.bytes.ensures.value, c.if-form-bytes.false) in
     let was_large = both_above (form_size (length h.history.now) c.args.data_len 0)
-        (form_size (length h.history.now) c.args.data_len c.args.cues) h.limit c.requires.kind large in
+    (form_size (length h.history.now) c.args.data_len c.args.cues) h.limit c.requires.kind large in
     bw64_form h.format h.bext.now h.history.now h.limit c.args.data_len 0 c.args.cues _ _ tail was_large large stood
     (rw (c.to_le_bytes-2.ensures, form) at (c.in_ok-write_at-2.ensures.written honest))
 
@@ -48,14 +48,14 @@ pub returns-in_err-write_at-clause-begun : goal.returns-in_err-write_at-clause-b
 returns-in_err-write_at-clause-begun g c =
     on_err _ _ (let four : length c.to_le_bytes.result ≡ 4 = rw c.to_le_bytes.ensures refl in
     let riff = is_within _ _
-        (omega (arith, c.form_size-form.ensures.value, c.bytes.ensures.value, c.if-form-bytes.true)) in
+    (omega (arith, c.form_size-form.ensures.value, c.bytes.ensures.value, c.if-form-bytes.true)) in
     first_as (form_of c.args.name.now _ _ _ c.if-cues-eq0.false riff)
-      (gets_all (gets_one c.write_at.ensures.calls (rw four at c.write_at.ensures.asked))))
+    (gets_all (gets_one c.write_at.ensures.calls (rw four at c.write_at.ensures.asked))))
 
 pub returns-in_err-write_at-2-clause-begun : goal.returns-in_err-write_at-2-clause-begun
 returns-in_err-write_at-2-clause-begun g c =
     on_err _ _ (let eight : length c.to_le_bytes-2.result ≡ 8 = rw c.to_le_bytes-2.ensures refl in
     let bw64 = is_above _ _
-        (omega (arith, c.form_size-form.ensures.value, c.bytes.ensures.value, c.if-form-bytes.false)) in
+    (omega (arith, c.form_size-form.ensures.value, c.bytes.ensures.value, c.if-form-bytes.false)) in
     first_as (form_of c.args.name.now _ _ _ c.if-cues-eq0.false bw64)
-      (gets_all (gets_one c.write_at-2.ensures.calls (rw eight at c.write_at-2.ensures.asked))))
+    (gets_all (gets_one c.write_at-2.ensures.calls (rw eight at c.write_at-2.ensures.asked))))

@@ -11,7 +11,7 @@ use Rattle.bw_file.proofs.Retouches.{two_headers, length-heading, part_put}
 use Rattle.bw_file.proofs.writes.put_field.Goals as goal
 
 length-range : (l : List ℕ) (from count : ℕ) → from + count ≤ length l →
-  length (slice_range l from (from + count)) ≡ count
+    length (slice_range l from (from + count)) ≡ count
 length-range l from count fits =
     let end : from + count - from ≡ count = omega arith in
     length-take-le (from + count - from) (drop from l) (omega (arith, length-drop from l)) ∙ end
@@ -25,18 +25,18 @@ split_at-requires g c =
 pub changed_range-requires-clause-same : goal.changed_range-requires-clause-same
 changed_range-requires-clause-same g c =
     let halves = two_headers c.args.heading.now c.args.retouched.now c.args.data_len c.data_place.result
-        c.bytes.result.now c.split_at.result.0.now c.split_at.result.1.now
-        (c.bytes.ensures ∙ c.build_headers.ensures) c.data_place.ensures.value c.split_at.ensures.front
-        c.split_at.ensures.back in
+    c.bytes.result.now c.split_at.result.0.now c.split_at.result.1.now
+    (c.bytes.ensures ∙ c.build_headers.ensures) c.data_place.ensures.value c.split_at.ensures.front
+    c.split_at.ensures.back in
     ap length halves.0 ∙ length-heading c.args.heading.now c.args.data_len ∙ sym c.requires.place
-      ∙ sym (ap length halves.1 ∙ length-heading c.args.retouched.now c.args.data_len)
+    ∙ sym (ap length halves.1 ∙ length-heading c.args.retouched.now c.args.data_len)
 
 pub changed_range-requires-clause-long : goal.changed_range-requires-clause-long
 changed_range-requires-clause-long g c =
     let halves = two_headers c.args.heading.now c.args.retouched.now c.args.data_len c.data_place.result
-        c.bytes.result.now c.split_at.result.0.now c.split_at.result.1.now
-        (c.bytes.ensures ∙ c.build_headers.ensures) c.data_place.ensures.value c.split_at.ensures.front
-        c.split_at.ensures.back in
+    c.bytes.result.now c.split_at.result.0.now c.split_at.result.1.now
+    (c.bytes.ensures ∙ c.build_headers.ensures) c.data_place.ensures.value c.split_at.ensures.front
+    c.split_at.ensures.back in
     let long = ap length halves.1 ∙ length-heading c.args.retouched.now c.args.data_len ∙ c.requires.place in
     omega (arith, long, c.data_place.ensures.value, c.data_place.ensures.low)
 
@@ -44,28 +44,28 @@ pub returns-in_default-clause-order : goal.returns-in_default-clause-order
 returns-in_default-clause-order g c =
     λ tag sets.
     let halves = two_headers c.args.heading.now c.args.retouched.now c.args.data_len c.data_place.result
-        c.bytes.result.now c.split_at.result.0.now c.split_at.result.1.now
-        (c.bytes.ensures ∙ c.build_headers.ensures) c.data_place.ensures.value c.split_at.ensures.front
-        c.split_at.ensures.back in
+    c.bytes.result.now c.split_at.result.0.now c.split_at.result.1.now
+    (c.bytes.ensures ∙ c.build_headers.ensures) c.data_place.ensures.value c.split_at.ensures.front
+    c.split_at.ensures.back in
     gets_as (set_same _ _ _ _ (sym halves.1 ∙ c.in_default.ensures.none tag (rw (halves.0, halves.1) sets) ∙ halves.0))
-      (gets_none _ _)
+    (gets_none _ _)
 
 pub returns-in_default-clause-put : goal.returns-in_default-clause-put
 returns-in_default-clause-put g c =
     λ honest tail stood.
     let halves = two_headers c.args.heading.now c.args.retouched.now c.args.data_len c.data_place.result
-        c.bytes.result.now c.split_at.result.0.now c.split_at.result.1.now
-        (c.bytes.ensures ∙ c.build_headers.ensures) c.data_place.ensures.value c.split_at.ensures.front
-        c.split_at.ensures.back in
+    c.bytes.result.now c.split_at.result.0.now c.split_at.result.1.now
+    (c.bytes.ensures ∙ c.build_headers.ensures) c.data_place.ensures.value c.split_at.ensures.front
+    c.split_at.ensures.back in
     let same = c.in_default.ensures.none c.requires.field.0 (rw (halves.0, halves.1) c.requires.field.1) in
     stood ∙ ap (λ (l : List ℕ). Some (l ++ tail)) (sym halves.0 ∙ sym same ∙ halves.1)
 
 pub slice_bounds-write_at-end : goal.slice_bounds-write_at-end
 slice_bounds-write_at-end g c =
     let halves = two_headers c.args.heading.now c.args.retouched.now c.args.data_len c.data_place.result
-        c.bytes.result.now c.split_at.result.0.now c.split_at.result.1.now
-        (c.bytes.ensures ∙ c.build_headers.ensures) c.data_place.ensures.value c.split_at.ensures.front
-        c.split_at.ensures.back in
+    c.bytes.result.now c.split_at.result.0.now c.split_at.result.1.now
+    (c.bytes.ensures ∙ c.build_headers.ensures) c.data_place.ensures.value c.split_at.ensures.front
+    c.split_at.ensures.back in
     let long = ap length halves.1 ∙ length-heading c.args.retouched.now c.args.data_len ∙ c.requires.place in
     omega (arith, long, c.data_place.ensures.value, c.data_place.ensures.low, c.in-Some.ensures.end)
 
@@ -73,16 +73,16 @@ pub returns-in_err-write_at-clause-begun : goal.returns-in_err-write_at-clause-b
 returns-in_err-write_at-clause-begun g c =
     λ tag sets.
     let halves = two_headers c.args.heading.now c.args.retouched.now c.args.data_len c.data_place.result
-        c.bytes.result.now c.split_at.result.0.now c.split_at.result.1.now
-        (c.bytes.ensures ∙ c.build_headers.ensures) c.data_place.ensures.value c.split_at.ensures.front
-        c.split_at.ensures.back in
+    c.bytes.result.now c.split_at.result.0.now c.split_at.result.1.now
+    (c.bytes.ensures ∙ c.build_headers.ensures) c.data_place.ensures.value c.split_at.ensures.front
+    c.split_at.ensures.back in
     let whole = ap length halves.1 ∙ length-heading c.args.retouched.now c.args.data_len ∙ c.requires.place in
     let long = length-range c.split_at.result.1.now c.in-Some.place c.in-Some.len
-        (omega (arith, whole, c.data_place.ensures.value, c.data_place.ensures.low, c.in-Some.ensures.end)) in
+    (omega (arith, whole, c.data_place.ensures.value, c.data_place.ensures.low, c.in-Some.ensures.end)) in
     let other = set_other c.args.name.now tag _ _ (c.in-Some.place, c.in-Some.len)
     (λ same. c.in-Some.ensures.differ
-      (ap (λ (h : List ℕ). slice_range h c.in-Some.place (c.in-Some.place + c.in-Some.len))
-      (halves.0 ∙ same ∙ sym halves.1)))
+    (ap (λ (h : List ℕ). slice_range h c.in-Some.place (c.in-Some.place + c.in-Some.len))
+    (halves.0 ∙ same ∙ sym halves.1)))
     (c.in-Some.ensures.some tag (rw (halves.0, halves.1) sets)) in
     on_err _ _ (first_as other (gets_all (gets_one c.write_at.ensures.calls (rw long at c.write_at.ensures.asked))))
 
@@ -90,16 +90,16 @@ pub returns-clause-order : goal.returns-clause-order
 returns-clause-order g c =
     λ tag sets.
     let halves = two_headers c.args.heading.now c.args.retouched.now c.args.data_len c.data_place.result
-        c.bytes.result.now c.split_at.result.0.now c.split_at.result.1.now
-        (c.bytes.ensures ∙ c.build_headers.ensures) c.data_place.ensures.value c.split_at.ensures.front
-        c.split_at.ensures.back in
+    c.bytes.result.now c.split_at.result.0.now c.split_at.result.1.now
+    (c.bytes.ensures ∙ c.build_headers.ensures) c.data_place.ensures.value c.split_at.ensures.front
+    c.split_at.ensures.back in
     let whole = ap length halves.1 ∙ length-heading c.args.retouched.now c.args.data_len ∙ c.requires.place in
     let long = length-range c.split_at.result.1.now c.in-Some.place c.in-Some.len
-        (omega (arith, whole, c.data_place.ensures.value, c.data_place.ensures.low, c.in-Some.ensures.end)) in
+    (omega (arith, whole, c.data_place.ensures.value, c.data_place.ensures.low, c.in-Some.ensures.end)) in
     let other = set_other c.args.name.now tag _ _ (c.in-Some.place, c.in-Some.len)
     (λ same. c.in-Some.ensures.differ
-      (ap (λ (h : List ℕ). slice_range h c.in-Some.place (c.in-Some.place + c.in-Some.len))
-      (halves.0 ∙ same ∙ sym halves.1)))
+    (ap (λ (h : List ℕ). slice_range h c.in-Some.place (c.in-Some.place + c.in-Some.len))
+    (halves.0 ∙ same ∙ sym halves.1)))
     (c.in-Some.ensures.some tag (rw (halves.0, halves.1) sets)) in
     gets_as other (gets_one c.write_at.ensures.calls (rw long at c.write_at.ensures.asked))
 
@@ -107,36 +107,36 @@ pub returns-clause-torn : goal.returns-clause-torn
 returns-clause-torn g c =
     λ honest.
     let halves = two_headers c.args.heading.now c.args.retouched.now c.args.data_len c.data_place.result
-        c.bytes.result.now c.split_at.result.0.now c.split_at.result.1.now
-        (c.bytes.ensures ∙ c.build_headers.ensures) c.data_place.ensures.value c.split_at.ensures.front
-        c.split_at.ensures.back in
+    c.bytes.result.now c.split_at.result.0.now c.split_at.result.1.now
+    (c.bytes.ensures ∙ c.build_headers.ensures) c.data_place.ensures.value c.split_at.ensures.front
+    c.split_at.ensures.back in
     let whole = ap length halves.1 ∙ length-heading c.args.retouched.now c.args.data_len ∙ c.requires.place in
     let long = length-range c.split_at.result.1.now c.in-Some.place c.in-Some.len
-        (omega (arith, whole, c.data_place.ensures.value, c.data_place.ensures.low, c.in-Some.ensures.end)) in
+    (omega (arith, whole, c.data_place.ensures.value, c.data_place.ensures.low, c.in-Some.ensures.end)) in
     tears_wider _ _ c.in-Some.place c.in-Some.len 0 _ (omega arith)
-      (omega (arith, c.data_place.ensures.value, c.data_place.ensures.low, c.in-Some.ensures.end))
+    (omega (arith, c.data_place.ensures.value, c.data_place.ensures.low, c.in-Some.ensures.end))
     (written_tears _ _ c.in-Some.place c.in-Some.len _ (omega (arith, long)) (c.in_ok-write_at.ensures.written honest))
 
 pub returns-clause-put : goal.returns-clause-put
 returns-clause-put g c =
     λ honest tail stood.
     let halves = two_headers c.args.heading.now c.args.retouched.now c.args.data_len c.data_place.result
-        c.bytes.result.now c.split_at.result.0.now c.split_at.result.1.now
-        (c.bytes.ensures ∙ c.build_headers.ensures) c.data_place.ensures.value c.split_at.ensures.front
-        c.split_at.ensures.back in
+    c.bytes.result.now c.split_at.result.0.now c.split_at.result.1.now
+    (c.bytes.ensures ∙ c.build_headers.ensures) c.data_place.ensures.value c.split_at.ensures.front
+    c.split_at.ensures.back in
     let whole = ap length halves.1 ∙ length-heading c.args.retouched.now c.args.data_len ∙ c.requires.place in
     let long = length-range c.split_at.result.1.now c.in-Some.place c.in-Some.len
-        (omega (arith, whole, c.data_place.ensures.value, c.data_place.ensures.low, c.in-Some.ensures.end)) in
+    (omega (arith, whole, c.data_place.ensures.value, c.data_place.ensures.low, c.in-Some.ensures.end)) in
     let sets = c.requires.field.1 in
     let in_split : SetsField c.requires.field.0 c.split_at.result.0.now c.split_at.result.1.now =
-        rw (halves.0, halves.1) sets in
+    rw (halves.0, halves.1) sets in
     let before = ap length halves.0 ∙ length-heading c.args.heading.now c.args.data_len in
     let end = c.in-Some.ensures.end in
     part_put _ _ c.split_at.result.0.now c.split_at.result.1.now tail c.in-Some.place (c.in-Some.place + c.in-Some.len)
-      (omega arith)
+    (omega arith)
     (omega (arith, before, c.data_place.ensures.value, c.data_place.ensures.low, end))
-      (omega (arith, whole, c.data_place.ensures.value, c.data_place.ensures.low, end))
+    (omega (arith, whole, c.data_place.ensures.value, c.data_place.ensures.low, end))
     (alike_at c.requires.field.0 _ _ in_split (c.in-Some.place, c.in-Some.len)
-      (c.in-Some.ensures.some c.requires.field.0 in_split))
+    (c.in-Some.ensures.some c.requires.field.0 in_split))
     (stood ∙ ap (λ (l : List ℕ). Some (l ++ tail)) (sym halves.0)) (c.in_ok-write_at.ensures.written honest)
     ∙ ap (λ (l : List ℕ). Some (l ++ tail)) halves.1

@@ -9,32 +9,32 @@ returns-in_err-write_at-2-clause-torn g c =
     λ honest. tears_twice _ _ _ c.args.place _
     (written_tears _ _ c.args.place _ c.args.samples.now (omega arith) (c.in_ok-write_at.ensures.written honest))
     (tears_wider _ _ _ 1 c.args.place _ (omega arith) (omega arith)
-      (c.in_err-write_at-2.ensures.failed (c.write_at.ensures.honest ∙ honest)))
+    (c.in_err-write_at-2.ensures.failed (c.write_at.ensures.honest ∙ honest)))
 
 pub returns-in_ok-write_at-2-clause-torn : goal.returns-in_ok-write_at-2-clause-torn
 returns-in_ok-write_at-2-clause-torn g c =
     λ honest. tears_twice _ _ _ c.args.place _
     (written_tears _ _ c.args.place _ c.args.samples.now (omega arith) (c.in_ok-write_at.ensures.written honest))
     (tears_wider _ _ _ 1 c.args.place _ (omega arith) (omega arith)
-      (written_tears _ _ _ 1 (0 ∷ []) (omega arith)
-      (c.in_ok-write_at-2.ensures.written (c.write_at.ensures.honest ∙ honest))))
+    (written_tears _ _ _ 1 (0 ∷ []) (omega arith)
+    (c.in_ok-write_at-2.ensures.written (c.write_at.ensures.honest ∙ honest))))
 
 pub returns-else-end-eq1-clause-torn : goal.returns-else-end-eq1-clause-torn
 returns-else-end-eq1-clause-torn g c =
     λ honest. written_tears _ _ c.args.place _ c.args.samples.now (omega arith)
-      (c.in_ok-write_at.ensures.written honest)
+    (c.in_ok-write_at.ensures.written honest)
 
 pub returns-in_err-write_at-2-clause-begun : goal.returns-in_err-write_at-2-clause-begun
 returns-in_err-write_at-2-clause-begun g c =
     on_err _ _ (first_as (padded c.args.name.now c.args.place _ (omega arith))
-      (gets_all (gets_then (gets_one c.write_at.ensures.calls c.write_at.ensures.asked)
-      (gets_one c.write_at-then-end-eq1.ensures.calls c.write_at-then-end-eq1.ensures.asked))))
+    (gets_all (gets_then (gets_one c.write_at.ensures.calls c.write_at.ensures.asked)
+    (gets_one c.write_at-then-end-eq1.ensures.calls c.write_at-then-end-eq1.ensures.asked))))
 
 pub returns-in_ok-write_at-2-clause-order : goal.returns-in_ok-write_at-2-clause-order
 returns-in_ok-write_at-2-clause-order g c =
     gets_as (padded c.args.name.now c.args.place _ (omega arith))
-      (gets_then (gets_one c.write_at.ensures.calls c.write_at.ensures.asked)
-      (gets_one c.write_at-then-end-eq1.ensures.calls c.write_at-then-end-eq1.ensures.asked))
+    (gets_then (gets_one c.write_at.ensures.calls c.write_at.ensures.asked)
+    (gets_one c.write_at-then-end-eq1.ensures.calls c.write_at-then-end-eq1.ensures.asked))
 
 pub returns-in_err-write_at-clause-begun : goal.returns-in_err-write_at-clause-begun
 returns-in_err-write_at-clause-begun g c =

@@ -9,5 +9,12 @@ returns-then-read_u16-lt2 c = rw (← c.read_u16.ensures) (grind arith)
 pub returns : goal.returns
 returns c =
     let given : nat_le 2 c.read_u16.result ≡ true = le-leb 2 c.read_u16.result c.if-read_u16-lt2.false in
-    rw (← c.read_u16.ensures, given, ← c.read_u16-2.ensures, ← c.read_u16-3.ensures, ← c.read_u16-4.ensures,
-      ← c.read_u16-5.ensures, ← c.read_u16-6.ensures) refl
+    rw (
+      ← c.read_u16.ensures,
+      given,
+      ← c.read_u16-2.ensures,
+      ← c.read_u16-3.ensures,
+      ← c.read_u16-4.ensures,
+      ← c.read_u16-5.ensures,
+      ← c.read_u16-6.ensures,
+    ) refl

@@ -9,71 +9,71 @@ use Rattle.bw_file.proofs.Asked.{first_as, gets_as, gets_before, gets_then, gets
 use Rattle.bw_file.proofs.PlanForms.{on_err, append_as}
 use Rattle.bw_file.proofs.growing.GrowingFile.append.Goals as goal
 
-pub of-heading-requires : goal.of-heading-requires
-of-heading-requires g c = is_some_open _ (open_for_block _ _ c.requires.stored)
+pub heading_of-heading-requires : goal.heading_of-heading-requires
+heading_of-heading-requires g c = is_some_open _ (open_for_block _ _ c.requires.stored)
 
 pub returns-in_err-put_samples-clause-file : goal.returns-in_err-put_samples-clause-file
 returns-in_err-put_samples-clause-file g c =
     rw (← c.self.view_is) (λ honest t same ready.
     let opened = open_for_block _ _ c.requires.stored in
-    let of = c.of-heading.ensures in
-    let heads = is_heading t c.args.state.now.parts c.of-heading.result c.self.inside.limit same of.format of.bext
-        of.history of.limit in
+    let of = c.heading_of-heading.ensures in
+    let heads = is_heading t c.args.state.now.parts c.heading_of-heading.result c.self.inside.limit same of.format of.bext
+    of.history of.limit in
     let is_open = ap (λ (p : Parts). p.closed) same ∙ opened.not_closed in
     let so_far = c.data_len-before.ensures.value ∙ sym (ap (λ (p : Parts). p.samples_len) same) in
     let answer = err_from_is_err_and c.from_residual.result c.from_residual.ensures.1 in
-    rw answer.1 (samples_fail (the_view c.self.inside) t c.args.samples.now c.of-heading.result heads is_open
-      (some_in_block _ c.requires.fits) c.data_place.result c.data_len-before.result c.data_place.ensures.value so_far
-      _ _ ready (c.put_samples.ensures.torn honest)))
+    rw answer.1 (samples_fail (the_view c.self.inside) t c.args.samples.now c.heading_of-heading.result heads is_open
+    (some_in_block _ c.requires.fits) c.data_place.result c.data_len-before.result c.data_place.ensures.value so_far
+    _ _ ready (c.put_samples.ensures.torn honest)))
 
 pub returns-in_err-put_grown_header-clause-file : goal.returns-in_err-put_grown_header-clause-file
 returns-in_err-put_grown_header-clause-file g c =
     rw (← c.self.view_is) (λ honest t same ready.
     let opened = open_for_block _ _ c.requires.stored in
-    let of = c.of-heading.ensures in
-    let heads = is_heading t c.args.state.now.parts c.of-heading.result c.self.inside.limit same of.format of.bext
-        of.history of.limit in
+    let of = c.heading_of-heading.ensures in
+    let heads = is_heading t c.args.state.now.parts c.heading_of-heading.result c.self.inside.limit same of.format of.bext
+    of.history of.limit in
     let is_open = ap (λ (p : Parts). p.closed) same ∙ opened.not_closed in
     let so_far = c.data_len-before.ensures.value ∙ sym (ap (λ (p : Parts). p.samples_len) same) in
     let answer = err_from_is_err_and c.from_residual-in_err-put_grown_header.result
-        c.from_residual-in_err-put_grown_header.ensures.1 in
-    rw answer.1 (header_fails (the_view c.self.inside) t c.args.samples.now c.of-heading.result heads is_open
-      (some_in_block _ c.requires.fits) c.data_place.result c.data_len-before.result c.data_place.ensures.value so_far
-      _ _ _ ready (c.put_samples.ensures.torn honest)
-      (c.put_grown_header.ensures.torn (c.put_samples.ensures.shared.honest ∙ honest))))
+    c.from_residual-in_err-put_grown_header.ensures.1 in
+    rw answer.1 (header_fails (the_view c.self.inside) t c.args.samples.now c.heading_of-heading.result heads is_open
+    (some_in_block _ c.requires.fits) c.data_place.result c.data_len-before.result c.data_place.ensures.value so_far
+    _ _ _ ready (c.put_samples.ensures.torn honest)
+    (c.put_grown_header.ensures.torn (c.put_samples.ensures.shared.honest ∙ honest))))
 
 pub returns-clause-file : goal.returns-clause-file
 returns-clause-file g c =
     rw (← c.self.view_is) (λ honest t same ready.
     let opened = open_for_block _ _ c.requires.stored in
-    let of = c.of-heading.ensures in
-    let heads = is_heading t c.args.state.now.parts c.of-heading.result c.self.inside.limit same of.format of.bext
-        of.history of.limit in
+    let of = c.heading_of-heading.ensures in
+    let heads = is_heading t c.args.state.now.parts c.heading_of-heading.result c.self.inside.limit same of.format of.bext
+    of.history of.limit in
     let is_open = ap (λ (p : Parts). p.closed) same ∙ opened.not_closed in
     let so_far = c.data_len-before.ensures.value ∙ sym (ap (λ (p : Parts). p.samples_len) same) in
-    appended (the_view c.self.inside) t c.args.samples.now c.of-heading.result heads is_open
-      (some_in_block _ c.requires.fits) c.data_place.result c.data_len-before.result c.data_place.ensures.value so_far
-      _ _ _ ready (c.in_ok-put_samples.ensures.put honest)
-      (c.in_ok-put_grown_header.ensures.put (c.put_samples.ensures.shared.honest ∙ honest)))
+    appended (the_view c.self.inside) t c.args.samples.now c.heading_of-heading.result heads is_open
+    (some_in_block _ c.requires.fits) c.data_place.result c.data_len-before.result c.data_place.ensures.value so_far
+    _ _ _ ready (c.in_ok-put_samples.ensures.put honest)
+    (c.in_ok-put_grown_header.ensures.put (c.put_samples.ensures.shared.honest ∙ honest)))
 
 pub returns-in_err-put_samples-clause-begun : goal.returns-in_err-put_samples-clause-begun
 returns-in_err-put_samples-clause-begun g c =
-    rw (← c.self.view_is) (on_err _ _ (let of = c.of-heading.ensures in
-    first_as (append_as (the_view c.self.inside) c.args.state.now.parts c.of-heading.result c.data_place.result
-      c.data_len-before.result of.history of.limit c.data_place.ensures.value c.data_len-before.ensures.value _)
+    rw (← c.self.view_is) (on_err _ _ (let of = c.heading_of-heading.ensures in
+    first_as (append_as (the_view c.self.inside) c.args.state.now.parts c.heading_of-heading.result c.data_place.result
+    c.data_len-before.result of.history of.limit c.data_place.ensures.value c.data_len-before.ensures.value _)
     (gets_before _ c.in_err-put_samples.ensures.begun)))
 
 pub returns-in_err-put_grown_header-clause-begun : goal.returns-in_err-put_grown_header-clause-begun
 returns-in_err-put_grown_header-clause-begun g c =
-    rw (← c.self.view_is) (on_err _ _ (let of = c.of-heading.ensures in
-    first_as (append_as (the_view c.self.inside) c.args.state.now.parts c.of-heading.result c.data_place.result
-      c.data_len-before.result of.history of.limit c.data_place.ensures.value c.data_len-before.ensures.value _)
+    rw (← c.self.view_is) (on_err _ _ (let of = c.heading_of-heading.ensures in
+    first_as (append_as (the_view c.self.inside) c.args.state.now.parts c.heading_of-heading.result c.data_place.result
+    c.data_len-before.result of.history of.limit c.data_place.ensures.value c.data_len-before.ensures.value _)
     (gets_then_first c.in_ok-put_samples.ensures.order c.in_err-put_grown_header.ensures.begun)))
 
 pub returns-clause-order : goal.returns-clause-order
 returns-clause-order g c =
     rw (← c.self.view_is) (
-    let of = c.of-heading.ensures in
-    gets_as (append_as (the_view c.self.inside) c.args.state.now.parts c.of-heading.result c.data_place.result
-      c.data_len-before.result of.history of.limit c.data_place.ensures.value c.data_len-before.ensures.value _)
+    let of = c.heading_of-heading.ensures in
+    gets_as (append_as (the_view c.self.inside) c.args.state.now.parts c.heading_of-heading.result c.data_place.result
+    c.data_len-before.result of.history of.limit c.data_place.ensures.value c.data_len-before.ensures.value _)
     (gets_then c.in_ok-put_samples.ensures.order c.in_ok-put_grown_header.ensures.order))

@@ -19,13 +19,14 @@ returns-in_err-put_header-clause-file g c =
     let no_samples = sym in_all ∙ c.data_len.ensures.unopened unopened.no_format in
     let fresh = rw c.in-New.is at (c.in_ok-make_name.ensures.fresh honest) in
     let was = fresh_begun t c.self.inside.limit c.args.format c.args.history.now no_format is_open fields no_samples
-        c.self.inside.made _ _ begun (fresh refl) in
+    c.self.inside.made _ _ begun (fresh refl) in
     let torn = begun_torn t c.self.inside.limit c.args.format c.args.history.now no_format is_open fields no_samples _
-        _ was (c.put_header.ensures.torn (c.make_name.ensures.shared.honest ∙ honest)) in
+    _ was (rw c.new-heading.ensures.history at
+    (c.put_header.ensures.torn (c.make_name.ensures.shared.honest ∙ honest))) in
     let answer = err_from_is_err_and c.from_residual-in_err-put_header.result
-        c.from_residual-in_err-put_header.ensures.1 in
+    c.from_residual-in_err-put_header.ensures.1 in
     rw answer.1 (begun_between t c.self.inside.limit c.args.format c.args.history.now no_format is_open fields
-      no_samples _ torn))
+    no_samples _ torn))
 
 pub returns-clause-file : goal.returns-clause-file
 returns-clause-file g c =
@@ -39,9 +40,11 @@ returns-clause-file g c =
     let no_samples = sym in_all ∙ c.data_len.ensures.unopened unopened.no_format in
     let fresh = rw c.in-New.is at (c.in_ok-make_name.ensures.fresh honest) in
     let was = fresh_begun t c.self.inside.limit c.args.format c.args.history.now no_format is_open fields no_samples
-        c.self.inside.made _ _ begun (fresh refl) in
+    c.self.inside.made _ _ begun (fresh refl) in
+    let says = c.new-heading.ensures in
     begun_whole t c.self.inside.limit c.args.format c.args.history.now no_format is_open fields no_samples _ _ was
-      (rw (set, in_all) at (c.in_ok-put_header.ensures.first (c.make_name.ensures.shared.honest ∙ honest))))
+    (rw (says.format, says.bext, says.history, says.limit, set, in_all) at
+    (c.in_ok-put_header.ensures.first (c.make_name.ensures.shared.honest ∙ honest))))
 
 pub returns-in_err-make_name-clause-begun : goal.returns-in_err-make_name-clause-begun
 returns-in_err-make_name-clause-begun g c =
@@ -50,8 +53,10 @@ returns-in_err-make_name-clause-begun g c =
 pub returns-in_err-put_header-clause-begun : goal.returns-in_err-put_header-clause-begun
 returns-in_err-put_header-clause-begun g c =
     rw (← c.self.view_is) (on_err _ _
-      (gets_then_first c.in_ok-make_name.ensures.order c.in_err-put_header.ensures.begun))
+    (gets_then_first c.in_ok-make_name.ensures.order
+    (rw c.new-heading.ensures.history at c.in_err-put_header.ensures.begun)))
 
 pub returns-clause-order : goal.returns-clause-order
 returns-clause-order g c =
-    rw (← c.self.view_is) (gets_then c.in_ok-make_name.ensures.order c.in_ok-put_header.ensures.order)
+    rw (← c.self.view_is) (gets_then c.in_ok-make_name.ensures.order
+    (rw c.new-heading.ensures.history at c.in_ok-put_header.ensures.order))

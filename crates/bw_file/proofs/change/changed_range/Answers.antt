@@ -1,6 +1,6 @@
 use Rattle.std.proofs.Common.{sym}
 use Rattle.bw_file.proofs.Ranges.{differs, agrees, all_same, same_below_next, first_differs}
-use Rattle.bw_file.proofs.field.changed_range.Goals as goal
+use Rattle.bw_file.proofs.change.changed_range.Goals as goal
 
 pub returns-then-ne-clause-some : goal.returns-then-ne-clause-some
 returns-then-ne-clause-some c =
