@@ -87,7 +87,7 @@ content_faults len p kind count c =
 -- The faults of a content that begins with `front` bytes, which tell a number n of rows of so many
 -- bytes, at most `most`.
 abbrev pub counted_faults : ℕ → reading.Entry → ℕ → ℕ → ℕ → reading.FaultKind → ℕ →
-  List (Bool × reading.Fault)
+    List (Bool × reading.Fault)
 counted_faults len e front most width bad n =
     reading.line (nat_lt len (e.place + 8 + front)) reading.Truncated e.place
     ∷ reading.line (nat_lt most n) reading.TooMany e.place

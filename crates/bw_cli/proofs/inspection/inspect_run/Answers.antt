@@ -33,7 +33,7 @@ returns g c =
     let f = c.in-Err.fault in
     let l = c.tell.ensures in
     let is : c.as_bytes.result.now ≡ fault_line f =
-        c.as_bytes.ensures.value ∙ (c.as_str.ensures.value ∙ c.line_of.ensures) in
+    c.as_bytes.ensures.value ∙ (c.as_str.ensures.value ∙ c.line_of.ensures) in
     let told : IsOf (fault_line f) l.0 = rw is at l.1 in (
       record { reads_all = not (is_read_fault f.kind); out = Nothing; faults = l.0; exit = exit_for f.kind },
       sym c.exit_on.ensures,

@@ -28,8 +28,8 @@ returns-clause-ok g c b r =
     let content = report.content_of b (Some c.args.entry) in
     let told : c.in-Ok.fields ≡ bext_at content = c.in-Ok.ensures.1 ∙ (ap bext_at p.bytes ∙ bext_front content) in
     let size : c.entry-2.inside.size - 602 ≡ c.args.entry.size - 602 =
-        ap (λ (e : reading.Entry). e.size - 602) c.entry-2.view_is in (
+    ap (λ (e : reading.Entry). e.size - 602) c.entry-2.view_is in (
       c.in_ok-pass_rest.ensures.ok b p.to,
       ap (λ (x : report.RawBext × List ℕ). (x, c.entry-2.inside.size - 602)) told
-        ∙ ap (λ (n : ℕ). (bext_at content, n)) size,
+          ∙ ap (λ (n : ℕ). (bext_at content, n)) size,
     )

@@ -9,4 +9,4 @@ returns-in_err-points-clause-err g c =
     rw (p.1, p.2) (λ b r.
     let x = c.in_ok-count.ensures.ok b r in
     stopped_in_rows b c.args.entry 4 65536 24 reading.BadCue c.in_ok-count.count _ _ _ x.count c.requires.long
-      x.to.there c.in_ok-count.ensures.few c.in_ok-count.ensures.fits (c.in_err-points.ensures.err b x.to))
+    x.to.there c.in_ok-count.ensures.few c.in_ok-count.ensures.fits (c.in_err-points.ensures.err b x.to))

@@ -6,6 +6,8 @@ use Rattle.bw_inspect.proofs.cues.read_point.Goals as goal
 
 pub returns-clause-ok : goal.returns-clause-ok
 returns-clause-ok g c b r =
-    let p = c.in_ok-read_part.ensures.ok b r in
-    (p.to, c.in-Ok.ensures.1
-      ∙ (ap raw_cue p.bytes ∙ point_part (content_of b (Some c.args.entry)) (4 + 24 * c.args.done)))
+    let p = c.in_ok-read_part.ensures.ok b r in (
+      p.to,
+      c.in-Ok.ensures.1
+          ∙ (ap raw_cue p.bytes ∙ point_part (content_of b (Some c.args.entry)) (4 + 24 * c.args.done)),
+    )

@@ -25,18 +25,18 @@ returns-in_default-clause-err g c b r =
     let k = c.in_ok-point.ensures.ok b (read_as b _ _ (4 + 24 * c.loop-done.done) _ (sym same) h.to) in
     let end : 4 + 24 * c.loop-done.done + 24 ≡ 4 + 24 * (c.loop-done.done + 1) = omega arith in
     let place : c.entry.inside.place ≡ c.args.entry.place =
-        ap (λ (e : reading.Entry). e.place) (c.entry.view_is ∙ same) in
+    ap (λ (e : reading.Entry). e.place) (c.entry.view_is ∙ same) in
     let to = read_as b _ c.args.entry (4 + 24 * c.loop-done.done + 24) _ same k.0 in
     row_refused b c.args.entry 4 24 c.loop-done.done c.args.count _ _
     (subst (λ (n : ℕ). ReadTo b c.args.entry n (g.R.Source.left c.read_point.new.reader)) end to) (omega arith)
-      (omega arith)
+    (omega arith)
     (c.fault_at.ensures ∙ rw place refl)
 
 pub loop-done-preserved : goal.loop-done-preserved
 loop-done-preserved g c = record {
   entry = c.loop-done.invariant.entry;
   all = (let l = c.loop-done.invariant.all in let i = ap length c.in-Ok.ensures.items
-    in let p = length-append c.loop-done.points.items (c.in_ok-point.point ∷ []) in omega arith);
+      in let p = length-append c.loop-done.points.items (c.in_ok-point.point ∷ []) in omega arith);
   count = c.in_ok-point.ensures.count ∙ c.loop-done.invariant.count;
   moved = let m = c.in_ok-point.ensures.most in let i = c.loop-done.invariant.moved in omega arith;
   points = λ b r.
@@ -44,7 +44,7 @@ loop-done-preserved g c = record {
       let h = c.loop-done.invariant.points b r in
       let k = c.in_ok-point.ensures.ok b (read_as b _ _ (4 + 24 * c.loop-done.done) _ (sym same) h.to) in
       more_points b c.args.entry c.loop-done.done c.loop-done.points.items c.push.new.self.items c.in_ok-point.point _
-        _ h
+      _ h
       (read_as b _ _ (4 + 24 * c.loop-done.done + 24) _ same k.0)
       (k.1 ∙ ap (λ (e : reading.Entry). point_told b e c.loop-done.done) same) c.in-Ok.ensures.items;
 }

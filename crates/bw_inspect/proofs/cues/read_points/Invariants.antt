@@ -10,5 +10,5 @@ invariant-loop-done g l = record {
   count : g.R.Source.failures l.reader ≡ g.R.Source.failures l.fn.reader;
   moved : g.R.Source.moved l.reader ≤ g.R.Source.moved l.fn.reader + 24 * l.done;
   points : (b : List ℕ) → ReadTo b l.fn.entry 4 (g.R.Source.left l.fn.reader) →
-    HasPoints b l.fn.entry l.done l.points.items (g.R.Source.left l.reader);
+      HasPoints b l.fn.entry l.done l.points.items (g.R.Source.left l.reader);
 }

@@ -18,4 +18,4 @@ returns-in_err-rows-clause-err g c =
     let few : n ≤ 4096 = (let f = c.in_ok-fixed.ensures.few in omega arith) in
     let fits : 28 + 12 * n ≤ c.args.entry.size = (let f = c.in_ok-fixed.ensures.fits in omega arith) in
     stopped_in_rows b c.args.entry 28 4096 12 reading.BadDs64 n _ _ _ told c.requires.long x.to.there few fits
-      (c.in_err-rows.ensures.err b x.to))
+    (c.in_err-rows.ensures.err b x.to))

@@ -25,11 +25,11 @@ returns-in_default-clause-err g c b r =
     let k = c.in_ok-row.ensures.ok b (read_as b _ _ (28 + 12 * c.loop-done.done) _ (sym same) h.to) in
     let end : 28 + 12 * c.loop-done.done + 12 ≡ 28 + 12 * (c.loop-done.done + 1) = omega arith in
     let place : c.entry.inside.place ≡ c.args.entry.place =
-        ap (λ (e : reading.Entry). e.place) (c.entry.view_is ∙ same) in
+    ap (λ (e : reading.Entry). e.place) (c.entry.view_is ∙ same) in
     let to = read_as b _ c.args.entry (28 + 12 * c.loop-done.done + 12) _ same k.0 in
     row_refused b c.args.entry 28 12 c.loop-done.done c.args.count _ _
     (subst (λ (n : ℕ). ReadTo b c.args.entry n (g.R.Source.left c.read_row.new.reader)) end to) (omega arith)
-      (omega arith)
+    (omega arith)
     (c.fault_at.ensures ∙ rw place refl)
 
 pub loop-done-preserved : goal.loop-done-preserved

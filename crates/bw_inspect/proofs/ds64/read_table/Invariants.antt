@@ -9,5 +9,5 @@ invariant-loop-done g l = record {
   count : g.R.Source.failures l.reader ≡ g.R.Source.failures l.fn.reader;
   moved : g.R.Source.moved l.reader ≤ g.R.Source.moved l.fn.reader + 12 * l.done;
   rows : (b : List ℕ) → ReadTo b l.fn.entry 28 (g.R.Source.left l.fn.reader) →
-    HasRows b l.fn.entry l.done l.rows.items (g.R.Source.left l.reader);
+      HasRows b l.fn.entry l.done l.rows.items (g.R.Source.left l.reader);
 }
