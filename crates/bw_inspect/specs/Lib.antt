@@ -1,4 +1,5 @@
 pub mod Faults
+pub mod ReaderCalls
 pub mod Lines
 pub mod Reports
 pub mod Places

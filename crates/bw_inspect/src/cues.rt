@@ -1,6 +1,6 @@
 //! The points of a `cue ` chunk (RIFF, chapter 3).
 ghost use Rattle.std.specs.Prelude.{◌≡◌, ◌+◌, ◌*◌, ◌^◌, ◌≤◌, ◌<◌, length, IfOk, IfErr};
-ghost use Rattle.bw_inspect.specs.Faults.{counted};
+ghost use Rattle.bw_inspect.specs.ReaderCalls.{Consumes};
 ghost use Rattle.bw_inspect.specs.Places.{HasGrown, Nowhere};
 ghost use Rattle.bw_inspect.specs.Contents.{InContent, IsCutShort, IsRefused, ReadTo};
 ghost use Rattle.bw_inspect.specs.CueContents.{HasPoints, WantsPoint, IsCounted, IsCued, cue_faults, point_told};
@@ -21,8 +21,7 @@ const MOST_POINTS: u32 = 65_536;
 fn read_count<R: Source>(reader: &mut R, entry: ListedChunk) -> Result<u64, InspectFault>
     requires room { entry.place + 8 + entry.size < 2 ^ 63 }
     requires long { 4 ≤ entry.size }
-    ensures count { R.failures reader.new ≡ counted result (R.failures reader.old) }
-    ensures most { R.moved reader.new ≤ R.moved reader.old + 4 }
+    ensures consumed { Consumes R.Source 4 result reader.old reader.new }
     ensures few { IfOk result (λ n. n ≤ 65_536) }
     ensures fits { IfOk result (λ n. 4 + 24 * n ≤ entry.size) }
     ensures ok { IfOk result (λ n. InContent (R.left reader.old) entry 0 (λ b.
@@ -55,8 +54,7 @@ fn read_point<R: Source>(
     requires room { entry.place + 8 + entry.size < 2 ^ 63 }
     requires few { done < 65_536 }
     requires fits { 4 + 24 * done + 24 ≤ entry.size }
-    ensures count { R.failures reader.new ≡ counted result (R.failures reader.old) }
-    ensures most { R.moved reader.new ≤ R.moved reader.old + 24 }
+    ensures consumed { Consumes R.Source 24 result reader.old reader.new }
     ensures ok { IfOk result (λ x. InContent (R.left reader.old) entry (4 + 24 * done) (λ b.
         ReadTo b entry (4 + 24 * done + 24) (R.left reader.new)
         × (x ≡ point_told b entry done))) }
@@ -84,8 +82,7 @@ fn read_points<R: Source>(
     requires room { entry.place + 8 + entry.size < 2 ^ 63 }
     requires few { count ≤ 65_536 }
     requires fits { 4 + 24 * count ≤ entry.size }
-    ensures count { R.failures reader.new ≡ counted result (R.failures reader.old) }
-    ensures most { R.moved reader.new ≤ R.moved reader.old + 24 * count }
+    ensures consumed { Consumes R.Source (24 * count) result reader.old reader.new }
     ensures all { IfOk result (λ x. length x.items ≡ count) }
     ensures ok { IfOk result (λ x. InContent (R.left reader.old) entry 4 (λ b.
         HasPoints b entry count x.items (R.left reader.new))) }
@@ -114,8 +111,7 @@ pub(crate) fn read_cues<R: Source>(
 ) -> Result<Cues, InspectFault>
     requires room { entry.place + 8 + entry.size < 2 ^ 63 }
     requires long { 4 ≤ entry.size }
-    ensures count { R.failures reader.new ≡ counted result (R.failures reader.old) }
-    ensures most { R.moved reader.new ≤ R.moved reader.old + entry.size }
+    ensures consumed { Consumes R.Source entry.size result reader.old reader.new }
     ensures few { IfOk result (λ x. length x ≤ 65_536) }
     ensures ok { IfOk result (λ x. InContent (R.left reader.old) entry 0 (λ b.
         IsCued b entry x (R.left reader.new))) }

@@ -1,6 +1,6 @@
 //! The `ds64` chunk, with which a BW64 or RF64 file begins (ITU-R BS.2088).
 ghost use Rattle.std.specs.Prelude.{◌≡◌, ◌+◌, ◌*◌, ◌^◌, ◌≤◌, ◌<◌, length, IfOk, IfErr, Some};
-ghost use Rattle.bw_inspect.specs.Faults.{counted};
+ghost use Rattle.bw_inspect.specs.ReaderCalls.{Consumes};
 ghost use Rattle.bw_inspect.specs.Places.{AtPlace, HasGrown, Nowhere};
 ghost use Rattle.bw_inspect.specs.Contents.{InContent, IsCutShort, IsRefused, IsStopped, ReadTo};
 ghost use Rattle.bw_inspect.specs.Chunks.{sizes_by};
@@ -25,8 +25,7 @@ const MOST_ENTRIES: u32 = 4_096;
 /// # Errors
 /// NoDs64, BadDs64; Read.
 pub(crate) fn read_ds64_head<R: Source>(reader: &mut R) -> Result<ListedChunk, InspectFault>
-    ensures count { R.failures reader.new ≡ counted result (R.failures reader.old) }
-    ensures most { R.moved reader.new ≤ R.moved reader.old + 8 }
+    ensures consumed { Consumes R.Source 8 result reader.old reader.new }
     ensures place { IfOk result (λ e. e.place ≡ 12) }
     ensures size { IfOk result (λ e. (28 ≤ e.size) × (e.size < 2 ^ 32)) }
     ensures ok { IfOk result (λ e. AtPlace (R.left reader.old) 12 (λ b.
@@ -55,8 +54,7 @@ pub(crate) fn read_ds64_head<R: Source>(reader: &mut R) -> Result<ListedChunk, I
 fn read_fixed<R: Source>(reader: &mut R, entry: ListedChunk) -> Result<Ds64Fixed, InspectFault>
     requires room { entry.place + 8 + entry.size < 2 ^ 63 }
     requires long { 28 ≤ entry.size }
-    ensures count { R.failures reader.new ≡ counted result (R.failures reader.old) }
-    ensures most { R.moved reader.new ≤ R.moved reader.old + 28 }
+    ensures consumed { Consumes R.Source 28 result reader.old reader.new }
     ensures few { IfOk result (λ x. x.table_len ≤ 4_096) }
     ensures fits { IfOk result (λ x. 28 + 12 * x.table_len ≤ entry.size) }
     ensures ok { IfOk result (λ x. InContent (R.left reader.old) entry 0 (λ b.
@@ -90,8 +88,7 @@ fn read_row<R: Source>(
     requires room { entry.place + 8 + entry.size < 2 ^ 63 }
     requires few { done < 4_096 }
     requires fits { 28 + 12 * done + 12 ≤ entry.size }
-    ensures count { R.failures reader.new ≡ counted result (R.failures reader.old) }
-    ensures most { R.moved reader.new ≤ R.moved reader.old + 12 }
+    ensures consumed { Consumes R.Source 12 result reader.old reader.new }
     ensures ok { IfOk result (λ x. InContent (R.left reader.old) entry (28 + 12 * done) (λ b.
         ReadTo b entry (28 + 12 * done + 12) (R.left reader.new)
         × (x ≡ row_told b entry done))) }
@@ -119,8 +116,7 @@ fn read_table<R: Source>(
     requires room { entry.place + 8 + entry.size < 2 ^ 63 }
     requires few { count ≤ 4_096 }
     requires fits { 28 + 12 * count ≤ entry.size }
-    ensures count { R.failures reader.new ≡ counted result (R.failures reader.old) }
-    ensures most { R.moved reader.new ≤ R.moved reader.old + 12 * count }
+    ensures consumed { Consumes R.Source (12 * count) result reader.old reader.new }
     ensures ok { IfOk result (λ x. InContent (R.left reader.old) entry 28 (λ b.
         HasRows b entry count x.items (R.left reader.new))) }
     ensures err { IfErr result (λ f. InContent (R.left reader.old) entry 28 (λ b.
@@ -148,8 +144,7 @@ pub(crate) fn read_ds64<R: Source>(
 ) -> Result<Ds64, InspectFault>
     requires room { entry.place + 8 + entry.size < 2 ^ 63 }
     requires long { 28 ≤ entry.size }
-    ensures count { R.failures reader.new ≡ counted result (R.failures reader.old) }
-    ensures most { R.moved reader.new ≤ R.moved reader.old + entry.size }
+    ensures consumed { Consumes R.Source entry.size result reader.old reader.new }
     ensures ok { IfOk result (λ x. InContent (R.left reader.old) entry 0 (λ b.
         IsDs64Read b entry x (R.left reader.new))) }
     ensures err { IfErr result (λ f. InContent (R.left reader.old) entry 0 (λ b.

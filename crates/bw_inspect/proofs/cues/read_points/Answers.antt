@@ -37,8 +37,8 @@ loop-done-preserved g c = record {
   entry = c.loop-done.invariant.entry;
   all = (let l = c.loop-done.invariant.all in let i = ap length c.in-Ok.ensures.items
       in let p = length-append c.loop-done.points.items (c.in_ok-point.point ∷ []) in omega arith);
-  count = c.in_ok-point.ensures.count ∙ c.loop-done.invariant.count;
-  moved = let m = c.in_ok-point.ensures.most in let i = c.loop-done.invariant.moved in omega arith;
+  count = c.in_ok-point.ensures.consumed.failures ∙ c.loop-done.invariant.count;
+  moved = let m = c.in_ok-point.ensures.consumed.moved in let i = c.loop-done.invariant.moved in omega arith;
   points = λ b r.
       let same = c.loop-done.invariant.entry in
       let h = c.loop-done.invariant.points b r in

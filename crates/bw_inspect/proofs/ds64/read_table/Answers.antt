@@ -35,8 +35,8 @@ returns-in_default-clause-err g c b r =
 pub loop-done-preserved : goal.loop-done-preserved
 loop-done-preserved g c = record {
   entry = c.loop-done.invariant.entry;
-  count = c.in_ok-row.ensures.count ∙ c.loop-done.invariant.count;
-  moved = let m = c.in_ok-row.ensures.most in let i = c.loop-done.invariant.moved in omega arith;
+  count = c.in_ok-row.ensures.consumed.failures ∙ c.loop-done.invariant.count;
+  moved = let m = c.in_ok-row.ensures.consumed.moved in let i = c.loop-done.invariant.moved in omega arith;
   rows = λ b r.
       let same = c.loop-done.invariant.entry in
       let h = c.loop-done.invariant.rows b r in

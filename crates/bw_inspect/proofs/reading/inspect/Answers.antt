@@ -31,9 +31,9 @@ pub loop-walk-preserved : goal.loop-walk-preserved
 loop-walk-preserved g c = record {
   place = c.in_ok-next_chunk.ensures.place;
   small = c.in_ok-next_chunk.ensures.few c.loop-walk.invariant.small;
-  count = c.in_ok-next_chunk.ensures.count ∙ c.loop-walk.invariant.count;
+  count = c.in_ok-next_chunk.ensures.consumed.failures ∙ c.loop-walk.invariant.count;
   moved =
-      let m = c.in_ok-next_chunk.ensures.most in
+      let m = c.in_ok-next_chunk.ensures.consumed.moved in
       let p = c.in_ok-next_chunk.ensures.passed in
       let i = c.loop-walk.invariant.moved in
       omega arith;
