@@ -151,6 +151,15 @@ stopped_in_rows b e front most width bad n told f left q l there few room s =
     subst (λ (k : ℕ). IsStopped b (e.place + 8 + e.size) e.place (WantsRows b e front most width bad k)
     (counted_faults (length b) e front most width bad k) f left) q stopped
 
+-- all the rows are there, and so is the content
+pub rows_free : (b : List ℕ) (e : reading.Entry) (front most width : ℕ) (bad : reading.FaultKind) (n told : ℕ) →
+    n ≡ told → front ≤ e.size → e.place + 8 + e.size ≤ length b → n ≤ most → front + width * n ≤ e.size →
+    first_that_holds (counted_faults (length b) e front most width bad told) ≡ None
+rows_free b e front most width bad n told q l there few room =
+    subst (λ (k : ℕ). first_that_holds (counted_faults (length b) e front most width bad k) ≡ None) q
+    (none_of (length b) e front most width bad n (le-ltb (length b) (e.place + 8 + front) (omega arith))
+    (le-ltb most n few) (le-ltb e.size (front + width * n) room) (le-ltb (length b) (e.place + 8 + e.size) there))
+
 -- the number of rows that the code found is the one that stands there
 pub stopped_told : (b : List ℕ) (e : reading.Entry) (front most width : ℕ) (bad : reading.FaultKind) (n told : ℕ)
     (f : InspectFault) (left : Option (List ℕ)) → n ≡ told →

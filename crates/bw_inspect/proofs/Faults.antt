@@ -5,65 +5,24 @@ use Rattle.std.specs.Prelude.{option_map, is_some, not}
 use Rattle.bw_model.specs.Reading as reading
 use Rattle.bw_inspect.specs.declared.fault.InspectFault.{InspectFault}
 use Rattle.bw_inspect.specs.declared.fault.InspectKind.{InspectKind}
-use Rattle.bw_inspect.specs.declared.fault.InspectKind.TheVariants.{NotWave, Truncated, NoDs64, BadDs64, NoSize, Twice}
-use Rattle.bw_inspect.specs.declared.fault.InspectKind.TheVariants.{NoFmt, NoData, BadFmt, BadBext, BadCue, TooMany}
-use Rattle.bw_inspect.specs.declared.fault.InspectKind.TheVariants.{TooLarge, Read, Memory}
+use Rattle.bw_inspect.specs.declared.fault.InspectKind.TheVariants.{Read, Memory}
 use Rattle.bw_inspect.specs.Faults.{is_read, is_memory, is_of_bytes, kind_of, fault_of}
 use Rattle.bw_inspect.specs.Places.{Halts, IsMissed}
 
 -- a fault of the bytes is no failed read
 pub bytes_no_read : (k : InspectKind) → is_of_bytes k ≡ true → is_read k ≡ false
-bytes_no_read NotWave e = refl
-bytes_no_read Truncated e = refl
-bytes_no_read NoDs64 e = refl
-bytes_no_read BadDs64 e = refl
-bytes_no_read NoSize e = refl
-bytes_no_read Twice e = refl
-bytes_no_read NoFmt e = refl
-bytes_no_read NoData e = refl
-bytes_no_read BadFmt e = refl
-bytes_no_read BadBext e = refl
-bytes_no_read BadCue e = refl
-bytes_no_read TooMany e = refl
-bytes_no_read TooLarge e = refl
 bytes_no_read Read e = cc
-bytes_no_read Memory e = refl
+bytes_no_read _ e = refl
 
 -- nor want of memory
 pub bytes_no_memory : (k : InspectKind) → is_of_bytes k ≡ true → is_memory k ≡ false
-bytes_no_memory NotWave e = refl
-bytes_no_memory Truncated e = refl
-bytes_no_memory NoDs64 e = refl
-bytes_no_memory BadDs64 e = refl
-bytes_no_memory NoSize e = refl
-bytes_no_memory Twice e = refl
-bytes_no_memory NoFmt e = refl
-bytes_no_memory NoData e = refl
-bytes_no_memory BadFmt e = refl
-bytes_no_memory BadBext e = refl
-bytes_no_memory BadCue e = refl
-bytes_no_memory TooMany e = refl
-bytes_no_memory TooLarge e = refl
-bytes_no_memory Read e = refl
 bytes_no_memory Memory e = cc
+bytes_no_memory _ e = refl
 
 -- want of memory is no failed read
 pub memory_no_read : (k : InspectKind) → is_memory k ≡ true → is_read k ≡ false
-memory_no_read NotWave e = refl
-memory_no_read Truncated e = refl
-memory_no_read NoDs64 e = refl
-memory_no_read BadDs64 e = refl
-memory_no_read NoSize e = refl
-memory_no_read Twice e = refl
-memory_no_read NoFmt e = refl
-memory_no_read NoData e = refl
-memory_no_read BadFmt e = refl
-memory_no_read BadBext e = refl
-memory_no_read BadCue e = refl
-memory_no_read TooMany e = refl
-memory_no_read TooLarge e = refl
 memory_no_read Read e = cc
-memory_no_read Memory e = refl
+memory_no_read _ e = refl
 
 pub not_both : (v : Bool) → v ≡ false → v ≡ true → ⊥
 not_both v f t = let x : false ≡ true = sym f ∙ t in cc

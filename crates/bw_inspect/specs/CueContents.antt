@@ -1,5 +1,5 @@
 -- The points of a `cue ` chunk.
-use Rattle.std.specs.Prelude.{◌≡◌, ℕ, ◌+◌, ◌*◌, Bool, List, length, Option, Some, None}
+use Rattle.std.specs.Prelude.{◌≡◌, ℕ, ◌+◌, Bool, List, length, Option, Some, None}
 use Rattle.bw_model.specs.Reading as reading
 use Rattle.bw_model.specs.Report as report
 use Rattle.bw_model.specs.Bytes.{first_that_holds, u32_at}
@@ -21,21 +21,11 @@ WantsPoint b e reached =
 abbrev pub point_at : List ℕ → ℕ → report.RawCue
 point_at c p = record { id = u32_at c p; position = u32_at c (p + 4); offset = u32_at c (p + 20) }
 
--- the point behind so many
-abbrev pub point_told : List ℕ → reading.Entry → ℕ → report.RawCue
-point_told b e done = point_at (report.content_of b (Some e)) (4 + 24 * done)
-
 -- the count was read
 pub record IsCounted (b : List ℕ) (e : reading.Entry) (n : ℕ)
     (left : Option (List ℕ)) : Type 0 where
   pub count : n ≡ u32_at (report.content_of b (Some e)) 0
   pub to : ReadTo b e 4 left
-
--- so many points were read
-pub record HasPoints (b : List ℕ) (e : reading.Entry) (n : ℕ) (points : List report.RawCue)
-    (left : Option (List ℕ)) : Type 0 where
-  pub points_are : points ≡ report.raw_cues (report.content_of b (Some e)) 4 n
-  pub to : ReadTo b e (4 + 24 * n) left
 
 -- the content was read, and has no fault
 pub record IsCued (b : List ℕ) (e : reading.Entry) (points : List report.RawCue)

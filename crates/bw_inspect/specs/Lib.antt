@@ -6,6 +6,7 @@ pub mod Places
 pub mod Chunks
 pub mod Known
 pub mod Contents
+pub mod RowLists
 pub mod CueContents
 pub mod Tables
 pub mod Walks

@@ -1,5 +1,5 @@
 -- The `ds64` chunk.
-use Rattle.std.specs.Prelude.{◌≡◌, ℕ, ◌+◌, ◌*◌, ◌||◌, not, Bool, List, [], ◌∷◌, length, codes}
+use Rattle.std.specs.Prelude.{◌≡◌, ℕ, ◌||◌, not, Bool, List, [], ◌∷◌, length, codes}
 use Rattle.std.specs.Prelude.{Option, Some, None, nat_lt, ◌==◌}
 use Rattle.bw_model.specs.Reading as reading
 use Rattle.bw_model.specs.Report.{content_of}
@@ -37,23 +37,11 @@ abbrev pub WantsEntry : List ℕ → reading.Entry → ℕ → Type 0
 WantsEntry b e reached =
     WantsRows b e 28 4096 12 reading.BadDs64 (u32_at (content_of b (Some e)) 24) reached
 
--- the entry behind so many
-abbrev pub row_told : List ℕ → reading.Entry → ℕ → List ℕ × ℕ
-row_told b e done =
-    let c = content_of b (Some e) in
-    (reading.id_at c (28 + 12 * done), u64_at c (28 + 12 * done + 4))
-
 -- what stands before the table was read
 pub record IsFixed (b : List ℕ) (e : reading.Entry) (x : Fixed)
     (left : Option (List ℕ)) : Type 0 where
   pub told : x ≡ fixed_at (content_of b (Some e))
   pub to : ReadTo b e 28 left
-
--- so many entries were read
-pub record HasRows (b : List ℕ) (e : reading.Entry) (n : ℕ) (rows : List (List ℕ × ℕ))
-    (left : Option (List ℕ)) : Type 0 where
-  pub rows_are : rows ≡ reading.table_at (content_of b (Some e)) 28 n
-  pub to : ReadTo b e (28 + 12 * n) left
 
 -- what a content of `ds64` tells
 abbrev pub sizes_in : List ℕ → reading.Sizes
