@@ -30,7 +30,7 @@ behind replies o = (o.0, record { replies = replies ++ o.1.replies; end = o.1.en
 
 pub behind-append : (a b : List Reply) (o : Option Progress × Exchange) → behind (a ++ b) o ≡ behind a (behind b o)
 behind-append a b o = ap (λ (z : List Reply). (o.0, record { replies = z; end = o.1.end; book = o.1.book }))
-  (append_assoc a b o.1.replies)
+    (append_assoc a b o.1.replies)
 
 -- the next message comes first
 pub outcome-next : (p later : Progress) (book book' : Book) (m : Message) (reply : Reply) (s : List Frame × End) →
@@ -38,13 +38,15 @@ pub outcome-next : (p later : Progress) (book book' : Book) (m : Message) (reply
     outcome p book (Says m ∷ s.0, s.1) ≡ behind (reply ∷ []) (outcome later book' s)
 unfolding progress_after
 outcome-next p later book book' m reply s next t =
-    ap (λ (q : Option Progress). (elim q as (λ z. Option Progress) [ None ↦ None | Some l ↦ progress_after l s.0 ],
-      exchange_by book (Says m ∷ s.0, s.1))) next
+    ap (λ (q : Option Progress). (
+      elim q as (λ z. Option Progress) [ None ↦ None | Some l ↦ progress_after l s.0 ],
+      exchange_by book (Says m ∷ s.0, s.1),
+    )) next
     ∙ ap (λ (x : List Reply × Book). (
       progress_after later s.0,
       record {
         replies = (x.0 ++ flat_map (λ t. t.replies) (run nothing_stands x.1 (map (λ f. (f, good)) s.0)))
-          ++ last_reply s.1;
+            ++ last_reply s.1;
         end = s.1;
         book = book_after nothing_stands x.1 (map (λ f. (f, good)) s.0);
       },
@@ -52,13 +54,13 @@ outcome-next p later book book' m reply s next t =
 
 -- a frame that isn't the next message breaks the order
 pub outcome-stop : (p : Progress) (f : Frame) (fs : List Frame) → progress_behind p f ≡ None →
-  progress_after p (f ∷ fs) ≡ None
+    progress_after p (f ∷ fs) ≡ None
 unfolding progress_after
 outcome-stop p f fs e =
-  ap (λ (q : Option Progress). elim q as (λ z. Option Progress) [ None ↦ None | Some l ↦ progress_after l fs ]) e
+    ap (λ (q : Option Progress). elim q as (λ z. Option Progress) [ None ↦ None | Some l ↦ progress_after l fs ]) e
 
 -- no frame is left
 pub outcome-end : (p : Progress) (book : Book) (end : End) →
-  outcome p book ([], end) ≡ (Some p, record { replies = last_reply end; end = end; book = book })
+    outcome p book ([], end) ≡ (Some p, record { replies = last_reply end; end = end; book = book })
 unfolding progress_after
 outcome-end p book end = refl

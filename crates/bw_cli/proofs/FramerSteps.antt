@@ -10,11 +10,11 @@ use Rattle.bw_wire.specs.Pending.{after_first, cut_at, end_in, end_fault}
 abbrev pub IsNext : Pending → Told Frame × Pending → Type 0
 IsNext p (Nothing, later) = (first_frame Second p.bytes ≡ Err Cut) × (later ≡ compacted p)
 IsNext p (Gives (Says m), later) =
-  (more : List ℕ) × (first_frame Second p.bytes ≡ Ok (Says m, more)) × (later ≡ took p more)
+    (more : List ℕ) × (first_frame Second p.bytes ≡ Ok (Says m, more)) × (later ≡ took p more)
 IsNext p (Gives (Asks name n), later) = (more : List ℕ) × (first_frame Second p.bytes ≡ Ok (Asks name n, more))
 IsNext p (Gives Bye, later) = (more : List ℕ) × (first_frame Second p.bytes ≡ Ok (Bye, more))
 IsNext p (Fails reason offset, later) =
-  (first_frame Second p.bytes ≡ Err reason) × (offset ≡ p.used) × (0 < length p.bytes)
+    (first_frame Second p.bytes ≡ Err reason) × (offset ≡ p.used) × (0 < length p.bytes)
 
 -- no bytes are a frame that is cut off
 not_empty : (bytes : List ℕ) (reason : Reason) → first_frame Second bytes ≡ Err reason → reason ≢ Cut → 0 < length bytes

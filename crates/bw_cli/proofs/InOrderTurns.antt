@@ -20,7 +20,7 @@ use Rattle.bw_cli.specs.Recording.{log_with, book_with, take_with, HasRequests}
 
 -- one request more under the next number
 put-next : (rs : List Request) (r : Request) →
-  put (map (λ x. Some x) rs) (length rs) r ≡ map (λ x. Some x) (rs ++ r ∷ [])
+    put (map (λ x. Some x) rs) (length rs) r ≡ map (λ x. Some x) (rs ++ r ∷ [])
 put-next [] r = refl
 put-next (x ∷ xs) r = ap (λ (z : List (Option Request)). Some x ∷ z) (put-next xs r)
 
@@ -39,7 +39,7 @@ one_free [] r = refl
 one_free (x ∷ xs) r = one_free xs r
 
 folded : (t : Take) (rs more : List Request) →
-  fold step t (take (length rs) (map (λ x. Some x) (rs ++ more))) ≡ fold after t rs
+    fold step t (take (length rs) (map (λ x. Some x) (rs ++ more))) ≡ fold after t rs
 folded t [] more = refl
 folded t (x ∷ xs) more = folded (after t x) xs more
 
@@ -52,7 +52,7 @@ made-next rs r = folded (new_take false) rs (r ∷ [])
 pub made-all : (rs : List Request) → made false (map (λ x. Some x) rs) (length rs) ≡ take_with rs
 unfolding made take_with
 made-all rs = subst (λ (z : List Request). fold step (new_take false) (take (length rs) (map (λ x. Some x) z))
-  ≡ fold after (new_take false) rs) (append-nil rs) (folded (new_take false) rs [])
+    ≡ fold after (new_take false) rs) (append-nil rs) (folded (new_take false) rs [])
 
 -- one request more is applied once
 pub take_with-push : (rs : List Request) (r : Request) → take_with (rs ++ r ∷ []) ≡ after (take_with rs) r
@@ -61,9 +61,9 @@ take_with-push rs r = fold-append after (new_take false) rs (r ∷ [])
 
 -- the verdict of the next request
 verdict-next : (rs : List Request) (r : Request) →
-  verdict_at false (map (λ x. Some x) (rs ++ r ∷ [])) (length rs) ≡ verdict (take_with rs) r
+    verdict_at false (map (λ x. Some x) (rs ++ r ∷ [])) (length rs) ≡ verdict (take_with rs) r
 verdict-next rs r = ap (λ (t : Take). verdict_by t (at (map (λ x. Some x) (rs ++ r ∷ [])) (length rs)))
-  (made-next rs r) ∙ ap (verdict_by (take_with rs)) (at-last rs r)
+    (made-next rs r) ∙ ap (verdict_by (take_with rs)) (at-last rs r)
 
 -- a run's next message
 abbrev next_message : List ℕ → List Request → Request → Message
@@ -71,14 +71,14 @@ next_message name rs r = record { name = name; number = length rs; request = r }
 
 is_next_admitted : (name : List ℕ) (rs : List Request) (r : Request) → is_admissible (log_with rs) (length rs) ≡ true
 is_next_admitted name rs r =
-  ap (λ (z : Option Request). is_none z && nat_lt (length rs) (length rs + window)) (at-next rs)
-  ∙ lt-ltb (length rs) (length rs + window) (omega arith)
+    ap (λ (z : Option Request). is_none z && nat_lt (length rs) (length rs + window)) (at-next rs)
+    ∙ lt-ltb (length rs) (length rs + window) (omega arith)
 
 admitted-next : (name : List ℕ) (rs : List Request) (r : Request) →
-  admitted_after (log_with rs) (next_message name rs r) ≡ map (λ x. Some x) (rs ++ r ∷ [])
+    admitted_after (log_with rs) (next_message name rs r) ≡ map (λ x. Some x) (rs ++ r ∷ [])
 admitted-next name rs r =
     ap (λ (v : Bool). cond v (put (map (λ x. Some x) rs) (length rs) r) (map (λ x. Some x) rs))
-      (is_next_admitted name rs r) ∙ put-next rs r
+    (is_next_admitted name rs r) ∙ put-next rs r
 
 -- a body is the same as itself
 is_same_refl : (body : List ℕ) → is_same body body ≡ true
@@ -86,15 +86,15 @@ is_same_refl body = search name_refl
 
 -- its own reply is left out, since its verdict came in the drain
 own-next : (name : List ℕ) (rs : List Request) (r : Request) →
-  own_reply false (map (λ x. Some x) (rs ++ r ∷ [])) (length rs) (length rs + 1) (length rs + 1)
-  (next_message name rs r) ≡ []
+    own_reply false (map (λ x. Some x) (rs ++ r ∷ [])) (length rs) (length rs + 1) (length rs + 1)
+    (next_message name rs r) ≡ []
 unfolding own_reply
 own-next name rs r =
     let n : ℕ = length rs in
     let m : Message = next_message name rs r in
     let near : nat_le (n + window) n ≡ false = lt-leb (n + window) n (omega arith) in
     let same : is_repeat (map (λ x. Some x) (rs ++ r ∷ [])) m ≡ true =
-        ap (repeats m) (at-last rs r) ∙ is_same_refl (message_body m) in
+    ap (repeats m) (at-last rs r) ∙ is_same_refl (message_body m) in
     let from : nat_le n n ≡ true = le-leb n n (omega arith) in
     let to : nat_lt n (n + 1) ≡ true = lt-ltb n (n + 1) (omega arith) in
     rw (near, same, from, to) refl
@@ -102,11 +102,11 @@ own-next name rs r =
 -- a turn's replies and log, by the drain's end
 abbrev turned_to : List ℕ → ℕ → Message → List (Option Request) → ℕ → List Reply × Log
 turned_to name n m s end =
-  (verdicts_from false s name n (end - n) ++ own_reply false s n end end m, record { admitted = s; done = end })
+    (verdicts_from false s name n (end - n) ++ own_reply false s n end end m, record { admitted = s; done = end })
 
 one_verdict : (name : List ℕ) (rs : List Request) (r : Request) →
-  verdicts_from false (map (λ x. Some x) (rs ++ r ∷ [])) name (length rs) ((length rs + 1) - length rs)
-  ≡ Judged name (length rs) (verdict (take_with rs) r) ∷ []
+    verdicts_from false (map (λ x. Some x) (rs ++ r ∷ [])) name (length rs) ((length rs + 1) - length rs)
+    ≡ Judged name (length rs) (verdict (take_with rs) r) ∷ []
 one_verdict name rs r =
     rw (add-sub_cancel_left (length rs) 1) (ap (λ (v : Verdict). Judged name (length rs) v ∷ []) (verdict-next rs r))
 
@@ -114,8 +114,8 @@ log-push : (rs : List Request) (r : Request) → length rs + 1 ≡ length (rs ++
 log-push rs r = omega (arith, length-append rs (r ∷ []))
 
 served-next : (name : List ℕ) (rs : List Request) (r : Request) →
-  served false (log_with rs) (next_message name rs r) None
-  ≡ (Judged name (length rs) (verdict (take_with rs) r) ∷ [], log_with (rs ++ r ∷ []))
+    served false (log_with rs) (next_message name rs r) None
+    ≡ (Judged name (length rs) (verdict (take_with rs) r) ∷ [], log_with (rs ++ r ∷ []))
 unfolding served
 served-next name rs r =
     let n : ℕ = length rs in
@@ -123,22 +123,24 @@ served-next name rs r =
     let s : List (Option Request) = map (λ x. Some x) (rs ++ r ∷ []) in
     ap (λ (z : List (Option Request)). turned_to name n m z (run_end z n)) (admitted-next name rs r)
     ∙ (ap (λ (k : ℕ). turned_to name n m s (n + k)) (one_free rs r)
-    ∙ (ap (λ (z : List Reply). (verdicts_from false s name n ((n + 1) - n) ++ z,
-      record { admitted = s; done = n + 1 })) (own-next name rs r)
+    ∙ (ap (λ (z : List Reply). (
+      verdicts_from false s name n ((n + 1) - n) ++ z,
+      record { admitted = s; done = n + 1 },
+    )) (own-next name rs r)
     ∙ (ap (λ (z : List Reply). (z ++ [], record { admitted = s; done = n + 1 })) (one_verdict name rs r)
     ∙ ap (λ (k : ℕ). (Judged name n (verdict (take_with rs) r) ∷ [], record { admitted = s; done = k }))
-      (log-push rs r))))
+    (log-push rs r))))
 
 -- where the name's requests are these, and it is known where there are any
 turn_by-next : (known full : Bool) (name : List ℕ) (rs : List Request) (r : Request) →
-  (known ≡ false → (rs ≡ []) × (full ≡ false)) →
+    (known ≡ false → (rs ≡ []) × (full ≡ false)) →
     turn_by false known full (log_with rs) (next_message name rs r) good
-      ≡ (Judged name (length rs) (verdict (take_with rs) r) ∷ [], Some (log_with (rs ++ r ∷ [])))
+    ≡ (Judged name (length rs) (verdict (take_with rs) r) ∷ [], Some (log_with (rs ++ r ∷ [])))
 unfolding turn_by
 turn_by-next true full name rs r h =
-  rw (is_next_admitted name rs r) (ap (λ (x : List Reply × Log). (x.0, Some x.1)) (served-next name rs r))
+    rw (is_next_admitted name rs r) (ap (λ (x : List Reply × Log). (x.0, Some x.1)) (served-next name rs r))
 turn_by-next false full name rs r h =
-  rw ((h refl).0, (h refl).1) (ap (λ (x : List Reply × Log). (x.0, Some x.1)) (served-next name [] r))
+    rw ((h refl).0, (h refl).1) (ap (λ (x : List Reply × Log). (x.0, Some x.1)) (served-next name [] r))
 
 -- the reply to the next message of a run in order, and the book behind it
 abbrev pub Answered : Option (List ℕ) → List Request → Message → Type 0
@@ -153,7 +155,7 @@ at_place rs m e = ap (λ (k : ℕ). record m { number = k }) e
 turn-first : (name : List ℕ) (r : Request) → Answered None [] (next_message name [] r)
 unfolding turn
 turn-first name r = ap (λ (x : List Reply × Option Log). (x.0, with_change [] name x.1))
-  (turn_by-next false false name [] r (λ e. (refl, refl)))
+    (turn_by-next false false name [] r (λ e. (refl, refl)))
 
 turn-later : (name : List ℕ) (rs : List Request) (r : Request) → Answered (Some name) rs (next_message name rs r)
 unfolding turn
@@ -163,14 +165,14 @@ turn-later name rs r =
     let replies : List Reply = Judged name (length rs) (verdict (take_with rs) r) ∷ [] in
     let later : Log = log_with (rs ++ r ∷ []) in
     ap (λ (v : Bool). let x = turn_by false (v || false) false (cond v (log_with rs) no_log) m good
-      in (x.0, with_change book name x.1)) (name_refl name)
+    in (x.0, with_change book name x.1)) (name_refl name)
     ∙ (ap (λ (x : List Reply × Option Log). (x.0, with_change book name x.1))
-      (turn_by-next true false name rs r (λ e. absurd (cc)))
+    (turn_by-next true false name rs r (λ e. absurd (cc)))
     ∙ ap (λ (v : Bool). (replies, cond v ((name, later) ∷ []) ((name, log_with rs) ∷ (name, later) ∷ [])))
-      (name_refl name))
+    (name_refl name))
 
 by_name : (known : Option (List ℕ)) (rs : List Request) (m : Message) → (known ≡ None → rs ≡ []) →
-  is_its_name known m.name ≡ true → m.number ≡ length rs → Answered known rs m
+    is_its_name known m.name ≡ true → m.number ≡ length rs → Answered known rs m
 by_name None rs m unnamed own at =
     subst (λ (z : List Request). Answered None z m) (sym (unnamed refl))
     (subst (Answered None []) (sym (at_place [] m (at ∙ ap length (unnamed refl)))) (turn-first m.name m.request))
@@ -185,12 +187,12 @@ pub record IsNextTurn (p later : Progress) (rs : List Request) (m : Message) : T
   pub named : later.name ≡ Some m.name
 
 pub turn-next : (p later : Progress) (rs : List Request) (m : Message) → HasRequests p rs →
-  progress_behind p (Says m) ≡ Some later → IsNextTurn p later rs m
+    progress_behind p (Says m) ≡ Some later → IsNextTurn p later rs m
 turn-next p later rs m has next = go (is_its_name p.name m.name) refl (m.number == p.next) refl next
   where
     go : (own : Bool) → is_its_name p.name m.name ≡ own → (due : Bool) → (m.number == p.next) ≡ due →
         (if own && due then Some (record { name = Some m.name; next = p.next + 1 }) else None) ≡ Some later →
-          IsNextTurn p later rs m
+        IsNextTurn p later rs m
     go true o true d e =
         let at : m.number ≡ p.next = eqb-true m.number p.next d in
         let is : later ≡ record { name = Some m.name; next = p.next + 1 } = cc in

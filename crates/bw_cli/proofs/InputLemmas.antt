@@ -45,7 +45,7 @@ more-front xs bytes buf got most n left later front read e =
     let given : got ≡ take n (drop (length bytes) xs) = e ∙ read.given in
     let long : length (bytes ++ got) ≡ length bytes + n =
     length-append bytes got
-      ∙ ap (λ k. length bytes + k) (ap length given ∙ length-take-le n (drop (length bytes) xs) within) in
+    ∙ ap (λ k. length bytes + k) (ap length given ∙ length-take-le n (drop (length bytes) xs) within) in
     record {
       is = rw (long, take-add (length bytes) n xs, front.is, given) refl;
       inside = rw long (omega arith);

@@ -33,8 +33,12 @@ report-told file r left outcome out faults tells prints told = inl (record {
 -- an inspection that came to a fault
 pub fault-told : (file : Option (List ℕ)) (f : InspectFault) (left : Option (List ℕ)) (faults : Print)
     → Of file (λ b. Refuses b f left) → IsOf (fault_line f) faults
-    → IsInspection file (record { reads_all = not (is_read_fault f.kind); out = Nothing; faults = faults;
-      exit = exit_for f.kind })
+    → IsInspection file (record {
+      reads_all = not (is_read_fault f.kind);
+      out = Nothing;
+      faults = faults;
+      exit = exit_for f.kind;
+    })
 fault-told file f left faults refuses told = inr (record {
   fault = f;
   exit_is = refl;
@@ -51,7 +55,7 @@ failures-not false n = refl
 
 -- what is true of a reader's bytes is true of those of its file
 pub inspected-at : (file left : Option (List ℕ)) (did : Deed) → Keeps file left → IsInspection left did →
-  IsInspection file did
+    IsInspection file did
 inspected-at file left did keeps (inl r) = inl (record {
   outcome = r.outcome;
   exit_is = r.exit_is;

@@ -20,14 +20,14 @@ use Rattle.bw_cli.specs.declared.fault.Fault.TheVariants as faults
 pub told-want : (kind : TextKind) (told : Print) → IsToldBy (Err faults.Memory) told
     → IsTelling kind (record { reads_all = true; out = Nothing; faults = told; exit = exits.Memory })
 told-want texts.DisplayHelp told t =
-  record { outcome = Err faults.Memory; exit_is = refl; reads = refl; text = []; prints = refl; tells = t }
+    record { outcome = Err faults.Memory; exit_is = refl; reads = refl; text = []; prints = refl; tells = t }
 told-want texts.DisplayVersion told t =
-  record { outcome = Err faults.Memory; exit_is = refl; reads = refl; text = []; prints = refl; tells = t }
+    record { outcome = Err faults.Memory; exit_is = refl; reads = refl; text = []; prints = refl; tells = t }
 told-want _ told t = inr (record { exit_is = refl; reads = refl; prints = refl; tells = t })
 
 -- what is neither help nor the version is a fault of usage
 pub told-usage : (kind : TextKind) (text : List ℕ) (told : Print) → kind ≢ texts.DisplayHelp →
-  kind ≢ texts.DisplayVersion
+    kind ≢ texts.DisplayVersion
     → IsOf text told → IsTelling kind (record { reads_all = true; out = Nothing; faults = told; exit = exits.Usage })
 told-usage texts.DisplayHelp text told h v t = absurd (h refl)
 told-usage texts.DisplayVersion text told h v t = absurd (v refl)
@@ -36,12 +36,12 @@ told-usage _ text told h v t = inl (record { exit_is = refl; reads = refl; print
 -- help and the version are printed
 pub told-help : (kind : TextKind) (outcome : Result (Unit {0}) Fault) (text : List ℕ) (out told : Print)
     → ¬ ((kind ≢ texts.DisplayHelp) × (kind ≢ texts.DisplayVersion)) → IsPrintOfText text outcome out →
-      IsToldBy outcome told
+    IsToldBy outcome told
     → IsTelling kind (record { reads_all = true; out = out; faults = told; exit = exit_of outcome })
 told-help texts.DisplayHelp outcome text out told n p t =
-  record { outcome = outcome; exit_is = refl; reads = refl; text = text; prints = p; tells = t }
+    record { outcome = outcome; exit_is = refl; reads = refl; text = text; prints = p; tells = t }
 told-help texts.DisplayVersion outcome text out told n p t =
-  record { outcome = outcome; exit_is = refl; reads = refl; text = text; prints = p; tells = t }
+    record { outcome = outcome; exit_is = refl; reads = refl; text = text; prints = p; tells = t }
 told-help _ outcome text out told n p t = absurd (n ((λ e. cc), (λ e. cc)))
 
 -- a line with some reason is the line with this one
@@ -57,7 +57,7 @@ exit-device _ n = refl
 
 -- what is done for the words that were found is done for those that the system tells
 pub told-words : (words : Option (List Text)) (found : List Text) (file_at later : Text → Option (List ℕ))
-  (input : Option (List ℕ))
+    (input : Option (List ℕ))
     (gives_all : Bool) (did : Deed) → ((told : List Text) → words ≡ Some told → found ≡ told) → later ≡ file_at
     → IsProgram (record { words = Some found; file_at = later; input = input }) gives_all did
     → IsProgram (record { words = words; file_at = file_at; input = input }) gives_all did

@@ -20,7 +20,7 @@ take_with-none = refl
 
 -- a recording without a message
 pub keeps-new : (r : Recording) → r.name ≡ None → r.next ≡ 0 → r.state.parts ≡ parts (new_take false) →
-  r.samples.items ≡ [] → KeepsBook r []
+    r.samples.items ≡ [] → KeepsBook r []
 keeps-new r name next state samples = record {
   requests = [];
   count = record { count = next; unnamed = λ e. refl };
@@ -32,10 +32,10 @@ keeps-new r name next state samples = record {
 -- The next message, whose request was judged and applied.
 pub answers : (old new : Recording) (m : Message) (v : Verdict) →
     is_next (progress_of old) m.name m.number ≡ true → new.name ≡ Some m.name → new.next ≡ old.next + 1 →
-      v ≡ judge old.state.parts m.request →
+    v ≡ judge old.state.parts m.request →
     ((t : Take) → parts t ≡ old.state.parts → parts (after t m.request) ≡ new.state.parts) →
     ((t : Take) → parts t ≡ old.state.parts → old.samples.items ≡ t.samples →
-      new.samples.items ≡ (after t m.request).samples) →
+    new.samples.items ≡ (after t m.request).samples) →
     Answers old new m (Judged m.name m.number v)
 answers old new m v due name next judged state samples = record {
   progress = progress;
@@ -56,9 +56,9 @@ answers old new m v due name next judged state samples = record {
         ap (λ (b : Book). turn nothing_stands b (Says m) good) k.leaves
             ∙ (step.answered
             ∙ (ap (λ (w : Verdict). (Judged m.name m.number w ∷ [], book_with (Some m.name) (rs ++ m.request ∷ [])))
-              told
+            told
             ∙ ap (λ (n : Option (List ℕ)). (Judged m.name m.number v ∷ [], book_with n (rs ++ m.request ∷ [])))
-              (sym name))),
+            (sym name))),
       );
 }
   where

@@ -37,7 +37,7 @@ IsNotNext Memory r m = Unit {0}
 
 -- the bytes are in order, and this is their exchange behind a run that left this book
 pub record IsExchange (old new : Recording) (input : List ℕ) (book : Book)
-  (e : Exchange) : Type 0 where
+    (e : Exchange) : Type 0 where
   pub ordered : progress_after (progress_of old) (stream_of Second input).0 ≡ Some (progress_of new)
   pub tells : TellsExchange e (told_of (model.exchange nothing_stands book input))
   pub keeps : KeepsBook new (model.exchange nothing_stands book input).book
@@ -48,12 +48,13 @@ Exchanges old new input e = (book : Book) → KeepsBook old book → IsExchange 
 -- a fault that tells of the order is that the bytes break it
 abbrev pub Breaks : ExchangeFault → Recording → List ℕ → Type 0
 Breaks NotInOrder r input =
-  (book : Book) → KeepsBook r book → progress_after (progress_of r) (stream_of Second input).0 ≡ None
+    (book : Book) → KeepsBook r book →
+    progress_after (progress_of r) (stream_of Second input).0 ≡ None
 Breaks Memory r input = Unit {0}
 
 -- the exchange ends at this fault, which these frames and its reply answer
 pub record EndsBad (frames : List ℕ) (fault : WireFault) (e : Exchange) : Type 0 where
   pub replies : e.replies.items
-    ≡ frames ++ framed (reply_body (Refused (reason_of fault.reason) fault.offset))
+      ≡ frames ++ framed (reply_body (Refused (reason_of fault.reason) fault.offset))
   pub spelled : IsTrue (is_reply (Refused (reason_of fault.reason) fault.offset))
   pub end : e.end ≡ ends.BadFrame fault

@@ -24,8 +24,8 @@ is_next p name number = is_its_name p.name name && (number == p.next)
 -- the progress behind a frame, if the frame is the run's next message
 abbrev pub progress_behind : Progress → Frame → Option Progress
 progress_behind p (Says m) =
-  if is_next p m.name m.number then Some (record { name = Some m.name; next = p.next + 1 })
-  else None
+    if is_next p m.name m.number then Some (record { name = Some m.name; next = p.next + 1 })
+    else None
 progress_behind p (Asks name number) = None
 progress_behind p Bye = None
 
@@ -33,12 +33,15 @@ progress_behind p Bye = None
 unfoldable pub progress_after : Progress → List Frame → Option Progress
 progress_after p [] = Some p
 progress_after p (f ∷ fs) =
-  elim (progress_behind p f) [ None ↦ None | Some later ↦ progress_after later fs ]
+    elim (progress_behind p f) [ None ↦ None | Some later ↦ progress_after later fs ]
 
 -- the number of the first exchange that breaks the order, if one does, where the first of these has
 -- the number n
 unfoldable pub first_unordered : ℕ → Progress → List (List ℕ) → Option ℕ
 first_unordered n p [] = None
 first_unordered n p (input ∷ inputs) =
-    elim (progress_after p (stream_of Second input).0) [ None ↦ Some n | Some later ↦
-      first_unordered (n + 1) later inputs ]
+    elim (progress_after p (stream_of Second input).0) [
+      | None ↦ Some n
+      | Some later ↦
+          first_unordered (n + 1) later inputs
+    ]

@@ -24,7 +24,7 @@ asked_by_lines (Err n) = NotHex n
 -- the exchanges that the lines spell, whatever their order
 abbrev pub spelled_by : List ℕ → Asked
 spelled_by input = if nat_lt longest_input (length input) then TooLong
-  else asked_by_lines (decoded_from 1 (lines_of input))
+    else asked_by_lines (decoded_from 1 (lines_of input))
 
 abbrev pub unless_unordered : Option ℕ → List (List ℕ) → Asked
 unless_unordered None inputs = Exchanges inputs

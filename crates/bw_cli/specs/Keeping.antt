@@ -26,4 +26,4 @@ pub record Answers (old new : Recording) (m : Message) (reply : Reply) : Type 0 
   pub progress : progress_behind (progress_of old) (Says m) ≡ Some (progress_of new)
   pub turns : (book : Book) → KeepsBook old book →
       (later : Book) × KeepsBook new later
-        × (turn nothing_stands book (Says m) good ≡ (reply ∷ [], later))
+      × (turn nothing_stands book (Says m) good ≡ (reply ∷ [], later))

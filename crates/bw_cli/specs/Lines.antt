@@ -13,14 +13,14 @@ is_line_end byte = byte == 10
 unfoldable pub lines_from : List ℕ → List ℕ → List (List ℕ)
 lines_from line [] = if length line == 0 then [] else line ∷ []
 lines_from line (c ∷ cs) =
-  if is_line_end c then strip_last 13 line ∷ lines_from [] cs else lines_from (line ++ c ∷ []) cs
+    if is_line_end c then strip_last 13 line ∷ lines_from [] cs else lines_from (line ++ c ∷ []) cs
 
 abbrev pub lines_of : List ℕ → List (List ℕ)
 lines_of bytes = lines_from [] bytes
 
 -- the bytes of a line and of those behind it, or the number of the first that is not hex
 abbrev pub with_line : ℕ → Result (List ℕ) FromHexError → Result (List (List ℕ)) ℕ →
-  Result (List (List ℕ)) ℕ
+    Result (List (List ℕ)) ℕ
 with_line n (Err e) more = Err n
 with_line n (Ok bytes) (Err m) = Err m
 with_line n (Ok bytes) (Ok lines) = Ok (bytes ∷ lines)

@@ -110,14 +110,14 @@ IsLook file path false did = ((kind : ErrorKind) × IsUnopened path kind did) �
 -- what is done for a command line over these files and this input, where the system gives what is
 -- asked of it, or not
 abbrev pub IsDoneFor : (Text → Option (List ℕ)) → Option (List ℕ) → Bool → CommandLine → Deed →
-  Type 0
+    Type 0
 IsDoneFor file_at input gives_all (Run (Replay limit)) did =
-  IsReplay limit input did × (gives_all ≡ true)
+    IsReplay limit input did × (gives_all ≡ true)
 IsDoneFor file_at input gives_all (Run (Inspect file)) did =
     IsLook (file_at (string_bytes file)) (string_bytes file) gives_all did
 IsDoneFor file_at input gives_all BadLimit did = IsBadLimit did × (gives_all ≡ true)
 IsDoneFor file_at input gives_all (Tell error) did =
-  IsTelling (kind_of error) did × (gives_all ≡ true)
+    IsTelling (kind_of error) did × (gives_all ≡ true)
 
 -- the words come to a command line, and this is done for it
 pub record IsAnswer (given : Given) (gives_all : Bool) (did : Deed) : Type 0 where

@@ -25,7 +25,7 @@ IsTextFor limit (NotInOrder n) text = ⊥
 
 -- the text of the run that an input asks for was to be printed
 pub record PrintsRun (limit : ℕ) (input : Option (List ℕ)) (printed : List ℕ → Print)
-  (print : Print) : Type 0 where
+    (print : Print) : Type 0 where
   pub text : List ℕ
   pub is : print ≡ printed text
   pub right : Of input (λ xs. IsTextFor limit (asked_by xs) text)
@@ -42,6 +42,6 @@ IsPrintOf limit input (Err faults.Unwritable) print = PrintsRun limit input Part
 IsPrintOf limit input (Err faults.TooLong) print = PrintsNothing input faults.TooLong print
 IsPrintOf limit input (Err (faults.NotHex n)) print = PrintsNothing input (faults.NotHex n) print
 IsPrintOf limit input (Err (faults.NotInOrder n)) print =
-  PrintsNothing input (faults.NotInOrder n) print
+    PrintsNothing input (faults.NotInOrder n) print
 IsPrintOf limit input (Err faults.Unreadable) print = PrintsNothing input faults.Unreadable print
 IsPrintOf limit input (Err faults.Memory) print = PrintsNothing input faults.Memory print

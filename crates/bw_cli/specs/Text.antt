@@ -34,8 +34,8 @@ exchanges_text i (one ∷ more) = exchange_text i one ++ exchanges_text (i + 1) 
 
 abbrev pub file_text : List ℕ → List ℕ → List ℕ
 file_text name content =
-  line (codes "file " ++ name ++ codes " " ++ decimal (length content))
-  ++ line (encode_lower content)
+    line (codes "file " ++ name ++ codes " " ++ decimal (length content))
+    ++ line (encode_lower content)
 
 -- a file, if there is one
 abbrev pub file_text_if : List ℕ → Option (List ℕ) → List ℕ
@@ -45,11 +45,11 @@ file_text_if name (Some content) = file_text name content
 -- the files of a book over an empty store; a run in order has one name
 unfoldable pub files_text : ℕ → Book → List ℕ
 files_text limit book =
-  flat_map (λ entry. file_text_if entry.0 (content_in (λ name. None) limit book entry.0)) book
+    flat_map (λ entry. file_text_if entry.0 (content_in (λ name. None) limit book entry.0)) book
 
 abbrev pub text_of_exchanges : ℕ → List Exchange → List ℕ
 text_of_exchanges limit es =
-  exchanges_text 0 (map told_of es) ++ files_text limit (book_behind_all [] es)
+    exchanges_text 0 (map told_of es) ++ files_text limit (book_behind_all [] es)
 
 -- the text of the run of these inputs, on a new server over an empty store
 abbrev pub run_text : ℕ → List (List ℕ) → List ℕ

@@ -20,13 +20,13 @@ Named Bext id = id ≡ codes "bext"
 Named Data id = id ≡ codes "data"
 Named Cue id = id ≡ codes "cue "
 Named Other id = (reading.is_id id (codes "fmt ") ≡ false) × (reading.is_id id (codes "bext") ≡ false)
-  × (reading.is_id id (codes "data") ≡ false) × (reading.is_id id (codes "cue ") ≡ false)
+    × (reading.is_id id (codes "data") ≡ false) × (reading.is_id id (codes "cue ") ≡ false)
 
 pub same_bytes : (xs ys : List ℕ) → bytes_eq xs ys ≡ true → xs ≡ ys
 same_bytes xs ys e = (bytes_eq-Decides xs ys).0 e
 
 named_by : (id : List ℕ) (f x d q : Bool) → reading.is_id id (codes "fmt ") ≡ f → reading.is_id id (codes "bext") ≡ x →
-  reading.is_id id (codes "data") ≡ d → reading.is_id id (codes "cue ") ≡ q →
+    reading.is_id id (codes "data") ≡ d → reading.is_id id (codes "cue ") ≡ q →
     Named (cond f Fmt (cond x Bext (cond d Data (cond q Cue Other)))) id
 named_by id true x d q ef ex ed eq = same_bytes id (codes "fmt ") ef
 named_by id false true d q ef ex ed eq = same_bytes id (codes "bext") ex
@@ -43,45 +43,45 @@ some-map f (Some x) = refl
 
 abbrev pub parts : ℕ → ℕ → List reading.Entry → ℕ → ChunkKind → Bool → Option ℕ → ℕ → ℕ → List (Bool × reading.Fault)
 parts len end seen p s has size count c =
-  start_faults len seen p ++ (size_faults end p s has size c ++ content_faults len p s count c)
+    start_faults len seen p ++ (size_faults end p s has size c ++ content_faults len p s count c)
 
 parts_by : (b : List ℕ) (len end : ℕ) (seen : List reading.Entry) (p : ℕ) (id : List ℕ) (size : Option ℕ) (count c : ℕ)
-  (s : ChunkKind) → Named s id →
+    (s : ChunkKind) → Named s id →
     reading.chunk_faults len end seen p (record { id = id; size = size; count = count }) c
-      ≡ parts len end seen p s (has_kind s (facts_in b seen)) size count c
+    ≡ parts len end seen p s (has_kind s (facts_in b seen)) size count c
 parts_by b len end seen p id size count c Fmt n =
-  rw (n, some-map (fmt_told b) (reading.entry_of (codes "fmt ") seen)) refl
+    rw (n, some-map (fmt_told b) (reading.entry_of (codes "fmt ") seen)) refl
 parts_by b len end seen p id size count c Bext n =
-  rw (n, some-map (bext_told b) (reading.entry_of (codes "bext") seen)) refl
+    rw (n, some-map (bext_told b) (reading.entry_of (codes "bext") seen)) refl
 parts_by b len end seen p id size count c Data n =
-  rw (n, some-map samples_told (reading.entry_of (codes "data") seen)) refl
+    rw (n, some-map samples_told (reading.entry_of (codes "data") seen)) refl
 parts_by b len end seen p id size count c Cue n =
-  rw (n, some-map (cues_told b) (reading.entry_of (codes "cue ") seen)) refl
+    rw (n, some-map (cues_told b) (reading.entry_of (codes "cue ") seen)) refl
 parts_by b len end seen p id size count c Other n = simp (n.0, n.1, n.2, n.3)
 
 -- the faults at a place, in parts
 pub faults_in_parts : (len : ℕ) (b : List ℕ) (form : reading.Form) (seen : List reading.Entry) (p c : ℕ) →
     reading.chunk_faults len (reading.form_end form) seen p (reading.head_at b form p) c
     ≡ parts len (reading.form_end form) seen p (kind_by (reading.id_at b p))
-      (has_kind (kind_by (reading.id_at b p)) (facts_in b seen)) (reading.size_at b form p) (u32_at b (p + 8)) c
+    (has_kind (kind_by (reading.id_at b p)) (facts_in b seen)) (reading.size_at b form p) (u32_at b (p + 8)) c
 faults_in_parts len b form seen p c =
-  parts_by b len (reading.form_end form) seen p (reading.id_at b p) (reading.size_at b form p) (u32_at b (p + 8)) c
-  (kind_by (reading.id_at b p)) (named (reading.id_at b p))
+    parts_by b len (reading.form_end form) seen p (reading.id_at b p) (reading.size_at b form p) (u32_at b (p + 8)) c
+    (kind_by (reading.id_at b p)) (named (reading.id_at b p))
 
 pub first_none : {X : Type 0} (xs ys : List (Bool × X)) → first_that_holds xs ≡ None →
-  first_that_holds (xs ++ ys) ≡ first_that_holds ys
+    first_that_holds (xs ++ ys) ≡ first_that_holds ys
 first_none [] ys e = refl
 first_none ((true, x) ∷ xs) ys e = cc
 first_none ((false, x) ∷ xs) ys e = first_none xs ys e
 
 pub first_some : {X : Type 0} (xs ys : List (Bool × X)) (g : X) → first_that_holds xs ≡ Some g →
-  first_that_holds (xs ++ ys) ≡ Some g
+    first_that_holds (xs ++ ys) ≡ Some g
 first_some [] ys g e = cc
 first_some ((true, x) ∷ xs) ys g e = e
 first_some ((false, x) ∷ xs) ys g e = first_some xs ys g e
 
 pub next_err : (b : List ℕ) (form : reading.Form) (seen : List reading.Entry) (p : ℕ) (g : reading.Fault) →
-  p ≡ reading.next_place seen → p + 8 ≤ reading.form_end form →
+    p ≡ reading.next_place seen → p + 8 ≤ reading.form_end form →
     first_that_holds (faults_at (length b) b form seen p) ≡ Some g → reading.next b form seen ≡ Err g
 unfolding reading.next
 next_err b form seen p g e l f =
@@ -89,10 +89,10 @@ next_err b form seen p g e l f =
     rw (← e, goes_on, f) refl
 
 pub next_ok : (b : List ℕ) (form : reading.Form) (seen : List reading.Entry) (p : ℕ) → p ≡ reading.next_place seen →
-  p + 8 ≤ reading.form_end form →
+    p + 8 ≤ reading.form_end form →
     first_that_holds (faults_at (length b) b form seen p) ≡ None →
-      reading.next b form seen
-      ≡ Ok (Some (record { id = reading.id_at b p; place = p; size = unwrap_or (reading.size_at b form p) 0 }))
+    reading.next b form seen
+    ≡ Ok (Some (record { id = reading.id_at b p; place = p; size = unwrap_or (reading.size_at b form p) 0 }))
 unfolding reading.next
 next_ok b form seen p e l f =
     let goes_on : nat_le (p + 8) (reading.form_end form) ≡ true = le-leb (p + 8) (reading.form_end form) l in
@@ -100,33 +100,33 @@ next_ok b form seen p e l f =
 
 -- one more chunk at the end of a walk
 pub follow_push : (comes : List reading.Entry → Result (Option reading.Entry) reading.Fault)
-  (seen es : List reading.Entry) (e : reading.Entry) →
+    (seen es : List reading.Entry) (e : reading.Entry) →
     reading.FollowEachOther comes seen es → comes (seen ++ es) ≡ Ok (Some e) →
-      reading.FollowEachOther comes seen (es ++ e ∷ [])
+    reading.FollowEachOther comes seen (es ++ e ∷ [])
 follow_push comes seen [] e f h = (ap comes (sym (append-nil seen)) ∙ h, tt)
 follow_push comes seen (d ∷ es) e f h =
-  (f.0, follow_push comes (seen ++ d ∷ []) es e f.1 (ap comes (append_assoc seen (d ∷ []) es) ∙ h))
+    (f.0, follow_push comes (seen ++ d ∷ []) es e f.1 (ap comes (append_assoc seen (d ∷ []) es) ∙ h))
 
 pub place_push : (q : ℕ) (seen : List reading.Entry) (e : reading.Entry) →
-  fold (λ p e. e.place + 8 + even_up e.size) q (seen ++ e ∷ []) ≡ e.place + 8 + even_up e.size
+    fold (λ p e. e.place + 8 + even_up e.size) q (seen ++ e ∷ []) ≡ e.place + 8 + even_up e.size
 place_push q [] e = refl
 place_push q (s ∷ seen) e = place_push (s.place + 8 + even_up s.size) seen e
 
 other_push : (i : List ℕ) (seen : List reading.Entry) (e : reading.Entry) → reading.is_id e.id i ≡ false →
-  reading.entry_of i (seen ++ e ∷ []) ≡ reading.entry_of i seen
+    reading.entry_of i (seen ++ e ∷ []) ≡ reading.entry_of i seen
 other_push i [] e h = rw h refl
 other_push i (d ∷ seen) e h =
-  ap (λ (o : Option reading.Entry). cond (reading.is_id d.id i) (Some d) o) (other_push i seen e h)
+    ap (λ (o : Option reading.Entry). cond (reading.is_id d.id i) (Some d) o) (other_push i seen e h)
 
 own_by : (i : List ℕ) (d e : reading.Entry) (seen : List reading.Entry) (v : Bool) →
-  cond v (Some d) (reading.entry_of i seen) ≡ None →
-  (reading.entry_of i seen ≡ None → reading.entry_of i (seen ++ e ∷ []) ≡ Some e) →
-  cond v (Some d) (reading.entry_of i (seen ++ e ∷ [])) ≡ Some e
+    cond v (Some d) (reading.entry_of i seen) ≡ None →
+    (reading.entry_of i seen ≡ None → reading.entry_of i (seen ++ e ∷ []) ≡ Some e) →
+    cond v (Some d) (reading.entry_of i (seen ++ e ∷ [])) ≡ Some e
 own_by i d e seen true h k = cc
 own_by i d e seen false h k = k h
 
 own_push : (i : List ℕ) (seen : List reading.Entry) (e : reading.Entry) → reading.is_id e.id i ≡ true →
-  reading.entry_of i seen ≡ None → reading.entry_of i (seen ++ e ∷ []) ≡ Some e
+    reading.entry_of i seen ≡ None → reading.entry_of i (seen ++ e ∷ []) ≡ Some e
 own_push i [] e h n = rw h refl
 own_push i (d ∷ seen) e h n = own_by i d e seen (reading.is_id d.id i) n (own_push i seen e h)
 
@@ -136,31 +136,43 @@ none-map f (Some x) h = cc
 
 -- what the chunks tell with one more
 pub facts_push : (b : List ℕ) (seen : List reading.Entry) (e : reading.Entry) (s : ChunkKind) → Named s e.id →
-  has_kind s (facts_in b seen) ≡ false → facts_in b (seen ++ e ∷ []) ≡ learned b s e (facts_in b seen)
+    has_kind s (facts_in b seen) ≡ false → facts_in b (seen ++ e ∷ []) ≡ learned b s e (facts_in b seen)
 facts_push b seen e Fmt n h =
-  rw (own_push (codes "fmt ") seen e (ap (λ (i : List ℕ). reading.is_id i (codes "fmt ")) n)
-  (none-map (fmt_told b) _ h),
-  other_push (codes "bext") seen e (ap (λ (i : List ℕ). reading.is_id i (codes "bext")) n),
-  other_push (codes "data") seen e (ap (λ (i : List ℕ). reading.is_id i (codes "data")) n),
-  other_push (codes "cue ") seen e (ap (λ (i : List ℕ). reading.is_id i (codes "cue ")) n)) refl
+    rw (
+      own_push (codes "fmt ") seen e (ap (λ (i : List ℕ). reading.is_id i (codes "fmt ")) n)
+          (none-map (fmt_told b) _ h),
+      other_push (codes "bext") seen e (ap (λ (i : List ℕ). reading.is_id i (codes "bext")) n),
+      other_push (codes "data") seen e (ap (λ (i : List ℕ). reading.is_id i (codes "data")) n),
+      other_push (codes "cue ") seen e (ap (λ (i : List ℕ). reading.is_id i (codes "cue ")) n),
+    ) refl
 facts_push b seen e Bext n h =
-  rw (own_push (codes "bext") seen e (ap (λ (i : List ℕ). reading.is_id i (codes "bext")) n)
-  (none-map (bext_told b) _ h),
-  other_push (codes "fmt ") seen e (ap (λ (i : List ℕ). reading.is_id i (codes "fmt ")) n),
-  other_push (codes "data") seen e (ap (λ (i : List ℕ). reading.is_id i (codes "data")) n),
-  other_push (codes "cue ") seen e (ap (λ (i : List ℕ). reading.is_id i (codes "cue ")) n)) refl
+    rw (
+      own_push (codes "bext") seen e (ap (λ (i : List ℕ). reading.is_id i (codes "bext")) n)
+          (none-map (bext_told b) _ h),
+      other_push (codes "fmt ") seen e (ap (λ (i : List ℕ). reading.is_id i (codes "fmt ")) n),
+      other_push (codes "data") seen e (ap (λ (i : List ℕ). reading.is_id i (codes "data")) n),
+      other_push (codes "cue ") seen e (ap (λ (i : List ℕ). reading.is_id i (codes "cue ")) n),
+    ) refl
 facts_push b seen e Data n h =
-  rw (own_push (codes "data") seen e (ap (λ (i : List ℕ). reading.is_id i (codes "data")) n)
-  (none-map samples_told _ h),
-  other_push (codes "fmt ") seen e (ap (λ (i : List ℕ). reading.is_id i (codes "fmt ")) n),
-  other_push (codes "bext") seen e (ap (λ (i : List ℕ). reading.is_id i (codes "bext")) n),
-  other_push (codes "cue ") seen e (ap (λ (i : List ℕ). reading.is_id i (codes "cue ")) n)) refl
+    rw (
+      own_push (codes "data") seen e (ap (λ (i : List ℕ). reading.is_id i (codes "data")) n)
+          (none-map samples_told _ h),
+      other_push (codes "fmt ") seen e (ap (λ (i : List ℕ). reading.is_id i (codes "fmt ")) n),
+      other_push (codes "bext") seen e (ap (λ (i : List ℕ). reading.is_id i (codes "bext")) n),
+      other_push (codes "cue ") seen e (ap (λ (i : List ℕ). reading.is_id i (codes "cue ")) n),
+    ) refl
 facts_push b seen e Cue n h =
-  rw (own_push (codes "cue ") seen e (ap (λ (i : List ℕ). reading.is_id i (codes "cue ")) n)
-  (none-map (cues_told b) _ h),
-  other_push (codes "fmt ") seen e (ap (λ (i : List ℕ). reading.is_id i (codes "fmt ")) n),
-  other_push (codes "bext") seen e (ap (λ (i : List ℕ). reading.is_id i (codes "bext")) n),
-  other_push (codes "data") seen e (ap (λ (i : List ℕ). reading.is_id i (codes "data")) n)) refl
+    rw (
+      own_push (codes "cue ") seen e (ap (λ (i : List ℕ). reading.is_id i (codes "cue ")) n)
+          (none-map (cues_told b) _ h),
+      other_push (codes "fmt ") seen e (ap (λ (i : List ℕ). reading.is_id i (codes "fmt ")) n),
+      other_push (codes "bext") seen e (ap (λ (i : List ℕ). reading.is_id i (codes "bext")) n),
+      other_push (codes "data") seen e (ap (λ (i : List ℕ). reading.is_id i (codes "data")) n),
+    ) refl
 facts_push b seen e Other n h =
-  rw (other_push (codes "fmt ") seen e n.0, other_push (codes "bext") seen e n.1, other_push (codes "data") seen e n.2,
-  other_push (codes "cue ") seen e n.3) refl
+    rw (
+      other_push (codes "fmt ") seen e n.0,
+      other_push (codes "bext") seen e n.1,
+      other_push (codes "data") seen e n.2,
+      other_push (codes "cue ") seen e n.3,
+    ) refl

@@ -17,21 +17,21 @@ use Rattle.bw_inspect.proofs.Pieces.{part_at}
 
 -- a part of a content stands in all the bytes
 pub in_content : (b : List ℕ) (e : reading.Entry) (i j : ℕ) → i ≤ j → j ≤ e.size →
-  slice_range (report.content_of b (Some e)) i j ≡ slice_range b (e.place + 8 + i) (e.place + 8 + j)
+    slice_range (report.content_of b (Some e)) i j ≡ slice_range b (e.place + 8 + i) (e.place + 8 + j)
 in_content b e i j h k = part_at b (e.place + 8) e.size i j h k
 
 cut_faults : (len p count c : ℕ) (s : ChunkKind) (v : Bool) → nat_lt len (p + 8 + c) ≡ v → is_cue s ≡ false →
-  first_that_holds (content_faults len p s count c)
-  ≡ cond v (Some (record { kind = reading.Truncated; offset = p })) None
+    first_that_holds (content_faults len p s count c)
+    ≡ cond v (Some (record { kind = reading.Truncated; offset = p })) None
 cut_faults len p count c s v e n = rw (n, e) refl
 
 -- a content of which nothing but its length can be wrong
 
 pub plain_whole : (b : List ℕ) (e : reading.Entry) (s : ChunkKind) (left : Option (List ℕ)) → is_cue s ≡ false →
-  ReadTo b e e.size left → IsWhole b s e left
+    ReadTo b e e.size left → IsWhole b s e left
 plain_whole b e s left n r = record {
   free = cut_faults (length b) e.place (u32_at b (e.place + 8)) e.size s false
-    (le-ltb (length b) (e.place + 8 + e.size) r.there) n;
+      (le-ltb (length b) (e.place + 8 + e.size) r.there) n;
   to = r;
 }
 
@@ -88,7 +88,7 @@ bext_front c =
 
 -- behind a head its content begins
 pub at_start : (b : List ℕ) (e : reading.Entry) (left : Option (List ℕ)) → e.place + 8 ≤ length b →
-  left ≡ Some (drop (e.place + 8) b) → ReadTo b e 0 left
+    left ≡ Some (drop (e.place + 8) b) → ReadTo b e 0 left
 at_start b e left h r = record {
   there = omega arith;
   rest = r ∙ ap (λ (k : ℕ). Some (drop k b)) (let g : e.place + 8 ≡ e.place + 8 + 0 = omega arith in g);
@@ -96,13 +96,13 @@ at_start b e left h r = record {
 
 -- of the same chunk
 pub read_as : (b : List ℕ) (e e' : reading.Entry) (done : ℕ) (left : Option (List ℕ)) → e ≡ e' → ReadTo b e done left →
-  ReadTo b e' done left
+    ReadTo b e' done left
 read_as b e e' done left same r = subst (λ (x : reading.Entry). ReadTo b x done left) same r
 
 -- what `bext` tells is known
 pub bext_learned : (b : List ℕ) (e : reading.Entry) (x : (report.RawBext × List ℕ) × ℕ) (old : Facts)
-  (left : Option (List ℕ)) → ReadTo b e e.size left → x ≡ bext_told b e →
-  IsLearned b Bext e old (record old { bext = Some x }) left
+    (left : Option (List ℕ)) → ReadTo b e e.size left → x ≡ bext_told b e →
+    IsLearned b Bext e old (record old { bext = Some x }) left
 bext_learned b e x old left r q = record {
   whole = plain_whole b e Bext left refl r;
   facts = ap (λ (y : (report.RawBext × List ℕ) × ℕ). record old { bext = Some y }) q;

@@ -18,15 +18,15 @@ use Rattle.bw_inspect.proofs.Counted.{stopped_as}
 
 -- the count stands behind the head
 count_there : (b : List ℕ) (e : reading.Entry) → 4 ≤ e.size →
-  u32_at (report.content_of b (Some e)) 0 ≡ u32_at b (e.place + 8)
+    u32_at (report.content_of b (Some e)) 0 ≡ u32_at b (e.place + 8)
 count_there b e h =
     ap (from_le_bytes w32) (in_content b e 0 4 (lit≤ tt) h
-      ∙ ap (λ (k : ℕ). slice_range b k (e.place + 8 + 4)) (add-zero (e.place + 8)))
+    ∙ ap (λ (k : ℕ). slice_range b k (e.place + 8 + 4)) (add-zero (e.place + 8)))
 
 -- the faults of the content, by either word, where so many bytes are there
 faults_as : (len : ℕ) (b : List ℕ) (e : reading.Entry) → 4 ≤ e.size →
-  counted_faults len e 4 65536 24 reading.BadCue (u32_at (report.content_of b (Some e)) 0)
-  ≡ content_faults len e.place Cue (u32_at b (e.place + 8)) e.size
+    counted_faults len e 4 65536 24 reading.BadCue (u32_at (report.content_of b (Some e)) 0)
+    ≡ content_faults len e.place Cue (u32_at b (e.place + 8)) e.size
 faults_as len b e h =
     let twelve : e.place + 8 + 4 ≡ e.place + 12 = omega arith in
     rw (count_there b e h, twelve) refl
@@ -42,23 +42,23 @@ points_wanted b e n h w =
       is = refl;
       free = sym (ap first_that_holds (faults_as (e.place + 8 + e.size) b e h)) ∙ w.free;
       grown = subst (λ (p : ℕ). HasGrown b p 24 (u32_at b (e.place + 8)) n) twelve
-        (subst (λ (k : ℕ). HasGrown b (e.place + 8 + 4) 24 k n) (count_there b e h) w.grown);
+          (subst (λ (k : ℕ). HasGrown b (e.place + 8 + 4) 24 k n) (count_there b e h) w.grown);
     }
 
 pub cues_unlearned : (b : List ℕ) (e : reading.Entry) (f : InspectFault) (left : Option (List ℕ)) → 4 ≤ e.size →
-  IsStopped b (e.place + 8 + e.size) e.place (WantsPoint b e) (cue_faults b e) f left → IsUnlearned b Cue e f left
+    IsStopped b (e.place + 8 + e.size) e.place (WantsPoint b e) (cue_faults b e) f left → IsUnlearned b Cue e f left
 cues_unlearned b e f left h s =
     stopped_as b (e.place + 8 + e.size) e.place (WantsPoint b e) (WantsPoints b Cue e) (cue_faults b e)
-      (faults_in b Cue e) f left (λ n w. points_wanted b e n h w) (ap first_that_holds (faults_are b e h)) s
+    (faults_in b Cue e) f left (λ n w. points_wanted b e n h w) (ap first_that_holds (faults_are b e h)) s
 
 cues_whole : (b : List ℕ) (e : reading.Entry) (points : List report.RawCue) (left : Option (List ℕ)) → 4 ≤ e.size →
-  IsCued b e points left → IsWhole b Cue e left
+    IsCued b e points left → IsWhole b Cue e left
 cues_whole b e points left h c = record { free = sym (ap first_that_holds (faults_are b e h)) ∙ c.free; to = c.to }
 
 -- the points are known
 pub cues_learned : (b : List ℕ) (e : reading.Entry) (points : List report.RawCue) (old : Facts)
-  (left : Option (List ℕ)) → 4 ≤ e.size → IsCued b e points left →
-  IsLearned b Cue e old (record old { cues = Some points }) left
+    (left : Option (List ℕ)) → 4 ≤ e.size → IsCued b e points left →
+    IsLearned b Cue e old (record old { cues = Some points }) left
 cues_learned b e points old left h c = record {
   whole = cues_whole b e points left h c;
   facts = ap (λ (x : List report.RawCue). record old { cues = Some x }) c.told;

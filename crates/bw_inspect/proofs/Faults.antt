@@ -5,71 +5,30 @@ use Rattle.std.specs.Prelude.{option_map, is_some, not}
 use Rattle.bw_model.specs.Reading as reading
 use Rattle.bw_inspect.specs.declared.fault.InspectFault.{InspectFault}
 use Rattle.bw_inspect.specs.declared.fault.InspectKind.{InspectKind}
-use Rattle.bw_inspect.specs.declared.fault.InspectKind.TheVariants.{NotWave, Truncated, NoDs64, BadDs64, NoSize, Twice}
-use Rattle.bw_inspect.specs.declared.fault.InspectKind.TheVariants.{NoFmt, NoData, BadFmt, BadBext, BadCue, TooMany}
-use Rattle.bw_inspect.specs.declared.fault.InspectKind.TheVariants.{TooLarge, Read, Memory}
+use Rattle.bw_inspect.specs.declared.fault.InspectKind.TheVariants.{Read, Memory}
 use Rattle.bw_inspect.specs.Faults.{is_read, is_memory, is_of_bytes, kind_of, fault_of}
 use Rattle.bw_inspect.specs.Places.{Halts, IsMissed}
 
 -- a fault of the bytes is no failed read
 pub bytes_no_read : (k : InspectKind) → is_of_bytes k ≡ true → is_read k ≡ false
-bytes_no_read NotWave e = refl
-bytes_no_read Truncated e = refl
-bytes_no_read NoDs64 e = refl
-bytes_no_read BadDs64 e = refl
-bytes_no_read NoSize e = refl
-bytes_no_read Twice e = refl
-bytes_no_read NoFmt e = refl
-bytes_no_read NoData e = refl
-bytes_no_read BadFmt e = refl
-bytes_no_read BadBext e = refl
-bytes_no_read BadCue e = refl
-bytes_no_read TooMany e = refl
-bytes_no_read TooLarge e = refl
 bytes_no_read Read e = cc
-bytes_no_read Memory e = refl
+bytes_no_read _ e = refl
 
 -- nor want of memory
 pub bytes_no_memory : (k : InspectKind) → is_of_bytes k ≡ true → is_memory k ≡ false
-bytes_no_memory NotWave e = refl
-bytes_no_memory Truncated e = refl
-bytes_no_memory NoDs64 e = refl
-bytes_no_memory BadDs64 e = refl
-bytes_no_memory NoSize e = refl
-bytes_no_memory Twice e = refl
-bytes_no_memory NoFmt e = refl
-bytes_no_memory NoData e = refl
-bytes_no_memory BadFmt e = refl
-bytes_no_memory BadBext e = refl
-bytes_no_memory BadCue e = refl
-bytes_no_memory TooMany e = refl
-bytes_no_memory TooLarge e = refl
-bytes_no_memory Read e = refl
 bytes_no_memory Memory e = cc
+bytes_no_memory _ e = refl
 
 -- want of memory is no failed read
 pub memory_no_read : (k : InspectKind) → is_memory k ≡ true → is_read k ≡ false
-memory_no_read NotWave e = refl
-memory_no_read Truncated e = refl
-memory_no_read NoDs64 e = refl
-memory_no_read BadDs64 e = refl
-memory_no_read NoSize e = refl
-memory_no_read Twice e = refl
-memory_no_read NoFmt e = refl
-memory_no_read NoData e = refl
-memory_no_read BadFmt e = refl
-memory_no_read BadBext e = refl
-memory_no_read BadCue e = refl
-memory_no_read TooMany e = refl
-memory_no_read TooLarge e = refl
 memory_no_read Read e = cc
-memory_no_read Memory e = refl
+memory_no_read _ e = refl
 
 pub not_both : (v : Bool) → v ≡ false → v ≡ true → ⊥
 not_both v f t = let x : false ≡ true = sym f ∙ t in cc
 
 named : (o : Option reading.FaultKind) (n : ℕ) (g : reading.Fault) →
-  option_map (λ (k : reading.FaultKind). record { kind = k; offset = n }) o ≡ Some g → is_some o ≡ true
+    option_map (λ (k : reading.FaultKind). record { kind = k; offset = n }) o ≡ Some g → is_some o ≡ true
 named None n g e = cc
 named (Some k) n g e = refl
 
@@ -78,8 +37,8 @@ pub of_bytes : (f : InspectFault) (g : reading.Fault) → fault_of f ≡ Some g 
 of_bytes f g e = named (kind_of f.kind) f.offset g e
 
 kind_told : (o : Option reading.FaultKind) (n : ℕ) → is_some o ≡ true →
-  (g : reading.Fault) × (option_map {U = reading.Fault} (λ (k : reading.FaultKind). record { kind = k; offset = n }) o
-  ≡ Some g)
+    (g : reading.Fault) × (option_map {U = reading.Fault} (λ (k : reading.FaultKind). record { kind = k; offset = n }) o
+    ≡ Some g)
 kind_told None n e = cc
 kind_told (Some k) n e = (record { kind = k; offset = n }, refl)
 
@@ -89,8 +48,8 @@ told_fault f e = kind_told (kind_of f.kind) f.offset e
 
 -- a call halts where it stands, for a fault of the bytes
 pub halts_by_bytes : (b : List ℕ) (most place reached : ℕ) (wants : ℕ → Type 0) (f : InspectFault)
-  (left : Option (List ℕ)) → reached ≤ most → reached ≤ length b → left ≡ Some (drop reached b) →
-  is_of_bytes f.kind ≡ true →
+    (left : Option (List ℕ)) → reached ≤ most → reached ≤ length b → left ≡ Some (drop reached b) →
+    is_of_bytes f.kind ≡ true →
     Halts b most place wants f left
 halts_by_bytes b most place reached wants f left w l r k = record {
   reached = reached;
@@ -103,7 +62,7 @@ halts_by_bytes b most place reached wants f left w l r k = record {
 
 -- it may have gone further
 unfoldable pub halts_further : (b : List ℕ) (most more place : ℕ) (wants further : ℕ → Type 0) (f : InspectFault)
-  (left : Option (List ℕ)) → most ≤ more → ((n : ℕ) → wants n → further n) → Halts b most place wants f left →
+    (left : Option (List ℕ)) → most ≤ more → ((n : ℕ) → wants n → further n) → Halts b most place wants f left →
     Halts b more place further f left
 halts_further b most more place wants further f left w k h = record {
   reached = h.reached;
@@ -116,15 +75,15 @@ halts_further b most more place wants further f left w k h = record {
 
 -- bytes that were missed are no want of memory
 pub missed_no_memory : (b : List ℕ) (place n : ℕ) (cut f : InspectFault) (left : Option (List ℕ)) →
-  IsMissed b place n cut f left → is_of_bytes cut.kind ≡ true → is_memory f.kind ≡ true → ⊥
+    IsMissed b place n cut f left → is_of_bytes cut.kind ≡ true → is_memory f.kind ≡ true → ⊥
 missed_no_memory b place n cut f left m k t =
     let x = m.cuts (ap not (memory_no_read f.kind t)) in
     not_both (is_memory f.kind) (ap (λ (z : InspectFault). is_memory z.kind) x.0 ∙ bytes_no_memory cut.kind k) t
 
 -- they halt a call
 pub halts_missed : (b : List ℕ) (place n most p : ℕ) (wants : ℕ → Type 0) (cut f : InspectFault)
-  (left : Option (List ℕ)) → IsMissed b place n cut f left → is_of_bytes cut.kind ≡ true → place + n ≤ most →
-  place ≤ length b →
+    (left : Option (List ℕ)) → IsMissed b place n cut f left → is_of_bytes cut.kind ≡ true → place + n ≤ most →
+    place ≤ length b →
     Halts b most p wants f left
 halts_missed b place n most p wants cut f left m k w l = record {
   reached = place + m.taken;

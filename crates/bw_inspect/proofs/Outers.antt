@@ -19,7 +19,7 @@ use Rattle.bw_inspect.proofs.Faults.{bytes_no_read, of_bytes, halts_by_bytes, ha
 -- the last fault of the outer header: `ds64` reaches past the form
 abbrev pub last_fault : List ℕ → List (Bool × reading.Fault)
 last_fault b = reading.line
-  (reading.is_wide b && nat_lt (8 + reading.form_size_at b) (20 + u32_at b 16)) reading.Truncated 12 ∷ []
+    (reading.is_wide b && nat_lt (8 + reading.form_size_at b) (20 + u32_at b 16)) reading.Truncated 12 ∷ []
 
 -- the faults behind the opening
 abbrev pub later_faults : List ℕ → List (Bool × reading.Fault)
@@ -27,27 +27,27 @@ later_faults b = form_faults (reading.form_size_at b) ++ last_fault b
 
 parts_by : (b : List ℕ) (v : Bool) → reading.is_riff b ≡ v →
     reading.outer_faults b ≡ opening_faults b
-      ++ (cond v (reading.riff_faults b) (reading.ds64_faults b) ++ later_faults b)
+    ++ (cond v (reading.riff_faults b) (reading.ds64_faults b) ++ later_faults b)
 parts_by b v e = ap (λ (u : Bool). opening_faults b
-  ++ (cond u (reading.riff_faults b) (reading.ds64_faults b) ++ later_faults b)) e
+    ++ (cond u (reading.riff_faults b) (reading.ds64_faults b) ++ later_faults b)) e
 
 -- the faults of a RIFF form, in parts
 pub riff_parts : (b : List ℕ) → reading.is_riff b ≡ true →
-  reading.outer_faults b ≡ opening_faults b ++ (reading.riff_faults b ++ later_faults b)
+    reading.outer_faults b ≡ opening_faults b ++ (reading.riff_faults b ++ later_faults b)
 riff_parts b e = parts_by b true e
 
 -- the faults of another form, in parts
 pub wide_parts : (b : List ℕ) → reading.is_riff b ≡ false →
-  reading.outer_faults b ≡ opening_faults b ++ (reading.ds64_faults b ++ later_faults b)
+    reading.outer_faults b ≡ opening_faults b ++ (reading.ds64_faults b ++ later_faults b)
 wide_parts b e = parts_by b false e
 
 pub outer_err : (b : List ℕ) (g : reading.Fault) → first_that_holds (reading.outer_faults b) ≡ Some g →
-  reading.outer b ≡ Err g
+    reading.outer b ≡ Err g
 unfolding reading.outer
 outer_err b g e = rw (reading.outer, e) refl
 
 pub outer_ok : (b : List ℕ) → first_that_holds (reading.outer_faults b) ≡ None →
-  reading.outer b ≡ Ok (reading.form_at b)
+    reading.outer b ≡ Ok (reading.form_at b)
 unfolding reading.outer
 outer_ok b e = rw (reading.outer, e) refl
 
@@ -61,10 +61,10 @@ opening_there b free = ltb-false (length b) 12 (none_holds (opening_faults b) fr
 
 -- a part's first fault is that of the outer header
 pub outside_by : (b : List ℕ) (most : ℕ) (wants : ℕ → Type 0) (faults : List (Bool × reading.Fault)) (f : InspectFault)
-  (left : Option (List ℕ)) → most ≤ 2 ^ 62 + 8 → ((n : ℕ) → wants n → WantsDs64 b n) →
-  IsStopped b most 12 wants faults f left →
+    (left : Option (List ℕ)) → most ≤ 2 ^ 62 + 8 → ((n : ℕ) → wants n → WantsDs64 b n) →
+    IsStopped b most 12 wants faults f left →
     ((g : reading.Fault) → first_that_holds faults ≡ Some g → first_that_holds (reading.outer_faults b) ≡ Some g) →
-      IsOutside b f left
+    IsOutside b f left
 unfolding halts_further
 outside_by b most wants faults f left w l s k = record {
   halts = halts_further b most (2 ^ 62 + 8) 12 wants (WantsDs64 b) f left w l s.halts;
@@ -74,29 +74,29 @@ outside_by b most wants faults f left w l s k = record {
 -- the first 12 bytes
 
 short : (b : List ℕ) → nat_lt (length b) 12 ≡ true →
-  first_that_holds (opening_faults b) ≡ Some (record { kind = reading.NotWave; offset = 0 })
+    first_that_holds (opening_faults b) ≡ Some (record { kind = reading.NotWave; offset = 0 })
 short b a = rw a refl
 
 no_form : (b : List ℕ) → nat_lt (length b) 12 ≡ false → names_form (reading.id_at b 0) ≡ false →
-  first_that_holds (opening_faults b) ≡ Some (record { kind = reading.NotWave; offset = 0 })
+    first_that_holds (opening_faults b) ≡ Some (record { kind = reading.NotWave; offset = 0 })
 no_form b a n = rw (a, n) refl
 
 no_wave : (b : List ℕ) → nat_lt (length b) 12 ≡ false → names_form (reading.id_at b 0) ≡ true →
-  reading.is_id (reading.id_at b 8) (codes "WAVE") ≡ false →
+    reading.is_id (reading.id_at b 8) (codes "WAVE") ≡ false →
     first_that_holds (opening_faults b) ≡ Some (record { kind = reading.NotWave; offset = 8 })
 no_wave b a n w = rw (a, n, w) refl
 
 all_well : (b : List ℕ) → nat_lt (length b) 12 ≡ false → names_form (reading.id_at b 0) ≡ true →
-  reading.is_id (reading.id_at b 8) (codes "WAVE") ≡ true → first_that_holds (opening_faults b) ≡ None
+    reading.is_id (reading.id_at b 8) (codes "WAVE") ≡ true → first_that_holds (opening_faults b) ≡ None
 all_well b a n w = rw (a, n, w) refl
 
 -- b ends before
 pub opening_missed : (b : List ℕ) (cut f : InspectFault) (left : Option (List ℕ)) →
-  cut ≡ record { kind = NotWave; offset = 0 } → IsMissed b 0 12 cut f left →
-  IsStopped b 12 12 Nowhere (opening_faults b) f left
+    cut ≡ record { kind = NotWave; offset = 0 } → IsMissed b 0 12 cut f left →
+    IsStopped b 12 12 Nowhere (opening_faults b) f left
 opening_missed b cut f left q m = record {
   halts = halts_missed b 0 12 12 12 Nowhere cut f left m (ap (λ (z : InspectFault). is_of_bytes z.kind) q) (lit≤ tt)
-    (omega arith);
+      (omega arith);
   fault = λ g h. let x = m.cuts (ap not (bytes_no_read f.kind (of_bytes f g h))) in
       short b (lt-ltb (length b) 12 x.1) ∙ (sym (ap fault_of (x.0 ∙ q)) ∙ h);
 }
@@ -119,40 +119,44 @@ pub record IsTaken (b buf : List ℕ) (left : Option (List ℕ)) : Type 0 where
   pub rest : left ≡ Some (drop 12 b)
 
 pub taken : (b buf : List ℕ) (left : Option (List ℕ)) → IsGiven b 0 12 buf left → IsTaken b buf left
-taken b buf left g = record { there = le-ltb (length b) 12 (g.within (lit≤ tt)); long = g.within (lit≤ tt);
-  bytes = g.bytes; rest = g.rest }
+taken b buf left g = record {
+  there = le-ltb (length b) 12 (g.within (lit≤ tt));
+  long = g.within (lit≤ tt);
+  bytes = g.bytes;
+  rest = g.rest;
+}
 
 -- another form
 pub other_form : (b buf : List ℕ) (f : InspectFault) (left : Option (List ℕ)) → IsTaken b buf left →
-  names_form (slice_range buf 0 4) ≡ false → f ≡ record { kind = NotWave; offset = 0 } →
-  IsStopped b 12 12 Nowhere (opening_faults b) f left
+    names_form (slice_range buf 0 4) ≡ false → f ≡ record { kind = NotWave; offset = 0 } →
+    IsStopped b 12 12 Nowhere (opening_faults b) f left
 other_form b buf f left t n q = record {
   halts = halts_by_bytes b 12 12 12 Nowhere f left (lit≤ tt) t.long t.rest
-    (ap (λ (z : InspectFault). is_of_bytes z.kind) q);
+      (ap (λ (z : InspectFault). is_of_bytes z.kind) q);
   fault = λ g h. no_form b t.there (ap names_form (sym (opened_id b buf t.bytes)) ∙ n) ∙ (sym (ap fault_of q) ∙ h);
 }
 
 -- another type
 pub other_type : (b buf : List ℕ) (f : InspectFault) (left : Option (List ℕ)) → IsTaken b buf left →
-  names_form (slice_range buf 0 4) ≡ true → reading.is_id (slice_range buf 8 12) (codes "WAVE") ≡ false →
+    names_form (slice_range buf 0 4) ≡ true → reading.is_id (slice_range buf 8 12) (codes "WAVE") ≡ false →
     f ≡ record { kind = NotWave; offset = 8 } → IsStopped b 12 12 Nowhere (opening_faults b) f left
 other_type b buf f left t n w q = record {
   halts = halts_by_bytes b 12 12 12 Nowhere f left (lit≤ tt) t.long t.rest
-    (ap (λ (z : InspectFault). is_of_bytes z.kind) q);
+      (ap (λ (z : InspectFault). is_of_bytes z.kind) q);
   fault = λ g h.
       no_wave b t.there (ap names_form (sym (opened_id b buf t.bytes)) ∙ n)
-        (ap (λ (z : List ℕ). reading.is_id z (codes "WAVE")) (sym (opened_type b buf t.bytes)) ∙ w)
+      (ap (λ (z : List ℕ). reading.is_id z (codes "WAVE")) (sym (opened_type b buf t.bytes)) ∙ w)
       ∙ (sym (ap fault_of q) ∙ h);
 }
 
 -- no fault
 pub opened : (b buf : List ℕ) (h : ChunkHead) (left : Option (List ℕ)) → IsTaken b buf left →
-  names_form (slice_range buf 0 4) ≡ true → reading.is_id (slice_range buf 8 12) (codes "WAVE") ≡ true →
-  h.id ≡ slice_range buf 0 4 →
+    names_form (slice_range buf 0 4) ≡ true → reading.is_id (slice_range buf 8 12) (codes "WAVE") ≡ true →
+    h.id ≡ slice_range buf 0 4 →
     h.size32 ≡ u32_at buf 4 → IsOpened b h left
 opened b buf h left t n w i s = record {
   free = all_well b t.there (ap names_form (sym (opened_id b buf t.bytes)) ∙ n)
-    (ap (λ (z : List ℕ). reading.is_id z (codes "WAVE")) (sym (opened_type b buf t.bytes)) ∙ w);
+      (ap (λ (z : List ℕ). reading.is_id z (codes "WAVE")) (sym (opened_type b buf t.bytes)) ∙ w);
   spells = i ∙ opened_id b buf t.bytes;
   tells = s ∙ opened_size b buf t.bytes;
   rest = t.rest;

@@ -29,9 +29,9 @@ further : (b : List ℕ) (k n : ℕ) → drop n (drop k b) ≡ drop (k + n) b
 further b k n = drop-drop n k b
 
 reach : (b : List ℕ) (place d n : ℕ) → (0 < d → place + d ≤ length b) → n ≤ length (drop (place + d) b) → 0 < d + n →
-  place + (d + n) ≤ length b
+    place + (d + n) ≤ length b
 reach b place d n w h p = let e : length (drop (place + d) b) ≡ length b - (place + d) =
-  length-drop (place + d) b in grind arith
+    length-drop (place + d) b in grind arith
 
 -- n more bytes are passed over
 pub more_passed : (b : List ℕ) (place d n most : ℕ) (left : Option (List ℕ)) → (0 < d → place + d ≤ length b) →
@@ -43,7 +43,7 @@ more_passed b place d n most left w r = record {
 
 -- n more bytes went into the buffer
 pub more_read : (b : List ℕ) (place d n most : ℕ) (buf new post : List ℕ) (left : Option (List ℕ)) →
-  (0 < d → place + d ≤ length b) →
+    (0 < d → place + d ≤ length b) →
     take d buf ≡ take d (drop place b) → d ≤ length buf → n ≤ length new →
     IsRead (drop (place + d) b) most n new left → IsPartRead b place (d + n) (take d buf ++ (new ++ post)) left
 more_read b place d n most buf new post left w g l fits r =
@@ -54,7 +54,7 @@ more_read b place d n most buf new post left w g l fits r =
     take-append-le n new post fits ∙ r.given in
     let front : take (d + n) (take d buf ++ (new ++ post)) ≡ take d buf ++ take n xs =
     ap (λ (k : ℕ). take (k + n) (take d buf ++ (new ++ post))) (sym low)
-      ∙ (take-append-add (take d buf) (new ++ post) n ∙ ap (λ (z : List ℕ). take d buf ++ z) inner) in
+    ∙ (take-append-add (take d buf) (new ++ post) n ∙ ap (λ (z : List ℕ). take d buf ++ z) inner) in
     let back : take (d + n) (drop place b) ≡ take d (drop place b) ++ take n xs =
     take-add d n (drop place b) ∙ ap (λ (z : List ℕ). take d (drop place b) ++ take n z) (further b place d) in
     record {
@@ -69,9 +69,9 @@ ended b k e = let l = length-drop k b in let z : length (drop k b) ≡ 0 = ap le
 
 -- b ends before the n bytes that are wanted from a place on
 pub missed : (b : List ℕ) (place d n k : ℕ) (cut : InspectFault) (left left' : Option (List ℕ)) →
-  left ≡ Some (drop (place + d) b) → left' ≡ Some (drop k (drop (place + d) b)) → k ≡ 0 →
+    left ≡ Some (drop (place + d) b) → left' ≡ Some (drop k (drop (place + d) b)) → k ≡ 0 →
     d < n → (0 < d → place + d ≤ length b) → drop (place + d) b ≡ [] → is_of_bytes cut.kind ≡ true →
-      IsMissed b place n cut cut left'
+    IsMissed b place n cut cut left'
 missed b place d n k cut left left' e e' z small there empty c =
     let l = ended b (place + d) empty in
     record {
@@ -85,7 +85,7 @@ missed b place d n k cut left left' e e' z small there empty c =
 
 -- a pad byte that may be absent
 pub pad_passed : (b : List ℕ) (place n : ℕ) (left : Option (List ℕ)) → n ≤ 1 → IsSkipped (drop place b) 1 n left →
-  left ≡ Some (drop (place + 1) b)
+    left ≡ Some (drop (place + 1) b)
 pad_passed b place zero left h s =
     let empty : drop place b ≡ [] = s.end refl (lit< tt) in
     let l = ended b place empty in
@@ -97,7 +97,7 @@ pad_passed b place (suc n) left h s =
 
 -- a part of a part
 pub part_at : (b : List ℕ) (p n i j : ℕ) → i ≤ j → j ≤ n →
-  slice_range (slice_range b p (p + n)) i j ≡ slice_range b (p + i) (p + j)
+    slice_range (slice_range b p (p + n)) i j ≡ slice_range b (p + i) (p + j)
 part_at b p n i j h k =
     let wide : p + n - p ≡ i + (n - i) = omega arith in
     let here : p + j - (p + i) ≡ j - i = omega arith in
@@ -109,12 +109,12 @@ part_at b p n i j h k =
 
 -- a head in 8 bytes that were read
 pub head_read : (b : List ℕ) (p : ℕ) (buf : List ℕ) (h : ChunkHead) (left : Option (List ℕ)) → IsGiven b p 8 buf left →
-  h.id ≡ slice_range buf 0 4 → h.size32 ≡ u32_at buf 4 → IsHead b p h left
+    h.id ≡ slice_range buf 0 4 → h.size32 ≡ u32_at buf 4 → IsHead b p h left
 head_read b p buf h left g i s = record {
   within = g.within (lit< tt);
   spells = i ∙ ap (λ (z : List ℕ). slice_range z 0 4) g.bytes ∙ part_at b p 8 0 4 (lit≤ tt) (lit≤ tt)
-    ∙ ap (λ (k : ℕ). slice_range b k (p + 4)) (add-zero p);
+      ∙ ap (λ (k : ℕ). slice_range b k (p + 4)) (add-zero p);
   tells = s ∙ ap (λ (z : List ℕ). u32_at z 4) g.bytes ∙ ap (from_le_bytes w32) (part_at b p 8 4 8 (lit≤ tt) (lit≤ tt))
-    ∙ ap (λ (k : ℕ). from_le_bytes w32 (slice_range b (p + 4) k)) (sym (add_assoc p 4 4));
+      ∙ ap (λ (k : ℕ). from_le_bytes w32 (slice_range b (p + 4) k)) (sym (add_assoc p 4 4));
   rest = g.rest;
 }

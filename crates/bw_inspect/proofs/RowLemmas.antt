@@ -1,6 +1,7 @@
 -- Rows of the same width, one behind another.
-use Rattle.std.proofs.Common.{◌≡◌, ℕ, zero, suc, ◌+◌, ◌*◌, ◌≤◌, List, [], ◌∷◌, ◌++◌, Some, sym, ◌∙◌, ap, subst, Option}
-use Rattle.std.proofs.Common.{arith, add_assoc, add-zero, lit≤}
+use Rattle.std.proofs.Common.{◌≡◌, ℕ, zero, suc, ◌+◌, ◌*◌, ◌<◌, ◌≤◌, List, [], ◌∷◌, ◌++◌, Some, refl, sym, ◌∙◌, ap}
+use Rattle.std.proofs.Common.{subst, Option, arith, add_assoc, add-zero, lit≤}
+use Rattle.std.proofs.Math.Nat.{mul-zero, mul-suc, mul-le-mul_left}
 use Rattle.std.specs.Prelude.{slice_range}
 use Rattle.std.specs.Int.{w32, w64, from_le_bytes}
 use Rattle.bw_model.specs.Bytes.{u32_at, u64_at}
@@ -8,19 +9,20 @@ use Rattle.bw_model.specs.Reading as reading
 use Rattle.bw_model.specs.Report as report
 use Rattle.bw_layout.specs.Raw.{raw_cue}
 use Rattle.bw_layout.specs.Tables.{entry_at}
-use Rattle.bw_inspect.specs.CueContents.{HasPoints, point_at, point_told}
+use Rattle.bw_inspect.specs.CueContents.{point_at}
 use Rattle.bw_inspect.specs.Contents.{ReadTo}
-use Rattle.bw_inspect.specs.Tables.{HasRows, row_told}
+use Rattle.bw_inspect.specs.RowLists.{HasRow, HasRows, rows_at}
+use Rattle.bw_inspect.proofs.Contents.{read_as}
 use Rattle.bw_inspect.proofs.Pieces.{part_at}
 
 -- a number in a part
 u32_part : (c : List ℕ) (d n i : ℕ) → i + 4 ≤ n → u32_at (slice_range c d (d + n)) i ≡ u32_at c (d + i)
 u32_part c d n i h = ap (from_le_bytes w32)
-  (part_at c d n i (i + 4) (omega arith) h ∙ ap (λ (k : ℕ). slice_range c (d + i) k) (sym (add_assoc d i 4)))
+    (part_at c d n i (i + 4) (omega arith) h ∙ ap (λ (k : ℕ). slice_range c (d + i) k) (sym (add_assoc d i 4)))
 
 u64_part : (c : List ℕ) (d n i : ℕ) → i + 8 ≤ n → u64_at (slice_range c d (d + n)) i ≡ u64_at c (d + i)
 u64_part c d n i h = ap (from_le_bytes w64)
-  (part_at c d n i (i + 8) (omega arith) h ∙ ap (λ (k : ℕ). slice_range c (d + i) k) (sym (add_assoc d i 8)))
+    (part_at c d n i (i + 8) (omega arith) h ∙ ap (λ (k : ℕ). slice_range c (d + i) k) (sym (add_assoc d i 8)))
 
 -- the 24 bytes of a point
 pub point_part : (c : List ℕ) (d : ℕ) → raw_cue (slice_range c d (d + 24)) ≡ point_at c d
@@ -34,58 +36,78 @@ point_part c d =
 pub row_part : (c : List ℕ) (d : ℕ) → entry_at (slice_range c d (d + 12)) ≡ (reading.id_at c d, u64_at c (d + 4))
 row_part c d =
     let i : slice_range (slice_range c d (d + 12)) 0 4 ≡ reading.id_at c d =
-        part_at c d 12 0 4 (lit≤ tt) (lit≤ tt) ∙ ap (λ (k : ℕ). slice_range c k (d + 4)) (add-zero d) in
+    part_at c d 12 0 4 (lit≤ tt) (lit≤ tt) ∙ ap (λ (k : ℕ). slice_range c k (d + 4)) (add-zero d) in
     let s = u64_part c d 12 4 (lit≤ tt) in
     cc
 
--- one point more
-pub raw_cues-suc : (c : List ℕ) (p n : ℕ) →
-  report.raw_cues c p (suc n) ≡ report.raw_cues c p n ++ point_at c (p + 24 * n) ∷ []
-raw_cues-suc c p zero = ap (λ (k : ℕ). point_at c k ∷ []) (sym (add-zero p))
-raw_cues-suc c p (suc n) =
-    ap (λ (rest : List report.RawCue). point_at c p ∷ rest)
-    (raw_cues-suc c (p + 24) n
-      ∙ ap (λ (k : ℕ). report.raw_cues c (p + 24) n ++ point_at c k ∷ [])
-      (let e : p + 24 + 24 * n ≡ p + 24 * suc n = omega arith in e))
+-- a row behind the others
+rows_at-suc : {X : Type 0} (told : List ℕ → X) (width : ℕ) (c : List ℕ) (p n : ℕ) →
+    rows_at told width c p (suc n)
+    ≡ rows_at told width c p n ++ told (slice_range c (p + width * n) (p + width * n + width)) ∷ []
+rows_at-suc {X} told width c p zero =
+    let here : p ≡ p + width * zero = sym (ap (λ (k : ℕ). p + k) (mul-zero width) ∙ add-zero p) in
+    ap (λ (k : ℕ). told (slice_range c k (k + width)) ∷ []) here
+rows_at-suc {X} told width c p (suc n) =
+    let more = mul-suc width n in
+    let here : p + width + width * n ≡ p + width * suc n = omega arith in
+    ap (λ (rest : List X). told (slice_range c p (p + width)) ∷ rest)
+    (rows_at-suc told width c (p + width) n
+    ∙ ap (λ (k : ℕ). rows_at told width c (p + width) n ++ told (slice_range c k (k + width)) ∷ []) here)
 
--- one entry more
-pub table_at-suc : (c : List ℕ) (p n : ℕ) →
-  reading.table_at c p (suc n)
-  ≡ reading.table_at c p n ++ (reading.id_at c (p + 12 * n), u64_at c (p + 12 * n + 4)) ∷ []
-table_at-suc c p zero = ap (λ (k : ℕ). (reading.id_at c k, u64_at c (k + 4)) ∷ []) (sym (add-zero p))
-table_at-suc c p (suc n) =
-    ap (λ (rest : List (List ℕ × ℕ)). (reading.id_at c p, u64_at c (p + 4)) ∷ rest)
-    (table_at-suc c (p + 12) n
-      ∙ ap (λ (k : ℕ). reading.table_at c (p + 12) n ++ (reading.id_at c k, u64_at c (k + 4)) ∷ [])
-      (let e : p + 12 + 12 * n ≡ p + 12 * suc n = omega arith in e))
+-- where the row behind n others ends
+pub row_end : (front width n : ℕ) → front + width * n + width ≡ front + width * (n + 1)
+row_end front width n =
+    let one : n + 1 ≡ suc n = omega arith in
+    let more : width * (n + 1) ≡ width * n + width = ap (λ (k : ℕ). width * k) one ∙ mul-suc width n in
+    omega arith
 
--- one point more was read
-pub more_points : (b : List ℕ) (e : reading.Entry) (n : ℕ) (old new : List report.RawCue) (x : report.RawCue)
-  (left left' : Option (List ℕ)) → HasPoints b e n old left → ReadTo b e (4 + 24 * n + 24) left' →
-  x ≡ point_told b e n →
-    new ≡ old ++ x ∷ [] → HasPoints b e (n + 1) new left'
-more_points b e n old new x left left' h r p q =
+-- the row behind n others stands in the content, where all of them do
+pub row_fits : (front width n count size : ℕ) → n < count → front + width * count ≤ size →
+    front + width * (n + 1) ≤ size
+row_fits front width n count size less fits =
+    let next : n + 1 ≤ count = omega arith in
+    let most = mul-le-mul_left width next in
+    omega arith
+
+-- the place of a row, by the width that the code has
+pub stands_at : (b : List ℕ) (e e' : reading.Entry) (front width w n : ℕ) (left : Option (List ℕ)) → w ≡ width → e' ≡ e →
+    ReadTo b e (front + width * n) left → ReadTo b e' (front + w * n) left
+stands_at b e e' front width w n left q same r =
+    subst (λ (k : ℕ). ReadTo b e' (front + k * n) left) (sym q) (read_as b e e' (front + width * n) left (sym same) r)
+
+-- a row, by the width that the code has
+pub row_at : {X : Type 0} (told : List ℕ → X) (b : List ℕ) (e e' : reading.Entry) (front width w n : ℕ) (row : X)
+    (left : Option (List ℕ)) → w ≡ width → e' ≡ e → HasRow told width b e' (front + w * n) row left →
+    HasRow told width b e (front + width * n) row left
+row_at told b e e' front width w n row left q same r =
+    subst (λ (x : reading.Entry). HasRow told width b x (front + width * n) row left) same
+    (subst (λ (k : ℕ). HasRow told width b e' (front + k * n) row left) q r)
+
+-- one row more was read
+pub more_rows : {X : Type 0} (told : List ℕ → X) (width : ℕ) (b : List ℕ) (e : reading.Entry) (front n : ℕ)
+    (old new : List X) (x : X) (left left' : Option (List ℕ)) → HasRows told width b e front n old left →
+    HasRow told width b e (front + width * n) x left' →
+    new ≡ old ++ x ∷ [] → HasRows told width b e front (n + 1) new left'
+more_rows {X} told width b e front n old new x left left' h r q =
     let content = report.content_of b (Some e) in
     let one : n + 1 ≡ suc n = omega arith in
-    let end : 4 + 24 * n + 24 ≡ 4 + 24 * (n + 1) = omega arith in
     record {
-      points_are = q ∙ (ap (λ (z : List report.RawCue). z ++ x ∷ []) h.points_are
-        ∙ (ap (λ (y : report.RawCue). report.raw_cues content 4 n ++ y ∷ []) p
-          ∙ (sym (raw_cues-suc content 4 n) ∙ ap (report.raw_cues content 4) (sym one))));
-      to = subst (λ (k : ℕ). ReadTo b e k left') end r;
+      rows_are = q ∙ (ap (λ (z : List X). z ++ x ∷ []) h.rows_are
+          ∙ (ap (λ (y : X). rows_at told width content front n ++ y ∷ []) r.row_is
+          ∙ (sym (rows_at-suc told width content front n) ∙ ap (rows_at told width content front) (sym one))));
+      to = subst (λ (k : ℕ). ReadTo b e k left') (row_end front width n) r.to;
     }
 
--- one entry more was read
-pub more_rows : (b : List ℕ) (e : reading.Entry) (n : ℕ) (old new : List (List ℕ × ℕ)) (x : List ℕ × ℕ)
-  (left left' : Option (List ℕ)) → HasRows b e n old left → ReadTo b e (28 + 12 * n + 12) left' → x ≡ row_told b e n →
-    new ≡ old ++ x ∷ [] → HasRows b e (n + 1) new left'
-more_rows b e n old new x left left' h r p q =
-    let content = report.content_of b (Some e) in
-    let one : n + 1 ≡ suc n = omega arith in
-    let end : 28 + 12 * n + 12 ≡ 28 + 12 * (n + 1) = omega arith in
-    record {
-      rows_are = q ∙ (ap (λ (z : List (List ℕ × ℕ)). z ++ x ∷ []) h.rows_are
-        ∙ (ap (λ (y : List ℕ × ℕ). reading.table_at content 28 n ++ y ∷ []) p
-          ∙ (sym (table_at-suc content 28 n) ∙ ap (reading.table_at content 28) (sym one))));
-      to = subst (λ (k : ℕ). ReadTo b e k left') end r;
-    }
+-- the points of a `cue ` chunk, as rows
+pub rows_points : (c : List ℕ) (p n : ℕ) → rows_at raw_cue 24 c p n ≡ report.raw_cues c p n
+rows_points c p zero = refl
+rows_points c p (suc n) =
+    ap (λ (x : report.RawCue). x ∷ rows_at raw_cue 24 c (p + 24) n) (point_part c p)
+    ∙ ap (λ (rest : List report.RawCue). point_at c p ∷ rest) (rows_points c (p + 24) n)
+
+-- the entries of a `ds64` chunk, as rows
+pub rows_table : (c : List ℕ) (p n : ℕ) → rows_at entry_at 12 c p n ≡ reading.table_at c p n
+rows_table c p zero = refl
+rows_table c p (suc n) =
+    ap (λ (x : List ℕ × ℕ). x ∷ rows_at entry_at 12 c (p + 12) n) (row_part c p)
+    ∙ ap (λ (rest : List (List ℕ × ℕ)). (reading.id_at c p, u64_at c (p + 4)) ∷ rest) (rows_table c (p + 12) n)

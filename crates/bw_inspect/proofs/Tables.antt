@@ -32,26 +32,26 @@ pub good_size : (n : ℕ) → 28 ≤ n → (n ≡ unsaid → ⊥) → bad_size n
 good_size n l e = ap (λ (v : Bool). v || (n == unsaid)) (le-ltb n 28 l) ∙ ne_eqb n unsaid e
 
 no_head : (b : List ℕ) → nat_lt (length b) 20 ≡ true →
-  first_that_holds (ds64_head_faults b) ≡ Some (record { kind = reading.NoDs64; offset = 12 })
+    first_that_holds (ds64_head_faults b) ≡ Some (record { kind = reading.NoDs64; offset = 12 })
 no_head b a = rw a refl
 
 other_head : (b : List ℕ) → nat_lt (length b) 20 ≡ false → reading.is_id (reading.id_at b 12) (codes "ds64") ≡ false →
-  first_that_holds (ds64_head_faults b) ≡ Some (record { kind = reading.NoDs64; offset = 12 })
+    first_that_holds (ds64_head_faults b) ≡ Some (record { kind = reading.NoDs64; offset = 12 })
 other_head b a i = rw (a, i) refl
 
 bad_head : (b : List ℕ) → nat_lt (length b) 20 ≡ false → reading.is_id (reading.id_at b 12) (codes "ds64") ≡ true →
-  bad_size (u32_at b 16) ≡ true →
-  first_that_holds (ds64_head_faults b) ≡ Some (record { kind = reading.BadDs64; offset = 12 })
+    bad_size (u32_at b 16) ≡ true →
+    first_that_holds (ds64_head_faults b) ≡ Some (record { kind = reading.BadDs64; offset = 12 })
 bad_head b a i s = rw (a, i, s) refl
 
 good_head : (b : List ℕ) → nat_lt (length b) 20 ≡ false → reading.is_id (reading.id_at b 12) (codes "ds64") ≡ true →
-  bad_size (u32_at b 16) ≡ false → first_that_holds (ds64_head_faults b) ≡ None
+    bad_size (u32_at b 16) ≡ false → first_that_holds (ds64_head_faults b) ≡ None
 good_head b a i s = rw (a, i, s) refl
 
 -- b ends before the head's end
 pub head_missed : (b : List ℕ) (cut f : InspectFault) (left : Option (List ℕ)) →
-  cut ≡ record { kind = NoDs64; offset = 12 } → IsMissed b 12 8 cut f left → 12 ≤ length b →
-  IsStopped b 20 12 Nowhere (ds64_head_faults b) f left
+    cut ≡ record { kind = NoDs64; offset = 12 } → IsMissed b 12 8 cut f left → 12 ≤ length b →
+    IsStopped b 20 12 Nowhere (ds64_head_faults b) f left
 head_missed b cut f left q m l = record {
   halts = halts_missed b 12 8 20 12 Nowhere cut f left m (ap (λ (z : InspectFault). is_of_bytes z.kind) q) (lit≤ tt) l;
   fault = λ g h. let x = m.cuts (ap not (bytes_no_read f.kind (of_bytes f g h))) in
@@ -60,34 +60,34 @@ head_missed b cut f left q m l = record {
 
 -- another chunk stands there
 pub other_chunk : (b : List ℕ) (head : ChunkHead) (f : InspectFault) (left : Option (List ℕ)) → IsHead b 12 head left →
-  reading.is_id head.id (codes "ds64") ≡ false → f ≡ record { kind = NoDs64; offset = 12 } →
+    reading.is_id head.id (codes "ds64") ≡ false → f ≡ record { kind = NoDs64; offset = 12 } →
     IsStopped b 20 12 Nowhere (ds64_head_faults b) f left
 other_chunk b head f left h i q = record {
   halts = halts_by_bytes b 20 12 20 Nowhere f left (lit≤ tt) h.within h.rest
-    (ap (λ (z : InspectFault). is_of_bytes z.kind) q);
+      (ap (λ (z : InspectFault). is_of_bytes z.kind) q);
   fault = λ g t.
       other_head b (le-ltb (length b) 20 h.within)
-        (ap (λ (z : List ℕ). reading.is_id z (codes "ds64")) (sym h.spells) ∙ i) ∙ (sym (ap fault_of q) ∙ t);
+      (ap (λ (z : List ℕ). reading.is_id z (codes "ds64")) (sym h.spells) ∙ i) ∙ (sym (ap fault_of q) ∙ t);
 }
 
 -- its size can't be
 pub size_refused : (b : List ℕ) (head : ChunkHead) (f : InspectFault) (left : Option (List ℕ)) →
-  IsHead b 12 head left → reading.is_id head.id (codes "ds64") ≡ true → bad_size head.size32 ≡ true →
-  f ≡ record { kind = BadDs64; offset = 12 } →
+    IsHead b 12 head left → reading.is_id head.id (codes "ds64") ≡ true → bad_size head.size32 ≡ true →
+    f ≡ record { kind = BadDs64; offset = 12 } →
     IsStopped b 20 12 Nowhere (ds64_head_faults b) f left
 size_refused b head f left h i s q = record {
   halts = halts_by_bytes b 20 12 20 Nowhere f left (lit≤ tt) h.within h.rest
-    (ap (λ (z : InspectFault). is_of_bytes z.kind) q);
+      (ap (λ (z : InspectFault). is_of_bytes z.kind) q);
   fault = λ g t.
       bad_head b (le-ltb (length b) 20 h.within)
-        (ap (λ (z : List ℕ). reading.is_id z (codes "ds64")) (sym h.spells) ∙ i) (ap bad_size (sym h.tells) ∙ s)
-        ∙ (sym (ap fault_of q) ∙ t);
+      (ap (λ (z : List ℕ). reading.is_id z (codes "ds64")) (sym h.spells) ∙ i) (ap bad_size (sym h.tells) ∙ s)
+      ∙ (sym (ap fault_of q) ∙ t);
 }
 
 -- the head has no fault
 pub head_taken : (b : List ℕ) (head : ChunkHead) (e : reading.Entry) (left : Option (List ℕ)) → IsHead b 12 head left →
-  reading.is_id head.id (codes "ds64") ≡ true → bad_size head.size32 ≡ false →
-  e ≡ record { id = head.id; place = 12; size = head.size32 } →
+    reading.is_id head.id (codes "ds64") ≡ true → bad_size head.size32 ≡ false →
+    e ≡ record { id = head.id; place = 12; size = head.size32 } →
     IsDs64Head b e left
 head_taken b head e left h i s q =
     let id = h.spells in
@@ -95,11 +95,11 @@ head_taken b head e left h i s q =
     let place : e.place ≡ 12 = ap (λ (z : reading.Entry). z.place) q in
     record {
       free = good_head b (le-ltb (length b) 20 h.within)
-        (ap (λ (z : List ℕ). reading.is_id z (codes "ds64")) (sym h.spells) ∙ i) (ap bad_size (sym h.tells) ∙ s);
+          (ap (λ (z : List ℕ). reading.is_id z (codes "ds64")) (sym h.spells) ∙ i) (ap bad_size (sym h.tells) ∙ s);
       entry = q ∙ (ap (λ (z : List ℕ). record { id = z; place = 12; size = head.size32 }) id
-        ∙ ap (λ (n : ℕ). record { id = reading.id_at b 12; place = 12; size = n }) size);
+          ∙ ap (λ (n : ℕ). record { id = reading.id_at b 12; place = 12; size = n }) size);
       to = at_start b e left (let w = h.within in omega arith)
-        (h.rest ∙ ap (λ (k : ℕ). Some (drop k b)) (let z : 12 + 8 ≡ e.place + 8 = omega arith in z));
+          (h.rest ∙ ap (λ (k : ℕ). Some (drop k b)) (let z : 12 + 8 ≡ e.place + 8 = omega arith in z));
     }
 
 -- what stands before the table stands in its first 28 bytes

@@ -17,12 +17,12 @@ told_of f t limit k =
     record {
       report = λ r left h.
           let same = readings_agree b h.reading_is.form (read_form f t limit) h.reading_is.entries
-              (read_chunks f t limit) h.reading_is.reads k.reading in
+          (read_chunks f t limit) h.reading_is.reads k.reading in
           h.tells
           ∙ (ap (λ (x : reading.Form). report.report_of b x h.reading_is.entries) same.0
           ∙ (ap (report.report_of b (read_form f t limit)) same.1 ∙ k.report));
       faults = λ x left h. refused_outside b x left h
-        (record { form = read_form f t limit; entries = read_chunks f t limit; reads = k.reading });
+          (record { form = read_form f t limit; entries = read_chunks f t limit; reads = k.reading });
     }
 
 pub files_told : FilesAreTold
@@ -30,4 +30,4 @@ files_told f t limit w l = told_of f t limit (reads_back f t limit w l)
 
 pub made_told : MadeFilesAreTold
 made_told taken s n f limit h format small below =
-  told_of f _ limit (made_reads_back taken s n f limit h format small below)
+    told_of f _ limit (made_reads_back taken s n f limit h format small below)

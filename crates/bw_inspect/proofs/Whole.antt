@@ -30,7 +30,7 @@ outside_refused b f left o = record {
 
 -- past the end of the bytes lies the pad byte of the last chunk alone
 pad_absent : (b : List ℕ) (form : Form) (w : Walk) (reached : ℕ) (left : Option (List ℕ)) → BeginsForm b form w left →
-  length b < reached → reached ≡ reading.next_place (seen_by w) → IsPadAbsent b reached
+    length b < reached → reached ≡ reading.next_place (seen_by w) → IsPadAbsent b reached
 pad_absent b form w reached left s past p =
     let near = s.stands.near in
     let place = s.stands.place in
@@ -44,7 +44,7 @@ pad_absent b form w reached left s past p =
 
 -- a chunk's fault
 pub step_refused : (b : List ℕ) (form : Form) (w : Walk) (f : InspectFault) (left left' : Option (List ℕ)) →
-  form.size ≤ 2 ^ 62 → BeginsForm b form w left → IsFaulted b (form_of form) (seen_by w) f left' → Refuses b f left'
+    form.size ≤ 2 ^ 62 → BeginsForm b form w left → IsFaulted b (form_of form) (seen_by w) f left' → Refuses b f left'
 step_refused b form w f left left' small s k =
     let front : reading.IsFront b (form_of form) (seen_by w) = record { header = s.header; chunks = s.stands.chunks } in
     record {
@@ -59,13 +59,20 @@ step_refused b form w f left left' small s k =
 
 -- a fault at the form's end
 pub end_refused : (b : List ℕ) (form : Form) (w : Walk) (f : InspectFault) (left : Option (List ℕ)) →
-  form.size ≤ 2 ^ 62 → BeginsForm b form w left → reading.form_end (form_of form) < w.place + 8 →
-  is_of_bytes f.kind ≡ true →
+    form.size ≤ 2 ^ 62 → BeginsForm b form w left → reading.form_end (form_of form) < w.place + 8 →
+    is_of_bytes f.kind ≡ true →
     fault_of f ≡ first_that_holds (reading.end_faults (8 + form.size) (seen_by w)) → Refuses b f left
 end_refused b form w f left small s past k e = record {
-  fault = λ g h. inr (form_of form,
-    (seen_by w, (record { header = s.header; chunks = s.stands.chunks },
-    next_end b (form_of form) (seen_by w) w.place (Some g) s.stands.place (omega arith) (sym e ∙ h))));
+  fault = λ g h. inr (
+    form_of form,
+    (
+      seen_by w,
+      (
+        record { header = s.header; chunks = s.stands.chunks },
+        next_end b (form_of form) (seen_by w) w.place (Some g) s.stands.place (omega arith) (sym e ∙ h),
+      ),
+    ),
+  );
   within = record { reached = s.stands.reached; within = let x = s.stands.within in omega arith; rest = s.stands.rest };
   there = λ t. pad_absent b form w s.stands.reached left s t (s.stands.there t ∙ s.stands.place);
   fails = λ t. absurd (not_both (is_read f.kind) (bytes_no_read f.kind k) t);
@@ -74,8 +81,8 @@ end_refused b form w f left small s past k e = record {
 
 -- the report of the reading
 pub told : (b : List ℕ) (form : Form) (w : Walk) (r : Report) (left : Option (List ℕ)) → form.size ≤ 2 ^ 62 →
-  BeginsForm b form w left → reading.form_end (form_of form) < w.place + 8 → IsTold b (form_of form) (seen_by w) r →
-  Tells b r left
+    BeginsForm b form w left → reading.form_end (form_of form) < w.place + 8 → IsTold b (form_of form) (seen_by w) r →
+    Tells b r left
 told b form w r left small s past k = record {
   reading_is = record {
     form = form_of form;
@@ -92,17 +99,17 @@ told b form w r left small s past k = record {
 }
 
 pub err_both : {X : Type 0} (r : Result X InspectFault) (A B C : InspectFault → Type 0) → IfErr r A → IfErr r B →
-  ((f : InspectFault) → A f → B f → C f) → IfErr r C
+    ((f : InspectFault) → A f → B f → C f) → IfErr r C
 err_both (Ok x) A B C a b k = tt
 err_both (Err f) A B C a b k = k f a b
 
 refused_by : (b : List ℕ) (f : InspectFault) (left : Option (List ℕ)) (v : Bool) → is_of_bytes f.kind ≡ v →
-  Refuses b f left → HasReading b → is_of_bytes f.kind ≡ false
+    Refuses b f left → HasReading b → is_of_bytes f.kind ≡ false
 refused_by b f left true e r h = let g =
-  told_fault f e in absurd (no_fault b h.form h.entries g.0 h.reads (r.fault g.0 g.1))
+    told_fault f e in absurd (no_fault b h.form h.entries g.0 h.reads (r.fault g.0 g.1))
 refused_by b f left false e r h = e
 
 -- bytes with a reading are refused for none of their own faults
 pub refused_outside : (b : List ℕ) (f : InspectFault) (left : Option (List ℕ)) → Refuses b f left → HasReading b →
-  is_of_bytes f.kind ≡ false
+    is_of_bytes f.kind ≡ false
 refused_outside b f left r h = refused_by b f left (is_of_bytes f.kind) refl r h

@@ -14,7 +14,7 @@ on_err (Err e) p = p
 
 -- a part behind another one
 pub writes_behind : {old mid new : Option (List ℕ)} (a b : List ℕ) → Writes old a mid → Writes mid b new →
-  Writes old (a ++ b) new
+    Writes old (a ++ b) new
 writes_behind a b first second xs e = second (xs ++ a) (first xs e) ∙ ap Some (append_assoc xs a b)
 
 -- nothing more
@@ -23,7 +23,7 @@ writes_none xs e = e ∙ ap Some (sym (append-nil xs))
 
 -- a beginning of the part behind another one
 pub begins_behind : {old mid new : Option (List ℕ)} (a b : List ℕ) → Writes old a mid → Begins mid b new →
-  Begins old (a ++ b) new
+    Begins old (a ++ b) new
 begins_behind a b first second xs e =
     let p = second (xs ++ a) (first xs e) in
     record {
@@ -46,16 +46,16 @@ begins_before a b first xs e =
 
 -- the parts of a list, round one of its elements
 pub flat_map_around : {X : Type 0} (f : X → List ℕ) (xs : List X) (i : ℕ) (x : X) → i < length xs → x ≡ get_or xs i x →
-  flat_map f (take i xs) ++ (f x ++ flat_map f (drop (suc i) xs)) ≡ flat_map f xs
+    flat_map f (take i xs) ++ (f x ++ flat_map f (drop (suc i) xs)) ≡ flat_map f xs
 flat_map_around {X} f xs i x h is =
     let d : drop i xs ≡ x ∷ drop (suc i) xs = drop-cons xs i x h ∙ ap (λ (y : X). y ∷ drop (suc i) xs) (sym is) in
     ap (λ (ys : List X). flat_map f (take i xs) ++ flat_map f ys) (sym d)
-      ∙ sym (flat_map-append f (take i xs) (drop i xs)) ∙ ap (flat_map f) (take-append-drop i xs)
+    ∙ sym (flat_map-append f (take i xs) (drop i xs)) ∙ ap (flat_map f) (take-append-drop i xs)
 
 -- a beginning of an element's part, behind those of the elements before it
 pub begins_within : {X : Type 0} {old mid new : Option (List ℕ)} (f : X → List ℕ) (xs : List X) (i : ℕ) (x : X) →
-  i < length xs → x ≡ get_or xs i x → Writes old (flat_map f (take i xs)) mid → Begins mid (f x) new →
-  Begins old (flat_map f xs) new
+    i < length xs → x ≡ get_or xs i x → Writes old (flat_map f (take i xs)) mid → Begins mid (f x) new →
+    Begins old (flat_map f xs) new
 begins_within {X} {old} {mid} {new} f xs i x h is first second =
     let whole = flat_map_around f xs i x h is in
     let P : List ℕ → Type 0 = λ ys. Begins old ys new in
@@ -63,10 +63,10 @@ begins_within {X} {old} {mid} {new} f xs i x h is first second =
 
 -- an element's part, behind those of the elements before it
 pub writes_next : {X : Type 0} {old mid new : Option (List ℕ)} (f : X → List ℕ) (xs : List X) (i : ℕ) (x : X) →
-  i < length xs → x ≡ get_or xs i x → Writes old (flat_map f (take i xs)) mid → Writes mid (f x) new →
-  Writes old (flat_map f (take (i + 1) xs)) new
+    i < length xs → x ≡ get_or xs i x → Writes old (flat_map f (take i xs)) mid → Writes mid (f x) new →
+    Writes old (flat_map f (take (i + 1) xs)) new
 writes_next {X} {old} {mid} {new} f xs i x h is first second =
     let more : flat_map f (take i xs) ++ f x ≡ flat_map f (take (i + 1) xs) =
-        rw (take_more xs i x h, ← is, flat_map-append) (simp append-nil) in
+    rw (take_more xs i x h, ← is, flat_map-append) (simp append-nil) in
     let P : List ℕ → Type 0 = λ ys. Writes old ys new in
     subst P more (writes_behind (flat_map f (take i xs)) (f x) first second)

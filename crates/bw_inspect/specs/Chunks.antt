@@ -18,32 +18,20 @@ kind_by id =
 
 abbrev pub is_fmt : ChunkKind → Bool
 is_fmt Fmt = true
-is_fmt Bext = false
-is_fmt Data = false
-is_fmt Cue = false
-is_fmt Other = false
+is_fmt _ = false
 
 abbrev pub is_bext : ChunkKind → Bool
-is_bext Fmt = false
 is_bext Bext = true
-is_bext Data = false
-is_bext Cue = false
-is_bext Other = false
+is_bext _ = false
 
 abbrev pub is_cue : ChunkKind → Bool
-is_cue Fmt = false
-is_cue Bext = false
-is_cue Data = false
 is_cue Cue = true
-is_cue Other = false
+is_cue _ = false
 
 -- a file may have several chunks of the kind
 abbrev pub is_other : ChunkKind → Bool
-is_other Fmt = false
-is_other Bext = false
-is_other Data = false
-is_other Cue = false
 is_other Other = true
+is_other _ = false
 
 -- the size in the first row with an id
 abbrev pub size_by : List (List ℕ × ℕ) → List ℕ → Option ℕ
@@ -87,7 +75,7 @@ content_faults len p kind count c =
 -- The faults of a content that begins with `front` bytes, which tell a number n of rows of so many
 -- bytes, at most `most`.
 abbrev pub counted_faults : ℕ → reading.Entry → ℕ → ℕ → ℕ → reading.FaultKind → ℕ →
-  List (Bool × reading.Fault)
+    List (Bool × reading.Fault)
 counted_faults len e front most width bad n =
     reading.line (nat_lt len (e.place + 8 + front)) reading.Truncated e.place
     ∷ reading.line (nat_lt most n) reading.TooMany e.place
@@ -99,6 +87,5 @@ counted_faults len e front most width bad n =
 abbrev pub Allows : ChunkKind → ℕ → Type 0
 Allows Fmt n = 16 ≤ n
 Allows Bext n = 602 ≤ n
-Allows Data n = Unit {0}
 Allows Cue n = 4 ≤ n
-Allows Other n = Unit {0}
+Allows _ n = Unit {0}

@@ -1,5 +1,5 @@
 -- The points of a `cue ` chunk.
-use Rattle.std.specs.Prelude.{◌≡◌, ℕ, ◌+◌, ◌*◌, Bool, List, length, Option, Some, None}
+use Rattle.std.specs.Prelude.{◌≡◌, ℕ, ◌+◌, Bool, List, length, Option, Some, None}
 use Rattle.bw_model.specs.Reading as reading
 use Rattle.bw_model.specs.Report as report
 use Rattle.bw_model.specs.Bytes.{first_that_holds, u32_at}
@@ -10,36 +10,26 @@ use Rattle.bw_inspect.specs.Contents.{ReadTo, WantsRows}
 -- the faults of the content
 abbrev pub cue_faults : List ℕ → reading.Entry → List (Bool × reading.Fault)
 cue_faults b e = counted_faults (length b) e 4 65536 24 reading.BadCue
-  (u32_at (report.content_of b (Some e)) 0)
+    (u32_at (report.content_of b (Some e)) 0)
 
 -- some points were read, and no fault was met
 abbrev pub WantsPoint : List ℕ → reading.Entry → ℕ → Type 0
 WantsPoint b e reached =
-  WantsRows b e 4 65536 24 reading.BadCue (u32_at (report.content_of b (Some e)) 0) reached
+    WantsRows b e 4 65536 24 reading.BadCue (u32_at (report.content_of b (Some e)) 0) reached
 
 -- a point from a place of a content on
 abbrev pub point_at : List ℕ → ℕ → report.RawCue
 point_at c p = record { id = u32_at c p; position = u32_at c (p + 4); offset = u32_at c (p + 20) }
 
--- the point behind so many
-abbrev pub point_told : List ℕ → reading.Entry → ℕ → report.RawCue
-point_told b e done = point_at (report.content_of b (Some e)) (4 + 24 * done)
-
 -- the count was read
 pub record IsCounted (b : List ℕ) (e : reading.Entry) (n : ℕ)
-  (left : Option (List ℕ)) : Type 0 where
+    (left : Option (List ℕ)) : Type 0 where
   pub count : n ≡ u32_at (report.content_of b (Some e)) 0
   pub to : ReadTo b e 4 left
 
--- so many points were read
-pub record HasPoints (b : List ℕ) (e : reading.Entry) (n : ℕ) (points : List report.RawCue)
-  (left : Option (List ℕ)) : Type 0 where
-  pub points_are : points ≡ report.raw_cues (report.content_of b (Some e)) 4 n
-  pub to : ReadTo b e (4 + 24 * n) left
-
 -- the content was read, and has no fault
 pub record IsCued (b : List ℕ) (e : reading.Entry) (points : List report.RawCue)
-  (left : Option (List ℕ)) : Type 0 where
+    (left : Option (List ℕ)) : Type 0 where
   pub free : first_that_holds (cue_faults b e) ≡ None
   pub told : points ≡ cues_told b e
   pub to : ReadTo b e e.size left

@@ -74,39 +74,13 @@ fault_of f = option_map (λ k. record { kind = k; offset = f.offset }) (kind_of 
 
 -- the reader failed
 abbrev pub is_read : InspectKind → Bool
-is_read NotWave = false
-is_read Truncated = false
-is_read NoDs64 = false
-is_read BadDs64 = false
-is_read NoSize = false
-is_read Twice = false
-is_read NoFmt = false
-is_read NoData = false
-is_read BadFmt = false
-is_read BadBext = false
-is_read BadCue = false
-is_read TooMany = false
-is_read TooLarge = false
 is_read Read = true
-is_read Memory = false
+is_read _ = false
 
 -- memory was refused
 abbrev pub is_memory : InspectKind → Bool
-is_memory NotWave = false
-is_memory Truncated = false
-is_memory NoDs64 = false
-is_memory BadDs64 = false
-is_memory NoSize = false
-is_memory Twice = false
-is_memory NoFmt = false
-is_memory NoData = false
-is_memory BadFmt = false
-is_memory BadBext = false
-is_memory BadCue = false
-is_memory TooMany = false
-is_memory TooLarge = false
-is_memory Read = false
 is_memory Memory = true
+is_memory _ = false
 
 -- the fault is one of the bytes
 abbrev pub is_of_bytes : InspectKind → Bool

@@ -50,7 +50,7 @@ bext_told b e = (bext_at (report.content_of b (Some e)), e.size - 602)
 
 abbrev pub cues_told : List ℕ → reading.Entry → List report.RawCue
 cues_told b e = report.raw_cues (report.content_of b (Some e)) 4
-  (u32_at (report.content_of b (Some e)) 0)
+    (u32_at (report.content_of b (Some e)) 0)
 
 -- what the chunks seen tell
 abbrev pub facts_in : List ℕ → List reading.Entry → Facts

@@ -1,10 +1,12 @@
 pub mod Faults
+pub mod ReaderCalls
 pub mod Lines
 pub mod Reports
 pub mod Places
 pub mod Chunks
 pub mod Known
 pub mod Contents
+pub mod RowLists
 pub mod CueContents
 pub mod Tables
 pub mod Walks

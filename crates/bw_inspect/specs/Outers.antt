@@ -16,7 +16,7 @@ use Rattle.bw_inspect.specs.Walks.{Stands, form_of}
 -- the ids of the forms that are read
 abbrev pub names_form : List ℕ → Bool
 names_form id = reading.is_id id (codes "RIFF")
-  || (reading.is_id id (codes "BW64") || reading.is_id id (codes "RF64"))
+    || (reading.is_id id (codes "BW64") || reading.is_id id (codes "RF64"))
 
 -- the faults of the first 12 bytes
 abbrev pub opening_faults : List ℕ → List (Bool × reading.Fault)
@@ -63,7 +63,7 @@ pub record HasReadEntries (b : List ℕ) (reached : ℕ) : Type 0 where
   pub head : first_that_holds (ds64_head_faults b) ≡ None
   pub free :
       first_that_holds (counted_faults (20 + u32_at b 16) (ds64_entry b) 28 4096 12 reading.BadDs64
-        (u32_at b 44))
+      (u32_at b 44))
       ≡ None
   pub grown : HasGrown b 48 12 (u32_at b 44) reached
 

@@ -26,7 +26,7 @@ pub record IsPassed (b : List ℕ) (place n : ℕ) (left : Option (List ℕ)) : 
 -- n bytes of b from a place on aren't read: b ends before, or the reader failed at the next byte
 -- that was wanted
 pub record IsMissed (b : List ℕ) (place n : ℕ) (cut f : InspectFault)
-  (left : Option (List ℕ)) : Type 0 where
+    (left : Option (List ℕ)) : Type 0 where
   pub taken : ℕ
   pub small : taken ≤ n
   pub there : 0 < taken → place + taken ≤ length b
@@ -51,7 +51,7 @@ pub record HasGrown (b : List ℕ) (from width most reached : ℕ) : Type 0 wher
 -- next byte that was wanted, want of memory at a chunk's place, where a list was to grow by what
 -- was read up to there.
 pub record Halts (b : List ℕ) (most place : ℕ) (wants : ℕ → Type 0) (f : InspectFault)
-  (left : Option (List ℕ)) : Type 0 where
+    (left : Option (List ℕ)) : Type 0 where
   pub reached : ℕ
   pub within : reached ≤ most
   pub there : reached ≤ length b

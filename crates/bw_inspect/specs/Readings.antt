@@ -19,7 +19,7 @@ Knows w holds = (b : List ℕ) → facts_of w.known ≡ facts_in b (seen_by w) �
 
 -- the chunks have no fault at the form's end, and this is their report
 pub record IsTold (b : List ℕ) (form : reading.Form) (seen : List reading.Entry)
-  (r : Report) : Type 0 where
+    (r : Report) : Type 0 where
   pub tells : told_by r ≡ report.report_of b form seen
   pub reserved : reserved_by r ≡ reserved_in b seen
   pub free : first_that_holds (reading.end_faults (reading.form_end form) seen) ≡ None
@@ -80,7 +80,7 @@ pub record Refuses (b : List ℕ) (f : InspectFault) (left : Option (List ℕ)) 
   -- want of memory at the place of a chunk without fault that is to be listed, or a part of it:
   -- `ds64` or a further one
   pub memory : IsTrue (is_memory f.kind) →
-    ListsDs64 b f.offset within.reached ⊎ ListsChunk b f.offset within.reached
+      ListsDs64 b f.offset within.reached ⊎ ListsChunk b f.offset within.reached
 
 -- the lists are no longer than they may be, whatever the reader gave
 pub record IsBounded (r : Report) : Type 0 where

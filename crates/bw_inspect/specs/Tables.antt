@@ -1,5 +1,5 @@
 -- The `ds64` chunk.
-use Rattle.std.specs.Prelude.{◌≡◌, ℕ, ◌+◌, ◌*◌, ◌||◌, not, Bool, List, [], ◌∷◌, length, codes}
+use Rattle.std.specs.Prelude.{◌≡◌, ℕ, ◌||◌, not, Bool, List, [], ◌∷◌, length, codes}
 use Rattle.std.specs.Prelude.{Option, Some, None, nat_lt, ◌==◌}
 use Rattle.bw_model.specs.Reading as reading
 use Rattle.bw_model.specs.Report.{content_of}
@@ -30,39 +30,30 @@ pub record IsDs64Head (b : List ℕ) (e : reading.Entry) (left : Option (List �
 -- the faults of its content
 abbrev pub table_faults : List ℕ → reading.Entry → List (Bool × reading.Fault)
 table_faults b e = counted_faults (length b) e 28 4096 12 reading.BadDs64
-  (u32_at (content_of b (Some e)) 24)
+    (u32_at (content_of b (Some e)) 24)
 
 -- some entries were read, and no fault was met
 abbrev pub WantsEntry : List ℕ → reading.Entry → ℕ → Type 0
 WantsEntry b e reached =
-  WantsRows b e 28 4096 12 reading.BadDs64 (u32_at (content_of b (Some e)) 24) reached
-
--- the entry behind so many
-abbrev pub row_told : List ℕ → reading.Entry → ℕ → List ℕ × ℕ
-row_told b e done =
-    let c = content_of b (Some e) in
-    (reading.id_at c (28 + 12 * done), u64_at c (28 + 12 * done + 4))
+    WantsRows b e 28 4096 12 reading.BadDs64 (u32_at (content_of b (Some e)) 24) reached
 
 -- what stands before the table was read
 pub record IsFixed (b : List ℕ) (e : reading.Entry) (x : Fixed)
-  (left : Option (List ℕ)) : Type 0 where
+    (left : Option (List ℕ)) : Type 0 where
   pub told : x ≡ fixed_at (content_of b (Some e))
   pub to : ReadTo b e 28 left
 
--- so many entries were read
-pub record HasRows (b : List ℕ) (e : reading.Entry) (n : ℕ) (rows : List (List ℕ × ℕ))
-  (left : Option (List ℕ)) : Type 0 where
-  pub rows_are : rows ≡ reading.table_at (content_of b (Some e)) 28 n
-  pub to : ReadTo b e (28 + 12 * n) left
-
 -- what a content of `ds64` tells
 abbrev pub sizes_in : List ℕ → reading.Sizes
-sizes_in c = record { form = u64_at c 0; «data» = u64_at c 8;
-  table = reading.table_at c 28 (u32_at c 24) }
+sizes_in c = record {
+  form = u64_at c 0;
+  «data» = u64_at c 8;
+  table = reading.table_at c 28 (u32_at c 24);
+}
 
 -- the content was read, and has no fault
 pub record IsDs64Read (b : List ℕ) (e : reading.Entry) (x : Ds64)
-  (left : Option (List ℕ)) : Type 0 where
+    (left : Option (List ℕ)) : Type 0 where
   pub free : first_that_holds (table_faults b e) ≡ None
   pub told : sizes_by x ≡ sizes_in (content_of b (Some e))
   pub to : ReadTo b e e.size left

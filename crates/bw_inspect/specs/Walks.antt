@@ -20,7 +20,7 @@ seen_by w = w.chunks.items
 
 -- the chunks so far are those of b, and the reader stands where the next head is wanted, if one is
 pub record Stands (b : List ℕ) (form : reading.Form) (w : Walk)
-  (left : Option (List ℕ)) : Type 0 where
+    (left : Option (List ℕ)) : Type 0 where
   pub chunks : reading.FollowEachOther (reading.next b form) [] (seen_by w)
   pub facts : facts_of w.known ≡ facts_in b (seen_by w)
   pub place : w.place ≡ reading.next_place (seen_by w)
@@ -49,7 +49,7 @@ behind e = e.place + 8 + even_up e.size
 
 -- a chunk is behind the reader, and so is its pad byte where a further head is wanted
 pub record IsPassedOver (b : List ℕ) (end : ℕ) (e : reading.Entry)
-  (left : Option (List ℕ)) : Type 0 where
+    (left : Option (List ℕ)) : Type 0 where
   pub reached : ℕ
   pub within : reached ≤ end
   pub there : length b < reached → reached ≡ behind e
@@ -68,25 +68,25 @@ pub record GrowsByOne (old new : List reading.Entry) : Type 0 where
 
 -- one more chunk is seen, or none is wanted
 pub record Goes (b : List ℕ) (form : reading.Form) (more : Bool) (w : Walk)
-  (left : Option (List ℕ)) : Type 0 where
+    (left : Option (List ℕ)) : Type 0 where
   pub stands : Stands b form w left
   pub ends : more ≡ false → reading.form_end form < w.place + 8
 
 -- where the chunk behind those seen ends, without its pad byte
 abbrev pub end_behind : List ℕ → reading.Form → List reading.Entry → ℕ
 end_behind b form seen =
-  reading.next_place seen + 8 + unwrap_or (reading.size_at b form (reading.next_place seen)) 0
+    reading.next_place seen + 8 + unwrap_or (reading.size_at b form (reading.next_place seen)) 0
 
 -- the faults of the chunk at a place behind those seen, where so many bytes of b are there
 abbrev pub faults_at : ℕ → List ℕ → reading.Form → List reading.Entry → ℕ →
-  List (Bool × reading.Fault)
+    List (Bool × reading.Fault)
 faults_at len b form seen p =
     reading.chunk_faults len (reading.form_end form) seen p (reading.head_at b form p)
-      (unwrap_or (reading.size_at b form p) 0)
+    (unwrap_or (reading.size_at b form p) 0)
 
 -- the chunk behind those seen has no fault, and was read to its end
 pub record IsReadWhole (b : List ℕ) (form : reading.Form) (seen : List reading.Entry)
-  (reached : ℕ) : Type 0 where
+    (reached : ℕ) : Type 0 where
   pub entry : reading.Entry
   pub comes : reading.next b form seen ≡ Ok (Some entry)
   pub ends : reached ≡ entry.place + 8 + entry.size
@@ -94,12 +94,12 @@ pub record IsReadWhole (b : List ℕ) (form : reading.Form) (seen : List reading
 -- the chunk behind those seen is a `cue ` chunk without fault, but that b may end in it, and some
 -- points were read
 pub record HasReadPoints (b : List ℕ) (form : reading.Form) (seen : List reading.Entry)
-  (reached : ℕ) : Type 0 where
+    (reached : ℕ) : Type 0 where
   pub is_cue : reading.is_cue (reading.head_at b form (reading.next_place seen)) ≡ true
   pub free : first_that_holds
-    (faults_at (end_behind b form seen) b form seen (reading.next_place seen)) ≡ None
+      (faults_at (end_behind b form seen) b form seen (reading.next_place seen)) ≡ None
   pub grown : HasGrown b (reading.next_place seen + 12) 24
-    (u32_at b (reading.next_place seen + 8)) reached
+      (u32_at b (reading.next_place seen + 8)) reached
 
 -- the chunk behind those seen, or a point of it, is to be listed
 abbrev pub WantsChunk : List ℕ → reading.Form → List reading.Entry → ℕ → Type 0
@@ -107,12 +107,12 @@ WantsChunk b form seen reached = IsReadWhole b form seen reached ⊎ HasReadPoin
 
 -- what comes behind the chunks seen is a fault, or wasn't read
 pub record IsFaulted (b : List ℕ) (form : reading.Form) (seen : List reading.Entry)
-  (f : InspectFault) (left : Option (List ℕ)) : Type 0 where
+    (f : InspectFault) (left : Option (List ℕ)) : Type 0 where
   pub reached : ℕ
   pub within : reached ≤ reading.form_end form
   pub there : length b < reached → reached ≡ reading.next_place seen
   pub rest : left ≡ Some (drop reached b)
   pub fails : IsTrue (is_read f.kind) → f.offset ≡ reached
   pub memory : IsTrue (is_memory f.kind) →
-    (f.offset ≡ reading.next_place seen) × WantsChunk b form seen reached
+      (f.offset ≡ reading.next_place seen) × WantsChunk b form seen reached
   pub fault : (g : reading.Fault) → fault_of f ≡ Some g → reading.next b form seen ≡ Err g

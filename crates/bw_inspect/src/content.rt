@@ -1,6 +1,6 @@
 //! The contents of chunks.
 ghost use Rattle.std.specs.Prelude.{◌≡◌, ◌+◌, ◌-◌, ◌^◌, ◌≤◌, ◌<◌, length, IfOk, IfErr, OnOk};
-ghost use Rattle.bw_inspect.specs.Faults.{counted};
+ghost use Rattle.bw_inspect.specs.ReaderCalls.{Consumes};
 ghost use Rattle.bw_inspect.specs.Chunks.{Allows};
 ghost use Rattle.bw_inspect.specs.Known.{HasFewCues, facts_of, fmt_told, bext_kept, bext_told};
 ghost use Rattle.bw_inspect.specs.Places.{Nowhere};
@@ -28,8 +28,7 @@ pub(crate) fn read_part<R: Source>(
     requires room { entry.place + 8 + entry.size < 2 ^ 63 }
     requires within { done + length buf.old ≤ entry.size }
     requires some { 0 < length buf.old }
-    ensures count { R.failures reader.new ≡ counted result (R.failures reader.old) }
-    ensures most { R.moved reader.new ≤ R.moved reader.old + length buf.old }
+    ensures consumed { Consumes R.Source (length buf.old) result reader.old reader.new }
     ensures ok { OnOk result (InContent (R.left reader.old) entry done (λ b.
         IsPart b entry done (length buf.old) buf.new (R.left reader.new))) }
     ensures err { IfErr result (λ f. InContent (R.left reader.old) entry done (λ b.
@@ -50,8 +49,7 @@ pub(crate) fn pass_rest<R: Source>(
 ) -> Result<(), InspectFault>
     requires room { entry.place + 8 + entry.size < 2 ^ 63 }
     requires within { done ≤ entry.size }
-    ensures count { R.failures reader.new ≡ counted result (R.failures reader.old) }
-    ensures most { R.moved reader.new ≤ R.moved reader.old + (entry.size - done) }
+    ensures consumed { Consumes R.Source (entry.size - done) result reader.old reader.new }
     ensures ok { OnOk result (InContent (R.left reader.old) entry done (λ b.
         ReadTo b entry entry.size (R.left reader.new))) }
     ensures err { IfErr result (λ f. InContent (R.left reader.old) entry done (λ b.
@@ -65,8 +63,7 @@ pub(crate) fn pass_rest<R: Source>(
 fn read_fmt_chunk<R: Source>(reader: &mut R, entry: ListedChunk) -> Result<RawFmt, InspectFault>
     requires room { entry.place + 8 + entry.size < 2 ^ 63 }
     requires long { 16 ≤ entry.size }
-    ensures count { R.failures reader.new ≡ counted result (R.failures reader.old) }
-    ensures most { R.moved reader.new ≤ R.moved reader.old + entry.size }
+    ensures consumed { Consumes R.Source entry.size result reader.old reader.new }
     ensures ok { IfOk result (λ x. InContent (R.left reader.old) entry 0 (λ b.
         ReadTo b entry entry.size (R.left reader.new) × (x ≡ fmt_told b entry))) }
     ensures err { IfErr result (λ f. InContent (R.left reader.old) entry 0 (λ b.
@@ -85,8 +82,7 @@ fn read_fmt_chunk<R: Source>(reader: &mut R, entry: ListedChunk) -> Result<RawFm
 fn read_bext_chunk<R: Source>(reader: &mut R, entry: ListedChunk) -> Result<BextChunk, InspectFault>
     requires room { entry.place + 8 + entry.size < 2 ^ 63 }
     requires long { 602 ≤ entry.size }
-    ensures count { R.failures reader.new ≡ counted result (R.failures reader.old) }
-    ensures most { R.moved reader.new ≤ R.moved reader.old + entry.size }
+    ensures consumed { Consumes R.Source entry.size result reader.old reader.new }
     ensures ok { IfOk result (λ x. InContent (R.left reader.old) entry 0 (λ b.
         ReadTo b entry entry.size (R.left reader.new) × (bext_kept x ≡ bext_told b entry))) }
     ensures err { IfErr result (λ f. InContent (R.left reader.old) entry 0 (λ b.
@@ -117,8 +113,7 @@ pub(crate) fn read_content<R: Source>(
 ) -> Result<(), InspectFault>
     requires room { entry.place + 8 + entry.size < 2 ^ 63 }
     requires allowed { Allows kind entry.size }
-    ensures count { R.failures reader.new ≡ counted result (R.failures reader.old) }
-    ensures most { R.moved reader.new ≤ R.moved reader.old + entry.size }
+    ensures consumed { Consumes R.Source entry.size result reader.old reader.new }
     ensures few { OnOk result (HasFewCues known.old → HasFewCues known.new) }
     ensures ok { OnOk result (InContent (R.left reader.old) entry 0 (λ b.
         IsLearned b kind entry (facts_of known.old) (facts_of known.new) (R.left reader.new))) }

@@ -1,17 +1,18 @@
 //! The `ds64` chunk, with which a BW64 or RF64 file begins (ITU-R BS.2088).
 ghost use Rattle.std.specs.Prelude.{◌≡◌, ◌+◌, ◌*◌, ◌^◌, ◌≤◌, ◌<◌, length, IfOk, IfErr, Some};
-ghost use Rattle.bw_inspect.specs.Faults.{counted};
-ghost use Rattle.bw_inspect.specs.Places.{AtPlace, HasGrown, Nowhere};
-ghost use Rattle.bw_inspect.specs.Contents.{InContent, IsCutShort, IsRefused, IsStopped, ReadTo};
+ghost use Rattle.bw_inspect.specs.ReaderCalls.{Consumes};
+ghost use Rattle.bw_inspect.specs.Places.{AtPlace, Nowhere};
+ghost use Rattle.bw_inspect.specs.Contents.{InContent, IsRefused, IsStopped};
 ghost use Rattle.bw_inspect.specs.Chunks.{sizes_by};
-ghost use Rattle.bw_inspect.specs.Tables.{HasRows, WantsEntry, IsDs64Head, IsDs64Read, IsFixed, ds64_head_faults, row_told, table_faults};
+ghost use Rattle.bw_inspect.specs.Tables.{WantsEntry, IsDs64Head, IsDs64Read, IsFixed, ds64_head_faults, table_faults};
 
 use crate::chunk::is_named;
 use crate::content::{pass_rest, read_part};
 use crate::fault::{InspectFault, InspectKind, fault_at};
 use crate::report::ListedChunk;
+use crate::row_list::read_rows;
 use crate::walk::read_head_at;
-use bw_layout::{ChunkId, Ds64, Ds64Fixed, SizeTable, Source, read_ds64_fixed, read_entry};
+use bw_layout::{Ds64, Ds64Fixed, SizeTable, Source, read_ds64_fixed};
 use std::alloc::Global;
 
 /// Where a `ds64` chunk stands: behind the outer header.
@@ -25,8 +26,7 @@ const MOST_ENTRIES: u32 = 4_096;
 /// # Errors
 /// NoDs64, BadDs64; Read.
 pub(crate) fn read_ds64_head<R: Source>(reader: &mut R) -> Result<ListedChunk, InspectFault>
-    ensures count { R.failures reader.new ≡ counted result (R.failures reader.old) }
-    ensures most { R.moved reader.new ≤ R.moved reader.old + 8 }
+    ensures consumed { Consumes R.Source 8 result reader.old reader.new }
     ensures place { IfOk result (λ e. e.place ≡ 12) }
     ensures size { IfOk result (λ e. (28 ≤ e.size) × (e.size < 2 ^ 32)) }
     ensures ok { IfOk result (λ e. AtPlace (R.left reader.old) 12 (λ b.
@@ -55,8 +55,7 @@ pub(crate) fn read_ds64_head<R: Source>(reader: &mut R) -> Result<ListedChunk, I
 fn read_fixed<R: Source>(reader: &mut R, entry: ListedChunk) -> Result<Ds64Fixed, InspectFault>
     requires room { entry.place + 8 + entry.size < 2 ^ 63 }
     requires long { 28 ≤ entry.size }
-    ensures count { R.failures reader.new ≡ counted result (R.failures reader.old) }
-    ensures most { R.moved reader.new ≤ R.moved reader.old + 28 }
+    ensures consumed { Consumes R.Source 28 result reader.old reader.new }
     ensures few { IfOk result (λ x. x.table_len ≤ 4_096) }
     ensures fits { IfOk result (λ x. 28 + 12 * x.table_len ≤ entry.size) }
     ensures ok { IfOk result (λ x. InContent (R.left reader.old) entry 0 (λ b.
@@ -78,65 +77,6 @@ fn read_fixed<R: Source>(reader: &mut R, entry: ListedChunk) -> Result<Ds64Fixed
     Ok(fixed)
 }
 
-/// Reads the next entry of the table, before which `done` entries were read.
-///
-/// # Errors
-/// Truncated; Read.
-fn read_row<R: Source>(
-    reader: &mut R,
-    entry: ListedChunk,
-    done: u64,
-) -> Result<(ChunkId, u64), InspectFault>
-    requires room { entry.place + 8 + entry.size < 2 ^ 63 }
-    requires few { done < 4_096 }
-    requires fits { 28 + 12 * done + 12 ≤ entry.size }
-    ensures count { R.failures reader.new ≡ counted result (R.failures reader.old) }
-    ensures most { R.moved reader.new ≤ R.moved reader.old + 12 }
-    ensures ok { IfOk result (λ x. InContent (R.left reader.old) entry (28 + 12 * done) (λ b.
-        ReadTo b entry (28 + 12 * done + 12) (R.left reader.new)
-        × (x ≡ row_told b entry done))) }
-    ensures err { IfErr result (λ f. InContent (R.left reader.old) entry (28 + 12 * done) (λ b.
-        IsCutShort b entry entry.size Nowhere f (R.left reader.new))) }
-{
-    let mut bytes = [0; 12];
-    read_part(reader, entry, 28 + 12 * done, &mut bytes)?;
-    let Ok(row) = read_entry(&bytes) else {
-        return Err(fault_at(InspectKind::BadDs64, entry.place));
-    };
-    Ok(row)
-}
-
-/// Reads so many entries of the table.
-///
-/// # Errors
-/// Truncated; Read; Memory.
-fn read_table<R: Source>(
-    alloc: Global,
-    reader: &mut R,
-    entry: ListedChunk,
-    count: u64,
-) -> Result<Vec<(ChunkId, u64)>, InspectFault>
-    requires room { entry.place + 8 + entry.size < 2 ^ 63 }
-    requires few { count ≤ 4_096 }
-    requires fits { 28 + 12 * count ≤ entry.size }
-    ensures count { R.failures reader.new ≡ counted result (R.failures reader.old) }
-    ensures most { R.moved reader.new ≤ R.moved reader.old + 12 * count }
-    ensures ok { IfOk result (λ x. InContent (R.left reader.old) entry 28 (λ b.
-        HasRows b entry count x.items (R.left reader.new))) }
-    ensures err { IfErr result (λ f. InContent (R.left reader.old) entry 28 (λ b.
-        IsCutShort b entry entry.size (HasGrown b (entry.place + 8 + 28) 12 count) f
-        (R.left reader.new))) }
-{
-    let mut rows = Vec::new(alloc);
-    for done in 0..count {
-        let row = read_row(reader, entry, done)?;
-        let Ok(()) = rows.push(row) else {
-            return Err(fault_at(InspectKind::Memory, entry.place));
-        };
-    }
-    Ok(rows)
-}
-
 /// Reads the content of the `ds64` chunk; what follows its table is passed over.
 ///
 /// # Errors
@@ -148,8 +88,7 @@ pub(crate) fn read_ds64<R: Source>(
 ) -> Result<Ds64, InspectFault>
     requires room { entry.place + 8 + entry.size < 2 ^ 63 }
     requires long { 28 ≤ entry.size }
-    ensures count { R.failures reader.new ≡ counted result (R.failures reader.old) }
-    ensures most { R.moved reader.new ≤ R.moved reader.old + entry.size }
+    ensures consumed { Consumes R.Source entry.size result reader.old reader.new }
     ensures ok { IfOk result (λ x. InContent (R.left reader.old) entry 0 (λ b.
         IsDs64Read b entry x (R.left reader.new))) }
     ensures err { IfErr result (λ f. InContent (R.left reader.old) entry 0 (λ b.
@@ -157,7 +96,7 @@ pub(crate) fn read_ds64<R: Source>(
 {
     let fixed = read_fixed(reader, entry)?;
     let count = fixed.table_len as u64;
-    let rows = read_table(alloc, reader, entry, count)?;
+    let rows = read_rows(alloc, reader, entry, 28, count)?;
     pass_rest(reader, entry, 28 + 12 * count)?;
     Ok(Ds64 {
         form: fixed.form,

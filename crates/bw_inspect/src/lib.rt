@@ -12,6 +12,7 @@ mod outer;
 mod places;
 mod reading;
 mod report;
+mod row_list;
 mod sizes;
 mod text;
 mod walk;

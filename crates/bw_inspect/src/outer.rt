@@ -1,7 +1,8 @@
 //! The outer header of a file.
-ghost use Rattle.std.specs.Prelude.{◌≡◌, ◌+◌, ◌^◌, ◌≤◌, min, IsTrue, None, OnOk, IfOk, IfErr, ◌==◌, if◌then◌else◌};
+ghost use Rattle.std.specs.Prelude.{◌≡◌, ◌+◌, ◌-◌, ◌^◌, ◌≤◌, min, IsTrue, None, OnOk, IfOk, IfErr, ◌==◌, if◌then◌else◌};
 ghost use Rattle.bw_model.specs.Bytes.{first_that_holds, unsaid};
-ghost use Rattle.bw_inspect.specs.Faults.{counted, fault_of, is_of_bytes};
+ghost use Rattle.bw_inspect.specs.ReaderCalls.{Consumes, longest_end};
+ghost use Rattle.bw_inspect.specs.Faults.{fault_of, is_of_bytes};
 ghost use Rattle.bw_inspect.specs.Places.{Nowhere, Of};
 ghost use Rattle.bw_inspect.specs.Contents.{IsStopped};
 ghost use Rattle.bw_inspect.specs.Outers.{BeginsForm, IsOpened, IsOutside, OnWide, form_faults, names_form, opening_faults};
@@ -27,8 +28,7 @@ fn is_form(id: ChunkId) -> bool
 /// # Errors
 /// NotWave; Read.
 fn read_opening<R: Source>(reader: &mut R) -> Result<ChunkHead, InspectFault>
-    ensures count { R.failures reader.new ≡ counted result (R.failures reader.old) }
-    ensures most { R.moved reader.new ≤ R.moved reader.old + 12 }
+    ensures consumed { Consumes R.Source 12 result reader.old reader.new }
     ensures ok { IfOk result (λ h. Of (R.left reader.old) (λ b.
         IsOpened b h (R.left reader.new))) }
     ensures err { IfErr result (λ f. Of (R.left reader.old) (λ b.
@@ -86,8 +86,7 @@ fn read_wide<R: Source>(
     reader: &mut R,
     opening: ChunkHead,
 ) -> Result<(Form, Walk), InspectFault>
-    ensures count { R.failures reader.new ≡ counted result (R.failures reader.old) }
-    ensures most { R.moved reader.new + 12 ≤ R.moved reader.old + (2 ^ 62 + 8) }
+    ensures consumed { Consumes R.Source (longest_end - 12) result reader.old reader.new }
     ensures passed { IfOk result (λ r.
         R.moved reader.new + 12 ≤ R.moved reader.old + min r.1.place (8 + r.0.size)) }
     ensures size { IfOk result (λ r. r.0.size ≤ 2 ^ 62) }
@@ -123,8 +122,7 @@ pub(crate) fn read_outer<R: Source>(
     alloc: Global,
     reader: &mut R,
 ) -> Result<(Form, Walk), InspectFault>
-    ensures count { R.failures reader.new ≡ counted result (R.failures reader.old) }
-    ensures most { R.moved reader.new ≤ R.moved reader.old + (2 ^ 62 + 8) }
+    ensures consumed { Consumes R.Source longest_end result reader.old reader.new }
     ensures passed { IfOk result (λ r.
         R.moved reader.new ≤ R.moved reader.old + min r.1.place (8 + r.0.size)) }
     ensures size { IfOk result (λ r. r.0.size ≤ 2 ^ 62) }

@@ -1,6 +1,7 @@
 //! Reading and passing over bytes at a place.
 ghost use Rattle.std.specs.Prelude.{◌≡◌, ◌+◌, ◌-◌, ◌^◌, ◌<◌, ◌≤◌, IsTrue, length, drop, Some, IfOk, IfErr, OnOk};
-ghost use Rattle.bw_inspect.specs.Faults.{counted, is_of_bytes};
+ghost use Rattle.bw_inspect.specs.ReaderCalls.{Consumes};
+ghost use Rattle.bw_inspect.specs.Faults.{is_of_bytes};
 ghost use Rattle.bw_inspect.specs.Places.{AtPlace, IsGiven, IsPassed, IsMissed};
 
 use crate::fault::{InspectFault, InspectKind, fault_at};
@@ -18,8 +19,7 @@ pub(crate) fn read_at<R: Source>(
 ) -> Result<(), InspectFault>
     requires room { place + length buf.old < 2 ^ 64 }
     requires cut { IsTrue (is_of_bytes cut.kind) }
-    ensures count { R.failures reader.new ≡ counted result (R.failures reader.old) }
-    ensures most { R.moved reader.new ≤ R.moved reader.old + length buf.old }
+    ensures consumed { Consumes R.Source (length buf.old) result reader.old reader.new }
     ensures ok { OnOk result (AtPlace (R.left reader.old) place (λ b.
         IsGiven b place (length buf.old) buf.new (R.left reader.new))) }
     ensures err { IfErr result (λ f. AtPlace (R.left reader.old) place (λ b.
@@ -48,8 +48,7 @@ pub(crate) fn skip_at<R: Source>(
 ) -> Result<(), InspectFault>
     requires room { place + count < 2 ^ 64 }
     requires cut { IsTrue (is_of_bytes cut.kind) }
-    ensures count { R.failures reader.new ≡ counted result (R.failures reader.old) }
-    ensures most { R.moved reader.new ≤ R.moved reader.old + count }
+    ensures consumed { Consumes R.Source count result reader.old reader.new }
     ensures ok { OnOk result (AtPlace (R.left reader.old) place (λ b.
         IsPassed b place count (R.left reader.new))) }
     ensures err { IfErr result (λ f. AtPlace (R.left reader.old) place (λ b.
@@ -71,8 +70,7 @@ pub(crate) fn skip_at<R: Source>(
 /// # Errors
 /// Read.
 pub(crate) fn skip_pad<R: Source>(reader: &mut R, place: u64) -> Result<(), InspectFault>
-    ensures count { R.failures reader.new ≡ counted result (R.failures reader.old) }
-    ensures most { R.moved reader.new ≤ R.moved reader.old + 1 }
+    ensures consumed { Consumes R.Source 1 result reader.old reader.new }
     ensures ok { OnOk result (AtPlace (R.left reader.old) place (λ b.
         R.left reader.new ≡ Some (drop (place + 1) b))) }
     ensures kind { IfErr result (λ f. f ≡ record { kind = InspectKind.Read; offset = place }) }

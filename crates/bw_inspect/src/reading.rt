@@ -2,7 +2,8 @@
 ghost use Rattle.std.specs.Prelude.{◌≡◌, ℕ, ◌+◌, ◌^◌, ◌≤◌, List, IsTrue, None, IfOk, IfErr, false};
 ghost use Rattle.bw_model.specs.Bytes.{first_that_holds};
 ghost use Rattle.bw_model.specs.Reading.{end_faults};
-ghost use Rattle.bw_inspect.specs.Faults.{counted, fault_of, is_of_bytes};
+ghost use Rattle.bw_inspect.specs.ReaderCalls.{Consumes, longest_end};
+ghost use Rattle.bw_inspect.specs.Faults.{fault_of, is_of_bytes};
 ghost use Rattle.bw_inspect.specs.Places.{Of};
 ghost use Rattle.bw_inspect.specs.Known.{facts_of, facts_in};
 ghost use Rattle.bw_inspect.specs.Walks.{IsSmall, form_of, seen_by};
@@ -64,8 +65,7 @@ fn finish(alloc: Global, form: Form, walk: Walk) -> Result<Report, InspectFault>
 /// The first fault of the file, at its place; Read, only where the reader failed in this call, at the offset of
 /// the next byte that was wanted; Memory, at the place of the chunk that needed it.
 pub fn inspect<R: Source>(alloc: Global, reader: &mut R) -> Result<Report, InspectFault>
-    ensures count { R.failures reader.new ≡ counted result (R.failures reader.old) }
-    ensures most { R.moved reader.new ≤ R.moved reader.old + (2 ^ 62 + 8) }
+    ensures consumed { Consumes R.Source longest_end result reader.old reader.new }
     ensures within { IfOk result (λ r. R.moved reader.new ≤ R.moved reader.old + (8 + r.size)) }
     ensures ok { IfOk result (λ r. Of (R.left reader.old) (λ b. Tells b r (R.left reader.new))) }
     ensures err { IfErr result (λ f. Of (R.left reader.old) (λ b.

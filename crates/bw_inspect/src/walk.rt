@@ -1,7 +1,8 @@
 //! The walk over the chunks of a form.
 ghost use Rattle.std.specs.Prelude.{◌≡◌, ◌+◌, ◌-◌, ◌^◌, ◌≤◌, ◌<◌, ◌∷◌, ◌++◌, [], IsTrue, length, IfOk, IfErr, OnOk};
 ghost use Rattle.bw_model.specs.Bytes.{even_up};
-ghost use Rattle.bw_inspect.specs.Faults.{counted, is_of_bytes};
+ghost use Rattle.bw_inspect.specs.ReaderCalls.{Consumes};
+ghost use Rattle.bw_inspect.specs.Faults.{is_of_bytes};
 ghost use Rattle.bw_inspect.specs.Places.{AtPlace, IsMissed};
 ghost use Rattle.bw_inspect.specs.Known.{facts_of, has_kind, nothing};
 ghost use Rattle.bw_inspect.specs.Contents.{InContent, IsEndOf, IsRefused};
@@ -95,8 +96,7 @@ pub(crate) fn read_head_at<R: Source>(
 ) -> Result<ChunkHead, InspectFault>
     requires room { place + 8 < 2 ^ 64 }
     requires cut { IsTrue (is_of_bytes cut.kind) }
-    ensures count { R.failures reader.new ≡ counted result (R.failures reader.old) }
-    ensures most { R.moved reader.new ≤ R.moved reader.old + 8 }
+    ensures consumed { Consumes R.Source 8 result reader.old reader.new }
     ensures ok { IfOk result (λ h. AtPlace (R.left reader.old) place (λ b.
         IsHead b place h (R.left reader.new))) }
     ensures err { IfErr result (λ f. AtPlace (R.left reader.old) place (λ b.
@@ -122,9 +122,8 @@ pub(crate) fn list_chunk<R: Source>(
 ) -> Result<(), InspectFault>
     requires end { end ≤ 2 ^ 62 + 8 }
     requires within { entry.place + 8 + entry.size ≤ end }
-    ensures count { R.failures reader.new ≡ counted result (R.failures reader.old) }
-    ensures most { R.moved reader.new ≤
-        R.moved reader.old + (end - (entry.place + 8 + entry.size)) }
+    ensures consumed { Consumes R.Source (end - (entry.place + 8 + entry.size))
+        result reader.old reader.new }
     ensures passed { OnOk result (
         R.moved reader.new + (entry.place + 8 + entry.size) ≤ R.moved reader.old + walk.new.place) }
     ensures known { OnOk result (walk.new.known ≡ walk.old.known) }
@@ -157,9 +156,8 @@ pub(crate) fn next_chunk<R: Source>(
 ) -> Result<bool, InspectFault>
     requires small { form.now.size ≤ 2 ^ 62 }
     requires place { walk.old.place ≤ form.now.size + 9 }
-    ensures count { R.failures reader.new ≡ counted result (R.failures reader.old) }
-    ensures most { R.moved reader.new ≤
-        R.moved reader.old + (8 + form.now.size - walk.old.place) }
+    ensures consumed { Consumes R.Source (8 + form.now.size - walk.old.place)
+        result reader.old reader.new }
     ensures passed { OnOk result (
         R.moved reader.new + walk.old.place ≤ R.moved reader.old + walk.new.place) }
     ensures place { OnOk result (walk.new.place ≤ form.now.size + 9) }

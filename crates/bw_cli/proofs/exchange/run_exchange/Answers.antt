@@ -12,7 +12,7 @@ use Rattle.bw_cli.proofs.exchange.run_exchange.Goals as goal
 pub loop-message-init : goal.loop-message-init
 loop-message-init c =
     let fed : c.feed.new.self ≡ with_piece fresh c.args.input.now =
-        c.in_ok-feed.ensures.ok ∙ ap (λ (p : Pending). with_piece p c.args.input.now) c.new-framer.ensures in
+    c.in_ok-feed.ensures.ok ∙ ap (λ (p : Pending). with_piece p c.args.input.now) c.new-framer.ensures in
     record {
       reading = ap (λ (p : Pending). p.phase) fed;
       runs = λ book k. within-start _ book _ _ _ k fed c.new-replies.ensures.items;
@@ -30,7 +30,7 @@ loop-message-preserved c =
       runs = λ book k.
           within-message _ _ _ book _ next.0 _ _ p _ m _ (c.loop-message.invariant.runs book k) next.1 same
           c.in_ok-reply-in-Ok-Some-Message.ensures.ok c.in_ok-put_reply-in-Ok-Some-Message.ensures.spelled
-            c.in_ok-put_reply-in-Ok-Some-Message.ensures.frame;
+          c.in_ok-put_reply-in-Ok-Some-Message.ensures.frame;
     }
 
 pub loop-message-smaller : goal.loop-message-smaller
@@ -50,7 +50,7 @@ returns-in_err-reply-in-Ok-Some-Message-clause-err c =
     let next = is_next p (Gives (Says m)) c.loop-message.invariant.reading told in
     err_kept _ c.in_err-reply-in-Ok-Some-Message.field-0.0 _ c.from_residual-in_err-reply-in-Ok-Some-Message.ensures.1
     (within-breaks c.in_err-reply-in-Ok-Some-Message.field-0.0 _ _ _ next.0 _ p m c.loop-message.invariant.runs next.1
-      c.in_err-reply-in-Ok-Some-Message.ensures.err)
+    c.in_err-reply-in-Ok-Some-Message.ensures.err)
 
 pub returns-in-Ok-Some-Ask-clause-err : goal.returns-in-Ok-Some-Ask-clause-err
 returns-in-Ok-Some-Ask-clause-err c book k =
@@ -74,7 +74,7 @@ returns-in-Err-clause-ok c book k =
     let told : Fails (reason_of f.reason) f.offset ≡ (after p).0 = search rules in
     let next = is_next p (Fails (reason_of f.reason) f.offset) c.loop-message.invariant.reading told in
     within-bad _ _ book _ _ p _ f
-      (c.loop-message.invariant.runs book k) next.2 next.0 next.1 c.in_ok-ended_bad-in-Err.ensures
+    (c.loop-message.invariant.runs book k) next.2 next.0 next.1 c.in_ok-ended_bad-in-Err.ensures
 
 pub returns-in-Ok-clause-ok : goal.returns-in-Ok-clause-ok
 returns-in-Ok-clause-ok c book k =
@@ -82,9 +82,9 @@ returns-in-Ok-clause-ok c book k =
     let told : Nothing ≡ (after p).0 = search rules in
     let next = is_next p Nothing c.loop-message.invariant.reading told in
     let end : None ≡ end_fault (compacted p) =
-        c.in-Ok.ensures ∙ ap end_fault (c.next_frame.follows.holds-at-none ∙ next.1) in
+    c.in-Ok.ensures ∙ ap end_fault (c.next_frame.follows.holds-at-none ∙ next.1) in
     within-last _ _ book _ _ p _ (c.loop-message.invariant.runs book k)
-      (is_end (compacted p) None c.loop-message.invariant.reading end) refl refl
+    (is_end (compacted p) None c.loop-message.invariant.reading end) refl refl
 
 pub returns-clause-ok : goal.returns-clause-ok
 returns-clause-ok c book k =
@@ -93,7 +93,7 @@ returns-clause-ok c book k =
     let told : Nothing ≡ (after p).0 = search rules in
     let next = is_next p Nothing c.loop-message.invariant.reading told in
     let fault : Some (reason_of f.reason, f.offset) ≡ end_fault (compacted p) =
-        c.in-Err-end.ensures ∙ ap end_fault (c.next_frame.follows.holds-at-none ∙ next.1) in
+    c.in-Err-end.ensures ∙ ap end_fault (c.next_frame.follows.holds-at-none ∙ next.1) in
     let cut = is_end (compacted p) (Some (reason_of f.reason, f.offset)) c.loop-message.invariant.reading fault in
     within-bad _ _ book _ _ p _ f (c.loop-message.invariant.runs book k) cut.0
-      (next.0 ∙ ap (λ r. Err r) (sym cut.1)) cut.2 c.in_ok-ended_bad-in-Err-end.ensures
+    (next.0 ∙ ap (λ r. Err r) (sym cut.1)) cut.2 c.in_ok-ended_bad-in-Err-end.ensures

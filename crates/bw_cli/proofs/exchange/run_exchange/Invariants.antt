@@ -9,7 +9,7 @@ abbrev pub invariant-loop-message : goal.invariant-loop-message
 invariant-loop-message l = record {
   reading : l.framer.phase ≡ Reading;
   runs : (book : Book) → KeepsBook l.fn.recording book →
-    IsWithin l.fn.recording book l.input l.framer l.recording l.replies.items;
+      IsWithin l.fn.recording book l.input l.framer l.recording l.replies.items;
 }
 
 abbrev pub decreases-loop-message : goal.decreases-loop-message

@@ -19,17 +19,23 @@ pub loop-piece-preserved : goal.loop-piece-preserved
 loop-piece-preserved g c = record {
   within = grind (arith, common_steps, c.in-Ok.ensures.within, c.in_ok-extend_from_slice.ensures.items);
   count = c.in-Ok.ensures.count ∙ c.loop-piece.invariant.count;
-  moved = grind (arith, common_steps, c.in-Ok.ensures.moved, c.loop-piece.invariant.moved,
-    c.in_ok-extend_from_slice.ensures.items, c.in-Ok.ensures.within);
+  moved = grind (
+    arith,
+    common_steps,
+    c.in-Ok.ensures.moved,
+    c.loop-piece.invariant.moved,
+    c.in_ok-extend_from_slice.ensures.items,
+    c.in-Ok.ensures.within,
+  );
   front = λ b e.
       let front = c.loop-piece.invariant.front b e in
       rw c.in_ok-extend_from_slice.ensures.items
-        (more-front b _ _ _ _ _ _ _ front (c.in-Ok.ensures.ok _ front.rest)
-        (grind (arith, common_steps, c.in-Ok.ensures.within)));
+      (more-front b _ _ _ _ _ _ _ front (c.in-Ok.ensures.ok _ front.rest)
+      (grind (arith, common_steps, c.in-Ok.ensures.within)));
 }
 
 pub returns-in_err-extend_from_slice-clause-reads : goal.returns-in_err-extend_from_slice-clause-reads
 returns-in_err-extend_from_slice-clause-reads g c b e =
     let front = c.loop-piece.invariant.front b e in
     read-ahead b _ _ _ _ _ _ front (c.in-Ok.ensures.ok _ front.rest)
-      (grind (arith, common_steps, c.in-Ok.ensures.within))
+    (grind (arith, common_steps, c.in-Ok.ensures.within))

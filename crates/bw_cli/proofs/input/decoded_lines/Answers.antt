@@ -13,8 +13,8 @@ pub loop-rest-preserved : goal.loop-rest-preserved
 loop-rest-preserved c =
     let found : List (List ℕ) = map (λ x. x.items) c.loop-rest.found.items in
     let pushed : map (λ x. x.items) c.push.new.self.items ≡ found ++ c.in-Ok.bytes.items ∷ [] =
-        ap (map (λ x. x.items)) c.in-Ok-push.ensures.items
-        ∙ map_push (λ x. x.items) c.loop-rest.found.items c.in-Ok.bytes in
+    ap (map (λ x. x.items)) c.in-Ok-push.ensures.items
+    ∙ map_push (λ x. x.items) c.loop-rest.found.items c.in-Ok.bytes in
     let bytes = c.in-Ok.bytes in
     let short : length bytes.items ≤ longest_input =
     let twice = (decode_of-ok c.first_line.result.0.now bytes.items c.in-Ok.ensures.ok).2 in
@@ -25,51 +25,51 @@ loop-rest-preserved c =
     record {
       within = let i = c.loop-rest.invariant.within in let s = c.first_line.ensures.shorter in omega arith;
       short = rw c.in-Ok-push.ensures.items
-        (All-push (λ x. length x.items ≤ longest_input) c.loop-rest.found.items bytes c.loop-rest.invariant.short
-        short);
+          (All-push (λ x. length x.items ≤ longest_input) c.loop-rest.found.items bytes c.loop-rest.invariant.short
+          short);
       number = let i = c.loop-rest.invariant.number in let s = c.first_line.ensures.shorter in omega arith;
       lines = rw pushed (c.loop-rest.invariant.lines
-        ∙ (lines_step found _ _ _ _ c.first_line.ensures.lines ∙ decoded_step found _ _ _ _ c.in-Ok.ensures.ok));
+          ∙ (lines_step found _ _ _ _ c.first_line.ensures.lines ∙ decoded_step found _ _ _ _ c.in-Ok.ensures.ok));
     }
 
 pub returns-clause-ok : goal.returns-clause-ok
 returns-clause-ok c =
     let found : List (List ℕ) = map (λ x. x.items) c.loop-rest.found.items in
     let none : length c.loop-rest.rest.now ≡ 0 =
-        grind (arith, common_steps, c.loop-rest-test.false, c.loop-rest-test.ensures) in
+    grind (arith, common_steps, c.loop-rest-test.false, c.loop-rest-test.ensures) in
     c.loop-rest.invariant.lines
-      ∙ (ap (λ (z : List (List ℕ)). after_lines found (decoded_from c.loop-rest.number z)) (no_lines _ none)
-      ∙ decoded_end found _)
+    ∙ (ap (λ (z : List (List ℕ)). after_lines found (decoded_from c.loop-rest.number z)) (no_lines _ none)
+    ∙ decoded_end found _)
 
 pub returns-in-Err-InvalidHexCharacter-clause-err : goal.returns-in-Err-InvalidHexCharacter-clause-err
 returns-in-Err-InvalidHexCharacter-clause-err c =
     let found : List (List ℕ) = map (λ x. x.items) c.loop-rest.found.items in
     let refused : decode_of c.first_line.result.0.now ≡ Err c.in-Err-InvalidHexCharacter.field-0 =
-        elim c.in-Err-InvalidHexCharacter.ensures.err [
+    elim c.in-Err-InvalidHexCharacter.ensures.err [
       | inl e ↦ let f = c.in-Err-InvalidHexCharacter.field-0-is in absurd (cc)
       | inr h ↦ h
     ] in
     c.loop-rest.invariant.lines
-      ∙ (lines_step found _ _ _ _ c.first_line.ensures.lines ∙ decoded_stop found _ _ _ _ refused)
+    ∙ (lines_step found _ _ _ _ c.first_line.ensures.lines ∙ decoded_stop found _ _ _ _ refused)
 
 pub returns-in-Err-OddLength-clause-err : goal.returns-in-Err-OddLength-clause-err
 returns-in-Err-OddLength-clause-err c =
     let found : List (List ℕ) = map (λ x. x.items) c.loop-rest.found.items in
     let refused : decode_of c.first_line.result.0.now ≡ Err c.in-Err-OddLength.field-0 =
-        elim c.in-Err-OddLength.ensures.err [
+    elim c.in-Err-OddLength.ensures.err [
       | inl e ↦ let f = c.in-Err-OddLength.field-0-is in absurd (cc)
       | inr h ↦ h
     ] in
     c.loop-rest.invariant.lines
-      ∙ (lines_step found _ _ _ _ c.first_line.ensures.lines ∙ decoded_stop found _ _ _ _ refused)
+    ∙ (lines_step found _ _ _ _ c.first_line.ensures.lines ∙ decoded_stop found _ _ _ _ refused)
 
 pub returns-in-Err-InvalidStringLength-clause-err : goal.returns-in-Err-InvalidStringLength-clause-err
 returns-in-Err-InvalidStringLength-clause-err c =
     let found : List (List ℕ) = map (λ x. x.items) c.loop-rest.found.items in
     let refused : decode_of c.first_line.result.0.now ≡ Err c.in-Err-InvalidStringLength.field-0 =
-        elim c.in-Err-InvalidStringLength.ensures.err [
+    elim c.in-Err-InvalidStringLength.ensures.err [
       | inl e ↦ let f = c.in-Err-InvalidStringLength.field-0-is in absurd (cc)
       | inr h ↦ h
     ] in
     c.loop-rest.invariant.lines
-      ∙ (lines_step found _ _ _ _ c.first_line.ensures.lines ∙ decoded_stop found _ _ _ _ refused)
+    ∙ (lines_step found _ _ _ _ c.first_line.ensures.lines ∙ decoded_stop found _ _ _ _ refused)

@@ -10,7 +10,7 @@ invariant-loop-rest l = record {
   short : All (λ x. length x.items ≤ longest_input) l.found.items;
   number : l.number + length l.rest ≤ 1 + length l.input;
   lines : decoded_from 1 (lines_of l.input)
-    ≡ after_lines (map (λ x. x.items) l.found.items) (decoded_from l.number (lines_of l.rest));
+      ≡ after_lines (map (λ x. x.items) l.found.items) (decoded_from l.number (lines_of l.rest));
 }
 
 abbrev pub decreases-loop-rest : goal.decreases-loop-rest

@@ -13,7 +13,7 @@ returns-in-Ok-print_report g c =
       record { reads_all = true; out = p.0; faults = Nothing; exit = Done },
       refl,
       report-told _ c.in-Ok.report _ (Ok tt) p.0 Nothing c.in-Ok.ensures.ok p.1 refl,
-      c.in-Ok.ensures.count,
+      c.in-Ok.ensures.consumed.failures,
       record { printed = p.2; told = refl },
     )
 
@@ -24,7 +24,7 @@ returns-in-Ok g c =
       record { reads_all = true; out = p.0; faults = l.0; exit = exit_on c.in-Err-print_report.fault },
       sym c.give_up.ensures.exit,
       report-told _ c.in-Ok.report _ (Err c.in-Err-print_report.fault) p.0 l.0 c.in-Ok.ensures.ok p.1 l.1,
-      c.in-Ok.ensures.count,
+      c.in-Ok.ensures.consumed.failures,
       record { printed = p.2; told = l.2 },
     )
 
@@ -33,11 +33,11 @@ returns g c =
     let f = c.in-Err.fault in
     let l = c.tell.ensures in
     let is : c.as_bytes.result.now ≡ fault_line f =
-        c.as_bytes.ensures.value ∙ (c.as_str.ensures.value ∙ c.line_of.ensures) in
+    c.as_bytes.ensures.value ∙ (c.as_str.ensures.value ∙ c.line_of.ensures) in
     let told : IsOf (fault_line f) l.0 = rw is at l.1 in (
       record { reads_all = not (is_read_fault f.kind); out = Nothing; faults = l.0; exit = exit_for f.kind },
       sym c.exit_on.ensures,
       fault-told _ f _ l.0 c.in-Err.ensures.err told,
-      c.in-Err.ensures.count ∙ failures-not (is_read_fault f.kind) _,
+      c.in-Err.ensures.consumed.failures ∙ failures-not (is_read_fault f.kind) _,
       record { printed = refl; told = l.2 },
     )

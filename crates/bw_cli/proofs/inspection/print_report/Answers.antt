@@ -9,12 +9,12 @@ pub returns-in-Ok-print : goal.returns-in-Ok-print
 returns-in-Ok-print g c =
     let made : c.as_slice.result.now ≡ report_text (told_by c.args.report.now) =
     c.as_slice.ensures.value
-      ∙ (c.into_bytes.ensures ∙ text-made _ _ _ (c.new-text.ensures.bytes ∙ c.new.ensures.items) c.in-Ok.ensures.ok) in
+    ∙ (c.into_bytes.ensures ∙ text-made _ _ _ (c.new-text.ensures.bytes ∙ c.new.ensures.items) c.in-Ok.ensures.ok) in
     (Whole (report_text (told_by c.args.report.now)), refl, rw made at c.in-Ok-print.ensures.ok)
 
 pub returns : goal.returns
 returns g c =
     let made : c.as_slice.result.now ≡ report_text (told_by c.args.report.now) =
     c.as_slice.ensures.value
-      ∙ (c.into_bytes.ensures ∙ text-made _ _ _ (c.new-text.ensures.bytes ∙ c.new.ensures.items) c.in-Ok.ensures.ok) in
+    ∙ (c.into_bytes.ensures ∙ text-made _ _ _ (c.new-text.ensures.bytes ∙ c.new.ensures.items) c.in-Ok.ensures.ok) in
     (Part (report_text (told_by c.args.report.now)), refl, rw made at c.in-Err.ensures.err)

@@ -31,7 +31,7 @@ returns-in-Ok-print g c = (
   record { reads_all = true; out = Whole c.as_bytes-2.result.now; faults = Nothing; exit = Done },
   refl,
   told-help _ (Ok tt) c.as_bytes-2.result.now _ _
-    (λ p. let t = c.use_stderr.ensures.1 p in let f = c.if-use_stderr.false in cc) refl refl,
+      (λ p. let t = c.use_stderr.ensures.1 p in let f = c.if-use_stderr.false in cc) refl refl,
   refl,
   record { printed = c.in-Ok-print.ensures.ok; told = refl },
 )
@@ -42,7 +42,7 @@ returns g c =
       record { reads_all = true; out = Part c.as_bytes-2.result.now; faults = l.0; exit = Device },
       sym c.give_up-in-Err.ensures.exit,
       told-help _ (Err faults.Unwritable) c.as_bytes-2.result.now _ l.0
-        (λ p. let t = c.use_stderr.ensures.1 p in let f = c.if-use_stderr.false in cc) refl l.1,
+          (λ p. let t = c.use_stderr.ensures.1 p in let f = c.if-use_stderr.false in cc) refl l.1,
       refl,
       record { printed = c.in-Err.ensures.err; told = l.2 },
     )

@@ -19,7 +19,7 @@ returns-in-OutOfMemory g c =
     let l = c.tell.ensures in
     let r = c.in-Ok.ensures in
     let is : c.as_bytes.result.now ≡ unopened_text c.args.path.now r.0 =
-        c.as_bytes.ensures.value ∙ (c.as_str.ensures.value ∙ r.1) in
+    c.as_bytes.ensures.value ∙ (c.as_str.ensures.value ∙ r.1) in
     let told : IsOf (unopened_text c.args.path.now r.0) l.0 = rw is at l.1 in
     let ends : Memory ≡ exit_unopened c.kind.result = rw c.in-OutOfMemory.is refl in (
       record { reads_all = true; out = Nothing; faults = l.0; exit = Memory },
@@ -39,7 +39,7 @@ returns g c =
     let l = c.tell.ensures in
     let r = c.in-Ok.ensures in
     let is : c.as_bytes.result.now ≡ unopened_text c.args.path.now r.0 =
-        c.as_bytes.ensures.value ∙ (c.as_str.ensures.value ∙ r.1) in
+    c.as_bytes.ensures.value ∙ (c.as_str.ensures.value ∙ r.1) in
     let told : IsOf (unopened_text c.args.path.now r.0) l.0 = rw is at l.1 in
     let ends : Device ≡ exit_unopened c.kind.result =
     sym (exit-device c.kind.result c.in_default-kind.not-OutOfMemory) in (

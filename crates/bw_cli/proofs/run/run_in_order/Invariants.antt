@@ -4,5 +4,5 @@ use Rattle.bw_cli.proofs.run.run_in_order.Given as goal
 
 abbrev pub invariant-loop-index : goal.invariant-loop-index
 invariant-loop-index l =
-  IsRunOf (map (λ x. x.items) l.inputs) l.exchanges.items l.recording (l.index + 1)
-  (map (λ x. x.items) (drop l.index l.inputs))
+    IsRunOf (map (λ x. x.items) l.inputs) l.exchanges.items l.recording (l.index + 1)
+    (map (λ x. x.items) (drop l.index l.inputs))

@@ -7,4 +7,4 @@ use Rattle.bw_cli.proofs.text.put_exchanges.Given as goal
 abbrev pub invariant-loop-index : goal.invariant-loop-index
 invariant-loop-index l = (told : List ToldExchange) → AllTell l.exchanges told →
     (left : List ToldExchange) × AllTell (drop l.index l.exchanges) left
-      × (l.out.items ++ exchanges_text l.index left ≡ l.fn.out.items ++ exchanges_text 0 told)
+    × (l.out.items ++ exchanges_text l.index left ≡ l.fn.out.items ++ exchanges_text 0 told)

@@ -8,7 +8,7 @@ use Rattle.bw_cli.proofs.text.put_replies.Given as goal
 abbrev pub invariant-loop-rest : goal.invariant-loop-rest
 invariant-loop-rest l = (replies : List Reply) → list_all is_reply replies ≡ true → l.frames ≡ replies_bytes replies →
     (left : List Reply) × (list_all is_reply left ≡ true) × (l.rest ≡ replies_bytes left)
-      × (l.out.items ++ flat_map reply_line left ≡ l.fn.out.items ++ flat_map reply_line replies)
+    × (l.out.items ++ flat_map reply_line left ≡ l.fn.out.items ++ flat_map reply_line replies)
 
 abbrev pub decreases-loop-rest : goal.decreases-loop-rest
 decreases-loop-rest l = length l.rest

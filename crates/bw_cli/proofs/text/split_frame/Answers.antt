@@ -8,7 +8,7 @@ use Rattle.bw_cli.proofs.text.split_frame.Goals as goal
 pub returns-then-count-rest-clause-frame : goal.returns-then-count-rest-clause-frame
 returns-then-count-rest-clause-frame c body more h e =
     let count : c.from_le_bytes-count.result ≡ length body =
-        (rw e at c.from_le_bytes-count.ensures) ∙ from_le_bytes-to_le_bytes_4 (length body) h in
+    (rw e at c.from_le_bytes-count.ensures) ∙ from_le_bytes-to_le_bytes_4 (length body) h in
     let whole : 4 + c.from_le_bytes-count.result ≡ length (framed body) = omega arith in
     rw (take_rest c.args.bytes.now (4 + c.from_le_bytes-count.result), whole, e)
-      (take-append_seam (framed body) more, drop-append_seam (framed body) more)
+    (take-append_seam (framed body) more, drop-append_seam (framed body) more)

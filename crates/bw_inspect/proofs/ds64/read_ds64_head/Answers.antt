@@ -14,16 +14,19 @@ returns-in_err-head-clause-err g c =
 pub returns-then-not-is_named-clause-err : goal.returns-then-not-is_named-clause-err
 returns-then-not-is_named-clause-err g c b e l =
     other_chunk b _ _ _ (c.in_ok-head.ensures.ok b e)
-      (sym c.is_named.ensures ∙ c.if-not-is_named.true) c.fault_at-then-not-is_named.ensures
+    (sym c.is_named.ensures ∙ c.if-not-is_named.true) c.fault_at-then-not-is_named.ensures
 
 pub returns-then-head-lt28-clause-err : goal.returns-then-head-lt28-clause-err
 returns-then-head-lt28-clause-err g c b e l =
     let small : bad_size c.in_ok-head.head.size32 ≡ true =
-    elim c.then-head-lt28.branch [ then-head-lt28-via-then-head-lt28 w ↦
-      small_size _ w.if-head-lt28.true | then-head-lt28-via-else-head-lt28+then-head w ↦
-      unsaid_size _ w.if-head.true ] in
+    elim c.then-head-lt28.branch [
+      | then-head-lt28-via-then-head-lt28 w ↦
+          small_size _ w.if-head-lt28.true
+      | then-head-lt28-via-else-head-lt28+then-head w ↦
+          unsaid_size _ w.if-head.true
+    ] in
     size_refused b _ _ _ (c.in_ok-head.ensures.ok b e)
-      (sym c.is_named.ensures ∙ c.if-not-is_named.false) small c.fault_at-then-head-lt28.ensures
+    (sym c.is_named.ensures ∙ c.if-not-is_named.false) small c.fault_at-then-head-lt28.ensures
 
 pub returns-clause-ok : goal.returns-clause-ok
 returns-clause-ok g c b e =

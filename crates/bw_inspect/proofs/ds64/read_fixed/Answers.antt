@@ -19,7 +19,7 @@ returns-then-fixed-gt-MOST_ENTRIES-clause-err g c b r =
     let many : 4096 < n = (let t = c.if-fixed-gt-MOST_ENTRIES.true in omega arith) in
     stopped_told b c.args.entry 28 4096 12 reading.BadDs64 n (u32_at content 24) _ _ is
     (too_many_rows b c.args.entry 28 4096 12 reading.BadDs64 n _ _ c.requires.long p.to many
-      (c.fault_at-then-fixed-gt-MOST_ENTRIES.ensures ∙ rw place refl))
+    (c.fault_at-then-fixed-gt-MOST_ENTRIES.ensures ∙ rw place refl))
 
 pub returns-then-fixed-entry-clause-err : goal.returns-then-fixed-entry-clause-err
 returns-then-fixed-entry-clause-err g c b r =
@@ -34,7 +34,7 @@ returns-then-fixed-entry-clause-err g c b r =
     let short : c.args.entry.size < 28 + 12 * n = (let t = c.if-fixed-entry.true in omega arith) in
     stopped_told b c.args.entry 28 4096 12 reading.BadDs64 n (u32_at content 24) _ _ is
     (no_room b c.args.entry 28 4096 12 reading.BadDs64 n _ _ c.requires.long p.to few short
-      (ap fault_of c.fault_at-then-fixed-entry.ensures ∙ rw place refl))
+    (ap fault_of c.fault_at-then-fixed-entry.ensures ∙ rw place refl))
 
 pub returns-clause-ok : goal.returns-clause-ok
 returns-clause-ok g c b r =

@@ -14,19 +14,19 @@ returns-in_err-read_at-clause-err g c =
 pub returns-then-not-is_form-clause-err : goal.returns-then-not-is_form-clause-err
 returns-then-not-is_form-clause-err g c b e =
     other_form b c.read_at.new.buf _ _ (taken b _ _ (c.in_ok-read_at.ensures.ok b e))
-      (sym (c.is_form.ensures ∙ ap names_form c.read_id.ensures) ∙ c.if-not-is_form.true)
-      c.fault_at-then-not-is_form.ensures
+    (sym (c.is_form.ensures ∙ ap names_form c.read_id.ensures) ∙ c.if-not-is_form.true)
+    c.fault_at-then-not-is_form.ensures
 
 pub returns-then-not-is_named-clause-err : goal.returns-then-not-is_named-clause-err
 returns-then-not-is_named-clause-err g c b e =
     other_type b c.read_at.new.buf _ _ (taken b _ _ (c.in_ok-read_at.ensures.ok b e))
-      (sym (c.is_form.ensures ∙ ap names_form c.read_id.ensures) ∙ c.if-not-is_form.false)
+    (sym (c.is_form.ensures ∙ ap names_form c.read_id.ensures) ∙ c.if-not-is_form.false)
     (sym (c.is_named.ensures ∙ ap (λ (z : List ℕ). reading.is_id z (codes "WAVE")) c.read_id-2.ensures)
-      ∙ c.if-not-is_named.true) c.fault_at-then-not-is_named.ensures
+    ∙ c.if-not-is_named.true) c.fault_at-then-not-is_named.ensures
 
 pub returns-clause-ok : goal.returns-clause-ok
 returns-clause-ok g c b e =
     opened b c.read_at.new.buf _ _ (taken b _ _ (c.in_ok-read_at.ensures.ok b e))
-      (sym (c.is_form.ensures ∙ ap names_form c.read_id.ensures) ∙ c.if-not-is_form.false)
+    (sym (c.is_form.ensures ∙ ap names_form c.read_id.ensures) ∙ c.if-not-is_form.false)
     (sym (c.is_named.ensures ∙ ap (λ (z : List ℕ). reading.is_id z (codes "WAVE")) c.read_id-2.ensures)
-      ∙ c.if-not-is_named.false) c.read_id.ensures c.read_u32.ensures
+    ∙ c.if-not-is_named.false) c.read_id.ensures c.read_u32.ensures

@@ -10,8 +10,8 @@ returns-in-Ok-eq0-clause-err g c b e =
     let size = c.loop-done.invariant.size in
     let test = c.loop-done-test.true in
     missed b c.args.place c.loop-done.done
-      (length c.args.buf.now) c.in-Ok-eq0.field-0 c.args.cut _ _ i.rest r.rest c.in-Ok-eq0.field-0-test
-      (omega arith) i.within
+    (length c.args.buf.now) c.in-Ok-eq0.field-0 c.args.cut _ _ i.rest r.rest c.in-Ok-eq0.field-0-test
+    (omega arith) i.within
     (r.end c.in-Ok-eq0.field-0-test (simp (length-take, length-drop) (omega arith))) c.requires.cut
 
 pub loop-done-preserved : goal.loop-done-preserved
@@ -23,5 +23,5 @@ loop-done-preserved g c = record {
   bytes = λ b e.
       let i = c.loop-done.invariant.bytes b e in
       more_read b c.args.place c.loop-done.done c.in-Ok.count _ c.loop-done.buf c.read.new.buf _ _ i.within i.got
-        c.loop-done.invariant.within (let n = c.in-Ok.ensures.within in search rules) (c.in-Ok.ensures.ok _ i.rest);
+      c.loop-done.invariant.within (let n = c.in-Ok.ensures.within in search rules) (c.in-Ok.ensures.ok _ i.rest);
 }

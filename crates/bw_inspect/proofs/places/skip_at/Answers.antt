@@ -8,7 +8,7 @@ returns-in-Ok-eq0-clause-err g c b e =
     let i = c.loop-done.invariant.bytes b e in
     let r = c.in-Ok-eq0.ensures.ok _ i.rest in
     missed b c.args.place c.loop-done.done c.args.count c.in-Ok-eq0.field-0 c.args.cut _ _ i.rest r.rest
-      c.in-Ok-eq0.field-0-test (omega arith) i.within (r.end c.in-Ok-eq0.field-0-test (omega arith)) c.requires.cut
+    c.in-Ok-eq0.field-0-test (omega arith) i.within (r.end c.in-Ok-eq0.field-0-test (omega arith)) c.requires.cut
 
 pub loop-done-preserved : goal.loop-done-preserved
 loop-done-preserved g c = record {

@@ -8,7 +8,7 @@ invariant-loop-done g l = record {
   count : g.R.Source.failures l.reader ≡ g.R.Source.failures l.fn.reader;
   moved : g.R.Source.moved l.reader ≤ g.R.Source.moved l.fn.reader + l.done;
   bytes : (b : List ℕ) → g.R.Source.left l.fn.reader ≡ Some (drop l.place b) →
-    IsPartPassed b l.place l.done (g.R.Source.left l.reader);
+      IsPartPassed b l.place l.done (g.R.Source.left l.reader);
 }
 
 abbrev pub decreases-loop-done : goal.decreases-loop-done

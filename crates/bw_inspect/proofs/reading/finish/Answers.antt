@@ -12,10 +12,10 @@ returns-clause-ok c b e =
     let samples = ap (option_map (λ (s : Samples). (s.at, s.size))) c.in-Some-samples.is in
     let cues = c.unwrap_or.ensures ∙ ap (unwrap_or c.args.walk.known.cues) (c.new-3.ensures ∙ c.new-2.ensures.items) in
     let f = finished b (form_of c.args.form) (seen_by c.args.walk)
-        (facts_of c.args.walk.known) c.in-Some.fmt c.in-Some-samples.samples.at c.in-Some-samples.samples.size
-        (option_map bext_by c.args.walk.known.bext) c.unwrap_or.result c.new.result
-        (sym (maps shown bext_kept c.args.walk.known.bext)) c.new.ensures e
+    (facts_of c.args.walk.known) c.in-Some.fmt c.in-Some-samples.samples.at c.in-Some-samples.samples.size
+    (option_map bext_by c.args.walk.known.bext) c.unwrap_or.result c.new.result
+    (sym (maps shown bext_kept c.args.walk.known.bext)) c.new.ensures e
     c.in-Some.is samples cues in
     let reserved = sym (maps kept bext_kept c.args.walk.known.bext)
-        ∙ reserved_told b (seen_by c.args.walk) (facts_of c.args.walk.known) e in
+    ∙ reserved_told b (seen_by c.args.walk) (facts_of c.args.walk.known) e in
     record { tells = f.tells; reserved = reserved; free = f.free }

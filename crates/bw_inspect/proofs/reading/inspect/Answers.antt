@@ -18,22 +18,22 @@ returns-in_err-next_chunk-clause-err g c =
     let p = err_from_is_err_and c.from_residual-in_err-next_chunk.result c.from_residual-in_err-next_chunk.ensures.1 in
     rw (p.1, p.2) (λ b e. let s = c.loop-walk.invariant.begins b e in
     step_refused b c.in_ok-form.form c.loop-walk.walk _ _ _ c.in_ok-form.ensures.size s
-      (c.in_err-next_chunk.ensures.err b s.stands))
+    (c.in_err-next_chunk.ensures.err b s.stands))
 
 pub returns-in_err-next_chunk-clause-only : goal.returns-in_err-next_chunk-clause-only
 returns-in_err-next_chunk-clause-only g c =
     let p = err_from_is_err_and c.from_residual-in_err-next_chunk.result c.from_residual-in_err-next_chunk.ensures.1 in
     rw (p.1, p.2) (λ b e. let s = c.loop-walk.invariant.begins b e in
     refused_outside b _ _ (step_refused b c.in_ok-form.form c.loop-walk.walk _ _ _ c.in_ok-form.ensures.size s
-      (c.in_err-next_chunk.ensures.err b s.stands)))
+    (c.in_err-next_chunk.ensures.err b s.stands)))
 
 pub loop-walk-preserved : goal.loop-walk-preserved
 loop-walk-preserved g c = record {
   place = c.in_ok-next_chunk.ensures.place;
   small = c.in_ok-next_chunk.ensures.few c.loop-walk.invariant.small;
-  count = c.in_ok-next_chunk.ensures.count ∙ c.loop-walk.invariant.count;
+  count = c.in_ok-next_chunk.ensures.consumed.failures ∙ c.loop-walk.invariant.count;
   moved =
-      let m = c.in_ok-next_chunk.ensures.most in
+      let m = c.in_ok-next_chunk.ensures.consumed.moved in
       let p = c.in_ok-next_chunk.ensures.passed in
       let i = c.loop-walk.invariant.moved in
       omega arith;
@@ -46,19 +46,19 @@ returns-clause-ok g c = IfOk-weaker c.finish.result _ _ (λ r h b e.
     let s = c.loop-walk.invariant.begins b e in
     let k = c.in_ok-next_chunk.ensures.ok b s.stands in
     told b c.in_ok-form.form c.next_chunk.new.walk r _ c.in_ok-form.ensures.size
-      (record { header = s.header; stands = k.stands }) (k.ends c.if-branch.false) (h b k.stands.facts))
-      c.finish.ensures.ok
+    (record { header = s.header; stands = k.stands }) (k.ends c.if-branch.false) (h b k.stands.facts))
+    c.finish.ensures.ok
 
 pub returns-clause-err : goal.returns-clause-err
 returns-clause-err g c = err_both c.finish.result _ _ _ c.finish.ensures.kind c.finish.ensures.err (λ f n h b e.
     let s = c.loop-walk.invariant.begins b e in
     let k = c.in_ok-next_chunk.ensures.ok b s.stands in
     end_refused b c.in_ok-form.form c.next_chunk.new.walk f _ c.in_ok-form.ensures.size
-      (record { header = s.header; stands = k.stands }) (k.ends c.if-branch.false) n (h b k.stands.facts))
+    (record { header = s.header; stands = k.stands }) (k.ends c.if-branch.false) n (h b k.stands.facts))
 
 pub returns-clause-only : goal.returns-clause-only
 returns-clause-only g c = err_both c.finish.result _ _ _ c.finish.ensures.kind c.finish.ensures.err (λ f n h b e.
     let s = c.loop-walk.invariant.begins b e in
     let k = c.in_ok-next_chunk.ensures.ok b s.stands in
     refused_outside b _ _ (end_refused b c.in_ok-form.form c.next_chunk.new.walk f _ c.in_ok-form.ensures.size
-      (record { header = s.header; stands = k.stands }) (k.ends c.if-branch.false) n (h b k.stands.facts)))
+    (record { header = s.header; stands = k.stands }) (k.ends c.if-branch.false) n (h b k.stands.facts)))

@@ -11,22 +11,22 @@ use Rattle.bw_inspect.proofs.walk.next_chunk.Goals as goal
 pub returns-then-len-ge-MOST_CHUNKS-clause-err : goal.returns-then-len-ge-MOST_CHUNKS-clause-err
 returns-then-len-ge-MOST_CHUNKS-clause-err g c b s =
     let full : 4096 ≤ length (seen_by c.args.walk.now) =
-        (let l = c.len.ensures in let t = c.if-len-ge-MOST_CHUNKS.true in omega arith) in
+    (let l = c.len.ensures in let t = c.if-len-ge-MOST_CHUNKS.true in omega arith) in
     too_many b _ c.args.walk.now _ _ s (omega arith) full c.fault_at.ensures
 
 pub returns-in_err-head-clause-err : goal.returns-in_err-head-clause-err
 returns-in_err-head-clause-err g c =
     let p = err_from_is_err_and c.from_residual.result c.from_residual.ensures.1 in
     let few : length (seen_by c.args.walk.now) < 4096 =
-        (let l = c.len.ensures in let t = c.if-len-ge-MOST_CHUNKS.false in omega arith) in
+    (let l = c.len.ensures in let t = c.if-len-ge-MOST_CHUNKS.false in omega arith) in
     rw (p.1, p.2) (λ b s. head_cut b (form_of c.args.form.now) c.args.walk.now _ _ _ _ s
-      (omega arith) few c.fault_at-2.ensures (c.in_err-head.ensures.err b (s.next (omega arith))))
+    (omega arith) few c.fault_at-2.ensures (c.in_err-head.ensures.err b (s.next (omega arith))))
 
 pub returns-in_err-size-clause-err : goal.returns-in_err-size-clause-err
 returns-in_err-size-clause-err g c =
     let p = err_from_is_err_and c.from_residual-in_err-size.result c.from_residual-in_err-size.ensures.1 in
     let few : length (seen_by c.args.walk.now) < 4096 =
-        (let l = c.len.ensures in let t = c.if-len-ge-MOST_CHUNKS.false in omega arith) in
+    (let l = c.len.ensures in let t = c.if-len-ge-MOST_CHUNKS.false in omega arith) in
     rw (p.1, p.2) (λ b s.
     let w = c.args.walk.now in
     let form = form_of c.args.form.now in
@@ -34,14 +34,14 @@ returns-in_err-size-clause-err g c =
     let at = headed b form w c.in_ok-head.head c.size_told-told.result _ (omega arith) few h c.size_told-told.ensures in
     size_faulted b form w c.in_ok-head.head.id c.size_told-told.result _ _ _ s at h.rest c.in_err-size.ensures.kind
     (by_hand form w c.in_ok-head.head.id _ c.kind_by_id-kind.result c.was_seen.result c.size_told-told.result _ _ refl
-      c.kind_by_id-kind.ensures c.was_seen.ensures c.in_err-size.ensures.err))
+    c.kind_by_id-kind.ensures c.was_seen.ensures c.in_err-size.ensures.err))
 
 pub returns-in_err-read_content-clause-err : goal.returns-in_err-read_content-clause-err
 returns-in_err-read_content-clause-err g c =
     let p = err_from_is_err_and c.from_residual-in_err-read_content.result
-        c.from_residual-in_err-read_content.ensures.1 in
+    c.from_residual-in_err-read_content.ensures.1 in
     let few : length (seen_by c.args.walk.now) < 4096 =
-        (let l = c.len.ensures in let t = c.if-len-ge-MOST_CHUNKS.false in omega arith) in
+    (let l = c.len.ensures in let t = c.if-len-ge-MOST_CHUNKS.false in omega arith) in
     rw (p.1, p.2) (λ b s.
     let w = c.args.walk.now in
     let form = form_of c.args.form.now in
@@ -49,16 +49,16 @@ returns-in_err-read_content-clause-err g c =
     let h = c.in_ok-head.ensures.ok b (s.next (omega arith)) in
     let at = headed b form w c.in_ok-head.head c.size_told-told.result _ (omega arith) few h c.size_told-told.ensures in
     let z = sized form w c.in_ok-head.head.id c.kind_by_id-kind.result c.was_seen.result c.size_told-told.result
-        c.in_ok-size.size c.kind_by_id-kind.ensures c.was_seen.ensures c.in_ok-size.ensures.is c.in_ok-size.ensures.ok
-        c.in_ok-size.ensures.within in
+    c.in_ok-size.size c.kind_by_id-kind.ensures c.was_seen.ensures c.in_ok-size.ensures.is c.in_ok-size.ensures.ok
+    c.in_ok-size.ensures.within in
     content_faulted b form w e c.size_told-told.result _ _ _ s at z refl
-      (rw (← c.kind_by_id-kind.ensures) (c.in_err-read_content.ensures.err b (at_start b e _ h.within h.rest))))
+    (rw (← c.kind_by_id-kind.ensures) (c.in_err-read_content.ensures.err b (at_start b e _ h.within h.rest))))
 
 pub returns-in_err-list_chunk-clause-err : goal.returns-in_err-list_chunk-clause-err
 returns-in_err-list_chunk-clause-err g c =
     let p = err_from_is_err_and c.from_residual-in_err-list_chunk.result c.from_residual-in_err-list_chunk.ensures.1 in
     let few : length (seen_by c.args.walk.now) < 4096 =
-        (let l = c.len.ensures in let t = c.if-len-ge-MOST_CHUNKS.false in omega arith) in
+    (let l = c.len.ensures in let t = c.if-len-ge-MOST_CHUNKS.false in omega arith) in
     rw (p.1, p.2) (λ b s.
     let w = c.args.walk.now in
     let form = form_of c.args.form.now in
@@ -66,30 +66,30 @@ returns-in_err-list_chunk-clause-err g c =
     let h = c.in_ok-head.ensures.ok b (s.next (omega arith)) in
     let at = headed b form w c.in_ok-head.head c.size_told-told.result _ (omega arith) few h c.size_told-told.ensures in
     let z = sized form w c.in_ok-head.head.id c.kind_by_id-kind.result c.was_seen.result c.size_told-told.result
-        c.in_ok-size.size c.kind_by_id-kind.ensures c.was_seen.ensures c.in_ok-size.ensures.is c.in_ok-size.ensures.ok
-        c.in_ok-size.ensures.within in
+    c.in_ok-size.size c.kind_by_id-kind.ensures c.was_seen.ensures c.in_ok-size.ensures.is c.in_ok-size.ensures.ok
+    c.in_ok-size.ensures.within in
     let l = c.in_ok-read_content.ensures.ok b (at_start b e _ h.within h.rest) in
     stopped_behind b form w e c.size_told-told.result _ _ _ _ s at z refl
-      (whole_as b c.kind_by_id-kind.result _ e _ c.kind_by_id-kind.ensures l.whole)
-      (c.in_err-list_chunk.ensures.err b l.whole.to))
+    (whole_as b c.kind_by_id-kind.result _ e _ c.kind_by_id-kind.ensures l.whole)
+    (c.in_err-list_chunk.ensures.err b l.whole.to))
 
 pub returns-clause-ok : goal.returns-clause-ok
 returns-clause-ok g c b s =
     let few : length (seen_by c.args.walk.now) < 4096 =
-        (let l = c.len.ensures in let t = c.if-len-ge-MOST_CHUNKS.false in omega arith) in
+    (let l = c.len.ensures in let t = c.if-len-ge-MOST_CHUNKS.false in omega arith) in
     let w = c.args.walk.now in
     let form = form_of c.args.form.now in
     let e : reading.Entry = record { id = c.in_ok-head.head.id; place = w.place; size = c.in_ok-size.size } in
     let h = c.in_ok-head.ensures.ok b (s.next (omega arith)) in
     let at = headed b form w c.in_ok-head.head c.size_told-told.result _ (omega arith) few h c.size_told-told.ensures in
     let z = sized form w c.in_ok-head.head.id c.kind_by_id-kind.result c.was_seen.result c.size_told-told.result
-        c.in_ok-size.size c.kind_by_id-kind.ensures c.was_seen.ensures c.in_ok-size.ensures.is c.in_ok-size.ensures.ok
-        c.in_ok-size.ensures.within in
+    c.in_ok-size.size c.kind_by_id-kind.ensures c.was_seen.ensures c.in_ok-size.ensures.is c.in_ok-size.ensures.ok
+    c.in_ok-size.ensures.within in
     let l = c.in_ok-read_content.ensures.ok b (at_start b e _ h.within h.rest) in
     record {
       stands = goes_on b form w c.list_chunk.new.walk e c.size_told-told.result _ _ _ s at z refl
           (learned_as b c.kind_by_id-kind.result _ e _ _ _ _ c.kind_by_id-kind.ensures
-            (ap facts_of c.in_ok-list_chunk.ensures.known) l) c.in_ok-list_chunk.ensures.chunks
-            c.in_ok-list_chunk.ensures.place (c.in_ok-list_chunk.ensures.ok b l.whole.to);
+          (ap facts_of c.in_ok-list_chunk.ensures.known) l) c.in_ok-list_chunk.ensures.chunks
+          c.in_ok-list_chunk.ensures.place (c.in_ok-list_chunk.ensures.ok b l.whole.to);
       ends = λ e. cc;
     }

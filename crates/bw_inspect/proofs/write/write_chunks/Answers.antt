@@ -7,9 +7,9 @@ pub returns-in_err-write_line-clause-err : goal.returns-in_err-write_line-clause
 returns-in_err-write_line-clause-err g c =
     let line = rw c.make_chunk_line.ensures at c.in_err-write_line.ensures.err in
     on_err c.from_residual.result
-      (rw (← c.as_slice-chunk-items.ensures)
-      (begins_within chunk_line c.as_slice-chunk-items.result.now c.loop-chunk.chunk-index c.chunk-item.result
-      (omega arith) c.chunk-item.is c.loop-chunk.invariant.written line))
+    (rw (← c.as_slice-chunk-items.ensures)
+    (begins_within chunk_line c.as_slice-chunk-items.result.now c.loop-chunk.chunk-index c.chunk-item.result
+    (omega arith) c.chunk-item.is c.loop-chunk.invariant.written line))
 
 pub loop-chunk-preserved : goal.loop-chunk-preserved
 loop-chunk-preserved g c = record {
@@ -17,5 +17,5 @@ loop-chunk-preserved g c = record {
   written =
       let line = rw c.make_chunk_line.ensures at c.in_ok-write_line.ensures.ok in
       writes_next chunk_line c.as_slice-chunk-items.result.now c.loop-chunk.chunk-index c.chunk-item.result
-        (omega arith) c.chunk-item.is c.loop-chunk.invariant.written line;
+      (omega arith) c.chunk-item.is c.loop-chunk.invariant.written line;
 }

@@ -8,5 +8,5 @@ abbrev pub invariant-loop-chunk : goal.invariant-loop-chunk
 invariant-loop-chunk g l = record {
   count : g.W.Sink.failures l.writer ≡ g.W.Sink.failures l.fn.writer;
   written : Writes (g.W.Sink.written l.fn.writer) (flat_map chunk_line (take l.chunk-index l.chunk-items))
-    (g.W.Sink.written l.writer);
+      (g.W.Sink.written l.writer);
 }

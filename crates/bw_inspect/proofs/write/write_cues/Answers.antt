@@ -7,9 +7,9 @@ pub returns-in_err-write_line-clause-err : goal.returns-in_err-write_line-clause
 returns-in_err-write_line-clause-err g c =
     let line = rw c.make_cue_line.ensures at c.in_err-write_line.ensures.err in
     on_err c.from_residual.result
-      (rw (← c.as_slice-cue-items.ensures)
-      (begins_within cue_line c.as_slice-cue-items.result.now c.loop-cue.cue-index c.cue-item.result
-      (omega arith) c.cue-item.is c.loop-cue.invariant.written line))
+    (rw (← c.as_slice-cue-items.ensures)
+    (begins_within cue_line c.as_slice-cue-items.result.now c.loop-cue.cue-index c.cue-item.result
+    (omega arith) c.cue-item.is c.loop-cue.invariant.written line))
 
 pub loop-cue-preserved : goal.loop-cue-preserved
 loop-cue-preserved g c = record {
@@ -17,5 +17,5 @@ loop-cue-preserved g c = record {
   written =
       let line = rw c.make_cue_line.ensures at c.in_ok-write_line.ensures.ok in
       writes_next cue_line c.as_slice-cue-items.result.now c.loop-cue.cue-index c.cue-item.result
-        (omega arith) c.cue-item.is c.loop-cue.invariant.written line;
+      (omega arith) c.cue-item.is c.loop-cue.invariant.written line;
 }

@@ -8,5 +8,5 @@ abbrev pub invariant-loop-cue : goal.invariant-loop-cue
 invariant-loop-cue g l = record {
   count : g.W.Sink.failures l.writer ≡ g.W.Sink.failures l.fn.writer;
   written : Writes (g.W.Sink.written l.fn.writer) (flat_map cue_line (take l.cue-index l.cue-items))
-    (g.W.Sink.written l.writer);
+      (g.W.Sink.written l.writer);
 }

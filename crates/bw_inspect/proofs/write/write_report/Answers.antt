@@ -7,7 +7,7 @@ unfolding report_text
 returns-in_err-write_line-clause-err g c =
     let err = rw c.make_form_line.ensures at c.in_err-write_line.ensures.err in
     on_err c.from_residual.result
-      ((begins_before _ _ (begins_before _ _ (begins_before _ _ (begins_before _ _ (begins_before _ _ err))))))
+    ((begins_before _ _ (begins_before _ _ (begins_before _ _ (begins_before _ _ (begins_before _ _ err))))))
 
 pub returns-in_err-write_chunks-clause-err : goal.returns-in_err-write_chunks-clause-err
 unfolding report_text
@@ -15,7 +15,7 @@ returns-in_err-write_chunks-clause-err g c =
     let ok1 = rw c.make_form_line.ensures at c.in_ok-write_line.ensures.ok in
     let err = c.in_err-write_chunks.ensures.err in
     on_err c.from_residual-in_err-write_chunks.result
-      ((begins_before _ _ (begins_before _ _ (begins_before _ _ (begins_before _ _ (begins_behind _ _ ok1 err))))))
+    ((begins_before _ _ (begins_before _ _ (begins_before _ _ (begins_before _ _ (begins_behind _ _ ok1 err))))))
 
 pub returns-in_err-write_line-2-clause-err : goal.returns-in_err-write_line-2-clause-err
 unfolding report_text
@@ -24,7 +24,7 @@ returns-in_err-write_line-2-clause-err g c =
     let ok2 = c.in_ok-write_chunks.ensures.ok in
     let err = rw c.make_fmt_line.ensures at c.in_err-write_line-2.ensures.err in
     on_err c.from_residual-in_err-write_line-2.result
-      ((begins_before _ _ (begins_before _ _ (begins_before _ _ (begins_behind _ _ (writes_behind _ _ ok1 ok2) err)))))
+    ((begins_before _ _ (begins_before _ _ (begins_before _ _ (begins_behind _ _ (writes_behind _ _ ok1 ok2) err)))))
 
 pub returns-in_err-write_line-3-clause-err : goal.returns-in_err-write_line-3-clause-err
 unfolding report_text
@@ -34,8 +34,8 @@ returns-in_err-write_line-3-clause-err g c =
     let ok3 = rw c.make_fmt_line.ensures at c.in_ok-write_line-2.ensures.ok in
     let err = rw c.make_data_line.ensures at c.in_err-write_line-3.ensures.err in
     on_err c.from_residual-in_err-write_line-3.result
-      ((begins_before _ _ (begins_before _ _
-      (begins_behind _ _ (writes_behind _ _ (writes_behind _ _ ok1 ok2) ok3) err))))
+    ((begins_before _ _ (begins_before _ _
+    (begins_behind _ _ (writes_behind _ _ (writes_behind _ _ ok1 ok2) ok3) err))))
 
 pub returns-in_err-write_bext-clause-err : goal.returns-in_err-write_bext-clause-err
 unfolding report_text
@@ -46,8 +46,8 @@ returns-in_err-write_bext-clause-err g c =
     let ok4 = rw c.make_data_line.ensures at c.in_ok-write_line-3.ensures.ok in
     let err = c.in_err-write_bext.ensures.err in
     on_err c.from_residual-in_err-write_bext.result
-      ((begins_before _ _ (begins_behind _ _
-      (writes_behind _ _ (writes_behind _ _ (writes_behind _ _ ok1 ok2) ok3) ok4) err)))
+    ((begins_before _ _ (begins_behind _ _
+    (writes_behind _ _ (writes_behind _ _ (writes_behind _ _ ok1 ok2) ok3) ok4) err)))
 
 pub returns-in_err-write_cues-clause-err : goal.returns-in_err-write_cues-clause-err
 unfolding report_text
@@ -59,8 +59,8 @@ returns-in_err-write_cues-clause-err g c =
     let ok5 = c.in_ok-write_bext.ensures.ok in
     let err = c.in_err-write_cues.ensures.err in
     on_err c.from_residual-in_err-write_cues.result
-      ((begins_behind _ _ (writes_behind _ _
-      (writes_behind _ _ (writes_behind _ _ (writes_behind _ _ ok1 ok2) ok3) ok4) ok5) err))
+    ((begins_behind _ _ (writes_behind _ _
+    (writes_behind _ _ (writes_behind _ _ (writes_behind _ _ ok1 ok2) ok3) ok4) ok5) err))
 
 pub returns-clause-ok : goal.returns-clause-ok
 unfolding report_text
@@ -72,4 +72,4 @@ returns-clause-ok g c =
     let ok5 = c.in_ok-write_bext.ensures.ok in
     let ok6 = c.in_ok-write_cues.ensures.ok in
     writes_behind _ _ (writes_behind _ _
-      (writes_behind _ _ (writes_behind _ _ (writes_behind _ _ ok1 ok2) ok3) ok4) ok5) ok6
+    (writes_behind _ _ (writes_behind _ _ (writes_behind _ _ ok1 ok2) ok3) ok4) ok5) ok6

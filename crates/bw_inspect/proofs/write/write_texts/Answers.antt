@@ -11,7 +11,7 @@ returns-in_err-write_line-2-clause-err g c =
     let ok1 = rw c.make_text_line.ensures at c.in_ok-write_line.ensures.ok in
     let err = rw c.make_text_line-2.ensures at c.in_err-write_line-2.ensures.err in
     on_err c.from_residual-in_err-write_line-2.result
-      (rw (← c.fields.view_is) (begins_behind _ _ ok1 (begins_before _ _ err)))
+    (rw (← c.fields.view_is) (begins_behind _ _ ok1 (begins_before _ _ err)))
 
 pub returns-in_err-write_line-3-clause-err : goal.returns-in_err-write_line-3-clause-err
 returns-in_err-write_line-3-clause-err g c =
@@ -19,7 +19,7 @@ returns-in_err-write_line-3-clause-err g c =
     let ok2 = rw c.make_text_line-2.ensures at c.in_ok-write_line-2.ensures.ok in
     let err = rw c.make_text_line-3.ensures at c.in_err-write_line-3.ensures.err in
     on_err c.from_residual-in_err-write_line-3.result
-      (rw (← c.fields.view_is) (begins_behind _ _ ok1 (begins_behind _ _ ok2 (begins_before _ _ err))))
+    (rw (← c.fields.view_is) (begins_behind _ _ ok1 (begins_behind _ _ ok2 (begins_before _ _ err))))
 
 pub returns-in_err-write_line-4-clause-err : goal.returns-in_err-write_line-4-clause-err
 returns-in_err-write_line-4-clause-err g c =
@@ -28,8 +28,8 @@ returns-in_err-write_line-4-clause-err g c =
     let ok3 = rw c.make_text_line-3.ensures at c.in_ok-write_line-3.ensures.ok in
     let err = rw c.make_text_line-4.ensures at c.in_err-write_line-4.ensures.err in
     on_err c.from_residual-in_err-write_line-4.result
-      (rw (← c.fields.view_is)
-      (begins_behind _ _ ok1 (begins_behind _ _ ok2 (begins_behind _ _ ok3 (begins_before _ _ err)))))
+    (rw (← c.fields.view_is)
+    (begins_behind _ _ ok1 (begins_behind _ _ ok2 (begins_behind _ _ ok3 (begins_before _ _ err)))))
 
 pub returns-in_err-write_line-5-clause-err : goal.returns-in_err-write_line-5-clause-err
 returns-in_err-write_line-5-clause-err g c =
@@ -39,9 +39,9 @@ returns-in_err-write_line-5-clause-err g c =
     let ok4 = rw c.make_text_line-4.ensures at c.in_ok-write_line-4.ensures.ok in
     let err = rw c.make_text_line-5.ensures at c.in_err-write_line-5.ensures.err in
     on_err c.from_residual-in_err-write_line-5.result
-      (rw (← c.fields.view_is)
-      (begins_behind _ _ ok1 (begins_behind _ _ ok2
-      (begins_behind _ _ ok3 (begins_behind _ _ ok4 (begins_before _ _ err))))))
+    (rw (← c.fields.view_is)
+    (begins_behind _ _ ok1 (begins_behind _ _ ok2
+    (begins_behind _ _ ok3 (begins_behind _ _ ok4 (begins_before _ _ err))))))
 
 pub returns-clause-ok : goal.returns-clause-ok
 returns-clause-ok g c =
@@ -51,5 +51,5 @@ returns-clause-ok g c =
     let ok4 = rw c.make_text_line-4.ensures at c.in_ok-write_line-4.ensures.ok in
     let ok5 = rw c.make_text_line-5.ensures at c.in_ok-write_line-5.ensures.ok in
     rw (← c.fields.view_is)
-      (writes_behind _ _ ok1 (writes_behind _ _ ok2
-      (writes_behind _ _ ok3 (writes_behind _ _ ok4 (writes_behind _ _ ok5 writes_none)))))
+    (writes_behind _ _ ok1 (writes_behind _ _ ok2
+    (writes_behind _ _ ok3 (writes_behind _ _ ok4 (writes_behind _ _ ok5 writes_none)))))

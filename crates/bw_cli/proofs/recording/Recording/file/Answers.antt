@@ -8,10 +8,10 @@ returns-in_default c book k = unnamed_text c.args.limit c.args.self.now book k c
 pub returns-in_default-format : goal.returns-in_default-format
 returns-in_default-format c book k =
     unopened_text c.args.limit c.args.self.now book _ k c.in-Some.is
-      (sym c.format.ensures.value ∙ c.in_default-format.is)
+    (sym c.format.ensures.value ∙ c.in_default-format.is)
 
 pub returns : goal.returns
 returns c book k =
     opened_text c.args.limit c.args.self.now book _ _ _ k (c.in-Some.is ∙ ap (λ n. Some n) (sym c.copy.ensures))
-      (sym c.format.ensures.value ∙ c.in-Some-format.is)
+    (sym c.format.ensures.value ∙ c.in-Some-format.is)
     (λ t same samples. c.in_ok-content.ensures t same (samples ∙ sym c.as_slice.ensures.value))
