@@ -3,7 +3,8 @@ use Rattle.std.proofs.lemmas.Result.{err_from_is_err_and}
 use Rattle.bw_model.specs.Take.{Parts, AreFields, SetField, parts, with_request}
 use Rattle.bw_model.proofs.FieldLaws.{fields-with}
 use Rattle.bw_file.specs.contracts.growing.GrowingFile.{the_view}
-use Rattle.bw_file.proofs.Judged.{open_for_field, is_some_open, no_fault}
+use Rattle.bw_file.proofs.Judged.{open_for_field, is_some_open}
+use Rattle.bw_take.proofs.StoredLemmas.{set_without_fault}
 use Rattle.bw_file.proofs.Headed.{is_heading}
 use Rattle.bw_file.proofs.Retouches.{header_fails, retouched}
 use Rattle.bw_file.proofs.SetFields.{is_known, sets_field}
@@ -20,7 +21,7 @@ with_bext-retouched-requires g c =
     let fields = subst AreFields c.of-heading.ensures.bext c.of-heading.result.widths in
     subst AreFields (sym c.requires.fields)
       (fields-with p.fields c.requires.tag c.requires.value fields
-      (no_fault p c.requires.tag c.requires.value c.requires.stored))
+      (set_without_fault p c.requires.tag c.requires.value c.requires.stored))
 
 pub returns-in_err-put_retouched_header-clause-file : goal.returns-in_err-put_retouched_header-clause-file
 returns-in_err-put_retouched_header-clause-file g c =
