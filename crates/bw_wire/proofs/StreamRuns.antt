@@ -1,188 +1,136 @@
--- A reply framer's run gives the replies of the bytes that it was fed.
-use Rattle.std.proofs.Common.{◌≡◌, ◌≢◌, ℕ, ◌+◌, true, ◌&&◌, List, [], ◌∷◌, ◌++◌, length, Result, Ok, Err, refl, sym, ap}
-use Rattle.std.proofs.Common.{subst, ◌∙◌, append_assoc, arith, inl, inr}
+-- Runs of the two framers: of messages, which follow the stream of their bytes, and of replies.
+use Rattle.std.proofs.Common.{◌≡◌, ◌≢◌, ℕ, suc, true, false, List, [], ◌∷◌, ◌++◌, length, Some, Result, Ok, Err}
+use Rattle.std.proofs.Common.{refl}
+use Rattle.std.proofs.Common.{sym, ap, ◌∙◌, append_assoc, arith}
 use Rattle.std.specs.List.{list_all}
-use Rattle.std.proofs.lemmas.Bool.{and_parts, and_from}
-use Rattle.std.proofs.lemmas.List.{append-nil, length-append, flat_map_more}
+use Rattle.std.proofs.lemmas.Bool.{and_from}
+use Rattle.std.proofs.lemmas.List.{length-append}
 use Rattle.std.proofs.lemmas.List.Folds.{list_all-append}
-use Rattle.bw_model.specs.Wire.{Reason, Cut, framed, is_below, are_bytes}
-use Rattle.bw_model.specs.Replies.{Reply, is_reply, reply_body}
-use Rattle.bw_model.specs.Exchange.{replies_bytes}
-use Rattle.bw_model.specs.Stream.{first_reply}
+use Rattle.bw_model.specs.Wire.{Second, Frame, Says, Asks, Bye, Reason, Cut, body, framed, are_bytes, is_frame}
+use Rattle.bw_model.specs.Stream.{first_frame, End, SaidBye, BadFrame, end_by, end_at, is_turn, frames_bytes, Stream}
+use Rattle.bw_model.specs.Stream.{stream_from, stream_of}
 use Rattle.bw_model.proofs.ByteNumbers.{are_bytes-tail}
-use Rattle.bw_model.proofs.FrameLaws.{read_reply_stands}
-use Rattle.bw_model.proofs.GrowthLaws.{first_reply-bad_grows}
-use Rattle.bw_wire.specs.Pending.{Phase, Reading, Left, Failed, Pending, Told, Nothing, Fails, fresh, piece_in, took}
-use Rattle.bw_wire.specs.Pending.{compacted, ended, after_reply}
-use Rattle.bw_wire.specs.Runs.{Call, Feeds, Takes, fed_in, Run, replies_told, reply_step, reply_run_from, reply_run}
-use Rattle.bw_wire.specs.Runs.{Spelled, FollowsReplies, ReplyRunsFollowReplies}
-use Rattle.bw_wire.proofs.FramerLaws.{cut_or_not}
-use Rattle.bw_wire.proofs.ReplySteps.{after_reply-failed, after_reply-partial, after_reply-bad, after_reply-whole}
+use Rattle.bw_model.proofs.FrameLaws.{read_frame_stands, read_reply_stands, first_frame-framed}
+use Rattle.bw_model.proofs.GrowthLaws.{first_frame-bad_grows, first_reply-bad_grows}
+use Rattle.bw_model.proofs.StreamLaws.{found, streams_agree}
+use Rattle.bw_wire.specs.Codecs.{message_codec, reply_codec, is_bye}
+use Rattle.bw_wire.specs.Pending.{Fails, cut_off, end_fault}
+use Rattle.bw_wire.specs.Runs.{Run, Follows, input_end, FollowsStream, RunsFollowStreams, ReplyRunsFollowReplies}
+use Rattle.bw_wire.specs.Runs.{fed_in, framer_run}
+use Rattle.bw_wire.proofs.RunLaws.{IsCodec, runs_follow}
 
--- what a framer of replies in this phase has taken of the bytes that it was fed
-InPhase : Phase → List ℕ → Run Reply → Type 0
-InPhase Reading bytes r =
-  (bytes ≡ replies_bytes r.given ++ r.state.bytes) × (r.state.used ≡ length (replies_bytes r.given))
-InPhase Left bytes r = ⊥
-InPhase (Failed reason) bytes r =
-    (rest : List ℕ) × (bytes ≡ replies_bytes r.given ++ rest) × (first_reply rest ≡ Err reason) × (reason ≢ Cut)
-      × (r.state.used ≡ length (replies_bytes r.given))
+bye_last : (f : Frame) → is_bye f ≡ true → Bye ≡ f
+bye_last (Says m) e = absurd cc
+bye_last (Asks name number) e = absurd cc
+bye_last Bye e = refl
 
-record Sound (bytes : List ℕ) (r : Run Reply) : Type 0 where
-  each : list_all is_reply r.given ≡ true
-  kept : InPhase r.state.phase bytes r
+is_turn-frame : (f : Frame) → is_frame Second f ≡ true → is_bye f ≡ false → is_turn Second f ≡ true
+is_turn-frame (Says m) fits e = fits
+is_turn-frame (Asks name number) fits e = fits
+is_turn-frame Bye fits e = absurd cc
 
-fed_more : (bytes piece : List ℕ) (given : List Reply) (p : Pending) (h : Phase) → p.phase ≡ h →
-  InPhase h bytes (record { given = given; state = p })
-    → InPhase h (bytes ++ piece) (record { given = given; state = piece_in h p piece })
-      × ((piece_in h p piece).phase ≡ h)
-unfolding InPhase
-fed_more bytes piece given p Reading e k =
-    ((ap (λ (x : List ℕ). x ++ piece) k.0 ∙ append_assoc (replies_bytes given) p.bytes piece, k.1), e)
-fed_more bytes piece given p Left e k = absurd k
-fed_more bytes piece given p (Failed reason) e k =
-    ((k.0 ++ piece, ap (λ (x : List ℕ). x ++ piece) k.1
-      ∙ append_assoc (replies_bytes given) k.0 piece, first_reply-bad_grows k.0 piece reason k.3 k.2, k.3, k.4), e)
-
-feeds_sound : (bytes piece : List ℕ) (r : Run Reply) → Sound bytes r →
-  Sound (bytes ++ piece) (reply_step r (Feeds piece))
-feeds_sound bytes piece r s =
-    let more = fed_more bytes piece r.given r.state r.state.phase refl s.kept in
-    record { each = s.each;
-      kept = subst (λ (h : Phase). InPhase h (bytes ++ piece) (reply_step r (Feeds piece))) (sym more.1) more.0 }
-
-same_run : (bytes : List ℕ) (given : List Reply) (p : Pending) → Sound bytes (record { given = given; state = p }) →
-  Sound bytes (record { given = given ++ []; state = p })
-same_run bytes given p s =
-  subst (λ (x : List Reply). Sound bytes (record { given = x; state = p })) (sym (append-nil given)) s
-
-reply_more : (bytes : List ℕ) (given : List Reply) (p : Pending) (r : Reply) (more : List ℕ) → are_bytes bytes ≡ true →
-  list_all is_reply given ≡ true → p.phase ≡ Reading
-    → (bytes ≡ replies_bytes given ++ p.bytes) × (p.used ≡ length (replies_bytes given)) →
-      first_reply p.bytes ≡ Ok (r, more)
-    → Sound bytes (record { given = given ++ r ∷ []; state = took p more })
-unfolding InPhase
-reply_more bytes given p r more fits each e k read =
-    let rest_fits = are_bytes-tail (replies_bytes given) p.bytes (ap are_bytes (sym k.0) ∙ fits) in
-    let stands = read_reply_stands p.bytes r more rest_fits read in
-    let frames : replies_bytes given ++ framed (reply_body r) ≡ replies_bytes (given ++ r ∷ []) =
-        flat_map_more (λ g. framed (reply_body g)) [] given r in
-    let len : length p.bytes ≡ length (framed (reply_body r)) + length more =
-        ap (length {A = ℕ}) stands.1 ∙ length-append (framed (reply_body r)) more in
-    let all : length (replies_bytes (given ++ r ∷ []))
-        ≡ length (replies_bytes given) + length (framed (reply_body r)) =
-        ap (length {A = ℕ}) (sym frames) ∙ length-append (replies_bytes given) (framed (reply_body r)) in
-    record {
-      each = list_all-append is_reply given (r ∷ [])
-        ∙ and_from (list_all is_reply given) (is_reply r && true) each (and_from (is_reply r) true stands.0 refl);
-      kept = subst (λ (h : Phase). InPhase h bytes (record { given = given ++ r ∷ []; state = took p more })) (sym e) (
-        k.0 ∙ ap (λ (x : List ℕ). replies_bytes given ++ x) stands.1
-          ∙ sym (append_assoc (replies_bytes given) (framed (reply_body r)) more)
-          ∙ ap (λ (x : List ℕ). x ++ more) frames,
-        omega (arith, k.1, len, all),
-      );
-    }
-
--- the run after an answer
-abbrev taken : List Reply → Told Reply × Pending → Run Reply
-taken given x = record { given = given ++ replies_told x.0; state = x.1 }
-
-taken_sound : (bytes : List ℕ) (given : List Reply) (p : Pending) (h : Phase) (read : Result (Reply × List ℕ) Reason) →
-  are_bytes bytes ≡ true → p.phase ≡ h → first_reply p.bytes ≡ read
-    → Sound bytes (record { given = given; state = p }) → InPhase h bytes (record { given = given; state = p }) →
-      Sound bytes (taken given (after_reply p))
-unfolding InPhase
-taken_sound bytes given p Left read fits e f s k = absurd k
-taken_sound bytes given p (Failed reason) read fits e f s k =
-    subst (λ (x : Told Reply × Pending). Sound bytes (taken given x)) (sym (after_reply-failed p reason e))
-      (same_run bytes given p s)
-taken_sound bytes given p Reading (Ok (r, more)) fits e f s k =
-    subst (λ (x : Told Reply × Pending). Sound bytes (taken given x)) (sym (after_reply-whole p r more e f))
-      (reply_more bytes given p r more fits s.each e k f)
-taken_sound bytes given p Reading (Err reason) fits e f s k = elim (cut_or_not reason) [
-  | inl cut ↦ subst (λ (x : Told Reply × Pending). Sound bytes (taken given x))
-      (sym (after_reply-partial p e (f ∙ ap Err cut)))
-      (same_run bytes given (compacted p)
-        (record { each = s.each;
-        kept = subst (λ (h : Phase). InPhase h bytes (record { given = given; state = compacted p })) (sym e) k }))
-  | inr other ↦ subst (λ (x : Told Reply × Pending). Sound bytes (taken given x))
-      (sym (after_reply-bad p reason e f other))
-      (same_run bytes given (ended p p.used (Failed reason))
-        (record { each = s.each; kept = (p.bytes, k.0, f, other, k.1) }))
-]
-
-run_sound : (calls : List Call) (bytes : List ℕ) (r : Run Reply) → are_bytes (bytes ++ fed_in calls) ≡ true →
-  Sound bytes r → Sound (bytes ++ fed_in calls) (reply_run_from r calls)
-run_sound [] bytes r fits s = subst (λ (x : List ℕ). Sound x r) (sym (append-nil bytes)) s
-run_sound (Feeds piece ∷ calls) bytes r fits s =
-    let regroup = append_assoc bytes piece (fed_in calls) in
-    subst (λ (x : List ℕ). Sound x (reply_run_from (reply_step r (Feeds piece)) calls)) regroup
-    (run_sound calls (bytes ++ piece) (reply_step r (Feeds piece)) (ap are_bytes regroup ∙ fits)
-      (feeds_sound bytes piece r s))
-run_sound (Takes ∷ calls) bytes r fits s =
-    let bytes_fit = (and_parts (are_bytes bytes) (are_bytes (fed_in calls))
-        (sym (list_all-append (is_below 256) bytes (fed_in calls)) ∙ fits)).0 in
-    run_sound calls bytes (reply_step r Takes) fits
-      (taken_sound bytes r.given r.state r.state.phase (first_reply r.state.bytes) bytes_fit refl refl s s.kept)
-
-record Ends (bytes : List ℕ) (given : List Reply) (p : Pending) (told : Told Reply) : Type 0 where
-  nothing : told ≡ Nothing → Spelled bytes given p.bytes × (first_reply p.bytes ≡ Err Cut)
-  fault : (reason : Reason) (offset : ℕ) → told ≡ Fails reason offset
-      → (rest : List ℕ) × Spelled bytes given rest × (first_reply rest ≡ Err reason)
-        × (offset ≡ length (replies_bytes given))
-  not_cut : (offset : ℕ) → told ≢ Fails Cut offset
-
-fault_ends : (bytes rest : List ℕ) (given : List Reply) (p : Pending) (why : Reason) → why ≢ Cut →
-  Spelled bytes given rest → first_reply rest ≡ Err why → p.used ≡ length (replies_bytes given)
-    → Ends bytes given p (Fails why p.used)
-fault_ends bytes rest given p why other spelled bad place = record {
-  nothing = λ x. absurd cc;
-  fault = λ reason offset x.
-      let cause : why ≡ reason = cc in
-      let at : p.used ≡ offset = cc in
-      (rest, spelled, bad ∙ ap Err cause, sym at ∙ place);
-  not_cut = λ offset x. let cut : why ≡ Cut = cc in other cut;
+messages_are : IsCodec Frame message_codec
+messages_are = record {
+  stands = λ bytes f more fits read. (read_frame_stands Second bytes f more fits read).1;
+  given = λ bytes f more fits read other. is_turn-frame f (read_frame_stands Second bytes f more fits read).0 other;
+  grows = first_frame-bad_grows Second;
+  last = λ f e. ap Some (bye_last f e);
 }
 
-ends_in : (bytes : List ℕ) (given : List Reply) (p : Pending) (h : Phase) (read : Result (Reply × List ℕ) Reason) →
-  p.phase ≡ h → first_reply p.bytes ≡ read
-    → list_all is_reply given ≡ true → InPhase h bytes (record { given = given; state = p }) →
-      Ends bytes given p (after_reply p).0
-unfolding InPhase
-ends_in bytes given p Left read e f each k = absurd k
-ends_in bytes given p (Failed reason) read e f each k =
-    subst (λ (x : Told Reply × Pending). Ends bytes given p x.0) (sym (after_reply-failed p reason e))
-    (fault_ends bytes k.0 given p reason k.3 (record { each = each; whole = k.1 }) k.2 k.4)
-ends_in bytes given p Reading (Ok (r, more)) e f each k =
-    subst (λ (x : Told Reply × Pending). Ends bytes given p x.0) (sym (after_reply-whole p r more e f))
-    (record { nothing = λ x. absurd cc; fault = λ reason offset x. absurd cc; not_cut = λ offset x. cc })
-ends_in bytes given p Reading (Err reason) e f each k = elim (cut_or_not reason) [
-  | inl cut ↦ subst (λ (x : Told Reply × Pending). Ends bytes given p x.0)
-      (sym (after_reply-partial p e (f ∙ ap Err cut)))
-      (record { nothing = λ _. (record { each = each; whole = k.0 }, f ∙ ap Err cut);
-        fault = λ why offset x. absurd cc; not_cut = λ offset x. cc })
-  | inr other ↦ subst (λ (x : Told Reply × Pending). Ends bytes given p x.0) (sym (after_reply-bad p reason e f other))
-      (fault_ends bytes p.bytes given p reason other (record { each = each; whole = k.0 }) f k.1)
-]
-
-rest_in : (bytes : List ℕ) (given : List Reply) (p : Pending) (h : Phase) →
-  InPhase h bytes (record { given = given; state = p }) → (rest : List ℕ) × (bytes ≡ replies_bytes given ++ rest)
-unfolding InPhase
-rest_in bytes given p Reading k = (p.bytes, k.0)
-rest_in bytes given p Left k = absurd k
-rest_in bytes given p (Failed reason) k = (k.0, k.1)
-
-follows : (bytes : List ℕ) (r : Run Reply) → Sound bytes r → FollowsReplies bytes r
-follows bytes r s =
-    let rest = rest_in bytes r.given r.state r.state.phase s.kept in
-    let ends = ends_in bytes r.given r.state r.state.phase (first_reply r.state.bytes) refl refl s.each s.kept in
-    record { front = (rest.0, record { each = s.each; whole = rest.1 }); nothing = ends.nothing; fault = ends.fault;
-      not_cut = ends.not_cut }
-
-fresh_sound : Sound [] (record { given = []; state = fresh })
-unfolding InPhase
-fresh_sound = record { each = refl; kept = (refl, refl) }
+replies_are : IsCodec _ reply_codec
+replies_are = record {
+  stands = λ bytes r more fits read. (read_reply_stands bytes r more fits read).1;
+  given = λ bytes r more fits read other. (read_reply_stands bytes r more fits read).0;
+  grows = first_reply-bad_grows;
+  last = λ r e. absurd cc;
+}
 
 pub reply_runs_follow_replies : ReplyRunsFollowReplies
-reply_runs_follow_replies calls fits =
-  follows (fed_in calls) (reply_run calls) (run_sound calls [] (record { given = []; state = fresh }) fits fresh_sound)
+reply_runs_follow_replies = runs_follow reply_codec replies_are
+
+-- ---- messages and the stream of their bytes
+
+frames-append : (fs gs : List Frame) → frames_bytes (fs ++ gs) ≡ frames_bytes fs ++ frames_bytes gs
+frames-append [] gs = refl
+frames-append (f ∷ fs) gs =
+    ap (λ (x : List ℕ). framed (body f) ++ x) (frames-append fs gs)
+    ∙ sym (append_assoc (framed (body f)) (frames_bytes fs) (frames_bytes gs))
+
+-- a front of the messages and asks is one of the stream's
+front_of : (bytes rest : List ℕ) (given : List Frame) → are_bytes bytes ≡ true →
+    list_all (is_turn Second) given ≡ true → bytes ≡ frames_bytes given ++ rest
+    → (later : List Frame) × ((stream_of Second bytes).0 ≡ given ++ later)
+front_of bytes rest given fits each whole =
+    let place = length (frames_bytes given) in
+    let s = stream_from (suc (length rest)) Second place rest in
+    let t = found (suc (length rest)) Second place rest s.0 s.1 (omega arith)
+    (are_bytes-tail (frames_bytes given) rest (ap are_bytes (sym whole) ∙ fits)) refl in
+    let all : Stream Second bytes (given ++ s.0) s.1 = record {
+      rest = t.rest;
+      each = list_all-append (is_turn Second) given s.0
+          ∙ and_from (list_all (is_turn Second) given) (list_all (is_turn Second) s.0) each t.each;
+      whole = whole ∙ ap (λ (x : List ℕ). frames_bytes given ++ x) t.whole
+          ∙ sym (append_assoc (frames_bytes given) (frames_bytes s.0) t.rest)
+          ∙ ap (λ (x : List ℕ). x ++ t.rest) (sym (frames-append given s.0));
+      ends = ap (λ (n : ℕ). end_at Second n t.rest)
+          (ap (length {A = ℕ}) (frames-append given s.0) ∙ length-append (frames_bytes given) (frames_bytes s.0))
+          ∙ t.ends;
+    } in
+    (s.0, ap (λ (x : List Frame × End). x.0) ((streams_agree Second bytes (given ++ s.0) s.1 fits).0 all))
+
+-- all of them, with the end at the rest
+whole_of : (bytes rest : List ℕ) (given : List Frame) (end : End) → are_bytes bytes ≡ true →
+    list_all (is_turn Second) given ≡ true → bytes ≡ frames_bytes given ++ rest
+    → end_at Second (length (frames_bytes given)) rest ≡ Some end → stream_of Second bytes ≡ (given, end)
+whole_of bytes rest given end fits each whole ends =
+    (streams_agree Second bytes given end fits).0 (record { rest = rest; each = each; whole = whole; ends = ends })
+
+no_bytes_cut : first_frame Second [] ≡ Err Cut
+unfolding first_frame
+no_bytes_cut = refl
+
+-- the end at bytes that are no frame, and at those that are less than one
+end_at-bad : (place : ℕ) (bytes : List ℕ) (reason : Reason) → first_frame Second bytes ≡ Err reason → reason ≢ Cut →
+    end_at Second place bytes ≡ Some (BadFrame reason place)
+end_at-bad place [] reason e other = absurd (other (one_fault (first_frame Second []) e no_bytes_cut))
+  where
+    one_fault : (x : Result (Frame × List ℕ) Reason) → x ≡ Err reason → x ≡ Err Cut → reason ≡ Cut
+    one_fault (Ok y) a b = absurd cc
+    one_fault (Err why) a b = cc
+end_at-bad place (b ∷ bs) reason e other = ap (end_by place) e
+
+end_at-cut : (place : ℕ) (bytes : List ℕ) → first_frame Second bytes ≡ Err Cut →
+    end_at Second place bytes ≡ Some (input_end (cut_off bytes place))
+end_at-cut place [] e = refl
+end_at-cut place (b ∷ bs) e = ap (end_by place) e
+
+end_at-bye : (place : ℕ) (more : List ℕ) → end_at Second place (framed (body Bye) ++ more) ≡ Some SaidBye
+end_at-bye place more = ap (end_by place) (first_frame-framed Second Bye more refl)
+
+follows_stream : (bytes : List ℕ) (r : Run Frame) → are_bytes bytes ≡ true → Follows Frame message_codec bytes r →
+    FollowsStream bytes r
+follows_stream bytes r fits f =
+    let place = length (frames_bytes r.given) in
+    record {
+      front = front_of bytes f.front.0 r.given fits f.front.1.each f.front.1.whole;
+      nothing = λ e.
+          let rest = f.nothing e in
+          whole_of bytes r.state.bytes r.given (input_end (end_fault r.state)) fits rest.0.each rest.0.whole
+          (end_at-cut place r.state.bytes rest.1 ∙ ap (λ o. Some (input_end o)) (sym (f.ends e)));
+      bye = λ e.
+          let rest = f.last Bye refl e in
+          whole_of bytes (framed (body Bye) ++ rest.0) r.given SaidBye fits rest.1.each rest.1.whole
+          (end_at-bye place rest.0);
+      fault = λ reason offset e.
+          let bad = f.fault reason offset e in
+          whole_of bytes bad.0 r.given (BadFrame reason offset) fits bad.1.each bad.1.whole
+          (end_at-bad place bad.0 reason bad.2
+          (λ cut. f.not_cut offset (e ∙ ap (λ (why : Reason). Fails why offset) cut))
+          ∙ ap (λ (n : ℕ). Some (BadFrame reason n)) (sym bad.3));
+      not_cut = f.not_cut;
+    }
+
+pub runs_follow_streams : RunsFollowStreams
+runs_follow_streams calls fits =
+    follows_stream (fed_in calls) (framer_run message_codec calls) fits
+    (runs_follow message_codec messages_are calls fits)
