@@ -3,8 +3,9 @@ use Rattle.std.proofs.Common.{◌≡◌, ◌≢◌, ℕ, ◌<◌, List, [], ◌�
 use Rattle.std.proofs.Common.{◌∙◌, ap, subst, arith}
 use Rattle.bw_model.specs.Wire.{Frame, Says, Asks, Bye, Reason, Length, Kind, Name, Number, Payload, Cut, Second}
 use Rattle.bw_model.specs.Stream.{first_frame}
-use Rattle.bw_wire.specs.Pending.{Pending, Reading, Told, Nothing, Gives, Fails, took, compacted, after, after_in}
-use Rattle.bw_wire.specs.Pending.{after_first, cut_at, end_in, end_fault}
+use Rattle.bw_wire.specs.Codecs.{message_codec}
+use Rattle.bw_wire.specs.Pending.{Pending, Reading, Told, Nothing, Gives, Fails, took, compacted, next_of, next_in}
+use Rattle.bw_wire.specs.Pending.{next_read, cut_off, end_in, end_fault}
 
 -- what is told is the first frame of the bytes, or why there is none
 abbrev pub IsNext : Pending → Told Frame × Pending → Type 0
@@ -22,13 +23,15 @@ unfolding first_frame
 not_empty [] reason e other = absurd (other (cc))
 not_empty (b ∷ bs) reason e other = omega arith
 
-pub is_next : (p : Pending) (told : Told Frame) → p.phase ≡ Reading → told ≡ (after p).0 → IsNext p (told, (after p).1)
-unfolding after
+pub is_next : (p : Pending) (told : Told Frame) → p.phase ≡ Reading → told ≡ (next_of message_codec p).0 →
+  IsNext p (told, (next_of message_codec p).1)
+unfolding next_of
 is_next p told reading e =
-    subst (λ (t : Told Frame). IsNext p (t, (after p).1)) (sym e)
-    (subst (IsNext p) (sym (ap (λ h. after_in h p) reading)) (go (first_frame Second p.bytes) refl))
+    subst (λ (t : Told Frame). IsNext p (t, (next_of message_codec p).1)) (sym e)
+    (subst (IsNext p) (sym (ap (λ h. next_in message_codec h p) reading)) (go (first_frame Second p.bytes) refl))
   where
-    go : (read : Result (Frame × List ℕ) Reason) → first_frame Second p.bytes ≡ read → IsNext p (after_first p read)
+    go : (read : Result (Frame × List ℕ) Reason) → first_frame Second p.bytes ≡ read →
+      IsNext p (next_read message_codec p read)
     go (Ok (Says m, more)) f = (more, f, refl)
     go (Ok (Asks name n, more)) f = (more, f)
     go (Ok (Bye, more)) f = (more, f)
@@ -48,6 +51,6 @@ pub is_end : (p : Pending) (told : Option (Reason × ℕ)) → p.phase ≡ Readi
 is_end p told reading e =
     subst (IsEnd p) (sym (e ∙ ap (λ h. end_in h p) reading)) (go p.bytes refl)
   where
-    go : (bytes : List ℕ) → p.bytes ≡ bytes → IsEnd p (cut_at bytes p.used)
+    go : (bytes : List ℕ) → p.bytes ≡ bytes → IsEnd p (cut_off bytes p.used)
     go [] same = ap length same
     go (b ∷ bs) same = let some = ap length same in (omega arith, refl, refl)

@@ -11,7 +11,7 @@ use Rattle.bw_model.specs.Stream.{End, EndOfInput, SaidBye, BadFrame, stream_of,
 use Rattle.bw_model.specs.Book.{Book}
 use Rattle.bw_model.specs.Exchange.{Exchange, exchange, last_reply, replies_bytes}
 use Rattle.bw_wire.specs.Pending.{Pending, fresh, with_piece, took}
-use Rattle.bw_wire.specs.Reasons.{reason_of}
+use Rattle.bw_wire.specs.Reasons.{reason_meaning}
 use Rattle.bw_wire.specs.declared.fault.WireFault.{WireFault}
 use Rattle.bw_cli.specs.InOrder.{Progress, progress_behind, progress_after}
 use Rattle.bw_model.specs.Exchange.{nothing_stands}
@@ -145,10 +145,10 @@ within-end old r first input frames p e end w ends put spelled named =
 pub within-bad : (old r : Recording) (first : Book) (input frames : List ℕ) (p : Pending) (e : Ran)
     (fault : WireFault) →
     IsWithin old first input p r frames → 0 < length p.bytes →
-    first_frame Second p.bytes ≡ Err (reason_of fault.reason) → fault.offset ≡ p.used → EndsBad frames fault e →
+    first_frame Second p.bytes ≡ Err (reason_meaning fault.reason) → fault.offset ≡ p.used → EndsBad frames fault e →
     IsExchange old r input first e
 within-bad old r first input frames p e fault w some comes place ends =
-    let reason = reason_of fault.reason in
+    let reason = reason_meaning fault.reason in
     within-end old r first input frames p e (BadFrame reason fault.offset) w
     (stream-bad Second p.used p.bytes reason some comes ∙ ap (λ (k : ℕ). ([], BadFrame reason k)) (sym place))
     (ends.replies ∙ ap (λ (z : List ℕ). frames ++ z)

@@ -7,7 +7,7 @@ use Rattle.bw_model.specs.Stream.{End, stream_of, EndOfInput, SaidBye, BadFrame}
 use Rattle.bw_model.specs.Book.{Book}
 use Rattle.bw_model.specs.Exchange as model
 use Rattle.bw_wire.specs.declared.fault.WireFault.{WireFault}
-use Rattle.bw_wire.specs.Reasons.{reason_of}
+use Rattle.bw_wire.specs.Reasons.{reason_meaning}
 use Rattle.bw_cli.specs.InOrder.{progress_behind, progress_after}
 use Rattle.bw_cli.specs.Keeping.{progress_of, KeepsBook}
 use Rattle.bw_model.specs.Exchange.{nothing_stands}
@@ -22,7 +22,7 @@ use Rattle.bw_cli.specs.declared.exchange.ExchangeFault.TheVariants.{NotInOrder,
 abbrev pub end_of : ExchangeEnd → End
 end_of ends.Bye = SaidBye
 end_of ends.EndOfInput = EndOfInput
-end_of (ends.BadFrame fault) = BadFrame (reason_of fault.reason) fault.offset
+end_of (ends.BadFrame fault) = BadFrame (reason_meaning fault.reason) fault.offset
 
 -- the exchange tells this, by replies that have spellings
 pub record TellsExchange (e : Exchange) (t : ToldExchange) : Type 0 where
@@ -55,6 +55,6 @@ Breaks Memory r input = Unit {0}
 -- the exchange ends at this fault, which these frames and its reply answer
 pub record EndsBad (frames : List ℕ) (fault : WireFault) (e : Exchange) : Type 0 where
   pub replies : e.replies.items
-      ≡ frames ++ framed (reply_body (Refused (reason_of fault.reason) fault.offset))
-  pub spelled : IsTrue (is_reply (Refused (reason_of fault.reason) fault.offset))
+      ≡ frames ++ framed (reply_body (Refused (reason_meaning fault.reason) fault.offset))
+  pub spelled : IsTrue (is_reply (Refused (reason_meaning fault.reason) fault.offset))
   pub end : e.end ≡ ends.BadFrame fault

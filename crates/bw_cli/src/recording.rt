@@ -4,7 +4,7 @@ ghost use Rattle.bw_model.specs.Take.{Take, parts, after, judge as judgement};
 ghost use Rattle.bw_model.specs.Wire.{is_request};
 ghost use Rattle.bw_model.specs.Replies.{Judged};
 ghost use Rattle.bw_take.specs.Requests.{meaning};
-ghost use Rattle.bw_take.specs.Verdicts.{verdict_of};
+ghost use Rattle.bw_take.specs.Verdicts.{verdict_meaning};
 ghost use Rattle.bw_cli.specs.InOrder.{is_next as is_next_in, no_progress};
 ghost use Rattle.bw_cli.specs.Recording.{samples_of};
 
@@ -74,7 +74,7 @@ impl Recording {
         requires fits { IsTrue (is_request (meaning request.now)) }
         ensures { IfOk result (λ v. Answers self.old self.new
             (record { name = name.now; number = number; request = meaning request.now })
-            (Judged name.now number (verdict_of v))) }
+            (Judged name.now number (verdict_meaning v))) }
     {
         let verdict = apply(&mut self.state, &mut self.samples, request)?;
         self.name = Some(name.copy());
@@ -110,7 +110,7 @@ fn apply(
     requires fits { IsTrue (is_request (meaning request.now)) }
     requires room { state.old.parts.samples_len + 32768 ≤ 2 ^ 62 }
     ensures verdict { IfOk result (λ v.
-        verdict_of v ≡ judgement state.old.parts (meaning request.now)) }
+        verdict_meaning v ≡ judgement state.old.parts (meaning request.now)) }
     ensures take { OnOk result ((t : Take) → parts t ≡ state.old.parts →
         parts (after t (meaning request.now)) ≡ state.new.parts) }
     ensures samples { OnOk result ((t : Take) →

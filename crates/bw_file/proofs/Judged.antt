@@ -1,8 +1,8 @@
 -- What a request that is to be stored says of its take.
 use Rattle.std.proofs.Common.{◌≡◌, ℕ, ◌<◌, Bool, true, false, cond, List, length, Option, Some, None, refl, arith}
-use Rattle.std.specs.Prelude.{IsTrue, IsSome, is_some}
-use Rattle.bw_model.specs.Take.{Format, Parts, Request, FieldFault, Open, Block, SetField, Close, Stored, Closed}
-use Rattle.bw_model.specs.Take.{NotOpen, BadField, judge, judge_open, field_fault}
+use Rattle.std.specs.Prelude.{IsTrue, IsSome}
+use Rattle.bw_model.specs.Take.{Format, Parts, Request, Open, Block, SetField, Close, Stored, Closed}
+use Rattle.bw_model.specs.Take.{NotOpen, judge, judge_open}
 use Rattle.bw_model.specs.Wire.{is_request}
 
 -- the take is open
@@ -39,22 +39,6 @@ is_some_open p o = rw o.has_format refl
 -- a block has bytes
 pub some_in_block : (bytes : List ℕ) → IsTrue (is_request (Block bytes)) → 0 < length bytes
 some_in_block bytes fits = grind arith
-
--- a field that is to be stored has a value without fault
-unfaulted : (fault : Option FieldFault) → cond (is_some fault) BadField Stored ≡ Stored → fault ≡ None
-unfaulted None e = refl
-unfaulted (Some fault) e = cc
-
-pub no_fault : (p : Parts) (tag : ℕ) (value : List ℕ) → judge p (SetField tag value) ≡ Stored →
-    field_fault tag value ≡ None
-unfolding judge
-no_fault p tag value e = go p.closed p.format e
-  where
-    go : (closed : Bool) (format : Option Format) →
-        cond closed Closed (judge_open p format (SetField tag value)) ≡ Stored → field_fault tag value ≡ None
-    go true format e = cc
-    go false None e = cc
-    go false (Some f) e = unfaulted (field_fault tag value) e
 
 -- a take that is to be opened
 pub record IsUnopened (p : Parts) : Type 0 where

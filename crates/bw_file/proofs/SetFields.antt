@@ -11,7 +11,7 @@ use Rattle.bw_layout.proofs.FieldRanges.{range_stands, range_shared, range_known
 use Rattle.bw_file.specs.OneField.{SetsField, IsSameIn}
 use Rattle.bw_layout.specs.Headings.{header_of}
 use Rattle.bw_layout.specs.declared.heading.Heading.{Heading}
-use Rattle.bw_file.proofs.Judged.{no_fault}
+use Rattle.bw_take.proofs.StoredLemmas.{set_without_fault}
 use Rattle.bw_file.proofs.Parts.{parts_at}
 use Rattle.bw_file.proofs.Retouches.{length-heading}
 
@@ -22,7 +22,7 @@ shaped (Some s) value e = refl
 
 pub is_known : (p : Parts) (tag : ℕ) (value : List ℕ) → judge p (SetField tag value) ≡ Stored →
     is_some (shape_of tag) ≡ true
-is_known p tag value stored = shaped (shape_of tag) value (no_fault p tag value stored)
+is_known p tag value stored = shaped (shape_of tag) value (set_without_fault p tag value stored)
 
 -- a field stays as it is where a later one is set
 keeps_earlier : (fields : List (List ℕ)) (tag other : ℕ) (value : List ℕ) → 1 ≤ other → other < tag →

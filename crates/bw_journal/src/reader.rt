@@ -5,7 +5,7 @@ ghost use Rattle.bw_model.specs.Take.{new_take, parts as parts_of_take};
 ghost use Rattle.bw_model.specs.Replies.{verdict_code};
 ghost use Rattle.bw_model.specs.Wire.{is_request};
 ghost use Rattle.bw_take.specs.Requests.{meaning};
-ghost use Rattle.bw_take.specs.Verdicts.{verdict_of};
+ghost use Rattle.bw_take.specs.Verdicts.{verdict_meaning};
 ghost use Rattle.bw_journal.specs.Replays.{OtherVerdict as other_verdict, replay as replay_of, replayed_entries, tail_fault as tail_fault_of, is_judged, parts_after, Fault};
 ghost use Rattle.bw_journal.specs.Refs.{entry_said};
 ghost use Rattle.bw_journal.specs.Stories.{story_of};
@@ -145,9 +145,9 @@ fn apply(
     requires samples { state.old.parts.samples_len + 32768 ≤ 2 ^ 62 }
     ensures judged { OnOk result (IsTrue (is_judged state.old.parts (entry_said entry.now))) }
     ensures parts { OnOk result (state.new.parts ≡ parts_after state.old.parts
-        (verdict_of entry.now.verdict) (meaning entry.now.request)) }
+        (verdict_meaning entry.now.verdict) (meaning entry.now.request)) }
     ensures table { OnOk result (table.new.items ≡ table.old.items
-        ++ (entry.now.digest.now ++ verdict_code (verdict_of entry.now.verdict) ∷ [])) }
+        ++ (entry.now.digest.now ++ verdict_code (verdict_meaning entry.now.verdict) ∷ [])) }
     ensures samples { OnOk result
         (state.new.parts.samples_len ≤ state.old.parts.samples_len + 32768) }
     ensures err { IfErr result (λ e. (f : Fault) → fault_of e ≡ Some f →

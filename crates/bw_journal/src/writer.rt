@@ -3,7 +3,7 @@ ghost use Rattle.std.specs.Prelude.{◌≡◌, ◌+◌, ◌≤◌, IsTrue, lengt
 ghost use Rattle.bw_model.specs.Wire.{is_request, kind as kind_of};
 ghost use Rattle.bw_layout.specs.Appending.{Appends, Gains};
 ghost use Rattle.bw_take.specs.Requests.{meaning};
-ghost use Rattle.bw_take.specs.Verdicts.{verdict_of};
+ghost use Rattle.bw_take.specs.Verdicts.{verdict_meaning};
 ghost use Rattle.bw_journal.specs.Entries.{Entry, noted as noted_of, noted_payload, content as content_of, entry_bytes, longest_entry};
 
 use crate::entry::BLOCK;
@@ -26,13 +26,13 @@ pub fn put_entry(
     requires { IsTrue (is_request (meaning request.now)) }
     ensures entry { let e : Entry = record {
       request = meaning request.now;
-      verdict = verdict_of verdict;
+      verdict = verdict_meaning verdict;
       digest = digest.now;
     } in
         Appends (entry_bytes e) (length (entry_bytes e)) result out.old out.new }
     ensures short { let e : Entry = record {
       request = meaning request.now;
-      verdict = verdict_of verdict;
+      verdict = verdict_meaning verdict;
       digest = digest.now;
     } in
         length (entry_bytes e) ≤ longest_entry }
@@ -55,7 +55,7 @@ fn push_content(out: &mut Vec<u8>, verdict: Verdict, digest: &[u8; 32], request:
         ≤ vec_capacity out.old }
     ensures { let e : Entry = record {
       request = meaning request.now;
-      verdict = verdict_of verdict;
+      verdict = verdict_meaning verdict;
       digest = digest.now;
     } in
         Gains (content_of e) (33 + length (noted_of (meaning request.now))) out.old out.new }

@@ -9,7 +9,7 @@ use Rattle.bw_model.specs.Take.{BadFormat, NameTaken, parts, judge, judge_open, 
 use Rattle.bw_model.specs.Take.{is_stored, with_request, after}
 use Rattle.bw_model.specs.File.{file_of}
 use Rattle.bw_model.specs.Holds.{IsInTheMiddle}
-use Rattle.bw_take.specs.Verdicts.{verdict_of}
+use Rattle.bw_take.specs.Verdicts.{verdict_meaning}
 use Rattle.bw_take.specs.declared.verdict.Verdict.{Verdict}
 use Rattle.bw_file.specs.Growing.{Growing}
 use Rattle.bw_file.specs.declared.store.Created.TheVariants.{New, Exists}
@@ -59,7 +59,7 @@ unmarked true p r s h = no_false (sym s ∙ ap is_stored (h refl).stored)
 unmarked false p r s h = refl
 
 pub carries_refused : (v : Verdict) (p : Parts) (r : Request) (g : Growing) (found : Option (List ℕ)) →
-    verdict_of v ≡ judge p r → is_stored (verdict_of v) ≡ false → (IsTrue g.dirty → Touches p r) →
+    verdict_meaning v ≡ judge p r → is_stored (verdict_meaning v) ≡ false → (IsTrue g.dirty → Touches p r) →
     Carries (Ok v) r p p g g found found
 carries_refused v p r g found e s touched =
     let refused : is_stored (judge p r) ≡ false = ap is_stored (sym e) ∙ s in
@@ -76,7 +76,7 @@ carries_refused v p r g found e s touched =
     }
 
 pub carries_new : (v : Verdict) (p : Parts) (r : Request) (g g' : Growing) (before found : Option (List ℕ)) →
-    verdict_of v ≡ judge p r → is_stored (verdict_of v) ≡ true → Writes (Ok New) r p g g' before found →
+    verdict_meaning v ≡ judge p r → is_stored (verdict_meaning v) ≡ true → Writes (Ok New) r p g g' before found →
     Carries (Ok v) r p p g g' before found
 carries_new v p r g g' before found e s w =
     let stored : is_stored (judge p r) ≡ true = ap is_stored (sym e) ∙ s in
@@ -87,7 +87,7 @@ carries_new v p r g g' before found e s w =
     }
 
 pub carries_exists : (v : Verdict) (p q : Parts) (r : Request) (g g' : Growing) (before found : Option (List ℕ)) →
-    q ≡ record p { taken = true } → verdict_of v ≡ judge q r → Writes (Ok Exists) r p g g' before found →
+    q ≡ record p { taken = true } → verdict_meaning v ≡ judge q r → Writes (Ok Exists) r p g g' before found →
     Carries (Ok v) r p q g g' before found
 carries_exists v p q r g g' before found taken e w = record {
   own = λ t same h. no_false (w.own t same h).0;

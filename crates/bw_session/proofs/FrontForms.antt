@@ -7,7 +7,7 @@ use Rattle.bw_model.specs.Take.{Take, Parts, Format, Request, Open, Block, Mark,
 use Rattle.bw_model.specs.Take.{NameTaken, new_take, parts, judge, is_format, is_history_byte, is_stored, verdict}
 use Rattle.bw_model.specs.Take.{with_request, after}
 use Rattle.bw_model.specs.Book.{Log, made, step}
-use Rattle.bw_take.specs.Verdicts.{verdict_of}
+use Rattle.bw_take.specs.Verdicts.{verdict_meaning}
 use Rattle.bw_take.specs.declared.verdict.Verdict.{Verdict as Judgement}
 use Rattle.bw_file.specs.Growing.{Growing}
 use Rattle.bw_file.specs.declared.store.StoreFault.{StoreFault}
@@ -94,7 +94,7 @@ unopened name log p finished k =
 pub carries_front : (answer : Result Judgement StoreFault) (first : Option (List ℕ)) (log : Log) (p q : Parts)
     (finished : List (List ℕ × Verdict)) (r : Request) (g g' : Growing) (before found : Option (List ℕ)) →
     Carries answer r p q g g' before found → q ≡ record p { taken = q.taken } → (IsTrue p.taken → IsTrue q.taken) →
-    g'.name ≡ g.name → IfOk answer (λ v. verdict_of v ≡ judge q r) → OnErr answer (q ≡ p) →
+    g'.name ≡ g.name → IfOk answer (λ v. verdict_meaning v ≡ judge q r) → OnErr answer (q ≡ p) →
     HoldsFront first log p finished r g before → CarriesFront answer first log q finished r g' found
 carries_front (Ok v) None log p q finished r g g' before found c e more name judged unchanged h =
     let t : Take = made false log.admitted log.done in

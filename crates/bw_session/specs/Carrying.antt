@@ -2,7 +2,7 @@
 use Rattle.std.specs.Prelude.{◌≡◌, Bool, true, false, Option, None, IsSome, List, ℕ, Result}
 use Rattle.std.specs.Prelude.{MatchResult, IfOk}
 use Rattle.bw_model.specs.Take.{Take, Parts, Request, Stored, judge, parts, after}
-use Rattle.bw_take.specs.Verdicts.{verdict_of}
+use Rattle.bw_take.specs.Verdicts.{verdict_meaning}
 use Rattle.bw_take.specs.declared.verdict.Verdict.{Verdict}
 use Rattle.bw_file.specs.Growing.{Growing}
 use Rattle.bw_file.specs.declared.store.StoreFault.{StoreFault}
@@ -23,4 +23,4 @@ pub record Carries (answer : Result Verdict StoreFault) (r : Request) (p q : Par
       (λ _. HasOwnFile t r new found)
   pub stood : p.format ≡ None → old.made ≡ false → IsSome before →
       (found ≡ before) × (new.made ≡ false)
-      × IfOk answer (λ v. verdict_of v ≡ judge (record p { taken = true }) r)
+      × IfOk answer (λ v. verdict_meaning v ≡ judge (record p { taken = true }) r)

@@ -2,7 +2,7 @@
 use Rattle.std.specs.Prelude.{◌≡◌, ℕ, false, Option, Some, None, is_some, List, Result, MatchResult}
 use Rattle.bw_model.specs.Take.{Take, Parts, Request, Verdict, verdict, after}
 use Rattle.bw_model.specs.Book.{Log, made}
-use Rattle.bw_take.specs.Verdicts.{verdict_of}
+use Rattle.bw_take.specs.Verdicts.{verdict_meaning}
 use Rattle.bw_take.specs.declared.verdict.Verdict.{Verdict as Judgement}
 use Rattle.bw_file.specs.Growing.{Growing}
 use Rattle.bw_file.specs.declared.store.StoreFault.{StoreFault}
@@ -44,5 +44,5 @@ abbrev pub CarriesFront : Result Judgement StoreFault → Option (List ℕ) → 
     List (List ℕ × Verdict) → Request → Growing → Option (List ℕ) → Type 0
 CarriesFront answer first log p finished r g found =
     MatchResult answer
-    (λ v. Carried first log (verdict_of v) p finished r g found)
+    (λ v. Carried first log (verdict_meaning v) p finished r g found)
     (λ _. HoldsFront first log p finished r g found)

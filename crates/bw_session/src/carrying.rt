@@ -5,7 +5,7 @@ ghost use Rattle.bw_model.specs.Book.{Log};
 ghost use Rattle.bw_model.specs.Wire.{is_request};
 ghost use Rattle.bw_take.specs.Requests.{meaning};
 ghost use Rattle.bw_take.specs.States.{samples_in};
-ghost use Rattle.bw_take.specs.Verdicts.{verdict_of};
+ghost use Rattle.bw_take.specs.Verdicts.{verdict_meaning};
 ghost use Rattle.bw_file.specs.Stores.{Counts, KeepsOthers};
 ghost use Rattle.bw_session.specs.Carrying.{Touches, Carries};
 ghost use Rattle.bw_session.specs.Fronts.{HoldsFront, CarriesFront};
@@ -41,7 +41,7 @@ pub(crate) fn carry_out<S: TakeStore>(
     ensures parts { state.new.parts ≡ record state.old.parts { taken = state.new.parts.taken } }
     ensures taken { IsTrue state.old.parts.taken → IsTrue state.new.parts.taken }
     ensures verdict { IfOk result
-        (λ v. verdict_of v ≡ verdict_on state.new.parts (meaning request.now)) }
+        (λ v. verdict_meaning v ≡ verdict_on state.new.parts (meaning request.now)) }
     ensures clean { OnOk result (growing.new.dirty ≡ false) }
     ensures unchanged { OnErr result (state.new ≡ state.old) }
     ensures touched { OnErr result (Touches state.old.parts (meaning request.now)) }

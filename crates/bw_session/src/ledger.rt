@@ -3,7 +3,7 @@ ghost use Rattle.std.specs.Prelude.{◌≡◌, ◌+◌, ◌*◌, ◌^◌, ◌<�
 ghost use Rattle.std.specs.Str.{bytes_eq};
 ghost use Rattle.bw_model.specs.Take.{Verdict as Judgement};
 ghost use Rattle.bw_model.specs.Replies.{verdict_code, verdict_of as verdict_with_code};
-ghost use Rattle.bw_take.specs.Verdicts.{verdict_of};
+ghost use Rattle.bw_take.specs.Verdicts.{verdict_meaning};
 
 use bw_take::Verdict;
 use std::alloc::{AllocError, Global};
@@ -78,7 +78,7 @@ impl Ledger {
     pub(crate) fn push(&mut self, digest: &[u8; 32], verdict: Verdict)
         requires { 1 ≤ self.old.room }
         ensures outcomes { self.new.outcomes ≡
-            self.old.outcomes ++ (digest.now, verdict_of verdict) ∷ [] }
+            self.old.outcomes ++ (digest.now, verdict_meaning verdict) ∷ [] }
         ensures room { self.old.room ≤ self.new.room + 1 }
     {
         pack(&mut self.bytes, digest, verdict);
@@ -88,7 +88,7 @@ impl Ledger {
     pub(crate) fn verdict_at(&self, number: usize) -> Verdict
         requires { number < length self.now.outcomes }
         ensures { (d : List ℕ × Judgement) →
-            verdict_of result ≡ (slice_index_or self.now.outcomes number d).1 }
+            verdict_meaning result ≡ (slice_index_or self.now.outcomes number d).1 }
     {
         verdict_with(self.bytes[ENTRY_LEN * number + DIGEST_LEN])
     }
@@ -107,7 +107,7 @@ impl Ledger {
 fn pack(bytes: &mut Vec<u8>, digest: &[u8; 32], verdict: Verdict)
     requires { vec_len bytes.old + 33 ≤ vec_capacity bytes.old }
     ensures items { bytes.new.items ≡
-        bytes.old.items ++ (digest.now ++ verdict_code (verdict_of verdict) ∷ []) }
+        bytes.old.items ++ (digest.now ++ verdict_code (verdict_meaning verdict) ∷ []) }
     ensures len { vec_len bytes.new ≡ vec_len bytes.old + 33 }
     ensures capacity { vec_capacity bytes.old ≤ vec_capacity bytes.new }
 {
@@ -127,7 +127,7 @@ fn digest_at(bytes: &[u8], number: usize) -> &[u8]
 /// The verdict with a code that one has.
 fn verdict_with(code: u8) -> Verdict
     requires { IsSome (verdict_with_code code) }
-    ensures { verdict_with_code code ≡ Some (verdict_of result) }
+    ensures { verdict_with_code code ≡ Some (verdict_meaning result) }
 {
     match Verdict::try_from(code) {
         Ok(verdict) => verdict,

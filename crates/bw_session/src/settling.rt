@@ -8,7 +8,7 @@ ghost use Rattle.bw_model.specs.Book.{Log, made};
 ghost use Rattle.bw_model.specs.Holds.{body_of};
 ghost use Rattle.bw_take.specs.Requests.{meaning};
 ghost use Rattle.bw_take.specs.States.{samples_in};
-ghost use Rattle.bw_take.specs.Verdicts.{verdict_of};
+ghost use Rattle.bw_take.specs.Verdicts.{verdict_meaning};
 ghost use Rattle.bw_session.specs.Keeping.{KeepsDone};
 
 use crate::ledger::Ledger;
@@ -26,12 +26,12 @@ pub(crate) fn settle(
     verdict: Verdict,
 )
     requires fits { IsTrue (is_request (meaning request.now)) }
-    requires judged { verdict_of verdict ≡ verdict_on state.old.parts (meaning request.now) }
+    requires judged { verdict_meaning verdict ≡ verdict_on state.old.parts (meaning request.now) }
     requires room { 1 ≤ state.old.room }
     requires place { 1 ≤ ledger.old.room }
     requires samples { state.old.parts.samples_len + samples_in (meaning request.now) ≤ 2 ^ 62 }
     ensures outcomes { ledger.new.outcomes ≡
-        ledger.old.outcomes ++ (digest.now, verdict_of verdict) ∷ [] }
+        ledger.old.outcomes ++ (digest.now, verdict_meaning verdict) ∷ [] }
     ensures places { ledger.old.room ≤ ledger.new.room + 1 }
     ensures room { state.old.room ≤ state.new.room + 1 }
     ensures samples { state.new.parts.samples_len
@@ -40,7 +40,7 @@ pub(crate) fn settle(
         KeepsDone stood name log state.old.parts ledger.old.outcomes →
         at log.admitted log.done ≡ Some (meaning request.now) →
         digest.now ≡ sha256 (body_of name log.done (meaning request.now)) →
-        verdict_of verdict ≡ verdict_in (made stood log.admitted log.done) (meaning request.now) →
+        verdict_meaning verdict ≡ verdict_in (made stood log.admitted log.done) (meaning request.now) →
         KeepsDone stood name (record log { done = suc log.done })
         state.new.parts ledger.new.outcomes }
 {

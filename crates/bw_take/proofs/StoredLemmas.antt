@@ -1,8 +1,9 @@
 -- What a verdict Stored tells of the take and of the request, and that it leaves the take sound.
-use Rattle.std.proofs.Common.{◌≡◌, ℕ, ◌+◌, ◌^◌, ◌<◌, ◌≤◌, Bool, true, false, not, ◌&&◌, if◌then◌else◌, Option, Some}
+use Rattle.std.proofs.Common.{◌≡◌, ℕ, ◌+◌, ◌<◌, ◌≤◌, Bool, true, false, not, ◌&&◌, if◌then◌else◌, Option, Some}
 use Rattle.std.proofs.Common.{None, is_some, List, [], ◌∷◌, length, IsTrue, refl, ◌∙◌, ap, arith, length-append, nat_le}
 use Rattle.std.proofs.lemmas.Bool.Decides.{nat_tests}
 use Rattle.std.specs.Option.{SomeIff}
+use Rattle.bw_model.specs.Limits.{longest_history, most_markers, largest}
 use Rattle.bw_model.specs.Take.{Parts, Format, Request, Open, Block, Mark, SetField, Close, Verdict, Stored, Closed}
 use Rattle.bw_model.specs.Take.{BadFormat, BadField, BadMarker, DuplicateMarker, TooManyMarkers, judge, judge_open}
 use Rattle.bw_model.specs.Take.{is_format, field_fault, is_stored, parts, Take, with_request, AreFields, FieldFault}
@@ -24,7 +25,7 @@ allowed false b v stored = cc
 
 -- a take is opened once, with an allowed format
 opens : (p : Parts) (o : Option Format) (f : Format) (history : List ℕ) → judge_open p o (Open f history) ≡ Stored →
-  (o ≡ None) × (is_format f ≡ true)
+    (o ≡ None) × (is_format f ≡ true)
 opens p (Some g) f history stored = cc
 opens p None f history stored = (refl, allowed (is_format f) _ _ stored)
 
@@ -37,7 +38,7 @@ opens_take (SetField tag value) = false
 opens_take (Close total) = false
 
 needs_format : (p : Parts) (o : Option Format) (r : Request) → opens_take r ≡ false → judge_open p o r ≡ Stored →
-  o ≡ None → ⊥
+    o ≡ None → ⊥
 needs_format p (Some g) r other stored none = cc
 needs_format p None (Open f history) other stored none = cc
 needs_format p None (Block bytes) other stored none = cc
@@ -46,18 +47,18 @@ needs_format p None (SetField tag value) other stored none = cc
 needs_format p None (Close total) other stored none = cc
 
 few_markers : (a b c : Bool) →
-  (if a then BadMarker else if b then DuplicateMarker else if c then TooManyMarkers else Stored) ≡ Stored → c ≡ false
+    (if a then BadMarker else if b then DuplicateMarker else if c then TooManyMarkers else Stored) ≡ Stored → c ≡ false
 few_markers true b c stored = cc
 few_markers false true c stored = cc
 few_markers false false true stored = cc
 few_markers false false false stored = refl
 
--- a take to which a marker is added has fewer than 1,024
+-- a take to which a marker is added has fewer than it may have
 marks : (p : Parts) (o : Option Format) (id frame : ℕ) → judge_open p o (Mark id frame) ≡ Stored →
-  length p.markers < 1024
+    length p.markers < most_markers
 marks p None id frame stored = absurd (needs_format p None (Mark id frame) refl stored refl)
 marks p (Some f) id frame stored =
-    let few = few_markers _ _ (nat_le 1024 (length p.markers)) stored in grind (arith, nat_tests, few)
+    let few = few_markers _ _ (nat_le most_markers (length p.markers)) stored in grind (arith, nat_tests, few)
 
 no_fault : (o : Option FieldFault) → (if is_some o then BadField else Stored) ≡ Stored → o ≡ None
 no_fault None stored = refl
@@ -65,7 +66,7 @@ no_fault (Some fault) stored = cc
 
 -- a field that is set has no fault
 sets : (p : Parts) (o : Option Format) (tag : ℕ) (value : List ℕ) → judge_open p o (SetField tag value) ≡ Stored →
-  field_fault tag value ≡ None
+    field_fault tag value ≡ None
 sets p None tag value stored = absurd (needs_format p None (SetField tag value) refl stored refl)
 sets p (Some f) tag value stored = no_fault (field_fault tag value) stored
 
@@ -73,17 +74,17 @@ pub opened_once : (p : Parts) (f : Format) (history : List ℕ) → judge p (Ope
 opened_once p f history stored = (opens p p.format f history (stored_when_open p (Open f history) stored)).0
 
 pub opened_by_allowed : (p : Parts) (f : Format) (history : List ℕ) → judge p (Open f history) ≡ Stored →
-  is_format f ≡ true
+    is_format f ≡ true
 opened_by_allowed p f history stored = (opens p p.format f history (stored_when_open p (Open f history) stored)).1
 
-pub marked_with_room : (p : Parts) (id frame : ℕ) → judge p (Mark id frame) ≡ Stored → length p.markers < 1024
+pub marked_with_room : (p : Parts) (id frame : ℕ) → judge p (Mark id frame) ≡ Stored → length p.markers < most_markers
 marked_with_room p id frame stored = marks p p.format id frame (stored_when_open p (Mark id frame) stored)
 
 pub set_without_fault : (p : Parts) (tag : ℕ) (value : List ℕ) → judge p (SetField tag value) ≡ Stored →
-  field_fault tag value ≡ None
+    field_fault tag value ≡ None
 set_without_fault p tag value stored = sets p p.format tag value (stored_when_open p (SetField tag value) stored)
 
-pub history_fits : (f : Format) (history : List ℕ) → IsTrue (is_request (Open f history)) → length history ≤ 4096
+pub history_fits : (f : Format) (history : List ℕ) → IsTrue (is_request (Open f history)) → length history ≤ longest_history
 history_fits f history fits = grind (arith, nat_tests, fits)
 
 -- a value that is there exactly under a fact is there where the fact holds
@@ -93,7 +94,7 @@ some_where (Some x) P v some holds = ap Some some.1
 
 -- a request that is stored leaves a sound take sound
 pub IsSound-parts_with : (p : Parts) (r : Request) → IsSound p → judge p r ≡ Stored → IsTrue (is_request r) →
-  p.samples_len + samples_in r ≤ 2 ^ 62 → AreFields (parts_with p r).fields → IsSound (parts_with p r)
+    p.samples_len + samples_in r ≤ largest → AreFields (parts_with p r).fields → IsSound (parts_with p r)
 IsSound-parts_with p (Open f history) sound stored fits bound widths = record {
   format = opened_by_allowed p f history stored;
   fields = sound.fields;
@@ -117,7 +118,7 @@ IsSound-parts_with p (Mark id frame) sound stored fits bound widths = record {
   samples = sound.samples;
   markers = let few = marked_with_room p id frame stored in omega (arith, length-append p.markers ((id, frame) ∷ []));
   unopened = λ none. absurd
-    (needs_format p p.format (Mark id frame) refl (stored_when_open p (Mark id frame) stored) none);
+      (needs_format p p.format (Mark id frame) refl (stored_when_open p (Mark id frame) stored) none);
 }
 IsSound-parts_with p (SetField tag value) sound stored fits bound widths = record {
   format = sound.format;
@@ -126,7 +127,7 @@ IsSound-parts_with p (SetField tag value) sound stored fits bound widths = recor
   samples = sound.samples;
   markers = sound.markers;
   unopened = λ none. absurd
-    (needs_format p p.format (SetField tag value) refl (stored_when_open p (SetField tag value) stored) none);
+      (needs_format p p.format (SetField tag value) refl (stored_when_open p (SetField tag value) stored) none);
 }
 IsSound-parts_with p (Close total) sound stored fits bound widths = record {
   format = sound.format;
@@ -151,4 +152,4 @@ stored_take v t u stored = rw stored refl
 pub FollowsTakes-parts_with : (p : Parts) (r : Request) → judge p r ≡ Stored → FollowsTakes p r (parts_with p r)
 FollowsTakes-parts_with p r stored t same =
     ap parts (stored_take (judge (parts t) r) t (with_request t r) (rw same stored)) ∙ parts-with_request t r
-      ∙ ap (λ (q : Parts). parts_with q r) same
+    ∙ ap (λ (q : Parts). parts_with q r) same

@@ -16,9 +16,9 @@ meaning (SetFieldRef tag value) = SetField tag value.now
 meaning (CloseTake frames) = Close frames
 
 -- the bytes that a request carries beside its numbers
-abbrev pub bytes_of : Request → List ℕ
-bytes_of (Open f history) = history
-bytes_of (Block bytes) = bytes
-bytes_of (Mark id frame) = []
-bytes_of (SetField tag value) = value
-bytes_of (Close total) = []
+abbrev pub carried_bytes : Request → List ℕ
+carried_bytes (Open f history) = history
+carried_bytes (Block bytes) = bytes
+carried_bytes (Mark id frame) = []
+carried_bytes (SetField tag value) = value
+carried_bytes (Close total) = []

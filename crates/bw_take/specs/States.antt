@@ -1,6 +1,7 @@
 -- What is kept of a take in memory.
-use Rattle.std.specs.Prelude.{◌≡◌, ℕ, ◌+◌, ◌^◌, ◌≤◌, Some, None, IfSome, IsTrue, true, [], ◌∷◌}
+use Rattle.std.specs.Prelude.{◌≡◌, ℕ, ◌+◌, ◌≤◌, Some, None, IfSome, IsTrue, true, [], ◌∷◌}
 use Rattle.std.specs.Prelude.{◌++◌, length}
+use Rattle.bw_model.specs.Limits.{longest_history, most_markers, largest}
 use Rattle.bw_model.specs.Take.{Take, Parts, Request, Open, Block, Mark, SetField, Close, new_take}
 use Rattle.bw_model.specs.Take.{parts, after, is_format, with_field, AreFields}
 
@@ -14,9 +15,9 @@ pub record State : Type 0 where
 pub record IsSound (p : Parts) : Type 0 where
   pub format : IfSome p.format (λ f. IsTrue (is_format f))
   pub fields : AreFields p.fields
-  pub history : length p.history ≤ 4096
-  pub samples : p.samples_len ≤ 2 ^ 62
-  pub markers : length p.markers ≤ 1024
+  pub history : length p.history ≤ longest_history
+  pub samples : p.samples_len ≤ largest
+  pub markers : length p.markers ≤ most_markers
   pub unopened : p.format ≡ None → p ≡ parts (new_take p.taken)
 
 -- how many bytes of data a request adds

@@ -3,7 +3,7 @@ ghost use Rattle.std.specs.Prelude.{◌≡◌, ◌%◌, ◌==◌, Some, None, is
 ghost use Rattle.std.specs.List.{list_all, list_any};
 ghost use Rattle.bw_model.specs.Take.{judge as verdict_on, judge_open as judged, is_history_byte as is_byte_of_history, block_align as block_align_of, field_fault, Format, Mark};
 ghost use Rattle.bw_take.specs.Requests.{meaning};
-ghost use Rattle.bw_take.specs.Verdicts.{verdict_of};
+ghost use Rattle.bw_take.specs.Verdicts.{verdict_meaning};
 
 use crate::request::RequestRef;
 use crate::state::TakeState;
@@ -16,7 +16,7 @@ const MARKERS_MAX: usize = 1024;
 /// The verdict on a request: the first case that holds, without memory from an allocator.
 #[tactic(auto, unfolding(bw_model::specs::Take::judge))]
 pub fn judge(state: &TakeState, request: &RequestRef<'_>) -> Verdict
-    ensures { verdict_of result ≡ verdict_on state.now.parts (meaning request.now) }
+    ensures { verdict_meaning result ≡ verdict_on state.now.parts (meaning request.now) }
 {
     if state.is_closed() {
         return Verdict::Closed;
@@ -29,7 +29,7 @@ pub fn judge(state: &TakeState, request: &RequestRef<'_>) -> Verdict
 
 /// The verdict where the take isn't opened.
 fn judge_unopened(state: &TakeState, request: &RequestRef<'_>) -> Verdict
-    ensures { verdict_of result ≡ judged state.now.parts None (meaning request.now) }
+    ensures { verdict_meaning result ≡ judged state.now.parts None (meaning request.now) }
 {
     let RequestRef::OpenTake {
         rate,
@@ -51,7 +51,7 @@ fn judge_unopened(state: &TakeState, request: &RequestRef<'_>) -> Verdict
 
 /// The verdict where the take is open.
 fn judge_opened(state: &TakeState, format: Fmt, request: &RequestRef<'_>) -> Verdict
-    ensures { verdict_of result ≡ judged state.now.parts (Some format) (meaning request.now) }
+    ensures { verdict_meaning result ≡ judged state.now.parts (Some format) (meaning request.now) }
 {
     match *request {
         RequestRef::OpenTake { .. } => Verdict::AlreadyOpen,
@@ -74,7 +74,7 @@ fn has_whole_frames(format: Fmt, bytes: &[u8]) -> bool
 
 /// The verdict on a marker where the take is open.
 fn judge_mark(state: &TakeState, id: u32, frame: u32) -> Verdict
-    ensures { (f : Format) → verdict_of result ≡ judged state.now.parts (Some f) (Mark id frame) }
+    ensures { (f : Format) → verdict_meaning result ≡ judged state.now.parts (Some f) (Mark id frame) }
 {
     let markers = state.markers();
     if u64::from(frame) > state.frames() {

@@ -2,6 +2,7 @@
 ghost use Rattle.std.specs.Prelude.{◌≡◌, ◌≤◌, IsTrue, length};
 ghost use Rattle.std.specs.List.{list_all};
 ghost use Rattle.std.specs.Option.{SomeIff};
+ghost use Rattle.bw_model.specs.Limits.{longest_name};
 ghost use Rattle.bw_model.specs.Wire.{is_name, is_name_byte as is_byte_of_name};
 
 use arrayvec::ArrayVec;
@@ -48,7 +49,7 @@ impl Name {
         ensures value { result.now ≡ self.now }
         ensures name { IsTrue (is_name result.now) }
         ensures no_shorter { 1 ≤ length result.now }
-        ensures no_longer { length result.now ≤ 32 }
+        ensures no_longer { length result.now ≤ longest_name }
     {
         self.bytes.as_slice()
     }

@@ -1,11 +1,19 @@
 //! Requests on a take, borrowed and owned.
 ghost use Rattle.std.specs.Prelude.{◌≡◌, ◌<◌, ◌≤◌, ◌&&◌, nat_le, length, IsTrue, IfOk, OnErr};
+ghost use Rattle.bw_model.specs.Limits.{longest_block};
 ghost use Rattle.bw_model.specs.Wire.{is_request, are_bytes};
-ghost use Rattle.bw_take.specs.Requests.{meaning, bytes_of};
+ghost use Rattle.bw_take.specs.Requests.{meaning, carried_bytes};
 ghost use Rattle.bw_take.specs.States.{samples_in};
 
 use std::alloc::{AllocError, Global};
 use std::marker::Model;
+
+/// The longest coding history, block of samples and value of a field that a message carries.
+const LONGEST_HISTORY: usize = 4096;
+
+const LONGEST_BLOCK: usize = 32_768;
+
+const LONGEST_VALUE: usize = 256;
 
 /// A request that borrows its bytes.
 #[derive(Clone, Copy, Debug, PartialEq, Eq)]
@@ -42,7 +50,7 @@ impl RequestRef<'_> {
     /// a value of at most 256.
     pub fn fits(&self) -> bool
         ensures value { result ≡ is_request (meaning self.now) }
-        ensures samples { IsTrue result → samples_in (meaning self.now) ≤ 32768 }
+        ensures samples { IsTrue result → samples_in (meaning self.now) ≤ longest_block }
     {
         // The numbers are bound, and not left out, so that their types' ranges are known.
         match *self {
@@ -51,13 +59,13 @@ impl RequestRef<'_> {
                 channels: _channels,
                 bits: _bits,
                 history,
-            } => has_at_most(history, 4096),
-            RequestRef::Block { bytes } => !bytes.is_empty() && has_at_most(bytes, 32_768),
+            } => has_at_most(history, LONGEST_HISTORY),
+            RequestRef::Block { bytes } => !bytes.is_empty() && has_at_most(bytes, LONGEST_BLOCK),
             RequestRef::Mark {
                 id: _id,
                 frame: _frame,
             } => true,
-            RequestRef::SetField { tag: _tag, value } => has_at_most(value, 256),
+            RequestRef::SetField { tag: _tag, value } => has_at_most(value, LONGEST_VALUE),
             RequestRef::CloseTake { frames: _frames } => true,
         }
     }
@@ -69,7 +77,7 @@ impl RequestRef<'_> {
     pub fn to_request(&self, alloc: Global) -> Result<Request, AllocError>
         requires { IsTrue (is_request (meaning self.now)) }
         ensures ok { IfOk result (λ r. r ≡ meaning self.now) }
-        ensures err { OnErr result (0 < length (bytes_of (meaning self.now))) }
+        ensures err { OnErr result (0 < length (carried_bytes (meaning self.now))) }
     {
         let owned = match *self {
             RequestRef::OpenTake {
@@ -130,6 +138,7 @@ enum Owned {
 impl Model for Request {
     ghost use Rattle.std.specs.Prelude.{IsTrue};
     ghost use Rattle.bw_model.specs.Take.{Request as Requested};
+    ghost use Rattle.bw_model.specs.Limits.{longest_block};
     ghost use Rattle.bw_model.specs.Wire.{is_request};
     ghost use Rattle.bw_take.specs.Owned.{owned_meaning};
 

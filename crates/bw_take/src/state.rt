@@ -1,5 +1,6 @@
 //! What is kept of a take in memory: everything but its data.
-ghost use Rattle.std.specs.Prelude.{◌≡◌, ◌+◌, ◌^◌, ◌≤◌, None, IsSome, IfSome, IsTrue, IsOk, OnOk, OnErr, true, false, length};
+ghost use Rattle.std.specs.Prelude.{◌≡◌, ◌+◌, ◌≤◌, None, IsSome, IfSome, IsTrue, IsOk, OnOk, OnErr, true, false, length};
+ghost use Rattle.bw_model.specs.Limits.{window, longest_history, most_markers, largest};
 ghost use Rattle.bw_model.specs.Take.{Stored, is_format, judge as verdict_on, frames as frames_of, new_take, parts as parts_of_take, AreFields};
 ghost use Rattle.bw_model.specs.Wire.{is_request};
 ghost use Rattle.bw_take.specs.Requests.{meaning};
@@ -31,11 +32,11 @@ impl Model for TakeState {
 
     ghost Value = { State };
 
-    ghost use Rattle.bw_take.specs.Kept.{state_of, IsKept};
+    ghost use Rattle.bw_take.specs.Kept.{state_of, IsTakeState};
 
     ghost view = { state_of };
 
-    ghost invariant = { IsKept };
+    ghost invariant = { IsTakeState };
 }
 
 impl TakeState {
@@ -83,7 +84,7 @@ impl TakeState {
     /// The coding history.
     pub fn history(&self) -> &[u8]
         ensures value { result.now ≡ self.now.parts.history }
-        ensures range { length result.now ≤ 4096 }
+        ensures range { length result.now ≤ longest_history }
     {
         self.history.as_slice()
     }
@@ -91,7 +92,7 @@ impl TakeState {
     /// How many bytes of data the take has.
     pub fn data_len(&self) -> u64
         ensures value { result ≡ self.now.parts.samples_len }
-        ensures range { result ≤ 2 ^ 62 }
+        ensures range { result ≤ largest }
         ensures unopened { self.now.parts.format ≡ None → result ≡ 0 }
     {
         self.data_len
@@ -110,7 +111,7 @@ impl TakeState {
     /// The cue points, in the order in which they came.
     pub fn markers(&self) -> &[CuePoint]
         ensures value { result.now ≡ self.now.parts.markers }
-        ensures range { length result.now ≤ 1024 }
+        ensures range { length result.now ≤ most_markers }
     {
         self.markers.as_slice()
     }
@@ -142,7 +143,7 @@ impl TakeState {
     /// # Errors
     /// `AllocError` where a growth was refused: nothing changed.
     pub fn reserve_for(&mut self, requests: usize) -> Result<(), AllocError>
-        requires { requests ≤ 16 }
+        requires { requests ≤ window }
         ensures parts { self.new.parts ≡ self.old.parts }
         ensures ok { OnOk result (requests ≤ self.new.room) }
         ensures kept { self.old.room ≤ self.new.room }
@@ -165,7 +166,7 @@ impl TakeState {
         requires fits { IsTrue (is_request (meaning request.now)) }
         requires stored { verdict_on self.old.parts (meaning request.now) ≡ Stored }
         requires room { 1 ≤ self.old.room }
-        requires samples { self.old.parts.samples_len + samples_in (meaning request.now) ≤ 2 ^ 62 }
+        requires samples { self.old.parts.samples_len + samples_in (meaning request.now) ≤ largest }
         ensures parts { self.new.parts ≡ parts_with self.old.parts (meaning request.now) }
         ensures takes { FollowsTakes self.old.parts (meaning request.now) self.new.parts }
         ensures room { self.new.room + 1 ≡ self.old.room }

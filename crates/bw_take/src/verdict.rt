@@ -2,7 +2,7 @@
 ghost use Rattle.std.specs.Prelude.{◌≡◌, ◌≤◌, ◌↔◌, IsTrue, Some};
 ghost use Rattle.bw_model.specs.Take.{Stored, is_stored as is_stored_verdict};
 ghost use Rattle.bw_model.specs.Replies.{verdict_code};
-ghost use Rattle.bw_take.specs.Verdicts.{verdict_of, Decodes, unknown_text};
+ghost use Rattle.bw_take.specs.Verdicts.{verdict_meaning, DecodesVerdict, unknown_text};
 
 use std::error::Error;
 use std::fmt;
@@ -39,7 +39,7 @@ pub enum Verdict {
 impl Verdict {
     /// The byte that tells it in a reply.
     pub fn code(self) -> u8
-        ensures value { result ≡ verdict_code (verdict_of self) }
+        ensures value { result ≡ verdict_code (verdict_meaning self) }
         ensures range { result ≤ 11 }
     {
         self as u8
@@ -47,15 +47,15 @@ impl Verdict {
 
     /// Whether the request is part of the take.
     pub fn is_stored(self) -> bool
-        ensures value { result ≡ is_stored_verdict (verdict_of self) }
-        ensures stored { IsTrue result ↔ (verdict_of self ≡ Stored) }
+        ensures value { result ≡ is_stored_verdict (verdict_meaning self) }
+        ensures stored { IsTrue result ↔ (verdict_meaning self ≡ Stored) }
     {
         self == Verdict::Stored
     }
 }
 
 impl From<Verdict> for u8 {
-    ghost from_gives = { λ verdict code. code ≡ verdict_code (verdict_of verdict) };
+    ghost from_gives = { λ verdict code. code ≡ verdict_code (verdict_meaning verdict) };
 
     fn from(verdict: Verdict) -> u8 {
         verdict.code()
@@ -69,7 +69,7 @@ pub struct UnknownVerdict(pub u8);
 impl TryFrom<u8> for Verdict {
     type Error = UnknownVerdict;
 
-    ghost try_from_gives = { Decodes };
+    ghost try_from_gives = { DecodesVerdict };
 
     fn try_from(code: u8) -> Result<Verdict, UnknownVerdict> {
         match code {

@@ -2,11 +2,10 @@ pub mod BodyLaws
 pub mod Decoding
 pub mod Encoding
 pub mod ReplyDecoding
-pub mod Fronts
+pub mod FrameFronts
 pub mod BufferLaws
 pub mod FramerLaws
 pub mod FramerSteps
 pub mod ReplyFronts
-pub mod ReplySteps
 pub mod RunLaws
-pub mod ReplyRunLaws
+pub mod StreamRuns

@@ -9,18 +9,18 @@ use Rattle.bw_model.specs.Wire.{is_number_bad, name_in, number_in, payload_in}
 use Rattle.bw_model.specs.Replies.{Reply, decoded_reply, judged_by, noticed_by, refused_by}
 use Rattle.bw_model.specs.Stream.{longest_reply, framing_faults, before, first_reply}
 use Rattle.bw_model.proofs.FrameLaws.{first_by, first_reply-by}
-use Rattle.bw_wire.specs.Fronts.{HasFront}
+use Rattle.bw_wire.specs.Framings.{HasFront}
 
 -- a fault of the framing is the fault of the bytes
 pub first_reply-framing : (bytes : List ℕ) (reason : Reason) →
-  first_that_holds (framing_faults longest_reply bytes) ≡ Some reason → first_reply bytes ≡ Err reason
+    first_that_holds (framing_faults longest_reply bytes) ≡ Some reason → first_reply bytes ≡ Err reason
 first_reply-framing bytes reason e =
     first_reply-by bytes
     ∙ ap (first_by (drop (4 + u32_at bytes 0) bytes) (decoded_reply (take (u32_at bytes 0) (drop 4 bytes)))) e
 
 -- behind sound framing the body decides
 pub first_reply-front : (bytes : List ℕ) (len : ℕ) (read : Result Reply Reason) → HasFront longest_reply bytes len →
-  read ≡ decoded_reply (take (4 + len - 4) (drop 4 bytes))
+    read ≡ decoded_reply (take (4 + len - 4) (drop 4 bytes))
     → first_reply bytes ≡ before (drop (4 + len) bytes) read
 first_reply-front bytes len read h e =
     first_reply-by bytes
@@ -30,7 +30,7 @@ first_reply-front bytes len read h e =
     ∙ ap (before (drop (4 + len) bytes)) (sym e)
 
 addressed_not_cut : (a b : Bool) (o : Option Reply) →
-  cond a (Err Name) (cond b (Err Number) (ok_or o Payload)) ≡ Err Cut → ⊥
+    cond a (Err Name) (cond b (Err Number) (ok_or o Payload)) ≡ Err Cut → ⊥
 addressed_not_cut true b o e = cc
 addressed_not_cut false true o e = cc
 addressed_not_cut false false None e = cc
@@ -41,7 +41,7 @@ refused_not_cut None e = cc
 refused_not_cut (Some r) e = cc
 
 by_kind_not_cut : (a b c : Bool) (x y z : Result Reply Reason) → (x ≡ Err Cut → ⊥) → (y ≡ Err Cut → ⊥) →
-  (z ≡ Err Cut → ⊥) → cond a x (cond b y (cond c z (Err Kind))) ≡ Err Cut → ⊥
+    (z ≡ Err Cut → ⊥) → cond a x (cond b y (cond c z (Err Kind))) ≡ Err Cut → ⊥
 by_kind_not_cut true b c x y z hx hy hz e = hx e
 by_kind_not_cut false true c x y z hx hy hz e = hy e
 by_kind_not_cut false false true x y z hx hy hz e = hz e
@@ -54,14 +54,15 @@ reply-not_cut [] e = cc
 reply-not_cut (k ∷ rest) e =
     by_kind_not_cut (k == 0x81) (k == 0x82) (k == 0x83) _ _ _
     (addressed_not_cut (is_name_bad rest) (is_number_bad (last_number Second) rest)
-      (judged_by (name_in rest) (number_in rest) (payload_in rest)))
+    (judged_by (name_in rest) (number_in rest) (payload_in rest)))
     (addressed_not_cut (is_name_bad rest) (is_number_bad (last_number Second) rest)
-      (noticed_by (name_in rest) (number_in rest) (payload_in rest)))
+    (noticed_by (name_in rest) (number_in rest) (payload_in rest)))
     (refused_not_cut (refused_by rest)) e
 
 pub bad_reply_front : (bytes : List ℕ) (len : ℕ) (reason : Reason) → HasFront longest_reply bytes len →
-  Err reason ≡ decoded_reply (take (4 + len - 4) (drop 4 bytes))
+    Err reason ≡ decoded_reply (take (4 + len - 4) (drop 4 bytes))
     → (first_reply bytes ≡ Err reason) × (reason ≢ Cut)
-bad_reply_front bytes len reason h e =
-    (first_reply-front bytes len (Err reason) h e,
-      λ cut. reply-not_cut (take (4 + len - 4) (drop 4 bytes)) (sym e ∙ ap Err cut))
+bad_reply_front bytes len reason h e = (
+  first_reply-front bytes len (Err reason) h e,
+  λ cut. reply-not_cut (take (4 + len - 4) (drop 4 bytes)) (sym e ∙ ap Err cut),
+)

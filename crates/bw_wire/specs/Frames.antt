@@ -9,7 +9,7 @@ use Rattle.bw_wire.specs.declared.message.Ask.{Ask}
 use Rattle.bw_wire.specs.declared.message.Frame.{Frame}
 use Rattle.bw_wire.specs.declared.message.Frame.TheVariants as frames
 use Rattle.bw_wire.specs.declared.reason.Reason.{Reason}
-use Rattle.bw_wire.specs.Reasons.{reason_of}
+use Rattle.bw_wire.specs.Reasons.{reason_meaning}
 use Rattle.bw_wire.specs.Bodies.{body_name, body_number, message_in}
 
 -- the message that a message's body spells
@@ -31,11 +31,11 @@ frame_of frames.Bye = model.Bye
 -- what a decoder answers
 abbrev pub frame_read : Result Frame Reason → Result model.Frame model.Reason
 frame_read (Ok f) = Ok (frame_of f)
-frame_read (Err reason) = Err (reason_of reason)
+frame_read (Err reason) = Err (reason_meaning reason)
 
 abbrev pub request_read : Result RequestRef Reason → Result take.Request model.Reason
 request_read (Ok r) = Ok (meaning r)
-request_read (Err reason) = Err (reason_of reason)
+request_read (Err reason) = Err (reason_meaning reason)
 
 -- a message's body is the whole of these bytes
 abbrev pub Borrows : Frame → List ℕ → Type 0

@@ -1,9 +1,22 @@
 -- Bytes that are held in a block of memory.
-use Rattle.std.specs.Prelude.{ℕ, ◌+◌, ◌*◌, List, [], ◌++◌, length, drop, max, nat_le, if◌then◌else◌}
+use Rattle.std.specs.Prelude.{ℕ, ◌+◌, ◌*◌, ◌^◌, List, [], ◌++◌, length, drop, max, nat_le, if◌then◌else◌}
+use Rattle.bw_model.specs.Limits.{longest_body}
+
+-- all bytes of a frame but the last, where its body has so many behind their length
+abbrev pub rest_below : ℕ → ℕ
+rest_below longest = longest + 3
 
 -- so many bytes, at most, are left behind the whole frames
 abbrev pub longest_rest : ℕ
-longest_rest = 32809
+longest_rest = rest_below longest_body
+
+-- a stream has at most so many bytes
+abbrev pub longest_stream : ℕ
+longest_stream = 2 ^ 62
+
+-- pieces of at most so many bytes leave no block that is too large to be kept
+abbrev pub longest_piece : ℕ
+longest_piece = 65536
 
 -- a larger block isn't kept for a further piece
 abbrev pub largest_kept : ℕ

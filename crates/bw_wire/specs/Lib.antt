@@ -6,10 +6,12 @@ pub mod Addresses
 pub mod Notices
 pub mod Replies
 pub mod Encoded
-pub mod Fronts
+pub mod Framings
+pub mod FrameFronts
 pub mod ReplyFronts
 pub mod Held
 pub mod Blocks
+pub mod Codecs
 pub mod Pending
 pub mod Phases
 pub mod Telling

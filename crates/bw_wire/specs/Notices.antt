@@ -6,17 +6,17 @@ use Rattle.bw_wire.specs.declared.reply.Notice.{Notice}
 use Rattle.bw_wire.specs.declared.reply.Notice.TheVariants.{Held, TooFar, Conflict, TableFull}
 use Rattle.bw_wire.specs.declared.reply.Notice.TheVariants.{NoRoom, DelayedStore, Next}
 
-abbrev pub notice_of : Notice → model.Notice
-notice_of Held = model.Held
-notice_of TooFar = model.TooFar
-notice_of Conflict = model.Conflict
-notice_of TableFull = model.TableFull
-notice_of NoRoom = model.NoRoom
-notice_of DelayedStore = model.DelayedStore
-notice_of Next = model.Next
+abbrev pub notice_meaning : Notice → model.Notice
+notice_meaning Held = model.Held
+notice_meaning TooFar = model.TooFar
+notice_meaning Conflict = model.Conflict
+notice_meaning TableFull = model.TableFull
+notice_meaning NoRoom = model.NoRoom
+notice_meaning DelayedStore = model.DelayedStore
+notice_meaning Next = model.Next
 
 -- the notice with this code, or that there is none
 abbrev pub DecodesNotice : ℕ → Result Notice UnknownCode → Type 0
 DecodesNotice code r =
-    MatchResult r (λ notice. model.notice_of code ≡ Some (notice_of notice))
-      (λ e. (model.notice_of code ≡ None) × (e.0 ≡ code))
+    MatchResult r (λ notice. model.notice_of code ≡ Some (notice_meaning notice))
+    (λ e. (model.notice_of code ≡ None) × (e.0 ≡ code))

@@ -1,9 +1,8 @@
 -- What a framer keeps of a stream, what it tells next, and what it then keeps.
-use Rattle.std.specs.Prelude.{ℕ, ◌+◌, ◌-◌, ◌≤◌, Option, Some, None, Result, Ok, Err, List, [], ◌∷◌}
-use Rattle.std.specs.Prelude.{◌++◌, length}
-use Rattle.bw_model.specs.Wire.{Second, Frame, Says, Asks, Bye, Reason, Cut}
-use Rattle.bw_model.specs.Replies.{Reply}
-use Rattle.bw_model.specs.Stream.{first_frame, first_reply}
+use Rattle.std.specs.Prelude.{ℕ, ◌+◌, ◌-◌, ◌≤◌, Bool, true, false, Option, Some, None, Result, Ok, Err}
+use Rattle.std.specs.Prelude.{IsTrue, List, [], ◌∷◌, ◌++◌, length}
+use Rattle.bw_model.specs.Wire.{Reason, Cut}
+use Rattle.bw_wire.specs.Codecs.{Codec}
 use Rattle.bw_wire.specs.Held.{largest_kept, room_for, room_kept}
 
 pub data Phase : Type 0 where
@@ -58,61 +57,50 @@ abbrev pub compacted : Pending → Pending
 compacted p = record p { held = length p.bytes; room = room_kept p.room }
 
 -- at the end, with all bytes and the block let go
-abbrev pub ended : Pending → ℕ → Phase → Pending
-ended p used phase =
+abbrev pub emptied : Pending → ℕ → Phase → Pending
+emptied p used phase =
     record { bytes = []; used = used; fed = p.fed; held = 0; room = 0; phase = phase }
 
-abbrev pub after_first : Pending → Result (Frame × List ℕ) Reason → Told Frame × Pending
-after_first p (Ok (Says m, more)) = (Gives (Says m), took p more)
-after_first p (Ok (Asks name number, more)) = (Gives (Asks name number), took p more)
-after_first p (Ok (Bye, more)) = (Gives Bye, ended p (p.used + (length p.bytes - length more)) Left)
-after_first p (Err Cut) = (Nothing, compacted p)
-after_first p (Err reason) = (Fails reason p.used, ended p p.used (Failed reason))
+-- a value is given; where it is the last, all is let go
+abbrev pub next_value : {X : Type 0} → Bool → Pending → X → List ℕ → Told X × Pending
+next_value false p x more = (Gives x, took p more)
+next_value true p x more =
+    (Gives x, emptied p (p.used + (length p.bytes - length more)) Left)
 
-abbrev pub after_in : Phase → Pending → Told Frame × Pending
-after_in Reading p = after_first p (first_frame Second p.bytes)
-after_in Left p = (Gives Bye, p)
-after_in (Failed reason) p = (Fails reason p.used, p)
+-- by what the bytes begin with
+abbrev pub next_read :
+    {X : Type 0} → Codec X → Pending → Result (X × List ℕ) Reason → Told X × Pending
+next_read codec p (Ok (x, more)) = next_value (codec.is_last x) p x more
+next_read codec p (Err Cut) = (Nothing, compacted p)
+next_read codec p (Err reason) = (Fails reason p.used, emptied p p.used (Failed reason))
+
+-- the last value is told again and again
+abbrev pub told_again : {X : Type 0} → Option X → Told X
+told_again None = Nothing
+told_again (Some x) = Gives x
+
+abbrev pub next_in : {X : Type 0} → Codec X → Phase → Pending → Told X × Pending
+next_in codec Reading p = next_read codec p (codec.first p.bytes)
+next_in codec Left p = (told_again codec.last, p)
+next_in codec (Failed reason) p = (Fails reason p.used, p)
 
 -- what a framer tells next, and what it then keeps
-unfoldable pub after : Pending → Told Frame × Pending
-after p = after_in p.phase p
+unfoldable pub next_of : {X : Type 0} → Codec X → Pending → Told X × Pending
+next_of codec p = next_in codec p.phase p
 
 -- the block isn't too large to be kept for a further piece
-abbrev pub IsKept : Pending → Type 0
-IsKept p = p.room ≤ largest_kept
+abbrev pub HasSmallBlock : Pending → Type 0
+HasSmallBlock p = p.room ≤ largest_kept
 
 -- at most so many bytes are held, in a block that may be kept
 abbrev pub KeepsAtMost : ℕ → Pending → Type 0
-KeepsAtMost n p = (p.held ≤ n) × IsKept p
+KeepsAtMost n p = (p.held ≤ n) × HasSmallBlock p
 
--- where no message and no ask was told, so little is held
-abbrev pub HoldsAtMost : ℕ → Told Frame × Pending → Type 0
-HoldsAtMost n (Nothing, p) = KeepsAtMost n p
-HoldsAtMost n (Gives (Says m), p) = Unit {0}
-HoldsAtMost n (Gives (Asks name number), p) = Unit {0}
-HoldsAtMost n (Gives Bye, p) = KeepsAtMost n p
-HoldsAtMost n (Fails reason offset, p) = KeepsAtMost n p
-
-abbrev pub reply_first : Pending → Result (Reply × List ℕ) Reason → Told Reply × Pending
-reply_first p (Ok (r, more)) = (Gives r, took p more)
-reply_first p (Err Cut) = (Nothing, compacted p)
-reply_first p (Err reason) = (Fails reason p.used, ended p p.used (Failed reason))
-
-abbrev pub reply_in : Phase → Pending → Told Reply × Pending
-reply_in Reading p = reply_first p (first_reply p.bytes)
-reply_in Left p = (Nothing, p)
-reply_in (Failed reason) p = (Fails reason p.used, p)
-
--- what a framer of replies tells next, and what it then keeps
-unfoldable pub after_reply : Pending → Told Reply × Pending
-after_reply p = reply_in p.phase p
-
--- where no reply was told, so little is held
-abbrev pub RepliesHoldAtMost : ℕ → Told Reply × Pending → Type 0
-RepliesHoldAtMost n (Nothing, p) = KeepsAtMost n p
-RepliesHoldAtMost n (Gives r, p) = Unit {0}
-RepliesHoldAtMost n (Fails reason offset, p) = KeepsAtMost n p
+-- where no value was told that others may follow, at most a part of a frame is held
+abbrev pub HoldsLittle : {X : Type 0} → Codec X → Told X × Pending → Type 0
+HoldsLittle codec (Nothing, p) = KeepsAtMost codec.most_left p
+HoldsLittle codec (Gives x, p) = IsTrue (codec.is_last x) → KeepsAtMost codec.most_left p
+HoldsLittle codec (Fails reason offset, p) = KeepsAtMost codec.most_left p
 
 -- nothing is read anymore
 abbrev pub IsOverIn : Phase → Type 0
@@ -123,15 +111,16 @@ IsOverIn (Failed reason) = Unit {0}
 abbrev pub IsOver : Pending → Type 0
 IsOver p = IsOverIn p.phase
 
--- the fault at the input's end, with its place
-abbrev pub cut_at : List ℕ → ℕ → Option (Reason × ℕ)
-cut_at [] used = None
-cut_at (b ∷ bs) used = Some (Cut, used)
+-- the fault where the input ends with these bytes, with its place
+abbrev pub cut_off : List ℕ → ℕ → Option (Reason × ℕ)
+cut_off [] used = None
+cut_off (b ∷ bs) used = Some (Cut, used)
 
 abbrev pub end_in : Phase → Pending → Option (Reason × ℕ)
-end_in Reading p = cut_at p.bytes p.used
+end_in Reading p = cut_off p.bytes p.used
 end_in Left p = None
 end_in (Failed reason) p = Some (reason, p.used)
 
+-- the fault at the input's end, with its place
 abbrev pub end_fault : Pending → Option (Reason × ℕ)
 end_fault p = end_in p.phase p

@@ -1,16 +1,16 @@
 -- The parts of a framer.
-use Rattle.std.specs.Prelude.{◌≡◌, ℕ, ◌+◌, ◌-◌, ◌^◌, ◌≤◌, length, drop, Option, Some, None}
+use Rattle.std.specs.Prelude.{◌≡◌, ℕ, ◌+◌, ◌-◌, ◌≤◌, length, drop, Option, Some, None}
 use Rattle.bw_wire.specs.declared.framer.Phase.{Phase}
 use Rattle.bw_wire.specs.declared.framer.Phase.TheVariants.{Reading, Left, Failed}
 use Rattle.bw_wire.specs.declared.reason.Reason.{Reason}
-use Rattle.bw_wire.specs.Held.{Held, nothing_held}
+use Rattle.bw_wire.specs.Held.{Held, longest_stream, nothing_held}
 use Rattle.bw_wire.specs.Pending as pending
-use Rattle.bw_wire.specs.Reasons.{reason_of}
+use Rattle.bw_wire.specs.Reasons.{reason_meaning}
 
 abbrev pub phase_of : Phase → pending.Phase
 phase_of Reading = pending.Reading
 phase_of Left = pending.Left
-phase_of (Failed reason) = pending.Failed (reason_of reason)
+phase_of (Failed reason) = pending.Failed (reason_meaning reason)
 
 abbrev pub phase_by : Option Reason → Phase
 phase_by None = Reading
@@ -38,5 +38,5 @@ pub record IsFramer (held : Held) (start used fed : ℕ) (phase : Phase) : Type 
   pub within : start ≤ length held.bytes
   pub behind : start ≤ used
   pub counted : used + (length held.bytes - start) ≤ fed
-  pub bounded : fed ≤ 2 ^ 62
+  pub bounded : fed ≤ longest_stream
   pub let_go : LetsGo phase held

@@ -7,19 +7,19 @@ use Rattle.bw_wire.specs.declared.reason.Reason.TheVariants.{Length, Kind, Name,
 use Rattle.bw_wire.specs.declared.reason.Reason.TheVariants.{Cut}
 use Rattle.bw_wire.specs.declared.reason.UnknownCode.{UnknownCode}
 
-abbrev pub reason_of : Reason → model.Reason
-reason_of Length = model.Length
-reason_of Kind = model.Kind
-reason_of Name = model.Name
-reason_of Number = model.Number
-reason_of Payload = model.Payload
-reason_of Cut = model.Cut
+abbrev pub reason_meaning : Reason → model.Reason
+reason_meaning Length = model.Length
+reason_meaning Kind = model.Kind
+reason_meaning Name = model.Name
+reason_meaning Number = model.Number
+reason_meaning Payload = model.Payload
+reason_meaning Cut = model.Cut
 
 -- the reason with this code, or that there is none
 abbrev pub DecodesReason : ℕ → Result Reason UnknownCode → Type 0
 DecodesReason code r =
-    MatchResult r (λ reason. reason_with_code code ≡ Some (reason_of reason))
-      (λ e. (reason_with_code code ≡ None) × (e.0 ≡ code))
+    MatchResult r (λ reason. reason_with_code code ≡ Some (reason_meaning reason))
+    (λ e. (reason_with_code code ≡ None) × (e.0 ≡ code))
 
 -- what is told to people
 abbrev pub reason_text : Reason → List ℕ
@@ -31,5 +31,5 @@ reason_text Payload = codes "a payload of another kind"
 reason_text Cut = codes "cut off"
 
 -- and of a code that no reason has
-abbrev pub unknown_text : UnknownCode → List ℕ
-unknown_text u = decimal u.0 ++ codes " is no code"
+abbrev pub unknown_code_text : UnknownCode → List ℕ
+unknown_code_text u = decimal u.0 ++ codes " is no code"

@@ -1,11 +1,12 @@
 -- What stands at the front of a stream's bytes, where replies are read.
 use Rattle.std.specs.Prelude.{◌≡◌, ◌≢◌, ℕ, ◌+◌, ◌≤◌, Ok, Err, List, length, drop}
 use Rattle.bw_model.specs.Wire.{Cut}
-use Rattle.bw_model.specs.Stream.{first_reply}
+use Rattle.bw_model.specs.Stream.{first_reply, longest_reply}
 use Rattle.bw_wire.specs.declared.reply.Reply.{Reply}
 use Rattle.bw_wire.specs.declared.reply_front.ReplyFront.{ReplyFront}
 use Rattle.bw_wire.specs.declared.reply_front.ReplyFront.TheVariants.{Partial, Bad, Whole}
-use Rattle.bw_wire.specs.Reasons.{reason_of}
+use Rattle.bw_wire.specs.Held.{rest_below}
+use Rattle.bw_wire.specs.Reasons.{reason_meaning}
 use Rattle.bw_wire.specs.Replies.{reply_of}
 
 pub record IsWholeReply (bytes : List ℕ) (reply : Reply) (len : ℕ) : Type 0 where
@@ -13,7 +14,7 @@ pub record IsWholeReply (bytes : List ℕ) (reply : Reply) (len : ℕ) : Type 0 
   pub first : first_reply bytes ≡ Ok (reply_of reply, drop (4 + len) bytes)
 
 abbrev pub IsReplyFront : List ℕ → ReplyFront → Type 0
-IsReplyFront bytes Partial = (first_reply bytes ≡ Err Cut) × (length bytes ≤ 46)
+IsReplyFront bytes Partial = (first_reply bytes ≡ Err Cut) × (length bytes ≤ rest_below longest_reply)
 IsReplyFront bytes (Bad reason) =
-  (first_reply bytes ≡ Err (reason_of reason)) × (reason_of reason ≢ Cut)
+    (first_reply bytes ≡ Err (reason_meaning reason)) × (reason_meaning reason ≢ Cut)
 IsReplyFront bytes (Whole reply len) = IsWholeReply bytes reply len

@@ -1,5 +1,5 @@
 //! Bytes of a stream that are kept, in a block of memory whose size is known.
-ghost use Rattle.std.specs.Prelude.{◌≡◌, ◌+◌, ◌≤◌, ◌<◌, ◌^◌, [], ◌++◌, length, take, drop, vec_len, vec_capacity, IsOk, OnOk, OnErr};
+ghost use Rattle.std.specs.Prelude.{◌≡◌, ◌+◌, ◌≤◌, ◌<◌, [], ◌++◌, length, take, drop, vec_len, vec_capacity, IsOk, OnOk, OnErr};
 
 use std::alloc::{AllocError, Global};
 use std::marker::Model;
@@ -37,7 +37,7 @@ impl Model for Buffer {
 }
 
 impl Buffer {
-    ghost use Rattle.bw_wire.specs.Held.{nothing_held, with_bytes, with_room, without_front};
+    ghost use Rattle.bw_wire.specs.Held.{longest_rest, longest_stream, nothing_held, with_bytes, with_room, without_front};
 
     /// No bytes, and no block.
     pub(crate) fn new(alloc: Global) -> Buffer
@@ -77,7 +77,7 @@ impl Buffer {
     /// # Errors
     /// `AllocError` where memory was refused: nothing changed.
     pub(crate) fn append(&mut self, bytes: &[u8]) -> Result<(), AllocError>
-        requires { length self.old.bytes + length bytes.now ≤ 2 ^ 62 }
+        requires { length self.old.bytes + length bytes.now ≤ longest_stream }
         ensures ok { OnOk result (self.new ≡ with_bytes self.old bytes.now) }
         ensures err { OnErr result (self.new ≡ self.old) }
         ensures room { length self.old.bytes + length bytes.now ≤ self.old.room → IsOk result }
@@ -112,7 +112,7 @@ impl Buffer {
     /// Lets so many bytes at the front go, and with them a block that is too large to be kept.
     pub(crate) fn drop_front(&mut self, count: usize)
         requires within { count ≤ length self.old.bytes }
-        requires short { length self.old.bytes ≤ count + 32809 }
+        requires short { length self.old.bytes ≤ count + longest_rest }
         ensures { self.new ≡ without_front self.old count }
     {
         if self.block.len() > LARGEST_KEPT {

@@ -4,7 +4,7 @@ ghost use Rattle.std.specs.Option.{option_map};
 ghost use Rattle.bw_model.specs.Bytes.{first_that_holds};
 ghost use Rattle.bw_model.specs.Wire.{Second, decoded, decoded_request, body_faults};
 ghost use Rattle.bw_wire.specs.Frames.{frame_read, request_read, Borrows};
-ghost use Rattle.bw_wire.specs.Reasons.{reason_of};
+ghost use Rattle.bw_wire.specs.Reasons.{reason_meaning};
 
 use crate::address::{has_name, has_number, payload};
 use crate::message::{Ask, Frame, Message};
@@ -56,7 +56,7 @@ pub fn decode_request(bytes: &[u8]) -> Result<RequestRef<'_>, Reason>
 
 /// The first reason why the bytes behind a kind byte spell no message or ask of this kind.
 fn fault(kind: u8, rest: &[u8]) -> Option<Reason>
-    ensures { option_map reason_of result ≡ first_that_holds (body_faults Second kind rest.now) }
+    ensures { option_map reason_meaning result ≡ first_that_holds (body_faults Second kind rest.now) }
 {
     if kind < OPEN || kind > ASK {
         return Some(Reason::Kind);

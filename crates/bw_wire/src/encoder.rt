@@ -1,6 +1,7 @@
 //! From a message or an ask to its frame.
 ghost use Rattle.std.specs.Prelude.{◌≡◌, ◌≤◌, ◌+◌, ◌++◌, IsTrue, IfOk, OnOk, length};
 ghost use Rattle.bw_model.specs.Bytes.{le32};
+ghost use Rattle.bw_model.specs.Limits.{longest_block};
 ghost use Rattle.bw_model.specs.Wire.{Second, last_number, Asks, kind as kind_in, payload as payload_in, addressed, is_name, is_request};
 ghost use Rattle.bw_take.specs.Requests.{meaning};
 ghost use Rattle.bw_wire.specs.Encoded.{IsFrameOf, said};
@@ -47,7 +48,7 @@ fn begin(
     number: u32,
     payload_len: usize,
 ) -> Result<Vec<u8>, AllocError>
-    requires { payload_len ≤ 32768 }
+    requires { payload_len ≤ longest_block }
     ensures items { IfOk result (λ v. v.items ≡
         le32 (6 + length name.now + payload_len) ++ addressed kind name.now number) }
     ensures named { OnOk result (IsTrue (is_name name.now)) }
@@ -77,7 +78,7 @@ fn kind(request: &RequestRef<'_>) -> u8
 fn payload_len(request: &RequestRef<'_>) -> usize
     requires { IsTrue (is_request (meaning request.now)) }
     ensures value { result ≡ length (payload_in (meaning request.now)) }
-    ensures range { result ≤ 32768 }
+    ensures range { result ≤ longest_block }
 {
     match request {
         RequestRef::OpenTake { history, .. } => 10 + history.len(),

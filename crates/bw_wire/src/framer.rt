@@ -1,9 +1,9 @@
 //! A stream of frames that comes in pieces.
-ghost use Rattle.std.specs.Prelude.{◌≡◌, ◌+◌, ◌≤◌, ◌^◌, length, IsOk, OnOk, OnErr};
+ghost use Rattle.std.specs.Prelude.{◌≡◌, ◌+◌, ◌≤◌, length, IsOk, OnOk, OnErr};
 
 use crate::buffer::Buffer;
 use crate::fault::WireFault;
-use crate::front::{Front, front_of};
+use crate::frame_front::{FrameFront, frame_front_of};
 use crate::message::{Ask, Frame, Message};
 use crate::reason::Reason;
 use std::alloc::{AllocError, Global};
@@ -31,7 +31,7 @@ pub struct Framer {
 }
 
 impl Model for Framer {
-    ghost use Rattle.std.specs.Prelude.{◌≡◌, ◌≤◌, ◌+◌, ◌^◌, drop, length};
+    ghost use Rattle.std.specs.Prelude.{◌≡◌, ◌≤◌, ◌+◌, drop, length};
     ghost use Rattle.bw_wire.specs.Pending.{Pending};
 
     ghost Value = { Pending };
@@ -47,8 +47,11 @@ impl Framer {
     ghost use Rattle.std.specs.Borrow.{sem};
     ghost use Rattle.std.specs.Io.BufRead.{Rests};
     ghost use Rattle.bw_wire.specs.contracts.framer.Framer.{the_row};
-    ghost use Rattle.bw_wire.specs.Pending.{fresh, with_piece, after, KeepsAtMost, IsKept, HoldsAtMost, end_fault, IsOver};
-    ghost use Rattle.bw_wire.specs.Telling.{told, end_told};
+    ghost use Rattle.bw_wire.specs.Codecs.{message_codec};
+    ghost use Rattle.bw_wire.specs.Frames.{frame_of};
+    ghost use Rattle.bw_wire.specs.Held.{longest_rest, longest_piece, longest_stream};
+    ghost use Rattle.bw_wire.specs.Pending.{fresh, with_piece, next_of, KeepsAtMost, HasSmallBlock, HoldsLittle, end_fault, IsOver};
+    ghost use Rattle.bw_wire.specs.Telling.{told_by, end_told};
 
     /// A framer at the start of a stream.
     pub fn new(alloc: Global) -> Framer
@@ -66,7 +69,7 @@ impl Framer {
     /// How many bytes were fed.
     pub fn fed(&self) -> u64
         ensures value { result ≡ self.now.fed }
-        ensures range { result ≤ 2 ^ 62 }
+        ensures range { result ≤ longest_stream }
     {
         self.fed
     }
@@ -76,13 +79,13 @@ impl Framer {
     /// # Errors
     /// `AllocError` where memory was refused: nothing changed.
     pub fn feed(&mut self, piece: &[u8]) -> Result<(), AllocError>
-        requires { self.old.fed + length piece.now ≤ 2 ^ 62 }
+        requires { self.old.fed + length piece.now ≤ longest_stream }
         ensures ok { OnOk result (self.new ≡ with_piece self.old piece.now) }
         ensures err { OnErr result (self.new ≡ self.old) }
         ensures dropped { IsOver self.old → IsOk result }
         ensures room { self.old.held + length piece.now ≤ self.old.room → IsOk result }
         ensures empty { length piece.now ≡ 0 → IsOk result }
-        ensures bounded { KeepsAtMost 32809 self.old → length piece.now ≤ 65536 → IsKept self.new }
+        ensures bounded { KeepsAtMost longest_rest self.old → length piece.now ≤ longest_piece → HasSmallBlock self.new }
     {
         match self.phase {
             Phase::Reading => {
@@ -102,9 +105,9 @@ impl Framer {
     /// # Errors
     /// Why the bytes are no frame. From then on it is this fault, as after `Bye` it is `Bye`.
     pub fn next_frame(&mut self) -> Result<Option<Frame<'_>>, WireFault>
-        ensures* left { sem 𝓛 (Rests the_row self.entry (λ new. new ≡ (after self.old).1)) }
-        ensures told { told result ≡ (after self.old).0 }
-        ensures held { HoldsAtMost 32809 (after self.old) }
+        ensures* left { sem 𝓛 (Rests the_row self.entry (λ new. new ≡ (next_of message_codec self.old).1)) }
+        ensures told { told_by frame_of result ≡ (next_of message_codec self.old).0 }
+        ensures held { HoldsLittle message_codec (next_of message_codec self.old) }
     {
         let offset = self.used;
         match self.phase {
@@ -113,32 +116,32 @@ impl Framer {
             Phase::Failed(reason) => return Err(WireFault { reason, offset }),
         }
         let at = self.start + 4;
-        match front_of(self.buffer.bytes_from(self.start)) {
-            Front::Partial => {
+        match frame_front_of(self.buffer.bytes_from(self.start)) {
+            FrameFront::Partial => {
                 self.buffer.drop_front(self.start);
                 self.start = 0;
                 Ok(None)
             }
-            Front::Bad(reason) => {
+            FrameFront::Bad(reason) => {
                 self.buffer.clear();
                 self.start = 0;
                 self.phase = Phase::Failed(reason);
                 Err(WireFault { reason, offset })
             }
-            Front::Bye(len) => {
+            FrameFront::Bye(len) => {
                 self.buffer.clear();
                 self.start = 0;
                 self.used += 4 + len as u64;
                 self.phase = Phase::Left;
                 Ok(Some(Frame::Bye))
             }
-            Front::Message(len) => {
+            FrameFront::Message(len) => {
                 self.start = at + len;
                 self.used += 4 + len as u64;
                 let body = &self.buffer.as_slice()[at..at + len];
                 Ok(Some(Frame::Message(Message { body })))
             }
-            Front::Ask(len) => {
+            FrameFront::Ask(len) => {
                 self.start = at + len;
                 self.used += 4 + len as u64;
                 let body = &self.buffer.as_slice()[at..at + len];

@@ -20,15 +20,22 @@ pub(crate) const ASK: u8 = 6;
 
 pub(crate) const BYE: u8 = 9;
 
+/// The longest coding history, block of samples and value of a field that a message carries.
+const LONGEST_HISTORY: usize = 4096;
+
+const LONGEST_BLOCK: usize = 32_768;
+
+const LONGEST_VALUE: usize = 256;
+
 /// Whether the bytes are as long as a payload of this kind.
 pub(crate) fn is_payload(kind: u8, payload: &[u8]) -> bool
     ensures { result ≡ is_payload_of kind payload.now }
 {
     match kind {
         OPEN => is_opening(payload),
-        BLOCK => !payload.is_empty() && payload.len() <= 32_768,
+        BLOCK => !payload.is_empty() && payload.len() <= LONGEST_BLOCK,
         MARK | CLOSE => payload.len() == 8,
-        SET_FIELD => !payload.is_empty() && payload.len() <= 257,
+        SET_FIELD => !payload.is_empty() && payload.len() <= 1 + LONGEST_VALUE,
         ASK => payload.is_empty(),
         _ => false,
     }
@@ -42,7 +49,7 @@ fn is_opening(payload: &[u8]) -> bool
         return false;
     }
     let history_len = usize::from(read_u16(payload, 8));
-    payload.len() == 10 + history_len && history_len <= 4096
+    payload.len() == 10 + history_len && history_len <= LONGEST_HISTORY
 }
 
 /// The request of a kind with its payload.

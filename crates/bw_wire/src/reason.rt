@@ -1,7 +1,7 @@
 //! Why bytes are no frame.
 ghost use Rattle.std.specs.Prelude.{◌≡◌, ◌≤◌, Some};
 ghost use Rattle.bw_model.specs.Wire.{reason_code};
-ghost use Rattle.bw_wire.specs.Reasons.{reason_of, DecodesReason};
+ghost use Rattle.bw_wire.specs.Reasons.{reason_meaning, DecodesReason};
 
 use std::error::Error;
 use std::fmt;
@@ -26,7 +26,7 @@ pub enum Reason {
 impl Reason {
     /// The byte that tells it in a reply.
     pub fn code(self) -> u8
-        ensures value { result ≡ reason_code (reason_of self) }
+        ensures value { result ≡ reason_code (reason_meaning self) }
         ensures range { result ≤ 6 }
     {
         self as u8
@@ -38,9 +38,9 @@ impl Reason {
 pub struct UnknownCode(pub u8);
 
 impl fmt::Display for UnknownCode {
-    ghost use Rattle.bw_wire.specs.Reasons.{unknown_text};
+    ghost use Rattle.bw_wire.specs.Reasons.{unknown_code_text};
 
-    ghost output = { λ unknown. Some (unknown_text unknown) };
+    ghost output = { λ unknown. Some (unknown_code_text unknown) };
 
     fn fmt<W: fmt::Write>(&self, f: &mut fmt::Formatter<W>) -> fmt::Result {
         write!(f, "{} is no code", self.0)

@@ -1,7 +1,7 @@
 //! Replies: what a server says of messages and asks, and of bytes that are none.
 ghost use Rattle.std.specs.Prelude.{◌≡◌, ◌≤◌};
 ghost use Rattle.bw_model.specs.Replies.{notice_code};
-ghost use Rattle.bw_wire.specs.Notices.{notice_of, DecodesNotice};
+ghost use Rattle.bw_wire.specs.Notices.{notice_meaning, DecodesNotice};
 
 use crate::reason::{Reason, UnknownCode};
 use bw_take::{Name, Verdict};
@@ -28,7 +28,7 @@ pub enum Notice {
 impl Notice {
     /// The byte that tells it in a reply.
     pub fn code(self) -> u8
-        ensures value { result ≡ notice_code (notice_of self) }
+        ensures value { result ≡ notice_code (notice_meaning self) }
         ensures range { result ≤ 39 }
     {
         self as u8

@@ -2,6 +2,7 @@
 ghost use Rattle.std.specs.Prelude.{◌≡◌, ◌≤◌, ◌+◌, ◌++◌, [], IsTrue, length};
 ghost use Rattle.arrayvec.specs.ArrayVec.{array_vec_len};
 ghost use Rattle.bw_model.specs.Bytes.{le32};
+ghost use Rattle.bw_model.specs.Limits.{longest_name};
 ghost use Rattle.bw_model.specs.Wire.{framed, addressed, is_name};
 ghost use Rattle.bw_model.specs.Replies.{reply_body, is_reply};
 ghost use Rattle.bw_wire.specs.Replies.{reply_of, HasWireNumbers};
@@ -53,7 +54,7 @@ fn put_address(out: &mut ArrayVec<u8, 64>, kind: u8, name: &Name, number: u32, m
         le32 (6 + length name.now + more) ++ addressed kind name.now number }
     ensures len { array_vec_len out.new ≡ 10 + length name.now }
     ensures named { IsTrue (is_name name.now) }
-    ensures short { length name.now ≤ 32 }
+    ensures short { length name.now ≤ longest_name }
 {
     let bytes = name.as_bytes();
     let len = 6 + bytes.len() as u32 + more;

@@ -1,5 +1,5 @@
 //! A stream of replies that comes in pieces.
-ghost use Rattle.std.specs.Prelude.{◌≡◌, ◌+◌, ◌≤◌, ◌^◌, length, IsOk, OnOk, OnErr};
+ghost use Rattle.std.specs.Prelude.{◌≡◌, ◌+◌, ◌≤◌, length, IsOk, OnOk, OnErr};
 
 use crate::buffer::Buffer;
 use crate::fault::WireFault;
@@ -23,7 +23,7 @@ pub struct ReplyFramer {
 }
 
 impl Model for ReplyFramer {
-    ghost use Rattle.std.specs.Prelude.{◌≡◌, ◌≤◌, ◌+◌, ◌^◌, drop, length};
+    ghost use Rattle.std.specs.Prelude.{◌≡◌, ◌≤◌, ◌+◌, drop, length};
     ghost use Rattle.bw_wire.specs.Pending.{Pending};
 
     ghost Value = { Pending };
@@ -36,8 +36,11 @@ impl Model for ReplyFramer {
 }
 
 impl ReplyFramer {
-    ghost use Rattle.bw_wire.specs.Pending.{fresh, with_piece, after_reply, KeepsAtMost, IsKept, RepliesHoldAtMost, end_fault, IsOver};
-    ghost use Rattle.bw_wire.specs.Telling.{reply_told, end_told};
+    ghost use Rattle.bw_wire.specs.Codecs.{reply_codec};
+    ghost use Rattle.bw_wire.specs.Held.{longest_rest, longest_piece, longest_stream};
+    ghost use Rattle.bw_wire.specs.Pending.{fresh, with_piece, next_of, KeepsAtMost, HasSmallBlock, HoldsLittle, end_fault, IsOver};
+    ghost use Rattle.bw_wire.specs.Replies.{reply_of};
+    ghost use Rattle.bw_wire.specs.Telling.{told_by, end_told};
 
     /// A framer at the start of a stream.
     pub fn new(alloc: Global) -> ReplyFramer
@@ -55,7 +58,7 @@ impl ReplyFramer {
     /// How many bytes were fed.
     pub fn fed(&self) -> u64
         ensures value { result ≡ self.now.fed }
-        ensures range { result ≤ 2 ^ 62 }
+        ensures range { result ≤ longest_stream }
     {
         self.fed
     }
@@ -65,13 +68,13 @@ impl ReplyFramer {
     /// # Errors
     /// `AllocError` where memory was refused: nothing changed.
     pub fn feed(&mut self, piece: &[u8]) -> Result<(), AllocError>
-        requires { self.old.fed + length piece.now ≤ 2 ^ 62 }
+        requires { self.old.fed + length piece.now ≤ longest_stream }
         ensures ok { OnOk result (self.new ≡ with_piece self.old piece.now) }
         ensures err { OnErr result (self.new ≡ self.old) }
         ensures dropped { IsOver self.old → IsOk result }
         ensures room { self.old.held + length piece.now ≤ self.old.room → IsOk result }
         ensures empty { length piece.now ≡ 0 → IsOk result }
-        ensures bounded { KeepsAtMost 46 self.old → length piece.now ≤ 65536 → IsKept self.new }
+        ensures bounded { KeepsAtMost longest_rest self.old → length piece.now ≤ longest_piece → HasSmallBlock self.new }
     {
         match self.failed {
             None => {
@@ -91,9 +94,9 @@ impl ReplyFramer {
     /// # Errors
     /// Why the bytes are no reply's frame. From then on it is this fault.
     pub fn next_frame(&mut self) -> Result<Option<Reply>, WireFault>
-        ensures left { self.new ≡ (after_reply self.old).1 }
-        ensures told { reply_told result ≡ (after_reply self.old).0 }
-        ensures held { RepliesHoldAtMost 46 (after_reply self.old) }
+        ensures left { self.new ≡ (next_of reply_codec self.old).1 }
+        ensures told { told_by reply_of result ≡ (next_of reply_codec self.old).0 }
+        ensures held { HoldsLittle reply_codec (next_of reply_codec self.old) }
     {
         if let Some(reason) = self.failed {
             return Err(WireFault {

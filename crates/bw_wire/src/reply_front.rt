@@ -1,7 +1,7 @@
 //! What stands at the front of a stream's bytes, where replies are read.
 ghost use Rattle.bw_wire.specs.ReplyFronts.{IsReplyFront};
 
-use crate::front::{Framing, framing_of};
+use crate::framing::{Framing, framing_of};
 use crate::reason::Reason;
 use crate::reply::Reply;
 use crate::reply_decoder::decode_reply;

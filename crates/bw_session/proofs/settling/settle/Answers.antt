@@ -2,7 +2,7 @@ use Rattle.std.proofs.Common.{◌≡◌, ℕ, suc, true, false, List, sym, ◌�
 use Rattle.bw_model.specs.Take.{Parts, Request, Verdict, is_stored}
 use Rattle.bw_take.specs.Requests.{meaning}
 use Rattle.bw_take.specs.States.{State, FollowsTakes}
-use Rattle.bw_take.specs.Verdicts.{verdict_of}
+use Rattle.bw_take.specs.Verdicts.{verdict_meaning}
 use Rattle.bw_session.specs.Keeping.{KeepsDone}
 use Rattle.bw_session.proofs.LogSteps.{keeps_stored, keeps_refused}
 use Rattle.bw_session.proofs.settling.settle.Goals as goal
@@ -11,7 +11,7 @@ use Rattle.bw_session.proofs.settling.settle.Goals.{then-is_stored, else-is_stor
 pub returns-clause-keeps : goal.returns-clause-keeps
 returns-clause-keeps c = λ stood name log k here d e.
     let r : Request = meaning c.args.request.now in
-    let v : Verdict = verdict_of c.args.verdict in
+    let v : Verdict = verdict_meaning c.args.verdict in
     let old : Parts = c.args.state.now.parts in
     elim c.if-is_stored.branch [
       | then-is_stored w ↦

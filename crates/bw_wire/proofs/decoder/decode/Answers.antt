@@ -3,13 +3,13 @@ use Rattle.bw_model.specs.Wire as model
 use Rattle.bw_wire.specs.declared.message.Frame.TheVariants.{Bye}
 use Rattle.bw_wire.specs.declared.reason.Reason.TheVariants.{Payload}
 use Rattle.bw_wire.specs.Frames.{frame_read}
-use Rattle.bw_wire.specs.Reasons.{reason_of}
+use Rattle.bw_wire.specs.Reasons.{reason_meaning}
 use Rattle.bw_wire.proofs.BodyLaws.{message_body, ask_body}
 use Rattle.bw_wire.proofs.Decoding.{behind, decoded-empty, decoded-bye, decoded-fault, is_ask, is_message}
 use Rattle.bw_wire.proofs.decoder.decode.Goals as goal
 
 read_bye : (empty : Bool) →
-  frame_read (cond empty (Ok Bye) (Err Payload)) ≡ cond empty (Ok model.Bye) (Err model.Payload)
+    frame_read (cond empty (Ok Bye) (Err Payload)) ≡ cond empty (Ok model.Bye) (Err model.Payload)
 read_bye true = refl
 read_bye false = refl
 
@@ -25,32 +25,34 @@ returns-then-kind-eq-BYE-clause-exact c =
 pub returns-in-Some-clause-exact : goal.returns-in-Some-clause-exact
 returns-in-Some-clause-exact c =
     sym (decoded-fault c.args.body.now
-      (reason_of c.in-Some.reason) c.in-len1-up.len_at_least c.if-kind-eq-BYE.false c.in-Some.ensures)
+    (reason_meaning c.in-Some.reason) c.in-len1-up.len_at_least c.if-kind-eq-BYE.false c.in-Some.ensures)
 
 pub invariant_of-result : goal.invariant_of-result
 invariant_of-result c = record {
   spells = is_ask c.args.body.now
-    (λ i. omega (arith, c.type_inv.body i)) c.in-len1-up.len_at_least c.if-kind-eq-BYE.false c.in_default-fault.ensures
-    c.if-kind-eq-ASK.true;
+      (λ i. omega (arith, c.type_inv.body i)) c.in-len1-up.len_at_least c.if-kind-eq-BYE.false
+        c.in_default-fault.ensures
+      c.if-kind-eq-ASK.true;
 }
 
 pub returns-then-kind-eq-ASK-clause-exact : goal.returns-then-kind-eq-ASK-clause-exact
 returns-then-kind-eq-ASK-clause-exact c =
     sym (ask_body c.args.body.now
-      (is_ask c.args.body.now
-      (λ i. omega (arith, c.type_inv.body i)) c.in-len1-up.len_at_least c.if-kind-eq-BYE.false
-      c.in_default-fault.ensures c.if-kind-eq-ASK.true)).read
+    (is_ask c.args.body.now
+    (λ i. omega (arith, c.type_inv.body i)) c.in-len1-up.len_at_least c.if-kind-eq-BYE.false
+    c.in_default-fault.ensures c.if-kind-eq-ASK.true)).read
 
 pub invariant_of-result-2 : goal.invariant_of-result-2
 invariant_of-result-2 c = record {
   spells = is_message c.args.body.now
-    (λ i. omega (arith, c.type_inv.body i)) c.in-len1-up.len_at_least c.if-kind-eq-BYE.false c.in_default-fault.ensures
-    c.if-kind-eq-ASK.false;
+      (λ i. omega (arith, c.type_inv.body i)) c.in-len1-up.len_at_least c.if-kind-eq-BYE.false
+        c.in_default-fault.ensures
+      c.if-kind-eq-ASK.false;
 }
 
 pub returns-clause-exact : goal.returns-clause-exact
 returns-clause-exact c =
     sym (message_body c.args.body.now
-      (is_message c.args.body.now
-      (λ i. omega (arith, c.type_inv.body i)) c.in-len1-up.len_at_least c.if-kind-eq-BYE.false
-      c.in_default-fault.ensures c.if-kind-eq-ASK.false)).read
+    (is_message c.args.body.now
+    (λ i. omega (arith, c.type_inv.body i)) c.in-len1-up.len_at_least c.if-kind-eq-BYE.false
+    c.in_default-fault.ensures c.if-kind-eq-ASK.false)).read

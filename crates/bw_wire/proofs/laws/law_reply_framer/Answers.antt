@@ -1,4 +1,4 @@
-use Rattle.bw_wire.proofs.ReplyRunLaws.{reply_runs_follow_replies}
+use Rattle.bw_wire.proofs.StreamRuns.{reply_runs_follow_replies}
 use Rattle.bw_wire.proofs.laws.law_reply_framer.Goals as goal
 
 pub returns : goal.returns

@@ -1,4 +1,5 @@
 use Rattle.std.proofs.Common.{◌≤◌, refl, arith, length, ap}
+use Rattle.bw_model.specs.Limits.{longest_history}
 use Rattle.bw_model.specs.Take.{Parts, Open, Mark, Block, SetField, Close}
 use Rattle.bw_layout.specs.Formats.{format_of}
 use Rattle.bw_take.specs.Kept.{parts_of}
@@ -13,9 +14,9 @@ unwrap-requires c =
     let empty = ap (λ (p : Parts). length p.history) (c.self.invariant.sound.unopened none) in
     let room = rw (← c.self.view_is) at c.requires.room in
     let capacity = c.self.invariant.history none room in
-    let fits : length c.in-OpenTake.history.now ≤ 4096 =
-        history_fits (format_of c.in-OpenTake.rate c.in-OpenTake.channels c.in-OpenTake.bits) _
-        (rw c.in-OpenTake.is at c.requires.fits) in
+    let fits : length c.in-OpenTake.history.now ≤ longest_history =
+    history_fits (format_of c.in-OpenTake.rate c.in-OpenTake.channels c.in-OpenTake.bits) _
+    (rw c.in-OpenTake.is at c.requires.fits) in
     c.extend_from_slice.ensures.succeeds (omega (arith, c.self.inside.history.ok.0))
 
 pub invariant_of-self : goal.invariant_of-self
@@ -28,8 +29,8 @@ invariant_of-self c =
     let items = rw (c.unwrap.ensures, empty) at c.extend_from_slice.ensures.items in
     record {
       sound = rw (format, items)
-        (IsSound-parts_with (parts_of c.self.inside) (Open _ _) c.self.invariant.sound stored fits
-        (omega arith) c.self.invariant.sound.fields);
+          (IsSound-parts_with (parts_of c.self.inside) (Open _ _) c.self.invariant.sound stored fits
+          (omega arith) c.self.invariant.sound.fields);
       history = λ none some. cc;
       markers = omega arith;
     }
@@ -59,7 +60,7 @@ invariant_of-self-in-Block c =
     let bound = rw (← c.self.view_is, c.in-Block.is) at c.requires.samples in
     record {
       sound = IsSound-parts_with (parts_of c.self.inside)
-        (Block _) c.self.invariant.sound stored fits bound c.self.invariant.sound.fields;
+          (Block _) c.self.invariant.sound stored fits bound c.self.invariant.sound.fields;
       history = λ none some. c.self.invariant.history none (omega arith);
       markers = omega arith;
     }
@@ -70,8 +71,8 @@ invariant_of-self-in-Mark c =
     let fits = rw c.in-Mark.is at c.requires.fits in
     record {
       sound = rw c.push_reserved.ensures.items
-        (IsSound-parts_with (parts_of c.self.inside) (Mark _ _) c.self.invariant.sound stored fits
-        (omega arith) c.self.invariant.sound.fields);
+          (IsSound-parts_with (parts_of c.self.inside) (Mark _ _) c.self.invariant.sound stored fits
+          (omega arith) c.self.invariant.sound.fields);
       history = λ none some. c.self.invariant.history none (omega arith);
       markers = omega arith;
     }
@@ -84,7 +85,7 @@ invariant_of-self-in-SetField c =
     let widths = rw set at c.set.ensures.widths in
     record {
       sound = rw set (IsSound-parts_with (parts_of c.self.inside) (SetField _ _) c.self.invariant.sound stored fits
-        (omega arith) widths);
+          (omega arith) widths);
       history = λ none some. c.self.invariant.history none (omega arith);
       markers = omega arith;
     }
@@ -95,7 +96,7 @@ invariant_of-self-in-CloseTake c =
     let fits = rw c.in-CloseTake.is at c.requires.fits in
     record {
       sound = IsSound-parts_with (parts_of c.self.inside) (Close _) c.self.invariant.sound stored fits
-        (omega arith) c.self.invariant.sound.fields;
+          (omega arith) c.self.invariant.sound.fields;
       history = λ none some. c.self.invariant.history none (omega arith);
       markers = omega arith;
     }

@@ -1,50 +1,56 @@
-use Rattle.std.proofs.Common.{◌≡◌, ◌≢◌, ◌≤◌, Err, length, List, ℕ, IsTrue, sym, refl, ap, subst, ◌∙◌}
-use Rattle.bw_model.specs.Wire.{Second, Says, Asks, Cut}
+use Rattle.std.proofs.Common.{◌≡◌, ◌≢◌, ◌≤◌, Err, length, drop, List, ℕ, IsTrue, sym, refl, ap, subst, ◌∙◌}
+use Rattle.bw_model.specs.Wire.{Second, Says, Asks, Bye, Cut}
 use Rattle.bw_model.specs.Stream.{first_frame}
 use Rattle.bw_wire.specs.Bodies.{body_name, body_number, message_in, is_message_body, is_ask_body}
-use Rattle.bw_wire.specs.Fronts.{IsMessageFront, IsAskFront, IsByeFront}
+use Rattle.bw_wire.specs.Codecs.{message_codec}
+use Rattle.bw_wire.specs.Framings.{body_at_front}
+use Rattle.bw_wire.specs.FrameFronts.{IsMessageFront, IsAskFront, IsByeFront}
+use Rattle.bw_wire.specs.Held.{longest_rest}
 use Rattle.bw_wire.specs.Pending.{Gives}
-use Rattle.bw_wire.specs.Reasons.{reason_of}
-use Rattle.bw_wire.proofs.FramerSteps.{left_steps, failed_steps, partial_steps, bad_steps, bye_steps, message_steps}
-use Rattle.bw_wire.proofs.FramerSteps.{ask_steps, lent_body}
+use Rattle.bw_wire.specs.Reasons.{reason_meaning}
+use Rattle.bw_wire.proofs.FramerSteps.{left_steps, failed_steps, partial_steps, bad_steps, last_steps, value_steps}
+use Rattle.bw_wire.proofs.FramerSteps.{lent_body}
 use Rattle.bw_wire.proofs.framer.Framer.next_frame.Goals as goal
 
 pub returns-in-Left : goal.returns-in-Left
 returns-in-Left c =
     let f = c.self.inside in
-    let s = left_steps f.buffer f.start f.used f.fed f.phase c.in-Left.is c.self.invariant in
+    let s = left_steps message_codec f.buffer f.start f.used f.fed f.phase Bye refl c.in-Left.is c.self.invariant in
     rw (← c.self.view_is) ((refl, (λ _. tt), s.next), record { left = tt; told = s.told; held = s.held })
 
 pub returns-in-Failed : goal.returns-in-Failed
 returns-in-Failed c =
     let f = c.self.inside in
-    let s = failed_steps f.buffer f.start f.used f.fed f.phase c.in-Failed.reason c.in-Failed.is c.self.invariant in
+    let s = failed_steps message_codec f.buffer f.start f.used f.fed f.phase c.in-Failed.reason c.in-Failed.is
+    c.self.invariant in
     rw (← c.self.view_is) ((refl, (λ _. tt), s.next), record { left = tt; told = s.told; held = s.held })
 
 pub returns-in-Partial : goal.returns-in-Partial
 returns-in-Partial c =
     let f = c.self.inside in
-    let front = subst (λ (b : List ℕ). (first_frame Second b ≡ Err Cut) × (length b ≤ 32809)) c.bytes_from.ensures
-        c.in-Partial.ensures in
-    let s = partial_steps f.buffer c.drop_front.new.self f.start f.used f.fed f.phase c.in-Reading.is
-        c.drop_front.ensures front in
+    let front = subst (λ (b : List ℕ). (first_frame Second b ≡ Err Cut) × (length b ≤ longest_rest))
+    c.bytes_from.ensures
+    c.in-Partial.ensures in
+    let s = partial_steps message_codec f.buffer c.drop_front.new.self f.start f.used f.fed f.phase c.in-Reading.is
+    c.drop_front.ensures front in
     rw (← c.self.view_is) ((refl, (λ _. tt), s.next), record { left = tt; told = s.told; held = s.held })
 
 pub returns-in-Bad : goal.returns-in-Bad
 returns-in-Bad c =
     let f = c.self.inside in
-    let front = subst (λ (b : List ℕ). (first_frame Second b ≡ Err (reason_of c.in-Bad.reason))
-        × (reason_of c.in-Bad.reason ≢ Cut)) c.bytes_from.ensures c.in-Bad.ensures in
-    let s = bad_steps f.buffer c.clear.new.self f.start f.used f.fed f.phase c.in-Bad.reason c.in-Reading.is
-        c.clear.ensures front in
+    let front = subst (λ (b : List ℕ). (first_frame Second b ≡ Err (reason_meaning c.in-Bad.reason))
+    × (reason_meaning c.in-Bad.reason ≢ Cut)) c.bytes_from.ensures c.in-Bad.ensures in
+    let s = bad_steps message_codec f.buffer c.clear.new.self f.start f.used f.fed f.phase c.in-Bad.reason
+    c.in-Reading.is
+    c.clear.ensures front in
     rw (← c.self.view_is) ((refl, (λ _. tt), s.next), record { left = tt; told = s.told; held = s.held })
 
 pub returns-in-Bye : goal.returns-in-Bye
 returns-in-Bye c =
     let f = c.self.inside in
     let front = subst (λ (b : List ℕ). IsByeFront b c.in-Bye.len) c.bytes_from.ensures c.in-Bye.ensures in
-    let s = bye_steps f.buffer c.clear-in-Bye.new.self f.start f.used f.fed c.in-Bye.len f.phase c.in-Reading.is
-        c.clear-in-Bye.ensures front in
+    let s = last_steps message_codec f.buffer c.clear-in-Bye.new.self f.start f.used f.fed c.in-Bye.len f.phase Bye refl
+    c.in-Reading.is c.clear-in-Bye.ensures front.whole front.first in
     rw (← c.self.view_is) ((refl, (λ _. tt), s.next), record { left = tt; told = s.told; held = s.held })
 
 pub invariant_of-self-in-Message-2 : goal.invariant_of-self-in-Message-2
@@ -65,17 +71,28 @@ pub returns-in-Message : goal.returns-in-Message
 returns-in-Message c =
     let f = c.self.inside in
     let front = subst (λ (b : List ℕ). IsMessageFront b c.in-Message.len) c.bytes_from.ensures c.in-Message.ensures in
-    let s = message_steps f.buffer f.start f.used f.fed c.in-Message.len f.phase c.in-Reading.is front in
+    let m = message_in (body_at_front c.in-Message.len (drop f.start f.buffer.bytes)) in
+    let s = value_steps message_codec f.buffer f.start f.used f.fed c.in-Message.len f.phase (Says m) refl
+    c.in-Reading.is front.whole front.first in
     let lent = lent_body c.as_slice.result.now f.buffer.bytes f.start c.in-Message.len c.as_slice.ensures in
-    rw (← c.self.view_is) ((refl, (λ _. tt), s.next),
-      record { left = tt; told = ap (λ (b : List ℕ). Gives (Says (message_in b))) lent ∙ s.told; held = s.held })
+    rw (← c.self.view_is) (
+      (refl, (λ _. tt), s.next),
+      record { left = tt; told = ap (λ (b : List ℕ). Gives (Says (message_in b))) lent ∙ s.told; held = s.held },
+    )
 
 pub returns-in-Ask : goal.returns-in-Ask
 returns-in-Ask c =
     let f = c.self.inside in
     let front = subst (λ (b : List ℕ). IsAskFront b c.in-Ask.len) c.bytes_from.ensures c.in-Ask.ensures in
-    let s = ask_steps f.buffer f.start f.used f.fed c.in-Ask.len f.phase c.in-Reading.is front in
+    let body = body_at_front c.in-Ask.len (drop f.start f.buffer.bytes) in
+    let s = value_steps message_codec f.buffer f.start f.used f.fed c.in-Ask.len f.phase
+    (Asks (body_name body) (body_number body)) refl c.in-Reading.is front.whole front.first in
     let lent = lent_body c.as_slice-in-Ask.result.now f.buffer.bytes f.start c.in-Ask.len c.as_slice-in-Ask.ensures in
-    rw (← c.self.view_is) ((refl, (λ _. tt), s.next),
-      record { left = tt; told = ap (λ (b : List ℕ). Gives (Asks (body_name b) (body_number b))) lent ∙ s.told;
-      held = s.held })
+    rw (← c.self.view_is) (
+      (refl, (λ _. tt), s.next),
+      record {
+        left = tt;
+        told = ap (λ (b : List ℕ). Gives (Asks (body_name b) (body_number b))) lent ∙ s.told;
+        held = s.held;
+      },
+    )

@@ -1,0 +1,37 @@
+-- What stands at the front of a stream's bytes.
+use Rattle.std.specs.Prelude.{◌≡◌, ◌≢◌, ℕ, ◌+◌, ◌≤◌, IsTrue, Ok, Err, List, length, drop}
+use Rattle.bw_model.specs.Wire.{Second, Says, Asks, Bye, Cut}
+use Rattle.bw_model.specs.Stream.{first_frame}
+use Rattle.bw_wire.specs.declared.frame_front.FrameFront.{FrameFront}
+use Rattle.bw_wire.specs.declared.frame_front.FrameFront.TheVariants as fronts
+use Rattle.bw_wire.specs.Framings.{body_at_front}
+use Rattle.bw_wire.specs.Held.{longest_rest}
+use Rattle.bw_wire.specs.Reasons.{reason_meaning}
+use Rattle.bw_wire.specs.Bodies.{body_name, body_number, message_in, is_message_body, is_ask_body}
+
+pub record IsMessageFront (bytes : List ℕ) (len : ℕ) : Type 0 where
+  pub whole : 4 + len ≤ length bytes
+  pub spelled : IsTrue (is_message_body (body_at_front len bytes))
+  pub first : first_frame Second bytes
+      ≡ Ok (Says (message_in (body_at_front len bytes)), drop (4 + len) bytes)
+
+pub record IsAskFront (bytes : List ℕ) (len : ℕ) : Type 0 where
+  pub whole : 4 + len ≤ length bytes
+  pub spelled : IsTrue (is_ask_body (body_at_front len bytes))
+  pub first : first_frame Second bytes
+      ≡ Ok (
+        Asks (body_name (body_at_front len bytes)) (body_number (body_at_front len bytes)),
+        drop (4 + len) bytes,
+      )
+
+pub record IsByeFront (bytes : List ℕ) (len : ℕ) : Type 0 where
+  pub whole : 4 + len ≤ length bytes
+  pub first : first_frame Second bytes ≡ Ok (Bye, drop (4 + len) bytes)
+
+abbrev pub IsFrameFront : List ℕ → FrameFront → Type 0
+IsFrameFront bytes fronts.Partial = (first_frame Second bytes ≡ Err Cut) × (length bytes ≤ longest_rest)
+IsFrameFront bytes (fronts.Bad reason) =
+    (first_frame Second bytes ≡ Err (reason_meaning reason)) × (reason_meaning reason ≢ Cut)
+IsFrameFront bytes (fronts.Message len) = IsMessageFront bytes len
+IsFrameFront bytes (fronts.Ask len) = IsAskFront bytes len
+IsFrameFront bytes (fronts.Bye len) = IsByeFront bytes len
