@@ -5,7 +5,7 @@ use Rattle.std.specs.Prelude.{IsTrue}
 use Rattle.std.specs.List.{list_all}
 use Rattle.std.specs.Bool.{MatchBool}
 use Rattle.bw_model.specs.Take.{Take, Parts, Format, Request, Open, Block, Mark, SetField, Close, Stored, Closed}
-use Rattle.bw_model.specs.Take.{BadFormat, NameTaken, parts, judge, judge_open, is_format, is_history_byte, verdict}
+use Rattle.bw_model.specs.Take.{BadFormat, NameTaken, parts, judge, judge_open, is_format, is_history_byte}
 use Rattle.bw_model.specs.Take.{is_stored, with_request, after}
 use Rattle.bw_model.specs.File.{file_of}
 use Rattle.bw_model.specs.Holds.{IsInTheMiddle}
@@ -50,7 +50,7 @@ after_refused t p r e s =
     sym (ap (λ (v : Bool). cond v (with_request t r) t) (ap (λ (q : Parts). is_stored (judge q r)) e ∙ s))
 
 pub after_stored : (t : Take) (p : Parts) (r : Request) → parts t ≡ p → is_stored (judge p r) ≡ true →
-  with_request t r ≡ after t r
+    with_request t r ≡ after t r
 after_stored t p r e s =
     sym (ap (λ (v : Bool). cond v (with_request t r) t) (ap (λ (q : Parts). is_stored (judge q r)) e ∙ s))
 
@@ -81,8 +81,10 @@ pub carries_new : (v : Verdict) (p : Parts) (r : Request) (g g' : Growing) (befo
 carries_new v p r g g' before found e s w =
     let stored : is_stored (judge p r) ≡ true = ap is_stored (sym e) ∙ s in
     record {
-      own = λ t same h. (refl,
-        subst (λ (u : Take). HasWholeFile u g' found) (after_stored t p r same stored) (w.own t same h).1);
+      own = λ t same h. (
+        refl,
+        subst (λ (u : Take). HasWholeFile u g' found) (after_stored t p r same stored) (w.own t same h).1,
+      );
       stood = λ none unmade stood. no_false (sym (w.stood none unmade stood).2);
     }
 
@@ -96,7 +98,7 @@ carries_exists v p q r g g' before found taken e w = record {
 }
 
 pub carries_err : (fault fault' : StoreFault) (p : Parts) (r : Request) (g g' : Growing)
-  (before found : Option (List ℕ)) →
+    (before found : Option (List ℕ)) →
     Writes (Err fault) r p g g' before found → Carries (Err fault') r p p g g' before found
 carries_err fault fault' p r g g' before found w = record {
   own = λ t same h. w.own t same h;

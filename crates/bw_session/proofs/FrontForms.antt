@@ -3,7 +3,7 @@ use Rattle.std.proofs.Common.{◌≡◌, ℕ, Bool, true, false, cond, not, ◌&
 use Rattle.std.proofs.Common.{Err, refl, sym, ◌∙◌, ap, subst}
 use Rattle.std.specs.Prelude.{IsTrue, is_some, fold, take, IfOk, OnErr}
 use Rattle.std.specs.List.{list_all}
-use Rattle.bw_model.specs.Take.{Take, Parts, Format, Request, Open, Block, Mark, SetField, Close, Verdict, BadFormat}
+use Rattle.bw_model.specs.Take.{Take, Parts, Request, Open, Block, Mark, SetField, Close, Verdict, BadFormat}
 use Rattle.bw_model.specs.Take.{NameTaken, new_take, parts, judge, is_format, is_history_byte, is_stored, verdict}
 use Rattle.bw_model.specs.Take.{with_request, after}
 use Rattle.bw_model.specs.Book.{Log, made, step}
@@ -13,7 +13,7 @@ use Rattle.bw_file.specs.Growing.{Growing}
 use Rattle.bw_file.specs.declared.store.StoreFault.{StoreFault}
 use Rattle.bw_session.specs.Carrying.{Carries}
 use Rattle.bw_session.specs.Keeping.{KeepsDone}
-use Rattle.bw_session.specs.Fronts.{take_of, HoldsFront, CarriesFront}
+use Rattle.bw_session.specs.Fronts.{HoldsFront, CarriesFront}
 use Rattle.bw_session.proofs.LogSteps.{taken-after}
 
 no_false : {A : Type 0} → false ≡ true → A
@@ -67,7 +67,7 @@ keeps_taken name log p q finished k e more = record {
 }
 
 -- the state of a name that did not stand
-own_parts : (name : List ℕ) (log : Log) (p : Parts) (finished : List (List ℕ × Verdict)) →
+pub own_parts : (name : List ℕ) (log : Log) (p : Parts) (finished : List (List ℕ × Verdict)) →
     KeepsDone false name log p finished → parts (made false log.admitted log.done) ≡ p
 own_parts name log p finished k =
     ap (λ (b : Bool). record (parts (made false log.admitted log.done)) { taken = b })
@@ -83,7 +83,7 @@ stood_parts : (name : List ℕ) (log : Log) (p : Parts) (finished : List (List �
 stood_parts name log p finished k =
     ap (λ (x : Parts). record x { taken = true }) k.state_is
     ∙ ap (λ (b : Bool). record (parts (made true log.admitted log.done)) { taken = b })
-      (sym (made-taken true log.admitted log.done))
+    (sym (made-taken true log.admitted log.done))
 
 unopened : (name : List ℕ) (log : Log) (p : Parts) (finished : List (List ℕ × Verdict)) →
     KeepsDone true name log p finished → p.format ≡ None
@@ -118,13 +118,13 @@ carries_front (Ok v) (Some bytes) log p q finished r g g' before found c e more 
     record {
       verdict_is = left.2 ∙ ap (λ (x : Parts). judge x r) (stood_parts g.name log p finished h.memory);
       memory = subst (λ (x : List ℕ). KeepsDone true x log q finished) (sym name)
-        (keeps_taken g.name log p q finished h.memory e more);
+          (keeps_taken g.name log p q finished h.memory e more);
       file = (left.0 ∙ h.file.0, left.1);
     }
 carries_front (Err fault) (Some bytes) log p q finished r g g' before found c e more name judged unchanged h =
     let left = c.stood (unopened g.name log p finished h.memory) h.file.1 (ap is_some h.file.0) in
     record {
       memory = subst (λ (x : List ℕ). KeepsDone true x log q finished) (sym name)
-        (keeps_taken g.name log p q finished h.memory e more);
+          (keeps_taken g.name log p q finished h.memory e more);
       file = (left.0 ∙ h.file.0, left.1);
     }

@@ -5,3 +5,4 @@ pub mod WriteForms
 pub mod CarryForms
 pub mod LogSteps
 pub mod FrontForms
+pub mod NumberForms

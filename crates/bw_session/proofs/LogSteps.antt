@@ -1,5 +1,5 @@
 -- One more number of a log is done.
-use Rattle.std.proofs.Common.{◌≡◌, ℕ, zero, suc, ◌+◌, ◌%◌, ◌<◌, ◌≤◌, Bool, true, false, cond, not, ◌&&◌, ◌==◌, List, []}
+use Rattle.std.proofs.Common.{◌≡◌, ℕ, zero, suc, ◌+◌, ◌%◌, ◌≤◌, Bool, true, false, cond, not, ◌&&◌, ◌==◌, List, []}
 use Rattle.std.proofs.Common.{◌∷◌, ◌++◌, length, take, Option, Some, None, refl, sym, ◌∙◌, ap, subst, arith, inl, inr}
 use Rattle.std.specs.Prelude.{IsTrue, is_some, fold, nat_lt, nat_le}
 use Rattle.std.specs.List.{list_all, list_any}
@@ -19,7 +19,7 @@ use Rattle.bw_session.specs.Keeping.{KeepsDone}
 
 -- the first n places and the next
 take_next : (s : List (Option Request)) (n : ℕ) (r : Request) → at s n ≡ Some r →
-  take (suc n) s ≡ take n s ++ Some r ∷ []
+    take (suc n) s ≡ take n s ++ Some r ∷ []
 take_next [] n r e = absurd (none e)
   where
     none : None ≡ Some r → ⊥
@@ -50,11 +50,11 @@ taken-after t r = go (is_stored (verdict t r))
 
 -- the digests and verdicts of one more request
 finished_push : (stood : Bool) (s : List (Option Request)) (name : List ℕ) (n : ℕ) (xs : List (Option Request))
-  (r : Request) →
+    (r : Request) →
     length (finished_from stood s name n xs) ≡ length xs →
     finished_from stood s name n (xs ++ Some r ∷ []) ≡
     finished_from stood s name n xs ++ (sha256 (body_of name (n + length xs) r), verdict_at stood s (n + length xs))
-      ∷ []
+    ∷ []
 finished_push stood s name n [] r e =
     ap (λ (k : ℕ). (sha256 (body_of name k r), verdict_at stood s k) ∷ []) (let same : n ≡ n + 0 = omega arith in same)
 finished_push stood s name n (None ∷ xs) r e = absurd (omega (arith, e))
@@ -64,7 +64,7 @@ finished_push stood s name n (Some x ∷ xs) r e =
     ap (λ (ys : List (List ℕ × Verdict)). (sha256 (body_of name n x), verdict_at stood s n) ∷ ys)
     (finished_push stood s name (suc n) xs r rest
     ∙ ap (λ (k : ℕ). finished_from stood s name (suc n) xs ++ (sha256 (body_of name k r), verdict_at stood s k) ∷ [])
-      place)
+    place)
 
 finished-short : (stood : Bool) (s : List (Option Request)) (name : List ℕ) (n : ℕ) (xs : List (Option Request)) →
     length (finished_from stood s name n xs) ≤ length xs
@@ -77,7 +77,7 @@ take-short zero xs = omega arith
 take-short (suc n) [] = omega arith
 take-short (suc n) (x ∷ xs) = let rest = take-short n xs in omega (arith, rest)
 
-verdict_here : (stood : Bool) (s : List (Option Request)) (n : ℕ) (r : Request) → at s n ≡ Some r →
+pub verdict_here : (stood : Bool) (s : List (Option Request)) (n : ℕ) (r : Request) → at s n ≡ Some r →
     verdict_at stood s n ≡ verdict (made stood s n) r
 verdict_here stood s n r e = ap (verdict_by (made stood s n)) e
 
@@ -100,14 +100,14 @@ keeps_next stood name log r old new finished digest v k here d e state taken sta
     let place : 0 + length front ≡ n = omega arith in
     record {
       done = length_push finished (digest, v)
-        ∙ (let same : length finished + 1 ≡ suc n = omega (arith, k.done) in same);
+          ∙ (let same : length finished + 1 ≡ suc n = omega (arith, k.done) in same);
       finished_are =
           ap (λ (ys : List (List ℕ × Verdict)). ys ++ (digest, v) ∷ []) k.finished_are
           ∙ ap (λ (x : List ℕ × Verdict). finished_from stood s name 0 front ++ x ∷ [])
           (ap (λ (y : List ℕ). (y, v)) d
-            ∙ ap (λ (y : Verdict). (sha256 (body_of name n r), y)) (e ∙ sym (verdict_here stood s n r here)))
+          ∙ ap (λ (y : Verdict). (sha256 (body_of name n r), y)) (e ∙ sym (verdict_here stood s n r here)))
           ∙ ap (λ (j : ℕ). finished_from stood s name 0 front ++ (sha256 (body_of name j r), verdict_at stood s j)
-            ∷ []) (sym place)
+          ∷ []) (sym place)
           ∙ sym (finished_push stood s name 0 front r whole)
           ∙ ap (finished_from stood s name 0) (sym (take_next s n r here));
       state_is = state ∙ ap (λ (t : Take). record (parts t) { taken = new.taken }) (sym (made_next stood s n r here));
@@ -126,25 +126,25 @@ unfolding judge
 name_taken p r e = go p.closed p.format r e
   where
     mark : (a b c : Bool) → cond a BadMarker (cond b DuplicateMarker (cond c TooManyMarkers Stored)) ≡ NameTaken →
-      p.taken ≡ true
+        p.taken ≡ true
     mark true b c e = cc
     mark false true c e = cc
     mark false false true e = cc
     mark false false false e = cc
 
     either_or : (a : Bool) (x y : Verdict) → (x ≡ NameTaken → p.taken ≡ true) → (y ≡ NameTaken → p.taken ≡ true) →
-      cond a x y ≡ NameTaken → p.taken ≡ true
+        cond a x y ≡ NameTaken → p.taken ≡ true
     either_or true x y h k e = h e
     either_or false x y h k e = k e
 
     open_it : (bad taken : Bool) → p.taken ≡ taken → cond bad BadFormat (cond taken NameTaken Stored) ≡ NameTaken →
-      p.taken ≡ true
+        p.taken ≡ true
     open_it true taken t e = cc
     open_it false true t e = t
     open_it false false t e = cc
 
     go : (closed : Bool) (format : Option Format) (r : Request) →
-      cond closed Closed (judge_open p format r) ≡ NameTaken → p.taken ≡ true
+        cond closed Closed (judge_open p format r) ≡ NameTaken → p.taken ≡ true
     go true format r e = cc
     go false None (Open f history) e = open_it (not (is_format f && list_all is_history_byte history)) p.taken refl e
     go false None (Block bytes) e = cc
@@ -153,15 +153,15 @@ name_taken p r e = go p.closed p.format r e
     go false None (Close total) e = cc
     go false (Some f) (Open g history) e = cc
     go false (Some f) (Block bytes) e =
-      either_or (length bytes % block_align f == 0) Stored BadBlock (λ x. cc) (λ x. cc) e
+        either_or (length bytes % block_align f == 0) Stored BadBlock (λ x. cc) (λ x. cc) e
     go false (Some f) (Mark id frame) e =
-      mark (nat_lt (frames p) frame) (list_any (λ m. m.0 == id) p.markers) (nat_le 1024 (length p.markers)) e
+        mark (nat_lt (frames p) frame) (list_any (λ m. m.0 == id) p.markers) (nat_le 1024 (length p.markers)) e
     go false (Some f) (SetField tag value) e =
-      either_or (is_some (field_fault tag value)) BadField Stored (λ x. cc) (λ x. cc) e
+        either_or (is_some (field_fault tag value)) BadField Stored (λ x. cc) (λ x. cc) e
     go false (Some f) (Close total) e = either_or (total == frames p) Stored WrongTotal (λ x. cc) (λ x. cc) e
 
 with_taken : (t : Take) (b : Bool) (r : Request) →
-  parts (with_request (record t { taken = b }) r) ≡ record (parts (with_request t r)) { taken = b }
+    parts (with_request (record t { taken = b }) r) ≡ record (parts (with_request t r)) { taken = b }
 with_taken t b (Open f history) = refl
 with_taken t b (Block bytes) = refl
 with_taken t b (Mark id frame) = refl
@@ -169,7 +169,7 @@ with_taken t b (SetField tag value) = refl
 with_taken t b (Close total) = refl
 
 after_by : (t : Take) (r : Request) (v : Verdict) (b : Bool) → v ≡ verdict t r → is_stored v ≡ b →
-  after t r ≡ cond b (with_request t r) t
+    after t r ≡ cond b (with_request t r) t
 after_by t r v b e s = ap (λ (x : Bool). cond x (with_request t r) t) (ap is_stored (sym e) ∙ s)
 
 -- a request that is stored
@@ -192,7 +192,7 @@ keeps_stored stood name log r old new finished later digest v judged s follows p
     ∙ ap (λ (x : Take). record (parts x) { taken = new.taken }) (sym (after_by t r v true e s)) in
     subst (KeepsDone stood name (record log { done = suc log.done }) new) (sym pushed)
     (keeps_next stood name log r old new finished digest v k here d e state (λ h. k.taken (sym taken ∙ h))
-      (λ h. taken ∙ h)
+    (λ h. taken ∙ h)
     (λ is. taken ∙ name_taken old r (sym judged ∙ is)))
 
 -- a request that is refused

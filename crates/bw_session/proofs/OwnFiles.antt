@@ -1,17 +1,14 @@
 -- What the calls of a growing file leave under a name that did not stand at the start.
-use Rattle.std.proofs.Common.{◌≡◌, ℕ, Bool, true, false, cond, List, length, Option, Some, None, Result, Ok, Err, refl}
+use Rattle.std.proofs.Common.{◌≡◌, ℕ, Bool, true, false, List, Option, Some, None, refl}
 use Rattle.std.proofs.Common.{sym, ◌∙◌, ap, subst}
-use Rattle.std.specs.Prelude.{IsTrue, IsFalse, IsSome, is_some, MatchResult, IfOk, OnErr}
+use Rattle.std.specs.Prelude.{IsTrue, IsSome, is_some}
 use Rattle.std.specs.Bool.{MatchBool}
-use Rattle.bw_model.specs.Take.{Take, Parts, Format, Request, Open, Block, Mark, SetField, Close, verdict, is_stored}
+use Rattle.bw_model.specs.Take.{Take, Format, Request, Open, Block, Mark, SetField, Close, verdict, is_stored}
 use Rattle.bw_model.specs.Take.{with_request}
 use Rattle.bw_model.specs.File.{file_of, file_with, form_of, form_len}
 use Rattle.bw_model.specs.Holds.{IsBetween, IsInTheMiddle}
 use Rattle.bw_model.proofs.Elements.{some_inj}
-use Rattle.bw_file.specs.Growing.{Growing, IsReady, BeginsFile, IsBegun, AsksForName, is_new}
-use Rattle.bw_file.specs.declared.store.Created.{Created}
-use Rattle.bw_file.specs.declared.store.Created.TheVariants.{New, Exists}
-use Rattle.bw_file.specs.declared.store.StoreFault.{StoreFault}
+use Rattle.bw_file.specs.Growing.{Growing, IsReady, IsBegun, AsksForName}
 use Rattle.bw_session.specs.Writing.{HasOwnFile, HasWholeFile}
 
 abbrev of_format : Take → Option Format → Take
@@ -40,7 +37,7 @@ between-some t f limit r None e b =
     absurd (none_between t f limit r (subst (λ (o : Option Format). IsBetween (of_format t o) limit r None) e b))
 
 pub ready : (t : Take) (r : Request) (g : Growing) (found : Option (List ℕ)) → HasOwnFile t r g found →
-  IsReady g t r found
+    IsReady g t r found
 ready t r g found h = go g.dirty h.whole
   where
     go : (d : Bool) → MatchBool d (IsInTheMiddle t g.limit (Some r) found) (found ≡ file_of t g.limit) →
@@ -111,7 +108,7 @@ module _ (t : Take) (f : Format) (history : List ℕ) (g g' : Growing) (before a
     (name : AsksForName g.made g'.made before after) where
   pub opened_new : g' ≡ record g { made = true; dirty = false } →
       after ≡ file_of (with_request t (Open f history)) g.limit →
-        HasWholeFile (with_request t (Open f history)) g' after
+      HasWholeFile (with_request t (Open f history)) g' after
   opened_new known now = record {
     whole = now ∙ ap (λ (x : Growing). file_of (with_request t (Open f history)) x.limit) (sym known);
     made_here = ap (λ (x : Growing). x.made) known ∙ sym (ap is_some now);
@@ -148,7 +145,7 @@ module _ (t : Take) (f : Format) (history : List ℕ) (g g' : Growing) (before a
               waiting = refl;
               to_store = stored;
               between = subst (IsBetween t g.limit (Open f history)) (sym none)
-                (nothing_between t g.limit f history unopened);
+                  (nothing_between t g.limit f history unopened);
             };
             made_here = sym (ap is_some none);
           }
@@ -176,5 +173,5 @@ pub marked_file : (t : Take) (limit id frame : ℕ) → t.closed ≡ false →
     file_of (with_request t (Mark id frame)) limit ≡ file_of t limit
 marked_file t limit id frame open_still =
     subst (λ (v : Bool). file_of (with_request (record t { closed = v }) (Mark id frame)) limit
-      ≡ file_of (record t { closed = v }) limit)
+    ≡ file_of (record t { closed = v }) limit)
     (sym open_still) (marked_as t t.format limit id frame)

@@ -1,6 +1,6 @@
 -- How the digests and verdicts of done numbers lie in their bytes.
 use Rattle.std.proofs.Common.{◌≡◌, ℕ, zero, suc, ◌+◌, ◌*◌, ◌/◌, ◌%◌, ◌<◌, ◌≤◌, List, [], ◌∷◌, ◌++◌, length, take, drop}
-use Rattle.std.proofs.Common.{Option, Some, refl, sym, ap, ◌∙◌, subst, arith}
+use Rattle.std.proofs.Common.{Some, refl, ap, ◌∙◌, subst, arith}
 use Rattle.std.specs.Prelude.{slice_index, slice_index_or, IsSome}
 use Rattle.std.proofs.lemmas.List.{nil_from_length, take-append-le, drop-append-le, get_or_append_left, length-drop}
 use Rattle.std.proofs.lemmas.List.{drop-drop, get_or-drop, take_at, get_or_at}
@@ -44,8 +44,11 @@ entries_push (suc n) bytes d v e h =
     let below : 32 < length bytes = omega (arith, e) in
     let rest : length (drop 33 bytes) ≡ 33 * n = omega (arith, length-drop 33 bytes, e) in
     let more : List ℕ = d ++ verdict_code v ∷ [] in
-    rw (take-append-le 32 bytes more long32, get_or_append_left bytes more 0 32 below,
-      drop-append-le 33 bytes more long)
+    rw (
+      take-append-le 32 bytes more long32,
+      get_or_append_left bytes more 0 32 below,
+      drop-append-le 33 bytes more long,
+    )
     (ap (λ (xs : List (List ℕ × Verdict)). (take 32 bytes, verdict_coded (slice_index bytes 32)) ∷ xs)
     (entries_push n (drop 33 bytes) d v rest h))
 

@@ -1,7 +1,7 @@
 -- The slots of a window, one by one.
-use Rattle.std.proofs.Common.{◌≡◌, ℕ, ◌+◌, ◌<◌, Bool, true, false, List, length, take, get_or, Option, Some, None, refl}
+use Rattle.std.proofs.Common.{◌≡◌, ℕ, ◌+◌, ◌<◌, Bool, true, false, List, length, take, get_or, Option, Some, None}
 use Rattle.std.proofs.Common.{sym, ap, ◌∙◌, Bor}
-use Rattle.std.specs.Prelude.{is_some, option_copied, option_and_then, count_by}
+use Rattle.std.specs.Prelude.{is_some, option_copied, option_and_then}
 use Rattle.std.proofs.lemmas.Option.{slice_get-get_or}
 use Rattle.std.proofs.lemmas.List.Sums.{count_by_more_no, count_by_more_yes}
 use Rattle.bw_model.specs.Bytes.{at}
@@ -12,7 +12,7 @@ pub at-slot : (slots : List (Option (List ℕ))) (i : ℕ) → i < length slots 
 at-slot slots i h = ap (option_and_then (λ x. x)) (slice_get-get_or slots i None h)
 
 pub copied-some : (r : Option (Bor (List ℕ))) (o : Option (List ℕ)) (v : Bool) → option_copied r ≡ o → is_some r ≡ v →
-  is_some o ≡ v
+    is_some o ≡ v
 copied-some (Some r) o v e h = sym (ap is_some e) ∙ h
 copied-some None o v e h = sym (ap is_some e) ∙ h
 

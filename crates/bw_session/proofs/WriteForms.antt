@@ -1,11 +1,11 @@
 -- What a request that is to be stored does to the file, by its kind.
 use Rattle.std.proofs.Common.{◌≡◌, ℕ, Bool, true, false, cond, List, Option, Some, None, Result, Ok, Err, refl, sym}
 use Rattle.std.proofs.Common.{◌∙◌, ap, subst}
-use Rattle.std.specs.Prelude.{IsTrue, IsFalse, IsSome, is_some, IfOk, OnErr, ◌==◌}
+use Rattle.std.specs.Prelude.{IsFalse, IsSome, is_some, IfOk, OnErr, ◌==◌}
 use Rattle.std.specs.Bool.{MatchBool}
 use Rattle.std.proofs.lemmas.Bool.{eqb-true}
-use Rattle.bw_model.specs.Take.{Take, Parts, Format, Request, Open, Block, Mark, SetField, Close, Stored, Closed}
-use Rattle.bw_model.specs.Take.{NotOpen, WrongTotal, parts, judge, judge_open, frames, verdict, is_stored, with_request}
+use Rattle.bw_model.specs.Take.{Take, Parts, Format, Request, Open, Mark, Close, Stored, Closed}
+use Rattle.bw_model.specs.Take.{WrongTotal, parts, judge, judge_open, frames, verdict, is_stored, with_request}
 use Rattle.bw_model.specs.File.{file_of}
 use Rattle.bw_model.specs.Holds.{IsBetween, IsInTheMiddle}
 use Rattle.bw_take.proofs.StoredLemmas.{opened_once}
@@ -14,7 +14,7 @@ use Rattle.bw_file.specs.declared.store.Created.{Created}
 use Rattle.bw_file.specs.declared.store.Created.TheVariants.{New, Exists}
 use Rattle.bw_file.specs.declared.store.StoreFault.{StoreFault}
 use Rattle.bw_file.proofs.Judged.{IsOpen, open_for}
-use Rattle.bw_session.specs.Writing.{HasOwnFile, Writes}
+use Rattle.bw_session.specs.Writing.{Writes}
 use Rattle.bw_session.proofs.OwnFiles.{ready, whole_behind, own_behind, begun, opened_new, never_stood, opened_err}
 use Rattle.bw_session.proofs.OwnFiles.{left_alone, marked_file}
 
@@ -55,7 +55,7 @@ module _ (p : Parts) (r : Request) (g g' : Growing) (before after : Option (List
 
 -- a marker
 pub writes_mark : (p : Parts) (id frame : ℕ) (g : Growing) (found : Option (List ℕ)) →
-  judge p (Mark id frame) ≡ Stored →
+    judge p (Mark id frame) ≡ Stored →
     g.dirty ≡ false → Writes (Ok New) (Mark id frame) p g g found found
 writes_mark p id frame g found stored clean =
     let o = open_for p (Mark id frame) refl stored in
@@ -64,7 +64,7 @@ writes_mark p id frame g found stored clean =
         refl,
         record {
           whole = subst (λ (d : Bool). MatchBool d (IsInTheMiddle t g.limit (Some (Mark id frame)) found)
-            (found ≡ file_of t g.limit)) clean h.whole
+              (found ≡ file_of t g.limit)) clean h.whole
               ∙ sym (marked_file t g.limit id frame (ap (λ (q : Parts). q.closed) e ∙ o.not_closed));
           made_here = h.made_here;
         },
@@ -84,9 +84,11 @@ writes_open (Ok New) p f history g g' before after stored known err name stood f
     let made : g'.made ≡ true = ap (λ (x : Growing). x.made) known in
     record {
       own = λ t e h.
-          let unopened : t.format ≡ None = ap (λ (q : Parts). q.format) e ∙ opened_once p f history stored in
-          (refl, opened_new t f history g g' before after unopened h name known
-            (file t e (begun t f history g before unopened h) made));
+          let unopened : t.format ≡ None = ap (λ (q : Parts). q.format) e ∙ opened_once p f history stored in (
+            refl,
+            opened_new t f history g g' before after unopened h name known
+                (file t e (begun t f history g before unopened h) made),
+          );
       stood = λ none unmade s. absurd (no (sym made ∙ (left_alone g g' before after name unmade s).1));
     }
   where
@@ -118,7 +120,7 @@ total_is p total stored = go p.closed p.format stored
     test false e s = cc
 
     go : (closed : Bool) (format : Option Format) → cond closed Closed (judge_open p format (Close total)) ≡ Stored →
-      total ≡ frames p
+        total ≡ frames p
     go true format s = cc
     go false None s = cc
     go false (Some f) s = test (total == frames p) refl s

@@ -1,5 +1,5 @@
 -- What judging a request, and writing it where it is to be stored, leaves.
-use Rattle.std.specs.Prelude.{◌≡◌, Bool, true, false, Option, None, IsSome, List, ℕ, Result}
+use Rattle.std.specs.Prelude.{◌≡◌, true, false, Option, None, IsSome, List, ℕ, Result}
 use Rattle.std.specs.Prelude.{MatchResult, IfOk}
 use Rattle.bw_model.specs.Take.{Take, Parts, Request, Stored, judge, parts, after}
 use Rattle.bw_take.specs.Verdicts.{verdict_meaning}

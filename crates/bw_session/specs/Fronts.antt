@@ -27,14 +27,14 @@ FileFollows (Some bytes) t g found = (found ≡ Some bytes) × (g.made ≡ false
 -- State, table and file are those of the log's done numbers, and this request is the next.
 pub record HoldsFront (first : Option (List ℕ)) (log : Log) (p : Parts)
     (finished : List (List ℕ × Verdict)) (r : Request) (g : Growing)
-      (found : Option (List ℕ)) : Type 0 where
+    (found : Option (List ℕ)) : Type 0 where
   pub memory : KeepsDone (is_some first) g.name log p finished
   pub file : FileStands first (take_of first log) r g found
 
 -- The next request has its verdict, and the file is that of the take behind it.
 pub record Carried (first : Option (List ℕ)) (log : Log) (v : Verdict) (p : Parts)
     (finished : List (List ℕ × Verdict)) (r : Request) (g : Growing)
-      (found : Option (List ℕ)) : Type 0 where
+    (found : Option (List ℕ)) : Type 0 where
   pub verdict_is : v ≡ verdict (take_of first log) r
   pub memory : KeepsDone (is_some first) g.name log p finished
   pub file : FileFollows first (after (take_of first log) r) g found

@@ -5,3 +5,4 @@ pub mod Writing
 pub mod Carrying
 pub mod Keeping
 pub mod Fronts
+pub mod Numbered

@@ -4,6 +4,7 @@
 mod body;
 mod carrying;
 mod ledger;
+mod numbering;
 mod settling;
 mod window;
 mod writing;

@@ -2,7 +2,6 @@ use Rattle.std.proofs.Common.{◌≡◌, true, Ok, Err, refl, sym, ◌∙◌, ap
 use Rattle.std.proofs.lemmas.Result.{err_from_is_err_and}
 use Rattle.bw_model.specs.Take.{Parts, Request}
 use Rattle.bw_take.specs.Requests.{meaning}
-use Rattle.bw_take.specs.Verdicts.{verdict_meaning}
 use Rattle.bw_file.specs.Growing.{Growing}
 use Rattle.bw_session.proofs.CarryForms.{carries_refused, carries_new, carries_exists, carries_err}
 use Rattle.bw_session.proofs.FrontForms.{carries_front}
@@ -26,7 +25,7 @@ returns-in_err-write_request-clause-front g c = λ honest first log finished h.
     let r : Request = meaning c.args.request.now in
     let answer = err_from_is_err_and c.from_residual.result c.from_residual.ensures.1 in
     rw answer.1 (carries_front
-      (Err answer.0) first log p p finished r c.args.growing.now c.write_request.new.growing _ _
+    (Err answer.0) first log p p finished r c.args.growing.now c.write_request.new.growing _ _
     (carries_err c.in_err-write_request.field-0.0 answer.0 p r c.args.growing.now c.write_request.new.growing _ _
     (c.in_err-write_request.ensures.file honest))
     refl (λ known. known) (ap (λ (x : Growing). x.name) c.write_request.ensures.known.same) tt refl h)
@@ -36,10 +35,10 @@ returns-in-New-clause-front g c = λ honest first log finished h.
     let p : Parts = c.args.state.now.parts in
     let r : Request = meaning c.args.request.now in
     carries_front (Ok c.judge-verdict.result) first log p p finished r c.args.growing.now c.write_request.new.growing _
-      _
+    _
     (carries_new c.judge-verdict.result p r c.args.growing.now c.write_request.new.growing _ _ c.judge-verdict.ensures
     (sym c.is_stored.ensures.value ∙ c.if-not-is_stored.false)
-      (rw c.in-New.is at (c.in_ok-write_request.ensures.file honest)))
+    (rw c.in-New.is at (c.in_ok-write_request.ensures.file honest)))
     refl (λ known. known) (ap (λ (x : Growing). x.name) c.write_request.ensures.known.same) c.judge-verdict.ensures tt h
 
 pub returns-in-Exists-clause-front : goal.returns-in-Exists-clause-front

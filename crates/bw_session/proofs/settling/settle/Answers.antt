@@ -1,4 +1,4 @@
-use Rattle.std.proofs.Common.{◌≡◌, ℕ, suc, true, false, List, sym, ◌∙◌, subst}
+use Rattle.std.proofs.Common.{◌≡◌, suc, true, false, sym, ◌∙◌, subst}
 use Rattle.bw_model.specs.Take.{Parts, Request, Verdict, is_stored}
 use Rattle.bw_take.specs.Requests.{meaning}
 use Rattle.bw_take.specs.States.{State, FollowsTakes}
@@ -19,12 +19,12 @@ returns-clause-keeps c = λ stood name log k here d e.
           let follows : FollowsTakes old r c.if-is_stored.state.parts =
           subst (λ (x : State). FollowsTakes old r x.parts) (sym w.state-is) w.commit.ensures.takes in
           keeps_stored stood name log r old c.if-is_stored.state.parts c.args.ledger.now.outcomes
-            c.push.new.self.outcomes
+          c.push.new.self.outcomes
           c.args.digest.now v c.requires.judged s follows c.push.ensures.outcomes k here d e
       | else-is_stored w ↦
           let s : is_stored v ≡ false = sym c.is_stored.ensures.value ∙ w.if-is_stored.false in
           subst (λ (x : State). KeepsDone stood name
-            (record log { done = suc log.done }) x.parts c.push.new.self.outcomes) (sym w.state-is)
+          (record log { done = suc log.done }) x.parts c.push.new.self.outcomes) (sym w.state-is)
           (keeps_refused stood name log r old c.args.ledger.now.outcomes c.push.new.self.outcomes
           c.args.digest.now v c.requires.judged s c.push.ensures.outcomes k here d e)
     ]

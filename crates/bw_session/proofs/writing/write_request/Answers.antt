@@ -1,13 +1,12 @@
-use Rattle.std.proofs.Common.{rules, ◌≡◌, ℕ, Bool, true, false, List, Option, Some, None, Result, Ok, Err, refl, sym}
+use Rattle.std.proofs.Common.{rules, ◌≡◌, ℕ, Bool, true, false, Some, Ok, refl, sym}
 use Rattle.std.proofs.Common.{◌∙◌, ap, subst}
-use Rattle.std.specs.Prelude.{IsTrue, OnOk}
+use Rattle.std.specs.Prelude.{IsTrue}
 use Rattle.std.proofs.lemmas.Result.{err_from_is_err_and}
-use Rattle.bw_model.specs.Take.{Take, Parts, Format, Request, Open, Block, Mark, SetField, Close, Stored, judge, parts}
+use Rattle.bw_model.specs.Take.{Parts, Format, Block, SetField, Close, Stored, judge}
 use Rattle.bw_model.specs.Take.{frames, with_field}
 use Rattle.bw_layout.specs.Formats.{format_of}
 use Rattle.bw_take.proofs.StoredLemmas.{opened_by_allowed, set_without_fault, some_where}
 use Rattle.bw_file.proofs.Judged.{open_for_block, open_for_field, open_for_close}
-use Rattle.bw_session.specs.Writing.{Writes}
 use Rattle.bw_session.proofs.WriteForms.{writes_ok, writes_err, writes_mark, writes_open, total_is}
 use Rattle.bw_session.proofs.writing.write_request.Goals as goal
 
@@ -39,7 +38,7 @@ returns-in-OpenTake-clause-file g c = λ honest.
     let there : c.new.result ≡ Some f = some_where _ _ _ c.new.ensures (opened_by_allowed _ _ _ stored) in
     let same : c.unwrap-format.result ≡ f = search rules in
     rw c.in-OpenTake.is (writes_open c.begin.result p f c.in-OpenTake.history.now c.args.growing.now c.begin.new.self _
-      _ stored
+    _ stored
     c.begin.ensures.ok c.begin.ensures.err (c.begin.ensures.name honest) (c.begin.ensures.stood honest)
     (rw same at (c.begin.ensures.file honest)))
 
@@ -74,9 +73,9 @@ returns-in_ok-retouch-in-SetField-clause-file g c = λ honest.
     let told : c.set.result ≡ Ok tt = rw (c.set.ensures.told, set_without_fault _ _ _ stored) refl in
     let set : c.set.new.self ≡ with_field p.fields c.in-SetField.tag c.in-SetField.value.now = search rules in
     rw c.in-SetField.is (writes_ok p
-      (SetField c.in-SetField.tag c.in-SetField.value.now) c.args.growing.now c.retouch.new.self _ _
+    (SetField c.in-SetField.tag c.in-SetField.value.now) c.args.growing.now c.retouch.new.self _ _
     (open_for_field p c.in-SetField.tag c.in-SetField.value.now stored)
-      (λ t. refl) c.in_ok-retouch-in-SetField.ensures.known
+    (λ t. refl) c.in_ok-retouch-in-SetField.ensures.known
     (λ t e. c.in_ok-retouch-in-SetField.ensures.file honest t e c.in-SetField.tag c.in-SetField.value.now
     (set ∙ ap (λ (q : Parts). with_field q.fields c.in-SetField.tag c.in-SetField.value.now) (sym e))))
 
@@ -87,11 +86,11 @@ returns-in_err-retouch-in-SetField-clause-file g c = λ honest.
     let told : c.set.result ≡ Ok tt = rw (c.set.ensures.told, set_without_fault _ _ _ stored) refl in
     let set : c.set.new.self ≡ with_field p.fields c.in-SetField.tag c.in-SetField.value.now = search rules in
     let answer = err_from_is_err_and c.from_residual-in_err-retouch-in-SetField.result
-        c.from_residual-in_err-retouch-in-SetField.ensures.1 in
+    c.from_residual-in_err-retouch-in-SetField.ensures.1 in
     rw (answer.1, c.in-SetField.is)
-      (writes_err p (SetField c.in-SetField.tag c.in-SetField.value.now) c.args.growing.now c.retouch.new.self _ _
+    (writes_err p (SetField c.in-SetField.tag c.in-SetField.value.now) c.args.growing.now c.retouch.new.self _ _
     (open_for_field p c.in-SetField.tag c.in-SetField.value.now stored) answer.0 stored
-      c.in_err-retouch-in-SetField.ensures.known
+    c.in_err-retouch-in-SetField.ensures.known
     (λ t e. c.in_err-retouch-in-SetField.ensures.file honest t e c.in-SetField.tag c.in-SetField.value.now
     (set ∙ ap (λ (q : Parts). with_field q.fields c.in-SetField.tag c.in-SetField.value.now) (sym e))))
 
@@ -110,8 +109,8 @@ returns-in_err-close-in-CloseTake-clause-file g c = λ honest.
     let stored = rw c.in-CloseTake.is at c.requires.stored in
     let total : c.in-CloseTake.frames ≡ frames p = total_is p c.in-CloseTake.frames stored in
     let answer = err_from_is_err_and c.from_residual-in_err-close-in-CloseTake.result
-        c.from_residual-in_err-close-in-CloseTake.ensures.1 in
+    c.from_residual-in_err-close-in-CloseTake.ensures.1 in
     rw (answer.1, c.in-CloseTake.is, total) (writes_err p (Close (frames p)) c.args.growing.now c.close.new.self _ _
     (open_for_close p c.in-CloseTake.frames stored) answer.0
-      (subst (λ (n : ℕ). judge p (Close n) ≡ Stored) total stored)
+    (subst (λ (n : ℕ). judge p (Close n) ≡ Stored) total stored)
     c.in_err-close-in-CloseTake.ensures.known (c.in_err-close-in-CloseTake.ensures.file honest))

@@ -1,7 +1,6 @@
-use Rattle.std.proofs.Common.{◌≡◌, ℕ, suc, ◌+◌, ◌*◌, ◌/◌, ◌%◌, ◌++◌, List, length, rules, sym, arith}
+use Rattle.std.proofs.Common.{◌≡◌, ℕ, suc, ◌+◌, ◌*◌, ◌/◌, List, length, rules, arith}
 use Rattle.std.proofs.lemmas.Grind.{common_steps}
 use Rattle.bw_take.specs.Verdicts.{verdict_meaning}
-use Rattle.bw_session.specs.Ledgers.{IsPacked}
 use Rattle.bw_session.proofs.Packing.{entries_push, codes_push}
 use Rattle.bw_session.proofs.ledger.Ledger.push.Goals as goal
 
@@ -11,13 +10,13 @@ invariant_of-self c =
     let i = c.self.invariant.whole in
     let whole : length old ≡ 33 * (length old / 33) = grind arith in
     let len : length c.pack.new.bytes.items ≡ length old + 33 = let e =
-        c.pack.ensures.items in grind (arith, common_steps) in
+    c.pack.ensures.items in grind (arith, common_steps) in
     let count : length c.pack.new.bytes.items / 33 ≡ suc (length old / 33) = grind arith in
     record {
       whole = grind arith;
       coded = rw (count, c.pack.ensures.items)
           (codes_push (length old / 33) old c.args.digest.now (verdict_meaning c.args.verdict) whole
-            (search rules) c.self.invariant.coded);
+          (search rules) c.self.invariant.coded);
     }
 
 pub returns-clause-outcomes : goal.returns-clause-outcomes
@@ -26,7 +25,7 @@ returns-clause-outcomes c =
     let i = c.self.invariant.whole in
     let whole : length old ≡ 33 * (length old / 33) = grind arith in
     let len : length c.pack.new.bytes.items ≡ length old + 33 = let e =
-        c.pack.ensures.items in grind (arith, common_steps) in
+    c.pack.ensures.items in grind (arith, common_steps) in
     let count : length c.pack.new.bytes.items / 33 ≡ suc (length old / 33) = grind arith in
     rw (count, c.pack.ensures.items, ← c.self.view_is)
     (entries_push (length old / 33) old c.args.digest.now (verdict_meaning c.args.verdict) whole (search rules))

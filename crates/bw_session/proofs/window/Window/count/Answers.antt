@@ -1,7 +1,6 @@
 use Rattle.std.proofs.Common.{◌≡◌, ◌+◌, ◌<◌, length, true, false, ap, sym, ◌∙◌, arith, rules}
 use Rattle.std.specs.Prelude.{is_some}
 use Rattle.std.proofs.lemmas.List.{take_all}
-use Rattle.bw_model.specs.Bytes.{at}
 use Rattle.bw_session.specs.Windows.{count_held}
 use Rattle.bw_session.proofs.Slots.{copied-some, count_more, count_same}
 use Rattle.bw_session.proofs.window.Window.count.Goals as goal
@@ -18,7 +17,7 @@ loop-slot-preserved c =
           record {
             counted = w.count-is ∙ (ap (λ n. n + 1) c.loop-slot.invariant.counted
                 ∙ sym (count_more c.args.self.now c.loop-slot.slot below
-                  (copied-some c.get.result _ true c.get.ensures.value some)));
+                (copied-some c.get.result _ true c.get.ensures.value some)));
             few = omega arith;
           }
       | else-is_some w ↦
@@ -26,11 +25,11 @@ loop-slot-preserved c =
           record {
             counted = w.count-is ∙ (c.loop-slot.invariant.counted
                 ∙ sym (count_same c.args.self.now c.loop-slot.slot below
-                  (copied-some c.get.result _ false c.get.ensures.value none)));
+                (copied-some c.get.result _ false c.get.ensures.value none)));
             few = omega arith;
           }
     ]
 
 pub returns-clause-value : goal.returns-clause-value
 returns-clause-value c =
-  c.loop-slot.invariant.counted ∙ ap count_held (take_all c.loop-slot.slot c.args.self.now (search rules))
+    c.loop-slot.invariant.counted ∙ ap count_held (take_all c.loop-slot.slot c.args.self.now (search rules))

@@ -1,4 +1,4 @@
-use Rattle.std.proofs.Common.{◌≡◌, ◌≤◌, take, length}
+use Rattle.std.proofs.Common.{◌≡◌, ◌≤◌, take}
 use Rattle.bw_session.specs.Windows.{count_held}
 use Rattle.bw_session.proofs.window.Window.count.Given as goal
 
