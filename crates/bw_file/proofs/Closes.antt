@@ -13,9 +13,9 @@ use Rattle.bw_file.specs.Growing.{Growing, IsReady}
 use Rattle.bw_layout.specs.declared.heading.Heading.{Heading}
 use Rattle.bw_layout.specs.Headings.{header_of, place_of}
 use Rattle.bw_file.specs.Headers.{PutsLast, PutsOver}
-use Rattle.bw_file.proofs.Between.{repairable_parts}
+use Rattle.bw_file.proofs.RepairableContents.{repairable_parts}
 use Rattle.bw_file.proofs.Stands.{StandsFor, stands_torn, ready_stands, ready_clean, stands_between, file_after}
-use Rattle.bw_file.proofs.Headed.{IsHeading}
+use Rattle.bw_file.proofs.TakeHeadings.{IsHeading}
 use Rattle.bw_file.proofs.Files.{body, place, cue_chunk, head_with, file_open, file_closed, length-body, length-file}
 
 module _ (g : Growing) (t : Take) (total : ℕ) (f : Format) (format : t.format ≡ Some f) (is_open : t.closed ≡ false)

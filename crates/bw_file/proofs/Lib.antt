@@ -5,12 +5,12 @@ pub mod Bytes
 pub mod Torn
 pub mod Tears
 pub mod Puts
-pub mod Between
-pub mod Sizes
+pub mod RepairableContents
+pub mod WrittenSizes
 pub mod Judged
 pub mod Stands
 pub mod Files
-pub mod Headed
+pub mod TakeHeadings
 pub mod Appends
 pub mod Closes
 pub mod Begins

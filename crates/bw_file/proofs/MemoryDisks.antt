@@ -15,8 +15,8 @@ use Rattle.bw_file.specs.declared.memory_disk.StoredFile.{StoredFile}
 use Rattle.bw_file.specs.MemoryDisks.{stands_at, content_at, synced_at}
 
 -- the content of a file that is found
-abbrev pub content_of : Option StoredFile → Option (List ℕ)
-content_of found = option_map (λ (file : StoredFile). file.content.items) found
+abbrev pub content_under : Option StoredFile → Option (List ℕ)
+content_under found = option_map (λ (file : StoredFile). file.content.items) found
 
 -- .. and what it had when it was last synced
 abbrev pub synced_of : Option StoredFile → Option (List ℕ)
@@ -89,10 +89,10 @@ module _ (files : List StoredFile) (path : List ℕ) (i : ℕ) (old new : Stored
   after = find_changed (stands_at path) files i old new is (ap (λ (b : List ℕ). bytes_eq b path) same ∙ old_stands)
 
   pub content_before : content_at files path ≡ Some old.content.items
-  content_before = ap content_of before
+  content_before = ap content_under before
 
   pub content_after : content_at (slice_set files i new) path ≡ Some new.content.items
-  content_after = ap content_of after
+  content_after = ap content_under after
 
   -- no other path has it
   apart : (other : List ℕ) → other ≢ path → bytes_eq (string_bytes old.path) other ≡ false
@@ -124,7 +124,7 @@ module _ (files : List StoredFile) (path : List ℕ) (new : StoredFile)
   stood = find_none (stands_at path) files none
 
   pub nothing : content_at files path ≡ None
-  nothing = ap content_of stood
+  nothing = ap content_under stood
 
   new_stands : stands_at path new ≡ true
   new_stands = (bytes_eq-Decides (string_bytes new.path) path).1 at
@@ -136,7 +136,7 @@ module _ (files : List StoredFile) (path : List ℕ) (new : StoredFile)
   -- the file that is made
   pub made : content_at (files ++ new ∷ []) path ≡ Some new.content.items
   made =
-      ap content_of (found path
+      ap content_under (found path
       ∙ ap (λ (o : Option StoredFile). option_or o (cond (stands_at path new) (Some new) None)) stood
       ∙ ap (λ (b : Bool). cond b (Some new) None) new_stands)
 
@@ -149,7 +149,7 @@ module _ (files : List StoredFile) (path : List ℕ) (new : StoredFile)
   made_others other ne =
       let out : stands_at other new ≡ false =
       refuted _ (λ e. ne (sym ((bytes_eq-Decides (string_bytes new.path) other).0 e) ∙ at)) in
-      ap content_of (found other
+      ap content_under (found other
       ∙ ap (λ (b : Bool). option_or (find (stands_at other) files) (cond b (Some new) None)) out
       ∙ or_none (find (stands_at other) files))
 

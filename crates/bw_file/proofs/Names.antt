@@ -14,7 +14,7 @@ use Rattle.std.proofs.lemmas.Map.Lookups.{exact_bytes}
 use Rattle.std.proofs.lemmas.Map.Made.{is_member-Decides}
 use Rattle.std.proofs.lemmas.Map.Text.{is_eq-slice_cmp}
 use Rattle.std.proofs.lemmas.Slice.Eq.{bytes_eq-Decides}
-use Rattle.bw_file.specs.Memory.{content_of}
+use Rattle.bw_file.specs.Memory.{content_under}
 use Rattle.bw_file.specs.Stores.{KeepsOthers}
 
 -- names that differ are apart
@@ -31,12 +31,12 @@ apart name other ne =
 
 -- a change at one name leaves what the others have
 pub updates_others : (files new : BTreeMap (List ℕ) (Vec ℕ Global)) (name : List ℕ) (w : Option (Vec ℕ Global)) →
-    Updates (slice_cmp nat_cmp) files new name w → KeepsOthers (content_of files) (content_of new) name
+    Updates (slice_cmp nat_cmp) files new name w → KeepsOthers (content_under files) (content_under new) name
 updates_others files new name w u =
     λ other ne. ap (option_map (λ (v : Vec ℕ Global). v.items)) (u.2 other (apart name other ne))
 
-same_name : (a b : List ℕ) → Decides (eq_by_cmp (slice_cmp nat_cmp) a b) (a ≡ b)
-same_name a b = subst (λ (r : Bool). Decides r (a ≡ b)) (sym (is_eq-slice_cmp a b)) (bytes_eq-Decides a b)
+same_by_order : (a b : List ℕ) → Decides (eq_by_cmp (slice_cmp nat_cmp) a b) (a ≡ b)
+same_by_order a b = subst (λ (r : Bool). Decides r (a ≡ b)) (sym (is_eq-slice_cmp a b)) (bytes_eq-Decides a b)
 
 is_some-map : (o : Option (Vec ℕ Global)) → is_some (option_map (λ (v : Vec ℕ Global). v.items) o) ≡ is_some o
 is_some-map o = grind arith
@@ -44,8 +44,8 @@ is_some-map o = grind arith
 -- a name stands where it is among the keys
 pub stands_iff : (files : BTreeMap (List ℕ) (Vec ℕ Global)) (name : List ℕ) →
     is_some (get (slice_cmp nat_cmp) files name) ≡ is_member (eq_by_cmp (slice_cmp nat_cmp)) (keys files) name →
-    IsSome (content_of files name) ↔ Contains (keys files) name
+    IsSome (content_under files name) ↔ Contains (keys files) name
 stands_iff files name has =
     let same = is_some-map (get (slice_cmp nat_cmp) files name) ∙ has in
-    let decides = is_member-Decides same_name (keys files) name in
+    let decides = is_member-Decides same_by_order (keys files) name in
     (λ stands. decides.0 (sym same ∙ stands), λ among. same ∙ decides.1 among)

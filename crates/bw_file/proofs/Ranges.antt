@@ -8,7 +8,7 @@ use Rattle.bw_layout.specs.Places.{range_of}
 use Rattle.bw_layout.proofs.FieldRanges.{range_tags}
 use Rattle.bw_file.specs.Calls.{WriteAt}
 use Rattle.bw_file.specs.Plans.{field_plan, range_plan}
-use Rattle.bw_file.specs.OneField.{SetsField, IsSameIn}
+use Rattle.bw_file.specs.OneField.{DiffersInField, IsSameIn}
 use Rattle.bw_file.proofs.Parts.{parts_at}
 
 -- what `!=` says of bytes
@@ -27,7 +27,7 @@ abbrev pub AreSameBelow : ℕ → List ℕ → List ℕ → Type 0
 AreSameBelow now before after = (t : ℕ) (at : ℕ × ℕ) → t < now → range_of t ≡ Some at → IsSameIn at before after
 
 -- headers that are the same in the field are the same
-same_where_same : (tag : ℕ) (before after : List ℕ) (s : SetsField tag before after) → IsSameIn s.range before after →
+same_where_same : (tag : ℕ) (before after : List ℕ) (s : DiffersInField tag before after) → IsSameIn s.range before after →
     after ≡ before
 same_where_same tag before after s same =
     let from = s.range.0 in
@@ -39,7 +39,7 @@ same_where_same tag before after s same =
 
 module _ (before after : List ℕ) (now : ℕ) (below : AreSameBelow now before after) where
   -- none differs
-  pub all_same : 12 < now → (tag : ℕ) → SetsField tag before after → after ≡ before
+  pub all_same : 12 < now → (tag : ℕ) → DiffersInField tag before after → after ≡ before
   all_same past tag s = same_where_same tag before after s
       (below tag s.range (let high = range_tags tag s.range s.known in omega arith) s.known)
 
@@ -55,7 +55,7 @@ module _ (before after : List ℕ) (now : ℕ) (below : AreSameBelow now before 
         go (inr (inr more)) = absurd (omega arith)
 
     -- the first that differs is the field's
-    pub first_differs : (IsSameIn range before after → ⊥) → (tag : ℕ) → SetsField tag before after →
+    pub first_differs : (IsSameIn range before after → ⊥) → (tag : ℕ) → DiffersInField tag before after →
         range_of tag ≡ Some range
     first_differs differ tag s = go (cases_order tag now)
       where
@@ -73,7 +73,7 @@ module _ (before after : List ℕ) (now : ℕ) (below : AreSameBelow now before 
         go (inr (inr more)) = go_on (s.earlier now range (omega arith) is)
 
 -- .. and all but the field is the same
-pub alike_at : (tag : ℕ) (before after : List ℕ) (s : SetsField tag before after) (range : ℕ × ℕ) →
+pub alike_at : (tag : ℕ) (before after : List ℕ) (s : DiffersInField tag before after) (range : ℕ × ℕ) →
     range_of tag ≡ Some range →
     after ≡ take range.0 before ++ slice_range after range.0 (range.0 + range.1) ++ drop (range.0 + range.1) before
 alike_at tag before after s range is =

@@ -13,11 +13,11 @@ use Rattle.bw_file.specs.Growing.{Growing, IsReady}
 use Rattle.bw_layout.specs.declared.heading.Heading.{Heading}
 use Rattle.bw_layout.specs.Headings.{header_of, place_of}
 use Rattle.bw_file.specs.Headers.{PutsOver}
-use Rattle.bw_file.proofs.Between.{repairable_parts}
+use Rattle.bw_file.proofs.RepairableContents.{repairable_parts}
 use Rattle.bw_file.proofs.Parts.{parts_at}
 use Rattle.bw_file.proofs.Puts.{put_over}
 use Rattle.bw_file.proofs.Stands.{stands_torn, ready_stands, ready_clean, stands_between, file_after}
-use Rattle.bw_file.proofs.Headed.{IsHeading}
+use Rattle.bw_file.proofs.TakeHeadings.{IsHeading}
 use Rattle.bw_file.proofs.Files.{body, place, file_open}
 
 -- a part of a header is put over the old one, where the rest is the same

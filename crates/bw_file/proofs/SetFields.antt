@@ -6,9 +6,9 @@ use Rattle.std.proofs.lemmas.Bool.{cases_order}
 use Rattle.bw_model.specs.Take.{Parts, SetField, Stored, Shape, AreFields, judge, shape_of, shapes, shape_fault}
 use Rattle.bw_model.specs.Take.{with_field, field_bytes}
 use Rattle.bw_model.specs.File.{header}
-use Rattle.bw_layout.specs.Places.{bytes_of, range_of}
+use Rattle.bw_layout.specs.Places.{field_part, range_of}
 use Rattle.bw_layout.proofs.FieldRanges.{range_stands, range_shared, range_known}
-use Rattle.bw_file.specs.OneField.{SetsField, IsSameIn}
+use Rattle.bw_file.specs.OneField.{DiffersInField, IsSameIn}
 use Rattle.bw_layout.specs.Headings.{header_of}
 use Rattle.bw_layout.specs.declared.heading.Heading.{Heading}
 use Rattle.bw_take.proofs.StoredLemmas.{set_without_fault}
@@ -60,11 +60,11 @@ module _ (p : Parts) (tag : ℕ) (value : List ℕ) (old new : Heading) (data_le
   after = header_of new data_len 0
 
   old_bytes : (t : ℕ) (at : ℕ × ℕ) → range_of t ≡ Some at →
-      slice_range before at.0 (at.0 + at.1) ≡ bytes_of t old.bext.now
+      slice_range before at.0 (at.0 + at.1) ≡ field_part t old.bext.now
   old_bytes t at e = (range_stands t at e).bytes old.format old.bext.now old.history.now data_len 0 old.limit old.widths
 
   new_bytes : (t : ℕ) (at : ℕ × ℕ) → range_of t ≡ Some at →
-      slice_range after at.0 (at.0 + at.1) ≡ bytes_of t new.bext.now
+      slice_range after at.0 (at.0 + at.1) ≡ field_part t new.bext.now
   new_bytes t at e = (range_stands t at e).bytes new.format new.bext.now new.history.now data_len 0 new.limit new.widths
 
   fields : new.bext.now ≡ with_field old.bext.now tag value
@@ -81,7 +81,7 @@ module _ (p : Parts) (tag : ℕ) (value : List ℕ) (old new : Heading) (data_le
       ∙ (range_stands tag at e).others old.format old.bext.now value old.history.now data_len 0 old.limit old.widths
       (subst AreFields fields new.widths)
       ∙ ap (λ (m : List ℕ). take at.0 before ++ m ++ drop (at.0 + at.1) before)
-      (ap (bytes_of tag) (sym fields) ∙ sym (new_bytes tag at e))
+      (ap (field_part tag) (sym fields) ∙ sym (new_bytes tag at e))
 
   -- the field of an earlier tag, which has its own bytes or those of this one
   earlier : (range : ℕ × ℕ) → range_of tag ≡ Some range → (other : ℕ) (at : ℕ × ℕ) → other ≤ tag →
@@ -94,7 +94,7 @@ module _ (p : Parts) (tag : ℕ) (value : List ℕ) (old new : Heading) (data_le
       go (inl same) any = let both : Some at ≡ Some range = sym e ∙ ap range_of same ∙ is in inl (cc)
       go (inr (inl less)) (inr (inl text)) =
           let small : nat_le (suc n) 7 ≡ true = grind arith in
-          let one : (fs : List (List ℕ)) → bytes_of (suc n) fs ≡ get_or fs (suc n - 1) [] = λ fs. rw small refl in
+          let one : (fs : List (List ℕ)) → field_part (suc n) fs ≡ get_or fs (suc n - 1) [] = λ fs. rw small refl in
           inr (old_bytes (suc n) at e ∙ one old.bext.now
           ∙ sym (ap (λ (fs : List (List ℕ)). get_or fs (suc n - 1) []) fields
           ∙ keeps_earlier old.bext.now tag (suc n) value (omega arith) less) ∙ sym (one new.bext.now)
@@ -105,8 +105,8 @@ module _ (p : Parts) (tag : ℕ) (value : List ℕ) (old new : Heading) (data_le
           inl (range_shared (suc n) at e (omega arith) ∙ sym (range_shared tag range is (omega arith)))
       go (inr (inr more)) any = absurd (omega arith)
 
-  pub sets_field : SetsField tag before after
-  sets_field =
+  pub differs_in_field : DiffersInField tag before after
+  differs_in_field =
       let r = range_known tag known in
       record {
         range = r.0;
@@ -117,19 +117,19 @@ module _ (p : Parts) (tag : ℕ) (value : List ℕ) (old new : Heading) (data_le
       }
 
   -- the headers are the same where the field's bytes are
-  pub same_header : bytes_of tag p.fields ≡ bytes_of tag new.bext.now → before ≡ after
+  pub same_header : field_part tag p.fields ≡ field_part tag new.bext.now → before ≡ after
   same_header same =
       let r = range_known tag known in
-      let part = old_bytes tag r.0 r.1 ∙ ap (bytes_of tag) was ∙ same ∙ sym (new_bytes tag r.0 r.1) in
+      let part = old_bytes tag r.0 r.1 ∙ ap (field_part tag) was ∙ same ∙ sym (new_bytes tag r.0 r.1) in
       parts_at before r.0.0 (r.0.0 + r.0.1) (omega arith)
       ∙ sym (append_assoc (take r.0.0 before) (slice_range before r.0.0 (r.0.0 + r.0.1)) (drop (r.0.0 + r.0.1) before))
       ∙ ap (λ (m : List ℕ). take r.0.0 before ++ m ++ drop (r.0.0 + r.0.1) before) part
       ∙ sym (around r.0 r.1)
 
-  pub same_bytes : before ≡ after → bytes_of tag p.fields ≡ bytes_of tag new.bext.now
+  pub same_bytes : before ≡ after → field_part tag p.fields ≡ field_part tag new.bext.now
   same_bytes same =
       let r = range_known tag known in
-      ap (bytes_of tag) (sym was)
+      ap (field_part tag) (sym was)
       ∙ sym (old_bytes tag r.0 r.1)
       ∙ ap (λ (h : List ℕ). slice_range h r.0.0 (r.0.0 + r.0.1)) same
       ∙ new_bytes tag r.0 r.1

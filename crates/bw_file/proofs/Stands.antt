@@ -7,7 +7,7 @@ use Rattle.bw_model.specs.Take.{Take, Format, Request, Open, Block, Mark, SetFie
 use Rattle.bw_model.specs.File.{file_with, file_of, Repairable, kept_from, kept_to}
 use Rattle.bw_model.specs.Holds.{IsBetween}
 use Rattle.bw_file.specs.Stores.{MayTear}
-use Rattle.bw_file.proofs.Between.{repairable_torn, repairable_old}
+use Rattle.bw_file.proofs.RepairableContents.{repairable_torn, repairable_old}
 
 -- bytes that are between these files
 pub record Stands (old new : List ℕ) (from to : ℕ) (found : Option (List ℕ)) : Type 0 where

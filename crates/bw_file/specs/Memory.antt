@@ -6,5 +6,5 @@ use Rattle.std.specs.Cmp.Lexicographic.{slice_cmp}
 use Rattle.std.specs.BTreeMap.{BTreeMap, get}
 use Rattle.std.specs.declared.alloc.Global.{Global}
 
-abbrev pub content_of : BTreeMap (List ℕ) (Vec ℕ Global) → List ℕ → Option (List ℕ)
-content_of files name = option_map (λ v. v.items) (get (slice_cmp nat_cmp) files name)
+abbrev pub content_under : BTreeMap (List ℕ) (Vec ℕ Global) → List ℕ → Option (List ℕ)
+content_under files name = option_map (λ v. v.items) (get (slice_cmp nat_cmp) files name)

@@ -9,7 +9,7 @@ IsSameIn range before after =
     slice_range before range.0 (range.0 + range.1) ≡ slice_range after range.0 (range.0 + range.1)
 
 -- These headers are the same but for the field under this tag; no tag before it has a say in that.
-pub record SetsField (tag : ℕ) (before after : List ℕ) : Type 0 where
+pub record DiffersInField (tag : ℕ) (before after : List ℕ) : Type 0 where
   pub range : ℕ × ℕ
   pub known : range_of tag ≡ Some range
   pub long : 690 ≤ length after

@@ -4,7 +4,7 @@ use Rattle.std.specs.Prelude.{if◌then◌else◌, Option, Some, None, List, [],
 use Rattle.std.specs.Str.{bytes_eq}
 use Rattle.bw_model.specs.Take.{Parts}
 use Rattle.bw_model.specs.File.{form_size, data_place}
-use Rattle.bw_layout.specs.Places.{bytes_of, range_of}
+use Rattle.bw_layout.specs.Places.{field_part, range_of}
 use Rattle.bw_file.specs.Calls.{StoreCall, Create, WriteAt, Finish}
 use Rattle.bw_file.specs.Growing.{Growing}
 
@@ -93,7 +93,7 @@ append_plan g p n =
 abbrev pub retouch_plan : Growing → Parts → List (List ℕ) → ℕ → List StoreCall
 retouch_plan g p set tag =
     let place = data_place (length p.history) in
-    set_plan (not g.dirty) g.name place tag (bytes_of tag p.fields) (bytes_of tag set)
+    set_plan (not g.dirty) g.name place tag (field_part tag p.fields) (field_part tag set)
 
 -- to close: the cue points, then the header, and that the file is complete
 abbrev pub close_plan : Growing → Parts → List StoreCall

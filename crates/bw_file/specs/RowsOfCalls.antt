@@ -29,8 +29,8 @@ row_calls limit n markers =
     ++ close_plan (row_file limit true) (row_parts n markers)
 
 -- two frames: six calls
-abbrev pub TwoFramesRow : Type 0
-TwoFramesRow =
+abbrev pub SixCallsRow : Type 0
+SixCallsRow =
     row_calls 4294967294 4 [] ≡
     Create (codes "a1")
     ∷ WriteAt (codes "a1") 0 690
@@ -41,8 +41,8 @@ TwoFramesRow =
     ∷ []
 
 -- as many bytes as a RIFF file of this limit has, and a marker, by which it is BW64: eight calls
-abbrev pub OverLimitRow : Type 0
-OverLimitRow =
+abbrev pub EightCallsRow : Type 0
+EightCallsRow =
     row_calls 8192 7510 ((7, 0) ∷ []) ≡
     Create (codes "a1")
     ∷ WriteAt (codes "a1") 0 690

@@ -1,7 +1,7 @@
 //! Where two headers of a take differ, whose `bext` has one field of another value.
 ghost use Rattle.std.specs.Prelude.{◌≡◌, ◌+◌, ◌≤◌, ℕ, Some, IfSome, IfNone, length};
 ghost use Rattle.bw_layout.specs.Places.{range_of};
-ghost use Rattle.bw_file.specs.OneField.{SetsField, IsSameIn};
+ghost use Rattle.bw_file.specs.OneField.{DiffersInField, IsSameIn};
 
 use bw_layout::field_place;
 
@@ -9,9 +9,9 @@ use bw_layout::field_place;
 pub(crate) fn changed_range(before: &[u8], after: &[u8]) -> Option<(u64, u64)>
     requires same { length before.now ≡ length after.now }
     requires long { 690 ≤ length after.now }
-    ensures none { (tag : ℕ) → SetsField tag before.now after.now →
+    ensures none { (tag : ℕ) → DiffersInField tag before.now after.now →
         IfNone result (after.now ≡ before.now) }
-    ensures some { (tag : ℕ) → SetsField tag before.now after.now →
+    ensures some { (tag : ℕ) → DiffersInField tag before.now after.now →
         IfSome result (λ range. range_of tag ≡ Some range) }
     ensures differ { IfSome result (λ range. ¬ IsSameIn range before.now after.now) }
     ensures end { IfSome result (λ range. range.0 + range.1 ≤ 690) }

@@ -2,7 +2,7 @@
 ghost use Rattle.std.specs.Prelude.{◌≡◌, ◌≤◌, ◌<◌, ◌+◌, ◌^◌, ◌↔◌, ℕ, List, Some, None, IsSome, IfSome, IsTrue, IsOk, IfOk, OnOk, OnErr, is_err, length, slice_get, true};
 ghost use Rattle.std.specs.Option.{option_copied};
 ghost use Rattle.bw_file.specs.Stores.{Counts, Creates, Written, MayTear, KeepsOthers, overwritten};
-ghost use Rattle.bw_file.specs.Memory.{content_of};
+ghost use Rattle.bw_file.specs.Memory.{content_under};
 
 use crate::store::{Created, StoreFault, TakeStore};
 use crate::tally::Tally;
@@ -40,11 +40,11 @@ impl MemoryStore {
     /// # Errors
     /// `AllocError` where memory was refused: nothing changed then.
     pub fn plant(&mut self, name: &Name, bytes: &[u8]) -> Result<(), AllocError>
-        ensures ok { OnOk result (content_of self.new.files name.now ≡ Some bytes.now) }
+        ensures ok { OnOk result (content_under self.new.files name.now ≡ Some bytes.now) }
         ensures err { OnErr result
-            (content_of self.new.files name.now ≡ content_of self.old.files name.now) }
+            (content_under self.new.files name.now ≡ content_under self.old.files name.now) }
         ensures others { KeepsOthers
-            (content_of self.old.files) (content_of self.new.files) name.now }
+            (content_under self.old.files) (content_under self.new.files) name.now }
         ensures tally { self.new.tally ≡ self.old.tally }
     {
         let content = bytes.to_vec(self.alloc)?;
@@ -67,14 +67,14 @@ impl MemoryStore {
     /// The names that stand, by place from 0 on, in the order of their bytes.
     pub fn name_at(&self, place: usize) -> Option<&Name>
         ensures name { option_copied result ≡ slice_get (names_of self.now) place }
-        ensures names { AreNames (names_of self.now) (content_of self.now.files) }
+        ensures names { AreNames (names_of self.now) (content_under self.now.files) }
     {
         self.files.keys().nth(place)
     }
 }
 
 impl TakeStore for MemoryStore {
-    ghost contents = { λ s name. content_of s.files name };
+    ghost contents = { λ s name. content_under s.files name };
 
     ghost failures = { λ s. s.tally.failures };
 
@@ -86,12 +86,12 @@ impl TakeStore for MemoryStore {
         ensures failures { Counts self.old.tally.failures self.new.tally.failures (is_err result) }
         ensures calls { Counts self.old.tally.calls self.new.tally.calls true }
         ensures created { IfOk result (λ c.
-            Creates c (content_of self.old.files name.now) (content_of self.new.files name.now)) }
+            Creates c (content_under self.old.files name.now) (content_under self.new.files name.now)) }
         ensures failed { OnErr result
-            (content_of self.new.files name.now ≡ content_of self.old.files name.now) }
+            (content_under self.new.files name.now ≡ content_under self.old.files name.now) }
         ensures others { KeepsOthers
-            (content_of self.old.files) (content_of self.new.files) name.now }
-        ensures stands { IsSome (content_of self.old.files name.now) → IsOk result }
+            (content_under self.old.files) (content_under self.new.files) name.now }
+        ensures stands { IsSome (content_under self.old.files name.now) → IsOk result }
     {
         let answer = make(&mut self.files, self.alloc, name);
         self.tally.count(answer.is_err());
@@ -101,13 +101,13 @@ impl TakeStore for MemoryStore {
     fn write_at(&mut self, name: &Name, offset: u64, bytes: &[u8]) -> Result<(), StoreFault>
         ensures failures { Counts self.old.tally.failures self.new.tally.failures (is_err result) }
         ensures calls { Counts self.old.tally.calls self.new.tally.calls true }
-        ensures written { OnOk result (Written (content_of self.old.files name.now)
-            offset bytes.now (content_of self.new.files name.now)) }
+        ensures written { OnOk result (Written (content_under self.old.files name.now)
+            offset bytes.now (content_under self.new.files name.now)) }
         ensures failed { OnErr result
-            (content_of self.new.files name.now ≡ content_of self.old.files name.now) }
+            (content_under self.new.files name.now ≡ content_under self.old.files name.now) }
         ensures others { KeepsOthers
-            (content_of self.old.files) (content_of self.new.files) name.now }
-        ensures over { IfSome (content_of self.old.files name.now) (λ old.
+            (content_under self.old.files) (content_under self.new.files) name.now }
+        ensures over { IfSome (content_under self.old.files name.now) (λ old.
             offset + length bytes.now ≤ length old → IsOk result) }
     {
         let answer = write(&mut self.files, name, offset, bytes);
@@ -119,7 +119,7 @@ impl TakeStore for MemoryStore {
         ensures failures { Counts self.old.tally.failures self.new.tally.failures (is_err result) }
         ensures calls { Counts self.old.tally.calls self.new.tally.calls true }
         ensures unchanged { self.new.files ≡ self.old.files }
-        ensures stands { IsOk result ↔ IsSome (content_of self.old.files name.now) }
+        ensures stands { IsOk result ↔ IsSome (content_under self.old.files name.now) }
     {
         let stands = self.files.contains_key(name);
         self.tally.count(!stands);
@@ -134,11 +134,11 @@ fn make(
     name: &Name,
 ) -> Result<Created, StoreFault>
     ensures created { IfOk result
-        (λ c. Creates c (content_of files.old name.now) (content_of files.new name.now)) }
+        (λ c. Creates c (content_under files.old name.now) (content_under files.new name.now)) }
     ensures failed { OnErr result
-        (content_of files.new name.now ≡ content_of files.old name.now) }
-    ensures others { KeepsOthers (content_of files.old) (content_of files.new) name.now }
-    ensures stands { IsSome (content_of files.old name.now) → IsOk result }
+        (content_under files.new name.now ≡ content_under files.old name.now) }
+    ensures others { KeepsOthers (content_under files.old) (content_under files.new) name.now }
+    ensures stands { IsSome (content_under files.old name.now) → IsOk result }
 {
     if files.contains_key(name) {
         return Ok(Created::Exists);
@@ -157,11 +157,11 @@ fn write(
     bytes: &[u8],
 ) -> Result<(), StoreFault>
     ensures written { OnOk result
-        (Written (content_of files.old name.now) offset bytes.now (content_of files.new name.now)) }
+        (Written (content_under files.old name.now) offset bytes.now (content_under files.new name.now)) }
     ensures failed { OnErr result
-        (content_of files.new name.now ≡ content_of files.old name.now) }
-    ensures others { KeepsOthers (content_of files.old) (content_of files.new) name.now }
-    ensures over { IfSome (content_of files.old name.now) (λ old.
+        (content_under files.new name.now ≡ content_under files.old name.now) }
+    ensures others { KeepsOthers (content_under files.old) (content_under files.new) name.now }
+    ensures over { IfSome (content_under files.old name.now) (λ old.
         offset + length bytes.now ≤ length old → IsOk result) }
 {
     if offset > u64::MAX - bytes.len() as u64 {

@@ -7,7 +7,7 @@ ghost use Rattle.bw_file.specs.Stores.{MayTear};
 ghost use Rattle.bw_file.specs.StoreSteps.{Shared, WasAsked, WasAskedFirst};
 ghost use Rattle.bw_file.specs.Plans.{samples_plan, cues_plan, header_plan, sizes_plan, form_plan, grown_plan, closed_plan, field_plan, set_plan};
 ghost use Rattle.bw_file.specs.Headers.{PutsLast, PutsHeader, PutsOver, Updates};
-ghost use Rattle.bw_file.specs.OneField.{SetsField};
+ghost use Rattle.bw_file.specs.OneField.{DiffersInField};
 ghost use Rattle.bw_layout.specs.Headings.{header_of, place_of, fits_riff};
 
 use crate::buffer::Buffer;
@@ -260,17 +260,17 @@ pub(crate) fn put_retouched_header<S: TakeStore>(
 ) -> Result<(), StoreFault>
     requires place { place_of retouched.now ≡ place_of heading.now }
     requires samples { data_len ≤ largest }
-    requires field { (tag : ℕ) × SetsField tag
+    requires field { (tag : ℕ) × DiffersInField tag
         (header_of heading.now data_len 0) (header_of retouched.now data_len 0) }
     ensures shared { Shared S.TakeStore (is_err result) name.now store.old store.new }
     ensures order { (tag : ℕ) →
-        SetsField tag (header_of heading.now data_len 0) (header_of retouched.now data_len 0) →
+        DiffersInField tag (header_of heading.now data_len 0) (header_of retouched.now data_len 0) →
         OnOk result (WasAsked S.TakeStore
         (set_plan is_clean name.now (place_of heading.now) tag
         (header_of heading.now data_len 0) (header_of retouched.now data_len 0))
         store.old store.new) }
     ensures begun { (tag : ℕ) →
-        SetsField tag (header_of heading.now data_len 0) (header_of retouched.now data_len 0) →
+        DiffersInField tag (header_of heading.now data_len 0) (header_of retouched.now data_len 0) →
         OnErr result (WasAskedFirst S.TakeStore
         (set_plan is_clean name.now (place_of heading.now) tag
         (header_of heading.now data_len 0) (header_of retouched.now data_len 0))
@@ -300,17 +300,17 @@ fn put_field<S: TakeStore>(
 ) -> Result<(), StoreFault>
     requires place { place_of retouched.now ≡ place_of heading.now }
     requires samples { data_len ≤ largest }
-    requires field { (tag : ℕ) × SetsField tag
+    requires field { (tag : ℕ) × DiffersInField tag
         (header_of heading.now data_len 0) (header_of retouched.now data_len 0) }
     ensures shared { Shared S.TakeStore (is_err result) name.now store.old store.new }
     ensures order { (tag : ℕ) →
-        SetsField tag (header_of heading.now data_len 0) (header_of retouched.now data_len 0) →
+        DiffersInField tag (header_of heading.now data_len 0) (header_of retouched.now data_len 0) →
         OnOk result (WasAsked S.TakeStore
         (field_plan name.now tag
         (header_of heading.now data_len 0) (header_of retouched.now data_len 0))
         store.old store.new) }
     ensures begun { (tag : ℕ) →
-        SetsField tag (header_of heading.now data_len 0) (header_of retouched.now data_len 0) →
+        DiffersInField tag (header_of heading.now data_len 0) (header_of retouched.now data_len 0) →
         OnErr result (WasAskedFirst S.TakeStore
         (field_plan name.now tag
         (header_of heading.now data_len 0) (header_of retouched.now data_len 0))

@@ -2,7 +2,7 @@
 ghost use Rattle.std.specs.Prelude.{◌≡◌, ◌<◌, ◌==◌, List, not, true, IsTrue, OnOk, OnErr, is_err, filter};
 ghost use Rattle.bw_model.specs.Counts.{Counts, last_count};
 ghost use Rattle.bw_file.specs.Fuses.{has_fuse, Blows, first_half};
-ghost use Rattle.bw_file.specs.Memory.{content_of};
+ghost use Rattle.bw_file.specs.Memory.{content_under as content_of};
 ghost use Rattle.bw_file.specs.Stores.{KeepsOthers};
 ghost use Rattle.bw_journal.specs.MemoryHeaders.{header_for};
 ghost use Rattle.bw_journal.specs.Notes.{BeginsNotes, KeepsHeaders, NotesOver, NotesInPart};

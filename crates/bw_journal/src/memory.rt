@@ -4,7 +4,7 @@ ghost use Rattle.std.specs.Option.{option_copied};
 ghost use Rattle.std.specs.Str.{bytes_eq};
 ghost use Rattle.std.specs.List.{list_any};
 ghost use Rattle.bw_model.specs.Counts.{Counts};
-ghost use Rattle.bw_file.specs.Memory.{content_of};
+ghost use Rattle.bw_file.specs.Memory.{content_under as content_of};
 ghost use Rattle.bw_file.specs.Stores.{KeepsOthers};
 ghost use Rattle.bw_journal.specs.Notes.{BeginsWith, Starts, BeginsNotes, KeepsHeaders, IsShortOf, NotesOver, has_front};
 ghost use Rattle.bw_journal.specs.MemoryHeaders.{header_for};

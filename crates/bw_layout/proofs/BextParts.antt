@@ -1,12 +1,12 @@
 -- The fixed part of `bext`, cut at each field.
-use Rattle.std.proofs.Common.{◌≡◌, ℕ, ◌+◌, List, [], ◌∷◌, ◌++◌, length, map, Bool, true, false, cond, refl, sym, ◌∙◌}
+use Rattle.std.proofs.Common.{◌≡◌, ℕ, List, [], ◌∷◌, ◌++◌, length, map, Bool, true, false, cond, refl, ◌∙◌}
 use Rattle.std.proofs.Common.{ap, arith, append_assoc, length-append}
 use Rattle.std.specs.List.{concat, list_all, sum}
 use Rattle.std.specs.Str.{bytes_eq}
 use Rattle.std.proofs.lemmas.List.{append-nil}
-use Rattle.std.proofs.lemmas.List.Sums.{sum_by-cons}
 use Rattle.bw_model.specs.Bytes.{le16, zeros}
 use Rattle.bw_model.specs.Take.{AreFields, not_given}
+use Rattle.bw_model.proofs.Widths.{length-concat}
 
 -- the widths of seven fields, and of the five of the loudness
 pub record Widths (a b c d e t u : List ℕ) (levels : List (List ℕ)) : Type 0 where
@@ -97,12 +97,6 @@ length-version levels = go (version_1 levels)
     go : (v : Bool) → length (cond v (le16 1) (le16 2)) ≡ 2
     go true = refl
     go false = refl
-
-length-concat : (xss : List (List ℕ)) → length (concat xss) ≡ sum (map length xss)
-length-concat [] = refl
-length-concat (xs ∷ xss) =
-    length-append xs (concat xss) ∙ ap (λ (n : ℕ). length xs + n) (length-concat xss)
-    ∙ sym (sum_by-cons (λ n. n) (length xs) (map length xss))
 
 pub length-loudness : (levels : List (List ℕ)) → map length levels ≡ 2 ∷ 2 ∷ 2 ∷ 2 ∷ 2 ∷ [] →
     length (loudness levels) ≡ 10

@@ -1,13 +1,13 @@
 -- Where the fields of `bext` stand in a header.
 use Rattle.std.proofs.Common.{◌≡◌, ℕ, zero, suc, ◌+◌, ◌-◌, ◌≤◌, List, ◌++◌, length, take, drop, sym, ◌∙◌, ap, subst}
-use Rattle.std.proofs.Common.{arith, length-append}
+use Rattle.std.proofs.Common.{arith, length-append, refl, ◌∷◌}
 use Rattle.std.specs.Prelude.{codes, nat_le, slice_range, slice_set}
 use Rattle.bw_model.specs.Bytes.{zeros}
 use Rattle.bw_model.specs.Take.{Format, AreFields, with_field, field_bytes, Text, Digits, Whole, Maybe, Level}
 use Rattle.bw_model.specs.File.{form_size}
-use Rattle.bw_layout.specs.Places.{bytes_of, StandsAt}
+use Rattle.bw_layout.specs.Places.{field_part, from_version, StandsAt}
 use Rattle.bw_layout.proofs.AroundBext.{around, front, rear, length-front, header_around}
-use Rattle.bw_layout.proofs.Joints.{range_at_seam, changed_at_seam}
+use Rattle.bw_layout.proofs.JoinedRanges.{range_at_seam, changed_at_seam}
 use Rattle.bw_layout.proofs.BextParts.{by_name, cut1, cut2, cut3, cut4, cut5, cut6, cut7, cut8, version, loudness}
 use Rattle.bw_layout.proofs.BextParts.{length-version, texts-length, wide-length}
 
@@ -16,10 +16,10 @@ record Seams (tag place count : ℕ) (p q : List ℕ) (fields : List (List ℕ))
   before : List ℕ
   behind : List ℕ
   place-is : length before ≡ place
-  count-is : length (bytes_of tag fields) ≡ count
-  old : around p q fields ≡ before ++ (bytes_of tag fields ++ behind)
+  count-is : length (field_part tag fields) ≡ count
+  old : around p q fields ≡ before ++ (field_part tag fields ++ behind)
   new : (value : List ℕ) →
-      around p q (with_field fields tag value) ≡ before ++ (bytes_of tag (with_field fields tag value) ++ behind)
+      around p q (with_field fields tag value) ≡ before ++ (field_part tag (with_field fields tag value) ++ behind)
 
 -- seams between any ends are enough
 from_seams : (tag place count : ℕ) →
@@ -31,13 +31,13 @@ from_seams tag place count seams = record {
       (p-length f history data_len cues limit) fields h in
       ap (λ (l : List ℕ). slice_range l place (place + count))
       (header_around f fields history data_len cues limit h ∙ s.old)
-      ∙ range_at_seam s.before (bytes_of tag fields) s.behind place count s.place-is s.count-is;
+      ∙ range_at_seam s.before (field_part tag fields) s.behind place count s.place-is s.count-is;
   others = λ f fields value history data_len cues limit h h'.
       let s = seams (p f history data_len cues limit) (q history data_len cues limit)
       (p-length f history data_len cues limit) fields h in
-      let y = bytes_of tag (with_field fields tag value) in
+      let y = field_part tag (with_field fields tag value) in
       header_around f (with_field fields tag value) history data_len cues limit h' ∙ s.new value
-      ∙ changed_at_seam s.before (bytes_of tag fields) y s.behind place count s.place-is s.count-is
+      ∙ changed_at_seam s.before (field_part tag fields) y s.behind place count s.place-is s.count-is
       ∙ ap (λ (l : List ℕ). take place l ++ y ++ drop (place + count) l)
       (sym (header_around f fields history data_len cues limit h ∙ s.old));
 }
@@ -131,65 +131,47 @@ stands_7 = from_seams 7 428 64 (λ p q p-length. by_name (Seams 7 428 64 p q) (�
   new = λ value. cut7 p a b c d e t (version levels) (field_bytes (Maybe 64) value) (loudness levels) (zeros 180) q;
 }))
 
+-- the five of the loudness, each by the loudness that it sets
+abbrev IsLoud : ℕ → ℕ → Type 0
+IsLoud tag k = (a b c d e t u : List ℕ) (levels : List (List ℕ)) (value : List ℕ) →
+    with_field (a ∷ b ∷ c ∷ d ∷ e ∷ t ∷ u ∷ levels) tag value
+    ≡ a ∷ b ∷ c ∷ d ∷ e ∷ t ∷ u ∷ slice_set levels k (field_bytes Level value)
+
+loud_stands : (tag k : ℕ) → ((fields : List (List ℕ)) → field_part tag fields ≡ from_version fields) → IsLoud tag k →
+    StandsAt tag 426 76
+loud_stands tag k wide sets =
+    from_seams tag 426 76 (λ p q p-length. by_name (Seams tag 426 76 p q) (λ a b c d e t u levels w.
+    let front = p ++ a ++ b ++ c ++ d ++ e ++ t in
+    let behind = zeros 180 ++ q in
+    let cut : (ls : List (List ℕ)) →
+    around p q (a ∷ b ∷ c ∷ d ∷ e ∷ t ∷ u ∷ ls)
+    ≡ front ++ (field_part tag (a ∷ b ∷ c ∷ d ∷ e ∷ t ∷ u ∷ ls) ++ behind) =
+    λ ls. cut8 p a b c d e t (version ls) u (loudness ls) (zeros 180) q
+    ∙ ap (λ (m : List ℕ). front ++ (m ++ behind)) (sym (wide (a ∷ b ∷ c ∷ d ∷ e ∷ t ∷ u ∷ ls))) in
+    record {
+      before = front;
+      behind = behind;
+      place-is = texts-length p a b c d e t u levels p-length w;
+      count-is = ap length (wide (a ∷ b ∷ c ∷ d ∷ e ∷ t ∷ u ∷ levels)) ∙ wide-length a b c d e t u levels w;
+      old = cut levels;
+      new = λ value. subst (λ (fs : List (List ℕ)). around p q fs ≡ front ++ (field_part tag fs ++ behind))
+          (sym (sets a b c d e t u levels value)) (cut (slice_set levels k (field_bytes Level value)));
+    }))
+
 pub stands_8 : StandsAt 8 426 76
-stands_8 = from_seams 8 426 76 (λ p q p-length. by_name (Seams 8 426 76 p q) (λ a b c d e t u levels w. record {
-  before = p ++ a ++ b ++ c ++ d ++ e ++ t;
-  behind = zeros 180 ++ q;
-  place-is = texts-length p a b c d e t u levels p-length w;
-  count-is = wide-length a b c d e t u levels w;
-  old = cut8 p a b c d e t (version levels) u (loudness levels) (zeros 180) q;
-  new = λ value. let changed =
-      slice_set levels 0 (field_bytes Level value)
-      in cut8 p a b c d e t (version changed) u (loudness changed) (zeros 180) q;
-}))
+stands_8 = loud_stands 8 0 (λ fields. refl) (λ a b c d e t u levels value. refl)
 
 pub stands_9 : StandsAt 9 426 76
-stands_9 = from_seams 9 426 76 (λ p q p-length. by_name (Seams 9 426 76 p q) (λ a b c d e t u levels w. record {
-  before = p ++ a ++ b ++ c ++ d ++ e ++ t;
-  behind = zeros 180 ++ q;
-  place-is = texts-length p a b c d e t u levels p-length w;
-  count-is = wide-length a b c d e t u levels w;
-  old = cut8 p a b c d e t (version levels) u (loudness levels) (zeros 180) q;
-  new = λ value. let changed =
-      slice_set levels 1 (field_bytes Level value)
-      in cut8 p a b c d e t (version changed) u (loudness changed) (zeros 180) q;
-}))
+stands_9 = loud_stands 9 1 (λ fields. refl) (λ a b c d e t u levels value. refl)
 
 pub stands_10 : StandsAt 10 426 76
-stands_10 = from_seams 10 426 76 (λ p q p-length. by_name (Seams 10 426 76 p q) (λ a b c d e t u levels w. record {
-  before = p ++ a ++ b ++ c ++ d ++ e ++ t;
-  behind = zeros 180 ++ q;
-  place-is = texts-length p a b c d e t u levels p-length w;
-  count-is = wide-length a b c d e t u levels w;
-  old = cut8 p a b c d e t (version levels) u (loudness levels) (zeros 180) q;
-  new = λ value. let changed =
-      slice_set levels 2 (field_bytes Level value)
-      in cut8 p a b c d e t (version changed) u (loudness changed) (zeros 180) q;
-}))
+stands_10 = loud_stands 10 2 (λ fields. refl) (λ a b c d e t u levels value. refl)
 
 pub stands_11 : StandsAt 11 426 76
-stands_11 = from_seams 11 426 76 (λ p q p-length. by_name (Seams 11 426 76 p q) (λ a b c d e t u levels w. record {
-  before = p ++ a ++ b ++ c ++ d ++ e ++ t;
-  behind = zeros 180 ++ q;
-  place-is = texts-length p a b c d e t u levels p-length w;
-  count-is = wide-length a b c d e t u levels w;
-  old = cut8 p a b c d e t (version levels) u (loudness levels) (zeros 180) q;
-  new = λ value. let changed =
-      slice_set levels 3 (field_bytes Level value)
-      in cut8 p a b c d e t (version changed) u (loudness changed) (zeros 180) q;
-}))
+stands_11 = loud_stands 11 3 (λ fields. refl) (λ a b c d e t u levels value. refl)
 
 pub stands_12 : StandsAt 12 426 76
-stands_12 = from_seams 12 426 76 (λ p q p-length. by_name (Seams 12 426 76 p q) (λ a b c d e t u levels w. record {
-  before = p ++ a ++ b ++ c ++ d ++ e ++ t;
-  behind = zeros 180 ++ q;
-  place-is = texts-length p a b c d e t u levels p-length w;
-  count-is = wide-length a b c d e t u levels w;
-  old = cut8 p a b c d e t (version levels) u (loudness levels) (zeros 180) q;
-  new = λ value. let changed =
-      slice_set levels 4 (field_bytes Level value)
-      in cut8 p a b c d e t (version changed) u (loudness changed) (zeros 180) q;
-}))
+stands_12 = loud_stands 12 4 (λ fields. refl) (λ a b c d e t u levels value. refl)
 
 -- the five loudness fields share their place
 pub loudness_stands : (tag : ℕ) → 8 ≤ tag → tag ≤ 12 → StandsAt tag 426 76

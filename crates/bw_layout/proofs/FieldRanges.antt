@@ -3,7 +3,7 @@ use Rattle.std.proofs.Common.{◌≡◌, ℕ, zero, suc, ◌+◌, ◌<◌, ◌�
 use Rattle.std.proofs.Common.{true, refl, lit<, arith, subst}
 use Rattle.std.specs.Prelude.{slice_get}
 use Rattle.std.proofs.lemmas.Option.{slice_get_within, slice_get-get_or}
-use Rattle.bw_model.specs.Take.{Shape, shape_of, shapes}
+use Rattle.bw_model.specs.Take.{shape_of, shapes}
 use Rattle.bw_layout.specs.Places.{StandsAt, field_ranges, range_of}
 use Rattle.bw_layout.proofs.FieldPlaces.{stands_1, stands_2, stands_3, stands_4, stands_5, stands_6, stands_7, stands_8}
 use Rattle.bw_layout.proofs.FieldPlaces.{stands_9, stands_10, stands_11, stands_12}

@@ -11,7 +11,7 @@ use Rattle.bw_model.specs.Report.{RawBext}
 use Rattle.bw_layout.specs.Raw.{bext_at}
 use Rattle.bw_layout.specs.ReadBack.{FieldsReadBack}
 use Rattle.bw_model.specs.ReadBack.{told_bext}
-use Rattle.bw_layout.proofs.Joints.{range_at_seam}
+use Rattle.bw_layout.proofs.JoinedRanges.{range_at_seam}
 use Rattle.bw_layout.proofs.BextParts.{Widths, by_name, fixed, version_1}
 
 -- the widths of all parts

@@ -1,12 +1,12 @@
 pub mod AroundBext
 pub mod BextParts
-pub mod CueChunks
+pub mod CueChunkBytes
 pub mod FieldPlaces
 pub mod FieldRanges
 pub mod FieldsBack
 pub mod Forms
 pub mod HeaderKinds
-pub mod Joints
-pub mod Pieces
+pub mod JoinedRanges
 pub mod ReadBack
 pub mod SizePlaces
+pub mod WritesInPieces

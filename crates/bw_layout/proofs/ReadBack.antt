@@ -15,7 +15,7 @@ use Rattle.bw_layout.specs.ReadBack.{HeadsReadBack, FormatsReadBack, EntriesRead
 use Rattle.bw_model.specs.ReadBack.{told_cue}
 use Rattle.bw_layout.specs.ReadBack.{CuePointsReadBack, EachCueChunkReadsBack, IsEntry, IsMarker}
 use Rattle.bw_layout.specs.Tables.{Fixed, entry_bytes, entry_at, ds64_with_table}
-use Rattle.bw_layout.proofs.Joints.{range_at_seam}
+use Rattle.bw_layout.proofs.JoinedRanges.{range_at_seam}
 
 pub heads_read_back : HeadsReadBack
 heads_read_back [] rest size four small = cc

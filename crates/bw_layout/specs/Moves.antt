@@ -63,7 +63,7 @@ abbrev pub Writes : Option (List ℕ) → List ℕ → Option (List ℕ) → Typ
 Writes old bytes new = (xs : List ℕ) → old ≡ Some xs → new ≡ Some (xs ++ bytes)
 
 -- behind xs stands a beginning of these bytes
-pub record IsBegun (xs bytes : List ℕ) (written : Option (List ℕ)) : Type 0 where
+pub record IsWrittenInPart (xs bytes : List ℕ) (written : Option (List ℕ)) : Type 0 where
   pub part : List ℕ
   pub rest : List ℕ
   pub whole : part ++ rest ≡ bytes
@@ -71,4 +71,4 @@ pub record IsBegun (xs bytes : List ℕ) (written : Option (List ℕ)) : Type 0 
 
 -- a writer that tells its bytes has a beginning of these behind them
 abbrev pub Begins : Option (List ℕ) → List ℕ → Option (List ℕ) → Type 0
-Begins old bytes new = (xs : List ℕ) → old ≡ Some xs → IsBegun xs bytes new
+Begins old bytes new = (xs : List ℕ) → old ≡ Some xs → IsWrittenInPart xs bytes new

@@ -14,8 +14,8 @@ from_version fields =
     ++ (if is_version_1 fields then zeros 10 else concat (drop 7 fields))
 
 -- the bytes of a header that the field under a tag has a say in
-abbrev pub bytes_of : ℕ → List (List ℕ) → List ℕ
-bytes_of tag fields = if nat_le tag 7 then slice_index_or fields (tag - 1) []
+abbrev pub field_part : ℕ → List (List ℕ) → List ℕ
+field_part tag fields = if nat_le tag 7 then slice_index_or fields (tag - 1) []
     else from_version fields
 
 -- The place and the number of the bytes that a field has a say in, by its tag from 1 on.
@@ -45,9 +45,9 @@ pub record StandsAt (tag place count : ℕ) : Type 0 where
   pub bytes : (f : Format) (fields : List (List ℕ)) (history : List ℕ) (data_len cues limit : ℕ) →
       AreFields fields →
       slice_range (header f fields history data_len cues limit) place (place + count)
-      ≡ bytes_of tag fields
+      ≡ field_part tag fields
   pub others : (f : Format) (fields : List (List ℕ)) (value history : List ℕ)
       (data_len cues limit : ℕ) → AreFields fields → AreFields (with_field fields tag value) →
       let old = header f fields history data_len cues limit in
       header f (with_field fields tag value) history data_len cues limit
-      ≡ take place old ++ bytes_of tag (with_field fields tag value) ++ drop (place + count) old
+      ≡ take place old ++ field_part tag (with_field fields tag value) ++ drop (place + count) old

@@ -1,13 +1,11 @@
 -- Reading what was put gives it back, whatever bytes follow.
-use Rattle.std.specs.Prelude.{◌≡◌, ℕ, ◌*◌, ◌^◌, ◌<◌, IsTrue, List, [], ◌++◌, All, length, map, take}
-use Rattle.std.specs.Prelude.{drop, slice_index_or, if◌then◌else◌}
-use Rattle.std.specs.Int.{w16, w64, from_le_bytes}
+use Rattle.std.specs.Prelude.{◌≡◌, ℕ, ◌^◌, ◌<◌, IsTrue, List, ◌++◌, All, length, map}
 use Rattle.bw_model.specs.Bytes.{zeros, u32_at}
-use Rattle.bw_model.specs.Take.{Format, block_align, is_format, AreFields}
-use Rattle.bw_model.specs.Layout.{head, fmt_content, is_version_1, bext_fixed, cue_point}
+use Rattle.bw_model.specs.Take.{Format, is_format, AreFields}
+use Rattle.bw_model.specs.Layout.{head, fmt_content, bext_fixed, cue_point}
 use Rattle.bw_model.specs.Layout.{cue_content}
 use Rattle.bw_model.specs.Reading.{table_at}
-use Rattle.bw_model.specs.Report.{RawFmt, RawBext, RawCue, raw_fmt, raw_cues}
+use Rattle.bw_model.specs.Report.{raw_fmt, raw_cues}
 use Rattle.bw_model.specs.ReadBack.{told_fmt, told_bext, told_cue}
 use Rattle.bw_layout.specs.Heads.{head_at}
 use Rattle.bw_layout.specs.Raw.{raw_cue, bext_at}

@@ -32,7 +32,7 @@ impl Model for CuePoint {
 ///
 /// # Errors
 /// Memory was refused.
-#[tactic(auto, using(std::proofs::lemmas::List::append_assoc, crate::proofs::CueChunks::cue_chunk_is, crate::proofs::CueChunks::length_of_some))]
+#[tactic(auto, using(std::proofs::lemmas::List::append_assoc, crate::proofs::CueChunkBytes::cue_chunk_is, crate::proofs::CueChunkBytes::length_of_some))]
 pub fn put_cue_chunk(_alloc: Global, out: &mut Vec<u8>, cues: &[CuePoint]) -> Result<(), AllocError>
     requires { length cues.now ≤ most_markers }
     ensures { Appends (flat_map chunk (cue_chunks cues.now)) (cue_chunk_length (length cues.now))

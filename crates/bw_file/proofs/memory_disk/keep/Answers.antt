@@ -2,7 +2,7 @@ use Rattle.std.proofs.Common.{◌≡◌, ℕ, List, Some, get_or, slice_set, is_
 use Rattle.std.specs.List.{position}
 use Rattle.bw_file.specs.declared.memory_disk.StoredFile.{StoredFile}
 use Rattle.bw_file.specs.MemoryDisks.{stands_at, synced_at}
-use Rattle.bw_file.proofs.MemoryDisks.{content_of, synced_of, content_before, after, others, left}
+use Rattle.bw_file.proofs.MemoryDisks.{content_under, synced_of, content_before, after, others, left}
 use Rattle.bw_file.proofs.memory_disk.keep.Goals as goal
 
 module _ (c : goal.Joined-file) where
@@ -28,7 +28,7 @@ module _ (c : goal.Joined-file) where
 
 pub returns-clause-unchanged : goal.returns-clause-unchanged
 returns-clause-unchanged c =
-    left c.args.files.now.items c.args.path.now c.in-Some.place (old c) (new c) (is c) (was c) refl content_of refl
+    left c.args.files.now.items c.args.path.now c.in-Some.place (old c) (new c) (is c) (was c) refl content_under refl
 
 pub returns-clause-synced : goal.returns-clause-synced
 returns-clause-synced c = record {

@@ -2,7 +2,7 @@ use Rattle.std.proofs.Common.{◌≡◌, Some, get_or, slice_set, refl, ap, ◌�
 use Rattle.std.specs.List.{position}
 use Rattle.bw_file.specs.declared.memory_disk.StoredFile.{StoredFile}
 use Rattle.bw_file.specs.MemoryDisks.{stands_at, content_at}
-use Rattle.bw_file.proofs.MemoryDisks.{none_of, stands, content_of, synced_of, content_before, content_after, others}
+use Rattle.bw_file.proofs.MemoryDisks.{none_of, stands, content_under, synced_of, content_before, content_after, others}
 use Rattle.bw_file.proofs.MemoryDisks.{left}
 use Rattle.bw_file.proofs.memory_disk.write.Goals as goal
 
@@ -34,7 +34,7 @@ returns-clause-failed c = rw (content_was c, content_is c) (search rules)
 
 pub returns-clause-others : goal.returns-clause-others
 returns-clause-others c =
-    λ other ne. ap content_of
+    λ other ne. ap content_under
     (others c.args.files.now.items c.args.path.now c.in-Some.place (old c) (new c) (is c) (was c) refl other ne)
 
 pub returns-clause-synced : goal.returns-clause-synced

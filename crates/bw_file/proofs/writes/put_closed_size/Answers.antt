@@ -1,6 +1,6 @@
 use Rattle.std.proofs.Common.{◌≡◌, ◌≤◌, ◌<◌, length, refl, arith}
 use Rattle.bw_model.specs.File.{form_size}
-use Rattle.bw_file.proofs.Sizes.{form_cues, both_above, riff_form, bw64_form}
+use Rattle.bw_file.proofs.WrittenSizes.{form_cues, both_above, riff_form, bw64_form}
 use Rattle.bw_file.proofs.Tears.{written_tears, tears_wider}
 use Rattle.bw_file.proofs.Asked.{first_as, gets_all, gets_one}
 use Rattle.bw_file.proofs.PlanForms.{on_err, form_of, is_within, is_above}
@@ -22,7 +22,7 @@ returns-then-form-bytes-clause-put g c =
     omega (arith, form, c.bytes.ensures.value, c.if-form-bytes.true) in
     let was_small : form_size (length h.history.now) c.args.data_len 0 ≤ h.limit =
     omega (arith, form_cues (length h.history.now) c.args.data_len c.args.cues, small) in
-    riff_form h.format h.bext.now h.history.now h.limit c.args.data_len 0 c.args.cues _ _ tail was_small small stood
+    riff_form h.format h.bext.now h.history.now h.limit c.args.data_len 0 c.args.cues _ _ tail h.widths was_small small stood
     (rw (c.to_le_bytes.ensures, form) at (c.in_ok-write_at.ensures.written honest))
 
 pub returns-clause-torn : goal.returns-clause-torn

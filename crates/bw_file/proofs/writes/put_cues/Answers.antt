@@ -1,5 +1,5 @@
 use Rattle.std.proofs.Common.{◌∙◌, ap, length, List, ℕ, ◌<◌, arith}
-use Rattle.bw_layout.proofs.CueChunks.{length-cue_chunk}
+use Rattle.bw_layout.proofs.CueChunkBytes.{length-cue_chunk}
 use Rattle.bw_file.proofs.Tears.{written_tears}
 use Rattle.bw_file.proofs.Asked.{first_as, gets_all, gets_as, gets_one}
 use Rattle.bw_file.proofs.PlanForms.{on_err, some_cues}

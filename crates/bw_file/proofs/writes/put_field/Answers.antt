@@ -1,20 +1,13 @@
-use Rattle.std.proofs.Common.{◌≡◌, ◌∙◌, ◌++◌, ◌+◌, ◌-◌, ◌≤◌, sym, ap, length, drop, List, ℕ, Some, arith, length-append}
-use Rattle.std.proofs.Common.{length-drop}
-use Rattle.std.proofs.lemmas.List.{length-take-le}
+use Rattle.std.proofs.Common.{◌∙◌, ◌++◌, ◌+◌, sym, ap, length, List, ℕ, Some, arith, length-append}
 use Rattle.std.specs.Prelude.{slice_range}
-use Rattle.bw_file.specs.OneField.{SetsField}
+use Rattle.bw_file.specs.OneField.{DiffersInField}
 use Rattle.bw_file.proofs.Asked.{gets_none, gets_one, gets_all, gets_as, first_as}
+use Rattle.bw_file.proofs.Parts.{length-range_at}
 use Rattle.bw_file.proofs.PlanForms.{on_err}
 use Rattle.bw_file.proofs.Ranges.{alike_at, set_same, set_other}
 use Rattle.bw_file.proofs.Tears.{written_tears, tears_wider}
 use Rattle.bw_file.proofs.Retouches.{two_headers, length-heading, part_put}
 use Rattle.bw_file.proofs.writes.put_field.Goals as goal
-
-length-range : (l : List ℕ) (from count : ℕ) → from + count ≤ length l →
-    length (slice_range l from (from + count)) ≡ count
-length-range l from count fits =
-    let end : from + count - from ≡ count = omega arith in
-    length-take-le (from + count - from) (drop from l) (omega (arith, length-drop from l)) ∙ end
 
 pub split_at-requires : goal.split_at-requires
 split_at-requires g c =
@@ -77,7 +70,7 @@ returns-in_err-write_at-clause-begun g c =
     (c.bytes.ensures ∙ c.build_headers.ensures) c.data_place.ensures.value c.split_at.ensures.front
     c.split_at.ensures.back in
     let whole = ap length halves.1 ∙ length-heading c.args.retouched.now c.args.data_len ∙ c.requires.place in
-    let long = length-range c.split_at.result.1.now c.in-Some.place c.in-Some.len
+    let long = length-range_at c.split_at.result.1.now c.in-Some.place c.in-Some.len
     (omega (arith, whole, c.data_place.ensures.value, c.data_place.ensures.low, c.in-Some.ensures.end)) in
     let other = set_other c.args.name.now tag _ _ (c.in-Some.place, c.in-Some.len)
     (λ same. c.in-Some.ensures.differ
@@ -94,7 +87,7 @@ returns-clause-order g c =
     (c.bytes.ensures ∙ c.build_headers.ensures) c.data_place.ensures.value c.split_at.ensures.front
     c.split_at.ensures.back in
     let whole = ap length halves.1 ∙ length-heading c.args.retouched.now c.args.data_len ∙ c.requires.place in
-    let long = length-range c.split_at.result.1.now c.in-Some.place c.in-Some.len
+    let long = length-range_at c.split_at.result.1.now c.in-Some.place c.in-Some.len
     (omega (arith, whole, c.data_place.ensures.value, c.data_place.ensures.low, c.in-Some.ensures.end)) in
     let other = set_other c.args.name.now tag _ _ (c.in-Some.place, c.in-Some.len)
     (λ same. c.in-Some.ensures.differ
@@ -111,7 +104,7 @@ returns-clause-torn g c =
     (c.bytes.ensures ∙ c.build_headers.ensures) c.data_place.ensures.value c.split_at.ensures.front
     c.split_at.ensures.back in
     let whole = ap length halves.1 ∙ length-heading c.args.retouched.now c.args.data_len ∙ c.requires.place in
-    let long = length-range c.split_at.result.1.now c.in-Some.place c.in-Some.len
+    let long = length-range_at c.split_at.result.1.now c.in-Some.place c.in-Some.len
     (omega (arith, whole, c.data_place.ensures.value, c.data_place.ensures.low, c.in-Some.ensures.end)) in
     tears_wider _ _ c.in-Some.place c.in-Some.len 0 _ (omega arith)
     (omega (arith, c.data_place.ensures.value, c.data_place.ensures.low, c.in-Some.ensures.end))
@@ -125,10 +118,10 @@ returns-clause-put g c =
     (c.bytes.ensures ∙ c.build_headers.ensures) c.data_place.ensures.value c.split_at.ensures.front
     c.split_at.ensures.back in
     let whole = ap length halves.1 ∙ length-heading c.args.retouched.now c.args.data_len ∙ c.requires.place in
-    let long = length-range c.split_at.result.1.now c.in-Some.place c.in-Some.len
+    let long = length-range_at c.split_at.result.1.now c.in-Some.place c.in-Some.len
     (omega (arith, whole, c.data_place.ensures.value, c.data_place.ensures.low, c.in-Some.ensures.end)) in
     let sets = c.requires.field.1 in
-    let in_split : SetsField c.requires.field.0 c.split_at.result.0.now c.split_at.result.1.now =
+    let in_split : DiffersInField c.requires.field.0 c.split_at.result.0.now c.split_at.result.1.now =
     rw (halves.0, halves.1) sets in
     let before = ap length halves.0 ∙ length-heading c.args.heading.now c.args.data_len in
     let end = c.in-Some.ensures.end in

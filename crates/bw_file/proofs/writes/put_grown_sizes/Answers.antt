@@ -1,6 +1,6 @@
 use Rattle.std.proofs.Common.{◌≡◌, ◌≤◌, ◌<◌, length, ◌∙◌, refl, arith}
 use Rattle.bw_model.specs.File.{form_size}
-use Rattle.bw_file.proofs.Sizes.{form_grows, both_above, riff_sizes, bw64_sizes}
+use Rattle.bw_file.proofs.WrittenSizes.{form_grows, both_above, riff_sizes, bw64_sizes}
 use Rattle.bw_file.proofs.Tears.{written_tears, tears_wider, tears_twice}
 use Rattle.bw_file.proofs.Asked.{first_as, gets_all, gets_as, gets_before, gets_one, gets_then}
 use Rattle.bw_file.proofs.PlanForms.{on_err, sizes_of, is_within, is_above}

@@ -3,7 +3,7 @@ use Rattle.std.proofs.lemmas.Result.{err_from_is_err_and}
 use Rattle.bw_model.specs.Take.{Parts}
 use Rattle.bw_file.specs.contracts.growing.GrowingFile.{the_view}
 use Rattle.bw_file.proofs.Judged.{open_for_block, is_some_open, some_in_block}
-use Rattle.bw_file.proofs.Headed.{is_heading}
+use Rattle.bw_file.proofs.TakeHeadings.{is_heading}
 use Rattle.bw_file.proofs.Appends.{samples_fail, header_fails, appended}
 use Rattle.bw_file.proofs.Asked.{first_as, gets_as, gets_before, gets_then, gets_then_first}
 use Rattle.bw_file.proofs.PlanForms.{on_err, append_as}

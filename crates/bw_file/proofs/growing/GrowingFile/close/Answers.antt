@@ -3,7 +3,7 @@ use Rattle.std.proofs.lemmas.Result.{err_from_is_err_and}
 use Rattle.bw_model.specs.Take.{Parts, frames}
 use Rattle.bw_file.specs.contracts.growing.GrowingFile.{the_view}
 use Rattle.bw_file.proofs.Judged.{open_for_close, is_some_open}
-use Rattle.bw_file.proofs.Headed.{is_heading}
+use Rattle.bw_file.proofs.TakeHeadings.{is_heading}
 use Rattle.bw_file.proofs.Closes.{cues_fail, header_fails, closed}
 use Rattle.std.proofs.Common.{ℕ, List, length}
 use Rattle.bw_file.proofs.Asked.{first_as, gets_all, gets_as, gets_before, gets_one, gets_then, gets_then_first}

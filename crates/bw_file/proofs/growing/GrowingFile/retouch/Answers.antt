@@ -3,9 +3,9 @@ use Rattle.std.proofs.lemmas.Result.{err_from_is_err_and}
 use Rattle.bw_model.specs.Take.{Parts, SetField, parts, with_request}
 use Rattle.bw_file.specs.contracts.growing.GrowingFile.{the_view}
 use Rattle.bw_file.proofs.Judged.{open_for_field, is_some_open}
-use Rattle.bw_file.proofs.Headed.{is_heading}
+use Rattle.bw_file.proofs.TakeHeadings.{is_heading}
 use Rattle.bw_file.proofs.Retouches.{header_fails, retouched}
-use Rattle.bw_file.proofs.SetFields.{is_known, sets_field}
+use Rattle.bw_file.proofs.SetFields.{is_known, differs_in_field}
 use Rattle.bw_file.proofs.SetPlans.{gets_planned, first_planned, gets_few, first_few}
 use Rattle.bw_file.proofs.PlanForms.{on_err}
 use Rattle.bw_file.proofs.growing.GrowingFile.retouch.Goals as goal
@@ -55,7 +55,7 @@ put_retouched_header-requires-clause-field g c =
     let with = c.with_bext-retouched.ensures in
     let known = is_known c.args.state.now.parts c.requires.tag c.requires.value c.requires.stored in (
       c.requires.tag,
-      sets_field c.args.state.now.parts c.requires.tag c.requires.value c.heading_of-heading.result
+      differs_in_field c.args.state.now.parts c.requires.tag c.requires.value c.heading_of-heading.result
           c.with_bext-retouched.result c.data_len.result known of.bext
           (with.bext ∙ c.requires.fields) with.format with.history with.limit,
     )
@@ -66,7 +66,7 @@ returns-in_err-put_retouched_header-clause-begun g c =
     let of = c.heading_of-heading.ensures in
     let with = c.with_bext-retouched.ensures in
     let known = is_known c.args.state.now.parts c.requires.tag c.requires.value c.requires.stored in
-    let sets = sets_field c.args.state.now.parts c.requires.tag c.requires.value c.heading_of-heading.result
+    let sets = differs_in_field c.args.state.now.parts c.requires.tag c.requires.value c.heading_of-heading.result
     c.with_bext-retouched.result c.data_len.result known of.bext
     (with.bext ∙ c.requires.fields) with.format with.history with.limit in
     on_err _ _ (first_planned
@@ -80,7 +80,7 @@ returns-clause-order g c =
     let of = c.heading_of-heading.ensures in
     let with = c.with_bext-retouched.ensures in
     let known = is_known c.args.state.now.parts c.requires.tag c.requires.value c.requires.stored in
-    let sets = sets_field c.args.state.now.parts c.requires.tag c.requires.value c.heading_of-heading.result
+    let sets = differs_in_field c.args.state.now.parts c.requires.tag c.requires.value c.heading_of-heading.result
     c.with_bext-retouched.result c.data_len.result known of.bext
     (with.bext ∙ c.requires.fields) with.format with.history with.limit in
     gets_planned (the_view c.self.inside) c.args.state.now.parts c.heading_of-heading.result c.with_bext-retouched.result
@@ -92,7 +92,7 @@ returns-in_err-put_retouched_header-clause-calls g c =
     let of = c.heading_of-heading.ensures in
     let with = c.with_bext-retouched.ensures in
     let known = is_known c.args.state.now.parts c.requires.tag c.requires.value c.requires.stored in
-    let sets = sets_field c.args.state.now.parts c.requires.tag c.requires.value c.heading_of-heading.result
+    let sets = differs_in_field c.args.state.now.parts c.requires.tag c.requires.value c.heading_of-heading.result
     c.with_bext-retouched.result c.data_len.result known of.bext
     (with.bext ∙ c.requires.fields) with.format with.history with.limit in
     first_few (the_view c.self.inside) c.args.state.now.parts c.heading_of-heading.result c.with_bext-retouched.result
@@ -104,7 +104,7 @@ returns-clause-calls g c =
     let of = c.heading_of-heading.ensures in
     let with = c.with_bext-retouched.ensures in
     let known = is_known c.args.state.now.parts c.requires.tag c.requires.value c.requires.stored in
-    let sets = sets_field c.args.state.now.parts c.requires.tag c.requires.value c.heading_of-heading.result
+    let sets = differs_in_field c.args.state.now.parts c.requires.tag c.requires.value c.heading_of-heading.result
     c.with_bext-retouched.result c.data_len.result known of.bext
     (with.bext ∙ c.requires.fields) with.format with.history with.limit in
     gets_few (the_view c.self.inside) c.args.state.now.parts c.heading_of-heading.result c.with_bext-retouched.result

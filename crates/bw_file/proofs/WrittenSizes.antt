@@ -2,13 +2,11 @@
 use Rattle.std.proofs.Common.{◌≡◌, ℕ, ◌+◌, ◌-◌, ◌<◌, ◌≤◌, List, ◌++◌, length, Option, Some, refl, sym, ◌∙◌, ap, arith}
 use Rattle.std.proofs.Common.{append_assoc, length-append}
 use Rattle.std.specs.Prelude.{codes, nat_le}
-use Rattle.bw_model.specs.Bytes.{le32, le64, unsaid}
+use Rattle.bw_model.specs.Bytes.{le32, le64}
 use Rattle.bw_model.specs.Take.{Format, AreFields}
-use Rattle.bw_model.specs.Layout.{head, chunk}
-use Rattle.bw_model.specs.File.{header, form_size, junk_chunk, data_place}
-use Rattle.bw_model.proofs.HeaderLaws.{length-header}
-use Rattle.bw_layout.specs.Headers.{middle, ds64, riff_header, bw64_header}
-use Rattle.bw_layout.proofs.HeaderKinds.{header_riff, header_bw64}
+use Rattle.bw_model.specs.File.{header, form_size, data_place}
+use Rattle.bw_layout.specs.Headers.{riff_middle, bw64_front, bw64_rear}
+use Rattle.bw_layout.proofs.SizePlaces.{riff_sizes_stand, bw64_sizes_stand}
 use Rattle.bw_file.specs.Stores.{Written}
 use Rattle.bw_file.proofs.Puts.{put_over}
 
@@ -32,45 +30,39 @@ module _ (f : Format) (fields : List (List ℕ)) (history : List ℕ) (limit : �
   form_for data_len cues = form_size (length history) data_len cues
 
   -- between the two sizes of a RIFF header
-  between : List ℕ
-  between = codes "WAVE" ++ chunk junk_chunk ++ middle f fields history ++ codes "data"
+  abbrev between : List ℕ
+  between = riff_middle f fields history
 
-  -- before the sizes of a BW64 header, and behind them
-  outer : List ℕ
-  outer = head (codes "BW64") unsaid ++ codes "WAVE" ++ head (codes "ds64") 28
+  -- behind the sizes of a BW64 header
+  abbrev behind : List ℕ
+  behind = bw64_rear f fields history
 
-  behind : List ℕ
-  behind = le64 0 ++ le32 0 ++ middle f fields history ++ head (codes "data") unsaid
+  joined : (a b c d : List ℕ) → a ++ b ++ c ++ d ≡ a ++ (b ++ (c ++ d))
+  joined a b c d = simp append_assoc
 
-  riff_joined : (id form wave junk mid data_id data_size : List ℕ) →
-      ((id ++ form) ++ wave ++ junk ++ mid) ++ (data_id ++ data_size)
-      ≡ id ++ (form ++ ((wave ++ junk ++ mid ++ data_id) ++ data_size))
-  riff_joined id form wave junk mid data_id data_size = simp append_assoc
-
-  riff_parts : (data_len cues : ℕ) → form_for data_len cues ≤ limit →
+  riff_parts : (data_len cues : ℕ) → AreFields fields → form_for data_len cues ≤ limit →
       head_for data_len cues ≡ codes "RIFF" ++ (le32 (form_for data_len cues) ++ (between ++ le32 data_len))
-  unfolding riff_header between
-  riff_parts data_len cues small =
-      header_riff f fields history data_len cues limit (form_for data_len cues) refl small
-      ∙ riff_joined (codes "RIFF") (le32 (form_for data_len cues)) (codes "WAVE") (chunk junk_chunk)
-      (middle f fields history) (codes "data") (le32 data_len)
+  riff_parts data_len cues h small =
+      (riff_sizes_stand f fields history data_len cues limit h small).whole
+      ∙ joined (codes "RIFF") (le32 (form_for data_len cues)) between (le32 data_len)
+
+  around : (a b c d : List ℕ) → a ++ (b ++ c) ++ d ≡ a ++ (b ++ (c ++ d))
+  around a b c d = simp append_assoc
 
   bw64_parts : (data_len cues : ℕ) → limit < form_for data_len cues →
-      head_for data_len cues ≡ outer ++ (le64 (form_for data_len cues) ++ (le64 data_len ++ behind))
-  unfolding bw64_header ds64 outer behind
-  bw64_parts data_len cues large = header_bw64 f fields history data_len cues limit (form_for data_len cues) refl large
+      head_for data_len cues ≡ bw64_front ++ (le64 (form_for data_len cues) ++ (le64 data_len ++ behind))
+  bw64_parts data_len cues large =
+      (bw64_sizes_stand f fields history data_len cues limit large).whole
+      ∙ around bw64_front (le64 (form_for data_len cues)) (le64 data_len) behind
 
-  length-outer : length outer ≡ 20
-  unfolding outer
-  length-outer = refl
+  length-front : (data_len cues : ℕ) → limit < form_for data_len cues → length bw64_front ≡ 20
+  length-front data_len cues large = (bw64_sizes_stand f fields history data_len cues limit large).front_length
 
   -- the data size stands in the last four bytes
   length-between : (data_len cues : ℕ) → AreFields fields → form_for data_len cues ≤ limit →
       8 + length between ≡ data_place (length history) - 4
   length-between data_len cues h small =
-      let parts = ap length (riff_parts data_len cues small) in
-      let long = length-append between (le32 data_len) in
-      omega (arith, parts, long, length-header f fields history data_len cues limit h)
+      omega (arith, (riff_sizes_stand f fields history data_len cues limit h small).middle_length)
 
   regroup : (a b c d : List ℕ) → (a ++ (b ++ c)) ++ d ≡ a ++ (b ++ (c ++ d))
   regroup a b c d = simp append_assoc
@@ -83,7 +75,7 @@ module _ (f : Format) (fields : List (List ℕ)) (history : List ℕ) (limit : �
   riff_sizes before after cues c0 c1 c2 tail h small_before small_after e w1 w2 =
       let form = le32 (form_for after cues) in
       let first = put_over c0 c1 (codes "RIFF") (le32 (form_for before cues)) ((between ++ le32 before) ++ tail) form 4
-      (e ∙ ap (λ (l : List ℕ). Some (l ++ tail)) (riff_parts before cues small_before)
+      (e ∙ ap (λ (l : List ℕ). Some (l ++ tail)) (riff_parts before cues h small_before)
       ∙ ap Some (regroup (codes "RIFF") (le32 (form_for before cues)) (between ++ le32 before) tail)) refl refl
       w1 in
       let front = codes "RIFF" ++ (form ++ between) in
@@ -95,20 +87,20 @@ module _ (f : Format) (fields : List (List ℕ)) (history : List ℕ) (limit : �
       put_over c1 c2 front (le32 before) tail (le32 after) (data_place (length history) - 4)
       (first ∙ ap Some (at_data (le32 before))) long refl w2
       ∙ ap Some (sym (at_data (le32 after)) ∙ sym (regroup (codes "RIFF") form (between ++ le32 after) tail)
-      ∙ ap (λ (l : List ℕ). l ++ tail) (sym (riff_parts after cues small_after)))
+      ∙ ap (λ (l : List ℕ). l ++ tail) (sym (riff_parts after cues h small_after)))
 
   -- its form size
-  pub riff_form : (data_len before after : ℕ) (c0 c1 : Option (List ℕ)) (tail : List ℕ) →
+  pub riff_form : (data_len before after : ℕ) (c0 c1 : Option (List ℕ)) (tail : List ℕ) → AreFields fields →
       form_for data_len before ≤ limit → form_for data_len after ≤ limit →
       c0 ≡ Some (head_for data_len before ++ tail) → Written c0 4 (le32 (form_for data_len after)) c1 →
       c1 ≡ Some (head_for data_len after ++ tail)
-  riff_form data_len before after c0 c1 tail small_before small_after e w =
+  riff_form data_len before after c0 c1 tail h small_before small_after e w =
       let rest = between ++ le32 data_len in
       put_over c0 c1 (codes "RIFF") (le32 (form_for data_len before)) (rest ++ tail) (le32 (form_for data_len after)) 4
-      (e ∙ ap (λ (l : List ℕ). Some (l ++ tail)) (riff_parts data_len before small_before)
+      (e ∙ ap (λ (l : List ℕ). Some (l ++ tail)) (riff_parts data_len before h small_before)
       ∙ ap Some (regroup (codes "RIFF") (le32 (form_for data_len before)) rest tail)) refl refl w
       ∙ ap Some (sym (regroup (codes "RIFF") (le32 (form_for data_len after)) rest tail)
-      ∙ ap (λ (l : List ℕ). l ++ tail) (sym (riff_parts data_len after small_after)))
+      ∙ ap (λ (l : List ℕ). l ++ tail) (sym (riff_parts data_len after h small_after)))
 
   -- both sizes of a BW64 file
   pub bw64_sizes : (before after cues : ℕ) (c0 c1 : Option (List ℕ)) (tail : List ℕ) → limit < form_for before cues →
@@ -117,12 +109,12 @@ module _ (f : Format) (fields : List (List ℕ)) (history : List ℕ) (limit : �
       c1 ≡ Some (head_for after cues ++ tail)
   bw64_sizes before after cues c0 c1 tail large_before large_after e w =
       let sizes : ℕ → List ℕ = λ d. le64 (form_for d cues) ++ le64 d in
-      let joined : (d : ℕ) → outer ++ (sizes d ++ (behind ++ tail))
-      ≡ (outer ++ (le64 (form_for d cues) ++ (le64 d ++ behind))) ++ tail = λ d. simp append_assoc in
-      put_over c0 c1 outer (sizes before) (behind ++ tail) (sizes after) 20
+      let regrouped : (d : ℕ) → bw64_front ++ (sizes d ++ (behind ++ tail))
+      ≡ (bw64_front ++ (le64 (form_for d cues) ++ (le64 d ++ behind))) ++ tail = λ d. simp append_assoc in
+      put_over c0 c1 bw64_front (sizes before) (behind ++ tail) (sizes after) 20
       (e ∙ ap (λ (l : List ℕ). Some (l ++ tail)) (bw64_parts before cues large_before)
-      ∙ ap Some (sym (joined before))) length-outer refl w
-      ∙ ap Some (joined after ∙ ap (λ (l : List ℕ). l ++ tail) (sym (bw64_parts after cues large_after)))
+      ∙ ap Some (sym (regrouped before))) (length-front before cues large_before) refl w
+      ∙ ap Some (regrouped after ∙ ap (λ (l : List ℕ). l ++ tail) (sym (bw64_parts after cues large_after)))
 
   -- its form size
   pub bw64_form : (data_len before after : ℕ) (c0 c1 : Option (List ℕ)) (tail : List ℕ) →
@@ -131,8 +123,8 @@ module _ (f : Format) (fields : List (List ℕ)) (history : List ℕ) (limit : �
       c1 ≡ Some (head_for data_len after ++ tail)
   bw64_form data_len before after c0 c1 tail large_before large_after e w =
       let rest = le64 data_len ++ behind in
-      put_over c0 c1 outer (le64 (form_for data_len before)) (rest ++ tail) (le64 (form_for data_len after)) 20
+      put_over c0 c1 bw64_front (le64 (form_for data_len before)) (rest ++ tail) (le64 (form_for data_len after)) 20
       (e ∙ ap (λ (l : List ℕ). Some (l ++ tail)) (bw64_parts data_len before large_before)
-      ∙ ap Some (regroup outer (le64 (form_for data_len before)) rest tail)) length-outer refl w
-      ∙ ap Some (sym (regroup outer (le64 (form_for data_len after)) rest tail)
+      ∙ ap Some (regroup bw64_front (le64 (form_for data_len before)) rest tail)) (length-front data_len before large_before) refl w
+      ∙ ap Some (sym (regroup bw64_front (le64 (form_for data_len after)) rest tail)
       ∙ ap (λ (l : List ℕ). l ++ tail) (sym (bw64_parts data_len after large_after)))
