@@ -70,8 +70,8 @@ row_fits front width n count size less fits =
     omega arith
 
 -- the place of a row, by the width that the code has
-pub stands_at : (b : List ℕ) (e e' : reading.Entry) (front width w n : ℕ) (left : Option (List ℕ)) → w ≡ width → e' ≡ e →
-    ReadTo b e (front + width * n) left → ReadTo b e' (front + w * n) left
+pub stands_at : (b : List ℕ) (e e' : reading.Entry) (front width w n : ℕ) (left : Option (List ℕ)) → w ≡ width →
+    e' ≡ e → ReadTo b e (front + width * n) left → ReadTo b e' (front + w * n) left
 stands_at b e e' front width w n left q same r =
     subst (λ (k : ℕ). ReadTo b e' (front + k * n) left) (sym q) (read_as b e e' (front + width * n) left (sym same) r)
 

@@ -22,6 +22,7 @@ pub record Facts : Type 0 where
   pub bext : Option ((report.RawBext × List ℕ) × ℕ)
   pub cues : Option (List report.RawCue)
 
+-- the same facts
 abbrev pub facts_of : Known → Facts
 facts_of k = record {
   fmt = k.fmt;

@@ -7,14 +7,16 @@ use Rattle.bw_layout.specs.declared.chunk.ChunkHead.{ChunkHead}
 use Rattle.bw_inspect.specs.declared.fault.InspectFault.{InspectFault}
 use Rattle.bw_inspect.specs.declared.walk.Walk.{Walk}
 use Rattle.bw_inspect.specs.declared.walk.Form.{Form}
-use Rattle.bw_inspect.specs.Faults.{fault_of, is_memory, is_read}
+use Rattle.bw_inspect.specs.Faults.{bytes_fault, is_memory, is_failed_read}
 use Rattle.bw_inspect.specs.Places.{HasGrown}
 use Rattle.bw_inspect.specs.Chunks.{sizes_of}
 use Rattle.bw_inspect.specs.Known.{HasFewCues, facts_of, facts_in}
 
-abbrev pub form_of : Form → reading.Form
-form_of f = record { id = f.id; size = f.size; sizes = sizes_of f.sizes }
+-- the same outer header
+abbrev pub form_by : Form → reading.Form
+form_by f = record { id = f.id; size = f.size; sizes = sizes_of f.sizes }
 
+-- the chunks that were listed
 abbrev pub seen_by : Walk → List reading.Entry
 seen_by w = w.chunks.items
 
@@ -44,17 +46,17 @@ pub record IsHead (b : List ℕ) (p : ℕ) (h : ChunkHead) (left : Option (List 
   pub rest : left ≡ Some (drop (p + 8) b)
 
 -- where the head behind a chunk stands
-abbrev pub behind : reading.Entry → ℕ
-behind e = e.place + 8 + even_up e.size
+abbrev pub place_behind : reading.Entry → ℕ
+place_behind e = e.place + 8 + even_up e.size
 
 -- a chunk is behind the reader, and so is its pad byte where a further head is wanted
 pub record IsPassedOver (b : List ℕ) (end : ℕ) (e : reading.Entry)
     (left : Option (List ℕ)) : Type 0 where
   pub reached : ℕ
   pub within : reached ≤ end
-  pub there : length b < reached → reached ≡ behind e
+  pub there : length b < reached → reached ≡ place_behind e
   pub rest : left ≡ Some (drop reached b)
-  pub next : behind e + 8 ≤ end → reached ≡ behind e
+  pub next : place_behind e + 8 ≤ end → reached ≡ place_behind e
 
 -- no more chunks and points than may be
 pub record IsSmall (w : Walk) : Type 0 where
@@ -112,7 +114,7 @@ pub record IsFaulted (b : List ℕ) (form : reading.Form) (seen : List reading.E
   pub within : reached ≤ reading.form_end form
   pub there : length b < reached → reached ≡ reading.next_place seen
   pub rest : left ≡ Some (drop reached b)
-  pub fails : IsTrue (is_read f.kind) → f.offset ≡ reached
+  pub fails : IsTrue (is_failed_read f.kind) → f.offset ≡ reached
   pub memory : IsTrue (is_memory f.kind) →
       (f.offset ≡ reading.next_place seen) × WantsChunk b form seen reached
-  pub fault : (g : reading.Fault) → fault_of f ≡ Some g → reading.next b form seen ≡ Err g
+  pub fault : (g : reading.Fault) → bytes_fault f ≡ Some g → reading.next b form seen ≡ Err g

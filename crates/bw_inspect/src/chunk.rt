@@ -2,7 +2,7 @@
 ghost use Rattle.std.specs.Prelude.{◌≡◌, ◌+◌, ◌^◌, ◌≤◌, IsTrue, IfOk, IfErr, Some, None, unwrap_or};
 ghost use Rattle.bw_model.specs.Bytes.{first_that_holds};
 ghost use Rattle.bw_model.specs.Reading.{is_id};
-ghost use Rattle.bw_inspect.specs.Faults.{fault_of, is_of_bytes};
+ghost use Rattle.bw_inspect.specs.Faults.{bytes_fault, is_of_bytes};
 ghost use Rattle.bw_inspect.specs.Chunks.{Allows, kind_by, size_faults};
 
 use crate::fault::{InspectFault, InspectKind, fault_at};
@@ -61,8 +61,8 @@ pub(crate) fn checked_size(
     ensures ok { IfOk result (λ c.
         first_that_holds (size_faults end place kind seen size c) ≡ None) }
     ensures kind { IfErr result (λ f. IsTrue (is_of_bytes f.kind)) }
-    ensures err { IfErr result (λ f.
-        fault_of f ≡ first_that_holds (size_faults end place kind seen size (unwrap_or size 0))) }
+    ensures err { IfErr result (λ f. bytes_fault f ≡
+        first_that_holds (size_faults end place kind seen size (unwrap_or size 0))) }
 {
     let Some(size) = size else {
         return Err(fault_at(InspectKind::NoSize, place));

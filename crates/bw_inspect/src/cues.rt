@@ -2,7 +2,7 @@
 ghost use Rattle.std.specs.Prelude.{◌≡◌, ◌+◌, ◌*◌, ◌^◌, ◌≤◌, ◌<◌, length, IfOk, IfErr};
 ghost use Rattle.bw_inspect.specs.ReaderCalls.{Consumes};
 ghost use Rattle.bw_inspect.specs.Places.{Nowhere};
-ghost use Rattle.bw_inspect.specs.Contents.{InContent, IsRefused};
+ghost use Rattle.bw_inspect.specs.Contents.{InContent, IsStoppedIn};
 ghost use Rattle.bw_inspect.specs.CueContents.{WantsPoint, IsCounted, IsCued, cue_faults};
 
 use crate::content::{pass_rest, read_part};
@@ -28,7 +28,7 @@ fn read_count<R: Source>(reader: &mut R, entry: ListedChunk) -> Result<u64, Insp
     ensures ok { IfOk result (λ n. InContent (R.left reader.old) entry 0 (λ b.
         IsCounted b entry n (R.left reader.new))) }
     ensures err { IfErr result (λ f. InContent (R.left reader.old) entry 0 (λ b.
-        IsRefused b Nowhere (cue_faults b entry) entry f (R.left reader.new))) }
+        IsStoppedIn b Nowhere (cue_faults b entry) entry f (R.left reader.new))) }
 {
     let mut front = [0; 4];
     read_part(reader, entry, 0, &mut front)?;
@@ -59,7 +59,7 @@ pub(crate) fn read_cues<R: Source>(
     ensures ok { IfOk result (λ x. InContent (R.left reader.old) entry 0 (λ b.
         IsCued b entry x (R.left reader.new))) }
     ensures err { IfErr result (λ f. InContent (R.left reader.old) entry 0 (λ b.
-        IsRefused b (WantsPoint b entry) (cue_faults b entry) entry f (R.left reader.new))) }
+        IsStoppedIn b (WantsPoint b entry) (cue_faults b entry) entry f (R.left reader.new))) }
 {
     let count = read_count(reader, entry)?;
     let points = read_rows(alloc, reader, entry, 4, count)?;

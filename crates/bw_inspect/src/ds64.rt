@@ -2,7 +2,7 @@
 ghost use Rattle.std.specs.Prelude.{◌≡◌, ◌+◌, ◌*◌, ◌^◌, ◌≤◌, ◌<◌, length, IfOk, IfErr, Some};
 ghost use Rattle.bw_inspect.specs.ReaderCalls.{Consumes};
 ghost use Rattle.bw_inspect.specs.Places.{AtPlace, Nowhere};
-ghost use Rattle.bw_inspect.specs.Contents.{InContent, IsRefused, IsStopped};
+ghost use Rattle.bw_inspect.specs.Contents.{InContent, IsStoppedIn, IsStopped};
 ghost use Rattle.bw_inspect.specs.Chunks.{sizes_by};
 ghost use Rattle.bw_inspect.specs.Tables.{WantsEntry, IsDs64Head, IsDs64Read, IsFixed, ds64_head_faults, table_faults};
 
@@ -61,7 +61,7 @@ fn read_fixed<R: Source>(reader: &mut R, entry: ListedChunk) -> Result<Ds64Fixed
     ensures ok { IfOk result (λ x. InContent (R.left reader.old) entry 0 (λ b.
         IsFixed b entry x (R.left reader.new))) }
     ensures err { IfErr result (λ f. InContent (R.left reader.old) entry 0 (λ b.
-        IsRefused b Nowhere (table_faults b entry) entry f (R.left reader.new))) }
+        IsStoppedIn b Nowhere (table_faults b entry) entry f (R.left reader.new))) }
 {
     let mut front = [0; 28];
     read_part(reader, entry, 0, &mut front)?;
@@ -92,7 +92,7 @@ pub(crate) fn read_ds64<R: Source>(
     ensures ok { IfOk result (λ x. InContent (R.left reader.old) entry 0 (λ b.
         IsDs64Read b entry x (R.left reader.new))) }
     ensures err { IfErr result (λ f. InContent (R.left reader.old) entry 0 (λ b.
-        IsRefused b (WantsEntry b entry) (table_faults b entry) entry f (R.left reader.new))) }
+        IsStoppedIn b (WantsEntry b entry) (table_faults b entry) entry f (R.left reader.new))) }
 {
     let fixed = read_fixed(reader, entry)?;
     let count = fixed.table_len as u64;

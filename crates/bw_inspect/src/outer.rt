@@ -2,7 +2,7 @@
 ghost use Rattle.std.specs.Prelude.{◌≡◌, ◌+◌, ◌-◌, ◌^◌, ◌≤◌, min, IsTrue, None, OnOk, IfOk, IfErr, ◌==◌, if◌then◌else◌};
 ghost use Rattle.bw_model.specs.Bytes.{first_that_holds, unsaid};
 ghost use Rattle.bw_inspect.specs.ReaderCalls.{Consumes, longest_end};
-ghost use Rattle.bw_inspect.specs.Faults.{fault_of, is_of_bytes};
+ghost use Rattle.bw_inspect.specs.Faults.{bytes_fault, is_of_bytes};
 ghost use Rattle.bw_inspect.specs.Places.{Nowhere, Of};
 ghost use Rattle.bw_inspect.specs.Contents.{IsStopped};
 ghost use Rattle.bw_inspect.specs.Outers.{BeginsForm, IsOpened, IsOutside, OnWide, form_faults, names_form, opening_faults};
@@ -58,7 +58,7 @@ fn check_form_size(size: u64) -> Result<(), InspectFault>
     ensures large { OnOk result (4 ≤ size) }
     ensures ok { OnOk result (first_that_holds (form_faults size) ≡ None) }
     ensures kind { IfErr result (λ f. IsTrue (is_of_bytes f.kind)) }
-    ensures err { IfErr result (λ f. fault_of f ≡ first_that_holds (form_faults size)) }
+    ensures err { IfErr result (λ f. bytes_fault f ≡ first_that_holds (form_faults size)) }
 {
     if size > 1 << 62 {
         return Err(fault_at(InspectKind::TooLarge, 4));
