@@ -2,6 +2,7 @@
 use Rattle.std.specs.Prelude.{ℕ, ◌+◌, ◌*◌, ◌≤◌, Bool, true, false, not, ◌&&◌, List, [], ◌∷◌, length}
 use Rattle.std.specs.Prelude.{find, codes, Option, option_map, is_none, nat_lt, nat_le}
 use Rattle.std.specs.Prelude.{if◌then◌else◌}
+use Rattle.bw_model.specs.Limits.{most_chunks, most_cues}
 use Rattle.bw_model.specs.Reading as reading
 use Rattle.bw_layout.specs.declared.sizes.Ds64.{Ds64}
 use Rattle.bw_inspect.specs.declared.chunk.ChunkKind.{ChunkKind}
@@ -50,7 +51,7 @@ sizes_of = option_map sizes_by
 -- the faults before a head
 abbrev pub start_faults : ℕ → List reading.Entry → ℕ → List (Bool × reading.Fault)
 start_faults len seen p =
-    reading.line (nat_le 4096 (length seen)) reading.TooMany p
+    reading.line (nat_le most_chunks (length seen)) reading.TooMany p
     ∷ reading.line (nat_lt len (p + 8)) reading.Truncated p
     ∷ []
 
@@ -70,7 +71,7 @@ size_faults end p kind seen size c =
 abbrev pub content_faults : ℕ → ℕ → ChunkKind → ℕ → ℕ → List (Bool × reading.Fault)
 content_faults len p kind count c =
     reading.line (is_cue_kind kind && nat_lt len (p + 12)) reading.Truncated p
-    ∷ reading.line (is_cue_kind kind && nat_lt 65536 count) reading.TooMany p
+    ∷ reading.line (is_cue_kind kind && nat_lt most_cues count) reading.TooMany p
     ∷ reading.line (is_cue_kind kind && nat_lt c (4 + 24 * count)) reading.BadCue p
     ∷ reading.line (nat_lt len (p + 8 + c)) reading.Truncated p
     ∷ []

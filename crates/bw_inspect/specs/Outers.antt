@@ -1,6 +1,8 @@
 -- The outer header, in the parts in which it is read.
 use Rattle.std.specs.Prelude.{◌≡◌, ℕ, ◌+◌, ◌^◌, ◌||◌, ◌⊎◌, not, Bool, true, false, List, [], ◌∷◌}
 use Rattle.std.specs.Prelude.{length, drop, codes, Option, Some, None, Ok, Err, nat_lt}
+use Rattle.bw_inspect.specs.ReaderCalls.{longest_end}
+use Rattle.bw_model.specs.Limits.{most_entries}
 use Rattle.bw_model.specs.Reading as reading
 use Rattle.bw_model.specs.Bytes.{first_that_holds, u32_at}
 use Rattle.bw_layout.specs.declared.chunk.ChunkHead.{ChunkHead}
@@ -62,7 +64,7 @@ pub record HasReadEntries (b : List ℕ) (reached : ℕ) : Type 0 where
   pub opening : first_that_holds (opening_faults b) ≡ None
   pub head : first_that_holds (ds64_head_faults b) ≡ None
   pub free :
-      first_that_holds (counted_faults (20 + u32_at b 16) (ds64_entry b) 28 4096 12 reading.BadDs64
+      first_that_holds (counted_faults (20 + u32_at b 16) (ds64_entry b) 28 most_entries 12 reading.BadDs64
       (u32_at b 44))
       ≡ None
   pub grown : HasGrown b 48 12 (u32_at b 44) reached
@@ -73,5 +75,5 @@ WantsDs64 b reached = IsDs64Whole b reached ⊎ HasReadEntries b reached
 
 -- the outer header has a fault, or wasn't read
 pub record IsOutside (b : List ℕ) (f : InspectFault) (left : Option (List ℕ)) : Type 0 where
-  pub halts : Halts b (2 ^ 62 + 8) 12 (WantsDs64 b) f left
+  pub halts : Halts b longest_end 12 (WantsDs64 b) f left
   pub fault : (g : reading.Fault) → bytes_fault f ≡ Some g → reading.outer b ≡ Err g

@@ -1,6 +1,7 @@
 -- Where a walk stands.
 use Rattle.std.specs.Prelude.{◌≡◌, ℕ, ◌+◌, ◌≤◌, ◌<◌, ◌⊎◌, Bool, true, false, List, [], length, drop}
 use Rattle.std.specs.Prelude.{Option, Some, None, Ok, Err, IsTrue, unwrap_or}
+use Rattle.bw_model.specs.Limits.{most_chunks}
 use Rattle.bw_model.specs.Reading as reading
 use Rattle.bw_model.specs.Bytes.{first_that_holds, u32_at, even_up}
 use Rattle.bw_layout.specs.declared.chunk.ChunkHead.{ChunkHead}
@@ -60,12 +61,12 @@ pub record IsPassedOver (b : List ℕ) (end : ℕ) (e : reading.Entry)
 
 -- no more chunks and points than may be
 pub record IsSmall (w : Walk) : Type 0 where
-  pub chunks : length (seen_by w) ≤ 4096
+  pub chunks : length (seen_by w) ≤ most_chunks
   pub cues : HasFewCues w.known
 
 -- one chunk more
 pub record GrowsByOne (old new : List reading.Entry) : Type 0 where
-  pub few : length old < 4096
+  pub few : length old < most_chunks
   pub one : length new ≡ length old + 1
 
 -- one more chunk is seen, or none is wanted

@@ -1,5 +1,6 @@
 //! Kinds of chunks, and the sizes that they may have.
 ghost use Rattle.std.specs.Prelude.{◌≡◌, ◌+◌, ◌^◌, ◌≤◌, IsTrue, IfOk, IfErr, Some, None, unwrap_or};
+ghost use Rattle.bw_model.specs.Limits.{largest};
 ghost use Rattle.bw_model.specs.Bytes.{first_that_holds};
 ghost use Rattle.bw_model.specs.Reading.{is_id};
 ghost use Rattle.bw_inspect.specs.Faults.{bytes_fault, is_of_bytes};
@@ -7,6 +8,9 @@ ghost use Rattle.bw_inspect.specs.Chunks.{Allows, kind_by, size_faults};
 
 use crate::fault::{InspectFault, InspectKind, fault_at};
 use bw_layout::ChunkId;
+
+/// The largest form or chunk that is read, in bytes.
+pub(crate) const LARGEST: u64 = 1 << 62;
 
 /// What a chunk is to the reading of a file.
 #[derive(Clone, Copy, Debug, PartialEq, Eq)]
@@ -55,7 +59,7 @@ pub(crate) fn checked_size(
 ) -> Result<u64, InspectFault>
     requires { place ≤ 2 ^ 63 }
     ensures allowed { IfOk result (λ c. Allows kind c) }
-    ensures small { IfOk result (λ c. c ≤ 2 ^ 62) }
+    ensures small { IfOk result (λ c. c ≤ largest) }
     ensures within { IfOk result (λ c. place + 8 + c ≤ end) }
     ensures is { IfOk result (λ c. size ≡ Some c) }
     ensures ok { IfOk result (λ c.
@@ -67,7 +71,7 @@ pub(crate) fn checked_size(
     let Some(size) = size else {
         return Err(fault_at(InspectKind::NoSize, place));
     };
-    if size > 1 << 62 {
+    if size > LARGEST {
         return Err(fault_at(InspectKind::TooLarge, place));
     }
     if place + 8 + size > end {

@@ -1,5 +1,6 @@
 //! The points of a `cue ` chunk (RIFF, chapter 3).
 ghost use Rattle.std.specs.Prelude.{◌≡◌, ◌+◌, ◌*◌, ◌^◌, ◌≤◌, ◌<◌, length, IfOk, IfErr};
+ghost use Rattle.bw_model.specs.Limits.{most_cues};
 ghost use Rattle.bw_inspect.specs.ReaderCalls.{Consumes};
 ghost use Rattle.bw_inspect.specs.Places.{Nowhere};
 ghost use Rattle.bw_inspect.specs.Contents.{InContent, IsStoppedIn};
@@ -23,7 +24,7 @@ fn read_count<R: Source>(reader: &mut R, entry: ListedChunk) -> Result<u64, Insp
     requires room { entry.place + 8 + entry.size < 2 ^ 63 }
     requires long { 4 ≤ entry.size }
     ensures consumed { Consumes R.Source 4 result reader.old reader.new }
-    ensures few { IfOk result (λ n. n ≤ 65_536) }
+    ensures few { IfOk result (λ n. n ≤ most_cues) }
     ensures fits { IfOk result (λ n. 4 + 24 * n ≤ entry.size) }
     ensures ok { IfOk result (λ n. InContent (R.left reader.old) entry 0 (λ b.
         IsCounted b entry n (R.left reader.new))) }
@@ -55,7 +56,7 @@ pub(crate) fn read_cues<R: Source>(
     requires room { entry.place + 8 + entry.size < 2 ^ 63 }
     requires long { 4 ≤ entry.size }
     ensures consumed { Consumes R.Source entry.size result reader.old reader.new }
-    ensures few { IfOk result (λ x. length x ≤ 65_536) }
+    ensures few { IfOk result (λ x. length x ≤ most_cues) }
     ensures ok { IfOk result (λ x. InContent (R.left reader.old) entry 0 (λ b.
         IsCued b entry x (R.left reader.new))) }
     ensures err { IfErr result (λ f. InContent (R.left reader.old) entry 0 (λ b.

@@ -1,5 +1,6 @@
 //! The `ds64` chunk, with which a BW64 or RF64 file begins (ITU-R BS.2088).
 ghost use Rattle.std.specs.Prelude.{◌≡◌, ◌+◌, ◌*◌, ◌^◌, ◌≤◌, ◌<◌, length, IfOk, IfErr, Some};
+ghost use Rattle.bw_model.specs.Limits.{most_entries};
 ghost use Rattle.bw_inspect.specs.ReaderCalls.{Consumes};
 ghost use Rattle.bw_inspect.specs.Places.{AtPlace, Nowhere};
 ghost use Rattle.bw_inspect.specs.Contents.{InContent, IsStoppedIn, IsStopped};
@@ -56,7 +57,7 @@ fn read_fixed<R: Source>(reader: &mut R, entry: ListedChunk) -> Result<Ds64Fixed
     requires room { entry.place + 8 + entry.size < 2 ^ 63 }
     requires long { 28 ≤ entry.size }
     ensures consumed { Consumes R.Source 28 result reader.old reader.new }
-    ensures few { IfOk result (λ x. x.table_len ≤ 4_096) }
+    ensures few { IfOk result (λ x. x.table_len ≤ most_entries) }
     ensures fits { IfOk result (λ x. 28 + 12 * x.table_len ≤ entry.size) }
     ensures ok { IfOk result (λ x. InContent (R.left reader.old) entry 0 (λ b.
         IsFixed b entry x (R.left reader.new))) }

@@ -1,5 +1,6 @@
 //! Reading a whole file.
 ghost use Rattle.std.specs.Prelude.{◌≡◌, ℕ, ◌+◌, ◌^◌, ◌≤◌, List, IsTrue, None, IfOk, IfErr, false};
+ghost use Rattle.bw_model.specs.Limits.{largest};
 ghost use Rattle.bw_model.specs.Bytes.{first_that_holds};
 ghost use Rattle.bw_model.specs.Reading.{end_faults};
 ghost use Rattle.bw_inspect.specs.ReaderCalls.{Consumes, longest_end};
@@ -21,7 +22,7 @@ use std::alloc::Global;
 /// # Errors
 /// NoFmt, NoData.
 fn finish(alloc: Global, form: Form, walk: Walk) -> Result<Report, InspectFault>
-    requires { form.size ≤ 2 ^ 62 }
+    requires { form.size ≤ largest }
     ensures ok { IfOk result (λ r. OnFacts walk (λ b.
         IsReported b (form_by form) (seen_by walk) r)) }
     ensures size { IfOk result (λ r. r.size ≡ form.size) }

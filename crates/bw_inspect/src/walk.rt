@@ -1,7 +1,8 @@
 //! The walk over the chunks of a form.
 ghost use Rattle.std.specs.Prelude.{◌≡◌, ◌+◌, ◌-◌, ◌^◌, ◌≤◌, ◌<◌, ◌∷◌, ◌++◌, [], IsTrue, length, IfOk, IfErr, OnOk};
+ghost use Rattle.bw_model.specs.Limits.{largest};
 ghost use Rattle.bw_model.specs.Bytes.{even_up};
-ghost use Rattle.bw_inspect.specs.ReaderCalls.{Consumes};
+ghost use Rattle.bw_inspect.specs.ReaderCalls.{Consumes, longest_end};
 ghost use Rattle.bw_inspect.specs.Faults.{is_of_bytes};
 ghost use Rattle.bw_inspect.specs.Places.{AtPlace, IsMissed};
 ghost use Rattle.bw_inspect.specs.Known.{facts_of, has_kind, nothing};
@@ -120,7 +121,7 @@ pub(crate) fn list_chunk<R: Source>(
     walk: &mut Walk,
     entry: ListedChunk,
 ) -> Result<(), InspectFault>
-    requires end { end ≤ 2 ^ 62 + 8 }
+    requires end { end ≤ longest_end }
     requires within { entry.place + 8 + entry.size ≤ end }
     ensures consumed { Consumes R.Source (end - (entry.place + 8 + entry.size))
         result reader.old reader.new }
@@ -154,7 +155,7 @@ pub(crate) fn next_chunk<R: Source>(
     form: &Form,
     walk: &mut Walk,
 ) -> Result<bool, InspectFault>
-    requires small { form.now.size ≤ 2 ^ 62 }
+    requires small { form.now.size ≤ largest }
     requires place { walk.old.place ≤ form.now.size + 9 }
     ensures consumed { Consumes R.Source (8 + form.now.size - walk.old.place)
         result reader.old reader.new }
