@@ -13,7 +13,7 @@ use Rattle.bw_inspect.specs.declared.chunk.ChunkKind.TheVariants.{Bext}
 use Rattle.bw_inspect.specs.Chunks.{is_cue_kind, content_faults}
 use Rattle.bw_inspect.specs.Known.{Facts, bext_told}
 use Rattle.bw_inspect.specs.Contents.{ReadTo, IsFaultless, IsLearned}
-use Rattle.bw_inspect.proofs.Pieces.{part_at}
+use Rattle.bw_inspect.proofs.PartialReads.{part_at}
 
 -- a part of a content stands in all the bytes
 pub in_content : (b : List ℕ) (e : reading.Entry) (i j : ℕ) → i ≤ j → j ≤ e.size →

@@ -13,7 +13,7 @@ use Rattle.bw_inspect.specs.CueContents.{point_at}
 use Rattle.bw_inspect.specs.Contents.{ReadTo}
 use Rattle.bw_inspect.specs.RowLists.{HasRow, HasRows, rows_at}
 use Rattle.bw_inspect.proofs.Contents.{read_as}
-use Rattle.bw_inspect.proofs.Pieces.{part_at}
+use Rattle.bw_inspect.proofs.PartialReads.{part_at}
 
 -- a number in a part
 u32_part : (c : List ℕ) (d n i : ℕ) → i + 4 ≤ n → u32_at (slice_range c d (d + n)) i ≡ u32_at c (d + i)

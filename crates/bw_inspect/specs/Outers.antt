@@ -1,5 +1,5 @@
 -- The outer header, in the parts in which it is read.
-use Rattle.std.specs.Prelude.{◌≡◌, ℕ, ◌+◌, ◌^◌, ◌||◌, ◌⊎◌, not, Bool, true, false, List, [], ◌∷◌}
+use Rattle.std.specs.Prelude.{◌≡◌, ℕ, ◌+◌, ◌||◌, ◌⊎◌, not, Bool, true, false, List, [], ◌∷◌}
 use Rattle.std.specs.Prelude.{length, drop, codes, Option, Some, None, Ok, Err, nat_lt}
 use Rattle.bw_inspect.specs.ReaderCalls.{longest_end}
 use Rattle.bw_model.specs.Limits.{most_entries}

@@ -1,5 +1,5 @@
 -- What reading a file answers.
-use Rattle.std.specs.Prelude.{◌≡◌, ℕ, ◌+◌, ◌^◌, ◌<◌, ◌≤◌, ◌⊎◌, IsTrue, List, length, drop, Option}
+use Rattle.std.specs.Prelude.{◌≡◌, ℕ, ◌+◌, ◌<◌, ◌≤◌, ◌⊎◌, IsTrue, List, length, drop, Option}
 use Rattle.std.specs.Prelude.{Some, None}
 use Rattle.bw_inspect.specs.ReaderCalls.{longest_end}
 use Rattle.bw_model.specs.Limits.{largest, most_chunks, most_cues}

@@ -14,7 +14,7 @@ use crate::content::read_content;
 use crate::fault::{InspectFault, InspectKind, fault_at};
 use crate::places::{read_at, skip_pad};
 use crate::report::{BextChunk, Cues, ListedChunk};
-use crate::sizes::size_told;
+use crate::told_sizes::size_told;
 use bw_layout::{ChunkHead, ChunkId, Ds64, RawFmt, Source, read_head};
 use std::alloc::Global;
 
