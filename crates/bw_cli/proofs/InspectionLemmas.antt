@@ -6,7 +6,7 @@ use Rattle.bw_model.specs.Report.{report_text}
 use Rattle.bw_inspect.specs.Places.{Of}
 use Rattle.bw_inspect.specs.Readings.{Refuses, Tells}
 use Rattle.bw_inspect.specs.Reports.{told_by}
-use Rattle.bw_inspect.specs.Faults.{is_read as is_read_fault}
+use Rattle.bw_inspect.specs.Faults.{is_failed_read}
 use Rattle.bw_inspect.specs.declared.fault.InspectFault.{InspectFault}
 use Rattle.bw_inspect.specs.declared.report.Report.{Report}
 use Rattle.bw_cli.specs.Deeds.{Deed}
@@ -34,7 +34,7 @@ report-told file r left outcome out faults tells prints told = inl (record {
 pub fault-told : (file : Option (List ℕ)) (f : InspectFault) (left : Option (List ℕ)) (faults : Print)
     → Of file (λ b. Refuses b f left) → IsOf (fault_line f) faults
     → IsInspection file (record {
-      reads_all = not (is_read_fault f.kind);
+      reads_all = not (is_failed_read f.kind);
       out = Nothing;
       faults = faults;
       exit = exit_for f.kind;

@@ -3,7 +3,7 @@ use Rattle.std.specs.Prelude.{◌≡◌, ◌⊎◌, ℕ, List, [], ◌∷◌, �
 use Rattle.std.specs.Prelude.{true, codes}
 use Rattle.bw_model.specs.Reading.{Fault, IsFault}
 use Rattle.bw_model.specs.Report.{report_of, report_text}
-use Rattle.bw_inspect.specs.Faults.{fault_of, fault_text, is_read as is_read_fault}
+use Rattle.bw_inspect.specs.Faults.{bytes_fault, inspect_fault_text, is_failed_read}
 use Rattle.bw_inspect.specs.Places.{Of}
 use Rattle.bw_inspect.specs.Readings.{HasReading}
 use Rattle.bw_inspect.specs.declared.fault.InspectFault.{InspectFault}
@@ -22,7 +22,7 @@ use Rattle.bw_cli.specs.declared.fault.Fault.TheVariants as failures
 
 -- the line of a fault
 abbrev pub fault_line : InspectFault → List ℕ
-fault_line f = codes "inspect: " ++ fault_text f ++ 10 ∷ []
+fault_line f = codes "inspect: " ++ inspect_fault_text f ++ 10 ∷ []
 
 -- how an inspection ends on a fault of this kind
 abbrev pub exit_for : InspectKind → Exit
@@ -72,8 +72,8 @@ pub record IsReport (file : Option (List ℕ)) (did : Deed) : Type 0 where
 pub record IsFinding (file : Option (List ℕ)) (did : Deed) : Type 0 where
   pub fault : InspectFault
   pub exit_is : did.exit ≡ exit_for fault.kind
-  pub reads : did.reads_all ≡ not (is_read_fault fault.kind)
-  pub right : Of file (λ b. (met : Fault) → fault_of fault ≡ Some met → IsFault b met)
+  pub reads : did.reads_all ≡ not (is_failed_read fault.kind)
+  pub right : Of file (λ b. (met : Fault) → bytes_fault fault ≡ Some met → IsFault b met)
   pub prints : did.out ≡ Nothing
   pub tells : IsOf (fault_line fault) did.faults
 

@@ -2,7 +2,6 @@
 use Rattle.std.proofs.Common.{◌≡◌, ℕ, ◌+◌, ◌≤◌, Bool, true, false, cond, List, [], ◌∷◌, ◌++◌, length, Option, Some}
 use Rattle.std.proofs.Common.{None, Result, Ok, Err, refl, sym, ◌∙◌, ap, append_assoc, append-nil}
 use Rattle.std.specs.Prelude.{codes, fold, option_map, is_some, unwrap_or, nat_le}
-use Rattle.std.specs.Str.{bytes_eq}
 use Rattle.std.proofs.lemmas.Bool.{le-leb}
 use Rattle.std.proofs.lemmas.Slice.Eq.{bytes_eq-Decides}
 use Rattle.bw_model.specs.Bytes.{first_that_holds, even_up, u32_at}
@@ -22,16 +21,13 @@ Named Cue id = id ≡ codes "cue "
 Named Other id = (reading.is_id id (codes "fmt ") ≡ false) × (reading.is_id id (codes "bext") ≡ false)
     × (reading.is_id id (codes "data") ≡ false) × (reading.is_id id (codes "cue ") ≡ false)
 
-pub same_bytes : (xs ys : List ℕ) → bytes_eq xs ys ≡ true → xs ≡ ys
-same_bytes xs ys e = (bytes_eq-Decides xs ys).0 e
-
 named_by : (id : List ℕ) (f x d q : Bool) → reading.is_id id (codes "fmt ") ≡ f → reading.is_id id (codes "bext") ≡ x →
     reading.is_id id (codes "data") ≡ d → reading.is_id id (codes "cue ") ≡ q →
     Named (cond f Fmt (cond x Bext (cond d Data (cond q Cue Other)))) id
-named_by id true x d q ef ex ed eq = same_bytes id (codes "fmt ") ef
-named_by id false true d q ef ex ed eq = same_bytes id (codes "bext") ex
-named_by id false false true q ef ex ed eq = same_bytes id (codes "data") ed
-named_by id false false false true ef ex ed eq = same_bytes id (codes "cue ") eq
+named_by id true x d q ef ex ed eq = (bytes_eq-Decides id (codes "fmt ")).0 ef
+named_by id false true d q ef ex ed eq = (bytes_eq-Decides id (codes "bext")).0 ex
+named_by id false false true q ef ex ed eq = (bytes_eq-Decides id (codes "data")).0 ed
+named_by id false false false true ef ex ed eq = (bytes_eq-Decides id (codes "cue ")).0 eq
 named_by id false false false false ef ex ed eq = (ef, ex, ed, eq)
 
 pub named : (id : List ℕ) → Named (kind_by id) id

@@ -10,25 +10,25 @@ use Rattle.bw_model.specs.Report as report
 use Rattle.bw_layout.specs.Raw.{bext_at}
 use Rattle.bw_inspect.specs.declared.chunk.ChunkKind.{ChunkKind}
 use Rattle.bw_inspect.specs.declared.chunk.ChunkKind.TheVariants.{Bext}
-use Rattle.bw_inspect.specs.Chunks.{is_cue, content_faults}
+use Rattle.bw_inspect.specs.Chunks.{is_cue_kind, content_faults}
 use Rattle.bw_inspect.specs.Known.{Facts, bext_told}
-use Rattle.bw_inspect.specs.Contents.{ReadTo, IsWhole, IsLearned}
-use Rattle.bw_inspect.proofs.Pieces.{part_at}
+use Rattle.bw_inspect.specs.Contents.{ReadTo, IsFaultless, IsLearned}
+use Rattle.bw_inspect.proofs.PartialReads.{part_at}
 
 -- a part of a content stands in all the bytes
 pub in_content : (b : List ℕ) (e : reading.Entry) (i j : ℕ) → i ≤ j → j ≤ e.size →
     slice_range (report.content_of b (Some e)) i j ≡ slice_range b (e.place + 8 + i) (e.place + 8 + j)
 in_content b e i j h k = part_at b (e.place + 8) e.size i j h k
 
-cut_faults : (len p count c : ℕ) (s : ChunkKind) (v : Bool) → nat_lt len (p + 8 + c) ≡ v → is_cue s ≡ false →
+cut_faults : (len p count c : ℕ) (s : ChunkKind) (v : Bool) → nat_lt len (p + 8 + c) ≡ v → is_cue_kind s ≡ false →
     first_that_holds (content_faults len p s count c)
     ≡ cond v (Some (record { kind = reading.Truncated; offset = p })) None
 cut_faults len p count c s v e n = rw (n, e) refl
 
 -- a content of which nothing but its length can be wrong
 
-pub plain_whole : (b : List ℕ) (e : reading.Entry) (s : ChunkKind) (left : Option (List ℕ)) → is_cue s ≡ false →
-    ReadTo b e e.size left → IsWhole b s e left
+pub plain_whole : (b : List ℕ) (e : reading.Entry) (s : ChunkKind) (left : Option (List ℕ)) → is_cue_kind s ≡ false →
+    ReadTo b e e.size left → IsFaultless b s e left
 plain_whole b e s left n r = record {
   free = cut_faults (length b) e.place (u32_at b (e.place + 8)) e.size s false
       (le-ltb (length b) (e.place + 8 + e.size) r.there) n;

@@ -7,7 +7,7 @@ use Rattle.bw_model.specs.Bytes.{first_that_holds}
 use Rattle.bw_model.specs.Reading as reading
 use Rattle.bw_inspect.specs.declared.fault.InspectFault.{InspectFault}
 use Rattle.bw_inspect.specs.declared.fault.InspectKind.TheVariants.{TooMany, Memory}
-use Rattle.bw_inspect.specs.Faults.{fault_of, is_of_bytes, is_read}
+use Rattle.bw_inspect.specs.Faults.{bytes_fault, is_of_bytes, is_failed_read}
 use Rattle.bw_inspect.specs.Chunks.{counted_faults}
 use Rattle.bw_inspect.specs.Places.{HasGrown, Nowhere}
 use Rattle.bw_inspect.specs.Contents.{ReadTo, IsCutShort, IsStopped, WantsRows}
@@ -55,14 +55,14 @@ too_many_rows b e front most width bad n f left s r m q = record {
       (omega arith) r.there r.rest (ap (λ (x : InspectFault). is_of_bytes x.kind) q);
   fault = λ g h.
       second_of (length b) e front most width bad n (le-ltb (length b) (e.place + 8 + front) r.there) (lt-ltb most n m)
-      ∙ (sym (ap fault_of q) ∙ h);
+      ∙ (sym (ap bytes_fault q) ∙ h);
 }
 
 -- there is no room for the rows
 pub no_room : (b : List ℕ) (e : reading.Entry) (front most width : ℕ) (bad : reading.FaultKind) (n : ℕ)
     (f : InspectFault) (left : Option (List ℕ)) → front ≤ e.size → ReadTo b e front left → n ≤ most →
     e.size < front + width * n →
-    fault_of f ≡ Some (record { kind = bad; offset = e.place }) →
+    bytes_fault f ≡ Some (record { kind = bad; offset = e.place }) →
     IsStopped b (e.place + 8 + e.size) e.place Nowhere (counted_faults (length b) e front most width bad n) f left
 no_room b e front most width bad n f left s r m l q = record {
   halts = halts_by_bytes b (e.place + 8 + e.size) e.place (e.place + 8 + front) Nowhere f left
@@ -109,7 +109,7 @@ row_refused b e front width done most f left r few fits q =
         within = omega arith;
         there = r.there;
         rest = r.rest;
-        fails = λ t. absurd (not_both (is_read f.kind) (ap (λ (x : InspectFault). is_read x.kind) q) t);
+        fails = λ t. absurd (not_both (is_failed_read f.kind) (ap (λ (x : InspectFault). is_failed_read x.kind) q) t);
         memory = λ t. (
           ap (λ (x : InspectFault). x.offset) q,
           record {
@@ -146,7 +146,7 @@ stopped_in_rows b e front most width bad n told f left q l there few room s =
           let c = s.cut (of_bytes f g h) in
           fourth_of (length b) e front most width bad n (le-ltb (length b) (e.place + 8 + front) there)
           (le-ltb most n few) (le-ltb e.size (front + width * n) room) (lt-ltb (length b) (e.place + 8 + e.size) c.1)
-          ∙ (sym (ap fault_of c.0) ∙ h);
+          ∙ (sym (ap bytes_fault c.0) ∙ h);
     } in
     subst (λ (k : ℕ). IsStopped b (e.place + 8 + e.size) e.place (WantsRows b e front most width bad k)
     (counted_faults (length b) e front most width bad k) f left) q stopped

@@ -11,7 +11,7 @@ use Rattle.bw_inspect.specs.declared.chunk.ChunkKind.TheVariants.{Cue}
 use Rattle.bw_inspect.specs.Known.{Facts}
 use Rattle.bw_inspect.specs.Places.{HasGrown}
 use Rattle.bw_inspect.specs.Chunks.{content_faults, counted_faults}
-use Rattle.bw_inspect.specs.Contents.{IsLearned, IsStopped, IsUnlearned, IsWhole, WantsPoints, faults_in}
+use Rattle.bw_inspect.specs.Contents.{IsLearned, IsStopped, IsUnlearned, IsFaultless, WantsPoints, faults_in}
 use Rattle.bw_inspect.specs.CueContents.{IsCued, WantsPoint, cue_faults}
 use Rattle.bw_inspect.proofs.Contents.{in_content}
 use Rattle.bw_inspect.proofs.Counted.{stopped_as}
@@ -52,7 +52,7 @@ cues_unlearned b e f left h s =
     (faults_in b Cue e) f left (λ n w. points_wanted b e n h w) (ap first_that_holds (faults_are b e h)) s
 
 cues_whole : (b : List ℕ) (e : reading.Entry) (points : List report.RawCue) (left : Option (List ℕ)) → 4 ≤ e.size →
-    IsCued b e points left → IsWhole b Cue e left
+    IsCued b e points left → IsFaultless b Cue e left
 cues_whole b e points left h c = record { free = sym (ap first_that_holds (faults_are b e h)) ∙ c.free; to = c.to }
 
 -- the points are known

@@ -6,11 +6,11 @@ use Rattle.bw_model.specs.Reading as reading
 use Rattle.bw_inspect.specs.declared.fault.InspectFault.{InspectFault}
 use Rattle.bw_inspect.specs.declared.fault.InspectKind.{InspectKind}
 use Rattle.bw_inspect.specs.declared.fault.InspectKind.TheVariants.{Read, Memory}
-use Rattle.bw_inspect.specs.Faults.{is_read, is_memory, is_of_bytes, kind_of, fault_of}
+use Rattle.bw_inspect.specs.Faults.{is_failed_read, is_memory, is_of_bytes, kind_of, bytes_fault}
 use Rattle.bw_inspect.specs.Places.{Halts, IsMissed}
 
 -- a fault of the bytes is no failed read
-pub bytes_no_read : (k : InspectKind) → is_of_bytes k ≡ true → is_read k ≡ false
+pub bytes_no_read : (k : InspectKind) → is_of_bytes k ≡ true → is_failed_read k ≡ false
 bytes_no_read Read e = cc
 bytes_no_read _ e = refl
 
@@ -20,7 +20,7 @@ bytes_no_memory Memory e = cc
 bytes_no_memory _ e = refl
 
 -- want of memory is no failed read
-pub memory_no_read : (k : InspectKind) → is_memory k ≡ true → is_read k ≡ false
+pub memory_no_read : (k : InspectKind) → is_memory k ≡ true → is_failed_read k ≡ false
 memory_no_read Read e = cc
 memory_no_read _ e = refl
 
@@ -33,7 +33,7 @@ named None n g e = cc
 named (Some k) n g e = refl
 
 -- a fault that the definitions name is one of the bytes
-pub of_bytes : (f : InspectFault) (g : reading.Fault) → fault_of f ≡ Some g → is_of_bytes f.kind ≡ true
+pub of_bytes : (f : InspectFault) (g : reading.Fault) → bytes_fault f ≡ Some g → is_of_bytes f.kind ≡ true
 of_bytes f g e = named (kind_of f.kind) f.offset g e
 
 kind_told : (o : Option reading.FaultKind) (n : ℕ) → is_some o ≡ true →
@@ -43,7 +43,7 @@ kind_told None n e = cc
 kind_told (Some k) n e = (record { kind = k; offset = n }, refl)
 
 -- and such a fault is named
-pub told_fault : (f : InspectFault) → is_of_bytes f.kind ≡ true → (g : reading.Fault) × (fault_of f ≡ Some g)
+pub told_fault : (f : InspectFault) → is_of_bytes f.kind ≡ true → (g : reading.Fault) × (bytes_fault f ≡ Some g)
 told_fault f e = kind_told (kind_of f.kind) f.offset e
 
 -- a call halts where it stands, for a fault of the bytes
@@ -56,7 +56,7 @@ halts_by_bytes b most place reached wants f left w l r k = record {
   within = w;
   there = l;
   rest = r;
-  fails = λ t. absurd (not_both (is_read f.kind) (bytes_no_read f.kind k) t);
+  fails = λ t. absurd (not_both (is_failed_read f.kind) (bytes_no_read f.kind k) t);
   memory = λ t. absurd (not_both (is_memory f.kind) (bytes_no_memory f.kind k) t);
 }
 

@@ -1,6 +1,6 @@
 pub mod Writing
 pub mod Faults
-pub mod Pieces
+pub mod PartialReads
 pub mod Contents
 pub mod Counted
 pub mod RowLemmas

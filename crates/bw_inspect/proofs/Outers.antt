@@ -8,7 +8,7 @@ use Rattle.bw_model.specs.Reading as reading
 use Rattle.bw_layout.specs.declared.chunk.ChunkHead.{ChunkHead}
 use Rattle.bw_inspect.specs.declared.fault.InspectFault.{InspectFault}
 use Rattle.bw_inspect.specs.declared.fault.InspectKind.TheVariants.{NotWave}
-use Rattle.bw_inspect.specs.Faults.{fault_of, is_of_bytes}
+use Rattle.bw_inspect.specs.Faults.{bytes_fault, is_of_bytes}
 use Rattle.bw_inspect.specs.Places.{IsGiven, IsMissed, Nowhere}
 use Rattle.bw_inspect.specs.Contents.{IsStopped}
 use Rattle.bw_inspect.specs.Outers.{IsOpened, IsOutside, WantsDs64, form_faults, names_form, opening_faults}
@@ -98,7 +98,7 @@ opening_missed b cut f left q m = record {
   halts = halts_missed b 0 12 12 12 Nowhere cut f left m (ap (λ (z : InspectFault). is_of_bytes z.kind) q) (lit≤ tt)
       (omega arith);
   fault = λ g h. let x = m.cuts (ap not (bytes_no_read f.kind (of_bytes f g h))) in
-      short b (lt-ltb (length b) 12 x.1) ∙ (sym (ap fault_of (x.0 ∙ q)) ∙ h);
+      short b (lt-ltb (length b) 12 x.1) ∙ (sym (ap bytes_fault (x.0 ∙ q)) ∙ h);
 }
 
 -- the parts of the opening
@@ -133,7 +133,7 @@ pub other_form : (b buf : List ℕ) (f : InspectFault) (left : Option (List ℕ)
 other_form b buf f left t n q = record {
   halts = halts_by_bytes b 12 12 12 Nowhere f left (lit≤ tt) t.long t.rest
       (ap (λ (z : InspectFault). is_of_bytes z.kind) q);
-  fault = λ g h. no_form b t.there (ap names_form (sym (opened_id b buf t.bytes)) ∙ n) ∙ (sym (ap fault_of q) ∙ h);
+  fault = λ g h. no_form b t.there (ap names_form (sym (opened_id b buf t.bytes)) ∙ n) ∙ (sym (ap bytes_fault q) ∙ h);
 }
 
 -- another type
@@ -146,7 +146,7 @@ other_type b buf f left t n w q = record {
   fault = λ g h.
       no_wave b t.there (ap names_form (sym (opened_id b buf t.bytes)) ∙ n)
       (ap (λ (z : List ℕ). reading.is_id z (codes "WAVE")) (sym (opened_type b buf t.bytes)) ∙ w)
-      ∙ (sym (ap fault_of q) ∙ h);
+      ∙ (sym (ap bytes_fault q) ∙ h);
 }
 
 -- no fault

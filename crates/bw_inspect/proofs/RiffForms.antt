@@ -3,6 +3,7 @@ use Rattle.std.proofs.Common.{◌≡◌, ℕ, ◌+◌, ◌^◌, ◌≤◌, Bool,
 use Rattle.std.proofs.Common.{None, Ok, sym, ◌∙◌, ap, arith, lit≤}
 use Rattle.std.specs.Prelude.{codes, nat_lt, ◌==◌, if◌then◌else◌}
 use Rattle.std.proofs.lemmas.Bool.{ltb-false}
+use Rattle.std.proofs.lemmas.Slice.Eq.{bytes_eq-Decides}
 use Rattle.bw_model.specs.Bytes.{first_that_holds, u32_at, u64_at, unsaid}
 use Rattle.bw_model.specs.Reading as reading
 use Rattle.bw_model.proofs.ChunkSteps.{none_holds}
@@ -12,14 +13,14 @@ use Rattle.bw_inspect.specs.declared.fault.InspectFault.{InspectFault}
 use Rattle.bw_inspect.specs.declared.fault.InspectKind.TheVariants.{NoSize}
 use Rattle.bw_inspect.specs.declared.walk.Walk.{Walk}
 use Rattle.bw_inspect.specs.declared.walk.Form.{Form}
-use Rattle.bw_inspect.specs.Faults.{fault_of, is_of_bytes}
+use Rattle.bw_inspect.specs.Faults.{bytes_fault, is_of_bytes}
 use Rattle.bw_inspect.specs.Chunks.{sizes_of}
 use Rattle.bw_inspect.specs.Places.{Nowhere}
 use Rattle.bw_inspect.specs.Contents.{IsStopped}
 use Rattle.bw_inspect.specs.Outers.{BeginsForm, IsOpened, IsOutside, WantsDs64, form_faults, opening_faults}
-use Rattle.bw_inspect.specs.Walks.{form_of}
+use Rattle.bw_inspect.specs.Walks.{form_by}
 use Rattle.bw_inspect.proofs.Faults.{halts_by_bytes}
-use Rattle.bw_inspect.proofs.ChunkFaults.{first_none, first_some, same_bytes}
+use Rattle.bw_inspect.proofs.ChunkFaults.{first_none, first_some}
 use Rattle.bw_inspect.proofs.Outers.{last_fault, later_faults, none_wanted, opening_there, outer_err, outer_ok}
 use Rattle.bw_inspect.proofs.Outers.{outside_by, riff_parts}
 use Rattle.bw_inspect.proofs.WideBegins.{IsFresh, fresh_stands}
@@ -35,7 +36,7 @@ opening_refused b f left s =
 -- RIFF is none of the others
 not_wide : (b : List ℕ) → reading.is_riff b ≡ true → reading.is_wide b ≡ false
 not_wide b r = ap (λ (z : List ℕ). reading.is_id z (codes "BW64") || reading.is_id z (codes "RF64"))
-    (same_bytes (reading.id_at b 0) (codes "RIFF") r)
+    ((bytes_eq-Decides (reading.id_at b 0) (codes "RIFF")).0 r)
 
 behind_opening : (b : List ℕ) (h : ChunkHead) (left : Option (List ℕ)) → IsOpened b h left → reading.is_riff b ≡ true →
     first_that_holds (reading.outer_faults b) ≡ first_that_holds (reading.riff_faults b ++ later_faults b)
@@ -56,7 +57,7 @@ unsaid_refused b h f left o r u q = record {
       (ap (λ (z : InspectFault). is_of_bytes z.kind) q);
   fault = λ g k.
       outer_err b g (behind_opening b h left o r ∙ first_some (reading.riff_faults b) (later_faults b) g
-      (unsaid_by b true (ap (λ (n : ℕ). n == unsaid) (sym o.tells) ∙ u) ∙ (sym (ap fault_of q) ∙ k)));
+      (unsaid_by b true (ap (λ (n : ℕ). n == unsaid) (sym o.tells) ∙ u) ∙ (sym (ap bytes_fault q) ∙ k)));
 }
 
 -- the size is told
@@ -79,7 +80,8 @@ said b h left o r u =
 
 -- the size can't be
 pub size_refused : (b : List ℕ) (h : ChunkHead) (f : InspectFault) (left : Option (List ℕ)) → IsOpened b h left →
-    IsSaid b h → is_of_bytes f.kind ≡ true → fault_of f ≡ first_that_holds (form_faults h.size32) → IsOutside b f left
+    IsSaid b h → is_of_bytes f.kind ≡ true →
+    bytes_fault f ≡ first_that_holds (form_faults h.size32) → IsOutside b f left
 size_refused b h f left o s k q = record {
   halts = halts_by_bytes b (2 ^ 62 + 8) 12 12 (WantsDs64 b) f left (lit≤ tt) (opening_there b o.free) o.rest k;
   fault = λ g t.
@@ -113,5 +115,5 @@ riff_begins b h form w left o s i n z free f =
           (sym o.spells ∙ sym i)
           ∙ (ap (λ (k : ℕ). Ok (record { id = form.id; size = k; sizes = None })) (s.size_is ∙ sym n)
           ∙ ap (λ (y : Option Ds64). Ok (record { id = form.id; size = form.size; sizes = sizes_of y })) (sym z))));
-      stands = fresh_stands b (form_of form) w left f (omega arith) (opening_there b o.free) o.rest;
+      stands = fresh_stands b (form_by form) w left f (omega arith) (opening_there b o.free) o.rest;
     }

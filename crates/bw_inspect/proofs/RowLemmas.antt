@@ -13,7 +13,7 @@ use Rattle.bw_inspect.specs.CueContents.{point_at}
 use Rattle.bw_inspect.specs.Contents.{ReadTo}
 use Rattle.bw_inspect.specs.RowLists.{HasRow, HasRows, rows_at}
 use Rattle.bw_inspect.proofs.Contents.{read_as}
-use Rattle.bw_inspect.proofs.Pieces.{part_at}
+use Rattle.bw_inspect.proofs.PartialReads.{part_at}
 
 -- a number in a part
 u32_part : (c : List ℕ) (d n i : ℕ) → i + 4 ≤ n → u32_at (slice_range c d (d + n)) i ≡ u32_at c (d + i)
@@ -70,8 +70,8 @@ row_fits front width n count size less fits =
     omega arith
 
 -- the place of a row, by the width that the code has
-pub stands_at : (b : List ℕ) (e e' : reading.Entry) (front width w n : ℕ) (left : Option (List ℕ)) → w ≡ width → e' ≡ e →
-    ReadTo b e (front + width * n) left → ReadTo b e' (front + w * n) left
+pub stands_at : (b : List ℕ) (e e' : reading.Entry) (front width w n : ℕ) (left : Option (List ℕ)) → w ≡ width →
+    e' ≡ e → ReadTo b e (front + width * n) left → ReadTo b e' (front + w * n) left
 stands_at b e e' front width w n left q same r =
     subst (λ (k : ℕ). ReadTo b e' (front + k * n) left) (sym q) (read_as b e e' (front + width * n) left (sym same) r)
 

@@ -11,13 +11,15 @@ use Rattle.bw_inspect.specs.declared.fault.InspectKind.TheVariants.{Truncated, T
 use Rattle.bw_inspect.specs.declared.walk.Walk.{Walk}
 use Rattle.bw_inspect.specs.declared.chunk.ChunkKind.{ChunkKind}
 use Rattle.bw_inspect.specs.declared.chunk.ChunkKind.TheVariants.{Fmt, Bext, Data, Cue, Other}
-use Rattle.bw_inspect.specs.Faults.{is_of_bytes, is_read, fault_of}
+use Rattle.bw_inspect.specs.Faults.{is_of_bytes, is_failed_read, bytes_fault}
 use Rattle.bw_inspect.specs.Places.{HasGrown, IsMissed}
-use Rattle.bw_inspect.specs.Chunks.{kind_by, start_faults, size_faults, content_faults, is_other, is_fmt, is_bext}
-use Rattle.bw_inspect.specs.Chunks.{is_cue}
+use Rattle.bw_inspect.specs.Chunks.{kind_by, start_faults, size_faults, content_faults}
+use Rattle.bw_inspect.specs.Chunks.{is_other_kind, is_fmt_kind, is_bext_kind}
+use Rattle.bw_inspect.specs.Chunks.{is_cue_kind}
 use Rattle.bw_inspect.specs.Known.{facts_of, facts_in, has_kind, learned, Facts}
-use Rattle.bw_inspect.specs.Contents.{IsEndOf, IsLearned, IsRefused, IsUnlearned, IsWhole, WantsPoints}
-use Rattle.bw_inspect.specs.Walks.{HasReadPoints, Stands, IsHead, IsFaulted, IsPassedOver, behind, faults_at, seen_by}
+use Rattle.bw_inspect.specs.Contents.{IsEndOf, IsLearned, IsStoppedIn, IsUnlearned, IsFaultless, WantsPoints}
+use Rattle.bw_inspect.specs.Walks.{HasReadPoints, Stands, IsHead, IsFaulted, IsPassedOver, place_behind}
+use Rattle.bw_inspect.specs.Walks.{faults_at, seen_by}
 use Rattle.bw_inspect.proofs.Faults.{bytes_no_read, of_bytes, missed_no_memory, no_memory, not_both}
 use Rattle.bw_inspect.proofs.ChunkFaults.{Named, named, faults_in_parts, first_none, first_some, next_err, next_ok}
 use Rattle.bw_inspect.proofs.ChunkFaults.{follow_push, place_push, facts_push}
@@ -59,9 +61,9 @@ too_many b form w left f s l n e =
       within = s.within;
       there = λ t. s.there t ∙ s.place;
       rest = s.rest;
-      fails = λ t. absurd (not_both (is_read f.kind) (bytes_no_read f.kind kind) t);
+      fails = λ t. absurd (not_both (is_failed_read f.kind) (bytes_no_read f.kind kind) t);
       memory = λ t. absurd (no_memory f kind t);
-      fault = λ g h. start_told b form w left g s l (rw full (sym (ap fault_of e) ∙ h));
+      fault = λ g h. start_told b form w left g s l (rw full (sym (ap bytes_fault e) ∙ h));
     }
 
 -- b ends before the head's end
@@ -85,7 +87,7 @@ head_cut b form w left left' cut f s l n e m =
       fault = λ g h.
           let c = m.cuts (ap not (bytes_no_read f.kind (of_bytes f g h))) in
           let short : nat_lt (length b) (w.place + 8) ≡ true = lt-ltb (length b) (w.place + 8) c.1 in
-          start_told b form w left g s l (rw (few, short) (sym (ap fault_of (c.0 ∙ e)) ∙ h));
+          start_told b form w left g s l (rw (few, short) (sym (ap bytes_fault (c.0 ∙ e)) ∙ h));
     }
 
 -- a head was read
@@ -119,7 +121,7 @@ later_are len b form w id size left l s h =
 pub size_faulted : (b : List ℕ) (form : reading.Form) (w : Walk) (id : List ℕ) (size : Option ℕ)
     (left left' : Option (List ℕ)) (f : InspectFault) → Stands b form w left → Headed b form w id size →
     left' ≡ Some (drop (w.place + 8) b) → is_of_bytes f.kind ≡ true →
-    fault_of f ≡ first_that_holds
+    bytes_fault f ≡ first_that_holds
     (size_faults (reading.form_end form) w.place (kind_by id) (has_kind (kind_by id) (facts_of w.known)) size
     (unwrap_or size 0)) →
     IsFaulted b form (seen_by w) f left'
@@ -128,7 +130,7 @@ size_faulted b form w id size left left' f s h l r e = record {
   within = h.wanted;
   there = λ t. absurd (let x = h.there in omega arith);
   rest = l;
-  fails = λ t. absurd (not_both (is_read f.kind) (bytes_no_read f.kind r) t);
+  fails = λ t. absurd (not_both (is_failed_read f.kind) (bytes_no_read f.kind r) t);
   memory = λ t. absurd (no_memory f r t);
   fault = λ g t.
       next_err b form (seen_by w) w.place g s.place h.wanted
@@ -170,7 +172,7 @@ record HasReadPointsAt (b : List ℕ) (form : reading.Form) (seen : List reading
 chunk_comes : (b : List ℕ) (form : reading.Form) (w : Walk) (e : reading.Entry) (size : Option ℕ)
     (left mid : Option (List ℕ)) → Stands b form w left → Headed b form w e.id size →
     Sized (reading.form_end form) w e.id size e.size → e.place ≡ w.place →
-    IsWhole b (kind_by e.id) e mid → reading.next b form (seen_by w) ≡ Ok (Some e)
+    IsFaultless b (kind_by e.id) e mid → reading.next b form (seen_by w) ≡ Ok (Some e)
 chunk_comes b form w e size left mid s h z p n =
     let entry : reading.Entry =
     record { id = reading.id_at b w.place; place = w.place; size = unwrap_or (reading.size_at b form w.place) 0 } in
@@ -188,7 +190,7 @@ chunk_comes b form w e size left mid s h z p n =
     ∙ n.free)
     ∙ ap (λ (x : reading.Entry). Ok (Some x)) same
 
-cue_named : (k : ChunkKind) (id : List ℕ) → Named k id → is_cue k ≡ true → reading.is_id id (codes "cue ") ≡ true
+cue_named : (k : ChunkKind) (id : List ℕ) → Named k id → is_cue_kind k ≡ true → reading.is_id id (codes "cue ") ≡ true
 cue_named Fmt id n e = cc
 cue_named Bext id n e = cc
 cue_named Data id n e = cc
@@ -250,16 +252,17 @@ fourth_free (false, x) (false, y) (false, z) (true, u) xs e = cc
 fourth_free (false, x) (false, y) (false, z) (false, u) xs e = refl
 
 not_twice : (end p c : ℕ) (s : ChunkKind) (has : Bool) (size : Option ℕ) →
-    first_that_holds (size_faults end p s has size c) ≡ None → not (is_other s) && has ≡ false
+    first_that_holds (size_faults end p s has size c) ≡ None → not (is_other_kind s) && has ≡ false
 not_twice end p c s has size e =
     fourth_free (reading.line (is_none size) reading.NoSize p)
     (reading.line (nat_lt reading.largest c) reading.TooLarge p)
-    (reading.line (nat_lt end (p + 8 + c)) reading.Truncated p) (reading.line (not (is_other s) && has) reading.Twice p)
-    (reading.line (is_fmt s && nat_lt c 16) reading.BadFmt p
-    ∷ reading.line (is_bext s && nat_lt c 602) reading.BadBext p
-    ∷ reading.line (is_cue s && nat_lt c 4) reading.BadCue p ∷ []) e
+    (reading.line (nat_lt end (p + 8 + c)) reading.Truncated p)
+    (reading.line (not (is_other_kind s) && has) reading.Twice p)
+    (reading.line (is_fmt_kind s && nat_lt c 16) reading.BadFmt p
+    ∷ reading.line (is_bext_kind s && nat_lt c 602) reading.BadBext p
+    ∷ reading.line (is_cue_kind s && nat_lt c 4) reading.BadCue p ∷ []) e
 
-unseen_by : (s : ChunkKind) (k : Facts) → not (is_other s) && has_kind s k ≡ false → has_kind s k ≡ false
+unseen_by : (s : ChunkKind) (k : Facts) → not (is_other_kind s) && has_kind s k ≡ false → has_kind s k ≡ false
 unseen_by Fmt k h = h
 unseen_by Bext k h = h
 unseen_by Data k h = h
@@ -310,15 +313,15 @@ learned_as b kind kind' e old new new' left k n l =
 
 -- a content is read, by another word for its kind
 pub whole_as : (b : List ℕ) (kind kind' : ChunkKind) (e : reading.Entry) (left : Option (List ℕ)) → kind ≡ kind' →
-    IsWhole b kind e left → IsWhole b kind' e left
-whole_as b kind kind' e left k w = subst (λ (x : ChunkKind). IsWhole b x e left) k w
+    IsFaultless b kind e left → IsFaultless b kind' e left
+whole_as b kind kind' e left k w = subst (λ (x : ChunkKind). IsFaultless b x e left) k w
 
 -- one more chunk
 pub goes_on : (b : List ℕ) (form : reading.Form) (w v : Walk) (e : reading.Entry) (size : Option ℕ)
     (left mid left' : Option (List ℕ)) → Stands b form w left → Headed b form w e.id size →
     Sized (reading.form_end form) w e.id size e.size → e.place ≡ w.place →
     IsLearned b (kind_by e.id) e (facts_of w.known) (facts_of v.known) mid →
-    seen_by v ≡ seen_by w ++ e ∷ [] → v.place ≡ behind e → IsPassedOver b (reading.form_end form) e left' →
+    seen_by v ≡ seen_by w ++ e ∷ [] → v.place ≡ place_behind e → IsPassedOver b (reading.form_end form) e left' →
     Stands b form v left'
 goes_on b form w v e size left mid left' s h z p n seen place o =
     let comes = chunk_comes b form w e size left mid s h z p n.whole in
@@ -346,8 +349,8 @@ goes_on b form w v e size left mid left' s h z p n seen place o =
 -- a call stopped behind a chunk, for no fault of the bytes
 pub stopped_behind : (b : List ℕ) (form : reading.Form) (w : Walk) (e : reading.Entry) (size : Option ℕ)
     (left mid left' : Option (List ℕ)) (f : InspectFault) → Stands b form w left → Headed b form w e.id size →
-    Sized (reading.form_end form) w e.id size e.size → e.place ≡ w.place → IsWhole b (kind_by e.id) e mid →
-    IsRefused b (IsEndOf e) [] e f left' → IsFaulted b form (seen_by w) f left'
+    Sized (reading.form_end form) w e.id size e.size → e.place ≡ w.place → IsFaultless b (kind_by e.id) e mid →
+    IsStoppedIn b (IsEndOf e) [] e f left' → IsFaulted b form (seen_by w) f left'
 stopped_behind b form w e size left mid left' f s h z p n u =
     let inside = z.inside in
     let most = u.halts.within in

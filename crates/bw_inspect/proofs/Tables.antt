@@ -10,7 +10,7 @@ use Rattle.bw_layout.specs.declared.chunk.ChunkHead.{ChunkHead}
 use Rattle.std.specs.Prelude.{slice_range}
 use Rattle.bw_inspect.specs.declared.fault.InspectFault.{InspectFault}
 use Rattle.bw_inspect.specs.declared.fault.InspectKind.TheVariants.{NoDs64, BadDs64}
-use Rattle.bw_inspect.specs.Faults.{fault_of, is_of_bytes}
+use Rattle.bw_inspect.specs.Faults.{bytes_fault, is_of_bytes}
 use Rattle.bw_inspect.specs.Places.{IsMissed, Nowhere}
 use Rattle.bw_inspect.specs.Contents.{IsStopped}
 use Rattle.bw_inspect.specs.Tables.{IsDs64Head, ds64_head_faults}
@@ -55,7 +55,7 @@ pub head_missed : (b : List ℕ) (cut f : InspectFault) (left : Option (List ℕ
 head_missed b cut f left q m l = record {
   halts = halts_missed b 12 8 20 12 Nowhere cut f left m (ap (λ (z : InspectFault). is_of_bytes z.kind) q) (lit≤ tt) l;
   fault = λ g h. let x = m.cuts (ap not (bytes_no_read f.kind (of_bytes f g h))) in
-      no_head b (lt-ltb (length b) 20 x.1) ∙ (sym (ap fault_of (x.0 ∙ q)) ∙ h);
+      no_head b (lt-ltb (length b) 20 x.1) ∙ (sym (ap bytes_fault (x.0 ∙ q)) ∙ h);
 }
 
 -- another chunk stands there
@@ -67,7 +67,7 @@ other_chunk b head f left h i q = record {
       (ap (λ (z : InspectFault). is_of_bytes z.kind) q);
   fault = λ g t.
       other_head b (le-ltb (length b) 20 h.within)
-      (ap (λ (z : List ℕ). reading.is_id z (codes "ds64")) (sym h.spells) ∙ i) ∙ (sym (ap fault_of q) ∙ t);
+      (ap (λ (z : List ℕ). reading.is_id z (codes "ds64")) (sym h.spells) ∙ i) ∙ (sym (ap bytes_fault q) ∙ t);
 }
 
 -- its size can't be
@@ -81,7 +81,7 @@ size_refused b head f left h i s q = record {
   fault = λ g t.
       bad_head b (le-ltb (length b) 20 h.within)
       (ap (λ (z : List ℕ). reading.is_id z (codes "ds64")) (sym h.spells) ∙ i) (ap bad_size (sym h.tells) ∙ s)
-      ∙ (sym (ap fault_of q) ∙ t);
+      ∙ (sym (ap bytes_fault q) ∙ t);
 }
 
 -- the head has no fault

@@ -8,10 +8,10 @@ use Rattle.bw_model.specs.ReadBack.{ReadsBack, read_form, read_chunks}
 use Rattle.bw_model.proofs.FileReports.{reads_back}
 use Rattle.bw_model.proofs.MadeTakes.{made_reads_back}
 use Rattle.bw_model.proofs.ReadingLaws.{readings_agree}
-use Rattle.bw_inspect.specs.Laws.{IsToldOf, FilesAreTold, MadeFilesAreTold}
+use Rattle.bw_inspect.specs.Laws.{TellsTake, FilesAreTold, MadeFilesAreTold}
 use Rattle.bw_inspect.proofs.Whole.{refused_outside}
 
-told_of : (f : Format) (t : Take) (limit : ℕ) → ReadsBack f t limit → IsToldOf f t limit
+told_of : (f : Format) (t : Take) (limit : ℕ) → ReadsBack f t limit → TellsTake f t limit
 told_of f t limit k =
     let b = file_with f t limit in
     record {

@@ -8,10 +8,10 @@ use Rattle.bw_inspect.specs.declared.fault.InspectFault.{InspectFault}
 use Rattle.bw_inspect.specs.declared.report.Report.{Report}
 use Rattle.bw_inspect.specs.declared.walk.Walk.{Walk}
 use Rattle.bw_inspect.specs.declared.walk.Form.{Form}
-use Rattle.bw_inspect.specs.Faults.{is_read, is_memory, is_of_bytes, fault_of}
-use Rattle.bw_inspect.specs.Walks.{IsFaulted, form_of, seen_by}
+use Rattle.bw_inspect.specs.Faults.{is_failed_read, is_memory, is_of_bytes, bytes_fault}
+use Rattle.bw_inspect.specs.Walks.{IsFaulted, form_by, seen_by}
 use Rattle.bw_inspect.specs.Outers.{BeginsForm, IsOutside}
-use Rattle.bw_inspect.specs.Readings.{HasReading, IsPadAbsent, IsTold, Refuses, Tells}
+use Rattle.bw_inspect.specs.Readings.{HasReading, IsPadAbsent, IsReported, Refuses, Tells}
 use Rattle.bw_inspect.proofs.Faults.{bytes_no_read, bytes_no_memory, not_both, told_fault}
 use Rattle.bw_inspect.proofs.Finish.{next_end}
 use Rattle.bw_model.proofs.ReadingLaws.{no_fault}
@@ -35,7 +35,7 @@ pad_absent b form w reached left s past p =
     let near = s.stands.near in
     let place = s.stands.place in
     record {
-      form = form_of form;
+      form = form_by form;
       entries = seen_by w;
       front = record { header = s.header; chunks = s.stands.chunks };
       wanted = p;
@@ -44,52 +44,53 @@ pad_absent b form w reached left s past p =
 
 -- a chunk's fault
 pub step_refused : (b : List ℕ) (form : Form) (w : Walk) (f : InspectFault) (left left' : Option (List ℕ)) →
-    form.size ≤ 2 ^ 62 → BeginsForm b form w left → IsFaulted b (form_of form) (seen_by w) f left' → Refuses b f left'
+    form.size ≤ 2 ^ 62 → BeginsForm b form w left → IsFaulted b (form_by form) (seen_by w) f left' → Refuses b f left'
 step_refused b form w f left left' small s k =
-    let front : reading.IsFront b (form_of form) (seen_by w) = record { header = s.header; chunks = s.stands.chunks } in
+    let front : reading.IsFront b (form_by form) (seen_by w) = record { header = s.header; chunks = s.stands.chunks } in
     record {
-      fault = λ g h. inr (form_of form, (seen_by w, (front, k.fault g h)));
+      fault = λ g h. inr (form_by form, (seen_by w, (front, k.fault g h)));
       within = record { reached = k.reached; within = let x = k.within in omega arith; rest = k.rest };
       there = λ t. pad_absent b form w k.reached left s t (k.there t);
       fails = k.fails;
       memory = λ t.
           let m = k.memory t in
-          inr (record { form = form_of form; entries = seen_by w; front = front; place_is = m.0; wants = m.1 });
+          inr (record { form = form_by form; entries = seen_by w; front = front; place_is = m.0; wants = m.1 });
     }
 
 -- a fault at the form's end
 pub end_refused : (b : List ℕ) (form : Form) (w : Walk) (f : InspectFault) (left : Option (List ℕ)) →
-    form.size ≤ 2 ^ 62 → BeginsForm b form w left → reading.form_end (form_of form) < w.place + 8 →
+    form.size ≤ 2 ^ 62 → BeginsForm b form w left → reading.form_end (form_by form) < w.place + 8 →
     is_of_bytes f.kind ≡ true →
-    fault_of f ≡ first_that_holds (reading.end_faults (8 + form.size) (seen_by w)) → Refuses b f left
+    bytes_fault f ≡ first_that_holds (reading.end_faults (8 + form.size) (seen_by w)) → Refuses b f left
 end_refused b form w f left small s past k e = record {
   fault = λ g h. inr (
-    form_of form,
+    form_by form,
     (
       seen_by w,
       (
         record { header = s.header; chunks = s.stands.chunks },
-        next_end b (form_of form) (seen_by w) w.place (Some g) s.stands.place (omega arith) (sym e ∙ h),
+        next_end b (form_by form) (seen_by w) w.place (Some g) s.stands.place (omega arith) (sym e ∙ h),
       ),
     ),
   );
   within = record { reached = s.stands.reached; within = let x = s.stands.within in omega arith; rest = s.stands.rest };
   there = λ t. pad_absent b form w s.stands.reached left s t (s.stands.there t ∙ s.stands.place);
-  fails = λ t. absurd (not_both (is_read f.kind) (bytes_no_read f.kind k) t);
+  fails = λ t. absurd (not_both (is_failed_read f.kind) (bytes_no_read f.kind k) t);
   memory = λ t. absurd (not_both (is_memory f.kind) (bytes_no_memory f.kind k) t);
 }
 
 -- the report of the reading
 pub told : (b : List ℕ) (form : Form) (w : Walk) (r : Report) (left : Option (List ℕ)) → form.size ≤ 2 ^ 62 →
-    BeginsForm b form w left → reading.form_end (form_of form) < w.place + 8 → IsTold b (form_of form) (seen_by w) r →
+    BeginsForm b form w left → reading.form_end (form_by form) < w.place + 8 →
+    IsReported b (form_by form) (seen_by w) r →
     Tells b r left
 told b form w r left small s past k = record {
   reading_is = record {
-    form = form_of form;
+    form = form_by form;
     entries = seen_by w;
     reads = record {
       front = record { header = s.header; chunks = s.stands.chunks };
-      ends = next_end b (form_of form) (seen_by w) w.place None s.stands.place (omega arith) k.free;
+      ends = next_end b (form_by form) (seen_by w) w.place None s.stands.place (omega arith) k.free;
     };
   };
   tells = k.tells;

@@ -3,6 +3,7 @@ use Rattle.std.proofs.Common.{◌≡◌, ℕ, ◌+◌, ◌^◌, ◌≤◌, ◌<�
 use Rattle.std.proofs.Common.{Some, None, Ok, refl, sym, ◌∙◌, ap, subst, arith, lit<}
 use Rattle.std.specs.Prelude.{codes, nat_lt, ◌==◌}
 use Rattle.std.proofs.lemmas.Bool.{le-ltb, ltb-false}
+use Rattle.std.proofs.lemmas.Slice.Eq.{bytes_eq-Decides}
 use Rattle.bw_model.specs.Bytes.{first_that_holds, u32_at, unsaid}
 use Rattle.bw_model.specs.Reading as reading
 use Rattle.bw_model.proofs.ChunkSteps.{none_holds}
@@ -16,9 +17,8 @@ use Rattle.bw_inspect.specs.Chunks.{kind_by, size_faults, sizes_by, sizes_of}
 use Rattle.bw_inspect.specs.Known.{facts_of, facts_in, has_kind, nothing}
 use Rattle.bw_inspect.specs.Contents.{IsLearned, ReadTo}
 use Rattle.bw_inspect.specs.Outers.{BeginsForm, IsOpened, form_faults}
-use Rattle.bw_inspect.specs.Walks.{IsPassedOver, Stands, behind, form_of, seen_by}
+use Rattle.bw_inspect.specs.Walks.{IsPassedOver, Stands, place_behind, form_by, seen_by}
 use Rattle.bw_inspect.proofs.Contents.{plain_whole}
-use Rattle.bw_inspect.proofs.ChunkFaults.{same_bytes}
 use Rattle.bw_inspect.proofs.Outers.{outer_ok}
 use Rattle.bw_inspect.proofs.Steps.{Headed, Sized, goes_on, learned_as}
 use Rattle.bw_inspect.proofs.WideReads.{IsWideRead, last_by}
@@ -76,17 +76,18 @@ pub wide_begins : (b : List ℕ) (h : ChunkHead) (e : reading.Entry) (x : Ds64) 
     form.sizes ≡ Some x →
     first_that_holds (form_faults form.size) ≡ None → ReadTo b e e.size mid → e.size < 2 ^ 32 →
     e.place + 8 + e.size ≤ 8 + form.size → IsFresh w →
-    v.known ≡ w.known → v.place ≡ behind e → seen_by v ≡ seen_by w ++ e ∷ [] → IsPassedOver b (8 + form.size) e left' →
+    v.known ≡ w.known → v.place ≡ place_behind e → seen_by v ≡ seen_by w ++ e ∷ [] →
+    IsPassedOver b (8 + form.size) e left' →
     BeginsForm b form v left'
 wide_begins b h e x form w v left mid left' o r i z free to small inside f k place seen over =
-    let told = form_of form in
+    let told = form_by form in
     let four : 4 ≤ form.size = ltb-false form.size 4 (none_holds (form_faults form.size) free).1.0 in
     let at : e.place ≡ 12 = ap (λ (y : reading.Entry). y.place) r.entry in
     let here : w.place ≡ 12 = f.place in
     let bytes : e.size ≡ u32_at b 16 = ap (λ (y : reading.Entry). y.size) r.entry in
     let id : e.id ≡ reading.id_at b 12 = ap (λ (y : reading.Entry). y.id) r.entry in
     let other : kind_by e.id ≡ Other =
-    ap kind_by (id ∙ same_bytes (reading.id_at b 12) (codes "ds64") r.head.spelled) in
+    ap kind_by (id ∙ (bytes_eq-Decides (reading.id_at b 12) (codes "ds64")).0 r.head.spelled) in
     let there = r.head.there in
     let last : nat_lt (8 + form.size) (20 + u32_at b 16) ≡ false =
     le-ltb (8 + form.size) (20 + u32_at b 16) (omega arith) in

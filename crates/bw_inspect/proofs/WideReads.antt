@@ -10,9 +10,9 @@ use Rattle.bw_layout.specs.declared.chunk.ChunkHead.{ChunkHead}
 use Rattle.bw_layout.specs.declared.sizes.Ds64.{Ds64}
 use Rattle.bw_inspect.specs.declared.fault.InspectFault.{InspectFault}
 use Rattle.bw_inspect.specs.declared.fault.InspectKind.TheVariants.{Truncated}
-use Rattle.bw_inspect.specs.Faults.{fault_of, is_of_bytes}
+use Rattle.bw_inspect.specs.Faults.{bytes_fault, is_of_bytes}
 use Rattle.bw_inspect.specs.Chunks.{sizes_by}
-use Rattle.bw_inspect.specs.Contents.{ReadTo, IsEndOf, IsRefused}
+use Rattle.bw_inspect.specs.Contents.{ReadTo, IsEndOf, IsStoppedIn}
 use Rattle.bw_inspect.specs.Tables.{IsDs64Head, IsDs64Read, ds64_entry, sizes_in, table_faults}
 use Rattle.bw_inspect.specs.Outers.{IsOpened, IsOutside, WantsDs64, form_faults}
 use Rattle.bw_model.proofs.ChunkSteps.{none_holds}
@@ -65,7 +65,7 @@ wide_read b h e x size left mid left' o r d k s =
 pub form_refused : (b : List ℕ) (h : ChunkHead) (e : reading.Entry) (x : Ds64) (size : ℕ) (f : InspectFault)
     (left : Option (List ℕ)) → IsWideRead b h e x size → ReadTo b e e.size left → e.size < 2 ^ 32 →
     is_of_bytes f.kind ≡ true →
-    fault_of f ≡ first_that_holds (form_faults size) → IsOutside b f left
+    bytes_fault f ≡ first_that_holds (form_faults size) → IsOutside b f left
 form_refused b h e x size f left w r small k q =
     let place : e.place ≡ 12 = ap (λ (z : reading.Entry). z.place) w.entry in
     record {
@@ -105,13 +105,13 @@ past_form b h e x size f left w free r small past q =
     record {
       halts = halts_by_bytes b (2 ^ 62 + 8) 12 (e.place + 8 + e.size) (WantsDs64 b) f left (omega arith) r.there r.rest
           (ap (λ (z : InspectFault). is_of_bytes z.kind) q);
-      fault = λ g t. outer_err b g (last_by b h e x size true w free test ∙ (sym (ap fault_of f') ∙ t));
+      fault = λ g t. outer_err b g (last_by b h e x size true w free test ∙ (sym (ap bytes_fault f') ∙ t));
     }
 
 -- it couldn't be listed
 pub listed_refused : (b : List ℕ) (h : ChunkHead) (e : reading.Entry) (x : Ds64) (size : ℕ) (f : InspectFault)
     (left : Option (List ℕ)) → IsWideRead b h e x size → first_that_holds (form_faults size) ≡ None → e.size < 2 ^ 32 →
-    e.place + 8 + e.size ≤ 8 + size → IsRefused b (IsEndOf e) [] e f left → IsOutside b f left
+    e.place + 8 + e.size ≤ 8 + size → IsStoppedIn b (IsEndOf e) [] e f left → IsOutside b f left
 listed_refused b h e x size f left w free small inside s =
     let place : e.place ≡ 12 = ap (λ (z : reading.Entry). z.place) w.entry in
     let bytes : e.size ≡ u32_at b 16 = ap (λ (z : reading.Entry). z.size) w.entry in

@@ -2,6 +2,7 @@
 use Rattle.std.specs.Prelude.{ℕ, ◌+◌, ◌*◌, ◌≤◌, Bool, true, false, not, ◌&&◌, List, [], ◌∷◌, length}
 use Rattle.std.specs.Prelude.{find, codes, Option, option_map, is_none, nat_lt, nat_le}
 use Rattle.std.specs.Prelude.{if◌then◌else◌}
+use Rattle.bw_model.specs.Limits.{most_chunks, most_cues}
 use Rattle.bw_model.specs.Reading as reading
 use Rattle.bw_layout.specs.declared.sizes.Ds64.{Ds64}
 use Rattle.bw_inspect.specs.declared.chunk.ChunkKind.{ChunkKind}
@@ -16,22 +17,25 @@ kind_by id =
     else if reading.is_id id (codes "cue ") then Cue
     else Other
 
-abbrev pub is_fmt : ChunkKind → Bool
-is_fmt Fmt = true
-is_fmt _ = false
+-- of `fmt `
+abbrev pub is_fmt_kind : ChunkKind → Bool
+is_fmt_kind Fmt = true
+is_fmt_kind _ = false
 
-abbrev pub is_bext : ChunkKind → Bool
-is_bext Bext = true
-is_bext _ = false
+-- of `bext`
+abbrev pub is_bext_kind : ChunkKind → Bool
+is_bext_kind Bext = true
+is_bext_kind _ = false
 
-abbrev pub is_cue : ChunkKind → Bool
-is_cue Cue = true
-is_cue _ = false
+-- of `cue `
+abbrev pub is_cue_kind : ChunkKind → Bool
+is_cue_kind Cue = true
+is_cue_kind _ = false
 
--- a file may have several chunks of the kind
-abbrev pub is_other : ChunkKind → Bool
-is_other Other = true
-is_other _ = false
+-- of the chunks that a file may have several times
+abbrev pub is_other_kind : ChunkKind → Bool
+is_other_kind Other = true
+is_other_kind _ = false
 
 -- the size in the first row with an id
 abbrev pub size_by : List (List ℕ × ℕ) → List ℕ → Option ℕ
@@ -47,7 +51,7 @@ sizes_of = option_map sizes_by
 -- the faults before a head
 abbrev pub start_faults : ℕ → List reading.Entry → ℕ → List (Bool × reading.Fault)
 start_faults len seen p =
-    reading.line (nat_le 4096 (length seen)) reading.TooMany p
+    reading.line (nat_le most_chunks (length seen)) reading.TooMany p
     ∷ reading.line (nat_lt len (p + 8)) reading.Truncated p
     ∷ []
 
@@ -57,18 +61,18 @@ size_faults end p kind seen size c =
     reading.line (is_none size) reading.NoSize p
     ∷ reading.line (nat_lt reading.largest c) reading.TooLarge p
     ∷ reading.line (nat_lt end (p + 8 + c)) reading.Truncated p
-    ∷ reading.line (not (is_other kind) && seen) reading.Twice p
-    ∷ reading.line (is_fmt kind && nat_lt c 16) reading.BadFmt p
-    ∷ reading.line (is_bext kind && nat_lt c 602) reading.BadBext p
-    ∷ reading.line (is_cue kind && nat_lt c 4) reading.BadCue p
+    ∷ reading.line (not (is_other_kind kind) && seen) reading.Twice p
+    ∷ reading.line (is_fmt_kind kind && nat_lt c 16) reading.BadFmt p
+    ∷ reading.line (is_bext_kind kind && nat_lt c 602) reading.BadBext p
+    ∷ reading.line (is_cue_kind kind && nat_lt c 4) reading.BadCue p
     ∷ []
 
 -- the faults behind a head; `count` is the number that stands there
 abbrev pub content_faults : ℕ → ℕ → ChunkKind → ℕ → ℕ → List (Bool × reading.Fault)
 content_faults len p kind count c =
-    reading.line (is_cue kind && nat_lt len (p + 12)) reading.Truncated p
-    ∷ reading.line (is_cue kind && nat_lt 65536 count) reading.TooMany p
-    ∷ reading.line (is_cue kind && nat_lt c (4 + 24 * count)) reading.BadCue p
+    reading.line (is_cue_kind kind && nat_lt len (p + 12)) reading.Truncated p
+    ∷ reading.line (is_cue_kind kind && nat_lt most_cues count) reading.TooMany p
+    ∷ reading.line (is_cue_kind kind && nat_lt c (4 + 24 * count)) reading.BadCue p
     ∷ reading.line (nat_lt len (p + 8 + c)) reading.Truncated p
     ∷ []
 

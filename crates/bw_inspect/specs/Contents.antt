@@ -7,9 +7,9 @@ use Rattle.bw_model.specs.Report.{content_of}
 use Rattle.bw_inspect.specs.declared.fault.InspectFault.{InspectFault}
 use Rattle.bw_inspect.specs.declared.fault.InspectKind.TheVariants.{Truncated}
 use Rattle.bw_inspect.specs.declared.chunk.ChunkKind.{ChunkKind}
-use Rattle.bw_inspect.specs.Faults.{fault_of, is_of_bytes}
+use Rattle.bw_inspect.specs.Faults.{bytes_fault, is_of_bytes}
 use Rattle.bw_inspect.specs.Places.{Halts, HasGrown}
-use Rattle.bw_inspect.specs.Chunks.{content_faults, counted_faults, is_cue}
+use Rattle.bw_inspect.specs.Chunks.{content_faults, counted_faults, is_cue_kind}
 use Rattle.bw_inspect.specs.Known.{Facts, learned}
 
 -- so many bytes of a chunk's content were read
@@ -40,12 +40,12 @@ pub record IsStopped (b : List ℕ) (most place : ℕ) (wants : ℕ → Type 0)
     (faults : List (Bool × reading.Fault)) (f : InspectFault)
     (left : Option (List ℕ)) : Type 0 where
   pub halts : Halts b most place wants f left
-  pub fault : (g : reading.Fault) → fault_of f ≡ Some g → first_that_holds faults ≡ Some g
+  pub fault : (g : reading.Fault) → bytes_fault f ≡ Some g → first_that_holds faults ≡ Some g
 
 -- a call stopped in a chunk's content
-abbrev pub IsRefused : List ℕ → (ℕ → Type 0) → List (Bool × reading.Fault) → reading.Entry →
+abbrev pub IsStoppedIn : List ℕ → (ℕ → Type 0) → List (Bool × reading.Fault) → reading.Entry →
     InspectFault → Option (List ℕ) → Type 0
-IsRefused b wants faults e f left = IsStopped b (e.place + 8 + e.size) e.place wants faults f left
+IsStoppedIn b wants faults e f left = IsStopped b (e.place + 8 + e.size) e.place wants faults f left
 
 -- the chunk was read to its end
 abbrev pub IsEndOf : reading.Entry → ℕ → Type 0
@@ -62,7 +62,7 @@ pub record WantsRows (b : List ℕ) (e : reading.Entry) (front most width : ℕ)
 -- some points were read of a `cue ` chunk; its content has no fault, but that b may end in it
 pub record WantsPoints (b : List ℕ) (kind : ChunkKind) (e : reading.Entry)
     (reached : ℕ) : Type 0 where
-  pub is : is_cue kind ≡ true
+  pub is : is_cue_kind kind ≡ true
   pub free : first_that_holds
       (content_faults (e.place + 8 + e.size) e.place kind (u32_at b (e.place + 8)) e.size) ≡ None
   pub grown : HasGrown b (e.place + 12) 24 (u32_at b (e.place + 8)) reached
@@ -72,7 +72,7 @@ abbrev pub faults_in : List ℕ → ChunkKind → reading.Entry → List (Bool �
 faults_in b kind e = content_faults (length b) e.place kind (u32_at b (e.place + 8)) e.size
 
 -- the content was read, and has no fault
-pub record IsWhole (b : List ℕ) (kind : ChunkKind) (e : reading.Entry)
+pub record IsFaultless (b : List ℕ) (kind : ChunkKind) (e : reading.Entry)
     (left : Option (List ℕ)) : Type 0 where
   pub free : first_that_holds (faults_in b kind e) ≡ None
   pub to : ReadTo b e e.size left
@@ -80,10 +80,10 @@ pub record IsWhole (b : List ℕ) (kind : ChunkKind) (e : reading.Entry)
 -- the content was read, and is known
 pub record IsLearned (b : List ℕ) (kind : ChunkKind) (e : reading.Entry) (old new : Facts)
     (left : Option (List ℕ)) : Type 0 where
-  pub whole : IsWhole b kind e left
+  pub whole : IsFaultless b kind e left
   pub facts : new ≡ learned b kind e old
 
 -- the content has a fault, or wasn't read
 abbrev pub IsUnlearned : List ℕ → ChunkKind → reading.Entry → InspectFault → Option (List ℕ) →
     Type 0
-IsUnlearned b kind e f left = IsRefused b (WantsPoints b kind e) (faults_in b kind e) e f left
+IsUnlearned b kind e f left = IsStoppedIn b (WantsPoints b kind e) (faults_in b kind e) e f left

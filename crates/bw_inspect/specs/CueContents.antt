@@ -1,5 +1,6 @@
 -- The points of a `cue ` chunk.
 use Rattle.std.specs.Prelude.{◌≡◌, ℕ, ◌+◌, Bool, List, length, Option, Some, None}
+use Rattle.bw_model.specs.Limits.{most_cues}
 use Rattle.bw_model.specs.Reading as reading
 use Rattle.bw_model.specs.Report as report
 use Rattle.bw_model.specs.Bytes.{first_that_holds, u32_at}
@@ -9,13 +10,13 @@ use Rattle.bw_inspect.specs.Contents.{ReadTo, WantsRows}
 
 -- the faults of the content
 abbrev pub cue_faults : List ℕ → reading.Entry → List (Bool × reading.Fault)
-cue_faults b e = counted_faults (length b) e 4 65536 24 reading.BadCue
+cue_faults b e = counted_faults (length b) e 4 most_cues 24 reading.BadCue
     (u32_at (report.content_of b (Some e)) 0)
 
 -- some points were read, and no fault was met
 abbrev pub WantsPoint : List ℕ → reading.Entry → ℕ → Type 0
 WantsPoint b e reached =
-    WantsRows b e 4 65536 24 reading.BadCue (u32_at (report.content_of b (Some e)) 0) reached
+    WantsRows b e 4 most_cues 24 reading.BadCue (u32_at (report.content_of b (Some e)) 0) reached
 
 -- a point from a place of a content on
 abbrev pub point_at : List ℕ → ℕ → report.RawCue

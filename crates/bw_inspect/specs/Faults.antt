@@ -11,22 +11,22 @@ use Rattle.bw_inspect.specs.declared.fault.InspectKind.TheVariants.{TooMany, Too
 use Rattle.bw_inspect.specs.declared.fault.InspectFault.{InspectFault}
 
 -- the number of a kind
-abbrev pub code_of : InspectKind → ℕ
-code_of NotWave = 1
-code_of Truncated = 2
-code_of NoDs64 = 3
-code_of BadDs64 = 4
-code_of NoSize = 5
-code_of Twice = 6
-code_of NoFmt = 7
-code_of NoData = 8
-code_of BadFmt = 9
-code_of BadBext = 10
-code_of BadCue = 11
-code_of TooMany = 12
-code_of TooLarge = 13
-code_of Read = 14
-code_of Memory = 15
+abbrev pub kind_number : InspectKind → ℕ
+kind_number NotWave = 1
+kind_number Truncated = 2
+kind_number NoDs64 = 3
+kind_number BadDs64 = 4
+kind_number NoSize = 5
+kind_number Twice = 6
+kind_number NoFmt = 7
+kind_number NoData = 8
+kind_number BadFmt = 9
+kind_number BadBext = 10
+kind_number BadCue = 11
+kind_number TooMany = 12
+kind_number TooLarge = 13
+kind_number Read = 14
+kind_number Memory = 15
 
 -- the name of a kind, as it is printed
 abbrev pub name_of : InspectKind → List ℕ
@@ -47,8 +47,8 @@ name_of Read = codes "Read"
 name_of Memory = codes "Memory"
 
 -- a fault as it is printed
-abbrev pub fault_text : InspectFault → List ℕ
-fault_text f = name_of f.kind ++ codes " at " ++ decimal f.offset
+abbrev pub inspect_fault_text : InspectFault → List ℕ
+inspect_fault_text f = name_of f.kind ++ codes " at " ++ decimal f.offset
 
 -- the fault of the bytes that a kind names: a failed read and want of memory aren't theirs
 abbrev pub kind_of : InspectKind → Option reading.FaultKind
@@ -69,13 +69,13 @@ kind_of Read = None
 kind_of Memory = None
 
 -- the same with its place
-abbrev pub fault_of : InspectFault → Option reading.Fault
-fault_of f = option_map (λ k. record { kind = k; offset = f.offset }) (kind_of f.kind)
+abbrev pub bytes_fault : InspectFault → Option reading.Fault
+bytes_fault f = option_map (λ k. record { kind = k; offset = f.offset }) (kind_of f.kind)
 
 -- the reader failed
-abbrev pub is_read : InspectKind → Bool
-is_read Read = true
-is_read _ = false
+abbrev pub is_failed_read : InspectKind → Bool
+is_failed_read Read = true
+is_failed_read _ = false
 
 -- memory was refused
 abbrev pub is_memory : InspectKind → Bool
@@ -89,7 +89,7 @@ is_of_bytes k = is_some (kind_of k)
 -- the reader failed in a call with this result
 abbrev pub stopped : {X : Type 0} → Result X InspectFault → Bool
 stopped (Ok x) = false
-stopped (Err f) = is_read f.kind
+stopped (Err f) = is_failed_read f.kind
 
 -- the reader's failures after a call: one more exactly where Read is answered
 abbrev pub counted : {X : Type 0} → Result X InspectFault → ℕ → ℕ

@@ -1,6 +1,7 @@
 -- What is known from the chunks so far.
 use Rattle.std.specs.Prelude.{ℕ, ◌+◌, ◌-◌, ◌≤◌, Bool, false, List, [], length, codes, Option, Some}
 use Rattle.std.specs.Prelude.{None, option_map, is_some, unwrap_or}
+use Rattle.bw_model.specs.Limits.{most_cues}
 use Rattle.bw_model.specs.Reading as reading
 use Rattle.bw_model.specs.Report as report
 use Rattle.bw_model.specs.Bytes.{u32_at}
@@ -22,6 +23,7 @@ pub record Facts : Type 0 where
   pub bext : Option ((report.RawBext × List ℕ) × ℕ)
   pub cues : Option (List report.RawCue)
 
+-- the same facts
 abbrev pub facts_of : Known → Facts
 facts_of k = record {
   fmt = k.fmt;
@@ -32,7 +34,7 @@ facts_of k = record {
 
 -- there are no more points than may be
 abbrev pub HasFewCues : Known → Type 0
-HasFewCues k = length (unwrap_or k.cues []) ≤ 65536
+HasFewCues k = length (unwrap_or k.cues []) ≤ most_cues
 
 -- before the first chunk
 abbrev pub nothing : Facts

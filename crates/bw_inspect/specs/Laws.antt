@@ -13,7 +13,7 @@ use Rattle.bw_inspect.specs.Readings.{Refuses, Tells}
 use Rattle.bw_inspect.specs.Reports.{told_by}
 
 -- a report of the take's file tells the take, and the file is refused for none of its own faults
-pub record IsToldOf (f : Format) (t : Take) (limit : ℕ) : Type 0 where
+pub record TellsTake (f : Format) (t : Take) (limit : ℕ) : Type 0 where
   pub report : (r : Report) (left : Option (List ℕ)) → Tells (file_with f t limit) r left →
       told_by r ≡ told_report f t limit
   pub faults : (x : InspectFault) (left : Option (List ℕ)) → Refuses (file_with f t limit) x left →
@@ -22,7 +22,7 @@ pub record IsToldOf (f : Format) (t : Take) (limit : ℕ) : Type 0 where
 -- of each take within the limits
 abbrev pub FilesAreTold : Type 0
 FilesAreTold = (f : Format) (t : Take) (limit : ℕ) → IsWithinLimits f t → limit ≤ 4294967294 →
-    IsToldOf f t limit
+    TellsTake f t limit
 
 -- of each take that admitted requests make, and whose form is at most 2^62 bytes
 abbrev pub MadeFilesAreTold : Type 0
@@ -30,4 +30,4 @@ MadeFilesAreTold = (taken : Bool) (admitted : List (Option Request)) (n : ℕ) (
     (limit : ℕ) →
     IsTrue (list_all is_admitted admitted) →
     (made taken admitted n).format ≡ Some f → form_len f (made taken admitted n) ≤ largest →
-    limit ≤ 4294967294 → IsToldOf f (made taken admitted n) limit
+    limit ≤ 4294967294 → TellsTake f (made taken admitted n) limit

@@ -1,17 +1,19 @@
 -- The outer header, in the parts in which it is read.
-use Rattle.std.specs.Prelude.{◌≡◌, ℕ, ◌+◌, ◌^◌, ◌||◌, ◌⊎◌, not, Bool, true, false, List, [], ◌∷◌}
+use Rattle.std.specs.Prelude.{◌≡◌, ℕ, ◌+◌, ◌||◌, ◌⊎◌, not, Bool, true, false, List, [], ◌∷◌}
 use Rattle.std.specs.Prelude.{length, drop, codes, Option, Some, None, Ok, Err, nat_lt}
+use Rattle.bw_inspect.specs.ReaderCalls.{longest_end}
+use Rattle.bw_model.specs.Limits.{most_entries}
 use Rattle.bw_model.specs.Reading as reading
 use Rattle.bw_model.specs.Bytes.{first_that_holds, u32_at}
 use Rattle.bw_layout.specs.declared.chunk.ChunkHead.{ChunkHead}
 use Rattle.bw_inspect.specs.declared.fault.InspectFault.{InspectFault}
 use Rattle.bw_inspect.specs.declared.walk.Walk.{Walk}
 use Rattle.bw_inspect.specs.declared.walk.Form.{Form}
-use Rattle.bw_inspect.specs.Faults.{fault_of}
+use Rattle.bw_inspect.specs.Faults.{bytes_fault}
 use Rattle.bw_inspect.specs.Places.{Halts, HasGrown}
 use Rattle.bw_inspect.specs.Chunks.{counted_faults}
 use Rattle.bw_inspect.specs.Tables.{ds64_entry, ds64_head_faults}
-use Rattle.bw_inspect.specs.Walks.{Stands, form_of}
+use Rattle.bw_inspect.specs.Walks.{Stands, form_by}
 
 -- the ids of the forms that are read
 abbrev pub names_form : List ℕ → Bool
@@ -46,8 +48,8 @@ OnWide h left holds = (b : List ℕ) → IsOpened b h left → reading.is_riff b
 
 -- the outer header was read
 pub record BeginsForm (b : List ℕ) (form : Form) (w : Walk) (left : Option (List ℕ)) : Type 0 where
-  pub header : reading.outer b ≡ Ok (form_of form)
-  pub stands : Stands b (form_of form) w left
+  pub header : reading.outer b ≡ Ok (form_by form)
+  pub stands : Stands b (form_by form) w left
 
 -- the outer header has no fault, and its `ds64` was read to its end
 pub record IsDs64Whole (b : List ℕ) (reached : ℕ) : Type 0 where
@@ -62,7 +64,7 @@ pub record HasReadEntries (b : List ℕ) (reached : ℕ) : Type 0 where
   pub opening : first_that_holds (opening_faults b) ≡ None
   pub head : first_that_holds (ds64_head_faults b) ≡ None
   pub free :
-      first_that_holds (counted_faults (20 + u32_at b 16) (ds64_entry b) 28 4096 12 reading.BadDs64
+      first_that_holds (counted_faults (20 + u32_at b 16) (ds64_entry b) 28 most_entries 12 reading.BadDs64
       (u32_at b 44))
       ≡ None
   pub grown : HasGrown b 48 12 (u32_at b 44) reached
@@ -73,5 +75,5 @@ WantsDs64 b reached = IsDs64Whole b reached ⊎ HasReadEntries b reached
 
 -- the outer header has a fault, or wasn't read
 pub record IsOutside (b : List ℕ) (f : InspectFault) (left : Option (List ℕ)) : Type 0 where
-  pub halts : Halts b (2 ^ 62 + 8) 12 (WantsDs64 b) f left
-  pub fault : (g : reading.Fault) → fault_of f ≡ Some g → reading.outer b ≡ Err g
+  pub halts : Halts b longest_end 12 (WantsDs64 b) f left
+  pub fault : (g : reading.Fault) → bytes_fault f ≡ Some g → reading.outer b ≡ Err g

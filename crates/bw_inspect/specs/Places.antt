@@ -2,7 +2,7 @@
 use Rattle.std.specs.Prelude.{◌≡◌, ℕ, ◌+◌, ◌*◌, ◌<◌, ◌≤◌, IsTrue, not, List, length, drop}
 use Rattle.std.specs.Prelude.{slice_range, Option, Some}
 use Rattle.bw_inspect.specs.declared.fault.InspectFault.{InspectFault}
-use Rattle.bw_inspect.specs.Faults.{is_read, is_memory}
+use Rattle.bw_inspect.specs.Faults.{is_failed_read, is_memory}
 
 -- so it is of all the bytes, where the reader tells them and stands at their start
 abbrev pub Of : Option (List ℕ) → (List ℕ → Type 0) → Type 0
@@ -31,8 +31,8 @@ pub record IsMissed (b : List ℕ) (place n : ℕ) (cut f : InspectFault)
   pub small : taken ≤ n
   pub there : 0 < taken → place + taken ≤ length b
   pub rest : left ≡ Some (drop (place + taken) b)
-  pub fails : IsTrue (is_read f.kind) → f.offset ≡ place + taken
-  pub cuts : IsTrue (not (is_read f.kind)) → (f ≡ cut) × (length b < place + n)
+  pub fails : IsTrue (is_failed_read f.kind) → f.offset ≡ place + taken
+  pub cuts : IsTrue (not (is_failed_read f.kind)) → (f ≡ cut) × (length b < place + n)
 
 -- memory is wanted nowhere
 abbrev pub Nowhere : ℕ → Type 0
@@ -56,5 +56,5 @@ pub record Halts (b : List ℕ) (most place : ℕ) (wants : ℕ → Type 0) (f :
   pub within : reached ≤ most
   pub there : reached ≤ length b
   pub rest : left ≡ Some (drop reached b)
-  pub fails : IsTrue (is_read f.kind) → f.offset ≡ reached
+  pub fails : IsTrue (is_failed_read f.kind) → f.offset ≡ reached
   pub memory : IsTrue (is_memory f.kind) → (f.offset ≡ place) × wants reached

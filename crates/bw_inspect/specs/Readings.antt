@@ -1,24 +1,26 @@
 -- What reading a file answers.
-use Rattle.std.specs.Prelude.{◌≡◌, ℕ, ◌+◌, ◌^◌, ◌<◌, ◌≤◌, ◌⊎◌, IsTrue, List, length, drop, Option}
+use Rattle.std.specs.Prelude.{◌≡◌, ℕ, ◌+◌, ◌<◌, ◌≤◌, ◌⊎◌, IsTrue, List, length, drop, Option}
 use Rattle.std.specs.Prelude.{Some, None}
+use Rattle.bw_inspect.specs.ReaderCalls.{longest_end}
+use Rattle.bw_model.specs.Limits.{largest, most_chunks, most_cues}
 use Rattle.bw_model.specs.Bytes.{first_that_holds}
 use Rattle.bw_model.specs.Reading as reading
 use Rattle.bw_model.specs.Report as report
 use Rattle.bw_inspect.specs.declared.fault.InspectFault.{InspectFault}
 use Rattle.bw_inspect.specs.declared.report.Report.{Report}
 use Rattle.bw_inspect.specs.declared.walk.Walk.{Walk}
-use Rattle.bw_inspect.specs.Faults.{fault_of, is_memory, is_read}
+use Rattle.bw_inspect.specs.Faults.{bytes_fault, is_memory, is_failed_read}
 use Rattle.bw_inspect.specs.Known.{facts_of, facts_in}
 use Rattle.bw_inspect.specs.Walks.{WantsChunk, seen_by}
 use Rattle.bw_inspect.specs.Outers.{WantsDs64}
 use Rattle.bw_inspect.specs.Reports.{told_by, reserved_by, reserved_in}
 
 -- so it is of all the bytes, where the walk knows what its chunks tell
-abbrev pub Knows : Walk → (List ℕ → Type 0) → Type 0
-Knows w holds = (b : List ℕ) → facts_of w.known ≡ facts_in b (seen_by w) → holds b
+abbrev pub OnFacts : Walk → (List ℕ → Type 0) → Type 0
+OnFacts w holds = (b : List ℕ) → facts_of w.known ≡ facts_in b (seen_by w) → holds b
 
 -- the chunks have no fault at the form's end, and this is their report
-pub record IsTold (b : List ℕ) (form : reading.Form) (seen : List reading.Entry)
+pub record IsReported (b : List ℕ) (form : reading.Form) (seen : List reading.Entry)
     (r : Report) : Type 0 where
   pub tells : told_by r ≡ report.report_of b form seen
   pub reserved : reserved_by r ≡ reserved_in b seen
@@ -43,7 +45,7 @@ pub record Tells (b : List ℕ) (r : Report) (left : Option (List ℕ)) : Type 0
   -- and these are the reserved bytes of its `bext`
   pub reserved : reserved_by r ≡ reserved_in b reading_is.entries
   pub within : IsReadWithin b (reading.form_end reading_is.form) left
-  pub small : reading_is.form.size ≤ 2 ^ 62
+  pub small : reading_is.form.size ≤ largest
 
 -- at this place `ds64` stands, and it or an entry of it is to be listed
 pub record ListsDs64 (b : List ℕ) (place reached : ℕ) : Type 0 where
@@ -71,12 +73,12 @@ pub record IsPadAbsent (b : List ℕ) (reached : ℕ) : Type 0 where
 
 -- the bytes have this fault, or weren't read
 pub record Refuses (b : List ℕ) (f : InspectFault) (left : Option (List ℕ)) : Type 0 where
-  pub fault : (g : reading.Fault) → fault_of f ≡ Some g → reading.IsFault b g
-  pub within : IsReadWithin b (2 ^ 62 + 8) left
+  pub fault : (g : reading.Fault) → bytes_fault f ≡ Some g → reading.IsFault b g
+  pub within : IsReadWithin b longest_end left
   -- and none past the end of b, but for the pad byte of its last chunk
   pub there : length b < within.reached → IsPadAbsent b within.reached
   -- a failed read is told at the next byte that was wanted
-  pub fails : IsTrue (is_read f.kind) → f.offset ≡ within.reached
+  pub fails : IsTrue (is_failed_read f.kind) → f.offset ≡ within.reached
   -- want of memory at the place of a chunk without fault that is to be listed, or a part of it:
   -- `ds64` or a further one
   pub memory : IsTrue (is_memory f.kind) →
@@ -84,5 +86,5 @@ pub record Refuses (b : List ℕ) (f : InspectFault) (left : Option (List ℕ)) 
 
 -- the lists are no longer than they may be, whatever the reader gave
 pub record IsBounded (r : Report) : Type 0 where
-  pub chunks : length r.chunks ≤ 4096
-  pub cues : length r.cues ≤ 65536
+  pub chunks : length r.chunks ≤ most_chunks
+  pub cues : length r.cues ≤ most_cues

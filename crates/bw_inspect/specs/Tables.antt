@@ -1,6 +1,7 @@
 -- The `ds64` chunk.
 use Rattle.std.specs.Prelude.{◌≡◌, ℕ, ◌||◌, not, Bool, List, [], ◌∷◌, length, codes}
 use Rattle.std.specs.Prelude.{Option, Some, None, nat_lt, ◌==◌}
+use Rattle.bw_model.specs.Limits.{most_entries}
 use Rattle.bw_model.specs.Reading as reading
 use Rattle.bw_model.specs.Report.{content_of}
 use Rattle.bw_model.specs.Bytes.{first_that_holds, u32_at, u64_at, unsaid}
@@ -29,13 +30,13 @@ pub record IsDs64Head (b : List ℕ) (e : reading.Entry) (left : Option (List �
 
 -- the faults of its content
 abbrev pub table_faults : List ℕ → reading.Entry → List (Bool × reading.Fault)
-table_faults b e = counted_faults (length b) e 28 4096 12 reading.BadDs64
+table_faults b e = counted_faults (length b) e 28 most_entries 12 reading.BadDs64
     (u32_at (content_of b (Some e)) 24)
 
 -- some entries were read, and no fault was met
 abbrev pub WantsEntry : List ℕ → reading.Entry → ℕ → Type 0
 WantsEntry b e reached =
-    WantsRows b e 28 4096 12 reading.BadDs64 (u32_at (content_of b (Some e)) 24) reached
+    WantsRows b e 28 most_entries 12 reading.BadDs64 (u32_at (content_of b (Some e)) 24) reached
 
 -- what stands before the table was read
 pub record IsFixed (b : List ℕ) (e : reading.Entry) (x : Fixed)

@@ -1,20 +1,23 @@
 -- Where a walk stands.
 use Rattle.std.specs.Prelude.{◌≡◌, ℕ, ◌+◌, ◌≤◌, ◌<◌, ◌⊎◌, Bool, true, false, List, [], length, drop}
 use Rattle.std.specs.Prelude.{Option, Some, None, Ok, Err, IsTrue, unwrap_or}
+use Rattle.bw_model.specs.Limits.{most_chunks}
 use Rattle.bw_model.specs.Reading as reading
 use Rattle.bw_model.specs.Bytes.{first_that_holds, u32_at, even_up}
 use Rattle.bw_layout.specs.declared.chunk.ChunkHead.{ChunkHead}
 use Rattle.bw_inspect.specs.declared.fault.InspectFault.{InspectFault}
 use Rattle.bw_inspect.specs.declared.walk.Walk.{Walk}
 use Rattle.bw_inspect.specs.declared.walk.Form.{Form}
-use Rattle.bw_inspect.specs.Faults.{fault_of, is_memory, is_read}
+use Rattle.bw_inspect.specs.Faults.{bytes_fault, is_memory, is_failed_read}
 use Rattle.bw_inspect.specs.Places.{HasGrown}
 use Rattle.bw_inspect.specs.Chunks.{sizes_of}
 use Rattle.bw_inspect.specs.Known.{HasFewCues, facts_of, facts_in}
 
-abbrev pub form_of : Form → reading.Form
-form_of f = record { id = f.id; size = f.size; sizes = sizes_of f.sizes }
+-- the same outer header
+abbrev pub form_by : Form → reading.Form
+form_by f = record { id = f.id; size = f.size; sizes = sizes_of f.sizes }
 
+-- the chunks that were listed
 abbrev pub seen_by : Walk → List reading.Entry
 seen_by w = w.chunks.items
 
@@ -44,26 +47,26 @@ pub record IsHead (b : List ℕ) (p : ℕ) (h : ChunkHead) (left : Option (List 
   pub rest : left ≡ Some (drop (p + 8) b)
 
 -- where the head behind a chunk stands
-abbrev pub behind : reading.Entry → ℕ
-behind e = e.place + 8 + even_up e.size
+abbrev pub place_behind : reading.Entry → ℕ
+place_behind e = e.place + 8 + even_up e.size
 
 -- a chunk is behind the reader, and so is its pad byte where a further head is wanted
 pub record IsPassedOver (b : List ℕ) (end : ℕ) (e : reading.Entry)
     (left : Option (List ℕ)) : Type 0 where
   pub reached : ℕ
   pub within : reached ≤ end
-  pub there : length b < reached → reached ≡ behind e
+  pub there : length b < reached → reached ≡ place_behind e
   pub rest : left ≡ Some (drop reached b)
-  pub next : behind e + 8 ≤ end → reached ≡ behind e
+  pub next : place_behind e + 8 ≤ end → reached ≡ place_behind e
 
 -- no more chunks and points than may be
 pub record IsSmall (w : Walk) : Type 0 where
-  pub chunks : length (seen_by w) ≤ 4096
+  pub chunks : length (seen_by w) ≤ most_chunks
   pub cues : HasFewCues w.known
 
 -- one chunk more
 pub record GrowsByOne (old new : List reading.Entry) : Type 0 where
-  pub few : length old < 4096
+  pub few : length old < most_chunks
   pub one : length new ≡ length old + 1
 
 -- one more chunk is seen, or none is wanted
@@ -112,7 +115,7 @@ pub record IsFaulted (b : List ℕ) (form : reading.Form) (seen : List reading.E
   pub within : reached ≤ reading.form_end form
   pub there : length b < reached → reached ≡ reading.next_place seen
   pub rest : left ≡ Some (drop reached b)
-  pub fails : IsTrue (is_read f.kind) → f.offset ≡ reached
+  pub fails : IsTrue (is_failed_read f.kind) → f.offset ≡ reached
   pub memory : IsTrue (is_memory f.kind) →
       (f.offset ≡ reading.next_place seen) × WantsChunk b form seen reached
-  pub fault : (g : reading.Fault) → fault_of f ≡ Some g → reading.next b form seen ≡ Err g
+  pub fault : (g : reading.Fault) → bytes_fault f ≡ Some g → reading.next b form seen ≡ Err g

@@ -1,12 +1,16 @@
 //! Kinds of chunks, and the sizes that they may have.
 ghost use Rattle.std.specs.Prelude.{◌≡◌, ◌+◌, ◌^◌, ◌≤◌, IsTrue, IfOk, IfErr, Some, None, unwrap_or};
+ghost use Rattle.bw_model.specs.Limits.{largest};
 ghost use Rattle.bw_model.specs.Bytes.{first_that_holds};
 ghost use Rattle.bw_model.specs.Reading.{is_id};
-ghost use Rattle.bw_inspect.specs.Faults.{fault_of, is_of_bytes};
+ghost use Rattle.bw_inspect.specs.Faults.{bytes_fault, is_of_bytes};
 ghost use Rattle.bw_inspect.specs.Chunks.{Allows, kind_by, size_faults};
 
 use crate::fault::{InspectFault, InspectKind, fault_at};
 use bw_layout::ChunkId;
+
+/// The largest form or chunk that is read, in bytes.
+pub(crate) const LARGEST: u64 = 1 << 62;
 
 /// What a chunk is to the reading of a file.
 #[derive(Clone, Copy, Debug, PartialEq, Eq)]
@@ -55,19 +59,19 @@ pub(crate) fn checked_size(
 ) -> Result<u64, InspectFault>
     requires { place ≤ 2 ^ 63 }
     ensures allowed { IfOk result (λ c. Allows kind c) }
-    ensures small { IfOk result (λ c. c ≤ 2 ^ 62) }
+    ensures small { IfOk result (λ c. c ≤ largest) }
     ensures within { IfOk result (λ c. place + 8 + c ≤ end) }
     ensures is { IfOk result (λ c. size ≡ Some c) }
     ensures ok { IfOk result (λ c.
         first_that_holds (size_faults end place kind seen size c) ≡ None) }
     ensures kind { IfErr result (λ f. IsTrue (is_of_bytes f.kind)) }
-    ensures err { IfErr result (λ f.
-        fault_of f ≡ first_that_holds (size_faults end place kind seen size (unwrap_or size 0))) }
+    ensures err { IfErr result (λ f. bytes_fault f ≡
+        first_that_holds (size_faults end place kind seen size (unwrap_or size 0))) }
 {
     let Some(size) = size else {
         return Err(fault_at(InspectKind::NoSize, place));
     };
-    if size > 1 << 62 {
+    if size > LARGEST {
         return Err(fault_at(InspectKind::TooLarge, place));
     }
     if place + 8 + size > end {

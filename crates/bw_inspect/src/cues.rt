@@ -1,8 +1,9 @@
 //! The points of a `cue ` chunk (RIFF, chapter 3).
 ghost use Rattle.std.specs.Prelude.{◌≡◌, ◌+◌, ◌*◌, ◌^◌, ◌≤◌, ◌<◌, length, IfOk, IfErr};
+ghost use Rattle.bw_model.specs.Limits.{most_cues};
 ghost use Rattle.bw_inspect.specs.ReaderCalls.{Consumes};
 ghost use Rattle.bw_inspect.specs.Places.{Nowhere};
-ghost use Rattle.bw_inspect.specs.Contents.{InContent, IsRefused};
+ghost use Rattle.bw_inspect.specs.Contents.{InContent, IsStoppedIn};
 ghost use Rattle.bw_inspect.specs.CueContents.{WantsPoint, IsCounted, IsCued, cue_faults};
 
 use crate::content::{pass_rest, read_part};
@@ -23,12 +24,12 @@ fn read_count<R: Source>(reader: &mut R, entry: ListedChunk) -> Result<u64, Insp
     requires room { entry.place + 8 + entry.size < 2 ^ 63 }
     requires long { 4 ≤ entry.size }
     ensures consumed { Consumes R.Source 4 result reader.old reader.new }
-    ensures few { IfOk result (λ n. n ≤ 65_536) }
+    ensures few { IfOk result (λ n. n ≤ most_cues) }
     ensures fits { IfOk result (λ n. 4 + 24 * n ≤ entry.size) }
     ensures ok { IfOk result (λ n. InContent (R.left reader.old) entry 0 (λ b.
         IsCounted b entry n (R.left reader.new))) }
     ensures err { IfErr result (λ f. InContent (R.left reader.old) entry 0 (λ b.
-        IsRefused b Nowhere (cue_faults b entry) entry f (R.left reader.new))) }
+        IsStoppedIn b Nowhere (cue_faults b entry) entry f (R.left reader.new))) }
 {
     let mut front = [0; 4];
     read_part(reader, entry, 0, &mut front)?;
@@ -55,11 +56,11 @@ pub(crate) fn read_cues<R: Source>(
     requires room { entry.place + 8 + entry.size < 2 ^ 63 }
     requires long { 4 ≤ entry.size }
     ensures consumed { Consumes R.Source entry.size result reader.old reader.new }
-    ensures few { IfOk result (λ x. length x ≤ 65_536) }
+    ensures few { IfOk result (λ x. length x ≤ most_cues) }
     ensures ok { IfOk result (λ x. InContent (R.left reader.old) entry 0 (λ b.
         IsCued b entry x (R.left reader.new))) }
     ensures err { IfErr result (λ f. InContent (R.left reader.old) entry 0 (λ b.
-        IsRefused b (WantsPoint b entry) (cue_faults b entry) entry f (R.left reader.new))) }
+        IsStoppedIn b (WantsPoint b entry) (cue_faults b entry) entry f (R.left reader.new))) }
 {
     let count = read_count(reader, entry)?;
     let points = read_rows(alloc, reader, entry, 4, count)?;

@@ -1,8 +1,9 @@
 //! The `ds64` chunk, with which a BW64 or RF64 file begins (ITU-R BS.2088).
 ghost use Rattle.std.specs.Prelude.{◌≡◌, ◌+◌, ◌*◌, ◌^◌, ◌≤◌, ◌<◌, length, IfOk, IfErr, Some};
+ghost use Rattle.bw_model.specs.Limits.{most_entries};
 ghost use Rattle.bw_inspect.specs.ReaderCalls.{Consumes};
 ghost use Rattle.bw_inspect.specs.Places.{AtPlace, Nowhere};
-ghost use Rattle.bw_inspect.specs.Contents.{InContent, IsRefused, IsStopped};
+ghost use Rattle.bw_inspect.specs.Contents.{InContent, IsStoppedIn, IsStopped};
 ghost use Rattle.bw_inspect.specs.Chunks.{sizes_by};
 ghost use Rattle.bw_inspect.specs.Tables.{WantsEntry, IsDs64Head, IsDs64Read, IsFixed, ds64_head_faults, table_faults};
 
@@ -56,12 +57,12 @@ fn read_fixed<R: Source>(reader: &mut R, entry: ListedChunk) -> Result<Ds64Fixed
     requires room { entry.place + 8 + entry.size < 2 ^ 63 }
     requires long { 28 ≤ entry.size }
     ensures consumed { Consumes R.Source 28 result reader.old reader.new }
-    ensures few { IfOk result (λ x. x.table_len ≤ 4_096) }
+    ensures few { IfOk result (λ x. x.table_len ≤ most_entries) }
     ensures fits { IfOk result (λ x. 28 + 12 * x.table_len ≤ entry.size) }
     ensures ok { IfOk result (λ x. InContent (R.left reader.old) entry 0 (λ b.
         IsFixed b entry x (R.left reader.new))) }
     ensures err { IfErr result (λ f. InContent (R.left reader.old) entry 0 (λ b.
-        IsRefused b Nowhere (table_faults b entry) entry f (R.left reader.new))) }
+        IsStoppedIn b Nowhere (table_faults b entry) entry f (R.left reader.new))) }
 {
     let mut front = [0; 28];
     read_part(reader, entry, 0, &mut front)?;
@@ -92,7 +93,7 @@ pub(crate) fn read_ds64<R: Source>(
     ensures ok { IfOk result (λ x. InContent (R.left reader.old) entry 0 (λ b.
         IsDs64Read b entry x (R.left reader.new))) }
     ensures err { IfErr result (λ f. InContent (R.left reader.old) entry 0 (λ b.
-        IsRefused b (WantsEntry b entry) (table_faults b entry) entry f (R.left reader.new))) }
+        IsStoppedIn b (WantsEntry b entry) (table_faults b entry) entry f (R.left reader.new))) }
 {
     let fixed = read_fixed(reader, entry)?;
     let count = fixed.table_len as u64;

@@ -1,6 +1,6 @@
 //! Why a file isn't read.
 ghost use Rattle.std.specs.Prelude.{◌≡◌, ◌≤◌, length, Some};
-ghost use Rattle.bw_inspect.specs.Faults.{code_of, fault_text, name_of};
+ghost use Rattle.bw_inspect.specs.Faults.{kind_number, inspect_fault_text, name_of};
 
 use std::error::Error;
 use std::fmt;
@@ -43,7 +43,7 @@ pub enum InspectKind {
 impl InspectKind {
     /// Its number.
     pub fn code(self) -> u8
-        ensures value { result ≡ code_of self }
+        ensures value { result ≡ kind_number self }
         ensures range { result ≤ 15 }
     {
         self as u8
@@ -92,7 +92,7 @@ pub struct InspectFault {
 }
 
 impl fmt::Display for InspectFault {
-    ghost output = { λ f. Some (fault_text f) };
+    ghost output = { λ f. Some (inspect_fault_text f) };
 
     fn fmt<W: fmt::Write>(&self, f: &mut fmt::Formatter<W>) -> fmt::Result {
         write!(f, "{} at {}", self.kind, self.offset)

@@ -13,8 +13,8 @@ mod places;
 mod reading;
 mod report;
 mod row_list;
-mod sizes;
 mod text;
+mod told_sizes;
 mod walk;
 mod write;
 

@@ -1,14 +1,15 @@
 //! The outer header of a file.
 ghost use Rattle.std.specs.Prelude.{◌≡◌, ◌+◌, ◌-◌, ◌^◌, ◌≤◌, min, IsTrue, None, OnOk, IfOk, IfErr, ◌==◌, if◌then◌else◌};
+ghost use Rattle.bw_model.specs.Limits.{largest};
 ghost use Rattle.bw_model.specs.Bytes.{first_that_holds, unsaid};
 ghost use Rattle.bw_inspect.specs.ReaderCalls.{Consumes, longest_end};
-ghost use Rattle.bw_inspect.specs.Faults.{fault_of, is_of_bytes};
+ghost use Rattle.bw_inspect.specs.Faults.{bytes_fault, is_of_bytes};
 ghost use Rattle.bw_inspect.specs.Places.{Nowhere, Of};
 ghost use Rattle.bw_inspect.specs.Contents.{IsStopped};
 ghost use Rattle.bw_inspect.specs.Outers.{BeginsForm, IsOpened, IsOutside, OnWide, form_faults, names_form, opening_faults};
 ghost use Rattle.bw_inspect.specs.Walks.{IsSmall};
 
-use crate::chunk::is_named;
+use crate::chunk::{LARGEST, is_named};
 use crate::ds64::{read_ds64, read_ds64_head};
 use crate::fault::{InspectFault, InspectKind, fault_at};
 use crate::places::read_at;
@@ -54,13 +55,13 @@ fn read_opening<R: Source>(reader: &mut R) -> Result<ChunkHead, InspectFault>
 /// # Errors
 /// TooLarge, NotWave.
 fn check_form_size(size: u64) -> Result<(), InspectFault>
-    ensures small { OnOk result (size ≤ 2 ^ 62) }
+    ensures small { OnOk result (size ≤ largest) }
     ensures large { OnOk result (4 ≤ size) }
     ensures ok { OnOk result (first_that_holds (form_faults size) ≡ None) }
     ensures kind { IfErr result (λ f. IsTrue (is_of_bytes f.kind)) }
-    ensures err { IfErr result (λ f. fault_of f ≡ first_that_holds (form_faults size)) }
+    ensures err { IfErr result (λ f. bytes_fault f ≡ first_that_holds (form_faults size)) }
 {
-    if size > 1 << 62 {
+    if size > LARGEST {
         return Err(fault_at(InspectKind::TooLarge, 4));
     }
     if size < 4 {
@@ -89,7 +90,7 @@ fn read_wide<R: Source>(
     ensures consumed { Consumes R.Source (longest_end - 12) result reader.old reader.new }
     ensures passed { IfOk result (λ r.
         R.moved reader.new + 12 ≤ R.moved reader.old + min r.1.place (8 + r.0.size)) }
-    ensures size { IfOk result (λ r. r.0.size ≤ 2 ^ 62) }
+    ensures size { IfOk result (λ r. r.0.size ≤ largest) }
     ensures place { IfOk result (λ r. r.1.place ≤ r.0.size + 9) }
     ensures small { IfOk result (λ r. IsSmall r.1) }
     ensures ok { IfOk result (λ r. OnWide opening (R.left reader.old) (λ b.
@@ -125,7 +126,7 @@ pub(crate) fn read_outer<R: Source>(
     ensures consumed { Consumes R.Source longest_end result reader.old reader.new }
     ensures passed { IfOk result (λ r.
         R.moved reader.new ≤ R.moved reader.old + min r.1.place (8 + r.0.size)) }
-    ensures size { IfOk result (λ r. r.0.size ≤ 2 ^ 62) }
+    ensures size { IfOk result (λ r. r.0.size ≤ largest) }
     ensures place { IfOk result (λ r. r.1.place ≤ r.0.size + 9) }
     ensures small { IfOk result (λ r. IsSmall r.1) }
     ensures ok { IfOk result (λ r. Of (R.left reader.old) (λ b.

@@ -1,13 +1,14 @@
 //! Reading a whole file.
 ghost use Rattle.std.specs.Prelude.{◌≡◌, ℕ, ◌+◌, ◌^◌, ◌≤◌, List, IsTrue, None, IfOk, IfErr, false};
+ghost use Rattle.bw_model.specs.Limits.{largest};
 ghost use Rattle.bw_model.specs.Bytes.{first_that_holds};
 ghost use Rattle.bw_model.specs.Reading.{end_faults};
 ghost use Rattle.bw_inspect.specs.ReaderCalls.{Consumes, longest_end};
-ghost use Rattle.bw_inspect.specs.Faults.{fault_of, is_of_bytes};
+ghost use Rattle.bw_inspect.specs.Faults.{bytes_fault, is_of_bytes};
 ghost use Rattle.bw_inspect.specs.Places.{Of};
 ghost use Rattle.bw_inspect.specs.Known.{facts_of, facts_in};
-ghost use Rattle.bw_inspect.specs.Walks.{IsSmall, form_of, seen_by};
-ghost use Rattle.bw_inspect.specs.Readings.{HasReading, IsBounded, IsTold, Knows, Refuses, Tells};
+ghost use Rattle.bw_inspect.specs.Walks.{IsSmall, form_by, seen_by};
+ghost use Rattle.bw_inspect.specs.Readings.{HasReading, IsBounded, IsReported, OnFacts, Refuses, Tells};
 
 use crate::fault::{InspectFault, InspectKind, fault_at};
 use crate::outer::read_outer;
@@ -21,13 +22,14 @@ use std::alloc::Global;
 /// # Errors
 /// NoFmt, NoData.
 fn finish(alloc: Global, form: Form, walk: Walk) -> Result<Report, InspectFault>
-    requires { form.size ≤ 2 ^ 62 }
-    ensures ok { IfOk result (λ r. Knows walk (λ b. IsTold b (form_of form) (seen_by walk) r)) }
+    requires { form.size ≤ largest }
+    ensures ok { IfOk result (λ r. OnFacts walk (λ b.
+        IsReported b (form_by form) (seen_by walk) r)) }
     ensures size { IfOk result (λ r. r.size ≡ form.size) }
     ensures bounded { IfOk result (λ r. IsSmall walk → IsBounded r) }
     ensures kind { IfErr result (λ f. IsTrue (is_of_bytes f.kind)) }
-    ensures err { IfErr result (λ f. Knows walk (λ b.
-        fault_of f ≡ first_that_holds (end_faults (8 + form.size) (seen_by walk)))) }
+    ensures err { IfErr result (λ f. OnFacts walk (λ b.
+        bytes_fault f ≡ first_that_holds (end_faults (8 + form.size) (seen_by walk)))) }
 {
     let end = 8 + form.size;
     let Walk {

@@ -1,19 +1,20 @@
 //! The walk over the chunks of a form.
 ghost use Rattle.std.specs.Prelude.{◌≡◌, ◌+◌, ◌-◌, ◌^◌, ◌≤◌, ◌<◌, ◌∷◌, ◌++◌, [], IsTrue, length, IfOk, IfErr, OnOk};
+ghost use Rattle.bw_model.specs.Limits.{largest};
 ghost use Rattle.bw_model.specs.Bytes.{even_up};
-ghost use Rattle.bw_inspect.specs.ReaderCalls.{Consumes};
+ghost use Rattle.bw_inspect.specs.ReaderCalls.{Consumes, longest_end};
 ghost use Rattle.bw_inspect.specs.Faults.{is_of_bytes};
 ghost use Rattle.bw_inspect.specs.Places.{AtPlace, IsMissed};
 ghost use Rattle.bw_inspect.specs.Known.{facts_of, has_kind, nothing};
-ghost use Rattle.bw_inspect.specs.Contents.{InContent, IsEndOf, IsRefused};
-ghost use Rattle.bw_inspect.specs.Walks.{Goes, GrowsByOne, IsFaulted, IsHead, IsPassedOver, IsSmall, OnWalk, form_of, seen_by};
+ghost use Rattle.bw_inspect.specs.Contents.{InContent, IsEndOf, IsStoppedIn};
+ghost use Rattle.bw_inspect.specs.Walks.{Goes, GrowsByOne, IsFaulted, IsHead, IsPassedOver, IsSmall, OnWalk, form_by, seen_by};
 
 use crate::chunk::{ChunkKind, checked_size, kind_by_id};
 use crate::content::read_content;
 use crate::fault::{InspectFault, InspectKind, fault_at};
 use crate::places::{read_at, skip_pad};
 use crate::report::{BextChunk, Cues, ListedChunk};
-use crate::sizes::size_told;
+use crate::told_sizes::size_told;
 use bw_layout::{ChunkHead, ChunkId, Ds64, RawFmt, Source, read_head};
 use std::alloc::Global;
 
@@ -120,7 +121,7 @@ pub(crate) fn list_chunk<R: Source>(
     walk: &mut Walk,
     entry: ListedChunk,
 ) -> Result<(), InspectFault>
-    requires end { end ≤ 2 ^ 62 + 8 }
+    requires end { end ≤ longest_end }
     requires within { entry.place + 8 + entry.size ≤ end }
     ensures consumed { Consumes R.Source (end - (entry.place + 8 + entry.size))
         result reader.old reader.new }
@@ -132,7 +133,7 @@ pub(crate) fn list_chunk<R: Source>(
     ensures ok { OnOk result (InContent (R.left reader.old) entry entry.size (λ b.
         IsPassedOver b end entry (R.left reader.new))) }
     ensures err { IfErr result (λ f. InContent (R.left reader.old) entry entry.size (λ b.
-        IsRefused b (IsEndOf entry) [] entry f (R.left reader.new))) }
+        IsStoppedIn b (IsEndOf entry) [] entry f (R.left reader.new))) }
 {
     let Ok(()) = walk.chunks.push(entry) else {
         return Err(fault_at(InspectKind::Memory, entry.place));
@@ -154,7 +155,7 @@ pub(crate) fn next_chunk<R: Source>(
     form: &Form,
     walk: &mut Walk,
 ) -> Result<bool, InspectFault>
-    requires small { form.now.size ≤ 2 ^ 62 }
+    requires small { form.now.size ≤ largest }
     requires place { walk.old.place ≤ form.now.size + 9 }
     ensures consumed { Consumes R.Source (8 + form.now.size - walk.old.place)
         result reader.old reader.new }
@@ -164,10 +165,10 @@ pub(crate) fn next_chunk<R: Source>(
     ensures grows { IfOk result (λ more.
         IsTrue more → GrowsByOne (seen_by walk.old) (seen_by walk.new)) }
     ensures few { OnOk result (IsSmall walk.old → IsSmall walk.new) }
-    ensures ok { IfOk result (λ more. OnWalk (form_of form.now) walk.old (R.left reader.old) (λ b.
-        Goes b (form_of form.now) more walk.new (R.left reader.new))) }
-    ensures err { IfErr result (λ f. OnWalk (form_of form.now) walk.old (R.left reader.old) (λ b.
-        IsFaulted b (form_of form.now) (seen_by walk.old) f (R.left reader.new))) }
+    ensures ok { IfOk result (λ more. OnWalk (form_by form.now) walk.old (R.left reader.old) (λ b.
+        Goes b (form_by form.now) more walk.new (R.left reader.new))) }
+    ensures err { IfErr result (λ f. OnWalk (form_by form.now) walk.old (R.left reader.old) (λ b.
+        IsFaulted b (form_by form.now) (seen_by walk.old) f (R.left reader.new))) }
 {
     let end = 8 + form.size;
     let place = walk.place;

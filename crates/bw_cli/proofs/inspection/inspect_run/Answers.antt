@@ -1,5 +1,5 @@
 use Rattle.std.proofs.Common.{◌≡◌, ◌∙◌, Ok, Err, not, true, refl, sym}
-use Rattle.bw_inspect.specs.Faults.{is_read as is_read_fault}
+use Rattle.bw_inspect.specs.Faults.{is_failed_read}
 use Rattle.bw_cli.specs.Faults.{exit_on}
 use Rattle.bw_cli.specs.Inspections.{exit_for, fault_line}
 use Rattle.bw_cli.specs.Printing.{IsOf, Nothing}
@@ -35,9 +35,9 @@ returns g c =
     let is : c.as_bytes.result.now ≡ fault_line f =
     c.as_bytes.ensures.value ∙ (c.as_str.ensures.value ∙ c.line_of.ensures) in
     let told : IsOf (fault_line f) l.0 = rw is at l.1 in (
-      record { reads_all = not (is_read_fault f.kind); out = Nothing; faults = l.0; exit = exit_for f.kind },
+      record { reads_all = not (is_failed_read f.kind); out = Nothing; faults = l.0; exit = exit_for f.kind },
       sym c.exit_on.ensures,
       fault-told _ f _ l.0 c.in-Err.ensures.err told,
-      c.in-Err.ensures.consumed.failures ∙ failures-not (is_read_fault f.kind) _,
+      c.in-Err.ensures.consumed.failures ∙ failures-not (is_failed_read f.kind) _,
       record { printed = refl; told = l.2 },
     )

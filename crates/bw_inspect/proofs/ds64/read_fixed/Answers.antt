@@ -3,7 +3,7 @@ use Rattle.bw_model.specs.Bytes.{u32_at}
 use Rattle.bw_model.specs.Reading as reading
 use Rattle.bw_model.specs.Report.{content_of}
 use Rattle.bw_layout.specs.Tables.{Fixed, fixed_at}
-use Rattle.bw_inspect.specs.Faults.{fault_of}
+use Rattle.bw_inspect.specs.Faults.{bytes_fault}
 use Rattle.bw_inspect.proofs.Counted.{too_many_rows, no_room, stopped_told}
 use Rattle.bw_inspect.proofs.Tables.{fixed_front}
 use Rattle.bw_inspect.proofs.ds64.read_fixed.Goals as goal
@@ -34,7 +34,7 @@ returns-then-fixed-entry-clause-err g c b r =
     let short : c.args.entry.size < 28 + 12 * n = (let t = c.if-fixed-entry.true in omega arith) in
     stopped_told b c.args.entry 28 4096 12 reading.BadDs64 n (u32_at content 24) _ _ is
     (no_room b c.args.entry 28 4096 12 reading.BadDs64 n _ _ c.requires.long p.to few short
-    (ap fault_of c.fault_at-then-fixed-entry.ensures ∙ rw place refl))
+    (ap bytes_fault c.fault_at-then-fixed-entry.ensures ∙ rw place refl))
 
 pub returns-clause-ok : goal.returns-clause-ok
 returns-clause-ok g c b r =

@@ -1,6 +1,6 @@
 use Rattle.std.proofs.Common.{rules, length, arith, length-take, length-drop}
 use Rattle.std.proofs.lemmas.Grind.{common_steps}
-use Rattle.bw_inspect.proofs.Pieces.{more_read, missed}
+use Rattle.bw_inspect.proofs.PartialReads.{more_read, missed}
 use Rattle.bw_inspect.proofs.places.read_at.Goals as goal
 
 pub returns-in-Ok-eq0-clause-err : goal.returns-in-Ok-eq0-clause-err

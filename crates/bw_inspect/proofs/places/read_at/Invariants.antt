@@ -1,5 +1,5 @@
 use Rattle.std.proofs.Common.{length, ◌+◌, ◌-◌, ◌≡◌, ℕ, ◌≤◌, List, drop, Some}
-use Rattle.bw_inspect.proofs.Pieces.{IsPartRead}
+use Rattle.bw_inspect.proofs.PartialReads.{IsPartRead}
 use Rattle.bw_inspect.proofs.places.read_at.Given as goal
 
 abbrev pub invariant-loop-done : goal.invariant-loop-done

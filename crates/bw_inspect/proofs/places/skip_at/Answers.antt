@@ -1,6 +1,6 @@
 use Rattle.std.proofs.Common.{arith}
 use Rattle.std.proofs.lemmas.Grind.{common_steps}
-use Rattle.bw_inspect.proofs.Pieces.{more_passed, missed}
+use Rattle.bw_inspect.proofs.PartialReads.{more_passed, missed}
 use Rattle.bw_inspect.proofs.places.skip_at.Goals as goal
 
 pub returns-in-Ok-eq0-clause-err : goal.returns-in-Ok-eq0-clause-err

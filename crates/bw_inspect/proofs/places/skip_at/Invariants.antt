@@ -1,5 +1,5 @@
 use Rattle.std.proofs.Common.{◌+◌, ◌-◌, ◌≡◌, ℕ, ◌≤◌, List, drop, Some}
-use Rattle.bw_inspect.proofs.Pieces.{IsPartPassed}
+use Rattle.bw_inspect.proofs.PartialReads.{IsPartPassed}
 use Rattle.bw_inspect.proofs.places.skip_at.Given as goal
 
 abbrev pub invariant-loop-done : goal.invariant-loop-done

@@ -1,7 +1,7 @@
 use Rattle.std.proofs.Common.{◌<◌, ◌≤◌, length, arith, refl, ap}
 use Rattle.std.proofs.lemmas.Result.{err_from_is_err_and}
 use Rattle.bw_model.specs.Reading as reading
-use Rattle.bw_inspect.specs.Walks.{form_of, seen_by}
+use Rattle.bw_inspect.specs.Walks.{form_by, seen_by}
 use Rattle.bw_inspect.specs.Known.{facts_of}
 use Rattle.bw_inspect.proofs.Contents.{at_start}
 use Rattle.bw_inspect.proofs.Steps.{too_many, head_cut, headed, sized, by_hand, size_faulted, content_faulted}
@@ -19,7 +19,7 @@ returns-in_err-head-clause-err g c =
     let p = err_from_is_err_and c.from_residual.result c.from_residual.ensures.1 in
     let few : length (seen_by c.args.walk.now) < 4096 =
     (let l = c.len.ensures in let t = c.if-len-ge-MOST_CHUNKS.false in omega arith) in
-    rw (p.1, p.2) (λ b s. head_cut b (form_of c.args.form.now) c.args.walk.now _ _ _ _ s
+    rw (p.1, p.2) (λ b s. head_cut b (form_by c.args.form.now) c.args.walk.now _ _ _ _ s
     (omega arith) few c.fault_at-2.ensures (c.in_err-head.ensures.err b (s.next (omega arith))))
 
 pub returns-in_err-size-clause-err : goal.returns-in_err-size-clause-err
@@ -29,7 +29,7 @@ returns-in_err-size-clause-err g c =
     (let l = c.len.ensures in let t = c.if-len-ge-MOST_CHUNKS.false in omega arith) in
     rw (p.1, p.2) (λ b s.
     let w = c.args.walk.now in
-    let form = form_of c.args.form.now in
+    let form = form_by c.args.form.now in
     let h = c.in_ok-head.ensures.ok b (s.next (omega arith)) in
     let at = headed b form w c.in_ok-head.head c.size_told-told.result _ (omega arith) few h c.size_told-told.ensures in
     size_faulted b form w c.in_ok-head.head.id c.size_told-told.result _ _ _ s at h.rest c.in_err-size.ensures.kind
@@ -44,7 +44,7 @@ returns-in_err-read_content-clause-err g c =
     (let l = c.len.ensures in let t = c.if-len-ge-MOST_CHUNKS.false in omega arith) in
     rw (p.1, p.2) (λ b s.
     let w = c.args.walk.now in
-    let form = form_of c.args.form.now in
+    let form = form_by c.args.form.now in
     let e : reading.Entry = record { id = c.in_ok-head.head.id; place = w.place; size = c.in_ok-size.size } in
     let h = c.in_ok-head.ensures.ok b (s.next (omega arith)) in
     let at = headed b form w c.in_ok-head.head c.size_told-told.result _ (omega arith) few h c.size_told-told.ensures in
@@ -61,7 +61,7 @@ returns-in_err-list_chunk-clause-err g c =
     (let l = c.len.ensures in let t = c.if-len-ge-MOST_CHUNKS.false in omega arith) in
     rw (p.1, p.2) (λ b s.
     let w = c.args.walk.now in
-    let form = form_of c.args.form.now in
+    let form = form_by c.args.form.now in
     let e : reading.Entry = record { id = c.in_ok-head.head.id; place = w.place; size = c.in_ok-size.size } in
     let h = c.in_ok-head.ensures.ok b (s.next (omega arith)) in
     let at = headed b form w c.in_ok-head.head c.size_told-told.result _ (omega arith) few h c.size_told-told.ensures in
@@ -78,7 +78,7 @@ returns-clause-ok g c b s =
     let few : length (seen_by c.args.walk.now) < 4096 =
     (let l = c.len.ensures in let t = c.if-len-ge-MOST_CHUNKS.false in omega arith) in
     let w = c.args.walk.now in
-    let form = form_of c.args.form.now in
+    let form = form_by c.args.form.now in
     let e : reading.Entry = record { id = c.in_ok-head.head.id; place = w.place; size = c.in_ok-size.size } in
     let h = c.in_ok-head.ensures.ok b (s.next (omega arith)) in
     let at = headed b form w c.in_ok-head.head c.size_told-told.result _ (omega arith) few h c.size_told-told.ensures in

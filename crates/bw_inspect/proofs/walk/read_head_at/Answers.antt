@@ -1,6 +1,6 @@
 use Rattle.std.proofs.Common.{ap}
 use Rattle.bw_layout.specs.declared.chunk.ChunkHead.{ChunkHead}
-use Rattle.bw_inspect.proofs.Pieces.{head_read}
+use Rattle.bw_inspect.proofs.PartialReads.{head_read}
 use Rattle.bw_inspect.proofs.walk.read_head_at.Goals as goal
 
 pub returns-clause-ok : goal.returns-clause-ok

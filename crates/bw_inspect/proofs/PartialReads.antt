@@ -9,7 +9,7 @@ use Rattle.bw_model.specs.Bytes.{u32_at}
 use Rattle.bw_layout.specs.Moves.{IsRead, IsSkipped}
 use Rattle.bw_layout.specs.declared.chunk.ChunkHead.{ChunkHead}
 use Rattle.bw_inspect.specs.declared.fault.InspectFault.{InspectFault}
-use Rattle.bw_inspect.specs.Faults.{is_read, is_of_bytes}
+use Rattle.bw_inspect.specs.Faults.{is_failed_read, is_of_bytes}
 use Rattle.bw_inspect.specs.Places.{IsGiven, IsMissed}
 use Rattle.bw_inspect.specs.Walks.{IsHead}
 use Rattle.bw_inspect.proofs.Faults.{bytes_no_read, not_both}
@@ -80,7 +80,7 @@ missed b place d n k cut left left' e e' z small there empty c =
       there = there;
       rest = e' ∙ ap (λ (j : ℕ). Some (drop j (drop (place + d) b))) z;
       cuts = λ h. (refl, omega arith);
-      fails = λ h. absurd (not_both (is_read cut.kind) (bytes_no_read cut.kind c) h);
+      fails = λ h. absurd (not_both (is_failed_read cut.kind) (bytes_no_read cut.kind c) h);
     }
 
 -- a pad byte that may be absent
