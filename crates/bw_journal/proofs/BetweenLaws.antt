@@ -1,5 +1,6 @@
 -- The file with a request is between the one without it and itself.
-use Rattle.std.proofs.Common.{◌≡◌, ℕ, ◌+◌, ◌-◌, ◌%◌, ◌≤◌, Bool, true, false, cond, List, [], ◌++◌, length, take, Option}
+use Rattle.std.proofs.Common.{◌≡◌, ◌≢◌, ℕ, ◌+◌, ◌-◌, ◌%◌, ◌≤◌, Bool, true, false, cond, List, [], ◌++◌, length, take}
+use Rattle.std.proofs.Common.{Option}
 use Rattle.std.proofs.Common.{Some, None, refl, sym, ◌∙◌, ap, subst, arith, append_assoc, length-append}
 use Rattle.std.specs.Prelude.{slice_range, flat_map}
 use Rattle.std.proofs.lemmas.List.{take_at, drop_at}
@@ -136,6 +137,15 @@ abbrev Between : Take → ℕ → Request → Option Format → Type 0
 Between t limit r o =
     IsBetween (record t { format = o }) limit r (file_of (with_request (record t { format = o }) r) limit)
 
+-- of a request that is stored in an open take alone, what holds with each format
+by_format : (t : Take) (limit : ℕ) (r : Request) → judge_open (parts t) None r ≢ Stored →
+    judge_open (parts t) t.format r ≡ Stored → ((f : Format) → Between t limit r (Some f)) → Between t limit r t.format
+by_format t limit r unopened stored each = go t.format refl
+  where
+    go : (o : Option Format) → t.format ≡ o → Between t limit r t.format
+    go None e = absurd (unopened (subst (λ (o : Option Format). judge_open (parts t) o r ≡ Stored) e stored))
+    go (Some f) e = subst (Between t limit r) (sym e) (each f)
+
 pub new_files_are_between : NewFilesAreBetween
 new_files_are_between t limit r fields stored = go r stored (stored_open (parts t) r stored)
   where
@@ -145,44 +155,12 @@ new_files_are_between t limit r fields stored = go r stored (stored_open (parts 
     go (Open f history) stored ready =
         subst (Between t limit (Open f history)) (sym (opened_once (parts t) f history stored))
         (open_between t limit f history)
-    go (Block bytes) stored ready = by_format t.format refl
-      where
-        by_format : (o : Option Format) → t.format ≡ o → Between t limit (Block bytes) t.format
-        by_format None e =
-            absurd (no (subst (λ (o : Option Format). judge_open (parts t) o (Block bytes) ≡ Stored) e ready.1))
-          where
-            no : judge_open (parts t) None (Block bytes) ≡ Stored → ⊥
-            no e = cc
-        by_format (Some f) e =
-            subst (Between t limit (Block bytes)) (sym e) (block_between t f limit bytes fields ready.0)
-    go (Mark id frame) stored ready = by_format t.format refl
-      where
-        by_format : (o : Option Format) → t.format ≡ o → Between t limit (Mark id frame) t.format
-        by_format None e =
-            absurd (no (subst (λ (o : Option Format). judge_open (parts t) o (Mark id frame) ≡ Stored) e ready.1))
-          where
-            no : judge_open (parts t) None (Mark id frame) ≡ Stored → ⊥
-            no e = cc
-        by_format (Some f) e =
-            subst (Between t limit (Mark id frame)) (sym e) (mark_between t f limit id frame fields ready.0)
-    go (SetField tag value) stored ready = by_format t.format refl
-      where
-        by_format : (o : Option Format) → t.format ≡ o → Between t limit (SetField tag value) t.format
-        by_format None e =
-            absurd (no (subst (λ (o : Option Format). judge_open (parts t) o (SetField tag value) ≡ Stored) e ready.1))
-          where
-            no : judge_open (parts t) None (SetField tag value) ≡ Stored → ⊥
-            no e = cc
-        by_format (Some f) e = subst (Between t limit (SetField tag value)) (sym e)
-            (field_between t f limit tag value fields
-            (fields-with t.fields tag value fields (set_without_fault (parts t) tag value stored)) ready.0)
-    go (Close total) stored ready = by_format t.format refl
-      where
-        by_format : (o : Option Format) → t.format ≡ o → Between t limit (Close total) t.format
-        by_format None e =
-            absurd (no (subst (λ (o : Option Format). judge_open (parts t) o (Close total) ≡ Stored) e ready.1))
-          where
-            no : judge_open (parts t) None (Close total) ≡ Stored → ⊥
-            no e = cc
-        by_format (Some f) e =
-            subst (Between t limit (Close total)) (sym e) (close_between t f limit total fields ready.0)
+    go (Block bytes) stored ready = by_format t limit (Block bytes) (λ e. cc) ready.1
+        (λ f. block_between t f limit bytes fields ready.0)
+    go (Mark id frame) stored ready = by_format t limit (Mark id frame) (λ e. cc) ready.1
+        (λ f. mark_between t f limit id frame fields ready.0)
+    go (SetField tag value) stored ready = by_format t limit (SetField tag value) (λ e. cc) ready.1
+        (λ f. field_between t f limit tag value fields
+        (fields-with t.fields tag value fields (set_without_fault (parts t) tag value stored)) ready.0)
+    go (Close total) stored ready = by_format t limit (Close total) (λ e. cc) ready.1
+        (λ f. close_between t f limit total fields ready.0)

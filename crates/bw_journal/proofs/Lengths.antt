@@ -4,7 +4,7 @@ use Rattle.std.proofs.lemmas.List.{length-take-le}
 use Rattle.sha2.specs.Sha256.{sha256}
 use Rattle.sha2.proofs.Facts256.{length-sha256}
 use Rattle.bw_journal.specs.Seals.{check, sealed}
-use Rattle.bw_journal.specs.Entries.{Entry, noted, content, entry_bytes}
+use Rattle.bw_journal.specs.Entries.{JournalEntry, noted, content, sealed_entry}
 use Rattle.bw_journal.specs.JournalHeaders.{Header, header_content, header_bytes, header_len}
 
 pub check-length : (c : List ℕ) → length (check c) ≡ 8
@@ -15,14 +15,14 @@ pub sealed-length : (c : List ℕ) → length (sealed c) ≡ 10 + length c
 unfolding sealed
 sealed-length c = omega (arith, length-append c (check c), check-length c)
 
-content-long : (e : Entry) → length e.digest ≡ 32 → length (content e) ≡ 33 + length (noted e.request)
+content-long : (e : JournalEntry) → length e.digest ≡ 32 → length (content e) ≡ 33 + length (noted e.request)
 unfolding content
 content-long e h =
     let whole : length (content e) ≡ 1 + (length e.digest + length (noted e.request)) =
     ap suc (length-append e.digest (noted e.request)) ∙ omega arith in
     omega (arith, whole, h)
 
-pub entry_length : (e : Entry) → length e.digest ≡ 32 → length (entry_bytes e) ≡ 43 + length (noted e.request)
+pub entry_length : (e : JournalEntry) → length e.digest ≡ 32 → length (sealed_entry e) ≡ 43 + length (noted e.request)
 entry_length e h = omega (arith, sealed-length (content e), content-long e h)
 
 pub length-header_bytes : (h : Header) → length (header_bytes h) ≡ header_len

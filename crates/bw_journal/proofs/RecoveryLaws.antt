@@ -14,7 +14,7 @@ use Rattle.bw_model.specs.Wire.{is_request}
 use Rattle.bw_model.specs.File.{file_of}
 use Rattle.bw_model.specs.Book.{Log, log_of, is_known, made, verdict_at}
 use Rattle.bw_model.specs.Holds.{Kept, body_of, finished_from, HasFile, HoldsName}
-use Rattle.bw_journal.specs.Noted.{IsWhole, fits}
+use Rattle.bw_journal.specs.Noted.{AdmitsDone, fits}
 use Rattle.bw_journal.specs.Stops.{cut_log, cut_book}
 use Rattle.bw_journal.specs.Recovery.{IsOnTheWay, HeldFilesSurvive, kept_by, kept_after, RecoveryHolds}
 use Rattle.bw_journal.specs.Recovery.{ClosedFilesAreWhole}
@@ -81,7 +81,7 @@ at-past (suc d) i [] = refl
 at-past (suc d) i (y ∷ ys) =
     let e : suc d + i ≡ suc (d + i) = omega arith in ap (at (take (suc d) (y ∷ ys))) e ∙ at-past d i ys
 
-holds_name : (stood : Bool) (name : List ℕ) (log : Log) (found : Option (List ℕ)) → IsWhole log →
+holds_name : (stood : Bool) (name : List ℕ) (log : Log) (found : Option (List ℕ)) → AdmitsDone log →
     HoldsName stood name (cut_log log) (kept_by stood name log found)
 holds_name stood name log found whole = record {
   done = finished-length stood log.admitted name 0 (take log.done log.admitted) whole.each ∙ whole.long;

@@ -2,12 +2,12 @@
 use Rattle.std.proofs.Common.{◌≡◌, ℕ, suc, ◌+◌, Bool, true, false, cond, Option, Some, None, Ok, Err, List, [], length}
 use Rattle.std.proofs.Common.{drop, refl, sym, ap, ◌∙◌}
 use Rattle.bw_model.specs.Take.{Parts, new_take, parts}
-use Rattle.bw_journal.specs.Entries.{Entry, first_entry}
+use Rattle.bw_journal.specs.Entries.{JournalEntry, first_entry}
 use Rattle.std.proofs.lemmas.Bool.{eq-eqb}
 use Rattle.bw_model.specs.Bytes.{unless}
 use Rattle.bw_journal.specs.JournalHeaders.{Header, header_len, first_header}
-use Rattle.bw_journal.specs.Replays.{Story, Fault, OtherLimit, OtherVerdict, told, is_judged, replayed}
-use Rattle.bw_journal.specs.Replays.{replayed_entries, tail_fault, ended, replayed_behind, replay}
+use Rattle.bw_journal.specs.Replays.{Story, JournalFault, OtherLimit, OtherVerdict, with_entry, is_judged, replayed}
+use Rattle.bw_journal.specs.Replays.{replayed_entries, tail_fault, told_with_tail, replayed_behind, replay}
 
 -- nothing is told yet
 pub begins : (k used : ℕ) (stood : Bool) (bytes : List ℕ) (p : Parts) (table : List ℕ) → k ≡ length bytes →
@@ -22,17 +22,18 @@ begins k used stood bytes p table e front is empty =
     (record { parts = parts (new_take stood); table = t; used = header_len })) empty
 
 -- what is told by these parts and this table
-pub same_story : (m : ℕ) (bytes : List ℕ) (s : Story) (x : Entry × ℕ) (p : Parts) (table : List ℕ)
-    → p ≡ (told s x).parts → table ≡ (told s x).table
-    → replayed m bytes (record { parts = p; table = table; used = s.used + x.1 }) ≡ replayed m bytes (told s x)
+pub same_story : (m : ℕ) (bytes : List ℕ) (s : Story) (x : JournalEntry × ℕ) (p : Parts) (table : List ℕ)
+    → p ≡ (with_entry s x).parts → table ≡ (with_entry s x).table
+    → replayed m bytes (record { parts = p; table = table; used = s.used + x.1 }) ≡ replayed m bytes (with_entry s x)
 same_story m bytes s x p table is rows =
     ap (λ (q : Parts). replayed m bytes (record { parts = q; table = table; used = s.used + x.1 })) is
-    ∙ ap (λ (t : List ℕ). replayed m bytes (record { parts = (told s x).parts; table = t; used = s.used + x.1 })) rows
+    ∙ ap (λ (t : List ℕ). replayed m bytes (record { parts = (with_entry s x).parts; table = t; used = s.used + x.1 }))
+    rows
 
 -- one more entry is told
-pub goes_on : (k m : ℕ) (bytes : List ℕ) (s : Story) (x : Entry × ℕ) → k ≡ suc m →
+pub goes_on : (k m : ℕ) (bytes : List ℕ) (s : Story) (x : JournalEntry × ℕ) → k ≡ suc m →
     first_entry (drop s.used bytes) ≡ Some x → is_judged s.parts x.0 ≡ true
-    → replayed k bytes s ≡ replayed m bytes (told s x)
+    → replayed k bytes s ≡ replayed m bytes (with_entry s x)
 goes_on k m bytes s x e found judged = ap (λ (n : ℕ). replayed n bytes s) e ∙ rw (found, replayed) (rw judged refl)
 
 -- the rest is torn
@@ -41,7 +42,7 @@ pub stops : (k m : ℕ) (bytes : List ℕ) (s : Story) → k ≡ suc m → first
 stops k m bytes s e found = ap (λ (n : ℕ). replayed n bytes s) e ∙ rw (found, replayed) refl
 
 -- an entry isn't judged as it says
-pub differs : (k m : ℕ) (bytes : List ℕ) (s : Story) (x : Entry × ℕ) → k ≡ suc m →
+pub differs : (k m : ℕ) (bytes : List ℕ) (s : Story) (x : JournalEntry × ℕ) → k ≡ suc m →
     first_entry (drop s.used bytes) ≡ Some x → is_judged s.parts x.0 ≡ false
     → replayed k bytes s ≡ Err OtherVerdict
 differs k m bytes s x e found judged = ap (λ (n : ℕ). replayed n bytes s) e ∙ rw (found, replayed) (rw judged refl)
@@ -51,13 +52,14 @@ pub ends : (k : ℕ) (bytes : List ℕ) (s : Story) → k ≡ 0 → replayed k b
 ends k bytes s e = ap (λ (n : ℕ). replayed n bytes s) e
 
 -- what follows the entries isn't a front of one
-pub refused_tail : (limit : ℕ) (bytes : List ℕ) (h : Header) (s : Story) (f : Fault) → Some h ≡ first_header bytes →
+pub refused_tail : (limit : ℕ) (bytes : List ℕ) (h : Header) (s : Story) (f : JournalFault) →
+    Some h ≡ first_header bytes →
     h.limit ≡ limit → replayed_entries h.stood bytes ≡ Ok s → tail_fault (drop s.used bytes) ≡ Some f →
     replay limit bytes ≡ Err f
 unfolding replay
 refused_tail limit bytes h s f found is told wrong =
     ap (replayed_behind limit bytes) (sym found)
-    ∙ ap (λ (v : Bool). cond v (ended bytes (replayed_entries h.stood bytes)) (Err OtherLimit))
+    ∙ ap (λ (v : Bool). cond v (told_with_tail bytes (replayed_entries h.stood bytes)) (Err OtherLimit))
     (eq-eqb h.limit limit is)
-    ∙ ap (ended bytes) told
-    ∙ ap (λ (o : Option Fault). unless o s) wrong
+    ∙ ap (told_with_tail bytes) told
+    ∙ ap (λ (o : Option JournalFault). unless o s) wrong

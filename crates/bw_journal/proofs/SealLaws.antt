@@ -4,7 +4,7 @@ use Rattle.std.proofs.Common.{◌∷◌, ◌++◌, length, take, drop, refl, sym
 use Rattle.std.specs.Prelude.{option_map, option_and_then, nat_le}
 use Rattle.std.specs.Int.{w16, w32}
 use Rattle.std.specs.Str.{bytes_eq}
-use Rattle.std.proofs.lemmas.Bool.{and_parts, le-ltb, lt-ltb, leb-true}
+use Rattle.std.proofs.lemmas.Bool.{and_parts, cases_lt, le-ltb, lt-ltb, leb-true}
 use Rattle.std.proofs.lemmas.List.{take_at, drop_at, drop-drop, take_rest, length-append, length-take-le}
 use Rattle.bw_model.specs.Bytes.{le32, u16_at, u32_at, zeros, is_within}
 use Rattle.bw_model.specs.Take.{Request, Open, Block, Mark, SetField, Close, Verdict, Stored, NameTaken, AlreadyOpen}
@@ -14,13 +14,13 @@ use Rattle.bw_model.specs.Wire.{kind, payload, is_request, are_bytes, is_below, 
 use Rattle.bw_model.specs.Replies.{verdict_code, verdict_of}
 use Rattle.bw_model.proofs.ByteNumbers.{wide16, wide32, number_at-written}
 use Rattle.bw_model.proofs.BookLemmas.{name_refl}
-use Rattle.bw_model.proofs.MapLemmas.{below_or_not}
 use Rattle.bw_model.proofs.Payloads.{reads_request}
 use Rattle.bw_journal.proofs.EntryReads.{opened_reads, entry_reads}
 use Rattle.bw_journal.proofs.Lengths.{check-length, sealed-length, entry_length}
 use Rattle.bw_journal.specs.Seals.{check, sealed, opened}
-use Rattle.bw_journal.specs.Entries.{Entry, bare, noted, content, entry_in, entry_of, first_entry, request_in, value_in}
-use Rattle.bw_journal.specs.Noted.{IsNotable, bare_entry, EntriesReadBack, EntriesAreShort, CutEntriesAreNone}
+use Rattle.bw_journal.specs.Entries.{JournalEntry, bare, noted, content, entry_in, entry_with_len, first_entry}
+use Rattle.bw_journal.specs.Entries.{request_in, value_in}
+use Rattle.bw_journal.specs.Noted.{IsNotable, bare_entry, JournalEntriesReadBack, EntriesAreShort, CutEntriesAreNone}
 
 -- a payload is no longer than the longest block
 payload_short : (r : Request) → is_request r ≡ true → length (payload r) ≤ 32768
@@ -96,7 +96,7 @@ number_of_sealed c short = number_at-written w16 (2 ^ 16) wide16 (length c) (c +
 pub opened-cut : (c : List ℕ) (k : ℕ) → length c < 2 ^ 16 → k < length (sealed c) → opened (take k (sealed c)) ≡ None
 opened-cut c k short cut =
     let len : length (take k (sealed c)) ≡ k = length-take-le k (sealed c) (omega arith) in
-    go (below_or_not k 2)
+    go (cases_lt k 2)
   where
     go : (k < 2) ⊎ (2 ≤ k) → opened (take k (sealed c)) ≡ None
     go (inl few) =
@@ -150,7 +150,7 @@ noted-length (Mark id frame) h = (omega arith, omega arith)
 noted-length (SetField tag value) h = let p = payload_short (SetField tag value) h in (omega arith, omega (arith, p))
 noted-length (Close total) h = (omega arith, omega arith)
 
-pub content-length : (e : Entry) → IsNotable e → (34 ≤ length (content e)) × (length (content e) < 2 ^ 16)
+pub content-length : (e : JournalEntry) → IsNotable e → (34 ≤ length (content e)) × (length (content e) < 2 ^ 16)
 unfolding content
 content-length e h =
     let n = noted-length e.request h.0 in
@@ -158,7 +158,7 @@ content-length e h =
     ap suc (length-append e.digest (noted e.request)) ∙ omega arith in
     (omega (arith, whole, n, h.1), omega (arith, whole, n, h.1))
 
-pub entry_again : (e : Entry) → IsNotable e → entry_in (content e) ≡ Some (bare_entry e)
+pub entry_again : (e : JournalEntry) → IsNotable e → entry_in (content e) ≡ Some (bare_entry e)
 unfolding content
 entry_again e h =
     let c = content e in
@@ -170,18 +170,19 @@ entry_again e h =
     ∙ ap (λ (d : List ℕ). Some (record { request = bare e.request; verdict = e.verdict; digest = d }))
     (take_at e.digest (noted e.request) 32 h.1)
 
-pub entries_read_back : EntriesReadBack
+pub entries_read_back : JournalEntriesReadBack
 unfolding first_entry
 entries_read_back e more h =
-    ap (option_and_then entry_of) (opened-sealed (content e) more (content-length e h).1)
+    ap (option_and_then entry_with_len) (opened-sealed (content e) more (content-length e h).1)
     ∙ ap (option_map (λ x. (x, 10 + length (content e)))) (entry_again e h)
     ∙ ap (λ (n : ℕ). Some (bare_entry e, n)) (sym (sealed-length (content e)))
 
 pub cut_entries_are_none : CutEntriesAreNone
 unfolding first_entry
 cut_entries_are_none tail h =
-    ap (λ (b : List ℕ). option_and_then entry_of (opened b)) h.front
-    ∙ ap (option_and_then entry_of) (opened-cut (content h.entry) h.count (content-length h.entry h.notable).1 h.short)
+    ap (λ (b : List ℕ). option_and_then entry_with_len (opened b)) h.front
+    ∙ ap (option_and_then entry_with_len)
+    (opened-cut (content h.entry) h.count (content-length h.entry h.notable).1 h.short)
 
 -- what is noted of a request is no longer than of an OPEN with the longest history
 noted_short : (r : Request) → is_request r ≡ true → length (noted r) ≤ 4107

@@ -18,7 +18,8 @@ use Rattle.bw_model.proofs.Elements.{some_inj}
 use Rattle.bw_model.proofs.Payloads.{payload_from_test}
 use Rattle.bw_model.proofs.SpellingLaws.{unless_ok}
 use Rattle.bw_journal.specs.Seals.{check, sealed, opened}
-use Rattle.bw_journal.specs.Entries.{Entry, noted, content, entry_bytes, entry_in, entry_of, first_entry, made_of}
+use Rattle.bw_journal.specs.Entries.{JournalEntry, noted, content, sealed_entry, entry_in, entry_with_len, first_entry}
+use Rattle.bw_journal.specs.Entries.{made_of}
 use Rattle.bw_journal.specs.Entries.{request_in, block_noted, value_in}
 use Rattle.bw_journal.specs.Noted.{ReadEntriesStand}
 use Rattle.bw_journal.proofs.EntryReads.{zeros-length}
@@ -145,19 +146,19 @@ request_stands (k ∷ p) r fits e = go (k == 2) refl e
                 false_true : false ≡ true → ⊥
                 false_true h = cc
 
-made_parts : (v : Option Verdict) (d : List ℕ) (r : Option Request) (e : Entry) → made_of v d r ≡ Some e →
+made_parts : (v : Option Verdict) (d : List ℕ) (r : Option Request) (e : JournalEntry) → made_of v d r ≡ Some e →
     (v ≡ Some e.verdict) × (r ≡ Some e.request) × (d ≡ e.digest)
 made_parts None d r e h = absurd (none_some h)
 made_parts (Some v) d None e h = absurd (none_some h)
 made_parts (Some v) d (Some r) e h = (
-  ap (λ (x : Entry). Some x.verdict) (some_inj h),
-  ap (λ (x : Entry). Some x.request) (some_inj h),
+  ap (λ (x : JournalEntry). Some x.verdict) (some_inj h),
+  ap (λ (x : JournalEntry). Some x.request) (some_inj h),
   ap
-      (λ (x : Entry). x.digest) (some_inj h),
+      (λ (x : JournalEntry). x.digest) (some_inj h),
 )
 
 -- the content is the entry's
-content_stands : (c : List ℕ) (e : Entry) → are_bytes c ≡ true → entry_in c ≡ Some e → content e ≡ c
+content_stands : (c : List ℕ) (e : JournalEntry) → are_bytes c ≡ true → entry_in c ≡ Some e → content e ≡ c
 unfolding entry_in content
 content_stands [] e fits h = absurd (none_some h)
 content_stands (k ∷ b) e fits h = go (nat_lt (length (k ∷ b)) 34) h
@@ -179,13 +180,13 @@ pub read_entries_stand : ReadEntriesStand
 unfolding first_entry
 read_entries_stand bytes e n fits h = go (opened bytes) refl h
   where
-    go : (o : Option (List ℕ)) → opened bytes ≡ o → option_and_then entry_of o ≡ Some (e, n) →
-        take n bytes ≡ entry_bytes e
+    go : (o : Option (List ℕ)) → opened bytes ≡ o → option_and_then entry_with_len o ≡ Some (e, n) →
+        take n bytes ≡ sealed_entry e
     go None p h = absurd (none_some h)
     go (Some c) p h = found (entry_in c) refl h
       where
-        found : (x : Option Entry) → entry_in c ≡ x →
-            option_map {U = Entry × ℕ} (λ y. (y, 10 + length c)) x ≡ Some (e, n) → take n bytes ≡ entry_bytes e
+        found : (x : Option JournalEntry) → entry_in c ≡ x →
+            option_map {U = JournalEntry × ℕ} (λ y. (y, 10 + length c)) x ≡ Some (e, n) → take n bytes ≡ sealed_entry e
         found None q h = absurd (none_some h)
         found (Some y) q h =
             let pair : (y, 10 + length c) ≡ (e, n) = some_inj h in
@@ -193,5 +194,5 @@ read_entries_stand bytes e n fits h = go (opened bytes) refl h
             let c_fits : are_bytes c ≡ true =
             subst (λ (x : List ℕ). are_bytes x ≡ true) (sym s.1)
             (are_bytes-parts (u16_at bytes 0) (drop 2 bytes) (are_bytes-parts 2 bytes fits).1).0 in
-            ap (λ (k : ℕ). take k bytes) (sym (ap (λ (z : Entry × ℕ). z.1) pair)) ∙ s.0
-            ∙ ap sealed (sym (content_stands c y c_fits q)) ∙ ap (λ (z : Entry × ℕ). entry_bytes z.0) pair
+            ap (λ (k : ℕ). take k bytes) (sym (ap (λ (z : JournalEntry × ℕ). z.1) pair)) ∙ s.0
+            ∙ ap sealed (sym (content_stands c y c_fits q)) ∙ ap (λ (z : JournalEntry × ℕ). sealed_entry z.0) pair

@@ -15,12 +15,13 @@ use Rattle.bw_model.specs.Replies.{verdict_code}
 use Rattle.bw_model.specs.Book.{Log, made, step, verdict_at, verdict_by}
 use Rattle.bw_model.specs.Holds.{body_of, finished_from}
 use Rattle.bw_model.proofs.MapLemmas.{at-drop}
-use Rattle.bw_journal.specs.Entries.{Entry, entry_bytes, entries_bytes, first_entry, content}
+use Rattle.bw_journal.specs.Entries.{JournalEntry, sealed_entry, sealed_entries, first_entry, content}
 use Rattle.bw_journal.specs.Seals.{opened}
 use Rattle.bw_journal.specs.JournalHeaders.{Header, header_bytes, header_len, first_header}
-use Rattle.bw_journal.specs.Replays.{Story, Fault, OtherLimit, replayed, replay, replayed_behind, replayed_entries}
-use Rattle.bw_journal.specs.Replays.{ended, tail_fault, beginning}
-use Rattle.bw_journal.specs.Noted.{IsNotable, IsHeader, bare_entry, IsCut, IsWhole, fits, entries_from, packed}
+use Rattle.bw_journal.specs.Replays.{Story, JournalFault, OtherLimit, replayed, replay, replayed_behind}
+use Rattle.bw_journal.specs.Replays.{replayed_entries}
+use Rattle.bw_journal.specs.Replays.{told_with_tail, tail_fault, beginning}
+use Rattle.bw_journal.specs.Noted.{IsNotable, IsHeader, bare_entry, IsCut, AdmitsDone, fits, entries_from, packed}
 use Rattle.bw_journal.specs.Noted.{journal_of, story_of_log, JournalsTellLogs}
 use Rattle.bw_journal.proofs.ReplaySteps.{goes_on, stops}
 use Rattle.bw_journal.proofs.Lengths.{sealed-length, length-header_bytes}
@@ -30,10 +31,10 @@ use Rattle.bw_journal.proofs.HeaderReads.{headers_read_back}
 use Rattle.bw_journal.proofs.BareLaws.{parts_alike, entry_judged}
 
 -- the entries and the outcomes of requests, from a take and a number on
-abbrev entry_by : Take → List ℕ → ℕ → Request → Entry
+abbrev entry_by : Take → List ℕ → ℕ → Request → JournalEntry
 entry_by t name n r = record { request = r; verdict = verdict t r; digest = sha256 (body_of name n r) }
 
-abbrev entries_by : Take → List ℕ → ℕ → List (Option Request) → List Entry
+abbrev entries_by : Take → List ℕ → ℕ → List (Option Request) → List JournalEntry
 entries_by t name n [] = []
 entries_by t name n (None ∷ rest) = []
 entries_by t name n (Some r ∷ rest) = entry_by t name n r ∷ entries_by (after t r) name (suc n) rest
@@ -72,7 +73,8 @@ entries_same stood s name n (Some r ∷ rest) more e =
     let h = at_place n s (Some r) (rest ++ more) e in
     ap (λ (v : Verdict). record { request = r; verdict = v; digest = sha256 (body_of name n r) } ∷ entries_from stood s
     name (suc n) rest) (verdict_here stood s n r (rest ++ more) e)
-    ∙ ap (λ (es : List Entry). entry_by (made stood s n) name n r ∷ es) (entries_same stood s name (suc n) rest more h.0
+    ∙ ap (λ (es : List JournalEntry). entry_by (made stood s n) name n r ∷ es)
+    (entries_same stood s name (suc n) rest more h.0
     ∙ ap (λ (t : Take). entries_by t name (suc n) rest) (made_next stood s n r h.1))
 
 finished_same : (stood : Bool) (s : List (Option Request)) (name : List ℕ) (n : ℕ) (rest more : List (Option Request)) →
@@ -96,7 +98,7 @@ abbrev story_by : Take → List ℕ → ℕ → List (Option Request) → List �
 story_by t name n rest front table = record {
   parts = parts (fold step t rest);
   table = table ++ packed (finished_by t name n rest);
-  used = length front + length (entries_bytes (entries_by t name n rest));
+  used = length front + length (sealed_entries (entries_by t name n rest));
 }
 
 nothing_more : {X : Type 0} (xs : List X) → xs ++ [] ≡ xs
@@ -106,7 +108,7 @@ nothing_more (x ∷ xs) = ap (λ (z : List _). x ∷ z) (nothing_more xs)
 -- entries, one after another, up to what is cut
 tells : (t : Take) (name : List ℕ) (n : ℕ) (rest : List (Option Request)) (front tail table : List ℕ) (steps : ℕ)
     → list_all fits rest ≡ true → IsCut tail → length rest ≤ steps
-    → replayed steps (front ++ (entries_bytes (entries_by t name n rest) ++ tail))
+    → replayed steps (front ++ (sealed_entries (entries_by t name n rest) ++ tail))
     (record { parts = parts t; table = table; used = length front })
     ≡ Ok (story_by t name n rest front table)
 tells t name n [] front tail table steps h cut enough = stop steps ∙ ap Ok same
@@ -129,35 +131,35 @@ tells t name n (Some r ∷ rest) front tail table zero h cut enough = absurd (om
 tells t name n (Some r ∷ rest) front tail table (suc k) h cut enough =
     let e = entry_by t name n r in
     let ok = and_parts (is_request r) (list_all fits rest) h in
-    let later = entries_bytes (entries_by (after t r) name (suc n) rest) in
-    let bytes = front ++ ((entry_bytes e ++ later) ++ tail) in
+    let later = sealed_entries (entries_by (after t r) name (suc n) rest) in
+    let bytes = front ++ ((sealed_entry e ++ later) ++ tail) in
     let s : Story = record { parts = parts t; table = table; used = length front } in
-    let found : first_entry (drop (length front) bytes) ≡ Some (bare_entry e, length (entry_bytes e)) =
-    ap first_entry (drop_at front ((entry_bytes e ++ later) ++ tail) (length front) refl
-    ∙ append_assoc (entry_bytes e) later tail)
+    let found : first_entry (drop (length front) bytes) ≡ Some (bare_entry e, length (sealed_entry e)) =
+    ap first_entry (drop_at front ((sealed_entry e ++ later) ++ tail) (length front) refl
+    ∙ append_assoc (sealed_entry e) later tail)
     ∙ entries_read_back e (later ++ tail) (notable t name n r ok.0) in
-    let moved : bytes ≡ (front ++ entry_bytes e) ++ (later ++ tail) =
-    ap (λ (x : List ℕ). front ++ x) (append_assoc (entry_bytes e) later tail)
-    ∙ sym (append_assoc front (entry_bytes e) (later ++ tail)) in
+    let moved : bytes ≡ (front ++ sealed_entry e) ++ (later ++ tail) =
+    ap (λ (x : List ℕ). front ++ x) (append_assoc (sealed_entry e) later tail)
+    ∙ sym (append_assoc front (sealed_entry e) (later ++ tail)) in
     let row = sha256 (body_of name n r) ++ verdict_code (verdict t r) ∷ [] in
     let further =
-    tells (after t r) name (suc n) rest (front ++ entry_bytes e) tail (table ++ row) k ok.1 cut (omega arith) in
-    goes_on (suc k) k bytes s (bare_entry e, length (entry_bytes e)) refl found
+    tells (after t r) name (suc n) rest (front ++ sealed_entry e) tail (table ++ row) k ok.1 cut (omega arith) in
+    goes_on (suc k) k bytes s (bare_entry e, length (sealed_entry e)) refl found
     (entry_judged t r (sha256 (body_of name n r)))
     ∙ ap (λ (p : _). replayed k bytes
-    (record { parts = p; table = table ++ row; used = length front + length (entry_bytes e) })) (parts_alike t r)
+    (record { parts = p; table = table ++ row; used = length front + length (sealed_entry e) })) (parts_alike t r)
     ∙ ap (λ (b : List ℕ). replayed k b
-    (record { parts = parts (after t r); table = table ++ row; used = length front + length (entry_bytes e) }))
+    (record { parts = parts (after t r); table = table ++ row; used = length front + length (sealed_entry e) }))
     moved
-    ∙ ap (λ (u : ℕ). replayed k ((front ++ entry_bytes e) ++ (later ++ tail))
+    ∙ ap (λ (u : ℕ). replayed k ((front ++ sealed_entry e) ++ (later ++ tail))
     (record { parts = parts (after t r); table = table ++ row; used = u }))
-    (sym (length-append front (entry_bytes e)))
+    (sym (length-append front (sealed_entry e)))
     ∙ further
     ∙ ap (λ (x : List ℕ). Ok
     (record {
       parts = parts (fold step (after t r) rest);
       table = x;
-      used = length (front ++ entry_bytes e) + length
+      used = length (front ++ sealed_entry e) + length
           later;
     }))
     (append_assoc table row (packed (finished_by (after t r) name (suc n) rest)))
@@ -168,14 +170,14 @@ tells t name n (Some r ∷ rest) front tail table (suc k) h cut enough =
           (row ++ packed (finished_by (after t r) name (suc n) rest));
       used = u;
     }))
-    (ap (λ (u : ℕ). u + length later) (length-append front (entry_bytes e))
-    ∙ (let e' : length front + length (entry_bytes e) + length later ≡ length front +
-    (length (entry_bytes e) + length later) = omega arith in e')
-    ∙ ap (λ (u : ℕ). length front + u) (sym (length-append (entry_bytes e) later)))
+    (ap (λ (u : ℕ). u + length later) (length-append front (sealed_entry e))
+    ∙ (let e' : length front + length (sealed_entry e) + length later ≡ length front +
+    (length (sealed_entry e) + length later) = omega arith in e')
+    ∙ ap (λ (u : ℕ). length front + u) (sym (length-append (sealed_entry e) later)))
 
 -- an entry has at least a byte
 many : (t : Take) (name : List ℕ) (n : ℕ) (rest : List (Option Request)) → list_all fits rest ≡ true →
-    length rest ≤ length (entries_bytes (entries_by t name n rest))
+    length rest ≤ length (sealed_entries (entries_by t name n rest))
 many t name n [] h = omega arith
 many t name n (None ∷ rest) h = absurd cc
 many t name n (Some r ∷ rest) h =
@@ -186,19 +188,19 @@ many t name n (Some r ∷ rest) h =
       arith,
       more,
       sealed-length (content e),
-      length-append (entry_bytes e)
-          (entries_bytes (entries_by (after t r) name (suc n) rest)),
+      length-append (sealed_entry e)
+          (sealed_entries (entries_by (after t r) name (suc n) rest)),
     )
 
 -- behind the last entry stands a front of another, and nothing is wrong with it
 no_fault : (tail : List ℕ) → IsCut tail → tail_fault tail ≡ None
 unfolding tail_fault
 no_fault tail h =
-    let whole = length (entry_bytes h.entry) in
+    let whole = length (sealed_entry h.entry) in
     let most : whole ≤ 4150 = entries_are_short h.entry h.notable in
     let cut = h.short in
     let long : length tail ≡ h.count =
-    ap length h.front ∙ length-take-le h.count (entry_bytes h.entry) (omega (arith, cut)) in
+    ap length h.front ∙ length-take-le h.count (sealed_entry h.entry) (omega (arith, cut)) in
     let closed : opened tail ≡ None =
     ap opened h.front ∙ opened-cut (content h.entry) h.count (content-length h.entry h.notable).1 h.short in
     let test : nat_lt 4150 (length tail) ≡ false = le-ltb 4150 (length tail) (omega (arith, most, cut, long)) in
@@ -216,12 +218,12 @@ told_behind h front es tail s is small cut used told =
     ∙ headers_read_back h (es ++ tail) small in
     let rest : drop s.used bytes ≡ tail = ap (λ (n : ℕ). drop n bytes) used ∙ drop_at (front ++ es) tail _ refl in
     ap (replayed_behind h.limit bytes) found
-    ∙ ap (λ (v : Bool). cond v (ended bytes (replayed_entries h.stood bytes)) (Err OtherLimit))
+    ∙ ap (λ (v : Bool). cond v (told_with_tail bytes (replayed_entries h.stood bytes)) (Err OtherLimit))
     (eq-eqb h.limit h.limit refl)
-    ∙ ap (ended bytes) told
-    ∙ ap (λ (o : Option Fault). unless o s) (ap tail_fault rest ∙ no_fault tail cut)
+    ∙ ap (told_with_tail bytes) told
+    ∙ ap (λ (o : Option JournalFault). unless o s) (ap tail_fault rest ∙ no_fault tail cut)
 
-entries_tell : (h : Header) (name : List ℕ) (log : Log) (tail : List ℕ) → IsWhole log → IsCut tail →
+entries_tell : (h : Header) (name : List ℕ) (log : Log) (tail : List ℕ) → AdmitsDone log → IsCut tail →
     replayed_entries h.stood (journal_of h name log ++ tail) ≡ Ok (story_of_log h name log)
 unfolding replayed_entries made
 entries_tell h name log tail whole cut =
@@ -232,12 +234,13 @@ entries_tell h name log tail whole cut =
     let front_long : length front ≡ header_len = length-header_bytes h in
     let parted : drop 0 s ≡ rest ++ drop log.done s = sym (take-append-drop log.done s) in
     let t = new_take stood in
-    let es = entries_bytes (entries_by t name 0 rest) in
+    let es = sealed_entries (entries_by t name 0 rest) in
     let same : entries_from stood s name 0 rest ≡ entries_by t name 0 rest =
     entries_same stood s name 0 rest (drop log.done s) parted in
     let enough : length rest ≤ length ((front ++ es) ++ tail) =
     omega (arith, many t name 0 rest whole.each, length-append (front ++ es) tail, length-append front es) in
-    ap (λ (x : List Entry). replayed (length ((front ++ entries_bytes x) ++ tail)) ((front ++ entries_bytes x) ++ tail)
+    ap (λ (x : List JournalEntry). replayed (length ((front ++ sealed_entries x) ++ tail))
+    ((front ++ sealed_entries x) ++ tail)
     (beginning stood)) same
     ∙ ap (λ (u : ℕ). replayed (length ((front ++ es) ++ tail)) ((front ++ es) ++ tail)
     (record { parts = parts t; table = []; used = u })) (sym front_long)
@@ -250,14 +253,14 @@ entries_tell h name log tail whole cut =
     ∙ ap (λ (x : List (List ℕ × Verdict)). Ok
     (record { parts = parts (fold step t rest); table = packed x; used = length (front ++ es) }))
     (sym (finished_same stood s name 0 rest (drop log.done s) parted))
-    ∙ ap (λ (x : List Entry). Ok (record {
+    ∙ ap (λ (x : List JournalEntry). Ok (record {
       parts = parts (fold step t rest);
       table = packed (finished_from stood s name 0 rest);
-      used = length (front ++ entries_bytes x);
+      used = length (front ++ sealed_entries x);
     })) (sym same)
 
 pub journals_tell_logs : JournalsTellLogs
 journals_tell_logs h name log tail small whole cut =
     told_behind h (header_bytes h)
-    (entries_bytes (entries_from h.stood log.admitted name 0 (take log.done log.admitted))) tail
+    (sealed_entries (entries_from h.stood log.admitted name 0 (take log.done log.admitted))) tail
     (story_of_log h name log) refl small cut refl (entries_tell h name log tail whole cut)

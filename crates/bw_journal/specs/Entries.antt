@@ -3,6 +3,7 @@ use Rattle.std.specs.Prelude.{ℕ, ◌+◌, ◌&&◌, Option, Some, None, option
 use Rattle.std.specs.Prelude.{Ok, Err, List, [], ◌∷◌, ◌++◌, length, take, drop, flat_map}
 use Rattle.std.specs.Prelude.{slice_index, nat_lt, ◌==◌, if◌then◌else◌}
 use Rattle.bw_model.specs.Bytes.{le32, u32_at, zeros, is_within}
+use Rattle.bw_model.specs.Limits.{longest_block}
 use Rattle.bw_model.specs.Take.{Request, Open, Block, Mark, SetField, Close, Verdict}
 use Rattle.bw_model.specs.Wire.{kind, payload, decoded_request}
 use Rattle.bw_model.specs.Replies.{verdict_code, verdict_of}
@@ -29,26 +30,26 @@ abbrev pub noted : Request → List ℕ
 noted r = kind r ∷ noted_payload r
 
 -- a done number: its request, its verdict, and the digest of its body
-pub record Entry : Type 0 where
+pub record JournalEntry : Type 0 where
   pub request : Request
   pub verdict : Verdict
   pub digest : List ℕ
 
 -- an entry's bytes between its length and its check
-unfoldable pub content : Entry → List ℕ
+unfoldable pub content : JournalEntry → List ℕ
 content e = verdict_code e.verdict ∷ e.digest ++ noted e.request
 
 -- an entry's bytes
-abbrev pub entry_bytes : Entry → List ℕ
-entry_bytes e = sealed (content e)
+abbrev pub sealed_entry : JournalEntry → List ℕ
+sealed_entry e = sealed (content e)
 
 -- an OPEN with the longest history takes so many bytes, and no other request takes more
 abbrev pub longest_entry : ℕ
 longest_entry = 4150
 
 -- the bytes of whole entries
-abbrev pub entries_bytes : List Entry → List ℕ
-entries_bytes es = flat_map entry_bytes es
+abbrev pub sealed_entries : List JournalEntry → List ℕ
+sealed_entries es = flat_map sealed_entry es
 
 -- the value, if it is one
 abbrev pub value_in : {X F : Type 0} → Result X F → Option X
@@ -58,7 +59,8 @@ value_in (Err f) = None
 -- a block of a length that a message may have
 abbrev pub block_noted : List ℕ → Option Request
 block_noted p =
-    if (length p == 4) && is_within 1 32768 (u32_at p 0) then Some (Block (zeros (u32_at p 0)))
+    if (length p == 4) && is_within 1 longest_block (u32_at p 0)
+    then Some (Block (zeros (u32_at p 0)))
     else None
 
 -- the request that is noted so, without samples
@@ -68,23 +70,23 @@ request_in (kind ∷ p) =
     if kind == 2 then block_noted p else value_in (decoded_request (kind ∷ p))
 
 -- the entry of a verdict and a request, if both are there
-abbrev pub made_of : Option Verdict → List ℕ → Option Request → Option Entry
+abbrev pub made_of : Option Verdict → List ℕ → Option Request → Option JournalEntry
 made_of None digest r = None
 made_of (Some v) digest None = None
 made_of (Some v) digest (Some r) = Some (record { request = r; verdict = v; digest = digest })
 
 -- the entry with these bytes between its length and its check
-unfoldable pub entry_in : List ℕ → Option Entry
+unfoldable pub entry_in : List ℕ → Option JournalEntry
 entry_in bytes =
     if nat_lt (length bytes) 34 then None
     else made_of (verdict_of (slice_index bytes 0)) (take 32 (drop 1 bytes))
     (request_in (drop 33 bytes))
 
 -- the entry, and how many bytes it takes
-abbrev pub entry_of : List ℕ → Option (Entry × ℕ)
-entry_of bytes = option_map (λ e. (e, 10 + length bytes)) (entry_in bytes)
+abbrev pub entry_with_len : List ℕ → Option (JournalEntry × ℕ)
+entry_with_len bytes = option_map (λ e. (e, 10 + length bytes)) (entry_in bytes)
 
 -- The entry at the front of these bytes, and how many it takes; none where the front is torn or
 -- isn't one.
-unfoldable pub first_entry : List ℕ → Option (Entry × ℕ)
-first_entry bytes = option_and_then entry_of (opened bytes)
+unfoldable pub first_entry : List ℕ → Option (JournalEntry × ℕ)
+first_entry bytes = option_and_then entry_with_len (opened bytes)

@@ -9,35 +9,35 @@ use Rattle.bw_model.specs.Replies.{verdict_code}
 use Rattle.bw_model.specs.Book.{Log, made, verdict_at}
 use Rattle.bw_model.specs.Holds.{body_of, finished_from}
 use Rattle.bw_journal.specs.JournalHeaders.{Header, header_bytes, header_len, first_header}
-use Rattle.bw_journal.specs.Entries.{Entry, bare, entry_bytes, entries_bytes, first_entry}
+use Rattle.bw_journal.specs.Entries.{JournalEntry, bare, sealed_entry, sealed_entries, first_entry}
 use Rattle.bw_journal.specs.Entries.{longest_entry}
 use Rattle.bw_journal.specs.Replays.{Story, NotBegun, replay}
 
 -- the entry of a done number
-abbrev pub entry_at : Bool → List (Option Request) → List ℕ → ℕ → Request → Entry
-entry_at stood s name n r =
+abbrev pub done_entry : Bool → List (Option Request) → List ℕ → ℕ → Request → JournalEntry
+done_entry stood s name n r =
     record { request = r; verdict = verdict_at stood s n; digest = sha256 (body_of name n r) }
 
 -- the entries of the numbers from n on
 abbrev pub entries_from : Bool → List (Option Request) → List ℕ → ℕ → List (Option Request) →
-    List Entry
+    List JournalEntry
 entries_from stood s name n [] = []
 entries_from stood s name n (None ∷ rest) = []
 entries_from stood s name n (Some r ∷ rest) =
-    entry_at stood s name n r ∷ entries_from stood s name (suc n) rest
+    done_entry stood s name n r ∷ entries_from stood s name (suc n) rest
 
 -- the journal of a name: its header, and an entry for each done number, in order
 abbrev pub journal_of : Header → List ℕ → Log → List ℕ
 journal_of h name log =
     header_bytes h
-    ++ entries_bytes (entries_from h.stood log.admitted name 0 (take log.done log.admitted))
+    ++ sealed_entries (entries_from h.stood log.admitted name 0 (take log.done log.admitted))
 
 -- what digests and verdicts are kept as: 33 bytes each
 abbrev pub packed : List (List ℕ × Verdict) → List ℕ
 packed rows = flat_map (λ row. row.0 ++ verdict_code row.1 ∷ []) rows
 
 -- the entry of a request that a message may carry
-abbrev pub IsNotable : Entry → Type 0
+abbrev pub IsNotable : JournalEntry → Type 0
 IsNotable e = IsTrue (is_request e.request) × (length e.digest ≡ 32)
 
 -- the limit has four bytes
@@ -45,22 +45,22 @@ abbrev pub IsHeader : Header → Type 0
 IsHeader h = h.limit < 2 ^ 32
 
 -- the entry without samples
-abbrev pub bare_entry : Entry → Entry
+abbrev pub bare_entry : JournalEntry → JournalEntry
 bare_entry e = record e { request = bare e.request }
 
 -- an entry is read again from its bytes, whatever follows
-abbrev pub EntriesReadBack : Type 0
-EntriesReadBack = (e : Entry) (more : List ℕ) → IsNotable e →
-    first_entry (entry_bytes e ++ more) ≡ Some (bare_entry e, length (entry_bytes e))
+abbrev pub JournalEntriesReadBack : Type 0
+JournalEntriesReadBack = (e : JournalEntry) (more : List ℕ) → IsNotable e →
+    first_entry (sealed_entry e ++ more) ≡ Some (bare_entry e, length (sealed_entry e))
 
 -- The other way round: where an entry is read from bytes, its own bytes stand at their front.
 abbrev pub ReadEntriesStand : Type 0
-ReadEntriesStand = (bytes : List ℕ) (e : Entry) (n : ℕ) → IsTrue (are_bytes bytes) →
-    first_entry bytes ≡ Some (e, n) → take n bytes ≡ entry_bytes e
+ReadEntriesStand = (bytes : List ℕ) (e : JournalEntry) (n : ℕ) → IsTrue (are_bytes bytes) →
+    first_entry bytes ≡ Some (e, n) → take n bytes ≡ sealed_entry e
 
 -- no entry is longer than the longest
 abbrev pub EntriesAreShort : Type 0
-EntriesAreShort = (e : Entry) → IsNotable e → length (entry_bytes e) ≤ longest_entry
+EntriesAreShort = (e : JournalEntry) → IsNotable e → length (sealed_entry e) ≤ longest_entry
 
 -- a header is read again from its bytes, whatever follows
 abbrev pub HeadersReadBack : Type 0
@@ -74,11 +74,11 @@ ReadHeadersStand = (bytes : List ℕ) (h : Header) → IsTrue (are_bytes bytes) 
 
 -- a front of an entry, which isn't all of it: what a stop leaves of the entry that was written
 pub record IsCut (tail : List ℕ) : Type 0 where
-  pub entry : Entry
+  pub entry : JournalEntry
   pub notable : IsNotable entry
   pub count : ℕ
-  pub short : count < length (entry_bytes entry)
-  pub front : tail ≡ take count (entry_bytes entry)
+  pub short : count < length (sealed_entry entry)
+  pub front : tail ≡ take count (sealed_entry entry)
 
 -- no entry is read from it
 abbrev pub CutEntriesAreNone : Type 0
@@ -95,7 +95,7 @@ fits None = false
 fits (Some r) = is_request r
 
 -- each done number of the log was admitted
-pub record IsWhole (log : Log) : Type 0 where
+pub record AdmitsDone (log : Log) : Type 0 where
   pub long : length (take log.done log.admitted) ≡ log.done
   pub each : IsTrue (list_all fits (take log.done log.admitted))
 
@@ -110,5 +110,5 @@ story_of_log h name log = record {
 -- A journal whose last entry may have been cut tells what the server kept of the done numbers.
 abbrev pub JournalsTellLogs : Type 0
 JournalsTellLogs = (h : Header) (name : List ℕ) (log : Log) (tail : List ℕ) →
-    IsHeader h → IsWhole log → IsCut tail →
+    IsHeader h → AdmitsDone log → IsCut tail →
     replay h.limit (journal_of h name log ++ tail) ≡ Ok (story_of_log h name log)

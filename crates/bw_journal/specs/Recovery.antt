@@ -10,7 +10,7 @@ use Rattle.bw_model.specs.Layout.{pad}
 use Rattle.bw_model.specs.Book.{Log, Book, log_of, made}
 use Rattle.bw_model.specs.BookRules.{IsBook}
 use Rattle.bw_model.specs.Holds.{Store, Kept, IsBetween, IsInTheMiddle, Holds, finished_from}
-use Rattle.bw_journal.specs.Noted.{IsWhole}
+use Rattle.bw_journal.specs.Noted.{AdmitsDone}
 use Rattle.bw_journal.specs.Stops.{cut_book}
 
 -- a take's file, or where a request that is to be stored waits, what is between its old and its new
@@ -58,7 +58,7 @@ pub record IsRepaired (limit : ℕ) (first contents : List ℕ → Option (List 
 abbrev pub RecoveryHolds : Type 0
 RecoveryHolds =
     (limit : ℕ) (first contents : List ℕ → Option (List ℕ)) (honest : Bool) (book : Book) →
-    IsBook book → ((name : List ℕ) → IsWhole (log_of book name)) →
+    IsBook book → ((name : List ℕ) → AdmitsDone (log_of book name)) →
     IsRepaired limit first contents book →
     Holds limit (record { contents = contents; first = first; honest = honest })
     (kept_after first contents book) (cut_book book)

@@ -2,15 +2,19 @@
 use Rattle.std.specs.Prelude.{ℕ, Option, Some, None}
 use Rattle.bw_take.specs.Requests.{meaning}
 use Rattle.bw_take.specs.Verdicts.{verdict_meaning}
-use Rattle.bw_journal.specs.Entries.{Entry}
+use Rattle.bw_journal.specs.Entries.{JournalEntry}
 use Rattle.bw_journal.specs.declared.entry.EntryRef.{EntryRef}
 
 -- the entry that is lent
-abbrev pub entry_said : EntryRef → Entry
+abbrev pub entry_said : EntryRef → JournalEntry
 entry_said e =
-    record { request = meaning e.request; verdict = verdict_meaning e.verdict; digest = e.digest.now }
+    record {
+      request = meaning e.request;
+      verdict = verdict_meaning e.verdict;
+      digest = e.digest.now;
+    }
 
 -- .. if one is, and how many bytes it takes
-abbrev pub entry_found : Option (EntryRef × ℕ) → Option (Entry × ℕ)
+abbrev pub entry_found : Option (EntryRef × ℕ) → Option (JournalEntry × ℕ)
 entry_found None = None
 entry_found (Some x) = Some (entry_said x.0, x.1)

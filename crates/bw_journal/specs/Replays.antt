@@ -7,7 +7,7 @@ use Rattle.bw_model.specs.Replies.{verdict_code}
 use Rattle.bw_take.specs.States.{parts_with}
 use Rattle.bw_journal.specs.Seals.{opened}
 use Rattle.bw_journal.specs.JournalHeaders.{Header, header_len, first_header, is_torn_header}
-use Rattle.bw_journal.specs.Entries.{Entry, first_entry, longest_entry}
+use Rattle.bw_journal.specs.Entries.{JournalEntry, first_entry, longest_entry}
 
 -- what is known behind some entries
 pub record Story : Type 0 where
@@ -19,22 +19,22 @@ pub record Story : Type 0 where
   pub used : ℕ
 
 -- Why a journal tells nothing.
-pub data Fault : Type 0 where
+pub data JournalFault : Type 0 where
   -- a beginning of a header is all that stands
-  NotBegun : Fault
+  NotBegun : JournalFault
   -- no header stands at the front
-  NotAJournal : Fault
+  NotAJournal : JournalFault
   -- the header has another limit than the server
-  OtherLimit : Fault
+  OtherLimit : JournalFault
   -- an entry has another verdict than the request's judgement
-  OtherVerdict : Fault
+  OtherVerdict : JournalFault
   -- bytes behind the last entry are whole, but no entry
-  NotAnEntry : Fault
+  NotAnEntry : JournalFault
   -- more bytes follow the last entry than an entry may have
-  LongTail : Fault
+  LongTail : JournalFault
 
 -- the number of a fault
-abbrev pub fault_code : Fault → ℕ
+abbrev pub fault_code : JournalFault → ℕ
 fault_code NotBegun = 1
 fault_code NotAJournal = 2
 fault_code OtherLimit = 3
@@ -51,49 +51,51 @@ abbrev pub parts_after : Parts → Verdict → Request → Parts
 parts_after p v r = if is_stored v then parts_with p r else p
 
 -- what is known behind one more entry, which takes so many bytes
-abbrev pub told : Story → Entry × ℕ → Story
-told s x = record {
+abbrev pub with_entry : Story → JournalEntry × ℕ → Story
+with_entry s x = record {
   parts = parts_after s.parts x.0.verdict x.0.request;
   table = s.table ++ (x.0.digest ++ verdict_code x.0.verdict ∷ []);
   used = s.used + x.1;
 }
 
 -- the entry's verdict is the judgement
-abbrev pub is_judged : Parts → Entry → Bool
+abbrev pub is_judged : Parts → JournalEntry → Bool
 is_judged p e = verdict_code (judge p e.request) == verdict_code e.verdict
 
 -- what at most so many further entries tell
-abbrev pub replayed : ℕ → List ℕ → Story → Result Story Fault
+abbrev pub replayed : ℕ → List ℕ → Story → Result Story JournalFault
 replayed zero bytes s = Ok s
 replayed (suc steps) bytes s = elim (first_entry (drop s.used bytes)) [
   | None ↦ Ok s
-  | Some x ↦ if is_judged s.parts x.0 then replayed steps bytes (told s x) else Err OtherVerdict
+  | Some x ↦ if is_judged s.parts x.0 then replayed steps bytes (with_entry s x)
+      else Err OtherVerdict
 ]
 
 -- what the entries behind a header tell, up to the first that is torn
-unfoldable pub replayed_entries : Bool → List ℕ → Result Story Fault
+unfoldable pub replayed_entries : Bool → List ℕ → Result Story JournalFault
 replayed_entries stood bytes = replayed (length bytes) bytes (beginning stood)
 
 -- what is wrong with the bytes behind the last entry, if they aren't a torn entry: the first that
 -- holds
-unfoldable pub tail_fault : List ℕ → Option Fault
+unfoldable pub tail_fault : List ℕ → Option JournalFault
 tail_fault tail = first_that_holds (
     (is_some (opened tail), NotAnEntry)
     ∷ (nat_lt longest_entry (length tail), LongTail)
     ∷ [])
 
 -- .. where this much is told
-abbrev pub ended : List ℕ → Result Story Fault → Result Story Fault
-ended bytes (Ok s) = unless (tail_fault (drop s.used bytes)) s
-ended bytes (Err f) = Err f
+abbrev pub told_with_tail : List ℕ → Result Story JournalFault → Result Story JournalFault
+told_with_tail bytes (Ok s) = unless (tail_fault (drop s.used bytes)) s
+told_with_tail bytes (Err f) = Err f
 
 -- what the bytes behind this header tell a server of this limit
-abbrev pub replayed_behind : ℕ → List ℕ → Option Header → Result Story Fault
+abbrev pub replayed_behind : ℕ → List ℕ → Option Header → Result Story JournalFault
 replayed_behind limit bytes None =
     if is_torn_header limit bytes then Err NotBegun else Err NotAJournal
 replayed_behind limit bytes (Some h) =
-    if h.limit == limit then ended bytes (replayed_entries h.stood bytes) else Err OtherLimit
+    if h.limit == limit then told_with_tail bytes (replayed_entries h.stood bytes)
+    else Err OtherLimit
 
 -- what a journal tells a server of this limit
-unfoldable pub replay : ℕ → List ℕ → Result Story Fault
+unfoldable pub replay : ℕ → List ℕ → Result Story JournalFault
 replay limit bytes = replayed_behind limit bytes (first_header bytes)

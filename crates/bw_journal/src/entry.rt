@@ -1,6 +1,7 @@
 //! Entries of a journal, as they are read.
 ghost use Rattle.std.specs.Prelude.{◌≡◌, ◌+◌, ◌≤◌, IsTrue, IfSome, option_map, length};
 ghost use Rattle.bw_model.specs.Bytes.{zeros as zero_bytes};
+ghost use Rattle.bw_model.specs.Limits.{longest_block};
 ghost use Rattle.bw_model.specs.Wire.{is_request};
 ghost use Rattle.bw_take.specs.Requests.{meaning};
 ghost use Rattle.bw_journal.specs.Entries.{block_noted, request_in, entry_in, first_entry as first_entry_in};
@@ -13,6 +14,9 @@ use bw_wire::decode_request;
 
 /// The kind byte of a block.
 pub(crate) const BLOCK: u8 = 2;
+
+/// A block has at most so many bytes of samples.
+pub(crate) const LONGEST_BLOCK: usize = 32_768;
 
 /// A done number as a journal tells it: a block has zeros in place of its samples.
 #[derive(Clone, Copy, Debug)]
@@ -30,7 +34,7 @@ pub struct EntryRef<'a> {
 /// None where the front is torn, or is no entry. `zeros` are lent to it in place of samples.
 #[tactic(auto, unfolding(crate::specs::Entries::first_entry))]
 pub fn first_entry<'a>(bytes: &'a [u8], zeros: &'a [u8]) -> Option<(EntryRef<'a>, usize)>
-    requires { zeros.now ≡ zero_bytes 32768 }
+    requires { zeros.now ≡ zero_bytes longest_block }
     ensures value { entry_found result ≡ first_entry_in bytes.now }
     ensures digest { IfSome result (λ x. length x.0.digest.now ≡ 32) }
     ensures fits { IfSome result (λ x. IsTrue (is_request (meaning x.0.request))) }
@@ -48,7 +52,7 @@ pub fn first_entry<'a>(bytes: &'a [u8], zeros: &'a [u8]) -> Option<(EntryRef<'a>
 /// The entry with this content.
 #[tactic(auto, unfolding(crate::specs::Entries::entry_in))]
 fn entry_of<'a>(content: &'a [u8], zeros: &'a [u8]) -> Option<EntryRef<'a>>
-    requires { zeros.now ≡ zero_bytes 32768 }
+    requires { zeros.now ≡ zero_bytes longest_block }
     ensures value { option_map entry_said result ≡ entry_in content.now }
     ensures digest { IfSome result (λ e. length e.digest.now ≡ 32) }
     ensures fits { IfSome result (λ e. IsTrue (is_request (meaning e.request))) }
@@ -71,7 +75,7 @@ fn entry_of<'a>(content: &'a [u8], zeros: &'a [u8]) -> Option<EntryRef<'a>>
 
 /// The request that is noted so.
 fn request_of<'a>(noted: &'a [u8], zeros: &'a [u8]) -> Option<RequestRef<'a>>
-    requires { zeros.now ≡ zero_bytes 32768 }
+    requires { zeros.now ≡ zero_bytes longest_block }
     ensures value { option_map meaning result ≡ request_in noted.now }
     ensures fits { IfSome result (λ r. IsTrue (is_request (meaning r))) }
 {
@@ -89,7 +93,7 @@ fn request_of<'a>(noted: &'a [u8], zeros: &'a [u8]) -> Option<RequestRef<'a>>
 
 /// The block of a length that is noted, with zeros as its samples.
 fn block_of<'a>(payload: &[u8], zeros: &'a [u8]) -> Option<RequestRef<'a>>
-    requires { zeros.now ≡ zero_bytes 32768 }
+    requires { zeros.now ≡ zero_bytes longest_block }
     ensures value { option_map meaning result ≡ block_noted payload.now }
     ensures fits { IfSome result (λ r. IsTrue (is_request (meaning r))) }
 {
@@ -97,7 +101,7 @@ fn block_of<'a>(payload: &[u8], zeros: &'a [u8]) -> Option<RequestRef<'a>>
         return None;
     }
     let len = read_u32(payload, 0) as usize;
-    if len == 0 || len > 32_768 {
+    if len == 0 || len > LONGEST_BLOCK {
         return None;
     }
     Some(RequestRef::Block {

@@ -1,6 +1,6 @@
 //! Why a journal tells nothing.
 ghost use Rattle.std.specs.Prelude.{◌≡◌, ◌≤◌, None};
-ghost use Rattle.bw_journal.specs.Faults.{code_of};
+ghost use Rattle.bw_journal.specs.Faults.{replay_code};
 
 use std::alloc::{AllocError, AllocFailed};
 use thiserror::Error;
@@ -34,7 +34,7 @@ pub enum ReplayFault {
 impl ReplayFault {
     /// Its number.
     pub fn code(self) -> u8
-        ensures value { result ≡ code_of self }
+        ensures value { result ≡ replay_code self }
         ensures range { result ≤ 7 }
     {
         self as u8

@@ -1,6 +1,6 @@
 //! What a journal begins with.
 ghost use Rattle.std.specs.Prelude.{◌≡◌, ◌≤◌, IfSome, length, option_map};
-ghost use Rattle.bw_journal.specs.JournalHeaders.{header_bytes, header_in, first_header as first_header_in, is_torn_header as is_torn_header_of, is_torn as is_torn_of};
+ghost use Rattle.bw_journal.specs.JournalHeaders.{header_bytes, header_len, header_in, first_header as first_header_in, is_torn_header as is_torn_header_of, is_torn as is_torn_of};
 ghost use Rattle.bw_journal.specs.HeaderRefs.{header_said, header_found};
 
 use crate::seal::{check, opened};
@@ -42,7 +42,7 @@ impl JournalHeader {
 #[tactic(auto, unfolding(crate::specs::JournalHeaders::first_header))]
 pub(crate) fn first_header(bytes: &[u8]) -> Option<(u32, bool)>
     ensures value { option_map header_found result ≡ first_header_in bytes.now }
-    ensures long { IfSome result (λ _. 19 ≤ length bytes.now) }
+    ensures long { IfSome result (λ _. header_len ≤ length bytes.now) }
 {
     let Some(content) = opened(bytes) else {
         return None;

@@ -1,12 +1,12 @@
 //! Laws of journals. Each function's contract is one; nothing runs.
-ghost use Rattle.bw_journal.specs.Noted.{EntriesReadBack, ReadEntriesStand, CutEntriesAreNone, EntriesAreShort, HeadersReadBack, ReadHeadersStand, CutHeadersAreNotBegun, JournalsTellLogs};
+ghost use Rattle.bw_journal.specs.Noted.{JournalEntriesReadBack, ReadEntriesStand, CutEntriesAreNone, EntriesAreShort, HeadersReadBack, ReadHeadersStand, CutHeadersAreNotBegun, JournalsTellLogs};
 ghost use Rattle.bw_journal.specs.Stops.{BooksAreCut, CutBooksAreBooks, EachWorldGoesOn};
 ghost use Rattle.bw_journal.specs.Recovery.{HeldFilesSurvive, FilesAreRepaired, RecoveryHolds, ClosedFilesAreWhole, NewFilesAreBetween};
 
 /// An entry is read again from its bytes, whatever follows; where one is read, its bytes stand; and
 /// none is read from a front of one.
 pub fn law_entries()
-    ensures back { EntriesReadBack }
+    ensures back { JournalEntriesReadBack }
     ensures stand { ReadEntriesStand }
     ensures cut { CutEntriesAreNone }
     ensures short { EntriesAreShort }

@@ -1,17 +1,19 @@
 //! What a journal tells of a take and of its verdicts.
 ghost use Rattle.std.specs.Prelude.{◌≡◌, ◌+◌, ◌^◌, ◌≤◌, ◌++◌, ◌∷◌, [], None, Ok, IsTrue, IsNone, IfSome, IfOk, OnOk, IfErr, length, false};
 ghost use Rattle.bw_model.specs.Bytes.{zeros as zero_bytes};
+ghost use Rattle.bw_model.specs.Limits.{longest_block, largest};
 ghost use Rattle.bw_model.specs.Take.{new_take, parts as parts_of_take};
 ghost use Rattle.bw_model.specs.Replies.{verdict_code};
 ghost use Rattle.bw_model.specs.Wire.{is_request};
 ghost use Rattle.bw_take.specs.Requests.{meaning};
 ghost use Rattle.bw_take.specs.Verdicts.{verdict_meaning};
-ghost use Rattle.bw_journal.specs.Replays.{OtherVerdict as other_verdict, replay as replay_of, replayed_entries, tail_fault as tail_fault_of, is_judged, parts_after, Fault};
+ghost use Rattle.bw_journal.specs.JournalHeaders.{header_len};
+ghost use Rattle.bw_journal.specs.Replays.{OtherVerdict as other_verdict, replay as replay_of, replayed_entries, tail_fault as tail_fault_of, is_judged, parts_after, JournalFault};
 ghost use Rattle.bw_journal.specs.Refs.{entry_said};
 ghost use Rattle.bw_journal.specs.Stories.{story_of};
-ghost use Rattle.bw_journal.specs.Faults.{IsFault, fault_of};
+ghost use Rattle.bw_journal.specs.Faults.{IsJournalFault, fault_meaning};
 
-use crate::entry::{EntryRef, first_entry};
+use crate::entry::{EntryRef, LONGEST_BLOCK, first_entry};
 use crate::fault::ReplayFault;
 use crate::header::{JournalHeader, first_header, is_torn_header};
 use crate::seal::opened;
@@ -46,7 +48,7 @@ pub fn replay(alloc: Global, limit: Limit, bytes: &[u8]) -> Result<Replayed, Rep
     requires { length bytes.now ≤ 2 ^ 40 }
     ensures ok { IfOk result (λ r. replay_of limit bytes.now ≡ Ok (story_of r)) }
     ensures torn { IfOk result (λ r. r.used + r.torn ≡ length bytes.now) }
-    ensures err { IfErr result (λ e. IsFault e (replay_of limit bytes.now)) }
+    ensures err { IfErr result (λ e. IsJournalFault e (replay_of limit bytes.now)) }
 {
     let Some((found, stood)) = first_header(bytes) else {
         return Err(if is_torn_header(limit, bytes) {
@@ -69,7 +71,7 @@ pub fn replay(alloc: Global, limit: Limit, bytes: &[u8]) -> Result<Replayed, Rep
 #[tactic(auto, unfolding(crate::specs::Replays::tail_fault))]
 fn tail_fault(tail: &[u8]) -> Option<ReplayFault>
     ensures none { IsNone result → tail_fault_of tail.now ≡ None }
-    ensures some { IfSome result (λ e. fault_of e ≡ tail_fault_of tail.now) }
+    ensures some { IfSome result (λ e. fault_meaning e ≡ tail_fault_of tail.now) }
 {
     if opened(tail).is_some() {
         Some(ReplayFault::NotAnEntry)
@@ -82,11 +84,11 @@ fn tail_fault(tail: &[u8]) -> Option<ReplayFault>
 
 /// What the entries behind a header tell, up to the first that is torn.
 fn replay_entries(alloc: Global, stood: bool, bytes: &[u8]) -> Result<Replayed, ReplayFault>
-    requires header { 19 ≤ length bytes.now }
+    requires header { header_len ≤ length bytes.now }
     requires few { length bytes.now ≤ 2 ^ 40 }
     ensures ok { IfOk result (λ r. replayed_entries stood bytes.now ≡ Ok (story_of r)) }
     ensures torn { IfOk result (λ r. r.used + r.torn ≡ length bytes.now) }
-    ensures err { IfErr result (λ e. IsFault e (replayed_entries stood bytes.now)) }
+    ensures err { IfErr result (λ e. IsJournalFault e (replayed_entries stood bytes.now)) }
 {
     let zeros = make_zeros(alloc)?;
     let mut state = unopened(alloc, stood);
@@ -118,9 +120,9 @@ fn replay_entries(alloc: Global, stood: bool, bytes: &[u8]) -> Result<Replayed, 
 
 /// As many zeros as a block has bytes at most.
 fn make_zeros(alloc: Global) -> Result<Vec<u8>, AllocError>
-    ensures { IfOk result (λ v. v.items ≡ zero_bytes 32768) }
+    ensures { IfOk result (λ v. v.items ≡ zero_bytes longest_block) }
 {
-    let zeros = vec![in alloc; 0u8; 32_768]?;
+    let zeros = vec![in alloc; 0u8; LONGEST_BLOCK]?;
     Ok(zeros)
 }
 
@@ -142,15 +144,15 @@ fn apply(
     entry: &EntryRef<'_>,
 ) -> Result<(), ReplayFault>
     requires fits { IsTrue (is_request (meaning entry.now.request)) }
-    requires samples { state.old.parts.samples_len + 32768 ≤ 2 ^ 62 }
+    requires samples { state.old.parts.samples_len + longest_block ≤ largest }
     ensures judged { OnOk result (IsTrue (is_judged state.old.parts (entry_said entry.now))) }
     ensures parts { OnOk result (state.new.parts ≡ parts_after state.old.parts
         (verdict_meaning entry.now.verdict) (meaning entry.now.request)) }
     ensures table { OnOk result (table.new.items ≡ table.old.items
         ++ (entry.now.digest.now ++ verdict_code (verdict_meaning entry.now.verdict) ∷ [])) }
     ensures samples { OnOk result
-        (state.new.parts.samples_len ≤ state.old.parts.samples_len + 32768) }
-    ensures err { IfErr result (λ e. (f : Fault) → fault_of e ≡ Some f →
+        (state.new.parts.samples_len ≤ state.old.parts.samples_len + longest_block) }
+    ensures err { IfErr result (λ e. (f : JournalFault) → fault_meaning e ≡ Some f →
         (f ≡ other_verdict) × (is_judged state.old.parts (entry_said entry.now) ≡ false)) }
 {
     if judge(state, &entry.request).code() != entry.verdict.code() {

@@ -238,6 +238,34 @@ fn what_is_no_journal_of_this_server_is_refused(rt: HostRuntime) -> Result<(), F
     Ok(())
 }
 
+/// Run once more with each growth refused, by `tools/refuse_growths`.
+#[test]
+fn a_refused_growth_is_told_and_changes_nothing(rt: HostRuntime) -> Result<(), Fail> {
+    let alloc = rt.alloc();
+    let mut found = told(replay(alloc, Limit::default(), &JOURNAL));
+    if found == Err(ReplayFault::Memory.code()) {
+        found = told(replay(alloc, Limit::default(), &JOURNAL));
+    }
+    assert!(&rt; found == Ok((325, 0, 198)), "another story");
+    let mut out = Vec::new(alloc);
+    let mark = RequestRef::Mark { id: 7, frame: 2 };
+    let body = b"\x03\x02a1\x03\0\0\0\x07\0\0\0\x02\0\0\0";
+    for entries in 0..4usize {
+        if note(alloc, &mut out, body, Verdict::Stored, &mark).is_err() {
+            assert!(&rt; out.len() == 52 * entries, "a part of a refused entry");
+            note(alloc, &mut out, body, Verdict::Stored, &mark)?;
+        }
+    }
+    assert!(&rt; out.len() == 208, "another length");
+    for entry in 0..4usize {
+        assert!(&rt;
+            &out[52 * entry..52 * entry + 52] == &JOURNAL[174..226],
+            "other bytes"
+        );
+    }
+    Ok(())
+}
+
 #[test]
 fn journals_begin_and_grow_behind_faults(rt: HostRuntime) -> Result<(), Fail> {
     let alloc = rt.alloc();

@@ -1,10 +1,11 @@
 //! Writing an entry.
 ghost use Rattle.std.specs.Prelude.{◌≡◌, ◌+◌, ◌≤◌, IsTrue, length, take, vec_len, vec_capacity};
+ghost use Rattle.bw_model.specs.Limits.{longest_history};
 ghost use Rattle.bw_model.specs.Wire.{is_request, kind as kind_of};
 ghost use Rattle.bw_layout.specs.Appending.{Appends, Gains};
 ghost use Rattle.bw_take.specs.Requests.{meaning};
 ghost use Rattle.bw_take.specs.Verdicts.{verdict_meaning};
-ghost use Rattle.bw_journal.specs.Entries.{Entry, noted as noted_of, noted_payload, content as content_of, entry_bytes, longest_entry};
+ghost use Rattle.bw_journal.specs.Entries.{JournalEntry, noted as noted_of, noted_payload, content as content_of, sealed_entry, longest_entry};
 
 use crate::entry::BLOCK;
 use crate::seal::{check, push};
@@ -24,18 +25,18 @@ pub fn put_entry(
     request: &RequestRef<'_>,
 ) -> Result<(), AllocError>
     requires { IsTrue (is_request (meaning request.now)) }
-    ensures entry { let e : Entry = record {
+    ensures entry { let e : JournalEntry = record {
       request = meaning request.now;
       verdict = verdict_meaning verdict;
       digest = digest.now;
     } in
-        Appends (entry_bytes e) (length (entry_bytes e)) result out.old out.new }
-    ensures short { let e : Entry = record {
+        Appends (sealed_entry e) (length (sealed_entry e)) result out.old out.new }
+    ensures short { let e : JournalEntry = record {
       request = meaning request.now;
       verdict = verdict_meaning verdict;
       digest = digest.now;
     } in
-        length (entry_bytes e) ≤ longest_entry }
+        length (sealed_entry e) ≤ longest_entry }
 {
     let len = 33 + noted_len(request);
     out.reserve(10 + len)?;
@@ -53,7 +54,7 @@ fn push_content(out: &mut Vec<u8>, verdict: Verdict, digest: &[u8; 32], request:
     requires fits { IsTrue (is_request (meaning request.now)) }
     requires room { vec_len out.old + 33 + length (noted_of (meaning request.now))
         ≤ vec_capacity out.old }
-    ensures { let e : Entry = record {
+    ensures { let e : JournalEntry = record {
       request = meaning request.now;
       verdict = verdict_meaning verdict;
       digest = digest.now;
@@ -70,7 +71,7 @@ fn push_content(out: &mut Vec<u8>, verdict: Verdict, digest: &[u8; 32], request:
 fn noted_len(request: &RequestRef<'_>) -> usize
     requires { IsTrue (is_request (meaning request.now)) }
     ensures value { result ≡ length (noted_of (meaning request.now)) }
-    ensures range { result ≤ 4107 }
+    ensures range { result ≤ 11 + longest_history }
 {
     match request {
         RequestRef::OpenTake { history, .. } => 11 + history.len(),

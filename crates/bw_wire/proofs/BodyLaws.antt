@@ -28,12 +28,12 @@ pub record IsMessageBody (b : List ℕ) : Type 0 where
   pub read : decoded Second b ≡ Ok (Says (message_in b))
 
 read_parts : (k : ℕ) (rest : List ℕ) (f : Frame) → decoded Second (k ∷ rest) ≡ Ok f → f ≢ Bye →
-  Passes Second k rest × (frame_in k rest ≡ f)
+    Passes Second k rest × (frame_in k rest ≡ f)
 unfolding decoded
 read_parts k rest f e other = go (k == 9) e
   where
     go : (nine : Bool) → cond nine (cond (length rest == 0) (Ok Bye) (Err Payload))
-      (unless (first_that_holds (body_faults Second k rest)) (frame_in k rest)) ≡ Ok f
+        (unless (first_that_holds (body_faults Second k rest)) (frame_in k rest)) ≡ Ok f
         → Passes Second k rest × (frame_in k rest ≡ f)
     go true e = absurd (bye (length rest == 0) e)
       where
@@ -49,7 +49,7 @@ unfolding body_number
 addressed_from k rest p =
     let name = or_parts (nat_lt (length rest) (1 + slice_index rest 0)) (not (is_name (name_in rest))) p.name_good in
     let number = or_parts (nat_lt (length (behind_name rest)) 4)
-        (nat_lt (last_number Second) (number_in rest)) p.number_good in
+    (nat_lt (last_number Second) (number_in rest)) p.number_good in
     record {
       some = omega arith;
       address = record { named = ltb-false _ _ name.0; numbered = ltb-false _ _ number.0 };
@@ -58,7 +58,7 @@ addressed_from k rest p =
     }
 
 message_from : (k : ℕ) (rest : List ℕ) (m : Message) → decoded Second (k ∷ rest) ≡ Ok (Says m) →
-  IsMessageBody (k ∷ rest)
+    IsMessageBody (k ∷ rest)
 unfolding body_name body_number body_request
 message_from k rest m e =
     let parts = read_parts k rest (Says m) e (λ same. cc) in
@@ -66,14 +66,18 @@ message_from k rest m e =
     let six = not_ask (k == 6) refl parts.1 in
     let low : k ≤ 6 = leb-true _ _ within.1 in
     let request : k ≡ 6 → ⊥ = eqb-false k 6 six.0 in
-    record { addressed = addressed_from k rest parts.0; kind = omega arith; payload = parts.0.payload_good;
-      read = e ∙ ap Ok (sym six.1) }
+    record {
+      addressed = addressed_from k rest parts.0;
+      kind = omega arith;
+      payload = parts.0.payload_good;
+      read = e ∙ ap Ok (sym six.1);
+    }
   where
     spoken : Frame
     spoken = Says (record { name = name_in rest; number = number_in rest; request = request_of k (payload_in rest) })
 
     not_ask : (six : Bool) → (k == 6) ≡ six → cond six (Asks (name_in rest) (number_in rest)) spoken ≡ Says m →
-      ((k == 6) ≡ false) × (spoken ≡ Says m)
+        ((k == 6) ≡ false) × (spoken ≡ Says m)
     not_ask true six e = absurd cc
     not_ask false six e = (six, e)
 
@@ -101,7 +105,7 @@ message_body b h = message_stands b (and_parts (are_bytes b) (is_message_read (d
 
 pub message_spelled : (b : List ℕ) → IsTrue (is_message_body b) → Spells Second b (Says (message_in b))
 message_spelled b h = read_is_spelled Second b (Says (message_in b))
-  (and_parts (are_bytes b) (is_message_read (decoded Second b)) h).0 (message_body b h).read
+    (and_parts (are_bytes b) (is_message_read (decoded Second b)) h).0 (message_body b h).read
 
 pub message_length : (b : List ℕ) → IsTrue (is_message_body b) → length b ≤ longest_body
 message_length b h =
@@ -111,10 +115,10 @@ message_length b h =
 pub message_request : (b : List ℕ) → IsTrue (is_message_body b) → is_request (body_request b) ≡ true
 message_request b h =
     (and_parts (is_name (body_name b) && nat_le (body_number b) (last_number Second)) (is_request (body_request b))
-      (message_spelled b h).fits).1
+    (message_spelled b h).fits).1
 
 ask_found : (read : Result Frame Reason) → is_ask_read read ≡ true →
-  (name : List ℕ) × (number : ℕ) × (read ≡ Ok (Asks name number))
+    (name : List ℕ) × (number : ℕ) × (read ≡ Ok (Asks name number))
 ask_found (Ok (Says m)) h = absurd cc
 ask_found (Ok (Asks name number)) h = (name, number, refl)
 ask_found (Ok Bye) h = absurd cc
@@ -125,16 +129,16 @@ pub record IsAskBody (b : List ℕ) : Type 0 where
   pub read : decoded Second b ≡ Ok (Asks (body_name b) (body_number b))
 
 ask_from : (k : ℕ) (rest name : List ℕ) (number : ℕ) → decoded Second (k ∷ rest) ≡ Ok (Asks name number) →
-  IsAskBody (k ∷ rest)
+    IsAskBody (k ∷ rest)
 unfolding body_name body_number
 ask_from k rest name number e =
     let parts = read_parts k rest (Asks name number) e (λ same. cc) in
     record { addressed = addressed_from k rest parts.0; read = e ∙ ap Ok (sym (is_ask (k == 6) parts.1)) }
   where
     is_ask : (six : Bool) →
-      cond six (Asks (name_in rest) (number_in rest))
-      (Says (record { name = name_in rest; number = number_in rest; request = request_of k (payload_in rest) }))
-      ≡ Asks name number
+        cond six (Asks (name_in rest) (number_in rest))
+        (Says (record { name = name_in rest; number = number_in rest; request = request_of k (payload_in rest) }))
+        ≡ Asks name number
         → Asks (name_in rest) (number_in rest) ≡ Asks name number
     is_ask true e = e
     is_ask false e = absurd cc

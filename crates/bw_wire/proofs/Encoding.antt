@@ -11,36 +11,36 @@ use Rattle.bw_wire.specs.Encoded.{IsFrameOf, said}
 
 -- a body's length, its address and its payload are its frame
 pub framed-parts : (k : ℕ) (name : List ℕ) (number : ℕ) (p : List ℕ) →
-  le32 (6 + length name + length p) ++ addressed k name number ++ p ≡ framed (addressed k name number ++ p)
+    le32 (6 + length name + length p) ++ addressed k name number ++ p ≡ framed (addressed k name number ++ p)
 framed-parts k name number p =
     ap (λ (n : ℕ). le32 n ++ (addressed k name number ++ p))
     (omega (arith, length-append name (le32 number), length-append (name ++ le32 number) p))
 
 pub message_frame : (name : List ℕ) (number : ℕ) (request : Request) → IsTrue (is_name name) →
-  number ≤ last_number Second → IsTrue (is_request request)
+    number ≤ last_number Second → IsTrue (is_request request)
     → IsFrameOf (said name number request)
-      (le32 (6 + length name + length (payload request)) ++ addressed (kind request) name number ++ payload request)
+    (le32 (6 + length name + length (payload request)) ++ addressed (kind request) name number ++ payload request)
 message_frame name number request named small fits = record {
   fits = and_from (is_name name && nat_le number (last_number Second)) (is_request request)
-    (and_from (is_name name) (nat_le number (last_number Second)) named (le-leb _ _ small)) fits;
+      (and_from (is_name name) (nat_le number (last_number Second)) named (le-leb _ _ small)) fits;
   spelled = framed-parts (kind request) name number (payload request);
 }
 
 pub ask_frame : (name : List ℕ) (number : ℕ) → IsTrue (is_name name) → number ≤ last_number Second →
-  IsFrameOf (Asks name number) (le32 (6 + length name + 0) ++ addressed 6 name number)
+    IsFrameOf (Asks name number) (le32 (6 + length name + 0) ++ addressed 6 name number)
 ask_frame name number named small = record {
   fits = and_from (is_name name) (nat_le number (last_number Second)) named (le-leb _ _ small);
   spelled = ap (λ (n : ℕ). le32 n ++ addressed 6 name number) (omega (arith, length-append name (le32 number)));
 }
 
 pub addressed_fits : (name : List ℕ) (number : ℕ) → IsTrue (is_name name) → number ≤ last_number Second →
-  is_addressed name number ≡ true
+    is_addressed name number ≡ true
 addressed_fits name number named small =
-  and_from (is_name name) (nat_le number (last_number Second)) named (le-leb _ _ small)
+    and_from (is_name name) (nat_le number (last_number Second)) named (le-leb _ _ small)
 
 pub noticed_fits : (name : List ℕ) (number next : ℕ) → IsTrue (is_name name) →
-  (number ≤ last_number Second) × (next ≤ last_number Second + 1)
+    (number ≤ last_number Second) × (next ≤ last_number Second + 1)
     → (is_addressed name number && nat_le next (last_number Second + 1)) ≡ true
 noticed_fits name number next named small =
     and_from (is_addressed name number) (nat_le next (last_number Second + 1))
-      (addressed_fits name number named small.0) (le-leb _ _ small.1)
+    (addressed_fits name number named small.0) (le-leb _ _ small.1)

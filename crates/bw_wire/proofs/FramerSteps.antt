@@ -1,19 +1,19 @@
 -- A framer's parts after each front of its bytes.
 use Rattle.std.proofs.Common.{◌≡◌, ◌≢◌, ℕ, ◌+◌, ◌-◌, ◌≤◌, Bool, true, false, List, length, take, drop, sym, ap, subst}
-use Rattle.std.proofs.Common.{◌∙◌, arith}
-use Rattle.std.proofs.Common.{Some, Ok, Err}
+use Rattle.std.proofs.Common.{◌∙◌, arith, Option, Some, None, Ok, Err}
 use Rattle.std.proofs.lemmas.Bool.Decides.{nat_tests}
 use Rattle.std.proofs.lemmas.List.{drop-drop, length-drop}
 use Rattle.bw_model.specs.Wire.{Cut}
-use Rattle.bw_wire.specs.declared.framer.Phase.{Phase}
-use Rattle.bw_wire.specs.declared.framer.Phase.TheVariants as phases
+use Rattle.bw_wire.specs.declared.intake.Intake.{Intake}
+use Rattle.bw_wire.specs.declared.intake.Phase.{Phase}
+use Rattle.bw_wire.specs.declared.intake.Phase.TheVariants as phases
 use Rattle.bw_wire.specs.declared.reason.Reason.{Reason as Cause}
 use Rattle.bw_wire.specs.Codecs.{Codec}
 use Rattle.bw_wire.specs.Framings.{body_at_front}
 use Rattle.bw_wire.specs.Held.{Held, largest_kept, room_kept, nothing_held, without_front}
+use Rattle.bw_wire.specs.Intakes.{phase_of, pending_in, LetsGo, IsIntake}
 use Rattle.bw_wire.specs.Pending.{Pending, Left, Failed, Told, Nothing, Gives, Fails, took, compacted, emptied, next_of}
 use Rattle.bw_wire.specs.Pending.{told_again, HoldsLittle}
-use Rattle.bw_wire.specs.Phases.{phase_of, pending_of, LetsGo, IsFramer}
 use Rattle.bw_wire.specs.Reasons.{reason_meaning}
 use Rattle.bw_wire.proofs.FramerLaws.{next_of-left, next_of-failed, next_of-partial, next_of-bad, next_of-value}
 use Rattle.bw_wire.proofs.FramerLaws.{next_of-last}
@@ -41,103 +41,104 @@ steps {X} codec p q t e h = record {
   held = subst (HoldsLittle codec) (sym e) h;
 }
 
-pub left_steps : {X : Type 0} (codec : Codec X) (held : Held) (start used fed : ℕ) (phase : Phase) (x : X) →
-    codec.last ≡ Some x → phase ≡ phases.Left → IsFramer held start used fed phase
-    → Steps X codec (pending_of held start used fed phase) (pending_of held start used fed phase) (Gives x)
-left_steps {X} codec held start used fed phase x last e h =
-    let p = pending_of held start used fed phase in
-    let gone : held ≡ nothing_held = subst (λ (h : Phase). LetsGo h held) e h.let_go in
-    steps codec p p (Gives x)
-    (next_of-left codec p (ap phase_of e) ∙ ap (λ o. (told_again {X = X} o, p)) last)
-    (λ _. nothing_kept codec.most_left held gone)
+pub left_steps : {X : Type 0} (codec : Codec X) (i : Intake) (last : Option X) → codec.last ≡ last →
+    i.phase ≡ phases.Left → IsIntake i → Steps X codec (pending_in i) (pending_in i) (told_again last)
+left_steps {X} codec i last same e h =
+    let p = pending_in i in
+    let gone : i.buffer ≡ nothing_held = subst (λ (h : Phase). LetsGo h i.buffer) e h.let_go in
+    steps codec p p (told_again last)
+    (next_of-left codec p (ap phase_of e) ∙ ap (λ o. (told_again {X = X} o, p)) same) (little last gone)
+  where
+    little : (last : Option X) → i.buffer ≡ nothing_held → HoldsLittle codec (told_again last, pending_in i)
+    little None gone = nothing_kept codec.most_left i.buffer gone
+    little (Some x) gone = λ _. nothing_kept codec.most_left i.buffer gone
 
-pub failed_steps : {X : Type 0} (codec : Codec X) (held : Held) (start used fed : ℕ) (phase : Phase) (cause : Cause) →
-    phase ≡ phases.Failed cause → IsFramer held start used fed phase
-    → Steps X codec (pending_of held start used fed phase) (pending_of held start used fed phase)
-    (Fails (reason_meaning cause) used)
-failed_steps codec held start used fed phase cause e h =
-    let p = pending_of held start used fed phase in
-    let gone : held ≡ nothing_held = subst (λ (x : Phase). LetsGo x held) e h.let_go in
-    steps codec p p (Fails (reason_meaning cause) used) (next_of-failed codec p (reason_meaning cause) (ap phase_of e))
-    (nothing_kept codec.most_left held gone)
+pub failed_steps : {X : Type 0} (codec : Codec X) (i : Intake) (cause : Cause) → i.phase ≡ phases.Failed cause →
+    IsIntake i → Steps X codec (pending_in i) (pending_in i) (Fails (reason_meaning cause) i.used)
+failed_steps codec i cause e h =
+    let p = pending_in i in
+    let gone : i.buffer ≡ nothing_held = subst (λ (x : Phase). LetsGo x i.buffer) e h.let_go in
+    steps codec p p (Fails (reason_meaning cause) i.used)
+    (next_of-failed codec p (reason_meaning cause) (ap phase_of e))
+    (nothing_kept codec.most_left i.buffer gone)
 
-pub partial_steps : {X : Type 0} (codec : Codec X) (held later : Held) (start used fed : ℕ) (phase : Phase) →
-    phase ≡ phases.Reading → later ≡ without_front held start
-    → (codec.first (drop start held.bytes) ≡ Err Cut) × (length (drop start held.bytes) ≤ codec.most_left)
-    → Steps X codec (pending_of held start used fed phase) (pending_of later 0 used fed phase) Nothing
-partial_steps {X} codec held later start used fed phase e kept front =
-    let p = pending_of held start used fed phase in
-    subst (λ (x : Held). Steps X codec p (pending_of x 0 used fed phase) Nothing) (sym kept)
+pub partial_steps : {X : Type 0} (codec : Codec X) (i later : Intake) → i.phase ≡ phases.Reading →
+    later ≡ record i { buffer = without_front i.buffer i.start; start = 0 } →
+    (codec.first (drop i.start i.buffer.bytes) ≡ Err Cut) × (length (drop i.start i.buffer.bytes) ≤ codec.most_left)
+    → Steps X codec (pending_in i) (pending_in later) Nothing
+partial_steps {X} codec i later e kept front =
+    let p = pending_in i in
+    subst (λ (x : Intake). Steps X codec p (pending_in x) Nothing) (sym kept)
     (steps codec p (compacted p) Nothing (next_of-partial codec p (ap phase_of e) front.0)
-    (front.1, room_kept-bound held.room))
+    (front.1, room_kept-bound i.buffer.room))
 
-pub bad_steps : {X : Type 0} (codec : Codec X) (held later : Held) (start used fed : ℕ) (phase : Phase)
-    (cause : Cause) →
-    phase ≡ phases.Reading → later ≡ nothing_held
-    → (codec.first (drop start held.bytes) ≡ Err (reason_meaning cause)) × (reason_meaning cause ≢ Cut)
-    → Steps X codec (pending_of held start used fed phase) (pending_of later 0 used fed (phases.Failed cause))
-    (Fails (reason_meaning cause) used)
-bad_steps {X} codec held later start used fed phase cause e gone front =
-    let p = pending_of held start used fed phase in
-    subst (λ (x : Held). Steps X codec p (pending_of x 0 used fed (phases.Failed cause))
-      (Fails (reason_meaning cause) used))
-    (sym gone)
-    (steps codec p (emptied p used (Failed (reason_meaning cause))) (Fails (reason_meaning cause) used)
+pub bad_steps : {X : Type 0} (codec : Codec X) (i later : Intake) (cause : Cause) → i.phase ≡ phases.Reading →
+    later ≡ record i { buffer = nothing_held; start = 0; phase = phases.Failed cause } →
+    (codec.first (drop i.start i.buffer.bytes) ≡ Err (reason_meaning cause)) × (reason_meaning cause ≢ Cut)
+    → Steps X codec (pending_in i) (pending_in later) (Fails (reason_meaning cause) i.used)
+bad_steps {X} codec i later cause e gone front =
+    let p = pending_in i in
+    subst (λ (x : Intake). Steps X codec p (pending_in x) (Fails (reason_meaning cause) i.used)) (sym gone)
+    (steps codec p (emptied p i.used (Failed (reason_meaning cause))) (Fails (reason_meaning cause) i.used)
     (next_of-bad codec p (reason_meaning cause) (ap phase_of e) front.0 front.1) (omega arith, omega arith))
 
 -- a whole frame uses up its length and its body
 used_up : (bytes : List ℕ) (len : ℕ) → 4 + len ≤ length bytes → length bytes - length (drop (4 + len) bytes) ≡ 4 + len
 used_up bytes len whole = omega (arith, length-drop (4 + len) bytes)
 
-pub last_steps : {X : Type 0} (codec : Codec X) (held later : Held) (start used fed len : ℕ) (phase : Phase) (x : X) →
-    codec.is_last x ≡ true → phase ≡ phases.Reading → later ≡ nothing_held → 4 + len ≤ length (drop start held.bytes) →
-    codec.first (drop start held.bytes) ≡ Ok (x, drop (4 + len) (drop start held.bytes))
-    → Steps X codec (pending_of held start used fed phase) (pending_of later 0 (used + (4 + len)) fed phases.Left)
-    (Gives x)
-last_steps {X} codec held later start used fed len phase x last e gone whole first =
-    let p = pending_of held start used fed phase in
-    let more = drop (4 + len) (drop start held.bytes) in
-    subst (λ (h : Held). Steps X codec p (pending_of h 0 (used + (4 + len)) fed phases.Left) (Gives x)) (sym gone)
-    (subst (λ (n : ℕ). Steps X codec p (emptied p (used + n) Left) (Gives x))
-    (used_up (drop start held.bytes) len whole)
-    (steps codec p (emptied p (used + (length (drop start held.bytes) - length more)) Left) (Gives x)
+pub last_steps : {X : Type 0} (codec : Codec X) (i mid later : Intake) (len : ℕ) (x : X) → codec.is_last x ≡ true →
+    i.phase ≡ phases.Reading → mid ≡ record i { start = i.start + 4 + len; used = i.used + (4 + len) } →
+    later ≡ record mid { buffer = nothing_held; start = 0; phase = phases.Left } →
+    4 + len ≤ length (drop i.start i.buffer.bytes) →
+    codec.first (drop i.start i.buffer.bytes) ≡ Ok (x, drop (4 + len) (drop i.start i.buffer.bytes))
+    → Steps X codec (pending_in i) (pending_in later) (Gives x)
+last_steps {X} codec i mid later len x last e used gone whole first =
+    let p = pending_in i in
+    let more = drop (4 + len) (drop i.start i.buffer.bytes) in
+    let all = gone ∙ ap (λ (m : Intake). record m { buffer = nothing_held; start = 0; phase = phases.Left }) used in
+    subst (λ (h : Intake). Steps X codec p (pending_in h) (Gives x)) (sym all)
+    (subst (λ (n : ℕ). Steps X codec p (emptied p (i.used + n) Left) (Gives x))
+    (used_up (drop i.start i.buffer.bytes) len whole)
+    (steps codec p (emptied p (i.used + (length (drop i.start i.buffer.bytes) - length more)) Left) (Gives x)
     (next_of-last codec p x more (ap phase_of e) first last) (λ _. (omega arith, omega arith))))
 
 -- a framer that took a whole frame
-took_front : (held : Held) (start used fed len : ℕ) (phase : Phase) → 4 + len ≤ length (drop start held.bytes)
-    → took (pending_of held start used fed phase) (drop (4 + len) (drop start held.bytes))
-    ≡ pending_of held (start + 4 + len) (used + (4 + len)) fed phase
-took_front held start used fed len phase whole =
-    let place : start + (4 + len) ≡ start + 4 + len = omega arith in
+took_front : (i : Intake) (len : ℕ) → 4 + len ≤ length (drop i.start i.buffer.bytes)
+    → took (pending_in i) (drop (4 + len) (drop i.start i.buffer.bytes))
+    ≡ pending_in (record i { start = i.start + 4 + len; used = i.used + (4 + len) })
+took_front i len whole =
+    let place : i.start + (4 + len) ≡ i.start + 4 + len = omega arith in
     ap (λ (n : ℕ). record {
-      bytes = drop (4 + len) (drop start held.bytes);
-      used = used + n;
-      fed = fed;
-      held = length held.bytes;
-      room = held.room;
-      phase = phase_of phase;
-    }) (used_up (drop start held.bytes) len whole)
+      bytes = drop (4 + len) (drop i.start i.buffer.bytes);
+      used = i.used + n;
+      fed = i.fed;
+      held = length i.buffer.bytes;
+      room = i.buffer.room;
+      phase = phase_of i.phase;
+    })
+    (used_up (drop i.start i.buffer.bytes) len whole)
     ∙ ap (λ (x : List ℕ). record {
       bytes = x;
-      used = used + (4 + len);
-      fed = fed;
-      held = length held.bytes;
-      room = held.room;
-      phase = phase_of phase;
+      used = i.used + (4 + len);
+      fed = i.fed;
+      held = length i.buffer.bytes;
+      room = i.buffer.room;
+      phase = phase_of i.phase;
     })
-    (drop-drop (4 + len) start held.bytes ∙ ap (λ (n : ℕ). drop n held.bytes) place)
+    (drop-drop (4 + len) i.start i.buffer.bytes ∙ ap (λ (n : ℕ). drop n i.buffer.bytes) place)
 
-pub value_steps : {X : Type 0} (codec : Codec X) (held : Held) (start used fed len : ℕ) (phase : Phase) (x : X) →
-    codec.is_last x ≡ false → phase ≡ phases.Reading → 4 + len ≤ length (drop start held.bytes) →
-    codec.first (drop start held.bytes) ≡ Ok (x, drop (4 + len) (drop start held.bytes))
-    → Steps X codec (pending_of held start used fed phase)
-    (pending_of held (start + 4 + len) (used + (4 + len)) fed phase) (Gives x)
-value_steps {X} codec held start used fed len phase x other e whole first =
-    let p = pending_of held start used fed phase in
-    let more = drop (4 + len) (drop start held.bytes) in
-    subst (λ (q : Pending). Steps X codec p q (Gives x)) (took_front held start used fed len phase whole)
+pub value_steps : {X : Type 0} (codec : Codec X) (i later : Intake) (len : ℕ) (x : X) → codec.is_last x ≡ false →
+    i.phase ≡ phases.Reading → later ≡ record i { start = i.start + 4 + len; used = i.used + (4 + len) } →
+    4 + len ≤ length (drop i.start i.buffer.bytes) →
+    codec.first (drop i.start i.buffer.bytes) ≡ Ok (x, drop (4 + len) (drop i.start i.buffer.bytes))
+    → Steps X codec (pending_in i) (pending_in later) (Gives x)
+value_steps {X} codec i later len x other e used whole first =
+    let p = pending_in i in
+    let more = drop (4 + len) (drop i.start i.buffer.bytes) in
+    subst (λ (h : Intake). Steps X codec p (pending_in h) (Gives x)) (sym used)
+    (subst (λ (q : Pending). Steps X codec p q (Gives x)) (took_front i len whole)
     (steps codec p (took p more) (Gives x) (next_of-value codec p x more (ap phase_of e) first other)
-    (λ last. absurd (true_or_false (codec.is_last x) last other)))
+    (λ last. absurd (true_or_false (codec.is_last x) last other))))
   where
     true_or_false : (b : Bool) → b ≡ true → b ≡ false → ⊥
     true_or_false b is isnt = cc

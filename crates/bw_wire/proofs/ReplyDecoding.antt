@@ -15,35 +15,38 @@ reply-empty b h = ap decoded_reply (nil_from_length b (omega arith))
 
 by_kind : (k : ℕ) (rest : List ℕ)
     → decoded_reply (k ∷ rest)
-      ≡ cond (k == 0x81) (addressed_reply rest judged_by)
-      (cond (k == 0x82) (addressed_reply rest noticed_by)
-      (cond (k == 0x83) (ok_or (refused_by rest) Payload) (Err Kind)))
+    ≡ cond (k == 0x81) (addressed_reply rest judged_by)
+    (cond (k == 0x82) (addressed_reply rest noticed_by)
+    (cond (k == 0x83) (ok_or (refused_by rest) Payload) (Err Kind)))
 unfolding decoded_reply
 by_kind k rest = refl
 
 reply-cons : (b : List ℕ) → 1 ≤ length b
     → decoded_reply b ≡ cond (get_or b 0 0 == 0x81) (addressed_reply (behind b) judged_by)
-      (cond (get_or b 0 0 == 0x82) (addressed_reply (behind b) noticed_by)
-      (cond (get_or b 0 0 == 0x83) (ok_or (refused_by (behind b)) Payload) (Err Kind)))
+    (cond (get_or b 0 0 == 0x82) (addressed_reply (behind b) noticed_by)
+    (cond (get_or b 0 0 == 0x83) (ok_or (refused_by (behind b)) Payload) (Err Kind)))
 reply-cons [] h = absurd (omega arith)
 reply-cons (k ∷ rest) h =
-  ap (λ (x : List ℕ). decoded_reply (k ∷ x)) (sym (take_rest (k ∷ rest) 1)) ∙ by_kind k (behind (k ∷ rest))
+    ap (λ (x : List ℕ). decoded_reply (k ∷ x)) (sym (take_rest (k ∷ rest) 1)) ∙ by_kind k (behind (k ∷ rest))
 
 pub reply-judged : (b : List ℕ) → 1 ≤ length b → get_or b 0 0 ≡ 0x81 →
-  decoded_reply b ≡ addressed_reply (behind b) judged_by
+    decoded_reply b ≡ addressed_reply (behind b) judged_by
 reply-judged b h k = reply-cons b h ∙ rw (eq-eqb (get_or b 0 0) 0x81 k) refl
 
 pub reply-noticed : (b : List ℕ) → 1 ≤ length b → get_or b 0 0 ≡ 0x82 →
-  decoded_reply b ≡ addressed_reply (behind b) noticed_by
+    decoded_reply b ≡ addressed_reply (behind b) noticed_by
 reply-noticed b h k = reply-cons b h ∙ rw (ne_eqb (get_or b 0 0) 0x81 (omega arith), eq-eqb (get_or b 0 0) 0x82 k) refl
 
 pub reply-refused : (b : List ℕ) → 1 ≤ length b → get_or b 0 0 ≡ 0x83 →
-  decoded_reply b ≡ ok_or (refused_by (behind b)) Payload
+    decoded_reply b ≡ ok_or (refused_by (behind b)) Payload
 reply-refused b h k = reply-cons b h
-  ∙ rw (ne_eqb (get_or b 0 0) 0x81 (omega arith), ne_eqb (get_or b 0 0) 0x82 (omega arith),
-  eq-eqb (get_or b 0 0) 0x83 k) refl
+    ∙ rw (
+      ne_eqb (get_or b 0 0) 0x81 (omega arith),
+      ne_eqb (get_or b 0 0) 0x82 (omega arith),
+      eq-eqb (get_or b 0 0) 0x83 k,
+    ) refl
 
 pub reply-unknown : (b : List ℕ) → 1 ≤ length b → get_or b 0 0 ≢ 0x81 → get_or b 0 0 ≢ 0x82 → get_or b 0 0 ≢ 0x83 →
-  decoded_reply b ≡ Err Kind
+    decoded_reply b ≡ Err Kind
 reply-unknown b h j n r =
-  reply-cons b h ∙ rw (ne_eqb (get_or b 0 0) 0x81 j, ne_eqb (get_or b 0 0) 0x82 n, ne_eqb (get_or b 0 0) 0x83 r) refl
+    reply-cons b h ∙ rw (ne_eqb (get_or b 0 0) 0x81 j, ne_eqb (get_or b 0 0) 0x82 n, ne_eqb (get_or b 0 0) 0x83 r) refl

@@ -16,8 +16,11 @@ body_request bytes = request_of (slice_index bytes 0) (payload_in (drop 1 bytes)
 
 -- the message that a body spells, where it spells one
 abbrev pub message_in : List ℕ → Message
-message_in bytes = record { name = body_name bytes; number = body_number bytes;
-  request = body_request bytes }
+message_in bytes = record {
+  name = body_name bytes;
+  number = body_number bytes;
+  request = body_request bytes;
+}
 
 abbrev pub is_message_read : Result Frame Reason → Bool
 is_message_read (Ok (Says m)) = true

@@ -29,7 +29,8 @@ pub record IsByeFront (bytes : List ℕ) (len : ℕ) : Type 0 where
   pub first : first_frame Second bytes ≡ Ok (Bye, drop (4 + len) bytes)
 
 abbrev pub IsFrameFront : List ℕ → FrameFront → Type 0
-IsFrameFront bytes fronts.Partial = (first_frame Second bytes ≡ Err Cut) × (length bytes ≤ longest_rest)
+IsFrameFront bytes fronts.Partial =
+    (first_frame Second bytes ≡ Err Cut) × (length bytes ≤ longest_rest)
 IsFrameFront bytes (fronts.Bad reason) =
     (first_frame Second bytes ≡ Err (reason_meaning reason)) × (reason_meaning reason ≢ Cut)
 IsFrameFront bytes (fronts.Message len) = IsMessageFront bytes len

@@ -1,5 +1,6 @@
 -- Bytes that are held in a block of memory.
-use Rattle.std.specs.Prelude.{ℕ, ◌+◌, ◌*◌, ◌^◌, List, [], ◌++◌, length, drop, max, nat_le, if◌then◌else◌}
+use Rattle.std.specs.Prelude.{ℕ, ◌+◌, ◌*◌, ◌^◌, List, [], ◌++◌, length, drop, max, nat_le}
+use Rattle.std.specs.Prelude.{if◌then◌else◌}
 use Rattle.bw_model.specs.Limits.{longest_body}
 
 -- all bytes of a frame but the last, where its body has so many behind their length

@@ -13,6 +13,6 @@ pub mod Held
 pub mod Blocks
 pub mod Codecs
 pub mod Pending
-pub mod Phases
+pub mod Intakes
 pub mod Telling
 pub mod Runs

@@ -1,5 +1,6 @@
 -- What a framer keeps of a stream, what it tells next, and what it then keeps.
-use Rattle.std.specs.Prelude.{ℕ, ◌+◌, ◌-◌, ◌≤◌, Bool, true, false, Option, Some, None, Result, Ok, Err}
+use Rattle.std.specs.Prelude.{ℕ, ◌+◌, ◌-◌, ◌≤◌, Bool, true, false, Option, Some, None, Result, Ok}
+use Rattle.std.specs.Prelude.{Err}
 use Rattle.std.specs.Prelude.{IsTrue, List, [], ◌∷◌, ◌++◌, length}
 use Rattle.bw_model.specs.Wire.{Reason, Cut}
 use Rattle.bw_wire.specs.Codecs.{Codec}

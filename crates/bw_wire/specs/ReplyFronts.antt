@@ -14,7 +14,8 @@ pub record IsWholeReply (bytes : List ℕ) (reply : Reply) (len : ℕ) : Type 0 
   pub first : first_reply bytes ≡ Ok (reply_of reply, drop (4 + len) bytes)
 
 abbrev pub IsReplyFront : List ℕ → ReplyFront → Type 0
-IsReplyFront bytes Partial = (first_reply bytes ≡ Err Cut) × (length bytes ≤ rest_below longest_reply)
+IsReplyFront bytes Partial =
+    (first_reply bytes ≡ Err Cut) × (length bytes ≤ rest_below longest_reply)
 IsReplyFront bytes (Bad reason) =
     (first_reply bytes ≡ Err (reason_meaning reason)) × (reason_meaning reason ≢ Cut)
 IsReplyFront bytes (Whole reply len) = IsWholeReply bytes reply len

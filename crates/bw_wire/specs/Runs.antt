@@ -81,8 +81,10 @@ pub record FollowsStream (bytes : List ℕ) (r : Run Frame) : Type 0 where
   -- all of them, where nothing more is there; the end is then that of the input
   pub nothing : (next_of message_codec r.state).0 ≡ Nothing →
       stream_of Second bytes ≡ (r.given, input_end (end_fault r.state))
-  pub bye : (next_of message_codec r.state).0 ≡ Gives Bye → stream_of Second bytes ≡ (r.given, SaidBye)
-  pub fault : (reason : Reason) (offset : ℕ) → (next_of message_codec r.state).0 ≡ Fails reason offset →
+  pub bye : (next_of message_codec r.state).0 ≡ Gives Bye →
+      stream_of Second bytes ≡ (r.given, SaidBye)
+  pub fault : (reason : Reason) (offset : ℕ) →
+      (next_of message_codec r.state).0 ≡ Fails reason offset →
       stream_of Second bytes ≡ (r.given, BadFrame reason offset)
   -- that the input is cut is never told before its end
   pub not_cut : (offset : ℕ) → (next_of message_codec r.state).0 ≢ Fails Cut offset

@@ -1,21 +1,12 @@
 //! A stream of frames that comes in pieces.
 ghost use Rattle.std.specs.Prelude.{◌≡◌, ◌+◌, ◌≤◌, length, IsOk, OnOk, OnErr};
 
-use crate::buffer::Buffer;
 use crate::fault::WireFault;
 use crate::frame_front::{FrameFront, frame_front_of};
+use crate::intake::{Intake, Phase};
 use crate::message::{Ask, Frame, Message};
-use crate::reason::Reason;
 use std::alloc::{AllocError, Global};
 use std::marker::Model;
-
-/// Whether more frames may come.
-#[derive(Clone, Copy, Debug)]
-pub(crate) enum Phase {
-    Reading,
-    Left,
-    Failed(Reason),
-}
 
 /// Takes the frames of an exchange out of its bytes, which come in pieces of any size.
 ///
@@ -23,24 +14,19 @@ pub(crate) enum Phase {
 /// most 262,144.
 #[derive(Drop)]
 pub struct Framer {
-    buffer: Buffer,
-    start: usize,
-    used: u64,
-    fed: u64,
-    phase: Phase,
+    intake: Intake,
 }
 
 impl Model for Framer {
-    ghost use Rattle.std.specs.Prelude.{◌≡◌, ◌≤◌, ◌+◌, drop, length};
     ghost use Rattle.bw_wire.specs.Pending.{Pending};
 
     ghost Value = { Pending };
 
-    ghost use Rattle.bw_wire.specs.Phases.{phase_of, IsFramer, pending_of};
+    ghost use Rattle.bw_wire.specs.Intakes.{pending_in, IsIntake};
 
-    ghost view = { λ f. pending_of f.buffer f.start f.used f.fed f.phase };
+    ghost view = { λ f. pending_in f.intake };
 
-    ghost invariant = { λ f. IsFramer f.buffer f.start f.used f.fed f.phase };
+    ghost invariant = { λ f. IsIntake f.intake };
 }
 
 impl Framer {
@@ -50,7 +36,8 @@ impl Framer {
     ghost use Rattle.bw_wire.specs.Codecs.{message_codec};
     ghost use Rattle.bw_wire.specs.Frames.{frame_of};
     ghost use Rattle.bw_wire.specs.Held.{longest_rest, longest_piece, longest_stream};
-    ghost use Rattle.bw_wire.specs.Pending.{fresh, with_piece, next_of, KeepsAtMost, HasSmallBlock, HoldsLittle, end_fault, IsOver};
+    ghost use Rattle.bw_wire.specs.Pending.{fresh, with_piece, next_of, KeepsAtMost, HasSmallBlock};
+    ghost use Rattle.bw_wire.specs.Pending.{HoldsLittle, end_fault, IsOver};
     ghost use Rattle.bw_wire.specs.Telling.{told_by, end_told};
 
     /// A framer at the start of a stream.
@@ -58,11 +45,7 @@ impl Framer {
         ensures { result ≡ fresh }
     {
         Framer {
-            buffer: Buffer::new(alloc),
-            start: 0,
-            used: 0,
-            fed: 0,
-            phase: Phase::Reading,
+            intake: Intake::new(alloc),
         }
     }
 
@@ -71,7 +54,7 @@ impl Framer {
         ensures value { result ≡ self.now.fed }
         ensures range { result ≤ longest_stream }
     {
-        self.fed
+        self.intake.fed
     }
 
     /// Adds a piece of the stream. After the end of the exchange or a fault the piece is dropped.
@@ -85,19 +68,10 @@ impl Framer {
         ensures dropped { IsOver self.old → IsOk result }
         ensures room { self.old.held + length piece.now ≤ self.old.room → IsOk result }
         ensures empty { length piece.now ≡ 0 → IsOk result }
-        ensures bounded { KeepsAtMost longest_rest self.old → length piece.now ≤ longest_piece → HasSmallBlock self.new }
+        ensures bounded { KeepsAtMost longest_rest self.old → length piece.now ≤ longest_piece →
+            HasSmallBlock self.new }
     {
-        match self.phase {
-            Phase::Reading => {
-                self.buffer.append(piece)?;
-                self.fed += piece.len() as u64;
-                Ok(())
-            }
-            Phase::Left | Phase::Failed(_) => {
-                self.fed += piece.len() as u64;
-                Ok(())
-            }
-        }
+        self.intake.feed(piece)
     }
 
     /// The first frame of the bytes that are left, which is used up; None where it isn't whole yet.
@@ -109,42 +83,35 @@ impl Framer {
         ensures told { told_by frame_of result ≡ (next_of message_codec self.old).0 }
         ensures held { HoldsLittle message_codec (next_of message_codec self.old) }
     {
-        let offset = self.used;
-        match self.phase {
+        let offset = self.intake.used;
+        match self.intake.phase {
             Phase::Reading => {}
             Phase::Left => return Ok(Some(Frame::Bye)),
             Phase::Failed(reason) => return Err(WireFault { reason, offset }),
         }
-        let at = self.start + 4;
-        match frame_front_of(self.buffer.bytes_from(self.start)) {
+        let at = self.intake.start + 4;
+        match frame_front_of(self.intake.bytes()) {
             FrameFront::Partial => {
-                self.buffer.drop_front(self.start);
-                self.start = 0;
+                self.intake.compact();
                 Ok(None)
             }
             FrameFront::Bad(reason) => {
-                self.buffer.clear();
-                self.start = 0;
-                self.phase = Phase::Failed(reason);
+                self.intake.finish(Phase::Failed(reason));
                 Err(WireFault { reason, offset })
             }
             FrameFront::Bye(len) => {
-                self.buffer.clear();
-                self.start = 0;
-                self.used += 4 + len as u64;
-                self.phase = Phase::Left;
+                self.intake.use_up(len);
+                self.intake.finish(Phase::Left);
                 Ok(Some(Frame::Bye))
             }
             FrameFront::Message(len) => {
-                self.start = at + len;
-                self.used += 4 + len as u64;
-                let body = &self.buffer.as_slice()[at..at + len];
+                self.intake.use_up(len);
+                let body = &self.intake.buffer.as_slice()[at..at + len];
                 Ok(Some(Frame::Message(Message { body })))
             }
             FrameFront::Ask(len) => {
-                self.start = at + len;
-                self.used += 4 + len as u64;
-                let body = &self.buffer.as_slice()[at..at + len];
+                self.intake.use_up(len);
+                let body = &self.intake.buffer.as_slice()[at..at + len];
                 Ok(Some(Frame::Ask(Ask { body })))
             }
         }
@@ -157,21 +124,6 @@ impl Framer {
     pub fn end(&self) -> Result<(), WireFault>
         ensures { end_told result ≡ end_fault self.now }
     {
-        match self.phase {
-            Phase::Left => Ok(()),
-            Phase::Failed(reason) => Err(WireFault {
-                reason,
-                offset: self.used,
-            }),
-            Phase::Reading => {
-                if self.buffer.len() == self.start {
-                    return Ok(());
-                }
-                Err(WireFault {
-                    reason: Reason::Cut,
-                    offset: self.used,
-                })
-            }
-        }
+        self.intake.end()
     }
 }

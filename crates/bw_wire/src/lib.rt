@@ -9,6 +9,7 @@ mod fault;
 mod frame_front;
 mod framer;
 mod framing;
+mod intake;
 pub mod laws;
 mod message;
 mod payload;

@@ -1,9 +1,8 @@
 //! A stream of replies that comes in pieces.
 ghost use Rattle.std.specs.Prelude.{◌≡◌, ◌+◌, ◌≤◌, length, IsOk, OnOk, OnErr};
 
-use crate::buffer::Buffer;
 use crate::fault::WireFault;
-use crate::reason::Reason;
+use crate::intake::{Intake, Phase};
 use crate::reply::Reply;
 use crate::reply_front::{ReplyFront, reply_front_of};
 use std::alloc::{AllocError, Global};
@@ -15,30 +14,26 @@ use std::marker::Model;
 /// most 262,144.
 #[derive(Drop)]
 pub struct ReplyFramer {
-    buffer: Buffer,
-    start: usize,
-    used: u64,
-    fed: u64,
-    failed: Option<Reason>,
+    intake: Intake,
 }
 
 impl Model for ReplyFramer {
-    ghost use Rattle.std.specs.Prelude.{◌≡◌, ◌≤◌, ◌+◌, drop, length};
     ghost use Rattle.bw_wire.specs.Pending.{Pending};
 
     ghost Value = { Pending };
 
-    ghost use Rattle.bw_wire.specs.Phases.{phase_by, IsFramer, pending_of};
+    ghost use Rattle.bw_wire.specs.Intakes.{pending_in, IsIntake};
 
-    ghost view = { λ f. pending_of f.buffer f.start f.used f.fed (phase_by f.failed) };
+    ghost view = { λ f. pending_in f.intake };
 
-    ghost invariant = { λ f. IsFramer f.buffer f.start f.used f.fed (phase_by f.failed) };
+    ghost invariant = { λ f. IsIntake f.intake };
 }
 
 impl ReplyFramer {
     ghost use Rattle.bw_wire.specs.Codecs.{reply_codec};
     ghost use Rattle.bw_wire.specs.Held.{longest_rest, longest_piece, longest_stream};
-    ghost use Rattle.bw_wire.specs.Pending.{fresh, with_piece, next_of, KeepsAtMost, HasSmallBlock, HoldsLittle, end_fault, IsOver};
+    ghost use Rattle.bw_wire.specs.Pending.{fresh, with_piece, next_of, KeepsAtMost, HasSmallBlock};
+    ghost use Rattle.bw_wire.specs.Pending.{HoldsLittle, end_fault, IsOver};
     ghost use Rattle.bw_wire.specs.Replies.{reply_of};
     ghost use Rattle.bw_wire.specs.Telling.{told_by, end_told};
 
@@ -47,11 +42,7 @@ impl ReplyFramer {
         ensures { result ≡ fresh }
     {
         ReplyFramer {
-            buffer: Buffer::new(alloc),
-            start: 0,
-            used: 0,
-            fed: 0,
-            failed: None,
+            intake: Intake::new(alloc),
         }
     }
 
@@ -60,7 +51,7 @@ impl ReplyFramer {
         ensures value { result ≡ self.now.fed }
         ensures range { result ≤ longest_stream }
     {
-        self.fed
+        self.intake.fed
     }
 
     /// Adds a piece of the stream. After a fault the piece is dropped.
@@ -74,19 +65,10 @@ impl ReplyFramer {
         ensures dropped { IsOver self.old → IsOk result }
         ensures room { self.old.held + length piece.now ≤ self.old.room → IsOk result }
         ensures empty { length piece.now ≡ 0 → IsOk result }
-        ensures bounded { KeepsAtMost longest_rest self.old → length piece.now ≤ longest_piece → HasSmallBlock self.new }
+        ensures bounded { KeepsAtMost longest_rest self.old → length piece.now ≤ longest_piece →
+            HasSmallBlock self.new }
     {
-        match self.failed {
-            None => {
-                self.buffer.append(piece)?;
-                self.fed += piece.len() as u64;
-                Ok(())
-            }
-            Some(_) => {
-                self.fed += piece.len() as u64;
-                Ok(())
-            }
-        }
+        self.intake.feed(piece)
     }
 
     /// The first reply of the bytes that are left, which is used up; None where it isn't whole yet.
@@ -98,31 +80,23 @@ impl ReplyFramer {
         ensures told { told_by reply_of result ≡ (next_of reply_codec self.old).0 }
         ensures held { HoldsLittle reply_codec (next_of reply_codec self.old) }
     {
-        if let Some(reason) = self.failed {
-            return Err(WireFault {
-                reason,
-                offset: self.used,
-            });
+        let offset = self.intake.used;
+        match self.intake.phase {
+            Phase::Reading => {}
+            Phase::Left => return Ok(None),
+            Phase::Failed(reason) => return Err(WireFault { reason, offset }),
         }
-        match reply_front_of(self.buffer.bytes_from(self.start)) {
+        match reply_front_of(self.intake.bytes()) {
             ReplyFront::Partial => {
-                self.buffer.drop_front(self.start);
-                self.start = 0;
+                self.intake.compact();
                 Ok(None)
             }
             ReplyFront::Bad(reason) => {
-                self.buffer.clear();
-                self.start = 0;
-                self.failed = Some(reason);
-                Err(WireFault {
-                    reason,
-                    offset: self.used,
-                })
+                self.intake.finish(Phase::Failed(reason));
+                Err(WireFault { reason, offset })
             }
             ReplyFront::Whole(reply, len) => {
-                let at = self.start + 4;
-                self.start = at + len;
-                self.used += 4 + len as u64;
+                self.intake.use_up(len);
                 Ok(Some(reply))
             }
         }
@@ -135,18 +109,6 @@ impl ReplyFramer {
     pub fn end(&self) -> Result<(), WireFault>
         ensures { end_told result ≡ end_fault self.now }
     {
-        if let Some(reason) = self.failed {
-            return Err(WireFault {
-                reason,
-                offset: self.used,
-            });
-        }
-        if self.buffer.len() == self.start {
-            return Ok(());
-        }
-        Err(WireFault {
-            reason: Reason::Cut,
-            offset: self.used,
-        })
+        self.intake.end()
     }
 }

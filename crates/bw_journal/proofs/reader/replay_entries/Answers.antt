@@ -1,7 +1,7 @@
 use Rattle.std.proofs.Common.{◌≡◌, ◌≤◌, ◌+◌, ◌-◌, ℕ, List, length, drop, Err, sym, subst, ◌∙◌, ap, arith, refl}
 use Rattle.std.proofs.lemmas.List.{take_rest, length-drop}
 use Rattle.bw_model.specs.Take.{Parts}
-use Rattle.bw_journal.specs.Entries.{Entry, first_entry}
+use Rattle.bw_journal.specs.Entries.{JournalEntry, first_entry}
 use Rattle.bw_journal.specs.Replays.{Story}
 use Rattle.bw_journal.specs.Refs.{entry_said}
 use Rattle.bw_journal.proofs.ReplaySteps.{begins, goes_on, same_story, stops, differs, ends}
@@ -45,7 +45,7 @@ loop-step-preserved c =
     let bytes = c.args.bytes.now in
     let s : Story =
     record { parts = c.loop-step.state.parts; table = c.loop-step.table.items; used = c.loop-step.used } in
-    let x : Entry × ℕ = (entry_said c.in-Some.entry, c.in-Some.len) in
+    let x : JournalEntry × ℕ = (entry_said c.in-Some.entry, c.in-Some.len) in
     let short =
     subst (λ (xs : List ℕ). c.in-Some.len ≤ length xs) (take_rest bytes c.loop-step.used) c.in-Some.ensures.within
     in

@@ -1,5 +1,6 @@
 use Rattle.std.proofs.Common.{◌≡◌, ◌*◌, ◌-◌, ◌≤◌, length}
 use Rattle.bw_model.specs.Bytes.{zeros as zero_bytes}
+use Rattle.bw_model.specs.Limits.{longest_block}
 use Rattle.bw_journal.specs.Replays.{replayed, replayed_entries}
 use Rattle.bw_journal.proofs.reader.replay_entries.Given as goal
 
@@ -8,7 +9,7 @@ invariant-loop-step l = record {
   known : replayed (length l.bytes - l._step) l.bytes
       (record { parts = l.state.parts; table = l.table.items; used = l.used })
       ≡ replayed_entries l.stood l.bytes;
-  samples : l.state.parts.samples_len ≤ 32768 * l._step;
+  samples : l.state.parts.samples_len ≤ longest_block * l._step;
   within : l.used ≤ length l.bytes;
-  zeros : l.zeros.items ≡ zero_bytes 32768;
+  zeros : l.zeros.items ≡ zero_bytes longest_block;
 }

@@ -31,7 +31,7 @@ pub invariant_of-result : goal.invariant_of-result
 invariant_of-result c = record {
   spells = is_ask c.args.body.now
       (λ i. omega (arith, c.type_inv.body i)) c.in-len1-up.len_at_least c.if-kind-eq-BYE.false
-        c.in_default-fault.ensures
+      c.in_default-fault.ensures
       c.if-kind-eq-ASK.true;
 }
 
@@ -46,7 +46,7 @@ pub invariant_of-result-2 : goal.invariant_of-result-2
 invariant_of-result-2 c = record {
   spells = is_message c.args.body.now
       (λ i. omega (arith, c.type_inv.body i)) c.in-len1-up.len_at_least c.if-kind-eq-BYE.false
-        c.in_default-fault.ensures
+      c.in_default-fault.ensures
       c.if-kind-eq-ASK.false;
 }
 

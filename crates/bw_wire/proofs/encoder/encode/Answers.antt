@@ -12,8 +12,8 @@ returns c =
     let request = meaning c.args.request.now in
     let written = c.in_ok-put_payload.ensures ∙ ap (λ (x : List ℕ). x ++ payload request) c.in_ok-out.ensures.items
     ∙ ap (λ (n : ℕ). le32 (6 + length name + n) ++ addressed c.kind.result name c.args.number ++ payload request)
-      c.payload_len.ensures.value
+    c.payload_len.ensures.value
     ∙ ap (λ (k : ℕ). le32 (6 + length name + length (payload request)) ++ addressed k name c.args.number
-      ++ payload request) c.kind.ensures in
+    ++ payload request) c.kind.ensures in
     subst (IsFrameOf (said name c.args.number request)) (sym written)
-      (message_frame name c.args.number request c.in_ok-out.ensures.named c.requires.number c.requires.fits)
+    (message_frame name c.args.number request c.in_ok-out.ensures.named c.requires.number c.requires.fits)

@@ -8,9 +8,9 @@ use Rattle.bw_wire.proofs.encoder.encode_ask.Goals as goal
 
 asked : {Z E : Type 0} (name : List ℕ) (number : ℕ) (r : Result (Vec ℕ Z) E) → number ≤ last_number Second
     → IfOk r (λ v. v.items ≡ le32 (6 + length name + 0) ++ addressed 6 name number) → OnOk r (IsTrue (is_name name)) →
-      IfOk r (λ v. IsFrameOf (Asks name number) v.items)
+    IfOk r (λ v. IsFrameOf (Asks name number) v.items)
 asked name number (Ok v) small items named =
-  subst (IsFrameOf (Asks name number)) (sym items) (ask_frame name number named small)
+    subst (IsFrameOf (Asks name number)) (sym items) (ask_frame name number named small)
 asked name number (Err e) small items named = tt
 
 pub returns : goal.returns

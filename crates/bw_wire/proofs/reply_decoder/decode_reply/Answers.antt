@@ -16,4 +16,4 @@ returns-in-131 c = c.bad_frame.ensures ∙ sym (reply-refused c.args.body.now c.
 
 pub returns-in_default-kind : goal.returns-in_default-kind
 returns-in_default-kind c =
-  sym (reply-unknown c.args.body.now c.in-len1-up.len_at_least (omega arith) (omega arith) (omega arith))
+    sym (reply-unknown c.args.body.now c.in-len1-up.len_at_least (omega arith) (omega arith) (omega arith))

@@ -3,10 +3,10 @@ use Rattle.bw_wire.proofs.reply_encoder.encode_reply.Goals as goal
 
 pub returns-in-Verdict-clause-fits : goal.returns-in-Verdict-clause-fits
 returns-in-Verdict-clause-fits c =
-  rw c.in-Verdict.is (addressed_fits c.in-Verdict.name c.in-Verdict.number c.put_address.ensures.named
-  (rw c.in-Verdict.is at c.requires))
+    rw c.in-Verdict.is (addressed_fits c.in-Verdict.name c.in-Verdict.number c.put_address.ensures.named
+    (rw c.in-Verdict.is at c.requires))
 
 pub returns-in-Notice-clause-fits : goal.returns-in-Notice-clause-fits
 returns-in-Notice-clause-fits c =
-  rw c.in-Notice.is (noticed_fits c.in-Notice.name c.in-Notice.number c.in-Notice.next
-  c.put_address-in-Notice.ensures.named (rw c.in-Notice.is at c.requires))
+    rw c.in-Notice.is (noticed_fits c.in-Notice.name c.in-Notice.number c.in-Notice.next
+    c.put_address-in-Notice.ensures.named (rw c.in-Notice.is at c.requires))

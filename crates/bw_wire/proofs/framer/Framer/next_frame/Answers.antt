@@ -1,6 +1,7 @@
-use Rattle.std.proofs.Common.{◌≡◌, ◌≢◌, ◌≤◌, Err, length, drop, List, ℕ, IsTrue, sym, refl, ap, subst, ◌∙◌}
+use Rattle.std.proofs.Common.{◌≡◌, ◌≢◌, ◌≤◌, Some, Err, length, drop, List, ℕ, IsTrue, sym, refl, ap, subst, ◌∙◌}
 use Rattle.bw_model.specs.Wire.{Second, Says, Asks, Bye, Cut}
 use Rattle.bw_model.specs.Stream.{first_frame}
+use Rattle.bw_wire.specs.declared.intake.Intake.{Intake}
 use Rattle.bw_wire.specs.Bodies.{body_name, body_number, message_in, is_message_body, is_ask_body}
 use Rattle.bw_wire.specs.Codecs.{message_codec}
 use Rattle.bw_wire.specs.Framings.{body_at_front}
@@ -14,67 +15,62 @@ use Rattle.bw_wire.proofs.framer.Framer.next_frame.Goals as goal
 
 pub returns-in-Left : goal.returns-in-Left
 returns-in-Left c =
-    let f = c.self.inside in
-    let s = left_steps message_codec f.buffer f.start f.used f.fed f.phase Bye refl c.in-Left.is c.self.invariant in
+    let s = left_steps message_codec c.self.inside.intake (Some Bye) refl c.in-Left.is c.self.invariant in
     rw (← c.self.view_is) ((refl, (λ _. tt), s.next), record { left = tt; told = s.told; held = s.held })
 
 pub returns-in-Failed : goal.returns-in-Failed
 returns-in-Failed c =
-    let f = c.self.inside in
-    let s = failed_steps message_codec f.buffer f.start f.used f.fed f.phase c.in-Failed.reason c.in-Failed.is
-    c.self.invariant in
+    let s = failed_steps message_codec c.self.inside.intake c.in-Failed.reason c.in-Failed.is c.self.invariant in
     rw (← c.self.view_is) ((refl, (λ _. tt), s.next), record { left = tt; told = s.told; held = s.held })
 
 pub returns-in-Partial : goal.returns-in-Partial
 returns-in-Partial c =
-    let f = c.self.inside in
-    let front = subst (λ (b : List ℕ). (first_frame Second b ≡ Err Cut) × (length b ≤ longest_rest))
-    c.bytes_from.ensures
+    let front = subst (λ (b : List ℕ). (first_frame Second b ≡ Err Cut) × (length b ≤ longest_rest)) c.bytes.ensures
     c.in-Partial.ensures in
-    let s = partial_steps message_codec f.buffer c.drop_front.new.self f.start f.used f.fed f.phase c.in-Reading.is
-    c.drop_front.ensures front in
+    let s = partial_steps message_codec c.self.inside.intake c.compact.new.self c.in-Reading.is c.compact.ensures
+    front in
     rw (← c.self.view_is) ((refl, (λ _. tt), s.next), record { left = tt; told = s.told; held = s.held })
 
 pub returns-in-Bad : goal.returns-in-Bad
 returns-in-Bad c =
-    let f = c.self.inside in
     let front = subst (λ (b : List ℕ). (first_frame Second b ≡ Err (reason_meaning c.in-Bad.reason))
-    × (reason_meaning c.in-Bad.reason ≢ Cut)) c.bytes_from.ensures c.in-Bad.ensures in
-    let s = bad_steps message_codec f.buffer c.clear.new.self f.start f.used f.fed f.phase c.in-Bad.reason
-    c.in-Reading.is
-    c.clear.ensures front in
+    × (reason_meaning c.in-Bad.reason ≢ Cut)) c.bytes.ensures c.in-Bad.ensures in
+    let s = bad_steps message_codec c.self.inside.intake c.finish.new.self c.in-Bad.reason c.in-Reading.is
+    c.finish.ensures front in
     rw (← c.self.view_is) ((refl, (λ _. tt), s.next), record { left = tt; told = s.told; held = s.held })
 
 pub returns-in-Bye : goal.returns-in-Bye
 returns-in-Bye c =
-    let f = c.self.inside in
-    let front = subst (λ (b : List ℕ). IsByeFront b c.in-Bye.len) c.bytes_from.ensures c.in-Bye.ensures in
-    let s = last_steps message_codec f.buffer c.clear-in-Bye.new.self f.start f.used f.fed c.in-Bye.len f.phase Bye refl
-    c.in-Reading.is c.clear-in-Bye.ensures front.whole front.first in
+    let front = subst (λ (b : List ℕ). IsByeFront b c.in-Bye.len) c.bytes.ensures c.in-Bye.ensures in
+    let s = last_steps message_codec c.self.inside.intake c.use_up.new.self c.finish-in-Bye.new.self c.in-Bye.len Bye
+    refl c.in-Reading.is c.use_up.ensures c.finish-in-Bye.ensures front.whole front.first in
     rw (← c.self.view_is) ((refl, (λ _. tt), s.next), record { left = tt; told = s.told; held = s.held })
 
 pub invariant_of-self-in-Message-2 : goal.invariant_of-self-in-Message-2
 invariant_of-self-in-Message-2 c =
-    let f = c.self.inside in
-    let front = subst (λ (b : List ℕ). IsMessageFront b c.in-Message.len) c.bytes_from.ensures c.in-Message.ensures in
-    let lent = lent_body c.as_slice.result.now f.buffer.bytes f.start c.in-Message.len c.as_slice.ensures in
+    let i = c.self.inside.intake in
+    let front = subst (λ (b : List ℕ). IsMessageFront b c.in-Message.len) c.bytes.ensures c.in-Message.ensures in
+    let lent = lent_body c.as_slice.result.now i.buffer.bytes i.start c.in-Message.len
+    (c.as_slice.ensures ∙ ap (λ (x : Intake). x.buffer.bytes) c.use_up-in-Message.ensures) in
     record { spells = subst (λ (b : List ℕ). IsTrue (is_message_body b)) (sym lent) front.spelled }
 
 pub invariant_of-self-in-Ask-2 : goal.invariant_of-self-in-Ask-2
 invariant_of-self-in-Ask-2 c =
-    let f = c.self.inside in
-    let front = subst (λ (b : List ℕ). IsAskFront b c.in-Ask.len) c.bytes_from.ensures c.in-Ask.ensures in
-    let lent = lent_body c.as_slice-in-Ask.result.now f.buffer.bytes f.start c.in-Ask.len c.as_slice-in-Ask.ensures in
+    let i = c.self.inside.intake in
+    let front = subst (λ (b : List ℕ). IsAskFront b c.in-Ask.len) c.bytes.ensures c.in-Ask.ensures in
+    let lent = lent_body c.as_slice-in-Ask.result.now i.buffer.bytes i.start c.in-Ask.len
+    (c.as_slice-in-Ask.ensures ∙ ap (λ (x : Intake). x.buffer.bytes) c.use_up-in-Ask.ensures) in
     record { spells = subst (λ (b : List ℕ). IsTrue (is_ask_body b)) (sym lent) front.spelled }
 
 pub returns-in-Message : goal.returns-in-Message
 returns-in-Message c =
-    let f = c.self.inside in
-    let front = subst (λ (b : List ℕ). IsMessageFront b c.in-Message.len) c.bytes_from.ensures c.in-Message.ensures in
-    let m = message_in (body_at_front c.in-Message.len (drop f.start f.buffer.bytes)) in
-    let s = value_steps message_codec f.buffer f.start f.used f.fed c.in-Message.len f.phase (Says m) refl
-    c.in-Reading.is front.whole front.first in
-    let lent = lent_body c.as_slice.result.now f.buffer.bytes f.start c.in-Message.len c.as_slice.ensures in
+    let i = c.self.inside.intake in
+    let front = subst (λ (b : List ℕ). IsMessageFront b c.in-Message.len) c.bytes.ensures c.in-Message.ensures in
+    let m = message_in (body_at_front c.in-Message.len (drop i.start i.buffer.bytes)) in
+    let s = value_steps message_codec i c.use_up-in-Message.new.self c.in-Message.len (Says m) refl c.in-Reading.is
+    c.use_up-in-Message.ensures front.whole front.first in
+    let lent = lent_body c.as_slice.result.now i.buffer.bytes i.start c.in-Message.len
+    (c.as_slice.ensures ∙ ap (λ (x : Intake). x.buffer.bytes) c.use_up-in-Message.ensures) in
     rw (← c.self.view_is) (
       (refl, (λ _. tt), s.next),
       record { left = tt; told = ap (λ (b : List ℕ). Gives (Says (message_in b))) lent ∙ s.told; held = s.held },
@@ -82,12 +78,14 @@ returns-in-Message c =
 
 pub returns-in-Ask : goal.returns-in-Ask
 returns-in-Ask c =
-    let f = c.self.inside in
-    let front = subst (λ (b : List ℕ). IsAskFront b c.in-Ask.len) c.bytes_from.ensures c.in-Ask.ensures in
-    let body = body_at_front c.in-Ask.len (drop f.start f.buffer.bytes) in
-    let s = value_steps message_codec f.buffer f.start f.used f.fed c.in-Ask.len f.phase
-    (Asks (body_name body) (body_number body)) refl c.in-Reading.is front.whole front.first in
-    let lent = lent_body c.as_slice-in-Ask.result.now f.buffer.bytes f.start c.in-Ask.len c.as_slice-in-Ask.ensures in
+    let i = c.self.inside.intake in
+    let front = subst (λ (b : List ℕ). IsAskFront b c.in-Ask.len) c.bytes.ensures c.in-Ask.ensures in
+    let body = body_at_front c.in-Ask.len (drop i.start i.buffer.bytes) in
+    let s = value_steps message_codec i c.use_up-in-Ask.new.self c.in-Ask.len
+    (Asks (body_name body) (body_number body)) refl c.in-Reading.is c.use_up-in-Ask.ensures front.whole
+    front.first in
+    let lent = lent_body c.as_slice-in-Ask.result.now i.buffer.bytes i.start c.in-Ask.len
+    (c.as_slice-in-Ask.ensures ∙ ap (λ (x : Intake). x.buffer.bytes) c.use_up-in-Ask.ensures) in
     rw (← c.self.view_is) (
       (refl, (λ _. tt), s.next),
       record {

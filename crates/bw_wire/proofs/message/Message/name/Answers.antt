@@ -9,7 +9,7 @@ behind_kind-requires c = (message_body c.args.self.now.body.now c.args.self.now.
 
 pub name-requires : goal.name-requires
 name-requires c = ap is_name_bad c.behind_kind.ensures
-  ∙ (message_body c.args.self.now.body.now c.args.self.now.spells).addressed.named
+    ∙ (message_body c.args.self.now.body.now c.args.self.now.spells).addressed.named
 
 pub returns : goal.returns
 unfolding body_name

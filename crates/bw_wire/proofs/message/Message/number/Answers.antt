@@ -10,7 +10,7 @@ behind_kind-requires c = (message_body c.args.self.now.body.now c.args.self.now.
 
 pub number-requires : goal.number-requires
 number-requires c = subst HasAddress (sym c.behind_kind.ensures)
-  (message_body c.args.self.now.body.now c.args.self.now.spells).addressed.address
+    (message_body c.args.self.now.body.now c.args.self.now.spells).addressed.address
 
 pub returns-clause-value : goal.returns-clause-value
 unfolding body_number
@@ -19,5 +19,5 @@ returns-clause-value c = c.number.ensures ∙ ap number_in c.behind_kind.ensures
 pub returns-clause-range : goal.returns-clause-range
 unfolding body_number
 returns-clause-range c =
-  rw (c.number.ensures, c.behind_kind.ensures)
-  (message_body c.args.self.now.body.now c.args.self.now.spells).addressed.number
+    rw (c.number.ensures, c.behind_kind.ensures)
+    (message_body c.args.self.now.body.now c.args.self.now.spells).addressed.number

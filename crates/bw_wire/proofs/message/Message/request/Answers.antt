@@ -15,7 +15,7 @@ behind_kind-requires c = (message_body c.args.self.now.body.now c.args.self.now.
 
 pub payload-requires : goal.payload-requires
 payload-requires c = subst HasAddress (sym c.behind_kind.ensures)
-  (message_body c.args.self.now.body.now c.args.self.now.spells).addressed.address
+    (message_body c.args.self.now.body.now c.args.self.now.spells).addressed.address
 
 pub request_of-requires-clause-request : goal.request_of-requires-clause-request
 request_of-requires-clause-request c = (message_body c.args.self.now.body.now c.args.self.now.spells).kind
