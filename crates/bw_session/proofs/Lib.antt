@@ -6,3 +6,4 @@ pub mod CarryForms
 pub mod LogSteps
 pub mod FrontForms
 pub mod NumberForms
+pub mod NoteForms

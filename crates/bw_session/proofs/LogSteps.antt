@@ -18,7 +18,7 @@ use Rattle.bw_take.specs.States.{FollowsTakes}
 use Rattle.bw_session.specs.Keeping.{KeepsDone}
 
 -- the first n places and the next
-take_next : (s : List (Option Request)) (n : ℕ) (r : Request) → at s n ≡ Some r →
+pub take_next : (s : List (Option Request)) (n : ℕ) (r : Request) → at s n ≡ Some r →
     take (suc n) s ≡ take n s ++ Some r ∷ []
 take_next [] n r e = absurd (none e)
   where
@@ -66,13 +66,13 @@ finished_push stood s name n (Some x ∷ xs) r e =
     ∙ ap (λ (k : ℕ). finished_from stood s name (suc n) xs ++ (sha256 (body_of name k r), verdict_at stood s k) ∷ [])
     place)
 
-finished-short : (stood : Bool) (s : List (Option Request)) (name : List ℕ) (n : ℕ) (xs : List (Option Request)) →
+pub finished-short : (stood : Bool) (s : List (Option Request)) (name : List ℕ) (n : ℕ) (xs : List (Option Request)) →
     length (finished_from stood s name n xs) ≤ length xs
 finished-short stood s name n [] = omega arith
 finished-short stood s name n (None ∷ xs) = omega arith
 finished-short stood s name n (Some x ∷ xs) = let rest = finished-short stood s name (suc n) xs in omega (arith, rest)
 
-take-short : (n : ℕ) (xs : List (Option Request)) → length (take n xs) ≤ n
+pub take-short : (n : ℕ) (xs : List (Option Request)) → length (take n xs) ≤ n
 take-short zero xs = omega arith
 take-short (suc n) [] = omega arith
 take-short (suc n) (x ∷ xs) = let rest = take-short n xs in omega (arith, rest)

@@ -6,3 +6,4 @@ pub mod Carrying
 pub mod Keeping
 pub mod Fronts
 pub mod Numbered
+pub mod Noting

@@ -1,5 +1,5 @@
 //! Doing the next number of a name: in the file, then in the journal, then in what is kept.
-ghost use Rattle.std.specs.Prelude.{◌≡◌, ◌≢◌, ◌+◌, ◌≤◌, ◌||◌, ◌++◌, [], ◌∷◌, ℕ, List, Option, vec_capacity, length, IsTrue, IsOk, IfOk, OnOk, OnErr, is_err, false};
+ghost use Rattle.std.specs.Prelude.{◌≡◌, ◌≢◌, ◌+◌, ◌≤◌, ◌||◌, ◌++◌, [], ◌∷◌, ℕ, List, Option, vec_capacity, length, IsTrue, IsOk, IfOk, OnOk, OnErr, is_err, is_some, false};
 ghost use Rattle.bw_model.specs.Wire.{is_request, Second, last_number};
 ghost use Rattle.bw_model.specs.Book.{Log};
 ghost use Rattle.bw_take.specs.Requests.{meaning};
@@ -8,6 +8,7 @@ ghost use Rattle.bw_journal.specs.Entries.{longest_entry};
 ghost use Rattle.bw_journal.specs.Notes.{BeginsNotes, BeginsInPart, Notes, NotesInPart};
 ghost use Rattle.bw_session.specs.Carrying.{Touches};
 ghost use Rattle.bw_session.specs.Fronts.{HoldsFront};
+ghost use Rattle.bw_session.specs.Noting.{IsNoted, OnlyBegins, log_behind};
 ghost use Rattle.bw_session.specs.Numbered.{KeepsJournal, KeepsBoth, IsMeasured, IsNext, DoesNext, is_written as was_written, noted_of};
 
 use crate::carrying::carry_out;
@@ -168,6 +169,23 @@ impl Progress {
             DoesNext result first log self.new.state.parts self.new.ledger.outcomes
             (meaning request.now) self.new.growing
             (S.contents stores.new.store self.old.name) }
+        ensures noted { IsTrue (S.honest stores.old.store) →
+            IsTrue (J.honest stores.old.journal) → (first : Option (List ℕ)) (log : Log) →
+            IsNext self.old.name log (meaning request.now) digest.now →
+            HoldsFront first log self.old.state.parts self.old.ledger.outcomes
+            (meaning request.now) self.old.growing
+            (S.contents stores.old.store self.old.name) →
+            (J.header stores.old.journal self.old.name).stood ≡ is_some first →
+            IsNoted (J.header stores.old.journal self.old.name) self.old.name log self.old.noted
+            (J.notes stores.old.journal self.old.name) →
+            IsNoted (J.header stores.old.journal self.old.name) self.old.name
+            (log_behind result log) self.new.noted
+            (J.notes stores.new.journal self.old.name) }
+        ensures unnoted { IsTrue (J.honest stores.old.journal) →
+            S.failures stores.new.store ≢ S.failures stores.old.store →
+            OnErr result (OnlyBegins (J.header stores.old.journal self.old.name)
+            (J.notes stores.old.journal self.old.name)
+            (J.notes stores.new.journal self.old.name)) }
     {
         begin_notes(&mut stores.journal, &self.name, self.ledger.len())?;
         let verdict = carry_out(

@@ -1,9 +1,12 @@
-use Rattle.std.proofs.Common.{rules, ◌≡◌, ℕ, List, sym, subst}
+use Rattle.std.proofs.lemmas.Result.{err_from_is_err_and}
+use Rattle.bw_session.proofs.NoteForms.{begun_in_part, begun_notes, carried_noted, carried_in_part}
+use Rattle.std.proofs.Common.{ap, ◌∙◌, ◌≤◌, inr, rules, ◌≡◌, ℕ, List, sym, subst}
 use Rattle.bw_model.specs.Take.{Parts, Request, Verdict, AreFields}
 use Rattle.bw_take.specs.Requests.{meaning}
 use Rattle.bw_take.specs.Verdicts.{verdict_meaning}
 use Rattle.bw_session.specs.Fronts.{HoldsFront}
-use Rattle.bw_session.specs.Numbered.{IsNext, IsDone}
+use Rattle.bw_session.specs.Numbered.{IsNext, IsDone, noted_of}
+use Rattle.bw_journal.specs.Notes.{NotesInPart}
 use Rattle.bw_session.proofs.NumberForms.{done_again, done_next}
 use Rattle.bw_session.proofs.numbering.Progress.number_done.Goals as goal
 
@@ -43,3 +46,67 @@ returns-clause-done g c = λ honest first log n h.
     (done_next first log v p c.settle.new.state.parts finished c.settle.new.ledger.outcomes r c.args.digest.now
     c.carry_out.new.growing _ (subst (λ (x : List ℕ). IsNext x log r c.args.digest.now) (sym later) n) carried
     c.settle.ensures.keeps))
+
+pub returns-in_err-begin_notes-clause-noted : goal.returns-in_err-begin_notes-clause-noted
+returns-in_err-begin_notes-clause-noted g c = λ honest honest_notes first log n h stood noted.
+    let answer = err_from_is_err_and c.from_residual.result c.from_residual.ensures.1 in
+    rw answer.1 (begun_in_part (g.J.Journal.header c.args.stores.now.journal c.args.self.now.name)
+    c.args.self.now.name log c.args.self.now.noted _ _ noted (c.in_err-begin_notes.ensures.failed honest_notes))
+
+pub returns-in_err-verdict-clause-noted : goal.returns-in_err-verdict-clause-noted
+returns-in_err-verdict-clause-noted g c = λ honest honest_notes first log n h stood noted.
+    let answer = err_from_is_err_and c.from_residual-in_err-verdict.result c.from_residual-in_err-verdict.ensures.1 in
+    let done : c.len.result ≡ log.done = c.len.ensures.value ∙ h.memory.done in
+    rw answer.1 (record {
+      offset_is = noted.offset_is;
+      stands = inr (begun_notes (g.J.Journal.header c.args.stores.now.journal c.args.self.now.name)
+          c.args.self.now.name log c.args.self.now.noted _ _ noted
+          (λ none. c.in_ok-begin_notes.ensures.begun (done ∙ none) honest_notes)
+          (λ some. ap (λ j. g.J.Journal.notes j c.args.self.now.name)
+          (c.in_ok-begin_notes.ensures.later (subst (λ (k : ℕ). 1 ≤ k) (sym done) some))));
+    })
+
+pub returns-in_default-clause-noted : goal.returns-in_default-clause-noted
+returns-in_default-clause-noted g c = λ honest honest_notes first log n h stood noted.
+    let r : Request = meaning c.args.request.now in
+    let v : Verdict = verdict_of c.in_ok-verdict.verdict in
+    let finished : List (List ℕ × Verdict) = c.args.self.now.ledger.outcomes in
+    let name : c.args.self.now.growing.name ≡ c.args.self.now.name = c.args.self.now.same_name in
+    let later : c.carry_out.new.growing.name ≡ c.args.self.now.name = search rules in
+    let carried = c.in_ok-verdict.ensures.front honest first log finished
+    (subst (λ (x : List ℕ). HoldsFront first log c.args.self.now.state.parts finished r c.args.self.now.growing
+    (g.S.TakeStore.contents c.args.stores.now.store x)) (sym name) h) in
+    let done : c.len.result ≡ log.done = c.len.ensures.value ∙ h.memory.done in
+    let entries = begun_notes (g.J.Journal.header c.args.stores.now.journal c.args.self.now.name)
+    c.args.self.now.name log c.args.self.now.noted _ _ noted
+    (λ none. c.in_ok-begin_notes.ensures.begun (done ∙ none) honest_notes)
+    (λ some. ap (λ j. g.J.Journal.notes j c.args.self.now.name)
+    (c.in_ok-begin_notes.ensures.later (subst (λ (k : ℕ). 1 ≤ k) (sym done) some))) in
+    let left : NotesInPart c.args.self.now.noted (noted_of v c.args.digest.now r)
+    (g.J.Journal.notes c.begin_notes.new.journal c.args.self.now.name)
+    (g.J.Journal.notes c.note.new.self.journal c.args.self.now.name) =
+    let failed = c.in_default.ensures.failed (c.begin_notes.ensures.journal.honest ∙ honest_notes) in search rules in
+    carried_in_part first (g.J.Journal.header c.args.stores.now.journal c.args.self.now.name) log v
+    c.carry_out.new.state.parts finished r c.carry_out.new.growing _ c.args.self.now.name c.args.digest.now stood later
+    carried n c.args.self.now.noted _ _ noted.offset_is entries left
+
+pub returns-clause-noted : goal.returns-clause-noted
+returns-clause-noted g c = λ honest honest_notes first log n h stood noted.
+    let r : Request = meaning c.args.request.now in
+    let v : Verdict = verdict_of c.in_ok-verdict.verdict in
+    let finished : List (List ℕ × Verdict) = c.args.self.now.ledger.outcomes in
+    let name : c.args.self.now.growing.name ≡ c.args.self.now.name = c.args.self.now.same_name in
+    let later : c.carry_out.new.growing.name ≡ c.args.self.now.name = search rules in
+    let carried = c.in_ok-verdict.ensures.front honest first log finished
+    (subst (λ (x : List ℕ). HoldsFront first log c.args.self.now.state.parts finished r c.args.self.now.growing
+    (g.S.TakeStore.contents c.args.stores.now.store x)) (sym name) h) in
+    let done : c.len.result ≡ log.done = c.len.ensures.value ∙ h.memory.done in
+    let entries = begun_notes (g.J.Journal.header c.args.stores.now.journal c.args.self.now.name)
+    c.args.self.now.name log c.args.self.now.noted _ _ noted
+    (λ none. c.in_ok-begin_notes.ensures.begun (done ∙ none) honest_notes)
+    (λ some. ap (λ j. g.J.Journal.notes j c.args.self.now.name)
+    (c.in_ok-begin_notes.ensures.later (subst (λ (k : ℕ). 1 ≤ k) (sym done) some))) in
+    carried_noted first (g.J.Journal.header c.args.stores.now.journal c.args.self.now.name) log v
+    c.carry_out.new.state.parts finished r c.carry_out.new.growing _ c.args.self.now.name c.args.digest.now stood later
+    carried n c.args.self.now.noted c.in-Ok.len _ _ noted.offset_is entries c.in-Ok.ensures.value
+    (c.in-Ok.ensures.noted (c.begin_notes.ensures.journal.honest ∙ honest_notes))

@@ -1,0 +1,176 @@
+-- What the calls of a journal leave under a name, by which of them failed.
+use Rattle.std.proofs.Common.{◌≡◌, ℕ, zero, suc, ◌+◌, ◌≤◌, Bool, List, [], ◌∷◌, ◌++◌, length, take, Option, Some, None}
+use Rattle.std.proofs.Common.{refl, sym, ◌∙◌, ap, subst, arith, ◌⊎◌, inl, inr, append_assoc, length-append}
+use Rattle.std.specs.Prelude.{is_some}
+use Rattle.std.proofs.lemmas.List.{append-nil, flat_map_more}
+use Rattle.bw_model.specs.Bytes.{at}
+use Rattle.bw_model.specs.Take.{Parts, Request, Verdict}
+use Rattle.bw_model.specs.Book.{Log, verdict_at}
+use Rattle.bw_model.specs.Holds.{finished_from}
+use Rattle.bw_journal.specs.JournalHeaders.{Header, header_bytes}
+use Rattle.bw_journal.specs.Entries.{Entry, entry_bytes, entries_bytes}
+use Rattle.bw_journal.specs.Notes.{IsFrontOf, BeginsWith, Starts, StartsInPart, Notes, NotesInPart}
+use Rattle.bw_journal.specs.Noted.{entry_at, entries_from, journal_of}
+use Rattle.bw_file.specs.Growing.{Growing}
+use Rattle.bw_session.specs.Fronts.{Carried}
+use Rattle.bw_session.specs.Numbered.{IsNext, with_done, noted_of}
+use Rattle.bw_session.specs.Noting.{entry_if, next_entry, HasEntries, IsNoted}
+use Rattle.bw_session.proofs.LogSteps.{take_next, finished-short, take-short, verdict_here}
+
+-- before number 0 a journal is its header
+start : (h : Header) (name : List ℕ) (s : List (Option Request)) (n : ℕ) → n ≡ 0 →
+    journal_of h name (record { admitted = s; done = n }) ≡ header_bytes h
+start h name s n e =
+    ap (λ (k : ℕ). journal_of h name (record { admitted = s; done = k })) e ∙ append-nil (header_bytes h)
+
+begins : (h : Header) (name : List ℕ) (log : Log) (found : Option (List ℕ)) → HasEntries h name log found →
+    BeginsWith (header_bytes h) found
+begins h name log found (count, e) = (
+  _,
+  e ∙ ap Some (append_assoc (header_bytes h) _ (take count (next_entry h.stood name log))),
+)
+
+-- behind a `begin` that succeeds, where one is made
+pub begun_notes : (h : Header) (name : List ℕ) (log : Log) (offset : ℕ) (before found : Option (List ℕ)) →
+    IsNoted h name log offset before → (log.done ≡ 0 → Starts (header_bytes h) before found) →
+    (1 ≤ log.done → found ≡ before) → HasEntries h name log found
+begun_notes h name log offset before found noted starts same = by_number log.done refl noted.stands
+  where
+    by_number : (n : ℕ) → log.done ≡ n →
+        ((log.done ≡ 0) × IsFrontOf (header_bytes h) before) ⊎ HasEntries h name log before →
+        HasEntries h name log found
+    by_number zero e (inl front) = (
+      0,
+      (starts e).written front.1 ∙ ap Some (sym (start h name log.admitted log.done e) ∙ sym (append-nil _)),
+    )
+    by_number zero e (inr entries) =
+        ((entries.0, (starts e).kept (begins h name log before entries) ∙ entries.1))
+    by_number (suc n) e (inl front) = let none = front.0 in absurd (omega (arith, e, none))
+    by_number (suc n) e (inr entries) = (entries.0, same (omega (arith, e)) ∙ entries.1)
+
+-- .. that fails
+pub begun_in_part : (h : Header) (name : List ℕ) (log : Log) (offset : ℕ) (before found : Option (List ℕ)) →
+    IsNoted h name log offset before → StartsInPart (header_bytes h) before found → IsNoted h name log offset found
+begun_in_part h name log offset before found noted starts = record {
+  offset_is = noted.offset_is;
+  stands = elim noted.stands [
+    | inl front ↦ inl (front.0, starts.front front.1)
+    | inr entries ↦ inr (entries.0, starts.kept (begins h name log before entries) ∙ entries.1)
+  ];
+}
+
+-- one more entry
+entries_push : (stood : Bool) (s : List (Option Request)) (name : List ℕ) (n : ℕ) (xs : List (Option Request))
+    (r : Request) → length (finished_from stood s name n xs) ≡ length xs →
+    entries_from stood s name n (xs ++ Some r ∷ []) ≡
+    entries_from stood s name n xs ++ entry_at stood s name (n + length xs) r ∷ []
+entries_push stood s name n [] r e =
+    ap (λ (k : ℕ). entry_at stood s name k r ∷ []) (let same : n ≡ n + 0 = omega arith in same)
+entries_push stood s name n (None ∷ xs) r e = absurd (omega (arith, e))
+entries_push stood s name n (Some x ∷ xs) r e =
+    let rest : length (finished_from stood s name (suc n) xs) ≡ length xs = omega (arith, e) in
+    let place : suc n + length xs ≡ n + suc (length xs) = omega arith in
+    ap (λ (ys : List Entry). entry_at stood s name n x ∷ ys)
+    (entries_push stood s name (suc n) xs r rest
+    ∙ ap (λ (k : ℕ). entries_from stood s name (suc n) xs ++ entry_at stood s name k r ∷ []) place)
+
+-- the journal of one more done number
+journal_next : (h : Header) (name : List ℕ) (log : Log) (r : Request) (finished : List (List ℕ × Verdict)) →
+    length finished ≡ log.done →
+    finished ≡ finished_from h.stood log.admitted name 0 (take log.done log.admitted) →
+      at log.admitted log.done ≡ Some r →
+    journal_of h name (with_done log) ≡ journal_of h name log ++ next_entry h.stood name log
+journal_next h name log r finished done finished_are here =
+    let n : ℕ = log.done in
+    let s : List (Option Request) = log.admitted in
+    let front : List (Option Request) = take n s in
+    let long : length (finished_from h.stood s name 0 front) ≡ n = ap length (sym finished_are) ∙ done in
+    let few = finished-short h.stood s name 0 front in
+    let small = take-short n s in
+    let whole : length (finished_from h.stood s name 0 front) ≡ length front = omega (arith, long, few, small) in
+    let place : 0 + length front ≡ n = omega (arith, long, few, small) in
+    let e : Entry = entry_at h.stood s name n r in
+    ap (λ (xs : List (Option Request)). header_bytes h ++ entries_bytes (entries_from h.stood s name 0 xs))
+    (take_next s n r here)
+    ∙ ap (λ (es : List Entry). header_bytes h ++ entries_bytes es)
+    (entries_push h.stood s name 0 front r whole
+    ∙ ap (λ (k : ℕ). entries_from h.stood s name 0 front ++ entry_at h.stood s name k r ∷ []) place)
+    ∙ sym (flat_map_more entry_bytes (header_bytes h) (entries_from h.stood s name 0 front) e)
+    ∙ ap (λ (o : Option Request). journal_of h name log ++ entry_if h.stood name s n o) (sym here)
+
+-- what is noted of the next number is its entry
+entry_noted : (stood : Bool) (name : List ℕ) (log : Log) (v : Verdict) (r : Request) (digest : List ℕ) →
+    IsNext name log r digest → v ≡ verdict_at stood log.admitted log.done →
+    noted_of v digest r ≡ next_entry stood name log
+entry_noted stood name log v r digest next is =
+    ap (λ (x : Verdict). noted_of x digest r) is
+    ∙ ap (λ (d : List ℕ). noted_of (verdict_at stood log.admitted log.done) d r) next.digest_is
+    ∙ ap (λ (o : Option Request). entry_if stood name log.admitted log.done o) (sym next.here)
+
+-- behind a `note` that succeeds
+noted_next : (h : Header) (name : List ℕ) (log : Log) (offset len : ℕ) (before found : Option (List ℕ))
+    (finished : List (List ℕ × Verdict)) (v : Verdict) (r : Request) (digest : List ℕ) →
+    offset ≡ length (journal_of h name log) → HasEntries h name log before → length finished ≡ log.done →
+    finished ≡ finished_from h.stood log.admitted name 0 (take log.done log.admitted) → IsNext name log r digest →
+    v ≡ verdict_at h.stood log.admitted log.done → len ≡ length (noted_of v digest r) →
+    Notes offset (noted_of v digest r) before found → IsNoted h name (with_done log) (offset + len) found
+noted_next h name log offset len before found finished v r digest place stands done finished_are next is long notes =
+    let bytes : noted_of v digest r ≡ next_entry h.stood name log = entry_noted h.stood name log v r digest next is in
+    let whole = journal_next h name log r finished done finished_are next.here in
+    let now : found ≡ Some (journal_of h name log ++ noted_of v digest r) =
+    notes (journal_of h name log) stands.0
+    (stands.1 ∙ ap (λ (x : List ℕ). Some (journal_of h name log ++ take stands.0 x)) (sym bytes)) (sym place) in
+    record {
+      offset_is =
+          let sum = length-append (journal_of h name log) (next_entry h.stood name log) in
+          let all = ap length whole in
+          let same = ap length bytes in
+          omega (arith, place, long, sum, all, same);
+      stands = inr (
+        0,
+        now ∙ ap (λ (x : List ℕ). Some (journal_of h name log ++ x)) bytes
+            ∙ ap Some (sym whole ∙ sym (append-nil (journal_of h name (with_done log)))),
+      );
+    }
+
+-- .. that fails
+noted_in_part : (h : Header) (name : List ℕ) (log : Log) (offset : ℕ) (before found : Option (List ℕ))
+    (v : Verdict) (r : Request) (digest : List ℕ) →
+    offset ≡ length (journal_of h name log) → HasEntries h name log before → IsNext name log r digest →
+    v ≡ verdict_at h.stood log.admitted log.done → NotesInPart offset (noted_of v digest r) before found →
+    IsNoted h name log offset found
+noted_in_part h name log offset before found v r digest place stands next is notes =
+    let bytes : noted_of v digest r ≡ next_entry h.stood name log = entry_noted h.stood name log v r digest next is in
+    let now = notes (journal_of h name log) stands.0
+    (stands.1 ∙ ap (λ (x : List ℕ). Some (journal_of h name log ++ take stands.0 x)) (sym bytes)) (sym place) in
+    record {
+      offset_is = place;
+      stands = inr (now.0, now.1 ∙ ap (λ (x : List ℕ). Some (journal_of h name log ++ take now.0 x)) bytes);
+    }
+
+-- The same of a request that was carried out.
+module _ (first : Option (List ℕ)) (h : Header) (log : Log) (v : Verdict) (p : Parts)
+    (finished : List (List ℕ × Verdict)) (r : Request) (g : Growing) (file : Option (List ℕ)) (name digest : List ℕ)
+    (stood : h.stood ≡ is_some first) (same : g.name ≡ name) (c : Carried first log v p finished r g file)
+    (next : IsNext name log r digest) where
+  judged : v ≡ verdict_at h.stood log.admitted log.done
+  judged =
+      c.verdict_is ∙ sym (verdict_here (is_some first) log.admitted log.done r next.here)
+      ∙ ap (λ (b : Bool). verdict_at b log.admitted log.done) (sym stood)
+
+  pub carried_noted : (offset len : ℕ) (before found : Option (List ℕ)) → offset ≡ length (journal_of h name log) →
+      HasEntries h name log before → len ≡ length (noted_of v digest r) →
+      Notes offset (noted_of v digest r) before found → IsNoted h name (with_done log) (offset + len) found
+  carried_noted offset len before found place stands long notes =
+      let finished_are : finished ≡ finished_from h.stood log.admitted name 0 (take log.done log.admitted) =
+      subst (λ (x : List ℕ). finished ≡ finished_from h.stood log.admitted x 0 (take log.done log.admitted)) same
+      (subst (λ (b : Bool). finished ≡ finished_from b log.admitted g.name 0 (take log.done log.admitted))
+      (sym stood) c.memory.finished_are) in
+      noted_next h name log offset len before found finished v r digest place stands c.memory.done finished_are next
+      judged long notes
+
+  pub carried_in_part : (offset : ℕ) (before found : Option (List ℕ)) → offset ≡ length (journal_of h name log) →
+      HasEntries h name log before → NotesInPart offset (noted_of v digest r) before found →
+      IsNoted h name log offset found
+  carried_in_part offset before found place stands notes =
+      noted_in_part h name log offset before found v r digest place stands next judged notes

@@ -1,0 +1,43 @@
+-- What an honest journal has of a name.
+use Rattle.std.specs.Prelude.{◌≡◌, ◌⊎◌, ℕ, Bool, Option, Some, None, List, [], ◌++◌, length, take}
+use Rattle.std.specs.Prelude.{Result, Ok, Err}
+use Rattle.bw_model.specs.Bytes.{at}
+use Rattle.bw_model.specs.Take.{Request}
+use Rattle.bw_model.specs.Book.{Log}
+use Rattle.bw_file.specs.declared.store.StoreFault.{StoreFault}
+use Rattle.bw_take.specs.declared.verdict.Verdict.{Verdict}
+use Rattle.bw_journal.specs.JournalHeaders.{Header, header_bytes}
+use Rattle.bw_journal.specs.Entries.{entry_bytes}
+use Rattle.bw_journal.specs.Notes.{IsFrontOf, BeginsNotes}
+use Rattle.bw_journal.specs.Noted.{entry_at, journal_of}
+use Rattle.bw_session.specs.Numbered.{with_done}
+
+-- the entry of a number, if something was admitted under it
+abbrev pub entry_if : Bool → List ℕ → List (Option Request) → ℕ → Option Request → List ℕ
+entry_if stood name s n None = []
+entry_if stood name s n (Some r) = entry_bytes (entry_at stood s name n r)
+
+-- the entry of the least number without a verdict
+abbrev pub next_entry : Bool → List ℕ → Log → List ℕ
+next_entry stood name log = entry_if stood name log.admitted log.done (at log.admitted log.done)
+
+-- the header and an entry for each done number, and behind them a front of the next entry
+abbrev pub HasEntries : Header → List ℕ → Log → Option (List ℕ) → Type 0
+HasEntries h name log found =
+    (count : ℕ) × (found ≡ Some (journal_of h name log ++ take count (next_entry h.stood name log)))
+
+-- So much of a name's journal is its header and the entries of its done numbers, and no more than a
+-- front of the next entry follows. Before number 0 the header may be missing, or cut.
+pub record IsNoted (h : Header) (name : List ℕ) (log : Log) (offset : ℕ)
+    (found : Option (List ℕ)) : Type 0 where
+  pub offset_is : offset ≡ length (journal_of h name log)
+  pub stands : ((log.done ≡ 0) × IsFrontOf (header_bytes h) found) ⊎ HasEntries h name log found
+
+-- nothing is noted but the header, where it didn't stand
+abbrev pub OnlyBegins : Header → Option (List ℕ) → Option (List ℕ) → Type 0
+OnlyBegins h before found = (found ≡ before) ⊎ BeginsNotes h before found
+
+-- the log behind a number that is done, or waits on
+abbrev pub log_behind : Result Verdict StoreFault → Log → Log
+log_behind (Ok v) log = with_done log
+log_behind (Err fault) log = log
