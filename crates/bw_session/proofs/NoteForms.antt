@@ -8,9 +8,9 @@ use Rattle.bw_model.specs.Take.{Parts, Request, Verdict}
 use Rattle.bw_model.specs.Book.{Log, verdict_at}
 use Rattle.bw_model.specs.Holds.{finished_from}
 use Rattle.bw_journal.specs.JournalHeaders.{Header, header_bytes}
-use Rattle.bw_journal.specs.Entries.{Entry, entry_bytes, entries_bytes}
+use Rattle.bw_journal.specs.Entries.{JournalEntry, sealed_entry, sealed_entries}
 use Rattle.bw_journal.specs.Notes.{IsFrontOf, BeginsWith, Starts, StartsInPart, Notes, NotesInPart}
-use Rattle.bw_journal.specs.Noted.{entry_at, entries_from, journal_of}
+use Rattle.bw_journal.specs.Noted.{done_entry, entries_from, journal_of}
 use Rattle.bw_file.specs.Growing.{Growing}
 use Rattle.bw_session.specs.Fronts.{Carried}
 use Rattle.bw_session.specs.Numbered.{IsNext, with_done, noted_of}
@@ -63,22 +63,22 @@ begun_in_part h name log offset before found noted starts = record {
 entries_push : (stood : Bool) (s : List (Option Request)) (name : List ℕ) (n : ℕ) (xs : List (Option Request))
     (r : Request) → length (finished_from stood s name n xs) ≡ length xs →
     entries_from stood s name n (xs ++ Some r ∷ []) ≡
-    entries_from stood s name n xs ++ entry_at stood s name (n + length xs) r ∷ []
+    entries_from stood s name n xs ++ done_entry stood s name (n + length xs) r ∷ []
 entries_push stood s name n [] r e =
-    ap (λ (k : ℕ). entry_at stood s name k r ∷ []) (let same : n ≡ n + 0 = omega arith in same)
+    ap (λ (k : ℕ). done_entry stood s name k r ∷ []) (let same : n ≡ n + 0 = omega arith in same)
 entries_push stood s name n (None ∷ xs) r e = absurd (omega (arith, e))
 entries_push stood s name n (Some x ∷ xs) r e =
     let rest : length (finished_from stood s name (suc n) xs) ≡ length xs = omega (arith, e) in
     let place : suc n + length xs ≡ n + suc (length xs) = omega arith in
-    ap (λ (ys : List Entry). entry_at stood s name n x ∷ ys)
+    ap (λ (ys : List JournalEntry). done_entry stood s name n x ∷ ys)
     (entries_push stood s name (suc n) xs r rest
-    ∙ ap (λ (k : ℕ). entries_from stood s name (suc n) xs ++ entry_at stood s name k r ∷ []) place)
+    ∙ ap (λ (k : ℕ). entries_from stood s name (suc n) xs ++ done_entry stood s name k r ∷ []) place)
 
 -- the journal of one more done number
 journal_next : (h : Header) (name : List ℕ) (log : Log) (r : Request) (finished : List (List ℕ × Verdict)) →
     length finished ≡ log.done →
     finished ≡ finished_from h.stood log.admitted name 0 (take log.done log.admitted) →
-      at log.admitted log.done ≡ Some r →
+    at log.admitted log.done ≡ Some r →
     journal_of h name (with_done log) ≡ journal_of h name log ++ next_entry h.stood name log
 journal_next h name log r finished done finished_are here =
     let n : ℕ = log.done in
@@ -89,13 +89,13 @@ journal_next h name log r finished done finished_are here =
     let small = take-short n s in
     let whole : length (finished_from h.stood s name 0 front) ≡ length front = omega (arith, long, few, small) in
     let place : 0 + length front ≡ n = omega (arith, long, few, small) in
-    let e : Entry = entry_at h.stood s name n r in
-    ap (λ (xs : List (Option Request)). header_bytes h ++ entries_bytes (entries_from h.stood s name 0 xs))
+    let e : JournalEntry = done_entry h.stood s name n r in
+    ap (λ (xs : List (Option Request)). header_bytes h ++ sealed_entries (entries_from h.stood s name 0 xs))
     (take_next s n r here)
-    ∙ ap (λ (es : List Entry). header_bytes h ++ entries_bytes es)
+    ∙ ap (λ (es : List JournalEntry). header_bytes h ++ sealed_entries es)
     (entries_push h.stood s name 0 front r whole
-    ∙ ap (λ (k : ℕ). entries_from h.stood s name 0 front ++ entry_at h.stood s name k r ∷ []) place)
-    ∙ sym (flat_map_more entry_bytes (header_bytes h) (entries_from h.stood s name 0 front) e)
+    ∙ ap (λ (k : ℕ). entries_from h.stood s name 0 front ++ done_entry h.stood s name k r ∷ []) place)
+    ∙ sym (flat_map_more sealed_entry (header_bytes h) (entries_from h.stood s name 0 front) e)
     ∙ ap (λ (o : Option Request). journal_of h name log ++ entry_if h.stood name s n o) (sym here)
 
 -- what is noted of the next number is its entry

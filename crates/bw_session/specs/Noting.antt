@@ -7,15 +7,15 @@ use Rattle.bw_model.specs.Book.{Log}
 use Rattle.bw_file.specs.declared.store.StoreFault.{StoreFault}
 use Rattle.bw_take.specs.declared.verdict.Verdict.{Verdict}
 use Rattle.bw_journal.specs.JournalHeaders.{Header, header_bytes}
-use Rattle.bw_journal.specs.Entries.{entry_bytes}
+use Rattle.bw_journal.specs.Entries.{sealed_entry}
 use Rattle.bw_journal.specs.Notes.{IsFrontOf, BeginsNotes}
-use Rattle.bw_journal.specs.Noted.{entry_at, journal_of}
+use Rattle.bw_journal.specs.Noted.{done_entry, journal_of}
 use Rattle.bw_session.specs.Numbered.{with_done}
 
 -- the entry of a number, if something was admitted under it
 abbrev pub entry_if : Bool → List ℕ → List (Option Request) → ℕ → Option Request → List ℕ
 entry_if stood name s n None = []
-entry_if stood name s n (Some r) = entry_bytes (entry_at stood s name n r)
+entry_if stood name s n (Some r) = sealed_entry (done_entry stood s name n r)
 
 -- the entry of the least number without a verdict
 abbrev pub next_entry : Bool → List ℕ → Log → List ℕ

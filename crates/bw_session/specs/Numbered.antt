@@ -13,7 +13,7 @@ use Rattle.bw_file.specs.Growing.{Growing}
 use Rattle.bw_file.specs.Stores.{KeepsOthers}
 use Rattle.bw_file.specs.declared.store.StoreFault.{StoreFault}
 use Rattle.bw_file.specs.declared.store.TakeStore.{Ghosts as StoreGhosts}
-use Rattle.bw_journal.specs.Entries.{entry_bytes, longest_entry}
+use Rattle.bw_journal.specs.Entries.{sealed_entry, longest_entry}
 use Rattle.bw_journal.specs.JournalHeaders.{header_len}
 use Rattle.bw_journal.specs.Notes.{KeepsHeaders}
 use Rattle.bw_journal.specs.declared.journal.Journal.{Ghosts as JournalGhosts}
@@ -58,7 +58,7 @@ is_written v r = not (is_mark r) && is_stored v
 
 -- the bytes that are noted of a done number
 abbrev pub noted_of : Verdict → List ℕ → Request → List ℕ
-noted_of v digest r = entry_bytes (record { request = r; verdict = v; digest = digest })
+noted_of v digest r = sealed_entry (record { request = r; verdict = v; digest = digest })
 
 -- The request is the log's next, and this is the digest of its body.
 pub record IsNext (name : List ℕ) (log : Log) (r : Request) (digest : List ℕ) : Type 0 where
