@@ -10,8 +10,6 @@ pub mod laws;
 mod memory;
 mod reader;
 mod seal;
-#[cfg(test)]
-mod tests;
 mod writer;
 
 pub use entry::{EntryRef, first_entry};

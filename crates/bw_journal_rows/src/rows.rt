@@ -4,7 +4,7 @@ ghost use Rattle.std.specs.Prelude.{IsTrue};
 ghost use Rattle.bw_model.specs.Wire.{is_request};
 ghost use Rattle.bw_take.specs.Requests.{meaning};
 
-use crate::{
+use bw_journal::{
     FuseJournal, Journal, JournalHeader, MemoryJournal, NoJournal, ReplayFault, Replayed,
     put_entry, replay,
 };
