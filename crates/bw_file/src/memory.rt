@@ -127,6 +127,29 @@ impl TakeStore for MemoryStore {
     }
 }
 
+/// Puts bytes over what stands from an offset on, and past its end.
+#[tactic(auto, using(crate::proofs::Bytes::overwritten_past))]
+pub(crate) fn overwrite(content: &mut Vec<u8>, offset: u64, bytes: &[u8]) -> Result<(), AllocError>
+    requires { offset + length bytes.now < 2 ^ 64 }
+    ensures ok { OnOk result (content.new.items ≡ overwritten content.old.items offset bytes.now) }
+    ensures err { OnErr result (content.new.items ≡ content.old.items) }
+    ensures over { offset + length bytes.now ≤ length content.old.items → IsOk result }
+{
+    if bytes.is_empty() {
+        return Ok(());
+    }
+    let start = offset as usize;
+    let end = start + bytes.len();
+    if end <= content.len() {
+        copy_in(content, start, bytes);
+        return Ok(());
+    }
+    content.reserve(end - content.len())?;
+    content.resize(start, 0)?;
+    content.extend_from_slice(bytes)?;
+    Ok(())
+}
+
 /// Makes a file, unless it stands.
 fn make(
     files: &mut BTreeMap<Name, Vec<u8>>,
@@ -171,29 +194,6 @@ fn write(
         Some(content) => overwrite(content, offset, bytes).map_err(|_| StoreFault),
         None => Err(StoreFault),
     }
-}
-
-/// Puts bytes over what stands from an offset on, and past its end.
-#[tactic(auto, using(crate::proofs::Bytes::overwritten_past))]
-pub(crate) fn overwrite(content: &mut Vec<u8>, offset: u64, bytes: &[u8]) -> Result<(), AllocError>
-    requires { offset + length bytes.now < 2 ^ 64 }
-    ensures ok { OnOk result (content.new.items ≡ overwritten content.old.items offset bytes.now) }
-    ensures err { OnErr result (content.new.items ≡ content.old.items) }
-    ensures over { offset + length bytes.now ≤ length content.old.items → IsOk result }
-{
-    if bytes.is_empty() {
-        return Ok(());
-    }
-    let start = offset as usize;
-    let end = start + bytes.len();
-    if end <= content.len() {
-        copy_in(content, start, bytes);
-        return Ok(());
-    }
-    content.reserve(end - content.len())?;
-    content.resize(start, 0)?;
-    content.extend_from_slice(bytes)?;
-    Ok(())
 }
 
 /// Puts bytes over as many that stand there.

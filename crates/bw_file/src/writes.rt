@@ -139,44 +139,6 @@ pub(crate) fn put_grown_header<S: TakeStore>(
     Ok(())
 }
 
-/// Puts the sizes of longer data into a header that stays of its kind.
-fn put_grown_sizes<S: TakeStore>(
-    store: &mut S,
-    name: &Name,
-    heading: &Heading<'_>,
-    before: u64,
-    after: u64,
-) -> Result<(), StoreFault>
-    requires kind { fits_riff heading.now before 0 ≡ fits_riff heading.now after 0 }
-    requires grows { before ≤ after }
-    requires samples { after ≤ largest }
-    ensures shared { Shared S.TakeStore (is_err result) name.now store.old store.new }
-    ensures order { OnOk result (WasAsked S.TakeStore
-        (sizes_plan name.now (place_of heading.now) (fits_riff heading.now after 0))
-        store.old store.new) }
-    ensures begun { OnErr result (WasAskedFirst S.TakeStore
-        (sizes_plan name.now (place_of heading.now) (fits_riff heading.now after 0))
-        store.old store.new) }
-    ensures torn { IsTrue (S.honest store.old) → MayTear (S.contents store.old name.now) 0
-        (place_of heading.now) (S.contents store.new name.now) }
-    ensures put { IsTrue (S.honest store.old) → OnOk result
-        (Updates (header_of heading.now before 0) (header_of heading.now after 0)
-        (S.contents store.old name.now) (S.contents store.new name.now)) }
-{
-    let form = heading.form_size(after, 0);
-    if form <= heading.limit.bytes() {
-        store.write_at(name, 4, &(form as u32).to_le_bytes())?;
-        store.write_at(
-            name,
-            heading.data_place() - 4,
-            &(after as u32).to_le_bytes(),
-        )?;
-        return Ok(());
-    }
-    store.write_at(name, 20, &patch_sizes(form, after))?;
-    Ok(())
-}
-
 /// Brings the header of a file to the cue points behind its data.
 ///
 /// A clean file of the same kind gets its form size alone, and without cue points nothing.
@@ -211,40 +173,6 @@ pub(crate) fn put_closed_header<S: TakeStore>(
         return Ok(());
     }
     put_header(store, name, buffer, heading, data_len, cues)?;
-    Ok(())
-}
-
-/// Puts the form size with cue points into a header that stays of its kind.
-fn put_closed_size<S: TakeStore>(
-    store: &mut S,
-    name: &Name,
-    heading: &Heading<'_>,
-    data_len: u64,
-    cues: u64,
-) -> Result<(), StoreFault>
-    requires kind { fits_riff heading.now data_len 0 ≡ fits_riff heading.now data_len cues }
-    requires samples { data_len ≤ largest }
-    requires cues { cues ≤ most_markers }
-    ensures shared { Shared S.TakeStore (is_err result) name.now store.old store.new }
-    ensures order { OnOk result (WasAsked S.TakeStore
-        (form_plan name.now cues (fits_riff heading.now data_len cues)) store.old store.new) }
-    ensures begun { OnErr result (WasAskedFirst S.TakeStore
-        (form_plan name.now cues (fits_riff heading.now data_len cues)) store.old store.new) }
-    ensures torn { IsTrue (S.honest store.old) → MayTear (S.contents store.old name.now) 0
-        (place_of heading.now) (S.contents store.new name.now) }
-    ensures put { IsTrue (S.honest store.old) → OnOk result
-        (Updates (header_of heading.now data_len 0) (header_of heading.now data_len cues)
-        (S.contents store.old name.now) (S.contents store.new name.now)) }
-{
-    if cues == 0 {
-        return Ok(());
-    }
-    let form = heading.form_size(data_len, cues);
-    if form <= heading.limit.bytes() {
-        store.write_at(name, 4, &(form as u32).to_le_bytes())?;
-        return Ok(());
-    }
-    store.write_at(name, 20, &form.to_le_bytes())?;
     Ok(())
 }
 
@@ -288,6 +216,78 @@ pub(crate) fn put_retouched_header<S: TakeStore>(
         return Ok(());
     }
     put_header(store, name, buffer, retouched, data_len, 0)?;
+    Ok(())
+}
+
+/// Puts the sizes of longer data into a header that stays of its kind.
+fn put_grown_sizes<S: TakeStore>(
+    store: &mut S,
+    name: &Name,
+    heading: &Heading<'_>,
+    before: u64,
+    after: u64,
+) -> Result<(), StoreFault>
+    requires kind { fits_riff heading.now before 0 ≡ fits_riff heading.now after 0 }
+    requires grows { before ≤ after }
+    requires samples { after ≤ largest }
+    ensures shared { Shared S.TakeStore (is_err result) name.now store.old store.new }
+    ensures order { OnOk result (WasAsked S.TakeStore
+        (sizes_plan name.now (place_of heading.now) (fits_riff heading.now after 0))
+        store.old store.new) }
+    ensures begun { OnErr result (WasAskedFirst S.TakeStore
+        (sizes_plan name.now (place_of heading.now) (fits_riff heading.now after 0))
+        store.old store.new) }
+    ensures torn { IsTrue (S.honest store.old) → MayTear (S.contents store.old name.now) 0
+        (place_of heading.now) (S.contents store.new name.now) }
+    ensures put { IsTrue (S.honest store.old) → OnOk result
+        (Updates (header_of heading.now before 0) (header_of heading.now after 0)
+        (S.contents store.old name.now) (S.contents store.new name.now)) }
+{
+    let form = heading.form_size(after, 0);
+    if form <= heading.limit.bytes() {
+        store.write_at(name, 4, &(form as u32).to_le_bytes())?;
+        store.write_at(
+            name,
+            heading.data_place() - 4,
+            &(after as u32).to_le_bytes(),
+        )?;
+        return Ok(());
+    }
+    store.write_at(name, 20, &patch_sizes(form, after))?;
+    Ok(())
+}
+
+/// Puts the form size with cue points into a header that stays of its kind.
+fn put_closed_size<S: TakeStore>(
+    store: &mut S,
+    name: &Name,
+    heading: &Heading<'_>,
+    data_len: u64,
+    cues: u64,
+) -> Result<(), StoreFault>
+    requires kind { fits_riff heading.now data_len 0 ≡ fits_riff heading.now data_len cues }
+    requires samples { data_len ≤ largest }
+    requires cues { cues ≤ most_markers }
+    ensures shared { Shared S.TakeStore (is_err result) name.now store.old store.new }
+    ensures order { OnOk result (WasAsked S.TakeStore
+        (form_plan name.now cues (fits_riff heading.now data_len cues)) store.old store.new) }
+    ensures begun { OnErr result (WasAskedFirst S.TakeStore
+        (form_plan name.now cues (fits_riff heading.now data_len cues)) store.old store.new) }
+    ensures torn { IsTrue (S.honest store.old) → MayTear (S.contents store.old name.now) 0
+        (place_of heading.now) (S.contents store.new name.now) }
+    ensures put { IsTrue (S.honest store.old) → OnOk result
+        (Updates (header_of heading.now data_len 0) (header_of heading.now data_len cues)
+        (S.contents store.old name.now) (S.contents store.new name.now)) }
+{
+    if cues == 0 {
+        return Ok(());
+    }
+    let form = heading.form_size(data_len, cues);
+    if form <= heading.limit.bytes() {
+        store.write_at(name, 4, &(form as u32).to_le_bytes())?;
+        return Ok(());
+    }
+    store.write_at(name, 20, &form.to_le_bytes())?;
     Ok(())
 }
 
