@@ -38,7 +38,12 @@ impl Model for GrowingFile {
 
     ghost Value = { Growing };
 
-    ghost view = { λ f. record { name = f.name; limit = f.limit; made = f.made; dirty = is_dirty f.condition } };
+    ghost view = { λ f. record {
+      name = f.name;
+      limit = f.limit;
+      made = f.made;
+      dirty = is_dirty f.condition;
+    } };
 }
 
 impl GrowingFile {

@@ -86,7 +86,8 @@ impl TakeStore for MemoryStore {
         ensures failures { Counts self.old.tally.failures self.new.tally.failures (is_err result) }
         ensures calls { Counts self.old.tally.calls self.new.tally.calls true }
         ensures created { IfOk result (λ c.
-            Creates c (content_under self.old.files name.now) (content_under self.new.files name.now)) }
+            Creates c (content_under self.old.files name.now)
+            (content_under self.new.files name.now)) }
         ensures failed { OnErr result
             (content_under self.new.files name.now ≡ content_under self.old.files name.now) }
         ensures others { KeepsOthers
@@ -180,7 +181,8 @@ fn write(
     bytes: &[u8],
 ) -> Result<(), StoreFault>
     ensures written { OnOk result
-        (Written (content_under files.old name.now) offset bytes.now (content_under files.new name.now)) }
+        (Written (content_under files.old name.now) offset bytes.now
+        (content_under files.new name.now)) }
     ensures failed { OnErr result
         (content_under files.new name.now ≡ content_under files.old name.now) }
     ensures others { KeepsOthers (content_under files.old) (content_under files.new) name.now }

@@ -128,7 +128,8 @@ pub(crate) fn put_grown_header<S: TakeStore>(
     ensures torn { IsTrue (S.honest store.old) → MayTear (S.contents store.old name.now) 0
         (place_of heading.now) (S.contents store.new name.now) }
     ensures put { IsTrue (S.honest store.old) → OnOk result
-        (PutsOver (is_clean condition) (header_of heading.now before 0) (header_of heading.now after 0)
+        (PutsOver (is_clean condition)
+        (header_of heading.now before 0) (header_of heading.now after 0)
         (S.contents store.old name.now) (S.contents store.new name.now)) }
 {
     if condition.is_clean() && heading.is_riff(before, 0) == heading.is_riff(after, 0) {
@@ -165,7 +166,8 @@ pub(crate) fn put_closed_header<S: TakeStore>(
     ensures torn { IsTrue (S.honest store.old) → MayTear (S.contents store.old name.now) 0
         (place_of heading.now) (S.contents store.new name.now) }
     ensures put { IsTrue (S.honest store.old) → OnOk result
-        (PutsOver (is_clean condition) (header_of heading.now data_len 0) (header_of heading.now data_len cues)
+        (PutsOver (is_clean condition)
+        (header_of heading.now data_len 0) (header_of heading.now data_len cues)
         (S.contents store.old name.now) (S.contents store.new name.now)) }
 {
     if condition.is_clean() && heading.is_riff(data_len, 0) == heading.is_riff(data_len, cues) {
@@ -208,7 +210,8 @@ pub(crate) fn put_retouched_header<S: TakeStore>(
     ensures torn { IsTrue (S.honest store.old) → MayTear (S.contents store.old name.now) 0
         (place_of heading.now) (S.contents store.new name.now) }
     ensures put { IsTrue (S.honest store.old) → OnOk result
-        (PutsOver (is_clean condition) (header_of heading.now data_len 0) (header_of retouched.now data_len 0)
+        (PutsOver (is_clean condition)
+        (header_of heading.now data_len 0) (header_of retouched.now data_len 0)
         (S.contents store.old name.now) (S.contents store.new name.now)) }
 {
     if condition.is_clean() {

@@ -46,8 +46,8 @@ impl Model for RawFmt {
     } };
 }
 
-/// The loudness of a `bext` chunk from version 2 on: the 16 bits of a signed number, 100 times the value, each;
-/// 7FFFh means not given.
+/// The loudness of a `bext` chunk from version 2 on: the 16 bits of a signed number, 100 times the
+/// value, each; 7FFFh means not given.
 #[derive(Clone, Copy, Debug, PartialEq, Eq)]
 pub struct Loudness {
     pub value: u16,
@@ -62,7 +62,8 @@ impl Model for Loudness {
 
     ghost Value = { List ℕ };
 
-    ghost view = { λ l. l.value ∷ l.range ∷ l.max_true_peak ∷ l.max_momentary ∷ l.max_short_term ∷ [] };
+    ghost view = { λ l.
+        l.value ∷ l.range ∷ l.max_true_peak ∷ l.max_momentary ∷ l.max_short_term ∷ [] };
 
     ghost inverse = { λ v. record {
       value = slice_index v 0;
