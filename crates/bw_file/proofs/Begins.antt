@@ -90,6 +90,7 @@ module _ (t : Take) (limit : ℕ) (f : Format) (history : List ℕ) (no_format :
 
   -- a name that is made now, or was so before
   pub fresh_begun : (made : Bool) (before after : Option (List ℕ)) →
-      (IsTrue made → IsSome before × IsBetween t limit (Open f history) before) → IsFresh made before after → Begun after
+      (IsTrue made → IsSome before × IsBetween t limit (Open f history) before) → IsFresh made before after →
+      Begun after
   fresh_begun true before after was fresh = subst Begun (sym fresh) (begun before (was refl))
   fresh_begun false before after was fresh = begun_empty after fresh

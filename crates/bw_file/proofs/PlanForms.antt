@@ -19,7 +19,8 @@ on_err (Err e) P h = h
 pub padded : (name : List ℕ) (place n : ℕ) → (place + n) % 2 ≡ 1 →
     samples_plan name place n ≡ (WriteAt name place n ∷ []) ++ (WriteAt name (place + n) 1 ∷ [])
 padded name place n odd =
-    ap (λ (b : Bool). WriteAt name place n ∷ cond b (WriteAt name (place + n) 1 ∷ []) []) (eq-eqb ((place + n) % 2) 1 odd)
+    ap (λ (b : Bool). WriteAt name place n ∷ cond b (WriteAt name (place + n) 1 ∷ []) [])
+    (eq-eqb ((place + n) % 2) 1 odd)
 
 pub is_within : (n limit : ℕ) → n ≤ limit → nat_le n limit ≡ true
 is_within n limit h = grind arith

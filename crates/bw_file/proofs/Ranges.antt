@@ -27,7 +27,8 @@ abbrev pub AreSameBelow : ℕ → List ℕ → List ℕ → Type 0
 AreSameBelow now before after = (t : ℕ) (at : ℕ × ℕ) → t < now → range_of t ≡ Some at → IsSameIn at before after
 
 -- headers that are the same in the field are the same
-same_where_same : (tag : ℕ) (before after : List ℕ) (s : DiffersInField tag before after) → IsSameIn s.range before after →
+same_where_same : (tag : ℕ) (before after : List ℕ) (s : DiffersInField tag before after) →
+    IsSameIn s.range before after →
     after ≡ before
 same_where_same tag before after s same =
     let from = s.range.0 in

@@ -42,7 +42,8 @@ length-set_plan true name place tag before after = go (bytes_eq before after) (r
 length-set_plan false name place tag before after = omega arith
 
 module _ (g : Growing) (p : Parts) (old new : Heading) (data_len : ℕ) (was : old.bext.now ≡ p.fields)
-    (told : old.history.now ≡ p.history) (format : new.format ≡ old.format) (history : new.history.now ≡ old.history.now)
+    (told : old.history.now ≡ p.history) (format : new.format ≡ old.format)
+    (history : new.history.now ≡ old.history.now)
     (limit : new.limit ≡ old.limit) where
   abbrev before : List ℕ
   before = header_of old data_len 0
@@ -51,7 +52,8 @@ module _ (g : Growing) (p : Parts) (old new : Heading) (data_len : ℕ) (was : o
   after = header_of new data_len 0
 
   abbrev by_fields : ℕ → List StoreCall
-  by_fields tag = set_plan (not g.dirty) g.name (place_of old) tag (field_part tag p.fields) (field_part tag new.bext.now)
+  by_fields tag = set_plan (not g.dirty) g.name (place_of old) tag (field_part tag p.fields)
+      (field_part tag new.bext.now)
 
   to_plan : (tag : ℕ) → by_fields tag ≡ retouch_plan g p new.bext.now tag
   to_plan tag = rw told refl
@@ -95,7 +97,8 @@ module _ (g : Growing) (p : Parts) (old new : Heading) (data_len : ℕ) (was : o
         planned (λ (l : List StoreCall). Gets l a b x y) first tag value fields is sets set gets
 
     pub first_planned : (tag : ℕ) (value : List ℕ) (fields : List (List ℕ)) → new.bext.now ≡ fields →
-        fields ≡ with_field p.fields tag value → ((t : ℕ) → DiffersInField t before after → GetsFirst (asked t) a b x y) →
+        fields ≡ with_field p.fields tag value →
+        ((t : ℕ) → DiffersInField t before after → GetsFirst (asked t) a b x y) →
         GetsFirst (retouch_plan g p fields tag) a b x y
     first_planned tag value fields is set gets =
         planned (λ (l : List StoreCall). GetsFirst l a b x y) first tag value fields is sets set gets

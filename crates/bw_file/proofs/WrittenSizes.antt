@@ -125,6 +125,7 @@ module _ (f : Format) (fields : List (List ℕ)) (history : List ℕ) (limit : �
       let rest = le64 data_len ++ behind in
       put_over c0 c1 bw64_front (le64 (form_for data_len before)) (rest ++ tail) (le64 (form_for data_len after)) 20
       (e ∙ ap (λ (l : List ℕ). Some (l ++ tail)) (bw64_parts data_len before large_before)
-      ∙ ap Some (regroup bw64_front (le64 (form_for data_len before)) rest tail)) (length-front data_len before large_before) refl w
+      ∙ ap Some (regroup bw64_front (le64 (form_for data_len before)) rest tail))
+      (length-front data_len before large_before) refl w
       ∙ ap Some (sym (regroup bw64_front (le64 (form_for data_len after)) rest tail)
       ∙ ap (λ (l : List ℕ). l ++ tail) (sym (bw64_parts data_len after large_after)))

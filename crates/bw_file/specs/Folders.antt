@@ -9,8 +9,8 @@ unfoldable pub take_path : List ℕ → List ℕ → List ℕ
 take_path folder name = folder ++ codes "/" ++ name ++ codes ".wav"
 
 -- what stands under a take's name, by what stands at each path
-abbrev pub content_in_folder : (List ℕ → Option (List ℕ)) → List ℕ → List ℕ → Option (List ℕ)
-content_in_folder contents folder name = contents (take_path folder name)
+abbrev pub take_content : (List ℕ → Option (List ℕ)) → List ℕ → List ℕ → Option (List ℕ)
+take_content contents folder name = contents (take_path folder name)
 
 -- the names of open takes
 abbrev pub open_names : {F : Type 0} → List (OpenTake F) → List (List ℕ)

@@ -1,5 +1,6 @@
 pub mod Stores
 pub mod Calls
+pub mod Conditions
 pub mod Memory
 pub mod MemoryNames
 pub mod MemoryDisks

@@ -3,7 +3,7 @@ ghost use Rattle.std.specs.Prelude.{◌≡◌, ◌<◌, ℕ, List, [], true, IsT
 ghost use Rattle.std.specs.List.{All, Contains, HoldsAt};
 ghost use Rattle.bw_file.specs.Stores.{Counts, Creates, Written, MayTear, KeepsOthers};
 ghost use Rattle.bw_file.specs.Disks.{IsOneCall, AsksOnce, Syncs};
-ghost use Rattle.bw_file.specs.Folders.{take_path, content_in_folder, open_names, opened_by};
+ghost use Rattle.bw_file.specs.Folders.{take_path, take_content, open_names, opened_by};
 
 use crate::disk::Disk;
 use crate::store::{Created, StoreFault, TakeStore};
@@ -100,14 +100,14 @@ impl<D: Disk> FolderStore<D> {
         ensures folder { self.new.folder ≡ self.old.folder }
         ensures honest { D.honest self.new.disk ≡ D.honest self.old.disk }
         ensures created { IsTrue (D.honest self.old.disk) → IfOk result (λ c. Creates c
-            (content_in_folder (D.contents self.old.disk) (string_bytes self.old.folder) name.now)
-            (content_in_folder (D.contents self.new.disk) (string_bytes self.old.folder) name.now)) }
+            (take_content (D.contents self.old.disk) (string_bytes self.old.folder) name.now)
+            (take_content (D.contents self.new.disk) (string_bytes self.old.folder) name.now)) }
         ensures failed { IsTrue (D.honest self.old.disk) → OnErr result
-            (content_in_folder (D.contents self.new.disk) (string_bytes self.old.folder) name.now
-            ≡ content_in_folder (D.contents self.old.disk) (string_bytes self.old.folder) name.now) }
+            (take_content (D.contents self.new.disk) (string_bytes self.old.folder) name.now
+            ≡ take_content (D.contents self.old.disk) (string_bytes self.old.folder) name.now) }
         ensures others { IsTrue (D.honest self.old.disk) → KeepsOthers
-            (content_in_folder (D.contents self.old.disk) (string_bytes self.old.folder))
-            (content_in_folder (D.contents self.new.disk) (string_bytes self.old.folder)) name.now }
+            (take_content (D.contents self.old.disk) (string_bytes self.old.folder))
+            (take_content (D.contents self.new.disk) (string_bytes self.old.folder)) name.now }
         ensures synced { IsTrue (D.honest self.old.disk) →
             (path : List ℕ) → D.synced self.new.disk path ≡ D.synced self.old.disk path }
         ensures asks { AsksOnce D.calls D.failures self.old.disk self.new.disk result }
@@ -129,7 +129,7 @@ impl<D: Disk> FolderStore<D> {
 }
 
 impl<D: Disk> TakeStore for FolderStore<D> {
-    ghost contents = { λ s name. content_in_folder (D.contents s.disk) (string_bytes s.folder) name };
+    ghost contents = { λ s name. take_content (D.contents s.disk) (string_bytes s.folder) name };
 
     ghost failures = { λ s. s.tally.failures };
 
@@ -143,14 +143,14 @@ impl<D: Disk> TakeStore for FolderStore<D> {
         ensures folder { self.new.folder ≡ self.old.folder }
         ensures honest { D.honest self.new.disk ≡ D.honest self.old.disk }
         ensures created { IsTrue (D.honest self.old.disk) → IfOk result (λ c. Creates c
-            (content_in_folder (D.contents self.old.disk) (string_bytes self.old.folder) name.now)
-            (content_in_folder (D.contents self.new.disk) (string_bytes self.new.folder) name.now)) }
+            (take_content (D.contents self.old.disk) (string_bytes self.old.folder) name.now)
+            (take_content (D.contents self.new.disk) (string_bytes self.new.folder) name.now)) }
         ensures failed { IsTrue (D.honest self.old.disk) → OnErr result
-            (content_in_folder (D.contents self.new.disk) (string_bytes self.new.folder) name.now
-            ≡ content_in_folder (D.contents self.old.disk) (string_bytes self.old.folder) name.now) }
+            (take_content (D.contents self.new.disk) (string_bytes self.new.folder) name.now
+            ≡ take_content (D.contents self.old.disk) (string_bytes self.old.folder) name.now) }
         ensures others { IsTrue (D.honest self.old.disk) → KeepsOthers
-            (content_in_folder (D.contents self.old.disk) (string_bytes self.old.folder))
-            (content_in_folder (D.contents self.new.disk) (string_bytes self.new.folder)) name.now }
+            (take_content (D.contents self.old.disk) (string_bytes self.old.folder))
+            (take_content (D.contents self.new.disk) (string_bytes self.new.folder)) name.now }
         ensures synced { IsTrue (D.honest self.old.disk) →
             (path : List ℕ) → D.synced self.new.disk path ≡ D.synced self.old.disk path }
         ensures asks { AsksOnce D.calls D.failures self.old.disk self.new.disk result }
@@ -169,16 +169,16 @@ impl<D: Disk> TakeStore for FolderStore<D> {
         ensures folder { self.new.folder ≡ self.old.folder }
         ensures honest { D.honest self.new.disk ≡ D.honest self.old.disk }
         ensures written { IsTrue (D.honest self.old.disk) → OnOk result (Written
-            (content_in_folder (D.contents self.old.disk) (string_bytes self.old.folder) name.now)
+            (take_content (D.contents self.old.disk) (string_bytes self.old.folder) name.now)
             offset bytes.now
-            (content_in_folder (D.contents self.new.disk) (string_bytes self.new.folder) name.now)) }
+            (take_content (D.contents self.new.disk) (string_bytes self.new.folder) name.now)) }
         ensures failed { IsTrue (D.honest self.old.disk) → OnErr result (MayTear
-            (content_in_folder (D.contents self.old.disk) (string_bytes self.old.folder) name.now)
+            (take_content (D.contents self.old.disk) (string_bytes self.old.folder) name.now)
             offset (length bytes.now)
-            (content_in_folder (D.contents self.new.disk) (string_bytes self.new.folder) name.now)) }
+            (take_content (D.contents self.new.disk) (string_bytes self.new.folder) name.now)) }
         ensures others { IsTrue (D.honest self.old.disk) → KeepsOthers
-            (content_in_folder (D.contents self.old.disk) (string_bytes self.old.folder))
-            (content_in_folder (D.contents self.new.disk) (string_bytes self.new.folder)) name.now }
+            (take_content (D.contents self.old.disk) (string_bytes self.old.folder))
+            (take_content (D.contents self.new.disk) (string_bytes self.new.folder)) name.now }
         ensures synced { IsTrue (D.honest self.old.disk) →
             (path : List ℕ) → D.synced self.new.disk path ≡ D.synced self.old.disk path }
         ensures own { Contains (open_names self.old.takes.items) name.now →
@@ -210,9 +210,9 @@ impl<D: Disk> TakeStore for FolderStore<D> {
         ensures unchanged { IsTrue (D.honest self.old.disk) →
             (path : List ℕ) → D.contents self.new.disk path ≡ D.contents self.old.disk path }
         ensures synced { IsTrue (D.honest self.old.disk) → Syncs result
-            (content_in_folder (D.contents self.old.disk) (string_bytes self.old.folder) name.now)
-            (content_in_folder (D.synced self.old.disk) (string_bytes self.old.folder))
-            (content_in_folder (D.synced self.new.disk) (string_bytes self.new.folder)) name.now }
+            (take_content (D.contents self.old.disk) (string_bytes self.old.folder) name.now)
+            (take_content (D.synced self.old.disk) (string_bytes self.old.folder))
+            (take_content (D.synced self.new.disk) (string_bytes self.new.folder)) name.now }
         ensures own { Contains (open_names self.old.takes.items) name.now →
             IsOneCall D.calls D.failures self.old.disk self.new.disk (is_err result) }
         ensures foreign { (Contains (open_names self.old.takes.items) name.now → ⊥) →

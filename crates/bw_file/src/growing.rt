@@ -8,6 +8,7 @@ ghost use Rattle.bw_file.specs.Plans.{name_plan, begin_plan, append_plan, retouc
 ghost use Rattle.bw_file.specs.Growing.{Growing, Stores, Sets, BeginsFile, AsksForName, IsFresh, is_new};
 
 use crate::buffer::Buffer;
+use crate::condition::Condition;
 use crate::store::{Created, StoreFault, TakeStore};
 use crate::writes::{
     put_closed_header, put_cues, put_grown_header, put_header, put_retouched_header, put_samples,
@@ -27,16 +28,22 @@ pub struct GrowingFile {
     name: Name,
     limit: Limit,
     made: bool,
-    dirty: bool,
+    condition: Condition,
     buffer: Buffer,
 }
 
 impl Model for GrowingFile {
+    ghost use Rattle.bw_file.specs.Conditions.{is_dirty};
     ghost use Rattle.bw_file.specs.Growing.{Growing};
 
     ghost Value = { Growing };
 
-    ghost view = { λ f. record { name = f.name; limit = f.limit; made = f.made; dirty = f.dirty } };
+    ghost view = { λ f. record {
+      name = f.name;
+      limit = f.limit;
+      made = f.made;
+      dirty = is_dirty f.condition;
+    } };
 }
 
 impl GrowingFile {
@@ -52,7 +59,7 @@ impl GrowingFile {
             name,
             limit,
             made: false,
-            dirty: false,
+            condition: Condition::Clean,
             buffer: Buffer::new(alloc)?,
         })
     }
@@ -70,7 +77,7 @@ impl GrowingFile {
             name,
             limit,
             made: true,
-            dirty: false,
+            condition: Condition::Clean,
             buffer: Buffer::new(alloc)?,
         })
     }
@@ -80,7 +87,7 @@ impl GrowingFile {
     pub fn is_dirty(&self) -> bool
         ensures { result ≡ self.now.dirty }
     {
-        self.dirty
+        !self.condition.is_clean()
     }
 
     /// Marks the file for another try of the request that its last call stored.
@@ -89,7 +96,7 @@ impl GrowingFile {
     pub fn mark_dirty(&mut self)
         ensures { self.new ≡ record self.old { dirty = true } }
     {
-        self.dirty = true;
+        self.condition = Condition::Dirty;
     }
 
     /// Makes the name, unless an earlier try made it, and writes the header of a take without data.
@@ -125,11 +132,11 @@ impl GrowingFile {
             BeginsFile result self.old self.new.made t (Open format history.now)
             (S.contents store.old self.old.name) (S.contents store.new self.old.name) }
     {
-        self.dirty = true;
+        self.condition = Condition::Dirty;
         match make_name(&mut self.made, store, &self.name)? {
             Created::New => {}
             Created::Exists => {
-                self.dirty = false;
+                self.condition = Condition::Clean;
                 return Ok(Created::Exists);
             }
         }
@@ -142,7 +149,7 @@ impl GrowingFile {
             state.data_len(),
             0,
         )?;
-        self.dirty = false;
+        self.condition = Condition::Clean;
         Ok(Created::New)
     }
 
@@ -170,14 +177,14 @@ impl GrowingFile {
             Stores result self.old t (Block samples.now)
             (S.contents store.old self.old.name) (S.contents store.new self.old.name) }
     {
-        let is_clean = !self.dirty;
-        self.dirty = true;
+        let condition = self.condition;
+        self.condition = Condition::Dirty;
         let heading = heading_of(state, self.limit);
         let before = state.data_len();
         let after = before + samples.len() as u64;
         put_samples(store, &self.name, heading.data_place() + before, samples)?;
         put_grown_header(
-            is_clean,
+            condition,
             store,
             &self.name,
             &mut self.buffer,
@@ -185,7 +192,7 @@ impl GrowingFile {
             before,
             after,
         )?;
-        self.dirty = false;
+        self.condition = Condition::Clean;
         Ok(())
     }
 
@@ -216,12 +223,12 @@ impl GrowingFile {
             Stores result self.old t (SetField tag value)
             (S.contents store.old self.old.name) (S.contents store.new self.old.name) }
     {
-        let is_clean = !self.dirty;
-        self.dirty = true;
+        let condition = self.condition;
+        self.condition = Condition::Dirty;
         let heading = heading_of(state, self.limit);
         let retouched = heading.with_bext(bext);
         put_retouched_header(
-            is_clean,
+            condition,
             store,
             &self.name,
             &mut self.buffer,
@@ -229,7 +236,7 @@ impl GrowingFile {
             &retouched,
             state.data_len(),
         )?;
-        self.dirty = false;
+        self.condition = Condition::Clean;
         Ok(())
     }
 
@@ -254,15 +261,15 @@ impl GrowingFile {
             Stores result self.old t (Close (frames state.now.parts))
             (S.contents store.old self.old.name) (S.contents store.new self.old.name) }
     {
-        let is_clean = !self.dirty;
-        self.dirty = true;
+        let condition = self.condition;
+        self.condition = Condition::Dirty;
         let heading = heading_of(state, self.limit);
         let data_len = state.data_len();
         let markers = state.markers();
         let end = heading.data_place() + data_len + data_len % 2;
         put_cues(store, &self.name, &mut self.buffer, end, markers)?;
         put_closed_header(
-            is_clean,
+            condition,
             store,
             &self.name,
             &mut self.buffer,
@@ -271,7 +278,7 @@ impl GrowingFile {
             markers.len() as u64,
         )?;
         store.finish(&self.name)?;
-        self.dirty = false;
+        self.condition = Condition::Clean;
         Ok(())
     }
 }

@@ -3,6 +3,7 @@
 
 mod buffer;
 mod change;
+mod condition;
 mod disk;
 mod folder;
 mod fuse;

@@ -86,7 +86,8 @@ impl TakeStore for MemoryStore {
         ensures failures { Counts self.old.tally.failures self.new.tally.failures (is_err result) }
         ensures calls { Counts self.old.tally.calls self.new.tally.calls true }
         ensures created { IfOk result (λ c.
-            Creates c (content_under self.old.files name.now) (content_under self.new.files name.now)) }
+            Creates c (content_under self.old.files name.now)
+            (content_under self.new.files name.now)) }
         ensures failed { OnErr result
             (content_under self.new.files name.now ≡ content_under self.old.files name.now) }
         ensures others { KeepsOthers
@@ -127,6 +128,29 @@ impl TakeStore for MemoryStore {
     }
 }
 
+/// Puts bytes over what stands from an offset on, and past its end.
+#[tactic(auto, using(crate::proofs::Bytes::overwritten_past))]
+pub(crate) fn overwrite(content: &mut Vec<u8>, offset: u64, bytes: &[u8]) -> Result<(), AllocError>
+    requires { offset + length bytes.now < 2 ^ 64 }
+    ensures ok { OnOk result (content.new.items ≡ overwritten content.old.items offset bytes.now) }
+    ensures err { OnErr result (content.new.items ≡ content.old.items) }
+    ensures over { offset + length bytes.now ≤ length content.old.items → IsOk result }
+{
+    if bytes.is_empty() {
+        return Ok(());
+    }
+    let start = offset as usize;
+    let end = start + bytes.len();
+    if end <= content.len() {
+        copy_in(content, start, bytes);
+        return Ok(());
+    }
+    content.reserve(end - content.len())?;
+    content.resize(start, 0)?;
+    content.extend_from_slice(bytes)?;
+    Ok(())
+}
+
 /// Makes a file, unless it stands.
 fn make(
     files: &mut BTreeMap<Name, Vec<u8>>,
@@ -157,7 +181,8 @@ fn write(
     bytes: &[u8],
 ) -> Result<(), StoreFault>
     ensures written { OnOk result
-        (Written (content_under files.old name.now) offset bytes.now (content_under files.new name.now)) }
+        (Written (content_under files.old name.now) offset bytes.now
+        (content_under files.new name.now)) }
     ensures failed { OnErr result
         (content_under files.new name.now ≡ content_under files.old name.now) }
     ensures others { KeepsOthers (content_under files.old) (content_under files.new) name.now }
@@ -171,29 +196,6 @@ fn write(
         Some(content) => overwrite(content, offset, bytes).map_err(|_| StoreFault),
         None => Err(StoreFault),
     }
-}
-
-/// Puts bytes over what stands from an offset on, and past its end.
-#[tactic(auto, using(crate::proofs::Bytes::overwritten_past))]
-pub(crate) fn overwrite(content: &mut Vec<u8>, offset: u64, bytes: &[u8]) -> Result<(), AllocError>
-    requires { offset + length bytes.now < 2 ^ 64 }
-    ensures ok { OnOk result (content.new.items ≡ overwritten content.old.items offset bytes.now) }
-    ensures err { OnErr result (content.new.items ≡ content.old.items) }
-    ensures over { offset + length bytes.now ≤ length content.old.items → IsOk result }
-{
-    if bytes.is_empty() {
-        return Ok(());
-    }
-    let start = offset as usize;
-    let end = start + bytes.len();
-    if end <= content.len() {
-        copy_in(content, start, bytes);
-        return Ok(());
-    }
-    content.reserve(end - content.len())?;
-    content.resize(start, 0)?;
-    content.extend_from_slice(bytes)?;
-    Ok(())
 }
 
 /// Puts bytes over as many that stand there.

@@ -7,8 +7,8 @@ use std::fs::{File, Files, OpenFile};
 use std::io;
 use std::io::{ErrorKind, Seek, SeekFrom, Write};
 
-/// The files of the system, by the calls of std. No clause can say what they hold: that this disk is
-/// an honest one is a premise.
+/// The files of the system, by the calls of std. No clause can say what they hold: that this disk
+/// is an honest one is a premise.
 #[derive(Drop)]
 pub struct SystemDisk<R> {
     rt: R,

@@ -3,6 +3,7 @@ ghost use Rattle.std.specs.Prelude.{◌≡◌, ◌≤◌, ◌<◌, ◌+◌, ◌*
 ghost use Rattle.bw_model.specs.Limits.{largest, most_markers};
 ghost use Rattle.bw_model.specs.Layout.{chunk, pad};
 ghost use Rattle.bw_model.specs.File.{cue_chunks};
+ghost use Rattle.bw_file.specs.Conditions.{is_clean};
 ghost use Rattle.bw_file.specs.Stores.{MayTear};
 ghost use Rattle.bw_file.specs.StoreSteps.{Shared, WasAsked, WasAskedFirst};
 ghost use Rattle.bw_file.specs.Plans.{samples_plan, cues_plan, header_plan, sizes_plan, form_plan, grown_plan, closed_plan, field_plan, set_plan};
@@ -12,6 +13,7 @@ ghost use Rattle.bw_layout.specs.Headings.{header_of, place_of, fits_riff};
 
 use crate::buffer::Buffer;
 use crate::change::changed_range;
+use crate::condition::Condition;
 use crate::store::{StoreFault, TakeStore};
 use bw_layout::{CuePoint, Heading, patch_sizes};
 use bw_take::Name;
@@ -106,7 +108,7 @@ pub(crate) fn put_header<S: TakeStore>(
 ///
 /// A clean file of the same kind gets its sizes alone.
 pub(crate) fn put_grown_header<S: TakeStore>(
-    is_clean: bool,
+    condition: Condition,
     store: &mut S,
     name: &Name,
     buffer: &mut Buffer,
@@ -118,22 +120,105 @@ pub(crate) fn put_grown_header<S: TakeStore>(
     requires samples { after ≤ largest }
     ensures shared { Shared S.TakeStore (is_err result) name.now store.old store.new }
     ensures order { OnOk result (WasAsked S.TakeStore
-        (grown_plan is_clean name.now (place_of heading.now)
+        (grown_plan (is_clean condition) name.now (place_of heading.now)
         (fits_riff heading.now before 0) (fits_riff heading.now after 0)) store.old store.new) }
     ensures begun { OnErr result (WasAskedFirst S.TakeStore
-        (grown_plan is_clean name.now (place_of heading.now)
+        (grown_plan (is_clean condition) name.now (place_of heading.now)
         (fits_riff heading.now before 0) (fits_riff heading.now after 0)) store.old store.new) }
     ensures torn { IsTrue (S.honest store.old) → MayTear (S.contents store.old name.now) 0
         (place_of heading.now) (S.contents store.new name.now) }
     ensures put { IsTrue (S.honest store.old) → OnOk result
-        (PutsOver is_clean (header_of heading.now before 0) (header_of heading.now after 0)
+        (PutsOver (is_clean condition)
+        (header_of heading.now before 0) (header_of heading.now after 0)
         (S.contents store.old name.now) (S.contents store.new name.now)) }
 {
-    if is_clean && heading.is_riff(before, 0) == heading.is_riff(after, 0) {
+    if condition.is_clean() && heading.is_riff(before, 0) == heading.is_riff(after, 0) {
         put_grown_sizes(store, name, heading, before, after)?;
         return Ok(());
     }
     put_header(store, name, buffer, heading, after, 0)?;
+    Ok(())
+}
+
+/// Brings the header of a file to the cue points behind its data.
+///
+/// A clean file of the same kind gets its form size alone, and without cue points nothing.
+pub(crate) fn put_closed_header<S: TakeStore>(
+    condition: Condition,
+    store: &mut S,
+    name: &Name,
+    buffer: &mut Buffer,
+    heading: &Heading<'_>,
+    data_len: u64,
+    cues: u64,
+) -> Result<(), StoreFault>
+    requires samples { data_len ≤ largest }
+    requires cues { cues ≤ most_markers }
+    ensures shared { Shared S.TakeStore (is_err result) name.now store.old store.new }
+    ensures order { OnOk result (WasAsked S.TakeStore
+        (closed_plan (is_clean condition) name.now (place_of heading.now)
+        (fits_riff heading.now data_len 0) (fits_riff heading.now data_len cues) cues)
+        store.old store.new) }
+    ensures begun { OnErr result (WasAskedFirst S.TakeStore
+        (closed_plan (is_clean condition) name.now (place_of heading.now)
+        (fits_riff heading.now data_len 0) (fits_riff heading.now data_len cues) cues)
+        store.old store.new) }
+    ensures torn { IsTrue (S.honest store.old) → MayTear (S.contents store.old name.now) 0
+        (place_of heading.now) (S.contents store.new name.now) }
+    ensures put { IsTrue (S.honest store.old) → OnOk result
+        (PutsOver (is_clean condition)
+        (header_of heading.now data_len 0) (header_of heading.now data_len cues)
+        (S.contents store.old name.now) (S.contents store.new name.now)) }
+{
+    if condition.is_clean() && heading.is_riff(data_len, 0) == heading.is_riff(data_len, cues) {
+        put_closed_size(store, name, heading, data_len, cues)?;
+        return Ok(());
+    }
+    put_header(store, name, buffer, heading, data_len, cues)?;
+    Ok(())
+}
+
+/// Brings the header of a file without cue points to a heading with another `bext`.
+///
+/// A clean file gets the changed field alone.
+pub(crate) fn put_retouched_header<S: TakeStore>(
+    condition: Condition,
+    store: &mut S,
+    name: &Name,
+    buffer: &mut Buffer,
+    heading: &Heading<'_>,
+    retouched: &Heading<'_>,
+    data_len: u64,
+) -> Result<(), StoreFault>
+    requires place { place_of retouched.now ≡ place_of heading.now }
+    requires samples { data_len ≤ largest }
+    requires field { (tag : ℕ) × DiffersInField tag
+        (header_of heading.now data_len 0) (header_of retouched.now data_len 0) }
+    ensures shared { Shared S.TakeStore (is_err result) name.now store.old store.new }
+    ensures order { (tag : ℕ) →
+        DiffersInField tag (header_of heading.now data_len 0) (header_of retouched.now data_len 0) →
+        OnOk result (WasAsked S.TakeStore
+        (set_plan (is_clean condition) name.now (place_of heading.now) tag
+        (header_of heading.now data_len 0) (header_of retouched.now data_len 0))
+        store.old store.new) }
+    ensures begun { (tag : ℕ) →
+        DiffersInField tag (header_of heading.now data_len 0) (header_of retouched.now data_len 0) →
+        OnErr result (WasAskedFirst S.TakeStore
+        (set_plan (is_clean condition) name.now (place_of heading.now) tag
+        (header_of heading.now data_len 0) (header_of retouched.now data_len 0))
+        store.old store.new) }
+    ensures torn { IsTrue (S.honest store.old) → MayTear (S.contents store.old name.now) 0
+        (place_of heading.now) (S.contents store.new name.now) }
+    ensures put { IsTrue (S.honest store.old) → OnOk result
+        (PutsOver (is_clean condition)
+        (header_of heading.now data_len 0) (header_of retouched.now data_len 0)
+        (S.contents store.old name.now) (S.contents store.new name.now)) }
+{
+    if condition.is_clean() {
+        put_field(store, name, buffer, heading, retouched, data_len)?;
+        return Ok(());
+    }
+    put_header(store, name, buffer, retouched, data_len, 0)?;
     Ok(())
 }
 
@@ -175,43 +260,6 @@ fn put_grown_sizes<S: TakeStore>(
     Ok(())
 }
 
-/// Brings the header of a file to the cue points behind its data.
-///
-/// A clean file of the same kind gets its form size alone, and without cue points nothing.
-pub(crate) fn put_closed_header<S: TakeStore>(
-    is_clean: bool,
-    store: &mut S,
-    name: &Name,
-    buffer: &mut Buffer,
-    heading: &Heading<'_>,
-    data_len: u64,
-    cues: u64,
-) -> Result<(), StoreFault>
-    requires samples { data_len ≤ largest }
-    requires cues { cues ≤ most_markers }
-    ensures shared { Shared S.TakeStore (is_err result) name.now store.old store.new }
-    ensures order { OnOk result (WasAsked S.TakeStore
-        (closed_plan is_clean name.now (place_of heading.now)
-        (fits_riff heading.now data_len 0) (fits_riff heading.now data_len cues) cues)
-        store.old store.new) }
-    ensures begun { OnErr result (WasAskedFirst S.TakeStore
-        (closed_plan is_clean name.now (place_of heading.now)
-        (fits_riff heading.now data_len 0) (fits_riff heading.now data_len cues) cues)
-        store.old store.new) }
-    ensures torn { IsTrue (S.honest store.old) → MayTear (S.contents store.old name.now) 0
-        (place_of heading.now) (S.contents store.new name.now) }
-    ensures put { IsTrue (S.honest store.old) → OnOk result
-        (PutsOver is_clean (header_of heading.now data_len 0) (header_of heading.now data_len cues)
-        (S.contents store.old name.now) (S.contents store.new name.now)) }
-{
-    if is_clean && heading.is_riff(data_len, 0) == heading.is_riff(data_len, cues) {
-        put_closed_size(store, name, heading, data_len, cues)?;
-        return Ok(());
-    }
-    put_header(store, name, buffer, heading, data_len, cues)?;
-    Ok(())
-}
-
 /// Puts the form size with cue points into a header that stays of its kind.
 fn put_closed_size<S: TakeStore>(
     store: &mut S,
@@ -243,49 +291,6 @@ fn put_closed_size<S: TakeStore>(
         return Ok(());
     }
     store.write_at(name, 20, &form.to_le_bytes())?;
-    Ok(())
-}
-
-/// Brings the header of a file without cue points to a heading with another `bext`.
-///
-/// A clean file gets the changed field alone.
-pub(crate) fn put_retouched_header<S: TakeStore>(
-    is_clean: bool,
-    store: &mut S,
-    name: &Name,
-    buffer: &mut Buffer,
-    heading: &Heading<'_>,
-    retouched: &Heading<'_>,
-    data_len: u64,
-) -> Result<(), StoreFault>
-    requires place { place_of retouched.now ≡ place_of heading.now }
-    requires samples { data_len ≤ largest }
-    requires field { (tag : ℕ) × DiffersInField tag
-        (header_of heading.now data_len 0) (header_of retouched.now data_len 0) }
-    ensures shared { Shared S.TakeStore (is_err result) name.now store.old store.new }
-    ensures order { (tag : ℕ) →
-        DiffersInField tag (header_of heading.now data_len 0) (header_of retouched.now data_len 0) →
-        OnOk result (WasAsked S.TakeStore
-        (set_plan is_clean name.now (place_of heading.now) tag
-        (header_of heading.now data_len 0) (header_of retouched.now data_len 0))
-        store.old store.new) }
-    ensures begun { (tag : ℕ) →
-        DiffersInField tag (header_of heading.now data_len 0) (header_of retouched.now data_len 0) →
-        OnErr result (WasAskedFirst S.TakeStore
-        (set_plan is_clean name.now (place_of heading.now) tag
-        (header_of heading.now data_len 0) (header_of retouched.now data_len 0))
-        store.old store.new) }
-    ensures torn { IsTrue (S.honest store.old) → MayTear (S.contents store.old name.now) 0
-        (place_of heading.now) (S.contents store.new name.now) }
-    ensures put { IsTrue (S.honest store.old) → OnOk result
-        (PutsOver is_clean (header_of heading.now data_len 0) (header_of retouched.now data_len 0)
-        (S.contents store.old name.now) (S.contents store.new name.now)) }
-{
-    if is_clean {
-        put_field(store, name, buffer, heading, retouched, data_len)?;
-        return Ok(());
-    }
-    put_header(store, name, buffer, retouched, data_len, 0)?;
     Ok(())
 }
 

@@ -54,7 +54,8 @@ slices a b c d e t v u l z q w = record {
   e-is = part (a ++ b ++ c ++ d) e (t ++ v ++ u ++ l ++ z ++ q) 330 8 simp length-append
       (omega (arith, w.a-width, w.b-width, w.c-width, w.d-width)) w.e-width (simp (append_assoc, append-nil));
   t-is = part (a ++ b ++ c ++ d ++ e) t (v ++ u ++ l ++ z ++ q) 338 8 simp length-append
-      (omega (arith, w.a-width, w.b-width, w.c-width, w.d-width, w.e-width)) w.t-width (simp (append_assoc, append-nil));
+      (omega (arith, w.a-width, w.b-width, w.c-width, w.d-width, w.e-width)) w.t-width
+      (simp (append_assoc, append-nil));
   v-is = part (a ++ b ++ c ++ d ++ e ++ t) v (u ++ l ++ z ++ q) 346 2 simp length-append
       (omega (arith, w.a-width, w.b-width, w.c-width, w.d-width, w.e-width, w.t-width)) w.v-width
       (simp (append_assoc, append-nil));

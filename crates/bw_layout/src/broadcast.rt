@@ -39,7 +39,8 @@ impl Model for Bext {
 
     ghost view = { λ b.
         b.description ∷ b.originator ∷ b.reference ∷ b.date ∷ b.time ∷ b.time_reference ∷ b.umid
-        ∷ b.loudness_value ∷ b.loudness_range ∷ b.max_true_peak ∷ b.max_momentary ∷ b.max_short_term ∷ [] };
+        ∷ b.loudness_value ∷ b.loudness_range ∷ b.max_true_peak ∷ b.max_momentary
+        ∷ b.max_short_term ∷ [] };
 }
 
 impl Bext {
@@ -84,9 +85,10 @@ impl Bext {
         }
     }
 
-    /// Sets a field to a value in the form that it has in the file: a text, the bytes of the UMID, or a number,
-    /// the lowest byte first (the time reference counts samples since midnight, a loudness is signed and
-    /// 100 times the value). An empty value takes the field back, but for the time reference.
+    /// Sets a field to a value in the form that it has in the file: a text, the bytes of the UMID,
+    /// or a number, the lowest byte first (the time reference counts samples since midnight, a
+    /// loudness is signed and 100 times the value). An empty value takes the field back, but for
+    /// the time reference.
     ///
     /// # Errors
     /// The first of Tag, Length and Text that holds.

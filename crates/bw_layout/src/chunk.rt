@@ -69,15 +69,6 @@ pub fn put_head(_alloc: Global, out: &mut Vec<u8>, head: ChunkHead) -> Result<()
     Ok(())
 }
 
-#[tactic(auto, using(std::proofs::lemmas::List::append_assoc))]
-pub(crate) fn push_head(out: &mut Vec<u8>, id: ChunkId, size32: u32)
-    requires { vec_len out.old + 8 ≤ vec_capacity out.old }
-    ensures { Gains (head_bytes id size32) 8 out.old out.new }
-{
-    push_bytes(out, &id.0);
-    push_u32(out, size32);
-}
-
 /// Reads a chunk's head.
 ///
 /// # Errors
@@ -92,4 +83,13 @@ pub fn read_head(bytes: &[u8]) -> Result<ChunkHead, Short>
         id: ChunkId(read_id(bytes, 0)),
         size32: read_u32(bytes, 4),
     })
+}
+
+#[tactic(auto, using(std::proofs::lemmas::List::append_assoc))]
+pub(crate) fn push_head(out: &mut Vec<u8>, id: ChunkId, size32: u32)
+    requires { vec_len out.old + 8 ≤ vec_capacity out.old }
+    ensures { Gains (head_bytes id size32) 8 out.old out.new }
+{
+    push_bytes(out, &id.0);
+    push_u32(out, size32);
 }

@@ -1,4 +1,5 @@
-//! One field of `bext` (EBU Tech 3285, Broadcast Audio Extension): which values it takes, and how they stand in it.
+//! One field of `bext` (EBU Tech 3285, Broadcast Audio Extension): which values it takes, and how
+//! they stand in it.
 ghost use Rattle.std.specs.Prelude.{◌≡◌, ℕ, ◌-◌, ◌≤◌, ◌++◌, Some, length};
 ghost use Rattle.bw_model.specs.Bytes.{zeros};
 ghost use Rattle.bw_model.specs.Take.{Text, Digits, Whole, Maybe, Level, matches, is_printable};

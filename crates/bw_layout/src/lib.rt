@@ -1,5 +1,5 @@
-//! The chunks of a broadcast file (RIFF, BW64, `bext`): their layouts, their sizes, and the header before the data;
-//! and the readers and writers that bytes come from and go to.
+//! The chunks of a broadcast file (RIFF, BW64, `bext`): their layouts, their sizes, and the header
+//! before the data; and the readers and writers that bytes come from and go to.
 #![tactic(auto)]
 
 mod broadcast;

@@ -46,8 +46,8 @@ impl Model for RawFmt {
     } };
 }
 
-/// The loudness of a `bext` chunk from version 2 on: the 16 bits of a signed number, 100 times the value, each;
-/// 7FFFh means not given.
+/// The loudness of a `bext` chunk from version 2 on: the 16 bits of a signed number, 100 times the
+/// value, each; 7FFFh means not given.
 #[derive(Clone, Copy, Debug, PartialEq, Eq)]
 pub struct Loudness {
     pub value: u16,
@@ -62,7 +62,8 @@ impl Model for Loudness {
 
     ghost Value = { List ℕ };
 
-    ghost view = { λ l. l.value ∷ l.range ∷ l.max_true_peak ∷ l.max_momentary ∷ l.max_short_term ∷ [] };
+    ghost view = { λ l.
+        l.value ∷ l.range ∷ l.max_true_peak ∷ l.max_momentary ∷ l.max_short_term ∷ [] };
 
     ghost inverse = { λ v. record {
       value = slice_index v 0;
@@ -173,23 +174,6 @@ pub fn read_bext(bytes: &[u8]) -> Result<RawBext, Short>
     })
 }
 
-/// Reads the loudness of a `bext` chunk, which it has from version 2 on.
-fn read_loudness(bytes: &[u8]) -> Option<Loudness>
-    requires { 422 ≤ length bytes.now }
-    ensures { unwrap_or result [] ≡ levels_at bytes.now }
-{
-    if read_u16(bytes, 346) < 2 {
-        return None;
-    }
-    Some(Loudness {
-        value: read_u16(bytes, 412),
-        range: read_u16(bytes, 414),
-        max_true_peak: read_u16(bytes, 416),
-        max_momentary: read_u16(bytes, 418),
-        max_short_term: read_u16(bytes, 420),
-    })
-}
-
 /// Reads a cue point.
 ///
 /// # Errors
@@ -204,6 +188,23 @@ pub fn read_cue(bytes: &[u8]) -> Result<RawCue, Short>
         id: read_u32(bytes, 0),
         position: read_u32(bytes, 4),
         offset: read_u32(bytes, 20),
+    })
+}
+
+/// Reads the loudness of a `bext` chunk, which it has from version 2 on.
+fn read_loudness(bytes: &[u8]) -> Option<Loudness>
+    requires { 422 ≤ length bytes.now }
+    ensures { unwrap_or result [] ≡ levels_at bytes.now }
+{
+    if read_u16(bytes, 346) < 2 {
+        return None;
+    }
+    Some(Loudness {
+        value: read_u16(bytes, 412),
+        range: read_u16(bytes, 414),
+        max_true_peak: read_u16(bytes, 416),
+        max_momentary: read_u16(bytes, 418),
+        max_short_term: read_u16(bytes, 420),
     })
 }
 

@@ -7,21 +7,25 @@ use crate::plain::Plain;
 use crate::source::{IoFailed, Source};
 use std::io::{Read, Seek, SeekFrom};
 
-/// A reader of std that seeks over what is passed by, as far as its length is known, and reads on from there.
+/// A reader of std that seeks over what is passed by, as far as its length is known, and reads on
+/// from there.
 ///
-/// It tells no bytes, since nothing says what a reader gives after a seek, nor where one stands after a read: what it
-/// reads is what the reader itself gives next. Its own place counts what was read and passed over, and a seek goes to the place that this makes.
+/// It tells no bytes, since nothing says what a reader gives after a seek, nor where one stands
+/// after a read: what it reads is what the reader itself gives next. Its own place counts what was
+/// read and passed over, and a seek goes to the place that this makes.
 #[derive(Drop)]
 pub struct SeekSource<T> {
     plain: Plain<T>,
     place: u64,
     len: u64,
-    /// What is dropped of a pipe is read into it: a new one for each piece would be cleared each time.
+    /// What is dropped of a pipe is read into it: a new one for each piece would be cleared each
+    /// time.
     piece: [u8; 65_536],
 }
 
 impl<T: Drop> SeekSource<T> {
-    /// A reader that stands at its start and has `len` bytes, or 0 where that isn't known, as of a pipe.
+    /// A reader that stands at its start and has `len` bytes, or 0 where that isn't known, as of a
+    /// pipe.
     pub fn new(inner: T, len: u64) -> SeekSource<T>
         ensures inner { result.plain.inner ≡ inner }
         ensures failures { result.plain.failures ≡ 0 }

@@ -4,7 +4,8 @@ ghost use Rattle.bw_layout.specs.Moves.{failures_after, Keeps, Writes, Begins};
 
 use crate::source::IoFailed;
 
-/// A writer: the bytes written so far, where it tells them, how often it failed, and whether none of them is held back.
+/// A writer: the bytes written so far, where it tells them, how often it failed, and whether none
+/// of them is held back.
 pub trait Sink {
     ghost written: { Self → Option (List ℕ) };
 

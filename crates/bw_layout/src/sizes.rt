@@ -98,35 +98,6 @@ pub fn put_ds64(_alloc: Global, out: &mut Vec<u8>, sizes: &Ds64) -> Result<(), A
     Ok(())
 }
 
-#[tactic(auto, using(std::proofs::lemmas::List::append_assoc))]
-fn push_fixed(out: &mut Vec<u8>, form: u64, data_size: u64, table_len: u32)
-    requires { vec_len out.old + 28 ≤ vec_capacity out.old }
-    ensures { Gains (le64 form ++ le64 data_size ++ le64 0 ++ le32 table_len) 28 out.old out.new }
-{
-    push_u64(out, form);
-    push_u64(out, data_size);
-    push_u64(out, 0);
-    push_u32(out, table_len);
-}
-
-fn push_table(out: &mut Vec<u8>, table: &[(ChunkId, u64)])
-    requires { vec_len out.old + 12 * length table.now ≤ vec_capacity out.old }
-    ensures { Gains (flat_map entry_bytes table.now) (12 * length table.now) out.old out.new }
-{
-    for (id, size) in table {
-        push_entry(out, *id, *size);
-    }
-}
-
-#[tactic(auto, using(std::proofs::lemmas::List::append_assoc))]
-fn push_entry(out: &mut Vec<u8>, id: ChunkId, size: u64)
-    requires { vec_len out.old + 12 ≤ vec_capacity out.old }
-    ensures { Gains (id ++ le64 size) 12 out.old out.new }
-{
-    push_bytes(out, &id.0);
-    push_u64(out, size);
-}
-
 /// Reads what stands before the table at the front of a `ds64` chunk's content.
 ///
 /// # Errors
@@ -164,4 +135,33 @@ pub fn patch_sizes(form: u64, data_size: u64) -> [u8; 16]
     let [a, b, c, d, e, f, g, h] = form.to_le_bytes();
     let [i, j, k, l, m, n, o, p] = data_size.to_le_bytes();
     [a, b, c, d, e, f, g, h, i, j, k, l, m, n, o, p]
+}
+
+#[tactic(auto, using(std::proofs::lemmas::List::append_assoc))]
+fn push_fixed(out: &mut Vec<u8>, form: u64, data_size: u64, table_len: u32)
+    requires { vec_len out.old + 28 ≤ vec_capacity out.old }
+    ensures { Gains (le64 form ++ le64 data_size ++ le64 0 ++ le32 table_len) 28 out.old out.new }
+{
+    push_u64(out, form);
+    push_u64(out, data_size);
+    push_u64(out, 0);
+    push_u32(out, table_len);
+}
+
+fn push_table(out: &mut Vec<u8>, table: &[(ChunkId, u64)])
+    requires { vec_len out.old + 12 * length table.now ≤ vec_capacity out.old }
+    ensures { Gains (flat_map entry_bytes table.now) (12 * length table.now) out.old out.new }
+{
+    for (id, size) in table {
+        push_entry(out, *id, *size);
+    }
+}
+
+#[tactic(auto, using(std::proofs::lemmas::List::append_assoc))]
+fn push_entry(out: &mut Vec<u8>, id: ChunkId, size: u64)
+    requires { vec_len out.old + 12 ≤ vec_capacity out.old }
+    ensures { Gains (id ++ le64 size) 12 out.old out.new }
+{
+    push_bytes(out, &id.0);
+    push_u64(out, size);
 }

@@ -6,7 +6,8 @@ ghost use Rattle.bw_layout.specs.Moves.{failures_after, moved_after, Keeps, Read
 #[derive(Clone, Copy, PartialEq, Eq, Debug, Drop)]
 pub struct IoFailed;
 
-/// A reader: the bytes that it has left, where it tells them, how many it gave or passed over, and how often it failed.
+/// A reader: the bytes that it has left, where it tells them, how many it gave or passed over, and
+/// how often it failed.
 pub trait Source {
     ghost left: { Self → Option (List ℕ) };
 
@@ -14,7 +15,8 @@ pub trait Source {
 
     ghost failures: { Self → ℕ };
 
-    /// Reads some of the next bytes into the front of `buf`, at least one unless they are at their end.
+    /// Reads some of the next bytes into the front of `buf`, at least one unless they are at their
+    /// end.
     ///
     /// # Errors
     /// `IoFailed` where the reader failed: no byte was used up.
@@ -26,7 +28,8 @@ pub trait Source {
             Reads (left self.old) (length buf.old) n buf.new (left self.new)) }
         ensures err { OnErr result (Keeps (left self.old) (left self.new)) };
 
-    /// Passes over some of the next bytes, at most `most` and at least one unless they are at their end.
+    /// Passes over some of the next bytes, at most `most` and at least one unless they are at their
+    /// end.
     ///
     /// # Errors
     /// `IoFailed` where the reader failed: no byte was used up.

@@ -22,7 +22,8 @@ returns-then-form-bytes-clause-put g c =
     omega (arith, form, c.bytes.ensures.value, c.if-form-bytes.true) in
     let was_small : form_size (length h.history.now) c.args.data_len 0 ≤ h.limit =
     omega (arith, form_cues (length h.history.now) c.args.data_len c.args.cues, small) in
-    riff_form h.format h.bext.now h.history.now h.limit c.args.data_len 0 c.args.cues _ _ tail h.widths was_small small stood
+    riff_form h.format h.bext.now h.history.now h.limit c.args.data_len 0 c.args.cues _ _ tail h.widths was_small small
+    stood
     (rw (c.to_le_bytes.ensures, form) at (c.in_ok-write_at.ensures.written honest))
 
 pub returns-clause-torn : goal.returns-clause-torn

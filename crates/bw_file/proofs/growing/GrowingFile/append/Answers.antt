@@ -17,7 +17,8 @@ returns-in_err-put_samples-clause-file g c =
     rw (← c.self.view_is) (λ honest t same ready.
     let opened = open_for_block _ _ c.requires.stored in
     let of = c.heading_of-heading.ensures in
-    let heads = is_heading t c.args.state.now.parts c.heading_of-heading.result c.self.inside.limit same of.format of.bext
+    let heads = is_heading t c.args.state.now.parts c.heading_of-heading.result c.self.inside.limit same of.format
+    of.bext
     of.history of.limit in
     let is_open = ap (λ (p : Parts). p.closed) same ∙ opened.not_closed in
     let so_far = c.data_len-before.ensures.value ∙ sym (ap (λ (p : Parts). p.samples_len) same) in
@@ -31,7 +32,8 @@ returns-in_err-put_grown_header-clause-file g c =
     rw (← c.self.view_is) (λ honest t same ready.
     let opened = open_for_block _ _ c.requires.stored in
     let of = c.heading_of-heading.ensures in
-    let heads = is_heading t c.args.state.now.parts c.heading_of-heading.result c.self.inside.limit same of.format of.bext
+    let heads = is_heading t c.args.state.now.parts c.heading_of-heading.result c.self.inside.limit same of.format
+    of.bext
     of.history of.limit in
     let is_open = ap (λ (p : Parts). p.closed) same ∙ opened.not_closed in
     let so_far = c.data_len-before.ensures.value ∙ sym (ap (λ (p : Parts). p.samples_len) same) in
@@ -47,7 +49,8 @@ returns-clause-file g c =
     rw (← c.self.view_is) (λ honest t same ready.
     let opened = open_for_block _ _ c.requires.stored in
     let of = c.heading_of-heading.ensures in
-    let heads = is_heading t c.args.state.now.parts c.heading_of-heading.result c.self.inside.limit same of.format of.bext
+    let heads = is_heading t c.args.state.now.parts c.heading_of-heading.result c.self.inside.limit same of.format
+    of.bext
     of.history of.limit in
     let is_open = ap (λ (p : Parts). p.closed) same ∙ opened.not_closed in
     let so_far = c.data_len-before.ensures.value ∙ sym (ap (λ (p : Parts). p.samples_len) same) in

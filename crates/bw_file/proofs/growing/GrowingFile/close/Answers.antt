@@ -18,14 +18,16 @@ returns-in_err-put_cues-clause-file g c =
     rw (← c.self.view_is) (λ honest t same ready.
     let opened = open_for_close _ _ c.requires in
     let of = c.heading_of-heading.ensures in
-    let heads = is_heading t c.args.state.now.parts c.heading_of-heading.result c.self.inside.limit same of.format of.bext
+    let heads = is_heading t c.args.state.now.parts c.heading_of-heading.result c.self.inside.limit same of.format
+    of.bext
     of.history of.limit in
     let is_open = ap (λ (p : Parts). p.closed) same ∙ opened.not_closed in
     let in_all = c.data_len-data_len.ensures.value ∙ sym (ap (λ (p : Parts). p.samples_len) same) in
     let marked = c.markers-markers.ensures.value ∙ sym (ap (λ (p : Parts). p.markers) same) in
     let answer = err_from_is_err_and c.from_residual.result c.from_residual.ensures.1 in
     rw answer.1 (cues_fail (the_view c.self.inside) t
-    (frames c.args.state.now.parts) c.heading_of-heading.result heads is_open c.data_place.result c.data_len-data_len.result
+    (frames c.args.state.now.parts) c.heading_of-heading.result heads is_open c.data_place.result
+    c.data_len-data_len.result
     c.markers-markers.result.now c.data_place.ensures.value in_all marked _ _ ready (c.put_cues.ensures.torn honest)))
 
 pub returns-in_err-put_closed_header-clause-file : goal.returns-in_err-put_closed_header-clause-file
@@ -33,7 +35,8 @@ returns-in_err-put_closed_header-clause-file g c =
     rw (← c.self.view_is) (λ honest t same ready.
     let opened = open_for_close _ _ c.requires in
     let of = c.heading_of-heading.ensures in
-    let heads = is_heading t c.args.state.now.parts c.heading_of-heading.result c.self.inside.limit same of.format of.bext
+    let heads = is_heading t c.args.state.now.parts c.heading_of-heading.result c.self.inside.limit same of.format
+    of.bext
     of.history of.limit in
     let is_open = ap (λ (p : Parts). p.closed) same ∙ opened.not_closed in
     let in_all = c.data_len-data_len.ensures.value ∙ sym (ap (λ (p : Parts). p.samples_len) same) in
@@ -41,7 +44,8 @@ returns-in_err-put_closed_header-clause-file g c =
     let answer = err_from_is_err_and c.from_residual-in_err-put_closed_header.result
     c.from_residual-in_err-put_closed_header.ensures.1 in
     rw answer.1 (header_fails (the_view c.self.inside) t
-    (frames c.args.state.now.parts) c.heading_of-heading.result heads is_open c.data_place.result c.data_len-data_len.result
+    (frames c.args.state.now.parts) c.heading_of-heading.result heads is_open c.data_place.result
+    c.data_len-data_len.result
     c.markers-markers.result.now c.data_place.ensures.value in_all marked _ _ _ ready
     (c.put_cues.ensures.torn honest) (c.put_closed_header.ensures.torn (c.put_cues.ensures.shared.honest ∙ honest))))
 
@@ -50,7 +54,8 @@ returns-in_err-finish-clause-file g c =
     rw (← c.self.view_is) (λ honest t same ready.
     let opened = open_for_close _ _ c.requires in
     let of = c.heading_of-heading.ensures in
-    let heads = is_heading t c.args.state.now.parts c.heading_of-heading.result c.self.inside.limit same of.format of.bext
+    let heads = is_heading t c.args.state.now.parts c.heading_of-heading.result c.self.inside.limit same of.format
+    of.bext
     of.history of.limit in
     let is_open = ap (λ (p : Parts). p.closed) same ∙ opened.not_closed in
     let in_all = c.data_len-data_len.ensures.value ∙ sym (ap (λ (p : Parts). p.samples_len) same) in
@@ -70,7 +75,8 @@ returns-clause-file g c =
     rw (← c.self.view_is) (λ honest t same ready.
     let opened = open_for_close _ _ c.requires in
     let of = c.heading_of-heading.ensures in
-    let heads = is_heading t c.args.state.now.parts c.heading_of-heading.result c.self.inside.limit same of.format of.bext
+    let heads = is_heading t c.args.state.now.parts c.heading_of-heading.result c.self.inside.limit same of.format
+    of.bext
     of.history of.limit in
     let is_open = ap (λ (p : Parts). p.closed) same ∙ opened.not_closed in
     let in_all = c.data_len-data_len.ensures.value ∙ sym (ap (λ (p : Parts). p.samples_len) same) in
@@ -79,7 +85,8 @@ returns-clause-file g c =
     let stays = c.finish.ensures.unchanged
     (c.put_closed_header.ensures.shared.honest ∙ honest_then) c.self.inside.name in
     stays ∙ closed (the_view c.self.inside) t
-    (frames c.args.state.now.parts) c.heading_of-heading.result heads is_open c.data_place.result c.data_len-data_len.result
+    (frames c.args.state.now.parts) c.heading_of-heading.result heads is_open c.data_place.result
+    c.data_len-data_len.result
     c.markers-markers.result.now c.data_place.ensures.value in_all marked _ _ _ ready
     (c.in_ok-put_cues.ensures.put honest) (c.in_ok-put_closed_header.ensures.put honest_then))
 

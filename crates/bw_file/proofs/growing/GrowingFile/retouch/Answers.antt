@@ -19,7 +19,8 @@ returns-in_err-put_retouched_header-clause-file g c =
     let opened = open_for_field _ _ _ c.requires.stored in
     let of = c.heading_of-heading.ensures in
     let with = c.with_bext-retouched.ensures in
-    let heads = is_heading t c.args.state.now.parts c.heading_of-heading.result c.self.inside.limit same of.format of.bext
+    let heads = is_heading t c.args.state.now.parts c.heading_of-heading.result c.self.inside.limit same of.format
+    of.bext
     of.history of.limit in
     let told = of.history ∙ sym (ap (λ (p : Parts). p.history) same) in
     let later = with_request t (SetField tag value) in
@@ -38,7 +39,8 @@ returns-clause-file g c =
     let opened = open_for_field _ _ _ c.requires.stored in
     let of = c.heading_of-heading.ensures in
     let with = c.with_bext-retouched.ensures in
-    let heads = is_heading t c.args.state.now.parts c.heading_of-heading.result c.self.inside.limit same of.format of.bext
+    let heads = is_heading t c.args.state.now.parts c.heading_of-heading.result c.self.inside.limit same of.format
+    of.bext
     of.history of.limit in
     let told = of.history ∙ sym (ap (λ (p : Parts). p.history) same) in
     let later = with_request t (SetField tag value) in
@@ -46,7 +48,8 @@ returns-clause-file g c =
     (ap Some with.format ∙ sym heads.format) (with.bext ∙ set) (with.history ∙ told) (with.limit ∙ of.limit) in
     let is_open = ap (λ (p : Parts). p.closed) same ∙ opened.not_closed in
     let in_all = c.data_len.ensures.value ∙ sym (ap (λ (p : Parts). p.samples_len) same) in
-    retouched (the_view c.self.inside) t tag value c.heading_of-heading.result c.with_bext-retouched.result heads then_heads
+    retouched (the_view c.self.inside) t tag value c.heading_of-heading.result c.with_bext-retouched.result heads
+    then_heads
     with.format is_open c.data_len.result in_all _ _ ready (c.in_ok-put_retouched_header.ensures.put honest))
 
 pub put_retouched_header-requires-clause-field : goal.put_retouched_header-requires-clause-field
@@ -83,7 +86,8 @@ returns-clause-order g c =
     let sets = differs_in_field c.args.state.now.parts c.requires.tag c.requires.value c.heading_of-heading.result
     c.with_bext-retouched.result c.data_len.result known of.bext
     (with.bext ∙ c.requires.fields) with.format with.history with.limit in
-    gets_planned (the_view c.self.inside) c.args.state.now.parts c.heading_of-heading.result c.with_bext-retouched.result
+    gets_planned (the_view c.self.inside) c.args.state.now.parts c.heading_of-heading.result
+    c.with_bext-retouched.result
     c.data_len.result of.bext of.history with.format with.history with.limit c.requires.tag sets tag value
     c.args.bext.now with.bext set c.in_ok-put_retouched_header.ensures.order)
 

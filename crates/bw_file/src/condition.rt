@@ -1,0 +1,25 @@
+//! How the last call left a growing file.
+ghost use Rattle.std.specs.Prelude.{◌≡◌};
+
+/// What the next call finds of a take's file.
+#[derive(Clone, Copy)]
+pub(crate) enum Condition {
+    /// The file of the take, whole.
+    Clean,
+    /// What a call left that failed, or that is marked to be tried again.
+    Dirty,
+}
+
+impl Condition {
+    ghost use Rattle.bw_file.specs.Conditions.{is_clean};
+
+    /// Whether it is the whole file.
+    pub(crate) fn is_clean(self) -> bool
+        ensures { result ≡ is_clean self }
+    {
+        match self {
+            Condition::Clean => true,
+            Condition::Dirty => false,
+        }
+    }
+}
