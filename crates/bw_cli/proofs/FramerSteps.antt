@@ -22,9 +22,10 @@ unfolding first_frame
 not_empty [] reason e other = absurd (other (cc))
 not_empty (b ∷ bs) reason e other = omega arith
 
-pub is_next : (p : Pending) (told : Told Frame) → p.phase ≡ Reading → told ≡ (after p).0 → IsNext p (told, (after p).1)
+pub told_next : (p : Pending) (told : Told Frame) → p.phase ≡ Reading → told ≡ (after p).0 →
+    IsNext p (told, (after p).1)
 unfolding after
-is_next p told reading e =
+told_next p told reading e =
     subst (λ (t : Told Frame). IsNext p (t, (after p).1)) (sym e)
     (subst (IsNext p) (sym (ap (λ h. after_in h p) reading)) (go (first_frame Second p.bytes) refl))
   where

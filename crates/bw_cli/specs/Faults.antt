@@ -4,7 +4,7 @@ use Rattle.std.specs.Prelude.{decimal}
 use Rattle.bw_cli.specs.Input.{Asked, TooLong as AsksTooMuch, NotHex as AsksNoHex}
 use Rattle.bw_cli.specs.Input.{NotInOrder as AsksNoOrder}
 use Rattle.bw_cli.specs.Printing.{Print, Nothing, IsOf}
-use Rattle.bw_cli.specs.Text.{line}
+use Rattle.bw_cli.specs.Text.{as_line}
 use Rattle.bw_cli.specs.declared.fault.Fault.{Fault}
 use Rattle.bw_cli.specs.declared.fault.Fault.TheVariants.{TooLong, NotHex, NotInOrder, Unreadable}
 use Rattle.bw_cli.specs.declared.fault.Fault.TheVariants.{Unwritable, Memory}
@@ -70,4 +70,4 @@ is_read (Err fault) = is_readable fault
 -- the fault's line alone is told, and of none nothing
 abbrev pub IsToldBy : Result (Unit {0}) Fault → Print → Type 0
 IsToldBy (Ok x) print = print ≡ Nothing
-IsToldBy (Err fault) print = IsOf (line (fault_text fault)) print
+IsToldBy (Err fault) print = IsOf (as_line (fault_text fault)) print

@@ -16,7 +16,7 @@ use Rattle.bw_cli.specs.Deeds.{Deed, IsReplay}
 use Rattle.bw_cli.specs.Faults.{IsToldBy, exit_of}
 use Rattle.bw_cli.specs.Inspections.{IsInspection, IsPrintOfText}
 use Rattle.bw_cli.specs.Printing.{Nothing, IsOf}
-use Rattle.bw_cli.specs.Text.{line}
+use Rattle.bw_cli.specs.Text.{as_line}
 use Rattle.bw_cli.specs.declared.exit.Exit.{Exit}
 use Rattle.bw_cli.specs.declared.exit.Exit.TheVariants as exits
 use Rattle.bw_cli.specs.declared.fault.Fault.{Fault}
@@ -40,7 +40,7 @@ pub record IsUnworded (kind : ErrorKind) (did : Deed) : Type 0 where
   pub exit_is : did.exit ≡ exit_without_words kind
   pub reads : did.reads_all ≡ true
   pub prints : did.out ≡ Nothing
-  pub tells : IsOf (line (codes "the command line can't be read")) did.faults
+  pub tells : IsOf (as_line (codes "the command line can't be read")) did.faults
 
 -- how the program ends where a file can't be opened
 abbrev pub exit_unopened : ErrorKind → Exit
