@@ -1,6 +1,8 @@
 -- What a fault says of the input, its line, and how the program ends on it.
 use Rattle.std.specs.Prelude.{◌≡◌, ℕ, ◌++◌, List, Bool, true, false, Result, Ok, Err, codes}
 use Rattle.std.specs.Prelude.{decimal}
+use Rattle.hex.specs.declared.error.FromHexError.{FromHexError}
+use Rattle.hex.specs.declared.error.FromHexError.TheVariants.{OutOfMemory}
 use Rattle.bw_cli.specs.Input.{Asked, TooLong as AsksTooMuch, NotHex as AsksNoHex}
 use Rattle.bw_cli.specs.Input.{NotInOrder as AsksNoOrder}
 use Rattle.bw_cli.specs.Printing.{Print, Nothing, IsOf}
@@ -12,6 +14,11 @@ use Rattle.bw_cli.specs.declared.exit.Exit.{Exit}
 use Rattle.bw_cli.specs.declared.exit.Exit.TheVariants.{Done as Exit-Done, Refused as Exit-Refused}
 use Rattle.bw_cli.specs.declared.exit.Exit.TheVariants.{Device as Exit-Device}
 use Rattle.bw_cli.specs.declared.exit.Exit.TheVariants.{Memory as Exit-Memory}
+
+-- what is told of the line with this number, whose digits can't be read for this error
+abbrev pub line_fault : FromHexError → ℕ → Fault
+line_fault OutOfMemory n = Memory
+line_fault _ n = NotHex n
 
 -- want of memory, or the first line that is not hex
 abbrev pub IsLineFault : Fault → Result (List (List ℕ)) ℕ → Type 0
@@ -40,6 +47,7 @@ fault_text Unreadable = codes "the input can't be read"
 fault_text Unwritable = codes "the output can't be written"
 fault_text Memory = codes "out of memory"
 
+-- how the program ends on a fault
 abbrev pub exit_on : Fault → Exit
 exit_on TooLong = Exit-Refused
 exit_on (NotHex n) = Exit-Refused
