@@ -1,5 +1,6 @@
 //! An exchange of a run in order.
-ghost use Rattle.std.specs.Prelude.{◌≡◌, ◌^◌, ◌≤◌, ◌++◌, length, IsTrue, IfOk, IfErr, OnOk};
+ghost use Rattle.std.specs.Prelude.{◌≡◌, ◌≤◌, ◌++◌, length, IsTrue, IfOk, IfErr, OnOk};
+ghost use Rattle.bw_model.specs.Limits.{largest};
 ghost use Rattle.bw_model.specs.Wire.{framed};
 ghost use Rattle.bw_model.specs.Replies.{reply_body, is_reply};
 ghost use Rattle.bw_wire.specs.Frames.{message_of};
@@ -57,7 +58,7 @@ pub fn run_exchange(
     recording: &mut Recording,
     input: &[u8],
 ) -> Result<Exchange, ExchangeFault>
-    requires { length input.now ≤ 2 ^ 62 }
+    requires { length input.now ≤ largest }
     ensures ok { IfOk result (λ e. Exchanges recording.old recording.new input.now e) }
     ensures err { IfErr result (λ fault. Breaks fault recording.old input.now) }
 {

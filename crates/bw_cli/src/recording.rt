@@ -1,5 +1,6 @@
 //! The take of a run in order, with its data in memory.
-ghost use Rattle.std.specs.Prelude.{◌≡◌, ◌+◌, ◌*◌, ◌^◌, ◌≤◌, [], ◌++◌, vec_len, IsTrue, IfOk, OnOk, OnErr};
+ghost use Rattle.std.specs.Prelude.{◌≡◌, ◌+◌, ◌*◌, ◌≤◌, [], ◌++◌, vec_len, IsTrue, IfOk, OnOk, OnErr};
+ghost use Rattle.bw_model.specs.Limits.{largest, longest_block};
 ghost use Rattle.bw_model.specs.Take.{Take, parts, after, judge as judgement};
 ghost use Rattle.bw_model.specs.Wire.{is_request};
 ghost use Rattle.bw_model.specs.Replies.{Judged};
@@ -108,7 +109,7 @@ fn apply(
     request: &RequestRef<'_>,
 ) -> Result<Verdict, AllocError>
     requires fits { IsTrue (is_request (meaning request.now)) }
-    requires room { state.old.parts.samples_len + 32768 ≤ 2 ^ 62 }
+    requires room { state.old.parts.samples_len + longest_block ≤ largest }
     ensures verdict { IfOk result (λ v.
         verdict_of v ≡ judgement state.old.parts (meaning request.now)) }
     ensures take { OnOk result ((t : Take) → parts t ≡ state.old.parts →
