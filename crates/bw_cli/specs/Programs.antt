@@ -109,21 +109,21 @@ IsLook file path false did = ((kind : ErrorKind) × IsUnopened path kind did) �
 
 -- what is done for a command line over these files and this input, where the system gives what is
 -- asked of it, or not
-abbrev pub IsDoneFor : (Text → Option (List ℕ)) → Option (List ℕ) → Bool → CommandLine → Deed →
+abbrev pub IsDoneFor : (Text → Option (List ℕ)) → Option (List ℕ) → CommandLine → Bool → Deed →
     Type 0
-IsDoneFor file_at input gives_all (Run (Replay limit)) did =
+IsDoneFor file_at input (Run (Replay limit)) gives_all did =
     IsReplay limit input did × (gives_all ≡ true)
-IsDoneFor file_at input gives_all (Run (Inspect file)) did =
+IsDoneFor file_at input (Run (Inspect file)) gives_all did =
     IsLook (file_at (string_bytes file)) (string_bytes file) gives_all did
-IsDoneFor file_at input gives_all BadLimit did = IsBadLimit did × (gives_all ≡ true)
-IsDoneFor file_at input gives_all (Tell error) did =
+IsDoneFor file_at input BadLimit gives_all did = IsBadLimit did × (gives_all ≡ true)
+IsDoneFor file_at input (Tell error) gives_all did =
     IsTelling (kind_of error) did × (gives_all ≡ true)
 
 -- the words come to a command line, and this is done for it
 pub record IsAnswer (given : Given) (gives_all : Bool) (did : Deed) : Type 0 where
   pub line : CommandLine
   pub comes : (words : List Text) → given.words ≡ Some words → IsLineOf words line
-  pub done : IsDoneFor given.file_at given.input gives_all line did
+  pub done : IsDoneFor given.file_at given.input line gives_all did
 
 -- what the program does: where the system fails, that is told; where it doesn't, memory may
 abbrev pub IsProgram : Given → Bool → Deed → Type 0
