@@ -23,15 +23,15 @@ unfolding first_frame
 not_empty [] reason e other = absurd (other (cc))
 not_empty (b ∷ bs) reason e other = omega arith
 
-pub is_next : (p : Pending) (told : Told Frame) → p.phase ≡ Reading → told ≡ (next_of message_codec p).0 →
-  IsNext p (told, (next_of message_codec p).1)
+pub told_next : (p : Pending) (told : Told Frame) → p.phase ≡ Reading → told ≡ (next_of message_codec p).0 →
+    IsNext p (told, (next_of message_codec p).1)
 unfolding next_of
-is_next p told reading e =
+told_next p told reading e =
     subst (λ (t : Told Frame). IsNext p (t, (next_of message_codec p).1)) (sym e)
     (subst (IsNext p) (sym (ap (λ h. next_in message_codec h p) reading)) (go (first_frame Second p.bytes) refl))
   where
     go : (read : Result (Frame × List ℕ) Reason) → first_frame Second p.bytes ≡ read →
-      IsNext p (next_read message_codec p read)
+        IsNext p (next_read message_codec p read)
     go (Ok (Says m, more)) f = (more, f, refl)
     go (Ok (Asks name n, more)) f = (more, f)
     go (Ok (Bye, more)) f = (more, f)

@@ -1,11 +1,13 @@
--- The first of the lines.
+-- The first of the lines, and what is wrong with it.
 use Rattle.std.proofs.Common.{◌≡◌, ℕ, suc, ◌+◌, ◌<◌, List, [], ◌∷◌, ◌++◌, length, take, drop, ◌==◌, refl, arith, ◌∙◌}
-use Rattle.std.proofs.Common.{ap, sym, append_assoc, append-nil, true, false, Bool, Result, Ok, Err}
+use Rattle.std.proofs.Common.{ap, sym, append_assoc, append-nil, true, false, Bool, Result, Ok, Err, ◌⊎◌, inl, inr}
 use Rattle.std.specs.List.{position_or_len}
 use Rattle.std.proofs.lemmas.Bool.{ne_eqb}
 use Rattle.std.specs.Io.BufRead.{strip_last}
 use Rattle.hex.specs.Hex.{decode_of}
 use Rattle.hex.specs.declared.error.FromHexError.{FromHexError}
+use Rattle.hex.specs.declared.error.FromHexError.TheVariants.{OutOfMemory}
+use Rattle.bw_cli.specs.Faults.{IsLineFault, line_fault}
 use Rattle.bw_cli.specs.Lines.{lines_from, lines_of, is_line_end, decoded_from, with_line}
 
 abbrev ends_at : List ℕ → ℕ
@@ -81,6 +83,14 @@ pub decoded_stop : (found : List (List ℕ)) (n : ℕ) (line : List ℕ) (lines 
     decode_of line ≡ Err e → after_lines found (decoded_from n (line ∷ lines)) ≡ Err n
 unfolding decoded_from
 decoded_stop found n line lines e h = rw h refl
+
+-- a line that can't be read is the fault that is told
+pub line_faulted : (e : FromHexError) (n : ℕ) (line : List ℕ) (lines : Result (List (List ℕ)) ℕ) →
+    (e ≡ OutOfMemory) ⊎ (decode_of line ≡ Err e) → (decode_of line ≡ Err e → lines ≡ Err n) →
+    IsLineFault (line_fault e n) lines
+line_faulted OutOfMemory n line lines h k = tt
+line_faulted _ n line lines (inl m) k = absurd (cc)
+line_faulted _ n line lines (inr d) k = k d
 
 pub decoded_end : (found : List (List ℕ)) (n : ℕ) → after_lines found (decoded_from n []) ≡ Ok found
 unfolding decoded_from

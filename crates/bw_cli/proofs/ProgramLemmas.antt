@@ -68,7 +68,7 @@ told-words words found file_at later input gives_all did same files is = go give
     answered gives a = record {
       line = a.line;
       comes = λ told e. subst (λ (w : List Text). IsLineOf w a.line) (same told e) (a.comes found refl);
-      done = subst (λ (f : Text → Option (List ℕ)). IsDoneFor f input gives a.line did) files a.done;
+      done = subst (λ (f : Text → Option (List ℕ)). IsDoneFor f input a.line gives did) files a.done;
     }
 
     go : (gives : Bool) → IsProgram (record { words = Some found; file_at = later; input = input }) gives did

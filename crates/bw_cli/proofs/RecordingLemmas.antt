@@ -6,10 +6,10 @@ use Rattle.bw_model.specs.Wire.{Message, Says}
 use Rattle.bw_model.specs.Replies.{Judged}
 use Rattle.bw_model.specs.Book.{Book}
 use Rattle.bw_model.specs.Turn.{turn, good}
-use Rattle.bw_cli.specs.InOrder.{is_next, progress_behind}
+use Rattle.bw_cli.specs.InOrder.{comes_next, progress_behind}
 use Rattle.bw_cli.specs.Recording.{book_with, take_with}
 use Rattle.bw_model.specs.Exchange.{nothing_stands}
-use Rattle.bw_cli.specs.Keeping.{progress_of, KeepsBook, Answers}
+use Rattle.bw_cli.specs.Keeping.{progress_of, KeepsBook, AnswersMessage}
 use Rattle.bw_cli.specs.declared.recording.Recording.{Recording}
 use Rattle.bw_cli.proofs.InOrderTurns.{turn-next, take_with-push}
 
@@ -31,12 +31,12 @@ keeps-new r name next state samples = record {
 
 -- The next message, whose request was judged and applied.
 pub answers : (old new : Recording) (m : Message) (v : Verdict) →
-    is_next (progress_of old) m.name m.number ≡ true → new.name ≡ Some m.name → new.next ≡ old.next + 1 →
+    comes_next (progress_of old) m.name m.number ≡ true → new.name ≡ Some m.name → new.next ≡ old.next + 1 →
     v ≡ judge old.state.parts m.request →
     ((t : Take) → parts t ≡ old.state.parts → parts (after t m.request) ≡ new.state.parts) →
     ((t : Take) → parts t ≡ old.state.parts → old.samples.items ≡ t.samples →
     new.samples.items ≡ (after t m.request).samples) →
-    Answers old new m (Judged m.name m.number v)
+    AnswersMessage old new m (Judged m.name m.number v)
 answers old new m v due name next judged state samples = record {
   progress = progress;
   turns = λ book k.

@@ -10,9 +10,9 @@ use Rattle.bw_model.specs.Wire.{framed, is_name, is_name_byte}
 use Rattle.bw_model.specs.Replies.{Reply, Judged, Noticed, Refused, is_reply, reply_body}
 use Rattle.bw_model.specs.Exchange.{replies_bytes}
 use Rattle.bw_cli.specs.Runs.{ToldExchange}
-use Rattle.bw_cli.specs.Exchanging.{end_of}
+use Rattle.bw_cli.specs.Exchanging.{told_end}
 use Rattle.bw_cli.specs.Running.{AllTell}
-use Rattle.bw_cli.specs.Text.{line, reply_line, exchange_line, exchanges_text}
+use Rattle.bw_cli.specs.Text.{as_line, reply_line, exchange_line, exchanges_text}
 use Rattle.bw_cli.specs.declared.exchange.Exchange.{Exchange as Exchanged}
 
 and_left : (a b : Bool) → a && b ≡ true → a ≡ true
@@ -44,7 +44,7 @@ reply_short (Refused reason offset) e = omega arith
 pub reply_step : (left : List Reply) (rest frame others out out' whole : List ℕ) → 0 < length rest →
     list_all is_reply left ≡ true → rest ≡ replies_bytes left → out ++ flat_map reply_line left ≡ whole →
     ((body more : List ℕ) → length body < 2 ^ 32 → rest ≡ framed body ++ more →
-    (frame ≡ framed body) × (others ≡ more)) → out' ≡ out ++ line (codes "reply " ++ encode_lower frame) →
+    (frame ≡ framed body) × (others ≡ more)) → out' ≡ out ++ as_line (codes "reply " ++ encode_lower frame) →
     (left' : List Reply) × (list_all is_reply left' ≡ true) × (others ≡ replies_bytes left')
     × (out' ++ flat_map reply_line left' ≡ whole)
 reply_step [] rest frame others out out' whole h short e w f o = let n = ap length e in absurd (omega arith)
@@ -55,7 +55,7 @@ reply_step (r ∷ rs) rest frame others out out' whole h short e w f o =
       and_right (is_reply r) (list_all is_reply rs) short,
       q.1,
       ap (λ (z : List ℕ). z ++ flat_map reply_line rs)
-          (o ∙ ap (λ (z : List ℕ). out ++ line (codes "reply " ++ encode_lower z)) q.0)
+          (o ∙ ap (λ (z : List ℕ). out ++ as_line (codes "reply " ++ encode_lower z)) q.0)
           ∙ (append_assoc out (reply_line r) (flat_map reply_line rs) ∙ w),
     )
 
@@ -71,7 +71,7 @@ one_more i t ts = append_assoc (exchange_line i t.end) (flat_map reply_line t.re
 -- the first of the exchanges that are left is put
 pub exchange_step : (left : List ToldExchange) (e : Exchanged) (more : List Exchanged) (i : ℕ)
     (out mid out' whole : List ℕ) →
-    AllTell (e ∷ more) left → out ++ exchanges_text i left ≡ whole → mid ≡ out ++ exchange_line i (end_of e.end) →
+    AllTell (e ∷ more) left → out ++ exchanges_text i left ≡ whole → mid ≡ out ++ exchange_line i (told_end e.end) →
     ((rs : List Reply) → list_all is_reply rs ≡ true → e.replies.items ≡ replies_bytes rs →
     out' ≡ mid ++ flat_map reply_line rs) →
     (left' : List ToldExchange) × AllTell more left' × (out' ++ exchanges_text (i + 1) left' ≡ whole)

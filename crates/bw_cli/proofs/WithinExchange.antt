@@ -15,8 +15,8 @@ use Rattle.bw_wire.specs.Reasons.{reason_meaning}
 use Rattle.bw_wire.specs.declared.fault.WireFault.{WireFault}
 use Rattle.bw_cli.specs.InOrder.{Progress, progress_behind, progress_after}
 use Rattle.bw_model.specs.Exchange.{nothing_stands}
-use Rattle.bw_cli.specs.Keeping.{progress_of, KeepsBook, Answers}
-use Rattle.bw_cli.specs.Exchanging.{IsExchange, IsNotNext, Breaks, EndsBad, end_of}
+use Rattle.bw_cli.specs.Keeping.{progress_of, KeepsBook, AnswersMessage}
+use Rattle.bw_cli.specs.Exchanging.{IsExchange, IsNotNext, Breaks, EndsBad, told_end}
 use Rattle.bw_cli.specs.declared.exchange.ExchangeFault.{ExchangeFault}
 use Rattle.bw_cli.specs.declared.exchange.ExchangeFault.TheVariants.{NotInOrder, Memory}
 use Rattle.bw_cli.specs.declared.recording.Recording.{Recording}
@@ -54,7 +54,7 @@ both_true a b p q = rw (p, q) refl
 pub within-message : (old r later : Recording) (first : Book) (input more frames frames' : List ℕ) (p q : Pending)
     (m : Message) (reply : Reply) →
     IsWithin old first input p r frames → first_frame Second p.bytes ≡ Ok (Says m, more) → q ≡ took p more →
-    Answers r later m reply → is_reply reply ≡ true → frames' ≡ frames ++ framed (reply_body reply) →
+    AnswersMessage r later m reply → is_reply reply ≡ true → frames' ≡ frames ++ framed (reply_body reply) →
     IsWithin old first input q later frames'
 within-message old r later first input more frames frames' p q m reply w comes left answered spelled put =
     let t = answered.turns w.book w.kept in
@@ -118,7 +118,7 @@ within-ask old r first input more frames name p n w comes =
 within-end : (old r : Recording) (first : Book) (input frames : List ℕ) (p : Pending) (e : Ran) (end : End) →
     IsWithin old first input p r frames → stream_at Second p.used p.bytes ≡ ([], end) →
     e.replies.items ≡ frames ++ replies_bytes (last_reply end) → list_all is_reply (last_reply end) ≡ true →
-    end_of e.end ≡ end →
+    told_end e.end ≡ end →
     IsExchange old r input first e
 within-end old r first input frames p e end w ends put spelled named =
     let whole : outcome (progress_of old) first (stream_of Second input)
@@ -153,12 +153,12 @@ within-bad old r first input frames p e fault w some comes place ends =
     (stream-bad Second p.used p.bytes reason some comes ∙ ap (λ (k : ℕ). ([], BadFrame reason k)) (sym place))
     (ends.replies ∙ ap (λ (z : List ℕ). frames ++ z)
     (sym (append-nil (framed (reply_body (Refused reason fault.offset))))))
-    (both_true (is_reply (Refused reason fault.offset)) true ends.spelled refl) (ap end_of ends.end)
+    (both_true (is_reply (Refused reason fault.offset)) true ends.spelled refl) (ap told_end ends.end)
 
 -- BYE
 pub within-bye : (old r : Recording) (first : Book) (input more frames : List ℕ) (p : Pending) (e : Ran) →
     IsWithin old first input p r frames → first_frame Second p.bytes ≡ Ok (Bye, more) → e.replies.items ≡ frames →
-    end_of e.end ≡ SaidBye →
+    told_end e.end ≡ SaidBye →
     IsExchange old r input first e
 within-bye old r first input more frames p e w comes put named =
     within-end old r first input frames p e SaidBye w (stream-bye Second p.used p.bytes more comes)
@@ -166,7 +166,7 @@ within-bye old r first input more frames p e w comes put named =
 
 -- no byte is left
 pub within-last : (old r : Recording) (first : Book) (input frames : List ℕ) (p : Pending) (e : Ran) →
-    IsWithin old first input p r frames → length p.bytes ≡ 0 → e.replies.items ≡ frames → end_of e.end ≡ EndOfInput →
+    IsWithin old first input p r frames → length p.bytes ≡ 0 → e.replies.items ≡ frames → told_end e.end ≡ EndOfInput →
     IsExchange old r input first e
 within-last old r first input frames p e w none put named =
     within-end old r first input frames p e EndOfInput w (stream-empty Second p.used p.bytes none)

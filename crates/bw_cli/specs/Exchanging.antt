@@ -19,16 +19,17 @@ use Rattle.bw_cli.specs.declared.exchange.ExchangeEnd.TheVariants as ends
 use Rattle.bw_cli.specs.declared.exchange.ExchangeFault.{ExchangeFault}
 use Rattle.bw_cli.specs.declared.exchange.ExchangeFault.TheVariants.{NotInOrder, Memory}
 
-abbrev pub end_of : ExchangeEnd → End
-end_of ends.Bye = SaidBye
-end_of ends.EndOfInput = EndOfInput
-end_of (ends.BadFrame fault) = BadFrame (reason_meaning fault.reason) fault.offset
+-- how the exchange ended, in the words of the definitions
+abbrev pub told_end : ExchangeEnd → End
+told_end ends.Bye = SaidBye
+told_end ends.EndOfInput = EndOfInput
+told_end (ends.BadFrame fault) = BadFrame (reason_meaning fault.reason) fault.offset
 
 -- the exchange tells this, by replies that have spellings
 pub record TellsExchange (e : Exchange) (t : ToldExchange) : Type 0 where
   pub replies : e.replies.items ≡ model.replies_bytes t.replies
   pub spelled : IsTrue (list_all is_reply t.replies)
-  pub end : end_of e.end ≡ t.end
+  pub end : told_end e.end ≡ t.end
 
 -- a fault that tells of the order is that the message isn't the run's next
 abbrev pub IsNotNext : ExchangeFault → Recording → Message → Type 0
@@ -42,6 +43,7 @@ pub record IsExchange (old new : Recording) (input : List ℕ) (book : Book)
   pub tells : TellsExchange e (told_of (model.exchange nothing_stands book input))
   pub keeps : KeepsBook new (model.exchange nothing_stands book input).book
 
+-- .. whatever book the run left
 abbrev pub Exchanges : Recording → Recording → List ℕ → Exchange → Type 0
 Exchanges old new input e = (book : Book) → KeepsBook old book → IsExchange old new input book e
 

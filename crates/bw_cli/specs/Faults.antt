@@ -1,10 +1,12 @@
 -- What a fault says of the input, its line, and how the program ends on it.
 use Rattle.std.specs.Prelude.{◌≡◌, ℕ, ◌++◌, List, Bool, true, false, Result, Ok, Err, codes}
 use Rattle.std.specs.Prelude.{decimal}
+use Rattle.hex.specs.declared.error.FromHexError.{FromHexError}
+use Rattle.hex.specs.declared.error.FromHexError.TheVariants.{OutOfMemory}
 use Rattle.bw_cli.specs.Input.{Asked, TooLong as AsksTooMuch, NotHex as AsksNoHex}
 use Rattle.bw_cli.specs.Input.{NotInOrder as AsksNoOrder}
 use Rattle.bw_cli.specs.Printing.{Print, Nothing, IsOf}
-use Rattle.bw_cli.specs.Text.{line}
+use Rattle.bw_cli.specs.Text.{as_line}
 use Rattle.bw_cli.specs.declared.fault.Fault.{Fault}
 use Rattle.bw_cli.specs.declared.fault.Fault.TheVariants.{TooLong, NotHex, NotInOrder, Unreadable}
 use Rattle.bw_cli.specs.declared.fault.Fault.TheVariants.{Unwritable, Memory}
@@ -12,6 +14,11 @@ use Rattle.bw_cli.specs.declared.exit.Exit.{Exit}
 use Rattle.bw_cli.specs.declared.exit.Exit.TheVariants.{Done as Exit-Done, Refused as Exit-Refused}
 use Rattle.bw_cli.specs.declared.exit.Exit.TheVariants.{Device as Exit-Device}
 use Rattle.bw_cli.specs.declared.exit.Exit.TheVariants.{Memory as Exit-Memory}
+
+-- what is told of the line with this number, whose digits can't be read for this error
+abbrev pub line_fault : FromHexError → ℕ → Fault
+line_fault OutOfMemory n = Memory
+line_fault _ n = NotHex n
 
 -- want of memory, or the first line that is not hex
 abbrev pub IsLineFault : Fault → Result (List (List ℕ)) ℕ → Type 0
@@ -40,6 +47,7 @@ fault_text Unreadable = codes "the input can't be read"
 fault_text Unwritable = codes "the output can't be written"
 fault_text Memory = codes "out of memory"
 
+-- how the program ends on a fault
 abbrev pub exit_on : Fault → Exit
 exit_on TooLong = Exit-Refused
 exit_on (NotHex n) = Exit-Refused
@@ -70,4 +78,4 @@ is_read (Err fault) = is_readable fault
 -- the fault's line alone is told, and of none nothing
 abbrev pub IsToldBy : Result (Unit {0}) Fault → Print → Type 0
 IsToldBy (Ok x) print = print ≡ Nothing
-IsToldBy (Err fault) print = IsOf (line (fault_text fault)) print
+IsToldBy (Err fault) print = IsOf (as_line (fault_text fault)) print

@@ -10,21 +10,23 @@ pub record Progress : Type 0 where
   pub name : Option (List ℕ)
   pub next : ℕ
 
+-- before the first message
 abbrev pub no_progress : Progress
 no_progress = record { name = None; next = 0 }
 
+-- a run of this name, if it has one yet, may have a message of that name
 abbrev pub is_its_name : Option (List ℕ) → List ℕ → Bool
 is_its_name None name = true
 is_its_name (Some own) name = bytes_eq own name
 
 -- a message of this name and number comes next
-abbrev pub is_next : Progress → List ℕ → ℕ → Bool
-is_next p name number = is_its_name p.name name && (number == p.next)
+abbrev pub comes_next : Progress → List ℕ → ℕ → Bool
+comes_next p name number = is_its_name p.name name && (number == p.next)
 
 -- the progress behind a frame, if the frame is the run's next message
 abbrev pub progress_behind : Progress → Frame → Option Progress
 progress_behind p (Says m) =
-    if is_next p m.name m.number then Some (record { name = Some m.name; next = p.next + 1 })
+    if comes_next p m.name m.number then Some (record { name = Some m.name; next = p.next + 1 })
     else None
 progress_behind p (Asks name number) = None
 progress_behind p Bye = None

@@ -22,7 +22,7 @@ pub record KeepsBook (r : Recording) (book : Book) : Type 0 where
   pub samples : r.samples.items ≡ (take_with requests).samples
 
 -- the message is the run's next, and its turn answers this reply alone
-pub record Answers (old new : Recording) (m : Message) (reply : Reply) : Type 0 where
+pub record AnswersMessage (old new : Recording) (m : Message) (reply : Reply) : Type 0 where
   pub progress : progress_behind (progress_of old) (Says m) ≡ Some (progress_of new)
   pub turns : (book : Book) → KeepsBook old book →
       (later : Book) × KeepsBook new later

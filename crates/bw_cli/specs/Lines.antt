@@ -5,6 +5,7 @@ use Rattle.std.specs.Io.BufRead.{strip_last}
 use Rattle.hex.specs.Hex.{decode_of}
 use Rattle.hex.specs.declared.error.FromHexError.{FromHexError}
 
+-- the byte ends a line
 abbrev pub is_line_end : ℕ → Bool
 is_line_end byte = byte == 10
 
@@ -15,6 +16,7 @@ lines_from line [] = if length line == 0 then [] else line ∷ []
 lines_from line (c ∷ cs) =
     if is_line_end c then strip_last 13 line ∷ lines_from [] cs else lines_from (line ++ c ∷ []) cs
 
+-- the lines of bytes
 abbrev pub lines_of : List ℕ → List (List ℕ)
 lines_of bytes = lines_from [] bytes
 

@@ -16,7 +16,7 @@ use Rattle.bw_cli.specs.Deeds.{Deed, IsReplay}
 use Rattle.bw_cli.specs.Faults.{IsToldBy, exit_of}
 use Rattle.bw_cli.specs.Inspections.{IsInspection, IsPrintOfText}
 use Rattle.bw_cli.specs.Printing.{Nothing, IsOf}
-use Rattle.bw_cli.specs.Text.{line}
+use Rattle.bw_cli.specs.Text.{as_line}
 use Rattle.bw_cli.specs.declared.exit.Exit.{Exit}
 use Rattle.bw_cli.specs.declared.exit.Exit.TheVariants as exits
 use Rattle.bw_cli.specs.declared.fault.Fault.{Fault}
@@ -40,7 +40,7 @@ pub record IsUnworded (kind : ErrorKind) (did : Deed) : Type 0 where
   pub exit_is : did.exit ≡ exit_without_words kind
   pub reads : did.reads_all ≡ true
   pub prints : did.out ≡ Nothing
-  pub tells : IsOf (line (codes "the command line can't be read")) did.faults
+  pub tells : IsOf (as_line (codes "the command line can't be read")) did.faults
 
 -- how the program ends where a file can't be opened
 abbrev pub exit_unopened : ErrorKind → Exit
@@ -109,21 +109,21 @@ IsLook file path false did = ((kind : ErrorKind) × IsUnopened path kind did) �
 
 -- what is done for a command line over these files and this input, where the system gives what is
 -- asked of it, or not
-abbrev pub IsDoneFor : (Text → Option (List ℕ)) → Option (List ℕ) → Bool → CommandLine → Deed →
+abbrev pub IsDoneFor : (Text → Option (List ℕ)) → Option (List ℕ) → CommandLine → Bool → Deed →
     Type 0
-IsDoneFor file_at input gives_all (Run (Replay limit)) did =
+IsDoneFor file_at input (Run (Replay limit)) gives_all did =
     IsReplay limit input did × (gives_all ≡ true)
-IsDoneFor file_at input gives_all (Run (Inspect file)) did =
+IsDoneFor file_at input (Run (Inspect file)) gives_all did =
     IsLook (file_at (string_bytes file)) (string_bytes file) gives_all did
-IsDoneFor file_at input gives_all BadLimit did = IsBadLimit did × (gives_all ≡ true)
-IsDoneFor file_at input gives_all (Tell error) did =
+IsDoneFor file_at input BadLimit gives_all did = IsBadLimit did × (gives_all ≡ true)
+IsDoneFor file_at input (Tell error) gives_all did =
     IsTelling (kind_of error) did × (gives_all ≡ true)
 
 -- the words come to a command line, and this is done for it
 pub record IsAnswer (given : Given) (gives_all : Bool) (did : Deed) : Type 0 where
   pub line : CommandLine
   pub comes : (words : List Text) → given.words ≡ Some words → IsLineOf words line
-  pub done : IsDoneFor given.file_at given.input gives_all line did
+  pub done : IsDoneFor given.file_at given.input line gives_all did
 
 -- what the program does: where the system fails, that is told; where it doesn't, memory may
 abbrev pub IsProgram : Given → Bool → Deed → Type 0

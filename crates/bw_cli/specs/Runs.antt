@@ -1,5 +1,5 @@
 -- Runs of exchanges over an empty store.
-use Rattle.std.specs.Prelude.{◌≡◌, ℕ, Bool, false, None, List, [], ◌∷◌, map}
+use Rattle.std.specs.Prelude.{◌≡◌, ℕ, None, List, [], ◌∷◌, map}
 use Rattle.bw_model.specs.Replies.{Reply}
 use Rattle.bw_model.specs.Stream.{End}
 use Rattle.bw_model.specs.Book.{Book}
@@ -11,6 +11,7 @@ pub record ToldExchange : Type 0 where
   pub replies : List Reply
   pub end : End
 
+-- what of an exchange is told
 abbrev pub told_of : Exchange → ToldExchange
 told_of e = record { replies = e.replies; end = e.end }
 

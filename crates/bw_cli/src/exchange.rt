@@ -1,10 +1,11 @@
 //! An exchange of a run in order.
-ghost use Rattle.std.specs.Prelude.{◌≡◌, ◌^◌, ◌≤◌, ◌++◌, length, IsTrue, IfOk, IfErr, OnOk};
+ghost use Rattle.std.specs.Prelude.{◌≡◌, ◌≤◌, ◌++◌, length, IsTrue, IfOk, IfErr, OnOk};
+ghost use Rattle.bw_model.specs.Limits.{largest};
 ghost use Rattle.bw_model.specs.Wire.{framed};
 ghost use Rattle.bw_model.specs.Replies.{reply_body, is_reply};
 ghost use Rattle.bw_wire.specs.Frames.{message_of};
 ghost use Rattle.bw_wire.specs.Replies.{reply_of, HasWireNumbers};
-ghost use Rattle.bw_cli.specs.Keeping.{Answers};
+ghost use Rattle.bw_cli.specs.Keeping.{AnswersMessage};
 ghost use Rattle.bw_cli.specs.Exchanging.{Exchanges, Breaks, IsNotNext, EndsBad};
 
 use crate::recording::Recording;
@@ -57,7 +58,7 @@ pub fn run_exchange(
     recording: &mut Recording,
     input: &[u8],
 ) -> Result<Exchange, ExchangeFault>
-    requires { length input.now ≤ 2 ^ 62 }
+    requires { length input.now ≤ largest }
     ensures ok { IfOk result (λ e. Exchanges recording.old recording.new input.now e) }
     ensures err { IfErr result (λ fault. Breaks fault recording.old input.now) }
 {
@@ -101,7 +102,7 @@ fn ended_bad(mut replies: Vec<u8>, fault: WireFault) -> Result<Exchange, AllocEr
 /// Takes the run's next message, and answers its verdict.
 fn answer(recording: &mut Recording, message: &Message<'_>) -> Result<Reply, ExchangeFault>
     ensures ok { IfOk result (λ reply.
-        Answers recording.old recording.new (message_of message.now) (reply_of reply)) }
+        AnswersMessage recording.old recording.new (message_of message.now) (reply_of reply)) }
     ensures numbers { IfOk result HasWireNumbers }
     ensures err { IfErr result (λ fault. IsNotNext fault recording.old (message_of message.now)) }
 {

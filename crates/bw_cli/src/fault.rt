@@ -1,7 +1,7 @@
 //! Why a command gives up.
 ghost use Rattle.std.specs.Prelude.{◌≡◌, ◌≤◌, ◌+◌, [], ◌++◌, length, codes, decimal};
 ghost use Rattle.bw_cli.specs.Faults.{exit_on, fault_text};
-ghost use Rattle.bw_cli.specs.Text.{line};
+ghost use Rattle.bw_cli.specs.Text.{as_line};
 
 use crate::exit::Exit;
 use arrayvec::ArrayString;
@@ -36,7 +36,7 @@ impl Fault {
 
     /// The line that tells it. It takes no memory, which may be what is wanting.
     pub fn line(&self) -> ArrayString<64>
-        ensures { result.bytes ≡ line (fault_text self.now) }
+        ensures { result.bytes ≡ as_line (fault_text self.now) }
     {
         let mut line = ArrayString::new();
         self.put_on(&mut line);

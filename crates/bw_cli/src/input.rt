@@ -4,7 +4,7 @@ ghost use Rattle.std.specs.List.{position_or_len};
 ghost use Rattle.std.specs.Io.BufRead.{strip_last};
 ghost use Rattle.bw_cli.specs.Lines.{lines_of, decoded_from, is_line_end};
 ghost use Rattle.bw_cli.specs.Input.{spelled_by, longest_input, Exchanges};
-ghost use Rattle.bw_cli.specs.Faults.{IsLineFault, RefusesInput, is_read};
+ghost use Rattle.bw_cli.specs.Faults.{IsLineFault, RefusesInput, is_read, line_fault as line_fault_of};
 ghost use Rattle.bw_cli.specs.Printing.{failures_if};
 ghost use Rattle.bw_cli.specs.Replays.{IsReadAhead};
 ghost use Rattle.bw_inspect.specs.Places.{Of};
@@ -78,15 +78,24 @@ fn decoded_lines(alloc: Global, input: &[u8]) -> Result<Vec<Vec<u8>>, Fault>
                     return Err(Fault::Memory);
                 };
             }
-            Err(FromHexError::OutOfMemory) => return Err(Fault::Memory),
-            Err(FromHexError::InvalidHexCharacter { .. }) => return Err(Fault::NotHex(number)),
-            Err(FromHexError::OddLength) => return Err(Fault::NotHex(number)),
-            Err(FromHexError::InvalidStringLength) => return Err(Fault::NotHex(number)),
+            Err(error) => return Err(line_fault(error, number)),
         }
         rest = others;
         number += 1;
     }
     Ok(found)
+}
+
+/// The fault of the line with this number, whose digits can't be read.
+fn line_fault(error: FromHexError, number: u64) -> Fault
+    ensures { result ≡ line_fault_of error number }
+{
+    match error {
+        FromHexError::OutOfMemory => Fault::Memory,
+        FromHexError::InvalidHexCharacter { .. } => Fault::NotHex(number),
+        FromHexError::OddLength => Fault::NotHex(number),
+        FromHexError::InvalidStringLength => Fault::NotHex(number),
+    }
 }
 
 /// The first line of bytes, and what follows it.

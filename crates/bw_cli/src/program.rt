@@ -4,10 +4,11 @@ ghost use Rattle.std.specs.IoError.{error_kind};
 ghost use Rattle.std.specs.Process.{exit_status};
 ghost use Rattle.clap.specs.Values.{kind_of};
 ghost use Rattle.bw_args.specs.Lines.{HasLimit};
-ghost use Rattle.bw_cli.specs.Deeds.{Deed, HasWritten};
+ghost use Rattle.bw_cli.specs.Deeds.{Deed, Does, HasWritten};
+ghost use Rattle.bw_cli.specs.declared.exit.Exit.{Exit};
 ghost use Rattle.bw_cli.specs.Exits.{status_of};
 ghost use Rattle.bw_cli.specs.Printing.{IsPrint, failures_if};
-ghost use Rattle.bw_cli.specs.Programs.{IsDoneFor, IsLook, IsProgram, IsTelling, IsUnopened, IsUnworded, IsWant, exit_without_words, unopened_text};
+ghost use Rattle.bw_cli.specs.Programs.{Given, IsDoneFor, IsLook, IsProgram, IsTelling, IsUnopened, IsUnworded, IsWant, exit_without_words, unopened_text};
 
 use crate::exit::Exit;
 use crate::fault::Fault;
@@ -30,15 +31,15 @@ pub fn start<S: System, R: Source, W: Sink, E: Sink>(
     out: &mut W,
     faults: &mut E,
 ) -> ExitCode
-    ensures { (did : Deed) × (exit_status result ≡ status_of did.exit) × (gives_all : Bool)
-        × IsProgram (record {
-          words = S.words system.old;
-          file_at = S.file_at system.old;
-          input = R.left input.old;
-        }) gives_all did
-        × (S.failures system.new ≡ failures_if gives_all (S.failures system.old))
-        × (R.failures input.new ≡ failures_if did.reads_all (R.failures input.old))
-        × HasWritten W.Sink E.Sink did out.old out.new faults.old faults.new }
+    ensures { let given : Given = record {
+      words = S.words system.old;
+      file_at = S.file_at system.old;
+      input = R.left input.old;
+    } in
+        (exit : Exit) × (exit_status result ≡ status_of exit)
+        × Does R.Source W.Sink E.Sink (IsProgram given) exit
+        (S.failures system.old) (S.failures system.new) input.old input.new
+        out.old out.new faults.old faults.new }
 {
     ExitCode::from(obey(alloc, system, input, out, faults).status())
 }
@@ -51,15 +52,14 @@ fn obey<S: System, R: Source, W: Sink, E: Sink>(
     out: &mut W,
     faults: &mut E,
 ) -> Exit
-    ensures { (did : Deed) × (did.exit ≡ result) × (gives_all : Bool)
-        × IsProgram (record {
-          words = S.words system.old;
-          file_at = S.file_at system.old;
-          input = R.left input.old;
-        }) gives_all did
-        × (S.failures system.new ≡ failures_if gives_all (S.failures system.old))
-        × (R.failures input.new ≡ failures_if did.reads_all (R.failures input.old))
-        × HasWritten W.Sink E.Sink did out.old out.new faults.old faults.new }
+    ensures { let given : Given = record {
+      words = S.words system.old;
+      file_at = S.file_at system.old;
+      input = R.left input.old;
+    } in
+        Does R.Source W.Sink E.Sink (IsProgram given) result
+        (S.failures system.old) (S.failures system.new) input.old input.new
+        out.old out.new faults.old faults.new }
 {
     match system.words() {
         Ok(words) => answer(alloc, words.as_slice(), system, input, out, faults),
@@ -67,7 +67,7 @@ fn obey<S: System, R: Source, W: Sink, E: Sink>(
     }
 }
 
-/// TellsExchange that the words of the command line can't be read.
+/// Tells that the words of the command line can't be read.
 fn tell_unworded<E: Sink>(error: &io::Error, faults: &mut E) -> Exit
     ensures { (did : Deed) × (did.exit ≡ result) × IsUnworded (error_kind error.now) did
         × IsPrint E.Sink did.faults faults.old faults.new }
@@ -85,15 +85,14 @@ fn answer<S: System, R: Source, W: Sink, E: Sink>(
     out: &mut W,
     faults: &mut E,
 ) -> Exit
-    ensures { (did : Deed) × (did.exit ≡ result) × (gives_all : Bool)
-        × IsProgram (record {
-          words = Some (map string_bytes words.now);
-          file_at = S.file_at system.old;
-          input = R.left input.old;
-        }) gives_all did
-        × (S.failures system.new ≡ failures_if gives_all (S.failures system.old))
-        × (R.failures input.new ≡ failures_if did.reads_all (R.failures input.old))
-        × HasWritten W.Sink E.Sink did out.old out.new faults.old faults.new }
+    ensures { let given : Given = record {
+      words = Some (map string_bytes words.now);
+      file_at = S.file_at system.old;
+      input = R.left input.old;
+    } in
+        Does R.Source W.Sink E.Sink (IsProgram given) result
+        (S.failures system.old) (S.failures system.new) input.old input.new
+        out.old out.new faults.old faults.new }
 {
     match parse(alloc, words) {
         Ok(line) => perform(alloc, &line, system, input, out, faults),
@@ -111,11 +110,10 @@ fn perform<S: System, R: Source, W: Sink, E: Sink>(
     faults: &mut E,
 ) -> Exit
     requires { HasLimit line.now }
-    ensures { (did : Deed) × (did.exit ≡ result) × (gives_all : Bool)
-        × IsDoneFor (S.file_at system.old) (R.left input.old) gives_all line.now did
-        × (S.failures system.new ≡ failures_if gives_all (S.failures system.old))
-        × (R.failures input.new ≡ failures_if did.reads_all (R.failures input.old))
-        × HasWritten W.Sink E.Sink did out.old out.new faults.old faults.new }
+    ensures { let done = IsDoneFor (S.file_at system.old) (R.left input.old) line.now in
+        Does R.Source W.Sink E.Sink done result
+        (S.failures system.old) (S.failures system.new) input.old input.new
+        out.old out.new faults.old faults.new }
 {
     match line {
         CommandLine::Run(Task::Replay { limit }) => match Limit::new(*limit) {
@@ -133,7 +131,7 @@ fn perform<S: System, R: Source, W: Sink, E: Sink>(
     }
 }
 
-/// TellsExchange what is in the file of a path.
+/// Tells what is in the file of a path.
 fn inspect_file<S: System, W: Sink, E: Sink>(
     alloc: Global,
     system: &mut S,
@@ -153,7 +151,7 @@ fn inspect_file<S: System, W: Sink, E: Sink>(
     }
 }
 
-/// TellsExchange why the file of a path can't be opened.
+/// Tells why the file of a path can't be opened.
 fn tell_unopened<E: Sink>(alloc: Global, path: &str, error: &io::Error, faults: &mut E) -> Exit
     ensures { (did : Deed) × (did.exit ≡ result)
         × (IsUnopened path.now (error_kind error.now) did ⊎ IsWant did)

@@ -1,11 +1,12 @@
 //! The take of a run in order, with its data in memory.
-ghost use Rattle.std.specs.Prelude.{◌≡◌, ◌+◌, ◌*◌, ◌^◌, ◌≤◌, [], ◌++◌, vec_len, IsTrue, IfOk, OnOk, OnErr};
+ghost use Rattle.std.specs.Prelude.{◌≡◌, ◌+◌, ◌*◌, ◌≤◌, [], ◌++◌, vec_len, IsTrue, IfOk, OnOk, OnErr};
+ghost use Rattle.bw_model.specs.Limits.{largest, longest_block};
 ghost use Rattle.bw_model.specs.Take.{Take, parts, after, judge as judgement};
 ghost use Rattle.bw_model.specs.Wire.{is_request};
 ghost use Rattle.bw_model.specs.Replies.{Judged};
 ghost use Rattle.bw_take.specs.Requests.{meaning};
 ghost use Rattle.bw_take.specs.Verdicts.{verdict_meaning};
-ghost use Rattle.bw_cli.specs.InOrder.{is_next as is_next_in, no_progress};
+ghost use Rattle.bw_cli.specs.InOrder.{comes_next, no_progress};
 ghost use Rattle.bw_cli.specs.Recording.{samples_of};
 
 use crate::file::file_of_take;
@@ -35,7 +36,7 @@ pub struct TakeFile {
 impl Recording {
     ghost use Rattle.bw_model.specs.Book.{Book};
     ghost use Rattle.bw_cli.specs.Text.{files_text};
-    ghost use Rattle.bw_cli.specs.Keeping.{progress_of, KeepsBook, Answers};
+    ghost use Rattle.bw_cli.specs.Keeping.{progress_of, KeepsBook, AnswersMessage};
     ghost use Rattle.bw_cli.specs.TakeFiles.{text_of_file};
 
     /// Before the first message.
@@ -53,7 +54,7 @@ impl Recording {
 
     /// Whether a message of this name and number comes next.
     pub fn is_next(&self, name: &Name, number: u32) -> bool
-        ensures { result ≡ is_next_in (progress_of self.now) name.now number }
+        ensures { result ≡ comes_next (progress_of self.now) name.now number }
     {
         let is_its_name = match &self.name {
             Some(own) => own == name,
@@ -69,10 +70,10 @@ impl Recording {
         number: u32,
         request: &RequestRef<'_>,
     ) -> Result<Verdict, AllocError>
-        requires next { IsTrue (is_next_in (progress_of self.old) name.now number) }
+        requires next { IsTrue (comes_next (progress_of self.old) name.now number) }
         requires range { number ≤ 16777215 }
         requires fits { IsTrue (is_request (meaning request.now)) }
-        ensures { IfOk result (λ v. Answers self.old self.new
+        ensures { IfOk result (λ v. AnswersMessage self.old self.new
             (record { name = name.now; number = number; request = meaning request.now })
             (Judged name.now number (verdict_meaning v))) }
     {
@@ -108,7 +109,7 @@ fn apply(
     request: &RequestRef<'_>,
 ) -> Result<Verdict, AllocError>
     requires fits { IsTrue (is_request (meaning request.now)) }
-    requires room { state.old.parts.samples_len + 32768 ≤ 2 ^ 62 }
+    requires room { state.old.parts.samples_len + longest_block ≤ largest }
     ensures verdict { IfOk result (λ v.
         verdict_meaning v ≡ judgement state.old.parts (meaning request.now)) }
     ensures take { OnOk result ((t : Take) → parts t ≡ state.old.parts →

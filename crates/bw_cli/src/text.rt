@@ -6,10 +6,10 @@ ghost use Rattle.bw_model.specs.Wire.{framed};
 ghost use Rattle.bw_model.specs.Replies.{Reply, is_reply};
 ghost use Rattle.bw_model.specs.Exchange.{replies_bytes};
 ghost use Rattle.bw_model.specs.Book.{Book};
-ghost use Rattle.bw_cli.specs.Text.{line, reply_line, end_name as name_of_end, exchanges_text, file_text, files_text, run_text};
+ghost use Rattle.bw_cli.specs.Text.{as_line, reply_line, end_name as name_of_end, exchanges_text, file_text, files_text, run_text};
 ghost use Rattle.bw_cli.specs.Runs.{ToldExchange};
 ghost use Rattle.bw_cli.specs.Keeping.{KeepsBook};
-ghost use Rattle.bw_cli.specs.Exchanging.{end_of};
+ghost use Rattle.bw_cli.specs.Exchanging.{told_end};
 ghost use Rattle.bw_cli.specs.Running.{AllTell, Ran};
 
 use crate::exchange::{Exchange, ExchangeEnd};
@@ -49,7 +49,7 @@ fn put_exchange_line(
     end: ExchangeEnd,
 ) -> Result<(), AllocError>
     ensures { OnOk result (out.new.items ≡ out.old.items ++
-        line (codes "exchange " ++ decimal index ++ codes " " ++ name_of_end (end_of end))) }
+        as_line (codes "exchange " ++ decimal index ++ codes " " ++ name_of_end (told_end end))) }
 {
     let name = end_name(end);
     let text = format!(in alloc; "exchange {index} {name}\n")?;
@@ -58,7 +58,7 @@ fn put_exchange_line(
 }
 
 fn end_name(end: ExchangeEnd) -> &'static str
-    ensures { result.now ≡ name_of_end (end_of end) }
+    ensures { result.now ≡ name_of_end (told_end end) }
 {
     match end {
         ExchangeEnd::Bye => "Bye",
@@ -139,7 +139,7 @@ fn put_hex_line(
     bytes: &[u8],
 ) -> Result<(), AllocError>
     ensures { OnOk result (out.new.items ≡
-        out.old.items ++ line (words.now ++ encode_lower bytes.now)) }
+        out.old.items ++ as_line (words.now ++ encode_lower bytes.now)) }
 {
     let digits = hex::encode(alloc, bytes)?;
     out.extend_from_slice(words.as_bytes())?;

@@ -1,11 +1,13 @@
 -- The `ds64` chunk.
 use Rattle.std.proofs.Common.{◌≡◌, ℕ, ◌+◌, ◌≤◌, ◌<◌, Bool, true, false, ◌||◌, List, length, drop, Option, Some, None}
-use Rattle.std.proofs.Common.{refl, sym, ◌∙◌, ap, arith, lit≤}
+use Rattle.std.proofs.Common.{refl, sym, ◌∙◌, ap, subst, arith, lit≤, ◌*◌}
 use Rattle.std.specs.Prelude.{codes, not, nat_lt, ◌==◌}
 use Rattle.std.proofs.lemmas.Bool.{lt-ltb, le-ltb, ne_eqb}
-use Rattle.bw_model.specs.Bytes.{first_that_holds, u32_at, unsaid}
+use Rattle.bw_model.specs.Bytes.{first_that_holds, u32_at, u64_at, unsaid}
+use Rattle.bw_model.specs.Limits.{most_entries}
+use Rattle.bw_model.specs.Report.{content_of}
 use Rattle.bw_model.specs.Reading as reading
-use Rattle.bw_layout.specs.Tables.{fixed_at}
+use Rattle.bw_layout.specs.Tables.{Fixed, fixed_at}
 use Rattle.bw_layout.specs.declared.chunk.ChunkHead.{ChunkHead}
 use Rattle.std.specs.Prelude.{slice_range}
 use Rattle.bw_inspect.specs.declared.fault.InspectFault.{InspectFault}
@@ -109,3 +111,21 @@ fixed_front c =
     let d = u64_front c 28 8 (lit≤ tt) in
     let n = u32_front c 28 24 (lit≤ tt) in
     cc
+
+-- what the code has of the bytes before the table is what stands there
+pub record IsFixedPart (b : List ℕ) (e : reading.Entry) (x : Fixed) : Type 0 where
+  pub form : x.form ≡ u64_at (content_of b (Some e)) 0
+  pub size : x.data_size ≡ u64_at (content_of b (Some e)) 8
+  pub told : x.table_len ≡ u32_at (content_of b (Some e)) 24
+  pub few : x.table_len ≤ most_entries
+  pub fits : 28 + 12 * x.table_len ≤ e.size
+
+pub fixed_part : (b : List ℕ) (e : reading.Entry) (x y : Fixed) → x ≡ y → y ≡ fixed_at (content_of b (Some e)) →
+    y.table_len ≤ most_entries → 28 + 12 * y.table_len ≤ e.size → IsFixedPart b e x
+fixed_part b e x y q told few fits = record {
+  form = ap (λ (z : Fixed). z.form) (q ∙ told);
+  size = ap (λ (z : Fixed). z.data_size) (q ∙ told);
+  told = ap (λ (z : Fixed). z.table_len) (q ∙ told);
+  few = subst (λ (z : Fixed). z.table_len ≤ most_entries) (sym q) few;
+  fits = subst (λ (z : Fixed). 28 + 12 * z.table_len ≤ e.size) (sym q) fits;
+}

@@ -63,10 +63,9 @@ pub record HasReadEntries (b : List ℕ) (reached : ℕ) : Type 0 where
   pub wide : reading.is_wide b ≡ true
   pub opening : first_that_holds (opening_faults b) ≡ None
   pub head : first_that_holds (ds64_head_faults b) ≡ None
-  pub free :
-      first_that_holds (counted_faults (20 + u32_at b 16) (ds64_entry b) 28 most_entries 12 reading.BadDs64
-      (u32_at b 44))
-      ≡ None
+  pub free : first_that_holds
+      (counted_faults (20 + u32_at b 16) (ds64_entry b) 28 most_entries 12 reading.BadDs64
+      (u32_at b 44)) ≡ None
   pub grown : HasGrown b 48 12 (u32_at b 44) reached
 
 -- `ds64`, or an entry of it, is to be listed

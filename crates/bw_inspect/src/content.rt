@@ -15,6 +15,51 @@ use crate::walk::{Known, Samples};
 use bw_layout::{RawFmt, Source, read_bext, read_fmt};
 use std::alloc::Global;
 
+/// Reads the content of a chunk, and keeps what is told of it.
+///
+/// # Errors
+/// Truncated, and of `cue ` TooMany and BadCue; Read; Memory.
+pub(crate) fn read_content<R: Source>(
+    alloc: Global,
+    reader: &mut R,
+    known: &mut Known,
+    kind: ChunkKind,
+    entry: ListedChunk,
+) -> Result<(), InspectFault>
+    requires room { entry.place + 8 + entry.size < 2 ^ 63 }
+    requires allowed { Allows kind entry.size }
+    ensures consumed { Consumes R.Source entry.size result reader.old reader.new }
+    ensures few { OnOk result (HasFewCues known.old → HasFewCues known.new) }
+    ensures ok { OnOk result (InContent (R.left reader.old) entry 0 (λ b.
+        IsLearned b kind entry (facts_of known.old) (facts_of known.new) (R.left reader.new))) }
+    ensures err { IfErr result (λ f. InContent (R.left reader.old) entry 0 (λ b.
+        IsUnlearned b kind entry f (R.left reader.new))) }
+{
+    match kind {
+        ChunkKind::Fmt => {
+            known.fmt = Some(read_fmt_chunk(reader, entry)?);
+            Ok(())
+        }
+        ChunkKind::Bext => {
+            known.bext = Some(read_bext_chunk(reader, entry)?);
+            Ok(())
+        }
+        ChunkKind::Data => {
+            pass_rest(reader, entry, 0)?;
+            known.samples = Some(Samples {
+                at: entry.place + 8,
+                size: entry.size,
+            });
+            Ok(())
+        }
+        ChunkKind::Cue => {
+            known.cues = Some(read_cues(alloc, reader, entry)?);
+            Ok(())
+        }
+        ChunkKind::Other => pass_rest(reader, entry, 0),
+    }
+}
+
 /// Reads the next part of a chunk's content, of which `done` bytes were read.
 ///
 /// # Errors
@@ -98,49 +143,4 @@ fn read_bext_chunk<R: Source>(reader: &mut R, entry: ListedChunk) -> Result<Bext
         fields,
         history_len: entry.size - 602,
     })
-}
-
-/// Reads the content of a chunk, and keeps what is told of it.
-///
-/// # Errors
-/// Truncated, and of `cue ` TooMany and BadCue; Read; Memory.
-pub(crate) fn read_content<R: Source>(
-    alloc: Global,
-    reader: &mut R,
-    known: &mut Known,
-    kind: ChunkKind,
-    entry: ListedChunk,
-) -> Result<(), InspectFault>
-    requires room { entry.place + 8 + entry.size < 2 ^ 63 }
-    requires allowed { Allows kind entry.size }
-    ensures consumed { Consumes R.Source entry.size result reader.old reader.new }
-    ensures few { OnOk result (HasFewCues known.old → HasFewCues known.new) }
-    ensures ok { OnOk result (InContent (R.left reader.old) entry 0 (λ b.
-        IsLearned b kind entry (facts_of known.old) (facts_of known.new) (R.left reader.new))) }
-    ensures err { IfErr result (λ f. InContent (R.left reader.old) entry 0 (λ b.
-        IsUnlearned b kind entry f (R.left reader.new))) }
-{
-    match kind {
-        ChunkKind::Fmt => {
-            known.fmt = Some(read_fmt_chunk(reader, entry)?);
-            Ok(())
-        }
-        ChunkKind::Bext => {
-            known.bext = Some(read_bext_chunk(reader, entry)?);
-            Ok(())
-        }
-        ChunkKind::Data => {
-            pass_rest(reader, entry, 0)?;
-            known.samples = Some(Samples {
-                at: entry.place + 8,
-                size: entry.size,
-            });
-            Ok(())
-        }
-        ChunkKind::Cue => {
-            known.cues = Some(read_cues(alloc, reader, entry)?);
-            Ok(())
-        }
-        ChunkKind::Other => pass_rest(reader, entry, 0),
-    }
 }

@@ -16,6 +16,30 @@ use std::alloc::Global;
 /// The most points that are read.
 const MOST_POINTS: u32 = 65_536;
 
+/// Reads a `cue ` chunk's content.
+///
+/// # Errors
+/// Truncated, TooMany, BadCue; Read; Memory.
+pub(crate) fn read_cues<R: Source>(
+    alloc: Global,
+    reader: &mut R,
+    entry: ListedChunk,
+) -> Result<Cues, InspectFault>
+    requires room { entry.place + 8 + entry.size < 2 ^ 63 }
+    requires long { 4 ≤ entry.size }
+    ensures consumed { Consumes R.Source entry.size result reader.old reader.new }
+    ensures few { IfOk result (λ x. length x ≤ most_cues) }
+    ensures ok { IfOk result (λ x. InContent (R.left reader.old) entry 0 (λ b.
+        IsCued b entry x (R.left reader.new))) }
+    ensures err { IfErr result (λ f. InContent (R.left reader.old) entry 0 (λ b.
+        IsStoppedIn b (WantsPoint b entry) (cue_faults b entry) entry f (R.left reader.new))) }
+{
+    let count = read_count(reader, entry)?;
+    let points = read_rows(alloc, reader, entry, 4, count)?;
+    pass_rest(reader, entry, 4 + 24 * count)?;
+    Ok(Cues::new(points))
+}
+
 /// Reads how many points a `cue ` chunk has.
 ///
 /// # Errors
@@ -42,28 +66,4 @@ fn read_count<R: Source>(reader: &mut R, entry: ListedChunk) -> Result<u64, Insp
         return Err(fault_at(InspectKind::BadCue, entry.place));
     }
     Ok(count)
-}
-
-/// Reads a `cue ` chunk's content.
-///
-/// # Errors
-/// Truncated, TooMany, BadCue; Read; Memory.
-pub(crate) fn read_cues<R: Source>(
-    alloc: Global,
-    reader: &mut R,
-    entry: ListedChunk,
-) -> Result<Cues, InspectFault>
-    requires room { entry.place + 8 + entry.size < 2 ^ 63 }
-    requires long { 4 ≤ entry.size }
-    ensures consumed { Consumes R.Source entry.size result reader.old reader.new }
-    ensures few { IfOk result (λ x. length x ≤ most_cues) }
-    ensures ok { IfOk result (λ x. InContent (R.left reader.old) entry 0 (λ b.
-        IsCued b entry x (R.left reader.new))) }
-    ensures err { IfErr result (λ f. InContent (R.left reader.old) entry 0 (λ b.
-        IsStoppedIn b (WantsPoint b entry) (cue_faults b entry) entry f (R.left reader.new))) }
-{
-    let count = read_count(reader, entry)?;
-    let points = read_rows(alloc, reader, entry, 4, count)?;
-    pass_rest(reader, entry, 4 + 24 * count)?;
-    Ok(Cues::new(points))
 }

@@ -49,6 +49,34 @@ pub(crate) fn read_ds64_head<R: Source>(reader: &mut R) -> Result<ListedChunk, I
     })
 }
 
+/// Reads the content of the `ds64` chunk; what follows its table is passed over.
+///
+/// # Errors
+/// Truncated, TooMany, BadDs64; Read; Memory.
+pub(crate) fn read_ds64<R: Source>(
+    alloc: Global,
+    reader: &mut R,
+    entry: ListedChunk,
+) -> Result<Ds64, InspectFault>
+    requires room { entry.place + 8 + entry.size < 2 ^ 63 }
+    requires long { 28 ≤ entry.size }
+    ensures consumed { Consumes R.Source entry.size result reader.old reader.new }
+    ensures ok { IfOk result (λ x. InContent (R.left reader.old) entry 0 (λ b.
+        IsDs64Read b entry x (R.left reader.new))) }
+    ensures err { IfErr result (λ f. InContent (R.left reader.old) entry 0 (λ b.
+        IsStoppedIn b (WantsEntry b entry) (table_faults b entry) entry f (R.left reader.new))) }
+{
+    let fixed = read_fixed(reader, entry)?;
+    let count = fixed.table_len as u64;
+    let rows = read_rows(alloc, reader, entry, 28, count)?;
+    pass_rest(reader, entry, 28 + 12 * count)?;
+    Ok(Ds64 {
+        form: fixed.form,
+        data_size: fixed.data_size,
+        table: SizeTable::new(rows),
+    })
+}
+
 /// Reads what stands before the table.
 ///
 /// # Errors
@@ -76,32 +104,4 @@ fn read_fixed<R: Source>(reader: &mut R, entry: ListedChunk) -> Result<Ds64Fixed
         return Err(fault_at(InspectKind::BadDs64, entry.place));
     }
     Ok(fixed)
-}
-
-/// Reads the content of the `ds64` chunk; what follows its table is passed over.
-///
-/// # Errors
-/// Truncated, TooMany, BadDs64; Read; Memory.
-pub(crate) fn read_ds64<R: Source>(
-    alloc: Global,
-    reader: &mut R,
-    entry: ListedChunk,
-) -> Result<Ds64, InspectFault>
-    requires room { entry.place + 8 + entry.size < 2 ^ 63 }
-    requires long { 28 ≤ entry.size }
-    ensures consumed { Consumes R.Source entry.size result reader.old reader.new }
-    ensures ok { IfOk result (λ x. InContent (R.left reader.old) entry 0 (λ b.
-        IsDs64Read b entry x (R.left reader.new))) }
-    ensures err { IfErr result (λ f. InContent (R.left reader.old) entry 0 (λ b.
-        IsStoppedIn b (WantsEntry b entry) (table_faults b entry) entry f (R.left reader.new))) }
-{
-    let fixed = read_fixed(reader, entry)?;
-    let count = fixed.table_len as u64;
-    let rows = read_rows(alloc, reader, entry, 28, count)?;
-    pass_rest(reader, entry, 28 + 12 * count)?;
-    Ok(Ds64 {
-        form: fixed.form,
-        data_size: fixed.data_size,
-        table: SizeTable::new(rows),
-    })
 }

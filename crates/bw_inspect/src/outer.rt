@@ -17,11 +17,40 @@ use crate::walk::{Form, Walk, begin, list_chunk};
 use bw_layout::{ChunkHead, ChunkId, Source, read_id, read_u32};
 use std::alloc::Global;
 
-/// Whether an id is that of a form that is read.
-fn is_form(id: ChunkId) -> bool
-    ensures { result ≡ names_form id }
+/// Reads the outer header, and in BW64 and RF64 the `ds64` chunk behind it.
+///
+/// # Errors
+/// The first fault of the outer header; Read; Memory.
+pub(crate) fn read_outer<R: Source>(
+    alloc: Global,
+    reader: &mut R,
+) -> Result<(Form, Walk), InspectFault>
+    ensures consumed { Consumes R.Source longest_end result reader.old reader.new }
+    ensures passed { IfOk result (λ r.
+        R.moved reader.new ≤ R.moved reader.old + min r.1.place (8 + r.0.size)) }
+    ensures size { IfOk result (λ r. r.0.size ≤ largest) }
+    ensures place { IfOk result (λ r. r.1.place ≤ r.0.size + 9) }
+    ensures small { IfOk result (λ r. IsSmall r.1) }
+    ensures ok { IfOk result (λ r. Of (R.left reader.old) (λ b.
+        BeginsForm b r.0 r.1 (R.left reader.new))) }
+    ensures err { IfErr result (λ f. Of (R.left reader.old) (λ b.
+        IsOutside b f (R.left reader.new))) }
 {
-    is_named(id, *b"RIFF") || is_named(id, *b"BW64") || is_named(id, *b"RF64")
+    let opening = read_opening(reader)?;
+    if !is_named(opening.id, *b"RIFF") {
+        return read_wide(alloc, reader, opening);
+    }
+    if opening.size32 == u32::MAX {
+        return Err(fault_at(InspectKind::NoSize, 4));
+    }
+    let size = opening.size32 as u64;
+    check_form_size(size)?;
+    let form = Form {
+        id: opening.id,
+        size,
+        sizes: None,
+    };
+    Ok((form, begin(alloc)))
 }
 
 /// Reads the first 12 bytes of a file: the form's id, its size as far as four bytes tell it, and `WAVE`.
@@ -50,35 +79,11 @@ fn read_opening<R: Source>(reader: &mut R) -> Result<ChunkHead, InspectFault>
     })
 }
 
-/// Whether a form may have a size.
-///
-/// # Errors
-/// TooLarge, NotWave.
-fn check_form_size(size: u64) -> Result<(), InspectFault>
-    ensures small { OnOk result (size ≤ largest) }
-    ensures large { OnOk result (4 ≤ size) }
-    ensures ok { OnOk result (first_that_holds (form_faults size) ≡ None) }
-    ensures kind { IfErr result (λ f. IsTrue (is_of_bytes f.kind)) }
-    ensures err { IfErr result (λ f. bytes_fault f ≡ first_that_holds (form_faults size)) }
+/// Whether an id is that of a form that is read.
+fn is_form(id: ChunkId) -> bool
+    ensures { result ≡ names_form id }
 {
-    if size > LARGEST {
-        return Err(fault_at(InspectKind::TooLarge, 4));
-    }
-    if size < 4 {
-        return Err(fault_at(InspectKind::NotWave, 4));
-    }
-    Ok(())
-}
-
-/// The size of a form, where `ds64` tells one too: that of the outer header, if it can tell it.
-fn form_size(size32: u32, told: u64) -> u64
-    ensures { result ≡ (if size32 == unsaid then told else size32) }
-{
-    if size32 == u32::MAX {
-        told
-    } else {
-        size32 as u64
-    }
+    is_named(id, *b"RIFF") || is_named(id, *b"BW64") || is_named(id, *b"RF64")
 }
 
 /// Reads what stands before the second chunk of a BW64 or RF64 file, behind its opening.
@@ -115,38 +120,33 @@ fn read_wide<R: Source>(
     Ok((form, walk))
 }
 
-/// Reads the outer header, and in BW64 and RF64 the `ds64` chunk behind it.
+/// The size of a form, where `ds64` tells one too: that of the outer header, if it can tell it.
+fn form_size(size32: u32, told: u64) -> u64
+    ensures { result ≡ (if size32 == unsaid then told else size32) }
+{
+    if size32 == u32::MAX {
+        told
+    } else {
+        size32 as u64
+    }
+}
+
+/// Whether a form may have a size.
 ///
 /// # Errors
-/// The first fault of the outer header; Read; Memory.
-pub(crate) fn read_outer<R: Source>(
-    alloc: Global,
-    reader: &mut R,
-) -> Result<(Form, Walk), InspectFault>
-    ensures consumed { Consumes R.Source longest_end result reader.old reader.new }
-    ensures passed { IfOk result (λ r.
-        R.moved reader.new ≤ R.moved reader.old + min r.1.place (8 + r.0.size)) }
-    ensures size { IfOk result (λ r. r.0.size ≤ largest) }
-    ensures place { IfOk result (λ r. r.1.place ≤ r.0.size + 9) }
-    ensures small { IfOk result (λ r. IsSmall r.1) }
-    ensures ok { IfOk result (λ r. Of (R.left reader.old) (λ b.
-        BeginsForm b r.0 r.1 (R.left reader.new))) }
-    ensures err { IfErr result (λ f. Of (R.left reader.old) (λ b.
-        IsOutside b f (R.left reader.new))) }
+/// TooLarge, NotWave.
+fn check_form_size(size: u64) -> Result<(), InspectFault>
+    ensures small { OnOk result (size ≤ largest) }
+    ensures large { OnOk result (4 ≤ size) }
+    ensures ok { OnOk result (first_that_holds (form_faults size) ≡ None) }
+    ensures kind { IfErr result (λ f. IsTrue (is_of_bytes f.kind)) }
+    ensures err { IfErr result (λ f. bytes_fault f ≡ first_that_holds (form_faults size)) }
 {
-    let opening = read_opening(reader)?;
-    if !is_named(opening.id, *b"RIFF") {
-        return read_wide(alloc, reader, opening);
+    if size > LARGEST {
+        return Err(fault_at(InspectKind::TooLarge, 4));
     }
-    if opening.size32 == u32::MAX {
-        return Err(fault_at(InspectKind::NoSize, 4));
+    if size < 4 {
+        return Err(fault_at(InspectKind::NotWave, 4));
     }
-    let size = opening.size32 as u64;
-    check_form_size(size)?;
-    let form = Form {
-        id: opening.id,
-        size,
-        sizes: None,
-    };
-    Ok((form, begin(alloc)))
+    Ok(())
 }

@@ -17,6 +17,26 @@ use crate::walk::{Form, Known, Walk, next_chunk};
 use bw_layout::Source;
 use std::alloc::Global;
 
+/// Reads a file once and forward, and tells what it holds. Content that isn't told is passed over and not kept.
+///
+/// # Errors
+/// The first fault of the file, at its place; Read, only where the reader failed in this call, at the offset of
+/// the next byte that was wanted; Memory, at the place of the chunk that needed it.
+pub fn inspect<R: Source>(alloc: Global, reader: &mut R) -> Result<Report, InspectFault>
+    ensures consumed { Consumes R.Source longest_end result reader.old reader.new }
+    ensures within { IfOk result (λ r. R.moved reader.new ≤ R.moved reader.old + (8 + r.size)) }
+    ensures ok { IfOk result (λ r. Of (R.left reader.old) (λ b. Tells b r (R.left reader.new))) }
+    ensures err { IfErr result (λ f. Of (R.left reader.old) (λ b.
+        Refuses b f (R.left reader.new))) }
+    ensures bounded { IfOk result (λ r. IsBounded r) }
+    ensures only { IfErr result (λ f. Of (R.left reader.old) (λ b.
+        HasReading b → is_of_bytes f.kind ≡ false)) }
+{
+    let (form, mut walk) = read_outer(alloc, reader)?;
+    while next_chunk(alloc, reader, &form, &mut walk)? {}
+    finish(alloc, form, walk)
+}
+
 /// The report of a walk that came to the form's end.
 ///
 /// # Errors
@@ -59,24 +79,4 @@ fn finish(alloc: Global, form: Form, walk: Walk) -> Result<Report, InspectFault>
         bext,
         cues: cues.unwrap_or(Cues::new(Vec::new(alloc))),
     })
-}
-
-/// Reads a file once and forward, and tells what it holds. Content that isn't told is passed over and not kept.
-///
-/// # Errors
-/// The first fault of the file, at its place; Read, only where the reader failed in this call, at the offset of
-/// the next byte that was wanted; Memory, at the place of the chunk that needed it.
-pub fn inspect<R: Source>(alloc: Global, reader: &mut R) -> Result<Report, InspectFault>
-    ensures consumed { Consumes R.Source longest_end result reader.old reader.new }
-    ensures within { IfOk result (λ r. R.moved reader.new ≤ R.moved reader.old + (8 + r.size)) }
-    ensures ok { IfOk result (λ r. Of (R.left reader.old) (λ b. Tells b r (R.left reader.new))) }
-    ensures err { IfErr result (λ f. Of (R.left reader.old) (λ b.
-        Refuses b f (R.left reader.new))) }
-    ensures bounded { IfOk result (λ r. IsBounded r) }
-    ensures only { IfErr result (λ f. Of (R.left reader.old) (λ b.
-        HasReading b → is_of_bytes f.kind ≡ false)) }
-{
-    let (form, mut walk) = read_outer(alloc, reader)?;
-    while next_chunk(alloc, reader, &form, &mut walk)? {}
-    finish(alloc, form, walk)
 }

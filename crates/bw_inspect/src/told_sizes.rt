@@ -7,16 +7,16 @@ ghost use Rattle.bw_inspect.specs.Chunks.{size_by, sizes_of};
 use crate::chunk::is_named;
 use bw_layout::{ChunkId, Ds64};
 
-/// The size in the first entry with an id.
-fn size_in(table: &[(ChunkId, u64)], id: [u8; 4]) -> Option<u64>
-    ensures { result ≡ size_by table.now id }
+/// The size of a chunk's content: that of its head, and where the head can't tell it, that of the form.
+pub(crate) fn size_told(sizes: &Option<Ds64>, id: ChunkId, size32: u32) -> Option<u64>
+    ensures { result ≡
+        (if size32 == unsaid then told_size (sizes_of sizes.now) id else Some size32) }
 {
-    for (name, size) in table {
-        if is_named(*name, id) {
-            return Some(*size);
-        }
+    if size32 == u32::MAX {
+        told(sizes, id)
+    } else {
+        Some(size32 as u64)
     }
-    None
 }
 
 /// The size that a form tells for the chunks with an id.
@@ -32,14 +32,14 @@ fn told(sizes: &Option<Ds64>, id: ChunkId) -> Option<u64>
     size_in(sizes.table.as_slice(), id.0)
 }
 
-/// The size of a chunk's content: that of its head, and where the head can't tell it, that of the form.
-pub(crate) fn size_told(sizes: &Option<Ds64>, id: ChunkId, size32: u32) -> Option<u64>
-    ensures { result ≡
-        (if size32 == unsaid then told_size (sizes_of sizes.now) id else Some size32) }
+/// The size in the first entry with an id.
+fn size_in(table: &[(ChunkId, u64)], id: [u8; 4]) -> Option<u64>
+    ensures { result ≡ size_by table.now id }
 {
-    if size32 == u32::MAX {
-        told(sizes, id)
-    } else {
-        Some(size32 as u64)
+    for (name, size) in table {
+        if is_named(*name, id) {
+            return Some(*size);
+        }
     }
+    None
 }

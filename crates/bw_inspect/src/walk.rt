@@ -73,17 +73,48 @@ pub(crate) fn begin(alloc: Global) -> Walk
     }
 }
 
-/// Whether a chunk of a kind was seen, of those that a file has once.
-fn was_seen(known: &Known, kind: ChunkKind) -> bool
-    ensures { result ≡ has_kind kind (facts_of known.now) }
+/// Reads one more chunk, if one is wanted.
+///
+/// # Errors
+/// The first fault of the chunk, at its place; Read; Memory.
+pub(crate) fn next_chunk<R: Source>(
+    alloc: Global,
+    reader: &mut R,
+    form: &Form,
+    walk: &mut Walk,
+) -> Result<bool, InspectFault>
+    requires small { form.now.size ≤ largest }
+    requires place { walk.old.place ≤ form.now.size + 9 }
+    ensures consumed { Consumes R.Source (8 + form.now.size - walk.old.place)
+        result reader.old reader.new }
+    ensures passed { OnOk result (
+        R.moved reader.new + walk.old.place ≤ R.moved reader.old + walk.new.place) }
+    ensures place { OnOk result (walk.new.place ≤ form.now.size + 9) }
+    ensures grows { IfOk result (λ more.
+        IsTrue more → GrowsByOne (seen_by walk.old) (seen_by walk.new)) }
+    ensures few { OnOk result (IsSmall walk.old → IsSmall walk.new) }
+    ensures ok { IfOk result (λ more. OnWalk (form_by form.now) walk.old (R.left reader.old) (λ b.
+        Goes b (form_by form.now) more walk.new (R.left reader.new))) }
+    ensures err { IfErr result (λ f. OnWalk (form_by form.now) walk.old (R.left reader.old) (λ b.
+        IsFaulted b (form_by form.now) (seen_by walk.old) f (R.left reader.new))) }
 {
-    match kind {
-        ChunkKind::Fmt => known.fmt.is_some(),
-        ChunkKind::Bext => known.bext.is_some(),
-        ChunkKind::Data => known.samples.is_some(),
-        ChunkKind::Cue => known.cues.is_some(),
-        ChunkKind::Other => false,
+    let end = 8 + form.size;
+    let place = walk.place;
+    if place + 8 > end {
+        return Ok(false);
     }
+    if walk.chunks.len() >= MOST_CHUNKS {
+        return Err(fault_at(InspectKind::TooMany, place));
+    }
+    let head = read_head_at(reader, place, fault_at(InspectKind::Truncated, place))?;
+    let id = head.id;
+    let kind = kind_by_id(id);
+    let told = size_told(&form.sizes, id, head.size32);
+    let size = checked_size(end, place, kind, was_seen(&walk.known, kind), told)?;
+    let entry = ListedChunk { id, place, size };
+    read_content(alloc, reader, &mut walk.known, kind, entry)?;
+    list_chunk(reader, end, walk, entry)?;
+    Ok(true)
 }
 
 /// Reads the head of the chunk at a place.
@@ -145,46 +176,15 @@ pub(crate) fn list_chunk<R: Source>(
     Ok(())
 }
 
-/// Reads one more chunk, if one is wanted.
-///
-/// # Errors
-/// The first fault of the chunk, at its place; Read; Memory.
-pub(crate) fn next_chunk<R: Source>(
-    alloc: Global,
-    reader: &mut R,
-    form: &Form,
-    walk: &mut Walk,
-) -> Result<bool, InspectFault>
-    requires small { form.now.size ≤ largest }
-    requires place { walk.old.place ≤ form.now.size + 9 }
-    ensures consumed { Consumes R.Source (8 + form.now.size - walk.old.place)
-        result reader.old reader.new }
-    ensures passed { OnOk result (
-        R.moved reader.new + walk.old.place ≤ R.moved reader.old + walk.new.place) }
-    ensures place { OnOk result (walk.new.place ≤ form.now.size + 9) }
-    ensures grows { IfOk result (λ more.
-        IsTrue more → GrowsByOne (seen_by walk.old) (seen_by walk.new)) }
-    ensures few { OnOk result (IsSmall walk.old → IsSmall walk.new) }
-    ensures ok { IfOk result (λ more. OnWalk (form_by form.now) walk.old (R.left reader.old) (λ b.
-        Goes b (form_by form.now) more walk.new (R.left reader.new))) }
-    ensures err { IfErr result (λ f. OnWalk (form_by form.now) walk.old (R.left reader.old) (λ b.
-        IsFaulted b (form_by form.now) (seen_by walk.old) f (R.left reader.new))) }
+/// Whether a chunk of a kind was seen, of those that a file has once.
+fn was_seen(known: &Known, kind: ChunkKind) -> bool
+    ensures { result ≡ has_kind kind (facts_of known.now) }
 {
-    let end = 8 + form.size;
-    let place = walk.place;
-    if place + 8 > end {
-        return Ok(false);
+    match kind {
+        ChunkKind::Fmt => known.fmt.is_some(),
+        ChunkKind::Bext => known.bext.is_some(),
+        ChunkKind::Data => known.samples.is_some(),
+        ChunkKind::Cue => known.cues.is_some(),
+        ChunkKind::Other => false,
     }
-    if walk.chunks.len() >= MOST_CHUNKS {
-        return Err(fault_at(InspectKind::TooMany, place));
-    }
-    let head = read_head_at(reader, place, fault_at(InspectKind::Truncated, place))?;
-    let id = head.id;
-    let kind = kind_by_id(id);
-    let told = size_told(&form.sizes, id, head.size32);
-    let size = checked_size(end, place, kind, was_seen(&walk.known, kind), told)?;
-    let entry = ListedChunk { id, place, size };
-    read_content(alloc, reader, &mut walk.known, kind, entry)?;
-    list_chunk(reader, end, walk, entry)?;
-    Ok(true)
 }

@@ -35,13 +35,26 @@ impl From<IoFailed> for WriteFailed {
     }
 }
 
-/// Writes a line.
-fn write_line<W: Sink>(line: &Line, writer: &mut W) -> Result<(), WriteFailed>
+/// Writes a report, one line for each thing that it tells. It takes no memory.
+///
+/// # Errors
+/// `WriteFailed` where the writer failed: a beginning of the text was written.
+pub fn write_report<W: Sink>(report: &Report, writer: &mut W) -> Result<(), WriteFailed>
     ensures count { W.failures writer.new ≡ failures_after result (W.failures writer.old) }
-    ensures ok { OnOk result (Writes (W.written writer.old) line.now (W.written writer.new)) }
-    ensures err { OnErr result (Begins (W.written writer.old) line.now (W.written writer.new)) }
+    ensures ok { OnOk result
+        (Writes (W.written writer.old) (report_text (told_by report.now)) (W.written writer.new)) }
+    ensures err { OnErr result
+        (Begins (W.written writer.old) (report_text (told_by report.now)) (W.written writer.new)) }
 {
-    write_all(writer, line.as_slice())?;
+    write_line(&make_form_line(&report.form, report.size), writer)?;
+    write_chunks(&report.chunks, writer)?;
+    write_line(&make_fmt_line(&report.fmt), writer)?;
+    write_line(
+        &make_data_line(report.data_at, report.data_size, &report.fmt),
+        writer,
+    )?;
+    write_bext(&report.bext, writer)?;
+    write_cues(&report.cues, writer)?;
     Ok(())
 }
 
@@ -136,25 +149,12 @@ fn write_loudness<W: Sink>(loudness: &Option<Loudness>, writer: &mut W) -> Resul
     }
 }
 
-/// Writes a report, one line for each thing that it tells. It takes no memory.
-///
-/// # Errors
-/// `WriteFailed` where the writer failed: a beginning of the text was written.
-pub fn write_report<W: Sink>(report: &Report, writer: &mut W) -> Result<(), WriteFailed>
+/// Writes a line.
+fn write_line<W: Sink>(line: &Line, writer: &mut W) -> Result<(), WriteFailed>
     ensures count { W.failures writer.new ≡ failures_after result (W.failures writer.old) }
-    ensures ok { OnOk result
-        (Writes (W.written writer.old) (report_text (told_by report.now)) (W.written writer.new)) }
-    ensures err { OnErr result
-        (Begins (W.written writer.old) (report_text (told_by report.now)) (W.written writer.new)) }
+    ensures ok { OnOk result (Writes (W.written writer.old) line.now (W.written writer.new)) }
+    ensures err { OnErr result (Begins (W.written writer.old) line.now (W.written writer.new)) }
 {
-    write_line(&make_form_line(&report.form, report.size), writer)?;
-    write_chunks(&report.chunks, writer)?;
-    write_line(&make_fmt_line(&report.fmt), writer)?;
-    write_line(
-        &make_data_line(report.data_at, report.data_size, &report.fmt),
-        writer,
-    )?;
-    write_bext(&report.bext, writer)?;
-    write_cues(&report.cues, writer)?;
+    write_all(writer, line.as_slice())?;
     Ok(())
 }

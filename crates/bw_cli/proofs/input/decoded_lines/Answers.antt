@@ -1,12 +1,12 @@
-use Rattle.std.proofs.Common.{arith, ◌≡◌, ◌∙◌, ℕ, List, [], ◌∷◌, ◌++◌, ◌≤◌, length, map, ap, Err, inl, inr}
+use Rattle.std.proofs.Common.{arith, ◌≡◌, ◌∙◌, ℕ, List, [], ◌∷◌, ◌++◌, ◌≤◌, length, map, ap}
 use Rattle.std.proofs.lemmas.Grind.{common_steps}
 use Rattle.std.proofs.lemmas.List.{map_push}
 use Rattle.std.proofs.lemmas.List.Elements.{All-push}
-use Rattle.hex.specs.Hex.{decode_of}
 use Rattle.hex.proofs.HexLemmas.{decode_of-ok}
 use Rattle.bw_cli.specs.Input.{longest_input}
 use Rattle.bw_cli.specs.Lines.{decoded_from}
-use Rattle.bw_cli.proofs.LineLemmas.{after_lines, decoded_step, decoded_stop, decoded_end, no_lines, lines_step}
+use Rattle.bw_cli.proofs.LineLemmas.{after_lines, decoded_step, decoded_stop, decoded_end}
+use Rattle.bw_cli.proofs.LineLemmas.{line_faulted, no_lines, lines_step}
 use Rattle.bw_cli.proofs.input.decoded_lines.Goals as goal
 
 pub loop-rest-preserved : goal.loop-rest-preserved
@@ -41,35 +41,9 @@ returns-clause-ok c =
     ∙ (ap (λ (z : List (List ℕ)). after_lines found (decoded_from c.loop-rest.number z)) (no_lines _ none)
     ∙ decoded_end found _)
 
-pub returns-in-Err-InvalidHexCharacter-clause-err : goal.returns-in-Err-InvalidHexCharacter-clause-err
-returns-in-Err-InvalidHexCharacter-clause-err c =
+pub returns-in-Err-clause-err : goal.returns-in-Err-clause-err
+returns-in-Err-clause-err c =
     let found : List (List ℕ) = map (λ x. x.items) c.loop-rest.found.items in
-    let refused : decode_of c.first_line.result.0.now ≡ Err c.in-Err-InvalidHexCharacter.field-0 =
-    elim c.in-Err-InvalidHexCharacter.ensures.err [
-      | inl e ↦ let f = c.in-Err-InvalidHexCharacter.field-0-is in absurd (cc)
-      | inr h ↦ h
-    ] in
+    rw c.line_fault.ensures (line_faulted c.in-Err.error c.loop-rest.number _ _ c.in-Err.ensures.err (λ refused.
     c.loop-rest.invariant.lines
-    ∙ (lines_step found _ _ _ _ c.first_line.ensures.lines ∙ decoded_stop found _ _ _ _ refused)
-
-pub returns-in-Err-OddLength-clause-err : goal.returns-in-Err-OddLength-clause-err
-returns-in-Err-OddLength-clause-err c =
-    let found : List (List ℕ) = map (λ x. x.items) c.loop-rest.found.items in
-    let refused : decode_of c.first_line.result.0.now ≡ Err c.in-Err-OddLength.field-0 =
-    elim c.in-Err-OddLength.ensures.err [
-      | inl e ↦ let f = c.in-Err-OddLength.field-0-is in absurd (cc)
-      | inr h ↦ h
-    ] in
-    c.loop-rest.invariant.lines
-    ∙ (lines_step found _ _ _ _ c.first_line.ensures.lines ∙ decoded_stop found _ _ _ _ refused)
-
-pub returns-in-Err-InvalidStringLength-clause-err : goal.returns-in-Err-InvalidStringLength-clause-err
-returns-in-Err-InvalidStringLength-clause-err c =
-    let found : List (List ℕ) = map (λ x. x.items) c.loop-rest.found.items in
-    let refused : decode_of c.first_line.result.0.now ≡ Err c.in-Err-InvalidStringLength.field-0 =
-    elim c.in-Err-InvalidStringLength.ensures.err [
-      | inl e ↦ let f = c.in-Err-InvalidStringLength.field-0-is in absurd (cc)
-      | inr h ↦ h
-    ] in
-    c.loop-rest.invariant.lines
-    ∙ (lines_step found _ _ _ _ c.first_line.ensures.lines ∙ decoded_stop found _ _ _ _ refused)
+    ∙ (lines_step found _ _ _ _ c.first_line.ensures.lines ∙ decoded_stop found _ _ _ _ refused)))

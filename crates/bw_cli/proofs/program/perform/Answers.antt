@@ -7,12 +7,13 @@ use Rattle.bw_cli.proofs.program.perform.Goals as goal
 pub returns-in-BadLimit : goal.returns-in-BadLimit
 returns-in-BadLimit g c =
     let l = c.tell.ensures in
-    let told : IsOf BAD_LIMIT.now l.0 = rw c.as_bytes.ensures.value at l.1 in (
-      record { reads_all = true; out = Nothing; faults = l.0; exit = Usage },
-      refl,
-      true,
-      rw c.in-BadLimit.is (record { exit_is = refl; reads = refl; prints = refl; tells = told }, refl),
-      refl,
-      refl,
-      record { printed = refl; told = l.2 },
-    )
+    let told : IsOf BAD_LIMIT.now l.0 = rw c.as_bytes.ensures.value at l.1 in
+    record {
+      did = record { reads_all = true; out = Nothing; faults = l.0; exit = Usage };
+      ends = refl;
+      gives_all = true;
+      is = rw c.in-BadLimit.is (record { exit_is = refl; reads = refl; prints = refl; tells = told }, refl);
+      failures = refl;
+      reads = refl;
+      writes = record { printed = refl; told = l.2 };
+    }

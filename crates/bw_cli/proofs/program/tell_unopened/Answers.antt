@@ -1,4 +1,4 @@
-use Rattle.std.proofs.Common.{◌≡◌, ◌∙◌, inl, inr, ap, true, refl, sym, rules}
+use Rattle.std.proofs.Common.{◌≡◌, ◌∙◌, inl, inr, ap, true, refl, sym}
 use Rattle.bw_cli.specs.Printing.{IsOf, Nothing}
 use Rattle.bw_cli.specs.Programs.{exit_unopened, unopened_text}
 use Rattle.bw_cli.specs.declared.exit.Exit.TheVariants.{Device, Memory}

@@ -1,4 +1,4 @@
-use Rattle.std.proofs.Common.{◌∙◌, ap, true, refl, sym}
+use Rattle.std.proofs.Common.{ap, true, refl, sym}
 use Rattle.bw_cli.specs.Printing.{Nothing}
 use Rattle.bw_cli.specs.Programs.{exit_without_words}
 use Rattle.bw_cli.proofs.program.tell_unworded.Goals as goal

@@ -1,4 +1,4 @@
-use Rattle.std.proofs.Common.{◌<◌, ◌≤◌, length, arith, refl, ap}
+use Rattle.std.proofs.Common.{◌≤◌, length, arith, refl, ap}
 use Rattle.std.proofs.lemmas.Result.{err_from_is_err_and}
 use Rattle.bw_model.specs.Reading as reading
 use Rattle.bw_inspect.specs.Walks.{form_by, seen_by}
@@ -17,21 +17,19 @@ returns-then-len-ge-MOST_CHUNKS-clause-err g c b s =
 pub returns-in_err-head-clause-err : goal.returns-in_err-head-clause-err
 returns-in_err-head-clause-err g c =
     let p = err_from_is_err_and c.from_residual.result c.from_residual.ensures.1 in
-    let few : length (seen_by c.args.walk.now) < 4096 =
-    (let l = c.len.ensures in let t = c.if-len-ge-MOST_CHUNKS.false in omega arith) in
-    rw (p.1, p.2) (λ b s. head_cut b (form_by c.args.form.now) c.args.walk.now _ _ _ _ s
-    (omega arith) few c.fault_at-2.ensures (c.in_err-head.ensures.err b (s.next (omega arith))))
+    rw (p.1, p.2) (λ b s. head_cut b (form_by c.args.form.now) c.args.walk.now _ _ _ _ s (omega arith)
+    (omega (arith, c.len.ensures, c.if-len-ge-MOST_CHUNKS.false)) c.fault_at-2.ensures
+    (c.in_err-head.ensures.err b (s.next (omega arith))))
 
 pub returns-in_err-size-clause-err : goal.returns-in_err-size-clause-err
 returns-in_err-size-clause-err g c =
     let p = err_from_is_err_and c.from_residual-in_err-size.result c.from_residual-in_err-size.ensures.1 in
-    let few : length (seen_by c.args.walk.now) < 4096 =
-    (let l = c.len.ensures in let t = c.if-len-ge-MOST_CHUNKS.false in omega arith) in
     rw (p.1, p.2) (λ b s.
     let w = c.args.walk.now in
     let form = form_by c.args.form.now in
     let h = c.in_ok-head.ensures.ok b (s.next (omega arith)) in
-    let at = headed b form w c.in_ok-head.head c.size_told-told.result _ (omega arith) few h c.size_told-told.ensures in
+    let at = headed b form w c.in_ok-head.head c.size_told-told.result _ (omega arith)
+    (omega (arith, c.len.ensures, c.if-len-ge-MOST_CHUNKS.false)) h c.size_told-told.ensures in
     size_faulted b form w c.in_ok-head.head.id c.size_told-told.result _ _ _ s at h.rest c.in_err-size.ensures.kind
     (by_hand form w c.in_ok-head.head.id _ c.kind_by_id-kind.result c.was_seen.result c.size_told-told.result _ _ refl
     c.kind_by_id-kind.ensures c.was_seen.ensures c.in_err-size.ensures.err))
@@ -40,14 +38,13 @@ pub returns-in_err-read_content-clause-err : goal.returns-in_err-read_content-cl
 returns-in_err-read_content-clause-err g c =
     let p = err_from_is_err_and c.from_residual-in_err-read_content.result
     c.from_residual-in_err-read_content.ensures.1 in
-    let few : length (seen_by c.args.walk.now) < 4096 =
-    (let l = c.len.ensures in let t = c.if-len-ge-MOST_CHUNKS.false in omega arith) in
     rw (p.1, p.2) (λ b s.
     let w = c.args.walk.now in
     let form = form_by c.args.form.now in
     let e : reading.Entry = record { id = c.in_ok-head.head.id; place = w.place; size = c.in_ok-size.size } in
     let h = c.in_ok-head.ensures.ok b (s.next (omega arith)) in
-    let at = headed b form w c.in_ok-head.head c.size_told-told.result _ (omega arith) few h c.size_told-told.ensures in
+    let at = headed b form w c.in_ok-head.head c.size_told-told.result _ (omega arith)
+    (omega (arith, c.len.ensures, c.if-len-ge-MOST_CHUNKS.false)) h c.size_told-told.ensures in
     let z = sized form w c.in_ok-head.head.id c.kind_by_id-kind.result c.was_seen.result c.size_told-told.result
     c.in_ok-size.size c.kind_by_id-kind.ensures c.was_seen.ensures c.in_ok-size.ensures.is c.in_ok-size.ensures.ok
     c.in_ok-size.ensures.within in
@@ -57,14 +54,13 @@ returns-in_err-read_content-clause-err g c =
 pub returns-in_err-list_chunk-clause-err : goal.returns-in_err-list_chunk-clause-err
 returns-in_err-list_chunk-clause-err g c =
     let p = err_from_is_err_and c.from_residual-in_err-list_chunk.result c.from_residual-in_err-list_chunk.ensures.1 in
-    let few : length (seen_by c.args.walk.now) < 4096 =
-    (let l = c.len.ensures in let t = c.if-len-ge-MOST_CHUNKS.false in omega arith) in
     rw (p.1, p.2) (λ b s.
     let w = c.args.walk.now in
     let form = form_by c.args.form.now in
     let e : reading.Entry = record { id = c.in_ok-head.head.id; place = w.place; size = c.in_ok-size.size } in
     let h = c.in_ok-head.ensures.ok b (s.next (omega arith)) in
-    let at = headed b form w c.in_ok-head.head c.size_told-told.result _ (omega arith) few h c.size_told-told.ensures in
+    let at = headed b form w c.in_ok-head.head c.size_told-told.result _ (omega arith)
+    (omega (arith, c.len.ensures, c.if-len-ge-MOST_CHUNKS.false)) h c.size_told-told.ensures in
     let z = sized form w c.in_ok-head.head.id c.kind_by_id-kind.result c.was_seen.result c.size_told-told.result
     c.in_ok-size.size c.kind_by_id-kind.ensures c.was_seen.ensures c.in_ok-size.ensures.is c.in_ok-size.ensures.ok
     c.in_ok-size.ensures.within in
@@ -75,13 +71,12 @@ returns-in_err-list_chunk-clause-err g c =
 
 pub returns-clause-ok : goal.returns-clause-ok
 returns-clause-ok g c b s =
-    let few : length (seen_by c.args.walk.now) < 4096 =
-    (let l = c.len.ensures in let t = c.if-len-ge-MOST_CHUNKS.false in omega arith) in
     let w = c.args.walk.now in
     let form = form_by c.args.form.now in
     let e : reading.Entry = record { id = c.in_ok-head.head.id; place = w.place; size = c.in_ok-size.size } in
     let h = c.in_ok-head.ensures.ok b (s.next (omega arith)) in
-    let at = headed b form w c.in_ok-head.head c.size_told-told.result _ (omega arith) few h c.size_told-told.ensures in
+    let at = headed b form w c.in_ok-head.head c.size_told-told.result _ (omega arith)
+    (omega (arith, c.len.ensures, c.if-len-ge-MOST_CHUNKS.false)) h c.size_told-told.ensures in
     let z = sized form w c.in_ok-head.head.id c.kind_by_id-kind.result c.was_seen.result c.size_told-told.result
     c.in_ok-size.size c.kind_by_id-kind.ensures c.was_seen.ensures c.in_ok-size.ensures.is c.in_ok-size.ensures.ok
     c.in_ok-size.ensures.within in
