@@ -43,51 +43,62 @@ verdict-cut taken s d n h =
     ap (λ (o : Option Request). verdict_by (made taken (take d s) n) o) (at-take d n s h)
     ∙ ap (λ (t : _). verdict_by t (at s n)) (made-cut taken s d n (omega arith))
 
--- a book without a name
-log-without_same : (book : Book) (x y : List ℕ) → bytes_eq x y ≡ true → log_of (without x book) y ≡ no_log
-log-without_same [] x y e = refl
-log-without_same (entry ∷ book) x y e = go (bytes_eq entry.0 x) refl (log-without_same book x y e)
+-- what is looked up in a book: of the name's entry, or of the books without it
+record LooksUp (X : Type 0) (y : List ℕ) (up : Book → X) : Type 0 where
+  of : List ℕ × Log → X
+  step : (entry : List ℕ × Log) (book : Book) → up (entry ∷ book) ≡ cond (bytes_eq entry.0 y) (of entry) (up book)
+
+-- in a book without a name nothing is found under it
+up-without_same : {X : Type 0} (y : List ℕ) (up : Book → X) → LooksUp X y up → (book : Book) (x : List ℕ) →
+    bytes_eq x y ≡ true → up (without x book) ≡ up []
+up-without_same y up l [] x e = refl
+up-without_same {X} y up l (entry ∷ book) x e = go (bytes_eq entry.0 x) refl (up-without_same y up l book x e)
   where
-    go : (v : Bool) → bytes_eq entry.0 x ≡ v → log_of (without x book) y ≡ no_log →
-        log_of (cond (not v) (entry ∷ without x book) (without x book)) y ≡ no_log
+    go : (v : Bool) → bytes_eq entry.0 x ≡ v → up (without x book) ≡ up [] →
+        up (cond (not v) (entry ∷ without x book) (without x book)) ≡ up []
     go true p ih = ih
     go false p ih =
         let off : bytes_eq entry.0 y ≡ false = sym (ap (bytes_eq entry.0) (same_name x y e)) ∙ p in
-        ap (λ (v : Bool). cond v entry.1 (log_of (without x book) y)) off ∙ ih
+        l.step entry (without x book)
+        ∙ ap (λ (v : Bool). cond v (l.of entry) (up (without x book))) off ∙ ih
 
-log-without_other : (book : Book) (x y : List ℕ) → bytes_eq x y ≡ false → log_of (without x book) y ≡ log_of book y
-log-without_other [] x y e = refl
-log-without_other (entry ∷ book) x y e = go (bytes_eq entry.0 x) refl (log-without_other book x y e)
+-- .. and under the others what was found before
+up-without_other : {X : Type 0} (y : List ℕ) (up : Book → X) → LooksUp X y up → (book : Book) (x : List ℕ) →
+    bytes_eq x y ≡ false → up (without x book) ≡ up book
+up-without_other y up l [] x e = refl
+up-without_other {X} y up l (entry ∷ book) x e = go (bytes_eq entry.0 x) refl (up-without_other y up l book x e)
   where
-    go : (v : Bool) → bytes_eq entry.0 x ≡ v → log_of (without x book) y ≡ log_of book y →
-        log_of (cond (not v) (entry ∷ without x book) (without x book)) y ≡ log_of (entry ∷ book) y
+    go : (v : Bool) → bytes_eq entry.0 x ≡ v → up (without x book) ≡ up book →
+        up (cond (not v) (entry ∷ without x book) (without x book)) ≡ up (entry ∷ book)
     go true p ih =
         let off : bytes_eq entry.0 y ≡ false = ap (λ (z : List ℕ). bytes_eq z y) (same_name entry.0 x p) ∙ e in
-        ih ∙ sym (ap (λ (v : Bool). cond v entry.1 (log_of book y)) off)
-    go false p ih = ap (λ (z : Log). cond (bytes_eq entry.0 y) entry.1 z) ih
+        ih ∙ sym (l.step entry book ∙ ap (λ (v : Bool). cond v (l.of entry) (up book)) off)
+    go false p ih =
+        l.step entry (without x book)
+        ∙ ap (λ (z : X). cond (bytes_eq entry.0 y) (l.of entry) z) ih ∙ sym (l.step entry book)
+
+logs_up : (y : List ℕ) → LooksUp Log y (λ book. log_of book y)
+logs_up y = record { of = λ entry. entry.1; step = λ entry book. refl }
+
+names_up : (y : List ℕ) → LooksUp Bool y (λ book. is_known book y)
+names_up y = record { of = λ _. true; step = λ entry book. either (bytes_eq entry.0 y) (is_known book y) }
+  where
+    either : (a b : Bool) → a || b ≡ cond a true b
+    either true b = refl
+    either false b = refl
+
+log-without_same : (book : Book) (x y : List ℕ) → bytes_eq x y ≡ true → log_of (without x book) y ≡ no_log
+log-without_same book x y e = up-without_same y (λ b. log_of b y) (logs_up y) book x e
+
+log-without_other : (book : Book) (x y : List ℕ) → bytes_eq x y ≡ false → log_of (without x book) y ≡ log_of book y
+log-without_other book x y e = up-without_other y (λ b. log_of b y) (logs_up y) book x e
 
 known-without_same : (book : Book) (x y : List ℕ) → bytes_eq x y ≡ true → is_known (without x book) y ≡ false
-known-without_same [] x y e = refl
-known-without_same (entry ∷ book) x y e = go (bytes_eq entry.0 x) refl (known-without_same book x y e)
-  where
-    go : (v : Bool) → bytes_eq entry.0 x ≡ v → is_known (without x book) y ≡ false →
-        is_known (cond (not v) (entry ∷ without x book) (without x book)) y ≡ false
-    go true p ih = ih
-    go false p ih =
-        let off : bytes_eq entry.0 y ≡ false = sym (ap (bytes_eq entry.0) (same_name x y e)) ∙ p in
-        ap (λ (v : Bool). v || is_known (without x book) y) off ∙ ih
+known-without_same book x y e = up-without_same y (λ b. is_known b y) (names_up y) book x e
 
 known-without_other : (book : Book) (x y : List ℕ) → bytes_eq x y ≡ false →
     is_known (without x book) y ≡ is_known book y
-known-without_other [] x y e = refl
-known-without_other (entry ∷ book) x y e = go (bytes_eq entry.0 x) refl (known-without_other book x y e)
-  where
-    go : (v : Bool) → bytes_eq entry.0 x ≡ v → is_known (without x book) y ≡ is_known book y →
-        is_known (cond (not v) (entry ∷ without x book) (without x book)) y ≡ is_known (entry ∷ book) y
-    go true p ih =
-        let off : bytes_eq entry.0 y ≡ false = ap (λ (z : List ℕ). bytes_eq z y) (same_name entry.0 x p) ∙ e in
-        ih ∙ sym (ap (λ (v : Bool). v || is_known book y) off)
-    go false p ih = ap (λ (z : Bool). bytes_eq entry.0 y || z) ih
+known-without_other book x y e = up-without_other y (λ b. is_known b y) (names_up y) book x e
 
 -- a log of which nothing is done is left as none
 nothing_done : (log : Log) → nat_lt 0 log.done ≡ false → cut_log log ≡ no_log
