@@ -47,7 +47,8 @@ fn inspect<'a>(alloc: Global) -> Result<Command<'a>, AllocError>
         .arg(file)
 }
 
-/// What parsed words come to. Only the path of a file takes memory, so that a bad limit is told whatever is left of it.
+/// What parsed words come to. Only the path of a file takes memory, so that a bad limit is told
+/// whatever is left of it.
 pub fn line(alloc: Global, matches: &ArgMatches<'_>) -> Result<CommandLine, AllocError>
     ensures ok { IfOk result (IsLineFor (subcommand_rows_of matches.now)) }
     ensures err { OnErr result (AsksForFile (subcommand_rows_of matches.now)) }

@@ -47,7 +47,8 @@ For more information, try '--help'.
 /// Which words run a task, and of what kind an error is, is `clap`'s own account of its walk over
 /// them (`line`). In plain terms the contract says of four forms that they run (`replay`,
 /// `inspect`) and of five what they tell (`help`, `inspect`); that all others but `--` at the end
-/// or before a file are refused is tested by examples. Nothing is claimed of what the texts say and where they go.
+/// or before a file are refused is tested by examples. Nothing is claimed of what the texts say and
+/// where they go.
 ///
 /// # Errors
 /// `AllocError` where memory was refused.

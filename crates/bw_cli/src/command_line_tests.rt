@@ -1,4 +1,5 @@
-//! What no clause says of command lines: that they are taken or refused, by examples, and what texts they tell.
+//! What no clause says of command lines: that they are taken or refused, by examples, and what
+//! texts they tell.
 use bw_args::numbers::number;
 use bw_args::{CommandLine, Task, parse};
 use clap::Error;

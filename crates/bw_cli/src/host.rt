@@ -62,7 +62,8 @@ fn open(rt: &HostRuntime, path: &str) -> io::Result<SeekSource<File>> {
     Ok(SeekSource::new(file, len))
 }
 
-/// How long a file is, or 0 where that isn't known: a pipe and a device have no length, and are read forward.
+/// How long a file is, or 0 where that isn't known: a pipe and a device have no length, and are
+/// read forward.
 fn known_len(metadata: &Metadata) -> u64
     ensures file { IsFile (file_type metadata.now) → result ≡ metadata_len metadata.now }
     ensures other { ¬ IsFile (file_type metadata.now) → result ≡ 0 }

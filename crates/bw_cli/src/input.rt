@@ -1,10 +1,12 @@
 //! An input as lines of hex.
-ghost use Rattle.std.specs.Prelude.{◌≡◌, ◌≢◌, ℕ, ◌+◌, ◌<◌, ◌≤◌, ◌∷◌, List, All, length, map, Ok, Some, IfOk, IfErr};
+ghost use Rattle.std.specs.Prelude.{◌≡◌, ◌≢◌, ℕ, ◌+◌, ◌<◌, ◌≤◌, ◌∷◌, List, All, length, map, Ok};
+ghost use Rattle.std.specs.Prelude.{Some, IfOk, IfErr};
 ghost use Rattle.std.specs.List.{position_or_len};
 ghost use Rattle.std.specs.Io.BufRead.{strip_last};
 ghost use Rattle.bw_cli.specs.Lines.{lines_of, decoded_from, is_line_end};
 ghost use Rattle.bw_cli.specs.Input.{spelled_by, longest_input, Exchanges};
-ghost use Rattle.bw_cli.specs.Faults.{IsLineFault, RefusesInput, is_read, line_fault as line_fault_of};
+ghost use Rattle.bw_cli.specs.Faults.{IsLineFault, RefusesInput, is_read};
+ghost use Rattle.bw_cli.specs.Faults.{line_fault as line_fault_of};
 ghost use Rattle.bw_cli.specs.Printing.{failures_if};
 ghost use Rattle.bw_cli.specs.Replays.{IsReadAhead};
 ghost use Rattle.bw_inspect.specs.Places.{Of};

@@ -8,7 +8,8 @@ ghost use Rattle.bw_cli.specs.Deeds.{Deed, Does, HasWritten};
 ghost use Rattle.bw_cli.specs.declared.exit.Exit.{Exit};
 ghost use Rattle.bw_cli.specs.Exits.{status_of};
 ghost use Rattle.bw_cli.specs.Printing.{IsPrint, failures_if};
-ghost use Rattle.bw_cli.specs.Programs.{Given, IsDoneFor, IsLook, IsProgram, IsTelling, IsUnopened, IsUnworded, IsWant, exit_without_words, unopened_text};
+ghost use Rattle.bw_cli.specs.Programs.{Given, IsDoneFor, IsLook, IsProgram, IsTelling, IsUnopened};
+ghost use Rattle.bw_cli.specs.Programs.{IsUnworded, IsWant, exit_without_words, unopened_text};
 
 use crate::exit::Exit;
 use crate::fault::Fault;

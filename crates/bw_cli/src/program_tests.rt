@@ -1,5 +1,6 @@
 //! The program on a system in memory, which tells its words and its one file.
-ghost use Rattle.std.specs.Prelude.{◌≡◌, ◌∷◌, [], Some, None, map, string_bytes, IfOk, if◌then◌else◌};
+ghost use Rattle.std.specs.Prelude.{◌≡◌, ◌∷◌, [], Some, None, map, string_bytes, IfOk};
+ghost use Rattle.std.specs.Prelude.{if◌then◌else◌};
 ghost use Rattle.std.specs.Str.{bytes_eq};
 
 use crate::program::start;
@@ -58,7 +59,8 @@ fn line(alloc: Global, first: &str, second: &str, third: &str) -> io::Result<Vec
     Ok(words)
 }
 
-/// What the program prints, tells and ends with for `inspect` of a path, where `a.wav` has two bytes.
+/// What the program prints, tells and ends with for `inspect` of a path, where `a.wav` has two
+/// bytes.
 fn inspects(rt: &impl Abort, alloc: Global, argument: &str, wanted: ExitCode, told: &[u8]) {
     let mut desk = Desk {
         alloc,

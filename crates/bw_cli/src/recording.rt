@@ -1,5 +1,6 @@
 //! The take of a run in order, with its data in memory.
-ghost use Rattle.std.specs.Prelude.{◌≡◌, ◌+◌, ◌*◌, ◌≤◌, [], ◌++◌, vec_len, IsTrue, IfOk, OnOk, OnErr};
+ghost use Rattle.std.specs.Prelude.{◌≡◌, ◌+◌, ◌*◌, ◌≤◌, [], ◌++◌, vec_len, IsTrue, IfOk, OnOk};
+ghost use Rattle.std.specs.Prelude.{OnErr};
 ghost use Rattle.bw_model.specs.Limits.{largest, longest_block};
 ghost use Rattle.bw_model.specs.Take.{Take, parts, after, judge as judgement};
 ghost use Rattle.bw_model.specs.Wire.{is_request};

@@ -5,7 +5,8 @@ ghost use Rattle.bw_layout.specs.Moves.{failures_after, Keeps};
 use bw_layout::Source;
 use std::io;
 
-/// A system: the words of the command line and the bytes at each path, where it tells them, and how often it failed.
+/// A system: the words of the command line and the bytes at each path, where it tells them, and how
+/// often it failed.
 pub trait System {
     type File: Source + Drop;
 

@@ -1,12 +1,14 @@
 //! The text of a run.
-ghost use Rattle.std.specs.Prelude.{◌≡◌, ℕ, ◌+◌, ◌*◌, ◌^◌, ◌<◌, List, [], ◌∷◌, ◌++◌, length, flat_map, codes, decimal, IsTrue, IfOk, OnOk};
+ghost use Rattle.std.specs.Prelude.{◌≡◌, ℕ, ◌+◌, ◌*◌, ◌^◌, ◌<◌, List, [], ◌∷◌, ◌++◌, length};
+ghost use Rattle.std.specs.Prelude.{flat_map, codes, decimal, IsTrue, IfOk, OnOk};
 ghost use Rattle.std.specs.List.{list_all};
 ghost use Rattle.hex.specs.Hex.{encode_lower};
 ghost use Rattle.bw_model.specs.Wire.{framed};
 ghost use Rattle.bw_model.specs.Replies.{Reply, is_reply};
 ghost use Rattle.bw_model.specs.Exchange.{replies_bytes};
 ghost use Rattle.bw_model.specs.Book.{Book};
-ghost use Rattle.bw_cli.specs.Text.{as_line, reply_line, end_name as name_of_end, exchanges_text, file_text, files_text, run_text};
+ghost use Rattle.bw_cli.specs.Text.{as_line, reply_line, end_name as name_of_end, exchanges_text};
+ghost use Rattle.bw_cli.specs.Text.{file_text, files_text, run_text};
 ghost use Rattle.bw_cli.specs.Runs.{ToldExchange};
 ghost use Rattle.bw_cli.specs.Keeping.{KeepsBook};
 ghost use Rattle.bw_cli.specs.Exchanging.{told_end};

@@ -1,5 +1,6 @@
 //! A store in a folder.
-ghost use Rattle.std.specs.Prelude.{◌≡◌, ◌<◌, ℕ, List, [], true, IsTrue, IsErr, IfOk, OnOk, OnErr, IsSome, IfSome, ◌↔◌, is_err, string_bytes, length};
+ghost use Rattle.std.specs.Prelude.{◌≡◌, ◌<◌, ℕ, List, [], true, IsTrue, IsErr, IfOk, OnOk, OnErr};
+ghost use Rattle.std.specs.Prelude.{IsSome, IfSome, ◌↔◌, is_err, string_bytes, length};
 ghost use Rattle.std.specs.List.{All, Contains, HoldsAt};
 ghost use Rattle.bw_file.specs.Stores.{Counts, Creates, Written, MayTear, KeepsOthers};
 ghost use Rattle.bw_file.specs.Disks.{IsOneCall, AsksOnce, Syncs};

@@ -1,9 +1,13 @@
 //! A store that fails chosen calls.
-ghost use Rattle.std.specs.Prelude.{◌≡◌, ◌<◌, ◌==◌, ◌||◌, ◌∷◌, [], ℕ, List, Option, true, false, not, IsTrue, IfOk, OnOk, OnErr, is_err, is_ok, length, filter, if◌then◌else◌};
-ghost use Rattle.bw_file.specs.Stores.{Counts, Creates, Written, MayTear, KeepsOthers, last_count, raised};
+ghost use Rattle.std.specs.Prelude.{◌≡◌, ◌<◌, ◌==◌, ◌||◌, ◌∷◌, [], ℕ, List, Option, true, false};
+ghost use Rattle.std.specs.Prelude.{not, IsTrue, IfOk, OnOk, OnErr, is_err, is_ok, length, filter};
+ghost use Rattle.std.specs.Prelude.{if◌then◌else◌};
+ghost use Rattle.bw_file.specs.Stores.{Counts, Creates, Written, MayTear, KeepsOthers, last_count};
+ghost use Rattle.bw_file.specs.Stores.{raised};
 ghost use Rattle.bw_file.specs.Calls.{Create, WriteAt, Finish, Asks};
 ghost use Rattle.bw_file.specs.StoreSteps.{WasAsked};
-ghost use Rattle.bw_file.specs.Fuses.{has_fuse, Blows, passed_on, unless_fused, let_through, first_half};
+ghost use Rattle.bw_file.specs.Fuses.{has_fuse, Blows, passed_on, unless_fused, let_through};
+ghost use Rattle.bw_file.specs.Fuses.{first_half};
 
 use crate::store::{Created, StoreFault, TakeStore};
 use crate::tally::Tally;

@@ -1,11 +1,14 @@
 //! The file of a take, which grows with it.
-ghost use Rattle.std.specs.Prelude.{◌≡◌, ◌≤◌, ◌+◌, ◌^◌, ◌*◌, ℕ, List, [], Some, IsSome, IsTrue, IsFalse, IfOk, OnOk, OnErr, is_err, length, true, false};
+ghost use Rattle.std.specs.Prelude.{◌≡◌, ◌≤◌, ◌+◌, ◌^◌, ◌*◌, ℕ, List, [], Some, IsSome, IsTrue};
+ghost use Rattle.std.specs.Prelude.{IsFalse, IfOk, OnOk, OnErr, is_err, length, true, false};
 ghost use Rattle.bw_model.specs.Limits.{largest};
-ghost use Rattle.bw_model.specs.Take.{Take, Stored, Open, Block, SetField, Close, judge, parts, frames, with_field};
+ghost use Rattle.bw_model.specs.Take.{Take, Stored, Open, Block, SetField, Close, judge, parts};
+ghost use Rattle.bw_model.specs.Take.{frames, with_field};
 ghost use Rattle.bw_model.specs.Wire.{is_request};
 ghost use Rattle.bw_file.specs.StoreSteps.{Shared, WasAsked, WasAskedFirst};
 ghost use Rattle.bw_file.specs.Plans.{name_plan, begin_plan, append_plan, retouch_plan, close_plan};
-ghost use Rattle.bw_file.specs.Growing.{Growing, Stores, Sets, BeginsFile, AsksForName, IsFresh, is_new};
+ghost use Rattle.bw_file.specs.Growing.{Growing, Stores, Sets, BeginsFile, AsksForName, IsFresh};
+ghost use Rattle.bw_file.specs.Growing.{is_new};
 
 use crate::buffer::Buffer;
 use crate::condition::Condition;

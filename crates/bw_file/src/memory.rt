@@ -1,5 +1,7 @@
 //! A store in memory.
-ghost use Rattle.std.specs.Prelude.{◌≡◌, ◌≤◌, ◌<◌, ◌+◌, ◌^◌, ◌↔◌, ℕ, List, Some, None, IsSome, IfSome, IsTrue, IsOk, IfOk, OnOk, OnErr, is_err, length, slice_get, true};
+ghost use Rattle.std.specs.Prelude.{◌≡◌, ◌≤◌, ◌<◌, ◌+◌, ◌^◌, ◌↔◌, ℕ, List, Some, None, IsSome};
+ghost use Rattle.std.specs.Prelude.{IfSome, IsTrue, IsOk, IfOk, OnOk, OnErr, is_err, length};
+ghost use Rattle.std.specs.Prelude.{slice_get, true};
 ghost use Rattle.std.specs.Option.{option_copied};
 ghost use Rattle.bw_file.specs.Stores.{Counts, Creates, Written, MayTear, KeepsOthers, overwritten};
 ghost use Rattle.bw_file.specs.Memory.{content_under};

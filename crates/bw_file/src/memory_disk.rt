@@ -1,5 +1,6 @@
 //! A disk in memory.
-ghost use Rattle.std.specs.Prelude.{◌≡◌, ◌≤◌, ◌+◌, ℕ, List, None, true, IsTrue, IsOk, IfOk, IsSome, IfSome, OnOk, OnErr, is_err, string_bytes, length};
+ghost use Rattle.std.specs.Prelude.{◌≡◌, ◌≤◌, ◌+◌, ℕ, List, None, true, IsTrue, IsOk, IfOk, IsSome};
+ghost use Rattle.std.specs.Prelude.{IfSome, OnOk, OnErr, is_err, string_bytes, length};
 ghost use Rattle.std.specs.Option.{option_copied};
 ghost use Rattle.std.specs.List.{position};
 ghost use Rattle.bw_file.specs.Stores.{Counts, Written, MayTear, KeepsOthers};

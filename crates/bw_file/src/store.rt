@@ -1,5 +1,6 @@
 //! Where takes are kept: contents by name.
-ghost use Rattle.std.specs.Prelude.{◌≡◌, ℕ, List, Bool, Option, None, true, length, IsTrue, IfOk, OnOk, OnErr, is_err, [], ◌∷◌};
+ghost use Rattle.std.specs.Prelude.{◌≡◌, ℕ, List, Bool, Option, None, true, length, IsTrue, IfOk};
+ghost use Rattle.std.specs.Prelude.{OnOk, OnErr, is_err, [], ◌∷◌};
 ghost use Rattle.bw_file.specs.Stores.{Counts, Creates, Written, MayTear, KeepsOthers};
 ghost use Rattle.bw_file.specs.Calls.{StoreCall, Create, WriteAt, Finish, Asks};
 

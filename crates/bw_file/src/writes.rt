@@ -1,12 +1,14 @@
 //! The writes of a growing file: each leaves what its caller can still repair.
-ghost use Rattle.std.specs.Prelude.{◌≡◌, ◌≤◌, ◌<◌, ◌+◌, ◌*◌, ◌%◌, ◌^◌, ◌++◌, ℕ, IsTrue, OnOk, OnErr, length, is_err, flat_map, not};
+ghost use Rattle.std.specs.Prelude.{◌≡◌, ◌≤◌, ◌<◌, ◌+◌, ◌*◌, ◌%◌, ◌^◌, ◌++◌, ℕ, IsTrue, OnOk};
+ghost use Rattle.std.specs.Prelude.{OnErr, length, is_err, flat_map, not};
 ghost use Rattle.bw_model.specs.Limits.{largest, most_markers};
 ghost use Rattle.bw_model.specs.Layout.{chunk, pad};
 ghost use Rattle.bw_model.specs.File.{cue_chunks};
 ghost use Rattle.bw_file.specs.Conditions.{is_clean};
 ghost use Rattle.bw_file.specs.Stores.{MayTear};
 ghost use Rattle.bw_file.specs.StoreSteps.{Shared, WasAsked, WasAskedFirst};
-ghost use Rattle.bw_file.specs.Plans.{samples_plan, cues_plan, header_plan, sizes_plan, form_plan, grown_plan, closed_plan, field_plan, set_plan};
+ghost use Rattle.bw_file.specs.Plans.{samples_plan, cues_plan, header_plan, sizes_plan, form_plan};
+ghost use Rattle.bw_file.specs.Plans.{grown_plan, closed_plan, field_plan, set_plan};
 ghost use Rattle.bw_file.specs.Headers.{PutsLast, PutsHeader, PutsOver, Updates};
 ghost use Rattle.bw_file.specs.OneField.{DiffersInField};
 ghost use Rattle.bw_layout.specs.Headings.{header_of, place_of, fits_riff};

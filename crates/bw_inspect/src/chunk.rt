@@ -46,7 +46,8 @@ pub(crate) fn kind_by_id(id: ChunkId) -> ChunkKind
     }
 }
 
-/// The size of the chunk at a place, in a form that ends at `end`; `seen` says whether one of its kind was seen.
+/// The size of the chunk at a place, in a form that ends at `end`; `seen` says whether one of its
+/// kind was seen.
 ///
 /// # Errors
 /// The first of NoSize, TooLarge, Truncated, Twice, BadFmt, BadBext and BadCue that holds.

@@ -4,7 +4,8 @@ ghost use Rattle.bw_inspect.specs.ReaderCalls.{Consumes};
 ghost use Rattle.bw_inspect.specs.Chunks.{Allows};
 ghost use Rattle.bw_inspect.specs.Known.{HasFewCues, facts_of, fmt_told, bext_kept, bext_told};
 ghost use Rattle.bw_inspect.specs.Places.{Nowhere};
-ghost use Rattle.bw_inspect.specs.Contents.{InContent, IsCutShort, IsLearned, IsPart, IsUnlearned, ReadTo};
+ghost use Rattle.bw_inspect.specs.Contents.{InContent, IsCutShort, IsLearned, IsPart, IsUnlearned};
+ghost use Rattle.bw_inspect.specs.Contents.{ReadTo};
 
 use crate::chunk::ChunkKind;
 use crate::cues::read_cues;

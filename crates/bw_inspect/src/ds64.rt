@@ -5,7 +5,8 @@ ghost use Rattle.bw_inspect.specs.ReaderCalls.{Consumes};
 ghost use Rattle.bw_inspect.specs.Places.{AtPlace, Nowhere};
 ghost use Rattle.bw_inspect.specs.Contents.{InContent, IsStoppedIn, IsStopped};
 ghost use Rattle.bw_inspect.specs.Chunks.{sizes_by};
-ghost use Rattle.bw_inspect.specs.Tables.{WantsEntry, IsDs64Head, IsDs64Read, IsFixed, ds64_head_faults, table_faults};
+ghost use Rattle.bw_inspect.specs.Tables.{WantsEntry, IsDs64Head, IsDs64Read, IsFixed};
+ghost use Rattle.bw_inspect.specs.Tables.{ds64_head_faults, table_faults};
 
 use crate::chunk::is_named;
 use crate::content::{pass_rest, read_part};

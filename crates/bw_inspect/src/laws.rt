@@ -1,10 +1,11 @@
-//! Laws of readings and their reports: a function that does nothing, whose contract is the statements.
+//! Laws of readings and their reports: a function that does nothing, whose contract is the
+//! statements.
 ghost use Rattle.bw_model.specs.ReadBack.{FilesReadBack, MadeFilesReadBack};
 ghost use Rattle.bw_inspect.specs.Laws.{FilesAreTold, MadeFilesAreTold};
 
-/// A take's file reads as the chunks of its layout, and the report of that reading tells the take: its fields, its
-/// sizes and, where it is closed, its markers. So `inspect` answers that report or none, of each take within the
-/// limits of the formats, and so of each that admitted requests make.
+/// A take's file reads as the chunks of its layout, and the report of that reading tells the take:
+/// its fields, its sizes and, where it is closed, its markers. So `inspect` answers that report or
+/// none, of each take within the limits of the formats, and so of each that admitted requests make.
 pub fn law_file_reads()
     ensures within_limits { FilesReadBack }
     ensures made { MadeFilesReadBack }

@@ -1,4 +1,5 @@
-//! What a file of chunks holds: RIFF WAVE, BW64 (ITU-R BS.2088) and RF64 (EBU Tech 3306), read once and forward.
+//! What a file of chunks holds: RIFF WAVE, BW64 (ITU-R BS.2088) and RF64 (EBU Tech 3306), read once
+//! and forward.
 #![tactic(auto)]
 
 mod chunk;

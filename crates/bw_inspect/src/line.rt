@@ -1,11 +1,13 @@
 //! A line of text that is made in a buffer, to be written at once.
-ghost use Rattle.std.specs.Prelude.{◌≡◌, ◌+◌, ◌*◌, ◌<◌, ◌≤◌, ◌∷◌, [], ◌++◌, length, decimal, map, flat_map};
+ghost use Rattle.std.specs.Prelude.{◌≡◌, ◌+◌, ◌*◌, ◌<◌, ◌≤◌, ◌∷◌, [], ◌++◌, length, decimal, map};
+ghost use Rattle.std.specs.Prelude.{flat_map};
 ghost use Rattle.bw_model.specs.Report.{id_byte, text_byte, hex_byte, hex_digit_of, loudness_text};
 
 use itoa::Buffer;
 use std::marker::Model;
 
-/// The bytes of a line, at most 1,152: the longest one tells the 256 bytes of a Description, four bytes each.
+/// The bytes of a line, at most 1,152: the longest one tells the 256 bytes of a Description, four
+/// bytes each.
 #[derive(Drop)]
 pub struct Line {
     bytes: [u8; 1152],
@@ -78,7 +80,8 @@ impl Line {
         self.put(&id.map(|byte| if byte.is_ascii_graphic() { byte } else { b'.' }));
     }
 
-    /// Puts a text, with `\x` and two digits for a backslash and for each byte that is not printable ASCII.
+    /// Puts a text, with `\x` and two digits for a backslash and for each byte that is not
+    /// printable ASCII.
     pub fn put_text(&mut self, text: &[u8])
         requires { length self.old + 4 * length text.now ≤ 1152 }
         ensures text { self.new ≡ self.old ++ flat_map text_byte text.now }

@@ -1,12 +1,14 @@
 //! The outer header of a file.
-ghost use Rattle.std.specs.Prelude.{◌≡◌, ◌+◌, ◌-◌, ◌^◌, ◌≤◌, min, IsTrue, None, OnOk, IfOk, IfErr, ◌==◌, if◌then◌else◌};
+ghost use Rattle.std.specs.Prelude.{◌≡◌, ◌+◌, ◌-◌, ◌^◌, ◌≤◌, min, IsTrue, None, OnOk, IfOk, IfErr};
+ghost use Rattle.std.specs.Prelude.{◌==◌, if◌then◌else◌};
 ghost use Rattle.bw_model.specs.Limits.{largest};
 ghost use Rattle.bw_model.specs.Bytes.{first_that_holds, unsaid};
 ghost use Rattle.bw_inspect.specs.ReaderCalls.{Consumes, longest_end};
 ghost use Rattle.bw_inspect.specs.Faults.{bytes_fault, is_of_bytes};
 ghost use Rattle.bw_inspect.specs.Places.{Nowhere, Of};
 ghost use Rattle.bw_inspect.specs.Contents.{IsStopped};
-ghost use Rattle.bw_inspect.specs.Outers.{BeginsForm, IsOpened, IsOutside, OnWide, form_faults, names_form, opening_faults};
+ghost use Rattle.bw_inspect.specs.Outers.{BeginsForm, IsOpened, IsOutside, OnWide, form_faults};
+ghost use Rattle.bw_inspect.specs.Outers.{names_form, opening_faults};
 ghost use Rattle.bw_inspect.specs.Walks.{IsSmall};
 
 use crate::chunk::{LARGEST, is_named};
@@ -53,7 +55,8 @@ pub(crate) fn read_outer<R: Source>(
     Ok((form, begin(alloc)))
 }
 
-/// Reads the first 12 bytes of a file: the form's id, its size as far as four bytes tell it, and `WAVE`.
+/// Reads the first 12 bytes of a file: the form's id, its size as far as four bytes tell it, and
+/// `WAVE`.
 ///
 /// # Errors
 /// NotWave; Read.

@@ -8,7 +8,8 @@ ghost use Rattle.bw_inspect.specs.Faults.{bytes_fault, is_of_bytes};
 ghost use Rattle.bw_inspect.specs.Places.{Of};
 ghost use Rattle.bw_inspect.specs.Known.{facts_of, facts_in};
 ghost use Rattle.bw_inspect.specs.Walks.{IsSmall, form_by, seen_by};
-ghost use Rattle.bw_inspect.specs.Readings.{HasReading, IsBounded, IsReported, OnFacts, Refuses, Tells};
+ghost use Rattle.bw_inspect.specs.Readings.{HasReading, IsBounded, IsReported, OnFacts, Refuses};
+ghost use Rattle.bw_inspect.specs.Readings.{Tells};
 
 use crate::fault::{InspectFault, InspectKind, fault_at};
 use crate::outer::read_outer;
@@ -17,11 +18,12 @@ use crate::walk::{Form, Known, Walk, next_chunk};
 use bw_layout::Source;
 use std::alloc::Global;
 
-/// Reads a file once and forward, and tells what it holds. Content that isn't told is passed over and not kept.
+/// Reads a file once and forward, and tells what it holds. Content that isn't told is passed over
+/// and not kept.
 ///
 /// # Errors
-/// The first fault of the file, at its place; Read, only where the reader failed in this call, at the offset of
-/// the next byte that was wanted; Memory, at the place of the chunk that needed it.
+/// The first fault of the file, at its place; Read, only where the reader failed in this call, at
+/// the offset of the next byte that was wanted; Memory, at the place of the chunk that needed it.
 pub fn inspect<R: Source>(alloc: Global, reader: &mut R) -> Result<Report, InspectFault>
     ensures consumed { Consumes R.Source longest_end result reader.old reader.new }
     ensures within { IfOk result (λ r. R.moved reader.new ≤ R.moved reader.old + (8 + r.size)) }

@@ -7,7 +7,8 @@ ghost use Rattle.bw_inspect.specs.Chunks.{size_by, sizes_of};
 use crate::chunk::is_named;
 use bw_layout::{ChunkId, Ds64};
 
-/// The size of a chunk's content: that of its head, and where the head can't tell it, that of the form.
+/// The size of a chunk's content: that of its head, and where the head can't tell it, that of the
+/// form.
 pub(crate) fn size_told(sizes: &Option<Ds64>, id: ChunkId, size32: u32) -> Option<u64>
     ensures { result ≡
         (if size32 == unsaid then told_size (sizes_of sizes.now) id else Some size32) }

@@ -1,5 +1,6 @@
 //! The walk over the chunks of a form.
-ghost use Rattle.std.specs.Prelude.{◌≡◌, ◌+◌, ◌-◌, ◌^◌, ◌≤◌, ◌<◌, ◌∷◌, ◌++◌, [], IsTrue, length, IfOk, IfErr, OnOk};
+ghost use Rattle.std.specs.Prelude.{◌≡◌, ◌+◌, ◌-◌, ◌^◌, ◌≤◌, ◌<◌, ◌∷◌, ◌++◌, [], IsTrue, length};
+ghost use Rattle.std.specs.Prelude.{IfOk, IfErr, OnOk};
 ghost use Rattle.bw_model.specs.Limits.{largest};
 ghost use Rattle.bw_model.specs.Bytes.{even_up};
 ghost use Rattle.bw_inspect.specs.ReaderCalls.{Consumes, longest_end};
@@ -7,7 +8,8 @@ ghost use Rattle.bw_inspect.specs.Faults.{is_of_bytes};
 ghost use Rattle.bw_inspect.specs.Places.{AtPlace, IsMissed};
 ghost use Rattle.bw_inspect.specs.Known.{facts_of, has_kind, nothing};
 ghost use Rattle.bw_inspect.specs.Contents.{InContent, IsEndOf, IsStoppedIn};
-ghost use Rattle.bw_inspect.specs.Walks.{Goes, GrowsByOne, IsFaulted, IsHead, IsPassedOver, IsSmall, OnWalk, form_by, seen_by};
+ghost use Rattle.bw_inspect.specs.Walks.{Goes, GrowsByOne, IsFaulted, IsHead, IsPassedOver};
+ghost use Rattle.bw_inspect.specs.Walks.{IsSmall, OnWalk, form_by, seen_by};
 
 use crate::chunk::{ChunkKind, checked_size, kind_by_id};
 use crate::content::read_content;
@@ -142,7 +144,8 @@ pub(crate) fn read_head_at<R: Source>(
     Ok(head)
 }
 
-/// Lists a chunk whose content was read; where a further head is wanted, its pad byte is passed over.
+/// Lists a chunk whose content was read; where a further head is wanted, its pad byte is passed
+/// over.
 ///
 /// # Errors
 /// Read; Memory.

@@ -4,7 +4,8 @@ ghost use Rattle.bw_model.specs.Bytes.{zeros as zero_bytes};
 ghost use Rattle.bw_model.specs.Limits.{longest_block};
 ghost use Rattle.bw_model.specs.Wire.{is_request};
 ghost use Rattle.bw_take.specs.Requests.{meaning};
-ghost use Rattle.bw_journal.specs.Entries.{block_noted, request_in, entry_in, first_entry as first_entry_in};
+ghost use Rattle.bw_journal.specs.Entries.{block_noted, request_in, entry_in};
+ghost use Rattle.bw_journal.specs.Entries.{first_entry as first_entry_in};
 ghost use Rattle.bw_journal.specs.Refs.{entry_found, entry_said};
 
 use crate::seal::opened;

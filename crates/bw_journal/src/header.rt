@@ -1,6 +1,9 @@
 //! What a journal begins with.
 ghost use Rattle.std.specs.Prelude.{◌≡◌, ◌≤◌, IfSome, length, option_map};
-ghost use Rattle.bw_journal.specs.JournalHeaders.{header_bytes, header_len, header_in, first_header as first_header_in, is_torn_header as is_torn_header_of, is_torn as is_torn_of};
+ghost use Rattle.bw_journal.specs.JournalHeaders.{header_bytes, header_len, header_in};
+ghost use Rattle.bw_journal.specs.JournalHeaders.{first_header as first_header_in};
+ghost use Rattle.bw_journal.specs.JournalHeaders.{is_torn_header as is_torn_header_of};
+ghost use Rattle.bw_journal.specs.JournalHeaders.{is_torn as is_torn_of};
 ghost use Rattle.bw_journal.specs.HeaderRefs.{header_said, header_found};
 
 use crate::seal::{check, opened};

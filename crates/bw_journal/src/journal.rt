@@ -1,9 +1,11 @@
 //! Journals by name, beside a store of takes.
-ghost use Rattle.std.specs.Prelude.{◌≡◌, ℕ, List, Bool, Option, None, false, IsOk, IsTrue, OnOk, OnErr, is_err};
+ghost use Rattle.std.specs.Prelude.{◌≡◌, ℕ, List, Bool, Option, None, false, IsOk, IsTrue, OnOk};
+ghost use Rattle.std.specs.Prelude.{OnErr, is_err};
 ghost use Rattle.bw_model.specs.Counts.{Counts};
 ghost use Rattle.bw_file.specs.Stores.{KeepsOthers};
 ghost use Rattle.bw_journal.specs.JournalHeaders.{Header};
-ghost use Rattle.bw_journal.specs.Notes.{BeginsNotes, BeginsInPart, Notes, NotesInPart, KeepsHeaders};
+ghost use Rattle.bw_journal.specs.Notes.{BeginsNotes, BeginsInPart, Notes, NotesInPart};
+ghost use Rattle.bw_journal.specs.Notes.{KeepsHeaders};
 
 use bw_file::StoreFault;
 use bw_take::Name;

@@ -1,7 +1,10 @@
 //! Laws of journals. Each function's contract is one; nothing runs.
-ghost use Rattle.bw_journal.specs.Noted.{JournalEntriesReadBack, ReadEntriesStand, CutEntriesAreNone, EntriesAreShort, HeadersReadBack, ReadHeadersStand, CutHeadersAreNotBegun, JournalsTellLogs};
+ghost use Rattle.bw_journal.specs.Noted.{JournalEntriesReadBack, ReadEntriesStand};
+ghost use Rattle.bw_journal.specs.Noted.{CutEntriesAreNone, EntriesAreShort, HeadersReadBack};
+ghost use Rattle.bw_journal.specs.Noted.{ReadHeadersStand, CutHeadersAreNotBegun, JournalsTellLogs};
 ghost use Rattle.bw_journal.specs.Stops.{BooksAreCut, CutBooksAreBooks, EachWorldGoesOn};
-ghost use Rattle.bw_journal.specs.Recovery.{HeldFilesSurvive, FilesAreRepaired, RecoveryHolds, ClosedFilesAreWhole, NewFilesAreBetween};
+ghost use Rattle.bw_journal.specs.Recovery.{HeldFilesSurvive, FilesAreRepaired, RecoveryHolds};
+ghost use Rattle.bw_journal.specs.Recovery.{ClosedFilesAreWhole, NewFilesAreBetween};
 
 /// An entry is read again from its bytes, whatever follows; where one is read, its bytes stand; and
 /// none is read from a front of one.
@@ -25,7 +28,8 @@ pub fn law_journals()
 {}
 
 /// A stop leaves the done numbers, and a book. In every world of a sender, a network and servers
-/// that stop and are followed by others, each verdict that was ever written stays that of a done number.
+/// that stop and are followed by others, each verdict that was ever written stays that of a done
+/// number.
 pub fn law_stops()
     ensures books { BooksAreCut }
     ensures left { CutBooksAreBooks }

@@ -1,12 +1,14 @@
 //! A journal in memory.
-ghost use Rattle.std.specs.Prelude.{◌≡◌, ◌≤◌, ◌++◌, ◌∷◌, [], ℕ, List, Option, Some, None, IsTrue, OnOk, OnErr, is_err, option_map, length, take, true, false};
+ghost use Rattle.std.specs.Prelude.{◌≡◌, ◌≤◌, ◌++◌, ◌∷◌, [], ℕ, List, Option, Some, None, IsTrue};
+ghost use Rattle.std.specs.Prelude.{OnOk, OnErr, is_err, option_map, length, take, true, false};
 ghost use Rattle.std.specs.Option.{option_copied};
 ghost use Rattle.std.specs.Str.{bytes_eq};
 ghost use Rattle.std.specs.List.{list_any};
 ghost use Rattle.bw_model.specs.Counts.{Counts};
 ghost use Rattle.bw_file.specs.Memory.{content_under as content_of};
 ghost use Rattle.bw_file.specs.Stores.{KeepsOthers};
-ghost use Rattle.bw_journal.specs.Notes.{BeginsWith, Starts, BeginsNotes, KeepsHeaders, IsShortOf, NotesOver, has_front};
+ghost use Rattle.bw_journal.specs.Notes.{BeginsWith, Starts, BeginsNotes, KeepsHeaders, IsShortOf};
+ghost use Rattle.bw_journal.specs.Notes.{NotesOver, has_front};
 ghost use Rattle.bw_journal.specs.MemoryHeaders.{header_for};
 
 use crate::header::{JournalHeader, is_torn};

@@ -1,5 +1,6 @@
 //! What a journal tells of a take and of its verdicts.
-ghost use Rattle.std.specs.Prelude.{◌≡◌, ◌+◌, ◌^◌, ◌≤◌, ◌++◌, ◌∷◌, [], None, Ok, IsTrue, IsNone, IfSome, IfOk, OnOk, IfErr, length, false};
+ghost use Rattle.std.specs.Prelude.{◌≡◌, ◌+◌, ◌^◌, ◌≤◌, ◌++◌, ◌∷◌, [], None, Ok, IsTrue, IsNone};
+ghost use Rattle.std.specs.Prelude.{IfSome, IfOk, OnOk, IfErr, length, false};
 ghost use Rattle.bw_model.specs.Bytes.{zeros as zero_bytes};
 ghost use Rattle.bw_model.specs.Limits.{longest_block, largest};
 ghost use Rattle.bw_model.specs.Take.{new_take, parts as parts_of_take};
@@ -8,7 +9,9 @@ ghost use Rattle.bw_model.specs.Wire.{is_request};
 ghost use Rattle.bw_take.specs.Requests.{meaning};
 ghost use Rattle.bw_take.specs.Verdicts.{verdict_meaning};
 ghost use Rattle.bw_journal.specs.JournalHeaders.{header_len};
-ghost use Rattle.bw_journal.specs.Replays.{OtherVerdict as other_verdict, replay as replay_of, replayed_entries, tail_fault as tail_fault_of, is_judged, parts_after, JournalFault};
+ghost use Rattle.bw_journal.specs.Replays.{OtherVerdict as other_verdict, replay as replay_of};
+ghost use Rattle.bw_journal.specs.Replays.{replayed_entries, tail_fault as tail_fault_of};
+ghost use Rattle.bw_journal.specs.Replays.{is_judged, parts_after, JournalFault};
 ghost use Rattle.bw_journal.specs.Refs.{entry_said};
 ghost use Rattle.bw_journal.specs.Stories.{story_of};
 ghost use Rattle.bw_journal.specs.Faults.{IsJournalFault, fault_meaning};

@@ -1,5 +1,6 @@
 //! Bytes between their length and a check.
-ghost use Rattle.std.specs.Prelude.{◌≡◌, ◌+◌, ◌≤◌, IfSome, option_map, length, take, vec_len, vec_capacity};
+ghost use Rattle.std.specs.Prelude.{◌≡◌, ◌+◌, ◌≤◌, IfSome, option_map, length, take, vec_len};
+ghost use Rattle.std.specs.Prelude.{vec_capacity};
 ghost use Rattle.std.specs.Str.{bytes_eq};
 ghost use Rattle.bw_layout.specs.Appending.{Gains};
 ghost use Rattle.bw_journal.specs.Seals.{opened as opened_in, check as check_of};

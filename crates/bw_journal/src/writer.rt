@@ -5,7 +5,8 @@ ghost use Rattle.bw_model.specs.Wire.{is_request, kind as kind_of};
 ghost use Rattle.bw_layout.specs.Appending.{Appends, Gains};
 ghost use Rattle.bw_take.specs.Requests.{meaning};
 ghost use Rattle.bw_take.specs.Verdicts.{verdict_meaning};
-ghost use Rattle.bw_journal.specs.Entries.{JournalEntry, noted as noted_of, noted_payload, content as content_of, sealed_entry, longest_entry};
+ghost use Rattle.bw_journal.specs.Entries.{JournalEntry, noted as noted_of, noted_payload};
+ghost use Rattle.bw_journal.specs.Entries.{content as content_of, sealed_entry, longest_entry};
 
 use crate::entry::BLOCK;
 use crate::seal::{check, push};

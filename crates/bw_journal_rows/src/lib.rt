@@ -1,5 +1,5 @@
-//! Worked journals, byte by byte; that calls succeed; what a damaged journal tells: what no clause of the
-//! journals says.
+//! Worked journals, byte by byte; that calls succeed; what a damaged journal tells: what no clause
+//! of the journals says.
 #![tactic(auto)]
 
 #[cfg(test)]

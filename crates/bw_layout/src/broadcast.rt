@@ -1,5 +1,6 @@
 //! The `bext` chunk (EBU Tech 3285, Broadcast Audio Extension).
-ghost use Rattle.std.specs.Prelude.{◌≡◌, ◌+◌, ◌≤◌, ◌++◌, OnOk, OnErr, length, take, drop, vec_len, vec_capacity, if◌then◌else◌};
+ghost use Rattle.std.specs.Prelude.{◌≡◌, ◌+◌, ◌≤◌, ◌++◌, OnOk, OnErr, length, take, drop, vec_len};
+ghost use Rattle.std.specs.Prelude.{vec_capacity, if◌then◌else◌};
 ghost use Rattle.std.specs.List.{concat};
 ghost use Rattle.bw_model.specs.Bytes.{zeros};
 ghost use Rattle.bw_model.specs.Limits.{longest_history};

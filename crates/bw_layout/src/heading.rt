@@ -1,10 +1,12 @@
 //! What a take's file says before its data, and its bytes.
-ghost use Rattle.std.specs.Prelude.{◌≡◌, ℕ, ◌+◌, ◌*◌, ◌%◌, ◌^◌, ◌<◌, ◌≤◌, length, vec_len, vec_capacity};
+ghost use Rattle.std.specs.Prelude.{◌≡◌, ℕ, ◌+◌, ◌*◌, ◌%◌, ◌^◌, ◌<◌, ◌≤◌, length, vec_len};
+ghost use Rattle.std.specs.Prelude.{vec_capacity};
 ghost use Rattle.bw_model.specs.Bytes.{even_up};
 ghost use Rattle.bw_model.specs.Limits.{largest, longest_history, most_markers};
 ghost use Rattle.bw_model.specs.Layout.{chunk, pad};
 ghost use Rattle.bw_model.specs.Take.{AreFields};
-ghost use Rattle.bw_model.specs.File.{form_size as form_size_of, data_place, junk_chunk, fmt_chunk, bext_chunk, header as header_bytes};
+ghost use Rattle.bw_model.specs.File.{form_size as form_size_of, data_place, junk_chunk, fmt_chunk};
+ghost use Rattle.bw_model.specs.File.{bext_chunk, header as header_bytes};
 ghost use Rattle.bw_layout.specs.Appending.{Gains, Appends};
 ghost use Rattle.bw_layout.specs.Headers.{middle, ds64, riff_header, bw64_header};
 

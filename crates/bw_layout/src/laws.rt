@@ -1,6 +1,8 @@
 //! Laws of the layouts: functions that do nothing, whose contracts are the statements.
 ghost use Rattle.bw_layout.specs.Headers.{EachRiffHasItsSizes, EachBw64HasItsSizes};
-ghost use Rattle.bw_layout.specs.ReadBack.{HeadsReadBack, FormatsReadBack, FieldsReadBack, EntriesReadBack, EachDs64ReadsBack, CuePointsReadBack, EachCueChunkReadsBack};
+ghost use Rattle.bw_layout.specs.ReadBack.{HeadsReadBack, FormatsReadBack, FieldsReadBack};
+ghost use Rattle.bw_layout.specs.ReadBack.{EntriesReadBack, EachDs64ReadsBack, CuePointsReadBack};
+ghost use Rattle.bw_layout.specs.ReadBack.{EachCueChunkReadsBack};
 
 /// Where a header's two sizes stand, so that headers of one take and one kind differ there alone.
 pub fn law_size_places()

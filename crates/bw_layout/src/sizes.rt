@@ -1,5 +1,6 @@
 //! The `ds64` chunk: the sizes that 32 bits can't tell (ITU-R BS.2088).
-ghost use Rattle.std.specs.Prelude.{◌≡◌, ◌+◌, ◌*◌, ◌≤◌, ◌++◌, length, vec_len, vec_capacity, flat_map, take};
+ghost use Rattle.std.specs.Prelude.{◌≡◌, ◌+◌, ◌*◌, ◌≤◌, ◌++◌, length, vec_len, vec_capacity};
+ghost use Rattle.std.specs.Prelude.{flat_map, take};
 ghost use Rattle.std.specs.Result.{OkIff};
 ghost use Rattle.bw_model.specs.Bytes.{le32, le64};
 ghost use Rattle.bw_model.specs.Limits.{most_entries};

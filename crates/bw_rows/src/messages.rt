@@ -81,7 +81,8 @@ fn a_take_is_read_in_two_pieces(rt: HostRuntime) -> Result<(), Fail> {
     Ok(())
 }
 
-/// How many messages the first so many bytes of a take have, and where a frame begins that they cut off.
+/// How many messages the first so many bytes of a take have, and where a frame begins that they cut
+/// off.
 fn count_and_cut(len: usize) -> (usize, Option<u64>) {
     match len {
         0 => (0, None),

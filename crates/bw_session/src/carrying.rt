@@ -1,5 +1,6 @@
 //! Judging a request, and carrying it out in the file.
-ghost use Rattle.std.specs.Prelude.{ℕ, List, Option, ◌≡◌, ◌+◌, ◌^◌, ◌≤◌, IsTrue, IfOk, OnOk, OnErr, is_err, false, true};
+ghost use Rattle.std.specs.Prelude.{ℕ, List, Option, ◌≡◌, ◌+◌, ◌^◌, ◌≤◌, IsTrue, IfOk, OnOk, OnErr};
+ghost use Rattle.std.specs.Prelude.{is_err, false, true};
 ghost use Rattle.bw_model.specs.Take.{Verdict as Judgement, judge as verdict_on};
 ghost use Rattle.bw_model.specs.Book.{Log};
 ghost use Rattle.bw_model.specs.Wire.{is_request};

@@ -1,5 +1,7 @@
 //! What is kept of the numbers that are done.
-ghost use Rattle.std.specs.Prelude.{◌≡◌, ◌+◌, ◌*◌, ◌^◌, ◌<◌, ◌≤◌, ℕ, List, [], ◌∷◌, ◌++◌, length, take, drop, vec_len, vec_capacity, slice_index_or, Some, OnOk, IsSome};
+ghost use Rattle.std.specs.Prelude.{◌≡◌, ◌+◌, ◌*◌, ◌^◌, ◌<◌, ◌≤◌, ℕ, List, [], ◌∷◌, ◌++◌, length};
+ghost use Rattle.std.specs.Prelude.{take, drop, vec_len, vec_capacity, slice_index_or, Some, OnOk};
+ghost use Rattle.std.specs.Prelude.{IsSome};
 ghost use Rattle.std.specs.Str.{bytes_eq};
 ghost use Rattle.bw_model.specs.Take.{Verdict as Judgement};
 ghost use Rattle.bw_model.specs.Replies.{verdict_code, verdict_of as verdict_with_code};

@@ -1,5 +1,6 @@
 //! What is kept of a number once its file is written.
-ghost use Rattle.std.specs.Prelude.{◌≡◌, ◌+◌, ◌^◌, ◌≤◌, ◌++◌, [], ◌∷◌, suc, ℕ, List, Some, Bool, IsTrue};
+ghost use Rattle.std.specs.Prelude.{◌≡◌, ◌+◌, ◌^◌, ◌≤◌, ◌++◌, [], ◌∷◌, suc, ℕ, List, Some, Bool};
+ghost use Rattle.std.specs.Prelude.{IsTrue};
 ghost use Rattle.sha2.specs.Sha256.{sha256};
 ghost use Rattle.bw_model.specs.Bytes.{at};
 ghost use Rattle.bw_model.specs.Take.{judge as verdict_on, verdict as verdict_in};

@@ -1,5 +1,6 @@
 //! The messages that may still be admitted under a name.
-ghost use Rattle.std.specs.Prelude.{◌≡◌, ◌<◌, ◌≤◌, ◌++◌, [], ◌∷◌, length, drop, replicate, slice_set, Some, None, IfOk, option_copied};
+ghost use Rattle.std.specs.Prelude.{◌≡◌, ◌<◌, ◌≤◌, ◌++◌, [], ◌∷◌, length, drop, replicate};
+ghost use Rattle.std.specs.Prelude.{slice_set, Some, None, IfOk, option_copied};
 ghost use Rattle.bw_model.specs.Bytes.{at};
 ghost use Rattle.bw_session.specs.Windows.{count_held};
 

@@ -1,5 +1,5 @@
-//! Worked files and the calls that write them, byte by byte; that the calls succeed, after faults too;
-//! real folders: what no clause of the stores and the growing file says.
+//! Worked files and the calls that write them, byte by byte; that the calls succeed, after faults
+//! too; real folders: what no clause of the stores and the growing file says.
 #![tactic(auto)]
 
 #[cfg(test)]

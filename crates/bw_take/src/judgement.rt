@@ -1,7 +1,9 @@
 //! The judgement of a request on a take.
 ghost use Rattle.std.specs.Prelude.{◌≡◌, ◌%◌, ◌==◌, Some, None, is_none, length};
 ghost use Rattle.std.specs.List.{list_all, list_any};
-ghost use Rattle.bw_model.specs.Take.{judge as verdict_on, judge_open as judged, is_history_byte as is_byte_of_history, block_align as block_align_of, field_fault, Format, Mark};
+ghost use Rattle.bw_model.specs.Take.{judge as verdict_on, judge_open as judged};
+ghost use Rattle.bw_model.specs.Take.{is_history_byte as is_byte_of_history};
+ghost use Rattle.bw_model.specs.Take.{block_align as block_align_of, field_fault, Format, Mark};
 ghost use Rattle.bw_take.specs.Requests.{meaning};
 ghost use Rattle.bw_take.specs.Verdicts.{verdict_meaning};
 

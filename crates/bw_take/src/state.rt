@@ -1,7 +1,9 @@
 //! What is kept of a take in memory: everything but its data.
-ghost use Rattle.std.specs.Prelude.{◌≡◌, ◌+◌, ◌≤◌, None, IsSome, IfSome, IsTrue, IsOk, OnOk, OnErr, true, false, length};
+ghost use Rattle.std.specs.Prelude.{◌≡◌, ◌+◌, ◌≤◌, None, IsSome, IfSome, IsTrue, IsOk, OnOk, OnErr};
+ghost use Rattle.std.specs.Prelude.{true, false, length};
 ghost use Rattle.bw_model.specs.Limits.{window, longest_history, most_markers, largest};
-ghost use Rattle.bw_model.specs.Take.{Stored, is_format, judge as verdict_on, frames as frames_of, new_take, parts as parts_of_take, AreFields};
+ghost use Rattle.bw_model.specs.Take.{Stored, is_format, judge as verdict_on, frames as frames_of};
+ghost use Rattle.bw_model.specs.Take.{new_take, parts as parts_of_take, AreFields};
 ghost use Rattle.bw_model.specs.Wire.{is_request};
 ghost use Rattle.bw_take.specs.Requests.{meaning};
 ghost use Rattle.bw_take.specs.States.{FollowsTakes, parts_with, samples_in};

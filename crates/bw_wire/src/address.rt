@@ -1,6 +1,7 @@
 //! The name and the number behind a kind byte, as messages, asks and replies have them.
 ghost use Rattle.std.specs.Prelude.{◌≡◌, ◌≤◌, IsTrue, not, false, drop, length};
-ghost use Rattle.bw_model.specs.Wire.{Second, last_number, name_in, behind_name as behind, number_in, payload_in, is_name_bad, is_number_bad};
+ghost use Rattle.bw_model.specs.Wire.{Second, last_number, name_in, behind_name as behind};
+ghost use Rattle.bw_model.specs.Wire.{number_in, payload_in, is_name_bad, is_number_bad};
 ghost use Rattle.bw_wire.specs.Addresses.{HasName, HasAddress};
 
 use bw_layout::read_u32;

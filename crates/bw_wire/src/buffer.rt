@@ -1,5 +1,6 @@
 //! Bytes of a stream that are kept, in a block of memory whose size is known.
-ghost use Rattle.std.specs.Prelude.{◌≡◌, ◌+◌, ◌≤◌, ◌<◌, [], ◌++◌, length, take, drop, vec_len, vec_capacity, IsOk, OnOk, OnErr};
+ghost use Rattle.std.specs.Prelude.{◌≡◌, ◌+◌, ◌≤◌, ◌<◌, [], ◌++◌, length, take, drop, vec_len};
+ghost use Rattle.std.specs.Prelude.{vec_capacity, IsOk, OnOk, OnErr};
 
 use std::alloc::{AllocError, Global};
 use std::marker::Model;
@@ -8,19 +9,20 @@ use std::mem;
 /// Behind the whole frames at most so many bytes are left, of a frame that isn't whole.
 const LONGEST_REST: usize = 32_809;
 
-/// A larger block isn't kept for the next piece. With pieces of at most 64 KiB none is larger: with what is left of
-/// the piece before, it has at most twice 98,345 bytes.
+/// A larger block isn't kept for the next piece. With pieces of at most 64 KiB none is larger: with
+/// what is left of the piece before, it has at most twice 98,345 bytes.
 const LARGEST_KEPT: usize = 262_144;
 
 /// Bytes at the front of a block of memory, which has room for more behind them.
 ///
-/// All of the block is written, with zeros behind the bytes: of a `Vec` that grows no contract says how large it may
-/// become, but of one that was reserved and filled.
+/// All of the block is written, with zeros behind the bytes: of a `Vec` that grows no contract says
+/// how large it may become, but of one that was reserved and filled.
 #[derive(Drop)]
 pub(crate) struct Buffer {
     block: Vec<u8>,
     len: usize,
-    /// Where the block is too large to be kept, another for what is left: there may be no memory for it then.
+    /// Where the block is too large to be kept, another for what is left: there may be no memory
+    /// for it then.
     spare: Vec<u8>,
 }
 
@@ -37,7 +39,8 @@ impl Model for Buffer {
 }
 
 impl Buffer {
-    ghost use Rattle.bw_wire.specs.Held.{longest_rest, longest_stream, nothing_held, with_bytes, with_room, without_front};
+    ghost use Rattle.bw_wire.specs.Held.{longest_rest, longest_stream, nothing_held, with_bytes};
+    ghost use Rattle.bw_wire.specs.Held.{with_room, without_front};
 
     /// No bytes, and no block.
     pub(crate) fn new(alloc: Global) -> Buffer

@@ -2,7 +2,8 @@
 ghost use Rattle.std.specs.Prelude.{◌≡◌, ◌≤◌, ◌+◌, ◌++◌, IsTrue, IfOk, OnOk, length};
 ghost use Rattle.bw_model.specs.Bytes.{le32};
 ghost use Rattle.bw_model.specs.Limits.{longest_block};
-ghost use Rattle.bw_model.specs.Wire.{Second, last_number, Asks, kind as kind_in, payload as payload_in, addressed, is_name, is_request};
+ghost use Rattle.bw_model.specs.Wire.{Second, last_number, Asks, kind as kind_in};
+ghost use Rattle.bw_model.specs.Wire.{payload as payload_in, addressed, is_name, is_request};
 ghost use Rattle.bw_take.specs.Requests.{meaning};
 ghost use Rattle.bw_wire.specs.Encoded.{IsFrameOf, said};
 

@@ -10,8 +10,8 @@ use std::marker::Model;
 
 /// Takes the frames of an exchange out of its bytes, which come in pieces of any size.
 ///
-/// Take out all frames before feeding the next piece, so that little is held: at most 32,809 bytes, in a block of at
-/// most 262,144.
+/// Take out all frames before feeding the next piece, so that little is held: at most 32,809 bytes,
+/// in a block of at most 262,144.
 #[derive(Drop)]
 pub struct Framer {
     intake: Intake,

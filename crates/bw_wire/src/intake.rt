@@ -1,7 +1,9 @@
 //! What a framer keeps of its stream, whatever it reads.
 ghost use Rattle.std.specs.Prelude.{◌≡◌, ◌+◌, ◌≤◌, length, drop, IsOk, OnOk, OnErr};
-ghost use Rattle.bw_wire.specs.Held.{nothing_held, without_front, longest_rest, longest_piece, longest_stream};
-ghost use Rattle.bw_wire.specs.Pending.{fresh, with_piece, KeepsAtMost, HasSmallBlock, end_fault, IsOver};
+ghost use Rattle.bw_wire.specs.Held.{nothing_held, without_front, longest_rest, longest_piece};
+ghost use Rattle.bw_wire.specs.Held.{longest_stream};
+ghost use Rattle.bw_wire.specs.Pending.{fresh, with_piece, KeepsAtMost, HasSmallBlock, end_fault};
+ghost use Rattle.bw_wire.specs.Pending.{IsOver};
 ghost use Rattle.bw_wire.specs.Intakes.{pending_in, IsIntake};
 ghost use Rattle.bw_wire.specs.Telling.{end_told};
 

@@ -24,14 +24,14 @@ pub fn law_first_version()
     ensures { FirstVersionStays }
 {}
 
-/// In whatever pieces its bytes come, a framer gives the stream's messages and asks in order, and all of them where
-/// it gives no more.
+/// In whatever pieces its bytes come, a framer gives the stream's messages and asks in order, and
+/// all of them where it gives no more.
 pub fn law_framer()
     ensures { RunsFollowStreams }
 {}
 
-/// In whatever pieces its bytes come, a framer of replies gives the replies that they spell in order, and all of them
-/// where it gives no more.
+/// In whatever pieces its bytes come, a framer of replies gives the replies that they spell in
+/// order, and all of them where it gives no more.
 pub fn law_reply_framer()
     ensures { ReplyRunsFollowReplies }
 {}

@@ -63,7 +63,8 @@ pub enum Reply {
         number: u32,
         verdict: Verdict,
     },
-    /// Why a message has no verdict, or the answer to an ask. `next` is the least number without a verdict.
+    /// Why a message has no verdict, or the answer to an ask. `next` is the least number without a
+    /// verdict.
     Notice {
         name: Name,
         number: u32,

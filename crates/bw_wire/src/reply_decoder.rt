@@ -2,7 +2,8 @@
 ghost use Rattle.std.specs.Prelude.{◌≡◌};
 ghost use Rattle.std.specs.Option.{ok_or};
 ghost use Rattle.bw_model.specs.Wire.{Payload};
-ghost use Rattle.bw_model.specs.Replies.{decoded_reply, addressed_reply, judged_by, noticed_by, refused_by};
+ghost use Rattle.bw_model.specs.Replies.{decoded_reply, addressed_reply, judged_by, noticed_by};
+ghost use Rattle.bw_model.specs.Replies.{refused_by};
 ghost use Rattle.bw_wire.specs.Replies.{reply_read};
 
 use crate::address::{LAST_NUMBER, has_name, has_number, name, number, payload};

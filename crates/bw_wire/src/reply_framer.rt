@@ -10,8 +10,8 @@ use std::marker::Model;
 
 /// Takes the replies of an exchange out of its bytes, which come in pieces of any size.
 ///
-/// Take out all replies before feeding the next piece, so that little is held: at most 46 bytes, in a block of at
-/// most 262,144.
+/// Take out all replies before feeding the next piece, so that little is held: at most 46 bytes, in
+/// a block of at most 262,144.
 #[derive(Drop)]
 pub struct ReplyFramer {
     intake: Intake,
