@@ -69,7 +69,7 @@ returns-in_err-verdict-clause-noted g c = λ honest honest_notes first log n h s
 pub returns-in_default-clause-noted : goal.returns-in_default-clause-noted
 returns-in_default-clause-noted g c = λ honest honest_notes first log n h stood noted.
     let r : Request = meaning c.args.request.now in
-    let v : Verdict = verdict_of c.in_ok-verdict.verdict in
+    let v : Verdict = verdict_meaning c.in_ok-verdict.verdict in
     let finished : List (List ℕ × Verdict) = c.args.self.now.ledger.outcomes in
     let name : c.args.self.now.growing.name ≡ c.args.self.now.name = c.args.self.now.same_name in
     let later : c.carry_out.new.growing.name ≡ c.args.self.now.name = search rules in
@@ -93,7 +93,7 @@ returns-in_default-clause-noted g c = λ honest honest_notes first log n h stood
 pub returns-clause-noted : goal.returns-clause-noted
 returns-clause-noted g c = λ honest honest_notes first log n h stood noted.
     let r : Request = meaning c.args.request.now in
-    let v : Verdict = verdict_of c.in_ok-verdict.verdict in
+    let v : Verdict = verdict_meaning c.in_ok-verdict.verdict in
     let finished : List (List ℕ × Verdict) = c.args.self.now.ledger.outcomes in
     let name : c.args.self.now.growing.name ≡ c.args.self.now.name = c.args.self.now.same_name in
     let later : c.carry_out.new.growing.name ≡ c.args.self.now.name = search rules in
