@@ -1,10 +1,11 @@
 //! The bytes of a take's file, built whole.
 ghost use Rattle.std.specs.Prelude.{◌≡◌, ◌^◌, ◌≤◌, ◌++◌, length, flat_map, IfOk, OnOk};
+ghost use Rattle.bw_model.specs.Limits.{largest, longest_history, most_markers};
 ghost use Rattle.bw_model.specs.Take.{Take, parts};
 ghost use Rattle.bw_model.specs.Layout.{chunk, pad};
 ghost use Rattle.bw_model.specs.File.{cue_chunks, cues as cues_of, file_with, header as header_of};
 
-use bw_layout::{Bext, ChunkHead, ChunkId, CuePoint, Fmt, Limit, header, put_cues, put_head};
+use bw_layout::{Bext, CuePoint, Fmt, Limit, header, put_cue_chunk};
 use bw_take::TakeState;
 use std::alloc::{AllocError, Global};
 
@@ -16,7 +17,7 @@ pub fn file_of_take(
     samples: &[u8],
     limit: Limit,
 ) -> Result<Vec<u8>, AllocError>
-    requires { length samples.now ≤ 2 ^ 62 }
+    requires { length samples.now ≤ largest }
     ensures { IfOk result (λ file. (t : Take) →
         parts t ≡ state.now.parts → t.samples ≡ samples.now →
         file.items ≡ file_with format.now t limit) }
@@ -30,7 +31,7 @@ pub fn file_of_take(
 /// The cue points that the file has: those of a closed take.
 fn cues_of_file(state: &TakeState) -> &[CuePoint]
     ensures value { result.now ≡ cues_of state.now.parts.closed state.now.parts.markers }
-    ensures range { length result.now ≤ 1024 }
+    ensures range { length result.now ≤ most_markers }
 {
     if state.is_closed() {
         state.markers()
@@ -49,9 +50,9 @@ fn whole_file(
     cues: &[CuePoint],
     limit: Limit,
 ) -> Result<Vec<u8>, AllocError>
-    requires history { length history.now ≤ 4096 }
-    requires samples { length samples.now ≤ 2 ^ 62 }
-    requires cues { length cues.now ≤ 1024 }
+    requires history { length history.now ≤ longest_history }
+    requires samples { length samples.now ≤ largest }
+    requires cues { length cues.now ≤ most_markers }
     ensures { IfOk result (λ file. file.items ≡
         header_of format.now bext.now history.now (length samples.now) (length cues.now) limit
         ++ samples.now ++ pad (length samples.now) ++ flat_map chunk (cue_chunks cues.now)) }
@@ -75,23 +76,5 @@ fn put_pad(out: &mut Vec<u8>, len: usize) -> Result<(), AllocError>
     if len % 2 == 1 {
         out.push(0)?;
     }
-    Ok(())
-}
-
-/// Adds the `cue ` chunk, where there are cue points.
-fn put_cue_chunk(alloc: Global, out: &mut Vec<u8>, cues: &[CuePoint]) -> Result<(), AllocError>
-    requires { length cues.now ≤ 1024 }
-    ensures { OnOk result (out.new.items ≡ out.old.items ++ flat_map chunk (cue_chunks cues.now)) }
-{
-    if cues.is_empty() {
-        return Ok(());
-    }
-    let size = 4 + 24 * cues.len();
-    let head = ChunkHead {
-        id: ChunkId(*b"cue "),
-        size32: size as u32,
-    };
-    put_head(alloc, out, head)?;
-    put_cues(alloc, out, cues)?;
     Ok(())
 }
