@@ -5,7 +5,7 @@ ghost use Rattle.bw_model.specs.Take.{Take, parts};
 ghost use Rattle.bw_model.specs.Layout.{chunk, pad};
 ghost use Rattle.bw_model.specs.File.{cue_chunks, cues as cues_of, file_with, header as header_of};
 
-use bw_layout::{Bext, ChunkHead, ChunkId, CuePoint, Fmt, Limit, header, put_cues, put_head};
+use bw_layout::{Bext, CuePoint, Fmt, Limit, header, put_cue_chunk};
 use bw_take::TakeState;
 use std::alloc::{AllocError, Global};
 
@@ -76,23 +76,5 @@ fn put_pad(out: &mut Vec<u8>, len: usize) -> Result<(), AllocError>
     if len % 2 == 1 {
         out.push(0)?;
     }
-    Ok(())
-}
-
-/// Adds the `cue ` chunk, where there are cue points.
-fn put_cue_chunk(alloc: Global, out: &mut Vec<u8>, cues: &[CuePoint]) -> Result<(), AllocError>
-    requires { length cues.now ≤ most_markers }
-    ensures { OnOk result (out.new.items ≡ out.old.items ++ flat_map chunk (cue_chunks cues.now)) }
-{
-    if cues.is_empty() {
-        return Ok(());
-    }
-    let size = 4 + 24 * cues.len();
-    let head = ChunkHead {
-        id: ChunkId(*b"cue "),
-        size32: size as u32,
-    };
-    put_head(alloc, out, head)?;
-    put_cues(alloc, out, cues)?;
     Ok(())
 }
