@@ -78,7 +78,7 @@ entries_push stood s name n (Some x ∷ xs) r e =
 journal_next : (h : Header) (name : List ℕ) (log : Log) (r : Request) (finished : List (List ℕ × Verdict)) →
     length finished ≡ log.done →
     finished ≡ finished_from h.stood log.admitted name 0 (take log.done log.admitted) →
-      at log.admitted log.done ≡ Some r →
+    at log.admitted log.done ≡ Some r →
     journal_of h name (with_done log) ≡ journal_of h name log ++ next_entry h.stood name log
 journal_next h name log r finished done finished_are here =
     let n : ℕ = log.done in
