@@ -7,3 +7,4 @@ pub mod LogSteps
 pub mod FrontForms
 pub mod NumberForms
 pub mod NoteForms
+pub mod DrainForms

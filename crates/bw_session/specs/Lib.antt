@@ -7,3 +7,4 @@ pub mod Keeping
 pub mod Fronts
 pub mod Numbered
 pub mod Noting
+pub mod Draining

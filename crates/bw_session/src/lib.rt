@@ -3,6 +3,7 @@
 
 mod body;
 mod carrying;
+mod draining;
 mod ledger;
 mod numbering;
 mod settling;

@@ -1,0 +1,91 @@
+use Rattle.std.proofs.Common.{rules, ◌≡◌, ℕ, ◌+◌, List, length, sym, ◌∙◌, ap, arith}
+use Rattle.std.specs.Prelude.{is_some}
+use Rattle.std.proofs.lemmas.List.{length_push}
+use Rattle.bw_model.specs.Take.{Request, Verdict}
+use Rattle.bw_take.specs.Requests.{meaning}
+use Rattle.bw_take.specs.Verdicts.{verdict_of}
+use Rattle.bw_file.specs.Growing.{Growing}
+use Rattle.bw_wire.specs.Frames.{message_of}
+use Rattle.bw_session.proofs.DrainForms.{count_front, fits_done, held_front, part_waits, part_done}
+use Rattle.bw_session.proofs.draining.drain_one.Goals as goal
+
+pub number_done-requires-clause-room : goal.number_done-requires-clause-room
+number_done-requires-clause-room g c =
+    let count = count_front c.args.window.now c.in-Some.body.now (sym c.in-Some.ensures.value) in
+    let enough = c.requires.fits.storable in
+    omega (arith, count, enough)
+
+pub number_done-requires-clause-place : goal.number_done-requires-clause-place
+number_done-requires-clause-place g c =
+    let count = count_front c.args.window.now c.in-Some.body.now (sym c.in-Some.ensures.value) in
+    let enough = c.requires.fits.keepable in
+    omega (arith, count, enough)
+
+pub returns-in-Ok-clause-fits : goal.returns-in-Ok-clause-fits
+returns-in-Ok-clause-fits g c =
+    let old : List (List ℕ × Verdict) = c.args.progress.now.ledger.outcomes in
+    let more : length c.number_done.new.self.ledger.outcomes ≡ length old + 1 =
+    ap length c.in-Ok.ensures.outcomes ∙ length_push old (c.digest.result.now, verdict_of c.in-Ok.verdict) in
+    fits_done c.args.progress.now.growing c.number_done.new.self.growing c.args.progress.now.state.parts
+    c.number_done.new.self.state.parts (length old) _ c.args.progress.now.state.room
+    c.number_done.new.self.state.room c.args.progress.now.ledger.room c.number_done.new.self.ledger.room
+    c.args.window.now _ c.in-Some.body.now c.requires.fits (sym c.in-Some.ensures.value)
+    (search rules) more c.in-Ok.ensures.room c.in-Ok.ensures.places c.in-Ok.ensures.clean
+
+pub returns-in-Ok-clause-drained : goal.returns-in-Ok-clause-drained
+returns-in-Ok-clause-drained g c = λ honest first log h.
+    let r : Request = meaning c.request-request.result in
+    let g0 : Growing = c.args.progress.now.growing in
+    let finished : List (List ℕ × Verdict) = c.args.progress.now.ledger.outcomes in
+    let front = held_front first log c.args.progress.now.state.parts finished c.args.window.now g0 _ h
+    (message_of c.message-message.result) r c.digest.result.now c.in-Some.body.now c.args.progress.now.name
+    c.args.progress.now.same_name (sym c.in-Some.ensures.value) c.message-message.ensures.spelled
+    c.request-request.ensures.value c.request-request.ensures.fits c.digest.ensures in
+    let done = c.in-Ok.ensures.done honest first log front.0 front.1 in
+    record {
+      told = (ap is_some front.0.here, done.verdict_is);
+      left = part_done first log c.args.progress.now.state.parts finished c.args.window.now g0 _ h
+          (verdict_of c.in-Ok.verdict) c.number_done.new.self.state.parts c.number_done.new.self.ledger.outcomes
+          _ c.number_done.new.self.growing _ (ap (λ (x : Growing). x.name) c.in-Ok.ensures.known)
+          c.in-Ok.ensures.clean (search rules) done;
+    }
+
+pub returns-in-Ok-clause-noted : goal.returns-in-Ok-clause-noted
+returns-in-Ok-clause-noted g c = λ honest honest_notes first log h stood noted.
+    let r : Request = meaning c.request-request.result in
+    let g0 : Growing = c.args.progress.now.growing in
+    let finished : List (List ℕ × Verdict) = c.args.progress.now.ledger.outcomes in
+    let front = held_front first log c.args.progress.now.state.parts finished c.args.window.now g0 _ h
+    (message_of c.message-message.result) r c.digest.result.now c.in-Some.body.now c.args.progress.now.name
+    c.args.progress.now.same_name (sym c.in-Some.ensures.value) c.message-message.ensures.spelled
+    c.request-request.ensures.value c.request-request.ensures.fits c.digest.ensures in
+    c.in-Ok.ensures.noted honest honest_notes first log front.0 front.1 stood noted
+
+pub returns-in-Err-clause-drained : goal.returns-in-Err-clause-drained
+returns-in-Err-clause-drained g c = λ honest first log h.
+    let r : Request = meaning c.request-request.result in
+    let g0 : Growing = c.args.progress.now.growing in
+    let finished : List (List ℕ × Verdict) = c.args.progress.now.ledger.outcomes in
+    let front = held_front first log c.args.progress.now.state.parts finished c.args.window.now g0 _ h
+    (message_of c.message-message.result) r c.digest.result.now c.in-Some.body.now c.args.progress.now.name
+    c.args.progress.now.same_name (sym c.in-Some.ensures.value) c.message-message.ensures.spelled
+    c.request-request.ensures.value c.request-request.ensures.fits c.digest.ensures in
+    record {
+      told = ap is_some front.0.here;
+      left = part_waits first log c.args.progress.now.state.parts finished c.args.window.now g0 _ h
+          c.number_done.new.self.state.parts c.number_done.new.self.ledger.outcomes r c.number_done.new.self.growing _
+          front.0.here
+          (ap (λ (x : Growing). x.name) c.in-Err.ensures.known)
+          (c.in-Err.ensures.done honest first log front.0 front.1);
+    }
+
+pub returns-in-Err-clause-noted : goal.returns-in-Err-clause-noted
+returns-in-Err-clause-noted g c = λ honest honest_notes first log h stood noted.
+    let r : Request = meaning c.request-request.result in
+    let g0 : Growing = c.args.progress.now.growing in
+    let finished : List (List ℕ × Verdict) = c.args.progress.now.ledger.outcomes in
+    let front = held_front first log c.args.progress.now.state.parts finished c.args.window.now g0 _ h
+    (message_of c.message-message.result) r c.digest.result.now c.in-Some.body.now c.args.progress.now.name
+    c.args.progress.now.same_name (sym c.in-Some.ensures.value) c.message-message.ensures.spelled
+    c.request-request.ensures.value c.request-request.ensures.fits c.digest.ensures in
+    c.in-Err.ensures.noted honest honest_notes first log front.0 front.1 stood noted

@@ -1,0 +1,82 @@
+-- What is kept and held of a name, and what draining its next number leaves.
+use Rattle.std.specs.Prelude.{◌≡◌, ℕ, ◌+◌, ◌≤◌, Bool, true, false, IsTrue, Option, Some, None}
+use Rattle.std.specs.Prelude.{IsSome, is_some, List}
+use Rattle.std.specs.List.{list_all}
+use Rattle.bw_model.specs.Bytes.{at}
+use Rattle.bw_model.specs.Take.{Parts, Verdict}
+use Rattle.bw_model.specs.Wire.{Second, last_number}
+use Rattle.bw_model.specs.ReadBack.{is_admitted}
+use Rattle.bw_model.specs.Book.{Log, made, verdict_at}
+use Rattle.bw_model.specs.Holds.{Kept, HoldsName, HasFile}
+use Rattle.bw_take.specs.Verdicts.{verdict_of}
+use Rattle.bw_file.specs.Growing.{Growing}
+use Rattle.bw_wire.specs.Bodies.{message_in}
+use Rattle.bw_session.specs.Windows.{count_held}
+use Rattle.bw_session.specs.Carrying.{Touches}
+use Rattle.bw_session.specs.Numbered.{with_done}
+use Rattle.bw_session.specs.declared.draining.Drained.{Drained}
+use Rattle.bw_session.specs.declared.draining.Drained.TheVariants.{Idle, Done, Stopped}
+
+-- What the parts of a name have to do with one another, whatever was sent.
+pub record Fits (g : Growing) (p : Parts) (done room places : ℕ)
+    (window : List (Option (List ℕ))) : Type 0 where
+  -- each held request can be stored, and its verdict kept, without memory
+  pub storable : count_held window ≤ room
+  pub keepable : count_held window ≤ places
+  pub numbers : (i : ℕ) → IsSome (at window i) → done + i ≤ last_number Second
+  -- a dirty file waits for another try of the first held request
+  pub held : IsTrue g.dirty → IsSome (at window 0)
+  pub again : IsTrue g.dirty → (body : List ℕ) → at window 0 ≡ Some body →
+      Touches p (message_in body).request
+
+-- what is kept of a name, in the definitions' words
+abbrev pub kept_as : Parts → List (List ℕ × Verdict) → List (Option (List ℕ)) → Growing → Kept
+kept_as p finished window g = record {
+  state = p;
+  finished = finished;
+  held = window;
+  has_made = g.made;
+  dirty = g.dirty;
+}
+
+-- What an honest store has of a name: of one that stood what stood, else the take's file, or what
+-- an earlier try of the next request may have left.
+abbrev pub NameStands : Option (List ℕ) → Log → ℕ → Kept → Option (List ℕ) → Type 0
+NameStands None log limit kept found =
+    HasFile (made false log.admitted log.done) limit (at log.admitted log.done) kept found
+NameStands (Some bytes) log limit kept found = (found ≡ Some bytes) × (kept.has_made ≡ false)
+
+-- What is kept and held of a name is what its log says, and so is its file.
+pub record HoldsPart (first : Option (List ℕ)) (log : Log) (p : Parts)
+    (finished : List (List ℕ × Verdict)) (window : List (Option (List ℕ))) (g : Growing)
+    (found : Option (List ℕ)) : Type 0 where
+  pub fits : IsTrue (list_all is_admitted log.admitted)
+  pub memory : HoldsName (is_some first) g.name log (kept_as p finished window g)
+  pub file : NameStands first log g.limit (kept_as p finished window g) found
+
+-- draining stopped at a fault
+abbrev pub is_stopped : Drained → Bool
+is_stopped Idle = false
+is_stopped (Done v) = false
+is_stopped Stopped = true
+
+-- the log behind a drained number
+abbrev pub drained_log : Drained → Log → Log
+drained_log Idle log = log
+drained_log (Done v) log = with_done log
+drained_log Stopped log = log
+
+-- Nothing was held; or the number has its verdict; or it waits on.
+abbrev pub TellsNext : Drained → Bool → Log → Type 0
+TellsNext Idle stood log = at log.admitted log.done ≡ None
+TellsNext (Done v) stood log =
+    IsSome (at log.admitted log.done)
+    × (verdict_of v ≡ verdict_at stood log.admitted log.done)
+TellsNext Stopped stood log = IsSome (at log.admitted log.done)
+
+-- One drained number raises `done` by one, or leaves the log.
+pub record DrainsNext (answer : Drained) (first : Option (List ℕ)) (log : Log) (p : Parts)
+    (finished : List (List ℕ × Verdict)) (window : List (Option (List ℕ))) (g : Growing)
+    (found : Option (List ℕ)) : Type 0 where
+  pub told : TellsNext answer (is_some first) log
+  pub left : HoldsPart first (drained_log answer log) p finished window g found

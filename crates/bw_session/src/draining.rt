@@ -1,0 +1,74 @@
+//! Draining: the next number of a name is done where its message came.
+ghost use Rattle.std.specs.Prelude.{◌≡◌, ◌+◌, ◌≤◌, ℕ, List, Option, length, IsTrue, is_some};
+ghost use Rattle.bw_model.specs.Book.{Log};
+ghost use Rattle.bw_session.specs.Numbered.{KeepsBoth};
+ghost use Rattle.bw_session.specs.Noting.{IsNoted};
+ghost use Rattle.bw_session.specs.Draining.{Fits, HoldsPart, DrainsNext, is_stopped, drained_log};
+
+use crate::numbering::{Progress, Stores};
+use crate::window::Window;
+use bw_file::TakeStore;
+use bw_journal::Journal;
+use bw_take::Verdict;
+
+/// What draining one number came to.
+#[derive(Clone, Copy, Drop)]
+pub(crate) enum Drained {
+    /// The next message didn't come yet.
+    Idle,
+    /// The next number is done, with this verdict.
+    Done(Verdict),
+    /// A call of the store or of the journal failed: the message waits on.
+    Stopped,
+}
+
+/// Drains the next number: it is done, where its message is held.
+pub(crate) fn drain_one<S: TakeStore, J: Journal>(
+    progress: &mut Progress,
+    window: &mut Window,
+    stores: &mut Stores<S, J>,
+) -> Drained
+    requires fits { Fits progress.old.growing progress.old.state.parts
+        (length progress.old.ledger.outcomes) progress.old.state.room progress.old.ledger.room
+        window.old }
+    ensures fits { Fits progress.new.growing progress.new.state.parts
+        (length progress.new.ledger.outcomes) progress.new.state.room progress.new.ledger.room
+        window.new }
+    ensures both { KeepsBoth S.TakeStore J.Journal (is_stopped result) progress.old.name
+        stores.old.store stores.new.store stores.old.journal stores.new.journal }
+    ensures calls { S.calls stores.new.store ≤ S.calls stores.old.store + 4 }
+    ensures name { progress.new.name ≡ progress.old.name }
+    ensures known { progress.new.growing ≡ record progress.old.growing {
+      made = progress.new.growing.made;
+      dirty = progress.new.growing.dirty;
+    } }
+    ensures drained { IsTrue (S.honest stores.old.store) →
+        (first : Option (List ℕ)) (log : Log) →
+        HoldsPart first log progress.old.state.parts progress.old.ledger.outcomes window.old
+        progress.old.growing (S.contents stores.old.store progress.old.name) →
+        DrainsNext result first log progress.new.state.parts progress.new.ledger.outcomes
+        window.new progress.new.growing (S.contents stores.new.store progress.old.name) }
+    ensures noted { IsTrue (S.honest stores.old.store) →
+        IsTrue (J.honest stores.old.journal) → (first : Option (List ℕ)) (log : Log) →
+        HoldsPart first log progress.old.state.parts progress.old.ledger.outcomes window.old
+        progress.old.growing (S.contents stores.old.store progress.old.name) →
+        (J.header stores.old.journal progress.old.name).stood ≡ is_some first →
+        IsNoted (J.header stores.old.journal progress.old.name) progress.old.name log
+        progress.old.noted (J.notes stores.old.journal progress.old.name) →
+        IsNoted (J.header stores.old.journal progress.old.name) progress.old.name
+        (drained_log result log) progress.new.noted
+        (J.notes stores.new.journal progress.old.name) }
+{
+    let Some(body) = window.get(0) else {
+        return Drained::Idle;
+    };
+    let message = body.message();
+    let request = message.request();
+    match progress.number_done(stores, &request, body.digest()) {
+        Ok(verdict) => {
+            window.advance();
+            Drained::Done(verdict)
+        }
+        Err(_fault) => Drained::Stopped,
+    }
+}
