@@ -51,7 +51,8 @@ place-push q (s ∷ seen) e = place-push (s.place + 8 + even_up s.size) seen e
 
 -- one more that isn't there yet leaves each single chunk single
 single-push : (seen : List Entry) (e : Entry) →
-    list_any (is_id e.id) single_ids && is_some (entry_of e.id seen) ≡ false → AreSingle seen → AreSingle (seen ++ e ∷ [])
+    list_any (is_id e.id) single_ids && is_some (entry_of e.id seen) ≡ false →
+    AreSingle seen → AreSingle (seen ++ e ∷ [])
 single-push seen e new h id single =
     let joined = count-append id seen (e ∷ []) ∙ ap (λ (n : ℕ). count_of id seen + n) (count-cons id e []) in
     subst (λ (n : ℕ). n ≤ 1) (sym joined) (go (is_id e.id id) refl)

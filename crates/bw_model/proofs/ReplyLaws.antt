@@ -82,7 +82,8 @@ judged_spelled name number [] r e = absurd cc
 judged_spelled name number (code ∷ more) r e =
     let g = guarded_some (length more == 0) (option_map (Judged name number) (verdict_of code)) r e in
     let m = mapped_some (Judged name number) (verdict_of code) r g.1 in
-    let coded : verdict_code m.0 ≡ code = eqb-true _ _ (found_passes (λ v. verdict_code v == code) verdicts m.0 m.1) in (
+    let coded : verdict_code m.0 ≡ code =
+    eqb-true _ _ (found_passes (λ v. verdict_code v == code) verdicts m.0 m.1) in (
       m.0,
       sym m.2,
       ap (λ (n : ℕ). n ∷ more) (sym coded)

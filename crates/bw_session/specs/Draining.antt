@@ -8,7 +8,7 @@ use Rattle.bw_model.specs.Wire.{Second, last_number}
 use Rattle.bw_model.specs.ReadBack.{is_admitted}
 use Rattle.bw_model.specs.Book.{Log, made, verdict_at}
 use Rattle.bw_model.specs.Holds.{Kept, HoldsName, HasFile}
-use Rattle.bw_take.specs.Verdicts.{verdict_of}
+use Rattle.bw_take.specs.Verdicts.{verdict_meaning}
 use Rattle.bw_file.specs.Growing.{Growing}
 use Rattle.bw_wire.specs.Bodies.{message_in}
 use Rattle.bw_session.specs.Windows.{count_held}
@@ -71,7 +71,7 @@ abbrev pub TellsNext : Drained → Bool → Log → Type 0
 TellsNext Idle stood log = at log.admitted log.done ≡ None
 TellsNext (Done v) stood log =
     IsSome (at log.admitted log.done)
-    × (verdict_of v ≡ verdict_at stood log.admitted log.done)
+    × (verdict_meaning v ≡ verdict_at stood log.admitted log.done)
 TellsNext Stopped stood log = IsSome (at log.admitted log.done)
 
 -- One drained number raises `done` by one, or leaves the log.

@@ -84,7 +84,8 @@ pub set_without_fault : (p : Parts) (tag : ℕ) (value : List ℕ) → judge p (
     field_fault tag value ≡ None
 set_without_fault p tag value stored = sets p p.format tag value (stored_when_open p (SetField tag value) stored)
 
-pub history_fits : (f : Format) (history : List ℕ) → IsTrue (is_request (Open f history)) → length history ≤ longest_history
+pub history_fits : (f : Format) (history : List ℕ) → IsTrue (is_request (Open f history)) →
+    length history ≤ longest_history
 history_fits f history fits = grind (arith, nat_tests, fits)
 
 -- a value that is there exactly under a fact is there where the fact holds

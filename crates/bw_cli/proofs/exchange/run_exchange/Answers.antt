@@ -2,7 +2,8 @@ use Rattle.std.proofs.Common.{rules, ◌≡◌, ◌∙◌, ◌<◌, length, ap, 
 use Rattle.bw_model.specs.Wire.{Says, Asks, Bye, Second}
 use Rattle.bw_wire.specs.Frames.{message_of, asked_name, asked_number}
 use Rattle.bw_wire.specs.Codecs.{message_codec}
-use Rattle.bw_wire.specs.Pending.{Pending, Nothing, Gives, Fails, fresh, with_piece, next_of, took, compacted, end_fault}
+use Rattle.bw_wire.specs.Pending.{Pending, Nothing, Gives, Fails, fresh, with_piece, next_of, took, compacted}
+use Rattle.bw_wire.specs.Pending.{end_fault}
 use Rattle.bw_wire.specs.Reasons.{reason_meaning}
 use Rattle.bw_cli.proofs.StreamSteps.{frame_shortens}
 use Rattle.bw_cli.proofs.FramerSteps.{told_next, is_end}

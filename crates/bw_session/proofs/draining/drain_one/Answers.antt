@@ -3,7 +3,7 @@ use Rattle.std.specs.Prelude.{is_some}
 use Rattle.std.proofs.lemmas.List.{length_push}
 use Rattle.bw_model.specs.Take.{Request, Verdict}
 use Rattle.bw_take.specs.Requests.{meaning}
-use Rattle.bw_take.specs.Verdicts.{verdict_of}
+use Rattle.bw_take.specs.Verdicts.{verdict_meaning}
 use Rattle.bw_file.specs.Growing.{Growing}
 use Rattle.bw_wire.specs.Frames.{message_of}
 use Rattle.bw_session.proofs.DrainForms.{count_front, fits_done, held_front, part_waits, part_done}
@@ -25,7 +25,7 @@ pub returns-in-Ok-clause-fits : goal.returns-in-Ok-clause-fits
 returns-in-Ok-clause-fits g c =
     let old : List (List ℕ × Verdict) = c.args.progress.now.ledger.outcomes in
     let more : length c.number_done.new.self.ledger.outcomes ≡ length old + 1 =
-    ap length c.in-Ok.ensures.outcomes ∙ length_push old (c.digest.result.now, verdict_of c.in-Ok.verdict) in
+    ap length c.in-Ok.ensures.outcomes ∙ length_push old (c.digest.result.now, verdict_meaning c.in-Ok.verdict) in
     fits_done c.args.progress.now.growing c.number_done.new.self.growing c.args.progress.now.state.parts
     c.number_done.new.self.state.parts (length old) _ c.args.progress.now.state.room
     c.number_done.new.self.state.room c.args.progress.now.ledger.room c.number_done.new.self.ledger.room
@@ -45,7 +45,7 @@ returns-in-Ok-clause-drained g c = λ honest first log h.
     record {
       told = (ap is_some front.0.here, done.verdict_is);
       left = part_done first log c.args.progress.now.state.parts finished c.args.window.now g0 _ h
-          (verdict_of c.in-Ok.verdict) c.number_done.new.self.state.parts c.number_done.new.self.ledger.outcomes
+          (verdict_meaning c.in-Ok.verdict) c.number_done.new.self.state.parts c.number_done.new.self.ledger.outcomes
           _ c.number_done.new.self.growing _ (ap (λ (x : Growing). x.name) c.in-Ok.ensures.known)
           c.in-Ok.ensures.clean (search rules) done;
     }
