@@ -130,40 +130,50 @@ none-map : {X Y : Type 0} (f : X → Y) (o : Option X) → is_some (option_map f
 none-map f None h = refl
 none-map f (Some x) h = cc
 
+-- one more chunk of another id changes nothing of this one
+apart : (i k : List ℕ) (seen : List reading.Entry) (e : reading.Entry) → e.id ≡ k → reading.is_id k i ≡ false →
+    reading.entry_of i (seen ++ e ∷ []) ≡ reading.entry_of i seen
+apart i k seen e n f = other_push i seen e (ap (λ (z : List ℕ). reading.is_id z i) n ∙ f)
+
+-- the first chunk of an id is the one of that id
+joins : (i : List ℕ) (seen : List reading.Entry) (e : reading.Entry) → e.id ≡ i → reading.is_id i i ≡ true →
+    reading.entry_of i seen ≡ None → reading.entry_of i (seen ++ e ∷ []) ≡ Some e
+joins i seen e n t none = own_push i seen e (ap (λ (z : List ℕ). reading.is_id z i) n ∙ t) none
+
 -- what the chunks tell with one more
 pub facts_push : (b : List ℕ) (seen : List reading.Entry) (e : reading.Entry) (s : ChunkKind) → Named s e.id →
     has_kind s (facts_in b seen) ≡ false → facts_in b (seen ++ e ∷ []) ≡ learned b s e (facts_in b seen)
 facts_push b seen e Fmt n h =
+    let other = λ (i : List ℕ) (f : reading.is_id (codes "fmt ") i ≡ false). apart i (codes "fmt ") seen e n f in
     rw (
-      own_push (codes "fmt ") seen e (ap (λ (i : List ℕ). reading.is_id i (codes "fmt ")) n)
-          (none-map (fmt_told b) _ h),
-      other_push (codes "bext") seen e (ap (λ (i : List ℕ). reading.is_id i (codes "bext")) n),
-      other_push (codes "data") seen e (ap (λ (i : List ℕ). reading.is_id i (codes "data")) n),
-      other_push (codes "cue ") seen e (ap (λ (i : List ℕ). reading.is_id i (codes "cue ")) n),
+      joins (codes "fmt ") seen e n refl (none-map (fmt_told b) _ h),
+      other (codes "bext") refl,
+      other (codes "data") refl,
+      other (codes "cue ") refl,
     ) refl
 facts_push b seen e Bext n h =
+    let other = λ (i : List ℕ) (f : reading.is_id (codes "bext") i ≡ false). apart i (codes "bext") seen e n f in
     rw (
-      own_push (codes "bext") seen e (ap (λ (i : List ℕ). reading.is_id i (codes "bext")) n)
-          (none-map (bext_told b) _ h),
-      other_push (codes "fmt ") seen e (ap (λ (i : List ℕ). reading.is_id i (codes "fmt ")) n),
-      other_push (codes "data") seen e (ap (λ (i : List ℕ). reading.is_id i (codes "data")) n),
-      other_push (codes "cue ") seen e (ap (λ (i : List ℕ). reading.is_id i (codes "cue ")) n),
+      joins (codes "bext") seen e n refl (none-map (bext_told b) _ h),
+      other (codes "fmt ") refl,
+      other (codes "data") refl,
+      other (codes "cue ") refl,
     ) refl
 facts_push b seen e Data n h =
+    let other = λ (i : List ℕ) (f : reading.is_id (codes "data") i ≡ false). apart i (codes "data") seen e n f in
     rw (
-      own_push (codes "data") seen e (ap (λ (i : List ℕ). reading.is_id i (codes "data")) n)
-          (none-map samples_told _ h),
-      other_push (codes "fmt ") seen e (ap (λ (i : List ℕ). reading.is_id i (codes "fmt ")) n),
-      other_push (codes "bext") seen e (ap (λ (i : List ℕ). reading.is_id i (codes "bext")) n),
-      other_push (codes "cue ") seen e (ap (λ (i : List ℕ). reading.is_id i (codes "cue ")) n),
+      joins (codes "data") seen e n refl (none-map samples_told _ h),
+      other (codes "fmt ") refl,
+      other (codes "bext") refl,
+      other (codes "cue ") refl,
     ) refl
 facts_push b seen e Cue n h =
+    let other = λ (i : List ℕ) (f : reading.is_id (codes "cue ") i ≡ false). apart i (codes "cue ") seen e n f in
     rw (
-      own_push (codes "cue ") seen e (ap (λ (i : List ℕ). reading.is_id i (codes "cue ")) n)
-          (none-map (cues_told b) _ h),
-      other_push (codes "fmt ") seen e (ap (λ (i : List ℕ). reading.is_id i (codes "fmt ")) n),
-      other_push (codes "bext") seen e (ap (λ (i : List ℕ). reading.is_id i (codes "bext")) n),
-      other_push (codes "data") seen e (ap (λ (i : List ℕ). reading.is_id i (codes "data")) n),
+      joins (codes "cue ") seen e n refl (none-map (cues_told b) _ h),
+      other (codes "fmt ") refl,
+      other (codes "bext") refl,
+      other (codes "data") refl,
     ) refl
 facts_push b seen e Other n h =
     rw (
