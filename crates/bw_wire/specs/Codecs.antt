@@ -22,6 +22,7 @@ pub record Codec (X : Type 0) : Type 0 where
   -- bytes that aren't a whole frame are at most so many
   pub most_left : ℕ
 
+-- the frame that ends an exchange
 abbrev pub is_bye : Frame → Bool
 is_bye (Says m) = false
 is_bye (Asks name number) = false

@@ -40,6 +40,7 @@ piece_in Reading p piece = record p {
 piece_in Left p piece = record p { fed = p.fed + length piece }
 piece_in (Failed reason) p piece = record p { fed = p.fed + length piece }
 
+-- with a piece more
 abbrev pub with_piece : Pending → List ℕ → Pending
 with_piece p piece = piece_in p.phase p piece
 
@@ -80,6 +81,7 @@ abbrev pub told_again : {X : Type 0} → Option X → Told X
 told_again None = Nothing
 told_again (Some x) = Gives x
 
+-- .. in a phase
 abbrev pub next_in : {X : Type 0} → Codec X → Phase → Pending → Told X × Pending
 next_in codec Reading p = next_read codec p (codec.first p.bytes)
 next_in codec Left p = (told_again codec.last, p)

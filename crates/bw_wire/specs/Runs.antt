@@ -35,10 +35,12 @@ given_by codec (Fails reason offset) = []
 abbrev pub with_answer : {X : Type 0} → Codec X → List X → Told X × Pending → Run X
 with_answer codec given x = record { given = given ++ given_by codec x.0; state = x.1 }
 
+-- behind one more call
 abbrev pub with_call : {X : Type 0} → Codec X → Run X → Call → Run X
 with_call codec r (Feeds piece) = record { given = r.given; state = with_piece r.state piece }
 with_call codec r Takes = with_answer codec r.given (next_of codec r.state)
 
+-- behind these calls
 abbrev pub with_calls : {X : Type 0} → Codec X → Run X → List Call → Run X
 with_calls codec r [] = r
 with_calls codec r (call ∷ calls) = with_calls codec (with_call codec r call) calls
@@ -65,6 +67,7 @@ pub record Follows (X : Type 0) (codec : Codec X) (bytes : List ℕ) (r : Run X)
   -- that the input is cut is never told before its end
   pub not_cut : (offset : ℕ) → (next_of codec r.state).0 ≢ Fails Cut offset
 
+-- so it is with each run over bytes
 abbrev pub RunsFollow : {X : Type 0} → Codec X → Type 0
 RunsFollow {X} codec = (calls : List Call) → IsTrue (are_bytes (fed_in calls)) →
     Follows X codec (fed_in calls) (framer_run codec calls)
@@ -89,9 +92,11 @@ pub record FollowsStream (bytes : List ℕ) (r : Run Frame) : Type 0 where
   -- that the input is cut is never told before its end
   pub not_cut : (offset : ℕ) → (next_of message_codec r.state).0 ≢ Fails Cut offset
 
+-- so it is with each run of a framer of messages
 abbrev pub RunsFollowStreams : Type 0
 RunsFollowStreams = (calls : List Call) → IsTrue (are_bytes (fed_in calls)) →
     FollowsStream (fed_in calls) (framer_run message_codec calls)
 
+-- and so with each run of a framer of replies
 abbrev pub ReplyRunsFollowReplies : Type 0
 ReplyRunsFollowReplies = RunsFollow reply_codec
