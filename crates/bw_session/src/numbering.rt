@@ -1,5 +1,7 @@
 //! Doing the next number of a name: in the file, then in the journal, then in what is kept.
-ghost use Rattle.std.specs.Prelude.{◌≡◌, ◌≢◌, ◌+◌, ◌≤◌, ◌||◌, ◌++◌, [], ◌∷◌, ℕ, List, Option, vec_capacity, length, IsTrue, IsOk, IfOk, OnOk, OnErr, is_err, is_some, false};
+ghost use Rattle.std.specs.Prelude.{◌≡◌, ◌≢◌, ◌+◌, ◌≤◌, ◌||◌, ◌++◌, [], ◌∷◌, ℕ, List, Option};
+ghost use Rattle.std.specs.Prelude.{vec_capacity, length, IsTrue, IfOk, OnOk, OnErr, is_err};
+ghost use Rattle.std.specs.Prelude.{is_some, false};
 ghost use Rattle.bw_model.specs.Wire.{is_request, Second, last_number};
 ghost use Rattle.bw_model.specs.Book.{Log};
 ghost use Rattle.bw_take.specs.Requests.{meaning};
@@ -9,7 +11,8 @@ ghost use Rattle.bw_journal.specs.Notes.{BeginsNotes, BeginsInPart, Notes, Notes
 ghost use Rattle.bw_session.specs.Carrying.{Touches};
 ghost use Rattle.bw_session.specs.Fronts.{HoldsFront};
 ghost use Rattle.bw_session.specs.Noting.{IsNoted, OnlyBegins, log_behind};
-ghost use Rattle.bw_session.specs.Numbered.{KeepsJournal, KeepsBoth, IsMeasured, IsNext, DoesNext, is_written as was_written, noted_of};
+ghost use Rattle.bw_session.specs.Numbered.{KeepsJournal, KeepsBoth, IsMeasured, IsNext, DoesNext};
+ghost use Rattle.bw_session.specs.Numbered.{is_written as was_written, noted_of};
 
 use crate::carrying::carry_out;
 use crate::ledger::Ledger;
