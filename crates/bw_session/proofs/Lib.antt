@@ -8,3 +8,4 @@ pub mod FrontForms
 pub mod NumberForms
 pub mod NoteForms
 pub mod DrainForms
+pub mod NewForms

@@ -6,6 +6,7 @@ mod carrying;
 mod draining;
 mod ledger;
 mod numbering;
+mod session;
 mod settling;
 mod window;
 mod writing;

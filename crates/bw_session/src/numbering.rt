@@ -1,6 +1,6 @@
 //! Doing the next number of a name: in the file, then in the journal, then in what is kept.
 ghost use Rattle.std.specs.Prelude.{◌≡◌, ◌≢◌, ◌+◌, ◌≤◌, ◌||◌, ◌++◌, [], ◌∷◌, ℕ, List, Option};
-ghost use Rattle.std.specs.Prelude.{vec_capacity, length, IsTrue, IsOk, IfOk, OnOk, OnErr, is_err};
+ghost use Rattle.std.specs.Prelude.{vec_capacity, length, IsTrue, IfOk, OnOk, OnErr, is_err};
 ghost use Rattle.std.specs.Prelude.{is_some, false};
 ghost use Rattle.bw_model.specs.Wire.{is_request, Second, last_number};
 ghost use Rattle.bw_model.specs.Book.{Log};

@@ -1,0 +1,54 @@
+//! What a server keeps of a name.
+ghost use Rattle.std.specs.Prelude.{◌≡◌, ℕ, List, Option, IfOk, length, false};
+ghost use Rattle.bw_model.specs.Book.{no_log};
+ghost use Rattle.bw_journal.specs.JournalHeaders.{Header, header_bytes, header_len};
+ghost use Rattle.bw_journal.specs.Notes.{IsFrontOf};
+ghost use Rattle.bw_session.specs.Noting.{IsNoted};
+ghost use Rattle.bw_session.specs.Draining.{Fits, HoldsPart};
+
+use crate::ledger::Ledger;
+use crate::numbering::Progress;
+use crate::window::Window;
+use bw_file::GrowingFile;
+use bw_journal::JournalHeader;
+use bw_layout::Limit;
+use bw_take::{Name, TakeState};
+use std::alloc::{AllocError, Global};
+
+/// What a server keeps of a name: of its done numbers, and of the messages that wait.
+#[derive(Drop)]
+pub(crate) struct Session {
+    pub(crate) progress: Progress,
+    pub(crate) window: Window,
+    ghost fits: { Fits progress.growing progress.state.parts (length progress.ledger.outcomes)
+        progress.state.room progress.ledger.room window },
+}
+
+impl Session {
+    /// A name of which nothing came yet.
+    ///
+    /// # Errors
+    /// `AllocError` where memory was refused.
+    pub(crate) fn new(alloc: Global, name: Name, limit: Limit) -> Result<Session, AllocError>
+        ensures name { IfOk result (λ s. s.progress.name ≡ name) }
+        ensures growing { IfOk result (λ s. s.progress.growing ≡
+            record { name = name; limit = limit; made = false; dirty = false }) }
+        ensures holds { IfOk result (λ s. (first : Option (List ℕ)) →
+            HoldsPart first no_log s.progress.state.parts s.progress.ledger.outcomes s.window
+            s.progress.growing first) }
+        ensures noted { IfOk result (λ s. (h : Header) (found : Option (List ℕ)) →
+            IsFrontOf (header_bytes h) found → IsNoted h name no_log s.progress.noted found) }
+    {
+        let progress = Progress {
+            growing: GrowingFile::new(alloc, name.copy(), limit)?,
+            name,
+            state: TakeState::new(alloc),
+            ledger: Ledger::new(alloc),
+            noted: JournalHeader::LEN as u64,
+        };
+        Ok(Session {
+            progress,
+            window: Window::new(alloc)?,
+        })
+    }
+}
