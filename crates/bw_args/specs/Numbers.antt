@@ -18,5 +18,6 @@ IsLimit n = (n % 2 ≡ 0) × (8192 ≤ n) × (n ≤ 4294967294)
 abbrev pub default_limit : ℕ
 default_limit = 4294967294
 
+-- a text of a number that is a limit
 abbrev pub IsLimitText : List ℕ → Type 0
 IsLimitText text = IsNumber text × IsLimit (number_in text)

@@ -10,6 +10,7 @@ use Rattle.bw_cli.specs.Recording.{book_with, take_with, HasRequests}
 use Rattle.bw_model.specs.Exchange.{nothing_stands}
 use Rattle.bw_cli.specs.declared.recording.Recording.{Recording}
 
+-- how far a recording has come
 abbrev pub progress_of : Recording → Progress
 progress_of r = record { name = r.name; next = r.next }
 

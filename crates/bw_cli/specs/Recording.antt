@@ -5,9 +5,11 @@ use Rattle.bw_model.specs.Take.{Take, Request, Block, new_take, after}
 use Rattle.bw_model.specs.Book.{Log, Book}
 use Rattle.bw_cli.specs.InOrder.{Progress}
 
+-- the log of these requests, all of them done
 abbrev pub log_with : List Request → Log
 log_with rs = record { admitted = map (λ r. Some r) rs; done = length rs }
 
+-- the book of one name, or of none
 abbrev pub book_with : Option (List ℕ) → List Request → Book
 book_with None rs = []
 book_with (Some name) rs = (name, log_with rs) ∷ []

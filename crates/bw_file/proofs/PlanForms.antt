@@ -1,7 +1,7 @@
 -- What is asked of a store, by the cases of a call.
 use Rattle.std.proofs.Common.{◌≡◌, ℕ, ◌+◌, ◌*◌, ◌%◌, ◌<◌, ◌≤◌, Bool, true, false, not, cond, List, [], ◌∷◌, ◌++◌}
-use Rattle.std.proofs.Common.{length, Result, Ok, Err, refl, ◌∙◌, ap, arith}
-use Rattle.std.specs.Prelude.{nat_le, OnErr}
+use Rattle.std.proofs.Common.{length, refl, ◌∙◌, ap, arith}
+use Rattle.std.specs.Prelude.{nat_le}
 use Rattle.std.proofs.lemmas.Bool.{eq-eqb, ne_eqb}
 use Rattle.bw_model.specs.Take.{Parts}
 use Rattle.bw_file.specs.Calls.{WriteAt, Finish}
@@ -10,11 +10,6 @@ use Rattle.bw_file.specs.Plans.{close_plan}
 use Rattle.bw_file.specs.Growing.{Growing}
 use Rattle.bw_layout.specs.declared.heading.Heading.{Heading}
 use Rattle.bw_layout.specs.Headings.{place_of, fits_riff}
-
--- what holds anyway holds on a fault
-pub on_err : {T E : Type 0} (r : Result T E) (P : Type 0) → P → OnErr r P
-on_err (Ok x) P h = tt
-on_err (Err e) P h = h
 
 pub padded : (name : List ℕ) (place n : ℕ) → (place + n) % 2 ≡ 1 →
     samples_plan name place n ≡ (WriteAt name place n ∷ []) ++ (WriteAt name (place + n) 1 ∷ [])

@@ -9,6 +9,7 @@ use Rattle.bw_model.specs.Holds.{IsBetween}
 use Rattle.bw_file.specs.declared.store.Created.{Created}
 use Rattle.bw_file.specs.declared.store.Created.TheVariants.{New, Exists}
 
+-- what is known of the file of a take that grows
 pub record Growing : Type 0 where
   pub name : List ℕ
   -- the largest form size of a RIFF file
@@ -55,6 +56,7 @@ BeginsFile answer g made t r before after =
     (λ _. after ≡ file_of (with_request t r) g.limit)
     (λ _. IsBegun g t r after)
 
+-- whether a file was made
 abbrev pub is_new : Created → Bool
 is_new New = true
 is_new Exists = false

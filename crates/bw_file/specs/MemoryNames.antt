@@ -7,6 +7,7 @@ use Rattle.std.specs.List.Sorted.{IsStrictlySortedBy}
 use Rattle.std.specs.BTreeMap.{keys}
 use Rattle.bw_file.specs.declared.memory.MemoryStore.{MemoryStore}
 
+-- the names of the files, in their order
 abbrev pub names_of : MemoryStore → List (List ℕ)
 names_of s = keys s.files
 

@@ -7,11 +7,6 @@ use Rattle.std.proofs.lemmas.Grind.{flat_map-append}
 use Rattle.std.proofs.Math.Seq.{drop-cons}
 use Rattle.bw_layout.specs.Moves.{Writes, Begins}
 
--- what holds however a call ended, holds where it failed
-pub on_err : {T E P : Type 0} (r : Result T E) → P → OnErr r P
-on_err (Ok x) p = tt
-on_err (Err e) p = p
-
 -- a part behind another one
 pub writes_behind : {old mid new : Option (List ℕ)} (a b : List ℕ) → Writes old a mid → Writes mid b new →
     Writes old (a ++ b) new

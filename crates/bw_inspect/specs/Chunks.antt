@@ -45,6 +45,7 @@ size_by rows id = option_map (λ row. row.1) (find (λ row. reading.is_id row.0 
 abbrev pub sizes_by : Ds64 → reading.Sizes
 sizes_by z = record { form = z.form; «data» = z.data_size; table = z.table }
 
+-- the sizes that a `ds64` told, if there was one
 abbrev pub sizes_of : Option Ds64 → Option reading.Sizes
 sizes_of = option_map sizes_by
 

@@ -44,12 +44,15 @@ nothing = record { fmt = None; samples = None; bext = None; cues = None }
 abbrev pub fmt_told : List ℕ → reading.Entry → report.RawFmt
 fmt_told b e = report.raw_fmt (report.content_of b (Some e))
 
+-- where the samples begin, and a data chunk's size
 abbrev pub samples_told : reading.Entry → ℕ × ℕ
 samples_told e = (e.place + 8, e.size)
 
+-- what `bext` tells, and how long its coding history is
 abbrev pub bext_told : List ℕ → reading.Entry → (report.RawBext × List ℕ) × ℕ
 bext_told b e = (bext_at (report.content_of b (Some e)), e.size - 602)
 
+-- the cue points that `cue ` tells
 abbrev pub cues_told : List ℕ → reading.Entry → List report.RawCue
 cues_told b e = report.raw_cues (report.content_of b (Some e)) 4
     (u32_at (report.content_of b (Some e)) 0)

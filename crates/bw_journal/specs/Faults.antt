@@ -24,6 +24,7 @@ abbrev pub code_by : Option JournalFault → ℕ
 code_by None = memory_code
 code_by (Some f) = fault_code f
 
+-- the number of a fault of a replay
 abbrev pub replay_code : ReplayFault → ℕ
 replay_code e = code_by (fault_meaning e)
 

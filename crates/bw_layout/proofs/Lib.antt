@@ -1,6 +1,7 @@
 pub mod AroundBext
 pub mod BextParts
 pub mod CueChunkBytes
+pub mod Exits
 pub mod FieldPlaces
 pub mod FieldRanges
 pub mod FieldsBack

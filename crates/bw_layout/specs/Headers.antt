@@ -34,6 +34,7 @@ riff_middle f fields history =
 unfoldable pub bw64_front : List ℕ
 bw64_front = head (codes "BW64") unsaid ++ codes "WAVE" ++ head (codes "ds64") 28
 
+-- a BW64 header behind its `ds64`'s two sizes
 unfoldable pub bw64_rear : Format → List (List ℕ) → List ℕ → List ℕ
 bw64_rear f fields history =
     le64 0 ++ le32 0 ++ middle f fields history ++ head (codes "data") unsaid
@@ -46,6 +47,7 @@ pub record RiffSizesStand (f : Format) (fields : List (List ℕ)) (history : Lis
       ++ riff_middle f fields history ++ le32 data_len
   pub middle_length : length (riff_middle f fields history) ≡ 678 + even_up (length history)
 
+-- a RIFF header has the form size and the data size at their places
 abbrev pub EachRiffHasItsSizes : Type 0
 EachRiffHasItsSizes =
     (f : Format) (fields : List (List ℕ)) (history : List ℕ) (data_len cues limit : ℕ) →
@@ -60,6 +62,7 @@ pub record Bw64SizesStand (f : Format) (fields : List (List ℕ)) (history : Lis
       ++ bw64_rear f fields history
   pub front_length : length bw64_front ≡ 20
 
+-- a BW64 header has both sizes in `ds64`
 abbrev pub EachBw64HasItsSizes : Type 0
 EachBw64HasItsSizes =
     (f : Format) (fields : List (List ℕ)) (history : List ℕ) (data_len cues limit : ℕ) →

@@ -11,14 +11,17 @@ use Rattle.bw_layout.specs.Heads.{head_at}
 use Rattle.bw_layout.specs.Raw.{raw_cue, bext_at}
 use Rattle.bw_layout.specs.Tables.{entry_bytes, ds64_with_table, entry_at, fixed_at}
 
+-- a chunk's head is read as it was put
 abbrev pub HeadsReadBack : Type 0
 HeadsReadBack = (id rest : List ℕ) (size : ℕ) → length id ≡ 4 → size < 2 ^ 32 →
     head_at (head id size ++ rest) ≡ record { id = id; size32 = size }
 
+-- so is the content of `fmt `
 abbrev pub FormatsReadBack : Type 0
 FormatsReadBack = (f : Format) (rest : List ℕ) → IsTrue (is_format f) →
     raw_fmt (fmt_content f ++ rest) ≡ told_fmt f
 
+-- so is the content of `bext`, with its reserved bytes
 abbrev pub FieldsReadBack : Type 0
 FieldsReadBack = (fields : List (List ℕ)) (rest : List ℕ) → AreFields fields →
     bext_at (bext_fixed fields ++ rest) ≡ (told_bext fields, zeros 180)
@@ -28,6 +31,7 @@ pub record IsEntry (e : List ℕ × ℕ) : Type 0 where
   pub id : length e.0 ≡ 4
   pub size : e.1 < 2 ^ 64
 
+-- so is a row of the table of `ds64`
 abbrev pub EntriesReadBack : Type 0
 EntriesReadBack = (e : List ℕ × ℕ) (rest : List ℕ) → IsEntry e →
     entry_at (entry_bytes e ++ rest) ≡ e
@@ -39,6 +43,7 @@ pub record Ds64ReadsBack (form data_size : ℕ) (table : List (List ℕ × ℕ))
       ≡ record { form = form; data_size = data_size; table_len = length table }
   pub entries : table_at (ds64_with_table form data_size table ++ rest) 28 (length table) ≡ table
 
+-- so is each `ds64` chunk whose sizes have eight bytes
 abbrev pub EachDs64ReadsBack : Type 0
 EachDs64ReadsBack =
     (form data_size : ℕ) (table : List (List ℕ × ℕ)) (rest : List ℕ) → form < 2 ^ 64 →
@@ -50,6 +55,7 @@ pub record IsMarker (m : ℕ × ℕ) : Type 0 where
   pub id : m.0 < 2 ^ 32
   pub frame : m.1 < 2 ^ 32
 
+-- so is a cue point
 abbrev pub CuePointsReadBack : Type 0
 CuePointsReadBack = (m : ℕ × ℕ) (rest : List ℕ) → IsMarker m →
     raw_cue (cue_point m ++ rest) ≡ told_cue m
@@ -59,6 +65,7 @@ pub record CuesReadBack (markers : List (ℕ × ℕ)) (rest : List ℕ) : Type 0
   pub count : u32_at (cue_content markers ++ rest) 0 ≡ length markers
   pub points : raw_cues (cue_content markers ++ rest) 4 (length markers) ≡ map told_cue markers
 
+-- so is each `cue ` chunk
 abbrev pub EachCueChunkReadsBack : Type 0
 EachCueChunkReadsBack =
     (markers : List (ℕ × ℕ)) (rest : List ℕ) → length markers < 2 ^ 32 → All IsMarker markers →

@@ -21,5 +21,6 @@ pub record Fixed : Type 0 where
   pub data_size : ℕ
   pub table_len : ℕ
 
+-- the fixed part at the front of the bytes
 abbrev pub fixed_at : List ℕ → Fixed
 fixed_at b = record { form = u64_at b 0; data_size = u64_at b 8; table_len = u32_at b 24 }

@@ -14,7 +14,7 @@ use Rattle.bw_model.specs.Reading.{Entry, Form, is_id, largest}
 use Rattle.bw_model.specs.ReadBack.{read_cues}
 use Rattle.bw_model.proofs.BookLemmas.{name_refl}
 use Rattle.bw_model.proofs.Widths.{length-bext_fixed, length-cue_content}
-use Rattle.bw_model.proofs.Pieces.{Piece, piece_bytes, IsPiece, SaysSize, ArePieces, entries_from}
+use Rattle.bw_model.proofs.StandingChunks.{Piece, piece_bytes, IsPiece, SaysSize, ArePieces, entries_from}
 
 -- a chunk that says its own size
 abbrev pub own : Chunk → Piece

@@ -15,7 +15,7 @@ use Rattle.bw_model.specs.ReadBack.{IsWithinLimits, FilesReadBack, read_form, re
 use Rattle.bw_model.specs.ReadBack.{told_bext, told_cue, told_report, is_marker}
 use Rattle.bw_model.proofs.FileLaws.{file_len}
 use Rattle.bw_model.proofs.Widths.{length-cue_content}
-use Rattle.bw_model.proofs.Pieces.{StandsAt, AllStand, content-whole}
+use Rattle.bw_model.proofs.StandingChunks.{StandsAt, AllStand, content-whole}
 use Rattle.bw_model.proofs.FilePieces.{own, pieces, listed, length-bext_content}
 use Rattle.bw_model.proofs.OwnForms.{IsOwnForm, bytes_of, own_stand, narrow, broad, narrow_bytes, broad_bytes}
 use Rattle.bw_model.proofs.OwnForms.{narrow-own, broad-own}

@@ -12,7 +12,7 @@ use Rattle.bw_model.specs.Front.{count_of}
 use Rattle.bw_model.specs.RowWords.{riff, hex}
 use Rattle.bw_model.specs.RowsOfReadings.{empty_chunks, chunks_form, ManyChunksRow, TooManyChunksRow}
 use Rattle.bw_model.proofs.FrontLaws.{fronts, none-count, count-cons}
-use Rattle.bw_model.proofs.Pieces.{Piece, piece_bytes, entries_from, ArePieces, all-stand, pieces-stand}
+use Rattle.bw_model.proofs.StandingChunks.{Piece, piece_bytes, entries_from, ArePieces, all-stand, pieces-stand}
 use Rattle.bw_model.proofs.FilePieces.{other_id}
 use Rattle.bw_model.proofs.FileReads.{single_cases}
 use Rattle.bw_model.proofs.FileForms.{riff-outer}

@@ -10,7 +10,7 @@ use Rattle.bw_model.specs.File.{cues}
 use Rattle.bw_model.specs.Reading.{Form, outer, is_id, largest}
 use Rattle.bw_model.specs.ReadBack.{IsWithinLimits}
 use Rattle.bw_model.proofs.HeaderLaws.{form_len-form_size}
-use Rattle.bw_model.proofs.Pieces.{IsPiece, ArePieces, SaysSize, AllStand, all-stand}
+use Rattle.bw_model.proofs.StandingChunks.{IsPiece, ArePieces, SaysSize, AllStand, all-stand}
 use Rattle.bw_model.proofs.FilePieces.{own, pieces, form-pieces, are_pieces, other_id}
 use Rattle.bw_model.proofs.FileForms.{riff-outer, wide-outer}
 

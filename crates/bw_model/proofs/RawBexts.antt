@@ -12,7 +12,7 @@ use Rattle.bw_model.specs.Layout.{bext_fixed, is_version_1}
 use Rattle.bw_model.specs.Report.{RawBext, raw_bext}
 use Rattle.bw_model.specs.ReadBack.{told_bext}
 use Rattle.bw_model.proofs.Widths.{length-concat}
-use Rattle.bw_model.proofs.Pieces.{range-whole}
+use Rattle.bw_model.proofs.StandingChunks.{range-whole}
 
 -- a part of joined lists, behind the parts before it
 part : (before : List (List ℕ)) (x : List ℕ) (behind : List (List ℕ)) (p n : ℕ) → sum (map length before) ≡ p →

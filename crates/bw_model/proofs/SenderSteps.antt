@@ -1,5 +1,6 @@
 -- Offers, sendings and replies keep the world faithful.
 use Rattle.std.proofs.Common.{◌≡◌, ◌≢◌, ℕ, suc, zero, ◌+◌, ◌<◌, ◌≤◌, Bool, true, false, cond, ◌&&◌, List, [], ◌∷◌, ◌++◌}
+use Rattle.std.proofs.lemmas.Bool.{cases_lt}
 use Rattle.std.proofs.Common.{length, Option, Some, None, refl, sym, ◌∙◌, ap, subst, arith, ◌⊎◌, inl, inr}
 use Rattle.std.proofs.Common.{length-append}
 use Rattle.std.specs.Prelude.{slice_get, nat_le, nat_lt, is_none}
@@ -17,7 +18,7 @@ use Rattle.bw_model.specs.Turn.{window}
 use Rattle.bw_model.specs.World.{World, settled, send, hear, is_counted, pending, pending_from, offer, offer_fault}
 use Rattle.bw_model.specs.World.{OfferFault, NumbersSpent, BeforeOpen, AfterClose, WindowFull}
 use Rattle.bw_model.proofs.BookLemmas.{same_name}
-use Rattle.bw_model.proofs.MapLemmas.{at-put_same, at-put_other, at-first_free, first_free-put, below_or_not}
+use Rattle.bw_model.proofs.MapLemmas.{at-put_same, at-put_other, at-first_free, first_free-put}
 use Rattle.bw_model.proofs.Elements.{some_inj, Each, each-append, each-map, get-push, get-below}
 use Rattle.bw_model.proofs.TrueReplies.{IsSound, IsTrueReply}
 
@@ -39,7 +40,7 @@ pub record IsKept (stood : List ℕ → Bool) (w : World) : Type 0 where
 
 pub settled_done : (vs : List (Option Verdict)) (done : ℕ) → ((n : ℕ) (v : Verdict) → at vs n ≡ Some v → n < done) →
     first_free vs ≤ done
-settled_done vs done h = go (below_or_not done (first_free vs))
+settled_done vs done h = go (cases_lt done (first_free vs))
   where
     go : (done < first_free vs) ⊎ (first_free vs ≤ done) → first_free vs ≤ done
     go (inl p) = let x = at-first_free vs done p in let bad : done < done = h done x.0 x.1 in absurd (omega arith)

@@ -82,18 +82,23 @@ abbrev pub verdicts : List Verdict
 verdicts = Stored ∷ NameTaken ∷ AlreadyOpen ∷ NotOpen ∷ Closed ∷ BadFormat ∷ BadBlock ∷ BadMarker
     ∷ DuplicateMarker ∷ TooManyMarkers ∷ BadField ∷ WrongTotal ∷ []
 
+-- all notices
 abbrev pub notices : List Notice
 notices = Held ∷ TooFar ∷ Conflict ∷ TableFull ∷ NoRoom ∷ DelayedStore ∷ Next ∷ []
 
+-- all reasons
 abbrev pub reasons : List Reason
 reasons = Length ∷ Kind ∷ Name ∷ Number ∷ Payload ∷ Cut ∷ []
 
+-- the verdict with this code, if one has it
 abbrev pub verdict_of : ℕ → Option Verdict
 verdict_of code = find (λ v. verdict_code v == code) verdicts
 
+-- the notice with this code, if one has it
 abbrev pub notice_of : ℕ → Option Notice
 notice_of code = find (λ n. notice_code n == code) notices
 
+-- the reason with this code, if one has it
 abbrev pub reason_of : ℕ → Option Reason
 reason_of code = find (λ r. reason_code r == code) reasons
 

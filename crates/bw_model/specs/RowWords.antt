@@ -32,6 +32,7 @@ hex s = from_hex (codes s)
 abbrev pub mono : Format
 mono = record { rate = 48000; channels = 1; bits = 16 }
 
+-- one channel of 24 bits
 abbrev pub mono_24 : Format
 mono_24 = record { rate = 48000; channels = 1; bits = 24 }
 
@@ -47,6 +48,7 @@ take_of rs = fold after (new_take false) rs
 abbrev pub two_frames : List ℕ
 two_frames = hex "01000200"
 
+-- two frames, of which the second is another
 abbrev pub other_frames : List ℕ
 other_frames = hex "01000300"
 
@@ -91,12 +93,15 @@ a1 = codes "a1"
 abbrev pub open_0 : List ℕ
 open_0 = hex "12000000010261310000000080bb0000010010000000"
 
+-- the frame of a BLOCK of two frames, number 1
 abbrev pub block_1 : List ℕ
 block_1 = hex "0c000000020261310100000001000200"
 
+-- .. with other samples
 abbrev pub other_1 : List ℕ
 other_1 = hex "0c000000020261310100000001000300"
 
+-- the frame of CLOSE of two frames, number 2
 abbrev pub close_2 : List ℕ
 close_2 = hex "1000000005026131020000000200000000000000"
 

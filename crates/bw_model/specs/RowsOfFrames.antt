@@ -81,6 +81,7 @@ LongestBlockRow = take 6 (framed (body (says 1 (Block (replicate 32768 7))))) â‰
 abbrev pub longest : Frame
 longest = Says (record { name = replicate 32 97; number = 1; request = Block (replicate 32768 7) })
 
+-- the longest body takes 32,806 bytes: a BLOCK of the most samples, under the longest name
 abbrev pub LongestFrameRow : Type 0
 LongestFrameRow = take 6 (framed (body longest)) â‰¡ hex "268000000220"
 

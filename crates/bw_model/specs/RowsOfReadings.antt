@@ -190,6 +190,7 @@ empty_chunks (suc n) = hex "6162636400000000" ++ empty_chunks n
 abbrev pub chunks_form : List ℕ → ℕ → List ℕ
 chunks_form form_size n = codes "RIFF" ++ form_size ++ (codes "WAVE" ++ empty_chunks n)
 
+-- the bytes have a fault of this kind at this place
 abbrev pub HasFault : List ℕ → FaultKind → ℕ → Type 0
 HasFault b kind offset = IsFault b (record { kind = kind; offset = offset })
 

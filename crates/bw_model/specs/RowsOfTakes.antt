@@ -29,6 +29,7 @@ FormatsRow =
 abbrev pub with_byte : ℕ → Verdict
 with_byte c = verdict (take_of []) (Open mono (65 ∷ c ∷ []))
 
+-- a history takes ends of lines and what can be printed in ASCII, and nothing else
 abbrev pub HistoryBytesRow : Type 0
 HistoryBytesRow =
     map with_byte (13 ∷ 10 ∷ 32 ∷ 126 ∷ []) ++ map with_byte (31 ∷ 127 ∷ 9 ∷ 0 ∷ [])

@@ -17,12 +17,15 @@ use Rattle.bw_model.specs.RowWords.{file_in, Turns}
 abbrev pub says_open : Frame
 says_open = says 0 (Open mono [])
 
+-- BLOCK of two frames, number 1
 abbrev pub says_block : Frame
 says_block = says 1 (Block two_frames)
 
+-- .. with other samples
 abbrev pub says_other : Frame
 says_other = says 1 (Block other_frames)
 
+-- CLOSE of two frames, number 2
 abbrev pub says_close : Frame
 says_close = says 2 (Close 2)
 

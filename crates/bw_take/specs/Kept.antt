@@ -5,6 +5,7 @@ use Rattle.bw_model.specs.Take.{Parts}
 use Rattle.bw_take.specs.declared.state.TakeState.TheInside.{Inside}
 use Rattle.bw_take.specs.States.{State, IsSound}
 
+-- a take without its data, as the code has it
 abbrev pub parts_of : Inside → Parts
 parts_of s = record {
   format = s.format;
@@ -16,6 +17,7 @@ parts_of s = record {
   closed = s.closed;
 }
 
+-- .. with the room that is left
 abbrev pub state_of : Inside → State
 state_of s = record { parts = parts_of s; room = s.room }
 

@@ -5,6 +5,7 @@ use Rattle.bw_take.specs.declared.request.Owned.TheVariants.{OpenTake, Block as 
 use Rattle.bw_take.specs.declared.request.Owned.TheVariants.{Mark as OwnedMark}
 use Rattle.bw_take.specs.declared.request.Owned.TheVariants.{SetField as OwnedSetField, CloseTake}
 
+-- what a request that owns its bytes says
 abbrev pub owned_meaning : Owned → Request
 owned_meaning (OpenTake rate channels bits history) =
     Open (record { rate = rate; channels = channels; bits = bits }) history.items

@@ -7,6 +7,7 @@ use Rattle.bw_take.specs.declared.request.RequestRef.TheVariants.{Mark as MarkRe
 use Rattle.bw_take.specs.declared.request.RequestRef.TheVariants.{SetField as SetFieldRef}
 use Rattle.bw_take.specs.declared.request.RequestRef.TheVariants.{CloseTake}
 
+-- what a request says
 abbrev pub meaning : RequestRef → Request
 meaning (OpenTake rate channels bits history) =
     Open (record { rate = rate; channels = channels; bits = bits }) history.now

@@ -5,6 +5,7 @@ use Rattle.bw_model.specs.Limits.{longest_history, most_markers, largest}
 use Rattle.bw_model.specs.Take.{Take, Parts, Request, Open, Block, Mark, SetField, Close, new_take}
 use Rattle.bw_model.specs.Take.{parts, after, is_format, with_field, AreFields}
 
+-- a take without its data, and the room for more requests
 pub record State : Type 0 where
   -- the take, but for its data
   pub parts : Parts

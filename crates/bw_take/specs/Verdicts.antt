@@ -9,6 +9,7 @@ use Rattle.bw_take.specs.declared.verdict.Verdict.TheVariants.{BadMarker, Duplic
 use Rattle.bw_take.specs.declared.verdict.Verdict.TheVariants.{TooManyMarkers, BadField, WrongTotal}
 use Rattle.bw_take.specs.declared.verdict.UnknownVerdict.{UnknownVerdict}
 
+-- the verdict, in the definitions' words
 abbrev pub verdict_meaning : Verdict → model.Verdict
 verdict_meaning Stored = model.Stored
 verdict_meaning NameTaken = model.NameTaken

@@ -8,9 +8,11 @@ use Rattle.bw_model.specs.Wire.{payload_in, request_of, are_bytes, decoded}
 unfoldable pub body_name : List ℕ → List ℕ
 body_name bytes = name_in (drop 1 bytes)
 
+-- the number of a message's body
 unfoldable pub body_number : List ℕ → ℕ
 body_number bytes = number_in (drop 1 bytes)
 
+-- the request of a message's body
 unfoldable pub body_request : List ℕ → Request
 body_request bytes = request_of (slice_index bytes 0) (payload_in (drop 1 bytes))
 
@@ -22,12 +24,14 @@ message_in bytes = record {
   request = body_request bytes;
 }
 
+-- whether a message was read
 abbrev pub is_message_read : Result Frame Reason → Bool
 is_message_read (Ok (Says m)) = true
 is_message_read (Ok (Asks name number)) = false
 is_message_read (Ok Bye) = false
 is_message_read (Err reason) = false
 
+-- whether an ask was read
 abbrev pub is_ask_read : Result Frame Reason → Bool
 is_ask_read (Ok (Says m)) = false
 is_ask_read (Ok (Asks name number)) = true
@@ -38,5 +42,6 @@ is_ask_read (Err reason) = false
 abbrev pub is_message_body : List ℕ → Bool
 is_message_body bytes = are_bytes bytes && is_message_read (decoded Second bytes)
 
+-- whether the bytes spell an ask
 abbrev pub is_ask_body : List ℕ → Bool
 is_ask_body bytes = are_bytes bytes && is_ask_read (decoded Second bytes)

@@ -3,6 +3,7 @@ use Rattle.std.specs.Prelude.{◌≡◌, ℕ, IsTrue, List}
 use Rattle.bw_model.specs.Take.{Request}
 use Rattle.bw_model.specs.Wire.{Second, Frame, Says, is_frame, body, framed}
 
+-- the message of a request under a name and a number
 abbrev pub said : List ℕ → ℕ → Request → Frame
 said name number request = Says (record { name = name; number = number; request = request })
 

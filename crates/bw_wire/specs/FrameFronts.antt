@@ -9,12 +9,14 @@ use Rattle.bw_wire.specs.Held.{longest_rest}
 use Rattle.bw_wire.specs.Reasons.{reason_meaning}
 use Rattle.bw_wire.specs.Bodies.{body_name, body_number, message_in, is_message_body, is_ask_body}
 
+-- the bytes begin with the frame of a message, whose body has this length
 pub record IsMessageFront (bytes : List ℕ) (len : ℕ) : Type 0 where
   pub whole : 4 + len ≤ length bytes
   pub spelled : IsTrue (is_message_body (body_at_front len bytes))
   pub first : first_frame Second bytes
       ≡ Ok (Says (message_in (body_at_front len bytes)), drop (4 + len) bytes)
 
+-- .. of an ask
 pub record IsAskFront (bytes : List ℕ) (len : ℕ) : Type 0 where
   pub whole : 4 + len ≤ length bytes
   pub spelled : IsTrue (is_ask_body (body_at_front len bytes))
@@ -24,10 +26,12 @@ pub record IsAskFront (bytes : List ℕ) (len : ℕ) : Type 0 where
         drop (4 + len) bytes,
       )
 
+-- .. of the end of an exchange
 pub record IsByeFront (bytes : List ℕ) (len : ℕ) : Type 0 where
   pub whole : 4 + len ≤ length bytes
   pub first : first_frame Second bytes ≡ Ok (Bye, drop (4 + len) bytes)
 
+-- the bytes begin so
 abbrev pub IsFrameFront : List ℕ → FrameFront → Type 0
 IsFrameFront bytes fronts.Partial =
     (first_frame Second bytes ≡ Err Cut) × (length bytes ≤ longest_rest)

@@ -20,9 +20,11 @@ message_of m = message_in m.body.now
 abbrev pub asked_name : Ask → List ℕ
 asked_name a = body_name a.body.now
 
+-- the number that an ask asks for
 abbrev pub asked_number : Ask → ℕ
 asked_number a = body_number a.body.now
 
+-- a frame, in the definitions' words
 abbrev pub frame_of : Frame → model.Frame
 frame_of (frames.Message m) = model.Says (message_of m)
 frame_of (frames.Ask a) = model.Asks (asked_name a) (asked_number a)
@@ -33,6 +35,7 @@ abbrev pub frame_read : Result Frame Reason → Result model.Frame model.Reason
 frame_read (Ok f) = Ok (frame_of f)
 frame_read (Err reason) = Err (reason_meaning reason)
 
+-- what was read of a request, in the definitions' words
 abbrev pub request_read : Result RequestRef Reason → Result take.Request model.Reason
 request_read (Ok r) = Ok (meaning r)
 request_read (Err reason) = Err (reason_meaning reason)

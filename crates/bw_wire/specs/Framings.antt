@@ -17,6 +17,7 @@ pub record HasFront (longest : ℕ) (bytes : List ℕ) (len : ℕ) : Type 0 wher
   pub short : len ≤ longest
   pub whole : 4 + len ≤ length bytes
 
+-- so the bytes begin, by their length field and the length that is there
 abbrev pub IsFraming : ℕ → List ℕ → Framing → Type 0
 IsFraming longest bytes framings.Partial =
     first_that_holds (framing_faults longest bytes) ≡ Some Cut

@@ -7,6 +7,7 @@ use Rattle.bw_wire.specs.Held.{Held, longest_stream, nothing_held}
 use Rattle.bw_wire.specs.Pending as pending
 use Rattle.bw_wire.specs.Reasons.{reason_meaning}
 
+-- the phase, in the definitions' words
 abbrev pub phase_of : Phase → pending.Phase
 phase_of Reading = pending.Reading
 phase_of Left = pending.Left

@@ -6,6 +6,7 @@ use Rattle.bw_wire.specs.declared.reply.Notice.{Notice}
 use Rattle.bw_wire.specs.declared.reply.Notice.TheVariants.{Held, TooFar, Conflict, TableFull}
 use Rattle.bw_wire.specs.declared.reply.Notice.TheVariants.{NoRoom, DelayedStore, Next}
 
+-- the notice, in the definitions' words
 abbrev pub notice_meaning : Notice → model.Notice
 notice_meaning Held = model.Held
 notice_meaning TooFar = model.TooFar

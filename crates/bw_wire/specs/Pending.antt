@@ -6,6 +6,7 @@ use Rattle.bw_model.specs.Wire.{Reason, Cut}
 use Rattle.bw_wire.specs.Codecs.{Codec}
 use Rattle.bw_wire.specs.Held.{largest_kept, room_for, room_kept}
 
+-- whether more is read
 pub data Phase : Type 0 where
   Reading : Phase
   -- the end of the exchange was told
@@ -13,6 +14,7 @@ pub data Phase : Type 0 where
   -- a fault was told
   Failed : Reason → Phase
 
+-- what a framer keeps of a stream
 pub record Pending : Type 0 where
   -- the bytes that are not used up
   pub bytes : List ℕ
@@ -111,6 +113,7 @@ IsOverIn Reading = ⊥
 IsOverIn Left = Unit {0}
 IsOverIn (Failed reason) = Unit {0}
 
+-- nothing is read anymore
 abbrev pub IsOver : Pending → Type 0
 IsOver p = IsOverIn p.phase
 
@@ -119,6 +122,7 @@ abbrev pub cut_off : List ℕ → ℕ → Option (Reason × ℕ)
 cut_off [] used = None
 cut_off (b ∷ bs) used = Some (Cut, used)
 
+-- the fault at the input's end, by the phase
 abbrev pub end_in : Phase → Pending → Option (Reason × ℕ)
 end_in Reading p = cut_off p.bytes p.used
 end_in Left p = None

@@ -7,6 +7,7 @@ use Rattle.bw_wire.specs.declared.reason.Reason.TheVariants.{Length, Kind, Name,
 use Rattle.bw_wire.specs.declared.reason.Reason.TheVariants.{Cut}
 use Rattle.bw_wire.specs.declared.reason.UnknownCode.{UnknownCode}
 
+-- the reason, in the definitions' words
 abbrev pub reason_meaning : Reason → model.Reason
 reason_meaning Length = model.Length
 reason_meaning Kind = model.Kind

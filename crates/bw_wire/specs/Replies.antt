@@ -9,6 +9,7 @@ use Rattle.bw_wire.specs.declared.reply.Reply.TheVariants.{Verdict, Notice, BadF
 use Rattle.bw_wire.specs.Notices.{notice_meaning}
 use Rattle.bw_wire.specs.Reasons.{reason_meaning}
 
+-- the reply, in the definitions' words
 abbrev pub reply_of : Reply → model.Reply
 reply_of (Verdict name number verdict) = model.Judged name number (verdict_meaning verdict)
 reply_of (Notice name number code next) = model.Noticed name number (notice_meaning code) next

@@ -9,10 +9,12 @@ use Rattle.bw_wire.specs.Held.{rest_below}
 use Rattle.bw_wire.specs.Reasons.{reason_meaning}
 use Rattle.bw_wire.specs.Replies.{reply_of}
 
+-- the bytes begin with the frame of this reply, whose body has this length
 pub record IsWholeReply (bytes : List ℕ) (reply : Reply) (len : ℕ) : Type 0 where
   pub whole : 4 + len ≤ length bytes
   pub first : first_reply bytes ≡ Ok (reply_of reply, drop (4 + len) bytes)
 
+-- the bytes begin so
 abbrev pub IsReplyFront : List ℕ → ReplyFront → Type 0
 IsReplyFront bytes Partial =
     (first_reply bytes ≡ Err Cut) × (length bytes ≤ rest_below longest_reply)

@@ -12,6 +12,7 @@ pub data Call : Type 0 where
   Feeds : List ℕ → Call
   Takes : Call
 
+-- the piece that a call feeds
 abbrev pub piece_of : Call → List ℕ
 piece_of (Feeds piece) = piece
 piece_of Takes = []

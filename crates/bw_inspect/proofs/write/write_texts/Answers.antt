@@ -1,16 +1,17 @@
-use Rattle.bw_inspect.proofs.Writing.{on_err, begins_before, begins_behind, writes_behind, writes_none}
+use Rattle.bw_layout.proofs.Exits.{on_err}
+use Rattle.bw_inspect.proofs.Writing.{begins_before, begins_behind, writes_behind, writes_none}
 use Rattle.bw_inspect.proofs.write.write_texts.Goals as goal
 
 pub returns-in_err-write_line-clause-err : goal.returns-in_err-write_line-clause-err
 returns-in_err-write_line-clause-err g c =
     let err = rw c.make_text_line.ensures at c.in_err-write_line.ensures.err in
-    on_err c.from_residual.result (rw (← c.fields.view_is) (begins_before _ _ err))
+    on_err c.from_residual.result _ (rw (← c.fields.view_is) (begins_before _ _ err))
 
 pub returns-in_err-write_line-2-clause-err : goal.returns-in_err-write_line-2-clause-err
 returns-in_err-write_line-2-clause-err g c =
     let ok1 = rw c.make_text_line.ensures at c.in_ok-write_line.ensures.ok in
     let err = rw c.make_text_line-2.ensures at c.in_err-write_line-2.ensures.err in
-    on_err c.from_residual-in_err-write_line-2.result
+    on_err c.from_residual-in_err-write_line-2.result _
     (rw (← c.fields.view_is) (begins_behind _ _ ok1 (begins_before _ _ err)))
 
 pub returns-in_err-write_line-3-clause-err : goal.returns-in_err-write_line-3-clause-err
@@ -18,7 +19,7 @@ returns-in_err-write_line-3-clause-err g c =
     let ok1 = rw c.make_text_line.ensures at c.in_ok-write_line.ensures.ok in
     let ok2 = rw c.make_text_line-2.ensures at c.in_ok-write_line-2.ensures.ok in
     let err = rw c.make_text_line-3.ensures at c.in_err-write_line-3.ensures.err in
-    on_err c.from_residual-in_err-write_line-3.result
+    on_err c.from_residual-in_err-write_line-3.result _
     (rw (← c.fields.view_is) (begins_behind _ _ ok1 (begins_behind _ _ ok2 (begins_before _ _ err))))
 
 pub returns-in_err-write_line-4-clause-err : goal.returns-in_err-write_line-4-clause-err
@@ -27,7 +28,7 @@ returns-in_err-write_line-4-clause-err g c =
     let ok2 = rw c.make_text_line-2.ensures at c.in_ok-write_line-2.ensures.ok in
     let ok3 = rw c.make_text_line-3.ensures at c.in_ok-write_line-3.ensures.ok in
     let err = rw c.make_text_line-4.ensures at c.in_err-write_line-4.ensures.err in
-    on_err c.from_residual-in_err-write_line-4.result
+    on_err c.from_residual-in_err-write_line-4.result _
     (rw (← c.fields.view_is)
     (begins_behind _ _ ok1 (begins_behind _ _ ok2 (begins_behind _ _ ok3 (begins_before _ _ err)))))
 
@@ -38,7 +39,7 @@ returns-in_err-write_line-5-clause-err g c =
     let ok3 = rw c.make_text_line-3.ensures at c.in_ok-write_line-3.ensures.ok in
     let ok4 = rw c.make_text_line-4.ensures at c.in_ok-write_line-4.ensures.ok in
     let err = rw c.make_text_line-5.ensures at c.in_err-write_line-5.ensures.err in
-    on_err c.from_residual-in_err-write_line-5.result
+    on_err c.from_residual-in_err-write_line-5.result _
     (rw (← c.fields.view_is)
     (begins_behind _ _ ok1 (begins_behind _ _ ok2
     (begins_behind _ _ ok3 (begins_behind _ _ ok4 (begins_before _ _ err))))))

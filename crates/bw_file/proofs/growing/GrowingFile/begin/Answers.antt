@@ -4,7 +4,7 @@ use Rattle.bw_model.specs.Take.{Parts, AreFields}
 use Rattle.bw_file.proofs.Judged.{unopened_for_open}
 use Rattle.bw_file.proofs.Begins.{fresh_begun, begun_torn, begun_whole, begun_between}
 use Rattle.bw_file.proofs.Asked.{gets_before, gets_then, gets_then_first}
-use Rattle.bw_file.proofs.PlanForms.{on_err}
+use Rattle.bw_layout.proofs.Exits.{on_err}
 use Rattle.bw_file.proofs.growing.GrowingFile.begin.Goals as goal
 
 pub returns-in_err-put_header-clause-file : goal.returns-in_err-put_header-clause-file

@@ -7,7 +7,7 @@ use Rattle.bw_file.proofs.TakeHeadings.{is_heading}
 use Rattle.bw_file.proofs.Retouches.{header_fails, retouched}
 use Rattle.bw_file.proofs.SetFields.{is_known, differs_in_field}
 use Rattle.bw_file.proofs.SetPlans.{gets_planned, first_planned, gets_few, first_few}
-use Rattle.bw_file.proofs.PlanForms.{on_err}
+use Rattle.bw_layout.proofs.Exits.{on_err}
 use Rattle.bw_file.proofs.growing.GrowingFile.retouch.Goals as goal
 
 pub heading_of-heading-requires : goal.heading_of-heading-requires
