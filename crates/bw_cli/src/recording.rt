@@ -3,7 +3,7 @@ ghost use Rattle.std.specs.Prelude.{◌≡◌, ◌+◌, ◌*◌, ◌≤◌, [], 
 ghost use Rattle.std.specs.Prelude.{OnErr};
 ghost use Rattle.bw_model.specs.Limits.{largest, longest_block};
 ghost use Rattle.bw_model.specs.Take.{Take, parts, after, judge as judgement};
-ghost use Rattle.bw_model.specs.Wire.{is_request};
+ghost use Rattle.bw_model.specs.Wire.{is_request, Second, last_number};
 ghost use Rattle.bw_model.specs.Replies.{Judged};
 ghost use Rattle.bw_take.specs.Requests.{meaning};
 ghost use Rattle.bw_take.specs.Verdicts.{verdict_meaning};
@@ -24,7 +24,7 @@ pub struct Recording {
     samples: Vec<u8>,
     ghost below: { next ≤ 16777216 },
     ghost counted: { state.parts.samples_len ≡ vec_len samples },
-    ghost bounded: { vec_len samples ≤ 32768 * next },
+    ghost bounded: { vec_len samples ≤ longest_block * next },
 }
 
 /// A take's file.
@@ -72,7 +72,7 @@ impl Recording {
         request: &RequestRef<'_>,
     ) -> Result<Verdict, AllocError>
         requires next { IsTrue (comes_next (progress_of self.old) name.now number) }
-        requires range { number ≤ 16777215 }
+        requires range { number ≤ last_number Second }
         requires fits { IsTrue (is_request (meaning request.now)) }
         ensures { IfOk result (λ v. AnswersMessage self.old self.new
             (record { name = name.now; number = number; request = meaning request.now })
@@ -120,7 +120,7 @@ fn apply(
         samples.new.items ≡ (after t (meaning request.now)).samples) }
     ensures count { OnOk result (state.new.parts.samples_len + vec_len samples.old
         ≡ state.old.parts.samples_len + vec_len samples.new) }
-    ensures growth { OnOk result (vec_len samples.new ≤ vec_len samples.old + 32768) }
+    ensures growth { OnOk result (vec_len samples.new ≤ vec_len samples.old + longest_block) }
     ensures state_kept { OnErr result (state.new.parts ≡ state.old.parts) }
     ensures samples_kept { OnErr result (samples.new.items ≡ samples.old.items) }
 {

@@ -4,6 +4,7 @@ use Rattle.std.specs.Prelude.{Option, Some, is_some, List, Result, MatchResult}
 use Rattle.sha2.specs.Sha256.{sha256}
 use Rattle.bw_model.specs.Bytes.{at}
 use Rattle.bw_model.specs.Counts.{Counts, last_count}
+use Rattle.bw_model.specs.Limits.{longest_block}
 use Rattle.bw_model.specs.Take.{Parts, Request, Verdict, is_stored}
 use Rattle.bw_model.specs.Book.{Log, verdict_at}
 use Rattle.bw_model.specs.Holds.{body_of}
@@ -49,7 +50,7 @@ pub record KeepsBoth {X Y : Type 0} (S : StoreGhosts X) (J : JournalGhosts Y) (f
 
 -- What is kept takes no more than its done numbers can have brought.
 pub record IsMeasured (p : Parts) (done noted : ℕ) : Type 0 where
-  pub samples : p.samples_len ≤ 32768 * done
+  pub samples : p.samples_len ≤ longest_block * done
   pub notes : noted ≤ header_len + longest_entry * done
 
 -- with this verdict the request was written to the file

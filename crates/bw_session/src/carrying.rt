@@ -1,8 +1,9 @@
 //! Judging a request, and carrying it out in the file.
-ghost use Rattle.std.specs.Prelude.{ℕ, List, Option, ◌≡◌, ◌+◌, ◌^◌, ◌≤◌, IsTrue, IfOk, OnOk, OnErr};
+ghost use Rattle.std.specs.Prelude.{ℕ, List, Option, ◌≡◌, ◌+◌, ◌≤◌, IsTrue, IfOk, OnOk, OnErr};
 ghost use Rattle.std.specs.Prelude.{is_err, false, true};
 ghost use Rattle.bw_model.specs.Take.{Verdict as Judgement, judge as verdict_on};
 ghost use Rattle.bw_model.specs.Book.{Log};
+ghost use Rattle.bw_model.specs.Limits.{largest};
 ghost use Rattle.bw_model.specs.Wire.{is_request};
 ghost use Rattle.bw_take.specs.Requests.{meaning};
 ghost use Rattle.bw_take.specs.States.{samples_in};
@@ -29,7 +30,7 @@ pub(crate) fn carry_out<S: TakeStore>(
     request: &RequestRef<'_>,
 ) -> Result<Verdict, StoreFault>
     requires fits { IsTrue (is_request (meaning request.now)) }
-    requires samples { state.old.parts.samples_len + samples_in (meaning request.now) ≤ 2 ^ 62 }
+    requires samples { state.old.parts.samples_len + samples_in (meaning request.now) ≤ largest }
     requires dirty { IsTrue growing.old.dirty → Touches state.old.parts (meaning request.now) }
     ensures failures { Counts (S.failures store.old) (S.failures store.new) (is_err result) }
     ensures calls { S.calls store.new ≤ S.calls store.old + 4 }

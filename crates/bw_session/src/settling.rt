@@ -1,9 +1,10 @@
 //! What is kept of a number once its file is written.
-ghost use Rattle.std.specs.Prelude.{◌≡◌, ◌+◌, ◌^◌, ◌≤◌, ◌++◌, [], ◌∷◌, suc, ℕ, List, Some, Bool};
+ghost use Rattle.std.specs.Prelude.{◌≡◌, ◌+◌, ◌≤◌, ◌++◌, [], ◌∷◌, suc, ℕ, List, Some, Bool};
 ghost use Rattle.std.specs.Prelude.{IsTrue};
 ghost use Rattle.sha2.specs.Sha256.{sha256};
 ghost use Rattle.bw_model.specs.Bytes.{at};
 ghost use Rattle.bw_model.specs.Take.{judge as verdict_on, verdict as verdict_in};
+ghost use Rattle.bw_model.specs.Limits.{largest};
 ghost use Rattle.bw_model.specs.Wire.{is_request};
 ghost use Rattle.bw_model.specs.Book.{Log, made};
 ghost use Rattle.bw_model.specs.Holds.{body_of};
@@ -30,7 +31,7 @@ pub(crate) fn settle(
     requires judged { verdict_meaning verdict ≡ verdict_on state.old.parts (meaning request.now) }
     requires room { 1 ≤ state.old.room }
     requires place { 1 ≤ ledger.old.room }
-    requires samples { state.old.parts.samples_len + samples_in (meaning request.now) ≤ 2 ^ 62 }
+    requires samples { state.old.parts.samples_len + samples_in (meaning request.now) ≤ largest }
     ensures outcomes { ledger.new.outcomes ≡
         ledger.old.outcomes ++ (digest.now, verdict_meaning verdict) ∷ [] }
     ensures places { ledger.old.room ≤ ledger.new.room + 1 }
@@ -41,7 +42,8 @@ pub(crate) fn settle(
         KeepsDone stood name log state.old.parts ledger.old.outcomes →
         at log.admitted log.done ≡ Some (meaning request.now) →
         digest.now ≡ sha256 (body_of name log.done (meaning request.now)) →
-        verdict_meaning verdict ≡ verdict_in (made stood log.admitted log.done) (meaning request.now) →
+        verdict_meaning verdict
+        ≡ verdict_in (made stood log.admitted log.done) (meaning request.now) →
         KeepsDone stood name (record log { done = suc log.done })
         state.new.parts ledger.new.outcomes }
 {

@@ -1,6 +1,7 @@
 //! What a request asks of the file of its take.
-ghost use Rattle.std.specs.Prelude.{◌≡◌, ◌+◌, ◌^◌, ◌≤◌, IsTrue, false, is_err};
+ghost use Rattle.std.specs.Prelude.{◌≡◌, ◌+◌, ◌≤◌, IsTrue, false, is_err};
 ghost use Rattle.bw_model.specs.Take.{Stored, judge};
+ghost use Rattle.bw_model.specs.Limits.{largest};
 ghost use Rattle.bw_model.specs.Wire.{is_request};
 ghost use Rattle.bw_take.specs.Requests.{meaning};
 ghost use Rattle.bw_take.specs.States.{samples_in};
@@ -24,7 +25,7 @@ pub(crate) fn write_request<S: TakeStore>(
 ) -> Result<Created, StoreFault>
     requires fits { IsTrue (is_request (meaning request.now)) }
     requires stored { judge state.now.parts (meaning request.now) ≡ Stored }
-    requires samples { state.now.parts.samples_len + samples_in (meaning request.now) ≤ 2 ^ 62 }
+    requires samples { state.now.parts.samples_len + samples_in (meaning request.now) ≤ largest }
     requires dirty { IsTrue growing.old.dirty → is_mark (meaning request.now) ≡ false }
     ensures failures { Counts (S.failures store.old) (S.failures store.new) (is_err result) }
     ensures calls { S.calls store.new ≤ S.calls store.old + 4 }
