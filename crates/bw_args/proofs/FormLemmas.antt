@@ -11,7 +11,7 @@ use Rattle.clap.proofs.OnLiterals.{clap_on_literals}
 use Rattle.bw_args.specs.Commands.{command_line}
 use Rattle.bw_args.specs.Lines.{AsksFor, GivesLimit, Inspects, IsLineOf, IsPlain, IsToldAs, IsWishOf, RunsInspect}
 use Rattle.bw_args.specs.Lines.{RunsReplay, TellsHelp, Wish, Inspecting, Replaying, wish_of}
-use Rattle.bw_args.specs.Numbers.{IsLimitText, default_limit, number_in}
+use Rattle.bw_args.specs.Numbers.{IsLimitText, default_limit, number_written}
 use Rattle.bw_args.specs.declared.CommandLine.{CommandLine}
 use Rattle.bw_args.specs.declared.CommandLine.TheVariants.{Run, BadLimit, Tell}
 use Rattle.bw_args.specs.declared.Task.TheVariants.{Inspect, Replay}
@@ -31,7 +31,7 @@ unfolding clap_on_literals
 plain_asks program = record { taken = refl; asked = (refl, refl) }
 
 apart_asks : (program text : Text) → IsLimitText text
-    → AsksFor (program ∷ codes "replay" ∷ codes "--limit" ∷ text ∷ []) (Replaying (number_in text))
+    → AsksFor (program ∷ codes "replay" ∷ codes "--limit" ∷ text ∷ []) (Replaying (number_written text))
 unfolding clap_on_literals
 apart_asks program [] given = let bad : 0 < 0 = given.0.0.0 in absurd (omega arith)
 apart_asks program (d ∷ ds) given =
@@ -39,7 +39,7 @@ apart_asks program (d ∷ ds) given =
     record { taken = rw (value, value) (refl {a = []}); asked = simp value (refl, (given, refl)) }
 
 joined_asks : (program text : Text) → IsLimitText text
-    → AsksFor (program ∷ codes "replay" ∷ (codes "--limit=" ++ text) ∷ []) (Replaying (number_in text))
+    → AsksFor (program ∷ codes "replay" ∷ (codes "--limit=" ++ text) ∷ []) (Replaying (number_written text))
 unfolding clap_on_literals
 joined_asks program text given = record { taken = refl; asked = (refl, (given, refl)) }
 
@@ -90,10 +90,10 @@ runs_replay words line is = record {
       (runs words line _ is (subst (λ w. AsksFor w (Replaying default_limit)) (sym e) (plain_asks program)));
   apart = λ program text given e.
       replays _ line (runs words line _ is
-      (subst (λ w. AsksFor w (Replaying (number_in text))) (sym e) (apart_asks program text given)));
+      (subst (λ w. AsksFor w (Replaying (number_written text))) (sym e) (apart_asks program text given)));
   joined = λ program text given e.
       replays _ line (runs words line _ is
-      (subst (λ w. AsksFor w (Replaying (number_in text))) (sym e) (joined_asks program text given)));
+      (subst (λ w. AsksFor w (Replaying (number_written text))) (sym e) (joined_asks program text given)));
 }
 
 -- words with a fault of one kind tell it

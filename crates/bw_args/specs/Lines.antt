@@ -11,7 +11,7 @@ use Rattle.clap.specs.declared.error.ErrorKind.TheVariants.{DisplayHelp, Display
 use Rattle.clap.specs.declared.error.ErrorKind.TheVariants.{MissingRequiredArgument}
 use Rattle.clap.specs.declared.error.ErrorKind.TheVariants.{MissingSubcommand, OutOfMemory}
 use Rattle.clap.specs.declared.error.ErrorKind.TheVariants.{UnknownArgument}
-use Rattle.bw_args.specs.Numbers.{IsLimit, IsLimitText, default_limit, number_in}
+use Rattle.bw_args.specs.Numbers.{IsLimit, IsLimitText, default_limit, number_written}
 use Rattle.bw_args.specs.Commands.{command_line}
 use Rattle.bw_args.specs.declared.CommandLine.{CommandLine}
 use Rattle.bw_args.specs.declared.CommandLine.TheVariants.{Run, BadLimit, Tell}
@@ -21,7 +21,7 @@ use Rattle.bw_args.specs.declared.Task.TheVariants.{Replay, Inspect}
 -- the limit that an option gives, or the default
 abbrev pub GivesLimit : Option Text → ℕ → Type 0
 GivesLimit None limit = limit ≡ default_limit
-GivesLimit (Some text) limit = IsLimitText text × (limit ≡ number_in text)
+GivesLimit (Some text) limit = IsLimitText text × (limit ≡ number_written text)
 
 -- exactly that limit
 abbrev pub IsLimitGiven : Option Text → Option ℕ → Type 0
@@ -97,10 +97,10 @@ pub record RunsReplay (words : List Text) (line : CommandLine) : Type 0 where
       → line ≡ Run (Replay default_limit)
   pub apart : (program text : Text) → IsLimitText text
       → words ≡ program ∷ codes "replay" ∷ codes "--limit" ∷ text ∷ []
-      → line ≡ Run (Replay (number_in text))
+      → line ≡ Run (Replay (number_written text))
   pub joined : (program text : Text) → IsLimitText text
       → words ≡ program ∷ codes "replay" ∷ (codes "--limit=" ++ text) ∷ []
-      → line ≡ Run (Replay (number_in text))
+      → line ≡ Run (Replay (number_written text))
 
 -- the line tells an error of this kind
 abbrev pub IsToldAs : ErrorKind → CommandLine → Type 0

@@ -7,8 +7,8 @@ abbrev pub IsNumber : List ℕ → Type 0
 IsNumber text = IsNumeral 10 text × (length text ≤ 10) × (digits_value 10 text < 2 ^ 32)
 
 -- the number that they write
-abbrev pub number_in : List ℕ → ℕ
-number_in text = digits_value 10 text
+abbrev pub number_written : List ℕ → ℕ
+number_written text = digits_value 10 text
 
 -- a greatest form size of a RIFF file, in bytes
 abbrev pub IsLimit : ℕ → Type 0
@@ -20,4 +20,4 @@ default_limit = 4294967294
 
 -- a text of a number that is a limit
 abbrev pub IsLimitText : List ℕ → Type 0
-IsLimitText text = IsNumber text × IsLimit (number_in text)
+IsLimitText text = IsNumber text × IsLimit (number_written text)

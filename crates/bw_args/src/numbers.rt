@@ -1,6 +1,6 @@
 //! Numbers and limits as they are written on the command line.
 ghost use Rattle.std.specs.Option.{SomeIff};
-ghost use Rattle.bw_args.specs.Numbers.{IsLimitText, IsNumber, number_in};
+ghost use Rattle.bw_args.specs.Numbers.{IsLimitText, IsNumber, number_written};
 
 /// The least limit on a RIFF file's form size, in bytes.
 const LEAST_LIMIT: u64 = 8_192;
@@ -11,7 +11,7 @@ pub(crate) const DEFAULT_LIMIT: u64 = 4_294_967_294;
 
 /// The number that a text of one to ten decimal digits writes: no sign, no blank, below 2^32.
 pub fn number(text: &str) -> Option<u32>
-    ensures { SomeIff result (IsNumber text.now) (number_in text.now) }
+    ensures { SomeIff result (IsNumber text.now) (number_written text.now) }
 {
     // `parse` takes a leading plus.
     if text.len() > 10 || text.as_bytes().first() == Some(&b'+') {
@@ -23,7 +23,7 @@ pub fn number(text: &str) -> Option<u32>
 /// The limit on a RIFF file's form size that a text writes: a number of bytes, even, from 8,192 to
 /// 4,294,967,294.
 pub fn limit(text: &str) -> Option<u64>
-    ensures { SomeIff result (IsLimitText text.now) (number_in text.now) }
+    ensures { SomeIff result (IsLimitText text.now) (number_written text.now) }
 {
     let value = u64::from(number(text)?);
     if value % 2 == 0 && (LEAST_LIMIT..=DEFAULT_LIMIT).contains(&value) {

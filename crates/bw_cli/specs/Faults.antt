@@ -39,13 +39,13 @@ RefusesInput Unwritable asked = Unit {0}
 RefusesInput Memory asked = Unit {0}
 
 -- a fault as it is told
-abbrev pub fault_text : Fault → List ℕ
-fault_text TooLong = codes "input too long"
-fault_text (NotHex n) = codes "line " ++ decimal n ++ codes ": not hex"
-fault_text (NotInOrder n) = codes "line " ++ decimal n ++ codes ": not in order"
-fault_text Unreadable = codes "the input can't be read"
-fault_text Unwritable = codes "the output can't be written"
-fault_text Memory = codes "out of memory"
+abbrev pub input_fault_text : Fault → List ℕ
+input_fault_text TooLong = codes "input too long"
+input_fault_text (NotHex n) = codes "line " ++ decimal n ++ codes ": not hex"
+input_fault_text (NotInOrder n) = codes "line " ++ decimal n ++ codes ": not in order"
+input_fault_text Unreadable = codes "the input can't be read"
+input_fault_text Unwritable = codes "the output can't be written"
+input_fault_text Memory = codes "out of memory"
 
 -- how the program ends on a fault
 abbrev pub exit_on : Fault → Exit
@@ -78,4 +78,4 @@ is_read (Err fault) = is_readable fault
 -- the fault's line alone is told, and of none nothing
 abbrev pub IsToldBy : Result (Unit {0}) Fault → Print → Type 0
 IsToldBy (Ok x) print = print ≡ Nothing
-IsToldBy (Err fault) print = IsOf (as_line (fault_text fault)) print
+IsToldBy (Err fault) print = IsOf (as_line (input_fault_text fault)) print

@@ -1,6 +1,6 @@
 //! Why a command gives up.
 ghost use Rattle.std.specs.Prelude.{◌≡◌, ◌≤◌, ◌+◌, [], ◌++◌, length, codes, decimal};
-ghost use Rattle.bw_cli.specs.Faults.{exit_on, fault_text};
+ghost use Rattle.bw_cli.specs.Faults.{exit_on, input_fault_text};
 ghost use Rattle.bw_cli.specs.Text.{as_line};
 
 use crate::exit::Exit;
@@ -36,7 +36,7 @@ impl Fault {
 
     /// The line that tells it. It takes no memory, which may be what is wanting.
     pub fn line(&self) -> ArrayString<64>
-        ensures { result.bytes ≡ as_line (fault_text self.now) }
+        ensures { result.bytes ≡ as_line (input_fault_text self.now) }
     {
         let mut line = ArrayString::new();
         self.put_on(&mut line);
@@ -47,7 +47,7 @@ impl Fault {
     /// Puts its text on an empty line.
     fn put_on(&self, line: &mut ArrayString<64>)
         requires { line.old.bytes ≡ [] }
-        ensures text { line.new.bytes ≡ fault_text self.now }
+        ensures text { line.new.bytes ≡ input_fault_text self.now }
         ensures short { length line.new.bytes ≤ 60 }
     {
         match self {

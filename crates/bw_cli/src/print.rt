@@ -1,6 +1,6 @@
 //! Texts to a writer.
 ghost use Rattle.std.specs.Prelude.{◌≡◌, OnOk, OnErr};
-ghost use Rattle.bw_cli.specs.Faults.{exit_on, fault_text};
+ghost use Rattle.bw_cli.specs.Faults.{exit_on, input_fault_text};
 ghost use Rattle.bw_cli.specs.Printing.{HasPrinted, HasStopped, IsOf, IsPrint, Print};
 ghost use Rattle.bw_cli.specs.Text.{as_line};
 
@@ -27,7 +27,7 @@ pub fn tell<E: Sink>(faults: &mut E, text: &[u8])
 /// Writes the line of a fault, and answers how the program ends on it.
 pub fn give_up<E: Sink>(faults: &mut E, fault: &Fault) -> Exit
     ensures exit { result ≡ exit_on fault.now }
-    ensures line { (print : Print) × IsOf (as_line (fault_text fault.now)) print
+    ensures line { (print : Print) × IsOf (as_line (input_fault_text fault.now)) print
         × IsPrint E.Sink print faults.old faults.new }
 {
     tell(faults, fault.line().as_str().as_bytes());

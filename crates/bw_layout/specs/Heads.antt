@@ -4,5 +4,5 @@ use Rattle.bw_model.specs.Bytes.{u32_at}
 use Rattle.bw_layout.specs.declared.chunk.ChunkHead.{ChunkHead}
 
 -- the head at the front of these bytes
-abbrev pub head_at : List ℕ → ChunkHead
-head_at b = record { id = slice_range b 0 4; size32 = u32_at b 4 }
+abbrev pub chunk_head : List ℕ → ChunkHead
+chunk_head b = record { id = slice_range b 0 4; size32 = u32_at b 4 }

@@ -7,14 +7,14 @@ use Rattle.bw_model.specs.Layout.{cue_content}
 use Rattle.bw_model.specs.Reading.{table_at}
 use Rattle.bw_model.specs.Report.{raw_fmt, raw_cues}
 use Rattle.bw_model.specs.ReadBack.{told_fmt, told_bext, told_cue}
-use Rattle.bw_layout.specs.Heads.{head_at}
+use Rattle.bw_layout.specs.Heads.{chunk_head}
 use Rattle.bw_layout.specs.Raw.{raw_cue, bext_at}
 use Rattle.bw_layout.specs.Tables.{entry_bytes, ds64_with_table, entry_at, fixed_at}
 
 -- a chunk's head is read as it was put
 abbrev pub HeadsReadBack : Type 0
 HeadsReadBack = (id rest : List ℕ) (size : ℕ) → length id ≡ 4 → size < 2 ^ 32 →
-    head_at (head id size ++ rest) ≡ record { id = id; size32 = size }
+    chunk_head (head id size ++ rest) ≡ record { id = id; size32 = size }
 
 -- so is the content of `fmt `
 abbrev pub FormatsReadBack : Type 0

@@ -3,7 +3,7 @@ ghost use Rattle.std.specs.Prelude.{◌≡◌, ◌+◌, ◌≤◌, Some, codes, 
 ghost use Rattle.std.specs.Result.{OkIff};
 ghost use Rattle.bw_model.specs.Layout.{head as head_bytes};
 ghost use Rattle.bw_layout.specs.Appending.{Gains, Appends};
-ghost use Rattle.bw_layout.specs.Heads.{head_at};
+ghost use Rattle.bw_layout.specs.Heads.{chunk_head};
 
 use crate::number::{read_id, read_u32};
 use crate::push::{push_bytes, push_u32};
@@ -74,7 +74,7 @@ pub fn put_head(_alloc: Global, out: &mut Vec<u8>, head: ChunkHead) -> Result<()
 /// # Errors
 /// Short where there are fewer than 8 bytes.
 pub fn read_head(bytes: &[u8]) -> Result<ChunkHead, Short>
-    ensures { OkIff result (8 ≤ length bytes.now) (head_at bytes.now) }
+    ensures { OkIff result (8 ≤ length bytes.now) (chunk_head bytes.now) }
 {
     if bytes.len() < 8 {
         return Err(Short);

@@ -38,7 +38,7 @@ impl Framer {
     ghost use Rattle.bw_wire.specs.Held.{longest_rest, longest_piece, longest_stream};
     ghost use Rattle.bw_wire.specs.Pending.{fresh, with_piece, next_of, KeepsAtMost, HasSmallBlock};
     ghost use Rattle.bw_wire.specs.Pending.{HoldsLittle, end_fault, IsOver};
-    ghost use Rattle.bw_wire.specs.Telling.{told_by, end_told};
+    ghost use Rattle.bw_wire.specs.Telling.{told_as, end_told};
 
     /// A framer at the start of a stream.
     pub fn new(alloc: Global) -> Framer
@@ -80,7 +80,7 @@ impl Framer {
     /// Why the bytes are no frame. From then on it is this fault, as after `Bye` it is `Bye`.
     pub fn next_frame(&mut self) -> Result<Option<Frame<'_>>, WireFault>
         ensures* left { sem 𝓛 (Rests the_row self.entry (λ new. new ≡ (next_of message_codec self.old).1)) }
-        ensures told { told_by frame_of result ≡ (next_of message_codec self.old).0 }
+        ensures told { told_as frame_of result ≡ (next_of message_codec self.old).0 }
         ensures held { HoldsLittle message_codec (next_of message_codec self.old) }
     {
         let offset = self.intake.used;

@@ -35,7 +35,7 @@ impl ReplyFramer {
     ghost use Rattle.bw_wire.specs.Pending.{fresh, with_piece, next_of, KeepsAtMost, HasSmallBlock};
     ghost use Rattle.bw_wire.specs.Pending.{HoldsLittle, end_fault, IsOver};
     ghost use Rattle.bw_wire.specs.Replies.{reply_of};
-    ghost use Rattle.bw_wire.specs.Telling.{told_by, end_told};
+    ghost use Rattle.bw_wire.specs.Telling.{told_as, end_told};
 
     /// A framer at the start of a stream.
     pub fn new(alloc: Global) -> ReplyFramer
@@ -77,7 +77,7 @@ impl ReplyFramer {
     /// Why the bytes are no reply's frame. From then on it is this fault.
     pub fn next_frame(&mut self) -> Result<Option<Reply>, WireFault>
         ensures left { self.new ≡ (next_of reply_codec self.old).1 }
-        ensures told { told_by reply_of result ≡ (next_of reply_codec self.old).0 }
+        ensures told { told_as reply_of result ≡ (next_of reply_codec self.old).0 }
         ensures held { HoldsLittle reply_codec (next_of reply_codec self.old) }
     {
         let offset = self.intake.used;
