@@ -9,3 +9,4 @@ pub mod NumberForms
 pub mod NoteForms
 pub mod DrainForms
 pub mod NewForms
+pub mod AdmitForms

@@ -8,3 +8,4 @@ pub mod Fronts
 pub mod Numbered
 pub mod Noting
 pub mod Draining
+pub mod Admitting

@@ -1,6 +1,7 @@
 //! Sessions: what a server keeps of each name.
 #![tactic(auto)]
 
+mod admitting;
 mod body;
 mod carrying;
 mod draining;

@@ -10,7 +10,7 @@ use std::alloc::{AllocError, Global};
 use std::marker::Model;
 
 /// How many numbers may be admitted ahead of the last verdict.
-const SLOTS: usize = 16;
+pub(crate) const SLOTS: usize = 16;
 
 /// The bodies of the next sixteen numbers, where they came (a sliding window).
 ///

@@ -1,0 +1,139 @@
+use Rattle.std.proofs.Common.{rules, ◌≡◌, ℕ, List, None, ◌+◌, ◌-◌, ◌<◌, ◌≤◌, ◌⊎◌, inl, inr, length, false}
+use Rattle.std.proofs.Common.{sym, ◌∙◌, ap, arith}
+use Rattle.std.specs.Prelude.{is_some}
+use Rattle.bw_model.specs.Bytes.{at}
+use Rattle.bw_model.specs.Take.{Verdict}
+use Rattle.bw_model.specs.Wire.{Message, Second, last_number}
+use Rattle.bw_wire.specs.Frames.{message_of}
+use Rattle.bw_session.specs.Windows.{count_held}
+use Rattle.bw_session.proofs.Slots.{copied-some}
+use Rattle.bw_session.proofs.AdmitForms.{count_room, none_of, no_false, fits_held, outside_not_new, free_new}
+use Rattle.bw_session.proofs.AdmitForms.{said_request, part_same, part_put, notes_same, notes_put}
+use Rattle.bw_session.proofs.session.Session.admit.Goals as goal
+use Rattle.bw_session.proofs.session.Session.admit.Goals.{then-number-done-via-then-number-done}
+use Rattle.bw_session.proofs.session.Session.admit.Goals.{then-number-done-via-else-number-done+then-done-number}
+
+pub returns-then-number-done-clause-ok : goal.returns-then-number-done-clause-ok
+returns-then-number-done-clause-ok c = λ first log found h.
+    let m : Message = message_of c.args.message.now in
+    let finished : List (List ℕ × Verdict) = c.args.self.now.progress.ledger.outcomes in
+    let number = c.number-number.ensures.value in
+    let done = c.len-done.ensures.value in
+    let outside : (m.number < length finished) ⊎ (length finished + 16 ≤ m.number) =
+    elim c.then-number-done.branch [
+      | then-number-done-via-then-number-done w ↦ inl (search rules)
+      | then-number-done-via-else-number-done+then-done-number w ↦ inr (search rules)
+    ] in
+    part_same first log _ _ _ _ _ h m (outside_not_new first log _ _ _ _ _ h m.number outside)
+
+pub returns-then-number-done-clause-noted : goal.returns-then-number-done-clause-noted
+returns-then-number-done-clause-noted c = λ first log found hd notes h noted.
+    let m : Message = message_of c.args.message.now in
+    let finished : List (List ℕ × Verdict) = c.args.self.now.progress.ledger.outcomes in
+    let number = c.number-number.ensures.value in
+    let done = c.len-done.ensures.value in
+    let outside : (m.number < length finished) ⊎ (length finished + 16 ≤ m.number) =
+    elim c.then-number-done.branch [
+      | then-number-done-via-then-number-done w ↦ inl (search rules)
+      | then-number-done-via-else-number-done+then-done-number w ↦ inr (search rules)
+    ] in
+    notes_same first log _ _ _ _ _ h m hd _ _ notes (outside_not_new first log _ _ _ _ _ h m.number outside) noted
+
+pub reserve_for-requires : goal.reserve_for-requires
+reserve_for-requires c =
+    let slot : ℕ = c.number-number.result - c.len-done.result in
+    let none : is_some c.get.result ≡ false = search rules in
+    let free : at c.args.self.now.window slot ≡ None =
+    none_of _ (copied-some c.get.result _ false c.get.ensures.value none) in
+    let slots = c.get.ensures.slots in
+    let within : slot < length c.args.self.now.window = search rules in
+    let room = count_room c.args.self.now.window slot free within in
+    let counted = c.count-count.ensures.value in
+    omega (arith, room, slots, counted)
+
+pub reserve-requires : goal.reserve-requires
+reserve-requires c =
+    let slot : ℕ = c.number-number.result - c.len-done.result in
+    let none : is_some c.get.result ≡ false = search rules in
+    let free : at c.args.self.now.window slot ≡ None =
+    none_of _ (copied-some c.get.result _ false c.get.ensures.value none) in
+    let slots = c.get.ensures.slots in
+    let within : slot < length c.args.self.now.window = search rules in
+    let room = count_room c.args.self.now.window slot free within in
+    let counted = c.count-count.ensures.value in
+    omega (arith, room, slots, counted)
+
+pub invariant_of-self-3 : goal.invariant_of-self-3
+invariant_of-self-3 c =
+    let slot : ℕ = c.number-number.result - c.len-done.result in
+    let finished : List (List ℕ × Verdict) = c.args.self.now.progress.ledger.outcomes in
+    let none : is_some c.get.result ≡ false = search rules in
+    let free : at c.args.self.now.window slot ≡ None =
+    none_of _ (copied-some c.get.result _ false c.get.ensures.value none) in
+    let slots = c.get.ensures.slots in
+    let within : slot < length c.args.self.now.window = search rules in
+    let counted = c.count-count.ensures.value in
+    let stored = c.in_ok-reserve_for.ensures.ok in
+    let kept = c.in_ok-reserve.ensures.ok in
+    let enough : count_held c.args.self.now.window + 1 ≤ c.reserve_for.new.self.room = search rules in
+    let enough' : count_held c.args.self.now.window + 1 ≤ c.reserve.new.self.room = search rules in
+    let done = c.len-done.ensures.value in
+    let range = c.number-number.ensures.range in
+    let number : length finished + slot ≤ last_number Second = search rules in
+    record {
+      fits = fits_held c.args.self.now.progress.growing c.args.self.now.progress.state.parts
+          c.reserve_for.new.self.parts (length finished) (length c.reserve.new.self.outcomes)
+          c.args.self.now.progress.state.room c.reserve_for.new.self.room c.args.self.now.progress.ledger.room
+          c.reserve.new.self.room slot c.args.self.now.window c.put.new.self c.copy_to.result c.args.self.now.fits free
+          within c.put.ensures enough enough' number c.reserve_for.ensures.parts (ap length c.reserve.ensures.outcomes);
+    }
+
+pub returns-clause-ok : goal.returns-clause-ok
+returns-clause-ok c = λ first log found h.
+    let slot : ℕ = c.number-number.result - c.len-done.result in
+    let m : Message = message_of c.args.message.now in
+    let finished : List (List ℕ × Verdict) = c.args.self.now.progress.ledger.outcomes in
+    let none : is_some c.get.result ≡ false = search rules in
+    let free : at c.args.self.now.window slot ≡ None =
+    none_of _ (copied-some c.get.result _ false c.get.ensures.value none) in
+    let slots = c.get.ensures.slots in
+    let inside : slot < 16 = search rules in
+    let within : slot < length c.args.self.now.window = search rules in
+    let value = c.number-number.ensures.value in
+    let done = c.len-done.ensures.value in
+    let place : m.number ≡ length finished + slot = search rules in
+    part_put first log c.args.self.now.progress.state.parts finished c.args.self.now.window
+    c.args.self.now.progress.growing found h m slot c.put.new.self c.copy_to.result c.reserve_for.new.self.parts
+    c.reserve.new.self.outcomes (c.requires.name ∙ sym c.args.self.now.progress.same_name)
+    (said_request m c.body.ensures.spelled.fits) place inside within free c.put.ensures c.copy_to.ensures
+    c.reserve_for.ensures.parts c.reserve.ensures.outcomes
+
+pub returns-clause-noted : goal.returns-clause-noted
+returns-clause-noted c = λ first log found hd notes h noted.
+    let slot : ℕ = c.number-number.result - c.len-done.result in
+    let m : Message = message_of c.args.message.now in
+    let finished : List (List ℕ × Verdict) = c.args.self.now.progress.ledger.outcomes in
+    let none : is_some c.get.result ≡ false = search rules in
+    let free : at c.args.self.now.window slot ≡ None =
+    none_of _ (copied-some c.get.result _ false c.get.ensures.value none) in
+    let inside : slot < 16 = search rules in
+    let value = c.number-number.ensures.value in
+    let done = c.len-done.ensures.value in
+    let place : m.number ≡ length finished + slot = search rules in
+    notes_put first log c.args.self.now.progress.state.parts finished c.args.self.now.window
+    c.args.self.now.progress.growing found h m slot hd _ _ notes place inside free noted
+
+pub returns-clause-unasked : goal.returns-clause-unasked
+returns-clause-unasked c = λ first log found h refused.
+    let slot : ℕ = c.number-number.result - c.len-done.result in
+    let m : Message = message_of c.args.message.now in
+    let finished : List (List ℕ × Verdict) = c.args.self.now.progress.ledger.outcomes in
+    let none : is_some c.get.result ≡ false = search rules in
+    let free : at c.args.self.now.window slot ≡ None =
+    none_of _ (copied-some c.get.result _ false c.get.ensures.value none) in
+    let inside : slot < 16 = search rules in
+    let value = c.number-number.ensures.value in
+    let done = c.len-done.ensures.value in
+    let place : m.number ≡ length finished + slot = search rules in
+    no_false (sym refused ∙ free_new first log c.args.self.now.progress.state.parts finished c.args.self.now.window
+    c.args.self.now.progress.growing found h m.number slot place inside free)
