@@ -14,7 +14,7 @@ use Rattle.bw_take.specs.declared.verdict.Verdict.{Verdict}
 use Rattle.bw_file.specs.Growing.{Growing}
 use Rattle.bw_file.specs.declared.store.Created.TheVariants.{New, Exists}
 use Rattle.bw_file.specs.declared.store.StoreFault.{StoreFault}
-use Rattle.bw_session.specs.Writing.{Writes, HasWholeFile}
+use Rattle.bw_session.specs.Writing.{WritesRequest, HasWholeFile}
 use Rattle.bw_session.specs.Carrying.{Touches, Carries}
 
 no_false : {A : Type 0} → false ≡ true → A
@@ -76,7 +76,7 @@ carries_refused v p r g found e s touched =
     }
 
 pub carries_new : (v : Verdict) (p : Parts) (r : Request) (g g' : Growing) (before found : Option (List ℕ)) →
-    verdict_meaning v ≡ judge p r → is_stored (verdict_meaning v) ≡ true → Writes (Ok New) r p g g' before found →
+    verdict_meaning v ≡ judge p r → is_stored (verdict_meaning v) ≡ true → WritesRequest (Ok New) r p g g' before found →
     Carries (Ok v) r p p g g' before found
 carries_new v p r g g' before found e s w =
     let stored : is_stored (judge p r) ≡ true = ap is_stored (sym e) ∙ s in
@@ -89,7 +89,7 @@ carries_new v p r g g' before found e s w =
     }
 
 pub carries_exists : (v : Verdict) (p q : Parts) (r : Request) (g g' : Growing) (before found : Option (List ℕ)) →
-    q ≡ record p { taken = true } → verdict_meaning v ≡ judge q r → Writes (Ok Exists) r p g g' before found →
+    q ≡ record p { taken = true } → verdict_meaning v ≡ judge q r → WritesRequest (Ok Exists) r p g g' before found →
     Carries (Ok v) r p q g g' before found
 carries_exists v p q r g g' before found taken e w = record {
   own = λ t same h. no_false (w.own t same h).0;
@@ -99,7 +99,7 @@ carries_exists v p q r g g' before found taken e w = record {
 
 pub carries_err : (fault fault' : StoreFault) (p : Parts) (r : Request) (g g' : Growing)
     (before found : Option (List ℕ)) →
-    Writes (Err fault) r p g g' before found → Carries (Err fault') r p p g g' before found
+    WritesRequest (Err fault) r p g g' before found → Carries (Err fault') r p p g g' before found
 carries_err fault fault' p r g g' before found w = record {
   own = λ t same h. w.own t same h;
   stood = λ none unmade stood. let left = w.stood none unmade stood in (left.0, left.1, tt);

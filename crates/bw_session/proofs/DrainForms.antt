@@ -21,7 +21,7 @@ use Rattle.bw_file.specs.Growing.{Growing}
 use Rattle.bw_wire.specs.Bodies.{message_in}
 use Rattle.bw_session.specs.Windows.{count_held}
 use Rattle.bw_session.specs.Carrying.{Touches}
-use Rattle.bw_session.specs.Fronts.{take_of, FileStands, FileFollows, HoldsFront}
+use Rattle.bw_session.specs.Fronts.{take_done, FileStands, FileFollows, HoldsFront}
 use Rattle.bw_session.specs.Numbered.{IsNext, with_done, IsDone}
 use Rattle.bw_session.specs.Draining.{Fits, kept_as, NameStands, HoldsPart}
 
@@ -181,10 +181,10 @@ module _ (first : Option (List ℕ)) (log : Log) (p : Parts) (finished : List (L
   }
     where
       stands : (o : Option (List ℕ)) → NameStands o log g.limit (kept_as p finished w g) found →
-          FileStands o (take_of o log) r g found
+          FileStands o (take_done o log) r g found
       stands None f = record {
         whole = subst (λ (x : Option Request). MatchBool g.dirty
-            (IsInTheMiddle (take_of None log) g.limit x found) (found ≡ file_of (take_of None log) g.limit))
+            (IsInTheMiddle (take_done None log) g.limit x found) (found ≡ file_of (take_done None log) g.limit))
             here f.whole;
         made_here = f.made_here;
       }
@@ -219,11 +219,11 @@ module _ (first : Option (List ℕ)) (log : Log) (p : Parts) (finished : List (L
     file = stands first f.file;
   }
     where
-      stands : (o : Option (List ℕ)) → FileStands o (take_of o log) r g' found' →
+      stands : (o : Option (List ℕ)) → FileStands o (take_done o log) r g' found' →
           NameStands o log g'.limit (kept_as q later w g') found'
       stands None f = record {
         whole = subst (λ (x : Option Request). MatchBool g'.dirty
-            (IsInTheMiddle (take_of None log) g'.limit x found') (found' ≡ file_of (take_of None log) g'.limit))
+            (IsInTheMiddle (take_done None log) g'.limit x found') (found' ≡ file_of (take_done None log) g'.limit))
             (sym here) f.whole;
         made_here = f.made_here;
       }
@@ -252,11 +252,11 @@ module _ (first : Option (List ℕ)) (log : Log) (p : Parts) (finished : List (L
     file = stands first d.file;
   }
     where
-      stands : (o : Option (List ℕ)) → FileFollows o (take_of o (with_done log)) g' found' →
+      stands : (o : Option (List ℕ)) → FileFollows o (take_done o (with_done log)) g' found' →
           NameStands o (with_done log) g'.limit (kept_as q later w' g') found'
       stands None f = record {
-        whole = subst (λ (b : Bool). MatchBool b (IsInTheMiddle (take_of None (with_done log)) g'.limit
-            (at log.admitted (suc log.done)) found') (found' ≡ file_of (take_of None (with_done log)) g'.limit))
+        whole = subst (λ (b : Bool). MatchBool b (IsInTheMiddle (take_done None (with_done log)) g'.limit
+            (at log.admitted (suc log.done)) found') (found' ≡ file_of (take_done None (with_done log)) g'.limit))
             (sym clean) f.whole;
         made_here = f.made_here;
       }

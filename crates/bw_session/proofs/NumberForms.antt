@@ -19,7 +19,7 @@ use Rattle.bw_journal.proofs.BetweenLaws.{new_files_are_between}
 use Rattle.bw_session.specs.Writing.{is_mark, HasOwnFile, HasWholeFile}
 use Rattle.bw_session.specs.Carrying.{Touches}
 use Rattle.bw_session.specs.Keeping.{KeepsDone}
-use Rattle.bw_session.specs.Fronts.{take_of, FileFollows, FileStands, HoldsFront, Carried}
+use Rattle.bw_session.specs.Fronts.{take_done, FileFollows, FileStands, HoldsFront, Carried}
 use Rattle.bw_session.specs.Numbered.{is_written, IsNext, with_done, IsDone}
 use Rattle.bw_session.proofs.OwnFiles.{marked_file}
 use Rattle.bw_session.proofs.CarryForms.{after_refused, after_stored}
@@ -109,9 +109,9 @@ done_again first log v p finished r g g' found c clean fields marked =
     (record { memory = c.memory; file = stands first c })
   where
     stands : (first : Option (List ℕ)) → Carried first log v p finished r g found →
-        FileStands first (take_of first log) r (record g { dirty = is_written v r || g.dirty }) found
+        FileStands first (take_done first log) r (record g { dirty = is_written v r || g.dirty }) found
     stands None c =
-        again (take_of None log) r v g found c.verdict_is
+        again (take_done None log) r v g found c.verdict_is
         (subst AreFields (sym (ap (λ (q : Parts). q.fields) (own_parts g.name log p finished c.memory))) fields)
         clean c.file
     stands (Some bytes) c = c.file

@@ -14,7 +14,7 @@ use Rattle.bw_file.specs.declared.store.Created.{Created}
 use Rattle.bw_file.specs.declared.store.Created.TheVariants.{New, Exists}
 use Rattle.bw_file.specs.declared.store.StoreFault.{StoreFault}
 use Rattle.bw_file.proofs.Judged.{IsOpen, open_for}
-use Rattle.bw_session.specs.Writing.{Writes}
+use Rattle.bw_session.specs.Writing.{WritesRequest}
 use Rattle.bw_session.proofs.OwnFiles.{ready, whole_behind, own_behind, begun, opened_new, never_stood, opened_err}
 use Rattle.bw_session.proofs.OwnFiles.{left_alone, marked_file}
 
@@ -34,7 +34,7 @@ module _ (p : Parts) (r : Request) (g g' : Growing) (before after : Option (List
 
   pub writes_ok : ((t : Take) → (with_request t r).format ≡ t.format) → g' ≡ record g { dirty = false } →
       ((t : Take) → parts t ≡ p → IsReady g t r before → after ≡ file_of (with_request t r) g.limit) →
-      Writes (Ok New) r p g g' before after
+      WritesRequest (Ok New) r p g g' before after
   writes_ok keeps known file = record {
     own = λ t e h. (
       refl,
@@ -46,7 +46,7 @@ module _ (p : Parts) (r : Request) (g g' : Growing) (before after : Option (List
 
   pub writes_err : (fault : StoreFault) → judge p r ≡ Stored → g' ≡ record g { dirty = true } →
       ((t : Take) → parts t ≡ p → IsReady g t r before → IsBetween t g.limit r after) →
-      Writes (Err fault) r p g g' before after
+      WritesRequest (Err fault) r p g g' before after
   writes_err fault stored known file = record {
     own = λ t e h. own_behind t o.format r g g' before after (has_format t e) (still_stored t p r e stored) known h
         (file t e (ready t r g before h));
@@ -56,7 +56,7 @@ module _ (p : Parts) (r : Request) (g g' : Growing) (before after : Option (List
 -- a marker
 pub writes_mark : (p : Parts) (id frame : ℕ) (g : Growing) (found : Option (List ℕ)) →
     judge p (Mark id frame) ≡ Stored →
-    g.dirty ≡ false → Writes (Ok New) (Mark id frame) p g g found found
+    g.dirty ≡ false → WritesRequest (Ok New) (Mark id frame) p g g found found
 writes_mark p id frame g found stored clean =
     let o = open_for p (Mark id frame) refl stored in
     record {
@@ -79,7 +79,7 @@ pub writes_open : (answer : Result Created StoreFault) (p : Parts) (f : Format) 
     OnErr answer (g' ≡ record g { made = g'.made; dirty = true }) →
     AsksForName g.made g'.made before after → IfOk answer (λ c. IsFalse (is_new c) → IsSome before) →
     ((t : Take) → parts t ≡ p → BeginsFile answer g g'.made t (Open f history) before after) →
-    Writes answer (Open f history) p g g' before after
+    WritesRequest answer (Open f history) p g g' before after
 writes_open (Ok New) p f history g g' before after stored known err name stood file =
     let made : g'.made ≡ true = ap (λ (x : Growing). x.made) known in
     record {

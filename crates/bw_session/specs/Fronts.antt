@@ -10,8 +10,8 @@ use Rattle.bw_session.specs.Writing.{HasOwnFile, HasWholeFile}
 use Rattle.bw_session.specs.Keeping.{KeepsDone}
 
 -- the take that a log's done numbers make, under a name with these contents at the start
-abbrev pub take_of : Option (List ℕ) → Log → Take
-take_of first log = made (is_some first) log.admitted log.done
+abbrev pub take_done : Option (List ℕ) → Log → Take
+take_done first log = made (is_some first) log.admitted log.done
 
 -- What an honest store has while this request waits: of a name that stood what stood, else the
 -- take's file, or what an earlier try may have left.
@@ -29,15 +29,15 @@ pub record HoldsFront (first : Option (List ℕ)) (log : Log) (p : Parts)
     (finished : List (List ℕ × Verdict)) (r : Request) (g : Growing)
     (found : Option (List ℕ)) : Type 0 where
   pub memory : KeepsDone (is_some first) g.name log p finished
-  pub file : FileStands first (take_of first log) r g found
+  pub file : FileStands first (take_done first log) r g found
 
 -- The next request has its verdict, and the file is that of the take behind it.
 pub record Carried (first : Option (List ℕ)) (log : Log) (v : Verdict) (p : Parts)
     (finished : List (List ℕ × Verdict)) (r : Request) (g : Growing)
     (found : Option (List ℕ)) : Type 0 where
-  pub verdict_is : v ≡ verdict (take_of first log) r
+  pub verdict_is : v ≡ verdict (take_done first log) r
   pub memory : KeepsDone (is_some first) g.name log p finished
-  pub file : FileFollows first (after (take_of first log) r) g found
+  pub file : FileFollows first (after (take_done first log) r) g found
 
 -- It is carried out, or waits on.
 abbrev pub CarriesFront : Result Judgement StoreFault → Option (List ℕ) → Log → Parts →

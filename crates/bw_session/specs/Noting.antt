@@ -38,6 +38,6 @@ abbrev pub OnlyBegins : Header → Option (List ℕ) → Option (List ℕ) → T
 OnlyBegins h before found = (found ≡ before) ⊎ BeginsNotes h before found
 
 -- the log behind a number that is done, or waits on
-abbrev pub log_behind : Result Verdict StoreFault → Log → Log
-log_behind (Ok v) log = with_done log
-log_behind (Err fault) log = log
+abbrev pub log_left : Result Verdict StoreFault → Log → Log
+log_left (Ok v) log = with_done log
+log_left (Err fault) log = log

@@ -20,7 +20,7 @@ use Rattle.bw_journal.specs.Notes.{KeepsHeaders}
 use Rattle.bw_journal.specs.declared.journal.Journal.{Ghosts as JournalGhosts}
 use Rattle.bw_session.specs.Writing.{is_mark}
 use Rattle.bw_session.specs.Keeping.{KeepsDone}
-use Rattle.bw_session.specs.Fronts.{take_of, FileFollows, HoldsFront}
+use Rattle.bw_session.specs.Fronts.{take_done, FileFollows, HoldsFront}
 
 -- how many calls of a store and of its journal failed; the count stays at its last value
 abbrev pub failed_calls : ℕ → ℕ → ℕ
@@ -76,7 +76,7 @@ pub record IsDone (first : Option (List ℕ)) (log : Log) (v : Verdict) (p : Par
     Type 0 where
   pub verdict_is : v ≡ verdict_at (is_some first) log.admitted log.done
   pub memory : KeepsDone (is_some first) g.name (with_done log) p finished
-  pub file : FileFollows first (take_of first (with_done log)) g found
+  pub file : FileFollows first (take_done first (with_done log)) g found
 
 -- It is done, or waits on.
 abbrev pub DoesNext : Result Judgement StoreFault → Option (List ℕ) → Log → Parts →

@@ -40,7 +40,7 @@ pub record Knows (answer : Result Created StoreFault) (r : Request) (old new : G
 
 -- What stands after a request was written. The name of an unopened take that stood is left as it
 -- was.
-pub record Writes (answer : Result Created StoreFault) (r : Request) (p : Parts)
+pub record WritesRequest (answer : Result Created StoreFault) (r : Request) (p : Parts)
     (old new : Growing) (before after : Option (List ℕ)) : Type 0 where
   pub own : (t : Take) → parts t ≡ p → HasOwnFile t r old before →
       MatchResult answer

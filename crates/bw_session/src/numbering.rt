@@ -10,7 +10,7 @@ ghost use Rattle.bw_journal.specs.Entries.{longest_entry};
 ghost use Rattle.bw_journal.specs.Notes.{BeginsNotes, BeginsInPart, Notes, NotesInPart};
 ghost use Rattle.bw_session.specs.Carrying.{Touches};
 ghost use Rattle.bw_session.specs.Fronts.{HoldsFront};
-ghost use Rattle.bw_session.specs.Noting.{IsNoted, OnlyBegins, log_behind};
+ghost use Rattle.bw_session.specs.Noting.{IsNoted, OnlyBegins, log_left};
 ghost use Rattle.bw_session.specs.Numbered.{KeepsJournal, KeepsBoth, IsMeasured, IsNext, DoesNext};
 ghost use Rattle.bw_session.specs.Numbered.{is_written as was_written, noted_of};
 
@@ -182,7 +182,7 @@ impl Progress {
             IsNoted (J.header stores.old.journal self.old.name) self.old.name log self.old.noted
             (J.notes stores.old.journal self.old.name) →
             IsNoted (J.header stores.old.journal self.old.name) self.old.name
-            (log_behind result log) self.new.noted
+            (log_left result log) self.new.noted
             (J.notes stores.new.journal self.old.name) }
         ensures unnoted { IsTrue (J.honest stores.old.journal) →
             S.failures stores.new.store ≢ S.failures stores.old.store →

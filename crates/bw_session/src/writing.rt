@@ -6,13 +6,13 @@ ghost use Rattle.bw_model.specs.Wire.{is_request};
 ghost use Rattle.bw_take.specs.Requests.{meaning};
 ghost use Rattle.bw_take.specs.States.{samples_in};
 ghost use Rattle.bw_file.specs.Stores.{Counts, KeepsOthers};
-ghost use Rattle.bw_session.specs.Writing.{is_mark, Knows, Writes};
+ghost use Rattle.bw_session.specs.Writing.{is_mark, Knows, WritesRequest};
 
 use bw_file::{Created, GrowingFile, StoreFault, TakeStore};
 use bw_layout::Fmt;
 use bw_take::{RequestRef, TakeState};
 
-/// Writes a request that is to be stored to the file: `Exists` where it would open a take whose
+/// WritesRequest a request that is to be stored to the file: `Exists` where it would open a take whose
 /// name stood in the store. A marker waits in memory for the take's end.
 ///
 /// # Errors
@@ -34,7 +34,7 @@ pub(crate) fn write_request<S: TakeStore>(
         KeepsOthers (S.contents store.old) (S.contents store.new) growing.old.name }
     ensures known { Knows result (meaning request.now) growing.old growing.new }
     ensures file { IsTrue (S.honest store.old) →
-        Writes result (meaning request.now) state.now.parts growing.old growing.new
+        WritesRequest result (meaning request.now) state.now.parts growing.old growing.new
         (S.contents store.old growing.old.name) (S.contents store.new growing.old.name) }
 {
     match *request {
