@@ -5,7 +5,7 @@ use Rattle.std.proofs.Common.{le-ltb, lt-ltb, get_or, length-set}
 use Rattle.std.specs.Prelude.{IsTrue, is_some, is_none, fold, nat_le, nat_lt, option_map, slice_set}
 use Rattle.std.specs.Bool.{MatchBool}
 use Rattle.std.specs.List.{list_all}
-use Rattle.std.proofs.lemmas.Bool.{and_parts, and_from}
+use Rattle.std.proofs.lemmas.Bool.{and_parts, and_from, cases_lt}
 use Rattle.std.proofs.lemmas.List.Sums.{count_by-le-length, sum_by-set}
 use Rattle.sha2.specs.Sha256.{sha256}
 use Rattle.bw_model.specs.Bytes.{at, put}
@@ -17,7 +17,7 @@ use Rattle.bw_model.specs.Book.{Log, made, step, verdict_at}
 use Rattle.bw_model.specs.Turn.{is_admissible, window}
 use Rattle.bw_model.specs.Holds.{HoldsName, IsInTheMiddle, body_of, finished_from}
 use Rattle.bw_model.proofs.MapLemmas.{at-put_same, at-put_other, take-put, filled_len, not_filled, verdict-put}
-use Rattle.bw_model.proofs.MapLemmas.{below_or_not, IsFilled}
+use Rattle.bw_model.proofs.MapLemmas.{IsFilled}
 use Rattle.bw_file.specs.Growing.{Growing}
 use Rattle.bw_journal.specs.JournalHeaders.{Header, header_bytes}
 use Rattle.bw_journal.specs.Entries.{JournalEntry, sealed_entry, sealed_entries}
@@ -173,7 +173,7 @@ made_put stood s n r done filled none = ap (fold step (new_take stood)) (take_pu
 
 filled_next : (s : List (Option Request)) (done : ℕ) (r : Request) → IsFilled s done → at s done ≡ Some r →
     IsFilled s (suc done)
-filled_next s done r filled here k below = go (below_or_not k done)
+filled_next s done r filled here k below = go (cases_lt k done)
   where
     go : (k < done) ⊎ (done ≤ k) → (x : Request) × (at s k ≡ Some x)
     go (inl less) = filled k less

@@ -76,7 +76,8 @@ carries_refused v p r g found e s touched =
     }
 
 pub carries_new : (v : Verdict) (p : Parts) (r : Request) (g g' : Growing) (before found : Option (List ℕ)) →
-    verdict_meaning v ≡ judge p r → is_stored (verdict_meaning v) ≡ true → WritesRequest (Ok New) r p g g' before found →
+    verdict_meaning v ≡ judge p r → is_stored (verdict_meaning v) ≡ true →
+    WritesRequest (Ok New) r p g g' before found →
     Carries (Ok v) r p p g g' before found
 carries_new v p r g g' before found e s w =
     let stored : is_stored (judge p r) ≡ true = ap is_stored (sym e) ∙ s in

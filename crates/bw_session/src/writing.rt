@@ -12,7 +12,7 @@ use bw_file::{Created, GrowingFile, StoreFault, TakeStore};
 use bw_layout::Fmt;
 use bw_take::{RequestRef, TakeState};
 
-/// WritesRequest a request that is to be stored to the file: `Exists` where it would open a take whose
+/// Writes a request that is to be stored to the file: `Exists` where it would open a take whose
 /// name stood in the store. A marker waits in memory for the take's end.
 ///
 /// # Errors
