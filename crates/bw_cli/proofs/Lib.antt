@@ -1,4 +1,3 @@
-pub mod CueLemmas
 pub mod FileLemmas
 pub mod LineLemmas
 pub mod InputLemmas

@@ -109,8 +109,8 @@ IsLook file path false did = ((kind : ErrorKind) × IsUnopened path kind did) �
 
 -- what is done for a command line over these files and this input, where the system gives what is
 -- asked of it, or not
-abbrev pub IsDoneFor : (Text → Option (List ℕ)) → Option (List ℕ) → CommandLine → Bool → Deed →
-    Type 0
+abbrev pub IsDoneFor : (Text → Option (List ℕ)) → Option (List ℕ) → CommandLine → Bool →
+    Deed → Type 0
 IsDoneFor file_at input (Run (Replay limit)) gives_all did =
     IsReplay limit input did × (gives_all ≡ true)
 IsDoneFor file_at input (Run (Inspect file)) gives_all did =

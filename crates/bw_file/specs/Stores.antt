@@ -42,5 +42,6 @@ MayTear before place n after =
     (new : List ℕ) × (after ≡ Some new) × Torn old place n new)
 
 -- each other name has what it had
-abbrev pub KeepsOthers : (List ℕ → Option (List ℕ)) → (List ℕ → Option (List ℕ)) → List ℕ → Type 0
+abbrev pub KeepsOthers :
+    (List ℕ → Option (List ℕ)) → (List ℕ → Option (List ℕ)) → List ℕ → Type 0
 KeepsOthers before after name = (other : List ℕ) → other ≢ name → after other ≡ before other

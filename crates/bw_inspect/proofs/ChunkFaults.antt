@@ -37,7 +37,8 @@ some-map : {X Y : Type 0} (f : X → Y) (o : Option X) → is_some (option_map f
 some-map f None = refl
 some-map f (Some x) = refl
 
-abbrev pub parts : ℕ → ℕ → List reading.Entry → ℕ → ChunkKind → Bool → Option ℕ → ℕ → ℕ → List (Bool × reading.Fault)
+abbrev pub parts : ℕ → ℕ → List reading.Entry → ℕ → ChunkKind → Bool → Option ℕ → ℕ → ℕ →
+    List (Bool × reading.Fault)
 parts len end seen p s has size count c =
     start_faults len seen p ++ (size_faults end p s has size c ++ content_faults len p s count c)
 

@@ -57,7 +57,8 @@ start_faults len seen p =
     ∷ []
 
 -- the faults that a head shows by itself
-abbrev pub size_faults : ℕ → ℕ → ChunkKind → Bool → Option ℕ → ℕ → List (Bool × reading.Fault)
+abbrev pub size_faults : ℕ → ℕ → ChunkKind → Bool → Option ℕ → ℕ →
+    List (Bool × reading.Fault)
 size_faults end p kind seen size c =
     reading.line (is_none size) reading.NoSize p
     ∷ reading.line (nat_lt reading.largest c) reading.TooLarge p

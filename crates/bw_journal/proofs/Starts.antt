@@ -89,20 +89,6 @@ starts_short bytes before after short is = record {
   only = inr (short_front bytes before short);
 }
 
-pub starts_not : (bytes : List ℕ) (before after : Option (List ℕ)) → after ≡ before → StartsInPart bytes before after
-starts_not bytes before after same = record {
-  front = λ front. subst (IsFrontOf bytes) (sym same) front;
-  kept = λ whole. same;
-  only = inl same;
-}
-
--- what is noted over whatever stood there is noted in place of a front
-pub notes_over : (offset : ℕ) (bytes : List ℕ) (before after : Option (List ℕ)) → NotesOver offset bytes before after →
-    Notes offset bytes before after
-notes_over offset bytes before after (old, is, fits, new) = λ base count was long.
-    new ∙ ap (λ (x : List ℕ). Some (take offset x ++ bytes)) (some_inj (sym is ∙ was))
-    ∙ ap (λ (x : List ℕ). Some (x ++ bytes)) (take_at base (take count bytes) offset long)
-
 pub notes_cut : (offset : ℕ) (bytes : List ℕ) (before after : Option (List ℕ)) →
     after ≡ option_map (take offset) before →
     NotesInPart offset bytes before after

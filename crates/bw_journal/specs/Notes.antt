@@ -49,13 +49,15 @@ BeginsInPart header before after = StartsInPart (header_bytes header) before aft
 -- After a `note` that succeeds: the bytes stand behind so many others, in place of a front of them.
 abbrev pub Notes : ℕ → List ℕ → Option (List ℕ) → Option (List ℕ) → Type 0
 Notes offset bytes before after =
-    (base : List ℕ) (count : ℕ) → before ≡ Some (base ++ take count bytes) → length base ≡ offset →
+    (base : List ℕ) (count : ℕ) →
+    before ≡ Some (base ++ take count bytes) → length base ≡ offset →
     after ≡ Some (base ++ bytes)
 
 -- .. that fails: a front of them stands there
 abbrev pub NotesInPart : ℕ → List ℕ → Option (List ℕ) → Option (List ℕ) → Type 0
 NotesInPart offset bytes before after =
-    (base : List ℕ) (count : ℕ) → before ≡ Some (base ++ take count bytes) → length base ≡ offset →
+    (base : List ℕ) (count : ℕ) →
+    before ≡ Some (base ++ take count bytes) → length base ≡ offset →
     (reached : ℕ) × (after ≡ Some (base ++ take reached bytes))
 
 -- the bytes stand behind so many others, in place of whatever stood there

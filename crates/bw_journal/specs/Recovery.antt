@@ -39,8 +39,8 @@ kept_by stood name log found = record {
 }
 
 -- .. of each name of which something is done
-abbrev pub kept_after : (List ℕ → Option (List ℕ)) → (List ℕ → Option (List ℕ)) → Book → List ℕ →
-    Option Kept
+abbrev pub kept_after : (List ℕ → Option (List ℕ)) → (List ℕ → Option (List ℕ)) → Book →
+    List ℕ → Option Kept
 kept_after first contents book name =
     if nat_lt 0 (log_of book name).done
     then Some (kept_by (is_some (first name)) name (log_of book name) (contents name))

@@ -13,8 +13,8 @@ abbrev EachFrom : (ℕ → ℕ × ℕ → Type 0) → ℕ → List (ℕ × ℕ) 
 EachFrom P tag [] = Unit {0}
 EachFrom P tag (at ∷ rest) = P tag at × EachFrom P (suc tag) rest
 
-each_from : (P : ℕ → ℕ × ℕ → Type 0) (tag : ℕ) (ranges : List (ℕ × ℕ)) (n : ℕ) (at : ℕ × ℕ) → EachFrom P tag ranges →
-    slice_get ranges n ≡ Some at → P (tag + n) at
+each_from : (P : ℕ → ℕ × ℕ → Type 0) (tag : ℕ) (ranges : List (ℕ × ℕ)) (n : ℕ) (at : ℕ × ℕ) →
+    EachFrom P tag ranges → slice_get ranges n ≡ Some at → P (tag + n) at
 each_from P tag [] n at all e = cc
 each_from P tag (first ∷ rest) zero at all e =
     let here : tag ≡ tag + zero = omega arith in
@@ -24,8 +24,8 @@ each_from P tag (first ∷ rest) (suc n) at all e =
     let later : suc tag + n ≡ tag + suc n = omega arith in
     subst (λ (t : ℕ). P t at) later (each_from P (suc tag) rest n at all.1 e)
 
-each_range : (P : ℕ → ℕ × ℕ → Type 0) (tag : ℕ) (at : ℕ × ℕ) → EachFrom P 1 field_ranges → range_of tag ≡ Some at →
-    P tag at
+each_range : (P : ℕ → ℕ × ℕ → Type 0) (tag : ℕ) (at : ℕ × ℕ) → EachFrom P 1 field_ranges →
+    range_of tag ≡ Some at → P tag at
 each_range P zero at all e = cc
 each_range P (suc n) at all e =
     let next : 1 + n ≡ suc n = omega arith in

@@ -85,8 +85,8 @@ record Levels (g h i j k bytes : List ℕ) : Type 0 where
   j-is : slice_range bytes 418 420 ≡ j
   k-is : slice_range bytes 420 422 ≡ k
 
-levels_at_412 : (x g h i j k q : List ℕ) → length x ≡ 412 → length g ≡ 2 → length h ≡ 2 → length i ≡ 2 → length j ≡ 2 →
-    length k ≡ 2 → Levels g h i j k (x ++ ((g ++ (h ++ (i ++ (j ++ (k ++ []))))) ++ q))
+levels_at_412 : (x g h i j k q : List ℕ) → length x ≡ 412 → length g ≡ 2 → length h ≡ 2 → length i ≡ 2 →
+    length j ≡ 2 → length k ≡ 2 → Levels g h i j k (x ++ ((g ++ (h ++ (i ++ (j ++ (k ++ []))))) ++ q))
 levels_at_412 x g h i j k q lx lg lh li lj lk = record {
   g-is = part x g (h ++ i ++ j ++ k ++ q) 412 lx lg (simp (append_assoc, append-nil));
   h-is = part (x ++ g) h (i ++ j ++ k ++ q) 414 (simp length-append (omega arith)) lh (simp (append_assoc, append-nil));

@@ -47,14 +47,15 @@ Skips old most n new = (xs : List ℕ) → old ≡ Some xs → IsSkipped xs most
 
 -- Within so many bytes a skip seeks: it passes over as many as are wanted and there are, and moves
 -- a known position to the place behind them.
-abbrev pub SeeksOver : {E : Type 0} → ℕ → ℕ → ℕ → Option ℕ → Option ℕ → Result ℕ E → Type 0
+abbrev pub SeeksOver : {E : Type 0} → ℕ → ℕ → ℕ → Option ℕ → Option ℕ → Result ℕ E →
+    Type 0
 SeeksOver place len most old new result =
     let count = min most (len - place) in
     0 < count → IfOk result (λ n. n ≡ count) × MovesTo old new (place + count) result
 
 -- Behind so many bytes a skip reads on: it passes over the next bytes that the reader itself has.
-abbrev pub ReadsOn : {E : Type 0} → ℕ → ℕ → ℕ → Option (List ℕ) → Option (List ℕ) → Result ℕ E →
-    Type 0
+abbrev pub ReadsOn : {E : Type 0} → ℕ → ℕ → ℕ → Option (List ℕ) → Option (List ℕ) →
+    Result ℕ E → Type 0
 ReadsOn place len most old new result =
     min most (len - place) ≡ 0 → MatchResult result (λ n. Skips old most n new) (λ _. Keeps old new)
 

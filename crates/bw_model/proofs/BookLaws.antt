@@ -96,7 +96,7 @@ some_admitted log m h = go (is_admissible log m.number) h
     go false h = h refl
     go true h = some-put log.admitted m.number m.request
 
-fits-put : (s : List (Option Request)) (n : ℕ) (r : Request) → list_all spelled s ≡ true → is_request r ≡ true →
+pub fits-put : (s : List (Option Request)) (n : ℕ) (r : Request) → list_all spelled s ≡ true → is_request r ≡ true →
     list_all spelled (put s n r) ≡ true
 fits-put [] zero r h fits = and_from (is_request r) true fits refl
 fits-put [] (suc n) r h fits = fits-put [] n r refl fits
@@ -107,7 +107,7 @@ fits-put (y ∷ ys) (suc n) r h fits =
     let both = and_parts (spelled y) (list_all spelled ys) h in
     and_from (spelled y) (list_all spelled (put ys n r)) both.0 (fits-put ys n r both.1 fits)
 
-fits_admitted : (log : Log) (m : Message) → IsTrue (list_all spelled log.admitted) → is_request m.request ≡ true →
+pub fits_admitted : (log : Log) (m : Message) → IsTrue (list_all spelled log.admitted) → is_request m.request ≡ true →
     IsTrue (list_all spelled (admitted_after log m))
 fits_admitted log m h fits = go (is_admissible log m.number)
   where

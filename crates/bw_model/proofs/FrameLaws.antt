@@ -260,11 +260,3 @@ first_frame-framed v f more h =
     let has = framed_has longest_body (body f) more len.0 len.1 (omega (arith, len.1)) in
     first_frame-body v (framed (body f) ++ more) has.0
     ∙ first_of_framed (decoded v) f (body f) more has.1 (spelled_is_read v f h)
-
-pub first_reply-framed : (r : Reply) (more : List ℕ) → is_reply r ≡ true →
-    first_reply (framed (reply_body r) ++ more) ≡ Ok (r, more)
-first_reply-framed r more h =
-    let len = reply_length r h in
-    let has = framed_has longest_reply (reply_body r) more len.0 len.1 (omega (arith, len.1)) in
-    first_reply-body (framed (reply_body r) ++ more) has.0
-    ∙ first_of_framed decoded_reply r (reply_body r) more has.1 (spelled_reply_is_read r h)

@@ -147,7 +147,8 @@ parts_of_2 : (a b c d e f v g h i j k l r y : List ℕ) →
     ≡ concat (a ∷ b ∷ c ∷ d ∷ e ∷ f ∷ v ∷ g ∷ h ∷ i ∷ j ∷ k ∷ l ∷ r ∷ y ∷ [])
 parts_of_2 a b c d e f v g h i j k l r y = simp (append_assoc, append-nil)
 
-twelve : (a b c d e f g h i j k l history : List ℕ) → AreFields (a ∷ b ∷ c ∷ d ∷ e ∷ f ∷ g ∷ h ∷ i ∷ j ∷ k ∷ l ∷ []) →
+twelve : (a b c d e f g h i j k l history : List ℕ) →
+    AreFields (a ∷ b ∷ c ∷ d ∷ e ∷ f ∷ g ∷ h ∷ i ∷ j ∷ k ∷ l ∷ []) →
     raw_bext (bext_fixed (a ∷ b ∷ c ∷ d ∷ e ∷ f ∷ g ∷ h ∷ i ∷ j ∷ k ∷ l ∷ []) ++ history)
     ≡ told_bext (a ∷ b ∷ c ∷ d ∷ e ∷ f ∷ g ∷ h ∷ i ∷ j ∷ k ∷ l ∷ [])
 twelve a b c d e f g h i j k l history w = go (is_version_1 (a ∷ b ∷ c ∷ d ∷ e ∷ f ∷ g ∷ h ∷ i ∷ j ∷ k ∷ l ∷ []))

@@ -79,8 +79,8 @@ pub record SpellsReply (bytes : List ℕ) (r : Reply) : Type 0 where
 
 -- what has this code
 abbrev pub verdicts : List Verdict
-verdicts = Stored ∷ NameTaken ∷ AlreadyOpen ∷ NotOpen ∷ Closed ∷ BadFormat ∷ BadBlock ∷ BadMarker
-    ∷ DuplicateMarker ∷ TooManyMarkers ∷ BadField ∷ WrongTotal ∷ []
+verdicts = Stored ∷ NameTaken ∷ AlreadyOpen ∷ NotOpen ∷ Closed ∷ BadFormat ∷ BadBlock
+    ∷ BadMarker ∷ DuplicateMarker ∷ TooManyMarkers ∷ BadField ∷ WrongTotal ∷ []
 
 -- all notices
 abbrev pub notices : List Notice
@@ -124,7 +124,8 @@ refused_by (code ∷ offset) =
     else None
 
 -- a reply that begins with a name and a number
-abbrev pub addressed_reply : List ℕ → (List ℕ → ℕ → List ℕ → Option Reply) → Result Reply Reason
+abbrev pub addressed_reply : List ℕ → (List ℕ → ℕ → List ℕ → Option Reply) →
+    Result Reply Reason
 addressed_reply rest reply_by =
     if is_name_bad rest then Err Name
     else if is_number_bad (last_number Second) rest then Err Number

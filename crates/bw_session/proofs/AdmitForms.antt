@@ -18,6 +18,7 @@ use Rattle.bw_model.specs.Turn.{is_admissible, window}
 use Rattle.bw_model.specs.Holds.{HoldsName, IsInTheMiddle, body_of, finished_from}
 use Rattle.bw_model.proofs.MapLemmas.{at-put_same, at-put_other, take-put, filled_len, not_filled, verdict-put}
 use Rattle.bw_model.proofs.MapLemmas.{IsFilled}
+use Rattle.bw_model.proofs.BookLaws.{fits-put}
 use Rattle.bw_file.specs.Growing.{Growing}
 use Rattle.bw_journal.specs.JournalHeaders.{Header, header_bytes}
 use Rattle.bw_journal.specs.Entries.{JournalEntry, sealed_entry, sealed_entries}
@@ -116,16 +117,6 @@ fits_held g p q done later room room' places places' slot w w' b f none within s
 pub said_request : (m : Message) → is_message Second m ≡ true → is_request m.request ≡ true
 said_request m e =
     (and_parts (is_name m.name && nat_le m.number (last_number Second)) (is_request m.request) e).1
-
-fits-put : (s : List (Option Request)) (n : ℕ) (r : Request) → list_all is_admitted s ≡ true → is_request r ≡ true →
-    list_all is_admitted (put s n r) ≡ true
-fits-put [] zero r h fits = and_from (is_request r) true fits refl
-fits-put [] (suc n) r h fits = fits-put [] n r refl fits
-fits-put (y ∷ ys) zero r h fits =
-    and_from (is_request r) (list_all is_admitted ys) fits (and_parts (is_admitted y) (list_all is_admitted ys) h).1
-fits-put (y ∷ ys) (suc n) r h fits =
-    let both = and_parts (is_admitted y) (list_all is_admitted ys) h in
-    and_from (is_admitted y) (list_all is_admitted (put ys n r)) both.0 (fits-put ys n r both.1 fits)
 
 -- what is kept of so many numbers tells that they are in the log
 filled_front : (stood : Bool) (whole : List (Option Request)) (name : List ℕ) (n count : ℕ) (s : List (Option Request))

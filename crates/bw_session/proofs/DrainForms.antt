@@ -105,22 +105,6 @@ fits_done g g' p q done later room room' places places' w w' b f here moved more
     no_false : {A : Type 0} → false ≡ true → A
     no_false e = cc
 
-pub fits_stopped : (g g' : Growing) (p q : Parts) (done later room room' places places' : ℕ)
-    (w : List (Option (List ℕ))) (b : List ℕ) → Fits g p done room places w → at w 0 ≡ Some b →
-    later ≡ done → room' ≡ room → places' ≡ places → (IsTrue g'.dirty → Touches q (message_in b).request) →
-    Fits g' q later room' places' w
-fits_stopped g g' p q done later room room' places places' w b f here same same' same'' touches =
-    subst (λ (n : ℕ). Fits g' q n room' places' w) (sym same)
-    (subst (λ (n : ℕ). Fits g' q done n places' w) (sym same')
-    (subst (λ (n : ℕ). Fits g' q done room n w) (sym same'') (record {
-      storable = f.storable;
-      keepable = f.keepable;
-      numbers = f.numbers;
-      held = λ dirty. ap is_some here;
-      again = λ dirty body is.
-          subst (λ (x : List ℕ). Touches q (message_in x).request) (some_inj (sym here ∙ is)) (touches dirty);
-    })))
-
 -- What the log says.
 
 admitted_fits : (s : List (Option Request)) (n : ℕ) (r : Request) → list_all is_admitted s ≡ true → at s n ≡ Some r →
@@ -143,13 +127,6 @@ module _ (first : Option (List ℕ)) (log : Log) (p : Parts) (finished : List (L
       let place : log.done + 0 ≡ log.done = omega arith in
       h.memory.held 0
       ∙ ap (λ (n : ℕ). option_map (body_of g.name n) (at log.admitted n)) place
-
-  pub idle_here : at w 0 ≡ None → at log.admitted log.done ≡ None
-  idle_here e = go (at log.admitted log.done) refl
-    where
-      go : (o : Option Request) → at log.admitted log.done ≡ o → at log.admitted log.done ≡ None
-      go None is = is
-      go (Some r) is = no_some (sym e ∙ first_slot ∙ ap (option_map (body_of g.name log.done)) is)
 
   -- the request of the first held body is the log's next
   held_next : (m : Message) (digest : List ℕ) → at w 0 ≡ Some (message_body m) → is_request m.request ≡ true →

@@ -28,9 +28,6 @@ verdict_of-code TooManyMarkers = refl
 verdict_of-code BadField = refl
 verdict_of-code WrongTotal = refl
 
-pub verdict_coded-code : (v : Verdict) → verdict_coded (verdict_code v) ≡ v
-verdict_coded-code v = rw (verdict_of-code v) refl
-
 -- one entry more behind the others
 pub entries_push : (n : ℕ) (bytes digest : List ℕ) (v : Verdict) → length bytes ≡ 33 * n → length digest ≡ 32 →
     entries_in (suc n) (bytes ++ (digest ++ verdict_code v ∷ [])) ≡ entries_in n bytes ++ (digest, v) ∷ []
