@@ -181,7 +181,7 @@ and_no false = refl
 module _ (first : Option (List ℕ)) (log : Log) (p : Parts) (finished : List (List ℕ × Verdict))
     (w : List (Option (List ℕ))) (g : Growing) (found : Option (List ℕ))
     (h : HoldsPart first log p finished w g found) where
-  filled : IsFilled log.admitted log.done
+  pub filled : IsFilled log.admitted log.done
   filled k below =
       let long : length (finished_from (is_some first) log.admitted g.name 0 (take log.done log.admitted)) ≡ log.done =
       ap length (sym h.memory.finished) ∙ h.memory.done in

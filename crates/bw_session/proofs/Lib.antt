@@ -10,3 +10,5 @@ pub mod NoteForms
 pub mod DrainForms
 pub mod NewForms
 pub mod AdmitForms
+pub mod RunForms
+pub mod ReplyForms

@@ -66,6 +66,24 @@ drained_log Idle log = log
 drained_log (Done v) log = with_done log
 drained_log Stopped log = log
 
+-- how many numbers were done
+abbrev pub drained_count : Drained → ℕ
+drained_count Idle = 0
+drained_count (Done v) = 1
+drained_count Stopped = 0
+
+-- so many calls of the store at most
+abbrev pub call_bound : Drained → ℕ
+call_bound Idle = 0
+call_bound (Done v) = 4
+call_bound Stopped = 4
+
+-- the number that was tried is one of a message
+abbrev pub IsTried : Drained → ℕ → Type 0
+IsTried Idle number = Unit {0}
+IsTried (Done v) number = number ≤ last_number Second
+IsTried Stopped number = number ≤ last_number Second
+
 -- Nothing was held; or the number has its verdict; or it waits on.
 abbrev pub TellsNext : Drained → Bool → Log → Type 0
 TellsNext Idle stood log = at log.admitted log.done ≡ None

@@ -9,3 +9,6 @@ pub mod Numbered
 pub mod Noting
 pub mod Draining
 pub mod Admitting
+pub mod Sessions
+pub mod Runs
+pub mod Serving

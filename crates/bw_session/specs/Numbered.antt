@@ -6,6 +6,7 @@ use Rattle.bw_model.specs.Bytes.{at}
 use Rattle.bw_model.specs.Counts.{Counts, last_count}
 use Rattle.bw_model.specs.Limits.{longest_block}
 use Rattle.bw_model.specs.Take.{Parts, Request, Verdict, is_stored}
+use Rattle.bw_model.specs.Wire.{Second, last_number}
 use Rattle.bw_model.specs.Book.{Log, verdict_at}
 use Rattle.bw_model.specs.Holds.{body_of}
 use Rattle.bw_take.specs.Verdicts.{verdict_meaning}
@@ -48,10 +49,12 @@ pub record KeepsBoth {X Y : Type 0} (S : StoreGhosts X) (J : JournalGhosts Y) (f
   pub other_notes : IsTrue (J.honest journal) →
       KeepsOthers (J.notes journal) (J.notes journal') name
 
--- What is kept takes no more than its done numbers can have brought.
+-- What is kept takes no more than its done numbers can have brought, and these are numbers of
+-- messages.
 pub record IsMeasured (p : Parts) (done noted : ℕ) : Type 0 where
   pub samples : p.samples_len ≤ longest_block * done
   pub notes : noted ≤ header_len + longest_entry * done
+  pub numbers : done ≤ last_number Second + 1
 
 -- with this verdict the request was written to the file
 abbrev pub is_written : Verdict → Request → Bool

@@ -1,15 +1,21 @@
 //! Draining: the next number of a name is done where its message came.
-ghost use Rattle.std.specs.Prelude.{◌≡◌, ◌+◌, ◌≤◌, ℕ, List, Option, length, IsTrue, is_some};
+ghost use Rattle.std.specs.Prelude.{◌≡◌, ◌+◌, ◌*◌, ◌≤◌, ℕ, List, Option, length, IsTrue, is_some};
+ghost use Rattle.std.specs.Prelude.{if◌then◌else◌};
+ghost use Rattle.std.specs.List.{All};
 ghost use Rattle.bw_model.specs.Book.{Log};
 ghost use Rattle.bw_session.specs.Numbered.{KeepsBoth};
 ghost use Rattle.bw_session.specs.Noting.{IsNoted};
 ghost use Rattle.bw_session.specs.Draining.{Fits, HoldsPart, DrainsNext, is_stopped, drained_log};
+ghost use Rattle.bw_session.specs.Draining.{call_bound, drained_count, IsTried};
 
 use crate::numbering::{Progress, Stores};
-use crate::window::Window;
+use crate::session::Session;
+use crate::window::{SLOTS, Window};
+use arrayvec::ArrayVec;
 use bw_file::TakeStore;
 use bw_journal::Journal;
 use bw_take::Verdict;
+use bw_wire::Reply;
 
 /// What draining one number came to.
 #[derive(Clone, Copy, Drop)]
@@ -36,7 +42,11 @@ pub(crate) fn drain_one<S: TakeStore, J: Journal>(
         window.new }
     ensures both { KeepsBoth S.TakeStore J.Journal (is_stopped result) progress.old.name
         stores.old.store stores.new.store stores.old.journal stores.new.journal }
-    ensures calls { S.calls stores.new.store ≤ S.calls stores.old.store + 4 }
+    ensures calls { S.calls stores.new.store ≤ S.calls stores.old.store + call_bound result }
+    ensures done { length progress.new.ledger.outcomes
+        ≡ length progress.old.ledger.outcomes + drained_count result }
+    ensures number { IsTried result (length progress.old.ledger.outcomes) }
+    ensures slots { length window.old ≡ 16 }
     ensures name { progress.new.name ≡ progress.old.name }
     ensures known { progress.new.growing ≡ record progress.old.growing {
       made = progress.new.growing.made;
@@ -70,5 +80,59 @@ pub(crate) fn drain_one<S: TakeStore, J: Journal>(
             Drained::Done(verdict)
         }
         Err(_fault) => Drained::Stopped,
+    }
+}
+
+impl Session {
+    ghost use Rattle.bw_wire.specs.Replies.{HasWireNumbers};
+    ghost use Rattle.bw_session.specs.Sessions.{KeepsTake, part_of};
+    ghost use Rattle.bw_session.specs.Runs.{with_more_done, HasDrained, EndsDraining};
+
+    /// Drains the numbers whose messages are held in a row, sixteen at most with those of which
+    /// `out` tells already, and appends their verdicts; answers whether a fault stopped it.
+    pub(crate) fn drain<S: TakeStore, J: Journal>(
+        &mut self,
+        stores: &mut Stores<S, J>,
+        out: &mut ArrayVec<Reply, 17>,
+    ) -> bool
+        requires few { length out.old.items ≤ 16 }
+        ensures both { KeepsBoth S.TakeStore J.Journal result self.old.progress.name
+            stores.old.store stores.new.store stores.old.journal stores.new.journal }
+        ensures calls { S.calls stores.new.store + 4 * length out.old.items
+            ≤ S.calls stores.old.store + 4 * length out.new.items + (if result then 4 else 0) }
+        ensures take { KeepsTake self.old self.new }
+        ensures few { length out.new.items ≤ 16 }
+        ensures numbers { All HasWireNumbers out.old.items → All HasWireNumbers out.new.items }
+        ensures drained { IsTrue (S.honest stores.old.store) →
+            (first : Option (List ℕ)) (log : Log) →
+            HasDrained first log out.old.items (part_of self.old)
+            (S.contents stores.old.store self.old.progress.name) →
+            EndsDraining first log result out.new.items (part_of self.new)
+            (S.contents stores.new.store self.old.progress.name) }
+        ensures noted { IsTrue (S.honest stores.old.store) →
+            IsTrue (J.honest stores.old.journal) → (first : Option (List ℕ)) (log : Log) →
+            HasDrained first log out.old.items (part_of self.old)
+            (S.contents stores.old.store self.old.progress.name) →
+            (J.header stores.old.journal self.old.progress.name).stood ≡ is_some first →
+            IsNoted (J.header stores.old.journal self.old.progress.name) self.old.progress.name
+            (with_more_done log (length out.old.items)) self.old.progress.noted
+            (J.notes stores.old.journal self.old.progress.name) →
+            IsNoted (J.header stores.old.journal self.old.progress.name) self.old.progress.name
+            (with_more_done log (length out.new.items)) self.new.progress.noted
+            (J.notes stores.new.journal self.old.progress.name) }
+    {
+        for _slot in out.len()..SLOTS {
+            let number = self.progress.ledger.len();
+            match drain_one(&mut self.progress, &mut self.window, stores) {
+                Drained::Idle => return false,
+                Drained::Stopped => return true,
+                Drained::Done(verdict) => out.push(Reply::Verdict {
+                    name: self.progress.name.copy(),
+                    number: number as u32,
+                    verdict,
+                }),
+            }
+        }
+        false
     }
 }

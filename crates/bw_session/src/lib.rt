@@ -7,6 +7,7 @@ mod carrying;
 mod draining;
 mod ledger;
 mod numbering;
+mod replying;
 mod session;
 mod settling;
 mod window;

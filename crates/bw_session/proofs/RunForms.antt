@@ -1,0 +1,106 @@
+-- Numbers that are drained in a row, one by one.
+use Rattle.std.proofs.Common.{◌≡◌, ℕ, zero, suc, ◌+◌, Bool, false, List, [], ◌∷◌, ◌++◌, length, map}
+use Rattle.std.proofs.Common.{Option, Some, None, refl, sym, ◌∙◌, ap, subst, arith}
+use Rattle.std.specs.Prelude.{is_some}
+use Rattle.std.proofs.lemmas.List.{length_push, map_push}
+use Rattle.bw_model.specs.Bytes.{at}
+use Rattle.bw_model.specs.Counts.{Counts}
+use Rattle.bw_model.specs.Take.{Request}
+use Rattle.bw_model.specs.Replies.{Reply as ModelReply, Judged}
+use Rattle.bw_model.specs.Book.{Log, verdict_at}
+use Rattle.bw_model.specs.Turn.{verdicts_from, window}
+use Rattle.bw_take.specs.Verdicts.{verdict_meaning}
+use Rattle.bw_take.specs.declared.verdict.Verdict.{Verdict as Judgement}
+use Rattle.bw_wire.specs.declared.reply.Reply.{Reply}
+use Rattle.bw_wire.specs.declared.reply.Reply.TheVariants.{Verdict}
+use Rattle.bw_wire.specs.Replies.{reply_of}
+use Rattle.bw_file.specs.declared.store.TakeStore.{Ghosts as StoreGhosts}
+use Rattle.bw_journal.specs.JournalHeaders.{Header}
+use Rattle.bw_journal.specs.declared.journal.Journal.{Ghosts as JournalGhosts}
+use Rattle.bw_session.specs.Numbered.{with_done, KeepsBoth}
+use Rattle.bw_session.specs.Noting.{IsNoted}
+use Rattle.bw_session.specs.Sessions.{Part, HoldsLog}
+use Rattle.bw_session.specs.Runs.{with_more_done, HasDrained, EndsDraining}
+
+-- Calls in a row.
+
+count_then : (a b c : ℕ) (fails : Bool) → Counts a b false → Counts b c fails → Counts a c fails
+count_then a b c fails quiet more = subst (λ (n : ℕ). Counts n c fails) (quiet.quiet refl) more
+
+module _ {X Y : Type 0} (S : StoreGhosts X) (J : JournalGhosts Y) where
+  -- what both keep through one call more
+  pub both_then : (fails : Bool) (name other : List ℕ) (s s' s'' : X) (j j' j'' : Y) → other ≡ name →
+      KeepsBoth S J false name s s' j j' → KeepsBoth S J fails other s' s'' j' j'' → KeepsBoth S J fails name s s'' j j''
+  both_then fails name other s s' s'' j j' j'' same a x =
+      let b : KeepsBoth S J fails name s' s'' j' j'' =
+      subst (λ (n : List ℕ). KeepsBoth S J fails n s' s'' j' j'') same x in
+      record {
+        failures = count_then _ _ _ fails a.failures b.failures;
+        honest = b.honest ∙ a.honest;
+        others = λ h n apart. b.others (a.honest ∙ h) n apart ∙ a.others h n apart;
+        honest_notes = b.honest_notes ∙ a.honest_notes;
+        headers = λ h n. b.headers (a.honest_notes ∙ h) n ∙ a.headers h n;
+        other_notes = λ h n apart. b.other_notes (a.honest_notes ∙ h) n apart ∙ a.other_notes h n apart;
+      }
+
+-- what an honest store has of the name, said of the name that was there at the start
+pub holds_under : (first : Option (List ℕ)) (log : Log) (p : Part) (contents : List ℕ → Option (List ℕ))
+    (n name : List ℕ) → n ≡ name → HoldsLog first log p (contents n) → HoldsLog first log p (contents name)
+holds_under first log p contents n name same h = subst (λ (x : List ℕ). HoldsLog first log p (contents x)) same h
+
+-- what is noted of one more number, said of the name and the header that were there at the start
+pub noted_then : (n name : List ℕ) (head : List ℕ → Header) (h : Header) (first : Option (List ℕ)) (log later : Log)
+    (offset offset' : ℕ) (before after : List ℕ → Option (List ℕ)) → n ≡ name → head name ≡ h →
+    ((head n).stood ≡ is_some first → IsNoted (head n) n log offset (before n) →
+    IsNoted (head n) n later offset' (after n)) →
+    h.stood ≡ is_some first → IsNoted h name log offset (before name) → IsNoted h name later offset' (after name)
+noted_then n name head h first log later offset offset' before after same begun step =
+    subst (λ (x : Header). x.stood ≡ is_some first → IsNoted x name log offset (before name) →
+    IsNoted x name later offset' (after name)) begun
+    (subst (λ (x : List ℕ). (head x).stood ≡ is_some first → IsNoted (head x) x log offset (before x) →
+    IsNoted (head x) x later offset' (after x)) same step)
+
+-- Verdicts.
+
+-- one verdict more behind the others
+pub verdicts_push : (t : Bool) (s : List (Option Request)) (name : List ℕ) (n k : ℕ) →
+    verdicts_from t s name n (suc k) ≡ verdicts_from t s name n k ++ Judged name (n + k) (verdict_at t s (n + k)) ∷ []
+verdicts_push t s name n zero =
+    let here : n + 0 ≡ n = omega arith in
+    ap (λ (i : ℕ). Judged name i (verdict_at t s i) ∷ []) (sym here)
+verdicts_push t s name n (suc k) =
+    let here : suc n + k ≡ n + suc k = omega arith in
+    ap (λ (rs : List ModelReply). Judged name n (verdict_at t s n) ∷ rs)
+    (verdicts_push t s name (suc n) k
+    ∙ ap (λ (i : ℕ). verdicts_from t s name (suc n) k ++ Judged name i (verdict_at t s i) ∷ []) here)
+
+module _ (first : Option (List ℕ)) (log : Log) (replies : List Reply) where
+  -- one number more
+  pub drained_push : (name : List ℕ) (number : ℕ) (v : Judgement) (all : List Reply) (s s' : Part)
+      (found found' : Option (List ℕ)) →
+      all ≡ replies ++ Verdict name number v ∷ [] → s'.growing.name ≡ s.growing.name →
+      name ≡ s.growing.name → number ≡ log.done + length replies →
+      verdict_meaning v ≡ verdict_at (is_some first) log.admitted (log.done + length replies) →
+      HasDrained first log replies s found →
+      HoldsLog first (with_done (with_more_done log (length replies))) s' found' →
+      HasDrained first log all s' found'
+  drained_push name number v all s s' found found' is same named numbered verdict h left =
+      let more : length all ≡ suc (length replies) =
+      (let pushed = ap length is ∙ length_push replies (Verdict name number v) in omega (arith, pushed)) in
+      let next : suc (log.done + length replies) ≡ log.done + length all = omega (arith, more) in
+      record {
+        left = subst (λ (n : ℕ). HoldsLog first (record log { done = n }) s' found') next left;
+        told =
+            ap (map reply_of) is
+            ∙ map_push reply_of replies (Verdict name number v)
+            ∙ ap (λ (rs : List ModelReply). rs ++ Judged name number (verdict_meaning v) ∷ []) h.told
+            ∙ ap (λ (x : ModelReply). verdicts_from (is_some first) log.admitted s.growing.name log.done
+            (length replies) ++ x ∷ [])
+            (ap (λ (x : List ℕ). Judged x number (verdict_meaning v)) named
+            ∙ ap (λ (x : ℕ). Judged s.growing.name x (verdict_meaning v)) numbered
+            ∙ ap (Judged s.growing.name (log.done + length replies)) verdict)
+            ∙ sym (verdicts_push (is_some first) log.admitted s.growing.name log.done (length replies))
+            ∙ ap (verdicts_from (is_some first) log.admitted s.growing.name log.done) (sym more)
+            ∙ ap (λ (x : List ℕ). verdicts_from (is_some first) log.admitted x log.done (length all)) (sym same);
+        none_past = h.none_past;
+      }

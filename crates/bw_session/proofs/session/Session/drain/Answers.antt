@@ -1,0 +1,91 @@
+use Rattle.std.proofs.Common.{rules, ◌≡◌, ◌+◌, ◌≤◌, ℕ, suc, List, Option, length, sym, ◌∙◌, ap, subst, arith}
+use Rattle.std.specs.List.{All}
+use Rattle.std.proofs.lemmas.List.{length_push}
+use Rattle.std.proofs.lemmas.List.Elements.{All-append}
+use Rattle.bw_model.specs.Wire.{Second, last_number}
+use Rattle.bw_file.specs.Growing.{Growing}
+use Rattle.bw_wire.specs.Replies.{HasWireNumbers}
+use Rattle.bw_session.specs.Noting.{IsNoted}
+use Rattle.bw_session.specs.Numbered.{with_done}
+use Rattle.bw_session.specs.Runs.{with_more_done}
+use Rattle.bw_session.specs.Sessions.{part_of}
+use Rattle.bw_session.proofs.RunForms.{both_then, holds_under, noted_then, drained_push}
+use Rattle.bw_session.proofs.session.Session.drain.Goals as goal
+
+pub returns-in-Idle-clause-noted : goal.returns-in-Idle-clause-noted
+returns-in-Idle-clause-noted g c = λ honest honest_notes first log h stood noted.
+    let loop = c.loop-slot.invariant in
+    let drained = loop.drained honest first log h in
+    noted_then c.loop-slot.self.progress.name c.args.self.now.progress.name
+    (g.J.Journal.header c.loop-slot.stores.journal) _ first (with_more_done log (length c.loop-slot.out.items)) _
+    c.loop-slot.self.progress.noted _ (g.J.Journal.notes c.loop-slot.stores.journal)
+    (g.J.Journal.notes c.drain_one.new.stores.journal) loop.take.name
+    (loop.both.headers honest_notes c.args.self.now.progress.name)
+    (c.in-Idle.ensures.noted (loop.both.honest ∙ honest) (loop.both.honest_notes ∙ honest_notes) first
+    (with_more_done log (length c.loop-slot.out.items))
+    (holds_under first _ _ (g.S.TakeStore.contents c.loop-slot.stores.store) _ _ (sym loop.take.name) drained.left))
+    stood (loop.noted honest honest_notes first log h stood noted)
+
+pub returns-in-Stopped-clause-noted : goal.returns-in-Stopped-clause-noted
+returns-in-Stopped-clause-noted g c = λ honest honest_notes first log h stood noted.
+    let loop = c.loop-slot.invariant in
+    let drained = loop.drained honest first log h in
+    noted_then c.loop-slot.self.progress.name c.args.self.now.progress.name
+    (g.J.Journal.header c.loop-slot.stores.journal) _ first (with_more_done log (length c.loop-slot.out.items)) _
+    c.loop-slot.self.progress.noted _ (g.J.Journal.notes c.loop-slot.stores.journal)
+    (g.J.Journal.notes c.drain_one.new.stores.journal) loop.take.name
+    (loop.both.headers honest_notes c.args.self.now.progress.name)
+    (c.in-Stopped.ensures.noted (loop.both.honest ∙ honest) (loop.both.honest_notes ∙ honest_notes) first
+    (with_more_done log (length c.loop-slot.out.items))
+    (holds_under first _ _ (g.S.TakeStore.contents c.loop-slot.stores.store) _ _ (sym loop.take.name) drained.left))
+    stood (loop.noted honest honest_notes first log h stood noted)
+
+pub loop-slot-preserved : goal.loop-slot-preserved
+loop-slot-preserved g c =
+    let tried : c.len-number.result ≤ last_number Second =
+    subst (λ (n : ℕ). n ≤ last_number Second) (sym c.len-number.ensures.value) c.in-Done.ensures.number in
+    let more = ap length c.push.ensures.items ∙ length_push c.loop-slot.out.items _ in
+    record {
+      both = both_then g.S.TakeStore g.J.Journal _ _ _ _ _ _ _ _ _ c.loop-slot.invariant.take.name
+          c.loop-slot.invariant.both c.in-Done.ensures.both;
+      calls = let before = c.loop-slot.invariant.calls in
+          let now = c.in-Done.ensures.calls in
+          omega (arith, more, before, now);
+      take = search rules;
+      few = search rules;
+      numbers = λ all. subst (All HasWireNumbers) (sym c.push.ensures.items)
+          (All-append HasWireNumbers c.loop-slot.out.items _ (c.loop-slot.invariant.numbers all) (search rules));
+      drained = λ honest first log h.
+          let loop = c.loop-slot.invariant in
+          let drained = loop.drained honest first log h in
+          let next = c.in-Done.ensures.drained (loop.both.honest ∙ honest) first
+          (with_more_done log (length c.loop-slot.out.items))
+          (holds_under first _ _ (g.S.TakeStore.contents c.loop-slot.stores.store) _ _ (sym loop.take.name)
+          drained.left) in
+          drained_push first log c.loop-slot.out.items _ _ c.in-Done.verdict c.push.new.self.items (part_of c.loop-slot.self) _ _ _
+          c.push.ensures.items (ap (λ (x : Growing). x.name) c.in-Done.ensures.known)
+          (c.copy.ensures ∙ c.in-Done.ensures.name ∙ sym c.loop-slot.self.progress.same_name)
+          (let count = c.len-number.ensures.value in let done = drained.left.memory.done in
+          omega (arith, count, done, tried))
+          next.told.1 drained
+          (holds_under first _ _ (g.S.TakeStore.contents c.drain_one.new.stores.store) _ _ loop.take.name next.left);
+      noted = λ honest honest_notes first log h stood noted.
+          let loop = c.loop-slot.invariant in
+          let drained = loop.drained honest first log h in
+          let further : suc (log.done + length c.loop-slot.out.items) ≡ log.done + length c.push.new.self.items =
+          omega (arith, more) in
+          subst (λ (n : ℕ). IsNoted (g.J.Journal.header c.args.stores.now.journal c.args.self.now.progress.name)
+          c.args.self.now.progress.name (record log { done = n }) c.drain_one.new.progress.noted
+          (g.J.Journal.notes c.drain_one.new.stores.journal c.args.self.now.progress.name)) further
+          (noted_then c.loop-slot.self.progress.name c.args.self.now.progress.name
+          (g.J.Journal.header c.loop-slot.stores.journal) _ first (with_more_done log (length c.loop-slot.out.items))
+          (with_done (with_more_done log (length c.loop-slot.out.items)))
+          c.loop-slot.self.progress.noted _ (g.J.Journal.notes c.loop-slot.stores.journal)
+          (g.J.Journal.notes c.drain_one.new.stores.journal) loop.take.name
+          (loop.both.headers honest_notes c.args.self.now.progress.name)
+          (c.in-Done.ensures.noted (loop.both.honest ∙ honest) (loop.both.honest_notes ∙ honest_notes) first
+          (with_more_done log (length c.loop-slot.out.items))
+          (holds_under first _ _ (g.S.TakeStore.contents c.loop-slot.stores.store) _ _ (sym loop.take.name)
+          drained.left))
+          stood (loop.noted honest honest_notes first log h stood noted));
+    }

@@ -1,0 +1,33 @@
+use Rattle.std.proofs.Common.{◌≡◌, ◌+◌, ◌*◌, ◌≤◌, ℕ, List, Option, length, IsTrue, is_some, false}
+use Rattle.std.specs.List.{All}
+use Rattle.bw_model.specs.Book.{Log}
+use Rattle.bw_session.specs.Numbered.{KeepsBoth}
+use Rattle.bw_session.specs.Noting.{IsNoted}
+use Rattle.bw_wire.specs.Replies.{HasWireNumbers}
+use Rattle.bw_session.specs.Sessions.{KeepsTake, part_of}
+use Rattle.bw_session.specs.Runs.{with_more_done, HasDrained}
+use Rattle.bw_session.proofs.session.Session.drain.Given as goal
+
+abbrev pub invariant-loop-slot : goal.invariant-loop-slot
+invariant-loop-slot g l = record {
+  both : KeepsBoth g.S.TakeStore g.J.Journal false l.fn.self.progress.name l.fn.stores.store l.stores.store
+      l.fn.stores.journal l.stores.journal;
+  calls : g.S.TakeStore.calls l.stores.store + 4 * length l.fn.out.items
+      ≤ g.S.TakeStore.calls l.fn.stores.store + 4 * length l.out.items;
+  take : KeepsTake l.fn.self l.self;
+  few : length l.out.items ≡ l._slot;
+  numbers : All HasWireNumbers l.fn.out.items → All HasWireNumbers l.out.items;
+  drained : IsTrue (g.S.TakeStore.honest l.fn.stores.store) → (first : Option (List ℕ)) (log : Log) →
+      HasDrained first log l.fn.out.items (part_of l.fn.self) (g.S.TakeStore.contents l.fn.stores.store l.fn.self.progress.name) →
+      HasDrained first log l.out.items (part_of l.self) (g.S.TakeStore.contents l.stores.store l.fn.self.progress.name);
+  noted : IsTrue (g.S.TakeStore.honest l.fn.stores.store) → IsTrue (g.J.Journal.honest l.fn.stores.journal) →
+      (first : Option (List ℕ)) (log : Log) →
+      HasDrained first log l.fn.out.items (part_of l.fn.self) (g.S.TakeStore.contents l.fn.stores.store l.fn.self.progress.name) →
+      (g.J.Journal.header l.fn.stores.journal l.fn.self.progress.name).stood ≡ is_some first →
+      IsNoted (g.J.Journal.header l.fn.stores.journal l.fn.self.progress.name) l.fn.self.progress.name
+      (with_more_done log (length l.fn.out.items)) l.fn.self.progress.noted
+      (g.J.Journal.notes l.fn.stores.journal l.fn.self.progress.name) →
+      IsNoted (g.J.Journal.header l.fn.stores.journal l.fn.self.progress.name) l.fn.self.progress.name
+      (with_more_done log (length l.out.items)) l.self.progress.noted
+      (g.J.Journal.notes l.stores.journal l.fn.self.progress.name);
+}

@@ -1,0 +1,44 @@
+-- What a session has to do with its name's log.
+use Rattle.std.specs.Prelude.{◌≡◌, Option, List, ℕ}
+use Rattle.bw_model.specs.Take.{Parts, Verdict}
+use Rattle.bw_model.specs.Book.{Log}
+use Rattle.bw_file.specs.Growing.{Growing}
+use Rattle.bw_session.specs.Draining.{HoldsPart}
+use Rattle.bw_session.specs.declared.session.Session.{Session}
+
+-- what is kept and held of a name
+pub record Part : Type 0 where
+  pub parts : Parts
+  pub outcomes : List (List ℕ × Verdict)
+  pub window : List (Option (List ℕ))
+  pub growing : Growing
+
+-- a session's part
+abbrev pub part_of : Session → Part
+part_of s = record {
+  parts = s.progress.state.parts;
+  outcomes = s.progress.ledger.outcomes;
+  window = s.window;
+  growing = s.progress.growing;
+}
+
+-- What is kept and held of the name is what this log says, and so is its file.
+abbrev pub HoldsLog : Option (List ℕ) → Log → Part → Option (List ℕ) → Type 0
+HoldsLog first log p found = HoldsPart first log p.parts p.outcomes p.window p.growing found
+
+-- It is a session of the same take, in a file with the same limit.
+pub record KeepsTake (old new : Session) : Type 0 where
+  pub name : new.progress.name ≡ old.progress.name
+  pub growing : new.progress.growing ≡ record old.progress.growing {
+    made = new.progress.growing.made;
+    dirty = new.progress.growing.dirty;
+  }
+
+-- Nothing changed but the room that there is for more.
+pub record OnlyGrows (old new : Session) : Type 0 where
+  pub name : new.progress.name ≡ old.progress.name
+  pub growing : new.progress.growing ≡ old.progress.growing
+  pub parts : new.progress.state.parts ≡ old.progress.state.parts
+  pub outcomes : new.progress.ledger.outcomes ≡ old.progress.ledger.outcomes
+  pub noted : new.progress.noted ≡ old.progress.noted
+  pub window : new.window ≡ old.window
