@@ -5,7 +5,7 @@ use Rattle.std.proofs.Common.{le-ltb, lt-ltb, get_or, length-set}
 use Rattle.std.specs.Prelude.{IsTrue, is_some, is_none, fold, nat_le, nat_lt, option_map, slice_set}
 use Rattle.std.specs.Bool.{MatchBool}
 use Rattle.std.specs.List.{list_all}
-use Rattle.std.proofs.lemmas.Bool.{and_parts, and_from, cases_lt}
+use Rattle.std.proofs.lemmas.Bool.{leb-true, and_parts, and_from, cases_lt}
 use Rattle.std.proofs.lemmas.List.Sums.{count_by-le-length, sum_by-set}
 use Rattle.sha2.specs.Sha256.{sha256}
 use Rattle.bw_model.specs.Bytes.{at, put}
@@ -38,7 +38,7 @@ no_false e = cc
 
 -- Slots.
 
-near_or_not : (i k : ℕ) → (i ≡ k) ⊎ (i ≢ k)
+pub near_or_not : (i k : ℕ) → (i ≡ k) ⊎ (i ≢ k)
 near_or_not zero zero = inl refl
 near_or_not zero (suc k) = inr (λ e. omega (arith, e))
 near_or_not (suc i) zero = inr (λ e. omega (arith, e))
@@ -47,12 +47,12 @@ near_or_not (suc i) (suc k) = elim (near_or_not i k) [
   | inr h ↦ inr (λ e. h (omega (arith, e)))
 ]
 
-at-set_same : (w : List (Option (List ℕ))) (i : ℕ) (o : Option (List ℕ)) → i < length w → at (slice_set w i o) i ≡ o
+pub at-set_same : (w : List (Option (List ℕ))) (i : ℕ) (o : Option (List ℕ)) → i < length w → at (slice_set w i o) i ≡ o
 at-set_same [] i o h = absurd (omega (arith, h))
 at-set_same (x ∷ xs) zero o h = refl
 at-set_same (x ∷ xs) (suc i) o h = at-set_same xs i o (omega (arith, h))
 
-at-set_other : (w : List (Option (List ℕ))) (i k : ℕ) (o : Option (List ℕ)) → k ≢ i → at (slice_set w i o) k ≡ at w k
+pub at-set_other : (w : List (Option (List ℕ))) (i k : ℕ) (o : Option (List ℕ)) → k ≢ i → at (slice_set w i o) k ≡ at w k
 at-set_other [] i k o h = refl
 at-set_other (x ∷ xs) zero zero o h = absurd (h refl)
 at-set_other (x ∷ xs) zero (suc k) o h = refl
@@ -64,7 +64,7 @@ abbrev as_count : Option (List ℕ) → ℕ
 as_count slot = cond (is_some slot) 1 0
 
 -- where a body is put into a free slot, one more is held
-count_set : (w : List (Option (List ℕ))) (i : ℕ) (b : List ℕ) → at w i ≡ None → i < length w →
+pub count_set : (w : List (Option (List ℕ))) (i : ℕ) (b : List ℕ) → at w i ≡ None → i < length w →
     count_held (slice_set w i (Some b)) ≡ count_held w + 1
 count_set w i b e h =
     let sums : count_held (slice_set w i (Some b)) + as_count (get_or w i None) ≡ count_held w + 1 =
@@ -117,6 +117,12 @@ fits_held g p q done later room room' places places' slot w w' b f none within s
 pub said_request : (m : Message) → is_message Second m ≡ true → is_request m.request ≡ true
 said_request m e =
     (and_parts (is_name m.name && nat_le m.number (last_number Second)) (is_request m.request) e).1
+
+-- .. and a number of the wire's
+pub said_number : (m : Message) → is_message Second m ≡ true → m.number ≤ last_number Second
+said_number m e =
+    leb-true m.number (last_number Second) (and_parts (is_name m.name) (nat_le m.number (last_number Second))
+    (and_parts (is_name m.name && nat_le m.number (last_number Second)) (is_request m.request) e).0).1
 
 -- what is kept of so many numbers tells that they are in the log
 filled_front : (stood : Bool) (whole : List (Option Request)) (name : List ℕ) (n count : ℕ) (s : List (Option Request))

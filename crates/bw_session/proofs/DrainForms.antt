@@ -71,7 +71,7 @@ at-tail [] i = refl
 at-tail (x ∷ xs) i = refl
 
 -- where the first slot is let go
-next_slot : (w : List (Option (List ℕ))) (i : ℕ) → at (drop 1 w ++ None ∷ []) i ≡ at w (suc i)
+pub next_slot : (w : List (Option (List ℕ))) (i : ℕ) → at (drop 1 w ++ None ∷ []) i ≡ at w (suc i)
 next_slot w i = at-push (drop 1 w) i ∙ at-tail w i
 
 no_some : {A : Type 0} {x : List ℕ} → None ≡ Some x → A

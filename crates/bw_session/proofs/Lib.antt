@@ -12,3 +12,4 @@ pub mod NewForms
 pub mod AdmitForms
 pub mod RunForms
 pub mod ReplyForms
+pub mod NextForms

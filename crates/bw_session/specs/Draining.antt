@@ -1,6 +1,6 @@
 -- What is kept and held of a name, and what draining its next number leaves.
 use Rattle.std.specs.Prelude.{◌≡◌, ℕ, ◌+◌, ◌≤◌, Bool, true, false, IsTrue, Option, Some, None}
-use Rattle.std.specs.Prelude.{IsSome, is_some, List}
+use Rattle.std.specs.Prelude.{IsSome, is_some, List, Result, Ok, Err}
 use Rattle.std.specs.List.{list_all}
 use Rattle.bw_model.specs.Bytes.{at}
 use Rattle.bw_model.specs.Take.{Parts, Verdict}
@@ -9,7 +9,9 @@ use Rattle.bw_model.specs.ReadBack.{is_admitted}
 use Rattle.bw_model.specs.Book.{Log, made, verdict_at}
 use Rattle.bw_model.specs.Holds.{Kept, HoldsName, HasFile}
 use Rattle.bw_take.specs.Verdicts.{verdict_meaning}
+use Rattle.bw_take.specs.declared.verdict.Verdict.{Verdict as Judgement}
 use Rattle.bw_file.specs.Growing.{Growing}
+use Rattle.bw_file.specs.declared.store.StoreFault.{StoreFault}
 use Rattle.bw_wire.specs.Bodies.{message_in}
 use Rattle.bw_session.specs.Windows.{count_held}
 use Rattle.bw_session.specs.Carrying.{Touches}
@@ -53,6 +55,11 @@ pub record HoldsPart (first : Option (List ℕ)) (log : Log) (p : Parts)
   pub fits : IsTrue (list_all is_admitted log.admitted)
   pub memory : HoldsName (is_some first) g.name log (kept_as p finished window g)
   pub file : NameStands first log g.limit (kept_as p finished window g) found
+
+-- a number that was tried
+abbrev pub drained_by : Result Judgement StoreFault → Drained
+drained_by (Ok v) = Done v
+drained_by (Err fault) = Stopped
 
 -- draining stopped at a fault
 abbrev pub is_stopped : Drained → Bool

@@ -4,6 +4,7 @@ use Rattle.bw_model.specs.Take.{Parts, Verdict}
 use Rattle.bw_model.specs.Book.{Log}
 use Rattle.bw_file.specs.Growing.{Growing}
 use Rattle.bw_session.specs.Draining.{HoldsPart}
+use Rattle.bw_session.specs.declared.numbering.Progress.{Progress}
 use Rattle.bw_session.specs.declared.session.Session.{Session}
 
 -- what is kept and held of a name
@@ -34,11 +35,10 @@ pub record KeepsTake (old new : Session) : Type 0 where
     dirty = new.progress.growing.dirty;
   }
 
--- Nothing changed but the room that there is for more.
-pub record OnlyGrows (old new : Session) : Type 0 where
-  pub name : new.progress.name ≡ old.progress.name
-  pub growing : new.progress.growing ≡ old.progress.growing
-  pub parts : new.progress.state.parts ≡ old.progress.state.parts
-  pub outcomes : new.progress.ledger.outcomes ≡ old.progress.ledger.outcomes
-  pub noted : new.progress.noted ≡ old.progress.noted
-  pub window : new.window ≡ old.window
+-- What is kept of the done numbers is the same, but for the room that there is for more.
+pub record KeepsProgress (old new : Progress) : Type 0 where
+  pub name : new.name ≡ old.name
+  pub growing : new.growing ≡ old.growing
+  pub parts : new.state.parts ≡ old.state.parts
+  pub outcomes : new.ledger.outcomes ≡ old.ledger.outcomes
+  pub noted : new.noted ≡ old.noted

@@ -3,6 +3,7 @@
 
 mod admitting;
 mod body;
+mod borrowing;
 mod carrying;
 mod draining;
 mod ledger;

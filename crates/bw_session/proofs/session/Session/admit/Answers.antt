@@ -1,11 +1,15 @@
 use Rattle.std.proofs.Common.{rules, ◌≡◌, ℕ, List, None, ◌+◌, ◌-◌, ◌<◌, ◌≤◌, ◌⊎◌, inl, inr, length, false}
-use Rattle.std.proofs.Common.{sym, ◌∙◌, ap, arith}
-use Rattle.std.specs.Prelude.{is_some}
+use Rattle.std.proofs.Common.{sym, ◌∙◌, ap, subst, arith}
+use Rattle.std.specs.Prelude.{is_some, Option, Some, slice_set}
 use Rattle.bw_model.specs.Bytes.{at}
 use Rattle.bw_model.specs.Take.{Verdict}
 use Rattle.bw_model.specs.Wire.{Message, Second, last_number}
 use Rattle.bw_wire.specs.Frames.{message_of}
-use Rattle.bw_session.specs.Windows.{count_held}
+use Rattle.bw_file.specs.Growing.{Growing}
+use Rattle.bw_wire.proofs.BodyLaws.{message_spelled}
+use Rattle.bw_session.specs.Noting.{IsNoted}
+use Rattle.bw_session.specs.Draining.{Fits, HoldsPart}
+use Rattle.bw_session.specs.Admitting.{with_message}
 use Rattle.bw_session.proofs.Slots.{copied-some}
 use Rattle.bw_session.proofs.AdmitForms.{count_room, none_of, no_false, fits_held, outside_not_new, free_new}
 use Rattle.bw_session.proofs.AdmitForms.{said_request, part_same, part_put, notes_same, notes_put}
@@ -39,8 +43,8 @@ returns-then-number-done-clause-noted c = λ first log found hd notes h noted.
     ] in
     notes_same first log _ _ _ _ _ h m hd _ _ notes (outside_not_new first log _ _ _ _ _ h m.number outside) noted
 
-pub reserve_for-requires : goal.reserve_for-requires
-reserve_for-requires c =
+pub make_room-requires : goal.make_room-requires
+make_room-requires c =
     let slot : ℕ = c.number-number.result - c.len-done.result in
     let none : is_some c.get.result ≡ false = search rules in
     let free : at c.args.self.now.window slot ≡ None =
@@ -48,23 +52,10 @@ reserve_for-requires c =
     let slots = c.get.ensures.slots in
     let within : slot < length c.args.self.now.window = search rules in
     let room = count_room c.args.self.now.window slot free within in
-    let counted = c.count-count.ensures.value in
-    omega (arith, room, slots, counted)
+    omega (arith, room, slots)
 
-pub reserve-requires : goal.reserve-requires
-reserve-requires c =
-    let slot : ℕ = c.number-number.result - c.len-done.result in
-    let none : is_some c.get.result ≡ false = search rules in
-    let free : at c.args.self.now.window slot ≡ None =
-    none_of _ (copied-some c.get.result _ false c.get.ensures.value none) in
-    let slots = c.get.ensures.slots in
-    let within : slot < length c.args.self.now.window = search rules in
-    let room = count_room c.args.self.now.window slot free within in
-    let counted = c.count-count.ensures.value in
-    omega (arith, room, slots, counted)
-
-pub invariant_of-self-3 : goal.invariant_of-self-3
-invariant_of-self-3 c =
+pub invariant_of-self : goal.invariant_of-self
+invariant_of-self c =
     let slot : ℕ = c.number-number.result - c.len-done.result in
     let finished : List (List ℕ × Verdict) = c.args.self.now.progress.ledger.outcomes in
     let none : is_some c.get.result ≡ false = search rules in
@@ -72,20 +63,25 @@ invariant_of-self-3 c =
     none_of _ (copied-some c.get.result _ false c.get.ensures.value none) in
     let slots = c.get.ensures.slots in
     let within : slot < length c.args.self.now.window = search rules in
-    let counted = c.count-count.ensures.value in
-    let stored = c.in_ok-reserve_for.ensures.ok in
-    let kept = c.in_ok-reserve.ensures.ok in
-    let enough : count_held c.args.self.now.window + 1 ≤ c.reserve_for.new.self.room = search rules in
-    let enough' : count_held c.args.self.now.window + 1 ≤ c.reserve.new.self.room = search rules in
     let done = c.len-done.ensures.value in
     let range = c.number-number.ensures.range in
     let number : length finished + slot ≤ last_number Second = search rules in
+    let kept = c.in_ok-room.ensures.progress in
+    let held : c.put.new.self ≡ slice_set c.args.self.now.window slot (Some c.copy_to.result) =
+    c.put.ensures ∙ ap (λ (w : List (Option (List ℕ))). slice_set w slot (Some c.copy_to.result))
+    c.in_ok-room.ensures.window in
     record {
-      fits = fits_held c.args.self.now.progress.growing c.args.self.now.progress.state.parts
-          c.reserve_for.new.self.parts (length finished) (length c.reserve.new.self.outcomes)
-          c.args.self.now.progress.state.room c.reserve_for.new.self.room c.args.self.now.progress.ledger.room
-          c.reserve.new.self.room slot c.args.self.now.window c.put.new.self c.copy_to.result c.args.self.now.fits free
-          within c.put.ensures enough enough' number c.reserve_for.ensures.parts (ap length c.reserve.ensures.outcomes);
+      fits = subst (λ (g : Growing). Fits g c.make_room.new.self.progress.state.parts
+          (length c.make_room.new.self.progress.ledger.outcomes) c.make_room.new.self.progress.state.room
+          c.make_room.new.self.progress.ledger.room c.put.new.self) (sym kept.growing)
+          (fits_held c.args.self.now.progress.growing c.args.self.now.progress.state.parts
+          c.make_room.new.self.progress.state.parts (length finished)
+          (length c.make_room.new.self.progress.ledger.outcomes)
+          c.args.self.now.progress.state.room c.make_room.new.self.progress.state.room
+          c.args.self.now.progress.ledger.room c.make_room.new.self.progress.ledger.room slot
+          c.args.self.now.window c.put.new.self c.copy_to.result c.args.self.now.fits free
+          within held c.in_ok-room.ensures.storable c.in_ok-room.ensures.keepable number kept.parts
+          (ap length kept.outcomes));
     }
 
 pub returns-clause-ok : goal.returns-clause-ok
@@ -102,11 +98,17 @@ returns-clause-ok c = λ first log found h.
     let value = c.number-number.ensures.value in
     let done = c.len-done.ensures.value in
     let place : m.number ≡ length finished + slot = search rules in
-    part_put first log c.args.self.now.progress.state.parts finished c.args.self.now.window
-    c.args.self.now.progress.growing found h m slot c.put.new.self c.copy_to.result c.reserve_for.new.self.parts
-    c.reserve.new.self.outcomes (c.requires.name ∙ sym c.args.self.now.progress.same_name)
-    (said_request m c.body.ensures.spelled.fits) place inside within free c.put.ensures c.copy_to.ensures
-    c.reserve_for.ensures.parts c.reserve.ensures.outcomes
+    let kept = c.in_ok-room.ensures.progress in
+    let held : c.put.new.self ≡ slice_set c.args.self.now.window slot (Some c.copy_to.result) =
+    c.put.ensures ∙ ap (λ (w : List (Option (List ℕ))). slice_set w slot (Some c.copy_to.result))
+    c.in_ok-room.ensures.window in
+    subst (λ (g : Growing). HoldsPart first (with_message log m) c.make_room.new.self.progress.state.parts
+    c.make_room.new.self.progress.ledger.outcomes c.put.new.self g found) (sym kept.growing)
+    (part_put first log c.args.self.now.progress.state.parts finished c.args.self.now.window
+    c.args.self.now.progress.growing found h m slot c.put.new.self c.copy_to.result
+    c.make_room.new.self.progress.state.parts c.make_room.new.self.progress.ledger.outcomes
+    (c.requires.name ∙ sym c.args.self.now.progress.same_name)
+    (said_request m (message_spelled c.args.message.now.body.now c.args.message.now.spells).fits) place inside within free held c.copy_to.ensures kept.parts kept.outcomes)
 
 pub returns-clause-noted : goal.returns-clause-noted
 returns-clause-noted c = λ first log found hd notes h noted.
@@ -120,8 +122,10 @@ returns-clause-noted c = λ first log found hd notes h noted.
     let value = c.number-number.ensures.value in
     let done = c.len-done.ensures.value in
     let place : m.number ≡ length finished + slot = search rules in
-    notes_put first log c.args.self.now.progress.state.parts finished c.args.self.now.window
-    c.args.self.now.progress.growing found h m slot hd _ _ notes place inside free noted
+    subst (λ (n : ℕ). IsNoted hd c.args.self.now.progress.name (with_message log m) n notes)
+    (sym c.in_ok-room.ensures.progress.noted)
+    (notes_put first log c.args.self.now.progress.state.parts finished c.args.self.now.window
+    c.args.self.now.progress.growing found h m slot hd _ _ notes place inside free noted)
 
 pub returns-clause-unasked : goal.returns-clause-unasked
 returns-clause-unasked c = λ first log found h refused.

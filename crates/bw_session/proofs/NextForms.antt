@@ -1,0 +1,89 @@
+-- The message of the next number, where it isn't held.
+use Rattle.std.proofs.Common.{◌≡◌, ◌≢◌, ℕ, zero, suc, ◌+◌, ◌<◌, ◌≤◌, Bool, true, false, List, [], ◌∷◌, ◌++◌, length, drop}
+use Rattle.std.proofs.Common.{Option, Some, None, refl, sym, ◌∙◌, ap, subst, arith, ◌⊎◌, inl, inr}
+use Rattle.std.specs.Prelude.{IsTrue, is_some, slice_set}
+use Rattle.std.proofs.lemmas.Grind.{common_steps}
+use Rattle.bw_model.specs.Bytes.{at}
+use Rattle.bw_model.specs.Take.{Parts, Verdict}
+use Rattle.bw_model.specs.Book.{Log}
+use Rattle.bw_model.specs.Wire.{Message, Second, last_number, is_request, message_body}
+use Rattle.bw_model.proofs.Elements.{some_inj}
+use Rattle.bw_file.specs.Growing.{Growing}
+use Rattle.bw_wire.specs.Bodies.{message_in}
+use Rattle.bw_session.specs.Windows.{count_held}
+use Rattle.bw_session.specs.Carrying.{Touches}
+use Rattle.bw_session.specs.Admitting.{with_message}
+use Rattle.bw_session.specs.Draining.{Fits, HoldsPart}
+use Rattle.bw_session.proofs.AdmitForms.{at-set_same, at-set_other, count_set, near_or_not, no_false, part_put}
+use Rattle.bw_session.proofs.DrainForms.{next_slot}
+
+-- where the first slot is free, as many bodies are held behind it
+count_free : (w : List (Option (List ℕ))) → at w 0 ≡ None → count_held (drop 1 w ++ None ∷ []) ≡ count_held w
+count_free [] e = refl
+count_free (x ∷ xs) e = let none : is_some x ≡ false = ap is_some e in grind (arith, common_steps)
+
+-- the number is done, from the borrowed body
+pub fits_passed : (g g' : Growing) (p q : Parts) (done later room room' room'' places places' places'' : ℕ)
+    (w w' : List (Option (List ℕ))) → Fits g p done room places w → at w 0 ≡ None → w' ≡ drop 1 w ++ None ∷ [] →
+    later ≡ done + 1 → count_held w + 1 ≤ room' → room' ≤ room'' + 1 → count_held w + 1 ≤ places' →
+    places' ≤ places'' + 1 → g'.dirty ≡ false → Fits g' q later room'' places'' w'
+fits_passed g g' p q done later room room' room'' places places' places'' w w' f none moved more
+    enough less enough' less' clean =
+    let count = count_free w none in
+    subst (Fits g' q later room'' places'') (sym moved) (record {
+      storable = omega (arith, count, enough, less);
+      keepable = omega (arith, count, enough', less');
+      numbers = λ i some.
+          let n : done + suc i ≤ last_number Second = f.numbers (suc i) (ap is_some (sym (next_slot w i)) ∙ some) in
+          omega (arith, n, more);
+      held = λ dirty. no_false (sym clean ∙ dirty);
+      again = λ dirty. no_false (sym clean ∙ dirty);
+    })
+
+-- it waits on, in the first slot
+pub fits_waiting : (g g' : Growing) (p q : Parts) (done later room room' places places' : ℕ)
+    (w w' : List (Option (List ℕ))) (b : List ℕ) → Fits g p done room places w → at w 0 ≡ None → 0 < length w →
+    w' ≡ slice_set w 0 (Some b) → later ≡ done → count_held w + 1 ≤ room' → count_held w + 1 ≤ places' →
+    done ≤ last_number Second → (IsTrue g'.dirty → Touches q (message_in b).request) →
+    Fits g' q later room' places' w'
+fits_waiting g g' p q done later room room' places places' w w' b f none there set same enough enough' number touches =
+    let count = count_set w 0 b none there in
+    subst (Fits g' q later room' places') (sym set)
+    (subst (λ (n : ℕ). Fits g' q n room' places' (slice_set w 0 (Some b))) (sym same) (record {
+      storable = omega (arith, count, enough);
+      keepable = omega (arith, count, enough');
+      numbers = λ i some. by_slot i some (near_or_not i 0);
+      held = λ dirty. ap is_some (at-set_same w 0 (Some b) there);
+      again = λ dirty body is. subst (λ (x : List ℕ). Touches q (message_in x).request)
+          (some_inj (sym (at-set_same w 0 (Some b) there) ∙ is)) (touches dirty);
+    }))
+  where
+    by_slot : (i : ℕ) → is_some (at (slice_set w 0 (Some b)) i) ≡ true → (i ≡ 0) ⊎ (i ≢ 0) →
+        done + i ≤ last_number Second
+    by_slot i some (inl e) = omega (arith, number, e)
+    by_slot i some (inr apart) = f.numbers i (ap is_some (sym (at-set_other w 0 i (Some b) apart)) ∙ some)
+
+-- what is let go behind a body that was never held
+pub passed_slot : (w : List (Option (List ℕ))) (b : List ℕ) → drop 1 (slice_set w 0 (Some b)) ≡ drop 1 w
+passed_slot [] b = refl
+passed_slot (x ∷ xs) b = refl
+
+-- what an honest store has of the name, under another spelling of it
+pub held_at : (first : Option (List ℕ)) (log : Log) (p : Parts) (finished : List (List ℕ × Verdict))
+    (w : List (Option (List ℕ))) (g : Growing) (contents : List ℕ → Option (List ℕ)) (n name : List ℕ) → n ≡ name →
+    HoldsPart first log p finished w g (contents n) → HoldsPart first log p finished w g (contents name)
+held_at first log p finished w g contents n name same h =
+    subst (λ (x : List ℕ). HoldsPart first log p finished w g (contents x)) same h
+
+-- what is kept and held of the name, as if the message were held in the first slot
+pub next_held : (first : Option (List ℕ)) (log : Log) (p q : Parts) (finished later : List (List ℕ × Verdict))
+    (w : List (Option (List ℕ))) (g g' : Growing) (contents : List ℕ → Option (List ℕ)) (n name : List ℕ)
+    (m : Message) → HoldsPart first log p finished w g (contents n) → m.name ≡ g.name → is_request m.request ≡ true →
+    m.number ≡ length finished → at w 0 ≡ None → 0 < length w → g' ≡ g → q ≡ p → later ≡ finished → n ≡ name →
+    HoldsPart first (with_message log m) q later (slice_set w 0 (Some (message_body m))) g' (contents name)
+next_held first log p q finished later w g g' contents n name m h named fits next none there same same' same'' under =
+    held_at first (with_message log m) q later (slice_set w 0 (Some (message_body m))) g' contents n name under
+    (subst (λ (x : Growing). HoldsPart first (with_message log m) q later (slice_set w 0 (Some (message_body m))) x
+    (contents n)) (sym same)
+    (part_put first log p finished w g (contents n) h m 0 (slice_set w 0 (Some (message_body m))) (message_body m)
+    q later named fits (omega (arith, next)) (omega arith) there none refl refl same' same''))

@@ -1,0 +1,235 @@
+use Rattle.std.proofs.Common.{rules, ◌≡◌, ◌+◌, ◌<◌, ◌≤◌, ℕ, List, Option, Some, [], ◌∷◌, ◌++◌, None, length, refl, sym, ◌∙◌}
+use Rattle.std.proofs.Common.{ap, subst, arith, drop}
+use Rattle.std.specs.Prelude.{is_some, slice_set}
+use Rattle.std.proofs.lemmas.List.{length_push}
+use Rattle.bw_model.specs.Bytes.{at}
+use Rattle.bw_model.specs.Take.{Verdict}
+use Rattle.bw_model.specs.Wire.{Message, message_body}
+use Rattle.bw_take.specs.Requests.{meaning}
+use Rattle.bw_take.specs.Verdicts.{verdict_meaning}
+use Rattle.bw_file.specs.Growing.{Growing}
+use Rattle.bw_wire.specs.Bodies.{message_in}
+use Rattle.bw_wire.specs.Frames.{message_of}
+use Rattle.bw_wire.proofs.BodyLaws.{message_spelled}
+use Rattle.bw_session.specs.Windows.{count_held}
+use Rattle.bw_session.specs.Ledgers.{Entries}
+use Rattle.bw_session.specs.Carrying.{Touches}
+use Rattle.bw_session.specs.Noting.{IsNoted}
+use Rattle.bw_session.specs.Admitting.{with_message}
+use Rattle.bw_session.specs.Draining.{HoldsPart}
+use Rattle.bw_session.specs.Numbered.{with_done}
+use Rattle.bw_session.proofs.AdmitForms.{at-set_same, count_room, said_number, said_request, notes_put}
+use Rattle.bw_session.proofs.DrainForms.{held_front, part_waits, part_done}
+use Rattle.bw_session.proofs.NextForms.{fits_passed, fits_waiting, passed_slot, held_at, next_held}
+use Rattle.bw_session.proofs.RunForms.{noted_then}
+use Rattle.bw_session.proofs.session.Session.do_next.Goals as goal
+
+pub make_room-requires : goal.make_room-requires
+make_room-requires g c =
+    let slots = c.requires.slots in
+    let room = count_room c.args.self.now.window 0 c.requires.free (omega (arith, slots)) in
+    omega (arith, room, slots)
+
+pub number_done-requires-clause-number : goal.number_done-requires-clause-number
+number_done-requires-clause-number g c =
+    let number = said_number (message_of c.args.message.now)
+    (message_spelled c.args.message.now.body.now c.args.message.now.spells).fits in
+    let next = c.requires.next in
+    let same = ap length c.in_ok-room.ensures.progress.outcomes in
+    omega (arith, number, next, same)
+
+pub invariant_of-self : goal.invariant_of-self
+invariant_of-self g c =
+    let kept = c.in_ok-room.ensures.progress in
+    let more : length c.number_done.new.self.ledger.outcomes ≡ length c.args.self.now.progress.ledger.outcomes + 1 =
+    ap length c.in-Ok.ensures.outcomes
+    ∙ length_push c.make_room.new.self.progress.ledger.outcomes (c.args.digest, verdict_meaning c.in-Ok.verdict)
+    ∙ ap (λ (x : List (List ℕ × Verdict)). length x + 1) kept.outcomes in
+    record {
+      fits = fits_passed c.args.self.now.progress.growing c.number_done.new.self.growing
+          c.args.self.now.progress.state.parts c.number_done.new.self.state.parts
+          (length c.args.self.now.progress.ledger.outcomes) _ c.args.self.now.progress.state.room
+          c.make_room.new.self.progress.state.room c.number_done.new.self.state.room
+          c.args.self.now.progress.ledger.room c.make_room.new.self.progress.ledger.room
+          c.number_done.new.self.ledger.room c.args.self.now.window c.advance.new.self c.args.self.now.fits
+          c.requires.free
+          (c.advance.ensures ∙ ap (λ (w : List (Option (List ℕ))). drop 1 w ++ None ∷ []) c.in_ok-room.ensures.window)
+          more c.in_ok-room.ensures.storable c.in-Ok.ensures.room c.in_ok-room.ensures.keepable
+          c.in-Ok.ensures.places c.in-Ok.ensures.clean;
+    }
+
+pub invariant_of-self-in-Err : goal.invariant_of-self-in-Err
+invariant_of-self-in-Err g c =
+    let m : Message = message_of c.args.message.now in
+    let said = message_spelled c.args.message.now.body.now c.args.message.now.spells in
+    let kept = c.in_ok-room.ensures.progress in
+    let slots = c.requires.slots in
+    let there : 0 < length c.args.self.now.window = omega (arith, slots) in
+    let number = said_number m said.fits in
+    let next = c.requires.next in
+    let read : meaning c.request-request.result ≡ (message_in c.copy_to.result).request =
+    c.request-request.ensures.value
+    ∙ ap (λ (b : List ℕ). (message_in b).request) (said.spelled ∙ sym c.copy_to.ensures) in
+    record {
+      fits = fits_waiting c.args.self.now.progress.growing c.number_done.new.self.growing
+          c.args.self.now.progress.state.parts c.number_done.new.self.state.parts
+          (length c.args.self.now.progress.ledger.outcomes) _ c.args.self.now.progress.state.room
+          c.number_done.new.self.state.room c.args.self.now.progress.ledger.room
+          c.number_done.new.self.ledger.room c.args.self.now.window c.put.new.self c.copy_to.result
+          c.args.self.now.fits c.requires.free there
+          (c.put.ensures ∙ ap (λ (w : List (Option (List ℕ))). slice_set w 0 (Some c.copy_to.result))
+          c.in_ok-room.ensures.window)
+          (ap (λ (l : Entries). length l.outcomes) c.in-Err.ensures.stopped.0 ∙ ap length kept.outcomes)
+          (subst (λ (n : ℕ). count_held c.args.self.now.window + 1 ≤ n) (sym c.in-Err.ensures.stopped.2)
+          c.in_ok-room.ensures.storable)
+          (subst (λ (l : Entries). count_held c.args.self.now.window + 1 ≤ l.room) (sym c.in-Err.ensures.stopped.0)
+          c.in_ok-room.ensures.keepable)
+          (omega (arith, number, next))
+          (λ dirty. subst (Touches c.number_done.new.self.state.parts) read (c.in-Err.ensures.again dirty));
+    }
+
+pub returns-in-Ok-clause-drained : goal.returns-in-Ok-clause-drained
+returns-in-Ok-clause-drained g c = λ honest first log h.
+    let m : Message = message_of c.args.message.now in
+    let said = message_spelled c.args.message.now.body.now c.args.message.now.spells in
+    let w : List (Option (List ℕ)) = c.args.self.now.window in
+    let kept = c.in_ok-room.ensures.progress in
+    let slots = c.requires.slots in
+    let there : 0 < length w = omega (arith, slots) in
+    let held = next_held first log c.args.self.now.progress.state.parts c.make_room.new.self.progress.state.parts
+    c.args.self.now.progress.ledger.outcomes c.make_room.new.self.progress.ledger.outcomes w
+    c.args.self.now.progress.growing c.make_room.new.self.progress.growing
+    (g.S.TakeStore.contents c.args.stores.now.store) c.args.self.now.progress.name
+    c.make_room.new.self.progress.name m h (c.requires.name ∙ sym c.args.self.now.progress.same_name)
+    (said_request m said.fits) c.requires.next c.requires.free there kept.growing kept.parts kept.outcomes
+    (sym kept.name) in
+    let front = held_front first (with_message log m) c.make_room.new.self.progress.state.parts
+    c.make_room.new.self.progress.ledger.outcomes (slice_set w 0 (Some (message_body m)))
+    c.make_room.new.self.progress.growing
+    (g.S.TakeStore.contents c.args.stores.now.store c.make_room.new.self.progress.name) held
+    m (meaning c.request-request.result) c.args.digest (message_body m) c.make_room.new.self.progress.name
+    c.make_room.new.self.progress.same_name (at-set_same w 0 (Some (message_body m)) there) refl
+    c.request-request.ensures.value c.request-request.ensures.fits c.requires.digest in
+    let done = c.in-Ok.ensures.done honest first (with_message log m) front.0 front.1 in
+    record {
+      told = (ap is_some front.0.here, done.verdict_is);
+      left = held_at first _ _ _ _ _ (g.S.TakeStore.contents c.number_done.new.stores.store) _ _ kept.name
+          (part_done first (with_message log m) c.make_room.new.self.progress.state.parts
+          c.make_room.new.self.progress.ledger.outcomes (slice_set w 0 (Some (message_body m)))
+          c.make_room.new.self.progress.growing _ held (verdict_meaning c.in-Ok.verdict)
+          c.number_done.new.self.state.parts c.number_done.new.self.ledger.outcomes c.advance.new.self
+          c.number_done.new.self.growing _ (ap (λ (x : Growing). x.name) c.in-Ok.ensures.known)
+          c.in-Ok.ensures.clean
+          (c.advance.ensures ∙ ap (λ (x : List (Option (List ℕ))). drop 1 x ++ None ∷ []) c.in_ok-room.ensures.window
+          ∙ ap (λ (x : List (Option (List ℕ))). x ++ None ∷ []) (sym (passed_slot w (message_body m)))) done);
+    }
+
+pub returns-in-Ok-clause-noted : goal.returns-in-Ok-clause-noted
+returns-in-Ok-clause-noted g c = λ honest honest_notes first log h stood noted.
+    let m : Message = message_of c.args.message.now in
+    let said = message_spelled c.args.message.now.body.now c.args.message.now.spells in
+    let w : List (Option (List ℕ)) = c.args.self.now.window in
+    let kept = c.in_ok-room.ensures.progress in
+    let slots = c.requires.slots in
+    let there : 0 < length w = omega (arith, slots) in
+    let held = next_held first log c.args.self.now.progress.state.parts c.make_room.new.self.progress.state.parts
+    c.args.self.now.progress.ledger.outcomes c.make_room.new.self.progress.ledger.outcomes w
+    c.args.self.now.progress.growing c.make_room.new.self.progress.growing
+    (g.S.TakeStore.contents c.args.stores.now.store) c.args.self.now.progress.name
+    c.make_room.new.self.progress.name m h (c.requires.name ∙ sym c.args.self.now.progress.same_name)
+    (said_request m said.fits) c.requires.next c.requires.free there kept.growing kept.parts kept.outcomes
+    (sym kept.name) in
+    let front = held_front first (with_message log m) c.make_room.new.self.progress.state.parts
+    c.make_room.new.self.progress.ledger.outcomes (slice_set w 0 (Some (message_body m)))
+    c.make_room.new.self.progress.growing
+    (g.S.TakeStore.contents c.args.stores.now.store c.make_room.new.self.progress.name) held
+    m (meaning c.request-request.result) c.args.digest (message_body m) c.make_room.new.self.progress.name
+    c.make_room.new.self.progress.same_name (at-set_same w 0 (Some (message_body m)) there) refl
+    c.request-request.ensures.value c.request-request.ensures.fits c.requires.digest in
+    let next = c.requires.next in
+    noted_then c.make_room.new.self.progress.name c.args.self.now.progress.name
+    (g.J.Journal.header c.args.stores.now.journal) _ first (with_message log m) (with_done (with_message log m))
+    c.make_room.new.self.progress.noted _ (g.J.Journal.notes c.args.stores.now.journal)
+    (g.J.Journal.notes c.number_done.new.stores.journal) kept.name refl
+    (c.in-Ok.ensures.noted honest honest_notes first (with_message log m) front.0 front.1) stood
+    (subst (λ (n : ℕ). IsNoted (g.J.Journal.header c.args.stores.now.journal c.args.self.now.progress.name)
+    c.args.self.now.progress.name (with_message log m) n
+    (g.J.Journal.notes c.args.stores.now.journal c.args.self.now.progress.name)) (sym kept.noted)
+    (notes_put first log c.args.self.now.progress.state.parts c.args.self.now.progress.ledger.outcomes w
+    c.args.self.now.progress.growing _ h m 0 _ c.args.self.now.progress.name c.args.self.now.progress.noted _
+    (omega (arith, next)) (omega arith) c.requires.free noted))
+
+pub returns-in-Err-clause-drained : goal.returns-in-Err-clause-drained
+returns-in-Err-clause-drained g c = λ honest first log h.
+    let m : Message = message_of c.args.message.now in
+    let said = message_spelled c.args.message.now.body.now c.args.message.now.spells in
+    let w : List (Option (List ℕ)) = c.args.self.now.window in
+    let kept = c.in_ok-room.ensures.progress in
+    let slots = c.requires.slots in
+    let there : 0 < length w = omega (arith, slots) in
+    let held = next_held first log c.args.self.now.progress.state.parts c.make_room.new.self.progress.state.parts
+    c.args.self.now.progress.ledger.outcomes c.make_room.new.self.progress.ledger.outcomes w
+    c.args.self.now.progress.growing c.make_room.new.self.progress.growing
+    (g.S.TakeStore.contents c.args.stores.now.store) c.args.self.now.progress.name
+    c.make_room.new.self.progress.name m h (c.requires.name ∙ sym c.args.self.now.progress.same_name)
+    (said_request m said.fits) c.requires.next c.requires.free there kept.growing kept.parts kept.outcomes
+    (sym kept.name) in
+    let front = held_front first (with_message log m) c.make_room.new.self.progress.state.parts
+    c.make_room.new.self.progress.ledger.outcomes (slice_set w 0 (Some (message_body m)))
+    c.make_room.new.self.progress.growing
+    (g.S.TakeStore.contents c.args.stores.now.store c.make_room.new.self.progress.name) held
+    m (meaning c.request-request.result) c.args.digest (message_body m) c.make_room.new.self.progress.name
+    c.make_room.new.self.progress.same_name (at-set_same w 0 (Some (message_body m)) there) refl
+    c.request-request.ensures.value c.request-request.ensures.fits c.requires.digest in
+    record {
+      told = ap is_some front.0.here;
+      left = held_at first _ _ _ _ _ (g.S.TakeStore.contents c.number_done.new.stores.store) _ _ kept.name
+          (subst (λ (x : List (Option (List ℕ))). HoldsPart first (with_message log m)
+          c.number_done.new.self.state.parts c.number_done.new.self.ledger.outcomes x
+          c.number_done.new.self.growing
+          (g.S.TakeStore.contents c.number_done.new.stores.store c.make_room.new.self.progress.name))
+          (sym (c.put.ensures
+          ∙ ap (λ (x : List (Option (List ℕ))). slice_set x 0 (Some c.copy_to.result)) c.in_ok-room.ensures.window
+          ∙ ap (λ (b : List ℕ). slice_set w 0 (Some b)) c.copy_to.ensures))
+          (part_waits first (with_message log m) c.make_room.new.self.progress.state.parts
+          c.make_room.new.self.progress.ledger.outcomes (slice_set w 0 (Some (message_body m)))
+          c.make_room.new.self.progress.growing _ held c.number_done.new.self.state.parts
+          c.number_done.new.self.ledger.outcomes (meaning c.request-request.result) c.number_done.new.self.growing _
+          front.0.here (ap (λ (x : Growing). x.name) c.in-Err.ensures.known)
+          (c.in-Err.ensures.done honest first (with_message log m) front.0 front.1)));
+    }
+
+pub returns-in-Err-clause-noted : goal.returns-in-Err-clause-noted
+returns-in-Err-clause-noted g c = λ honest honest_notes first log h stood noted.
+    let m : Message = message_of c.args.message.now in
+    let said = message_spelled c.args.message.now.body.now c.args.message.now.spells in
+    let w : List (Option (List ℕ)) = c.args.self.now.window in
+    let kept = c.in_ok-room.ensures.progress in
+    let slots = c.requires.slots in
+    let there : 0 < length w = omega (arith, slots) in
+    let held = next_held first log c.args.self.now.progress.state.parts c.make_room.new.self.progress.state.parts
+    c.args.self.now.progress.ledger.outcomes c.make_room.new.self.progress.ledger.outcomes w
+    c.args.self.now.progress.growing c.make_room.new.self.progress.growing
+    (g.S.TakeStore.contents c.args.stores.now.store) c.args.self.now.progress.name
+    c.make_room.new.self.progress.name m h (c.requires.name ∙ sym c.args.self.now.progress.same_name)
+    (said_request m said.fits) c.requires.next c.requires.free there kept.growing kept.parts kept.outcomes
+    (sym kept.name) in
+    let front = held_front first (with_message log m) c.make_room.new.self.progress.state.parts
+    c.make_room.new.self.progress.ledger.outcomes (slice_set w 0 (Some (message_body m)))
+    c.make_room.new.self.progress.growing
+    (g.S.TakeStore.contents c.args.stores.now.store c.make_room.new.self.progress.name) held
+    m (meaning c.request-request.result) c.args.digest (message_body m) c.make_room.new.self.progress.name
+    c.make_room.new.self.progress.same_name (at-set_same w 0 (Some (message_body m)) there) refl
+    c.request-request.ensures.value c.request-request.ensures.fits c.requires.digest in
+    let next = c.requires.next in
+    noted_then c.make_room.new.self.progress.name c.args.self.now.progress.name
+    (g.J.Journal.header c.args.stores.now.journal) _ first (with_message log m) (with_message log m)
+    c.make_room.new.self.progress.noted _ (g.J.Journal.notes c.args.stores.now.journal)
+    (g.J.Journal.notes c.number_done.new.stores.journal) kept.name refl
+    (c.in-Err.ensures.noted honest honest_notes first (with_message log m) front.0 front.1) stood
+    (subst (λ (n : ℕ). IsNoted (g.J.Journal.header c.args.stores.now.journal c.args.self.now.progress.name)
+    c.args.self.now.progress.name (with_message log m) n
+    (g.J.Journal.notes c.args.stores.now.journal c.args.self.now.progress.name)) (sym kept.noted)
+    (notes_put first log c.args.self.now.progress.state.parts c.args.self.now.progress.ledger.outcomes w
+    c.args.self.now.progress.growing _ h m 0 _ c.args.self.now.progress.name c.args.self.now.progress.noted _
+    (omega (arith, next)) (omega arith) c.requires.free noted))

@@ -1,0 +1,91 @@
+//! The message of the next number: it is done from its borrowed body.
+ghost use Rattle.std.specs.Prelude.{◌≡◌, ◌+◌, ◌≤◌, ℕ, List, Option, None, Result, IsTrue, IfOk};
+ghost use Rattle.std.specs.Prelude.{OnErr, is_err, is_some, length};
+ghost use Rattle.sha2.specs.Sha256.{sha256};
+ghost use Rattle.bw_model.specs.Bytes.{at};
+ghost use Rattle.bw_model.specs.Wire.{message_body};
+ghost use Rattle.bw_model.specs.Book.{Log};
+ghost use Rattle.bw_model.specs.Turn.{is_admissible};
+ghost use Rattle.bw_wire.specs.Frames.{message_of};
+ghost use Rattle.bw_session.specs.Numbered.{KeepsBoth};
+ghost use Rattle.bw_session.specs.Noting.{IsNoted};
+ghost use Rattle.bw_session.specs.Draining.{DrainsNext, drained_by, drained_log};
+ghost use Rattle.bw_session.specs.Admitting.{with_message};
+
+use crate::body::HeldBody;
+use crate::numbering::Stores;
+use crate::session::Session;
+use bw_file::{StoreFault, TakeStore};
+use bw_journal::Journal;
+use bw_take::Verdict;
+use bw_wire::Message;
+use std::alloc::AllocError;
+
+impl Session {
+    ghost use Rattle.bw_session.specs.Sessions.{HoldsLog, KeepsProgress, KeepsTake, part_of};
+
+    /// Does the number of a message that is the next and isn't held. Its body is copied, to room
+    /// that was had before, only where a call failed.
+    ///
+    /// # Errors
+    /// `AllocError` where a growth was refused; inside, `StoreFault` where the store or the
+    /// journal failed: the message is held.
+    pub(crate) fn do_next<S: TakeStore, J: Journal>(
+        &mut self,
+        stores: &mut Stores<S, J>,
+        message: &Message<'_>,
+        digest: [u8; 32],
+    ) -> Result<Result<Verdict, StoreFault>, AllocError>
+        requires name { (message_of message.now).name ≡ self.old.progress.name }
+        requires digest { digest ≡ sha256 (message_body (message_of message.now)) }
+        requires next { (message_of message.now).number
+            ≡ length self.old.progress.ledger.outcomes }
+        requires free { at self.old.window 0 ≡ None }
+        requires slots { length self.old.window ≡ 16 }
+        ensures both { IfOk result (λ answer. KeepsBoth S.TakeStore J.Journal (is_err answer)
+            self.old.progress.name stores.old.store stores.new.store
+            stores.old.journal stores.new.journal) }
+        ensures store { OnErr result (stores.new.store ≡ stores.old.store) }
+        ensures journal { OnErr result (stores.new.journal ≡ stores.old.journal) }
+        ensures calls { S.calls stores.new.store ≤ S.calls stores.old.store + 4 }
+        ensures take { KeepsTake self.old self.new }
+        ensures progress { OnErr result (KeepsProgress self.old.progress self.new.progress) }
+        ensures window { OnErr result (self.new.window ≡ self.old.window) }
+        ensures refused { OnErr result ((first : Option (List ℕ)) (log : Log)
+            (found : Option (List ℕ)) → HoldsLog first log (part_of self.old) found →
+            IsTrue (is_admissible log (message_of message.now).number)) }
+        ensures drained { IsTrue (S.honest stores.old.store) →
+            (first : Option (List ℕ)) (log : Log) →
+            HoldsLog first log (part_of self.old)
+            (S.contents stores.old.store self.old.progress.name) →
+            IfOk result (λ answer. DrainsNext (drained_by answer) first
+            (with_message log (message_of message.now)) self.new.progress.state.parts
+            self.new.progress.ledger.outcomes self.new.window self.new.progress.growing
+            (S.contents stores.new.store self.old.progress.name)) }
+        ensures noted { IsTrue (S.honest stores.old.store) →
+            IsTrue (J.honest stores.old.journal) → (first : Option (List ℕ)) (log : Log) →
+            HoldsLog first log (part_of self.old)
+            (S.contents stores.old.store self.old.progress.name) →
+            (J.header stores.old.journal self.old.progress.name).stood ≡ is_some first →
+            IsNoted (J.header stores.old.journal self.old.progress.name) self.old.progress.name
+            log self.old.progress.noted (J.notes stores.old.journal self.old.progress.name) →
+            IfOk result (λ answer. IsNoted (J.header stores.old.journal self.old.progress.name)
+            self.old.progress.name
+            (drained_log (drained_by answer) (with_message log (message_of message.now)))
+            self.new.progress.noted (J.notes stores.new.journal self.old.progress.name)) }
+    {
+        let room = self.make_room(stores.alloc, message)?;
+        let request = message.request();
+        match self.progress.number_done(stores, &request, &digest) {
+            Ok(verdict) => {
+                self.window.advance();
+                Ok(Ok(verdict))
+            }
+            Err(fault) => {
+                self.window
+                    .put(0, HeldBody::copy_to(room, message, digest));
+                Ok(Err(fault))
+            }
+        }
+    }
+}
