@@ -13,3 +13,4 @@ pub mod AdmitForms
 pub mod RunForms
 pub mod ReplyForms
 pub mod NextForms
+pub mod ServeForms

@@ -76,31 +76,32 @@ verdicts_push t s name n (suc k) =
 
 module _ (first : Option (List ℕ)) (log : Log) (replies : List Reply) where
   -- one number more
-  pub drained_push : (name : List ℕ) (number : ℕ) (v : Judgement) (all : List Reply) (s s' : Part)
-      (found found' : Option (List ℕ)) →
-      all ≡ replies ++ Verdict name number v ∷ [] → s'.growing.name ≡ s.growing.name →
-      name ≡ s.growing.name → number ≡ log.done + length replies →
+  pub drained_push : (name : List ℕ) (number : ℕ) (v : Judgement) (all : List Reply) (owner : List ℕ) (p : Part)
+      (found : Option (List ℕ)) →
+      all ≡ replies ++ Verdict name number v ∷ [] → p.growing.name ≡ owner →
+      name ≡ owner → number ≡ log.done + length replies →
       verdict_meaning v ≡ verdict_at (is_some first) log.admitted (log.done + length replies) →
-      HasDrained first log replies s found →
-      HoldsLog first (with_done (with_more_done log (length replies))) s' found' →
-      HasDrained first log all s' found'
-  drained_push name number v all s s' found found' is same named numbered verdict h left =
+      map reply_of replies ≡ verdicts_from (is_some first) log.admitted owner log.done (length replies) →
+      at log.admitted (log.done + window) ≡ None →
+      HoldsLog first (with_done (with_more_done log (length replies))) p found →
+      HasDrained first log all p found
+  drained_push name number v all owner p found is same named numbered verdict told none left =
       let more : length all ≡ suc (length replies) =
       (let pushed = ap length is ∙ length_push replies (Verdict name number v) in omega (arith, pushed)) in
       let next : suc (log.done + length replies) ≡ log.done + length all = omega (arith, more) in
       record {
-        left = subst (λ (n : ℕ). HoldsLog first (record log { done = n }) s' found') next left;
+        left = subst (λ (n : ℕ). HoldsLog first (record log { done = n }) p found) next left;
         told =
             ap (map reply_of) is
             ∙ map_push reply_of replies (Verdict name number v)
-            ∙ ap (λ (rs : List ModelReply). rs ++ Judged name number (verdict_meaning v) ∷ []) h.told
-            ∙ ap (λ (x : ModelReply). verdicts_from (is_some first) log.admitted s.growing.name log.done
+            ∙ ap (λ (rs : List ModelReply). rs ++ Judged name number (verdict_meaning v) ∷ []) told
+            ∙ ap (λ (x : ModelReply). verdicts_from (is_some first) log.admitted owner log.done
             (length replies) ++ x ∷ [])
             (ap (λ (x : List ℕ). Judged x number (verdict_meaning v)) named
-            ∙ ap (λ (x : ℕ). Judged s.growing.name x (verdict_meaning v)) numbered
-            ∙ ap (Judged s.growing.name (log.done + length replies)) verdict)
-            ∙ sym (verdicts_push (is_some first) log.admitted s.growing.name log.done (length replies))
-            ∙ ap (verdicts_from (is_some first) log.admitted s.growing.name log.done) (sym more)
+            ∙ ap (λ (x : ℕ). Judged owner x (verdict_meaning v)) numbered
+            ∙ ap (Judged owner (log.done + length replies)) verdict)
+            ∙ sym (verdicts_push (is_some first) log.admitted owner log.done (length replies))
+            ∙ ap (verdicts_from (is_some first) log.admitted owner log.done) (sym more)
             ∙ ap (λ (x : List ℕ). verdicts_from (is_some first) log.admitted x log.done (length all)) (sym same);
-        none_past = h.none_past;
+        none_past = none;
       }

@@ -1,5 +1,5 @@
 -- What a session has to do with its name's log.
-use Rattle.std.specs.Prelude.{◌≡◌, Option, List, ℕ}
+use Rattle.std.specs.Prelude.{◌≡◌, ◌≤◌, ◌+◌, ◌*◌, ℕ, Bool, Option, List, if◌then◌else◌}
 use Rattle.bw_model.specs.Take.{Parts, Verdict}
 use Rattle.bw_model.specs.Book.{Log}
 use Rattle.bw_file.specs.Growing.{Growing}
@@ -42,3 +42,9 @@ pub record KeepsProgress (old new : Progress) : Type 0 where
   pub parts : new.state.parts ≡ old.state.parts
   pub outcomes : new.ledger.outcomes ≡ old.ledger.outcomes
   pub noted : new.noted ≡ old.noted
+
+-- The store was called four times at most for each number that was done, and for one more where a
+-- fault stopped.
+abbrev pub CallsFew : ℕ → ℕ → ℕ → ℕ → Bool → Type 0
+CallsFew before after done later stopped =
+    after + 4 * done ≤ before + 4 * later + (if stopped then 4 else 0)

@@ -9,7 +9,7 @@ ghost use Rattle.bw_model.specs.Turn.{is_admissible};
 ghost use Rattle.bw_wire.specs.Frames.{message_of};
 ghost use Rattle.bw_session.specs.Numbered.{KeepsBoth};
 ghost use Rattle.bw_session.specs.Noting.{IsNoted};
-ghost use Rattle.bw_session.specs.Draining.{DrainsNext, drained_by, drained_log};
+ghost use Rattle.bw_session.specs.Draining.{DrainsNext, drained_by, drained_log, drained_count};
 ghost use Rattle.bw_session.specs.Admitting.{with_message};
 
 use crate::body::HeldBody;
@@ -48,6 +48,8 @@ impl Session {
         ensures store { OnErr result (stores.new.store ≡ stores.old.store) }
         ensures journal { OnErr result (stores.new.journal ≡ stores.old.journal) }
         ensures calls { S.calls stores.new.store ≤ S.calls stores.old.store + 4 }
+        ensures done { IfOk result (λ answer. length self.new.progress.ledger.outcomes
+            ≡ length self.old.progress.ledger.outcomes + drained_count (drained_by answer)) }
         ensures take { KeepsTake self.old self.new }
         ensures progress { OnErr result (KeepsProgress self.old.progress self.new.progress) }
         ensures window { OnErr result (self.new.window ≡ self.old.window) }

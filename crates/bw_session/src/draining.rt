@@ -85,7 +85,7 @@ pub(crate) fn drain_one<S: TakeStore, J: Journal>(
 
 impl Session {
     ghost use Rattle.bw_wire.specs.Replies.{HasWireNumbers};
-    ghost use Rattle.bw_session.specs.Sessions.{KeepsTake, part_of};
+    ghost use Rattle.bw_session.specs.Sessions.{CallsFew, KeepsTake, part_of};
     ghost use Rattle.bw_session.specs.Runs.{with_more_done, HasDrained, EndsDraining};
 
     /// Drains the numbers whose messages are held in a row, sixteen at most with those of which
@@ -98,8 +98,9 @@ impl Session {
         requires few { length out.old.items ≤ 16 }
         ensures both { KeepsBoth S.TakeStore J.Journal result self.old.progress.name
             stores.old.store stores.new.store stores.old.journal stores.new.journal }
-        ensures calls { S.calls stores.new.store + 4 * length out.old.items
-            ≤ S.calls stores.old.store + 4 * length out.new.items + (if result then 4 else 0) }
+        ensures calls { CallsFew (S.calls stores.old.store) (S.calls stores.new.store)
+            (length self.old.progress.ledger.outcomes) (length self.new.progress.ledger.outcomes)
+            result }
         ensures take { KeepsTake self.old self.new }
         ensures few { length out.new.items ≤ 16 }
         ensures numbers { All HasWireNumbers out.old.items → All HasWireNumbers out.new.items }

@@ -9,6 +9,7 @@ mod draining;
 mod ledger;
 mod numbering;
 mod replying;
+mod serving;
 mod session;
 mod settling;
 mod window;

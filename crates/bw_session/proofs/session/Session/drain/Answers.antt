@@ -50,7 +50,8 @@ loop-slot-preserved g c =
           c.loop-slot.invariant.both c.in-Done.ensures.both;
       calls = let before = c.loop-slot.invariant.calls in
           let now = c.in-Done.ensures.calls in
-          omega (arith, more, before, now);
+          let done = c.in-Done.ensures.done in
+          omega (arith, done, before, now);
       take = search rules;
       few = search rules;
       numbers = λ all. subst (All HasWireNumbers) (sym c.push.ensures.items)
@@ -62,12 +63,12 @@ loop-slot-preserved g c =
           (with_more_done log (length c.loop-slot.out.items))
           (holds_under first _ _ (g.S.TakeStore.contents c.loop-slot.stores.store) _ _ (sym loop.take.name)
           drained.left) in
-          drained_push first log c.loop-slot.out.items _ _ c.in-Done.verdict c.push.new.self.items (part_of c.loop-slot.self) _ _ _
+          drained_push first log c.loop-slot.out.items _ _ c.in-Done.verdict c.push.new.self.items c.loop-slot.self.progress.growing.name _ _
           c.push.ensures.items (ap (λ (x : Growing). x.name) c.in-Done.ensures.known)
           (c.copy.ensures ∙ c.in-Done.ensures.name ∙ sym c.loop-slot.self.progress.same_name)
           (let count = c.len-number.ensures.value in let done = drained.left.memory.done in
           omega (arith, count, done, tried))
-          next.told.1 drained
+          next.told.1 drained.told drained.none_past
           (holds_under first _ _ (g.S.TakeStore.contents c.drain_one.new.stores.store) _ _ loop.take.name next.left);
       noted = λ honest honest_notes first log h stood noted.
           let loop = c.loop-slot.invariant in

@@ -4,7 +4,7 @@ use Rattle.bw_model.specs.Book.{Log}
 use Rattle.bw_session.specs.Numbered.{KeepsBoth}
 use Rattle.bw_session.specs.Noting.{IsNoted}
 use Rattle.bw_wire.specs.Replies.{HasWireNumbers}
-use Rattle.bw_session.specs.Sessions.{KeepsTake, part_of}
+use Rattle.bw_session.specs.Sessions.{CallsFew, KeepsTake, part_of}
 use Rattle.bw_session.specs.Runs.{with_more_done, HasDrained}
 use Rattle.bw_session.proofs.session.Session.drain.Given as goal
 
@@ -12,8 +12,8 @@ abbrev pub invariant-loop-slot : goal.invariant-loop-slot
 invariant-loop-slot g l = record {
   both : KeepsBoth g.S.TakeStore g.J.Journal false l.fn.self.progress.name l.fn.stores.store l.stores.store
       l.fn.stores.journal l.stores.journal;
-  calls : g.S.TakeStore.calls l.stores.store + 4 * length l.fn.out.items
-      ≤ g.S.TakeStore.calls l.fn.stores.store + 4 * length l.out.items;
+  calls : CallsFew (g.S.TakeStore.calls l.fn.stores.store) (g.S.TakeStore.calls l.stores.store)
+      (length l.fn.self.progress.ledger.outcomes) (length l.self.progress.ledger.outcomes) false;
   take : KeepsTake l.fn.self l.self;
   few : length l.out.items ≡ l._slot;
   numbers : All HasWireNumbers l.fn.out.items → All HasWireNumbers l.out.items;

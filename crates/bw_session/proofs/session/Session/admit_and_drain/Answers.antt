@@ -1,0 +1,119 @@
+use Rattle.std.proofs.Common.{rules, ◌≡◌, ◌+◌, ℕ, List, Option, Result, length, refl, sym, ◌∙◌, ap, subst}
+use Rattle.bw_model.specs.Wire.{Message}
+use Rattle.bw_take.specs.declared.verdict.Verdict.{Verdict}
+use Rattle.bw_file.specs.Growing.{Growing}
+use Rattle.bw_file.specs.declared.store.StoreFault.{StoreFault}
+use Rattle.bw_wire.specs.Frames.{message_of}
+use Rattle.bw_session.specs.Admitting.{with_message}
+use Rattle.bw_session.specs.Draining.{DrainsNext, drained_by, drained_log}
+use Rattle.bw_session.specs.Noting.{IsNoted}
+use Rattle.bw_session.specs.Sessions.{part_of}
+use Rattle.bw_session.specs.Runs.{with_more_done}
+use Rattle.bw_session.proofs.RunForms.{noted_then}
+use Rattle.bw_session.proofs.ServeForms.{starts, starts_done, stops_at_once, ends_under, noted_start, noted_one}
+use Rattle.bw_session.proofs.session.Session.admit_and_drain.Goals as goal
+
+pub returns-then-is_held-clause-drained : goal.returns-then-is_held-clause-drained
+returns-then-is_held-clause-drained g c = λ honest first log h.
+    let m : Message = message_of c.args.message.now in
+    let kept = c.in_ok-admit.ensures.progress in
+    ends_under first (with_message log m) c.drain.result _ _ (g.S.TakeStore.contents c.drain.new.stores.store)
+    c.admit.new.self.progress.name _ kept.name
+    (c.drain.ensures.drained honest first (with_message log m)
+    (starts first log m (part_of c.args.self.now) _ h c.get.ensures.slots (part_of c.admit.new.self)
+    c.args.out.now.items (g.S.TakeStore.contents c.args.stores.now.store) c.args.self.now.progress.name
+    c.admit.new.self.progress.name c.requires.empty (sym kept.name) (c.in_ok-admit.ensures.ok first log _ h)))
+
+pub returns-then-is_held-clause-noted : goal.returns-then-is_held-clause-noted
+returns-then-is_held-clause-noted g c = λ honest honest_notes first log h stood noted.
+    let m : Message = message_of c.args.message.now in
+    let kept = c.in_ok-admit.ensures.progress in
+    noted_then c.admit.new.self.progress.name c.args.self.now.progress.name
+    (g.J.Journal.header c.args.stores.now.journal) _ first
+    (with_more_done (with_message log m) (length c.args.out.now.items))
+    (with_more_done (with_message log m) (length c.drain.new.out.items)) c.admit.new.self.progress.noted _
+    (g.J.Journal.notes c.args.stores.now.journal) (g.J.Journal.notes c.drain.new.stores.journal) kept.name refl
+    (c.drain.ensures.noted honest honest_notes first (with_message log m)
+    (starts first log m (part_of c.args.self.now) _ h c.get.ensures.slots (part_of c.admit.new.self)
+    c.args.out.now.items (g.S.TakeStore.contents c.args.stores.now.store) c.args.self.now.progress.name
+    c.admit.new.self.progress.name c.requires.empty (sym kept.name) (c.in_ok-admit.ensures.ok first log _ h)))
+    stood
+    (noted_start _ c.args.self.now.progress.name (with_message log m) c.admit.new.self.progress.noted _
+    c.args.out.now.items c.requires.empty (c.in_ok-admit.ensures.noted first log _ _ _ h noted))
+
+pub returns-in-Ok-clause-drained : goal.returns-in-Ok-clause-drained
+returns-in-Ok-clause-drained g c = λ honest first log h.
+    let m : Message = message_of c.args.message.now in
+    let take = c.in_ok-verdict.ensures.take in
+    let both = c.in_ok-verdict.ensures.both in
+    let next = subst (λ (a : Result Verdict StoreFault). DrainsNext (drained_by a) first (with_message log m)
+    c.do_next.new.self.progress.state.parts c.do_next.new.self.progress.ledger.outcomes c.do_next.new.self.window
+    c.do_next.new.self.progress.growing
+    (g.S.TakeStore.contents c.do_next.new.stores.store c.args.self.now.progress.name)) c.in-Ok.is
+    (c.in_ok-verdict.ensures.drained honest first log h) in
+    ends_under first (with_message log m) c.drain-in-Ok.result _ _
+    (g.S.TakeStore.contents c.drain-in-Ok.new.stores.store) c.do_next.new.self.progress.name _ take.name
+    (c.drain-in-Ok.ensures.drained (both.honest ∙ honest) first (with_message log m)
+    (starts_done first log m (part_of c.args.self.now) _ h c.get.ensures.slots c.number-in-Ok.result c.in-Ok.verdict
+    c.name.result c.push.new.self.items c.args.out.now.items (part_of c.do_next.new.self)
+    (g.S.TakeStore.contents c.do_next.new.stores.store) c.args.self.now.progress.name
+    c.do_next.new.self.progress.name c.requires.empty c.push.ensures.items
+    (ap (λ (x : Growing). x.name) take.growing ∙ c.args.self.now.progress.same_name ∙ sym c.requires.name
+    ∙ sym c.name.ensures) (search rules) (sym take.name) next))
+
+pub returns-in-Ok-clause-noted : goal.returns-in-Ok-clause-noted
+returns-in-Ok-clause-noted g c = λ honest honest_notes first log h stood noted.
+    let m : Message = message_of c.args.message.now in
+    let take = c.in_ok-verdict.ensures.take in
+    let both = c.in_ok-verdict.ensures.both in
+    let next = subst (λ (a : Result Verdict StoreFault). DrainsNext (drained_by a) first (with_message log m)
+    c.do_next.new.self.progress.state.parts c.do_next.new.self.progress.ledger.outcomes c.do_next.new.self.window
+    c.do_next.new.self.progress.growing
+    (g.S.TakeStore.contents c.do_next.new.stores.store c.args.self.now.progress.name)) c.in-Ok.is
+    (c.in_ok-verdict.ensures.drained honest first log h) in
+    let one = subst (λ (a : Result Verdict StoreFault).
+    IsNoted (g.J.Journal.header c.args.stores.now.journal c.args.self.now.progress.name)
+    c.args.self.now.progress.name (drained_log (drained_by a) (with_message log m))
+    c.do_next.new.self.progress.noted
+    (g.J.Journal.notes c.do_next.new.stores.journal c.args.self.now.progress.name)) c.in-Ok.is
+    (c.in_ok-verdict.ensures.noted honest honest_notes first log h stood noted) in
+    noted_then c.do_next.new.self.progress.name c.args.self.now.progress.name
+    (g.J.Journal.header c.do_next.new.stores.journal) _ first
+    (with_more_done (with_message log m) (length c.push.new.self.items))
+    (with_more_done (with_message log m) (length c.drain-in-Ok.new.out.items)) c.do_next.new.self.progress.noted _
+    (g.J.Journal.notes c.do_next.new.stores.journal) (g.J.Journal.notes c.drain-in-Ok.new.stores.journal) take.name
+    (both.headers honest_notes c.args.self.now.progress.name)
+    (c.drain-in-Ok.ensures.noted (both.honest ∙ honest) (both.honest_notes ∙ honest_notes) first (with_message log m)
+    (starts_done first log m (part_of c.args.self.now) _ h c.get.ensures.slots c.number-in-Ok.result c.in-Ok.verdict
+    c.name.result c.push.new.self.items c.args.out.now.items (part_of c.do_next.new.self)
+    (g.S.TakeStore.contents c.do_next.new.stores.store) c.args.self.now.progress.name
+    c.do_next.new.self.progress.name c.requires.empty c.push.ensures.items
+    (ap (λ (x : Growing). x.name) take.growing ∙ c.args.self.now.progress.same_name ∙ sym c.requires.name
+    ∙ sym c.name.ensures) (search rules) (sym take.name) next))
+    stood
+    (noted_one _ c.args.self.now.progress.name (with_message log m) c.do_next.new.self.progress.noted _ _
+    c.push.new.self.items c.args.out.now.items c.requires.empty c.push.ensures.items one)
+
+pub returns-in-Err-clause-drained : goal.returns-in-Err-clause-drained
+returns-in-Err-clause-drained g c = λ honest first log h.
+    let m : Message = message_of c.args.message.now in
+    stops_at_once first log m (part_of c.args.self.now) _ h c.get.ensures.slots c.args.out.now.items
+    (part_of c.do_next.new.self) (g.S.TakeStore.contents c.do_next.new.stores.store) c.args.self.now.progress.name
+    c.args.self.now.progress.name c.requires.empty refl
+    (subst (λ (a : Result Verdict StoreFault). DrainsNext (drained_by a) first (with_message log m)
+    c.do_next.new.self.progress.state.parts c.do_next.new.self.progress.ledger.outcomes c.do_next.new.self.window
+    c.do_next.new.self.progress.growing
+    (g.S.TakeStore.contents c.do_next.new.stores.store c.args.self.now.progress.name)) c.in-Err.is
+    (c.in_ok-verdict.ensures.drained honest first log h))
+
+pub returns-in-Err-clause-noted : goal.returns-in-Err-clause-noted
+returns-in-Err-clause-noted g c = λ honest honest_notes first log h stood noted.
+    let m : Message = message_of c.args.message.now in
+    noted_start _ c.args.self.now.progress.name (with_message log m) c.do_next.new.self.progress.noted _
+    c.args.out.now.items c.requires.empty
+    (subst (λ (a : Result Verdict StoreFault).
+    IsNoted (g.J.Journal.header c.args.stores.now.journal c.args.self.now.progress.name)
+    c.args.self.now.progress.name (drained_log (drained_by a) (with_message log m))
+    c.do_next.new.self.progress.noted
+    (g.J.Journal.notes c.do_next.new.stores.journal c.args.self.now.progress.name)) c.in-Err.is
+    (c.in_ok-verdict.ensures.noted honest honest_notes first log h stood noted))

@@ -1,0 +1,100 @@
+//! A message of a name that a session is kept of: it is admitted, what is held in a row is done,
+//! and its sender is told.
+ghost use Rattle.std.specs.Prelude.{◌≡◌, ◌≤◌, ℕ, List, [], Option, Bool, IsTrue, IfOk, OnOk, OnErr};
+ghost use Rattle.std.specs.Prelude.{is_some, length};
+ghost use Rattle.std.specs.List.{All};
+ghost use Rattle.sha2.specs.Sha256.{sha256};
+ghost use Rattle.bw_model.specs.Wire.{message_body};
+ghost use Rattle.bw_model.specs.Book.{Log};
+ghost use Rattle.bw_model.specs.Turn.{is_admissible};
+ghost use Rattle.bw_wire.specs.Frames.{message_of};
+ghost use Rattle.bw_wire.specs.Replies.{HasWireNumbers};
+ghost use Rattle.bw_session.specs.Numbered.{KeepsBoth, failed_calls};
+ghost use Rattle.bw_session.specs.Noting.{IsNoted};
+ghost use Rattle.bw_session.specs.Admitting.{with_message};
+
+use crate::numbering::Stores;
+use crate::session::Session;
+use crate::window::SLOTS;
+use arrayvec::ArrayVec;
+use bw_file::TakeStore;
+use bw_journal::Journal;
+use bw_wire::{Message, Notice, Reply};
+use sha2::{Digest, Sha256};
+use std::alloc::AllocError;
+
+impl Session {
+    ghost use Rattle.bw_session.specs.Sessions.{HoldsLog, KeepsProgress, KeepsTake, part_of};
+    ghost use Rattle.bw_session.specs.Sessions.{CallsFew};
+    ghost use Rattle.bw_session.specs.Runs.{EndsDraining, with_more_done};
+    ghost use Rattle.bw_session.specs.Serving.{Serves};
+
+    /// Admits a message and does the numbers whose messages are there in a row; answers whether
+    /// a fault stopped that.
+    ///
+    /// # Errors
+    /// `AllocError` where a growth was refused: nothing was asked of the store.
+    fn admit_and_drain<S: TakeStore, J: Journal>(
+        &mut self,
+        stores: &mut Stores<S, J>,
+        message: &Message<'_>,
+        digest: [u8; 32],
+        out: &mut ArrayVec<Reply, 17>,
+    ) -> Result<bool, AllocError>
+        requires name { (message_of message.now).name ≡ self.old.progress.name }
+        requires digest { digest ≡ sha256 (message_body (message_of message.now)) }
+        requires empty { out.old.items ≡ [] }
+        ensures both { IfOk result (λ stopped. KeepsBoth S.TakeStore J.Journal stopped
+            self.old.progress.name stores.old.store stores.new.store
+            stores.old.journal stores.new.journal) }
+        ensures calls { IfOk result (λ stopped. CallsFew
+            (S.calls stores.old.store) (S.calls stores.new.store)
+            (length self.old.progress.ledger.outcomes) (length self.new.progress.ledger.outcomes)
+            stopped) }
+        ensures take { KeepsTake self.old self.new }
+        ensures few { length out.new.items ≤ 16 }
+        ensures numbers { All HasWireNumbers out.new.items }
+        ensures store { OnErr result (stores.new.store ≡ stores.old.store) }
+        ensures journal { OnErr result (stores.new.journal ≡ stores.old.journal) }
+        ensures progress { OnErr result (KeepsProgress self.old.progress self.new.progress) }
+        ensures window { OnErr result (self.new.window ≡ self.old.window) }
+        ensures untold { OnErr result (out.new.items ≡ []) }
+        ensures refused { OnErr result ((first : Option (List ℕ)) (log : Log)
+            (found : Option (List ℕ)) → HoldsLog first log (part_of self.old) found →
+            IsTrue (is_admissible log (message_of message.now).number)) }
+        ensures drained { IsTrue (S.honest stores.old.store) →
+            (first : Option (List ℕ)) (log : Log) → HoldsLog first log (part_of self.old)
+            (S.contents stores.old.store self.old.progress.name) →
+            IfOk result (λ stopped. EndsDraining first
+            (with_message log (message_of message.now)) stopped out.new.items (part_of self.new)
+            (S.contents stores.new.store self.old.progress.name)) }
+        ensures noted { IsTrue (S.honest stores.old.store) →
+            IsTrue (J.honest stores.old.journal) → (first : Option (List ℕ)) (log : Log) →
+            HoldsLog first log (part_of self.old)
+            (S.contents stores.old.store self.old.progress.name) →
+            (J.header stores.old.journal self.old.progress.name).stood ≡ is_some first →
+            IsNoted (J.header stores.old.journal self.old.progress.name) self.old.progress.name
+            log self.old.progress.noted (J.notes stores.old.journal self.old.progress.name) →
+            OnOk result (IsNoted (J.header stores.old.journal self.old.progress.name)
+            self.old.progress.name (with_more_done (with_message log (message_of message.now))
+            (length out.new.items)) self.new.progress.noted
+            (J.notes stores.new.journal self.old.progress.name)) }
+    {
+        let is_held = self.window.get(0).is_some();
+        if is_held || message.number() as usize != self.progress.ledger.len() {
+            self.admit(stores.alloc, message, digest)?;
+            return Ok(self.drain(stores, out));
+        }
+        match self.do_next(stores, message, digest)? {
+            Ok(verdict) => {
+                out.push(Reply::Verdict {
+                    name: message.name(),
+                    number: message.number(),
+                    verdict,
+                });
+                Ok(self.drain(stores, out))
+            }
+            Err(_fault) => Ok(true),
+        }
+    }
+}
