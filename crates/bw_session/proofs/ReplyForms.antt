@@ -10,7 +10,7 @@ use Rattle.bw_model.specs.Take.{Request, Verdict, Stored}
 use Rattle.bw_model.specs.Wire.{Message, message_body}
 use Rattle.bw_model.specs.Book.{Log, verdict_at, run_end}
 use Rattle.bw_model.specs.Turn.{is_repeat, repeats, own_reply, window}
-use Rattle.bw_model.specs.Replies.{Judged, Noticed, Conflict, DelayedStore, Held}
+use Rattle.bw_model.specs.Replies.{Judged, Noticed, Conflict, DelayedStore, Held, TooFar}
 use Rattle.bw_model.specs.Holds.{body_of, finished_from}
 use Rattle.bw_model.proofs.MapLemmas.{IsFilled, at-first_free, at-drop}
 use Rattle.bw_wire.specs.declared.reply.Reply.{Reply}
@@ -79,6 +79,11 @@ module _ (first : Option (List ℕ)) (log : Log) (p : Part) (found : Option (Lis
       told ([], Stored) ∙ ap (λ (y : List ℕ × Verdict). y.1) x.2
 
 -- The message's own reply, case by case.
+
+pub own_far : (t : Bool) (s : List (Option Request)) (done later end : ℕ) (m : Message) → done + window ≤ m.number →
+    own_reply t s done later end m ≡ Noticed m.name m.number TooFar later ∷ []
+unfolding own_reply
+own_far t s done later end m past = let a = le-leb (done + window) m.number past in rw (a) refl
 
 module _ (t : Bool) (s : List (Option Request)) (done later end : ℕ) (m : Message) (near : m.number < done + window) where
   pub own_conflict : is_repeat s m ≡ false →

@@ -3,16 +3,20 @@ use Rattle.std.proofs.Common.{◌≡◌, ℕ, zero, suc, ◌+◌, ◌-◌, ◌�
 use Rattle.std.proofs.Common.{length, map, Option, Some, None, refl, sym, ◌∙◌, ap, subst, arith}
 use Rattle.std.specs.Prelude.{is_some, is_none, nat_lt, option_map}
 use Rattle.std.proofs.lemmas.Bool.{and_parts, ltb-true}
+use Rattle.std.proofs.lemmas.List.{map-append}
 use Rattle.bw_model.specs.Bytes.{at, put}
 use Rattle.bw_model.specs.Take.{Request}
+use Rattle.bw_model.specs.Counts.{Counts}
+use Rattle.bw_model.specs.Replies.{Reply as ModelReply}
 use Rattle.bw_model.specs.Wire.{Message}
-use Rattle.bw_model.specs.Book.{Log, verdict_at}
-use Rattle.bw_model.specs.Turn.{is_admissible, admitted_after, window}
+use Rattle.bw_model.specs.Book.{Log, verdict_at, run_end}
+use Rattle.bw_model.specs.Turn.{is_admissible, admitted_after, drained_to, verdicts_from, own_reply, served, window}
 use Rattle.bw_model.specs.Holds.{body_of}
 use Rattle.bw_model.proofs.MapLemmas.{at-put_other}
 use Rattle.bw_take.specs.declared.verdict.Verdict.{Verdict as Judgement}
 use Rattle.bw_wire.specs.declared.reply.Reply.{Reply}
 use Rattle.bw_wire.specs.declared.reply.Reply.TheVariants.{Verdict}
+use Rattle.bw_wire.specs.Replies.{reply_of}
 use Rattle.bw_journal.specs.JournalHeaders.{Header}
 use Rattle.bw_session.specs.Admitting.{with_message}
 use Rattle.bw_session.specs.Draining.{HoldsPart, DrainsNext}
@@ -21,12 +25,18 @@ use Rattle.bw_session.specs.Noting.{IsNoted}
 use Rattle.bw_session.specs.Numbered.{with_done}
 use Rattle.bw_session.specs.Sessions.{Part, HoldsLog}
 use Rattle.bw_session.specs.Runs.{with_more_done, HasDrained, EndsDraining}
+use Rattle.bw_session.specs.Serving.{Serves}
+use Rattle.bw_session.proofs.AdmitForms.{filled}
 use Rattle.bw_session.proofs.RunForms.{drained_push}
+use Rattle.bw_session.proofs.ReplyForms.{run_stops, run_goes}
 
 at_past : (w : List (Option (List ℕ))) (i : ℕ) → length w ≤ i → at w i ≡ None
 at_past [] i h = refl
 at_past (x ∷ w) zero h = absurd (omega (arith, h))
 at_past (x ∷ w) (suc i) h = at_past w i (omega (arith, h))
+
+no_false : {A : Type 0} → true ≡ false → A
+no_false e = cc
 
 no_body : {A : Type 0} {b : List ℕ} → None ≡ Some b → A
 no_body e = cc
@@ -115,3 +125,59 @@ noted_one h name log offset notes r all out none is noted =
     let one : length all ≡ 1 = ap length (is ∙ ap (λ (rs : List Reply). rs ++ r ∷ []) none) in
     let here : suc log.done ≡ log.done + length all = omega (arith, one) in
     subst (λ (k : ℕ). IsNoted h name (record log { done = k }) offset notes) here noted
+
+-- where the fault stopped draining, if one did
+abbrev stop_of : Bool → ℕ → Option ℕ
+stop_of false count = None
+stop_of true count = Some count
+
+module _ (first : Option (List ℕ)) (log : Log) (m : Message) (stopped : Bool) (drained : List Reply) (p : Part)
+    (found : Option (List ℕ)) (e : EndsDraining first (with_message log m) stopped drained p found) where
+  -- draining came as far as the definitions say
+  later_is : drained_to log.done (run_end (admitted_after log m) log.done) (stop_of stopped (length drained))
+      ≡ log.done + length drained
+  later_is = go stopped (at (admitted_after log m) (log.done + length drained)) refl e.end
+    where
+      go : (v : Bool) (o : Option Request) → at (admitted_after log m) (log.done + length drained) ≡ o →
+          is_some (at (admitted_after log m) (log.done + length drained)) ≡ v →
+          drained_to log.done (run_end (admitted_after log m) log.done) (stop_of v (length drained))
+          ≡ log.done + length drained
+      go false None is end =
+          run_stops (admitted_after log m) log.done (length drained) is
+          (filled first _ _ _ _ _ found e.drained.left)
+      go false (Some r) is end = no_false (sym (ap is_some is) ∙ end)
+      go true None is end = no_false (sym end ∙ ap is_some is)
+      go true (Some r) is end =
+          let more = run_goes (admitted_after log m) log.done (length drained) r is
+          (filled first _ _ _ _ _ found e.drained.left) in
+          omega (arith, more)
+
+  -- The message is served.
+  pub serves : (own all : List Reply) (before after : ℕ) → m.name ≡ p.growing.name → all ≡ drained ++ own →
+      map reply_of own ≡ own_reply (is_some first) (admitted_after log m) log.done (length p.outcomes)
+      (run_end (admitted_after log m) log.done) m →
+      Counts before after stopped → Serves first log m before after all p found
+  unfolding served
+  serves own all before after name is own_is counts =
+      let s : List (Option Request) = admitted_after log m in
+      let t : Bool = is_some first in
+      let end : ℕ = run_end s log.done in
+      let k : ℕ = length drained in
+      let count : (log.done + k) - log.done ≡ k = omega arith in
+      let outcomes : length p.outcomes ≡ log.done + k = e.drained.left.memory.done in
+      let pending = ap (λ (l : ℕ). is_some (at s l)) later_is ∙ e.end in
+      record {
+        stop = stop_of stopped k;
+        answered =
+            ap (λ (l : ℕ). verdicts_from t s m.name log.done (l - log.done) ++ own_reply t s log.done l end m) later_is
+            ∙ ap (λ (n : ℕ). verdicts_from t s m.name log.done n ++ own_reply t s log.done (log.done + k) end m) count
+            ∙ ap (λ (x : List ℕ). verdicts_from t s x log.done k ++ own_reply t s log.done (log.done + k) end m) name
+            ∙ ap (λ (rs : List ModelReply). rs ++ own_reply t s log.done (log.done + k) end m) (sym e.drained.told)
+            ∙ ap (λ (rs : List ModelReply). map reply_of drained ++ rs)
+            (ap (λ (l : ℕ). own_reply t s log.done l end m) (sym outcomes) ∙ sym own_is)
+            ∙ sym (map-append reply_of drained own) ∙ ap (map reply_of) (sym is);
+        left = subst (λ (l : ℕ). HoldsLog first (record { admitted = s; done = l }) p found) (sym later_is)
+            e.drained.left;
+        count = subst (Counts before after) (sym pending) counts;
+        whole = λ quiet. ap (λ (v : Bool). stop_of v k) (sym pending ∙ quiet);
+      }

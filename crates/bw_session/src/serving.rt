@@ -15,7 +15,6 @@ ghost use Rattle.bw_session.specs.Admitting.{with_message};
 
 use crate::numbering::Stores;
 use crate::session::Session;
-use crate::window::SLOTS;
 use arrayvec::ArrayVec;
 use bw_file::TakeStore;
 use bw_journal::Journal;
@@ -27,7 +26,71 @@ impl Session {
     ghost use Rattle.bw_session.specs.Sessions.{HoldsLog, KeepsProgress, KeepsTake, part_of};
     ghost use Rattle.bw_session.specs.Sessions.{CallsFew};
     ghost use Rattle.bw_session.specs.Runs.{EndsDraining, with_more_done};
-    ghost use Rattle.bw_session.specs.Serving.{Serves};
+    ghost use Rattle.bw_session.specs.Serving.{Serves, log_after};
+
+    /// Takes a message of the name: what its sender is told is put into `out`, which is empty.
+    ///
+    /// # Errors
+    /// `AllocError` where a growth was refused: nothing was asked of the store, and nothing is
+    /// told.
+    pub(crate) fn serve<S: TakeStore, J: Journal>(
+        &mut self,
+        stores: &mut Stores<S, J>,
+        message: &Message<'_>,
+        out: &mut ArrayVec<Reply, 17>,
+    ) -> Result<(), AllocError>
+        requires name { (message_of message.now).name ≡ self.old.progress.name }
+        requires empty { out.old.items ≡ [] }
+        ensures both { (stopped : Bool) × KeepsBoth S.TakeStore J.Journal stopped
+            self.old.progress.name stores.old.store stores.new.store
+            stores.old.journal stores.new.journal
+            × CallsFew (S.calls stores.old.store) (S.calls stores.new.store)
+            (length self.old.progress.ledger.outcomes) (length self.new.progress.ledger.outcomes)
+            stopped }
+        ensures take { KeepsTake self.old self.new }
+        ensures few { length out.new.items ≤ 17 }
+        ensures numbers { All HasWireNumbers out.new.items }
+        ensures store { OnErr result (stores.new.store ≡ stores.old.store) }
+        ensures journal { OnErr result (stores.new.journal ≡ stores.old.journal) }
+        ensures progress { OnErr result (KeepsProgress self.old.progress self.new.progress) }
+        ensures window { OnErr result (self.new.window ≡ self.old.window) }
+        ensures untold { OnErr result (out.new.items ≡ []) }
+        ensures refused { OnErr result ((first : Option (List ℕ)) (log : Log)
+            (found : Option (List ℕ)) → HoldsLog first log (part_of self.old) found →
+            IsTrue (is_admissible log (message_of message.now).number)) }
+        ensures served { IsTrue (S.honest stores.old.store) →
+            (first : Option (List ℕ)) (log : Log) → HoldsLog first log (part_of self.old)
+            (S.contents stores.old.store self.old.progress.name) →
+            OnOk result (Serves first log (message_of message.now)
+            (failed_calls (S.failures stores.old.store) (J.failures stores.old.journal))
+            (failed_calls (S.failures stores.new.store) (J.failures stores.new.journal))
+            out.new.items (part_of self.new)
+            (S.contents stores.new.store self.old.progress.name)) }
+        ensures noted { IsTrue (S.honest stores.old.store) →
+            IsTrue (J.honest stores.old.journal) → (first : Option (List ℕ)) (log : Log) →
+            HoldsLog first log (part_of self.old)
+            (S.contents stores.old.store self.old.progress.name) →
+            (J.header stores.old.journal self.old.progress.name).stood ≡ is_some first →
+            IsNoted (J.header stores.old.journal self.old.progress.name) self.old.progress.name
+            log self.old.progress.noted (J.notes stores.old.journal self.old.progress.name) →
+            OnOk result (IsNoted (J.header stores.old.journal self.old.progress.name)
+            self.old.progress.name (log_after log (message_of message.now)
+            (length self.new.progress.ledger.outcomes)) self.new.progress.noted
+            (J.notes stores.new.journal self.old.progress.name)) }
+    {
+        let done = self.progress.ledger.len();
+        if done + self.window.len() <= message.number() as usize {
+            self.drain(stores, out);
+            out.push(self.notice(message, Notice::TooFar));
+            return Ok(());
+        }
+        let digest = Sha256::digest(message.body());
+        let stopped = self.admit_and_drain(stores, message, digest, out)?;
+        if let Some(reply) = self.reply_to(message, &digest, done, stopped) {
+            out.push(reply);
+        }
+        Ok(())
+    }
 
     /// Admits a message and does the numbers whose messages are there in a row; answers whether
     /// a fault stopped that.

@@ -45,6 +45,14 @@ impl Window {
         Ok(Window { slots })
     }
 
+    /// How many slots there are.
+    pub(crate) fn len(&self) -> usize
+        ensures value { result ≡ 16 }
+        ensures slots { length self.now ≡ 16 }
+    {
+        self.slots.len()
+    }
+
     /// The body in a slot.
     pub(crate) fn get(&self, slot: usize) -> Option<&HeldBody>
         ensures value { option_copied result ≡ at self.now slot }

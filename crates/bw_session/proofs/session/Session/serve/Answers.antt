@@ -1,0 +1,111 @@
+use Rattle.std.proofs.Common.{rules, ◌≡◌, ◌+◌, ◌<◌, ◌≤◌, ℕ, List, Option, [], ◌∷◌, ◌++◌, length, false, inr, refl, sym, ◌∙◌, ap}
+use Rattle.std.proofs.Common.{subst, arith, append-nil}
+use Rattle.std.specs.Prelude.{is_some}
+use Rattle.bw_model.specs.Wire.{Message}
+use Rattle.bw_model.specs.Book.{run_end}
+use Rattle.bw_model.specs.Replies as model
+use Rattle.bw_model.specs.Turn.{is_admissible, admitted_after, own_reply, window}
+use Rattle.bw_file.specs.Growing.{Growing}
+use Rattle.bw_wire.specs.Frames.{message_of}
+use Rattle.bw_session.specs.Admitting.{with_message}
+use Rattle.bw_session.specs.Noting.{IsNoted}
+use Rattle.bw_session.specs.Sessions.{part_of}
+use Rattle.bw_session.specs.Serving.{log_after}
+use Rattle.bw_session.proofs.AdmitForms.{outside_not_new, part_same, notes_same}
+use Rattle.bw_session.proofs.ReplyForms.{own_far}
+use Rattle.bw_session.proofs.ServeForms.{starts, serves, noted_start}
+use Rattle.bw_session.proofs.session.Session.serve.Goals as goal
+
+pub returns-then-done-len-clause-served : goal.returns-then-done-len-clause-served
+returns-then-done-len-clause-served g c = λ honest first log h.
+    let m : Message = message_of c.args.message.now in
+    let long = c.len-done.ensures.value in
+    let slots = c.len.ensures.value in
+    let number = c.number.ensures.value in
+    let past : length c.args.self.now.progress.ledger.outcomes + 16 ≤ m.number = search rules in
+    let same = outside_not_new first log _ _ _ _ _ h m.number (inr past) in
+    let ended = c.drain.ensures.drained honest first (with_message log m)
+    (starts first log m (part_of c.args.self.now) _ h c.len.ensures.slots (part_of c.args.self.now)
+    c.args.out.now.items (g.S.TakeStore.contents c.args.stores.now.store) c.args.self.now.progress.name
+    c.args.self.now.progress.name c.requires.empty refl (part_same first log _ _ _ _ _ h m same)) in
+    let done = h.memory.done in
+    serves first log m c.drain.result c.drain.new.out.items (part_of c.drain.new.self) _ ended (c.notice.result ∷ [])
+    c.push.new.self.items _ _ (c.requires.name ∙ sym c.args.self.now.progress.same_name
+    ∙ sym (ap (λ (x : Growing). x.name) c.drain.ensures.take.growing)) c.push.ensures.items
+    (ap (λ (r : model.Reply). r ∷ []) c.notice.ensures.value
+    ∙ sym (own_far (is_some first) (admitted_after log m) log.done
+    (length c.drain.new.self.progress.ledger.outcomes) (run_end (admitted_after log m) log.done) m
+    (omega (arith, past, done))))
+    c.drain.ensures.both.failures
+
+pub returns-then-done-len-clause-noted : goal.returns-then-done-len-clause-noted
+returns-then-done-len-clause-noted g c = λ honest honest_notes first log h stood noted.
+    let m : Message = message_of c.args.message.now in
+    let long = c.len-done.ensures.value in
+    let slots = c.len.ensures.value in
+    let number = c.number.ensures.value in
+    let past : length c.args.self.now.progress.ledger.outcomes + 16 ≤ m.number = search rules in
+    let same = outside_not_new first log _ _ _ _ _ h m.number (inr past) in
+    let ended = c.drain.ensures.drained honest first (with_message log m)
+    (starts first log m (part_of c.args.self.now) _ h c.len.ensures.slots (part_of c.args.self.now)
+    c.args.out.now.items (g.S.TakeStore.contents c.args.stores.now.store) c.args.self.now.progress.name
+    c.args.self.now.progress.name c.requires.empty refl (part_same first log _ _ _ _ _ h m same)) in
+    subst (λ (n : ℕ). IsNoted (g.J.Journal.header c.args.stores.now.journal c.args.self.now.progress.name)
+    c.args.self.now.progress.name (log_after log m n) c.drain.new.self.progress.noted
+    (g.J.Journal.notes c.drain.new.stores.journal c.args.self.now.progress.name)) (sym ended.drained.left.memory.done)
+    (c.drain.ensures.noted honest honest_notes first (with_message log m)
+    (starts first log m (part_of c.args.self.now) _ h c.len.ensures.slots (part_of c.args.self.now)
+    c.args.out.now.items (g.S.TakeStore.contents c.args.stores.now.store) c.args.self.now.progress.name
+    c.args.self.now.progress.name c.requires.empty refl (part_same first log _ _ _ _ _ h m same)) stood
+    (noted_start _ c.args.self.now.progress.name (with_message log m) c.args.self.now.progress.noted _
+    c.args.out.now.items c.requires.empty
+    (notes_same first log _ _ _ _ _ h m _ c.args.self.now.progress.name _ _ same noted)))
+
+pub returns-in-Some-clause-served : goal.returns-in-Some-clause-served
+returns-in-Some-clause-served g c = λ honest first log h.
+    let m : Message = message_of c.args.message.now in
+    let done = c.len-done.ensures.value ∙ h.memory.done in
+    let ended = c.in_ok-stopped.ensures.drained honest first log h in
+    serves first log m c.in_ok-stopped.stopped c.admit_and_drain.new.out.items (part_of c.admit_and_drain.new.self) _
+    ended (c.in-Some.reply ∷ []) c.push-in-Some.new.self.items _ _ (c.requires.name ∙ sym c.args.self.now.progress.same_name
+    ∙ sym (ap (λ (x : Growing). x.name) c.admit_and_drain.ensures.take.growing)) c.push-in-Some.ensures.items
+    (c.in-Some.ensures.value first (with_message log m) c.admit_and_drain.new.out.items _ ended (sym done) (search rules)
+    ∙ ap (λ (n : ℕ). own_reply (is_some first) (admitted_after log m) n
+    (length c.admit_and_drain.new.self.progress.ledger.outcomes) (run_end (admitted_after log m) n) m) done)
+    c.in_ok-stopped.ensures.both.failures
+
+pub returns-in-Some-clause-noted : goal.returns-in-Some-clause-noted
+returns-in-Some-clause-noted g c = λ honest honest_notes first log h stood noted.
+    let m : Message = message_of c.args.message.now in
+    let done = c.len-done.ensures.value ∙ h.memory.done in
+    let ended = c.in_ok-stopped.ensures.drained honest first log h in
+    subst (λ (n : ℕ). IsNoted (g.J.Journal.header c.args.stores.now.journal c.args.self.now.progress.name)
+    c.args.self.now.progress.name (log_after log m n) c.admit_and_drain.new.self.progress.noted
+    (g.J.Journal.notes c.admit_and_drain.new.stores.journal c.args.self.now.progress.name))
+    (sym ended.drained.left.memory.done)
+    (c.in_ok-stopped.ensures.noted honest honest_notes first log h stood noted)
+
+pub returns-in_default-clause-served : goal.returns-in_default-clause-served
+returns-in_default-clause-served g c = λ honest first log h.
+    let m : Message = message_of c.args.message.now in
+    let done = c.len-done.ensures.value ∙ h.memory.done in
+    let ended = c.in_ok-stopped.ensures.drained honest first log h in
+    serves first log m c.in_ok-stopped.stopped c.admit_and_drain.new.out.items (part_of c.admit_and_drain.new.self) _
+    ended [] c.admit_and_drain.new.out.items _ _ (c.requires.name ∙ sym c.args.self.now.progress.same_name
+    ∙ sym (ap (λ (x : Growing). x.name) c.admit_and_drain.ensures.take.growing))
+    (sym (append-nil c.admit_and_drain.new.out.items))
+    (c.in_default.ensures.value first (with_message log m) c.admit_and_drain.new.out.items _ ended (sym done) (search rules)
+    ∙ ap (λ (n : ℕ). own_reply (is_some first) (admitted_after log m) n
+    (length c.admit_and_drain.new.self.progress.ledger.outcomes) (run_end (admitted_after log m) n) m) done)
+    c.in_ok-stopped.ensures.both.failures
+
+pub returns-in_default-clause-noted : goal.returns-in_default-clause-noted
+returns-in_default-clause-noted g c = λ honest honest_notes first log h stood noted.
+    let m : Message = message_of c.args.message.now in
+    let done = c.len-done.ensures.value ∙ h.memory.done in
+    let ended = c.in_ok-stopped.ensures.drained honest first log h in
+    subst (λ (n : ℕ). IsNoted (g.J.Journal.header c.args.stores.now.journal c.args.self.now.progress.name)
+    c.args.self.now.progress.name (log_after log m n) c.admit_and_drain.new.self.progress.noted
+    (g.J.Journal.notes c.admit_and_drain.new.stores.journal c.args.self.now.progress.name))
+    (sym ended.drained.left.memory.done)
+    (c.in_ok-stopped.ensures.noted honest honest_notes first log h stood noted)
