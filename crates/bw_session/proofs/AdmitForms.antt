@@ -4,15 +4,13 @@ use Rattle.std.proofs.Common.{◌++◌, length, take, Option, Some, None, refl, 
 use Rattle.std.proofs.Common.{le-ltb, lt-ltb, get_or, length-set}
 use Rattle.std.specs.Prelude.{IsTrue, is_some, is_none, fold, nat_le, nat_lt, option_map, slice_set}
 use Rattle.std.specs.Bool.{MatchBool}
-use Rattle.std.specs.List.{list_all}
-use Rattle.std.proofs.lemmas.Bool.{leb-true, and_parts, and_from, cases_lt}
+use Rattle.std.proofs.lemmas.Bool.{leb-true, and_parts, cases_lt}
 use Rattle.std.proofs.lemmas.List.Sums.{count_by-le-length, sum_by-set}
 use Rattle.sha2.specs.Sha256.{sha256}
 use Rattle.bw_model.specs.Bytes.{at, put}
 use Rattle.bw_model.specs.Take.{Take, Parts, Request, Verdict, new_take, parts}
 use Rattle.bw_model.specs.File.{file_of}
 use Rattle.bw_model.specs.Wire.{Message, Second, last_number, is_name, is_request, is_message, message_body}
-use Rattle.bw_model.specs.ReadBack.{is_admitted}
 use Rattle.bw_model.specs.Book.{Log, made, step, verdict_at}
 use Rattle.bw_model.specs.Turn.{is_admissible, window}
 use Rattle.bw_model.specs.Holds.{HoldsName, IsInTheMiddle, body_of, finished_from}

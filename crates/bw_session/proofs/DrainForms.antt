@@ -1,7 +1,7 @@
 -- What is held of a name, where its next number is done or waits on.
 use Rattle.std.proofs.Common.{◌≡◌, ℕ, zero, suc, ◌+◌, ◌≤◌, Bool, true, false, List, [], ◌∷◌, ◌++◌, length, drop}
 use Rattle.std.proofs.Common.{Option, Some, None, refl, sym, ◌∙◌, ap, subst, arith, length-append}
-use Rattle.std.specs.Prelude.{IsTrue, is_some, option_map}
+use Rattle.std.specs.Prelude.{is_some, option_map}
 use Rattle.std.specs.Bool.{MatchBool}
 use Rattle.std.specs.List.{list_all}
 use Rattle.std.proofs.lemmas.Bool.{and_parts}
@@ -18,9 +18,7 @@ use Rattle.bw_model.specs.Holds.{IsInTheMiddle, body_of}
 use Rattle.bw_model.proofs.Elements.{some_inj}
 use Rattle.bw_model.proofs.Payloads.{reads_request}
 use Rattle.bw_file.specs.Growing.{Growing}
-use Rattle.bw_wire.specs.Bodies.{message_in}
 use Rattle.bw_session.specs.Windows.{count_held}
-use Rattle.bw_session.specs.Carrying.{Touches}
 use Rattle.bw_session.specs.Fronts.{take_done, FileStands, FileFollows, HoldsFront}
 use Rattle.bw_session.specs.Numbered.{IsNext, with_done, IsDone}
 use Rattle.bw_session.specs.Draining.{Fits, kept_as, NameStands, HoldsPart}

@@ -1,6 +1,6 @@
 -- Numbers that are drained in a row, one by one.
 use Rattle.std.proofs.Common.{◌≡◌, ℕ, zero, suc, ◌+◌, Bool, false, List, [], ◌∷◌, ◌++◌, length, map}
-use Rattle.std.proofs.Common.{Option, Some, None, refl, sym, ◌∙◌, ap, subst, arith}
+use Rattle.std.proofs.Common.{Option, None, refl, sym, ◌∙◌, ap, subst, arith}
 use Rattle.std.specs.Prelude.{is_some}
 use Rattle.std.proofs.lemmas.List.{length_push, map_push}
 use Rattle.bw_model.specs.Bytes.{at}
@@ -20,7 +20,7 @@ use Rattle.bw_journal.specs.declared.journal.Journal.{Ghosts as JournalGhosts}
 use Rattle.bw_session.specs.Numbered.{with_done, KeepsBoth}
 use Rattle.bw_session.specs.Noting.{IsNoted}
 use Rattle.bw_session.specs.Sessions.{Part, HoldsLog}
-use Rattle.bw_session.specs.Runs.{with_more_done, HasDrained, EndsDraining}
+use Rattle.bw_session.specs.Runs.{with_more_done, HasDrained}
 
 -- Calls in a row.
 

@@ -1,5 +1,5 @@
 -- A message of a name that a session is kept of.
-use Rattle.std.proofs.Common.{◌≡◌, ℕ, zero, suc, ◌+◌, ◌-◌, ◌≤◌, min, Bool, true, false, cond, ◌&&◌, List, [], ◌∷◌, ◌++◌}
+use Rattle.std.proofs.Common.{◌≡◌, ℕ, zero, suc, ◌+◌, ◌-◌, ◌≤◌, Bool, true, false, cond, List, [], ◌∷◌, ◌++◌}
 use Rattle.std.proofs.Common.{length, map, Option, Some, None, refl, sym, ◌∙◌, ap, subst, arith}
 use Rattle.std.specs.Prelude.{is_some, is_none, nat_lt, option_map}
 use Rattle.std.proofs.lemmas.Bool.{and_parts, ltb-true}
@@ -19,7 +19,7 @@ use Rattle.bw_wire.specs.declared.reply.Reply.TheVariants.{Verdict}
 use Rattle.bw_wire.specs.Replies.{reply_of}
 use Rattle.bw_journal.specs.JournalHeaders.{Header}
 use Rattle.bw_session.specs.Admitting.{with_message}
-use Rattle.bw_session.specs.Draining.{HoldsPart, DrainsNext}
+use Rattle.bw_session.specs.Draining.{DrainsNext}
 use Rattle.bw_session.specs.declared.draining.Drained.TheVariants.{Done, Stopped}
 use Rattle.bw_session.specs.Noting.{IsNoted}
 use Rattle.bw_session.specs.Numbered.{with_done}

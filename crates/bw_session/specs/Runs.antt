@@ -1,7 +1,6 @@
 -- Numbers that are drained in a row.
-use Rattle.std.specs.Prelude.{◌≡◌, ℕ, ◌+◌, Bool, true, false, Option, None, is_some, List, length, map}
+use Rattle.std.specs.Prelude.{◌≡◌, ℕ, ◌+◌, Bool, Option, None, is_some, List, length, map}
 use Rattle.bw_model.specs.Bytes.{at}
-use Rattle.bw_model.specs.Wire.{Second, last_number}
 use Rattle.bw_model.specs.Limits.{window}
 use Rattle.bw_model.specs.Book.{Log}
 use Rattle.bw_model.specs.Turn.{verdicts_from}

@@ -1,4 +1,4 @@
-use Rattle.std.proofs.Common.{rules, ◌≡◌, ◌+◌, ℕ, List, Option, Result, length, refl, sym, ◌∙◌, ap, subst}
+use Rattle.std.proofs.Common.{rules, Result, length, refl, sym, ◌∙◌, ap, subst}
 use Rattle.bw_model.specs.Wire.{Message}
 use Rattle.bw_take.specs.declared.verdict.Verdict.{Verdict}
 use Rattle.bw_file.specs.Growing.{Growing}

@@ -1,4 +1,4 @@
-use Rattle.std.proofs.Common.{rules, ◌≡◌, ◌+◌, ◌≤◌, ℕ, suc, List, Option, length, sym, ◌∙◌, ap, subst, arith}
+use Rattle.std.proofs.Common.{rules, ◌≡◌, ◌+◌, ◌≤◌, ℕ, suc, length, sym, ◌∙◌, ap, subst, arith}
 use Rattle.std.specs.List.{All}
 use Rattle.std.proofs.lemmas.List.{length_push}
 use Rattle.std.proofs.lemmas.List.Elements.{All-append}
@@ -8,7 +8,6 @@ use Rattle.bw_wire.specs.Replies.{HasWireNumbers}
 use Rattle.bw_session.specs.Noting.{IsNoted}
 use Rattle.bw_session.specs.Numbered.{with_done}
 use Rattle.bw_session.specs.Runs.{with_more_done}
-use Rattle.bw_session.specs.Sessions.{part_of}
 use Rattle.bw_session.proofs.RunForms.{both_then, holds_under, noted_then, drained_push}
 use Rattle.bw_session.proofs.session.Session.drain.Goals as goal
 

@@ -1,4 +1,4 @@
-use Rattle.std.proofs.Common.{◌≡◌, ◌+◌, ◌*◌, ◌≤◌, ℕ, List, Option, length, IsTrue, is_some, false}
+use Rattle.std.proofs.Common.{◌≡◌, ℕ, List, Option, length, IsTrue, is_some, false}
 use Rattle.std.specs.List.{All}
 use Rattle.bw_model.specs.Book.{Log}
 use Rattle.bw_session.specs.Numbered.{KeepsBoth}

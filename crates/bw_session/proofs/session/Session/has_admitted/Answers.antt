@@ -1,4 +1,4 @@
-use Rattle.std.proofs.Common.{rules, ◌<◌, length, sym, ◌∙◌, ap, subst}
+use Rattle.std.proofs.Common.{rules, sym, ◌∙◌}
 use Rattle.bw_session.specs.Sessions.{part_of}
 use Rattle.bw_session.proofs.ReplyForms.{repeat_done}
 use Rattle.bw_session.proofs.session.Session.has_admitted.Goals as goal

@@ -1,9 +1,8 @@
-use Rattle.std.proofs.Common.{rules, ◌≡◌, ◌+◌, ◌<◌, ◌≤◌, ℕ, List, length, true, false, cond, [], ◌∷◌, sym, ◌∙◌, ap, subst, arith}
-use Rattle.std.specs.Prelude.{is_some, nat_lt}
+use Rattle.std.proofs.Common.{rules, ◌≡◌, ◌+◌, ◌<◌, ◌≤◌, ℕ, List, length, true, false, [], ◌∷◌, sym, ◌∙◌, ap, arith}
+use Rattle.std.specs.Prelude.{is_some}
 use Rattle.bw_model.specs.Wire.{Message}
 use Rattle.bw_model.specs.Replies as model
 use Rattle.bw_model.specs.Book.{run_end, verdict_at}
-use Rattle.bw_model.specs.Turn.{is_repeat}
 use Rattle.bw_take.specs.Verdicts.{verdict_meaning}
 use Rattle.bw_wire.specs.Frames.{message_of}
 use Rattle.bw_session.specs.Runs.{with_more_done}

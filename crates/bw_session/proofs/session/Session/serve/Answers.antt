@@ -1,10 +1,10 @@
-use Rattle.std.proofs.Common.{rules, ◌≡◌, ◌+◌, ◌<◌, ◌≤◌, ℕ, List, Option, [], ◌∷◌, ◌++◌, length, false, inr, refl, sym, ◌∙◌, ap}
+use Rattle.std.proofs.Common.{rules, ◌+◌, ◌≤◌, ℕ, [], ◌∷◌, length, inr, refl, sym, ◌∙◌, ap}
 use Rattle.std.proofs.Common.{subst, arith, append-nil}
 use Rattle.std.specs.Prelude.{is_some}
 use Rattle.bw_model.specs.Wire.{Message}
 use Rattle.bw_model.specs.Book.{run_end}
 use Rattle.bw_model.specs.Replies as model
-use Rattle.bw_model.specs.Turn.{is_admissible, admitted_after, own_reply, window}
+use Rattle.bw_model.specs.Turn.{admitted_after, own_reply}
 use Rattle.bw_file.specs.Growing.{Growing}
 use Rattle.bw_wire.specs.Frames.{message_of}
 use Rattle.bw_session.specs.Admitting.{with_message}
