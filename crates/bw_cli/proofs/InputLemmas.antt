@@ -3,7 +3,7 @@ use Rattle.std.proofs.Common.{◌≡◌, ◌∙◌, ◌+◌, ◌≤◌, ◌<◌,
 use Rattle.std.proofs.Common.{arith, length-append, length-take-le, append-nil}
 use Rattle.std.proofs.lemmas.List.{take-append-drop, length-drop, drop-drop}
 use Rattle.std.proofs.Math.Seq.{take-add}
-use Rattle.bw_layout.specs.Moves.{IsRead}
+use Rattle.bw_stream.specs.Moves.{IsRead}
 use Rattle.bw_cli.specs.Input.{longest_input}
 use Rattle.bw_cli.specs.Replays.{IsReadAhead}
 

@@ -1,7 +1,7 @@
 -- What an inspection does, from what its steps do.
 use Rattle.std.proofs.Common.{◌≡◌, ◌∙◌, ℕ, List, [], ◌++◌, Bool, true, false, not, Option, Some, Result, inl, inr, refl}
 use Rattle.std.proofs.Common.{ap, if◌then◌else◌}
-use Rattle.bw_layout.specs.Moves.{Keeps, Writes, one_more}
+use Rattle.bw_stream.specs.Moves.{Keeps, Writes, one_more}
 use Rattle.bw_model.specs.Report.{report_text}
 use Rattle.bw_inspect.specs.Places.{Of}
 use Rattle.bw_inspect.specs.Readings.{Refuses, Tells}

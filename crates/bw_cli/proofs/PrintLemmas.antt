@@ -1,7 +1,7 @@
 -- What printing in steps leaves.
 use Rattle.std.proofs.Common.{◌≡◌, ℕ, List, [], Result, Ok, Err, OnOk, OnErr, inl, inr, refl, append-nil}
-use Rattle.bw_layout.specs.Moves.{Keeps, Writes, failures_after}
-use Rattle.bw_layout.specs.declared.sink.Sink.{Ghosts as Writer}
+use Rattle.bw_stream.specs.Moves.{Keeps, Writes, failures_after}
+use Rattle.bw_stream.specs.declared.sink.Sink.{Ghosts as Writer}
 use Rattle.bw_cli.specs.Printing.{HasPrinted, HasStopped, IsOf, IsPrint, Print, Whole, Part}
 
 -- a text that was written whole is only begun where the flush behind it fails

@@ -1,8 +1,8 @@
 -- What a command does.
 use Rattle.std.specs.Prelude.{◌≡◌, ℕ, Bool, Option, List, Result}
 use Rattle.bw_cli.specs.Faults.{IsToldBy, exit_of, is_read}
-use Rattle.bw_layout.specs.declared.sink.Sink.{Ghosts as Writer}
-use Rattle.bw_layout.specs.declared.source.Source.{Ghosts as Reader}
+use Rattle.bw_stream.specs.declared.sink.Sink.{Ghosts as Writer}
+use Rattle.bw_stream.specs.declared.source.Source.{Ghosts as Reader}
 use Rattle.bw_cli.specs.Printing.{Print, IsPrint, failures_if}
 use Rattle.bw_cli.specs.Replays.{IsPrintOf}
 use Rattle.bw_cli.specs.declared.exit.Exit.{Exit}

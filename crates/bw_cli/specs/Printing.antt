@@ -1,7 +1,7 @@
 -- What calls write to a writer.
 use Rattle.std.specs.Prelude.{◌≡◌, ◌⊎◌, ℕ, List, Bool, true, if◌then◌else◌}
-use Rattle.bw_layout.specs.Moves.{Begins, Writes, one_more}
-use Rattle.bw_layout.specs.declared.sink.Sink.{Ghosts as Writer}
+use Rattle.bw_stream.specs.Moves.{Begins, Writes, one_more}
+use Rattle.bw_stream.specs.declared.sink.Sink.{Ghosts as Writer}
 
 -- the writer has the whole text behind what was there, and holds nothing back
 pub record HasPrinted {S : Type 0} (w : Writer S) (text : List ℕ) (old new : S) : Type 0 where

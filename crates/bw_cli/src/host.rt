@@ -3,7 +3,7 @@ ghost use Rattle.std.specs.Prelude.{◌≡◌, None};
 ghost use Rattle.std.specs.Fs.{IsFile, file_type, metadata_len};
 
 use crate::system::System;
-use bw_layout::SeekSource;
+use bw_stream::SeekSource;
 use std::fs::{File, Metadata};
 use std::{env, io};
 

@@ -12,7 +12,7 @@ ghost use Rattle.bw_cli.specs.Replays.{IsReadAhead};
 ghost use Rattle.bw_inspect.specs.Places.{Of};
 
 use crate::fault::Fault;
-use bw_layout::Source;
+use bw_stream::Source;
 use hex::FromHexError;
 use std::alloc::Global;
 

@@ -11,7 +11,7 @@ use crate::fault::Fault;
 use crate::print::{give_up, print, tell};
 use arrayvec::ArrayString;
 use bw_inspect::{InspectFault, InspectKind, Report, inspect, write_report};
-use bw_layout::{MemorySink, Sink, Source};
+use bw_stream::{MemorySink, Sink, Source};
 use itoa::Buffer;
 use std::alloc::Global;
 

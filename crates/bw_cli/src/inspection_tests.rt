@@ -1,7 +1,7 @@
 //! `inspect` on a worked file: its report and its faults byte for byte, and devices that fail.
 use crate::exit::Exit;
 use crate::inspection::inspect_run;
-use bw_layout::{MemorySink, Plain, SeekSource, Source};
+use bw_stream::{MemorySink, Plain, SeekSource, Source};
 use std::alloc::{AllocError, Global};
 use std::io::{self, Cursor, ErrorKind, Read};
 use std::process::Abort;

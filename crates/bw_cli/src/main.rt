@@ -24,7 +24,7 @@ pub mod system;
 mod tests;
 mod text;
 
-use bw_layout::Plain;
+use bw_stream::Plain;
 use host::Host;
 use program::start;
 use std::process::ExitCode;

@@ -6,7 +6,7 @@ ghost use Rattle.bw_cli.specs.Text.{as_line};
 
 use crate::exit::Exit;
 use crate::fault::Fault;
-use bw_layout::{IoFailed, Sink, write_all};
+use bw_stream::{IoFailed, Sink, write_all};
 
 /// Writes the whole text, and passes on what the writer held back of it.
 pub fn print<W: Sink>(out: &mut W, text: &[u8]) -> Result<(), IoFailed>

@@ -5,7 +5,7 @@ ghost use Rattle.std.specs.Str.{bytes_eq};
 
 use crate::program::start;
 use crate::system::System;
-use bw_layout::{MemorySink, MemorySource};
+use bw_stream::{MemorySink, MemorySource};
 use std::alloc::Global;
 use std::io::{self, ErrorKind};
 use std::process::{Abort, ExitCode};

@@ -13,7 +13,8 @@ use crate::input::exchanges;
 use crate::print::{give_up, print};
 use crate::run::run_in_order;
 use crate::text::text_of_run;
-use bw_layout::{Limit, Sink, Source};
+use bw_layout::Limit;
+use bw_stream::{Sink, Source};
 use std::alloc::Global;
 
 /// Runs each line of the input as an exchange, and writes replies and files as text.

@@ -1,8 +1,8 @@
 //! What the program asks of the system that it runs on, beside its streams.
 ghost use Rattle.std.specs.Prelude.{◌≡◌, ℕ, List, Option, map, string_bytes, IfOk};
-ghost use Rattle.bw_layout.specs.Moves.{failures_after, Keeps};
+ghost use Rattle.bw_stream.specs.Moves.{failures_after, Keeps};
 
-use bw_layout::Source;
+use bw_stream::Source;
 use std::io;
 
 /// A system: the words of the command line and the bytes at each path, where it tells them, and how

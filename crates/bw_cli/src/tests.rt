@@ -1,7 +1,8 @@
 //! `replay` on worked inputs: the bytes that the formats give, each refusal, and devices that fail.
 use crate::exit::Exit;
 use crate::replay::replay as play;
-use bw_layout::{Limit, MemorySink, MemorySource, Plain};
+use bw_layout::Limit;
+use bw_stream::{MemorySink, MemorySource, Plain};
 use std::alloc::{AllocError, Global};
 use std::io::{self, ErrorKind, Read, Write};
 use std::process::Abort;

@@ -6,7 +6,7 @@ use Rattle.std.specs.Prelude.{slice_range}
 use Rattle.std.specs.Int.{w32, from_le_bytes}
 use Rattle.std.proofs.Math.Seq.{take-add, take-append-add}
 use Rattle.bw_model.specs.Bytes.{u32_at}
-use Rattle.bw_layout.specs.Moves.{IsRead, IsSkipped}
+use Rattle.bw_stream.specs.Moves.{IsRead, IsSkipped}
 use Rattle.bw_layout.specs.declared.chunk.ChunkHead.{ChunkHead}
 use Rattle.bw_inspect.specs.declared.fault.InspectFault.{InspectFault}
 use Rattle.bw_inspect.specs.Faults.{is_failed_read, is_of_bytes}

@@ -5,7 +5,7 @@ use Rattle.std.specs.Prelude.{flat_map, Result, Ok, Err, OnErr}
 use Rattle.std.proofs.lemmas.List.{take-append-drop, take_more, append-nil}
 use Rattle.std.proofs.lemmas.Grind.{flat_map-append}
 use Rattle.std.proofs.Math.Seq.{drop-cons}
-use Rattle.bw_layout.specs.Moves.{Writes, Begins}
+use Rattle.bw_stream.specs.Moves.{Writes, Begins}
 
 -- a part behind another one
 pub writes_behind : {old mid new : Option (List ℕ)} (a b : List ℕ) → Writes old a mid → Writes mid b new →

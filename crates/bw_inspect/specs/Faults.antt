@@ -1,7 +1,7 @@
 -- The faults of a file, by number and in the words of the definitions.
 use Rattle.std.specs.Prelude.{ℕ, Bool, true, false, Option, Some, None, option_map, is_some, Result}
 use Rattle.std.specs.Prelude.{Ok, Err, List, ◌++◌, codes, decimal, if◌then◌else◌}
-use Rattle.bw_layout.specs.Moves.{one_more}
+use Rattle.bw_stream.specs.Moves.{one_more}
 use Rattle.bw_model.specs.Reading as reading
 use Rattle.bw_inspect.specs.declared.fault.InspectKind.{InspectKind}
 use Rattle.bw_inspect.specs.declared.fault.InspectKind.TheVariants.{NotWave, Truncated, NoDs64}

@@ -1,7 +1,7 @@
 -- What every call that reads leaves of its reader.
 use Rattle.std.specs.Prelude.{◌≡◌, ℕ, ◌+◌, ◌≤◌, Result}
 use Rattle.bw_model.specs.Limits.{largest}
-use Rattle.bw_layout.specs.declared.source.Source.{Ghosts}
+use Rattle.bw_stream.specs.declared.source.Source.{Ghosts}
 use Rattle.bw_inspect.specs.declared.fault.InspectFault.{InspectFault}
 use Rattle.bw_inspect.specs.Faults.{counted}
 

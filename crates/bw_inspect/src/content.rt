@@ -13,7 +13,8 @@ use crate::fault::{InspectFault, InspectKind, fault_at};
 use crate::places::{read_at, skip_at};
 use crate::report::{BextChunk, ListedChunk};
 use crate::walk::{Known, Samples};
-use bw_layout::{RawFmt, Source, read_bext, read_fmt};
+use bw_layout::{RawFmt, read_bext, read_fmt};
+use bw_stream::Source;
 use std::alloc::Global;
 
 /// Reads the content of a chunk, and keeps what is told of it.

@@ -14,7 +14,8 @@ use crate::fault::{InspectFault, InspectKind, fault_at};
 use crate::report::ListedChunk;
 use crate::row_list::read_rows;
 use crate::walk::read_head_at;
-use bw_layout::{Ds64, Ds64Fixed, SizeTable, Source, read_ds64_fixed};
+use bw_layout::{Ds64, Ds64Fixed, SizeTable, read_ds64_fixed};
+use bw_stream::Source;
 use std::alloc::Global;
 
 /// Where a `ds64` chunk stands: behind the outer header.

@@ -6,7 +6,7 @@ ghost use Rattle.bw_inspect.specs.Faults.{is_of_bytes};
 ghost use Rattle.bw_inspect.specs.Places.{AtPlace, IsGiven, IsPassed, IsMissed};
 
 use crate::fault::{InspectFault, InspectKind, fault_at};
-use bw_layout::{IoFailed, Source};
+use bw_stream::{IoFailed, Source};
 
 /// Fills a buffer with the bytes from a place on.
 ///

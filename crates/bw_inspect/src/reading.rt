@@ -15,7 +15,7 @@ use crate::fault::{InspectFault, InspectKind, fault_at};
 use crate::outer::read_outer;
 use crate::report::{Chunks, Cues, Report};
 use crate::walk::{Form, Known, Walk, next_chunk};
-use bw_layout::Source;
+use bw_stream::Source;
 use std::alloc::Global;
 
 /// Reads a file once and forward, and tells what it holds. Content that isn't told is passed over

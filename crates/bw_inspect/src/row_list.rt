@@ -12,7 +12,8 @@ ghost use Rattle.bw_inspect.specs.RowLists.{HasRow, HasRows};
 use crate::content::read_part;
 use crate::fault::{InspectFault, InspectKind, fault_at};
 use crate::report::ListedChunk;
-use bw_layout::{ChunkId, RawCue, Short, Source, read_cue, read_entry};
+use bw_layout::{ChunkId, RawCue, Short, read_cue, read_entry};
+use bw_stream::Source;
 use std::alloc::Global;
 
 /// The widest row, in bytes: a cue point.

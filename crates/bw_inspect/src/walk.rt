@@ -17,7 +17,8 @@ use crate::fault::{InspectFault, InspectKind, fault_at};
 use crate::places::{read_at, skip_pad};
 use crate::report::{BextChunk, Cues, ListedChunk};
 use crate::told_sizes::size_told;
-use bw_layout::{ChunkHead, ChunkId, Ds64, RawFmt, Source, read_head};
+use bw_layout::{ChunkHead, ChunkId, Ds64, RawFmt, read_head};
+use bw_stream::Source;
 use std::alloc::Global;
 
 /// The most chunks that are listed.

@@ -1,6 +1,6 @@
 //! A report as text.
 ghost use Rattle.std.specs.Prelude.{◌≡◌, codes, flat_map, Some, OnOk, OnErr};
-ghost use Rattle.bw_layout.specs.Moves.{failures_after, Writes, Begins};
+ghost use Rattle.bw_stream.specs.Moves.{failures_after, Writes, Begins};
 ghost use Rattle.bw_model.specs.Report.{chunk_line, cue_line, report_text};
 ghost use Rattle.bw_inspect.specs.Lines.{lines_of_bext, lines_of_texts, lines_of_loudness};
 ghost use Rattle.bw_inspect.specs.Reports.{told_by};
@@ -11,7 +11,8 @@ use crate::text::{
     make_bext_line, make_chunk_line, make_cue_line, make_data_line, make_fmt_line, make_form_line,
     make_loudness_line, make_text_line, make_umid_line,
 };
-use bw_layout::{IoFailed, Loudness, RawBext, Sink, write_all};
+use bw_layout::{Loudness, RawBext};
+use bw_stream::{IoFailed, Sink, write_all};
 use std::error::Error;
 use std::fmt;
 

@@ -10,4 +10,3 @@ pub mod HeaderKinds
 pub mod JoinedRanges
 pub mod ReadBack
 pub mod SizePlaces
-pub mod WritesInPieces

@@ -6,7 +6,6 @@ pub mod Headers
 pub mod Headings
 pub mod Heads
 pub mod Limits
-pub mod Moves
 pub mod Places
 pub mod Raw
 pub mod ReadBack

@@ -1,5 +1,5 @@
 //! The chunks of a broadcast file (RIFF, BW64, `bext`): their layouts, their sizes, and the header
-//! before the data; and the readers and writers that bytes come from and go to.
+//! before the data.
 #![tactic(auto)]
 
 mod broadcast;
@@ -10,16 +10,11 @@ mod format;
 mod heading;
 pub mod laws;
 mod limit;
-mod memory;
 mod number;
 mod place;
-mod plain;
 mod push;
 mod raw;
-mod seek;
-mod sink;
 mod sizes;
-mod source;
 
 pub use broadcast::{Bext, put_bext};
 pub use chunk::{ChunkHead, ChunkId, Short, put_head, read_head};
@@ -28,12 +23,7 @@ pub use field::FieldError;
 pub use format::{Fmt, put_fmt};
 pub use heading::{Heading, form_size, header};
 pub use limit::Limit;
-pub use memory::{MemorySink, MemorySource};
 pub use number::{read_id, read_u16, read_u32, read_u64};
 pub use place::field_place;
-pub use plain::Plain;
 pub use raw::{Loudness, RawBext, RawCue, RawFmt, read_bext, read_cue, read_fmt};
-pub use seek::SeekSource;
-pub use sink::{Sink, write_all};
 pub use sizes::{Ds64, Ds64Fixed, SizeTable, patch_sizes, put_ds64, read_ds64_fixed, read_entry};
-pub use source::{IoFailed, Source};

@@ -2,7 +2,7 @@
 ghost use Rattle.std.specs.Prelude.{◌≡◌, ◌≤◌, IfOk, vec_len};
 
 use bw_inspect::{Report, inspect};
-use bw_layout::MemorySource;
+use bw_stream::MemorySource;
 use std::alloc::{AllocError, Global};
 use std::test::Fail;
 

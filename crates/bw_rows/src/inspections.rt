@@ -3,7 +3,8 @@ ghost use Rattle.std.specs.Prelude.{◌≡◌, ◌+◌, ◌≤◌, length};
 
 use crate::files::{RF64, TABLED, empty_chunks, marked_file, report_of, small_file};
 use bw_inspect::{InspectFault, InspectKind, ListedChunk, inspect, write_report};
-use bw_layout::{ChunkId, MemorySink, MemorySource, Plain, SeekSource, Source};
+use bw_layout::ChunkId;
+use bw_stream::{MemorySink, MemorySource, Plain, SeekSource, Source};
 use std::alloc::Global;
 use std::io::{self, Cursor, Read};
 use std::process::Abort;

@@ -1,7 +1,8 @@
 //! Numbers, readers and writers, each call once.
 
 use crate::compare::same;
-use bw_layout::*;
+use bw_layout::{read_id, read_u16, read_u32, read_u64};
+use bw_stream::*;
 use std::alloc::AllocError;
 use std::io::{self, Cursor, Read};
 

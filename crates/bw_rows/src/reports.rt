@@ -1,7 +1,7 @@
 //! Worked reports, and a writer that fails in the midst of one.
 use crate::files::{RF64, report_of, small_file};
 use bw_inspect::{WriteFailed, write_report};
-use bw_layout::{MemorySink, Plain};
+use bw_stream::{MemorySink, Plain};
 use std::alloc::Global;
 use std::test::Fail;
 

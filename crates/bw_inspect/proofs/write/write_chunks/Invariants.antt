@@ -1,6 +1,6 @@
 use Rattle.std.proofs.Common.{◌≡◌, take}
 use Rattle.std.specs.Prelude.{flat_map}
-use Rattle.bw_layout.specs.Moves.{Writes}
+use Rattle.bw_stream.specs.Moves.{Writes}
 use Rattle.bw_model.specs.Report.{chunk_line}
 use Rattle.bw_inspect.proofs.write.write_chunks.Given as goal
 

@@ -1,8 +1,8 @@
 use Rattle.std.proofs.Common.{Some, arith, ◌∙◌, ap}
 use Rattle.std.proofs.lemmas.Grind.{common_steps}
 use Rattle.std.proofs.lemmas.List.{take_rest}
-use Rattle.bw_layout.proofs.WritesInPieces.{append-take-drop, begun-take}
-use Rattle.bw_layout.proofs.sink.write_all.Goals as goal
+use Rattle.bw_stream.proofs.WritesInPieces.{append-take-drop, begun-take}
+use Rattle.bw_stream.proofs.sink.write_all.Goals as goal
 
 pub loop-done-preserved : goal.loop-done-preserved
 loop-done-preserved g c = record {

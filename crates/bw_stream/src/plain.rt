@@ -1,6 +1,6 @@
 //! Readers and writers of std as a `Source` and a `Sink`.
 ghost use Rattle.std.specs.Prelude.{◌≡◌, ◌<◌, ◌≤◌, length, take, true, false, IfOk, OnErr};
-ghost use Rattle.bw_layout.specs.Moves.{failures_after, moved_after, Keeps, Reads, Skips, Writes};
+ghost use Rattle.bw_stream.specs.Moves.{failures_after, moved_after, Keeps, Reads, Skips, Writes};
 
 use crate::sink::Sink;
 use crate::source::{IoFailed, Source};

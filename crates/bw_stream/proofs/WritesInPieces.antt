@@ -2,7 +2,7 @@
 use Rattle.std.proofs.Common.{◌≡◌, ℕ, ◌+◌, List, ◌++◌, take, drop, Option, Some, sym, ap, ◌∙◌, append_assoc}
 use Rattle.std.proofs.lemmas.List.{take-append-drop}
 use Rattle.std.proofs.Math.Seq.{take-add}
-use Rattle.bw_layout.specs.Moves.{IsWrittenInPart}
+use Rattle.bw_stream.specs.Moves.{IsWrittenInPart}
 
 -- n more of the bytes behind the first d of them
 pub append-take-drop : (ys xs : List ℕ) (d n : ℕ) → (ys ++ take d xs) ++ take n (drop d xs) ≡ ys ++ take (d + n) xs

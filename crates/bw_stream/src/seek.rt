@@ -1,8 +1,8 @@
 //! A file as a `Source` that seeks over what it passes by.
 ghost use Rattle.std.specs.Prelude.{◌≡◌, ◌≤◌, None, length, IfOk, OnOk, OnErr};
 ghost use Rattle.std.specs.Io.Seek.{MovesTo};
-ghost use Rattle.bw_layout.specs.Moves.{failures_after, moved_after, Keeps, Reads, ReadsOn, Skips};
-ghost use Rattle.bw_layout.specs.Moves.{SeeksOver};
+ghost use Rattle.bw_stream.specs.Moves.{failures_after, moved_after, Keeps, Reads, ReadsOn, Skips};
+ghost use Rattle.bw_stream.specs.Moves.{SeeksOver};
 
 use crate::plain::Plain;
 use crate::source::{IoFailed, Source};

@@ -1,7 +1,7 @@
 //! What bytes are written to, with a count of the failures.
 ghost use Rattle.std.specs.Prelude.{◌≡◌, ℕ, ◌≤◌, ◌<◌, Bool, true, List, length, take, Option, IfOk};
 ghost use Rattle.std.specs.Prelude.{OnOk, OnErr};
-ghost use Rattle.bw_layout.specs.Moves.{failures_after, Keeps, Writes, Begins};
+ghost use Rattle.bw_stream.specs.Moves.{failures_after, Keeps, Writes, Begins};
 
 use crate::source::IoFailed;
 

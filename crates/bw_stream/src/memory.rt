@@ -1,7 +1,7 @@
 //! Readers and writers over memory.
 ghost use Rattle.std.specs.Prelude.{◌≡◌, ◌+◌, ◌≤◌, ◌++◌, true, length, Some, IfOk, IsOk, OnOk};
 ghost use Rattle.std.specs.Prelude.{OnErr, vec_len, vec_capacity};
-ghost use Rattle.bw_layout.specs.Moves.{failures_after};
+ghost use Rattle.bw_stream.specs.Moves.{failures_after};
 
 use crate::sink::Sink;
 use crate::source::{IoFailed, Source};

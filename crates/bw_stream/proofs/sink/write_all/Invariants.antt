@@ -1,6 +1,6 @@
 use Rattle.std.proofs.Common.{◌≡◌, ◌-◌, ◌≤◌, length, take}
-use Rattle.bw_layout.specs.Moves.{Writes}
-use Rattle.bw_layout.proofs.sink.write_all.Given as goal
+use Rattle.bw_stream.specs.Moves.{Writes}
+use Rattle.bw_stream.proofs.sink.write_all.Given as goal
 
 abbrev pub invariant-loop-done : goal.invariant-loop-done
 invariant-loop-done g l = record {

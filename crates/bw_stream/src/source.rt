@@ -1,6 +1,6 @@
 //! What bytes are read from: forward, once, and with a count of the failures.
 ghost use Rattle.std.specs.Prelude.{◌≡◌, ℕ, ◌≤◌, List, length, Option, IfOk, OnErr};
-ghost use Rattle.bw_layout.specs.Moves.{failures_after, moved_after, Keeps, Reads, Skips};
+ghost use Rattle.bw_stream.specs.Moves.{failures_after, moved_after, Keeps, Reads, Skips};
 
 /// A reader or a writer failed.
 #[derive(Clone, Copy, PartialEq, Eq, Debug, Drop)]
