@@ -1,0 +1,33 @@
+//! The commands of `bwingest`: what each reads, prints and tells, and how it ends. The words of the
+//! command line stand above, in the program.
+#![tactic(auto)]
+
+mod exchange;
+mod exit;
+mod fault;
+mod file;
+mod host;
+mod input;
+mod inspection;
+#[cfg(test)]
+mod inspection_tests;
+mod opening;
+mod print;
+mod recording;
+mod replay;
+mod run;
+mod system;
+#[cfg(test)]
+mod tests;
+mod text;
+mod unworded;
+
+pub use exit::Exit;
+pub use fault::Fault;
+pub use host::Host;
+pub use inspection::inspect_run;
+pub use opening::inspect_file;
+pub use print::{give_up, print, tell};
+pub use replay::replay;
+pub use system::System;
+pub use unworded::tell_unworded;
