@@ -9,7 +9,9 @@ ghost use Rattle.bw_commands.specs.Exits.{status_of};
 ghost use Rattle.bw_cli.specs.Programs.{Given, IsDoneFor, IsProgram, IsTelling};
 
 use bw_args::{BAD_LIMIT, CommandLine, Task, parse};
-use bw_commands::{Exit, Fault, System, give_up, inspect_file, print, replay, tell, tell_unworded};
+use bw_commands::print::{give_up, print, tell};
+use bw_commands::replay::replay;
+use bw_commands::{Exit, Fault, System, inspect_file, tell_unworded};
 use bw_layout::{Limit, Sink, Source};
 use clap::Error;
 use std::alloc::Global;

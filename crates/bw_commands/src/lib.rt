@@ -12,9 +12,9 @@ mod inspection;
 #[cfg(test)]
 mod inspection_tests;
 mod opening;
-mod print;
+pub mod print;
 mod recording;
-mod replay;
+pub mod replay;
 mod run;
 mod system;
 #[cfg(test)]
@@ -27,7 +27,5 @@ pub use fault::Fault;
 pub use host::Host;
 pub use inspection::inspect_run;
 pub use opening::inspect_file;
-pub use print::{give_up, print, tell};
-pub use replay::replay;
 pub use system::System;
 pub use unworded::tell_unworded;
