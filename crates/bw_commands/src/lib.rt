@@ -9,16 +9,12 @@ mod file;
 mod host;
 mod input;
 mod inspection;
-#[cfg(test)]
-mod inspection_tests;
 mod opening;
 pub mod print;
 mod recording;
 pub mod replay;
 mod run;
 mod system;
-#[cfg(test)]
-mod tests;
 mod text;
 mod unworded;
 

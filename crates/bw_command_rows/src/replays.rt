@@ -1,6 +1,6 @@
 //! `replay` on worked inputs: the bytes that the formats give, each refusal, and devices that fail.
-use crate::exit::Exit;
-use crate::replay::replay as play;
+use bw_commands::Exit;
+use bw_commands::replay::replay as play;
 use bw_layout::{Limit, MemorySink, MemorySource, Plain};
 use std::alloc::{AllocError, Global};
 use std::io::{self, ErrorKind, Read, Write};

@@ -1,6 +1,5 @@
 //! `inspect` on a worked file: its report and its faults byte for byte, and devices that fail.
-use crate::exit::Exit;
-use crate::inspection::inspect_run;
+use bw_commands::{Exit, inspect_run};
 use bw_layout::{MemorySink, Plain, SeekSource, Source};
 use std::alloc::{AllocError, Global};
 use std::io::{self, Cursor, ErrorKind, Read};
