@@ -6,8 +6,8 @@ use std::io::{self, Cursor, ErrorKind, Read};
 use std::process::Abort;
 use std::test::Fail;
 
-/// The file of a take of two frames, 48,000 Hz, one channel, 16 bits: pieces, each with so many zero
-/// bytes behind it.
+/// The file of a take of two frames, 48,000 Hz, one channel, 16 bits: pieces, each with so many
+/// zero bytes behind it.
 static FILE: [(&[u8], usize); 4] = [
     (b"RIFF\xae\x02\0\0WAVEJUNK\x1c\0\0\0", 28),
     (

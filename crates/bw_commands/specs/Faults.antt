@@ -8,10 +8,12 @@ use Rattle.bw_commands.specs.Input.{NotInOrder as AsksNoOrder}
 use Rattle.bw_commands.specs.Printing.{Print, Nothing, IsOf}
 use Rattle.bw_commands.specs.Text.{as_line}
 use Rattle.bw_commands.specs.declared.fault.Fault.{Fault}
-use Rattle.bw_commands.specs.declared.fault.Fault.TheVariants.{TooLong, NotHex, NotInOrder, Unreadable}
+use Rattle.bw_commands.specs.declared.fault.Fault.TheVariants.{TooLong, NotHex, NotInOrder}
+use Rattle.bw_commands.specs.declared.fault.Fault.TheVariants.{Unreadable}
 use Rattle.bw_commands.specs.declared.fault.Fault.TheVariants.{Unwritable, Memory}
 use Rattle.bw_commands.specs.declared.exit.Exit.{Exit}
-use Rattle.bw_commands.specs.declared.exit.Exit.TheVariants.{Done as Exit-Done, Refused as Exit-Refused}
+use Rattle.bw_commands.specs.declared.exit.Exit.TheVariants.{Done as Exit-Done}
+use Rattle.bw_commands.specs.declared.exit.Exit.TheVariants.{Refused as Exit-Refused}
 use Rattle.bw_commands.specs.declared.exit.Exit.TheVariants.{Device as Exit-Device}
 use Rattle.bw_commands.specs.declared.exit.Exit.TheVariants.{Memory as Exit-Memory}
 

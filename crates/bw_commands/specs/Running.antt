@@ -8,7 +8,8 @@ use Rattle.bw_commands.specs.Exchanging.{TellsExchange}
 use Rattle.bw_commands.specs.declared.exchange.Exchange.{Exchange}
 use Rattle.bw_commands.specs.declared.run.Run.{Run}
 use Rattle.bw_commands.specs.declared.fault.Fault.{Fault}
-use Rattle.bw_commands.specs.declared.fault.Fault.TheVariants.{TooLong, NotHex, NotInOrder, Unreadable}
+use Rattle.bw_commands.specs.declared.fault.Fault.TheVariants.{TooLong, NotHex, NotInOrder}
+use Rattle.bw_commands.specs.declared.fault.Fault.TheVariants.{Unreadable}
 use Rattle.bw_commands.specs.declared.fault.Fault.TheVariants.{Unwritable, Memory}
 
 -- each exchange tells what stands at its place

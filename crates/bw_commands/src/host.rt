@@ -7,8 +7,8 @@ use bw_layout::SeekSource;
 use std::fs::{File, Metadata};
 use std::{env, io};
 
-/// The system that the process runs on, by the calls of std. It tells neither words nor files, since
-/// no clause of std says what they are.
+/// The system that the process runs on, by the calls of std. It tells neither words nor files: no
+/// clause of std says what they are.
 #[derive(Drop)]
 pub struct Host<'a> {
     rt: &'a HostRuntime,

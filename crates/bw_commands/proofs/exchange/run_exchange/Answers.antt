@@ -7,7 +7,8 @@ use Rattle.bw_wire.specs.Pending.{end_fault}
 use Rattle.bw_wire.specs.Reasons.{reason_meaning}
 use Rattle.bw_commands.proofs.StreamSteps.{frame_shortens}
 use Rattle.bw_commands.proofs.FramerSteps.{told_next, is_end}
-use Rattle.bw_commands.proofs.WithinExchange.{within-start, within-message, within-breaks, err_kept, within-ask, within-bad}
+use Rattle.bw_commands.proofs.WithinExchange.{within-start, within-message, within-breaks, err_kept, within-ask}
+use Rattle.bw_commands.proofs.WithinExchange.{within-bad}
 use Rattle.bw_commands.proofs.WithinExchange.{within-bye, within-last}
 use Rattle.bw_commands.proofs.exchange.run_exchange.Goals as goal
 
