@@ -19,8 +19,8 @@ use std::alloc::Global;
 /// Runs each line of the input as an exchange, and writes replies and files as text.
 ///
 /// A fault's line goes to `faults`; one that can't be written changes nothing. A file whose RIFF
-/// form would be longer than `limit` bytes is written as BW64. Of the input at most 16,777,217 bytes
-/// are read. The contract doesn't say that an answered want of memory was a real one.
+/// form would be longer than `limit` bytes is written as BW64. Of the input at most 16,777,217
+/// bytes are read. The contract doesn't say that an answered want of memory was a real one.
 pub fn replay<R: Source, W: Sink, E: Sink>(
     alloc: Global,
     limit: Limit,

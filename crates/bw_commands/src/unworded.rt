@@ -10,8 +10,8 @@ use crate::print::tell;
 use bw_layout::Sink;
 use std::io::{self, ErrorKind};
 
-/// Tells that the words of the command line can't be read, for this error of the system. Answers how
-/// the program ends: `Usage` where a word is no text.
+/// Tells that the words of the command line can't be read, for this error of the system. Answers
+/// how the program ends: `Usage` where a word is no text.
 pub fn tell_unworded<E: Sink>(error: &io::Error, faults: &mut E) -> Exit
     ensures { (did : Deed) × (did.exit ≡ result) × IsUnworded (error_kind error.now) did
         × IsPrint E.Sink did.faults faults.old faults.new }
