@@ -1,20 +1,18 @@
 -- What the program does, from what its parts do.
-use Rattle.std.proofs.Common.{◌≡◌, ◌≢◌, ℕ, List, [], Bool, true, false, Option, Some, Result, Ok, Err, IfOk, inl, inr}
-use Rattle.std.proofs.Common.{refl, subst}
-use Rattle.std.specs.declared.io.ErrorKind.{ErrorKind}
-use Rattle.std.specs.declared.io.ErrorKind.TheVariants as kinds
+use Rattle.std.proofs.Common.{◌≡◌, ◌≢◌, ℕ, List, [], Bool, true, false, Option, Some, Result, Err, inl, inr, refl}
+use Rattle.std.proofs.Common.{subst}
 use Rattle.clap.specs.Walk.{Text}
 use Rattle.clap.specs.declared.error.ErrorKind.{ErrorKind as TextKind}
 use Rattle.clap.specs.declared.error.ErrorKind.TheVariants as texts
 use Rattle.bw_args.specs.Lines.{IsLineOf}
-use Rattle.bw_cli.specs.Deeds.{Deed}
-use Rattle.bw_cli.specs.Faults.{IsToldBy, exit_of}
-use Rattle.bw_cli.specs.Inspections.{IsPrintOfText}
-use Rattle.bw_cli.specs.Printing.{IsOf, Nothing, Print}
-use Rattle.bw_cli.specs.Programs.{IsAnswer, IsDoneFor, IsProgram, IsTelling, exit_unopened}
-use Rattle.bw_cli.specs.declared.exit.Exit.TheVariants as exits
-use Rattle.bw_cli.specs.declared.fault.Fault.{Fault}
-use Rattle.bw_cli.specs.declared.fault.Fault.TheVariants as faults
+use Rattle.bw_commands.specs.Deeds.{Deed}
+use Rattle.bw_commands.specs.Faults.{IsToldBy, exit_of}
+use Rattle.bw_commands.specs.Inspections.{IsPrintOfText}
+use Rattle.bw_commands.specs.Printing.{IsOf, Nothing, Print}
+use Rattle.bw_cli.specs.Programs.{IsAnswer, IsDoneFor, IsProgram, IsTelling}
+use Rattle.bw_commands.specs.declared.exit.Exit.TheVariants as exits
+use Rattle.bw_commands.specs.declared.fault.Fault.{Fault}
+use Rattle.bw_commands.specs.declared.fault.Fault.TheVariants as faults
 
 -- want of memory ends the telling of any text
 pub told-want : (kind : TextKind) (told : Print) → IsToldBy (Err faults.Memory) told
@@ -43,17 +41,6 @@ told-help texts.DisplayHelp outcome text out told n p t =
 told-help texts.DisplayVersion outcome text out told n p t =
     record { outcome = outcome; exit_is = refl; reads = refl; text = text; prints = p; tells = t }
 told-help _ outcome text out told n p t = absurd (n ((λ e. cc), (λ e. cc)))
-
--- a line with some reason is the line with this one
-pub reasoned : {X Y : Type 0} (r : Result X Y) (bytes : X → List ℕ) (line : List ℕ → List ℕ) (reason : List ℕ)
-    → IfOk r (λ x. bytes x ≡ line reason) → IfOk r (λ x. (why : List ℕ) × (bytes x ≡ line why))
-reasoned (Ok x) bytes line reason h = (reason, h)
-reasoned (Err e) bytes line reason h = tt
-
--- a file that can't be opened is a device that failed, unless memory was refused
-pub exit-device : (kind : ErrorKind) → kind ≢ kinds.OutOfMemory → exit_unopened kind ≡ exits.Device
-exit-device kinds.OutOfMemory n = absurd (n refl)
-exit-device _ n = refl
 
 -- what is done for the words that were found is done for those that the system tells
 pub told-words : (words : Option (List Text)) (found : List Text) (file_at later : Text → Option (List ℕ))

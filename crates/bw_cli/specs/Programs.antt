@@ -1,8 +1,7 @@
 -- What the program does for a command line.
-use Rattle.std.specs.Prelude.{◌≡◌, ◌⊎◌, ℕ, [], ◌∷◌, ◌++◌, Bool, true, false, Option, Some, List}
-use Rattle.std.specs.Prelude.{Result, Err, codes, string_bytes}
+use Rattle.std.specs.Prelude.{◌≡◌, ◌⊎◌, ℕ, Bool, true, false, Option, Some, List, Result}
+use Rattle.std.specs.Prelude.{string_bytes}
 use Rattle.std.specs.declared.io.ErrorKind.{ErrorKind}
-use Rattle.std.specs.declared.io.ErrorKind.TheVariants as kinds
 use Rattle.clap.specs.Walk.{Text}
 use Rattle.clap.specs.Values.{kind_of}
 use Rattle.clap.specs.declared.error.ErrorKind.{ErrorKind as TextKind}
@@ -12,52 +11,14 @@ use Rattle.bw_args.specs.declared.TheConstants.{BAD_LIMIT}
 use Rattle.bw_args.specs.declared.CommandLine.{CommandLine}
 use Rattle.bw_args.specs.declared.CommandLine.TheVariants.{Run, BadLimit, Tell}
 use Rattle.bw_args.specs.declared.Task.TheVariants.{Replay, Inspect}
-use Rattle.bw_cli.specs.Deeds.{Deed, IsReplay}
-use Rattle.bw_cli.specs.Faults.{IsToldBy, exit_of}
-use Rattle.bw_cli.specs.Inspections.{IsInspection, IsPrintOfText}
-use Rattle.bw_cli.specs.Printing.{Nothing, IsOf}
-use Rattle.bw_cli.specs.Text.{as_line}
-use Rattle.bw_cli.specs.declared.exit.Exit.{Exit}
-use Rattle.bw_cli.specs.declared.exit.Exit.TheVariants as exits
-use Rattle.bw_cli.specs.declared.fault.Fault.{Fault}
-use Rattle.bw_cli.specs.declared.fault.Fault.TheVariants as faults
-
--- want of memory ended the program before it printed anything, and the line says so
-pub record IsWant (did : Deed) : Type 0 where
-  pub exit_is : did.exit ≡ exits.Memory
-  pub reads : did.reads_all ≡ true
-  pub prints : did.out ≡ Nothing
-  pub tells : IsToldBy (Err faults.Memory) did.faults
-
--- how the program ends where the words can't be read: one that is no text is a fault of usage
-abbrev pub exit_without_words : ErrorKind → Exit
-exit_without_words kinds.OutOfMemory = exits.Memory
-exit_without_words kinds.InvalidData = exits.Usage
-exit_without_words _ = exits.Device
-
--- the words of the command line can't be read, for an error of this kind
-pub record IsUnworded (kind : ErrorKind) (did : Deed) : Type 0 where
-  pub exit_is : did.exit ≡ exit_without_words kind
-  pub reads : did.reads_all ≡ true
-  pub prints : did.out ≡ Nothing
-  pub tells : IsOf (as_line (codes "the command line can't be read")) did.faults
-
--- how the program ends where a file can't be opened
-abbrev pub exit_unopened : ErrorKind → Exit
-exit_unopened kinds.OutOfMemory = exits.Memory
-exit_unopened _ = exits.Device
-
--- what is told of a path whose file can't be opened
-abbrev pub unopened_text : Text → List ℕ → List ℕ
-unopened_text path reason = path ++ (codes " can't be opened: " ++ (reason ++ 10 ∷ []))
-
--- the file of this path can't be opened, for an error of this kind, whose reason is told
-pub record IsUnopened (path : Text) (kind : ErrorKind) (did : Deed) : Type 0 where
-  pub exit_is : did.exit ≡ exit_unopened kind
-  pub reads : did.reads_all ≡ true
-  pub prints : did.out ≡ Nothing
-  pub reason : List ℕ
-  pub tells : IsOf (unopened_text path reason) did.faults
+use Rattle.bw_commands.specs.Deeds.{Deed, IsReplay, IsWant}
+use Rattle.bw_commands.specs.Faults.{IsToldBy, exit_of}
+use Rattle.bw_commands.specs.Inspections.{IsPrintOfText}
+use Rattle.bw_commands.specs.Openings.{IsLook}
+use Rattle.bw_commands.specs.Printing.{Nothing, IsOf}
+use Rattle.bw_commands.specs.Unworded.{IsUnworded}
+use Rattle.bw_commands.specs.declared.exit.Exit.TheVariants as exits
+use Rattle.bw_commands.specs.declared.fault.Fault.{Fault}
 
 -- help or the version is printed
 pub record IsHelp (did : Deed) : Type 0 where
@@ -95,17 +56,6 @@ pub record Given : Type 0 where
   pub words : Option (List Text)
   pub file_at : Text → Option (List ℕ)
   pub input : Option (List ℕ)
-
--- the file of a path was inspected, which the input has no part in
-pub record IsInspected (file : Option (List ℕ)) (did : Deed) : Type 0 where
-  pub reads : did.reads_all ≡ true
-  pub reads_file : Bool
-  pub is : IsInspection file (record did { reads_all = reads_file })
-
--- what comes of a file that is to be inspected, where the system opens it, or not
-abbrev pub IsLook : Option (List ℕ) → Text → Bool → Deed → Type 0
-IsLook file path true did = IsInspected file did
-IsLook file path false did = ((kind : ErrorKind) × IsUnopened path kind did) ⊎ IsWant did
 
 -- what is done for a command line over these files and this input, where the system gives what is
 -- asked of it, or not

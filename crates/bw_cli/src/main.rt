@@ -3,29 +3,12 @@
 
 #[cfg(test)]
 mod command_line_tests;
-mod exchange;
-pub mod exit;
-mod fault;
-mod file;
-mod host;
-mod input;
-pub mod inspection;
-#[cfg(test)]
-mod inspection_tests;
-mod print;
 pub mod program;
 #[cfg(test)]
 mod program_tests;
-mod recording;
-pub mod replay;
-mod run;
-pub mod system;
-#[cfg(test)]
-mod tests;
-mod text;
 
+use bw_commands::Host;
 use bw_stream::Plain;
-use host::Host;
 use program::start;
 use std::process::ExitCode;
 

@@ -4,7 +4,7 @@ ghost use Rattle.std.specs.Prelude.{if◌then◌else◌};
 ghost use Rattle.std.specs.Str.{bytes_eq};
 
 use crate::program::start;
-use crate::system::System;
+use bw_commands::System;
 use bw_stream::{MemorySink, MemorySource};
 use std::alloc::Global;
 use std::io::{self, ErrorKind};

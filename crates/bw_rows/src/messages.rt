@@ -44,6 +44,37 @@ fn take_out(framer: &mut Framer, out: &mut Vec<(u32, usize)>) -> Result<(), Fail
     Err("more than three messages")?
 }
 
+/// Feeds a piece, and takes out the messages that it ends.
+fn read_piece(
+    rt: &impl Abort,
+    framer: &mut Framer,
+    piece: &[u8],
+    out: &mut Vec<(u32, usize)>,
+) -> Result<(), Fail> {
+    feed(rt, framer, piece)?;
+    take_out(framer, out)
+}
+
+/// What comes next, in words. Tests that call this don't each walk through the contract of
+/// `next_frame`.
+fn next_kind(framer: &mut Framer) -> Result<&'static str, WireFault> {
+    Ok(match framer.next_frame()? {
+        Some(Frame::Message(_)) => "a message",
+        Some(Frame::Ask(_)) => "an ask",
+        Some(Frame::Bye) => "bye",
+        None => "none",
+    })
+}
+
+/// As what a body reads, in words.
+fn kind_of(body: &[u8]) -> Result<&'static str, Reason> {
+    Ok(match decode(body)? {
+        Frame::Message(_) => "a message",
+        Frame::Ask(_) => "an ask",
+        Frame::Bye => "bye",
+    })
+}
+
 static MESSAGES: [(u32, usize); 3] = [(0, 18), (1, 12), (2, 16)];
 
 #[test]
@@ -53,8 +84,7 @@ fn a_take_is_read_in_pieces_of_any_size(rt: HostRuntime) -> Result<(), Fail> {
         let mut framer = Framer::new(rt.alloc());
         let mut found = Vec::new(rt.alloc());
         for piece in bytes.chunks(size) {
-            feed(&rt, &mut framer, piece)?;
-            take_out(&mut framer, &mut found)?;
+            read_piece(&rt, &mut framer, piece, &mut found)?;
         }
         same(&rt, size, &found.as_slice(), &MESSAGES.as_slice());
         same(&rt, size, &framer.fed(), &58);
@@ -72,10 +102,8 @@ fn a_take_is_read_in_two_pieces(rt: HostRuntime) -> Result<(), Fail> {
         };
         let mut framer = Framer::new(rt.alloc());
         let mut found = Vec::new(rt.alloc());
-        feed(&rt, &mut framer, front)?;
-        take_out(&mut framer, &mut found)?;
-        feed(&rt, &mut framer, rest)?;
-        take_out(&mut framer, &mut found)?;
+        read_piece(&rt, &mut framer, front, &mut found)?;
+        read_piece(&rt, &mut framer, rest, &mut found)?;
         same(&rt, at, &found.as_slice(), &MESSAGES.as_slice());
     }
     Ok(())
@@ -103,8 +131,8 @@ fn an_input_that_ends_in_a_frame_is_cut_where_the_frame_begins(
     for len in 0..59 {
         let mut framer = Framer::new(rt.alloc());
         let mut found = Vec::new(rt.alloc());
-        feed(&rt, &mut framer, bytes.get(..len).ok_or("58 bytes")?)?;
-        take_out(&mut framer, &mut found)?;
+        let front = bytes.get(..len).ok_or("58 bytes")?;
+        read_piece(&rt, &mut framer, front, &mut found)?;
         let (count, cut) = count_and_cut(len);
         same(&rt, len, &found.len(), &count);
         let want = match cut {
@@ -154,12 +182,12 @@ fn a_fault_has_the_first_reason_and_stays(rt: HostRuntime) -> Result<(), Fail> {
         let mut framer = Framer::new(rt.alloc());
         feed(&rt, &mut framer, OPEN)?;
         feed(&rt, &mut framer, bytes)?;
-        let first = matches!(framer.next_frame(), Ok(Some(Frame::Message(_))));
-        same(&rt, "the frame before", &first, &true);
+        let first = next_kind(&mut framer);
+        same(&rt, "the frame before", &first, &Ok("a message"));
         let reason = *reason;
         let fault = WireFault { reason, offset: 22 };
         for _ in 0..2 {
-            same(&rt, reason, &framer.next_frame().err(), &Some(fault));
+            same(&rt, reason, &next_kind(&mut framer), &Err(fault));
             same(&rt, reason, &framer.end(), &Err(fault));
             feed(&rt, &mut framer, OPEN)?;
         }
@@ -172,8 +200,7 @@ fn bye_ends_an_exchange(rt: HostRuntime) -> Result<(), Fail> {
     let mut framer = Framer::new(rt.alloc());
     feed(&rt, &mut framer, b"\x01\0\0\0\x09\0\0\0\0")?;
     for _ in 0..2 {
-        let bye = matches!(framer.next_frame(), Ok(Some(Frame::Bye)));
-        same(&rt, "the end", &bye, &true);
+        same(&rt, "the end", &next_kind(&mut framer), &Ok("bye"));
         same(&rt, "the input's end", &framer.end(), &Ok(()));
         feed(&rt, &mut framer, OPEN)?;
     }
@@ -184,8 +211,7 @@ fn bye_ends_an_exchange(rt: HostRuntime) -> Result<(), Fail> {
 fn a_body_that_is_not_whole_is_awaited_whatever_its_kind(rt: HostRuntime) -> Result<(), Fail> {
     let mut framer = Framer::new(rt.alloc());
     feed(&rt, &mut framer, b"\x12\0\0\0\x07")?;
-    let none = matches!(framer.next_frame(), Ok(None));
-    same(&rt, "no frame yet", &none, &true);
+    same(&rt, "no frame yet", &next_kind(&mut framer), &Ok("none"));
     let cut = WireFault {
         reason: Reason::Cut,
         offset: 0,
@@ -306,16 +332,11 @@ fn a_block_has_a_limit(rt: HostRuntime) -> Result<(), Fail> {
         let head = frame.first_chunk().copied();
         same(&rt, "the length", &head, &Some(*len));
         let body = frame.get(4..).ok_or("a length")?;
-        let taken = matches!(decode(body), Ok(Frame::Message(_)));
-        same(&rt, "the longest", &taken, &true);
+        same(&rt, "the longest", &kind_of(body), &Ok("a message"));
         frame.push(7)?;
         let body = frame.get(4..).ok_or("a length")?;
-        same(
-            &rt,
-            "one byte more",
-            &decode(body).err(),
-            &Some(Reason::Payload),
-        );
+        let more = kind_of(body);
+        same(&rt, "one byte more", &more, &Err(Reason::Payload));
     }
     Ok(())
 }
@@ -323,15 +344,9 @@ fn a_block_has_a_limit(rt: HostRuntime) -> Result<(), Fail> {
 #[test]
 fn a_number_has_a_limit(rt: HostRuntime) {
     let largest = b"\x02\x02a1\xff\xff\xff\0\x01\0\x02\0";
-    let taken = matches!(decode(largest), Ok(Frame::Message(_)));
-    same(&rt, "the largest", &taken, &true);
+    same(&rt, "the largest", &kind_of(largest), &Ok("a message"));
     let one_more = b"\x02\x02a1\0\0\0\x01\x01\0\x02\0";
-    same(
-        &rt,
-        "one more",
-        &decode(one_more).err(),
-        &Some(Reason::Number),
-    );
+    same(&rt, "one more", &kind_of(one_more), &Err(Reason::Number));
 }
 
 /// Longer than any block that is kept for a further piece.

@@ -1,0 +1,82 @@
+-- What an inspection does, from what its steps do.
+use Rattle.std.proofs.Common.{◌≡◌, ◌∙◌, ℕ, List, [], ◌++◌, Bool, true, false, not, Option, Some, Result, inl, inr, refl}
+use Rattle.std.proofs.Common.{ap, if◌then◌else◌}
+use Rattle.bw_stream.specs.Moves.{Keeps, Writes, one_more}
+use Rattle.bw_model.specs.Report.{report_text}
+use Rattle.bw_inspect.specs.Places.{Of}
+use Rattle.bw_inspect.specs.Readings.{Refuses, Tells}
+use Rattle.bw_inspect.specs.Reports.{told_by}
+use Rattle.bw_inspect.specs.Faults.{is_failed_read}
+use Rattle.bw_inspect.specs.declared.fault.InspectFault.{InspectFault}
+use Rattle.bw_inspect.specs.declared.report.Report.{Report}
+use Rattle.bw_commands.specs.Deeds.{Deed}
+use Rattle.bw_commands.specs.Faults.{IsToldBy, exit_of}
+use Rattle.bw_commands.specs.Inspections.{IsInspection, IsPrintOfText, exit_for, fault_line}
+use Rattle.bw_commands.specs.Printing.{IsOf, Nothing, Print, failures_if}
+use Rattle.bw_commands.specs.declared.fault.Fault.{Fault}
+
+-- an inspection that came to a report
+pub report-told : (file : Option (List ℕ)) (r : Report) (left : Option (List ℕ)) (outcome : Result (Unit {0}) Fault)
+    (out faults : Print) → Of file (λ b. Tells b r left) → IsPrintOfText (report_text (told_by r)) outcome out
+    → IsToldBy outcome faults
+    → IsInspection file (record { reads_all = true; out = out; faults = faults; exit = exit_of outcome })
+report-told file r left outcome out faults tells prints told = inl (record {
+  outcome = outcome;
+  exit_is = refl;
+  reads = refl;
+  text = report_text (told_by r);
+  right = λ b e. record { reading_is = (tells b e).reading_is; is = ap report_text (tells b e).tells };
+  prints = prints;
+  tells = told;
+})
+
+-- an inspection that came to a fault
+pub fault-told : (file : Option (List ℕ)) (f : InspectFault) (left : Option (List ℕ)) (faults : Print)
+    → Of file (λ b. Refuses b f left) → IsOf (fault_line f) faults
+    → IsInspection file (record {
+      reads_all = not (is_failed_read f.kind);
+      out = Nothing;
+      faults = faults;
+      exit = exit_for f.kind;
+    })
+fault-told file f left faults refuses told = inr (record {
+  fault = f;
+  exit_is = refl;
+  reads = refl;
+  right = λ b e met same. (refuses b e).fault met same;
+  prints = refl;
+  tells = told;
+})
+
+-- the reader failed exactly where not all reads succeeded
+pub failures-not : (failed : Bool) (n : ℕ) → (if failed then one_more n else n) ≡ failures_if (not failed) n
+failures-not true n = refl
+failures-not false n = refl
+
+-- what is true of a reader's bytes is true of those of its file
+pub inspected-at : (file left : Option (List ℕ)) (did : Deed) → Keeps file left → IsInspection left did →
+    IsInspection file did
+inspected-at file left did keeps (inl r) = inl (record {
+  outcome = r.outcome;
+  exit_is = r.exit_is;
+  reads = r.reads;
+  text = r.text;
+  right = λ b e. r.right b (keeps b e);
+  prints = r.prints;
+  tells = r.tells;
+})
+inspected-at file left did keeps (inr r) = inr (record {
+  fault = r.fault;
+  exit_is = r.exit_is;
+  reads = r.reads;
+  right = λ b e. r.right b (keeps b e);
+  prints = r.prints;
+  tells = r.tells;
+})
+
+-- what is written into empty memory is all that is there
+pub text-made : (start made text : List ℕ) → start ≡ [] → Writes (Some start) text (Some made) → made ≡ text
+text-made start made text e w =
+    let h : Some made ≡ Some (start ++ text) = w start refl in
+    let k : made ≡ start ++ text = cc in
+    k ∙ ap (λ x. x ++ text) e

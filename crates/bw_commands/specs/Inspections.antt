@@ -1,0 +1,82 @@
+-- What an inspection writes, and how it ends.
+use Rattle.std.specs.Prelude.{◌≡◌, ◌⊎◌, ℕ, List, [], ◌∷◌, ◌++◌, Option, Some, Result, Ok, Err, not}
+use Rattle.std.specs.Prelude.{true, codes}
+use Rattle.bw_model.specs.Reading.{Fault, IsFault}
+use Rattle.bw_model.specs.Report.{report_of, report_text}
+use Rattle.bw_inspect.specs.Faults.{bytes_fault, inspect_fault_text, is_failed_read}
+use Rattle.bw_inspect.specs.Places.{Of}
+use Rattle.bw_inspect.specs.Readings.{HasReading}
+use Rattle.bw_inspect.specs.declared.fault.InspectFault.{InspectFault}
+use Rattle.bw_inspect.specs.declared.fault.InspectKind.{InspectKind}
+use Rattle.bw_inspect.specs.declared.fault.InspectKind.TheVariants.{NotWave, Truncated, NoDs64}
+use Rattle.bw_inspect.specs.declared.fault.InspectKind.TheVariants.{BadDs64, NoSize, Twice, NoFmt}
+use Rattle.bw_inspect.specs.declared.fault.InspectKind.TheVariants.{NoData, BadFmt, BadBext, BadCue}
+use Rattle.bw_inspect.specs.declared.fault.InspectKind.TheVariants.{TooMany, TooLarge, Read, Memory}
+use Rattle.bw_commands.specs.Deeds.{Deed}
+use Rattle.bw_commands.specs.Faults.{IsToldBy, exit_of}
+use Rattle.bw_commands.specs.Printing.{Print, Nothing, Whole, Part, IsOf}
+use Rattle.bw_commands.specs.declared.exit.Exit.{Exit}
+use Rattle.bw_commands.specs.declared.exit.Exit.TheVariants.{Refused, Device, Memory as OutOfMemory}
+use Rattle.bw_commands.specs.declared.fault.Fault.{Fault as Failure}
+use Rattle.bw_commands.specs.declared.fault.Fault.TheVariants as failures
+
+-- the line of a fault
+abbrev pub fault_line : InspectFault → List ℕ
+fault_line f = codes "inspect: " ++ inspect_fault_text f ++ 10 ∷ []
+
+-- how an inspection ends on a fault of this kind
+abbrev pub exit_for : InspectKind → Exit
+exit_for NotWave = Refused
+exit_for Truncated = Refused
+exit_for NoDs64 = Refused
+exit_for BadDs64 = Refused
+exit_for NoSize = Refused
+exit_for Twice = Refused
+exit_for NoFmt = Refused
+exit_for NoData = Refused
+exit_for BadFmt = Refused
+exit_for BadBext = Refused
+exit_for BadCue = Refused
+exit_for TooMany = Refused
+exit_for TooLarge = Refused
+exit_for Read = Device
+exit_for Memory = OutOfMemory
+
+-- what is printed of a text: all, a beginning where the writer fails, or nothing where memory was
+-- refused before
+abbrev pub IsPrintOfText : List ℕ → Result (Unit {0}) Failure → Print → Type 0
+IsPrintOfText text (Ok x) print = print ≡ Whole text
+IsPrintOfText text (Err failures.Unwritable) print = print ≡ Part text
+IsPrintOfText text (Err failures.Memory) print = print ≡ Nothing
+IsPrintOfText text (Err failures.TooLong) print = ⊥
+IsPrintOfText text (Err (failures.NotHex n)) print = ⊥
+IsPrintOfText text (Err (failures.NotInOrder n)) print = ⊥
+IsPrintOfText text (Err failures.Unreadable) print = ⊥
+
+-- the bytes have a reading, and this is the text of its report
+pub record IsReportOf (b text : List ℕ) : Type 0 where
+  pub reading_is : HasReading b
+  pub is : text ≡ report_text (report_of b reading_is.form reading_is.entries)
+
+-- an inspection came to the report of the file's reading
+pub record IsReport (file : Option (List ℕ)) (did : Deed) : Type 0 where
+  pub outcome : Result (Unit {0}) Failure
+  pub exit_is : did.exit ≡ exit_of outcome
+  pub reads : did.reads_all ≡ true
+  pub text : List ℕ
+  pub right : Of file (λ b. IsReportOf b text)
+  pub prints : IsPrintOfText text outcome did.out
+  pub tells : IsToldBy outcome did.faults
+
+-- an inspection came to a fault, and a fault of the bytes is the file's first
+pub record IsFinding (file : Option (List ℕ)) (did : Deed) : Type 0 where
+  pub fault : InspectFault
+  pub exit_is : did.exit ≡ exit_for fault.kind
+  pub reads : did.reads_all ≡ not (is_failed_read fault.kind)
+  pub right : Of file (λ b. (met : Fault) → bytes_fault fault ≡ Some met → IsFault b met)
+  pub prints : did.out ≡ Nothing
+  pub tells : IsOf (fault_line fault) did.faults
+
+-- an inspection of this file did this
+abbrev pub IsInspection : Option (List ℕ) → Deed → Type 0
+IsInspection file did = IsReport file did ⊎ IsFinding file did

@@ -1,0 +1,63 @@
+-- The text of a run.
+use Rattle.std.specs.Prelude.{ℕ, ◌+◌, Option, Some, None, List, [], ◌∷◌, ◌++◌, length, map}
+use Rattle.std.specs.Prelude.{flat_map, codes, decimal}
+use Rattle.hex.specs.Hex.{encode_lower}
+use Rattle.bw_model.specs.Wire.{framed}
+use Rattle.bw_model.specs.Replies.{Reply, reply_body}
+use Rattle.bw_model.specs.Stream.{End, EndOfInput, SaidBye, BadFrame}
+use Rattle.bw_model.specs.Book.{Book}
+use Rattle.bw_model.specs.Exchange.{Exchange, exchanges, content_in}
+use Rattle.bw_model.specs.Exchange.{nothing_stands}
+use Rattle.bw_commands.specs.Runs.{ToldExchange, told_of, book_behind_all}
+
+-- a text and the byte that ends its line
+abbrev pub as_line : List ℕ → List ℕ
+as_line text = text ++ 10 ∷ []
+
+-- the line of a reply: its frame in hex
+abbrev pub reply_line : Reply → List ℕ
+reply_line r = as_line (codes "reply " ++ encode_lower (framed (reply_body r)))
+
+-- the name of an exchange's end
+abbrev pub end_name : End → List ℕ
+end_name EndOfInput = codes "EndOfInput"
+end_name SaidBye = codes "Bye"
+end_name (BadFrame reason place) = codes "BadFrame"
+
+-- the line of the exchange with this number
+abbrev pub exchange_line : ℕ → End → List ℕ
+exchange_line i end = as_line (codes "exchange " ++ decimal i ++ codes " " ++ end_name end)
+
+-- that line, and those of its replies
+abbrev pub exchange_text : ℕ → ToldExchange → List ℕ
+exchange_text i told = exchange_line i told.end ++ flat_map reply_line told.replies
+
+-- the exchanges from number i on
+unfoldable pub exchanges_text : ℕ → List ToldExchange → List ℕ
+exchanges_text i [] = []
+exchanges_text i (one ∷ more) = exchange_text i one ++ exchanges_text (i + 1) more
+
+-- the two lines of a file: its name and length, and its bytes in hex
+abbrev pub file_text : List ℕ → List ℕ → List ℕ
+file_text name content =
+    as_line (codes "file " ++ name ++ codes " " ++ decimal (length content))
+    ++ as_line (encode_lower content)
+
+-- a file, if there is one
+abbrev pub file_text_if : List ℕ → Option (List ℕ) → List ℕ
+file_text_if name None = []
+file_text_if name (Some content) = file_text name content
+
+-- the files of a book over an empty store; a run in order has one name
+unfoldable pub files_text : ℕ → Book → List ℕ
+files_text limit book =
+    flat_map (λ entry. file_text_if entry.0 (content_in (λ name. None) limit book entry.0)) book
+
+-- the text of exchanges, and of the files behind them
+abbrev pub text_of_exchanges : ℕ → List Exchange → List ℕ
+text_of_exchanges limit es =
+    exchanges_text 0 (map told_of es) ++ files_text limit (book_behind_all [] es)
+
+-- the text of the run of these inputs, on a new server over an empty store
+abbrev pub run_text : ℕ → List (List ℕ) → List ℕ
+run_text limit inputs = text_of_exchanges limit (exchanges nothing_stands [] inputs)

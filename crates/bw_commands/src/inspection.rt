@@ -1,0 +1,84 @@
+//! The command `inspect`: what is in a file.
+ghost use Rattle.std.specs.Prelude.{◌≡◌};
+ghost use Rattle.bw_model.specs.Report.{report_text};
+ghost use Rattle.bw_inspect.specs.Reports.{told_by};
+ghost use Rattle.bw_commands.specs.Deeds.{Deed, HasWritten};
+ghost use Rattle.bw_commands.specs.Inspections.{IsInspection, IsPrintOfText, exit_for, fault_line};
+ghost use Rattle.bw_commands.specs.Printing.{IsPrint, Print, failures_if};
+
+use crate::exit::Exit;
+use crate::fault::Fault;
+use crate::print::{give_up, print, tell};
+use arrayvec::ArrayString;
+use bw_inspect::{InspectFault, InspectKind, Report, inspect, write_report};
+use bw_stream::{MemorySink, Sink, Source};
+use itoa::Buffer;
+use std::alloc::Global;
+
+/// Reads a file, and writes its report, or the line of its first fault to `faults`.
+///
+/// A line that can't be written to `faults` changes nothing. The report is made whole in memory
+/// before its first byte is written; the contract doesn't say that an answered want of memory was a
+/// real one.
+pub fn inspect_run<R: Source, W: Sink, E: Sink>(
+    alloc: Global,
+    file: &mut R,
+    out: &mut W,
+    faults: &mut E,
+) -> Exit
+    ensures { (did : Deed) × (did.exit ≡ result) × IsInspection (R.left file.old) did
+        × (R.failures file.new ≡ failures_if did.reads_all (R.failures file.old))
+        × HasWritten W.Sink E.Sink did out.old out.new faults.old faults.new }
+{
+    match inspect(alloc, file) {
+        Ok(report) => match print_report(alloc, &report, out) {
+            Ok(()) => Exit::Done,
+            Err(fault) => give_up(faults, &fault),
+        },
+        Err(fault) => {
+            tell(faults, line_of(&fault).as_str().as_bytes());
+            exit_on(fault.kind)
+        }
+    }
+}
+
+/// Writes the text of a report, which is made whole before.
+fn print_report<W: Sink>(alloc: Global, report: &Report, out: &mut W) -> Result<(), Fault>
+    ensures { (print : Print)
+        × IsPrintOfText (report_text (told_by report.now)) result print
+        × IsPrint W.Sink print out.old out.new }
+{
+    let mut text = MemorySink::new(Vec::new(alloc));
+    let Ok(()) = write_report(report, &mut text) else {
+        return Err(Fault::Memory);
+    };
+    match print(out, text.into_bytes().as_slice()) {
+        Ok(()) => Ok(()),
+        Err(_) => Err(Fault::Unwritable),
+    }
+}
+
+/// The line of a fault. It takes no memory, which may be what is wanting.
+fn line_of(fault: &InspectFault) -> ArrayString<64>
+    ensures { result.bytes ≡ fault_line fault.now }
+{
+    let mut digits = Buffer::new();
+    let mut line = ArrayString::new();
+    line.push_str("inspect: ");
+    line.push_str(fault.kind.name());
+    line.push_str(" at ");
+    line.push_str(digits.format(fault.offset));
+    line.push_str("\n");
+    line
+}
+
+/// How an inspection ends on a fault of this kind.
+fn exit_on(kind: InspectKind) -> Exit
+    ensures { result ≡ exit_for kind }
+{
+    match kind {
+        InspectKind::Read => Exit::Device,
+        InspectKind::Memory => Exit::Memory,
+        _ => Exit::Refused,
+    }
+}

@@ -1,0 +1,27 @@
+//! The commands of `bwingest`: what each reads, prints and tells, and how it ends. The words of the
+//! command line stand above, in the program.
+#![tactic(auto)]
+
+mod exchange;
+mod exit;
+mod fault;
+mod file;
+mod host;
+mod input;
+mod inspection;
+mod opening;
+pub mod print;
+mod recording;
+pub mod replay;
+mod run;
+mod system;
+mod text;
+mod unworded;
+
+pub use exit::Exit;
+pub use fault::Fault;
+pub use host::Host;
+pub use inspection::inspect_run;
+pub use opening::inspect_file;
+pub use system::System;
+pub use unworded::tell_unworded;
