@@ -1,6 +1,6 @@
 -- What begins contents, and what is noted behind them.
 use Rattle.std.proofs.Common.{Result, Ok, Err, OnOk, OnErr, ◌≡◌, ℕ, zero, suc, ◌+◌, ◌≤◌, true, inl, inr, Option, Some}
-use Rattle.std.proofs.Common.{None, List, [], ◌∷◌, ◌++◌, length, take, drop, refl, sym, ap, subst, ◌∙◌, arith}
+use Rattle.std.proofs.Common.{None, List, [], ◌∷◌, ◌++◌, length, take, drop, refl, sym, ap, ◌∙◌, arith}
 use Rattle.std.specs.Prelude.{nat_le, nat_lt, option_map}
 use Rattle.std.specs.Str.{bytes_eq}
 use Rattle.std.proofs.lemmas.Bool.{and_parts, ltb-true}
@@ -8,7 +8,7 @@ use Rattle.std.proofs.lemmas.List.{take_at, take-append-drop, length-append, len
 use Rattle.bw_model.proofs.BookLemmas.{same_name}
 use Rattle.bw_model.proofs.Elements.{some_inj}
 use Rattle.bw_journal.specs.JournalHeaders.{is_torn}
-use Rattle.bw_journal.specs.Notes.{IsFrontOf, IsShortOf, BeginsWith, has_front, Starts, StartsInPart, Notes}
+use Rattle.bw_journal.specs.Notes.{IsFrontOf, IsShortOf, BeginsWith, has_front, Starts}
 use Rattle.bw_journal.specs.Notes.{NotesInPart, NotesOver}
 
 none_some : {X : Type 0} {x : X} → None ≡ Some x → ⊥
