@@ -14,3 +14,4 @@ pub mod RunForms
 pub mod ReplyForms
 pub mod NextForms
 pub mod ServeForms
+pub mod AnswerForms

@@ -12,3 +12,4 @@ pub mod Admitting
 pub mod Sessions
 pub mod Runs
 pub mod Serving
+pub mod Servers

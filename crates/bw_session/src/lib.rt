@@ -9,6 +9,7 @@ mod draining;
 mod ledger;
 mod numbering;
 mod replying;
+mod server;
 mod serving;
 mod session;
 mod settling;

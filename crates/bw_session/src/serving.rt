@@ -1,7 +1,7 @@
 //! A message of a name that a session is kept of: it is admitted, what is held in a row is done,
 //! and its sender is told.
 ghost use Rattle.std.specs.Prelude.{◌≡◌, ◌≤◌, ℕ, List, [], Option, Bool, IsTrue, IfOk, OnOk, OnErr};
-ghost use Rattle.std.specs.Prelude.{is_some, length};
+ghost use Rattle.std.specs.Prelude.{is_some, length, true, false};
 ghost use Rattle.std.specs.List.{All};
 ghost use Rattle.sha2.specs.Sha256.{sha256};
 ghost use Rattle.bw_model.specs.Wire.{message_body};
@@ -26,7 +26,39 @@ impl Session {
     ghost use Rattle.bw_session.specs.Sessions.{HoldsLog, KeepsProgress, KeepsTake, part_of};
     ghost use Rattle.bw_session.specs.Sessions.{CallsFew};
     ghost use Rattle.bw_session.specs.Runs.{EndsDraining, with_more_done};
-    ghost use Rattle.bw_session.specs.Serving.{Serves, log_after};
+    ghost use Rattle.bw_session.specs.Serving.{Answers, Serves, log_after};
+
+    /// Takes a message of the name, and tells its sender, in `out`, which is empty.
+    pub(crate) fn answer<S: TakeStore, J: Journal>(
+        &mut self,
+        stores: &mut Stores<S, J>,
+        message: &Message<'_>,
+        out: &mut ArrayVec<Reply, 17>,
+    )
+        requires name { (message_of message.now).name ≡ self.old.progress.name }
+        requires empty { out.old.items ≡ [] }
+        ensures both { (stopped : Bool) × KeepsBoth S.TakeStore J.Journal stopped
+            self.old.progress.name stores.old.store stores.new.store
+            stores.old.journal stores.new.journal
+            × CallsFew (S.calls stores.old.store) (S.calls stores.new.store)
+            (length self.old.progress.ledger.outcomes) (length self.new.progress.ledger.outcomes)
+            stopped }
+        ensures take { KeepsTake self.old self.new }
+        ensures few { length out.new.items ≤ 17 }
+        ensures numbers { All HasWireNumbers out.new.items }
+        ensures answers { IsTrue (S.honest stores.old.store) →
+            (first : Option (List ℕ)) (log : Log) → HoldsLog first log (part_of self.old)
+            (S.contents stores.old.store self.old.progress.name) →
+            Answers true false first log (message_of message.now)
+            (failed_calls (S.failures stores.old.store) (J.failures stores.old.journal))
+            (failed_calls (S.failures stores.new.store) (J.failures stores.new.journal))
+            out.new.items (part_of self.new)
+            (S.contents stores.new.store self.old.progress.name) }
+    {
+        if let Err(_refused) = self.serve(stores, message, out) {
+            out.push(self.notice(message, Notice::NoRoom));
+        }
+    }
 
     /// Takes a message of the name: what its sender is told is put into `out`, which is empty.
     ///
