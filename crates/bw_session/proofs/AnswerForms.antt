@@ -88,3 +88,14 @@ same_part first log s s' found k same h =
     found) (sym k.outcomes)
     (subst (λ (x : Parts). HoldsPart first log x s.progress.ledger.outcomes s.window s.progress.growing found)
     (sym k.parts) h)))
+
+-- .. and the name is known then
+pub answers_known : (known full : Bool) (first : Option (List ℕ)) (log : Log) (m : Message)
+    (near : (not known && nat_le window m.number) ≡ false) (fits : (not known && full) ≡ false)
+    (before after : ℕ) (replies : List Reply) (p : Part) (found : Option (List ℕ))
+    (s : Serves first log m before after replies p found) →
+    is_some (turn_by (is_some first) known full log m
+    (answers_served known full first log m near fits before after replies p found s).luck).1 ≡ true
+unfolding answers_served
+answers_known known full first log m near fits before after replies p found s =
+    ap (λ (x : List ModelReply × Option Log). is_some x.1) (by_serving known full first log m near fits s.stop)

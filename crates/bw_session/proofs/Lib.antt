@@ -15,3 +15,5 @@ pub mod ReplyForms
 pub mod NextForms
 pub mod ServeForms
 pub mod AnswerForms
+pub mod ServerForms
+pub mod CountForms

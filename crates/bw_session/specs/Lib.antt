@@ -12,4 +12,6 @@ pub mod Admitting
 pub mod Sessions
 pub mod Runs
 pub mod Serving
+pub mod Tables
 pub mod Servers
+pub mod Books

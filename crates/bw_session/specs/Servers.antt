@@ -1,34 +1,29 @@
--- What a server has to do with the book that it was told.
-use Rattle.std.specs.Prelude.{◌≡◌, ◌+◌, ◌≤◌, ℕ, Option, Some, List, length, option_map}
+-- What a server keeps, in the definitions' words.
+use Rattle.std.specs.Prelude.{ℕ, Option, List, length, option_map}
 use Rattle.std.specs.Option.{option_map_or}
-use Rattle.std.specs.Str.{bytes_eq}
-use Rattle.std.specs.HashMap.{HashMap, get, hash_map_len, spare}
-use Rattle.bw_model.specs.Book.{Book}
-use Rattle.bw_model.specs.Turn.{most_takes}
-use Rattle.bw_model.specs.Holds.{Store, Kept, Holds}
+use Rattle.bw_model.specs.Holds.{Store, Kept}
 use Rattle.bw_file.specs.declared.store.TakeStore.{Ghosts as StoreGhosts}
 use Rattle.bw_session.specs.Draining.{kept_as}
+use Rattle.bw_session.specs.Tables.{Table, session_in}
 use Rattle.bw_session.specs.declared.session.Session.{Session}
-use Rattle.bw_session.specs.declared.server.Server.{Server}
-
--- a server's table
-abbrev pub Table : Type 0 → Type 0
-Table H = HashMap (List ℕ) Session H
-
--- the session of a name
-abbrev pub session_in : {H : Type 0} → Table H → List ℕ → Option Session
-session_in sessions name = get bytes_eq sessions name
 
 -- what a session keeps of its name
 abbrev pub kept_by : Session → Kept
 kept_by s = kept_as s.progress.state.parts s.progress.ledger.outcomes s.window s.progress.growing
 
--- There are as many sessions as a server takes at most, and room for all of them; each stands under
--- its name, and has the server's limit.
-pub record IsTable {H : Type 0} (sessions : Table H) (limit : ℕ) : Type 0 where
-  pub few : hash_map_len sessions ≤ most_takes
-  pub room : most_takes ≤ hash_map_len sessions + spare sessions
-  pub names : (name : List ℕ) (s : Session) → session_in sessions name ≡ Some s →
-      s.progress.name ≡ name
-  pub limits : (name : List ℕ) (s : Session) → session_in sessions name ≡ Some s →
-      s.progress.growing.limit ≡ limit
+-- what a server keeps, by name
+abbrev pub kept_in : {H : Type 0} → Table H → List ℕ → Option Kept
+kept_in sessions name = option_map kept_by (session_in sessions name)
+
+-- a store, beside what stood in it at the start
+abbrev pub store_since : {X : Type 0} → StoreGhosts X → (List ℕ → Option (List ℕ)) → X → Store
+store_since S first store = record {
+  contents = S.contents store;
+  first = first;
+  honest = S.honest store;
+}
+
+-- how many numbers of a name have their verdicts
+abbrev pub done_in : {H : Type 0} → Table H → List ℕ → ℕ
+done_in sessions name =
+    option_map_or (λ s. length s.progress.ledger.outcomes) (session_in sessions name) 0

@@ -1,12 +1,27 @@
 //! A server: what it keeps of each name, over a store and its journal.
-ghost use Rattle.std.specs.Prelude.{◌≡◌, ◌≤◌, ℕ, List, IfOk, IfErr, option_map, length};
+ghost use Rattle.std.specs.Prelude.{◌≡◌, ◌<◌, ◌≤◌, ℕ, List, [], Option, None, Bool, IsTrue, OnOk};
+ghost use Rattle.std.specs.Prelude.{OnErr, IfOk, IfErr, length, option_map};
+ghost use Rattle.std.specs.List.{All};
+ghost use Rattle.std.specs.HashMap.{hash_map_len, IsUnique};
+ghost use Rattle.std.specs.Str.{bytes_eq};
+ghost use Rattle.bw_model.specs.Turn.{most_takes, window};
+ghost use Rattle.bw_model.specs.Book.{Book};
+ghost use Rattle.bw_wire.specs.Frames.{message_of};
+ghost use Rattle.bw_wire.specs.Replies.{HasWireNumbers};
+ghost use Rattle.bw_session.specs.Numbered.{KeepsBoth};
+ghost use Rattle.bw_session.specs.Sessions.{CallsFew};
+ghost use Rattle.bw_session.specs.Servers.{done_in};
+ghost use Rattle.bw_session.specs.Tables.{IsTable, session_in};
 
 use crate::numbering::Stores;
 use crate::session::Session;
+use crate::window::SLOTS;
+use arrayvec::ArrayVec;
 use bw_file::TakeStore;
 use bw_journal::{ENTRY_MAX, Journal, NoJournal};
 use bw_layout::Limit;
 use bw_take::Name;
+use bw_wire::{Message, Notice, Reply};
 use std::alloc::{AllocError, Global};
 use std::collections::HashMap;
 
@@ -19,10 +34,11 @@ pub struct Server<S: TakeStore, J: Journal = NoJournal> {
     sessions: HashMap<Name, Session>,
     stores: Stores<S, J>,
     limit: Limit,
+    ghost table: { IsTable sessions limit },
 }
 
 impl<S: TakeStore, J: Journal> Server<S, J> {
-    ghost use Rattle.bw_session.specs.Servers.{session_in};
+    ghost use Rattle.bw_session.specs.Books.{HoldsBook, TurnsBook};
 
     /// A server that knows no name.
     ///
@@ -49,6 +65,78 @@ impl<S: TakeStore, J: Journal> Server<S, J> {
             },
             limit,
         })
+    }
+
+    /// Takes a message, and tells its sender, in `out`, which is emptied first.
+    pub fn turn(&mut self, message: &Message<'_>, out: &mut ArrayVec<Reply, 17>) {
+        out.clear();
+        let name = message.name();
+        match self.sessions.get_mut(&name) {
+            Some(session) => session.answer(&mut self.stores, message, out),
+            None => self.meet(name, message, out),
+        }
+    }
+
+    /// Takes a message of a name that isn't known.
+    fn meet(&mut self, name: Name, message: &Message<'_>, out: &mut ArrayVec<Reply, 17>) {
+        let code = if SLOTS <= message.number() as usize {
+            Notice::TooFar
+        } else if self.sessions.len() == NAMES {
+            Notice::TableFull
+        } else if self.begin(&name, message, out).is_ok() {
+            return;
+        } else {
+            Notice::NoRoom
+        };
+        out.push(Reply::Notice {
+            name,
+            number: message.number(),
+            code,
+            next: 0,
+        });
+    }
+
+    /// Serves the first message of a name, which is known afterwards.
+    ///
+    /// # Errors
+    /// `AllocError` where a growth was refused: nothing changed.
+    fn begin(
+        &mut self,
+        name: &Name,
+        message: &Message<'_>,
+        out: &mut ArrayVec<Reply, 17>,
+    ) -> Result<(), AllocError>
+        requires name { (message_of message.now).name ≡ name.now }
+        requires empty { out.old.items ≡ [] }
+        requires fresh { session_in self.old.sessions name.now ≡ None }
+        requires place { hash_map_len self.old.sessions < most_takes }
+        requires unique { IsUnique bytes_eq self.old.sessions }
+        requires near { (message_of message.now).number < window }
+        ensures few { length out.new.items ≤ 17 }
+        ensures numbers { All HasWireNumbers out.new.items }
+        ensures both { (stopped : Bool) × KeepsBoth S.TakeStore J.Journal stopped name.now
+            self.old.stores.store self.new.stores.store
+            self.old.stores.journal self.new.stores.journal
+            × CallsFew (S.calls self.old.stores.store) (S.calls self.new.stores.store)
+            0 (done_in self.new.sessions name.now) stopped }
+        ensures limit { self.new.limit ≡ self.old.limit }
+        ensures sessions { OnErr result (self.new.sessions ≡ self.old.sessions) }
+        ensures store { OnErr result (self.new.stores.store ≡ self.old.stores.store) }
+        ensures journal { OnErr result (self.new.stores.journal ≡ self.old.stores.journal) }
+        ensures untold { OnErr result (out.new.items ≡ []) }
+        ensures turned { IsTrue (S.honest self.old.stores.store) →
+            (first : List ℕ → Option (List ℕ)) (book : Book) →
+            HoldsBook S.TakeStore J.Journal first self.old book →
+            OnOk result (TurnsBook S.TakeStore J.Journal first self.old self.new book
+            (message_of message.now) out.new.items) }
+    {
+        let mut session = Session::new(self.stores.alloc, name.copy(), self.limit)?;
+        session.serve(&mut self.stores, message, out)?;
+        match self.sessions.insert(name.copy(), session) {
+            Ok(_none) => Ok(()),
+            // The table has room for every name that it takes.
+            Err(_full) => unreachable!(),
+        }
     }
 
     /// How many numbers of a name have their verdicts.
