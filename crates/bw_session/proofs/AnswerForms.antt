@@ -99,3 +99,24 @@ pub answers_known : (known full : Bool) (first : Option (List ℕ)) (log : Log) 
 unfolding answers_served
 answers_known known full first log m near fits before after replies p found s =
     ap (λ (x : List ModelReply × Option Log). is_some x.1) (by_serving known full first log m near fits s.stop)
+
+-- where the name is known it doesn't matter whether the table is full
+pub answers_full : (full : Bool) (first : Option (List ℕ)) (log : Log) (m : Message) (before after : ℕ)
+    (replies : List Reply) (p : Part) (found : Option (List ℕ)) →
+    Answers true false first log m before after replies p found →
+    Answers true full first log m before after replies p found
+unfolding turn_by
+answers_full full first log m before after replies p found a = record {
+  luck = a.luck;
+  answered = ap (λ (x : List ModelReply × Option Log). x.0) (same a.luck) ∙ a.answered;
+  left = subst (λ (x : List ModelReply × Option Log). HoldsLog first (unwrap_or x.1 log) p found) (sym (same a.luck))
+      a.left;
+  room = a.room;
+  count = subst (λ (x : List ModelReply × Option Log). Counts before after (option_map_or is_pending x.1 false))
+      (sym (same a.luck)) a.count;
+  whole = λ quiet. a.whole
+      (sym (ap (λ (x : List ModelReply × Option Log). option_map_or is_pending x.1 false) (same a.luck)) ∙ quiet);
+}
+  where
+    same : (luck : Luck) → turn_by (is_some first) true full log m luck ≡ turn_by (is_some first) true false log m luck
+    same luck = refl

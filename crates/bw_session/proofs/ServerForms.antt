@@ -1,16 +1,22 @@
 -- A server's sessions, and the book that it holds.
-use Rattle.std.proofs.Common.{◌≡◌, ◌≢◌, ℕ, zero, suc, ◌+◌, ◌<◌, ◌≤◌, Bool, true, false, cond, List, [], ◌∷◌, map, arith}
+use Rattle.std.proofs.Common.{◌≡◌, ◌≢◌, ℕ, zero, suc, ◌+◌, ◌<◌, ◌≤◌, Bool, true, false, cond, List, [], ◌∷◌, length, map, arith}
+use Rattle.std.proofs.Common.{lt-ltb}
 use Rattle.std.proofs.Common.{Option, Some, None, refl, sym, ◌∙◌, ap, subst, ◌⊎◌, inl, inr}
 use Rattle.std.specs.Prelude.{Result, Ok, Err, IsOk, IfOk, OnOk, IsTrue, IsSome, is_some, option_map, unwrap_or}
+use Rattle.std.specs.Option.{option_map_or}
 use Rattle.std.specs.Str.{bytes_eq}
+use Rattle.std.proofs.lemmas.Bool.{lt-leb, le-leb}
 use Rattle.std.specs.HashMap.{hash_map_len, spare}
 use Rattle.bw_model.specs.Wire.{Message, Says, Second, is_message}
 use Rattle.bw_model.specs.Take.{Parts, Verdict}
 use Rattle.bw_model.specs.Bytes.{at}
 use Rattle.bw_model.specs.Book.{Log, Book, log_of, is_known, with_log, made}
 use Rattle.bw_model.specs.BookRules.{IsBook}
-use Rattle.bw_model.specs.CountedTurn.{IsTurn}
-use Rattle.bw_model.specs.Turn.{turn, turn_by, is_full, with_change, most_takes}
+use Rattle.bw_model.specs.CountedTurn.{IsTurn, IsWithoutRoom, is_pending}
+use Rattle.bw_model.specs.Turn.{Luck, good, turn, turn_by, is_full, is_admissible, notice, with_change, window}
+use Rattle.bw_model.specs.Turn.{most_takes}
+use Rattle.bw_model.specs.Counts.{Counts}
+use Rattle.bw_model.specs.Replies.{Reply as ModelReply, Notice, TooFar, TableFull, NoRoom}
 use Rattle.bw_model.proofs.BookLaws.{turns_keep_books}
 use Rattle.bw_model.specs.Holds.{Store, Kept, Holds, HoldsName, HasFile}
 use Rattle.bw_model.proofs.BookLemmas.{same_name, name_refl, log-with_log_same, log-with_log_other}
@@ -186,21 +192,18 @@ module _ (limit : ℕ) (store store' : Store) (sessions sessions' : List ℕ →
           (at (log_of book n).admitted (log_of book n).done) k o) (sym (content_other n b))
           (h.files honest n k (sym (kept_other n b) ∙ e) (sym (first_same n) ∙ none)))
 
--- a table with a session more
-pub table_with : {H : Type 0} (sessions sessions' : Table H) (limit : ℕ) (name : List ℕ) (s : Session) →
-    IsTable sessions limit → hash_map_len sessions < most_takes →
-    hash_map_len sessions' ≡ hash_map_len sessions + 1 →
-    spare sessions ≤ spare sessions' + 1 →
+-- a table with another session under a name
+pub table_set : {H : Type 0} (sessions sessions' : Table H) (limit : ℕ) (name : List ℕ) (s : Session) →
+    IsTable sessions limit → hash_map_len sessions' ≤ most_takes →
+    most_takes ≤ hash_map_len sessions' + spare sessions' →
     ((n : List ℕ) → session_in sessions' n ≡ cond (bytes_eq name n) (Some s) (session_in sessions n)) →
     s.progress.name ≡ name → s.progress.growing.limit ≡ limit → IsTable sessions' limit
-table_with sessions sessions' limit name s t place one room sets named limited =
-    let before = t.room in
-    record {
-      few = omega (arith, one, place);
-      room = omega (arith, one, before, room);
-      names = λ n x e. names n x e (bytes_eq name n) refl;
-      limits = λ n x e. limits n x e (bytes_eq name n) refl;
-    }
+table_set sessions sessions' limit name s t few room sets named limited = record {
+  few = few;
+  room = room;
+  names = λ n x e. names n x e (bytes_eq name n) refl;
+  limits = λ n x e. limits n x e (bytes_eq name n) refl;
+}
   where
     some_same : {a b : Session} → Some a ≡ Some b → a ≡ b
     some_same e = cc
@@ -288,3 +291,51 @@ module _ {F : Type 0} (r : Result (Option Session) F) (ok : IsOk r) where
           IfOk x (λ old. after ≡ before + cond (is_some old) 0 1) → after ≡ before + 1
       go (Ok old) i f l = l ∙ ap (λ (o : Option Session). before + cond (is_some o) 0 1) (f ∙ none)
       go (Err e) i f l = no_false i
+
+-- a message that is turned away, of a name that isn't known
+module _ (stood : List ℕ → Bool) (before : ℕ) (book : Book) (m : Message)
+    (unknown : is_known book m.name ≡ false) where
+  turned_away : (luck : Luck) (code : Notice) →
+      turn_by (stood m.name) (is_known book m.name) (is_full book) (log_of book m.name) m luck
+      ≡ (notice m code 0, None) →
+      (IsTrue luck.refused → IsWithoutRoom book (Says m) (notice m code 0)) → luck.stop ≡ None →
+      IsTurn stood before before book (Says m) (notice m code 0) book
+  unfolding turn
+  turned_away luck code is room stop = record {
+    luck = luck;
+    answered = ap (λ (x : List ModelReply × Option Log). x.0) is;
+    left = ap (λ (x : List ModelReply × Option Log). with_change book m.name x.1) is;
+    room = room;
+    count = subst (λ (x : List ModelReply × Option Log). Counts before before (option_map_or is_pending x.1 false))
+        (sym is) (record { quiet = λ q. refl; rises = λ r. no_false r; stays = λ l. refl });
+    stop = λ quiet. stop;
+  }
+
+  pub too_far : window ≤ m.number → IsTurn stood before before book (Says m) (notice m TooFar 0) book
+  unfolding turn_by
+  too_far past =
+      let a = le-leb window m.number past in
+      turned_away good TooFar (rw (unknown, a) refl) (λ r. no_false r) refl
+
+  pub table_full : m.number < window → length book ≡ most_takes →
+      IsTurn stood before before book (Says m) (notice m TableFull 0) book
+  unfolding turn_by
+  table_full near full =
+      let a = lt-leb window m.number near in
+      let b = le-leb most_takes (length book) (omega (arith, full)) in
+      turned_away good TableFull (rw (unknown, a, b) refl) (λ r. no_false r) refl
+
+  pub no_room : m.number < window → length book < most_takes →
+      IsTurn stood before before book (Says m) (notice m NoRoom 0) book
+  unfolding turn_by
+  no_room near place =
+      let a = lt-leb window m.number near in
+      let b = lt-leb most_takes (length book) place in
+      let c = lt-ltb m.number window near in
+      let l = unknown_log book m.name unknown in
+      let admissible : is_admissible (log_of book m.name) m.number ≡ true =
+      ap (λ (x : Log). is_admissible x m.number) l ∙ c in
+      let done : (log_of book m.name).done ≡ 0 = ap (λ (x : Log). x.done) l in
+      turned_away (record { refused = true; stop = None }) NoRoom
+      (rw (unknown, a, b, admissible, done) refl)
+      (λ r. (admissible, ap (notice m NoRoom) (sym done))) refl

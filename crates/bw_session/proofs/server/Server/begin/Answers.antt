@@ -20,7 +20,7 @@ use Rattle.bw_session.specs.Numbered.{KeepsBoth, failed_calls}
 use Rattle.bw_session.specs.declared.session.Session.{Session}
 use Rattle.bw_session.specs.Books.{HoldsBook, failures_of}
 use Rattle.bw_session.specs.Tables.{session_in}
-use Rattle.bw_session.proofs.ServerForms.{table_with, book_turned, inserted, one_more, unknown_here}
+use Rattle.bw_session.proofs.ServerForms.{table_set, book_turned, inserted, one_more, unknown_here}
 use Rattle.bw_session.proofs.AnswerForms.{answers_served, answers_known}
 use Rattle.bw_session.proofs.CountForms.{counted}
 use Rattle.bw_session.proofs.server.Server.begin.Goals as goal
@@ -33,13 +33,13 @@ invariant_of-self-2 g c =
     let room : 0 < spare c.args.self.now.sessions = omega (arith, before, place) in
     let ok = c.insert.ensures.succeeds room in
     let take = c.in_ok-serve.ensures.take in
+    let less = c.insert.ensures.spare in
+    let one = one_more c.insert.result ok _ _ _ c.insert.ensures.old
+    (subst (λ (n : List ℕ). session_in c.args.self.now.sessions n ≡ None) (sym c.copy-2.ensures)
+    c.requires.fresh) c.insert.ensures.len in
     record {
-      table = table_with c.args.self.now.sessions c.insert.new.self c.args.self.now.limit c.args.name.now
-          c.serve.new.self table place
-          (one_more c.insert.result ok _ _ _ c.insert.ensures.old
-          (subst (λ (n : List ℕ). session_in c.args.self.now.sessions n ≡ None) (sym c.copy-2.ensures)
-          c.requires.fresh) c.insert.ensures.len)
-          c.insert.ensures.spare
+      table = table_set c.args.self.now.sessions c.insert.new.self c.args.self.now.limit c.args.name.now
+          c.serve.new.self table (omega (arith, one, place)) (omega (arith, one, before, less))
           (subst (λ (k : List ℕ). (n : List ℕ) → session_in c.insert.new.self n
           ≡ cond (bytes_eq k n) (Some c.serve.new.self) (session_in c.args.self.now.sessions n)) c.copy-2.ensures
           (inserted c.insert.result ok c.insert.ensures.updates).0)
