@@ -1,7 +1,8 @@
 -- What a server has to do with the book that it was told.
-use Rattle.std.specs.Prelude.{◌≡◌, ℕ, Bool, IsTrue, Option, is_some, List, map}
+use Rattle.std.specs.Prelude.{ℕ, Option, Some, None, is_some, List, map, drop, count_by}
+use Rattle.std.specs.Prelude.{if◌then◌else◌}
 use Rattle.bw_model.specs.Wire.{Message, Says}
-use Rattle.bw_model.specs.Book.{Book}
+use Rattle.bw_model.specs.Book.{Log, Book, log_of, is_known}
 use Rattle.bw_model.specs.CountedTurn.{IsTurn}
 use Rattle.bw_model.specs.Holds.{Holds}
 use Rattle.bw_file.specs.declared.store.TakeStore.{Ghosts as StoreGhosts}
@@ -30,3 +31,11 @@ module _ {X Y : Type 0} (S : StoreGhosts X) (J : JournalGhosts Y) where
     pub turned : IsTurn (λ name. is_some (first name)) (failures_of old) (failures_of new) book
         (Says m) (map reply_of replies) later
     pub held : HoldsBook first new later
+
+-- what a known name's log tells
+abbrev pub of_known : {A : Type 0} → Book → List ℕ → (Log → A) → Option A
+of_known book name f = if is_known book name then Some (f (log_of book name)) else None
+
+-- how many requests of a log wait for their verdicts
+abbrev pub count_waiting : Log → ℕ
+count_waiting log = count_by is_some (drop log.done log.admitted)

@@ -15,3 +15,5 @@ mod session;
 mod settling;
 mod window;
 mod writing;
+
+pub use server::Server;

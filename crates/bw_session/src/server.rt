@@ -1,16 +1,20 @@
 //! A server: what it keeps of each name, over a store and its journal.
 ghost use Rattle.std.specs.Prelude.{◌≡◌, ◌<◌, ◌≤◌, ℕ, List, [], Option, None, Bool, IsTrue, OnOk};
-ghost use Rattle.std.specs.Prelude.{OnErr, IfOk, IfErr, length, option_map, is_some};
+ghost use Rattle.std.specs.Prelude.{OnErr, IfOk, IfErr, length, option_map, is_some, vec_capacity, IfSome, ◌+◌};
+ghost use Rattle.std.specs.Prelude.{◌*◌, ◌&&◌};
 ghost use Rattle.std.specs.List.{All};
-ghost use Rattle.std.specs.HashMap.{hash_map_len, IsUnique};
+ghost use Rattle.std.specs.HashMap.{hash_map_len, spare, IsUnique};
 ghost use Rattle.std.specs.Str.{bytes_eq};
 ghost use Rattle.bw_model.specs.Turn.{most_takes, window, notice as refusal};
-ghost use Rattle.bw_model.specs.Wire.{Says};
+ghost use Rattle.bw_model.specs.Wire.{Says, Second, last_number};
 ghost use Rattle.bw_model.specs.CountedTurn.{IsTurn};
 ghost use Rattle.bw_wire.specs.Notices.{notice_meaning};
-ghost use Rattle.bw_model.specs.Book.{Book};
+ghost use Rattle.bw_model.specs.Book.{Book, log_of, is_known, made};
+ghost use Rattle.bw_model.specs.Take.{parts, frames as frames_of};
+ghost use Rattle.bw_model.specs.Replies.{Noticed, Next};
+ghost use Rattle.bw_journal.specs.Entries.{longest_entry};
 ghost use Rattle.bw_wire.specs.Frames.{message_of};
-ghost use Rattle.bw_wire.specs.Replies.{HasWireNumbers};
+ghost use Rattle.bw_wire.specs.Replies.{reply_of, HasWireNumbers};
 ghost use Rattle.bw_session.specs.Numbered.{KeepsBoth};
 ghost use Rattle.bw_session.specs.Sessions.{CallsFew};
 ghost use Rattle.bw_session.specs.Servers.{done_in};
@@ -40,10 +44,33 @@ pub struct Server<S: TakeStore, J: Journal = NoJournal> {
     ghost table: { IsTable sessions limit },
 }
 
+impl<S: TakeStore> Server<S> {
+    ghost use Rattle.bw_journal.specs.declared.journal.NoJournal.{NoJournal as none};
+    ghost use Rattle.bw_session.specs.Books.{HoldsBook};
+
+    /// A server that knows no name, over a store alone.
+    ///
+    /// # Errors
+    /// `AllocError`, with the store, where memory was refused.
+    pub fn new(alloc: Global, store: S, limit: Limit) -> Result<Server<S>, (AllocError, S)>
+        ensures store { IfOk result (λ s. s.stores.store ≡ store) }
+        ensures limit { IfOk result (λ s. s.limit ≡ limit) }
+        ensures book { IfOk result (λ s.
+            HoldsBook S.TakeStore ⟦<NoJournal as Journal>⟧ (S.contents store) s []) }
+        ensures back { IfErr result (λ e. e.1 ≡ store) }
+    {
+        match Server::with_journal(alloc, store, NoJournal, limit) {
+            Ok(server) => Ok(server),
+            Err((error, store, _none)) => Err((error, store)),
+        }
+    }
+}
+
 impl<S: TakeStore, J: Journal> Server<S, J> {
     ghost use Rattle.bw_session.specs.Books.{failures_of, HoldsBook, TurnsBook};
+    ghost use Rattle.bw_session.specs.Books.{of_known, count_waiting};
 
-    /// A server that knows no name.
+    /// A server that knows no name, over a store and a journal.
     ///
     /// # Errors
     /// `AllocError`, with the store and the journal, where memory was refused.
@@ -53,6 +80,13 @@ impl<S: TakeStore, J: Journal> Server<S, J> {
         journal: J,
         limit: Limit,
     ) -> Result<Server<S, J>, (AllocError, S, J)>
+        ensures store { IfOk result (λ s. s.stores.store ≡ store) }
+        ensures journal { IfOk result (λ s. s.stores.journal ≡ journal) }
+        ensures limit { IfOk result (λ s. s.limit ≡ limit) }
+        ensures book { IfOk result (λ s.
+            HoldsBook S.TakeStore J.Journal (S.contents store) s []) }
+        ensures store_back { IfErr result (λ e. e.1 ≡ store) }
+        ensures journal_back { IfErr result (λ e. e.2 ≡ journal) }
     {
         let (sessions, entry) = match tables(alloc) {
             Ok(tables) => tables,
@@ -218,17 +252,102 @@ impl<S: TakeStore, J: Journal> Server<S, J> {
         }
     }
 
-    /// How many numbers of a name have their verdicts.
+    /// The answer to an ask: how many numbers of the name have their verdicts.
+    pub fn ask(&self, name: &Name, number: u32) -> Reply
+        ensures value { (first : List ℕ → Option (List ℕ)) (book : Book) →
+            HoldsBook S.TakeStore J.Journal first self.now book →
+            reply_of result ≡ Noticed name.now number Next (log_of book name.now).done }
+        ensures numbers { number ≤ last_number Second → HasWireNumbers result }
+    {
+        Reply::Notice {
+            name: name.copy(),
+            number,
+            code: Notice::Next,
+            next: self.done(name).unwrap_or(0),
+        }
+    }
+
+    /// How many numbers of a name have their verdicts; None where it isn't known.
     pub fn done(&self, name: &Name) -> Option<u32>
-        ensures { result ≡ option_map (λ s. length s.progress.ledger.outcomes) (session_in self.now.sessions name.now) }
+        ensures value { (first : List ℕ → Option (List ℕ)) (book : Book) →
+            HoldsBook S.TakeStore J.Journal first self.now book →
+            result ≡ of_known book name.now (λ log. log.done) }
+        ensures range { IfSome result (λ n. n ≤ last_number Second + 1) }
     {
         let session = self.sessions.get(name)?;
         Some(session.progress.ledger.len() as u32)
     }
+
+    /// How many whole frames a name's take has, none without a format; None where the name isn't
+    /// known.
+    pub fn frames(&self, name: &Name) -> Option<u64>
+        ensures { (first : List ℕ → Option (List ℕ)) (book : Book) →
+            HoldsBook S.TakeStore J.Journal first self.now book →
+            result ≡ of_known book name.now (λ log.
+            frames_of (parts (made (is_some (first name.now)) log.admitted log.done))) }
+    {
+        let session = self.sessions.get(name)?;
+        Some(session.progress.state.frames())
+    }
+
+    /// Whether a name's take is closed.
+    pub fn is_closed(&self, name: &Name) -> bool
+        ensures { (first : List ℕ → Option (List ℕ)) (book : Book) →
+            HoldsBook S.TakeStore J.Journal first self.now book →
+            result ≡ is_known book name.now && (made (is_some (first name.now))
+            (log_of book name.now).admitted (log_of book name.now).done).closed }
+    {
+        match self.sessions.get(name) {
+            Some(session) => session.progress.state.is_closed(),
+            None => false,
+        }
+    }
+
+    /// How many messages of a name wait for those before them; None where the name isn't known.
+    pub fn held(&self, name: &Name) -> Option<usize>
+        ensures value { (first : List ℕ → Option (List ℕ)) (book : Book) →
+            HoldsBook S.TakeStore J.Journal first self.now book →
+            result ≡ of_known book name.now count_waiting }
+        ensures range { IfSome result (λ n. n ≤ window) }
+    {
+        let session = self.sessions.get(name)?;
+        Some(session.window.count())
+    }
+
+    /// How many bytes are kept of the done numbers of a name: 33 for each; None where the name
+    /// isn't known.
+    pub fn kept_bytes(&self, name: &Name) -> Option<u64>
+        ensures { (first : List ℕ → Option (List ℕ)) (book : Book) →
+            HoldsBook S.TakeStore J.Journal first self.now book →
+            result ≡ of_known book name.now (λ log. 33 * log.done) }
+    {
+        let session = self.sessions.get(name)?;
+        Some(session.progress.ledger.byte_count())
+    }
+
+    /// The store.
+    pub fn store(&self) -> &S
+        ensures { result.now ≡ self.now.stores.store }
+    {
+        &self.stores.store
+    }
+
+    /// The store, which the server lets go.
+    pub fn into_store(self) -> S
+        ensures { result ≡ self.stores.store }
+    {
+        let Server { stores, .. } = self;
+        let Stores { store, .. } = stores;
+        store
+    }
 }
 
 /// Room for the sessions of all names, and for one entry of the journal.
-fn tables(alloc: Global) -> Result<(HashMap<Name, Session>, Vec<u8>), AllocError> {
+fn tables(alloc: Global) -> Result<(HashMap<Name, Session>, Vec<u8>), AllocError>
+    ensures empty { IfOk result (λ t. t.0.entries ≡ []) }
+    ensures room { IfOk result (λ t. most_takes ≤ spare t.0) }
+    ensures entry { IfOk result (λ t. longest_entry ≤ vec_capacity t.1) }
+{
     let sessions = HashMap::with_capacity(alloc, NAMES)?;
     let entry = Vec::with_capacity(alloc, ENTRY_MAX)?;
     Ok((sessions, entry))
