@@ -17,3 +17,4 @@ pub mod ServeForms
 pub mod AnswerForms
 pub mod ServerForms
 pub mod CountForms
+pub mod TellForms

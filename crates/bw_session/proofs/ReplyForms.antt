@@ -54,9 +54,11 @@ module _ (first : Option (List ℕ)) (log : Log) (p : Part) (found : Option (Lis
       let long : length (finished_from _ log.admitted p.growing.name 0 (take log.done log.admitted))
       ≡ log.done = ap length (sym h.memory.finished) ∙ done in
       let x = kept_at _ log.admitted p.growing.name 0 (take log.done log.admitted) n n d
-      (omega arith) (omega (arith, long, below, done)) in
-      (x.0, sym (at-taken log.admitted log.done n (omega (arith, below, done))) ∙ x.1,
-      ap (λ (ys : List (List ℕ × Verdict)). slice_index_or ys n d) h.memory.finished ∙ x.2)
+      (omega arith) (omega (arith, long, below, done)) in (
+        x.0,
+        sym (at-taken log.admitted log.done n (omega (arith, below, done))) ∙ x.1,
+        ap (λ (ys : List (List ℕ × Verdict)). slice_index_or ys n d) h.memory.finished ∙ x.2,
+      )
 
   -- whether it is the digest of a message's body tells whether the message repeats it
   pub repeat_done : (n : ℕ) (m : Message) (digest : List ℕ) (answer : Bool) → n < length p.outcomes →

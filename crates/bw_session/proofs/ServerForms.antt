@@ -1,5 +1,5 @@
 -- A server's sessions, and the book that it holds.
-use Rattle.std.proofs.Common.{◌≡◌, ◌≢◌, ℕ, zero, suc, ◌+◌, ◌<◌, ◌≤◌, Bool, true, false, cond, List, [], ◌∷◌, length, map, arith}
+use Rattle.std.proofs.Common.{◌≡◌, ◌≢◌, ℕ, ◌+◌, ◌<◌, ◌≤◌, Bool, true, false, cond, List, length, map, arith}
 use Rattle.std.proofs.Common.{lt-ltb}
 use Rattle.std.proofs.Common.{Option, Some, None, refl, sym, ◌∙◌, ap, subst, ◌⊎◌, inl, inr}
 use Rattle.std.specs.Prelude.{Result, Ok, Err, IsOk, IfOk, OnOk, IsTrue, IsSome, is_some, option_map, unwrap_or}
@@ -8,7 +8,6 @@ use Rattle.std.specs.Str.{bytes_eq}
 use Rattle.std.proofs.lemmas.Bool.{lt-leb, le-leb}
 use Rattle.std.specs.HashMap.{hash_map_len, spare}
 use Rattle.bw_model.specs.Wire.{Message, Says, Second, is_message}
-use Rattle.bw_model.specs.Take.{Parts, Verdict}
 use Rattle.bw_model.specs.Bytes.{at}
 use Rattle.bw_model.specs.Book.{Log, Book, log_of, is_known, with_log, made}
 use Rattle.bw_model.specs.BookRules.{IsBook}
@@ -21,10 +20,9 @@ use Rattle.bw_model.proofs.BookLaws.{turns_keep_books}
 use Rattle.bw_model.specs.Holds.{Store, Kept, Holds, HoldsName, HasFile}
 use Rattle.bw_model.proofs.BookLemmas.{same_name, name_refl, log-with_log_same, log-with_log_other}
 use Rattle.bw_model.proofs.BookLemmas.{known-with_log_same, known-with_log_other, unknown_log}
-use Rattle.bw_file.specs.Growing.{Growing}
 use Rattle.bw_file.specs.Stores.{KeepsOthers}
-use Rattle.bw_session.specs.Draining.{HoldsPart, NameStands, kept_as}
-use Rattle.bw_session.specs.Sessions.{Part, HoldsLog, part_of}
+use Rattle.bw_session.specs.Draining.{NameStands}
+use Rattle.bw_session.specs.Sessions.{HoldsLog, part_of}
 use Rattle.bw_wire.specs.declared.reply.Reply.{Reply}
 use Rattle.bw_wire.specs.Replies.{reply_of}
 use Rattle.bw_session.specs.Serving.{Answers}
@@ -244,15 +242,18 @@ module _ (limit : ℕ) (store store' : Store) (sessions sessions' : List ℕ →
       (with_change book m.name (turn_by (is_some (store.first m.name)) (is_known book m.name) (is_full book)
       (log_of book m.name) m a.luck).1)
   unfolding turn
-  book_turned before after replies sets same_first keeps named limited a some = (record {
-    luck = a.luck;
-    answered = a.answered;
-    left = refl;
-    room = a.room;
-    count = a.count;
-    stop = a.whole;
-  }, go (turn_by (is_some (store.first m.name)) (is_known book m.name) (is_full book) (log_of book m.name) m a.luck).1
-    a.left some (turns_keep_books (λ n. is_some (store.first n)) book (Says m) a.luck said h.is_book))
+  book_turned before after replies sets same_first keeps named limited a some = (
+    record {
+      luck = a.luck;
+      answered = a.answered;
+      left = refl;
+      room = a.room;
+      count = a.count;
+      stop = a.whole;
+    },
+    go (turn_by (is_some (store.first m.name)) (is_known book m.name) (is_full book) (log_of book m.name) m a.luck).1
+        a.left some (turns_keep_books (λ n. is_some (store.first n)) book (Says m) a.luck said h.is_book),
+  )
     where
       go : (o : Option Log) →
           HoldsLog (store.first m.name) (unwrap_or o (log_of book m.name)) (part_of s) (store'.contents m.name) →

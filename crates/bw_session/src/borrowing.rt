@@ -84,8 +84,7 @@ impl Session {
                 Ok(Ok(verdict))
             }
             Err(fault) => {
-                self.window
-                    .put(0, HeldBody::copy_to(room, message, digest));
+                self.window.put(0, HeldBody::copy_to(room, message, digest));
                 Ok(Err(fault))
             }
         }

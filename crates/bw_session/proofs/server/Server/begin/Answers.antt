@@ -1,12 +1,12 @@
-use Rattle.std.proofs.Common.{rules, ◌≡◌, ◌+◌, ◌<◌, ◌≤◌, ℕ, List, [], Option, None, Some, Bool, true, false, cond, not, ◌&&◌, length}
+use Rattle.std.proofs.Common.{◌≡◌, ◌<◌, ℕ, List, Option, None, Some, Bool, cond, not, ◌&&◌, length}
 use Rattle.std.proofs.Common.{refl, sym, ◌∙◌, ap, subst, arith, inl, inr}
-use Rattle.std.specs.Prelude.{IsOk, is_some, nat_le}
+use Rattle.std.specs.Prelude.{nat_le}
 use Rattle.std.specs.Option.{option_map_or}
 use Rattle.std.specs.Str.{bytes_eq}
-use Rattle.std.specs.HashMap.{hash_map_len, spare}
+use Rattle.std.specs.HashMap.{spare}
 use Rattle.std.proofs.lemmas.Bool.{lt-leb}
 use Rattle.bw_model.specs.Wire.{Message}
-use Rattle.bw_model.specs.Book.{Log, Book, no_log, log_of, is_known}
+use Rattle.bw_model.specs.Book.{Log, no_log, log_of, is_known}
 use Rattle.bw_model.specs.Turn.{is_full, window, most_takes}
 use Rattle.bw_model.proofs.BookLemmas.{unknown_log, name_refl}
 use Rattle.bw_file.specs.Growing.{Growing}
@@ -15,10 +15,10 @@ use Rattle.bw_wire.specs.Frames.{message_of}
 use Rattle.bw_wire.proofs.BodyLaws.{message_spelled}
 use Rattle.bw_session.specs.Sessions.{CallsFew, HoldsLog, part_of}
 use Rattle.bw_session.specs.Serving.{Serves}
-use Rattle.bw_session.specs.Servers.{kept_by, store_since, done_in}
+use Rattle.bw_session.specs.Servers.{store_since, done_in}
 use Rattle.bw_session.specs.Numbered.{KeepsBoth, failed_calls}
 use Rattle.bw_session.specs.declared.session.Session.{Session}
-use Rattle.bw_session.specs.Books.{HoldsBook, failures_of}
+use Rattle.bw_session.specs.Books.{failures_of}
 use Rattle.bw_session.specs.Tables.{session_in}
 use Rattle.bw_session.proofs.ServerForms.{table_set, book_turned, inserted, one_more, unknown_here}
 use Rattle.bw_session.proofs.AnswerForms.{answers_served, answers_known}
@@ -60,8 +60,7 @@ returns-clause-both g c =
     ∙ ap (λ (v : Bool). cond v (Some c.serve.new.self) (session_in c.args.self.now.sessions c.args.name.now))
     (name_refl c.args.name.now) in
     let now : done_in c.insert.new.self c.args.name.now ≡ length c.serve.new.self.progress.ledger.outcomes =
-    ap (λ (o : Option Session). option_map_or (λ x. length x.progress.ledger.outcomes) o 0) here in
-    (
+    ap (λ (o : Option Session). option_map_or (λ x. length x.progress.ledger.outcomes) o 0) here in (
       both.0,
       subst (λ (n : List ℕ). KeepsBoth g.S.TakeStore g.J.Journal both.0 n c.args.self.now.stores.store
           c.serve.new.stores.store c.args.self.now.stores.journal c.serve.new.stores.journal) owner both.1,

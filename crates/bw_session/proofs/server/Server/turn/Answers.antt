@@ -1,10 +1,10 @@
-use Rattle.std.proofs.Common.{rules, ◌≡◌, ◌+◌, ◌≤◌, ℕ, List, Option, Some, true, false, Bool, cond, length, refl, sym, ◌∙◌, ap, subst, inr}
+use Rattle.std.proofs.Common.{◌≡◌, ◌+◌, ◌≤◌, ℕ, List, Option, Some, true, false, Bool, cond, length, refl, sym, ◌∙◌, ap, subst, inr}
 use Rattle.std.specs.Prelude.{is_some}
 use Rattle.std.specs.Str.{bytes_eq}
 use Rattle.std.specs.Option.{option_map_or}
 use Rattle.std.specs.HashMap.{hash_map_len, spare}
 use Rattle.bw_model.specs.Wire.{Message}
-use Rattle.bw_model.specs.Book.{log_of, is_known}
+use Rattle.bw_model.specs.Book.{log_of}
 use Rattle.bw_model.specs.Turn.{is_full, most_takes}
 use Rattle.bw_model.specs.Holds.{Holds}
 use Rattle.bw_model.proofs.BookLemmas.{name_refl}
@@ -69,8 +69,7 @@ returns-in-Some-clause-both g c =
     ap (λ (o : Option Session). option_map_or (λ x. length x.progress.ledger.outcomes) o 0) found in
     let after : done_in (c.get_mut.follows.lender c.answer.new.self) m.name
     ≡ length c.answer.new.self.progress.ledger.outcomes =
-    ap (λ (o : Option Session). option_map_or (λ x. length x.progress.ledger.outcomes) o 0) here in
-    (
+    ap (λ (o : Option Session). option_map_or (λ x. length x.progress.ledger.outcomes) o 0) here in (
       both.0,
       subst (λ (n : List ℕ). KeepsBoth g.S.TakeStore g.J.Journal both.0 n c.args.self.now.stores.store
           c.answer.new.stores.store c.args.self.now.stores.journal c.answer.new.stores.journal) named both.1,

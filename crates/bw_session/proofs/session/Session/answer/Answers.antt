@@ -1,12 +1,10 @@
-use Rattle.std.proofs.Common.{rules, ◌≡◌, ◌++◌, ℕ, List, [], ◌∷◌, Option, true, false, length, map, refl, sym, ◌∙◌, ap, subst}
+use Rattle.std.proofs.Common.{◌≡◌, ◌++◌, ℕ, List, [], ◌∷◌, true, false, length, map, refl, sym, ◌∙◌, ap, subst}
 use Rattle.bw_model.specs.Wire.{Message}
 use Rattle.bw_model.specs.Replies as model
 use Rattle.bw_model.specs.Turn.{notice}
-use Rattle.bw_file.specs.declared.store.TakeStore.{Ghosts as StoreGhosts}
 use Rattle.bw_wire.specs.Frames.{message_of}
 use Rattle.bw_wire.specs.Replies.{reply_of}
 use Rattle.bw_wire.specs.declared.reply.Reply.{Reply}
-use Rattle.bw_session.specs.Draining.{HoldsPart}
 use Rattle.bw_session.specs.Numbered.{failed_calls}
 use Rattle.bw_session.specs.Sessions.{part_of}
 use Rattle.bw_session.specs.Serving.{Answers}
