@@ -1,14 +1,15 @@
 -- A message's turn, from what serving it leaves.
-use Rattle.std.proofs.Common.{◌≡◌, ℕ, Bool, true, false, not, ◌&&◌, List, map}
-use Rattle.std.proofs.Common.{Option, Some, None, refl, sym, ◌∙◌, ap, subst}
+use Rattle.std.proofs.Common.{◌∷◌, [], ◌≡◌, ℕ, Bool, true, false, not, ◌&&◌, List, map}
+use Rattle.std.proofs.Common.{Option, Some, None, refl, sym, ◌∙◌, ap, subst, arith}
 use Rattle.std.specs.Prelude.{is_some, nat_le, unwrap_or}
+use Rattle.std.specs.List.{All}
 use Rattle.std.specs.Option.{option_map_or}
 use Rattle.bw_model.specs.Counts.{Counts}
 use Rattle.bw_model.specs.Wire.{Message}
-use Rattle.bw_model.specs.Replies.{Reply as ModelReply, NoRoom}
+use Rattle.bw_model.specs.Replies.{Reply as ModelReply, NoRoom, Judged, Noticed, Refused}
 use Rattle.bw_model.specs.Book.{Log}
 use Rattle.bw_model.specs.CountedTurn.{is_pending}
-use Rattle.bw_model.specs.Turn.{Luck, served, turn_by, is_admissible, notice, window}
+use Rattle.bw_model.specs.Turn.{Luck, served, turn_by, is_admissible, notice, window, is_turned_away}
 use Rattle.bw_model.specs.Take.{Parts, Verdict}
 use Rattle.bw_file.specs.Growing.{Growing}
 use Rattle.bw_wire.specs.declared.reply.Reply.{Reply}
@@ -16,6 +17,7 @@ use Rattle.bw_wire.specs.Replies.{reply_of}
 use Rattle.bw_session.specs.Draining.{HoldsPart}
 use Rattle.bw_session.specs.Sessions.{Part, HoldsLog, KeepsProgress, part_of}
 use Rattle.bw_session.specs.declared.session.Session.{Session}
+use Rattle.bw_session.specs.Telling.{IsServing}
 use Rattle.bw_session.specs.Serving.{Serves, Answers}
 
 and_no : (b : Bool) → (b && false) ≡ false
@@ -120,3 +122,19 @@ answers_full full first log m before after replies p found a = record {
   where
     same : (luck : Luck) → turn_by (is_some first) true full log m luck ≡ turn_by (is_some first) true false log m luck
     same luck = refl
+
+same_head : (x : ModelReply) (rs : List ModelReply) → is_turned_away (x ∷ rs) ≡ is_turned_away (x ∷ [])
+same_head (Judged name n v) rs = refl
+same_head (Noticed name n code next) rs = refl
+same_head (Refused reason place) rs = refl
+
+-- a message that is served isn't turned away
+none_away : (out : List Reply) → All IsServing out → is_turned_away (map reply_of out) ≡ false
+none_away [] all = refl
+none_away (r ∷ rs) all = same_head (reply_of r) (map reply_of rs) ∙ (all 0 r (omega arith)).served
+
+pub served_here : {P : Type 0} (out : List Reply) → All IsServing out → is_turned_away (map reply_of out) ≡ true → P
+served_here out all away = no_true (sym (none_away out all) ∙ away)
+  where
+    no_true : {P : Type 0} → false ≡ true → P
+    no_true e = cc

@@ -6,6 +6,7 @@ mod body;
 mod borrowing;
 mod carrying;
 mod draining;
+pub mod laws;
 mod ledger;
 mod numbering;
 mod replying;

@@ -1,11 +1,11 @@
 //! A server: what it keeps of each name, over a store and its journal.
 ghost use Rattle.std.specs.Prelude.{◌≡◌, ◌<◌, ◌≤◌, ℕ, List, [], Option, None, Bool, IsTrue, OnOk};
-ghost use Rattle.std.specs.Prelude.{OnErr, IfOk, IfErr, length, option_map, is_some, vec_capacity, IfSome, ◌+◌};
+ghost use Rattle.std.specs.Prelude.{OnErr, IfOk, IfErr, length, option_map, is_some, map, vec_capacity, IfSome, ◌+◌};
 ghost use Rattle.std.specs.Prelude.{◌*◌, ◌&&◌};
 ghost use Rattle.std.specs.List.{All};
 ghost use Rattle.std.specs.HashMap.{hash_map_len, spare, IsUnique};
 ghost use Rattle.std.specs.Str.{bytes_eq};
-ghost use Rattle.bw_model.specs.Turn.{most_takes, window, notice as refusal};
+ghost use Rattle.bw_model.specs.Turn.{most_takes, window, is_turned_away, notice as refusal};
 ghost use Rattle.bw_model.specs.Wire.{Says, Second, last_number};
 ghost use Rattle.bw_model.specs.CountedTurn.{IsTurn};
 ghost use Rattle.bw_wire.specs.Notices.{notice_meaning};
@@ -19,6 +19,7 @@ ghost use Rattle.bw_session.specs.Numbered.{KeepsBoth};
 ghost use Rattle.bw_session.specs.Sessions.{CallsFew};
 ghost use Rattle.bw_session.specs.Servers.{done_in};
 ghost use Rattle.bw_session.specs.Tables.{IsTable, session_in};
+ghost use Rattle.bw_session.specs.Telling.{IsServing};
 
 use crate::numbering::Stores;
 use crate::session::Session;
@@ -108,6 +109,9 @@ impl<S: TakeStore, J: Journal> Server<S, J> {
     pub fn turn(&mut self, message: &Message<'_>, out: &mut ArrayVec<Reply, 17>)
         ensures few { length out.new.items ≤ 17 }
         ensures numbers { All HasWireNumbers out.new.items }
+        ensures uncalled { IsTrue (is_turned_away (map reply_of out.new.items)) →
+            (self.new.stores.store ≡ self.old.stores.store)
+            × (self.new.stores.journal ≡ self.old.stores.journal) }
         ensures both { (stopped : Bool) × KeepsBoth S.TakeStore J.Journal stopped
             (message_of message.now).name self.old.stores.store self.new.stores.store
             self.old.stores.journal self.new.stores.journal
@@ -136,6 +140,9 @@ impl<S: TakeStore, J: Journal> Server<S, J> {
         requires fresh { session_in self.old.sessions name ≡ None }
         ensures few { length out.new.items ≤ 17 }
         ensures numbers { All HasWireNumbers out.new.items }
+        ensures uncalled { IsTrue (is_turned_away (map reply_of out.new.items)) →
+            (self.new.stores.store ≡ self.old.stores.store)
+            × (self.new.stores.journal ≡ self.old.stores.journal) }
         ensures both { (stopped : Bool) × KeepsBoth S.TakeStore J.Journal stopped
             (message_of message.now).name self.old.stores.store self.new.stores.store
             self.old.stores.journal self.new.stores.journal
@@ -173,7 +180,7 @@ impl<S: TakeStore, J: Journal> Server<S, J> {
         requires empty { out.old.items ≡ [] }
         requires fresh { session_in self.old.sessions name.now ≡ None }
         ensures few { length out.new.items ≤ 17 }
-        ensures numbers { All HasWireNumbers out.new.items }
+        ensures told { All IsServing out.new.items }
         ensures both { (stopped : Bool) × KeepsBoth S.TakeStore J.Journal stopped
             (message_of message.now).name self.old.stores.store self.new.stores.store
             self.old.stores.journal self.new.stores.journal
@@ -226,7 +233,7 @@ impl<S: TakeStore, J: Journal> Server<S, J> {
         requires unique { IsUnique bytes_eq self.old.sessions }
         requires near { (message_of message.now).number < window }
         ensures few { length out.new.items ≤ 17 }
-        ensures numbers { All HasWireNumbers out.new.items }
+        ensures told { All IsServing out.new.items }
         ensures both { (stopped : Bool) × KeepsBoth S.TakeStore J.Journal stopped name.now
             self.old.stores.store self.new.stores.store
             self.old.stores.journal self.new.stores.journal

@@ -8,7 +8,7 @@ use Rattle.bw_wire.specs.declared.reply.Reply.{Reply}
 use Rattle.bw_session.specs.Numbered.{failed_calls}
 use Rattle.bw_session.specs.Sessions.{part_of}
 use Rattle.bw_session.specs.Serving.{Answers}
-use Rattle.bw_session.proofs.AnswerForms.{answers_served, answers_refused, same_part}
+use Rattle.bw_session.proofs.AnswerForms.{answers_served, answers_refused, same_part, served_here}
 use Rattle.bw_session.proofs.session.Session.answer.Goals as goal
 
 pub returns-in_default-clause-answers : goal.returns-in_default-clause-answers
@@ -37,3 +37,6 @@ returns-in-Err-clause-answers g c = λ honest first log h.
     (answers_refused true false first log m refl refl before c.push.new.self.items (part_of c.serve.new.self) _
     (e.refused first log _ h) told
     (same_part first log c.args.self.now c.serve.new.self _ e.progress e.window h)))
+
+pub returns-in_default-clause-uncalled : goal.returns-in_default-clause-uncalled
+returns-in_default-clause-uncalled g c = λ away. served_here c.serve.new.out.items c.in_default.ensures.told away
