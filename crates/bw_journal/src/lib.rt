@@ -18,5 +18,5 @@ pub use fuse::FuseJournal;
 pub use header::JournalHeader;
 pub use journal::{Journal, NoJournal};
 pub use memory::MemoryJournal;
-pub use reader::{Replayed, replay};
+pub use reader::{ENTRY_MAX, Replayed, replay};
 pub use writer::put_entry;

@@ -24,8 +24,8 @@ use bw_layout::Limit;
 use bw_take::{TakeState, judge};
 use std::alloc::{AllocError, Global};
 
-/// An entry has at most so many bytes.
-const ENTRY_MAX: usize = 4150;
+/// A sealed entry has at most so many bytes.
+pub const ENTRY_MAX: usize = 4150;
 
 /// What a journal tells of a take.
 #[derive(Drop)]

@@ -14,3 +14,7 @@ pub mod RunForms
 pub mod ReplyForms
 pub mod NextForms
 pub mod ServeForms
+pub mod AnswerForms
+pub mod ServerForms
+pub mod CountForms
+pub mod TellForms

@@ -10,5 +10,9 @@ pub mod Noting
 pub mod Draining
 pub mod Admitting
 pub mod Sessions
+pub mod Telling
 pub mod Runs
 pub mod Serving
+pub mod Tables
+pub mod Servers
+pub mod Books

@@ -1,10 +1,13 @@
 -- A message of a name that a session is kept of.
-use Rattle.std.specs.Prelude.{◌≡◌, ℕ, IsFalse, Option, None, is_some, List, map}
+use Rattle.std.specs.Prelude.{◌≡◌, ℕ, Bool, false, IsTrue, IsFalse, Option, None, is_some}
+use Rattle.std.specs.Prelude.{unwrap_or, List, map}
+use Rattle.std.specs.Option.{option_map_or}
 use Rattle.bw_model.specs.Counts.{Counts}
 use Rattle.bw_model.specs.Wire.{Message}
+use Rattle.bw_model.specs.Replies.{NoRoom}
 use Rattle.bw_model.specs.Book.{Log}
 use Rattle.bw_model.specs.CountedTurn.{is_pending}
-use Rattle.bw_model.specs.Turn.{served, admitted_after}
+use Rattle.bw_model.specs.Turn.{Luck, served, turn_by, admitted_after, is_admissible, notice}
 use Rattle.bw_wire.specs.declared.reply.Reply.{Reply}
 use Rattle.bw_wire.specs.Replies.{reply_of}
 use Rattle.bw_session.specs.Sessions.{Part, HoldsLog}
@@ -22,3 +25,18 @@ pub record Serves (first : Option (List ℕ)) (log : Log) (m : Message) (before 
   pub left : HoldsLog first (served (is_some first) log m stop).1 p found
   pub count : Counts before after (is_pending (served (is_some first) log m stop).1)
   pub whole : IsFalse (is_pending (served (is_some first) log m stop).1) → stop ≡ None
+
+-- The message is turned as the definitions turn it, under some luck: a growth is refused only where
+-- NoRoom is the answer, and a failure is counted exactly where draining stops short.
+pub record Answers (known full : Bool) (first : Option (List ℕ)) (log : Log) (m : Message)
+    (before after : ℕ) (replies : List Reply) (p : Part) (found : Option (List ℕ)) : Type 0 where
+  pub luck : Luck
+  pub answered : (turn_by (is_some first) known full log m luck).0 ≡ map reply_of replies
+  pub left : HoldsLog first (unwrap_or (turn_by (is_some first) known full log m luck).1 log) p found
+  pub room : IsTrue luck.refused →
+      IsTrue (is_admissible log m.number) × (map reply_of replies ≡ notice m NoRoom log.done)
+  pub count : Counts before after
+      (option_map_or is_pending (turn_by (is_some first) known full log m luck).1 false)
+  pub whole : IsFalse
+      (option_map_or is_pending (turn_by (is_some first) known full log m luck).1 false) →
+      luck.stop ≡ None

@@ -84,7 +84,7 @@ pub(crate) fn drain_one<S: TakeStore, J: Journal>(
 }
 
 impl Session {
-    ghost use Rattle.bw_wire.specs.Replies.{HasWireNumbers};
+    ghost use Rattle.bw_session.specs.Telling.{IsServing};
     ghost use Rattle.bw_session.specs.Sessions.{CallsFew, KeepsTake, part_of};
     ghost use Rattle.bw_session.specs.Runs.{with_more_done, HasDrained, EndsDraining};
 
@@ -103,7 +103,7 @@ impl Session {
             result }
         ensures take { KeepsTake self.old self.new }
         ensures few { length out.new.items ≤ 16 }
-        ensures numbers { All HasWireNumbers out.old.items → All HasWireNumbers out.new.items }
+        ensures served { All IsServing out.old.items → All IsServing out.new.items }
         ensures drained { IsTrue (S.honest stores.old.store) →
             (first : Option (List ℕ)) (log : Log) →
             HasDrained first log out.old.items (part_of self.old)

@@ -6,11 +6,15 @@ mod body;
 mod borrowing;
 mod carrying;
 mod draining;
+pub mod laws;
 mod ledger;
 mod numbering;
 mod replying;
+mod server;
 mod serving;
 mod session;
 mod settling;
 mod window;
 mod writing;
+
+pub use server::Server;

@@ -17,6 +17,7 @@ use bw_wire::{Message, Notice, Reply};
 impl Session {
     ghost use Rattle.bw_session.specs.Sessions.{HoldsLog, part_of};
     ghost use Rattle.bw_session.specs.Runs.{EndsDraining};
+    ghost use Rattle.bw_session.specs.Telling.{IsServing};
 
     /// The reply to a message whose number is in the window or below it, once the numbers from
     /// `done` on were drained: none where its own was among them.
@@ -33,9 +34,10 @@ impl Session {
             (found : Option (List ℕ)) → EndsDraining first log stopped drained (part_of self.now) found →
             log.done ≡ done → (message_of message.now).number < done + window →
             option_to_list (option_map reply_of result)
-            ≡ own_reply (is_some first) log.admitted done (length self.now.progress.ledger.outcomes)
-            (run_end log.admitted done) (message_of message.now) }
-        ensures numbers { IfSome result HasWireNumbers }
+            ≡ own_reply (is_some first) log.admitted done
+            (length self.now.progress.ledger.outcomes) (run_end log.admitted done)
+            (message_of message.now) }
+        ensures served { IfSome result IsServing }
     {
         let number = message.number() as usize;
         if !self.has_admitted(number, digest) {

@@ -1,14 +1,14 @@
 //! A message of a name that a session is kept of: it is admitted, what is held in a row is done,
 //! and its sender is told.
 ghost use Rattle.std.specs.Prelude.{◌≡◌, ◌≤◌, ℕ, List, [], Option, Bool, IsTrue, IfOk, OnOk, OnErr};
-ghost use Rattle.std.specs.Prelude.{is_some, length};
+ghost use Rattle.std.specs.Prelude.{is_some, length, map, true, false};
 ghost use Rattle.std.specs.List.{All};
 ghost use Rattle.sha2.specs.Sha256.{sha256};
 ghost use Rattle.bw_model.specs.Wire.{message_body};
 ghost use Rattle.bw_model.specs.Book.{Log};
-ghost use Rattle.bw_model.specs.Turn.{is_admissible};
+ghost use Rattle.bw_model.specs.Turn.{is_admissible, is_turned_away};
 ghost use Rattle.bw_wire.specs.Frames.{message_of};
-ghost use Rattle.bw_wire.specs.Replies.{HasWireNumbers};
+ghost use Rattle.bw_wire.specs.Replies.{HasWireNumbers, reply_of};
 ghost use Rattle.bw_session.specs.Numbered.{KeepsBoth, failed_calls};
 ghost use Rattle.bw_session.specs.Noting.{IsNoted};
 ghost use Rattle.bw_session.specs.Admitting.{with_message};
@@ -26,7 +26,42 @@ impl Session {
     ghost use Rattle.bw_session.specs.Sessions.{HoldsLog, KeepsProgress, KeepsTake, part_of};
     ghost use Rattle.bw_session.specs.Sessions.{CallsFew};
     ghost use Rattle.bw_session.specs.Runs.{EndsDraining, with_more_done};
-    ghost use Rattle.bw_session.specs.Serving.{Serves, log_after};
+    ghost use Rattle.bw_session.specs.Telling.{IsServing};
+    ghost use Rattle.bw_session.specs.Serving.{Answers, Serves, log_after};
+
+    /// Takes a message of the name, and tells its sender, in `out`, which is empty.
+    pub(crate) fn answer<S: TakeStore, J: Journal>(
+        &mut self,
+        stores: &mut Stores<S, J>,
+        message: &Message<'_>,
+        out: &mut ArrayVec<Reply, 17>,
+    )
+        requires name { (message_of message.now).name ≡ self.old.progress.name }
+        requires empty { out.old.items ≡ [] }
+        ensures both { (stopped : Bool) × KeepsBoth S.TakeStore J.Journal stopped
+            self.old.progress.name stores.old.store stores.new.store
+            stores.old.journal stores.new.journal
+            × CallsFew (S.calls stores.old.store) (S.calls stores.new.store)
+            (length self.old.progress.ledger.outcomes) (length self.new.progress.ledger.outcomes)
+            stopped }
+        ensures take { KeepsTake self.old self.new }
+        ensures few { length out.new.items ≤ 17 }
+        ensures numbers { All HasWireNumbers out.new.items }
+        ensures uncalled { IsTrue (is_turned_away (map reply_of out.new.items)) →
+            (stores.new.store ≡ stores.old.store) × (stores.new.journal ≡ stores.old.journal) }
+        ensures answers { IsTrue (S.honest stores.old.store) →
+            (first : Option (List ℕ)) (log : Log) → HoldsLog first log (part_of self.old)
+            (S.contents stores.old.store self.old.progress.name) →
+            Answers true false first log (message_of message.now)
+            (failed_calls (S.failures stores.old.store) (J.failures stores.old.journal))
+            (failed_calls (S.failures stores.new.store) (J.failures stores.new.journal))
+            out.new.items (part_of self.new)
+            (S.contents stores.new.store self.old.progress.name) }
+    {
+        if let Err(_refused) = self.serve(stores, message, out) {
+            out.push(self.notice(message, Notice::NoRoom));
+        }
+    }
 
     /// Takes a message of the name: what its sender is told is put into `out`, which is empty.
     ///
@@ -49,7 +84,7 @@ impl Session {
             stopped }
         ensures take { KeepsTake self.old self.new }
         ensures few { length out.new.items ≤ 17 }
-        ensures numbers { All HasWireNumbers out.new.items }
+        ensures told { All IsServing out.new.items }
         ensures store { OnErr result (stores.new.store ≡ stores.old.store) }
         ensures journal { OnErr result (stores.new.journal ≡ stores.old.journal) }
         ensures progress { OnErr result (KeepsProgress self.old.progress self.new.progress) }
@@ -116,7 +151,7 @@ impl Session {
             stopped) }
         ensures take { KeepsTake self.old self.new }
         ensures few { length out.new.items ≤ 16 }
-        ensures numbers { All HasWireNumbers out.new.items }
+        ensures told { All IsServing out.new.items }
         ensures store { OnErr result (stores.new.store ≡ stores.old.store) }
         ensures journal { OnErr result (stores.new.journal ≡ stores.old.journal) }
         ensures progress { OnErr result (KeepsProgress self.old.progress self.new.progress) }

@@ -108,7 +108,8 @@ returns-clause-ok c = λ first log found h.
     c.args.self.now.progress.growing found h m slot c.put.new.self c.copy_to.result
     c.make_room.new.self.progress.state.parts c.make_room.new.self.progress.ledger.outcomes
     (c.requires.name ∙ sym c.args.self.now.progress.same_name)
-    (said_request m (message_spelled c.args.message.now.body.now c.args.message.now.spells).fits) place inside within free held c.copy_to.ensures kept.parts kept.outcomes)
+    (said_request m (message_spelled c.args.message.now.body.now c.args.message.now.spells).fits) place inside within
+    free held c.copy_to.ensures kept.parts kept.outcomes)
 
 pub returns-clause-noted : goal.returns-clause-noted
 returns-clause-noted c = λ first log found hd notes h noted.

@@ -4,7 +4,7 @@ use Rattle.std.proofs.lemmas.List.{length_push}
 use Rattle.std.proofs.lemmas.List.Elements.{All-append}
 use Rattle.bw_model.specs.Wire.{Second, last_number}
 use Rattle.bw_file.specs.Growing.{Growing}
-use Rattle.bw_wire.specs.Replies.{HasWireNumbers}
+use Rattle.bw_session.specs.Telling.{IsServing}
 use Rattle.bw_session.specs.Noting.{IsNoted}
 use Rattle.bw_session.specs.Numbered.{with_done}
 use Rattle.bw_session.specs.Runs.{with_more_done}
@@ -53,8 +53,8 @@ loop-slot-preserved g c =
           omega (arith, done, before, now);
       take = search rules;
       few = search rules;
-      numbers = λ all. subst (All HasWireNumbers) (sym c.push.ensures.items)
-          (All-append HasWireNumbers c.loop-slot.out.items _ (c.loop-slot.invariant.numbers all) (search rules));
+      served = λ all. subst (All IsServing) (sym c.push.ensures.items)
+          (All-append IsServing c.loop-slot.out.items _ (c.loop-slot.invariant.served all) (search rules));
       drained = λ honest first log h.
           let loop = c.loop-slot.invariant in
           let drained = loop.drained honest first log h in
@@ -62,7 +62,8 @@ loop-slot-preserved g c =
           (with_more_done log (length c.loop-slot.out.items))
           (holds_under first _ _ (g.S.TakeStore.contents c.loop-slot.stores.store) _ _ (sym loop.take.name)
           drained.left) in
-          drained_push first log c.loop-slot.out.items _ _ c.in-Done.verdict c.push.new.self.items c.loop-slot.self.progress.growing.name _ _
+          drained_push first log c.loop-slot.out.items _ _ c.in-Done.verdict c.push.new.self.items
+          c.loop-slot.self.progress.growing.name _ _
           c.push.ensures.items (ap (λ (x : Growing). x.name) c.in-Done.ensures.known)
           (c.copy.ensures ∙ c.in-Done.ensures.name ∙ sym c.loop-slot.self.progress.same_name)
           (let count = c.len-number.ensures.value in let done = drained.left.memory.done in

@@ -1,0 +1,121 @@
+use Rattle.std.proofs.Common.{◌≡◌, ◌<◌, ℕ, List, Option, None, Some, Bool, cond, not, ◌&&◌, length}
+use Rattle.std.proofs.Common.{refl, sym, ◌∙◌, ap, subst, arith, inl, inr}
+use Rattle.std.specs.Prelude.{nat_le}
+use Rattle.std.specs.Option.{option_map_or}
+use Rattle.std.specs.Str.{bytes_eq}
+use Rattle.std.specs.HashMap.{spare}
+use Rattle.std.proofs.lemmas.Bool.{lt-leb}
+use Rattle.bw_model.specs.Wire.{Message}
+use Rattle.bw_model.specs.Book.{Log, no_log, log_of, is_known}
+use Rattle.bw_model.specs.Turn.{is_full, window, most_takes}
+use Rattle.bw_model.proofs.BookLemmas.{unknown_log, name_refl}
+use Rattle.bw_file.specs.Growing.{Growing}
+use Rattle.bw_file.specs.Stores.{KeepsOthers}
+use Rattle.bw_wire.specs.Frames.{message_of}
+use Rattle.bw_wire.proofs.BodyLaws.{message_spelled}
+use Rattle.bw_session.specs.Sessions.{CallsFew, HoldsLog, part_of}
+use Rattle.bw_session.specs.Serving.{Serves}
+use Rattle.bw_session.specs.Servers.{store_since, done_in}
+use Rattle.bw_session.specs.Numbered.{KeepsBoth, failed_calls}
+use Rattle.bw_session.specs.declared.session.Session.{Session}
+use Rattle.bw_session.specs.Books.{failures_of}
+use Rattle.bw_session.specs.Tables.{session_in}
+use Rattle.bw_session.proofs.ServerForms.{table_set, book_turned, inserted, one_more, unknown_here}
+use Rattle.bw_session.proofs.AnswerForms.{answers_served, answers_known}
+use Rattle.bw_session.proofs.CountForms.{counted}
+use Rattle.bw_session.proofs.server.Server.begin.Goals as goal
+
+pub invariant_of-self-2 : goal.invariant_of-self-2
+invariant_of-self-2 g c =
+    let table = c.args.self.now.table in
+    let before = table.room in
+    let place = c.requires.place in
+    let room : 0 < spare c.args.self.now.sessions = omega (arith, before, place) in
+    let ok = c.insert.ensures.succeeds room in
+    let take = c.in_ok-serve.ensures.take in
+    let less = c.insert.ensures.spare in
+    let one = one_more c.insert.result ok _ _ _ c.insert.ensures.old
+    (subst (λ (n : List ℕ). session_in c.args.self.now.sessions n ≡ None) (sym c.copy-2.ensures)
+    c.requires.fresh) c.insert.ensures.len in
+    record {
+      table = table_set c.args.self.now.sessions c.insert.new.self c.args.self.now.limit c.args.name.now
+          c.serve.new.self table (omega (arith, one, place)) (omega (arith, one, before, less))
+          (subst (λ (k : List ℕ). (n : List ℕ) → session_in c.insert.new.self n
+          ≡ cond (bytes_eq k n) (Some c.serve.new.self) (session_in c.args.self.now.sessions n)) c.copy-2.ensures
+          (inserted c.insert.result ok c.insert.ensures.updates).0)
+          (take.name ∙ c.in_ok-session.ensures.name ∙ c.copy.ensures)
+          (ap (λ (x : Growing). x.limit) (take.growing) ∙ ap (λ (x : Growing). x.limit) c.in_ok-session.ensures.growing);
+    }
+
+pub returns-clause-both : goal.returns-clause-both
+returns-clause-both g c =
+    let both = c.in_ok-serve.ensures.both in
+    let owner = c.in_ok-session.ensures.name ∙ c.copy.ensures in
+    let none : length c.in_ok-session.session.progress.ledger.outcomes ≡ 0 =
+    (c.in_ok-session.ensures.holds None).memory.done in
+    let here : session_in c.insert.new.self c.args.name.now ≡ Some c.serve.new.self =
+    subst (λ (k : List ℕ). (n : List ℕ) → session_in c.insert.new.self n
+    ≡ cond (bytes_eq k n) (Some c.serve.new.self) (session_in c.args.self.now.sessions n)) c.copy-2.ensures
+    c.in-Ok.ensures.updates.0 c.args.name.now
+    ∙ ap (λ (v : Bool). cond v (Some c.serve.new.self) (session_in c.args.self.now.sessions c.args.name.now))
+    (name_refl c.args.name.now) in
+    let now : done_in c.insert.new.self c.args.name.now ≡ length c.serve.new.self.progress.ledger.outcomes =
+    ap (λ (o : Option Session). option_map_or (λ x. length x.progress.ledger.outcomes) o 0) here in (
+      both.0,
+      subst (λ (n : List ℕ). KeepsBoth g.S.TakeStore g.J.Journal both.0 n c.args.self.now.stores.store
+          c.serve.new.stores.store c.args.self.now.stores.journal c.serve.new.stores.journal) owner both.1,
+      subst (λ (k : ℕ). CallsFew (g.S.TakeStore.calls c.args.self.now.stores.store)
+          (g.S.TakeStore.calls c.serve.new.stores.store) 0 k both.0) (sym now)
+          (subst (λ (k : ℕ). CallsFew (g.S.TakeStore.calls c.args.self.now.stores.store)
+          (g.S.TakeStore.calls c.serve.new.stores.store) k (length c.serve.new.self.progress.ledger.outcomes) both.0)
+          none both.2),
+    )
+
+pub returns-clause-turned : goal.returns-clause-turned
+returns-clause-turned g c = λ honest first book h.
+    let m : Message = message_of c.args.message.now in
+    let said = message_spelled c.args.message.now.body.now c.args.message.now.spells in
+    let s : Session = c.serve.new.self in
+    let take = c.in_ok-serve.ensures.take in
+    let both = c.in_ok-serve.ensures.both in
+    let owner : c.in_ok-session.session.progress.name ≡ m.name =
+    c.in_ok-session.ensures.name ∙ c.copy.ensures ∙ sym c.requires.name in
+    let fresh = subst (λ (n : List ℕ). session_in c.args.self.now.sessions n ≡ None) (sym c.requires.name)
+    c.requires.fresh in
+    let unknown = unknown_here c.args.self.now.limit (store_since g.S.TakeStore first c.args.self.now.stores.store)
+    (session_in c.args.self.now.sessions) book h honest m.name fresh in
+    let nothing = h.others honest m.name (inr unknown) in
+    let served = c.in_ok-serve.ensures.served honest (first m.name) no_log
+    (subst (λ (o : Option (List ℕ)). HoldsLog (first m.name) no_log (part_of c.in_ok-session.session) o)
+    (sym (ap (g.S.TakeStore.contents c.args.self.now.stores.store) owner ∙ nothing))
+    (c.in_ok-session.ensures.holds (first m.name))) in
+    let after : ℕ = failed_calls (g.S.TakeStore.failures c.serve.new.stores.store)
+    (g.J.Journal.failures c.serve.new.stores.journal) in
+    let here = subst (λ (n : List ℕ). Serves (first m.name) no_log m (failures_of g.S.TakeStore g.J.Journal c.args.self.now)
+    after c.serve.new.out.items (part_of s) (g.S.TakeStore.contents c.serve.new.stores.store n)) owner served in
+    let there = subst (λ (l : Log). Serves (first m.name) l m (failures_of g.S.TakeStore g.J.Journal c.args.self.now)
+    after c.serve.new.out.items (part_of s) (g.S.TakeStore.contents c.serve.new.stores.store m.name))
+    (sym (unknown_log book m.name unknown)) here in
+    let count = counted c.args.self.now.sessions book c.requires.unique h.is_book c.args.self.now.table.few h.names in
+    let place = c.requires.place in
+    let near = ap (λ (k : Bool). not k && nat_le window m.number) unknown ∙ lt-leb window m.number c.requires.near in
+    let fits = ap (λ (k : Bool). not k && is_full book) unknown
+    ∙ lt-leb most_takes (length book) (omega (arith, count, place)) in
+    let sets = subst (λ (k : List ℕ). (n : List ℕ) → session_in c.insert.new.self n
+    ≡ cond (bytes_eq k n) (Some s) (session_in c.args.self.now.sessions n)) (c.copy-2.ensures ∙ sym c.requires.name)
+    c.in-Ok.ensures.updates.0 in
+    let others = subst (λ (n : List ℕ). KeepsOthers (g.S.TakeStore.contents c.args.self.now.stores.store)
+    (g.S.TakeStore.contents c.serve.new.stores.store) n) owner (both.1.others honest) in
+    let turned = book_turned c.args.self.now.limit (store_since g.S.TakeStore first c.args.self.now.stores.store)
+    (store_since g.S.TakeStore first c.serve.new.stores.store) (session_in c.args.self.now.sessions)
+    (session_in c.insert.new.self) book h honest m said.fits s
+    (failures_of g.S.TakeStore g.J.Journal c.args.self.now) after c.serve.new.out.items sets refl others
+    (ap (λ (x : Growing). x.name) take.growing ∙ c.in_ok-session.session.progress.same_name ∙ owner)
+    (ap (λ (x : Growing). x.limit) take.growing ∙ ap (λ (x : Growing). x.limit) c.in_ok-session.ensures.growing)
+    (answers_served (is_known book m.name) (is_full book) (first m.name) (log_of book m.name) m near fits
+    (failures_of g.S.TakeStore g.J.Journal c.args.self.now) after c.serve.new.out.items (part_of s)
+    (g.S.TakeStore.contents c.serve.new.stores.store m.name) there)
+    (inl (answers_known (is_known book m.name) (is_full book) (first m.name) (log_of book m.name) m near fits
+    (failures_of g.S.TakeStore g.J.Journal c.args.self.now) after c.serve.new.out.items (part_of s)
+    (g.S.TakeStore.contents c.serve.new.stores.store m.name) there)) in
+    record { later = _; turned = turned.0; held = turned.1 }

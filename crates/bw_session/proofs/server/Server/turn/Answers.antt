@@ -1,0 +1,132 @@
+use Rattle.std.proofs.Common.{◌≡◌, ◌+◌, ◌≤◌, ℕ, List, Option, Some, true, false, Bool, cond, length, refl, sym, ◌∙◌, ap, subst, inr}
+use Rattle.std.specs.Prelude.{is_some}
+use Rattle.std.specs.Str.{bytes_eq}
+use Rattle.std.specs.Option.{option_map_or}
+use Rattle.std.specs.HashMap.{hash_map_len, spare}
+use Rattle.bw_model.specs.Wire.{Message}
+use Rattle.bw_model.specs.Book.{log_of}
+use Rattle.bw_model.specs.Turn.{is_full, most_takes}
+use Rattle.bw_model.specs.Holds.{Holds}
+use Rattle.bw_model.proofs.BookLemmas.{name_refl}
+use Rattle.bw_file.specs.Growing.{Growing}
+use Rattle.bw_file.specs.Stores.{KeepsOthers}
+use Rattle.bw_wire.specs.Frames.{message_of}
+use Rattle.bw_wire.proofs.BodyLaws.{message_spelled}
+use Rattle.bw_session.specs.Numbered.{KeepsBoth, failed_calls}
+use Rattle.bw_session.specs.Sessions.{CallsFew, HoldsLog, part_of}
+use Rattle.bw_session.specs.Serving.{Answers}
+use Rattle.bw_session.specs.Servers.{kept_in, store_since, done_in}
+use Rattle.bw_session.specs.Books.{failures_of}
+use Rattle.bw_session.specs.Tables.{session_in}
+use Rattle.bw_session.specs.declared.session.Session.{Session}
+use Rattle.bw_session.proofs.AnswerForms.{answers_full}
+use Rattle.bw_session.proofs.ServerForms.{table_set, book_turned, known_here, part_here}
+use Rattle.bw_session.proofs.server.Server.turn.Goals as goal
+
+pub answer-requires-clause-name : goal.answer-requires-clause-name
+answer-requires-clause-name g c =
+    let m : Message = message_of c.args.message.now in
+    let found = subst (λ (n : List ℕ). session_in c.args.self.now.sessions n ≡ Some c.in-Some.session.now)
+    c.name-name.ensures (sym c.in-Some.ensures.value) in
+    sym (c.args.self.now.table.names m.name c.in-Some.session.now found)
+
+pub invariant_of-self : goal.invariant_of-self
+invariant_of-self g c =
+    let s : Session = c.in-Some.session.now in
+    let m : Message = message_of c.args.message.now in
+    let table = c.args.self.now.table in
+    let found = subst (λ (n : List ℕ). session_in c.args.self.now.sessions n ≡ Some s) c.name-name.ensures
+    (sym c.in-Some.ensures.value) in
+    let holds = c.get_mut.follows.holds c.answer.new.self in
+    let take = c.answer.ensures.take in
+    record {
+      table = table_set c.args.self.now.sessions (c.get_mut.follows.lender c.answer.new.self) c.args.self.now.limit
+          c.name-name.result c.answer.new.self table
+          (subst (λ (n : ℕ). n ≤ most_takes) (sym holds.2) table.few)
+          (subst (λ (n : ℕ). most_takes ≤ n + spare (c.get_mut.follows.lender c.answer.new.self)) (sym holds.2)
+          (subst (λ (n : ℕ). most_takes ≤ hash_map_len c.args.self.now.sessions + n) (sym holds.6) table.room))
+          (holds.3 (sym (ap is_some c.in-Some.ensures.value))).0
+          (take.name ∙ table.names m.name s found ∙ sym c.name-name.ensures)
+          (ap (λ (x : Growing). x.limit) take.growing ∙ table.limits m.name s found);
+    }
+
+pub returns-in-Some-clause-both : goal.returns-in-Some-clause-both
+returns-in-Some-clause-both g c =
+    let s : Session = c.in-Some.session.now in
+    let m : Message = message_of c.args.message.now in
+    let both = c.answer.ensures.both in
+    let found = subst (λ (n : List ℕ). session_in c.args.self.now.sessions n ≡ Some s) c.name-name.ensures
+    (sym c.in-Some.ensures.value) in
+    let named = c.args.self.now.table.names m.name s found in
+    let holds = c.get_mut.follows.holds c.answer.new.self in
+    let sets = subst (λ (k : List ℕ). (n : List ℕ) → session_in (c.get_mut.follows.lender c.answer.new.self) n
+    ≡ cond (bytes_eq k n) (Some c.answer.new.self) (session_in c.args.self.now.sessions n)) c.name-name.ensures
+    (holds.3 (sym (ap is_some c.in-Some.ensures.value))).0 in
+    let here : session_in (c.get_mut.follows.lender c.answer.new.self) m.name ≡ Some c.answer.new.self =
+    sets m.name ∙ ap (λ (v : Bool). cond v (Some c.answer.new.self) (session_in c.args.self.now.sessions m.name))
+    (name_refl m.name) in
+    let before : done_in c.args.self.now.sessions m.name ≡ length s.progress.ledger.outcomes =
+    ap (λ (o : Option Session). option_map_or (λ x. length x.progress.ledger.outcomes) o 0) found in
+    let after : done_in (c.get_mut.follows.lender c.answer.new.self) m.name
+    ≡ length c.answer.new.self.progress.ledger.outcomes =
+    ap (λ (o : Option Session). option_map_or (λ x. length x.progress.ledger.outcomes) o 0) here in (
+      both.0,
+      subst (λ (n : List ℕ). KeepsBoth g.S.TakeStore g.J.Journal both.0 n c.args.self.now.stores.store
+          c.answer.new.stores.store c.args.self.now.stores.journal c.answer.new.stores.journal) named both.1,
+      subst (λ (k : ℕ). CallsFew (g.S.TakeStore.calls c.args.self.now.stores.store)
+          (g.S.TakeStore.calls c.answer.new.stores.store) (done_in c.args.self.now.sessions m.name) k both.0)
+          (sym after)
+          (subst (λ (k : ℕ). CallsFew (g.S.TakeStore.calls c.args.self.now.stores.store)
+          (g.S.TakeStore.calls c.answer.new.stores.store) k (length c.answer.new.self.progress.ledger.outcomes) both.0)
+          (sym before) both.2),
+    )
+
+pub returns-in-Some-clause-turned : goal.returns-in-Some-clause-turned
+returns-in-Some-clause-turned g c = λ honest first book h.
+    let s : Session = c.in-Some.session.now in
+    let s' : Session = c.answer.new.self in
+    let m : Message = message_of c.args.message.now in
+    let said = message_spelled c.args.message.now.body.now c.args.message.now.spells in
+    let table = c.args.self.now.table in
+    let take = c.answer.ensures.take in
+    let both = c.answer.ensures.both in
+    let limit : ℕ = c.args.self.now.limit in
+    let found = subst (λ (n : List ℕ). session_in c.args.self.now.sessions n ≡ Some s) c.name-name.ensures
+    (sym c.in-Some.ensures.value) in
+    let named = table.names m.name s found in
+    let limited = table.limits m.name s found in
+    let holds = c.get_mut.follows.holds s' in
+    let sets = subst (λ (k : List ℕ). (n : List ℕ) → session_in (c.get_mut.follows.lender s') n
+    ≡ cond (bytes_eq k n) (Some s') (session_in c.args.self.now.sessions n)) c.name-name.ensures
+    (holds.3 (sym (ap is_some c.in-Some.ensures.value))).0 in
+    let store = store_since g.S.TakeStore first c.args.self.now.stores.store in
+    let known = known_here limit store (session_in c.args.self.now.sessions) book h honest m.name s found in
+    let part = part_here limit store (session_in c.args.self.now.sessions) book h honest m.name s found
+    (s.progress.same_name ∙ named) limited in
+    let before : ℕ = failures_of g.S.TakeStore g.J.Journal c.args.self.now in
+    let after : ℕ = failed_calls (g.S.TakeStore.failures c.answer.new.stores.store)
+    (g.J.Journal.failures c.answer.new.stores.journal) in
+    let answers = c.answer.ensures.answers honest (first m.name) (log_of book m.name)
+    (subst (λ (n : List ℕ). HoldsLog (first m.name) (log_of book m.name) (part_of s)
+    (g.S.TakeStore.contents c.args.self.now.stores.store n)) (sym named) part) in
+    let here = subst (λ (n : List ℕ). Answers true false (first m.name) (log_of book m.name) m before after
+    c.answer.new.out.items (part_of s') (g.S.TakeStore.contents c.answer.new.stores.store n)) named answers in
+    let full = subst (λ (k : Bool). Answers k (is_full book) (first m.name) (log_of book m.name) m before after
+    c.answer.new.out.items (part_of s') (g.S.TakeStore.contents c.answer.new.stores.store m.name)) (sym known)
+    (answers_full (is_full book) (first m.name) (log_of book m.name) m before after c.answer.new.out.items
+    (part_of s') (g.S.TakeStore.contents c.answer.new.stores.store m.name) here) in
+    let turned = book_turned limit store (store_since g.S.TakeStore first c.answer.new.stores.store)
+    (session_in c.args.self.now.sessions) (session_in (c.get_mut.follows.lender s')) book h honest m said.fits s'
+    before after c.answer.new.out.items sets refl
+    (subst (λ (n : List ℕ). KeepsOthers (g.S.TakeStore.contents c.args.self.now.stores.store)
+    (g.S.TakeStore.contents c.answer.new.stores.store) n) named (both.1.others honest))
+    (ap (λ (x : Growing). x.name) take.growing ∙ s.progress.same_name ∙ named)
+    (ap (λ (x : Growing). x.limit) take.growing ∙ limited) full (inr known) in
+    record { later = _; turned = turned.0; held = turned.1 }
+
+pub returns-in-None-clause-turned : goal.returns-in-None-clause-turned
+returns-in-None-clause-turned g c = λ honest first book h.
+    let turned = c.meet.ensures.turned honest first book
+    (subst (λ (t : _). Holds c.args.self.now.limit (store_since g.S.TakeStore first c.args.self.now.stores.store)
+    (kept_in t) book) (sym c.get_mut.follows.holds-at-none) h) in
+    record { later = turned.later; turned = turned.turned; held = turned.held }

@@ -1,0 +1,41 @@
+-- What a server has to do with the book that it was told.
+use Rattle.std.specs.Prelude.{ℕ, Option, Some, None, is_some, List, map, drop, count_by}
+use Rattle.std.specs.Prelude.{if◌then◌else◌}
+use Rattle.bw_model.specs.Wire.{Message, Says}
+use Rattle.bw_model.specs.Book.{Log, Book, log_of, is_known}
+use Rattle.bw_model.specs.CountedTurn.{IsTurn}
+use Rattle.bw_model.specs.Holds.{Holds}
+use Rattle.bw_file.specs.declared.store.TakeStore.{Ghosts as StoreGhosts}
+use Rattle.bw_journal.specs.declared.journal.Journal.{Ghosts as JournalGhosts}
+use Rattle.bw_wire.specs.declared.reply.Reply.{Reply}
+use Rattle.bw_wire.specs.Replies.{reply_of}
+use Rattle.bw_session.specs.Numbered.{failed_calls}
+use Rattle.bw_session.specs.Servers.{kept_in, store_since}
+use Rattle.bw_session.specs.declared.server.Server.{Server}
+
+module _ {X Y : Type 0} (S : StoreGhosts X) (J : JournalGhosts Y) where
+  -- how many calls of the server's store and journal failed
+  abbrev pub failures_of : Server X Y S J → ℕ
+  failures_of s = failed_calls (S.failures s.stores.store) (J.failures s.stores.journal)
+
+  -- the server holds the book, over a store in which this stood at the start
+  abbrev pub HoldsBook : (List ℕ → Option (List ℕ)) → Server X Y S J → Book → Type 0
+  HoldsBook first s book =
+      Holds s.limit (store_since S first s.stores.store) (kept_in s.sessions) book
+
+  -- The replies and the later book are those of the definitions' turn under some luck, and the
+  -- server holds the later book.
+  pub record TurnsBook (first : List ℕ → Option (List ℕ)) (old new : Server X Y S J) (book : Book)
+      (m : Message) (replies : List Reply) : Type 0 where
+    pub later : Book
+    pub turned : IsTurn (λ name. is_some (first name)) (failures_of old) (failures_of new) book
+        (Says m) (map reply_of replies) later
+    pub held : HoldsBook first new later
+
+-- what a known name's log tells
+abbrev pub of_known : {A : Type 0} → Book → List ℕ → (Log → A) → Option A
+of_known book name f = if is_known book name then Some (f (log_of book name)) else None
+
+-- how many requests of a log wait for their verdicts
+abbrev pub count_waiting : Log → ℕ
+count_waiting log = count_by is_some (drop log.done log.admitted)

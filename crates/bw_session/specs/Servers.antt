@@ -1,0 +1,29 @@
+-- What a server keeps, in the definitions' words.
+use Rattle.std.specs.Prelude.{ℕ, Option, List, length, option_map}
+use Rattle.std.specs.Option.{option_map_or}
+use Rattle.bw_model.specs.Holds.{Store, Kept}
+use Rattle.bw_file.specs.declared.store.TakeStore.{Ghosts as StoreGhosts}
+use Rattle.bw_session.specs.Draining.{kept_as}
+use Rattle.bw_session.specs.Tables.{Table, session_in}
+use Rattle.bw_session.specs.declared.session.Session.{Session}
+
+-- what a session keeps of its name
+abbrev pub kept_by : Session → Kept
+kept_by s = kept_as s.progress.state.parts s.progress.ledger.outcomes s.window s.progress.growing
+
+-- what a server keeps, by name
+abbrev pub kept_in : {H : Type 0} → Table H → List ℕ → Option Kept
+kept_in sessions name = option_map kept_by (session_in sessions name)
+
+-- a store, beside what stood in it at the start
+abbrev pub store_since : {X : Type 0} → StoreGhosts X → (List ℕ → Option (List ℕ)) → X → Store
+store_since S first store = record {
+  contents = S.contents store;
+  first = first;
+  honest = S.honest store;
+}
+
+-- how many numbers of a name have their verdicts
+abbrev pub done_in : {H : Type 0} → Table H → List ℕ → ℕ
+done_in sessions name =
+    option_map_or (λ s. length s.progress.ledger.outcomes) (session_in sessions name) 0

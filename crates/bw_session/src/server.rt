@@ -1,0 +1,361 @@
+//! A server: what it keeps of each name, over a store and its journal.
+ghost use Rattle.std.specs.Prelude.{◌≡◌, ◌<◌, ◌≤◌, ℕ, List, [], Option, None, Bool, IsTrue, OnOk};
+ghost use Rattle.std.specs.Prelude.{OnErr, IfOk, IfErr, length, option_map, is_some, map, vec_capacity, IfSome, ◌+◌};
+ghost use Rattle.std.specs.Prelude.{◌*◌, ◌&&◌};
+ghost use Rattle.std.specs.List.{All};
+ghost use Rattle.std.specs.HashMap.{hash_map_len, spare, IsUnique};
+ghost use Rattle.std.specs.Str.{bytes_eq};
+ghost use Rattle.bw_model.specs.Turn.{most_takes, window, is_turned_away, notice as refusal};
+ghost use Rattle.bw_model.specs.Wire.{Says, Second, last_number};
+ghost use Rattle.bw_model.specs.CountedTurn.{IsTurn};
+ghost use Rattle.bw_wire.specs.Notices.{notice_meaning};
+ghost use Rattle.bw_model.specs.Book.{Book, log_of, is_known, made};
+ghost use Rattle.bw_model.specs.Take.{parts, frames as frames_of};
+ghost use Rattle.bw_model.specs.Replies.{Noticed, Next};
+ghost use Rattle.bw_journal.specs.Entries.{longest_entry};
+ghost use Rattle.bw_wire.specs.Frames.{message_of};
+ghost use Rattle.bw_wire.specs.Replies.{reply_of, HasWireNumbers};
+ghost use Rattle.bw_session.specs.Numbered.{KeepsBoth};
+ghost use Rattle.bw_session.specs.Sessions.{CallsFew};
+ghost use Rattle.bw_session.specs.Servers.{done_in};
+ghost use Rattle.bw_session.specs.Tables.{IsTable, session_in};
+ghost use Rattle.bw_session.specs.Telling.{IsServing};
+
+use crate::numbering::Stores;
+use crate::session::Session;
+use crate::window::SLOTS;
+use arrayvec::ArrayVec;
+use bw_file::TakeStore;
+use bw_journal::{ENTRY_MAX, Journal, NoJournal};
+use bw_layout::Limit;
+use bw_take::Name;
+use bw_wire::{Message, Notice, Reply};
+use std::alloc::{AllocError, Global};
+use std::collections::HashMap;
+
+/// How many names a server takes.
+const NAMES: usize = 256;
+
+/// A server over a store, and over a journal where there is one.
+#[derive(Drop)]
+pub struct Server<S: TakeStore, J: Journal = NoJournal> {
+    sessions: HashMap<Name, Session>,
+    stores: Stores<S, J>,
+    limit: Limit,
+    ghost table: { IsTable sessions limit },
+}
+
+impl<S: TakeStore> Server<S> {
+    ghost use Rattle.bw_journal.specs.declared.journal.NoJournal.{NoJournal as none};
+    ghost use Rattle.bw_session.specs.Books.{HoldsBook};
+
+    /// A server that knows no name, over a store alone.
+    ///
+    /// # Errors
+    /// `AllocError`, with the store, where memory was refused.
+    pub fn new(alloc: Global, store: S, limit: Limit) -> Result<Server<S>, (AllocError, S)>
+        ensures store { IfOk result (λ s. s.stores.store ≡ store) }
+        ensures limit { IfOk result (λ s. s.limit ≡ limit) }
+        ensures book { IfOk result (λ s.
+            HoldsBook S.TakeStore ⟦<NoJournal as Journal>⟧ (S.contents store) s []) }
+        ensures back { IfErr result (λ e. e.1 ≡ store) }
+    {
+        match Server::with_journal(alloc, store, NoJournal, limit) {
+            Ok(server) => Ok(server),
+            Err((error, store, _none)) => Err((error, store)),
+        }
+    }
+}
+
+impl<S: TakeStore, J: Journal> Server<S, J> {
+    ghost use Rattle.bw_session.specs.Books.{failures_of, HoldsBook, TurnsBook};
+    ghost use Rattle.bw_session.specs.Books.{of_known, count_waiting};
+
+    /// A server that knows no name, over a store and a journal.
+    ///
+    /// # Errors
+    /// `AllocError`, with the store and the journal, where memory was refused.
+    pub fn with_journal(
+        alloc: Global,
+        store: S,
+        journal: J,
+        limit: Limit,
+    ) -> Result<Server<S, J>, (AllocError, S, J)>
+        ensures store { IfOk result (λ s. s.stores.store ≡ store) }
+        ensures journal { IfOk result (λ s. s.stores.journal ≡ journal) }
+        ensures limit { IfOk result (λ s. s.limit ≡ limit) }
+        ensures book { IfOk result (λ s.
+            HoldsBook S.TakeStore J.Journal (S.contents store) s []) }
+        ensures store_back { IfErr result (λ e. e.1 ≡ store) }
+        ensures journal_back { IfErr result (λ e. e.2 ≡ journal) }
+    {
+        let (sessions, entry) = match tables(alloc) {
+            Ok(tables) => tables,
+            Err(error) => return Err((error, store, journal)),
+        };
+        Ok(Server {
+            sessions,
+            stores: Stores {
+                alloc,
+                store,
+                journal,
+                entry,
+            },
+            limit,
+        })
+    }
+
+    /// Takes a message, and tells its sender, in `out`, which is emptied first.
+    pub fn turn(&mut self, message: &Message<'_>, out: &mut ArrayVec<Reply, 17>)
+        ensures few { length out.new.items ≤ 17 }
+        ensures numbers { All HasWireNumbers out.new.items }
+        ensures uncalled { IsTrue (is_turned_away (map reply_of out.new.items)) →
+            (self.new.stores.store ≡ self.old.stores.store)
+            × (self.new.stores.journal ≡ self.old.stores.journal) }
+        ensures both { (stopped : Bool) × KeepsBoth S.TakeStore J.Journal stopped
+            (message_of message.now).name self.old.stores.store self.new.stores.store
+            self.old.stores.journal self.new.stores.journal
+            × CallsFew (S.calls self.old.stores.store) (S.calls self.new.stores.store)
+            (done_in self.old.sessions (message_of message.now).name)
+            (done_in self.new.sessions (message_of message.now).name) stopped }
+        ensures limit { self.new.limit ≡ self.old.limit }
+        ensures turned { IsTrue (S.honest self.old.stores.store) →
+            (first : List ℕ → Option (List ℕ)) (book : Book) →
+            HoldsBook S.TakeStore J.Journal first self.old book →
+            TurnsBook S.TakeStore J.Journal first self.old self.new book
+            (message_of message.now) out.new.items }
+    {
+        out.clear();
+        let name = message.name();
+        match self.sessions.get_mut(&name) {
+            Some(session) => session.answer(&mut self.stores, message, out),
+            None => self.meet(name, message, out),
+        }
+    }
+
+    /// Takes a message of a name that isn't known.
+    fn meet(&mut self, name: Name, message: &Message<'_>, out: &mut ArrayVec<Reply, 17>)
+        requires name { (message_of message.now).name ≡ name }
+        requires empty { out.old.items ≡ [] }
+        requires fresh { session_in self.old.sessions name ≡ None }
+        ensures few { length out.new.items ≤ 17 }
+        ensures numbers { All HasWireNumbers out.new.items }
+        ensures uncalled { IsTrue (is_turned_away (map reply_of out.new.items)) →
+            (self.new.stores.store ≡ self.old.stores.store)
+            × (self.new.stores.journal ≡ self.old.stores.journal) }
+        ensures both { (stopped : Bool) × KeepsBoth S.TakeStore J.Journal stopped
+            (message_of message.now).name self.old.stores.store self.new.stores.store
+            self.old.stores.journal self.new.stores.journal
+            × CallsFew (S.calls self.old.stores.store) (S.calls self.new.stores.store)
+            (done_in self.old.sessions (message_of message.now).name)
+            (done_in self.new.sessions (message_of message.now).name) stopped }
+        ensures limit { self.new.limit ≡ self.old.limit }
+        ensures turned { IsTrue (S.honest self.old.stores.store) →
+            (first : List ℕ → Option (List ℕ)) (book : Book) →
+            HoldsBook S.TakeStore J.Journal first self.old book →
+            TurnsBook S.TakeStore J.Journal first self.old self.new book
+            (message_of message.now) out.new.items }
+    {
+        if let Err(code) = self.try_meet(&name, message, out) {
+            out.push(Reply::Notice {
+                name,
+                number: message.number(),
+                code,
+                next: 0,
+            });
+        }
+    }
+
+    /// Serves the first message of a name, where there is room for both.
+    ///
+    /// # Errors
+    /// Why it is turned away: nothing changed.
+    fn try_meet(
+        &mut self,
+        name: &Name,
+        message: &Message<'_>,
+        out: &mut ArrayVec<Reply, 17>,
+    ) -> Result<(), Notice>
+        requires name { (message_of message.now).name ≡ name.now }
+        requires empty { out.old.items ≡ [] }
+        requires fresh { session_in self.old.sessions name.now ≡ None }
+        ensures few { length out.new.items ≤ 17 }
+        ensures told { All IsServing out.new.items }
+        ensures both { (stopped : Bool) × KeepsBoth S.TakeStore J.Journal stopped
+            (message_of message.now).name self.old.stores.store self.new.stores.store
+            self.old.stores.journal self.new.stores.journal
+            × CallsFew (S.calls self.old.stores.store) (S.calls self.new.stores.store)
+            (done_in self.old.sessions (message_of message.now).name)
+            (done_in self.new.sessions (message_of message.now).name) stopped }
+        ensures limit { self.new.limit ≡ self.old.limit }
+        ensures sessions { OnErr result (self.new.sessions ≡ self.old.sessions) }
+        ensures store { OnErr result (self.new.stores.store ≡ self.old.stores.store) }
+        ensures journal { OnErr result (self.new.stores.journal ≡ self.old.stores.journal) }
+        ensures untold { OnErr result (out.new.items ≡ []) }
+        ensures turned { IsTrue (S.honest self.old.stores.store) →
+            (first : List ℕ → Option (List ℕ)) (book : Book) →
+            HoldsBook S.TakeStore J.Journal first self.old book →
+            OnOk result (TurnsBook S.TakeStore J.Journal first self.old self.new book
+            (message_of message.now) out.new.items) }
+        ensures refused { IfErr result (λ code. IsTrue (S.honest self.old.stores.store) →
+            (first : List ℕ → Option (List ℕ)) (book : Book) →
+            HoldsBook S.TakeStore J.Journal first self.old book →
+            IsTurn (λ n. is_some (first n)) (failures_of S.TakeStore J.Journal self.old)
+            (failures_of S.TakeStore J.Journal self.old) book (Says (message_of message.now))
+            (refusal (message_of message.now) (notice_meaning code) 0) book) }
+    {
+        if SLOTS <= message.number() as usize {
+            return Err(Notice::TooFar);
+        }
+        if self.sessions.len() == NAMES {
+            return Err(Notice::TableFull);
+        }
+        match self.begin(name, message, out) {
+            Ok(()) => Ok(()),
+            Err(_refused) => Err(Notice::NoRoom),
+        }
+    }
+
+    /// Serves the first message of a name, which is known afterwards.
+    ///
+    /// # Errors
+    /// `AllocError` where a growth was refused: nothing changed.
+    fn begin(
+        &mut self,
+        name: &Name,
+        message: &Message<'_>,
+        out: &mut ArrayVec<Reply, 17>,
+    ) -> Result<(), AllocError>
+        requires name { (message_of message.now).name ≡ name.now }
+        requires empty { out.old.items ≡ [] }
+        requires fresh { session_in self.old.sessions name.now ≡ None }
+        requires place { hash_map_len self.old.sessions < most_takes }
+        requires unique { IsUnique bytes_eq self.old.sessions }
+        requires near { (message_of message.now).number < window }
+        ensures few { length out.new.items ≤ 17 }
+        ensures told { All IsServing out.new.items }
+        ensures both { (stopped : Bool) × KeepsBoth S.TakeStore J.Journal stopped name.now
+            self.old.stores.store self.new.stores.store
+            self.old.stores.journal self.new.stores.journal
+            × CallsFew (S.calls self.old.stores.store) (S.calls self.new.stores.store)
+            0 (done_in self.new.sessions name.now) stopped }
+        ensures limit { self.new.limit ≡ self.old.limit }
+        ensures sessions { OnErr result (self.new.sessions ≡ self.old.sessions) }
+        ensures store { OnErr result (self.new.stores.store ≡ self.old.stores.store) }
+        ensures journal { OnErr result (self.new.stores.journal ≡ self.old.stores.journal) }
+        ensures untold { OnErr result (out.new.items ≡ []) }
+        ensures turned { IsTrue (S.honest self.old.stores.store) →
+            (first : List ℕ → Option (List ℕ)) (book : Book) →
+            HoldsBook S.TakeStore J.Journal first self.old book →
+            OnOk result (TurnsBook S.TakeStore J.Journal first self.old self.new book
+            (message_of message.now) out.new.items) }
+    {
+        let mut session = Session::new(self.stores.alloc, name.copy(), self.limit)?;
+        session.serve(&mut self.stores, message, out)?;
+        match self.sessions.insert(name.copy(), session) {
+            Ok(_none) => Ok(()),
+            // The table has room for every name that it takes.
+            Err(_full) => unreachable!(),
+        }
+    }
+
+    /// The answer to an ask: how many numbers of the name have their verdicts.
+    pub fn ask(&self, name: &Name, number: u32) -> Reply
+        ensures value { (first : List ℕ → Option (List ℕ)) (book : Book) →
+            HoldsBook S.TakeStore J.Journal first self.now book →
+            reply_of result ≡ Noticed name.now number Next (log_of book name.now).done }
+        ensures numbers { number ≤ last_number Second → HasWireNumbers result }
+    {
+        Reply::Notice {
+            name: name.copy(),
+            number,
+            code: Notice::Next,
+            next: self.done(name).unwrap_or(0),
+        }
+    }
+
+    /// How many numbers of a name have their verdicts; None where it isn't known.
+    pub fn done(&self, name: &Name) -> Option<u32>
+        ensures value { (first : List ℕ → Option (List ℕ)) (book : Book) →
+            HoldsBook S.TakeStore J.Journal first self.now book →
+            result ≡ of_known book name.now (λ log. log.done) }
+        ensures range { IfSome result (λ n. n ≤ last_number Second + 1) }
+    {
+        let session = self.sessions.get(name)?;
+        Some(session.progress.ledger.len() as u32)
+    }
+
+    /// How many whole frames a name's take has, none without a format; None where the name isn't
+    /// known.
+    pub fn frames(&self, name: &Name) -> Option<u64>
+        ensures { (first : List ℕ → Option (List ℕ)) (book : Book) →
+            HoldsBook S.TakeStore J.Journal first self.now book →
+            result ≡ of_known book name.now (λ log.
+            frames_of (parts (made (is_some (first name.now)) log.admitted log.done))) }
+    {
+        let session = self.sessions.get(name)?;
+        Some(session.progress.state.frames())
+    }
+
+    /// Whether a name's take is closed.
+    pub fn is_closed(&self, name: &Name) -> bool
+        ensures { (first : List ℕ → Option (List ℕ)) (book : Book) →
+            HoldsBook S.TakeStore J.Journal first self.now book →
+            result ≡ is_known book name.now && (made (is_some (first name.now))
+            (log_of book name.now).admitted (log_of book name.now).done).closed }
+    {
+        match self.sessions.get(name) {
+            Some(session) => session.progress.state.is_closed(),
+            None => false,
+        }
+    }
+
+    /// How many messages of a name wait for those before them; None where the name isn't known.
+    pub fn held(&self, name: &Name) -> Option<usize>
+        ensures value { (first : List ℕ → Option (List ℕ)) (book : Book) →
+            HoldsBook S.TakeStore J.Journal first self.now book →
+            result ≡ of_known book name.now count_waiting }
+        ensures range { IfSome result (λ n. n ≤ window) }
+    {
+        let session = self.sessions.get(name)?;
+        Some(session.window.count())
+    }
+
+    /// How many bytes are kept of the done numbers of a name: 33 for each; None where the name
+    /// isn't known.
+    pub fn kept_bytes(&self, name: &Name) -> Option<u64>
+        ensures { (first : List ℕ → Option (List ℕ)) (book : Book) →
+            HoldsBook S.TakeStore J.Journal first self.now book →
+            result ≡ of_known book name.now (λ log. 33 * log.done) }
+    {
+        let session = self.sessions.get(name)?;
+        Some(session.progress.ledger.byte_count())
+    }
+
+    /// The store.
+    pub fn store(&self) -> &S
+        ensures { result.now ≡ self.now.stores.store }
+    {
+        &self.stores.store
+    }
+
+    /// The store, which the server lets go.
+    pub fn into_store(self) -> S
+        ensures { result ≡ self.stores.store }
+    {
+        let Server { stores, .. } = self;
+        let Stores { store, .. } = stores;
+        store
+    }
+}
+
+/// Room for the sessions of all names, and for one entry of the journal.
+fn tables(alloc: Global) -> Result<(HashMap<Name, Session>, Vec<u8>), AllocError>
+    ensures empty { IfOk result (λ t. t.0.entries ≡ []) }
+    ensures room { IfOk result (λ t. most_takes ≤ spare t.0) }
+    ensures entry { IfOk result (λ t. longest_entry ≤ vec_capacity t.1) }
+{
+    let sessions = HashMap::with_capacity(alloc, NAMES)?;
+    let entry = Vec::with_capacity(alloc, ENTRY_MAX)?;
+    Ok((sessions, entry))
+}
