@@ -31,7 +31,8 @@ impl Session {
         requires name { (message_of message.now).name ≡ self.now.progress.name }
         requires digest { digest.now ≡ sha256 (message_body (message_of message.now)) }
         ensures value { (first : Option (List ℕ)) (log : Log) (drained : List Reply)
-            (found : Option (List ℕ)) → EndsDraining first log stopped drained (part_of self.now) found →
+            (found : Option (List ℕ)) →
+            EndsDraining first log stopped drained (part_of self.now) found →
             log.done ≡ done → (message_of message.now).number < done + window →
             option_to_list (option_map reply_of result)
             ≡ own_reply (is_some first) log.admitted done
