@@ -129,7 +129,7 @@ same_head (Noticed name n code next) rs = refl
 same_head (Refused reason place) rs = refl
 
 -- a message that is served isn't turned away
-none_away : (out : List Reply) → All IsServing out → is_turned_away (map reply_of out) ≡ false
+pub none_away : (out : List Reply) → All IsServing out → is_turned_away (map reply_of out) ≡ false
 none_away [] all = refl
 none_away (r ∷ rs) all = same_head (reply_of r) (map reply_of rs) ∙ (all 0 r (omega arith)).served
 

@@ -18,3 +18,4 @@ pub mod AnswerForms
 pub mod ServerForms
 pub mod CountForms
 pub mod TellForms
+pub mod JournalForms

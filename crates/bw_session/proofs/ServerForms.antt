@@ -37,7 +37,7 @@ no_kept e = cc
 some_kept : {a b : Kept} → Some a ≡ Some b → a ≡ b
 some_kept e = cc
 
-apart_names : (x y : List ℕ) → bytes_eq x y ≡ false → y ≢ x
+pub apart_names : (x y : List ℕ) → bytes_eq x y ≡ false → y ≢ x
 apart_names x y e same = no_false (sym e ∙ ap (bytes_eq x) same ∙ name_refl x)
 
 -- what a server that holds a book holds of one name

@@ -10,7 +10,9 @@ use Rattle.bw_journal.specs.declared.journal.Journal.{Ghosts as JournalGhosts}
 use Rattle.bw_wire.specs.declared.reply.Reply.{Reply}
 use Rattle.bw_wire.specs.Replies.{reply_of}
 use Rattle.bw_session.specs.Numbered.{failed_calls}
+use Rattle.bw_session.specs.Tables.{session_in}
 use Rattle.bw_session.specs.Servers.{kept_in, store_since}
+use Rattle.bw_session.specs.Journaled.{NotesNames}
 use Rattle.bw_session.specs.declared.server.Server.{Server}
 
 module _ {X Y : Type 0} (S : StoreGhosts X) (J : JournalGhosts Y) where
@@ -22,6 +24,12 @@ module _ {X Y : Type 0} (S : StoreGhosts X) (J : JournalGhosts Y) where
   abbrev pub HoldsBook : (List ℕ → Option (List ℕ)) → Server X Y S J → Book → Type 0
   HoldsBook first s book =
       Holds s.limit (store_since S first s.stores.store) (kept_in s.sessions) book
+
+  -- an honest journal has of each name what the book says
+  abbrev pub NotesBook : (List ℕ → Option (List ℕ)) → Server X Y S J → Book → Type 0
+  NotesBook first s book =
+      NotesNames (J.header s.stores.journal) (J.notes s.stores.journal) first
+      (session_in s.sessions) book
 
   -- The replies and the later book are those of the definitions' turn under some luck, and the
   -- server holds the later book.

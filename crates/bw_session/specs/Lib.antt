@@ -15,4 +15,5 @@ pub mod Runs
 pub mod Serving
 pub mod Tables
 pub mod Servers
+pub mod Journaled
 pub mod Books

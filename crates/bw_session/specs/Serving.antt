@@ -1,13 +1,14 @@
 -- A message of a name that a session is kept of.
 use Rattle.std.specs.Prelude.{◌≡◌, ℕ, Bool, false, IsTrue, IsFalse, Option, None, is_some}
-use Rattle.std.specs.Prelude.{unwrap_or, List, map}
+use Rattle.std.specs.Prelude.{unwrap_or, List, map, if◌then◌else◌}
 use Rattle.std.specs.Option.{option_map_or}
 use Rattle.bw_model.specs.Counts.{Counts}
 use Rattle.bw_model.specs.Wire.{Message}
-use Rattle.bw_model.specs.Replies.{NoRoom}
+use Rattle.bw_model.specs.Replies.{Reply as ModelReply, NoRoom}
 use Rattle.bw_model.specs.Book.{Log}
 use Rattle.bw_model.specs.CountedTurn.{is_pending}
 use Rattle.bw_model.specs.Turn.{Luck, served, turn_by, admitted_after, is_admissible, notice}
+use Rattle.bw_model.specs.Turn.{is_turned_away}
 use Rattle.bw_wire.specs.declared.reply.Reply.{Reply}
 use Rattle.bw_wire.specs.Replies.{reply_of}
 use Rattle.bw_session.specs.Sessions.{Part, HoldsLog}
@@ -15,6 +16,10 @@ use Rattle.bw_session.specs.Sessions.{Part, HoldsLog}
 -- the log with the message admitted, where it is new in the window, and so many numbers done
 abbrev pub log_after : Log → Message → ℕ → Log
 log_after log m done = record { admitted = admitted_after log m; done = done }
+
+-- the log behind a message that was answered so
+abbrev pub log_told : Log → Message → List ModelReply → ℕ → Log
+log_told log m replies done = if is_turned_away replies then log else log_after log m done
 
 -- The message is served as the definitions serve it, where draining stops behind so many numbers,
 -- or goes to its end: it stops short exactly where a failure was counted.

@@ -1,13 +1,13 @@
 //! A server: what it keeps of each name, over a store and its journal.
 ghost use Rattle.std.specs.Prelude.{◌≡◌, ◌<◌, ◌≤◌, ℕ, List, [], Option, None, Bool, IsTrue, OnOk};
 ghost use Rattle.std.specs.Prelude.{OnErr, IfOk, IfErr, length, option_map, is_some, map, vec_capacity, IfSome, ◌+◌};
-ghost use Rattle.std.specs.Prelude.{◌*◌, ◌&&◌};
+ghost use Rattle.std.specs.Prelude.{◌*◌, ◌&&◌, ◌||◌, nat_le};
 ghost use Rattle.std.specs.List.{All};
 ghost use Rattle.std.specs.HashMap.{hash_map_len, spare, IsUnique};
 ghost use Rattle.std.specs.Str.{bytes_eq};
 ghost use Rattle.bw_model.specs.Turn.{most_takes, window, is_turned_away, notice as refusal};
 ghost use Rattle.bw_model.specs.Wire.{Says, Second, last_number};
-ghost use Rattle.bw_model.specs.CountedTurn.{IsTurn};
+ghost use Rattle.bw_model.specs.CountedTurn.{IsTurn, book_told};
 ghost use Rattle.bw_wire.specs.Notices.{notice_meaning};
 ghost use Rattle.bw_model.specs.Book.{Book, log_of, is_known, made};
 ghost use Rattle.bw_model.specs.Take.{parts, frames as frames_of};
@@ -68,7 +68,7 @@ impl<S: TakeStore> Server<S> {
 }
 
 impl<S: TakeStore, J: Journal> Server<S, J> {
-    ghost use Rattle.bw_session.specs.Books.{failures_of, HoldsBook, TurnsBook};
+    ghost use Rattle.bw_session.specs.Books.{failures_of, HoldsBook, NotesBook, TurnsBook};
     ghost use Rattle.bw_session.specs.Books.{of_known, count_waiting};
 
     /// A server that knows no name, over a store and a journal.
@@ -124,6 +124,14 @@ impl<S: TakeStore, J: Journal> Server<S, J> {
             HoldsBook S.TakeStore J.Journal first self.old book →
             TurnsBook S.TakeStore J.Journal first self.old self.new book
             (message_of message.now) out.new.items }
+        ensures noted { IsTrue (S.honest self.old.stores.store) →
+            IsTrue (J.honest self.old.stores.journal) →
+            (first : List ℕ → Option (List ℕ)) (book : Book) →
+            HoldsBook S.TakeStore J.Journal first self.old book →
+            NotesBook S.TakeStore J.Journal first self.old book →
+            NotesBook S.TakeStore J.Journal first self.new (book_told book
+            (message_of message.now) (map reply_of out.new.items)
+            (done_in self.new.sessions (message_of message.now).name)) }
     {
         out.clear();
         let name = message.name();
@@ -155,6 +163,14 @@ impl<S: TakeStore, J: Journal> Server<S, J> {
             HoldsBook S.TakeStore J.Journal first self.old book →
             TurnsBook S.TakeStore J.Journal first self.old self.new book
             (message_of message.now) out.new.items }
+        ensures noted { IsTrue (S.honest self.old.stores.store) →
+            IsTrue (J.honest self.old.stores.journal) →
+            (first : List ℕ → Option (List ℕ)) (book : Book) →
+            HoldsBook S.TakeStore J.Journal first self.old book →
+            NotesBook S.TakeStore J.Journal first self.old book →
+            NotesBook S.TakeStore J.Journal first self.new (book_told book
+            (message_of message.now) (map reply_of out.new.items)
+            (done_in self.new.sessions (message_of message.now).name)) }
     {
         if let Err(code) = self.try_meet(&name, message, out) {
             out.push(Reply::Notice {
@@ -197,6 +213,17 @@ impl<S: TakeStore, J: Journal> Server<S, J> {
             HoldsBook S.TakeStore J.Journal first self.old book →
             OnOk result (TurnsBook S.TakeStore J.Journal first self.old self.new book
             (message_of message.now) out.new.items) }
+        ensures noted { IsTrue (S.honest self.old.stores.store) →
+            IsTrue (J.honest self.old.stores.journal) →
+            (first : List ℕ → Option (List ℕ)) (book : Book) →
+            HoldsBook S.TakeStore J.Journal first self.old book →
+            NotesBook S.TakeStore J.Journal first self.old book →
+            OnOk result (NotesBook S.TakeStore J.Journal first self.new (book_told book
+            (message_of message.now) (map reply_of out.new.items)
+            (done_in self.new.sessions (message_of message.now).name))) }
+        ensures away { IfErr result (λ code. IsTrue
+            (is_turned_away (refusal (message_of message.now) (notice_meaning code) 0)
+            || nat_le window (message_of message.now).number)) }
         ensures refused { IfErr result (λ code. IsTrue (S.honest self.old.stores.store) →
             (first : List ℕ → Option (List ℕ)) (book : Book) →
             HoldsBook S.TakeStore J.Journal first self.old book →
@@ -249,6 +276,14 @@ impl<S: TakeStore, J: Journal> Server<S, J> {
             HoldsBook S.TakeStore J.Journal first self.old book →
             OnOk result (TurnsBook S.TakeStore J.Journal first self.old self.new book
             (message_of message.now) out.new.items) }
+        ensures noted { IsTrue (S.honest self.old.stores.store) →
+            IsTrue (J.honest self.old.stores.journal) →
+            (first : List ℕ → Option (List ℕ)) (book : Book) →
+            HoldsBook S.TakeStore J.Journal first self.old book →
+            NotesBook S.TakeStore J.Journal first self.old book →
+            OnOk result (NotesBook S.TakeStore J.Journal first self.new (book_told book
+            (message_of message.now) (map reply_of out.new.items)
+            (done_in self.new.sessions (message_of message.now).name))) }
     {
         let mut session = Session::new(self.stores.alloc, name.copy(), self.limit)?;
         session.serve(&mut self.stores, message, out)?;

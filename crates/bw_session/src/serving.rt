@@ -27,7 +27,7 @@ impl Session {
     ghost use Rattle.bw_session.specs.Sessions.{CallsFew};
     ghost use Rattle.bw_session.specs.Runs.{EndsDraining, with_more_done};
     ghost use Rattle.bw_session.specs.Telling.{IsServing};
-    ghost use Rattle.bw_session.specs.Serving.{Answers, Serves, log_after};
+    ghost use Rattle.bw_session.specs.Serving.{Answers, Serves, log_after, log_told};
 
     /// Takes a message of the name, and tells its sender, in `out`, which is empty.
     pub(crate) fn answer<S: TakeStore, J: Journal>(
@@ -57,6 +57,17 @@ impl Session {
             (failed_calls (S.failures stores.new.store) (J.failures stores.new.journal))
             out.new.items (part_of self.new)
             (S.contents stores.new.store self.old.progress.name) }
+        ensures noted { IsTrue (S.honest stores.old.store) →
+            IsTrue (J.honest stores.old.journal) → (first : Option (List ℕ)) (log : Log) →
+            HoldsLog first log (part_of self.old)
+            (S.contents stores.old.store self.old.progress.name) →
+            (J.header stores.old.journal self.old.progress.name).stood ≡ is_some first →
+            IsNoted (J.header stores.old.journal self.old.progress.name) self.old.progress.name
+            log self.old.progress.noted (J.notes stores.old.journal self.old.progress.name) →
+            IsNoted (J.header stores.old.journal self.old.progress.name) self.old.progress.name
+            (log_told log (message_of message.now) (map reply_of out.new.items)
+            (length self.new.progress.ledger.outcomes)) self.new.progress.noted
+            (J.notes stores.new.journal self.old.progress.name) }
     {
         if let Err(_refused) = self.serve(stores, message, out) {
             out.push(self.notice(message, Notice::NoRoom));

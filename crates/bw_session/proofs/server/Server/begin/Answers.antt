@@ -1,4 +1,4 @@
-use Rattle.std.proofs.Common.{◌≡◌, ◌<◌, ℕ, List, Option, None, Some, Bool, cond, not, ◌&&◌, length}
+use Rattle.std.proofs.Common.{◌≡◌, ◌<◌, ℕ, List, Option, None, Some, Bool, cond, not, ◌&&◌, length, map}
 use Rattle.std.proofs.Common.{refl, sym, ◌∙◌, ap, subst, arith, inl, inr}
 use Rattle.std.specs.Prelude.{nat_le}
 use Rattle.std.specs.Option.{option_map_or}
@@ -8,20 +8,25 @@ use Rattle.std.proofs.lemmas.Bool.{lt-leb}
 use Rattle.bw_model.specs.Wire.{Message}
 use Rattle.bw_model.specs.Book.{Log, no_log, log_of, is_known}
 use Rattle.bw_model.specs.Turn.{is_full, window, most_takes}
+use Rattle.bw_model.specs.CountedTurn.{book_told}
 use Rattle.bw_model.proofs.BookLemmas.{unknown_log, name_refl}
 use Rattle.bw_file.specs.Growing.{Growing}
 use Rattle.bw_file.specs.Stores.{KeepsOthers}
 use Rattle.bw_wire.specs.Frames.{message_of}
 use Rattle.bw_wire.proofs.BodyLaws.{message_spelled}
 use Rattle.bw_session.specs.Sessions.{CallsFew, HoldsLog, part_of}
-use Rattle.bw_session.specs.Serving.{Serves}
+use Rattle.bw_wire.specs.Replies.{reply_of}
+use Rattle.bw_session.specs.Noting.{IsNoted}
+use Rattle.bw_session.specs.Serving.{Serves, log_after}
 use Rattle.bw_session.specs.Servers.{store_since, done_in}
 use Rattle.bw_session.specs.Numbered.{KeepsBoth, failed_calls}
 use Rattle.bw_session.specs.declared.session.Session.{Session}
 use Rattle.bw_session.specs.Books.{failures_of}
 use Rattle.bw_session.specs.Tables.{session_in}
 use Rattle.bw_session.proofs.ServerForms.{table_set, book_turned, inserted, one_more, unknown_here}
-use Rattle.bw_session.proofs.AnswerForms.{answers_served, answers_known}
+use Rattle.bw_session.proofs.AnswerForms.{answers_served, answers_known, none_away}
+use Rattle.bw_session.proofs.RunForms.{noted_then}
+use Rattle.bw_session.proofs.JournalForms.{notes_after, told_here, told_others}
 use Rattle.bw_session.proofs.CountForms.{counted}
 use Rattle.bw_session.proofs.server.Server.begin.Goals as goal
 
@@ -119,3 +124,50 @@ returns-clause-turned g c = λ honest first book h.
     (failures_of g.S.TakeStore g.J.Journal c.args.self.now) after c.serve.new.out.items (part_of s)
     (g.S.TakeStore.contents c.serve.new.stores.store m.name) there)) in
     record { later = _; turned = turned.0; held = turned.1 }
+
+pub returns-clause-noted : goal.returns-clause-noted
+returns-clause-noted g c = λ honest honest_notes first book h n.
+    let m : Message = message_of c.args.message.now in
+    let s : Session = c.serve.new.self in
+    let both = c.in_ok-serve.ensures.both in
+    let owner : c.in_ok-session.session.progress.name ≡ m.name =
+    c.in_ok-session.ensures.name ∙ c.copy.ensures ∙ sym c.requires.name in
+    let fresh = subst (λ (n : List ℕ). session_in c.args.self.now.sessions n ≡ None) (sym c.requires.name)
+    c.requires.fresh in
+    let unknown = unknown_here c.args.self.now.limit (store_since g.S.TakeStore first c.args.self.now.stores.store)
+    (session_in c.args.self.now.sessions) book h honest m.name fresh in
+    let nothing = h.others honest m.name (inr unknown) in
+    let near = ap (λ (k : Bool). not k && nat_le window m.number) unknown ∙ lt-leb window m.number c.requires.near in
+    let sets = subst (λ (k : List ℕ). (n : List ℕ) → session_in c.insert.new.self n
+    ≡ cond (bytes_eq k n) (Some s) (session_in c.args.self.now.sessions n)) (c.copy-2.ensures ∙ sym c.requires.name)
+    c.in-Ok.ensures.updates.0 in
+    let here : session_in c.insert.new.self m.name ≡ Some s =
+    sets m.name ∙ ap (λ (v : Bool). cond v (Some s) (session_in c.args.self.now.sessions m.name)) (name_refl m.name) in
+    let done : done_in c.insert.new.self m.name ≡ length s.progress.ledger.outcomes =
+    ap (λ (o : Option Session). option_map_or (λ x. length x.progress.ledger.outcomes) o 0) here in
+    let begun = subst (λ (k : List ℕ). IsNoted (g.J.Journal.header c.args.self.now.stores.journal m.name) k no_log
+    c.in_ok-session.session.progress.noted (g.J.Journal.notes c.args.self.now.stores.journal m.name))
+    (c.copy.ensures ∙ sym c.requires.name)
+    (c.in_ok-session.ensures.noted (g.J.Journal.header c.args.self.now.stores.journal m.name)
+    (g.J.Journal.notes c.args.self.now.stores.journal m.name) (n.unknown m.name fresh)) in
+    let noted = noted_then c.in_ok-session.session.progress.name m.name
+    (g.J.Journal.header c.args.self.now.stores.journal) _ (first m.name) no_log
+    (log_after no_log m (length s.progress.ledger.outcomes)) c.in_ok-session.session.progress.noted _
+    (g.J.Journal.notes c.args.self.now.stores.journal) (g.J.Journal.notes c.serve.new.stores.journal) owner refl
+    (c.in_ok-serve.ensures.noted honest honest_notes (first m.name) no_log
+    (subst (λ (o : Option (List ℕ)). HoldsLog (first m.name) no_log (part_of c.in_ok-session.session) o)
+    (sym (ap (g.S.TakeStore.contents c.args.self.now.stores.store) owner ∙ nothing))
+    (c.in_ok-session.ensures.holds (first m.name)))) (n.stood m.name) begun in
+    notes_after (g.J.Journal.header c.args.self.now.stores.journal) (g.J.Journal.header c.serve.new.stores.journal)
+    (g.J.Journal.notes c.args.self.now.stores.journal) (g.J.Journal.notes c.serve.new.stores.journal) first
+    (session_in c.args.self.now.sessions) (session_in c.insert.new.self) book
+    (book_told book m (map reply_of c.serve.new.out.items) (done_in c.insert.new.self m.name)) m.name s
+    (log_after no_log m (length s.progress.ledger.outcomes)) n (both.1.headers honest_notes)
+    (subst (λ (k : List ℕ). KeepsOthers (g.J.Journal.notes c.args.self.now.stores.journal)
+    (g.J.Journal.notes c.serve.new.stores.journal) k) owner (both.1.other_notes honest_notes)) sets
+    (told_here book m (map reply_of c.serve.new.out.items) (done_in c.insert.new.self m.name) near
+    ∙ ap (λ (b : Bool). cond b (log_of book m.name) (log_after (log_of book m.name) m
+    (done_in c.insert.new.self m.name))) (none_away c.serve.new.out.items c.in_ok-serve.ensures.told)
+    ∙ ap (λ (l : Log). log_after l m (done_in c.insert.new.self m.name)) (unknown_log book m.name unknown)
+    ∙ ap (log_after no_log m) done)
+    (told_others book m (map reply_of c.serve.new.out.items) (done_in c.insert.new.self m.name) near) noted

@@ -1,5 +1,44 @@
+use Rattle.std.proofs.Common.{◌≡◌, ℕ, ◌||◌, List, [], ◌∷◌, ◌++◌, map, None, sym, ◌∙◌, ap, subst}
+use Rattle.std.specs.Prelude.{nat_le}
+use Rattle.bw_model.specs.Wire.{Message}
+use Rattle.bw_model.specs.Replies as model
+use Rattle.bw_model.specs.Turn.{is_turned_away, notice, window}
+use Rattle.bw_model.specs.Book.{Book}
+use Rattle.bw_wire.specs.declared.reply.Reply.{Reply}
+use Rattle.bw_wire.specs.declared.reply.Reply.TheVariants.{Notice}
+use Rattle.bw_wire.specs.Frames.{message_of}
+use Rattle.bw_wire.specs.Notices.{notice_meaning}
+use Rattle.bw_wire.specs.Replies.{reply_of}
+use Rattle.bw_session.specs.Journaled.{NotesNames}
+use Rattle.bw_session.specs.Servers.{store_since, done_in}
+use Rattle.bw_session.specs.Tables.{session_in}
 use Rattle.bw_session.proofs.AnswerForms.{served_here}
+use Rattle.bw_session.proofs.ServerForms.{unknown_here}
+use Rattle.bw_session.proofs.JournalForms.{told_away, away_either}
 use Rattle.bw_session.proofs.server.Server.meet.Goals as goal
 
 pub returns-in_default-clause-uncalled : goal.returns-in_default-clause-uncalled
 returns-in_default-clause-uncalled g c = λ away. served_here c.try_meet.new.out.items c.in_default.ensures.told away
+
+pub returns-in-Err-clause-noted : goal.returns-in-Err-clause-noted
+returns-in-Err-clause-noted g c = λ honest honest_notes first book h n.
+    let m : Message = message_of c.args.message.now in
+    let e = c.in-Err.ensures in
+    let fresh = subst (λ (k : List ℕ). session_in c.args.self.now.sessions k ≡ None) (sym c.requires.name)
+    c.requires.fresh in
+    let unknown = unknown_here c.args.self.now.limit (store_since g.S.TakeStore first c.args.self.now.stores.store)
+    (session_in c.args.self.now.sessions) book h honest m.name fresh in
+    let told : map reply_of c.push.new.self.items ≡ notice m (notice_meaning c.in-Err.code) 0 =
+    ap (map reply_of) (c.push.ensures.items
+    ∙ ap (λ (rs : List Reply). rs ++ Notice c.args.name c.number.result c.in-Err.code 0 ∷ []) e.untold)
+    ∙ ap (λ (x : List ℕ). model.Noticed x c.number.result (notice_meaning c.in-Err.code) 0 ∷ []) (sym c.requires.name)
+    ∙ ap (λ (k : ℕ). model.Noticed m.name k (notice_meaning c.in-Err.code) 0 ∷ []) c.number.ensures.value in
+    let away = away_either book m (map reply_of c.push.new.self.items) unknown
+    (ap (λ (rs : List model.Reply). is_turned_away rs || nat_le window m.number) told ∙ e.away) in
+    subst (λ (b : Book). NotesNames (g.J.Journal.header c.try_meet.new.self.stores.journal)
+    (g.J.Journal.notes c.try_meet.new.self.stores.journal) first (session_in c.try_meet.new.self.sessions) b)
+    (sym (told_away book m (map reply_of c.push.new.self.items) (done_in c.try_meet.new.self.sessions m.name) away))
+    (subst (λ (j : _). NotesNames (g.J.Journal.header j) (g.J.Journal.notes j) first
+    (session_in c.try_meet.new.self.sessions) book) (sym e.journal)
+    (subst (λ (t : _). NotesNames (g.J.Journal.header c.args.self.now.stores.journal)
+    (g.J.Journal.notes c.args.self.now.stores.journal) first (session_in t) book) (sym e.sessions) n))

@@ -1,6 +1,7 @@
 use Rattle.std.proofs.Common.{rules, ◌≡◌, ◌<◌, ◌≤◌, ℕ, List, None, sym, ◌∙◌, subst, arith}
 use Rattle.std.specs.Prelude.{is_some}
 use Rattle.std.specs.HashMap.{hash_map_len}
+use Rattle.std.proofs.lemmas.Bool.{le-leb}
 use Rattle.bw_model.specs.Wire.{Message}
 use Rattle.bw_model.specs.Turn.{window, most_takes}
 use Rattle.bw_wire.specs.Frames.{message_of}
@@ -46,3 +47,8 @@ returns-in-Err-clause-refused g c = λ honest first book h.
     let place : hash_map_len c.args.self.now.sessions < most_takes = search rules in
     no_room (λ n. is_some (first n)) (failures_of g.S.TakeStore g.J.Journal c.args.self.now) book m unknown near
     (omega (arith, count, place))
+
+pub returns-then-number-ge-SLOTS-clause-away : goal.returns-then-number-ge-SLOTS-clause-away
+returns-then-number-ge-SLOTS-clause-away g c =
+    let past : window ≤ (message_of c.args.message.now).number = search rules in
+    le-leb window (message_of c.args.message.now).number past

@@ -1,12 +1,13 @@
-use Rattle.std.proofs.Common.{◌≡◌, ◌+◌, ◌≤◌, ℕ, List, Option, Some, true, false, Bool, cond, length, refl, sym, ◌∙◌, ap, subst, inr}
-use Rattle.std.specs.Prelude.{is_some}
+use Rattle.std.proofs.Common.{◌≡◌, ◌+◌, ◌≤◌, ℕ, List, Option, Some, true, false, Bool, cond, length, refl, sym, ◌∙◌, ap, subst, inr, map, not, ◌&&◌}
+use Rattle.std.specs.Prelude.{is_some, nat_le}
 use Rattle.std.specs.Str.{bytes_eq}
 use Rattle.std.specs.Option.{option_map_or}
 use Rattle.std.specs.HashMap.{hash_map_len, spare}
 use Rattle.bw_model.specs.Wire.{Message}
-use Rattle.bw_model.specs.Book.{log_of}
-use Rattle.bw_model.specs.Turn.{is_full, most_takes}
+use Rattle.bw_model.specs.Book.{log_of, is_known}
+use Rattle.bw_model.specs.Turn.{is_full, most_takes, window}
 use Rattle.bw_model.specs.Holds.{Holds}
+use Rattle.bw_model.specs.CountedTurn.{book_told}
 use Rattle.bw_model.proofs.BookLemmas.{name_refl}
 use Rattle.bw_file.specs.Growing.{Growing}
 use Rattle.bw_file.specs.Stores.{KeepsOthers}
@@ -14,12 +15,15 @@ use Rattle.bw_wire.specs.Frames.{message_of}
 use Rattle.bw_wire.proofs.BodyLaws.{message_spelled}
 use Rattle.bw_session.specs.Numbered.{KeepsBoth, failed_calls}
 use Rattle.bw_session.specs.Sessions.{CallsFew, HoldsLog, part_of}
-use Rattle.bw_session.specs.Serving.{Answers}
+use Rattle.bw_wire.specs.Replies.{reply_of}
+use Rattle.bw_session.specs.Serving.{Answers, log_told}
 use Rattle.bw_session.specs.Servers.{kept_in, store_since, done_in}
 use Rattle.bw_session.specs.Books.{failures_of}
 use Rattle.bw_session.specs.Tables.{session_in}
 use Rattle.bw_session.specs.declared.session.Session.{Session}
 use Rattle.bw_session.proofs.AnswerForms.{answers_full}
+use Rattle.bw_session.proofs.RunForms.{noted_then}
+use Rattle.bw_session.proofs.JournalForms.{notes_after, told_here, told_others}
 use Rattle.bw_session.proofs.ServerForms.{table_set, book_turned, known_here, part_here}
 use Rattle.bw_session.proofs.server.Server.turn.Goals as goal
 
@@ -130,3 +134,50 @@ returns-in-None-clause-turned g c = λ honest first book h.
     (subst (λ (t : _). Holds c.args.self.now.limit (store_since g.S.TakeStore first c.args.self.now.stores.store)
     (kept_in t) book) (sym c.get_mut.follows.holds-at-none) h) in
     record { later = turned.later; turned = turned.turned; held = turned.held }
+
+pub returns-in-Some-clause-noted : goal.returns-in-Some-clause-noted
+returns-in-Some-clause-noted g c = λ honest honest_notes first book h n.
+    let s : Session = c.in-Some.session.now in
+    let s' : Session = c.answer.new.self in
+    let m : Message = message_of c.args.message.now in
+    let table = c.args.self.now.table in
+    let both = c.answer.ensures.both in
+    let limit : ℕ = c.args.self.now.limit in
+    let found = subst (λ (n : List ℕ). session_in c.args.self.now.sessions n ≡ Some s) c.name-name.ensures
+    (sym c.in-Some.ensures.value) in
+    let named = table.names m.name s found in
+    let limited = table.limits m.name s found in
+    let holds = c.get_mut.follows.holds s' in
+    let sets = subst (λ (k : List ℕ). (n : List ℕ) → session_in (c.get_mut.follows.lender s') n
+    ≡ cond (bytes_eq k n) (Some s') (session_in c.args.self.now.sessions n)) c.name-name.ensures
+    (holds.3 (sym (ap is_some c.in-Some.ensures.value))).0 in
+    let here : session_in (c.get_mut.follows.lender s') m.name ≡ Some s' =
+    sets m.name ∙ ap (λ (v : Bool). cond v (Some s') (session_in c.args.self.now.sessions m.name)) (name_refl m.name) in
+    let done : done_in (c.get_mut.follows.lender s') m.name ≡ length s'.progress.ledger.outcomes =
+    ap (λ (o : Option Session). option_map_or (λ x. length x.progress.ledger.outcomes) o 0) here in
+    let store = store_since g.S.TakeStore first c.args.self.now.stores.store in
+    let known = known_here limit store (session_in c.args.self.now.sessions) book h honest m.name s found in
+    let part = part_here limit store (session_in c.args.self.now.sessions) book h honest m.name s found
+    (s.progress.same_name ∙ named) limited in
+    let near : (not (is_known book m.name) && nat_le window m.number) ≡ false =
+    ap (λ (k : Bool). not k && nat_le window m.number) known in
+    let noted = noted_then s.progress.name m.name (g.J.Journal.header c.args.self.now.stores.journal) _ (first m.name)
+    (log_of book m.name)
+    (log_told (log_of book m.name) m (map reply_of c.answer.new.out.items) (length s'.progress.ledger.outcomes))
+    s.progress.noted _ (g.J.Journal.notes c.args.self.now.stores.journal)
+    (g.J.Journal.notes c.answer.new.stores.journal) named refl
+    (c.answer.ensures.noted honest honest_notes (first m.name) (log_of book m.name)
+    (subst (λ (n : List ℕ). HoldsLog (first m.name) (log_of book m.name) (part_of s)
+    (g.S.TakeStore.contents c.args.self.now.stores.store n)) (sym named) part)) (n.stood m.name)
+    (n.known m.name s found) in
+    notes_after (g.J.Journal.header c.args.self.now.stores.journal) (g.J.Journal.header c.answer.new.stores.journal)
+    (g.J.Journal.notes c.args.self.now.stores.journal) (g.J.Journal.notes c.answer.new.stores.journal) first
+    (session_in c.args.self.now.sessions) (session_in (c.get_mut.follows.lender s')) book
+    (book_told book m (map reply_of c.answer.new.out.items) (done_in (c.get_mut.follows.lender s') m.name)) m.name s'
+    (log_told (log_of book m.name) m (map reply_of c.answer.new.out.items) (length s'.progress.ledger.outcomes)) n
+    (both.1.headers honest_notes)
+    (subst (λ (k : List ℕ). KeepsOthers (g.J.Journal.notes c.args.self.now.stores.journal)
+    (g.J.Journal.notes c.answer.new.stores.journal) k) named (both.1.other_notes honest_notes)) sets
+    (told_here book m (map reply_of c.answer.new.out.items) (done_in (c.get_mut.follows.lender s') m.name) near
+    ∙ ap (log_told (log_of book m.name) m (map reply_of c.answer.new.out.items)) done)
+    (told_others book m (map reply_of c.answer.new.out.items) (done_in (c.get_mut.follows.lender s') m.name) near) noted

@@ -1,14 +1,15 @@
-use Rattle.std.proofs.Common.{◌≡◌, ◌++◌, ℕ, List, [], ◌∷◌, true, false, length, map, refl, sym, ◌∙◌, ap, subst}
+use Rattle.std.proofs.Common.{◌≡◌, ◌++◌, ℕ, List, [], ◌∷◌, true, false, length, map, refl, sym, ◌∙◌, ap, subst, Bool, cond}
 use Rattle.bw_model.specs.Wire.{Message}
 use Rattle.bw_model.specs.Replies as model
-use Rattle.bw_model.specs.Turn.{notice}
+use Rattle.bw_model.specs.Turn.{notice, is_turned_away}
 use Rattle.bw_wire.specs.Frames.{message_of}
 use Rattle.bw_wire.specs.Replies.{reply_of}
 use Rattle.bw_wire.specs.declared.reply.Reply.{Reply}
 use Rattle.bw_session.specs.Numbered.{failed_calls}
 use Rattle.bw_session.specs.Sessions.{part_of}
-use Rattle.bw_session.specs.Serving.{Answers}
-use Rattle.bw_session.proofs.AnswerForms.{answers_served, answers_refused, same_part, served_here}
+use Rattle.bw_session.specs.Noting.{IsNoted}
+use Rattle.bw_session.specs.Serving.{Answers, log_after}
+use Rattle.bw_session.proofs.AnswerForms.{answers_served, answers_refused, same_part, served_here, none_away}
 use Rattle.bw_session.proofs.session.Session.answer.Goals as goal
 
 pub returns-in_default-clause-answers : goal.returns-in_default-clause-answers
@@ -37,6 +38,36 @@ returns-in-Err-clause-answers g c = λ honest first log h.
     (answers_refused true false first log m refl refl before c.push.new.self.items (part_of c.serve.new.self) _
     (e.refused first log _ h) told
     (same_part first log c.args.self.now c.serve.new.self _ e.progress e.window h)))
+
+pub returns-in_default-clause-noted : goal.returns-in_default-clause-noted
+returns-in_default-clause-noted g c = λ honest honest_notes first log h stood noted.
+    let m : Message = message_of c.args.message.now in
+    subst (λ (b : Bool). IsNoted (g.J.Journal.header c.args.stores.now.journal c.args.self.now.progress.name)
+    c.args.self.now.progress.name
+    (cond b log (log_after log m (length c.serve.new.self.progress.ledger.outcomes)))
+    c.serve.new.self.progress.noted (g.J.Journal.notes c.serve.new.stores.journal c.args.self.now.progress.name))
+    (sym (none_away c.serve.new.out.items c.in_default.ensures.told))
+    (c.in_default.ensures.noted honest honest_notes first log h stood noted)
+
+pub returns-in-Err-clause-noted : goal.returns-in-Err-clause-noted
+returns-in-Err-clause-noted g c = λ honest honest_notes first log h stood noted.
+    let m : Message = message_of c.args.message.now in
+    let e = c.in-Err.ensures in
+    let told : map reply_of c.push.new.self.items ≡ reply_of c.notice.result ∷ [] =
+    ap (map reply_of) (c.push.ensures.items ∙ ap (λ (rs : List Reply). rs ++ c.notice.result ∷ []) e.untold) in
+    let away : is_turned_away (map reply_of c.push.new.self.items) ≡ true =
+    ap is_turned_away (told ∙ ap (λ (r : model.Reply). r ∷ []) c.notice.ensures.value) in
+    subst (λ (b : Bool). IsNoted (g.J.Journal.header c.args.stores.now.journal c.args.self.now.progress.name)
+    c.args.self.now.progress.name
+    (cond b log (log_after log m (length c.serve.new.self.progress.ledger.outcomes)))
+    c.serve.new.self.progress.noted (g.J.Journal.notes c.serve.new.stores.journal c.args.self.now.progress.name))
+    (sym away)
+    (subst (λ (n : ℕ). IsNoted (g.J.Journal.header c.args.stores.now.journal c.args.self.now.progress.name)
+    c.args.self.now.progress.name log n
+    (g.J.Journal.notes c.serve.new.stores.journal c.args.self.now.progress.name)) (sym e.progress.noted)
+    (subst (λ (j : _). IsNoted (g.J.Journal.header c.args.stores.now.journal c.args.self.now.progress.name)
+    c.args.self.now.progress.name log c.args.self.now.progress.noted
+    (g.J.Journal.notes j c.args.self.now.progress.name)) (sym e.journal) noted))
 
 pub returns-in_default-clause-uncalled : goal.returns-in_default-clause-uncalled
 returns-in_default-clause-uncalled g c = λ away. served_here c.serve.new.out.items c.in_default.ensures.told away
