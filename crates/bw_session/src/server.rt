@@ -1,7 +1,7 @@
 //! A server: what it keeps of each name, over a store and its journal.
-ghost use Rattle.std.specs.Prelude.{◌≡◌, ◌<◌, ◌≤◌, ℕ, List, [], Option, None, Bool, IsTrue, OnOk};
-ghost use Rattle.std.specs.Prelude.{OnErr, IfOk, IfErr, length, option_map, is_some, map, vec_capacity, IfSome, ◌+◌};
-ghost use Rattle.std.specs.Prelude.{◌*◌, ◌&&◌, ◌||◌, nat_le};
+ghost use Rattle.std.specs.Prelude.{◌≡◌, ◌<◌, ◌≤◌, ◌+◌, ◌*◌, ◌&&◌, ◌||◌, ℕ, List, [], Option, None};
+ghost use Rattle.std.specs.Prelude.{Bool, IsTrue, IfOk, OnOk, IfErr, OnErr, IfSome, is_some, nat_le};
+ghost use Rattle.std.specs.Prelude.{length, map, vec_capacity};
 ghost use Rattle.std.specs.List.{All};
 ghost use Rattle.std.specs.HashMap.{hash_map_len, spare, IsUnique};
 ghost use Rattle.std.specs.Str.{bytes_eq};
@@ -46,7 +46,6 @@ pub struct Server<S: TakeStore, J: Journal = NoJournal> {
 }
 
 impl<S: TakeStore> Server<S> {
-    ghost use Rattle.bw_journal.specs.declared.journal.NoJournal.{NoJournal as none};
     ghost use Rattle.bw_session.specs.Books.{HoldsBook};
 
     /// A server that knows no name, over a store alone.
