@@ -19,3 +19,4 @@ pub mod ServerForms
 pub mod CountForms
 pub mod TellForms
 pub mod JournalForms
+pub mod SettledForms

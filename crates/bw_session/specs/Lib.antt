@@ -17,3 +17,4 @@ pub mod Tables
 pub mod Servers
 pub mod Journaled
 pub mod Books
+pub mod Settled

@@ -1,5 +1,6 @@
 //! Laws of the definitions that servers of many names rest on.
 ghost use Rattle.bw_model.specs.Turn.{IsolatesEachName};
+ghost use Rattle.bw_session.specs.Settled.{SettledTurnsNeedNoLuck};
 
 /// Each name's turns are a run of their own: what comes for other names changes nothing of it.
 pub fn law_isolation()
@@ -7,3 +8,10 @@ pub fn law_isolation()
 {
     bw_model::law_isolation();
 }
+
+/// A message whose number is admitted or too far is told the same whatever memory and store do,
+/// where nothing of its name waits.
+#[tactic(auto, using(crate::proofs::SettledForms::settled_turns))]
+pub fn law_settled()
+    ensures { SettledTurnsNeedNoLuck }
+{}
