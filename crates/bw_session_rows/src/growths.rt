@@ -1,0 +1,75 @@
+//! Memory that is refused to a server.
+use crate::compare::same;
+use crate::play::{a1, knows, send};
+use crate::takes::{ALL_DONE, APPENDED, BLOCK, CLOSE, CLOSED, OPEN, OPENED, TWO_FRAMES};
+use arrayvec::ArrayVec;
+use bw_file::MemoryStore;
+use bw_layout::Limit;
+use bw_session::Server;
+use bw_wire::{Frame, Notice, Reply, decode};
+use std::alloc::Global;
+use std::process::Abort;
+use std::test::Fail;
+
+/// A server, made in the second try where memory was refused in the first.
+fn new_server(alloc: Global) -> Result<Server<MemoryStore>, Fail> {
+    let store = match Server::new(alloc, MemoryStore::new(alloc), Limit::default()) {
+        Ok(server) => return Ok(server),
+        Err((_refused, store)) => store,
+    };
+    match Server::new(alloc, store, Limit::default()) {
+        Ok(server) => Ok(server),
+        Err(_refused) => Err("memory")?,
+    }
+}
+
+/// Whether the one reply is that memory was refused.
+fn is_refused(replies: &[Reply]) -> bool {
+    match replies {
+        [Reply::Notice { code, .. }] => *code == Notice::NoRoom,
+        _ => false,
+    }
+}
+
+/// Gives the server a message: once more where memory was refused to it, and nothing changed.
+fn send_anew(rt: &impl Abort, server: &mut Server<MemoryStore>, body: &[u8]) -> Result<(), Fail> {
+    let of = "a refused growth";
+    let name = a1()?;
+    let Ok(Frame::Message(message)) = decode(body) else {
+        return Err("no message")?;
+    };
+    let before = knows(server, &name);
+    let mut replies = ArrayVec::new();
+    server.turn(&message, &mut replies);
+    if is_refused(replies.as_slice()) {
+        same(rt, of, &knows(server, &name), &before);
+        server.turn(&message, &mut replies);
+        same(rt, of, &is_refused(replies.as_slice()), &false);
+    }
+    Ok(())
+}
+
+/// Run once more with each growth refused, by `tools/refuse_growths`. A growth that is refused to
+/// the store is a fault of the store.
+#[test]
+fn a_refused_growth_is_told_and_changes_nothing(rt: HostRuntime) -> Result<(), Fail> {
+    let of = "a refused growth";
+    let mut server = new_server(rt.alloc())?;
+    for body in [CLOSE, BLOCK, OPEN, CLOSE] {
+        send_anew(&rt, &mut server, body)?;
+    }
+    let name = a1()?;
+    same(&rt, of, &knows(&server, &name), &Some(ALL_DONE));
+    send(&rt, of, &mut server, OPEN, &[OPENED])?;
+    send(&rt, of, &mut server, BLOCK, &[APPENDED])?;
+    send(&rt, of, &mut server, CLOSE, &[CLOSED])?;
+    let bytes = match TWO_FRAMES.bytes(rt.alloc()) {
+        Ok(bytes) => bytes,
+        Err(_refused) => TWO_FRAMES.bytes(rt.alloc())?,
+    };
+    assert!(&rt;
+        server.store().content(&name) == Some(bytes.as_slice()),
+        "another file"
+    );
+    Ok(())
+}

@@ -1,0 +1,92 @@
+//! As many names as a server knows, and one more.
+use crate::asks::{ASK, ask};
+use crate::compare::same;
+use crate::play::Told::Noticed;
+use crate::play::{a1, fused_server, has_file, knows, send, server_over};
+use crate::takes::{APPENDED, BLOCK, EMPTY, OPEN, OPENED, TWO_DONE, TWO_FRAMES};
+use bw_file::MemoryStore;
+use bw_session::Server;
+use bw_take::Name;
+use bw_wire::Notice::{DelayedStore, Held, Next, TableFull, TooFar};
+use std::alloc::Global;
+use std::process::Abort;
+use std::test::Fail;
+
+/// The letters of a name of its own for each number: `aa` to `pp`.
+fn letters(place: u8) -> [u8; 2] {
+    [b'a' + place / 16, b'a' + place % 16]
+}
+
+/// The body of another name's message, with a name of two letters in its place.
+fn body_of(alloc: Global, body: &[u8], letters: [u8; 2]) -> Result<Vec<u8>, Fail> {
+    let mut bytes = body.to_vec(alloc)?;
+    if bytes.len() < 4 {
+        return Err("a name of two letters")?;
+    }
+    bytes[2] = letters[0];
+    bytes[3] = letters[1];
+    Ok(bytes)
+}
+
+/// A server that knows 256 names, each with a block that waits.
+fn full_server(rt: &impl Abort, alloc: Global) -> Result<Server<MemoryStore>, Fail> {
+    let mut server = server_over(alloc, MemoryStore::new(alloc))?;
+    for place in 0..=255u8 {
+        let body = body_of(alloc, BLOCK, letters(place))?;
+        send(
+            rt,
+            "a block that waits",
+            &mut server,
+            &body,
+            &[Noticed(1, Held, 0)],
+        )?;
+    }
+    Ok(server)
+}
+
+/// Ends the test where the messages of a name beyond the last are taken.
+fn turns_away(rt: &impl Abort, server: &mut Server<MemoryStore>) -> Result<(), Fail> {
+    let of = "a name beyond the last";
+    let name = a1()?;
+    send(rt, of, server, BLOCK, &[Noticed(1, TableFull, 0)])?;
+    let far = b"\x02\x02a1\x10\0\0\0\x01\0\x02\0";
+    send(rt, of, server, far, &[Noticed(16, TooFar, 0)])?;
+    ask(rt, server, ASK, Noticed(0, Next, 0))?;
+    same(rt, of, &knows(server, &name), &None);
+    Ok(())
+}
+
+#[test]
+fn a_server_of_256_names_turns_another_away_and_serves_its_own(
+    rt: HostRuntime,
+) -> Result<(), Fail> {
+    let alloc = rt.alloc();
+    let mut server = full_server(&rt, alloc)?;
+    turns_away(&rt, &mut server)?;
+    for place in 0..=255u8 {
+        let name = Name::new(&letters(place)).ok_or("a name")?;
+        let body = body_of(alloc, OPEN, letters(place))?;
+        send(&rt, "an OPEN", &mut server, &body, &[OPENED, APPENDED])?;
+        same(&rt, place, &knows(&server, &name), &Some(TWO_DONE));
+        has_file(&rt, alloc, "an OPEN", server.store(), &name, &TWO_FRAMES)?;
+    }
+    turns_away(&rt, &mut server)?;
+    same(&rt, "names", &server.store().name_at(256), &None);
+    Ok(())
+}
+
+#[test]
+fn a_fault_under_one_name_leaves_another_alone(rt: HostRuntime) -> Result<(), Fail> {
+    let of = "two names";
+    let alloc = rt.alloc();
+    let (a1, b2) = (a1()?, Name::new(b"b2").ok_or("a name")?);
+    let mut server = fused_server(alloc, &[2])?;
+    let other = body_of(alloc, OPEN, *b"b2")?;
+    send(&rt, of, &mut server, OPEN, &[OPENED])?;
+    send(&rt, of, &mut server, &other, &[Noticed(0, DelayedStore, 0)])?;
+    send(&rt, of, &mut server, BLOCK, &[APPENDED])?;
+    same(&rt, of, &server.done(&b2), &Some(0));
+    has_file(&rt, alloc, of, server.store().inner(), &a1, &TWO_FRAMES)?;
+    send(&rt, of, &mut server, &other, &[OPENED])?;
+    has_file(&rt, alloc, of, server.store().inner(), &b2, &EMPTY)
+}
