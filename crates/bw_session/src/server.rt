@@ -1,6 +1,8 @@
 //! A server: what it keeps of each name, over a store and its journal.
 ghost use Rattle.std.specs.Prelude.{◌≡◌, ◌<◌, ◌≤◌, ◌+◌, ◌*◌, ◌&&◌, ◌||◌, ℕ, List, [], Option, None};
-ghost use Rattle.std.specs.Prelude.{Bool, IsTrue, IfOk, OnOk, IfErr, OnErr, IfSome, is_some, nat_le};
+ghost use Rattle.std.specs.Prelude.{Bool, IsTrue, IfOk, OnOk, IfErr, OnErr, IfSome, IsSome, is_some, nat_le};
+ghost use Rattle.bw_journal.specs.JournalHeaders.{header_bytes};
+ghost use Rattle.bw_journal.specs.Notes.{IsFrontOf};
 ghost use Rattle.std.specs.Prelude.{length, map, vec_capacity};
 ghost use Rattle.std.specs.List.{All};
 ghost use Rattle.std.specs.HashMap.{hash_map_len, spare, IsUnique};
@@ -85,6 +87,10 @@ impl<S: TakeStore, J: Journal> Server<S, J> {
         ensures limit { IfOk result (λ s. s.limit ≡ limit) }
         ensures book { IfOk result (λ s.
             HoldsBook S.TakeStore J.Journal (S.contents store) s []) }
+        ensures notes { IfOk result (λ s. ((name : List ℕ) →
+            IsFrontOf (header_bytes (J.header journal name)) (J.notes journal name)) →
+            ((name : List ℕ) → (J.header journal name).stood ≡ is_some (S.contents store name)) →
+            NotesBook S.TakeStore J.Journal (S.contents store) s []) }
         ensures store_back { IfErr result (λ e. e.1 ≡ store) }
         ensures journal_back { IfErr result (λ e. e.2 ≡ journal) }
     {
@@ -110,6 +116,10 @@ impl<S: TakeStore, J: Journal> Server<S, J> {
         ensures numbers { All HasWireNumbers out.new.items }
         ensures uncalled { IsTrue (is_turned_away (map reply_of out.new.items)) →
             (self.new.stores.store ≡ self.old.stores.store)
+            × (self.new.stores.journal ≡ self.old.stores.journal) }
+        ensures unmet { session_in self.new.sessions (message_of message.now).name ≡ None →
+            (self.new.sessions ≡ self.old.sessions)
+            × (self.new.stores.store ≡ self.old.stores.store)
             × (self.new.stores.journal ≡ self.old.stores.journal) }
         ensures both { (stopped : Bool) × KeepsBoth S.TakeStore J.Journal stopped
             (message_of message.now).name self.old.stores.store self.new.stores.store
@@ -149,6 +159,10 @@ impl<S: TakeStore, J: Journal> Server<S, J> {
         ensures numbers { All HasWireNumbers out.new.items }
         ensures uncalled { IsTrue (is_turned_away (map reply_of out.new.items)) →
             (self.new.stores.store ≡ self.old.stores.store)
+            × (self.new.stores.journal ≡ self.old.stores.journal) }
+        ensures unmet { session_in self.new.sessions (message_of message.now).name ≡ None →
+            (self.new.sessions ≡ self.old.sessions)
+            × (self.new.stores.store ≡ self.old.stores.store)
             × (self.new.stores.journal ≡ self.old.stores.journal) }
         ensures both { (stopped : Bool) × KeepsBoth S.TakeStore J.Journal stopped
             (message_of message.now).name self.old.stores.store self.new.stores.store
@@ -207,6 +221,7 @@ impl<S: TakeStore, J: Journal> Server<S, J> {
         ensures store { OnErr result (self.new.stores.store ≡ self.old.stores.store) }
         ensures journal { OnErr result (self.new.stores.journal ≡ self.old.stores.journal) }
         ensures untold { OnErr result (out.new.items ≡ []) }
+        ensures met { OnOk result (IsSome (session_in self.new.sessions name.now)) }
         ensures turned { IsTrue (S.honest self.old.stores.store) →
             (first : List ℕ → Option (List ℕ)) (book : Book) →
             HoldsBook S.TakeStore J.Journal first self.old book →
@@ -270,6 +285,7 @@ impl<S: TakeStore, J: Journal> Server<S, J> {
         ensures store { OnErr result (self.new.stores.store ≡ self.old.stores.store) }
         ensures journal { OnErr result (self.new.stores.journal ≡ self.old.stores.journal) }
         ensures untold { OnErr result (out.new.items ≡ []) }
+        ensures met { OnOk result (IsSome (session_in self.new.sessions name.now)) }
         ensures turned { IsTrue (S.honest self.old.stores.store) →
             (first : List ℕ → Option (List ℕ)) (book : Book) →
             HoldsBook S.TakeStore J.Journal first self.old book →

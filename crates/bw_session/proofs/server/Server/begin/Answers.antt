@@ -1,6 +1,6 @@
 use Rattle.std.proofs.Common.{◌≡◌, ◌<◌, ℕ, List, Option, None, Some, Bool, cond, not, ◌&&◌, length, map}
 use Rattle.std.proofs.Common.{refl, sym, ◌∙◌, ap, subst, arith, inl, inr}
-use Rattle.std.specs.Prelude.{nat_le}
+use Rattle.std.specs.Prelude.{is_some, nat_le}
 use Rattle.std.specs.Option.{option_map_or}
 use Rattle.std.specs.Str.{bytes_eq}
 use Rattle.std.specs.HashMap.{spare}
@@ -9,7 +9,7 @@ use Rattle.bw_model.specs.Wire.{Message}
 use Rattle.bw_model.specs.Book.{Log, no_log, log_of, is_known}
 use Rattle.bw_model.specs.Turn.{is_full, window, most_takes}
 use Rattle.bw_model.specs.CountedTurn.{book_told}
-use Rattle.bw_model.proofs.BookLemmas.{unknown_log, name_refl}
+use Rattle.bw_model.proofs.BookLemmas.{unknown_log}
 use Rattle.bw_file.specs.Growing.{Growing}
 use Rattle.bw_file.specs.Stores.{KeepsOthers}
 use Rattle.bw_wire.specs.Frames.{message_of}
@@ -23,7 +23,7 @@ use Rattle.bw_session.specs.Numbered.{KeepsBoth, failed_calls}
 use Rattle.bw_session.specs.declared.session.Session.{Session}
 use Rattle.bw_session.specs.Books.{failures_of}
 use Rattle.bw_session.specs.Tables.{session_in}
-use Rattle.bw_session.proofs.ServerForms.{table_set, book_turned, inserted, one_more, unknown_here}
+use Rattle.bw_session.proofs.ServerForms.{table_set, book_turned, inserted, one_more, unknown_here, put_here}
 use Rattle.bw_session.proofs.AnswerForms.{answers_served, answers_known, none_away}
 use Rattle.bw_session.proofs.RunForms.{noted_then}
 use Rattle.bw_session.proofs.JournalForms.{notes_after, told_here, told_others}
@@ -58,12 +58,11 @@ returns-clause-both g c =
     let owner = c.in_ok-session.ensures.name ∙ c.copy.ensures in
     let none : length c.in_ok-session.session.progress.ledger.outcomes ≡ 0 =
     (c.in_ok-session.ensures.holds None).memory.done in
-    let here : session_in c.insert.new.self c.args.name.now ≡ Some c.serve.new.self =
-    subst (λ (k : List ℕ). (n : List ℕ) → session_in c.insert.new.self n
+    let here = put_here (session_in c.args.self.now.sessions) (session_in c.insert.new.self) c.args.name.now
+    c.serve.new.self
+    (subst (λ (k : List ℕ). (n : List ℕ) → session_in c.insert.new.self n
     ≡ cond (bytes_eq k n) (Some c.serve.new.self) (session_in c.args.self.now.sessions n)) c.copy-2.ensures
-    c.in-Ok.ensures.updates.0 c.args.name.now
-    ∙ ap (λ (v : Bool). cond v (Some c.serve.new.self) (session_in c.args.self.now.sessions c.args.name.now))
-    (name_refl c.args.name.now) in
+    c.in-Ok.ensures.updates.0) in
     let now : done_in c.insert.new.self c.args.name.now ≡ length c.serve.new.self.progress.ledger.outcomes =
     ap (λ (o : Option Session). option_map_or (λ x. length x.progress.ledger.outcomes) o 0) here in (
       both.0,
@@ -141,8 +140,7 @@ returns-clause-noted g c = λ honest honest_notes first book h n.
     let sets = subst (λ (k : List ℕ). (n : List ℕ) → session_in c.insert.new.self n
     ≡ cond (bytes_eq k n) (Some s) (session_in c.args.self.now.sessions n)) (c.copy-2.ensures ∙ sym c.requires.name)
     c.in-Ok.ensures.updates.0 in
-    let here : session_in c.insert.new.self m.name ≡ Some s =
-    sets m.name ∙ ap (λ (v : Bool). cond v (Some s) (session_in c.args.self.now.sessions m.name)) (name_refl m.name) in
+    let here = put_here (session_in c.args.self.now.sessions) (session_in c.insert.new.self) m.name s sets in
     let done : done_in c.insert.new.self m.name ≡ length s.progress.ledger.outcomes =
     ap (λ (o : Option Session). option_map_or (λ x. length x.progress.ledger.outcomes) o 0) here in
     let begun = subst (λ (k : List ℕ). IsNoted (g.J.Journal.header c.args.self.now.stores.journal m.name) k no_log
@@ -171,3 +169,11 @@ returns-clause-noted g c = λ honest honest_notes first book h n.
     ∙ ap (λ (l : Log). log_after l m (done_in c.insert.new.self m.name)) (unknown_log book m.name unknown)
     ∙ ap (log_after no_log m) done)
     (told_others book m (map reply_of c.serve.new.out.items) (done_in c.insert.new.self m.name) near) noted
+
+pub returns-clause-met : goal.returns-clause-met
+returns-clause-met g c =
+    ap is_some (put_here (session_in c.args.self.now.sessions) (session_in c.insert.new.self) c.args.name.now
+    c.serve.new.self
+    (subst (λ (k : List ℕ). (n : List ℕ) → session_in c.insert.new.self n
+    ≡ cond (bytes_eq k n) (Some c.serve.new.self) (session_in c.args.self.now.sessions n)) c.copy-2.ensures
+    c.in-Ok.ensures.updates.0))

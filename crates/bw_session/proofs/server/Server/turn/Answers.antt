@@ -8,7 +8,6 @@ use Rattle.bw_model.specs.Book.{log_of, is_known}
 use Rattle.bw_model.specs.Turn.{is_full, most_takes, window}
 use Rattle.bw_model.specs.Holds.{Holds}
 use Rattle.bw_model.specs.CountedTurn.{book_told}
-use Rattle.bw_model.proofs.BookLemmas.{name_refl}
 use Rattle.bw_file.specs.Growing.{Growing}
 use Rattle.bw_file.specs.Stores.{KeepsOthers}
 use Rattle.bw_wire.specs.Frames.{message_of}
@@ -24,7 +23,8 @@ use Rattle.bw_session.specs.declared.session.Session.{Session}
 use Rattle.bw_session.proofs.AnswerForms.{answers_full}
 use Rattle.bw_session.proofs.RunForms.{noted_then}
 use Rattle.bw_session.proofs.JournalForms.{notes_after, told_here, told_others}
-use Rattle.bw_session.proofs.ServerForms.{table_set, book_turned, known_here, part_here}
+use Rattle.bw_session.proofs.ServerForms.{table_set, book_turned, known_here, part_here, put_here}
+use Rattle.bw_session.proofs.AdmitForms.{no_false}
 use Rattle.bw_session.proofs.server.Server.turn.Goals as goal
 
 pub answer-requires-clause-name : goal.answer-requires-clause-name
@@ -66,9 +66,8 @@ returns-in-Some-clause-both g c =
     let sets = subst (λ (k : List ℕ). (n : List ℕ) → session_in (c.get_mut.follows.lender c.answer.new.self) n
     ≡ cond (bytes_eq k n) (Some c.answer.new.self) (session_in c.args.self.now.sessions n)) c.name-name.ensures
     (holds.3 (sym (ap is_some c.in-Some.ensures.value))).0 in
-    let here : session_in (c.get_mut.follows.lender c.answer.new.self) m.name ≡ Some c.answer.new.self =
-    sets m.name ∙ ap (λ (v : Bool). cond v (Some c.answer.new.self) (session_in c.args.self.now.sessions m.name))
-    (name_refl m.name) in
+    let here = put_here (session_in c.args.self.now.sessions) (session_in (c.get_mut.follows.lender c.answer.new.self))
+    m.name c.answer.new.self sets in
     let before : done_in c.args.self.now.sessions m.name ≡ length s.progress.ledger.outcomes =
     ap (λ (o : Option Session). option_map_or (λ x. length x.progress.ledger.outcomes) o 0) found in
     let after : done_in (c.get_mut.follows.lender c.answer.new.self) m.name
@@ -151,8 +150,8 @@ returns-in-Some-clause-noted g c = λ honest honest_notes first book h n.
     let sets = subst (λ (k : List ℕ). (n : List ℕ) → session_in (c.get_mut.follows.lender s') n
     ≡ cond (bytes_eq k n) (Some s') (session_in c.args.self.now.sessions n)) c.name-name.ensures
     (holds.3 (sym (ap is_some c.in-Some.ensures.value))).0 in
-    let here : session_in (c.get_mut.follows.lender s') m.name ≡ Some s' =
-    sets m.name ∙ ap (λ (v : Bool). cond v (Some s') (session_in c.args.self.now.sessions m.name)) (name_refl m.name) in
+    let here = put_here (session_in c.args.self.now.sessions) (session_in (c.get_mut.follows.lender s')) m.name s'
+    sets in
     let done : done_in (c.get_mut.follows.lender s') m.name ≡ length s'.progress.ledger.outcomes =
     ap (λ (o : Option Session). option_map_or (λ x. length x.progress.ledger.outcomes) o 0) here in
     let store = store_since g.S.TakeStore first c.args.self.now.stores.store in
@@ -181,3 +180,12 @@ returns-in-Some-clause-noted g c = λ honest honest_notes first book h n.
     (told_here book m (map reply_of c.answer.new.out.items) (done_in (c.get_mut.follows.lender s') m.name) near
     ∙ ap (log_told (log_of book m.name) m (map reply_of c.answer.new.out.items)) done)
     (told_others book m (map reply_of c.answer.new.out.items) (done_in (c.get_mut.follows.lender s') m.name) near) noted
+
+pub returns-in-Some-clause-unmet : goal.returns-in-Some-clause-unmet
+returns-in-Some-clause-unmet g c = λ none.
+    let sets = subst (λ (k : List ℕ). (n : List ℕ) → session_in (c.get_mut.follows.lender c.answer.new.self) n
+    ≡ cond (bytes_eq k n) (Some c.answer.new.self) (session_in c.args.self.now.sessions n)) c.name-name.ensures
+    ((c.get_mut.follows.holds c.answer.new.self).3 (sym (ap is_some c.in-Some.ensures.value))).0 in
+    no_false (sym (ap is_some none) ∙ ap is_some (put_here (session_in c.args.self.now.sessions)
+    (session_in (c.get_mut.follows.lender c.answer.new.self)) (message_of c.args.message.now).name
+    c.answer.new.self sets))
