@@ -21,3 +21,4 @@ pub mod SetPlans
 pub mod Ranges
 pub mod TakePaths
 pub mod MemoryDisks
+pub mod MarkedFiles

@@ -1,63 +1,93 @@
--- What is kept and noted of a name of which nothing came yet.
-use Rattle.std.proofs.Common.{◌≡◌, ℕ, zero, suc, Bool, true, false, List, [], length, Option, Some, None, refl}
-use Rattle.std.proofs.Common.{sym, ◌∙◌, ap, subst, arith, inl}
-use Rattle.std.specs.Prelude.{is_some, replicate}
+-- What is kept and noted of a name of which nothing waits, or of which nothing came yet.
+use Rattle.std.proofs.Common.{◌≡◌, ℕ, zero, suc, Bool, false, List, [], ◌∷◌, length, Option, Some, None, refl}
+use Rattle.std.proofs.Common.{sym, ◌∙◌, ap, subst, arith, inl, ◌+◌, ◌≤◌}
+use Rattle.std.specs.Prelude.{is_some, replicate, option_map}
+use Rattle.std.specs.Bool.{MatchBool}
+use Rattle.std.proofs.lemmas.Bool.{false≢true}
 use Rattle.std.proofs.lemmas.List.{append-nil}
 use Rattle.bw_model.specs.Bytes.{at}
-use Rattle.bw_model.specs.Take.{Parts, Verdict, new_take, parts}
-use Rattle.bw_model.specs.Book.{no_log, made}
-use Rattle.bw_model.specs.Holds.{HoldsName}
+use Rattle.bw_model.specs.Take.{Parts, Request, Verdict, new_take, parts}
+use Rattle.bw_model.specs.File.{file_of}
+use Rattle.bw_model.specs.Book.{Log, no_log, made}
+use Rattle.bw_model.specs.Holds.{body_of, IsInTheMiddle}
 use Rattle.bw_file.specs.Growing.{Growing}
 use Rattle.bw_journal.specs.JournalHeaders.{Header, header_bytes, header_len}
 use Rattle.bw_journal.specs.Notes.{IsFrontOf}
 use Rattle.bw_journal.proofs.Lengths.{length-header_bytes}
 use Rattle.bw_session.specs.Noting.{IsNoted}
-use Rattle.bw_session.specs.Draining.{kept_as, NameStands, HoldsPart}
-
-no_false : {A : Type 0} → false ≡ true → A
-no_false e = cc
+use Rattle.bw_session.specs.Keeping.{KeepsDone}
+use Rattle.bw_session.specs.Fronts.{take_done, FileFollows}
+use Rattle.bw_session.specs.Draining.{kept_as, NameStands, HoldsPart, IsAllDone}
 
 at-empty : (n i : ℕ) → at {X = List ℕ} (replicate n None) i ≡ None
 at-empty zero i = refl
 at-empty (suc n) zero = refl
 at-empty (suc n) (suc i) = at-empty n i
 
--- the file of a name that isn't made
-abbrev unmade : List ℕ → ℕ → Growing
-unmade name limit = record { name = name; limit = limit; made = false; dirty = false }
+at-past : (s : List (Option Request)) (n : ℕ) → length s ≤ n → at s n ≡ None
+at-past [] n h = refl
+at-past (x ∷ s) zero h = absurd (omega (arith, h))
+at-past (x ∷ s) (suc n) h = at-past s n (omega (arith, h))
 
-new_memory : (stood : Bool) (name : List ℕ) (limit : ℕ) →
-    HoldsName stood name no_log (kept_as (parts (new_take false)) [] (replicate 16 None) (unmade name limit))
+-- What is kept of the done numbers is all that there is, where none waits.
+module _ (first : Option (List ℕ)) (log : Log) (p : Parts) (finished : List (List ℕ × Verdict)) (g : Growing)
+    (found : Option (List ℕ)) (none : IsAllDone log) (clean : g.dirty ≡ false)
+    (done : KeepsDone (is_some first) g.name log p finished) (file : FileFollows first (take_done first log) g found) where
+  nothing_held : (i : ℕ) →
+      at {X = List ℕ} (replicate 16 None) i ≡ option_map (body_of g.name (log.done + i)) (at log.admitted (log.done + i))
+  nothing_held i = at-empty 16 i ∙ sym (ap (option_map (body_of g.name (log.done + i)))
+      (at-past log.admitted (log.done + i) (let all = none.all in omega (arith, all))))
+
+  stands : (o : Option (List ℕ)) → FileFollows o (take_done o log) g found →
+      NameStands o log g.limit (kept_as p finished (replicate 16 None) g) found
+  stands None f = record {
+    whole = subst (λ (d : Bool). MatchBool d
+        (IsInTheMiddle (take_done None log) g.limit (at log.admitted log.done) found)
+        (found ≡ file_of (take_done None log) g.limit)) (sym clean) f.whole;
+    made_here = f.made_here;
+  }
+  stands (Some bytes) f = f
+
+  pub resumed_part : (w : List (Option (List ℕ))) → w ≡ replicate 16 None → HoldsPart first log p finished w g found
+  resumed_part w empty = subst (λ (x : List (Option (List ℕ))). HoldsPart first log p finished x g found) (sym empty)
+      (record {
+        fits = none.fits;
+        memory = record {
+          done = done.done;
+          finished = done.finished_are;
+          held = nothing_held;
+          state = done.state_is;
+          taken = done.taken;
+          told = done.told;
+        };
+        file = stands first file;
+      })
+
+pub no_log_done : IsAllDone no_log
+no_log_done = record { fits = refl; all = omega arith }
+
+nothing_kept : (stood : Bool) (name : List ℕ) → KeepsDone stood name no_log (parts (new_take false)) []
 unfolding made
-new_memory stood name limit = record {
+nothing_kept stood name = record {
   done = refl;
-  finished = refl;
-  held = λ i. at-empty 16 i;
-  state = refl;
-  taken = λ e. no_false e;
+  finished_are = refl;
+  state_is = refl;
+  taken = λ e. absurd (false≢true e);
   told = λ n below is. absurd (omega (arith, below));
 }
 
-new_file : (first : Option (List ℕ)) (name : List ℕ) (limit : ℕ) →
-    NameStands first no_log limit (kept_as (parts (new_take false)) [] (replicate 16 None) (unmade name limit)) first
+pub nothing_made : (first : Option (List ℕ)) (g : Growing) → g.made ≡ false →
+    FileFollows first (take_done first no_log) g first
 unfolding made
-new_file None name limit = record { whole = refl; made_here = refl }
-new_file (Some bytes) name limit = (refl, refl)
+nothing_made None g unmade = record { whole = refl; made_here = unmade }
+nothing_made (Some bytes) g unmade = (refl, unmade)
 
-pub new_part : (first : Option (List ℕ)) (p : Parts) (finished : List (List ℕ × Verdict))
-    (w : List (Option (List ℕ))) (g : Growing) (name : List ℕ) (limit : ℕ) → p ≡ parts (new_take false) →
-    finished ≡ [] → w ≡ replicate 16 None → g ≡ record { name = name; limit = limit; made = false; dirty = false } →
-    HoldsPart first no_log p finished w g first
-new_part first p finished w g name limit state none empty new =
-    subst (λ (x : Parts). HoldsPart first no_log x finished w g first) (sym state)
-    (subst (λ (x : List (List ℕ × Verdict)). HoldsPart first no_log (parts (new_take false)) x w g first) (sym none)
-    (subst (λ (x : List (Option (List ℕ))). HoldsPart first no_log (parts (new_take false)) [] x g first) (sym empty)
-    (subst (λ (x : Growing). HoldsPart first no_log (parts (new_take false)) [] (replicate 16 None) x first) (sym new)
-    (record {
-      fits = refl;
-      memory = new_memory (is_some first) name limit;
-      file = new_file first name limit;
-    }))))
+pub new_done : (stood : Bool) (name : List ℕ) (p : Parts) (finished : List (List ℕ × Verdict)) →
+    p ≡ parts (new_take false) → finished ≡ [] → KeepsDone stood name no_log p finished
+new_done stood name p finished state none =
+    subst (λ (x : Parts). KeepsDone stood name no_log x finished) (sym state)
+    (subst (λ (x : List (List ℕ × Verdict)). KeepsDone stood name no_log (parts (new_take false)) x) (sym none)
+    (nothing_kept stood name))
 
 pub new_notes : (h : Header) (name : List ℕ) (found : Option (List ℕ)) → IsFrontOf (header_bytes h) found →
     IsNoted h name no_log header_len found

@@ -21,7 +21,7 @@ use Rattle.bw_session.specs.Carrying.{Touches}
 use Rattle.bw_session.specs.Keeping.{KeepsDone}
 use Rattle.bw_session.specs.Fronts.{take_done, FileFollows, FileStands, HoldsFront, Carried}
 use Rattle.bw_session.specs.Numbered.{is_written, IsNext, with_done, IsDone}
-use Rattle.bw_session.proofs.OwnFiles.{marked_file}
+use Rattle.bw_file.proofs.MarkedFiles.{marked_file}
 use Rattle.bw_session.proofs.CarryForms.{after_refused, after_stored}
 use Rattle.bw_session.proofs.FrontForms.{own_parts}
 use Rattle.bw_session.proofs.LogSteps.{made_next, verdict_here}

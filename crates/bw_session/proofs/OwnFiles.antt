@@ -5,7 +5,7 @@ use Rattle.std.specs.Prelude.{IsTrue, IsSome, is_some}
 use Rattle.std.specs.Bool.{MatchBool}
 use Rattle.bw_model.specs.Take.{Take, Format, Request, Open, Block, Mark, SetField, Close, verdict, is_stored}
 use Rattle.bw_model.specs.Take.{with_request}
-use Rattle.bw_model.specs.File.{file_of, file_with, form_of, form_len}
+use Rattle.bw_model.specs.File.{file_of}
 use Rattle.bw_model.specs.Holds.{IsBetween, IsInTheMiddle}
 use Rattle.bw_model.proofs.Elements.{some_inj}
 use Rattle.bw_file.specs.Growing.{Growing, IsReady, IsBegun, AsksForName}
@@ -158,20 +158,3 @@ left_alone g g' before after name unmade stood = (name.untouched (still g'.made 
     still : (m : Bool) → g'.made ≡ m → g'.made ≡ false
     still true e = none_some before (name.made unmade e) stood
     still false e = e
-
--- Markers.
-
-marked_as : (t : Take) (o : Option Format) (limit id frame : ℕ) →
-    file_of (with_request (record t { closed = false; format = o }) (Mark id frame)) limit ≡
-    file_of (record t { closed = false; format = o }) limit
-unfolding file_with form_of form_len
-marked_as t None limit id frame = refl
-marked_as t (Some f) limit id frame = refl
-
--- a marker changes nothing in the file of a take that isn't closed
-pub marked_file : (t : Take) (limit id frame : ℕ) → t.closed ≡ false →
-    file_of (with_request t (Mark id frame)) limit ≡ file_of t limit
-marked_file t limit id frame open_still =
-    subst (λ (v : Bool). file_of (with_request (record t { closed = v }) (Mark id frame)) limit
-    ≡ file_of (record t { closed = v }) limit)
-    (sym open_still) (marked_as t t.format limit id frame)

@@ -16,7 +16,8 @@ use Rattle.bw_file.specs.declared.store.StoreFault.{StoreFault}
 use Rattle.bw_file.proofs.Judged.{IsOpen, open_for}
 use Rattle.bw_session.specs.Writing.{WritesRequest}
 use Rattle.bw_session.proofs.OwnFiles.{ready, whole_behind, own_behind, begun, opened_new, never_stood, opened_err}
-use Rattle.bw_session.proofs.OwnFiles.{left_alone, marked_file}
+use Rattle.bw_session.proofs.OwnFiles.{left_alone}
+use Rattle.bw_file.proofs.MarkedFiles.{marked_file}
 
 not_none : {A : Type 0} (p : Parts) → IsOpen p → p.format ≡ None → A
 not_none p o none = no (sym o.has_format ∙ none)

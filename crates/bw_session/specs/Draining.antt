@@ -1,6 +1,6 @@
 -- What is kept and held of a name, and what draining its next number leaves.
 use Rattle.std.specs.Prelude.{◌≡◌, ℕ, ◌+◌, ◌≤◌, Bool, true, false, IsTrue, Option, Some, None}
-use Rattle.std.specs.Prelude.{IsSome, is_some, List, Result, Ok, Err}
+use Rattle.std.specs.Prelude.{IsSome, is_some, List, length, Result, Ok, Err}
 use Rattle.std.specs.List.{list_all}
 use Rattle.bw_model.specs.Bytes.{at}
 use Rattle.bw_model.specs.Take.{Parts, Verdict}
@@ -55,6 +55,11 @@ pub record HoldsPart (first : Option (List ℕ)) (log : Log) (p : Parts)
   pub fits : IsTrue (list_all is_admitted log.admitted)
   pub memory : HoldsName (is_some first) g.name log (kept_as p finished window g)
   pub file : NameStands first log g.limit (kept_as p finished window g) found
+
+-- Each admitted request is done, so that nothing waits, and each has a spelling.
+pub record IsAllDone (log : Log) : Type 0 where
+  pub fits : IsTrue (list_all is_admitted log.admitted)
+  pub all : length log.admitted ≤ log.done
 
 -- a number that was tried
 abbrev pub drained_by : Result Judgement StoreFault → Drained

@@ -1,10 +1,12 @@
 //! What a server keeps of a name.
-ghost use Rattle.std.specs.Prelude.{◌≡◌, ℕ, List, Option, IfOk, length, false};
-ghost use Rattle.bw_model.specs.Book.{no_log};
+ghost use Rattle.std.specs.Prelude.{◌≡◌, ℕ, List, Option, IfOk, length, false, is_some};
+ghost use Rattle.bw_model.specs.Book.{Log, no_log};
 ghost use Rattle.bw_journal.specs.JournalHeaders.{Header, header_bytes, header_len};
 ghost use Rattle.bw_journal.specs.Notes.{IsFrontOf};
 ghost use Rattle.bw_session.specs.Noting.{IsNoted};
-ghost use Rattle.bw_session.specs.Draining.{Fits, HoldsPart};
+ghost use Rattle.bw_session.specs.Keeping.{KeepsDone};
+ghost use Rattle.bw_session.specs.Fronts.{take_done, FileFollows};
+ghost use Rattle.bw_session.specs.Draining.{Fits, HoldsPart, IsAllDone};
 
 use crate::ledger::Ledger;
 use crate::numbering::Progress;
@@ -46,6 +48,24 @@ impl Session {
             ledger: Ledger::new(alloc),
             noted: JournalHeader::LEN as u64,
         };
+        Session::resume(alloc, progress)
+    }
+
+    /// A name of which nothing waits, from what is kept of its done numbers.
+    ///
+    /// # Errors
+    /// `AllocError` where memory was refused.
+    pub(crate) fn resume(alloc: Global, progress: Progress) -> Result<Session, AllocError>
+        requires { progress.growing.dirty ≡ false }
+        ensures progress { IfOk result (λ s. s.progress ≡ progress) }
+        ensures holds { IfOk result (λ s. (first : Option (List ℕ)) (log : Log)
+            (found : Option (List ℕ)) → IsAllDone log →
+            KeepsDone (is_some first) progress.name log progress.state.parts
+            progress.ledger.outcomes →
+            FileFollows first (take_done first log) progress.growing found →
+            HoldsPart first log s.progress.state.parts s.progress.ledger.outcomes s.window
+            s.progress.growing found) }
+    {
         Ok(Session {
             progress,
             window: Window::new(alloc)?,
