@@ -1,15 +1,7 @@
-pub mod FileLemmas
 pub mod LineLemmas
 pub mod InputLemmas
 pub mod PrintLemmas
 pub mod InspectionLemmas
 pub mod OpeningLemmas
-pub mod InOrderTurns
-pub mod StreamSteps
-pub mod ExchangeSteps
-pub mod RecordingLemmas
-pub mod FramerSteps
-pub mod WithinExchange
 pub mod ReplayLemmas
-pub mod RunSteps
 pub mod TextLemmas

@@ -1,22 +1,274 @@
--- What an input asks for, by what was found in it.
-use Rattle.std.proofs.Common.{◌≡◌, ◌∙◌, ℕ, List, Option, None, ap, refl}
-use Rattle.bw_commands.specs.InOrder.{no_progress, first_unordered}
-use Rattle.bw_commands.specs.Input.{Exchanges, asked_by, spelled_by, in_order, unless_unordered}
-use Rattle.bw_commands.specs.Replays.{IsTextFor}
-use Rattle.bw_commands.specs.Running.{Ran}
-use Rattle.bw_commands.specs.Text.{run_text}
-use Rattle.bw_commands.specs.declared.run.Run.{Run}
+-- What a replay tells of its run.
+use Rattle.std.proofs.Common.{◌≡◌, ◌∙◌, ℕ, ◌<◌, ◌≤◌, Bool, List, [], ◌∷◌, ◌++◌, length, map, Option, Some, None, refl}
+use Rattle.std.proofs.Common.{sym, ap, subst, arith, true, false, ◌⊎◌, inl, ◌||◌}
+use Rattle.std.proofs.Math.Path.{fun_ext}
+use Rattle.std.specs.Prelude.{flat_map, is_some, IsTrue, Vec, All}
+use Rattle.std.specs.List.{AllByRecursion, list_any}
+use Rattle.std.specs.declared.alloc.Global.{Global}
+use Rattle.std.proofs.lemmas.Bool.{or_parts}
+use Rattle.std.proofs.lemmas.List.{map-append}
+use Rattle.std.proofs.lemmas.List.Folds.{list_any-append, flat_map-map}
+use Rattle.std.proofs.lemmas.List.Elements.{All-head, All-tail}
+use Rattle.std.proofs.lemmas.Grind.{flat_map-append}
+use Rattle.bw_model.specs.Wire.{Second, Frame}
+use Rattle.bw_model.specs.Replies.{Reply}
+use Rattle.bw_model.specs.Stream.{End, stream_of}
+use Rattle.bw_model.specs.Book.{Book, log_of}
+use Rattle.bw_model.specs.CountedTurn.{is_pending}
+use Rattle.bw_model.specs.Holds.{Holds}
+use Rattle.bw_model.specs.Turn.{run, book_after}
+use Rattle.bw_model.specs.NumberOrder.{AreInOrder, tells_want}
+use Rattle.bw_model.specs.Exchange.{exchange, exchanges, last_reply, nothing_stands, take_in, content_in}
+use Rattle.std.proofs.Common.{Result, Ok, Err, IfOk, OnOk}
+use Rattle.bw_file.specs.Memory.{content_under}
+use Rattle.bw_file.specs.MemoryNames.{AreNames, names_of}
+use Rattle.bw_file.specs.declared.memory.MemoryStore.{MemoryStore}
+use Rattle.bw_file.specs.declared.store.TakeStore.{Ghosts as StoreGhosts}
+use Rattle.bw_session.specs.Numbered.{failed_calls}
+use Rattle.bw_commands.specs.Input.{longest_input}
+use Rattle.bw_commands.specs.Runs.{ToldExchange, told_of, replies_told, TellsInput, TellInputs, TellsExchange, AllTell}
+use Rattle.bw_commands.specs.Replays.{IsRunText}
+use Rattle.bw_commands.specs.Runs.{IsRun, AreExchangesOf, no_contents}
+use Rattle.bw_commands.specs.Text.{exchanges_text, files_text}
+use Rattle.bw_engine.specs.Answering.{Answered, frames_of, replies_of}
+use Rattle.bw_engine.specs.ServerRuns.{IsRun as IsRun', with_good_luck}
+use Rattle.bw_engine.specs.Ingesting.{ServedInput, WasServed, IsServedTo, Ingests, answered_in, end_in, frames_in}
+use Rattle.bw_engine.specs.declared.serving.ExchangeEnd.{ExchangeEnd}
+use Rattle.bw_engine.proofs.GoodRuns.{GoesWell, good_run, in_order_well, turns_are_runs}
+use Rattle.bw_engine.proofs.GoodExchanges.{behind, well_parts, replies_well}
 
--- the exchanges are asked for if they are in order
-asked-spelled : (input : List ℕ) (inputs : List (List ℕ)) (first : Option ℕ) → spelled_by input ≡ Exchanges inputs →
-    first_unordered 1 no_progress inputs ≡ first → asked_by input ≡ unless_unordered first inputs
-asked-spelled input inputs first e o = ap in_order e ∙ ap (λ (n : Option ℕ). unless_unordered n inputs) o
+same_head : {X : Type 0} {x y : X} {xs ys : List X} → x ∷ xs ≡ y ∷ ys → x ≡ y
+same_head e = cc
 
-pub asks-run : (input : List ℕ) (inputs : List (List ℕ)) (run : Run) → spelled_by input ≡ Exchanges inputs →
-    Ran inputs run → asked_by input ≡ Exchanges inputs
-asks-run input inputs run e r = asked-spelled input inputs None e r.is.ordered
+same_tail : {X : Type 0} {x y : X} {xs ys : List X} → x ∷ xs ≡ y ∷ ys → xs ≡ ys
+same_tail e = cc
 
--- the text of the run that an input asks for
-pub text-asked : (limit : ℕ) (input : List ℕ) (inputs : List (List ℕ)) → asked_by input ≡ Exchanges inputs →
-    IsTextFor limit (asked_by input) (run_text limit inputs)
-text-asked limit input inputs e = rw e refl
+-- what an input that was served tells
+record Tells (x : ServedInput) (t : ToldExchange) : Type 0 where
+  stream : TellsInput x.input x.answered t
+  kept : TellsExchange x.written x.end t
+
+-- a short input is served whole
+tells_one : (x : ServedInput) → WasServed x → length x.input ≤ longest_input → (t : ToldExchange) × Tells x t
+tells_one x served short = go (end_in x.end) refl served
+  where
+    go : (o : Option End) → end_in x.end ≡ o → IsServedTo o x → (t : ToldExchange) × Tells x t
+    go None is cut = let long = cut.long in absurd (omega (arith, long, short))
+    go (Some end) is whole = (
+      record { replies = replies_of x.answered ++ last_reply end; end = end },
+      record {
+        stream = record { stream = whole.stream; replies = refl };
+        kept = record { replies = whole.replies; spelled = whole.spelled; ended = is };
+      },
+    )
+
+-- what all of them tell
+record TellAll (went : List ServedInput) (rs : List (Vec ℕ Global)) (es : List ExchangeEnd) : Type 0 where
+  told : List ToldExchange
+  streams : TellInputs (map (λ x. x.input) went) (map (λ x. x.answered) went) told
+  kept : AllTell rs es told
+
+tell_all : (went : List ServedInput) (rs : List (Vec ℕ Global)) (es : List ExchangeEnd) →
+    AllByRecursion WasServed went → AllByRecursion (λ xs. length xs ≤ longest_input) (map (λ x. x.input) went) →
+    map (λ x. x.written) went ≡ map (λ r. r.items) rs → map (λ x. x.end) went ≡ es → TellAll went rs es
+tell_all [] [] [] served short written ends = record { told = []; streams = tt; kept = tt }
+tell_all [] [] (e ∷ es) served short written ends = absurd (cc)
+tell_all [] (r ∷ rs) es served short written ends = absurd (cc)
+tell_all (x ∷ went) [] es served short written ends = absurd (cc)
+tell_all (x ∷ went) (r ∷ rs) [] served short written ends = absurd (cc)
+tell_all (x ∷ went) (r ∷ rs) (e ∷ es) served short written ends =
+    let one = tells_one x served.0 short.0 in
+    let more = tell_all went rs es served.1 short.1 (same_tail written) (same_tail ends) in
+    record {
+      told = one.0 ∷ more.told;
+      streams = (one.1.stream, more.streams);
+      kept = (
+        subst (λ (y : ExchangeEnd). TellsExchange r.items y one.0) (same_head ends)
+            (subst (λ (y : List ℕ). TellsExchange y x.end one.0) (same_head written) one.1.kept),
+        more.kept,
+      );
+    }
+
+-- Inputs whose exchanges are told, one by one.
+
+abbrev joined : List (List Answered) → List Answered
+joined answered = flat_map (λ a. a) answered
+
+-- the frames that were answered are those of the inputs
+frames_told : (inputs : List (List ℕ)) (answered : List (List Answered)) (told : List ToldExchange) →
+    TellInputs inputs answered told → frames_of (joined answered) ≡ frames_in inputs
+frames_told [] [] [] tells = refl
+frames_told [] [] (t ∷ told) tells = absurd tells
+frames_told [] (a ∷ answered) told tells = absurd tells
+frames_told (i ∷ inputs) [] told tells = absurd tells
+frames_told (i ∷ inputs) (a ∷ answered) [] tells = absurd tells
+frames_told (i ∷ inputs) (a ∷ answered) (t ∷ told) tells =
+    map-append (λ (x : Answered). x.frame) a (joined answered)
+    ∙ (ap (λ (fs : List Frame). fs ++ frames_of (joined answered))
+    (sym (ap (λ (s : List Frame × End). s.0) tells.0.stream))
+    ∙ ap (λ (fs : List Frame). (stream_of Second i).0 ++ fs) (frames_told inputs answered told tells.1))
+
+-- where no want is told, none was answered
+none_told : (inputs : List (List ℕ)) (answered : List (List Answered)) (told : List ToldExchange) →
+    TellInputs inputs answered told → list_any tells_want (replies_told told) ≡ false →
+    list_any tells_want (replies_of (joined answered)) ≡ false
+none_told [] [] [] tells none = refl
+none_told [] [] (t ∷ told) tells none = absurd tells
+none_told [] (a ∷ answered) told tells none = absurd tells
+none_told (i ∷ inputs) [] told tells none = absurd tells
+none_told (i ∷ inputs) (a ∷ answered) [] tells none = absurd tells
+none_told (i ∷ inputs) (a ∷ answered) (t ∷ told) tells none =
+    let parts = or_parts (list_any tells_want t.replies) (list_any tells_want (replies_told told))
+    (sym (list_any-append tells_want t.replies (replies_told told)) ∙ none) in
+    let here = or_parts (list_any tells_want (replies_of a)) (list_any tells_want (last_reply t.end))
+    (sym (ap (list_any tells_want) tells.0.replies
+    ∙ list_any-append tells_want (replies_of a) (last_reply t.end)) ∙ parts.0) in
+    ap (list_any tells_want) (flat_map-append (λ (x : Answered). x.replies) a (joined answered))
+    ∙ (list_any-append tells_want (replies_of a) (replies_of (joined answered))
+    ∙ (ap (λ (b : Bool). b || list_any tells_want (replies_of (joined answered))) here.0
+    ∙ none_told inputs answered told tells.1 parts.1))
+
+-- where the run goes well, they are told as the definitions' exchanges
+told_well : (book : Book) (inputs : List (List ℕ)) (answered : List (List Answered)) (told : List ToldExchange)
+    (later : Book) → TellInputs inputs answered told → GoesWell nothing_stands book (joined answered) later →
+    told ≡ map told_of (exchanges nothing_stands book inputs)
+told_well book [] [] [] later tells well = refl
+told_well book [] [] (t ∷ told) later tells well = absurd tells
+told_well book [] (a ∷ answered) told later tells well = absurd tells
+told_well book (i ∷ inputs) [] told later tells well = absurd tells
+told_well book (i ∷ inputs) (a ∷ answered) [] later tells well = absurd tells
+told_well book (i ∷ inputs) (a ∷ answered) (t ∷ told) later tells well =
+    let parts = well_parts nothing_stands book a (joined answered) later well in
+    let left : (exchange nothing_stands book i).book ≡ behind nothing_stands book a =
+    ap (λ (s : List Frame × End). book_after nothing_stands book (with_good_luck s.0)) tells.0.stream in
+    let replies : (exchange nothing_stands book i).replies ≡ t.replies =
+    ap (λ (s : List Frame × End). flat_map (λ x. x.replies) (run nothing_stands book (with_good_luck s.0))
+    ++ last_reply s.1) tells.0.stream
+    ∙ (ap (λ (rs : List Reply). rs ++ last_reply t.end)
+    (replies_well nothing_stands book a (behind nothing_stands book a) parts.first)
+    ∙ sym tells.0.replies) in
+    ap (λ (ts : List ToldExchange). t ∷ ts)
+    (told_well (behind nothing_stands book a) inputs answered told later tells.1 parts.then
+    ∙ ap (λ (b : Book). map told_of (exchanges nothing_stands b inputs)) (sym left))
+    ∙ (ap (λ (rs : List Reply). record { replies = rs; end = t.end }
+    ∷ map told_of (exchanges nothing_stands (exchange nothing_stands book i).book inputs)) (sym replies)
+    ∙ ap (λ (s : List Frame × End). record { replies = (exchange nothing_stands book i).replies; end = s.1 }
+    ∷ map told_of (exchanges nothing_stands (exchange nothing_stands book i).book inputs)) (sym tells.0.stream))
+
+-- bytes that are short one by one
+short_each : (inputs : List (Vec ℕ Global)) → All (λ x. length x.items ≤ longest_input) inputs →
+    AllByRecursion (λ xs. length xs ≤ longest_input) (map (λ x. x.items) inputs)
+short_each [] short = tt
+short_each (x ∷ inputs) short =
+    (All-head (λ y. length y.items ≤ longest_input) x inputs short,
+    short_each inputs (All-tail (λ y. length y.items ≤ longest_input) x inputs short))
+
+-- a run over a store that was empty and honest, and what it tells
+pub record Replayed (limit : ℕ) (inputs : List (List ℕ)) (rs : List (Vec ℕ Global)) (es : List ExchangeEnd)
+    (contents : List ℕ → Option (List ℕ)) : Type 0 where
+  pub told : List ToldExchange
+  pub run : IsRun limit inputs told contents
+  pub kept : AllTell rs es told
+
+module _ {X : Type 0} (S : StoreGhosts X) (limit : ℕ) (before after : X) (inputs rs : List (Vec ℕ Global))
+    (es : List ExchangeEnd) (honest : IsTrue (S.honest before)) (still : S.honest after ≡ S.honest before)
+    (empty : (name : List ℕ) → S.contents before name ≡ None)
+    (short : All (λ x. length x.items ≤ longest_input) inputs)
+    (h : Ingests S limit before after (map (λ x. x.items) inputs) (map (λ x. x.items) rs) es) where
+  abbrev first : List ℕ → Option (List ℕ)
+  first = S.contents before
+
+  none_first : first ≡ no_contents
+  none_first = fun_ext empty
+
+  abbrev lists : List (List Answered)
+  lists = map (λ x. x.answered) h.went
+
+  one_list : answered_in h.went ≡ joined lists
+  one_list = sym (flat_map-map (λ (a : List Answered). a) (λ (x : ServedInput). x.answered) h.went)
+
+  all_short : AllByRecursion (λ xs. length xs ≤ longest_input) (map (λ x. x.input) h.went)
+  all_short = subst (AllByRecursion (λ xs. length xs ≤ longest_input)) (sym h.are.inputs_are) (short_each inputs short)
+
+  tell : TellAll h.went rs es
+  tell = tell_all h.went rs es h.are.each all_short h.are.written_is h.are.ends_are
+
+  tells : TellInputs (map (λ x. x.items) inputs) lists tell.told
+  tells = subst (λ (is : List (List ℕ)). TellInputs is lists tell.told) h.are.inputs_are tell.streams
+
+  counted : IsRun' nothing_stands (failed_calls (S.failures before) 0) (failed_calls (S.failures after) 0) []
+      (joined lists) h.leaves.book
+  counted =
+      subst (λ (all : List Answered). IsRun' nothing_stands (failed_calls (S.failures before) 0)
+          (failed_calls (S.failures after) 0) [] all h.leaves.book) one_list
+      (subst (λ (f : List ℕ → Option (List ℕ)). IsRun' (λ name. is_some (f name)) (failed_calls (S.failures before) 0)
+          (failed_calls (S.failures after) 0) [] (answered_in h.went) h.leaves.book) none_first h.leaves.run)
+
+  contents_are : (name : List ℕ) → (is_pending (log_of h.leaves.book name) ≡ false)
+      ⊎ ((take_in false h.leaves.book name).closed ≡ true) →
+      S.contents after name ≡ content_in no_contents limit h.leaves.book name
+  contents_are name settled = h.leaves.files name settled
+      ∙ ap (λ (f : List ℕ → Option (List ℕ)). content_in f limit h.leaves.book name) none_first
+
+  holds : Holds limit (record { contents = S.contents after; first = no_contents; honest = true })
+      h.leaves.kept_of h.leaves.book
+  holds = subst (λ (b : Bool). Holds limit (record { contents = S.contents after; first = no_contents; honest = b })
+          h.leaves.kept_of h.leaves.book) (still ∙ honest)
+      (subst (λ (f : List ℕ → Option (List ℕ)). Holds limit
+          (record { contents = S.contents after; first = f; honest = S.honest after })
+          h.leaves.kept_of h.leaves.book) none_first h.leaves.held)
+
+  in_order : AreInOrder [] (frames_in (map (λ x. x.items) inputs)) →
+      list_any tells_want (replies_told tell.told) ≡ false →
+      AreExchangesOf limit (map (λ x. x.items) inputs) tell.told (S.contents after)
+  in_order near none =
+      let frames = frames_told (map (λ x. x.items) inputs) lists tell.told tells in
+      let well = in_order_well nothing_stands _ _ (joined lists) h.leaves.book counted
+          (subst (AreInOrder []) (sym frames) near)
+          (none_told (map (λ x. x.items) inputs) lists tell.told tells none) in
+      let left : h.leaves.book ≡ book_after nothing_stands [] (with_good_luck (frames_in (map (λ x. x.items) inputs))) =
+      sym (good_run nothing_stands [] (joined lists) h.leaves.book well.0).left
+      ∙ ap (λ (fs : List Frame). book_after nothing_stands [] (with_good_luck fs)) frames in
+      record {
+        told_is = told_well [] (map (λ x. x.items) inputs) lists tell.told h.leaves.book tells well.0;
+        files = λ name. contents_are name (inl (well.1 name))
+            ∙ ap (λ (b : Book). content_in no_contents limit b name) left;
+      }
+
+  pub replayed : Replayed limit (map (λ x. x.items) inputs) rs es (S.contents after)
+  replayed = record {
+    told = tell.told;
+    run = record {
+      answered = lists;
+      tells = tells;
+      book = h.leaves.book;
+      run = turns_are_runs nothing_stands _ _ [] h.leaves.book (joined lists) counted;
+      kept_of = h.leaves.kept_of;
+      held = holds;
+      files = contents_are;
+      in_order = in_order;
+    };
+    kept = tell.kept;
+  }
+
+-- what follows where a call succeeded, by two of its facts
+pub with_ok : {T E : Type 0} (r : Result T E) (P Q : T → Type 0) (N : Type 0) → ((x : T) → N → P x → Q x) →
+    IfOk r P → OnOk r N → IfOk r Q
+with_ok (Ok x) P Q N f p n = f x n p
+with_ok (Err e) P Q N f p n = tt
+
+-- the text of such a run, over these files of a store in memory
+pub text_replayed : (limit : ℕ) (inputs : List (List ℕ)) (rs : List (Vec ℕ Global)) (es : List ExchangeEnd)
+    (store told_from : MemoryStore) (text : List ℕ) → Replayed limit inputs rs es (content_under store.files) →
+    told_from ≡ store → AreNames (names_of told_from) (content_under told_from.files) →
+    ((told : List ToldExchange) → AllTell rs es told →
+    text ≡ exchanges_text 0 told ++ files_text (content_under told_from.files) (names_of told_from)) →
+    IsRunText limit inputs text
+text_replayed limit inputs rs es store told_from text h same names is = record {
+  told = h.told;
+  contents = content_under told_from.files;
+  run = subst (λ (s : MemoryStore). IsRun limit inputs h.told (content_under s.files)) (sym same) h.run;
+  names = names_of told_from;
+  ordered = names;
+  is = is h.told h.kept;
+}

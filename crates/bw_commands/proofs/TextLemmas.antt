@@ -1,7 +1,12 @@
 -- The text of a run, a reply and an exchange at a time.
 use Rattle.std.proofs.Common.{◌≡◌, ℕ, ◌+◌, ◌<◌, ◌≤◌, ◌^◌, ◌&&◌, Bool, true, false, List, [], ◌∷◌, ◌++◌, length, refl}
 use Rattle.std.proofs.Common.{sym, ◌∙◌, ap, subst, arith, append_assoc, append-nil, length-append}
-use Rattle.std.specs.Prelude.{flat_map, codes, nat_le}
+use Rattle.std.specs.Prelude.{flat_map, codes, decimal, nat_le, Option, Some, Vec}
+use Rattle.std.specs.declared.alloc.Global.{Global}
+use Rattle.std.proofs.Common.{◌⊎◌, inl, inr}
+use Rattle.bw_model.proofs.Elements.{some_inj}
+use Rattle.bw_model.specs.Stream.{End}
+use Rattle.bw_engine.specs.Ingesting.{end_in}
 use Rattle.std.specs.List.{list_all}
 use Rattle.std.proofs.lemmas.Bool.{leb-true}
 use Rattle.hex.specs.Hex.{encode_lower}
@@ -9,11 +14,15 @@ use Rattle.bw_model.specs.Bytes.{is_within}
 use Rattle.bw_model.specs.Wire.{framed, is_name, is_name_byte}
 use Rattle.bw_model.specs.Replies.{Reply, Judged, Noticed, Refused, is_reply, reply_body}
 use Rattle.bw_model.specs.Exchange.{replies_bytes}
-use Rattle.bw_commands.specs.Runs.{ToldExchange}
-use Rattle.bw_commands.specs.Exchanging.{told_end}
-use Rattle.bw_commands.specs.Running.{AllTell}
-use Rattle.bw_commands.specs.Text.{as_line, reply_line, exchange_line, exchanges_text}
-use Rattle.bw_commands.specs.declared.exchange.Exchange.{Exchange as Exchanged}
+use Rattle.bw_commands.specs.Runs.{ToldExchange, AllTell}
+use Rattle.bw_commands.specs.Text.{as_line, end_name, name_of_end, reply_line, exchange_line, exchanges_text}
+use Rattle.bw_commands.specs.Text.{file_text_if, files_text}
+use Rattle.std.specs.Prelude.{slice_get, get_or, drop}
+use Rattle.std.proofs.lemmas.Option.{slice_get-get_or}
+use Rattle.std.proofs.lemmas.List.{drop_more}
+use Rattle.std.proofs.Math.ListN.{drop_of_length-le}
+use Rattle.bw_engine.specs.declared.serving.ExchangeEnd.{ExchangeEnd}
+use Rattle.bw_engine.specs.declared.serving.ExchangeEnd.TheVariants as ends
 
 and_left : (a b : Bool) → a && b ≡ true → a ≡ true
 and_left true b e = refl
@@ -68,31 +77,74 @@ one_more : (i : ℕ) (t : ToldExchange) (ts : List ToldExchange) →
 unfolding exchanges_text
 one_more i t ts = append_assoc (exchange_line i t.end) (flat_map reply_line t.replies) (exchanges_text (i + 1) ts)
 
+-- an end that an exchange's bytes tell is named so
+named : (e : ExchangeEnd) (end : End) → end_in e ≡ Some end → name_of_end e ≡ end_name end
+named ends.Bye end is = ap end_name (some_inj is)
+named ends.EndOfInput end is = ap end_name (some_inj is)
+named (ends.BadFrame fault) end is = ap end_name (some_inj is)
+named ends.ReadFault end is = absurd (cc)
+named ends.WriteFault end is = absurd (cc)
+named ends.TurnLimit end is = absurd (cc)
+named ends.Memory end is = absurd (cc)
+
 -- the first of the exchanges that are left is put
-pub exchange_step : (left : List ToldExchange) (e : Exchanged) (more : List Exchanged) (i : ℕ)
-    (out mid out' whole : List ℕ) →
-    AllTell (e ∷ more) left → out ++ exchanges_text i left ≡ whole → mid ≡ out ++ exchange_line i (told_end e.end) →
-    ((rs : List Reply) → list_all is_reply rs ≡ true → e.replies.items ≡ replies_bytes rs →
+pub exchange_step : (left : List ToldExchange) (r : Vec ℕ Global) (more : List (Vec ℕ Global)) (e : ExchangeEnd)
+    (others : List ExchangeEnd) (i : ℕ) (out mid out' whole : List ℕ) →
+    AllTell (r ∷ more) (e ∷ others) left → out ++ exchanges_text i left ≡ whole →
+    mid ≡ out ++ as_line (codes "exchange " ++ decimal i ++ codes " " ++ name_of_end e) →
+    ((rs : List Reply) → list_all is_reply rs ≡ true → r.items ≡ replies_bytes rs →
     out' ≡ mid ++ flat_map reply_line rs) →
-    (left' : List ToldExchange) × AllTell more left' × (out' ++ exchanges_text (i + 1) left' ≡ whole)
-exchange_step [] e more i out mid out' whole t w m r = absurd t
-exchange_step (one ∷ others) e more i out mid out' whole t w m r =
+    (left' : List ToldExchange) × AllTell more others left' × (out' ++ exchanges_text (i + 1) left' ≡ whole)
+exchange_step [] r more e others i out mid out' whole t w m put = absurd t
+exchange_step (one ∷ rest) r more e others i out mid out' whole t w m put =
     let l : List ℕ = exchange_line i one.end in
     let q : List ℕ = flat_map reply_line one.replies in
-    let rest : List ℕ = exchanges_text (i + 1) others in
+    let left : List ℕ = exchanges_text (i + 1) rest in
     let made : out' ≡ (out ++ l) ++ q =
-    r one.replies t.0.spelled t.0.replies
-    ∙ ap (λ (z : List ℕ). z ++ q) (m ∙ ap (λ z. out ++ exchange_line i z) t.0.end) in (
-      others,
+    put one.replies t.0.spelled t.0.replies
+    ∙ ap (λ (z : List ℕ). z ++ q) (m ∙ ap (λ (z : List ℕ). out ++ as_line (codes "exchange " ++ decimal i ++ codes " " ++ z))
+        (named e one.end t.0.ended)) in (
+      rest,
       t.1,
-      ap (λ (z : List ℕ). z ++ rest) made
-          ∙ (append_assoc (out ++ l) q rest
-          ∙ (append_assoc out l (q ++ rest) ∙ (ap (λ (z : List ℕ). out ++ z) (sym (one_more i one others)) ∙ w))),
+      ap (λ (z : List ℕ). z ++ left) made
+          ∙ (append_assoc (out ++ l) q left
+          ∙ (append_assoc out l (q ++ left) ∙ (ap (λ (z : List ℕ). out ++ z) (sym (one_more i one rest)) ∙ w))),
     )
 
-pub no_exchange_left : (left : List ToldExchange) (es : List Exchanged) (i : ℕ) (out whole : List ℕ) → AllTell es left →
-    es ≡ [] → out ++ exchanges_text i left ≡ whole → out ≡ whole
+-- none is left where no replies or no ends are left
+pub no_exchange_left : (left : List ToldExchange) (rs : List (Vec ℕ Global)) (es : List ExchangeEnd) (i : ℕ)
+    (out whole : List ℕ) → AllTell rs es left → (rs ≡ []) ⊎ (es ≡ []) → out ++ exchanges_text i left ≡ whole →
+    out ≡ whole
 unfolding exchanges_text
-no_exchange_left [] es i out whole t none w = sym (append-nil out) ∙ w
-no_exchange_left (one ∷ others) es i out whole t none w =
-    absurd (subst (λ (z : List Exchanged). AllTell z (one ∷ others)) none t)
+no_exchange_left [] rs es i out whole t none w = sym (append-nil out) ∙ w
+no_exchange_left (one ∷ rest) [] [] i out whole t none w = absurd t
+no_exchange_left (one ∷ rest) [] (e ∷ es) i out whole t none w = absurd t
+no_exchange_left (one ∷ rest) (r ∷ rs) [] i out whole t none w = absurd t
+no_exchange_left (one ∷ rest) (r ∷ rs) (e ∷ es) i out whole t (inl none) w = absurd (cc)
+no_exchange_left (one ∷ rest) (r ∷ rs) (e ∷ es) i out whole t (inr none) w = absurd (cc)
+
+one_file : (contents : List ℕ → Option (List ℕ)) (name : List ℕ) (names : List (List ℕ)) →
+    files_text contents (name ∷ names) ≡ file_text_if name (contents name) ++ files_text contents names
+unfolding files_text
+one_file contents name names = refl
+
+-- the first of the files that are left is put
+pub file_step : (contents : List ℕ → Option (List ℕ)) (names : List (List ℕ)) (place : ℕ) (out out' whole : List ℕ) →
+    place < length names → out ++ files_text contents (drop place names) ≡ whole →
+    ((name : List ℕ) → slice_get names place ≡ Some name → out' ≡ out ++ file_text_if name (contents name)) →
+    out' ++ files_text contents (drop (place + 1) names) ≡ whole
+file_step contents names place out out' whole within w put =
+    let name : List ℕ = get_or names place [] in
+    let more : List ℕ = files_text contents (drop (place + 1) names) in
+    ap (λ (z : List ℕ). z ++ more) (put name (slice_get-get_or names place [] within))
+    ∙ (append_assoc out (file_text_if name (contents name)) more
+    ∙ (ap (λ (z : List ℕ). out ++ z) (sym (ap (files_text contents) (drop_more names place [] within)
+    ∙ one_file contents name (drop (place + 1) names))) ∙ w))
+
+-- behind the last name there is no file
+pub no_file_left : (contents : List ℕ → Option (List ℕ)) (names : List (List ℕ)) (place : ℕ) (out whole : List ℕ) →
+    length names ≤ place → out ++ files_text contents (drop place names) ≡ whole → out ≡ whole
+unfolding files_text
+no_file_left contents names place out whole past w =
+    sym (append-nil out) ∙ (ap (λ (z : List (List ℕ)). out ++ files_text contents z) (sym (drop_of_length-le names past))
+    ∙ w)

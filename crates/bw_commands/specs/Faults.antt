@@ -4,11 +4,10 @@ use Rattle.std.specs.Prelude.{decimal}
 use Rattle.hex.specs.declared.error.FromHexError.{FromHexError}
 use Rattle.hex.specs.declared.error.FromHexError.TheVariants.{OutOfMemory}
 use Rattle.bw_commands.specs.Input.{Asked, TooLong as AsksTooMuch, NotHex as AsksNoHex}
-use Rattle.bw_commands.specs.Input.{NotInOrder as AsksNoOrder}
 use Rattle.bw_commands.specs.Printing.{Print, Nothing, IsOf}
 use Rattle.bw_commands.specs.Text.{as_line}
 use Rattle.bw_commands.specs.declared.fault.Fault.{Fault}
-use Rattle.bw_commands.specs.declared.fault.Fault.TheVariants.{TooLong, NotHex, NotInOrder}
+use Rattle.bw_commands.specs.declared.fault.Fault.TheVariants.{TooLong, NotHex}
 use Rattle.bw_commands.specs.declared.fault.Fault.TheVariants.{Unreadable}
 use Rattle.bw_commands.specs.declared.fault.Fault.TheVariants.{Unwritable, Memory}
 use Rattle.bw_commands.specs.declared.exit.Exit.{Exit}
@@ -27,7 +26,6 @@ abbrev pub IsLineFault : Fault → Result (List (List ℕ)) ℕ → Type 0
 IsLineFault (NotHex n) lines = lines ≡ Err n
 IsLineFault Memory lines = Unit {0}
 IsLineFault TooLong lines = ⊥
-IsLineFault (NotInOrder n) lines = ⊥
 IsLineFault Unreadable lines = ⊥
 IsLineFault Unwritable lines = ⊥
 
@@ -35,7 +33,6 @@ IsLineFault Unwritable lines = ⊥
 abbrev pub RefusesInput : Fault → Asked → Type 0
 RefusesInput TooLong asked = asked ≡ AsksTooMuch
 RefusesInput (NotHex n) asked = asked ≡ AsksNoHex n
-RefusesInput (NotInOrder n) asked = asked ≡ AsksNoOrder n
 RefusesInput Unreadable asked = Unit {0}
 RefusesInput Unwritable asked = Unit {0}
 RefusesInput Memory asked = Unit {0}
@@ -44,7 +41,6 @@ RefusesInput Memory asked = Unit {0}
 abbrev pub input_fault_text : Fault → List ℕ
 input_fault_text TooLong = codes "input too long"
 input_fault_text (NotHex n) = codes "line " ++ decimal n ++ codes ": not hex"
-input_fault_text (NotInOrder n) = codes "line " ++ decimal n ++ codes ": not in order"
 input_fault_text Unreadable = codes "the input can't be read"
 input_fault_text Unwritable = codes "the output can't be written"
 input_fault_text Memory = codes "out of memory"
@@ -53,7 +49,6 @@ input_fault_text Memory = codes "out of memory"
 abbrev pub exit_on : Fault → Exit
 exit_on TooLong = Exit-Refused
 exit_on (NotHex n) = Exit-Refused
-exit_on (NotInOrder n) = Exit-Refused
 exit_on Unreadable = Exit-Device
 exit_on Unwritable = Exit-Device
 exit_on Memory = Exit-Memory
@@ -68,7 +63,6 @@ abbrev pub is_readable : Fault → Bool
 is_readable Unreadable = false
 is_readable TooLong = true
 is_readable (NotHex n) = true
-is_readable (NotInOrder n) = true
 is_readable Unwritable = true
 is_readable Memory = true
 

@@ -1,8 +1,7 @@
 -- What the bytes of standard input ask for.
-use Rattle.std.specs.Prelude.{ℕ, Option, Some, None, List, length, Result, Ok, Err, nat_lt}
+use Rattle.std.specs.Prelude.{ℕ, List, length, Result, Ok, Err, nat_lt}
 use Rattle.std.specs.Prelude.{if◌then◌else◌}
 use Rattle.bw_commands.specs.Lines.{lines_of, decoded_from}
-use Rattle.bw_commands.specs.InOrder.{no_progress, first_unordered}
 
 -- the most bytes that an input has
 abbrev pub longest_input : ℕ
@@ -13,8 +12,6 @@ pub data Asked : Type 0 where
   TooLong : Asked
   -- the first line that is not hex, from 1 on
   NotHex : ℕ → Asked
-  -- the first line that breaks the order, from 1 on
-  NotInOrder : ℕ → Asked
   -- the bytes of each exchange
   Exchanges : List (List ℕ) → Asked
 
@@ -23,30 +20,13 @@ abbrev pub asked_by_lines : Result (List (List ℕ)) ℕ → Asked
 asked_by_lines (Ok inputs) = Exchanges inputs
 asked_by_lines (Err n) = NotHex n
 
--- the exchanges that the lines spell, whatever their order
-abbrev pub spelled_by : List ℕ → Asked
-spelled_by input = if nat_lt longest_input (length input) then TooLong
-    else asked_by_lines (decoded_from 1 (lines_of input))
-
--- the exchanges, unless a line is out of order
-abbrev pub unless_unordered : Option ℕ → List (List ℕ) → Asked
-unless_unordered None inputs = Exchanges inputs
-unless_unordered (Some n) inputs = NotInOrder n
-
--- the same, where exchanges are asked for only in order
-abbrev pub in_order : Asked → Asked
-in_order (Exchanges inputs) = unless_unordered (first_unordered 1 no_progress inputs) inputs
-in_order TooLong = TooLong
-in_order (NotHex n) = NotHex n
-in_order (NotInOrder n) = NotInOrder n
-
 -- what an input asks for
 abbrev pub asked_by : List ℕ → Asked
-asked_by input = in_order (spelled_by input)
+asked_by input = if nat_lt longest_input (length input) then TooLong
+    else asked_by_lines (decoded_from 1 (lines_of input))
 
 -- an input that has a fault
 abbrev pub IsRefused : Asked → Type 0
 IsRefused TooLong = Unit {0}
 IsRefused (NotHex n) = Unit {0}
-IsRefused (NotInOrder n) = Unit {0}
 IsRefused (Exchanges inputs) = ⊥

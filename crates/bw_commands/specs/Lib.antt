@@ -1,15 +1,9 @@
 pub mod Lines
-pub mod InOrder
 pub mod Input
 pub mod Faults
 pub mod Exits
 pub mod Runs
 pub mod Text
-pub mod Recording
-pub mod Keeping
-pub mod TakeFiles
-pub mod Exchanging
-pub mod Running
 pub mod Printing
 pub mod Replays
 pub mod Deeds

@@ -1,11 +1,13 @@
 -- What a replay reads and writes, and how it ends.
-use Rattle.std.specs.Prelude.{◌≡◌, ◌+◌, ◌≤◌, ℕ, Option, Some, List, drop, length, Result, Ok, Err}
+use Rattle.std.specs.Prelude.{◌≡◌, ◌+◌, ◌≤◌, ℕ, Option, Some, List, ◌++◌, drop, length, Result, Ok}
+use Rattle.std.specs.Prelude.{Err}
+use Rattle.bw_file.specs.MemoryNames.{AreNames}
 use Rattle.bw_inspect.specs.Places.{Of}
 use Rattle.bw_commands.specs.Faults.{RefusesInput}
-use Rattle.bw_commands.specs.Input.{Asked, asked_by, longest_input, TooLong, NotHex, NotInOrder}
-use Rattle.bw_commands.specs.Input.{Exchanges}
+use Rattle.bw_commands.specs.Input.{Asked, asked_by, longest_input, TooLong, NotHex, Exchanges}
 use Rattle.bw_commands.specs.Printing.{Print, Nothing, Whole, Part}
-use Rattle.bw_commands.specs.Text.{run_text}
+use Rattle.bw_commands.specs.Runs.{ToldExchange, IsRun}
+use Rattle.bw_commands.specs.Text.{exchanges_text, files_text}
 use Rattle.bw_commands.specs.declared.fault.Fault.{Fault}
 use Rattle.bw_commands.specs.declared.fault.Fault.TheVariants as faults
 
@@ -16,14 +18,22 @@ pub record IsReadAhead (input : List ℕ) (left : Option (List ℕ)) : Type 0 wh
   pub inside : reached ≤ length input
   pub rest : left ≡ Some (drop reached input)
 
--- the input asks for exchanges in order, and this is the text of their run
+-- The text of a run of these inputs: its exchanges, and then the files in the order of their names.
+pub record IsRunText (limit : ℕ) (inputs : List (List ℕ)) (text : List ℕ) : Type 0 where
+  pub told : List ToldExchange
+  pub contents : List ℕ → Option (List ℕ)
+  pub run : IsRun limit inputs told contents
+  pub names : List (List ℕ)
+  pub ordered : AreNames names contents
+  pub is : text ≡ exchanges_text 0 told ++ files_text contents names
+
+-- the input asks for exchanges, and this is the text of a run of them
 abbrev pub IsTextFor : ℕ → Asked → List ℕ → Type 0
-IsTextFor limit (Exchanges inputs) text = text ≡ run_text limit inputs
+IsTextFor limit (Exchanges inputs) text = IsRunText limit inputs text
 IsTextFor limit TooLong text = ⊥
 IsTextFor limit (NotHex n) text = ⊥
-IsTextFor limit (NotInOrder n) text = ⊥
 
--- the text of the run that an input asks for was to be printed
+-- the text of a run that an input asks for was to be printed
 pub record PrintsRun (limit : ℕ) (input : Option (List ℕ)) (printed : List ℕ → Print)
     (print : Print) : Type 0 where
   pub text : List ℕ
@@ -41,7 +51,5 @@ IsPrintOf limit input (Ok x) print = PrintsRun limit input Whole print
 IsPrintOf limit input (Err faults.Unwritable) print = PrintsRun limit input Part print
 IsPrintOf limit input (Err faults.TooLong) print = PrintsNothing input faults.TooLong print
 IsPrintOf limit input (Err (faults.NotHex n)) print = PrintsNothing input (faults.NotHex n) print
-IsPrintOf limit input (Err (faults.NotInOrder n)) print =
-    PrintsNothing input (faults.NotInOrder n) print
 IsPrintOf limit input (Err faults.Unreadable) print = PrintsNothing input faults.Unreadable print
 IsPrintOf limit input (Err faults.Memory) print = PrintsNothing input faults.Memory print

@@ -1,14 +1,13 @@
 -- The text of a run.
-use Rattle.std.specs.Prelude.{ℕ, ◌+◌, Option, Some, None, List, [], ◌∷◌, ◌++◌, length, map}
-use Rattle.std.specs.Prelude.{flat_map, codes, decimal}
+use Rattle.std.specs.Prelude.{ℕ, ◌+◌, Option, Some, None, List, [], ◌∷◌, ◌++◌, length, flat_map}
+use Rattle.std.specs.Prelude.{codes, decimal}
 use Rattle.hex.specs.Hex.{encode_lower}
 use Rattle.bw_model.specs.Wire.{framed}
 use Rattle.bw_model.specs.Replies.{Reply, reply_body}
 use Rattle.bw_model.specs.Stream.{End, EndOfInput, SaidBye, BadFrame}
-use Rattle.bw_model.specs.Book.{Book}
-use Rattle.bw_model.specs.Exchange.{Exchange, exchanges, content_in}
-use Rattle.bw_model.specs.Exchange.{nothing_stands}
-use Rattle.bw_commands.specs.Runs.{ToldExchange, told_of, book_behind_all}
+use Rattle.bw_engine.specs.declared.serving.ExchangeEnd.{ExchangeEnd}
+use Rattle.bw_engine.specs.declared.serving.ExchangeEnd.TheVariants as ends
+use Rattle.bw_commands.specs.Runs.{ToldExchange}
 
 -- a text and the byte that ends its line
 abbrev pub as_line : List ℕ → List ℕ
@@ -23,6 +22,16 @@ abbrev pub end_name : End → List ℕ
 end_name EndOfInput = codes "EndOfInput"
 end_name SaidBye = codes "Bye"
 end_name (BadFrame reason place) = codes "BadFrame"
+
+-- the name of an end, one that breaks the exchange off too
+abbrev pub name_of_end : ExchangeEnd → List ℕ
+name_of_end ends.Bye = codes "Bye"
+name_of_end ends.EndOfInput = codes "EndOfInput"
+name_of_end (ends.BadFrame fault) = codes "BadFrame"
+name_of_end ends.ReadFault = codes "ReadFault"
+name_of_end ends.WriteFault = codes "WriteFault"
+name_of_end ends.TurnLimit = codes "TurnLimit"
+name_of_end ends.Memory = codes "Memory"
 
 -- the line of the exchange with this number
 abbrev pub exchange_line : ℕ → End → List ℕ
@@ -48,16 +57,6 @@ abbrev pub file_text_if : List ℕ → Option (List ℕ) → List ℕ
 file_text_if name None = []
 file_text_if name (Some content) = file_text name content
 
--- the files of a book over an empty store; a run in order has one name
-unfoldable pub files_text : ℕ → Book → List ℕ
-files_text limit book =
-    flat_map (λ entry. file_text_if entry.0 (content_in (λ name. None) limit book entry.0)) book
-
--- the text of exchanges, and of the files behind them
-abbrev pub text_of_exchanges : ℕ → List Exchange → List ℕ
-text_of_exchanges limit es =
-    exchanges_text 0 (map told_of es) ++ files_text limit (book_behind_all [] es)
-
--- the text of the run of these inputs, on a new server over an empty store
-abbrev pub run_text : ℕ → List (List ℕ) → List ℕ
-run_text limit inputs = text_of_exchanges limit (exchanges nothing_stands [] inputs)
+-- the files that stand under these names
+unfoldable pub files_text : (List ℕ → Option (List ℕ)) → List (List ℕ) → List ℕ
+files_text contents names = flat_map (λ name. file_text_if name (contents name)) names

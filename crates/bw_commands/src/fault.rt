@@ -15,8 +15,6 @@ pub enum Fault {
     TooLong,
     /// The line with this number isn't hex.
     NotHex(u64),
-    /// The line with this number has a message that isn't the run's next.
-    NotInOrder(u64),
     /// The reader failed.
     Unreadable,
     /// The writer failed.
@@ -33,7 +31,6 @@ impl Fault {
         match self {
             Fault::TooLong => Exit::Refused,
             Fault::NotHex(_) => Exit::Refused,
-            Fault::NotInOrder(_) => Exit::Refused,
             Fault::Unreadable => Exit::Device,
             Fault::Unwritable => Exit::Device,
             Fault::Memory => Exit::Memory,
@@ -59,8 +56,7 @@ impl Fault {
     {
         match self {
             Fault::TooLong => line.push_str("input too long"),
-            Fault::NotHex(number) => put_number(line, *number, ": not hex"),
-            Fault::NotInOrder(number) => put_number(line, *number, ": not in order"),
+            Fault::NotHex(number) => put_not_hex(line, *number),
             Fault::Unreadable => line.push_str("the input can't be read"),
             Fault::Unwritable => line.push_str("the output can't be written"),
             Fault::Memory => line.push_str("out of memory"),
@@ -68,17 +64,16 @@ impl Fault {
     }
 }
 
-/// Puts the number of a line and what is wrong with it on an empty line.
-fn put_number(line: &mut ArrayString<64>, number: u64, wrong: &str)
-    requires empty { line.old.bytes ≡ [] }
-    requires short { length wrong.now ≤ 35 }
-    ensures text { line.new.bytes ≡ codes "line " ++ decimal number ++ wrong.now }
-    ensures short { length line.new.bytes ≤ 25 + length wrong.now }
+/// Puts on an empty line that the line with this number isn't hex.
+fn put_not_hex(line: &mut ArrayString<64>, number: u64)
+    requires { line.old.bytes ≡ [] }
+    ensures text { line.new.bytes ≡ codes "line " ++ decimal number ++ codes ": not hex" }
+    ensures short { length line.new.bytes ≤ 60 }
 {
     let mut digits = Buffer::new();
     line.push_str("line ");
     line.push_str(digits.format(number));
-    line.push_str(wrong);
+    line.push_str(": not hex");
 }
 
 impl From<AllocError> for Fault {

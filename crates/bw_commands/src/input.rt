@@ -4,7 +4,7 @@ ghost use Rattle.std.specs.Prelude.{Some, IfOk, IfErr};
 ghost use Rattle.std.specs.List.{position_or_len};
 ghost use Rattle.std.specs.Io.BufRead.{strip_last};
 ghost use Rattle.bw_commands.specs.Lines.{lines_of, decoded_from, is_line_end};
-ghost use Rattle.bw_commands.specs.Input.{spelled_by, longest_input, Exchanges};
+ghost use Rattle.bw_commands.specs.Input.{asked_by, longest_input, Exchanges};
 ghost use Rattle.bw_commands.specs.Faults.{IsLineFault, RefusesInput, is_read};
 ghost use Rattle.bw_commands.specs.Faults.{line_fault as line_fault_of};
 ghost use Rattle.bw_commands.specs.Printing.{failures_if};
@@ -25,10 +25,10 @@ pub fn exchanges<R: Source>(alloc: Global, input: &mut R) -> Result<Vec<Vec<u8>>
     ensures most { R.moved input.new ≤ R.moved input.old + (longest_input + 1) }
     ensures count { R.failures input.new ≡ failures_if (is_read result) (R.failures input.old) }
     ensures ok { IfOk result (λ found. Of (R.left input.old) (λ xs.
-        spelled_by xs ≡ Exchanges (map (λ x. x.items) found.items))) }
+        asked_by xs ≡ Exchanges (map (λ x. x.items) found.items))) }
     ensures short { IfOk result (λ found. All (λ x. length x.items ≤ longest_input) found.items) }
     ensures err { IfErr result (λ fault. Of (R.left input.old) (λ xs.
-        RefusesInput fault (spelled_by xs))) }
+        RefusesInput fault (asked_by xs))) }
     ensures own { IfErr result (λ fault. fault ≢ Fault.Unwritable) }
 {
     let bytes = all_bytes(alloc, input)?;
@@ -43,7 +43,7 @@ fn all_bytes<R: Source>(alloc: Global, input: &mut R) -> Result<Vec<u8>, Fault>
     ensures within { IfOk result (λ bytes. length bytes.items ≤ longest_input) }
     ensures ok { IfOk result (λ bytes. Of (R.left input.old) (λ xs. bytes.items ≡ xs)) }
     ensures err { IfErr result (λ fault. Of (R.left input.old) (λ xs.
-        RefusesInput fault (spelled_by xs))) }
+        RefusesInput fault (asked_by xs))) }
     ensures own { IfErr result (λ fault. fault ≢ Fault.Unwritable) }
 {
     let mut bytes = Vec::new(alloc);

@@ -2,18 +2,14 @@
 //! command line stand above, in the program.
 #![tactic(auto)]
 
-mod exchange;
 mod exit;
 mod fault;
-mod file;
 mod host;
 mod input;
 mod inspection;
 mod opening;
 pub mod print;
-mod recording;
 pub mod replay;
-mod run;
 mod system;
 mod text;
 mod unworded;

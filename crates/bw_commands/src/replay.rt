@@ -1,23 +1,25 @@
 //! The command `replay`: runs from standard input.
-ghost use Rattle.std.specs.Prelude.{◌≡◌, ◌+◌, ◌≤◌, OnOk};
+ghost use Rattle.std.specs.Prelude.{◌≡◌, ◌+◌, ◌≤◌, All, length, map, IfOk, OnOk};
 ghost use Rattle.bw_inspect.specs.Places.{Of};
 ghost use Rattle.bw_commands.specs.Deeds.{Deed, HasWritten, IsReplay};
 ghost use Rattle.bw_commands.specs.Faults.{is_read};
 ghost use Rattle.bw_commands.specs.Input.{longest_input};
 ghost use Rattle.bw_commands.specs.Printing.{IsPrint, Print, failures_if};
-ghost use Rattle.bw_commands.specs.Replays.{IsPrintOf, IsReadAhead};
+ghost use Rattle.bw_commands.specs.Replays.{IsPrintOf, IsReadAhead, IsRunText};
 
 use crate::exit::Exit;
 use crate::fault::Fault;
 use crate::input::exchanges;
 use crate::print::{give_up, print};
-use crate::run::run_in_order;
 use crate::text::text_of_run;
+use bw_engine::ingest_run;
+use bw_file::{FuseStore, MemoryStore};
 use bw_layout::Limit;
 use bw_stream::{Sink, Source};
-use std::alloc::Global;
+use std::alloc::{AllocError, Global};
 
-/// Runs each line of the input as an exchange, and writes replies and files as text.
+/// Runs each line of the input as an exchange, over an empty store in memory, and writes replies
+/// and files as text.
 ///
 /// A fault's line goes to `faults`; one that can't be written changes nothing. A file whose RIFF
 /// form would be longer than `limit` bytes is written as BW64. Of the input at most 16,777,217
@@ -35,16 +37,55 @@ pub fn replay<R: Source, W: Sink, E: Sink>(
         × (R.failures input.new ≡ failures_if did.reads_all (R.failures input.old))
         × HasWritten W.Sink E.Sink did out.old out.new faults.old faults.new }
 {
-    match play(alloc, limit, input, out) {
+    replay_over(alloc, limit, &[], input, out, faults)
+}
+
+/// `replay` over a store of which the call number `fuse`, counted from 0, fails.
+///
+/// That it is this call that fails, the contract doesn't say.
+pub fn replay_fused<R: Source, W: Sink, E: Sink>(
+    alloc: Global,
+    limit: Limit,
+    fuse: u32,
+    input: &mut R,
+    out: &mut W,
+    faults: &mut E,
+) -> Exit
+    ensures within { Of (R.left input.old) (λ xs. IsReadAhead xs (R.left input.new)) }
+    ensures most { R.moved input.new ≤ R.moved input.old + (longest_input + 1) }
+    ensures did { (did : Deed) × (did.exit ≡ result) × IsReplay limit (R.left input.old) did
+        × (R.failures input.new ≡ failures_if did.reads_all (R.failures input.old))
+        × HasWritten W.Sink E.Sink did out.old out.new faults.old faults.new }
+{
+    replay_over(alloc, limit, &[u64::from(fuse)], input, out, faults)
+}
+
+/// `replay` over a store of which these calls fail.
+fn replay_over<R: Source, W: Sink, E: Sink>(
+    alloc: Global,
+    limit: Limit,
+    fuses: &[u64],
+    input: &mut R,
+    out: &mut W,
+    faults: &mut E,
+) -> Exit
+    ensures within { Of (R.left input.old) (λ xs. IsReadAhead xs (R.left input.new)) }
+    ensures most { R.moved input.new ≤ R.moved input.old + (longest_input + 1) }
+    ensures did { (did : Deed) × (did.exit ≡ result) × IsReplay limit (R.left input.old) did
+        × (R.failures input.new ≡ failures_if did.reads_all (R.failures input.old))
+        × HasWritten W.Sink E.Sink did out.old out.new faults.old faults.new }
+{
+    match play(alloc, limit, fuses, input, out) {
         Ok(()) => Exit::Done,
         Err(fault) => give_up(faults, &fault),
     }
 }
 
-/// Runs each line of the input, and writes the run's text.
+/// Runs each line of the input over a store of which these calls fail, and writes the run's text.
 fn play<R: Source, W: Sink>(
     alloc: Global,
     limit: Limit,
+    fuses: &[u64],
     input: &mut R,
     out: &mut W,
 ) -> Result<(), Fault>
@@ -55,10 +96,28 @@ fn play<R: Source, W: Sink>(
         × IsPrint W.Sink print out.old out.new }
 {
     let inputs = exchanges(alloc, input)?;
-    let run = run_in_order(alloc, inputs.as_slice())?;
-    let text = text_of_run(alloc, limit, &run)?;
+    let text = run_text(alloc, limit, fuses, inputs.as_slice())?;
     match print(out, text.as_slice()) {
         Ok(()) => Ok(()),
         Err(_) => Err(Fault::Unwritable),
     }
+}
+
+/// The text of the inputs' run over an empty store of which these calls fail.
+fn run_text(
+    alloc: Global,
+    limit: Limit,
+    fuses: &[u64],
+    inputs: &[Vec<u8>],
+) -> Result<Vec<u8>, AllocError>
+    requires { All (λ x. length x.items ≤ longest_input) inputs.now }
+    ensures { IfOk result (λ text.
+        IsRunText limit (map (λ x. x.items) inputs.now) text.items) }
+{
+    let store = FuseStore::new(MemoryStore::new(alloc), fuses.to_vec(alloc)?);
+    let Ok(run) = ingest_run(alloc, store, limit, inputs) else {
+        return Err(AllocError);
+    };
+    let (replies, ends) = (run.replies.as_slice(), run.ends.as_slice());
+    text_of_run(alloc, replies, ends, run.store.inner())
 }

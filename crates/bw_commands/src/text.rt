@@ -1,45 +1,56 @@
 //! The text of a run.
 ghost use Rattle.std.specs.Prelude.{◌≡◌, ℕ, ◌+◌, ◌*◌, ◌^◌, ◌<◌, List, [], ◌∷◌, ◌++◌, length};
-ghost use Rattle.std.specs.Prelude.{flat_map, codes, decimal, IsTrue, IfOk, OnOk};
+ghost use Rattle.std.specs.Prelude.{flat_map, codes, decimal, IsTrue, IfOk, OnOk, Some, slice_get};
 ghost use Rattle.std.specs.List.{list_all};
 ghost use Rattle.hex.specs.Hex.{encode_lower};
 ghost use Rattle.bw_model.specs.Wire.{framed};
 ghost use Rattle.bw_model.specs.Replies.{Reply, is_reply};
 ghost use Rattle.bw_model.specs.Exchange.{replies_bytes};
-ghost use Rattle.bw_model.specs.Book.{Book};
-ghost use Rattle.bw_commands.specs.Text.{as_line, reply_line, end_name as name_of_end};
-ghost use Rattle.bw_commands.specs.Text.{exchanges_text};
-ghost use Rattle.bw_commands.specs.Text.{file_text, files_text, run_text};
-ghost use Rattle.bw_commands.specs.Runs.{ToldExchange};
-ghost use Rattle.bw_commands.specs.Keeping.{KeepsBook};
-ghost use Rattle.bw_commands.specs.Exchanging.{told_end};
-ghost use Rattle.bw_commands.specs.Running.{AllTell, Ran};
+ghost use Rattle.bw_file.specs.Memory.{content_under};
+ghost use Rattle.bw_file.specs.MemoryNames.{names_of, AreNames};
+ghost use Rattle.bw_commands.specs.Runs.{ToldExchange, AllTell};
+ghost use Rattle.bw_commands.specs.Text.{as_line, reply_line, name_of_end};
+ghost use Rattle.bw_commands.specs.Text.{exchanges_text, file_text, file_text_if, files_text};
 
-use crate::exchange::{Exchange, ExchangeEnd};
-use crate::recording::{Recording, TakeFile};
-use crate::run::Run;
-use bw_layout::Limit;
+use bw_engine::ExchangeEnd;
+use bw_file::MemoryStore;
+use bw_take::Name;
 use std::alloc::{AllocError, Global};
 
-/// The exchanges with their replies, and then the take's file.
-pub fn text_of_run(alloc: Global, limit: Limit, run: &Run) -> Result<Vec<u8>, AllocError>
-    ensures { IfOk result (λ text. (inputs : List (List ℕ)) →
-        Ran inputs run.now → text.items ≡ run_text limit inputs) }
+/// The exchanges with their replies, and then the store's files in the order of their names.
+pub fn text_of_run(
+    alloc: Global,
+    replies: &[Vec<u8>],
+    ends: &[ExchangeEnd],
+    store: &MemoryStore,
+) -> Result<Vec<u8>, AllocError>
+    ensures text { IfOk result (λ text. (told : List ToldExchange) →
+        AllTell replies.now ends.now told → text.items
+        ≡ exchanges_text 0 told ++ files_text (content_under store.now.files) (names_of store.now)) }
+    ensures names { OnOk result (AreNames (names_of store.now) (content_under store.now.files)) }
 {
     let mut text = Vec::new(alloc);
-    put_exchanges(alloc, &mut text, run.exchanges.as_slice())?;
-    put_files(alloc, &mut text, limit, &run.recording)?;
+    put_exchanges(alloc, &mut text, replies, ends)?;
+    put_files(alloc, &mut text, store)?;
     Ok(text)
 }
 
 /// Adds the exchanges, each with its replies.
-fn put_exchanges(alloc: Global, out: &mut Vec<u8>, exchanges: &[Exchange]) -> Result<(), AllocError>
-    ensures { OnOk result ((told : List ToldExchange) → AllTell exchanges.now told →
+fn put_exchanges(
+    alloc: Global,
+    out: &mut Vec<u8>,
+    replies: &[Vec<u8>],
+    ends: &[ExchangeEnd],
+) -> Result<(), AllocError>
+    ensures { OnOk result ((told : List ToldExchange) → AllTell replies.now ends.now told →
         out.new.items ≡ out.old.items ++ exchanges_text 0 told) }
 {
-    for (index, exchange) in exchanges.iter().enumerate() {
-        put_exchange_line(alloc, out, index, exchange.end)?;
-        put_replies(alloc, out, exchange.replies.as_slice())?;
+    for (index, end) in ends.iter().enumerate() {
+        let Some(frames) = replies.get(index) else {
+            return Ok(());
+        };
+        put_exchange_line(alloc, out, index, *end)?;
+        put_replies(alloc, out, frames.as_slice())?;
     }
     Ok(())
 }
@@ -52,7 +63,7 @@ fn put_exchange_line(
     end: ExchangeEnd,
 ) -> Result<(), AllocError>
     ensures { OnOk result (out.new.items ≡ out.old.items ++
-        as_line (codes "exchange " ++ decimal index ++ codes " " ++ name_of_end (told_end end))) }
+        as_line (codes "exchange " ++ decimal index ++ codes " " ++ name_of_end end)) }
 {
     let name = end_name(end);
     let text = format!(in alloc; "exchange {index} {name}\n")?;
@@ -61,12 +72,16 @@ fn put_exchange_line(
 }
 
 fn end_name(end: ExchangeEnd) -> &'static str
-    ensures { result.now ≡ name_of_end (told_end end) }
+    ensures { result.now ≡ name_of_end end }
 {
     match end {
         ExchangeEnd::Bye => "Bye",
         ExchangeEnd::EndOfInput => "EndOfInput",
         ExchangeEnd::BadFrame(_) => "BadFrame",
+        ExchangeEnd::ReadFault => "ReadFault",
+        ExchangeEnd::WriteFault => "WriteFault",
+        ExchangeEnd::TurnLimit => "TurnLimit",
+        ExchangeEnd::Memory => "Memory",
     }
 }
 
@@ -101,34 +116,52 @@ fn split_frame(bytes: &[u8]) -> (&[u8], &[u8])
     (bytes, &bytes[bytes.len()..])
 }
 
-/// Adds the file of the take that was opened, if one was.
-fn put_files(
-    alloc: Global,
-    out: &mut Vec<u8>,
-    limit: Limit,
-    recording: &Recording,
-) -> Result<(), AllocError>
-    ensures { OnOk result ((book : Book) → KeepsBook recording.now book →
-        out.new.items ≡ out.old.items ++ files_text limit book) }
+/// Adds the files in the order of their names.
+fn put_files(alloc: Global, out: &mut Vec<u8>, store: &MemoryStore) -> Result<(), AllocError>
+    ensures files { OnOk result (out.new.items ≡ out.old.items
+        ++ files_text (content_under store.now.files) (names_of store.now)) }
+    ensures names { AreNames (names_of store.now) (content_under store.now.files) }
 {
-    match recording.file(alloc, limit)? {
-        Some(file) => put_file(alloc, out, &file)?,
-        None => {}
+    for place in 0..store.name_count() {
+        put_file_at(alloc, out, store, place)?;
     }
     Ok(())
 }
 
+/// Adds the file of the name at a place, if there is one.
+fn put_file_at(
+    alloc: Global,
+    out: &mut Vec<u8>,
+    store: &MemoryStore,
+    place: usize,
+) -> Result<(), AllocError>
+    ensures { OnOk result ((name : List ℕ) → slice_get (names_of store.now) place ≡ Some name →
+        out.new.items ≡ out.old.items
+        ++ file_text_if name (content_under store.now.files name)) }
+{
+    let Some(name) = store.name_at(place) else {
+        return Ok(());
+    };
+    let Some(content) = store.content(name) else {
+        return Ok(());
+    };
+    put_file(alloc, out, name, content)
+}
+
 /// Adds a file's name and length, and its bytes in hex.
 #[tactic(auto, using(std::proofs::lemmas::List::append_assoc))]
-fn put_file(alloc: Global, out: &mut Vec<u8>, file: &TakeFile) -> Result<(), AllocError>
-    ensures { OnOk result (out.new.items ≡
-        out.old.items ++ file_text file.now.name file.now.content.items) }
+fn put_file(
+    alloc: Global,
+    out: &mut Vec<u8>,
+    name: &Name,
+    content: &[u8],
+) -> Result<(), AllocError>
+    ensures { OnOk result (out.new.items ≡ out.old.items ++ file_text name.now content.now) }
 {
-    let content = file.content.as_slice();
     let size = content.len();
     let text = format!(in alloc; " {size}\n")?;
     out.extend_from_slice(b"file ")?;
-    out.extend_from_slice(file.name.as_bytes())?;
+    out.extend_from_slice(name.as_bytes())?;
     out.extend_from_slice(text.as_bytes())?;
     put_hex_line(alloc, out, "", content)?;
     Ok(())

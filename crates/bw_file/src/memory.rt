@@ -66,6 +66,14 @@ impl MemoryStore {
         }
     }
 
+    /// How many names stand.
+    pub fn name_count(&self) -> usize
+        ensures count { result ≡ length (names_of self.now) }
+        ensures names { AreNames (names_of self.now) (content_under self.now.files) }
+    {
+        self.files.keys().len()
+    }
+
     /// The names that stand, by place from 0 on, in the order of their bytes.
     pub fn name_at(&self, place: usize) -> Option<&Name>
         ensures name { option_copied result ≡ slice_get (names_of self.now) place }

@@ -1,26 +1,39 @@
-use Rattle.std.proofs.Common.{arith, ◌∙◌, ◌+◌, List, ◌∷◌, drop, ap, sym, subst}
+use Rattle.std.proofs.Common.{arith, ◌≡◌, ◌∙◌, ◌+◌, ◌<◌, List, ◌∷◌, drop, length, ap, sym, subst, inl, inr}
+use Rattle.std.specs.Prelude.{Vec, ℕ}
+use Rattle.std.specs.declared.alloc.Global.{Global}
 use Rattle.std.proofs.lemmas.List.{drop_more}
-use Rattle.bw_commands.specs.Running.{AllTell}
-use Rattle.bw_commands.specs.declared.exchange.Exchange.{Exchange}
+use Rattle.std.proofs.lemmas.Bool.{ltb-true}
+use Rattle.bw_commands.specs.Runs.{AllTell}
+use Rattle.bw_engine.specs.declared.serving.ExchangeEnd.{ExchangeEnd}
+use Rattle.std.proofs.Math.ListN.{drop_of_length-le}
 use Rattle.bw_commands.proofs.TextLemmas.{exchange_step, no_exchange_left}
-use Rattle.bw_commands.proofs.RunSteps.{none_dropped}
 use Rattle.bw_commands.proofs.text.put_exchanges.Goals as goal
 
 pub loop-index-preserved : goal.loop-index-preserved
 loop-index-preserved c told t =
     let i = c.loop-index.invariant told t in
-    let e = c.index-exchanges-index.result in
-    let next : AllTell (e ∷ drop (c.loop-index.index + 1) c.args.exchanges.now) i.0 =
-    subst (λ (es : List Exchange). AllTell es i.0)
-    (drop_more c.args.exchanges.now c.loop-index.index e c.loop-index-test.true
-    ∙ ap (λ (x : Exchange). x ∷ drop (c.loop-index.index + 1) c.args.exchanges.now) (sym c.index-exchanges-index.is))
-    i.1 in
-    exchange_step i.0 e (drop (c.loop-index.index + 1) c.args.exchanges.now) c.loop-index.index _ _ _ _ next i.2
-    c.in_ok-put_exchange_line.ensures
+    let k = c.loop-index.index in
+    let rs = c.args.replies.now in
+    let es = c.args.ends.now in
+    let found = c.in-Some.ensures.lookup in
+    let within : k < length rs = ltb-true k (length rs) (sym found.0) in
+    let first = drop_more rs k c.in-Some.frames.now within
+        ∙ ap (λ (x : Vec ℕ Global). x ∷ drop (k + 1) rs) (sym found.1) in
+    exchange_step i.0 c.in-Some.frames.now (drop (k + 1) rs) _ (drop (k + 1) es) k _ _ _ _
+    (subst (λ (xs : List ExchangeEnd). AllTell (c.in-Some.frames.now ∷ drop (k + 1) rs) xs i.0)
+        (drop_more es k _ c.loop-index-test.true)
+    (subst (λ (xs : List (Vec ℕ Global)). AllTell xs (drop k es) i.0) first i.1))
+    i.2 c.in_ok-put_exchange_line.ensures
     (λ rs spelled same. c.in_ok-put_replies.ensures rs spelled (c.as_slice.ensures.value ∙ same))
+
+pub returns-in_default : goal.returns-in_default
+returns-in_default c told t =
+    let i = c.loop-index.invariant told t in
+    no_exchange_left i.0 _ _ c.loop-index.index _ _ i.1
+    (inl (drop_of_length-le c.args.replies.now c.in_default.ensures.lookup.3)) i.2
 
 pub returns : goal.returns
 returns c told t =
     let i = c.loop-index.invariant told t in
-    no_exchange_left i.0 _ c.loop-index.index _ _ i.1
-    (none_dropped c.args.exchanges.now c.loop-index.index (omega arith)) i.2
+    no_exchange_left i.0 _ _ c.loop-index.index _ _ i.1
+    (inr (drop_of_length-le c.args.ends.now (omega arith))) i.2

@@ -2,7 +2,7 @@ use Rattle.std.proofs.Common.{Ok, Err, true, refl, sym}
 use Rattle.bw_commands.specs.Faults.{exit_on, is_readable}
 use Rattle.bw_commands.specs.Printing.{Nothing}
 use Rattle.bw_commands.specs.declared.exit.Exit.TheVariants.{Done}
-use Rattle.bw_commands.proofs.replay.replay.Goals as goal
+use Rattle.bw_commands.proofs.replay.replay_over.Goals as goal
 
 pub returns-in-Ok-clause-did : goal.returns-in-Ok-clause-did
 returns-in-Ok-clause-did g c =

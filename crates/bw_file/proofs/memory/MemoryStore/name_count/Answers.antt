@@ -1,0 +1,8 @@
+use Rattle.bw_file.proofs.Names.{stands_iff}
+use Rattle.bw_file.proofs.memory.MemoryStore.name_count.Goals as goal
+
+pub returns-clause-names : goal.returns-clause-names
+returns-clause-names c = record {
+  ordered = c.keys.ensures.ordered;
+  each = λ name. stands_iff c.args.self.now.files name (rw c.keys.ensures.rest at (c.keys.ensures.has name));
+}
