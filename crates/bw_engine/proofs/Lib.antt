@@ -1,1 +1,3 @@
 mod ServerAnswers
+mod GoodRuns
+mod ServedRuns

@@ -1,4 +1,4 @@
-use Rattle.std.proofs.Common.{sym, subst, map}
+use Rattle.std.proofs.Common.{subst, map}
 use Rattle.std.specs.Prelude.{is_some}
 use Rattle.bw_model.specs.Book.{Book}
 use Rattle.bw_wire.specs.Frames.{message_of}

@@ -1,0 +1,17 @@
+//! Laws of the words that the exchanges' clauses use.
+ghost use Rattle.bw_engine.specs.ServerRuns.{OrderNeedsNoLuck, ServersAnswerInRuns, TurnsAreRuns};
+
+use bw_file::TakeStore;
+use bw_journal::Journal;
+
+/// Turns one after another are a run of the definitions, under some luck at each; and where the
+/// frames come in number order and no want is told, replies and book hang on no luck.
+pub fn law_runs()
+    ensures runs { TurnsAreRuns }
+    ensures in_order { OrderNeedsNoLuck }
+{}
+
+/// What a server answers, one frame after another, is a run from each book that it holds.
+pub fn law_server_runs<S: TakeStore, J: Journal>()
+    ensures { ServersAnswerInRuns S.TakeStore J.Journal }
+{}
