@@ -1,0 +1,7 @@
+pub mod Staying
+pub mod Holding
+pub mod Doing
+pub mod Going
+pub mod Turning
+pub mod Growing
+pub mod Lawful

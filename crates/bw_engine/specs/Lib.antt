@@ -1,1 +1,6 @@
 pub mod Answering
+pub mod Bounds
+pub mod Ends
+pub mod Feeding
+pub mod Steps
+pub mod Done
