@@ -1,8 +1,18 @@
-//! Laws of the words that the exchanges' clauses use.
+//! Laws of exchanges. Each function's contract is one; nothing runs.
+ghost use Rattle.bw_engine.specs.Done.{ExchangesFollowStreams};
 ghost use Rattle.bw_engine.specs.ServerRuns.{OrderNeedsNoLuck, ServersAnswerInRuns, TurnsAreRuns};
 
 use bw_file::TakeStore;
 use bw_journal::Journal;
+
+/// Whatever was fed and taken so far, the answered frames are the first of the stream of the bytes
+/// fed, and all of them where the exchange is hungry or over; the bytes that were taken and those
+/// that wait are exactly their replies.
+pub fn law_exchange()
+    ensures { ExchangesFollowStreams }
+{
+    bw_wire::laws::law_framer();
+}
 
 /// Turns one after another are a run of the definitions, under some luck at each; and where the
 /// frames come in number order and no want is told, replies and book hang on no luck.

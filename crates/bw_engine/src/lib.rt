@@ -1,8 +1,13 @@
 //! Exchanges: from the bytes of a recorder to the bytes of its replies.
 #![tactic(auto)]
 
+mod exchange;
 pub mod laws;
+mod outgoing;
 mod server_turns;
+mod step;
 mod turns;
 
+pub use exchange::{Exchange, FeedError};
+pub use step::StreamEnd;
 pub use turns::Turns;
