@@ -5,3 +5,7 @@ pub mod Going
 pub mod Turning
 pub mod Growing
 pub mod Lawful
+pub mod Reading
+pub mod Feeds
+pub mod Writing
+pub mod Whole

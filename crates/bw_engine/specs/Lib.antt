@@ -4,3 +4,5 @@ pub mod Ends
 pub mod Feeding
 pub mod Steps
 pub mod Done
+pub mod Served
+pub mod Pieces
