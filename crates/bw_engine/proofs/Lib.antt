@@ -5,6 +5,10 @@ pub mod Going
 pub mod Turning
 pub mod Growing
 pub mod Lawful
+pub mod Reading
+pub mod Feeds
+pub mod Writing
+pub mod Whole
 mod ServerAnswers
 mod GoodRuns
 mod ServedRuns

@@ -4,5 +4,7 @@ pub mod Ends
 pub mod Feeding
 pub mod Steps
 pub mod Done
+pub mod Served
+pub mod Pieces
 pub mod ServerTurns
 pub mod ServerRuns

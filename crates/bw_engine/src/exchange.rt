@@ -56,7 +56,7 @@ pub struct Exchange {
 }
 
 impl Exchange {
-    ghost use Rattle.bw_engine.specs.Done.{HasDone, DoesMore, AnswersUpTo};
+    ghost use Rattle.bw_engine.specs.Done.{HasDone, DoesMore, AnswersUpTo, IsIdle};
 
     /// An exchange at its start.
     ///
@@ -81,6 +81,15 @@ impl Exchange {
         ensures open { result ≡ true → is_some self.now.end ≡ false }
     {
         self.hungry
+    }
+
+    /// Whether nothing can be answered, with whatever room: until a piece is fed, or ever.
+    pub(crate) fn is_idle(&self) -> bool
+        ensures idle { result ≡ true → IsIdle self.now }
+        ensures fed { result ≡ false → self.now.hungry ≡ false }
+        ensures open { result ≡ false → is_some self.now.end ≡ false }
+    {
+        self.hungry || self.end.is_some()
     }
 
     /// How it ended, where it is over.
@@ -126,7 +135,7 @@ impl Exchange {
         ensures { AnswersUpTo T.answers turns server.old server.new self.old self.new }
     {
         for _turn in 0..turns {
-            if self.hungry || self.end.is_some() || self.outgoing.len() > MOST_BEFORE_ANSWER {
+            if self.is_idle() || self.outgoing.len() > MOST_BEFORE_ANSWER {
                 break;
             }
             self.answer_one(server);

@@ -5,9 +5,11 @@ mod exchange;
 pub mod laws;
 mod outgoing;
 mod server_turns;
+mod serving;
 mod step;
 mod turns;
 
 pub use exchange::{Exchange, FeedError};
+pub use serving::{ExchangeEnd, serve_exchange};
 pub use step::StreamEnd;
 pub use turns::Turns;
