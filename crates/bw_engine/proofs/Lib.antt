@@ -12,3 +12,8 @@ pub mod Whole
 mod ServerAnswers
 mod GoodRuns
 mod ServedRuns
+mod InputSteps
+mod GoodExchanges
+mod StoreRuns
+mod FirstFrames
+mod ServedInputs

@@ -8,3 +8,4 @@ pub mod Served
 pub mod Pieces
 pub mod ServerTurns
 pub mod ServerRuns
+pub mod Ingesting

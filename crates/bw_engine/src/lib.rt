@@ -2,6 +2,7 @@
 #![tactic(auto)]
 
 mod exchange;
+mod ingest;
 pub mod laws;
 mod outgoing;
 mod server_turns;
@@ -10,6 +11,7 @@ mod step;
 mod turns;
 
 pub use exchange::{Exchange, FeedError};
+pub use ingest::{Run, RunFault, ingest_run};
 pub use serving::{ExchangeEnd, serve_exchange};
 pub use step::StreamEnd;
 pub use turns::Turns;
