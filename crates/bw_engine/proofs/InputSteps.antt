@@ -11,6 +11,7 @@ use Rattle.bw_engine.specs.Answering.{Answered, AnswersAll}
 use Rattle.bw_engine.specs.Ingesting.{ServedInput, WasServed, AreServed, AreFirstIn, answered_in}
 use Rattle.bw_engine.specs.Ingesting.{bytes_in, ServesInput, ServesFirst, ServesInputs, ServesInPart}
 use Rattle.bw_engine.specs.declared.ingest.Told.{Told}
+use Rattle.bw_engine.proofs.Going.{answers_append}
 use Rattle.bw_engine.specs.declared.serving.ExchangeEnd.{ExchangeEnd}
 
 each-append : {X : Type 0} (P : X → Type 0) (xs ys : List X) → AllByRecursion P xs → AllByRecursion P ys →
@@ -23,11 +24,6 @@ none_first [] = refl
 none_first (input ∷ left) = (_, refl)
 
 module _ {T : Type 0} (answers : T → Frame → List Reply → T → Type 0) where
-  answers-append : (old mid new : T) (xs ys : List Answered) → AnswersAll answers old xs mid →
-      AnswersAll answers mid ys new → AnswersAll answers old (xs ++ ys) new
-  answers-append old mid new [] ys h k = subst (λ (t : T). AnswersAll answers t ys new) h k
-  answers-append old mid new (x ∷ xs) ys h k = (h.0, h.1, answers-append h.0 mid new xs ys h.2 k)
-
   pub inputs-none : (old : T) (told : Told) → told.replies.items ≡ [] → told.ends.items ≡ [] →
       ServesInputs answers old old [] told
   inputs-none old told replies ends = record {
@@ -47,13 +43,14 @@ module _ {T : Type 0} (answers : T → Frame → List Reply → T → Type 0) wh
       AnswersAll answers old (answered_in went) mid → AreServed went inputs written ends →
       inputs' ≡ inputs ++ input ∷ [] → written' ≡ written ++ bytes ∷ [] → ends' ≡ ends ++ end ∷ [] →
       ServesInput answers mid new input bytes end →
-      (went' : List ServedInput) × AnswersAll answers old (answered_in went') new × AreServed went' inputs' written' ends'
+      (went' : List ServedInput) × AnswersAll answers old (answered_in went') new
+      × AreServed went' inputs' written' ends'
   all_served old mid new inputs inputs' written written' ends ends' input bytes end went by_server are is ws es one = (
     went ++ last ∷ [],
     subst (λ (xs : List Answered). AnswersAll answers old xs new)
         (ap (λ (xs : List Answered). answered_in went ++ xs) (sym (append-nil one.answered))
         ∙ sym (flat_map-append (λ (x : ServedInput). x.answered) went (last ∷ [])))
-        (answers-append old mid new (answered_in went) one.answered by_server one.by_server),
+        (answers_append answers (answered_in went) one.answered old mid new by_server one.by_server),
     record {
       inputs_are = map-append (λ (x : ServedInput). x.input) went (last ∷ [])
           ∙ ap (λ (xs : List (List ℕ)). xs ++ input ∷ []) are.inputs_are ∙ sym is;
@@ -86,7 +83,7 @@ module _ {T : Type 0} (answers : T → Frame → List Reply → T → Type 0) wh
   inputs-part old mid new inputs told input left h one = record {
     went = h.went;
     next = one.answered;
-    by_server = answers-append old mid new (answered_in h.went) one.answered h.by_server one.by_server;
+    by_server = answers_append answers (answered_in h.went) one.answered old mid new h.by_server one.by_server;
     are = record {
       left = input ∷ left;
       inputs_are = ap (λ (xs : List (List ℕ)). xs ++ input ∷ left) h.are.inputs_are;

@@ -3,6 +3,7 @@ use Rattle.std.proofs.Common.{◌≡◌, ◌≢◌, ℕ, true, List, [], ◌++�
 use Rattle.std.proofs.lemmas.List.{length-append, append-nil}
 use Rattle.bw_model.specs.Wire.{Frame, are_bytes}
 use Rattle.bw_model.specs.Replies.{Reply}
+use Rattle.bw_model.proofs.Elements.{some_inj}
 use Rattle.bw_engine.specs.Answering.{Answered, frames_of}
 use Rattle.bw_engine.specs.Done.{AreFirstOf}
 use Rattle.bw_engine.specs.Served.{Serves, EndsBy, reads_failed}
@@ -10,9 +11,6 @@ use Rattle.bw_engine.specs.Ingesting.{WasServed, ServesInput, ServesFirst}
 use Rattle.bw_engine.specs.declared.serving.ExchangeEnd.{ExchangeEnd}
 use Rattle.bw_engine.specs.declared.serving.ExchangeEnd.TheVariants as ends
 use Rattle.bw_engine.proofs.FirstFrames.{first_of_more}
-
-some_same : {a b : List ℕ} → Some a ≡ Some b → a ≡ b
-some_same e = cc
 
 -- it was served to the end that it told
 was_served : (end : ExchangeEnd) (input fed rest output : List ℕ) (left left' : Option (List ℕ))
@@ -36,18 +34,22 @@ was_served ends.TurnLimit input fed rest output left left' answered fits all fro
           (ap are_bytes all ∙ fits) ([], h.0.frames ∙ sym (append-nil (frames_of answered))));
       replies = h.0.written;
     }
-was_served ends.ReadFault input fed rest output left left' answered fits all from h reads write memory = absurd (omega (arith, reads))
-was_served ends.WriteFault input fed rest output left left' answered fits all from h reads write memory = absurd (write refl)
-was_served ends.Memory input fed rest output left left' answered fits all from h reads write memory = absurd (memory refl)
+was_served ends.ReadFault input fed rest output left left' answered fits all from h reads write memory =
+    absurd (omega (arith, reads))
+was_served ends.WriteFault input fed rest output left left' answered fits all from h reads write memory =
+    absurd (write refl)
+was_served ends.Memory input fed rest output left left' answered fits all from h reads write memory =
+    absurd (memory refl)
 
-module _ {T : Type 0} (answers : T → Frame → List Reply → T → Type 0) (old new : T) (input : List ℕ) (end : ExchangeEnd)
-    (left left' written written' : Option (List ℕ)) (fits : are_bytes input ≡ true) (from : left ≡ Some input)
+module _ {T : Type 0} (answers : T → Frame → List Reply → T → Type 0) (old new : T) (input : List ℕ)
+    (end : ExchangeEnd) (left left' written written' : Option (List ℕ)) (fits : are_bytes input ≡ true)
+    (from : left ≡ Some input)
     (h : Serves answers end old new left left' written written') where
   pub serves_input : (bytes : List ℕ) → written ≡ Some [] → written' ≡ Some bytes → 0 ≡ reads_failed end 0 →
       end ≢ ends.WriteFault → end ≢ ends.Memory → ServesInput answers old new input bytes end
   serves_input bytes empty full reads write memory =
       let given = h.given input from in
-      let same : h.output ≡ bytes = some_same (sym (h.taken [] empty) ∙ full) in
+      let same : h.output ≡ bytes = some_inj (sym (h.taken [] empty) ∙ full) in
       record {
         answered = h.answered;
         by_server = h.by_server;

@@ -49,8 +49,8 @@ module _ {X : Type 0} (S : StoreGhosts X) where
     run = (refl, refl);
     kept_of = λ n. None;
     held = empty_held limit store;
-    files = λ n which.
-        held_files limit (store_since S (S.contents store) store) (λ k. None) [] (empty_held limit store) honest n which;
+    files = λ n which. held_files limit (store_since S (S.contents store) store) (λ k. None) []
+        (empty_held limit store) honest n which;
   }
 
   -- what a server answers leaves the store as honest as it was

@@ -55,7 +55,7 @@ pub record IsCutOff (x : ServedInput) : Type 0 where
   pub first : AreFirstOf (frames_of x.answered) x.input
   pub replies : x.written ≡ replies_bytes (replies_of x.answered)
 
--- it was served to the end that its bytes tell, or cut off
+-- it was served to the end that its bytes tell, or was cut off
 abbrev pub IsServedTo : Option End → ServedInput → Type 0
 IsServedTo (Some end) x = IsServedWhole x end
 IsServedTo None x = IsCutOff x
@@ -125,9 +125,9 @@ module _ {T : Type 0} (answers : T → Frame → List Reply → T → Type 0) (o
     pub are : AreServedInPart went next inputs
 
 module _ {X : Type 0} (S : StoreGhosts X) (limit : ℕ) (before : X) where
-  -- A server that answered these frames in a run from the empty book leaves the store so that it
-  -- holds the later book: each name that is closed, or of which nothing waits, has its file, and
-  -- each that stood or is unknown has what it had.
+  -- These frames were answered in a run from the empty book, beside the store's count of failures,
+  -- and the store is as a server leaves it that holds the book behind them: each name that is
+  -- closed, or of which nothing waits, has its take's file, or what stood there before.
   pub record LeavesRun (answered : List Answered) (after : X) : Type 0 where
     pub book : Book
     pub run : IsRun (λ name. is_some (S.contents before name)) (failed_calls (S.failures before) 0)
@@ -138,14 +138,14 @@ module _ {X : Type 0} (S : StoreGhosts X) (limit : ℕ) (before : X) where
         ⊎ ((take_in false book name).closed ≡ true) →
         S.contents after name ≡ content_in (S.contents before) limit book name
 
-  -- The inputs were served, one after another; over an honest store, in one run.
+  -- The inputs were served, one after another; over an honest store, all in one run.
   pub record Ingests (inputs : List (List ℕ)) (run : Run X) : Type 0 where
     pub went : List ServedInput
     pub are : AreServed went inputs (bytes_in run.replies.items) run.ends.items
     pub leaves : IsTrue (S.honest before) → LeavesRun (answered_in went) run.store
 
-  -- The first of the inputs were served, and first frames of the next; over an honest store, in one
-  -- run.
+  -- The first of the inputs were served, and first frames of the next; over an honest store, all in
+  -- one run.
   pub record IngestsInPart (inputs : List (List ℕ)) (after : X) : Type 0 where
     pub went : List ServedInput
     pub next : List Answered
@@ -163,7 +163,7 @@ module _ {X : Type 0} (S : StoreGhosts X) (limit : ℕ) (before : X) where
         ≡ content_in (S.contents before) limit (book_after (λ n. is_some (S.contents before n)) []
         (with_good_luck (frames_in inputs))) name
 
--- an exchange has a read for each of the bytes, and one for their end
+-- there are fewer bytes than an exchange has reads
 abbrev pub IsShort : List ℕ → Type 0
 IsShort input = length input < most_reads
 
