@@ -1,0 +1,73 @@
+-- An exchange over an input in memory.
+use Rattle.std.proofs.Common.{◌≡◌, ◌≢◌, ℕ, true, List, [], ◌++◌, length, Option, Some, refl, sym, ap, ◌∙◌, subst, arith}
+use Rattle.std.proofs.lemmas.List.{length-append, append-nil}
+use Rattle.bw_model.specs.Wire.{Frame, are_bytes}
+use Rattle.bw_model.specs.Replies.{Reply}
+use Rattle.bw_model.proofs.Elements.{some_inj}
+use Rattle.bw_engine.specs.Answering.{Answered, frames_of}
+use Rattle.bw_engine.specs.Done.{AreFirstOf}
+use Rattle.bw_engine.specs.Served.{Serves, EndsBy, reads_failed}
+use Rattle.bw_engine.specs.Ingesting.{WasServed, ServesInput, ServesFirst}
+use Rattle.bw_engine.specs.declared.serving.ExchangeEnd.{ExchangeEnd}
+use Rattle.bw_engine.specs.declared.serving.ExchangeEnd.TheVariants as ends
+use Rattle.bw_engine.proofs.FirstFrames.{first_of_more}
+
+-- it was served to the end that it told
+was_served : (end : ExchangeEnd) (input fed rest output : List ℕ) (left left' : Option (List ℕ))
+    (answered : List Answered) → are_bytes input ≡ true → fed ++ rest ≡ input → left ≡ Some input →
+    EndsBy end left left' answered fed output → 0 ≡ reads_failed end 0 → end ≢ ends.WriteFault →
+    end ≢ ends.Memory →
+    WasServed (record { input = input; answered = answered; written = output; end = end })
+was_served ends.Bye input fed rest output left left' answered fits all from h reads write memory =
+    record { stream = h.whole input from; replies = h.written }
+was_served ends.EndOfInput input fed rest output left left' answered fits all from h reads write memory =
+    record { stream = h.whole input from; replies = h.written }
+was_served (ends.BadFrame fault) input fed rest output left left' answered fits all from h reads write memory =
+    record { stream = h.whole input from; replies = h.written }
+was_served ends.TurnLimit input fed rest output left left' answered fits all from h reads write memory =
+    let len = ap length (sym all) ∙ length-append fed rest in
+    let read = h.1 in
+    record {
+      end_is = refl;
+      long = omega (arith, len, read);
+      first = subst (AreFirstOf (frames_of answered)) all (first_of_more (frames_of answered) fed rest
+          (ap are_bytes all ∙ fits) ([], h.0.frames ∙ sym (append-nil (frames_of answered))));
+      replies = h.0.written;
+    }
+was_served ends.ReadFault input fed rest output left left' answered fits all from h reads write memory =
+    absurd (omega (arith, reads))
+was_served ends.WriteFault input fed rest output left left' answered fits all from h reads write memory =
+    absurd (write refl)
+was_served ends.Memory input fed rest output left left' answered fits all from h reads write memory =
+    absurd (memory refl)
+
+module _ {T : Type 0} (answers : T → Frame → List Reply → T → Type 0) (old new : T) (input : List ℕ)
+    (end : ExchangeEnd) (left left' written written' : Option (List ℕ)) (fits : are_bytes input ≡ true)
+    (from : left ≡ Some input)
+    (h : Serves answers end old new left left' written written') where
+  pub serves_input : (bytes : List ℕ) → written ≡ Some [] → written' ≡ Some bytes → 0 ≡ reads_failed end 0 →
+      end ≢ ends.WriteFault → end ≢ ends.Memory → ServesInput answers old new input bytes end
+  serves_input bytes empty full reads write memory =
+      let given = h.given input from in
+      let same : h.output ≡ bytes = some_inj (sym (h.taken [] empty) ∙ full) in
+      record {
+        answered = h.answered;
+        by_server = h.by_server;
+        served = subst (λ (w : List ℕ). WasServed (record {
+          input = input;
+          answered = h.answered;
+          written = w;
+          end = end;
+        })) same (was_served end input h.input given.0 h.output left left' h.answered fits given.2 from h.by_end reads
+            write memory);
+      }
+
+  pub serves_first : ServesFirst answers old new input
+  serves_first =
+      let given = h.given input from in
+      record {
+        answered = h.answered;
+        by_server = h.by_server;
+        first = subst (AreFirstOf (frames_of h.answered)) given.2
+            (first_of_more (frames_of h.answered) h.input given.0 (ap are_bytes given.2 ∙ fits) h.front);
+      }

@@ -1,0 +1,54 @@
+-- A server's answers as turns on the books that it may hold.
+use Rattle.std.proofs.Common.{◌≡◌, ℕ, Bool, true, false, length, Option, Some, None, List, refl, sym, ◌∙◌, ap}
+use Rattle.std.specs.Prelude.{option_map, ◌∷◌, []}
+use Rattle.std.specs.Option.{option_map_or}
+use Rattle.bw_model.specs.Wire.{Message, Says, Asks}
+use Rattle.bw_model.specs.Replies.{Reply, Noticed, Next}
+use Rattle.bw_model.specs.Book.{Log, Book, log_of}
+use Rattle.bw_model.specs.Turn.{good, turn}
+use Rattle.bw_model.specs.CountedTurn.{IsTurn, book_told}
+use Rattle.bw_model.specs.Holds.{Store, Holds}
+use Rattle.bw_model.proofs.BookLemmas.{unknown_log}
+use Rattle.bw_model.proofs.TurnLaws.{replies_tell}
+use Rattle.bw_session.specs.Servers.{kept_by}
+use Rattle.bw_session.specs.declared.session.Session.{Session}
+use Rattle.bw_session.proofs.TellForms.{done_told, unknown_told}
+
+-- how many numbers of a name are done in a server that holds the book
+pub done_is : (limit : ℕ) (store : Store) (sessions : List ℕ → Option Session) (book : Book) →
+    Holds limit store (λ n. option_map kept_by (sessions n)) book → (name : List ℕ) →
+    (log_of book name).done ≡ option_map_or (λ s. length s.progress.ledger.outcomes) (sessions name) 0
+done_is limit store sessions book h name = go (sessions name) refl
+  where
+    go : (o : Option Session) → sessions name ≡ o →
+        (log_of book name).done ≡ option_map_or (λ s. length s.progress.ledger.outcomes) o 0
+    go None e = ap (λ (l : Log). l.done) (unknown_log book name (unknown_told limit store sessions book h name e))
+    go (Some s) e = sym (done_told limit store sessions book h name s e)
+
+-- the later book, as the replies tell it
+pub later_told : (stood : List ℕ → Bool) (before after : ℕ) (book : Book) (m : Message) (replies : List Reply)
+    (later : Book) (done : ℕ) → IsTurn stood before after book (Says m) replies later →
+    (log_of later m.name).done ≡ done → book_told book m replies done ≡ later
+later_told stood before after book m replies later done t e =
+    ap (book_told book m replies) (sym e)
+    ∙ ap (λ (b : Book). book_told book m replies (log_of b m.name).done) (sym t.left)
+    ∙ ap (λ (rs : List Reply). book_told book m rs (log_of (turn stood book (Says m) t.luck).1 m.name).done)
+    (sym t.answered)
+    ∙ sym (replies_tell stood book m t.luck) ∙ t.left
+
+-- an ask is answered in a turn that meets no luck
+pub asked_turn : (stood : List ℕ → Bool) (failures : ℕ) (book : Book) (name : List ℕ) (n : ℕ) (reply : Reply) →
+    reply ≡ Noticed name n Next (log_of book name).done →
+    IsTurn stood failures failures book (Asks name n) (reply ∷ []) book
+unfolding turn
+asked_turn stood failures book name n reply is = record {
+  luck = good;
+  answered = ap (λ (r : Reply). r ∷ []) (sym is);
+  left = refl;
+  room = λ refused. absurd (no_luck refused);
+  count = record { quiet = λ e. refl; rises = λ e. absurd (no_luck e); stays = λ e. refl };
+  stop = λ e. refl;
+}
+  where
+    no_luck : false ≡ true → ⊥
+    no_luck e = cc

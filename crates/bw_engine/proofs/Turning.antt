@@ -1,0 +1,72 @@
+-- Frames that are answered one after another.
+use Rattle.std.proofs.Common.{◌≡◌, ℕ, zero, suc, ◌+◌, ◌≤◌, ◌<◌, List, [], ◌++◌, length, Bool, true, false, Option, Some}
+use Rattle.std.proofs.Common.{None, refl, arith, ◌⊎◌, inl, inr}
+use Rattle.std.specs.Prelude.{is_some, IfSome, vec_len}
+use Rattle.std.proofs.lemmas.List.{length-append}
+use Rattle.bw_model.specs.Wire.{Frame}
+use Rattle.bw_model.specs.Replies.{Reply}
+use Rattle.bw_engine.specs.declared.exchange.Exchange.{Exchange}
+use Rattle.bw_engine.specs.declared.step.StreamEnd.{StreamEnd}
+use Rattle.bw_engine.specs.Ends.{end_so_far, IsFinal}
+use Rattle.bw_engine.specs.Bounds.{most_before_answer}
+use Rattle.bw_engine.specs.Done.{MustWait, AnswersUpTo}
+use Rattle.bw_engine.proofs.Going.{answers_append, does_none, does_on}
+
+-- no end has come
+pub no_end : (e : Option StreamEnd) → is_some e ≡ false → IfSome (end_so_far e) IsFinal
+no_end None h = tt
+no_end (Some end) h = absurd cc
+
+-- none
+pub up_to_none : {S : Type 0} (answers : S → Frame → List Reply → S → Type 0) (s : S) (e : Exchange) →
+    AnswersUpTo answers 0 s s e e
+up_to_none answers s e = record {
+  answered = [];
+  by_server = refl;
+  does = does_none e;
+  most = omega arith;
+  stops = λ h. absurd (omega (arith, h));
+  final = λ none fed before gone d. no_end e.end none;
+  uses_up = omega arith;
+}
+
+-- one more, where more can be answered
+pub up_to_more : {S : Type 0} (answers : S → Frame → List Reply → S → Type 0) (n : ℕ) (s mid later : S)
+    (a b c : Exchange) → AnswersUpTo answers n s mid a b → (MustWait b → ⊥) → AnswersUpTo answers 1 mid later b c →
+    AnswersUpTo answers (n + 1) s later a c
+up_to_more answers n s mid later a b c f goes g =
+    let len = length-append f.answered g.answered in
+    record {
+      answered = f.answered ++ g.answered;
+      by_server = answers_append answers f.answered g.answered s mid later f.by_server g.by_server;
+      does = does_on a b c [] [] f.answered g.answered [] [] f.does g.does;
+      most = omega (arith, f.most, g.most, len);
+      stops = λ h. elim (all_or_fewer (length f.answered) n f.most) [
+        | inl all ↦ g.stops (omega (arith, h, all, len))
+        | inr fewer ↦ absurd (goes (f.stops fewer))
+      ];
+      final = λ none fed before gone d.
+          g.final (runs (is_some b.end) refl) (fed ++ []) (before ++ f.answered) (gone ++ [])
+          (f.does fed before gone d);
+      uses_up = omega (arith, f.uses_up, g.uses_up, len);
+    }
+  where
+    runs : (over : Bool) → is_some b.end ≡ over → is_some b.end ≡ false
+    runs true e = absurd (goes (inl (inr e)))
+    runs false e = e
+
+    all_or_fewer : (k n : ℕ) → k ≤ n → (k ≡ n) ⊎ (k < n)
+    all_or_fewer zero zero h = inl refl
+    all_or_fewer zero (suc n) h = inr (omega arith)
+    all_or_fewer (suc k) zero h = absurd (omega (arith, h))
+    all_or_fewer (suc k) (suc n) h = elim (all_or_fewer k n (omega (arith, h))) [
+      | inl e ↦ inl (omega (arith, e))
+      | inr l ↦ inr (omega (arith, l))
+    ]
+
+-- where it is neither idle nor without room, it needn't wait
+pub goes_on : (e : Exchange) → e.hungry ≡ false → is_some e.end ≡ false → vec_len e.outgoing ≤ most_before_answer →
+    MustWait e → ⊥
+goes_on e fed running room (inl (inl hungry)) = cc
+goes_on e fed running room (inl (inr over)) = cc
+goes_on e fed running room (inr full) = omega (arith, room, full)

@@ -1,0 +1,7 @@
+use Rattle.std.proofs.Common.{take}
+use Rattle.bw_engine.specs.Ingesting.{ServesInputs, bytes_in}
+use Rattle.bw_engine.proofs.ingest.serve_inputs.Given as goal
+
+abbrev pub invariant-loop-input : goal.invariant-loop-input
+invariant-loop-input g l = ServesInputs g.T.Turns.answers l.fn.server l.server (bytes_in (take l.input-index l.inputs))
+    l.told

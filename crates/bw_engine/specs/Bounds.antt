@@ -1,0 +1,23 @@
+-- How much an exchange holds.
+use Rattle.std.specs.Prelude.{ℕ, ◌+◌, ◌*◌, ◌-◌}
+use Rattle.bw_wire.specs.Held.{longest_rest, longest_piece}
+
+-- the frame of a reply has at most so many bytes
+abbrev pub longest_reply_frame : ℕ
+longest_reply_frame = 64
+
+-- the frames of all replies to one frame
+abbrev pub longest_answer : ℕ
+longest_answer = 17 * longest_reply_frame
+
+-- at most so many bytes of replies wait
+abbrev pub most_waiting : ℕ
+most_waiting = 65600
+
+-- where no more than these wait, there is room for an answer, and for the reply to a bad frame
+abbrev pub most_before_answer : ℕ
+most_before_answer = most_waiting - longest_reply_frame - longest_answer
+
+-- at most so many bytes of frames are held: a rest, and a piece behind it
+abbrev pub most_held : ℕ
+most_held = longest_rest + longest_piece

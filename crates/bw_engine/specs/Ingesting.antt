@@ -1,0 +1,179 @@
+-- Whole inputs, each served as an exchange, and what they leave in a store.
+use Rattle.std.specs.Prelude.{◌≡◌, ◌⊎◌, ℕ, ◌<◌, ◌≤◌, true, false, IsTrue, IsFalse, Option, Some}
+use Rattle.std.specs.Prelude.{None, is_some, List, [], ◌∷◌, ◌++◌, length, map, flat_map, Vec}
+use Rattle.std.specs.List.{AllByRecursion, list_any}
+use Rattle.std.specs.declared.alloc.Global.{Global}
+use Rattle.bw_model.specs.Wire.{Second, Frame}
+use Rattle.bw_model.specs.Replies.{Reply}
+use Rattle.bw_model.specs.Stream.{End, EndOfInput, SaidBye, BadFrame, stream_of}
+use Rattle.bw_model.specs.Book.{Book, log_of}
+use Rattle.bw_model.specs.Turn.{book_after}
+use Rattle.bw_model.specs.CountedTurn.{is_pending}
+use Rattle.bw_model.specs.NumberOrder.{AreInOrder, tells_want}
+use Rattle.bw_model.specs.Exchange.{replies_bytes, last_reply, exchanges, take_in, content_in}
+use Rattle.bw_model.specs.Holds.{Kept, Holds}
+use Rattle.bw_wire.specs.Reasons.{reason_meaning}
+use Rattle.bw_file.specs.declared.store.TakeStore.{Ghosts as StoreGhosts}
+use Rattle.bw_session.specs.Numbered.{failed_calls}
+use Rattle.bw_session.specs.Servers.{store_since}
+use Rattle.bw_engine.specs.Answering.{Answered, frames_of, replies_of, AnswersAll}
+use Rattle.bw_engine.specs.Done.{AreFirstOf}
+use Rattle.bw_engine.specs.Served.{most_reads}
+use Rattle.bw_engine.specs.ServerRuns.{IsRun, with_good_luck}
+use Rattle.bw_engine.specs.declared.ingest.Run.{Run}
+use Rattle.bw_engine.specs.declared.ingest.Told.{Told}
+use Rattle.bw_engine.specs.declared.serving.ExchangeEnd.{ExchangeEnd}
+use Rattle.bw_engine.specs.declared.serving.ExchangeEnd.TheVariants as ends
+
+-- an exchange's end in the definitions' words, where its bytes tell it
+abbrev pub end_in : ExchangeEnd → Option End
+end_in ends.Bye = Some SaidBye
+end_in ends.EndOfInput = Some EndOfInput
+end_in (ends.BadFrame fault) = Some (BadFrame (reason_meaning fault.reason) fault.offset)
+end_in ends.ReadFault = None
+end_in ends.WriteFault = None
+end_in ends.TurnLimit = None
+end_in ends.Memory = None
+
+-- an input, which of its frames were answered, what was written, and how the exchange ended
+pub record ServedInput : Type 0 where
+  pub input : List ℕ
+  pub answered : List Answered
+  pub written : List ℕ
+  pub end : ExchangeEnd
+
+-- All its frames were answered; the replies were written, and the one to a bad frame behind them.
+pub record IsServedWhole (x : ServedInput) (end : End) : Type 0 where
+  pub stream : stream_of Second x.input ≡ (frames_of x.answered, end)
+  pub replies : x.written ≡ replies_bytes (replies_of x.answered ++ last_reply end)
+
+-- So many reads were not enough for its bytes: its first frames were answered, and the replies
+-- written.
+pub record IsCutOff (x : ServedInput) : Type 0 where
+  pub end_is : x.end ≡ ends.TurnLimit
+  pub long : most_reads ≤ length x.input
+  pub first : AreFirstOf (frames_of x.answered) x.input
+  pub replies : x.written ≡ replies_bytes (replies_of x.answered)
+
+-- it was served to the end that its bytes tell, or was cut off
+abbrev pub IsServedTo : Option End → ServedInput → Type 0
+IsServedTo (Some end) x = IsServedWhole x end
+IsServedTo None x = IsCutOff x
+
+-- .. as its end says
+abbrev pub WasServed : ServedInput → Type 0
+WasServed x = IsServedTo (end_in x.end) x
+
+-- the bytes of each
+abbrev pub bytes_in : List (Vec ℕ Global) → List (List ℕ)
+bytes_in vecs = map (λ v. v.items) vecs
+
+-- These inputs were served, one after another; this was written for each, and each ended so.
+pub record AreServed (went : List ServedInput) (inputs written : List (List ℕ))
+    (ends_told : List ExchangeEnd) : Type 0 where
+  pub inputs_are : map (λ x. x.input) went ≡ inputs
+  pub written_is : map (λ x. x.written) went ≡ written
+  pub ends_are : map (λ x. x.end) went ≡ ends_told
+  pub each : AllByRecursion WasServed went
+
+-- all that was answered, one input after another
+abbrev pub answered_in : List ServedInput → List Answered
+answered_in went = flat_map (λ x. x.answered) went
+
+-- these are first frames of the first of the inputs that are left
+abbrev pub AreFirstIn : List Frame → List (List ℕ) → Type 0
+AreFirstIn frames [] = frames ≡ []
+AreFirstIn frames (input ∷ inputs) = AreFirstOf frames input
+
+-- Of these inputs the first were served, and first frames of the next.
+pub record AreServedInPart (went : List ServedInput) (next : List Answered)
+    (inputs : List (List ℕ)) : Type 0 where
+  pub left : List (List ℕ)
+  pub inputs_are : map (λ x. x.input) went ++ left ≡ inputs
+  pub each : AllByRecursion WasServed went
+  pub first : AreFirstIn (frames_of next) left
+
+-- the frames of all inputs
+abbrev pub frames_in : List (List ℕ) → List Frame
+frames_in inputs = flat_map (λ input. (stream_of Second input).0) inputs
+
+module _ {T : Type 0} (answers : T → Frame → List Reply → T → Type 0) (old new : T) where
+  -- a server serves this input in an exchange, which writes this and ends so
+  pub record ServesInput (input written : List ℕ) (end : ExchangeEnd) : Type 0 where
+    pub answered : List Answered
+    pub by_server : AnswersAll answers old answered new
+    pub served : WasServed
+        (record { input = input; answered = answered; written = written; end = end })
+
+  -- it answers first frames of this input
+  pub record ServesFirst (input : List ℕ) : Type 0 where
+    pub answered : List Answered
+    pub by_server : AnswersAll answers old answered new
+    pub first : AreFirstOf (frames_of answered) input
+
+  -- it serves these inputs one after another, writes this, and these are the ends
+  pub record ServesInputs (inputs : List (List ℕ)) (told : Told) : Type 0 where
+    pub went : List ServedInput
+    pub by_server : AnswersAll answers old (answered_in went) new
+    pub are : AreServed went inputs (bytes_in told.replies.items) told.ends.items
+
+  -- it serves the first of these inputs, and first frames of the next
+  pub record ServesInPart (inputs : List (List ℕ)) : Type 0 where
+    pub went : List ServedInput
+    pub next : List Answered
+    pub by_server : AnswersAll answers old (answered_in went ++ next) new
+    pub are : AreServedInPart went next inputs
+
+module _ {X : Type 0} (S : StoreGhosts X) (limit : ℕ) (before : X) where
+  -- These frames were answered in a run from the empty book, beside the store's count of failures,
+  -- and the store is as a server leaves it that holds the book behind them: each name that is
+  -- closed, or of which nothing waits, has its take's file, or what stood there before.
+  pub record LeavesRun (answered : List Answered) (after : X) : Type 0 where
+    pub book : Book
+    pub run : IsRun (λ name. is_some (S.contents before name)) (failed_calls (S.failures before) 0)
+        (failed_calls (S.failures after) 0) [] answered book
+    pub kept_of : List ℕ → Option Kept
+    pub held : Holds limit (store_since S (S.contents before) after) kept_of book
+    pub files : (name : List ℕ) → (is_pending (log_of book name) ≡ false)
+        ⊎ ((take_in false book name).closed ≡ true) →
+        S.contents after name ≡ content_in (S.contents before) limit book name
+
+  -- The inputs were served, one after another; over an honest store, all in one run.
+  pub record Ingests (inputs : List (List ℕ)) (run : Run X) : Type 0 where
+    pub went : List ServedInput
+    pub are : AreServed went inputs (bytes_in run.replies.items) run.ends.items
+    pub leaves : IsTrue (S.honest before) → LeavesRun (answered_in went) run.store
+
+  -- The first of the inputs were served, and first frames of the next; over an honest store, all in
+  -- one run.
+  pub record IngestsInPart (inputs : List (List ℕ)) (after : X) : Type 0 where
+    pub went : List ServedInput
+    pub next : List Answered
+    pub are : AreServedInPart went next inputs
+    pub leaves : IsTrue (S.honest before) → LeavesRun (answered_in went ++ next) after
+
+  -- What is written, the ends and the contents are those of the definitions' exchanges, in which
+  -- memory and store give all that is asked of them.
+  pub record RunsAsDefined (inputs : List (List ℕ)) (run : Run X) : Type 0 where
+    pub replies : bytes_in run.replies.items ≡ map (λ x. replies_bytes x.replies)
+        (exchanges (λ name. is_some (S.contents before name)) [] inputs)
+    pub ends_are : map end_in run.ends.items ≡ map (λ x. Some x.end)
+        (exchanges (λ name. is_some (S.contents before name)) [] inputs)
+    pub files : (name : List ℕ) → S.contents run.store name
+        ≡ content_in (S.contents before) limit (book_after (λ n. is_some (S.contents before n)) []
+        (with_good_luck (frames_in inputs))) name
+
+-- there are fewer bytes than an exchange has reads
+abbrev pub IsShort : List ℕ → Type 0
+IsShort input = length input < most_reads
+
+-- these bytes spell no reply that tells a want
+abbrev pub TellsNoWant : List ℕ → Type 0
+TellsNoWant written = (replies : List Reply) → written ≡ replies_bytes replies →
+    IsFalse (list_any tells_want replies)
+
+-- The inputs are short, their frames in number order, and no want is told.
+pub record GoWell (inputs written : List (List ℕ)) : Type 0 where
+  pub short : AllByRecursion IsShort inputs
+  pub in_order : AreInOrder [] (frames_in inputs)
+  pub no_want : AllByRecursion TellsNoWant written

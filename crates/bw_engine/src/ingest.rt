@@ -1,0 +1,148 @@
+//! Runs over memory: each input served as an exchange, one after another, over one store.
+ghost use Rattle.std.specs.Prelude.{◌≡◌, IsTrue, IfOk, OnErr, IfErr, MatchResult};
+ghost use Rattle.bw_engine.specs.Ingesting.{ServesInput, ServesFirst, ServesInputs, ServesInPart};
+ghost use Rattle.bw_engine.specs.Ingesting.{Ingests, IngestsInPart, GoWell, RunsAsDefined};
+ghost use Rattle.bw_engine.specs.Ingesting.{bytes_in};
+
+use crate::serving::{ExchangeEnd, serve_exchange};
+use crate::turns::Turns;
+use bw_file::TakeStore;
+use bw_layout::Limit;
+use bw_session::Server;
+use bw_stream::{MemorySink, MemorySource};
+use std::alloc::{AllocError, AllocFailed, Global};
+use thiserror::Error;
+
+/// What a run leaves: for each input the bytes of its replies and its end, and the store.
+#[derive(Drop)]
+pub struct Run<S: TakeStore> {
+    pub replies: Vec<Vec<u8>>,
+    pub ends: Vec<ExchangeEnd>,
+    pub store: S,
+}
+
+/// Why a run stopped.
+#[derive(Clone, Copy, Debug, PartialEq, Eq, Hash, Error)]
+pub enum RunFault {
+    /// Memory was refused.
+    #[error("out of memory")]
+    Memory = 1,
+}
+
+impl RunFault {
+    /// Its number.
+    pub fn code(self) -> u8
+        ensures { result ≡ 1 }
+    {
+        self as u8
+    }
+}
+
+impl From<AllocError> for RunFault {
+    ghost from_gives = { λ _ _. Unit {0} };
+
+    fn from(_: AllocError) -> RunFault {
+        RunFault::Memory
+    }
+}
+
+impl<T: Drop> From<AllocFailed<T>> for RunFault {
+    ghost from_gives = { λ _ _. Unit {0} };
+
+    fn from(_: AllocFailed<T>) -> RunFault {
+        RunFault::Memory
+    }
+}
+
+/// What the exchanges told.
+#[derive(Drop)]
+struct Told {
+    replies: Vec<Vec<u8>>,
+    ends: Vec<ExchangeEnd>,
+}
+
+/// Serves each input as an exchange, one after another, from an empty server over the store on.
+///
+/// # Errors
+/// `Memory`, with the store, where memory was refused: the inputs before were served, and first
+/// frames of the next.
+pub fn ingest_run<S: TakeStore>(
+    alloc: Global,
+    store: S,
+    limit: Limit,
+    inputs: &[Vec<u8>],
+) -> Result<Run<S>, (RunFault, S)>
+    ensures honest { MatchResult result (λ run. S.honest run.store ≡ S.honest store)
+        (λ e. S.honest e.1 ≡ S.honest store) }
+    ensures ok { IfOk result (λ run.
+        Ingests S.TakeStore limit store (bytes_in inputs.now) run) }
+    ensures in_order { IsTrue (S.honest store) → IfOk result (λ run.
+        GoWell (bytes_in inputs.now) (bytes_in run.replies.items) →
+        RunsAsDefined S.TakeStore limit store (bytes_in inputs.now) run) }
+    ensures err { IfErr result (λ e.
+        IngestsInPart S.TakeStore limit store (bytes_in inputs.now) e.1) }
+{
+    let mut server = match Server::new(alloc, store, limit) {
+        Ok(server) => server,
+        Err((_error, store)) => return Err((RunFault::Memory, store)),
+    };
+    match serve_inputs(alloc, &mut server, inputs) {
+        Ok(told) => {
+            let Told { replies, ends } = told;
+            let store = server.into_store();
+            Ok(Run {
+                replies,
+                ends,
+                store,
+            })
+        }
+        Err(fault) => Err((fault, server.into_store())),
+    }
+}
+
+/// Serves each input as an exchange.
+///
+/// # Errors
+/// `Memory` where memory was refused.
+fn serve_inputs<T: Turns>(
+    alloc: Global,
+    server: &mut T,
+    inputs: &[Vec<u8>],
+) -> Result<Told, RunFault>
+    ensures ok { IfOk result (λ told.
+        ServesInputs T.answers server.old server.new (bytes_in inputs.now) told) }
+    ensures err { OnErr result
+        (ServesInPart T.answers server.old server.new (bytes_in inputs.now)) }
+{
+    let mut told = Told {
+        replies: Vec::new(alloc),
+        ends: Vec::new(alloc),
+    };
+    for input in inputs {
+        let (replies, end) = serve_input(alloc, server, input.as_slice())?;
+        told.replies.push(replies)?;
+        told.ends.push(end)?;
+    }
+    Ok(told)
+}
+
+/// Serves an input as an exchange.
+///
+/// # Errors
+/// `Memory` where memory was refused.
+fn serve_input<T: Turns>(
+    alloc: Global,
+    server: &mut T,
+    input: &[u8],
+) -> Result<(Vec<u8>, ExchangeEnd), RunFault>
+    ensures ok { IfOk result (λ told. ServesInput T.answers server.old server.new
+        input.now told.0.items told.1) }
+    ensures err { OnErr result (ServesFirst T.answers server.old server.new input.now) }
+{
+    let mut reader = MemorySource::new(input);
+    let mut writer = MemorySink::new(Vec::new(alloc));
+    match serve_exchange(alloc, server, &mut reader, &mut writer) {
+        ExchangeEnd::Memory | ExchangeEnd::WriteFault => Err(RunFault::Memory),
+        end => Ok((writer.into_bytes(), end)),
+    }
+}

@@ -1,0 +1,21 @@
+//! A server answers messages and asks.
+use crate::turns::Turns;
+use arrayvec::ArrayVec;
+use bw_file::TakeStore;
+use bw_journal::Journal;
+use bw_session::Server;
+use bw_wire::{Ask, Message, Reply};
+
+impl<S: TakeStore, J: Journal> Turns for Server<S, J> {
+    ghost use Rattle.bw_engine.specs.ServerTurns.{ServerTurn};
+
+    ghost answers = { ServerTurn S.TakeStore J.Journal };
+
+    fn turn(&mut self, message: &Message<'_>, replies: &mut ArrayVec<Reply, 17>) {
+        Server::turn(self, message, replies);
+    }
+
+    fn ask(&mut self, ask: &Ask<'_>) -> Reply {
+        Server::ask(self, &ask.name(), ask.number())
+    }
+}
