@@ -2,12 +2,13 @@
 use Rattle.std.proofs.Common.{◌≡◌, ℕ, List, [], ◌∷◌, ◌++◌, Option, None, refl, sym, ap, subst, ◌∙◌}
 use Rattle.std.proofs.Common.{append_assoc}
 use Rattle.std.specs.Prelude.{IfSome, IsTrue}
+use Rattle.std.specs.List.{list_all}
 use Rattle.std.proofs.lemmas.Bool.{and_from}
 use Rattle.std.proofs.lemmas.Grind.{flat_map-append}
 use Rattle.std.proofs.lemmas.List.{append-nil, map-append}
 use Rattle.std.proofs.lemmas.List.Folds.{list_all-append}
 use Rattle.bw_model.specs.Wire.{Frame, framed, is_below, are_bytes}
-use Rattle.bw_model.specs.Replies.{Reply, reply_body}
+use Rattle.bw_model.specs.Replies.{Reply, reply_body, is_reply}
 use Rattle.bw_model.specs.Stream.{End}
 use Rattle.bw_model.specs.Exchange.{replies_bytes}
 use Rattle.bw_wire.specs.Codecs.{message_codec}
@@ -62,6 +63,7 @@ done_fed fed xs gone p w piece q same bytes d =
           ∙ ap (λ (x : Pending). record { given = frames_of xs; state = x }) (sym same);
       ends = tt;
       written = d.written;
+      spelled = d.spelled;
     })
 
 takes_run : (fed : List ℕ) (xs : List Answered) (gone w : List ℕ) (p q : Pending) (fs : List Frame) →
@@ -95,13 +97,20 @@ written_more gone w new rs more e n =
     ∙ ap (λ (x : List ℕ). x ++ replies_bytes more) (e ∙ ap replies_bytes (append-nil rs))
     ∙ sym (replies_bytes-append rs more)
 
+-- more replies with spellings
+spelled_more : (rs more : List Reply) → IsTrue (list_all is_reply (rs ++ [])) → IsTrue (list_all is_reply more) →
+    IsTrue (list_all is_reply (rs ++ more))
+spelled_more rs more all fits =
+    list_all-append is_reply rs more
+    ∙ and_from (list_all is_reply rs) (list_all is_reply more) (ap (list_all is_reply) (sym (append-nil rs)) ∙ all) fits
+
 -- a frame is answered
 pub done_answer : (fed : List ℕ) (xs : List Answered) (gone : List ℕ) (p : Pending) (w : List ℕ) (frame : Frame)
     (replies : List Reply) (new : List ℕ) (q : Pending) →
     given_by message_codec (next_of message_codec p).0 ≡ frame ∷ [] → q ≡ (next_of message_codec p).1 →
-    new ≡ w ++ replies_bytes replies → Done fed xs gone p w None
+    new ≡ w ++ replies_bytes replies → IsTrue (list_all is_reply replies) → Done fed xs gone p w None
     → Done (fed ++ []) (xs ++ record { frame = frame; replies = replies } ∷ []) (gone ++ []) q new None
-done_answer fed xs gone p w frame replies new q told same n d =
+done_answer fed xs gone p w frame replies new q told same n fits d =
     let a : Answered = record { frame = frame; replies = replies } in
     same_done fed (fed ++ []) (xs ++ a ∷ []) (xs ++ a ∷ []) gone (gone ++ []) q new None (sym (append-nil fed)) refl
     (sym (append-nil gone))
@@ -115,15 +124,18 @@ done_answer fed xs gone p w frame replies new q told same n d =
       ends = tt;
       written = written_more gone w new (replies_of xs) replies d.written n
           ∙ ap replies_bytes (sym (replies_of-more xs a) ∙ sym (append-nil (replies_of (xs ++ a ∷ []))));
+      spelled = ap (list_all is_reply) (append-nil (replies_of (xs ++ a ∷ [])) ∙ replies_of-more xs a)
+          ∙ spelled_more (replies_of xs) replies d.spelled fits;
     })
 
 -- the framer was asked, and there was nothing to answer
 pub done_quiet : (fed : List ℕ) (xs : List Answered) (gone : List ℕ) (p : Pending) (w : List ℕ) (e : Option End)
     (new : List ℕ) (q : Pending) →
     given_by message_codec (next_of message_codec p).0 ≡ [] → q ≡ (next_of message_codec p).1 →
-    new ≡ w ++ replies_bytes (last_of e) → IfSome e (λ x. EndsSo x q) → Done fed xs gone p w None
+    new ≡ w ++ replies_bytes (last_of e) → IsTrue (list_all is_reply (last_of e)) → IfSome e (λ x. EndsSo x q) →
+    Done fed xs gone p w None
     → Done (fed ++ []) (xs ++ []) (gone ++ []) q new e
-done_quiet fed xs gone p w e new q told same n ends d =
+done_quiet fed xs gone p w e new q told same n fits ends d =
     nothing_done fed xs gone q new e
     (record {
       fits = d.fits;
@@ -133,4 +145,5 @@ done_quiet fed xs gone p w e new q told same n ends d =
           ∙ ap (λ (x : List Frame). record { given = x; state = q }) (append-nil (frames_of xs));
       ends = ends;
       written = written_more gone w new (replies_of xs) (last_of e) d.written n;
+      spelled = spelled_more (replies_of xs) (last_of e) d.spelled fits;
     })

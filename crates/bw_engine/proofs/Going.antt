@@ -1,9 +1,10 @@
 -- Calls one after another.
 use Rattle.std.proofs.Common.{◌≡◌, ℕ, List, [], ◌∷◌, ◌++◌, false, Option, Some, None, refl, ap, subst}
 use Rattle.std.proofs.Common.{append_assoc, inl}
-use Rattle.std.specs.Prelude.{is_some}
+use Rattle.std.specs.Prelude.{is_some, IsTrue}
+use Rattle.std.specs.List.{list_all}
 use Rattle.bw_model.specs.Wire.{Frame, Bye}
-use Rattle.bw_model.specs.Replies.{Reply}
+use Rattle.bw_model.specs.Replies.{Reply, is_reply}
 use Rattle.bw_model.specs.Stream.{End}
 use Rattle.bw_model.specs.Exchange.{replies_bytes, last_reply}
 use Rattle.bw_wire.specs.Codecs.{message_codec}
@@ -41,10 +42,10 @@ no_turns (ends.BadFrame fault) t e = ap (given_by message_codec) e
 pub done_end : (fed : List ℕ) (xs : List Answered) (gone : List ℕ) (p : Pending) (w : List ℕ) (e : Option StreamEnd)
     (end : StreamEnd) (new : List ℕ) (q : Pending) → is_some e ≡ false → TellsEnd end (next_of message_codec p).0 →
     q ≡ (next_of message_codec p).1 → new ≡ w ++ replies_bytes (last_reply (end_meaning end)) →
-    Done fed xs gone p w (end_so_far e)
+    IsTrue (list_all is_reply (last_reply (end_meaning end))) → Done fed xs gone p w (end_so_far e)
     → Done (fed ++ []) (xs ++ []) (gone ++ []) q new (Some (end_meaning end))
-done_end fed xs gone p w e end new q none t same n d =
-    done_quiet fed xs gone p w (Some (end_meaning end)) new q (no_turns end (next_of message_codec p).0 t) same n
+done_end fed xs gone p w e end new q none t same n fits d =
+    done_quiet fed xs gone p w (Some (end_meaning end)) new q (no_turns end (next_of message_codec p).0 t) same n fits
     (tells end p q t same)
     (subst (λ (x : Option End). Done fed xs gone p w x) (none_so_far e none) d)
 

@@ -140,5 +140,6 @@ is_exchange law fed xs gone e d =
       whole = whole;
       settled = settled fed (frames_of xs) end d.fits whole;
       written = d.written;
+      spelled = d.spelled;
       counted = counted fed xs gone p w end d;
     }

@@ -1,10 +1,11 @@
 -- A whole exchange, piece by piece, and each of its ends.
 use Rattle.std.proofs.Common.{◌≡◌, ℕ, ◌+◌, ◌-◌, ◌*◌, ◌^◌, ◌≤◌, true, false, List, [], ◌++◌, length, Option, Some}
 use Rattle.std.proofs.Common.{refl, sym, ap, subst, ◌∙◌, arith, ◌⊎◌, inl, inr}
-use Rattle.std.specs.Prelude.{is_some, IfSome, min}
+use Rattle.std.specs.Prelude.{is_some, IfSome, IsTrue, min}
+use Rattle.std.specs.List.{list_all}
 use Rattle.std.proofs.lemmas.List.{append-nil, length-append}
 use Rattle.bw_model.specs.Wire.{Second, Frame}
-use Rattle.bw_model.specs.Replies.{Reply}
+use Rattle.bw_model.specs.Replies.{Reply, is_reply}
 use Rattle.bw_model.specs.Stream.{End, stream_of}
 use Rattle.bw_model.specs.Exchange.{replies_bytes}
 use Rattle.bw_stream.specs.Moves.{Writes}
@@ -25,7 +26,7 @@ use Rattle.bw_engine.proofs.Doing.{same_done}
 use Rattle.bw_engine.proofs.Going.{answers_append, does_on}
 use Rattle.bw_engine.proofs.Lawful.{is_exchange}
 use Rattle.bw_engine.proofs.Reading.{has_given-none, has_given-on, writes-none, writes-on}
-use Rattle.bw_engine.proofs.Writing.{all_gone}
+use Rattle.bw_engine.proofs.Writing.{all_gone, spelled_parts}
 
 -- so far a server, a reader and a writer were used so, by so many reads
 pub record SoFar {S : Type 0} (answers : S → Frame → List Reply → S → Type 0) (reads : ℕ) (s later : S)
@@ -148,6 +149,12 @@ first_read answers reads s later left left' w w' e f =
     subst (AreFirstOf (frames_of f.answered)) (append-nil f.input)
     ((is_exchange runs_follow_streams f.input f.answered f.output e f.done).front [] refl)
 
+all_spelled : {S : Type 0} (answers : S → Frame → List Reply → S → Type 0) (reads : ℕ) (s later : S)
+    (left left' w w' : Option (List ℕ)) (e : Exchange) → (f : SoFar answers reads s later left left' w w' e) →
+    IsTrue (list_all is_reply (replies_of f.answered))
+all_spelled answers reads s later left left' w w' e f =
+    (spelled_parts (replies_of f.answered) (last_of (end_so_far e.end)) f.done.spelled).0
+
 -- there was no memory for it
 pub no_memory : {S : Type 0} (answers : S → Frame → List Reply → S → Type 0) (s : S) (left w : Option (List ℕ)) →
     Serves answers ends.Memory s s left left w w
@@ -159,6 +166,7 @@ no_memory answers s left w = record {
   output = [];
   taken = writes-none w;
   front = (_, refl);
+  spelled = refl;
   by_end = refl;
 }
 
@@ -180,6 +188,7 @@ no_more_read answers reads s later left left' left'' w w' e ends.ReadFault f sto
   output = f.output;
   taken = f.taken;
   front = first_read answers reads s later left left' w w' e f;
+  spelled = all_spelled answers reads s later left left' w w' e f;
   by_end = all_read answers reads s later left left' w w' e f;
 }
 no_more_read answers reads s later left left' left'' w w' e ends.Memory f stops = record {
@@ -190,6 +199,7 @@ no_more_read answers reads s later left left' left'' w w' e ends.Memory f stops 
   output = f.output;
   taken = f.taken;
   front = (is_exchange runs_follow_streams f.input f.answered f.output e f.done).front stops.0 stops.1;
+  spelled = all_spelled answers reads s later left left' w w' e f;
   by_end = gone_so_far answers reads s later left left' w w' e f;
 }
 
@@ -210,6 +220,7 @@ write_failed answers reads s mid later left left' left'' w w' w'' moved moved' a
       output = f.output ++ g.bytes;
       taken = writes-on w w' w'' f.output g.bytes f.taken g.taken;
       front = told.0;
+      spelled = told.2;
       by_end = told.1;
     }
 
@@ -225,6 +236,7 @@ limit_reached answers reads s later left left' w w' e f often = record {
   output = f.output;
   taken = f.taken;
   front = first_read answers reads s later left left' w w' e f;
+  spelled = all_spelled answers reads s later left left' w w' e f;
   by_end = (all_read answers reads s later left left' w w' e f, omega (arith, often, f.least));
 }
 
@@ -279,12 +291,15 @@ stream_ended answers reads s mid later left left' left'' w w' w'' moved moved' a
       output = output;
       taken = writes-on w w' w'' f.output g.bytes f.taken g.taken;
       front = subst (AreFirstOf (frames_of xs)) (append-nil input) (x.front [] refl);
+      spelled = (spelled_parts (replies_of xs) (last_of (end_so_far c.end)) x.spelled).0;
       by_end = by_stream_end end left left'' xs input output (record {
         stream = stream;
         whole = whole_input left left'' input (frames_of xs) (end_meaning end) given drained stream settled;
         drained = drained;
         written = sym (append-nil output) ∙ ap (λ (y : List ℕ). output ++ y) (sym g.none_wait) ∙ x.written
             ∙ ap (λ (o : Option StreamEnd). replies_bytes (replies_of xs ++ last_of (end_so_far o))) is;
+        spelled = ap (λ (o : Option StreamEnd). list_all is_reply (last_of (end_so_far o))) (sym is)
+            ∙ (spelled_parts (replies_of xs) (last_of (end_so_far c.end)) x.spelled).1;
       });
     }
   where

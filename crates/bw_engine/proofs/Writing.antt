@@ -1,10 +1,13 @@
 -- Frames are answered one by one, and their replies written, until all are or a write fails.
 use Rattle.std.proofs.Common.{◌≡◌, ℕ, ◌≤◌, Bool, true, false, ◌||◌, if◌then◌else◌, List, [], ◌++◌, length, Option}
 use Rattle.std.proofs.Common.{refl, sym, ap, subst, ◌∙◌, append_assoc, arith}
-use Rattle.std.specs.Prelude.{Result, Ok, Err, OnErr, is_some, IfSome}
+use Rattle.std.specs.Prelude.{Result, Ok, Err, OnErr, is_some, IfSome, IsTrue}
+use Rattle.std.specs.List.{list_all}
+use Rattle.std.proofs.lemmas.Bool.{and_parts}
+use Rattle.std.proofs.lemmas.List.Folds.{list_all-append}
 use Rattle.std.proofs.lemmas.List.{append-nil}
 use Rattle.bw_model.specs.Wire.{Frame}
-use Rattle.bw_model.specs.Replies.{Reply}
+use Rattle.bw_model.specs.Replies.{Reply, is_reply}
 use Rattle.bw_model.specs.Stream.{End}
 use Rattle.bw_model.specs.Exchange.{replies_bytes}
 use Rattle.bw_stream.specs.Moves.{Writes, Begins}
@@ -83,11 +86,18 @@ pub on_err : {X Y P : Type 0} (r : Result X Y) → P → OnErr r P
 on_err (Ok x) p = tt
 on_err (Err e) p = p
 
+-- replies with spellings, in two parts
+pub spelled_parts : (rs more : List Reply) → IsTrue (list_all is_reply (rs ++ more)) →
+    IsTrue (list_all is_reply rs) × IsTrue (list_all is_reply more)
+spelled_parts rs more all =
+    and_parts (list_all is_reply rs) (list_all is_reply more) (sym (list_all-append is_reply rs more) ∙ all)
+
 -- what is written then, where all replies to the earlier frames were
 broken_off : (fed : List ℕ) (earlier last : List Answered) (gone part rest : List ℕ) (e : Exchange) →
     HasDone fed (earlier ++ last) gone e → gone ≡ replies_bytes (replies_of earlier) → length last ≤ 1 →
     part ++ rest ≡ e.outgoing.items
     → AreFirstOf (frames_of (earlier ++ last)) fed × IsBrokenOff (earlier ++ last) fed (gone ++ part)
+    × IsTrue (list_all is_reply (replies_of (earlier ++ last)))
 broken_off fed earlier last gone part rest e d all few whole =
     let x = is_exchange runs_follow_streams fed (earlier ++ last) gone e d in (
       subst (AreFirstOf (frames_of (earlier ++ last))) (append-nil fed) (x.front [] refl),
@@ -103,6 +113,7 @@ broken_off fed earlier last gone part rest e d all few whole =
         more = part;
         has_earlier = ap (λ (y : List ℕ). y ++ part) all;
       },
+      (spelled_parts (replies_of (earlier ++ last)) (last_of (end_so_far e.end)) d.spelled).0,
     )
 
 pub stops_first : {S : Type 0} (answers : S → Frame → List Reply → S → Type 0) (s : S) (w w' : Option (List ℕ))
@@ -142,10 +153,11 @@ stops_more answers s mid later w w' w'' a b c f running g begins =
           let told = broken_off fed earlier g.answered out x.part x.rest c later_done
           (all_gone (fed ++ []) earlier out b here f.none_wait running) g.most x.whole in
           subst (λ (xs : List Answered). AreFirstOf (frames_of xs) fed
-          × IsBrokenOff xs fed (gone ++ (f.bytes ++ x.part)))
+          × IsBrokenOff xs fed (gone ++ (f.bytes ++ x.part)) × IsTrue (list_all is_reply (replies_of xs)))
           (append_assoc before f.answered g.answered)
           (subst (λ (y : List ℕ). AreFirstOf (frames_of (earlier ++ g.answered)) fed
-          × IsBrokenOff (earlier ++ g.answered) fed y) (append_assoc gone f.bytes x.part) told);
+          × IsBrokenOff (earlier ++ g.answered) fed y × IsTrue (list_all is_reply (replies_of (earlier ++ g.answered))))
+          (append_assoc gone f.bytes x.part) told);
     }
 
 -- ---- it ends

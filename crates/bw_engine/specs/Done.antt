@@ -1,8 +1,9 @@
 -- What an exchange has done so far, and what a call adds to it.
 use Rattle.std.specs.Prelude.{◌≡◌, ◌⊎◌, ℕ, ◌+◌, ◌≤◌, ◌<◌, true, Option, Some, None, is_some, false}
 use Rattle.std.specs.Prelude.{IsTrue, IfSome, List, [], ◌++◌, length, vec_len}
+use Rattle.std.specs.List.{list_all}
 use Rattle.bw_model.specs.Wire.{Second, Frame, Bye, are_bytes}
-use Rattle.bw_model.specs.Replies.{Reply}
+use Rattle.bw_model.specs.Replies.{Reply, is_reply}
 use Rattle.bw_model.specs.Stream.{End, EndOfInput, SaidBye, BadFrame, stream_of}
 use Rattle.bw_model.specs.Exchange.{replies_bytes, last_reply}
 use Rattle.bw_wire.specs.Codecs.{message_codec}
@@ -36,6 +37,7 @@ pub record Done (fed : List ℕ) (answered : List Answered) (gone : List ℕ) (p
   pub runs : framer_run message_codec calls ≡ record { given = frames_of answered; state = p }
   pub ends : IfSome end (λ x. EndsSo x p)
   pub written : gone ++ waiting ≡ replies_bytes (replies_of answered ++ last_of end)
+  pub spelled : IsTrue (list_all is_reply (replies_of answered ++ last_of end))
 
 -- fed these bytes, this exchange has answered these frames, and these bytes were taken from it
 abbrev pub HasDone : List ℕ → List Answered → List ℕ → Exchange → Type 0
@@ -89,6 +91,8 @@ pub record IsExchangeOf (fed : List ℕ) (answered : List Answered) (out : List 
       stream_of Second (fed ++ more) ≡ (frames_of answered, x))
   -- what came out is exactly their replies
   pub written : out ≡ replies_bytes (replies_of answered ++ last_of (end_so_far e.end))
+  -- each of which has a spelling
+  pub spelled : IsTrue (list_all is_reply (replies_of answered ++ last_of (end_so_far e.end)))
   pub counted : e.framer.fed ≡ length fed
 
 -- so it is with each exchange

@@ -2,8 +2,9 @@
 use Rattle.std.specs.Prelude.{◌≡◌, ◌⊎◌, ℕ, ◌+◌, ◌-◌, ◌^◌, ◌≤◌, false, true, is_some, Option, List}
 use Rattle.std.specs.Prelude.{[], ◌++◌, length, min}
 use Rattle.std.specs.Prelude.{IsTrue, IfSome}
+use Rattle.std.specs.List.{list_all}
 use Rattle.bw_model.specs.Wire.{Frame, are_bytes}
-use Rattle.bw_model.specs.Replies.{Reply}
+use Rattle.bw_model.specs.Replies.{Reply, is_reply}
 use Rattle.bw_model.specs.Exchange.{replies_bytes}
 use Rattle.bw_stream.specs.Moves.{Keeps, Writes}
 use Rattle.bw_wire.specs.Held.{longest_piece}
@@ -59,3 +60,4 @@ pub record StopsWriting {S : Type 0} (answers : S → Frame → List Reply → S
       gone ≡ replies_bytes (replies_of before) →
       AreFirstOf (frames_of (before ++ answered)) fed
       × IsBrokenOff (before ++ answered) fed (gone ++ bytes)
+      × IsTrue (list_all is_reply (replies_of (before ++ answered)))

@@ -1,9 +1,10 @@
 -- A whole exchange: what it reads, answers and writes, by how it ends.
 use Rattle.std.specs.Prelude.{◌≡◌, ◌⊎◌, ℕ, ◌-◌, ◌+◌, ◌^◌, ◌≤◌, Option, Some, List, [], ◌++◌, length}
 use Rattle.std.specs.Prelude.{min}
-use Rattle.std.specs.Prelude.{IfSome}
+use Rattle.std.specs.Prelude.{IfSome, IsTrue}
+use Rattle.std.specs.List.{list_all}
 use Rattle.bw_model.specs.Wire.{Second, Frame}
-use Rattle.bw_model.specs.Replies.{Reply}
+use Rattle.bw_model.specs.Replies.{Reply, is_reply}
 use Rattle.bw_model.specs.Stream.{End, EndOfInput, SaidBye, BadFrame, stream_of}
 use Rattle.bw_model.specs.Exchange.{replies_bytes, last_reply}
 use Rattle.bw_stream.specs.Moves.{one_more, Writes}
@@ -62,6 +63,7 @@ pub record ReachesEnd (end : End) (left left' : Option (List ℕ)) (answered : L
   pub drained : IsFinal end ⊎ HasNoneLeft left left'
   -- all replies are written, and that to a bad frame
   pub written : output ≡ replies_bytes (replies_of answered ++ last_reply end)
+  pub spelled : IsTrue (list_all is_reply (last_reply end))
 
 -- all whole frames of what was read are answered, and their replies written
 pub record AnswersAllRead (answered : List Answered) (input output : List ℕ) : Type 0 where
@@ -112,4 +114,6 @@ pub record Serves {S : Type 0} (answers : S → Frame → List Reply → S → T
   pub output : List ℕ
   pub taken : Writes written output written'
   pub front : AreFirstOf (frames_of answered) input
+  -- each reply has a spelling
+  pub spelled : IsTrue (list_all is_reply (replies_of answered))
   pub by_end : EndsBy end left left' answered input output

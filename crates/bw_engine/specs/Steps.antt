@@ -1,7 +1,8 @@
 -- What comes of the next frame.
-use Rattle.std.specs.Prelude.{◌≡◌, ℕ, List, [], ◌∷◌, ◌++◌}
+use Rattle.std.specs.Prelude.{◌≡◌, ℕ, IsTrue, List, [], ◌∷◌, ◌++◌}
+use Rattle.std.specs.List.{list_all}
 use Rattle.bw_model.specs.Wire.{Frame, Bye}
-use Rattle.bw_model.specs.Replies.{Reply}
+use Rattle.bw_model.specs.Replies.{Reply, is_reply}
 use Rattle.bw_model.specs.Exchange.{replies_bytes, last_reply}
 use Rattle.bw_wire.specs.Codecs.{message_codec}
 use Rattle.bw_wire.specs.Pending.{Pending, Told, Nothing, Gives, Fails, next_of, HoldsLittle}
@@ -29,6 +30,7 @@ pub record AnswersFrame {S : Type 0} (answers : S → Frame → List Reply → S
   pub goes_on : given_by message_codec told ≡ frame ∷ []
   pub answered : answers s frame replies later
   pub waits : waiting' ≡ waiting ++ replies_bytes replies
+  pub spelled : IsTrue (list_all is_reply replies)
 
 -- what comes of what the framer tells
 abbrev pub Comes : {S : Type 0} → (S → Frame → List Reply → S → Type 0) → Step → Told Frame →
@@ -40,6 +42,7 @@ Comes answers Answered told s later waiting waiting' =
 Comes answers (Ended end) told s later waiting waiting' =
     TellsEnd end told × (later ≡ s)
     × (waiting' ≡ waiting ++ replies_bytes (last_reply (end_meaning end)))
+    × IsTrue (list_all is_reply (last_reply (end_meaning end)))
 
 -- the next frame is taken: what comes of it, and what the framer keeps
 pub record TakesNext {S : Type 0} (answers : S → Frame → List Reply → S → Type 0) (step : Step)

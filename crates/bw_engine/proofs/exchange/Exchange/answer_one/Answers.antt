@@ -67,7 +67,7 @@ returns-in-Hungry-clause-answers g c =
       does = λ fed before gone d.
           subst (λ (x : Option End). Done (fed ++ []) (before ++ []) (gone ++ []) q w x) (sym none)
           (done_quiet fed before gone s.framer s.outgoing.items None w q quiet a.next
-          (a.comes.2 ∙ sym (append-nil s.outgoing.items)) tt
+          (a.comes.2 ∙ sym (append-nil s.outgoing.items)) refl tt
           (subst (λ (x : Option End). Done fed before gone s.framer s.outgoing.items x) none d));
       most = search rules;
       stops = λ h. inl (inl refl);
@@ -89,7 +89,7 @@ returns-in-Answered-clause-answers g c =
       does = λ fed before gone d.
           subst (λ (x : Option End). Done (fed ++ []) (before ++ record { frame = t.frame; replies = t.replies } ∷ [])
           (gone ++ []) q w x) (sym none)
-          (done_answer fed before gone s.framer s.outgoing.items t.frame t.replies w q t.goes_on a.next t.waits
+          (done_answer fed before gone s.framer s.outgoing.items t.frame t.replies w q t.goes_on a.next t.waits t.spelled
           (subst (λ (x : Option End). Done fed before gone s.framer s.outgoing.items x) none d));
       most = search rules;
       stops = λ h. absurd (omega (arith, h));
@@ -108,7 +108,7 @@ returns-in-Ended-clause-answers g c =
       by_server = a.comes.1;
       does = λ fed before gone d.
           done_end fed before gone s.framer s.outgoing.items s.end c.in-Ended.end w q
-          c.requires.«open» a.comes.0 a.next a.comes.2 d;
+          c.requires.«open» a.comes.0 a.next a.comes.2 a.comes.3 d;
       most = search rules;
       stops = λ h. inl (inr refl);
       final = λ none fed before gone d.
