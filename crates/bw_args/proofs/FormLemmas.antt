@@ -9,8 +9,8 @@ use Rattle.clap.specs.declared.error.ErrorKind.TheVariants.{MissingSubcommand, U
 use Rattle.clap.specs.Words.{IsAmong, Row, Text, fault_of, first_of, kind_of}
 use Rattle.clap.proofs.OnLiterals.{clap_on_literals}
 use Rattle.bw_args.specs.Commands.{command_line}
-use Rattle.bw_args.specs.Lines.{AsksFor, GivesFuse, GivesLimit, Inspects, IsLineOf, IsPlain, IsToldAs, IsWishOf, RunsInspect}
-use Rattle.bw_args.specs.Lines.{RunsReplay, TellsHelp, Wish, Inspecting, Replaying, wish_of}
+use Rattle.bw_args.specs.Lines.{AsksFor, GivesFuse, GivesLimit, Inspects, IsLineOf, IsPlain, IsToldAs, IsWishOf}
+use Rattle.bw_args.specs.Lines.{RefusesValues, RunsInspect, RunsReplay, TellsHelp, Wish, Inspecting, Replaying, wish_of}
 use Rattle.bw_args.specs.Numbers.{IsLimitText, IsNumber, default_limit, number_written}
 use Rattle.bw_args.specs.declared.CommandLine.{CommandLine}
 use Rattle.bw_args.specs.declared.CommandLine.TheVariants.{Run, BadLimit, BadFuse, Tell}
@@ -146,6 +146,43 @@ runs_replay words line is = record {
       asked_replays words _ line _ _ is e (both_asks program limit fuse given burns);
   turned = λ program limit fuse given burns e.
       asked_replays words _ line _ _ is e (turned_asks program limit fuse given burns);
+}
+
+-- values of another form
+bad_limit : (program text : Text) (line : CommandLine) → ¬ IsLimitText text
+    → IsLineOf (program ∷ codes "replay" ∷ (codes "--limit=" ++ text) ∷ []) line → line ≡ BadLimit
+unfolding clap_on_literals
+bad_limit program text (Run (Replay limit fuse)) none is = absurd (none is.asked.1.0)
+bad_limit program text (Run (Inspect file)) none is = let bad : codes "replay" ≡ codes "inspect" = is.asked.0 in cc
+bad_limit program text BadLimit none is = refl
+bad_limit program text BadFuse none is = absurd (none is.no_fuse.1.1.0)
+bad_limit program text (Tell error) none is = absurd is.reason
+
+bad_fuse : (program text : Text) (line : CommandLine) → ¬ IsNumber text
+    → IsLineOf (program ∷ codes "replay" ∷ (codes "--fuse=" ++ text) ∷ []) line → line ≡ BadFuse
+unfolding clap_on_literals
+bad_fuse program text (Run (Replay limit fuse)) none is = absurd (none is.asked.2.0)
+bad_fuse program text (Run (Inspect file)) none is = let bad : codes "replay" ≡ codes "inspect" = is.asked.0 in cc
+bad_fuse program text BadLimit none is = absurd (is.no_limit refl default_limit refl)
+bad_fuse program text BadFuse none is = refl
+bad_fuse program text (Tell error) none is = absurd is.reason
+
+bad_limit_first : (program limit fuse : Text) (line : CommandLine) → ¬ IsLimitText limit → IsLineOf
+    (program ∷ codes "replay" ∷ (codes "--fuse=" ++ fuse) ∷ (codes "--limit=" ++ limit) ∷ []) line → line ≡ BadLimit
+unfolding clap_on_literals
+bad_limit_first program limit fuse (Run (Replay n k)) none is = absurd (none is.asked.1.0)
+bad_limit_first program limit fuse (Run (Inspect file)) none is =
+    let bad : codes "replay" ≡ codes "inspect" = is.asked.0 in cc
+bad_limit_first program limit fuse BadLimit none is = refl
+bad_limit_first program limit fuse BadFuse none is = absurd (none is.no_fuse.1.1.0)
+bad_limit_first program limit fuse (Tell error) none is = absurd is.reason
+
+pub refuses_values : (words : List Text) (line : CommandLine) → IsLineOf words line → RefusesValues words line
+refuses_values words line is = record {
+  limit = λ program text none e. bad_limit program text line none (subst (λ w. IsLineOf w line) e is);
+  fuse = λ program text none e. bad_fuse program text line none (subst (λ w. IsLineOf w line) e is);
+  first = λ program limit fuse none e.
+      bad_limit_first program limit fuse line none (subst (λ w. IsLineOf w line) e is);
 }
 
 -- words with a fault of one kind tell it

@@ -108,7 +108,7 @@ pub record HasBadLimit (words : List Text) : Type 0 where
   pub asks_nothing : (wish : Wish) → ¬ AsksFor words wish
   pub no_limit : LacksLimit (subcommand_of command_line words)
 
--- `clap` takes the words, and they ask for nothing, by a fuse that is none beside a limit that is one
+-- `clap` takes the words, and they ask for nothing, by a fuse that is none; their limit is one
 pub record HasBadFuse (words : List Text) : Type 0 where
   pub taken : fault_of command_line words ≡ []
   pub asks_nothing : (wish : Wish) → ¬ AsksFor words wish
@@ -158,6 +158,22 @@ pub record RunsReplay (words : List Text) (line : CommandLine) : Type 0 where
   pub turned : (program limit fuse : Text) → IsLimitText limit → IsNumber fuse
       → words ≡ program ∷ codes "replay" ∷ codes "--fuse" ∷ fuse ∷ codes "--limit" ∷ limit ∷ []
       → line ≡ Run (Replay (number_written limit) (Some (number_written fuse)))
+
+-- a value of another form is a fault of its own, whatever the program's name, N and K; that of the
+-- limit is told first
+pub record RefusesValues (words : List Text) (line : CommandLine) : Type 0 where
+  -- `replay --limit=N`
+  pub limit : (program text : Text) → ¬ IsLimitText text
+      → words ≡ program ∷ codes "replay" ∷ (codes "--limit=" ++ text) ∷ []
+      → line ≡ BadLimit
+  -- `replay --fuse=K`
+  pub fuse : (program text : Text) → ¬ IsNumber text
+      → words ≡ program ∷ codes "replay" ∷ (codes "--fuse=" ++ text) ∷ []
+      → line ≡ BadFuse
+  -- `replay --fuse=K --limit=N`
+  pub first : (program limit fuse : Text) → ¬ IsLimitText limit
+      → words ≡ program ∷ codes "replay" ∷ (codes "--fuse=" ++ fuse)
+      ∷ (codes "--limit=" ++ limit) ∷ [] → line ≡ BadLimit
 
 -- the line tells an error of this kind
 abbrev pub IsToldAs : ErrorKind → CommandLine → Type 0

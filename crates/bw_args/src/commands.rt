@@ -1,6 +1,7 @@
 //! The commands of the program, as `clap` sees them, and what each comes to.
 ghost use Rattle.std.specs.Prelude.{◌≡◌, false, codes, Some, IfOk, OnErr};
-ghost use Rattle.clap.specs.Words.{app_of, first_value, found_of, rows_of, rule_of, subcommand_rows_of};
+ghost use Rattle.clap.specs.Words.{app_of, first_value, found_of, rows_of, rule_of};
+ghost use Rattle.clap.specs.Words.{subcommand_rows_of};
 ghost use Rattle.clap.specs.declared.builder.Command.TheViews.{out-Command};
 ghost use Rattle.bw_args.specs.Commands.{command_line, fuse_option, inspect_command, limit_option};
 ghost use Rattle.bw_args.specs.Commands.{replay_command};
@@ -9,6 +10,10 @@ ghost use Rattle.bw_args.specs.Lines.{AsksForFile, IsFuseGiven, IsLimitGiven, Is
 use crate::{CommandLine, Task, numbers};
 use clap::{Arg, ArgMatches, Command};
 use std::alloc::{AllocError, Global};
+
+/// A text that writes no number.
+#[derive(Drop)]
+struct NoNumber;
 
 /// The whole command line.
 pub fn bwingest<'a>(alloc: Global) -> Result<Command<'a>, AllocError>
@@ -46,10 +51,9 @@ fn fuse_option<'a>(alloc: Global) -> Arg<'a>
     ensures rule { rule_of result ≡ fuse_option }
     ensures local { result.global ≡ false }
 {
-    Arg::new(alloc, "fuse")
-        .long("fuse")
-        .value_name("K")
-        .help("Fails one call of the store, the first being number 0")
+    Arg::new(alloc, "fuse").long("fuse").value_name("K").help(
+        "The one call of the store that fails, counted from 0 [default: none]",
+    )
 }
 
 fn inspect<'a>(alloc: Global) -> Result<Command<'a>, AllocError>
@@ -114,10 +118,6 @@ fn replay_limit(options: &ArgMatches<'_>) -> Option<u64>
         None => Some(numbers::DEFAULT_LIMIT),
     }
 }
-
-/// A text that writes no number.
-#[derive(Drop)]
-struct NoNumber;
 
 /// The number of the call that is to fail, as the options give it, or none.
 fn replay_fuse(options: &ArgMatches<'_>) -> Result<Option<u32>, NoNumber>
