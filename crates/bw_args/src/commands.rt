@@ -78,7 +78,7 @@ pub fn line(alloc: Global, matches: &ArgMatches<'_>) -> Result<CommandLine, Allo
     match matches.subcommand() {
         Some(("replay", options)) => Ok(replay_line(options)),
         Some(("inspect", options)) => inspect_line(alloc, options),
-        // `clap` lets no other command through.
+        // `clap` refuses words without a command of ours.
         _ => Ok(CommandLine::BadLimit),
     }
 }
@@ -101,7 +101,7 @@ fn inspect_line(alloc: Global, options: &ArgMatches<'_>) -> Result<CommandLine, 
     ensures err { OnErr result
         (AsksForFile (Some (codes "inspect", rows_of (found_of options.now)))) }
 {
-    // `clap` wants the file.
+    // `clap` refuses words without the file.
     let Some(path) = options.get_str("file") else {
         return Ok(CommandLine::BadLimit);
     };
