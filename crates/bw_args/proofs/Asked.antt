@@ -1,38 +1,77 @@
 -- What the getters of `clap` say of the task.
-use Rattle.std.proofs.Common.{◌≡◌, ℕ, List, Option, Some, None, Result, Ok, Err, OnErr, codes, refl, subst, sym, ◌∙◌}
-use Rattle.std.proofs.Common.{arith}
+use Rattle.std.proofs.Common.{◌≡◌, ℕ, List, Option, Some, None, Result, Ok, Err, OnErr, codes, refl, subst, sym}
+use Rattle.std.proofs.Common.{◌∙◌, arith}
 use Rattle.clap.specs.Words.{Row, Text, first_of, first_value, rows_of}
 use Rattle.clap.specs.declared.parser.matches.Found.{Found}
 use Rattle.clap.proofs.WalkLemmas.{first_value-rows}
-use Rattle.bw_args.specs.Lines.{GivesLimit, HasLimit, IsLimitGiven, IsLineFor, IsWishOf, Wish, Replaying, Inspecting}
+use Rattle.bw_args.specs.Lines.{AsksNothing, GivesFuse, GivesLimit, GivesNoFuse, HasLimit, IsLimitGiven}
+use Rattle.bw_args.specs.Lines.{IsLineFor, IsWishOf, Replaying, Inspecting}
 use Rattle.bw_args.specs.Numbers.{IsLimit}
 use Rattle.bw_args.specs.declared.CommandLine.{CommandLine}
-use Rattle.bw_args.specs.declared.CommandLine.TheVariants.{Run, BadLimit, Tell}
+use Rattle.bw_args.specs.declared.CommandLine.TheVariants.{Run, BadLimit, BadFuse, Tell}
 use Rattle.bw_args.specs.declared.Task.TheVariants.{Replay, Inspect}
 
--- the limit that is given is the one that is asked for
-pub given_asked : (found : Found) (limit : ℕ) → GivesLimit (first_value found (codes "limit")) limit
-    → IsWishOf (Some (codes "replay", rows_of found)) (Replaying limit)
-given_asked found limit given = (refl, subst (λ t. GivesLimit t limit) (first_value-rows found (codes "limit")) given)
+-- what the getters give of a replay's options, by its rows
+limit_in_rows : (found : Found) (P : Option Text → Type 0) → P (first_value found (codes "limit"))
+    → P (first_of (codes "limit") (rows_of found))
+limit_in_rows found P given = subst P (first_value-rows found (codes "limit")) given
 
--- where none is given that is of its form, nothing is asked for
-pub none_asked : (found : Found) → IsLimitGiven (first_value found (codes "limit")) None
-    → (wish : Wish) → ¬ IsWishOf (Some (codes "replay", rows_of found)) wish
-none_asked found given (Replaying n) asked =
-    given n (subst (λ t. GivesLimit t n) (sym (first_value-rows found (codes "limit"))) asked.1)
-none_asked found given (Inspecting path) asked = let bad : codes "replay" ≡ codes "inspect" = asked.0 in cc
+fuse_in_rows : (found : Found) (P : Option Text → Type 0) → P (first_value found (codes "fuse"))
+    → P (first_of (codes "fuse") (rows_of found))
+fuse_in_rows found P given = subst P (first_value-rows found (codes "fuse")) given
+
+-- what is given is what is asked for
+pub given_asked : (found : Found) (limit : ℕ) (fuse : Option ℕ)
+    → GivesLimit (first_value found (codes "limit")) limit → GivesFuse (first_value found (codes "fuse")) fuse
+    → IsWishOf (Some (codes "replay", rows_of found)) (Replaying limit fuse)
+given_asked found limit fuse given burns = (
+  refl,
+  limit_in_rows found (λ t. GivesLimit t limit) given,
+  fuse_in_rows found (λ t. GivesFuse t fuse) burns,
+)
+
+-- where no limit is given that is one, that is the line
+pub no_limit_line : (found : Found) → IsLimitGiven (first_value found (codes "limit")) None
+    → IsLineFor (Some (codes "replay", rows_of found)) BadLimit
+no_limit_line found given = (nothing, λ replays. none)
+  where
+    none : IsLimitGiven (first_of (codes "limit") (rows_of found)) None
+    none = limit_in_rows found (λ t. IsLimitGiven t None) given
+
+    nothing : AsksNothing (Some (codes "replay", rows_of found))
+    nothing (Replaying n k) asked = none n asked.1
+    nothing (Inspecting path) asked = let bad : codes "replay" ≡ codes "inspect" = asked.0 in cc
+
+-- where no fuse is given that is one beside a limit, that is the line
+pub no_fuse_line : (found : Found) (limit : ℕ) → GivesLimit (first_value found (codes "limit")) limit
+    → GivesNoFuse (first_value found (codes "fuse")) → IsLineFor (Some (codes "replay", rows_of found)) BadFuse
+no_fuse_line found limit given burns =
+    (nothing, (refl, (limit, limit_in_rows found (λ t. GivesLimit t limit) given), none))
+  where
+    none : GivesNoFuse (first_of (codes "fuse") (rows_of found))
+    none = fuse_in_rows found GivesNoFuse burns
+
+    nothing : AsksNothing (Some (codes "replay", rows_of found))
+    nothing (Replaying n k) asked = none k asked.2
+    nothing (Inspecting path) asked = let bad : codes "replay" ≡ codes "inspect" = asked.0 in cc
 
 -- the file that is given is the one that is asked for
 pub file_asked : (found : Found) (path : Text) → Some path ≡ first_value found (codes "file")
     → IsWishOf (Some (codes "inspect", rows_of found)) (Inspecting path)
 file_asked found path given = (refl, sym (given ∙ first_value-rows found (codes "file")))
 
--- without one, nothing is asked for
-pub no_file_asked : (found : Found) → None ≡ first_value found (codes "file")
-    → (wish : Wish) → ¬ IsWishOf (Some (codes "inspect", rows_of found)) wish
-no_file_asked found given (Replaying n) asked = let bad : codes "inspect" ≡ codes "replay" = asked.0 in cc
-no_file_asked found given (Inspecting path) asked =
-    let bad : None ≡ Some path = given ∙ first_value-rows found (codes "file") ∙ asked.1 in cc
+-- without one, nothing is asked for, nor is there a replay
+pub no_file_line : (found : Found) → None ≡ first_value found (codes "file")
+    → IsLineFor (Some (codes "inspect", rows_of found)) BadLimit
+no_file_line found given = (nothing, λ replays. absurd (apart replays))
+  where
+    apart : codes "inspect" ≡ codes "replay" → ⊥
+    apart same = cc
+
+    nothing : AsksNothing (Some (codes "inspect", rows_of found))
+    nothing (Replaying n k) asked = apart asked.0
+    nothing (Inspecting path) asked =
+        let bad : None ≡ Some path = given ∙ first_value-rows found (codes "file") ∙ asked.1 in cc
 
 given_limit : (text : Option Text) (limit : ℕ) → GivesLimit text limit → IsLimit limit
 given_limit (Some text) limit given = subst IsLimit (sym given.1) given.0.1
@@ -40,10 +79,12 @@ given_limit None limit given = subst IsLimit (sym given) (refl, omega arith, ome
 
 -- a replay that is asked for has a limit
 pub line_limit : (command : Option (Text × List Row)) (line : CommandLine) → IsLineFor command line → HasLimit line
-line_limit (Some command) (Run (Replay limit)) asked = given_limit (first_of (codes "limit") command.1) limit asked.1
+line_limit (Some command) (Run (Replay limit fuse)) asked =
+    given_limit (first_of (codes "limit") command.1) limit asked.1
 line_limit (Some command) (Run (Inspect file)) asked = tt
 line_limit None (Run task) asked = absurd asked
 line_limit command BadLimit asked = tt
+line_limit command BadFuse asked = tt
 line_limit command (Tell error) asked = tt
 
 -- what holds in any case holds of a fault

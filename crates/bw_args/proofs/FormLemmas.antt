@@ -9,60 +9,101 @@ use Rattle.clap.specs.declared.error.ErrorKind.TheVariants.{MissingSubcommand, U
 use Rattle.clap.specs.Words.{IsAmong, Row, Text, fault_of, first_of, kind_of}
 use Rattle.clap.proofs.OnLiterals.{clap_on_literals}
 use Rattle.bw_args.specs.Commands.{command_line}
-use Rattle.bw_args.specs.Lines.{AsksFor, GivesLimit, Inspects, IsLineOf, IsPlain, IsToldAs, IsWishOf, RunsInspect}
-use Rattle.bw_args.specs.Lines.{RunsReplay, TellsHelp, Wish, Inspecting, Replaying, wish_of}
-use Rattle.bw_args.specs.Numbers.{IsLimitText, default_limit, number_written}
+use Rattle.bw_args.specs.Lines.{AsksFor, GivesFuse, GivesLimit, Inspects, IsLineOf, IsPlain, IsToldAs, IsWishOf}
+use Rattle.bw_args.specs.Lines.{RefusesValues, RunsInspect, RunsReplay, TellsHelp, Wish, Inspecting, Replaying, wish_of}
+use Rattle.bw_args.specs.Numbers.{IsLimitText, IsNumber, default_limit, number_written}
 use Rattle.bw_args.specs.declared.CommandLine.{CommandLine}
-use Rattle.bw_args.specs.declared.CommandLine.TheVariants.{Run, BadLimit, Tell}
+use Rattle.bw_args.specs.declared.CommandLine.TheVariants.{Run, BadLimit, BadFuse, Tell}
 use Rattle.bw_args.specs.declared.Task.TheVariants.{Inspect, Replay}
 
 -- a digit is no hyphen, so the word is read as a value
-no_hyphen : (d : ℕ) (ds : Text) → IsLimitText (d ∷ ds) → (d == 45) ≡ false
+no_hyphen : (d : ℕ) (ds : Text) → IsNumber (d ∷ ds) → (d == 45) ≡ false
 no_hyphen d ds given = go (d == 45) refl
   where
     go : (b : Bool) → (d == 45) ≡ b → b ≡ false
     go false e = refl
     go true e =
-        let digit : digit_value 45 < 10 = subst (λ c. digit_value c < 10) (eqb-true d 45 e) given.0.0.1.0 in
+        let digit : digit_value 45 < 10 = subst (λ c. digit_value c < 10) (eqb-true d 45 e) given.0.1.0 in
         absurd (omega arith)
 
-plain_asks : (program : Text) → AsksFor (program ∷ codes "replay" ∷ []) (Replaying default_limit)
+plain_asks : (program : Text) → AsksFor (program ∷ codes "replay" ∷ []) (Replaying default_limit None)
 unfolding clap_on_literals
-plain_asks program = record { taken = refl; asked = (refl, refl) }
+plain_asks program = record { taken = refl; asked = (refl, refl, refl) }
 
 apart_asks : (program text : Text) → IsLimitText text
-    → AsksFor (program ∷ codes "replay" ∷ codes "--limit" ∷ text ∷ []) (Replaying (number_written text))
+    → AsksFor (program ∷ codes "replay" ∷ codes "--limit" ∷ text ∷ []) (Replaying (number_written text) None)
 unfolding clap_on_literals
 apart_asks program [] given = let bad : 0 < 0 = given.0.0.0 in absurd (omega arith)
 apart_asks program (d ∷ ds) given =
-    let value = no_hyphen d ds given in
-    record { taken = rw (value, value) (refl {a = []}); asked = simp value (refl, (given, refl)) }
+    let value = no_hyphen d ds given.0 in
+    record { taken = rw (value, value) (refl {a = []}); asked = simp value (refl, (given, refl), refl) }
 
 joined_asks : (program text : Text) → IsLimitText text
-    → AsksFor (program ∷ codes "replay" ∷ (codes "--limit=" ++ text) ∷ []) (Replaying (number_written text))
+    → AsksFor (program ∷ codes "replay" ∷ (codes "--limit=" ++ text) ∷ []) (Replaying (number_written text) None)
 unfolding clap_on_literals
-joined_asks program text given = record { taken = refl; asked = (refl, (given, refl)) }
+joined_asks program text given = record { taken = refl; asked = (refl, (given, refl), refl) }
+
+fuse_apart_asks : (program text : Text) → IsNumber text → AsksFor
+    (program ∷ codes "replay" ∷ codes "--fuse" ∷ text ∷ []) (Replaying default_limit (Some (number_written text)))
+unfolding clap_on_literals
+fuse_apart_asks program [] given = let bad : 0 < 0 = given.0.0 in absurd (omega arith)
+fuse_apart_asks program (d ∷ ds) given =
+    let value = no_hyphen d ds given in
+    record { taken = rw (value, value) (refl {a = []}); asked = simp value (refl, refl, (given, refl)) }
+
+fuse_joined_asks : (program text : Text) → IsNumber text → AsksFor
+    (program ∷ codes "replay" ∷ (codes "--fuse=" ++ text) ∷ []) (Replaying default_limit (Some (number_written text)))
+unfolding clap_on_literals
+fuse_joined_asks program text given = record { taken = refl; asked = (refl, refl, (given, refl)) }
+
+both_asks : (program limit fuse : Text) → IsLimitText limit → IsNumber fuse → AsksFor
+    (program ∷ codes "replay" ∷ codes "--limit" ∷ limit ∷ codes "--fuse" ∷ fuse ∷ [])
+    (Replaying (number_written limit) (Some (number_written fuse)))
+unfolding clap_on_literals
+both_asks program [] fuse given burns = let bad : 0 < 0 = given.0.0.0 in absurd (omega arith)
+both_asks program (c ∷ cs) [] given burns = let bad : 0 < 0 = burns.0.0 in absurd (omega arith)
+both_asks program (c ∷ cs) (d ∷ ds) given burns =
+    let v = no_hyphen c cs given.0 in
+    let w = no_hyphen d ds burns in
+    record { taken = rw (v, v, w, w) (refl {a = []}); asked = simp (v, w) (refl, (given, refl), (burns, refl)) }
+
+turned_asks : (program limit fuse : Text) → IsLimitText limit → IsNumber fuse → AsksFor
+    (program ∷ codes "replay" ∷ codes "--fuse" ∷ fuse ∷ codes "--limit" ∷ limit ∷ [])
+    (Replaying (number_written limit) (Some (number_written fuse)))
+unfolding clap_on_literals
+turned_asks program [] fuse given burns = let bad : 0 < 0 = given.0.0.0 in absurd (omega arith)
+turned_asks program (c ∷ cs) [] given burns = let bad : 0 < 0 = burns.0.0 in absurd (omega arith)
+turned_asks program (c ∷ cs) (d ∷ ds) given burns =
+    let v = no_hyphen c cs given.0 in
+    let w = no_hyphen d ds burns in
+    record { taken = rw (w, w, v, v) (refl {a = []}); asked = simp (v, w) (refl, (given, refl), (burns, refl)) }
 
 -- a command asks for one task
 one_limit : (text : Option Text) (a b : ℕ) → GivesLimit text a → GivesLimit text b → a ≡ b
 one_limit None a b x y = x ∙ sym y
 one_limit (Some text) a b x y = x.1 ∙ sym y.1
 
+one_fuse : (text : Option Text) (a b : Option ℕ) → GivesFuse text a → GivesFuse text b → a ≡ b
+one_fuse None a b x y = x ∙ sym y
+one_fuse (Some text) a b x y = x.1 ∙ sym y.1
+
 one_wish : (command : Option (Text × List Row)) (a b : Wish) → IsWishOf command a → IsWishOf command b → a ≡ b
 one_wish None a b x y = absurd x
-one_wish (Some command) (Replaying a) (Replaying b) x y =
-    ap Replaying (one_limit (first_of (codes "limit") command.1) a b x.1 y.1)
+one_wish (Some command) (Replaying a k) (Replaying b j) x y =
+    let limits : a ≡ b = one_limit (first_of (codes "limit") command.1) a b x.1 y.1 in
+    let fuses : k ≡ j = one_fuse (first_of (codes "fuse") command.1) k j x.2 y.2 in cc
 one_wish (Some command) (Inspecting a) (Inspecting b) x y =
     let same : Some a ≡ Some b = sym x.1 ∙ y.1 in cc
-one_wish (Some command) (Replaying a) (Inspecting b) x y = let bad : codes "replay" ≡ codes "inspect" =
+one_wish (Some command) (Replaying a k) (Inspecting b) x y = let bad : codes "replay" ≡ codes "inspect" =
     sym x.0 ∙ y.0 in cc
-one_wish (Some command) (Inspecting a) (Replaying b) x y = let bad : codes "inspect" ≡ codes "replay" =
+one_wish (Some command) (Inspecting a) (Replaying b k) x y = let bad : codes "inspect" ≡ codes "replay" =
     sym x.0 ∙ y.0 in cc
 
 -- the line runs a task for this
 abbrev RunsFor : Wish → CommandLine → Type 0
 RunsFor wish (Run task) = wish_of task ≡ wish
 RunsFor wish BadLimit = ⊥
+RunsFor wish BadFuse = ⊥
 RunsFor wish (Tell error) = ⊥
 
 -- words that ask for something run it
@@ -70,30 +111,78 @@ runs : (words : List Text) (line : CommandLine) (wish : Wish) → IsLineOf words
     RunsFor wish line
 runs words (Run task) wish is asks = one_wish _ (wish_of task) wish is.asked asks.asked
 runs words BadLimit wish is asks = absurd (is.asks_nothing wish asks)
+runs words BadFuse wish is asks = absurd (is.asks_nothing wish asks)
 runs words (Tell error) wish is asks = absurd (is.asks_nothing wish asks)
 
-replays : (limit : ℕ) (line : CommandLine) → RunsFor (Replaying limit) line → line ≡ Run (Replay limit)
-replays limit (Run (Replay other)) e = let same : other ≡ limit = cc in ap (λ (n : ℕ). Run (Replay n)) same
-replays limit (Run (Inspect file)) e = cc
-replays limit BadLimit e = absurd e
-replays limit (Tell error) e = absurd e
+replays : (limit : ℕ) (fuse : Option ℕ) (line : CommandLine) → RunsFor (Replaying limit fuse) line
+    → line ≡ Run (Replay limit fuse)
+replays limit fuse (Run (Replay n k)) e = let limits : n ≡ limit = cc in let fuses : k ≡ fuse = cc in cc
+replays limit fuse (Run (Inspect file)) e = cc
+replays limit fuse BadLimit e = absurd e
+replays limit fuse BadFuse e = absurd e
+replays limit fuse (Tell error) e = absurd e
 
 inspects : (path : Text) (line : CommandLine) → RunsFor (Inspecting path) line → Inspects path line
 inspects path (Run (Inspect file)) e = cc
-inspects path (Run (Replay other)) e = cc
+inspects path (Run (Replay limit fuse)) e = cc
 inspects path BadLimit e = absurd e
+inspects path BadFuse e = absurd e
 inspects path (Tell error) e = absurd e
+
+-- words that ask for a replay run it
+asked_replays : (words asking : List Text) (line : CommandLine) (limit : ℕ) (fuse : Option ℕ) → IsLineOf words line
+    → words ≡ asking → AsksFor asking (Replaying limit fuse) → line ≡ Run (Replay limit fuse)
+asked_replays words asking line limit fuse is e asks =
+    replays limit fuse line (runs words line _ is (subst (λ w. AsksFor w (Replaying limit fuse)) (sym e) asks))
 
 pub runs_replay : (words : List Text) (line : CommandLine) → IsLineOf words line → RunsReplay words line
 runs_replay words line is = record {
-  plain = λ program e. replays _ line
-      (runs words line _ is (subst (λ w. AsksFor w (Replaying default_limit)) (sym e) (plain_asks program)));
-  apart = λ program text given e.
-      replays _ line (runs words line _ is
-      (subst (λ w. AsksFor w (Replaying (number_written text))) (sym e) (apart_asks program text given)));
-  joined = λ program text given e.
-      replays _ line (runs words line _ is
-      (subst (λ w. AsksFor w (Replaying (number_written text))) (sym e) (joined_asks program text given)));
+  plain = λ program e. asked_replays words _ line _ _ is e (plain_asks program);
+  apart = λ program text given e. asked_replays words _ line _ _ is e (apart_asks program text given);
+  joined = λ program text given e. asked_replays words _ line _ _ is e (joined_asks program text given);
+  fuse_apart = λ program text given e. asked_replays words _ line _ _ is e (fuse_apart_asks program text given);
+  fuse_joined = λ program text given e. asked_replays words _ line _ _ is e (fuse_joined_asks program text given);
+  both = λ program limit fuse given burns e.
+      asked_replays words _ line _ _ is e (both_asks program limit fuse given burns);
+  turned = λ program limit fuse given burns e.
+      asked_replays words _ line _ _ is e (turned_asks program limit fuse given burns);
+}
+
+-- values of another form
+bad_limit : (program text : Text) (line : CommandLine) → ¬ IsLimitText text
+    → IsLineOf (program ∷ codes "replay" ∷ (codes "--limit=" ++ text) ∷ []) line → line ≡ BadLimit
+unfolding clap_on_literals
+bad_limit program text (Run (Replay limit fuse)) none is = absurd (none is.asked.1.0)
+bad_limit program text (Run (Inspect file)) none is = let bad : codes "replay" ≡ codes "inspect" = is.asked.0 in cc
+bad_limit program text BadLimit none is = refl
+bad_limit program text BadFuse none is = absurd (none is.no_fuse.1.1.0)
+bad_limit program text (Tell error) none is = absurd is.reason
+
+bad_fuse : (program text : Text) (line : CommandLine) → ¬ IsNumber text
+    → IsLineOf (program ∷ codes "replay" ∷ (codes "--fuse=" ++ text) ∷ []) line → line ≡ BadFuse
+unfolding clap_on_literals
+bad_fuse program text (Run (Replay limit fuse)) none is = absurd (none is.asked.2.0)
+bad_fuse program text (Run (Inspect file)) none is = let bad : codes "replay" ≡ codes "inspect" = is.asked.0 in cc
+bad_fuse program text BadLimit none is = absurd (is.no_limit refl default_limit refl)
+bad_fuse program text BadFuse none is = refl
+bad_fuse program text (Tell error) none is = absurd is.reason
+
+bad_limit_first : (program limit fuse : Text) (line : CommandLine) → ¬ IsLimitText limit → IsLineOf
+    (program ∷ codes "replay" ∷ (codes "--fuse=" ++ fuse) ∷ (codes "--limit=" ++ limit) ∷ []) line → line ≡ BadLimit
+unfolding clap_on_literals
+bad_limit_first program limit fuse (Run (Replay n k)) none is = absurd (none is.asked.1.0)
+bad_limit_first program limit fuse (Run (Inspect file)) none is =
+    let bad : codes "replay" ≡ codes "inspect" = is.asked.0 in cc
+bad_limit_first program limit fuse BadLimit none is = refl
+bad_limit_first program limit fuse BadFuse none is = absurd (none is.no_fuse.1.1.0)
+bad_limit_first program limit fuse (Tell error) none is = absurd is.reason
+
+pub refuses_values : (words : List Text) (line : CommandLine) → IsLineOf words line → RefusesValues words line
+refuses_values words line is = record {
+  limit = λ program text none e. bad_limit program text line none (subst (λ w. IsLineOf w line) e is);
+  fuse = λ program text none e. bad_fuse program text line none (subst (λ w. IsLineOf w line) e is);
+  first = λ program limit fuse none e.
+      bad_limit_first program limit fuse line none (subst (λ w. IsLineOf w line) e is);
 }
 
 -- words with a fault of one kind tell it
@@ -101,6 +190,7 @@ tells : (kind : ErrorKind) (words : List Text) (line : CommandLine) → fault_of
     → IsLineOf words line → IsToldAs kind line
 tells kind words (Run task) fault is = let bad : kind ∷ [] ≡ [] = sym fault ∙ is.taken in cc
 tells kind words BadLimit fault is = let bad : kind ∷ [] ≡ [] = sym fault ∙ is.taken in cc
+tells kind words BadFuse fault is = let bad : kind ∷ [] ≡ [] = sym fault ∙ is.taken in cc
 tells kind words (Tell error) fault is =
     elim (subst (IsAmong (kind_of error)) fault is.reason) [ inl same ↦ same | inr none ↦ absurd none ]
 

@@ -8,9 +8,10 @@ use Rattle.clap.specs.declared.Error.{Error}
 use Rattle.clap.specs.declared.error.ErrorKind.TheVariants.{OutOfMemory}
 use Rattle.clap.proofs.OnLiterals.{clap_on_literals}
 use Rattle.bw_args.specs.Commands.{command_line}
-use Rattle.bw_args.specs.Lines.{AsksFor, IsLineFor, IsLineOf, IsWishOf, IsToldOf, Wish, wish_of}
+use Rattle.bw_args.specs.Lines.{AsksFor, AsksNothing, IsLineFor, IsLineOf, IsWishOf, IsToldOf, LacksFuse}
+use Rattle.bw_args.specs.Lines.{LacksLimit, Wish, wish_of}
 use Rattle.bw_args.specs.declared.CommandLine.{CommandLine}
-use Rattle.bw_args.specs.declared.CommandLine.TheVariants.{Run, BadLimit, Tell}
+use Rattle.bw_args.specs.declared.CommandLine.TheVariants.{Run, BadLimit, BadFuse, Tell}
 
 -- the contracts of `clap` are exact at this command line
 is_exact : is_simple_and_free command_line ≡ true
@@ -57,6 +58,13 @@ asked_line a words command wish is free found given = record {
   asked = subst (λ o. IsWishOf o wish) (same_command a words command is found) given;
 }
 
+-- words whose command asks for nothing
+asks_nothing : (a : App) (words : List Text) (command : Option (Text × List Row)) → a ≡ command_line
+    → (is_simple a ≡ true → command ≡ subcommand_of a words) → AsksNothing command → (wish : Wish)
+    → ¬ AsksFor words wish
+asks_nothing a words command is found none wish asks =
+    none wish (subst (λ o. IsWishOf o wish) (sym (same_command a words command is found)) asks.asked)
+
 -- the line that words come to, which `clap` takes
 pub line_asked : (a : App) (words : List Text) (command : Option (Text × List Row)) (line : CommandLine) →
     a ≡ command_line
@@ -65,10 +73,15 @@ pub line_asked : (a : App) (words : List Text) (command : Option (Text × List R
     → IsLineFor command line → IsLineOf words line
 line_asked a words command (Run task) is free found given =
     asked_line a words command (wish_of task) is free found given
-line_asked a words command BadLimit is free found none = record {
+line_asked a words command BadLimit is free found bad = record {
   taken = no_fault a words is free;
-  asks_nothing = λ wish asks. none wish
-      (subst (λ o. IsWishOf o wish) (sym (same_command a words command is found)) asks.asked);
+  asks_nothing = asks_nothing a words command is found bad.0;
+  no_limit = subst LacksLimit (same_command a words command is found) bad.1;
+}
+line_asked a words command BadFuse is free found bad = record {
+  taken = no_fault a words is free;
+  asks_nothing = asks_nothing a words command is found bad.0;
+  no_fuse = subst LacksFuse (same_command a words command is found) bad.1;
 }
 line_asked a words command (Tell error) is free found given = absurd given
 

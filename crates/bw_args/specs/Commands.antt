@@ -7,9 +7,13 @@ use Rattle.clap.specs.Simple.{App, new_app, new_rule, on_top, with_rule, with_su
 abbrev pub limit_option : Rule
 limit_option = record (new_rule (codes "limit")) { long = Some (codes "limit"); value_names = 1 }
 
--- `replay`
+-- `--fuse K`
+abbrev pub fuse_option : Rule
+fuse_option = record (new_rule (codes "fuse")) { long = Some (codes "fuse"); value_names = 1 }
+
+-- `replay`, with its two options
 abbrev pub replay_command : App
-replay_command = with_rule (new_app (codes "replay")) limit_option
+replay_command = with_rule (with_rule (new_app (codes "replay")) limit_option) fuse_option
 
 -- the word that names a file
 abbrev pub file_argument : Rule

@@ -1,13 +1,19 @@
 //! The commands of the program, as `clap` sees them, and what each comes to.
 ghost use Rattle.std.specs.Prelude.{◌≡◌, false, codes, Some, IfOk, OnErr};
-ghost use Rattle.clap.specs.Words.{app_of, first_value, found_of, rows_of, subcommand_rows_of};
+ghost use Rattle.clap.specs.Words.{app_of, first_value, found_of, rows_of, rule_of};
+ghost use Rattle.clap.specs.Words.{subcommand_rows_of};
 ghost use Rattle.clap.specs.declared.builder.Command.TheViews.{out-Command};
-ghost use Rattle.bw_args.specs.Commands.{command_line, inspect_command, replay_command};
-ghost use Rattle.bw_args.specs.Lines.{AsksForFile, IsAsked, IsLimitGiven, IsLineFor};
+ghost use Rattle.bw_args.specs.Commands.{command_line, fuse_option, inspect_command, limit_option};
+ghost use Rattle.bw_args.specs.Commands.{replay_command};
+ghost use Rattle.bw_args.specs.Lines.{AsksForFile, IsFuseGiven, IsLimitGiven, IsLineFor};
 
 use crate::{CommandLine, Task, numbers};
 use clap::{Arg, ArgMatches, Command};
 use std::alloc::{AllocError, Global};
+
+/// A text that writes no number.
+#[derive(Drop)]
+struct NoNumber;
 
 /// The whole command line.
 pub fn bwingest<'a>(alloc: Global) -> Result<Command<'a>, AllocError>
@@ -26,12 +32,28 @@ fn replay<'a>(alloc: Global) -> Result<Command<'a>, AllocError>
     ensures shape { IfOk result (λ c. app_of c ≡ replay_command) }
     ensures local { IfOk result (λ c. (out-Command c).has_globals ≡ false) }
 {
-    let limit = Arg::new(alloc, "limit").long("limit").value_name("N").help(
-        "The greatest form size of a RIFF file, in bytes [default: 4294967294]",
-    );
     Command::new(alloc, "replay")
         .about("Runs each line of standard input as an exchange, and prints replies and files")
-        .arg(limit)
+        .arg(limit_option(alloc))?
+        .arg(fuse_option(alloc))
+}
+
+fn limit_option<'a>(alloc: Global) -> Arg<'a>
+    ensures rule { rule_of result ≡ limit_option }
+    ensures local { result.global ≡ false }
+{
+    Arg::new(alloc, "limit").long("limit").value_name("N").help(
+        "The greatest form size of a RIFF file, in bytes [default: 4294967294]",
+    )
+}
+
+fn fuse_option<'a>(alloc: Global) -> Arg<'a>
+    ensures rule { rule_of result ≡ fuse_option }
+    ensures local { result.global ≡ false }
+{
+    Arg::new(alloc, "fuse").long("fuse").value_name("K").help(
+        "The one call of the store that fails, counted from 0 [default: none]",
+    )
 }
 
 fn inspect<'a>(alloc: Global) -> Result<Command<'a>, AllocError>
@@ -47,47 +69,44 @@ fn inspect<'a>(alloc: Global) -> Result<Command<'a>, AllocError>
         .arg(file)
 }
 
-/// What parsed words come to. Only the path of a file takes memory, so that a bad limit is told
-/// whatever is left of it.
+/// What parsed words come to. Only the path of a file takes memory, so that a bad limit or fuse is
+/// told whatever is left of it.
 pub fn line(alloc: Global, matches: &ArgMatches<'_>) -> Result<CommandLine, AllocError>
     ensures ok { IfOk result (IsLineFor (subcommand_rows_of matches.now)) }
     ensures err { OnErr result (AsksForFile (subcommand_rows_of matches.now)) }
 {
-    match task(alloc, matches)? {
-        Some(task) => Ok(CommandLine::Run(task)),
-        None => Ok(CommandLine::BadLimit),
-    }
-}
-
-/// The task that parsed words ask for; none where a value is not of its form.
-fn task(alloc: Global, matches: &ArgMatches<'_>) -> Result<Option<Task>, AllocError>
-    ensures ok { IfOk result (IsAsked (subcommand_rows_of matches.now)) }
-    ensures err { OnErr result (AsksForFile (subcommand_rows_of matches.now)) }
-{
     match matches.subcommand() {
-        Some(("replay", options)) => Ok(replay_task(options)),
-        Some(("inspect", options)) => inspect_task(alloc, options),
-        _ => Ok(None),
+        Some(("replay", options)) => Ok(replay_line(options)),
+        Some(("inspect", options)) => inspect_line(alloc, options),
+        // `clap` refuses words without a command of ours.
+        _ => Ok(CommandLine::BadLimit),
     }
 }
 
-fn replay_task(options: &ArgMatches<'_>) -> Option<Task>
-    ensures { IsAsked (Some (codes "replay", rows_of (found_of options.now))) result }
+/// The limit is looked at first.
+fn replay_line(options: &ArgMatches<'_>) -> CommandLine
+    ensures { IsLineFor (Some (codes "replay", rows_of (found_of options.now))) result }
 {
-    let limit = replay_limit(options)?;
-    Some(Task::Replay { limit })
+    let Some(limit) = replay_limit(options) else {
+        return CommandLine::BadLimit;
+    };
+    let Ok(fuse) = replay_fuse(options) else {
+        return CommandLine::BadFuse;
+    };
+    CommandLine::Run(Task::Replay { limit, fuse })
 }
 
-fn inspect_task(alloc: Global, options: &ArgMatches<'_>) -> Result<Option<Task>, AllocError>
-    ensures ok { IfOk result (IsAsked (Some (codes "inspect", rows_of (found_of options.now)))) }
+fn inspect_line(alloc: Global, options: &ArgMatches<'_>) -> Result<CommandLine, AllocError>
+    ensures ok { IfOk result (IsLineFor (Some (codes "inspect", rows_of (found_of options.now)))) }
     ensures err { OnErr result
         (AsksForFile (Some (codes "inspect", rows_of (found_of options.now)))) }
 {
+    // `clap` refuses words without the file.
     let Some(path) = options.get_str("file") else {
-        return Ok(None);
+        return Ok(CommandLine::BadLimit);
     };
     let file = String::from_str(alloc, path)?;
-    Ok(Some(Task::Inspect { file }))
+    Ok(CommandLine::Run(Task::Inspect { file }))
 }
 
 /// The limit that the options give, or the default; none where it is not of its form.
@@ -97,5 +116,18 @@ fn replay_limit(options: &ArgMatches<'_>) -> Option<u64>
     match options.get_str("limit") {
         Some(text) => numbers::limit(text),
         None => Some(numbers::DEFAULT_LIMIT),
+    }
+}
+
+/// The number of the call that is to fail, as the options give it, or none.
+fn replay_fuse(options: &ArgMatches<'_>) -> Result<Option<u32>, NoNumber>
+    ensures { IsFuseGiven (first_value (found_of options.now) (codes "fuse")) result }
+{
+    let Some(text) = options.get_str("fuse") else {
+        return Ok(None);
+    };
+    match numbers::number(text) {
+        Some(number) => Ok(Some(number)),
+        None => Err(NoNumber),
     }
 }

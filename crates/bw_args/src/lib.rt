@@ -3,7 +3,8 @@
 
 ghost use Rattle.std.specs.Prelude.{◌≡◌, ◌↔◌, map, IfOk, IsErr, string_bytes};
 ghost use Rattle.clap.specs.Words.{kind_of};
-ghost use Rattle.bw_args.specs.Lines.{HasLimit, IsLineOf, RunsInspect, RunsReplay, TellsHelp};
+ghost use Rattle.bw_args.specs.Lines.{HasLimit, IsLineOf, RefusesValues, RunsInspect, RunsReplay};
+ghost use Rattle.bw_args.specs.Lines.{TellsHelp};
 
 mod commands;
 pub mod numbers;
@@ -16,8 +17,9 @@ use std::alloc::{AllocError, Global};
 #[derive(Debug, PartialEq, Eq, Drop)]
 pub enum Task {
     /// Run each line of standard input as an exchange. A file whose RIFF form would be longer than
-    /// `limit` bytes is written as BW64.
-    Replay { limit: u64 },
+    /// `limit` bytes is written as BW64. With a `fuse`, the call of the store with that number
+    /// fails, the first being number 0.
+    Replay { limit: u64, fuse: Option<u32> },
     /// Tell what is in the file of this path.
     Inspect { file: String },
 }
@@ -28,6 +30,8 @@ pub enum CommandLine {
     Run(Task),
     /// A limit that is none, which is a usage fault: `BAD_LIMIT` is its text.
     BadLimit,
+    /// A fuse that is none beside a limit that is one, a usage fault too: `BAD_FUSE` is its text.
+    BadFuse,
     /// Help, the version or another usage fault, and never want of memory. `Error::use_stderr` says
     /// where its text goes, and `Error::exit_code` is the status, 0 or 2.
     Tell(Error),
@@ -42,13 +46,23 @@ Usage: bwingest <COMMAND>
 For more information, try '--help'.
 ";
 
+/// What is said of a fuse that is none.
+pub const BAD_FUSE: &str = "\
+error: '--fuse <K>' takes a number from 0 to 4294967295, in at most ten digits
+
+Usage: bwingest <COMMAND>
+
+For more information, try '--help'.
+";
+
 /// Reads a command line, of which the first word is the program's own name.
 ///
 /// Which words run a task, and of what kind an error is, is `clap`'s own account of its walk over
-/// them (`line`). In plain terms the contract says of four forms that they run (`replay`,
-/// `inspect`) and of five what they tell (`help`, `inspect`); that all others but `--` at the end
-/// or before a file are refused is tested by examples. Nothing is claimed of what the texts say and
-/// where they go.
+/// them (`line`). In plain terms the contract says of eight forms that they run (`replay`,
+/// `inspect`), of three which value is a fault (`values`) and of five what they tell (`help`,
+/// `inspect`). That both options may be given in any of their forms, and that all else but `--` at
+/// the end or before a file is refused, is tested by examples. Nothing is claimed of what the texts
+/// say and where they go.
 ///
 /// # Errors
 /// `AllocError` where memory was refused.
@@ -56,6 +70,7 @@ pub fn parse(alloc: Global, words: &[String]) -> Result<CommandLine, AllocError>
     ensures line { IfOk result (IsLineOf (map string_bytes words.now)) }
     ensures limit { IfOk result HasLimit }
     ensures replay { IfOk result (RunsReplay (map string_bytes words.now)) }
+    ensures values { IfOk result (RefusesValues (map string_bytes words.now)) }
     ensures inspect { IfOk result (RunsInspect (map string_bytes words.now)) }
     ensures help { IfOk result (TellsHelp (map string_bytes words.now)) }
 {

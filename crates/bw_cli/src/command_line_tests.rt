@@ -10,7 +10,10 @@ use std::test::Fail;
 /// What a command line is to come to.
 #[derive(Clone, Copy, Debug, PartialEq, Eq)]
 enum Outcome {
+    /// Replays with this limit, and without a fuse.
     Replays(u64),
+    /// Replays with this limit and this fuse.
+    Fuses(u64, u32),
     /// Inspects the file that the last word names.
     Inspects,
     /// Text on standard output, status 0.
@@ -32,14 +35,18 @@ fn parse_words(alloc: Global, words: &[&str]) -> Result<CommandLine, AllocError>
 fn outcome_of(alloc: Global, words: &[&str]) -> Result<Outcome, AllocError> {
     Ok(match parse_words(alloc, words)? {
         CommandLine::Run(task) => run_outcome(&task, words),
-        CommandLine::BadLimit => Outcome::Refuses,
+        CommandLine::BadLimit | CommandLine::BadFuse => Outcome::Refuses,
         CommandLine::Tell(error) => told_outcome(&error),
     })
 }
 
 fn run_outcome(task: &Task, words: &[&str]) -> Outcome {
     match task {
-        Task::Replay { limit } => Outcome::Replays(*limit),
+        Task::Replay { limit, fuse: None } => Outcome::Replays(*limit),
+        Task::Replay {
+            limit,
+            fuse: Some(number),
+        } => Outcome::Fuses(*limit, *number),
         Task::Inspect { file } if words.last() == Some(&file.as_str()) => Outcome::Inspects,
         Task::Inspect { .. } => Outcome::Confuses,
     }
@@ -53,7 +60,7 @@ fn told_outcome(error: &Error) -> Outcome {
     }
 }
 
-static LINES: [(&[&str], Outcome); 44] = [
+static LINES: [(&[&str], Outcome); 46] = [
     (&[], Outcome::Refuses),
     (&["bwingest"], Outcome::Refuses),
     (&["bwingest", "help"], Outcome::Shows),
@@ -71,6 +78,7 @@ static LINES: [(&[&str], Outcome); 44] = [
     (&["bwingest", "--"], Outcome::Refuses),
     (&["bwingest", "--", "replay"], Outcome::Refuses),
     (&["bwingest", "--limit", "8192", "replay"], Outcome::Refuses),
+    (&["bwingest", "--fuse", "0", "replay"], Outcome::Refuses),
     (&["replay"], Outcome::Refuses),
     (&["bwingest", "replay"], Outcome::Replays(4_294_967_294)),
     (
@@ -120,6 +128,10 @@ static LINES: [(&[&str], Outcome); 44] = [
     (&["bwingest", "inspect", "a.wav", "b.wav"], Outcome::Refuses),
     (
         &["bwingest", "inspect", "--limit", "8192", "a.wav"],
+        Outcome::Refuses,
+    ),
+    (
+        &["bwingest", "inspect", "--fuse", "0", "a.wav"],
         Outcome::Refuses,
     ),
 ];
@@ -179,6 +191,83 @@ fn a_limit_is_even_and_in_range(rt: HostRuntime) -> Result<(), Fail> {
     Ok(())
 }
 
+static OPTIONS: [(&[&str], Outcome); 20] = [
+    (&["--fuse", "0"], Outcome::Fuses(4_294_967_294, 0)),
+    (&["--fuse=3"], Outcome::Fuses(4_294_967_294, 3)),
+    (
+        &["--fuse", "4294967295"],
+        Outcome::Fuses(4_294_967_294, 4_294_967_295),
+    ),
+    (&["--fuse", "0000000007"], Outcome::Fuses(4_294_967_294, 7)),
+    (&["--fuse", "1", "--"], Outcome::Fuses(4_294_967_294, 1)),
+    (
+        &["--limit", "8192", "--fuse", "8"],
+        Outcome::Fuses(8_192, 8),
+    ),
+    (
+        &["--fuse", "8", "--limit", "8192"],
+        Outcome::Fuses(8_192, 8),
+    ),
+    (&["--limit=8192", "--fuse=9"], Outcome::Fuses(8_192, 9)),
+    (&["--fuse=9", "--limit=8192"], Outcome::Fuses(8_192, 9)),
+    (&["--limit=8192", "--fuse", "9"], Outcome::Fuses(8_192, 9)),
+    (&["--fuse", "9", "--limit=8192"], Outcome::Fuses(8_192, 9)),
+    (&["--fuse"], Outcome::Refuses),
+    (&["--limit", "8192", "--fuse"], Outcome::Refuses),
+    (&["--fuse", "1", "2"], Outcome::Refuses),
+    (&["--fuse", "1", "--fuse", "1"], Outcome::Refuses),
+    (&["--fuse=1", "--fuse=2"], Outcome::Refuses),
+    (&["--fuse", "--limit", "8192"], Outcome::Refuses),
+    (&["--limit", "1", "--fuse", "1"], Outcome::Refuses),
+    (&["--fus", "1"], Outcome::Refuses),
+    (&["-f", "1"], Outcome::Refuses),
+];
+
+#[test]
+fn a_fuse_stands_beside_a_limit(rt: HostRuntime) -> Result<(), Fail> {
+    for (options, wanted) in &OPTIONS {
+        let mut words = vec![in rt.alloc(); "bwingest", "replay"]?;
+        words.extend_from_slice(options)?;
+        comes_to(&rt, words.as_slice(), *wanted)?;
+    }
+    Ok(())
+}
+
+static BAD_FUSES: [&str; 14] = [
+    "x",
+    "-1",
+    "+1",
+    "4294967296",
+    "9999999999",
+    "00000000001",
+    "",
+    " 1",
+    "1 ",
+    "1\n",
+    "1.0",
+    "0x1",
+    "٣",
+    "--fuse",
+];
+
+#[test]
+fn a_fuse_is_a_number(rt: HostRuntime) -> Result<(), Fail> {
+    for value in &BAD_FUSES {
+        comes_to(
+            &rt,
+            &["bwingest", "replay", "--fuse", value],
+            Outcome::Refuses,
+        )?;
+        let word = format!(in rt.alloc(); "--fuse={value}")?;
+        comes_to(
+            &rt,
+            &["bwingest", "replay", word.as_str()],
+            Outcome::Refuses,
+        )?;
+    }
+    Ok(())
+}
+
 static TEXTS: [(&[&str], &str); 5] = [
     (&["/tmp/x", "--version"], "bwingest 1.0.0\n"),
     (&["/tmp/x", "--help"], "Usage: bwingest <COMMAND>\n"),
@@ -196,6 +285,7 @@ fn texts_name_the_program(rt: HostRuntime) -> Result<(), Fail> {
         match parse_words(rt.alloc(), words)? {
             CommandLine::Run(task) => assert!(rt; false, "{words:?} runs {task:?}"),
             CommandLine::BadLimit => assert!(rt; false, "{words:?} has a bad limit"),
+            CommandLine::BadFuse => assert!(rt; false, "{words:?} has a bad fuse"),
             CommandLine::Tell(error) => {
                 let text = format!(in rt.alloc(); "{error}")?;
                 assert!(rt; text.as_str().contains(part), "{words:?}: {text}");

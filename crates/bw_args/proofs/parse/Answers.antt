@@ -1,6 +1,6 @@
 use Rattle.std.proofs.lemmas.Result.{IfOk-weaker}
 use Rattle.bw_args.proofs.Asked.{line_limit}
-use Rattle.bw_args.proofs.FormLemmas.{runs_inspect, runs_replay, tells_help}
+use Rattle.bw_args.proofs.FormLemmas.{refuses_values, runs_inspect, runs_replay, tells_help}
 use Rattle.bw_args.proofs.LineLemmas.{line_asked, told_line, told_result}
 use Rattle.bw_args.proofs.parse.Goals as goal
 
@@ -23,6 +23,12 @@ returns-in-Ok-clause-replay c = IfOk-weaker c.line.result _ _ (runs_replay _) (r
 
 pub returns-clause-replay : goal.returns-clause-replay
 returns-clause-replay c = IfOk-weaker c.told.result _ _ (runs_replay _) (returns-clause-line c)
+
+pub returns-in-Ok-clause-values : goal.returns-in-Ok-clause-values
+returns-in-Ok-clause-values c = IfOk-weaker c.line.result _ _ (refuses_values _) (returns-in-Ok-clause-line c)
+
+pub returns-clause-values : goal.returns-clause-values
+returns-clause-values c = IfOk-weaker c.told.result _ _ (refuses_values _) (returns-clause-line c)
 
 pub returns-in-Ok-clause-help : goal.returns-in-Ok-clause-help
 returns-in-Ok-clause-help c = IfOk-weaker c.line.result _ _ (tells_help _) (returns-in-Ok-clause-line c)

@@ -1,10 +1,10 @@
 use Rattle.std.proofs.Common.{Some, ap, ◌∙◌}
 use Rattle.clap.specs.Words.{found_of}
-use Rattle.bw_args.proofs.Asked.{file_asked, no_file_asked, on_err}
-use Rattle.bw_args.proofs.commands.inspect_task.Goals as goal
+use Rattle.bw_args.proofs.Asked.{file_asked, no_file_line, on_err}
+use Rattle.bw_args.proofs.commands.inspect_line.Goals as goal
 
 pub returns-in_default-clause-ok : goal.returns-in_default-clause-ok
-returns-in_default-clause-ok c = no_file_asked (found_of c.args.options.now) c.in_default.ensures
+returns-in_default-clause-ok c = no_file_line (found_of c.args.options.now) c.in_default.ensures
 
 pub returns-clause-ok : goal.returns-clause-ok
 returns-clause-ok c = file_asked (found_of c.args.options.now) _ (ap Some c.in_ok-file.ensures.ok ∙ c.in-Some.ensures)
