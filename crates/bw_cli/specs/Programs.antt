@@ -7,9 +7,9 @@ use Rattle.clap.specs.Values.{kind_of}
 use Rattle.clap.specs.declared.error.ErrorKind.{ErrorKind as TextKind}
 use Rattle.clap.specs.declared.error.ErrorKind.TheVariants as texts
 use Rattle.bw_args.specs.Lines.{IsLineOf}
-use Rattle.bw_args.specs.declared.TheConstants.{BAD_LIMIT}
+use Rattle.bw_args.specs.declared.TheConstants.{BAD_FUSE, BAD_LIMIT}
 use Rattle.bw_args.specs.declared.CommandLine.{CommandLine}
-use Rattle.bw_args.specs.declared.CommandLine.TheVariants.{Run, BadLimit, Tell}
+use Rattle.bw_args.specs.declared.CommandLine.TheVariants.{Run, BadLimit, BadFuse, Tell}
 use Rattle.bw_args.specs.declared.Task.TheVariants.{Replay, Inspect}
 use Rattle.bw_commands.specs.Deeds.{Deed, IsReplay, IsWant}
 use Rattle.bw_commands.specs.Faults.{IsToldBy, exit_of}
@@ -37,12 +37,12 @@ pub record IsUsage (did : Deed) : Type 0 where
   pub text : List ℕ
   pub tells : IsOf text did.faults
 
--- that a limit is none is told
-pub record IsBadLimit (did : Deed) : Type 0 where
+-- exactly this is told, a fault of usage
+pub record IsBadValue (text : List ℕ) (did : Deed) : Type 0 where
   pub exit_is : did.exit ≡ exits.Usage
   pub reads : did.reads_all ≡ true
   pub prints : did.out ≡ Nothing
-  pub tells : IsOf BAD_LIMIT.now did.faults
+  pub tells : IsOf text did.faults
 
 -- a text of this kind is told where it belongs
 abbrev pub IsTelling : TextKind → Deed → Type 0
@@ -61,11 +61,12 @@ pub record Given : Type 0 where
 -- asked of it, or not
 abbrev pub IsDoneFor : (Text → Option (List ℕ)) → Option (List ℕ) → CommandLine → Bool →
     Deed → Type 0
-IsDoneFor file_at input (Run (Replay limit)) gives_all did =
+IsDoneFor file_at input (Run (Replay limit fuse)) gives_all did =
     IsReplay limit input did × (gives_all ≡ true)
 IsDoneFor file_at input (Run (Inspect file)) gives_all did =
     IsLook (file_at (string_bytes file)) (string_bytes file) gives_all did
-IsDoneFor file_at input BadLimit gives_all did = IsBadLimit did × (gives_all ≡ true)
+IsDoneFor file_at input BadLimit gives_all did = IsBadValue BAD_LIMIT.now did × (gives_all ≡ true)
+IsDoneFor file_at input BadFuse gives_all did = IsBadValue BAD_FUSE.now did × (gives_all ≡ true)
 IsDoneFor file_at input (Tell error) gives_all did =
     IsTelling (kind_of error) did × (gives_all ≡ true)
 

@@ -8,9 +8,9 @@ ghost use Rattle.bw_commands.specs.declared.exit.Exit.{Exit};
 ghost use Rattle.bw_commands.specs.Exits.{status_of};
 ghost use Rattle.bw_cli.specs.Programs.{Given, IsDoneFor, IsProgram, IsTelling};
 
-use bw_args::{BAD_LIMIT, CommandLine, Task, parse};
+use bw_args::{BAD_FUSE, BAD_LIMIT, CommandLine, Task, parse};
 use bw_commands::print::{give_up, print, tell};
-use bw_commands::replay::replay;
+use bw_commands::replay::{replay, replay_fused};
 use bw_commands::{Exit, Fault, System, inspect_file, tell_unworded};
 use bw_layout::Limit;
 use bw_stream::{Sink, Source};
@@ -102,15 +102,20 @@ fn perform<S: System, R: Source, W: Sink, E: Sink>(
         out.old out.new faults.old faults.new }
 {
     match line {
-        CommandLine::Run(Task::Replay { limit }) => match Limit::new(*limit) {
-            Some(limit) => replay(alloc, limit, input, out, faults),
-            None => unreachable!(),
+        CommandLine::Run(Task::Replay { limit, fuse }) => match (Limit::new(*limit), fuse) {
+            (Some(limit), Some(fuse)) => replay_fused(alloc, limit, *fuse, input, out, faults),
+            (Some(limit), None) => replay(alloc, limit, input, out, faults),
+            (None, _) => unreachable!(),
         },
         CommandLine::Run(Task::Inspect { file }) => {
             inspect_file(alloc, system, file.as_str(), out, faults)
         }
         CommandLine::BadLimit => {
             tell(faults, BAD_LIMIT.as_bytes());
+            Exit::Usage
+        }
+        CommandLine::BadFuse => {
+            tell(faults, BAD_FUSE.as_bytes());
             Exit::Usage
         }
         CommandLine::Tell(text) => show(alloc, text, out, faults),
