@@ -54,7 +54,7 @@ none_wanted (x ∷ went) h short told =
     let one = to_its_end x h.0 short.0 in
     let here = or_parts (list_any tells_want (replies_of x.answered)) (list_any tells_want (last_reply one.end))
     (sym (list_any-append tells_want (replies_of x.answered) (last_reply one.end))
-    ∙ told.0 (replies_of x.answered ++ last_reply one.end) one.whole.replies) in
+    ∙ told.0 (replies_of x.answered ++ last_reply one.end) one.whole.spelled one.whole.replies) in
     ap (list_any tells_want) (flat_map-append (λ (a : Answered). a.replies) x.answered (answered_in went))
     ∙ list_any-append tells_want (replies_of x.answered) (replies_of (answered_in went))
     ∙ ap (λ (b : Bool). b || list_any tells_want (replies_of (answered_in went))) here.0
@@ -62,21 +62,21 @@ none_wanted (x ∷ went) h short told =
 
 -- A run that goes well, exchange by exchange.
 
-abbrev behind : (List ℕ → Bool) → Book → List Answered → Book
+abbrev pub behind : (List ℕ → Bool) → Book → List Answered → Book
 behind stood book answered = book_after stood book (with_good_luck (frames_of answered))
 
-record GoesWellTwice (stood : List ℕ → Bool) (book : Book) (xs ys : List Answered) (later : Book) : Type 0 where
-  first : GoesWell stood book xs (behind stood book xs)
-  then : GoesWell stood (behind stood book xs) ys later
+pub record GoesWellTwice (stood : List ℕ → Bool) (book : Book) (xs ys : List Answered) (later : Book) : Type 0 where
+  pub first : GoesWell stood book xs (behind stood book xs)
+  pub then : GoesWell stood (behind stood book xs) ys later
 
-well_parts : (stood : List ℕ → Bool) (book : Book) (xs ys : List Answered) (later : Book) →
+pub well_parts : (stood : List ℕ → Bool) (book : Book) (xs ys : List Answered) (later : Book) →
     GoesWell stood book (xs ++ ys) later → GoesWellTwice stood book xs ys later
 well_parts stood book [] ys later h = record { first = refl; then = h }
 well_parts stood book (x ∷ xs) ys later h =
     let more = well_parts stood (turn stood book x.frame good).1 xs ys later h.1 in
     record { first = (h.0, more.first); then = more.then }
 
-replies_well : (stood : List ℕ → Bool) (book : Book) (answered : List Answered) (later : Book) →
+pub replies_well : (stood : List ℕ → Bool) (book : Book) (answered : List Answered) (later : Book) →
     GoesWell stood book answered later →
     flat_map (λ t. t.replies) (run stood book (with_good_luck (frames_of answered))) ≡ replies_of answered
 replies_well stood book answered later h =

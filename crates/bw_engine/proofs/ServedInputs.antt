@@ -1,10 +1,16 @@
 -- An exchange over an input in memory.
 use Rattle.std.proofs.Common.{◌≡◌, ◌≢◌, ℕ, true, List, [], ◌++◌, length, Option, Some, refl, sym, ap, ◌∙◌, subst, arith}
+use Rattle.std.specs.List.{list_all}
+use Rattle.std.proofs.lemmas.Bool.{and_from}
 use Rattle.std.proofs.lemmas.List.{length-append, append-nil}
+use Rattle.std.proofs.lemmas.List.Folds.{list_all-append}
 use Rattle.bw_model.specs.Wire.{Frame, are_bytes}
-use Rattle.bw_model.specs.Replies.{Reply}
+use Rattle.bw_model.specs.Replies.{Reply, is_reply}
+use Rattle.bw_model.specs.Stream.{End, EndOfInput, SaidBye, BadFrame}
+use Rattle.bw_wire.specs.Reasons.{reason_meaning}
+use Rattle.bw_model.specs.Exchange.{last_reply}
 use Rattle.bw_model.proofs.Elements.{some_inj}
-use Rattle.bw_engine.specs.Answering.{Answered, frames_of}
+use Rattle.bw_engine.specs.Answering.{Answered, frames_of, replies_of}
 use Rattle.bw_engine.specs.Done.{AreFirstOf}
 use Rattle.bw_engine.specs.Served.{Serves, EndsBy, reads_failed}
 use Rattle.bw_engine.specs.Ingesting.{WasServed, ServesInput, ServesFirst}
@@ -12,19 +18,39 @@ use Rattle.bw_engine.specs.declared.serving.ExchangeEnd.{ExchangeEnd}
 use Rattle.bw_engine.specs.declared.serving.ExchangeEnd.TheVariants as ends
 use Rattle.bw_engine.proofs.FirstFrames.{first_of_more}
 
+-- all replies have spellings, and that to a bad frame
+both_spelled : (answered : List Answered) (end : End) → list_all is_reply (replies_of answered) ≡ true →
+    list_all is_reply (last_reply end) ≡ true → list_all is_reply (replies_of answered ++ last_reply end) ≡ true
+both_spelled answered end all last =
+    list_all-append is_reply (replies_of answered) (last_reply end)
+    ∙ and_from (list_all is_reply (replies_of answered)) (list_all is_reply (last_reply end)) all last
+
 -- it was served to the end that it told
 was_served : (end : ExchangeEnd) (input fed rest output : List ℕ) (left left' : Option (List ℕ))
     (answered : List Answered) → are_bytes input ≡ true → fed ++ rest ≡ input → left ≡ Some input →
+    list_all is_reply (replies_of answered) ≡ true →
     EndsBy end left left' answered fed output → 0 ≡ reads_failed end 0 → end ≢ ends.WriteFault →
     end ≢ ends.Memory →
     WasServed (record { input = input; answered = answered; written = output; end = end })
-was_served ends.Bye input fed rest output left left' answered fits all from h reads write memory =
-    record { stream = h.whole input from; replies = h.written }
-was_served ends.EndOfInput input fed rest output left left' answered fits all from h reads write memory =
-    record { stream = h.whole input from; replies = h.written }
-was_served (ends.BadFrame fault) input fed rest output left left' answered fits all from h reads write memory =
-    record { stream = h.whole input from; replies = h.written }
-was_served ends.TurnLimit input fed rest output left left' answered fits all from h reads write memory =
+was_served ends.Bye input fed rest output left left' answered fits all from spelled h reads write memory =
+    record {
+      stream = h.whole input from;
+      replies = h.written;
+      spelled = both_spelled answered SaidBye spelled h.spelled;
+    }
+was_served ends.EndOfInput input fed rest output left left' answered fits all from spelled h reads write memory =
+    record {
+      stream = h.whole input from;
+      replies = h.written;
+      spelled = both_spelled answered EndOfInput spelled h.spelled;
+    }
+was_served (ends.BadFrame fault) input fed rest output left left' answered fits all from spelled h reads write memory =
+    record {
+      stream = h.whole input from;
+      replies = h.written;
+      spelled = both_spelled answered (BadFrame (reason_meaning fault.reason) fault.offset) spelled h.spelled;
+    }
+was_served ends.TurnLimit input fed rest output left left' answered fits all from spelled h reads write memory =
     let len = ap length (sym all) ∙ length-append fed rest in
     let read = h.1 in
     record {
@@ -34,11 +60,11 @@ was_served ends.TurnLimit input fed rest output left left' answered fits all fro
           (ap are_bytes all ∙ fits) ([], h.0.frames ∙ sym (append-nil (frames_of answered))));
       replies = h.0.written;
     }
-was_served ends.ReadFault input fed rest output left left' answered fits all from h reads write memory =
+was_served ends.ReadFault input fed rest output left left' answered fits all from spelled h reads write memory =
     absurd (omega (arith, reads))
-was_served ends.WriteFault input fed rest output left left' answered fits all from h reads write memory =
+was_served ends.WriteFault input fed rest output left left' answered fits all from spelled h reads write memory =
     absurd (write refl)
-was_served ends.Memory input fed rest output left left' answered fits all from h reads write memory =
+was_served ends.Memory input fed rest output left left' answered fits all from spelled h reads write memory =
     absurd (memory refl)
 
 module _ {T : Type 0} (answers : T → Frame → List Reply → T → Type 0) (old new : T) (input : List ℕ)
@@ -58,8 +84,8 @@ module _ {T : Type 0} (answers : T → Frame → List Reply → T → Type 0) (o
           answered = h.answered;
           written = w;
           end = end;
-        })) same (was_served end input h.input given.0 h.output left left' h.answered fits given.2 from h.by_end reads
-            write memory);
+        })) same (was_served end input h.input given.0 h.output left left' h.answered fits given.2 from h.spelled h.by_end
+            reads write memory);
       }
 
   pub serves_first : ServesFirst answers old new input

@@ -1,10 +1,10 @@
 -- Whole inputs, each served as an exchange, and what they leave in a store.
 use Rattle.std.specs.Prelude.{◌≡◌, ◌⊎◌, ℕ, ◌<◌, ◌≤◌, true, false, IsTrue, IsFalse, Option, Some}
 use Rattle.std.specs.Prelude.{None, is_some, List, [], ◌∷◌, ◌++◌, length, map, flat_map, Vec}
-use Rattle.std.specs.List.{AllByRecursion, list_any}
+use Rattle.std.specs.List.{AllByRecursion, list_all, list_any}
 use Rattle.std.specs.declared.alloc.Global.{Global}
 use Rattle.bw_model.specs.Wire.{Second, Frame}
-use Rattle.bw_model.specs.Replies.{Reply}
+use Rattle.bw_model.specs.Replies.{Reply, is_reply}
 use Rattle.bw_model.specs.Stream.{End, EndOfInput, SaidBye, BadFrame, stream_of}
 use Rattle.bw_model.specs.Book.{Book, log_of}
 use Rattle.bw_model.specs.Turn.{book_after}
@@ -46,6 +46,8 @@ pub record ServedInput : Type 0 where
 pub record IsServedWhole (x : ServedInput) (end : End) : Type 0 where
   pub stream : stream_of Second x.input ≡ (frames_of x.answered, end)
   pub replies : x.written ≡ replies_bytes (replies_of x.answered ++ last_reply end)
+  -- each of which has a spelling
+  pub spelled : IsTrue (list_all is_reply (replies_of x.answered ++ last_reply end))
 
 -- So many reads were not enough for its bytes: its first frames were answered, and the replies
 -- written.
@@ -169,8 +171,8 @@ IsShort input = length input < most_reads
 
 -- these bytes spell no reply that tells a want
 abbrev pub TellsNoWant : List ℕ → Type 0
-TellsNoWant written = (replies : List Reply) → written ≡ replies_bytes replies →
-    IsFalse (list_any tells_want replies)
+TellsNoWant written = (replies : List Reply) → IsTrue (list_all is_reply replies) →
+    written ≡ replies_bytes replies → IsFalse (list_any tells_want replies)
 
 -- The inputs are short, their frames in number order, and no want is told.
 pub record GoWell (inputs written : List (List ℕ)) : Type 0 where
