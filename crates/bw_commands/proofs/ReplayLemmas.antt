@@ -32,7 +32,9 @@ use Rattle.bw_commands.specs.Runs.{IsRun, AreExchangesOf, no_contents}
 use Rattle.bw_commands.specs.Text.{exchanges_text, files_text}
 use Rattle.bw_engine.specs.Answering.{Answered, frames_of, replies_of}
 use Rattle.bw_engine.specs.ServerRuns.{IsRun as IsRun', with_good_luck}
-use Rattle.bw_engine.specs.Ingesting.{ServedInput, WasServed, IsServedTo, Ingests, answered_in, end_in, frames_in}
+use Rattle.bw_engine.specs.Ingesting.{ServedInput, WasServed, IsServedTo, Ingests, LeavesRun, answered_in, end_in}
+use Rattle.bw_engine.specs.Ingesting.{frames_in}
+use Rattle.bw_engine.specs.declared.ingest.Run.{Run}
 use Rattle.bw_engine.specs.declared.serving.ExchangeEnd.{ExchangeEnd}
 use Rattle.bw_engine.proofs.GoodRuns.{GoesWell, good_run, in_order_well, turns_are_runs}
 use Rattle.bw_engine.proofs.GoodExchanges.{behind, well_parts, replies_well}
@@ -170,11 +172,14 @@ pub record Replayed (limit : ℕ) (inputs : List (List ℕ)) (rs : List (Vec ℕ
   pub run : IsRun limit inputs told contents
   pub kept : AllTell rs es told
 
-module _ {X : Type 0} (S : StoreGhosts X) (limit : ℕ) (before after : X) (inputs rs : List (Vec ℕ Global))
-    (es : List ExchangeEnd) (honest : IsTrue (S.honest before)) (still : S.honest after ≡ S.honest before)
+module _ {X : Type 0} (S : StoreGhosts X) (limit : ℕ) (before : X) (inputs : List (Vec ℕ Global)) (ran : Run X)
+    (honest : IsTrue (S.honest before)) (still : S.honest ran.store ≡ S.honest before)
     (empty : (name : List ℕ) → S.contents before name ≡ None)
     (short : All (λ x. length x.items ≤ longest_input) inputs)
-    (h : Ingests S limit before after (map (λ x. x.items) inputs) (map (λ x. x.items) rs) es) where
+    (h : Ingests S limit before (map (λ x. x.items) inputs) ran) where
+  leaves : LeavesRun S limit before (answered_in h.went) ran.store
+  leaves = h.leaves honest
+
   abbrev first : List ℕ → Option (List ℕ)
   first = S.contents before
 
@@ -190,60 +195,60 @@ module _ {X : Type 0} (S : StoreGhosts X) (limit : ℕ) (before after : X) (inpu
   all_short : AllByRecursion (λ xs. length xs ≤ longest_input) (map (λ x. x.input) h.went)
   all_short = subst (AllByRecursion (λ xs. length xs ≤ longest_input)) (sym h.are.inputs_are) (short_each inputs short)
 
-  tell : TellAll h.went rs es
-  tell = tell_all h.went rs es h.are.each all_short h.are.written_is h.are.ends_are
+  tell : TellAll h.went ran.replies.items ran.ends.items
+  tell = tell_all h.went ran.replies.items ran.ends.items h.are.each all_short h.are.written_is h.are.ends_are
 
   tells : TellInputs (map (λ x. x.items) inputs) lists tell.told
   tells = subst (λ (is : List (List ℕ)). TellInputs is lists tell.told) h.are.inputs_are tell.streams
 
-  counted : IsRun' nothing_stands (failed_calls (S.failures before) 0) (failed_calls (S.failures after) 0) []
-      (joined lists) h.leaves.book
+  counted : IsRun' nothing_stands (failed_calls (S.failures before) 0) (failed_calls (S.failures ran.store) 0) []
+      (joined lists) leaves.book
   counted =
       subst (λ (all : List Answered). IsRun' nothing_stands (failed_calls (S.failures before) 0)
-          (failed_calls (S.failures after) 0) [] all h.leaves.book) one_list
+          (failed_calls (S.failures ran.store) 0) [] all leaves.book) one_list
       (subst (λ (f : List ℕ → Option (List ℕ)). IsRun' (λ name. is_some (f name)) (failed_calls (S.failures before) 0)
-          (failed_calls (S.failures after) 0) [] (answered_in h.went) h.leaves.book) none_first h.leaves.run)
+          (failed_calls (S.failures ran.store) 0) [] (answered_in h.went) leaves.book) none_first leaves.run)
 
-  contents_are : (name : List ℕ) → (is_pending (log_of h.leaves.book name) ≡ false)
-      ⊎ ((take_in false h.leaves.book name).closed ≡ true) →
-      S.contents after name ≡ content_in no_contents limit h.leaves.book name
-  contents_are name settled = h.leaves.files name settled
-      ∙ ap (λ (f : List ℕ → Option (List ℕ)). content_in f limit h.leaves.book name) none_first
+  contents_are : (name : List ℕ) → (is_pending (log_of leaves.book name) ≡ false)
+      ⊎ ((take_in false leaves.book name).closed ≡ true) →
+      S.contents ran.store name ≡ content_in no_contents limit leaves.book name
+  contents_are name settled = leaves.files name settled
+      ∙ ap (λ (f : List ℕ → Option (List ℕ)). content_in f limit leaves.book name) none_first
 
-  holds : Holds limit (record { contents = S.contents after; first = no_contents; honest = true })
-      h.leaves.kept_of h.leaves.book
-  holds = subst (λ (b : Bool). Holds limit (record { contents = S.contents after; first = no_contents; honest = b })
-          h.leaves.kept_of h.leaves.book) (still ∙ honest)
+  holds : Holds limit (record { contents = S.contents ran.store; first = no_contents; honest = true })
+      leaves.kept_of leaves.book
+  holds = subst (λ (b : Bool). Holds limit (record { contents = S.contents ran.store; first = no_contents; honest = b })
+          leaves.kept_of leaves.book) (still ∙ honest)
       (subst (λ (f : List ℕ → Option (List ℕ)). Holds limit
-          (record { contents = S.contents after; first = f; honest = S.honest after })
-          h.leaves.kept_of h.leaves.book) none_first h.leaves.held)
+          (record { contents = S.contents ran.store; first = f; honest = S.honest ran.store })
+          leaves.kept_of leaves.book) none_first leaves.held)
 
   in_order : AreInOrder [] (frames_in (map (λ x. x.items) inputs)) →
       list_any tells_want (replies_told tell.told) ≡ false →
-      AreExchangesOf limit (map (λ x. x.items) inputs) tell.told (S.contents after)
+      AreExchangesOf limit (map (λ x. x.items) inputs) tell.told (S.contents ran.store)
   in_order near none =
       let frames = frames_told (map (λ x. x.items) inputs) lists tell.told tells in
-      let well = in_order_well nothing_stands _ _ (joined lists) h.leaves.book counted
+      let well = in_order_well nothing_stands _ _ (joined lists) leaves.book counted
           (subst (AreInOrder []) (sym frames) near)
           (none_told (map (λ x. x.items) inputs) lists tell.told tells none) in
-      let left : h.leaves.book ≡ book_after nothing_stands [] (with_good_luck (frames_in (map (λ x. x.items) inputs))) =
-      sym (good_run nothing_stands [] (joined lists) h.leaves.book well.0).left
+      let left : leaves.book ≡ book_after nothing_stands [] (with_good_luck (frames_in (map (λ x. x.items) inputs))) =
+      sym (good_run nothing_stands [] (joined lists) leaves.book well.0).left
       ∙ ap (λ (fs : List Frame). book_after nothing_stands [] (with_good_luck fs)) frames in
       record {
-        told_is = told_well [] (map (λ x. x.items) inputs) lists tell.told h.leaves.book tells well.0;
+        told_is = told_well [] (map (λ x. x.items) inputs) lists tell.told leaves.book tells well.0;
         files = λ name. contents_are name (inl (well.1 name))
             ∙ ap (λ (b : Book). content_in no_contents limit b name) left;
       }
 
-  pub replayed : Replayed limit (map (λ x. x.items) inputs) rs es (S.contents after)
+  pub replayed : Replayed limit (map (λ x. x.items) inputs) ran.replies.items ran.ends.items (S.contents ran.store)
   replayed = record {
     told = tell.told;
     run = record {
       answered = lists;
       tells = tells;
-      book = h.leaves.book;
-      run = turns_are_runs nothing_stands _ _ [] h.leaves.book (joined lists) counted;
-      kept_of = h.leaves.kept_of;
+      book = leaves.book;
+      run = turns_are_runs nothing_stands _ _ [] leaves.book (joined lists) counted;
+      kept_of = leaves.kept_of;
       held = holds;
       files = contents_are;
       in_order = in_order;

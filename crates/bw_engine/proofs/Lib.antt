@@ -1,19 +1,19 @@
-pub mod Staying
-pub mod Holding
-pub mod Doing
-pub mod Going
-pub mod Turning
-pub mod Growing
-pub mod Lawful
-pub mod Reading
-pub mod Feeds
-pub mod Writing
-pub mod Whole
+mod Staying
+mod Holding
+mod Doing
+mod Going
+mod Turning
+mod Growing
+mod Lawful
+mod Reading
+mod Feeds
+mod Writing
+mod Whole
 mod ServerAnswers
-mod GoodRuns
+pub mod GoodRuns
 mod ServedRuns
 mod InputSteps
-mod GoodExchanges
+pub mod GoodExchanges
 mod StoreRuns
 mod FirstFrames
 mod ServedInputs

@@ -9,10 +9,9 @@ use Rattle.bw_commands.proofs.replay.run_text.Goals as goal
 pub returns : goal.returns
 returns c =
     let run = c.in-Ok.run' in
-    let ran = replayed _ c.args.limit c.new-store.result run.store c.args.inputs.now run.replies.items run.ends.items
-        refl c.in-Ok.ensures.honest
+    let ran = replayed _ c.args.limit c.new-store.result c.args.inputs.now run refl c.in-Ok.ensures.honest
         (λ name. ap (λ s. content_under s.files name) c.new-store.ensures.inner ∙ c.new.ensures.empty name)
-        c.requires (c.in-Ok.ensures.ok refl) in
+        c.requires c.in-Ok.ensures.ok in
     with_ok c.text_of_run.result _ _ _
     (λ text names is. text_replayed c.args.limit (map (λ x. x.items) c.args.inputs.now) _ _ run.store.inner
         c.inner.result.now text.items
