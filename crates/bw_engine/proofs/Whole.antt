@@ -83,7 +83,8 @@ fed_done input piece output xs a b d f =
 -- a piece that doesn't end the exchange has bytes
 pub has_bytes : {S : Type 0} (answers : S → Frame → List Reply → S → Type 0) (s later : S)
     (left left' w w' : Option (List ℕ)) (moved moved' : ℕ) (a b c : Exchange) →
-    (n : FeedsNext left left' moved moved' a b) → WritesAnswers answers s later w w' b c → is_some c.end ≡ false → 1 ≤ length n.piece
+    (n : FeedsNext left left' moved moved' a b) → WritesAnswers answers s later w w' b c → is_some c.end ≡ false →
+    1 ≤ length n.piece
 has_bytes answers s later left left' w w' moved moved' a b c n g running = elim n.by_end [
   | inl x ↦ x.1
   | inr x ↦ absurd (over (ap is_some (g.stays x.0) ∙ x.0))

@@ -16,7 +16,7 @@ use Rattle.bw_engine.specs.Answering.{Answered, frames_of, replies_of, AnswersAl
 use Rattle.bw_engine.specs.Ends.{IsFinal}
 use Rattle.bw_engine.specs.Done.{last_of, AreFirstOf}
 
--- an exchange reads so often
+-- an exchange reads at most so often
 abbrev pub most_reads : ℕ
 most_reads = 2 ^ 32
 

@@ -115,6 +115,7 @@ impl Exchange {
         requires hungry { self.old.hungry ≡ true }
         requires short { length piece.now ≤ longest_piece }
         ensures fed { OnOk result (DoesMore self.old piece.now [] [] self.new) }
+        ensures busy { OnOk result (self.new.hungry ≡ false) }
         ensures end { OnOk result (self.new.end ≡ self.old.end) }
         ensures waiting { OnOk result (self.new.outgoing ≡ self.old.outgoing) }
         ensures unchanged { OnErr result (self.new ≡ self.old) }

@@ -20,7 +20,7 @@ use std::alloc::Global;
 /// The longest piece that is read.
 const PIECE: usize = 65_536;
 
-/// How often is read.
+/// The most reads of an exchange.
 const MOST_READS: u64 = 1 << 32;
 
 /// How an exchange ended.
@@ -36,7 +36,7 @@ pub enum ExchangeEnd {
     ReadFault,
     /// The writer failed.
     WriteFault,
-    /// So many reads were not enough: 2^32.
+    /// 2^32 reads were not enough.
     TurnLimit,
     /// Memory was refused.
     Memory,
