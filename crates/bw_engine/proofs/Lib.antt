@@ -9,3 +9,4 @@ pub mod Reading
 pub mod Feeds
 pub mod Writing
 pub mod Whole
+pub mod Ending

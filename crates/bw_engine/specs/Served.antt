@@ -1,7 +1,6 @@
 -- A whole exchange: what it reads, answers and writes, by how it ends.
 use Rattle.std.specs.Prelude.{◌≡◌, ◌⊎◌, ℕ, ◌-◌, ◌+◌, ◌^◌, ◌≤◌, Option, Some, List, [], ◌++◌, length}
-use Rattle.std.specs.Prelude.{min}
-use Rattle.std.specs.Prelude.{IfSome}
+use Rattle.std.specs.Prelude.{min, IfSome}
 use Rattle.bw_model.specs.Wire.{Second, Frame}
 use Rattle.bw_model.specs.Replies.{Reply}
 use Rattle.bw_model.specs.Stream.{End, EndOfInput, SaidBye, BadFrame, stream_of}

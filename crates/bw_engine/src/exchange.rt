@@ -5,8 +5,7 @@ ghost use Rattle.bw_wire.specs.Codecs.{message_codec};
 ghost use Rattle.bw_wire.specs.Held.{longest_rest, longest_piece};
 ghost use Rattle.bw_wire.specs.Pending.{Nothing, next_of, KeepsAtMost, HasSmallBlock};
 ghost use Rattle.bw_engine.specs.Bounds.{longest_reply_frame, longest_answer, most_waiting};
-ghost use Rattle.bw_engine.specs.Bounds.{most_held};
-ghost use Rattle.bw_engine.specs.Bounds.{most_before_answer};
+ghost use Rattle.bw_engine.specs.Bounds.{most_held, most_before_answer};
 ghost use Rattle.bw_engine.specs.Feeding.{IsFeeding};
 
 use crate::outgoing::{drop_front, put_bad_frame};

@@ -1,10 +1,9 @@
 //! One exchange over a reader and a writer, to its end.
 ghost use Rattle.std.specs.Prelude.{◌≡◌, ◌+◌, ◌≤◌, [], length, true, false, IfErr, OnOk, OnErr};
-ghost use Rattle.std.specs.Prelude.{is_some};
-ghost use Rattle.std.specs.Prelude.{IsTrue};
+ghost use Rattle.std.specs.Prelude.{is_some, IsTrue};
+ghost use Rattle.bw_model.specs.Wire.{are_bytes};
 ghost use Rattle.bw_stream.specs.Moves.{failures_after, Writes, Begins};
 ghost use Rattle.bw_wire.specs.Held.{longest_piece, longest_stream};
-ghost use Rattle.bw_model.specs.Wire.{are_bytes};
 ghost use Rattle.bw_engine.specs.declared.serving.ExchangeEnd.TheVariants.{Memory};
 ghost use Rattle.bw_engine.specs.Done.{DoesMore, IsIdle};
 ghost use Rattle.bw_engine.specs.Served.{reads_failed, writes_failed, IsLimited, Serves};
