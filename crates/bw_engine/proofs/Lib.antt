@@ -17,3 +17,4 @@ pub mod GoodExchanges
 mod StoreRuns
 mod FirstFrames
 mod ServedInputs
+mod Ending

@@ -1,5 +1,5 @@
 -- What an exchange has done so far, and what a call adds to it.
-use Rattle.std.specs.Prelude.{◌≡◌, ◌⊎◌, ℕ, ◌+◌, ◌≤◌, ◌<◌, true, Option, Some, None, is_some, false}
+use Rattle.std.specs.Prelude.{◌≡◌, ◌⊎◌, ℕ, ◌+◌, ◌≤◌, ◌<◌, true, false, Option, Some, None, is_some}
 use Rattle.std.specs.Prelude.{IsTrue, IfSome, List, [], ◌++◌, length, vec_len}
 use Rattle.std.specs.List.{list_all}
 use Rattle.bw_model.specs.Wire.{Second, Frame, Bye, are_bytes}

@@ -1,7 +1,6 @@
 -- One piece of an exchange: it is read and fed, its frames are answered, their replies written.
 use Rattle.std.specs.Prelude.{◌≡◌, ◌⊎◌, ℕ, ◌+◌, ◌-◌, ◌^◌, ◌≤◌, false, true, is_some, Option, List}
-use Rattle.std.specs.Prelude.{[], ◌++◌, length, min}
-use Rattle.std.specs.Prelude.{IsTrue, IfSome}
+use Rattle.std.specs.Prelude.{[], ◌++◌, length, min, IsTrue, IfSome}
 use Rattle.std.specs.List.{list_all}
 use Rattle.bw_model.specs.Wire.{Frame, are_bytes}
 use Rattle.bw_model.specs.Replies.{Reply, is_reply}

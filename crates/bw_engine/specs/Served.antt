@@ -1,7 +1,6 @@
 -- A whole exchange: what it reads, answers and writes, by how it ends.
 use Rattle.std.specs.Prelude.{◌≡◌, ◌⊎◌, ℕ, ◌-◌, ◌+◌, ◌^◌, ◌≤◌, Option, Some, List, [], ◌++◌, length}
-use Rattle.std.specs.Prelude.{min}
-use Rattle.std.specs.Prelude.{IfSome, IsTrue}
+use Rattle.std.specs.Prelude.{min, IfSome, IsTrue}
 use Rattle.std.specs.List.{list_all}
 use Rattle.bw_model.specs.Wire.{Second, Frame}
 use Rattle.bw_model.specs.Replies.{Reply, is_reply}
@@ -17,7 +16,7 @@ use Rattle.bw_engine.specs.Answering.{Answered, frames_of, replies_of, AnswersAl
 use Rattle.bw_engine.specs.Ends.{IsFinal}
 use Rattle.bw_engine.specs.Done.{last_of, AreFirstOf}
 
--- an exchange reads so often
+-- an exchange reads at most so often
 abbrev pub most_reads : ℕ
 most_reads = 2 ^ 32
 

@@ -5,8 +5,7 @@ ghost use Rattle.bw_wire.specs.Codecs.{message_codec};
 ghost use Rattle.bw_wire.specs.Held.{longest_rest, longest_piece};
 ghost use Rattle.bw_wire.specs.Pending.{Nothing, next_of, KeepsAtMost, HasSmallBlock};
 ghost use Rattle.bw_engine.specs.Bounds.{longest_reply_frame, longest_answer, most_waiting};
-ghost use Rattle.bw_engine.specs.Bounds.{most_held};
-ghost use Rattle.bw_engine.specs.Bounds.{most_before_answer};
+ghost use Rattle.bw_engine.specs.Bounds.{most_held, most_before_answer};
 ghost use Rattle.bw_engine.specs.Feeding.{IsFeeding};
 
 use crate::outgoing::{drop_front, put_bad_frame};
@@ -115,6 +114,7 @@ impl Exchange {
         requires hungry { self.old.hungry ≡ true }
         requires short { length piece.now ≤ longest_piece }
         ensures fed { OnOk result (DoesMore self.old piece.now [] [] self.new) }
+        ensures busy { OnOk result (self.new.hungry ≡ false) }
         ensures end { OnOk result (self.new.end ≡ self.old.end) }
         ensures waiting { OnOk result (self.new.outgoing ≡ self.old.outgoing) }
         ensures unchanged { OnErr result (self.new ≡ self.old) }

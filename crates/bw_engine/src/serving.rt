@@ -1,10 +1,9 @@
 //! One exchange over a reader and a writer, to its end.
 ghost use Rattle.std.specs.Prelude.{◌≡◌, ◌+◌, ◌≤◌, [], length, true, false, IfErr, OnOk, OnErr};
-ghost use Rattle.std.specs.Prelude.{is_some};
-ghost use Rattle.std.specs.Prelude.{IsTrue};
+ghost use Rattle.std.specs.Prelude.{is_some, IsTrue};
+ghost use Rattle.bw_model.specs.Wire.{are_bytes};
 ghost use Rattle.bw_stream.specs.Moves.{failures_after, Writes, Begins};
 ghost use Rattle.bw_wire.specs.Held.{longest_piece, longest_stream};
-ghost use Rattle.bw_model.specs.Wire.{are_bytes};
 ghost use Rattle.bw_engine.specs.declared.serving.ExchangeEnd.TheVariants.{Memory};
 ghost use Rattle.bw_engine.specs.Done.{DoesMore, IsIdle};
 ghost use Rattle.bw_engine.specs.Served.{reads_failed, writes_failed, IsLimited, Serves};
@@ -20,7 +19,7 @@ use std::alloc::Global;
 /// The longest piece that is read.
 const PIECE: usize = 65_536;
 
-/// How often is read.
+/// The most reads of an exchange.
 const MOST_READS: u64 = 1 << 32;
 
 /// How an exchange ended.
@@ -36,7 +35,7 @@ pub enum ExchangeEnd {
     ReadFault,
     /// The writer failed.
     WriteFault,
-    /// So many reads were not enough: 2^32.
+    /// 2^32 reads were not enough.
     TurnLimit,
     /// Memory was refused.
     Memory,
