@@ -1,5 +1,5 @@
 -- What a replay tells of its run.
-use Rattle.std.proofs.Common.{◌≡◌, ◌∙◌, ℕ, ◌<◌, ◌≤◌, Bool, List, [], ◌∷◌, ◌++◌, length, map, Option, Some, None, refl}
+use Rattle.std.proofs.Common.{◌≡◌, ◌∙◌, ℕ, ◌≤◌, Bool, List, [], ◌∷◌, ◌++◌, length, map, Option, Some, None, refl}
 use Rattle.std.proofs.Common.{sym, ap, subst, arith, true, false, ◌⊎◌, inl, ◌||◌}
 use Rattle.std.proofs.Math.Path.{fun_ext}
 use Rattle.std.specs.Prelude.{flat_map, is_some, IsTrue, Vec, All}
@@ -161,9 +161,10 @@ told_well book (i ∷ inputs) (a ∷ answered) (t ∷ told) later tells well =
 short_each : (inputs : List (Vec ℕ Global)) → All (λ x. length x.items ≤ longest_input) inputs →
     AllByRecursion (λ xs. length xs ≤ longest_input) (map (λ x. x.items) inputs)
 short_each [] short = tt
-short_each (x ∷ inputs) short =
-    (All-head (λ y. length y.items ≤ longest_input) x inputs short,
-    short_each inputs (All-tail (λ y. length y.items ≤ longest_input) x inputs short))
+short_each (x ∷ inputs) short = (
+  All-head (λ y. length y.items ≤ longest_input) x inputs short,
+  short_each inputs (All-tail (λ y. length y.items ≤ longest_input) x inputs short),
+)
 
 -- a run over a store that was empty and honest, and what it tells
 pub record Replayed (limit : ℕ) (inputs : List (List ℕ)) (rs : List (Vec ℕ Global)) (es : List ExchangeEnd)
@@ -205,9 +206,9 @@ module _ {X : Type 0} (S : StoreGhosts X) (limit : ℕ) (before : X) (inputs : L
       (joined lists) leaves.book
   counted =
       subst (λ (all : List Answered). IsRun' nothing_stands (failed_calls (S.failures before) 0)
-          (failed_calls (S.failures ran.store) 0) [] all leaves.book) one_list
+      (failed_calls (S.failures ran.store) 0) [] all leaves.book) one_list
       (subst (λ (f : List ℕ → Option (List ℕ)). IsRun' (λ name. is_some (f name)) (failed_calls (S.failures before) 0)
-          (failed_calls (S.failures ran.store) 0) [] (answered_in h.went) leaves.book) none_first leaves.run)
+      (failed_calls (S.failures ran.store) 0) [] (answered_in h.went) leaves.book) none_first leaves.run)
 
   contents_are : (name : List ℕ) → (is_pending (log_of leaves.book name) ≡ false)
       ⊎ ((take_in false leaves.book name).closed ≡ true) →
@@ -218,10 +219,10 @@ module _ {X : Type 0} (S : StoreGhosts X) (limit : ℕ) (before : X) (inputs : L
   holds : Holds limit (record { contents = S.contents ran.store; first = no_contents; honest = true })
       leaves.kept_of leaves.book
   holds = subst (λ (b : Bool). Holds limit (record { contents = S.contents ran.store; first = no_contents; honest = b })
-          leaves.kept_of leaves.book) (still ∙ honest)
+      leaves.kept_of leaves.book) (still ∙ honest)
       (subst (λ (f : List ℕ → Option (List ℕ)). Holds limit
-          (record { contents = S.contents ran.store; first = f; honest = S.honest ran.store })
-          leaves.kept_of leaves.book) none_first leaves.held)
+      (record { contents = S.contents ran.store; first = f; honest = S.honest ran.store })
+      leaves.kept_of leaves.book) none_first leaves.held)
 
   in_order : AreInOrder [] (frames_in (map (λ x. x.items) inputs)) →
       list_any tells_want (replies_told tell.told) ≡ false →
@@ -229,8 +230,8 @@ module _ {X : Type 0} (S : StoreGhosts X) (limit : ℕ) (before : X) (inputs : L
   in_order near none =
       let frames = frames_told (map (λ x. x.items) inputs) lists tell.told tells in
       let well = in_order_well nothing_stands _ _ (joined lists) leaves.book counted
-          (subst (AreInOrder []) (sym frames) near)
-          (none_told (map (λ x. x.items) inputs) lists tell.told tells none) in
+      (subst (AreInOrder []) (sym frames) near)
+      (none_told (map (λ x. x.items) inputs) lists tell.told tells none) in
       let left : leaves.book ≡ book_after nothing_stands [] (with_good_luck (frames_in (map (λ x. x.items) inputs))) =
       sym (good_run nothing_stands [] (joined lists) leaves.book well.0).left
       ∙ ap (λ (fs : List Frame). book_after nothing_stands [] (with_good_luck fs)) frames in

@@ -1,6 +1,6 @@
 -- The text of a run, a reply and an exchange at a time.
 use Rattle.std.proofs.Common.{◌≡◌, ℕ, ◌+◌, ◌<◌, ◌≤◌, ◌^◌, ◌&&◌, Bool, true, false, List, [], ◌∷◌, ◌++◌, length, refl}
-use Rattle.std.proofs.Common.{sym, ◌∙◌, ap, subst, arith, append_assoc, append-nil, length-append}
+use Rattle.std.proofs.Common.{sym, ◌∙◌, ap, arith, append_assoc, append-nil, length-append}
 use Rattle.std.specs.Prelude.{flat_map, codes, decimal, nat_le, Option, Some, Vec}
 use Rattle.std.specs.declared.alloc.Global.{Global}
 use Rattle.std.proofs.Common.{◌⊎◌, inl, inr}
@@ -103,7 +103,7 @@ exchange_step (one ∷ rest) r more e others i out mid out' whole t w m put =
     let made : out' ≡ (out ++ l) ++ q =
     put one.replies t.0.spelled t.0.replies
     ∙ ap (λ (z : List ℕ). z ++ q) (m ∙ ap (λ (z : List ℕ). out ++ as_line (codes "exchange " ++ decimal i ++ codes " " ++ z))
-        (named e one.end t.0.ended)) in (
+    (named e one.end t.0.ended)) in (
       rest,
       t.1,
       ap (λ (z : List ℕ). z ++ left) made

@@ -150,12 +150,7 @@ fn put_file_at(
 
 /// Adds a file's name and length, and its bytes in hex.
 #[tactic(auto, using(std::proofs::lemmas::List::append_assoc))]
-fn put_file(
-    alloc: Global,
-    out: &mut Vec<u8>,
-    name: &Name,
-    content: &[u8],
-) -> Result<(), AllocError>
+fn put_file(alloc: Global, out: &mut Vec<u8>, name: &Name, content: &[u8]) -> Result<(), AllocError>
     ensures { OnOk result (out.new.items ≡ out.old.items ++ file_text name.now content.now) }
 {
     let size = content.len();

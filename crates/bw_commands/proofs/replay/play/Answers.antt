@@ -1,4 +1,4 @@
-use Rattle.std.proofs.Common.{◌≡◌, ℕ, List, map, refl, sym, subst}
+use Rattle.std.proofs.Common.{map, refl, sym, subst}
 use Rattle.bw_commands.specs.Printing.{Whole, Part}
 use Rattle.bw_commands.specs.Input.{Asked}
 use Rattle.bw_commands.specs.Replays.{IsTextFor, IsRunText}

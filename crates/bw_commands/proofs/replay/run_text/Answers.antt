@@ -1,4 +1,4 @@
-use Rattle.std.proofs.Common.{◌≡◌, ◌∙◌, ℕ, List, map, refl, ap, subst, sym, None}
+use Rattle.std.proofs.Common.{◌∙◌, ℕ, List, map, refl, ap, subst, sym}
 use Rattle.std.specs.Prelude.{Vec}
 use Rattle.std.specs.declared.alloc.Global.{Global}
 use Rattle.bw_file.specs.Memory.{content_under}
@@ -10,14 +10,14 @@ pub returns : goal.returns
 returns c =
     let run = c.in-Ok.run' in
     let ran = replayed _ c.args.limit c.new-store.result c.args.inputs.now run refl c.in-Ok.ensures.honest
-        (λ name. ap (λ s. content_under s.files name) c.new-store.ensures.inner ∙ c.new.ensures.empty name)
-        c.requires c.in-Ok.ensures.ok in
+    (λ name. ap (λ s. content_under s.files name) c.new-store.ensures.inner ∙ c.new.ensures.empty name)
+    c.requires c.in-Ok.ensures.ok in
     with_ok c.text_of_run.result _ _ _
     (λ text names is. text_replayed c.args.limit (map (λ x. x.items) c.args.inputs.now) _ _ run.store.inner
-        c.inner.result.now text.items
-        (subst (λ (es : List ExchangeEnd). Replayed c.args.limit (map (λ x. x.items) c.args.inputs.now)
-            c.as_slice-replies.result.now es (content_under run.store.inner.files)) (sym c.as_slice-ends.ensures.value)
-        (subst (λ (rs : List (Vec ℕ Global)). Replayed c.args.limit (map (λ x. x.items) c.args.inputs.now)
-            rs run.ends.items (content_under run.store.inner.files)) (sym c.as_slice-replies.ensures.value) ran))
-        c.inner.ensures names is)
+    c.inner.result.now text.items
+    (subst (λ (es : List ExchangeEnd). Replayed c.args.limit (map (λ x. x.items) c.args.inputs.now)
+    c.as_slice-replies.result.now es (content_under run.store.inner.files)) (sym c.as_slice-ends.ensures.value)
+    (subst (λ (rs : List (Vec ℕ Global)). Replayed c.args.limit (map (λ x. x.items) c.args.inputs.now)
+    rs run.ends.items (content_under run.store.inner.files)) (sym c.as_slice-replies.ensures.value) ran))
+    c.inner.ensures names is)
     c.text_of_run.ensures.text c.text_of_run.ensures.names

@@ -1,4 +1,4 @@
-use Rattle.std.proofs.Common.{arith, ◌≡◌, ◌∙◌, ◌+◌, ◌<◌, List, ◌∷◌, drop, length, ap, sym, subst, inl, inr}
+use Rattle.std.proofs.Common.{arith, ◌∙◌, ◌+◌, ◌<◌, List, ◌∷◌, drop, length, ap, sym, subst, inl, inr}
 use Rattle.std.specs.Prelude.{Vec, ℕ}
 use Rattle.std.specs.declared.alloc.Global.{Global}
 use Rattle.std.proofs.lemmas.List.{drop_more}
@@ -18,10 +18,10 @@ loop-index-preserved c told t =
     let found = c.in-Some.ensures.lookup in
     let within : k < length rs = ltb-true k (length rs) (sym found.0) in
     let first = drop_more rs k c.in-Some.frames.now within
-        ∙ ap (λ (x : Vec ℕ Global). x ∷ drop (k + 1) rs) (sym found.1) in
+    ∙ ap (λ (x : Vec ℕ Global). x ∷ drop (k + 1) rs) (sym found.1) in
     exchange_step i.0 c.in-Some.frames.now (drop (k + 1) rs) _ (drop (k + 1) es) k _ _ _ _
     (subst (λ (xs : List ExchangeEnd). AllTell (c.in-Some.frames.now ∷ drop (k + 1) rs) xs i.0)
-        (drop_more es k _ c.loop-index-test.true)
+    (drop_more es k _ c.loop-index-test.true)
     (subst (λ (xs : List (Vec ℕ Global)). AllTell xs (drop k es) i.0) first i.1))
     i.2 c.in_ok-put_exchange_line.ensures
     (λ rs spelled same. c.in_ok-put_replies.ensures rs spelled (c.as_slice.ensures.value ∙ same))
