@@ -1,17 +1,22 @@
 -- What judging a request, and writing it where it is to be stored, leaves.
-use Rattle.std.specs.Prelude.{◌≡◌, true, false, Option, None, IsSome, List, ℕ, Result}
-use Rattle.std.specs.Prelude.{MatchResult, IfOk}
-use Rattle.bw_model.specs.Take.{Take, Parts, Request, Stored, judge, parts, after}
+use Rattle.std.specs.Prelude.{◌≡◌, Bool, true, false, Option, None, IsSome, List, [], ℕ, Result}
+use Rattle.std.specs.Prelude.{MatchResult, IfOk, if◌then◌else◌}
+use Rattle.bw_model.specs.Take.{Take, Parts, Request, Stored, is_stored, judge, parts, after}
 use Rattle.bw_take.specs.Verdicts.{verdict_meaning}
 use Rattle.bw_take.specs.declared.verdict.Verdict.{Verdict}
+use Rattle.bw_file.specs.Calls.{StoreCall}
 use Rattle.bw_file.specs.Growing.{Growing}
 use Rattle.bw_file.specs.declared.store.StoreFault.{StoreFault}
-use Rattle.bw_session.specs.Writing.{is_mark, HasOwnFile, HasWholeFile}
+use Rattle.bw_session.specs.Writing.{is_mark, request_plan, HasOwnFile, HasWholeFile}
 
 -- The request is to be stored, by a call of the file.
 pub record Touches (p : Parts) (r : Request) : Type 0 where
   pub stored : judge p r ≡ Stored
   pub unmarked : is_mark r ≡ false
+
+-- what the store is asked for a request that is judged first: nothing, where it is refused
+abbrev pub judged_plan : Growing → Parts → Request → Bool → List StoreCall
+judged_plan g p r is_made = if is_stored (judge p r) then request_plan g p r is_made else []
 
 -- What stands after a request was judged and written. The name of an unopened take that stood is
 -- left as it was, and tells the verdict.

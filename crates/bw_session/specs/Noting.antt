@@ -1,6 +1,6 @@
 -- What an honest journal has of a name.
 use Rattle.std.specs.Prelude.{◌≡◌, ◌⊎◌, ℕ, Bool, Option, Some, None, List, [], ◌++◌, length, take}
-use Rattle.std.specs.Prelude.{Result, Ok, Err}
+use Rattle.std.specs.Prelude.{◌≤◌, Result, Ok, Err}
 use Rattle.bw_model.specs.Bytes.{at}
 use Rattle.bw_model.specs.Take.{Request}
 use Rattle.bw_model.specs.Book.{Log}
@@ -33,9 +33,11 @@ pub record IsNoted (h : Header) (name : List ℕ) (log : Log) (offset : ℕ)
   pub offset_is : offset ≡ length (journal_of h name log)
   pub stands : ((log.done ≡ 0) × IsFrontOf (header_bytes h) found) ⊎ HasEntries h name log found
 
--- nothing is noted but the header, where it didn't stand
-abbrev pub OnlyBegins : Header → Option (List ℕ) → Option (List ℕ) → Type 0
-OnlyBegins h before found = (found ≡ before) ⊎ BeginsNotes h before found
+-- Nothing is noted of a number: before number 0 the header is put where it doesn't stand, and later
+-- nothing is written.
+pub record OnlyBegins (h : Header) (done : ℕ) (before found : Option (List ℕ)) : Type 0 where
+  pub begun : done ≡ 0 → BeginsNotes h before found
+  pub later : 1 ≤ done → found ≡ before
 
 -- the log behind a number that is done, or waits on
 abbrev pub log_left : Result Verdict StoreFault → Log → Log

@@ -1,12 +1,15 @@
 -- What a request that is to be stored does to the file of its take.
 use Rattle.std.specs.Prelude.{◌≡◌, ℕ, Bool, true, false, Option, Some, None, IsSome, is_some}
 use Rattle.std.specs.Prelude.{IsTrue, IsFalse, List, Result, MatchResult, IfOk, OnOk, OnErr}
+use Rattle.std.specs.Prelude.{[], length}
 use Rattle.std.specs.Bool.{MatchBool}
 use Rattle.bw_model.specs.Take.{Take, Parts, Request, Open, Block, Mark, SetField, Close, parts}
-use Rattle.bw_model.specs.Take.{with_request}
+use Rattle.bw_model.specs.Take.{with_request, with_field}
 use Rattle.bw_model.specs.File.{file_of}
 use Rattle.bw_model.specs.Holds.{IsInTheMiddle}
 use Rattle.bw_file.specs.Growing.{Growing, is_new}
+use Rattle.bw_file.specs.Calls.{StoreCall}
+use Rattle.bw_file.specs.Plans.{begin_plan, append_plan, retouch_plan, close_plan}
 use Rattle.bw_file.specs.declared.store.Created.{Created}
 use Rattle.bw_file.specs.declared.store.StoreFault.{StoreFault}
 
@@ -17,6 +20,16 @@ is_mark (Block bytes) = false
 is_mark (Mark id frame) = true
 is_mark (SetField tag value) = false
 is_mark (Close total) = false
+
+-- What a request that is to be stored asks of the store, in this order: to open a take whose name
+-- stood, only for that name, and for a marker nothing.
+abbrev pub request_plan : Growing → Parts → Request → Bool → List StoreCall
+request_plan g p (Open f history) is_made = begin_plan g is_made (length history)
+request_plan g p (Block bytes) is_made = append_plan g p (length bytes)
+request_plan g p (Mark id frame) is_made = []
+request_plan g p (SetField tag value) is_made =
+    retouch_plan g p (with_field p.fields tag value) tag
+request_plan g p (Close total) is_made = close_plan g p
 
 -- The file of a name that did not stand: the take's, or on a dirty file what an earlier try of the
 -- request that waits may have left.

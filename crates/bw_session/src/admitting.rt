@@ -40,6 +40,8 @@ impl Session {
         ensures empty { IfOk result (λ room. room.items ≡ []) }
         ensures body { IfOk result (λ room.
             length (message_body (message_of message.now)) ≤ vec_capacity room) }
+        ensures exact { IfOk result (λ room.
+            vec_capacity room ≡ length (message_body (message_of message.now))) }
     {
         let count = self.window.count() + 1;
         self.progress.state.reserve_for(count)?;

@@ -1,7 +1,7 @@
 //! Judging a request, and carrying it out in the file.
 ghost use Rattle.std.specs.Prelude.{ℕ, List, Option, ◌≡◌, ◌+◌, ◌≤◌, IsTrue, IfOk, OnOk, OnErr};
 ghost use Rattle.std.specs.Prelude.{is_err, false, true};
-ghost use Rattle.bw_model.specs.Take.{Verdict as Judgement, judge as verdict_on};
+ghost use Rattle.bw_model.specs.Take.{Verdict as Judgement, judge as verdict_on, is_stored};
 ghost use Rattle.bw_model.specs.Book.{Log};
 ghost use Rattle.bw_model.specs.Limits.{largest};
 ghost use Rattle.bw_model.specs.Wire.{is_request};
@@ -9,7 +9,8 @@ ghost use Rattle.bw_take.specs.Requests.{meaning};
 ghost use Rattle.bw_take.specs.States.{samples_in};
 ghost use Rattle.bw_take.specs.Verdicts.{verdict_meaning};
 ghost use Rattle.bw_file.specs.Stores.{Counts, KeepsOthers};
-ghost use Rattle.bw_session.specs.Carrying.{Touches, Carries};
+ghost use Rattle.bw_file.specs.StoreSteps.{WasAsked, WasAskedFirst};
+ghost use Rattle.bw_session.specs.Carrying.{Touches, Carries, judged_plan};
 ghost use Rattle.bw_session.specs.Fronts.{HoldsFront, CarriesFront};
 
 use crate::writing::write_request;
@@ -34,6 +35,12 @@ pub(crate) fn carry_out<S: TakeStore>(
     requires dirty { IsTrue growing.old.dirty → Touches state.old.parts (meaning request.now) }
     ensures failures { Counts (S.failures store.old) (S.failures store.new) (is_err result) }
     ensures calls { S.calls store.new ≤ S.calls store.old + 4 }
+    ensures refused { is_stored (verdict_on state.old.parts (meaning request.now)) ≡ false →
+        store.new ≡ store.old }
+    ensures order { OnOk result (WasAsked S.TakeStore (judged_plan growing.old state.old.parts
+        (meaning request.now) growing.new.made) store.old store.new) }
+    ensures begun { OnErr result (WasAskedFirst S.TakeStore (judged_plan growing.old
+        state.old.parts (meaning request.now) true) store.old store.new) }
     ensures honest { S.honest store.new ≡ S.honest store.old }
     ensures others { IsTrue (S.honest store.old) →
         KeepsOthers (S.contents store.old) (S.contents store.new) growing.old.name }

@@ -1,7 +1,7 @@
 //! What is kept of the numbers that are done.
 ghost use Rattle.std.specs.Prelude.{◌≡◌, ◌+◌, ◌*◌, ◌^◌, ◌<◌, ◌≤◌, ℕ, List, [], ◌∷◌, ◌++◌, length};
 ghost use Rattle.std.specs.Prelude.{take, drop, vec_len, vec_capacity, slice_index_or, Some, OnOk};
-ghost use Rattle.std.specs.Prelude.{IsSome};
+ghost use Rattle.std.specs.Prelude.{◌⊎◌, IsSome, IsOk, OnErr};
 ghost use Rattle.std.specs.Str.{bytes_eq};
 ghost use Rattle.bw_model.specs.Take.{Verdict as Judgement};
 ghost use Rattle.bw_model.specs.Replies.{verdict_code, verdict_of as verdict_with_code};
@@ -62,8 +62,8 @@ impl Ledger {
         self.bytes.len() as u64
     }
 
-    /// Makes room for so many more. It grows by a factor, so that long takes are not copied over
-    /// and over.
+    /// Makes room for so many more. Where it grows there is room behind it for as many as are
+    /// there, so that long takes are not copied over and over.
     ///
     /// # Errors
     /// `AllocError` where the growth was refused.
@@ -72,8 +72,16 @@ impl Ledger {
         ensures outcomes { self.new.outcomes ≡ self.old.outcomes }
         ensures kept { self.old.room ≤ self.new.room }
         ensures ok { OnOk result (count ≤ self.new.room) }
+        ensures err { OnErr result (self.new ≡ self.old) }
+        ensures enough { count ≤ self.old.room → IsOk result }
+        ensures grows { OnOk result ((self.new ≡ self.old)
+            ⊎ (length self.old.outcomes ≤ self.new.room)) }
     {
-        self.bytes.reserve(ENTRY_LEN * count)
+        let wanted = ENTRY_LEN * count;
+        if wanted <= self.bytes.capacity() - self.bytes.len() {
+            return Ok(());
+        }
+        self.bytes.reserve_exact(wanted.max(self.bytes.len()))
     }
 
     /// Notes the next number as done, in room that is there.

@@ -3,12 +3,14 @@ ghost use Rattle.std.specs.Prelude.{◌≡◌, ◌≢◌, ◌+◌, ◌≤◌, �
 ghost use Rattle.std.specs.Prelude.{vec_capacity, length, IsTrue, IfOk, OnOk, OnErr, is_err};
 ghost use Rattle.std.specs.Prelude.{is_some, false};
 ghost use Rattle.bw_model.specs.Wire.{is_request, Second, last_number};
+ghost use Rattle.bw_model.specs.Take.{judge as verdict_on, is_stored};
 ghost use Rattle.bw_model.specs.Book.{Log};
 ghost use Rattle.bw_take.specs.Requests.{meaning};
 ghost use Rattle.bw_take.specs.Verdicts.{verdict_meaning};
 ghost use Rattle.bw_journal.specs.Entries.{longest_entry};
 ghost use Rattle.bw_journal.specs.Notes.{BeginsNotes, BeginsInPart, Notes, NotesInPart};
-ghost use Rattle.bw_session.specs.Carrying.{Touches};
+ghost use Rattle.bw_file.specs.StoreSteps.{WasAsked};
+ghost use Rattle.bw_session.specs.Carrying.{Touches, judged_plan};
 ghost use Rattle.bw_session.specs.Fronts.{HoldsFront};
 ghost use Rattle.bw_session.specs.Noting.{IsNoted, OnlyBegins, log_left};
 ghost use Rattle.bw_session.specs.Numbered.{KeepsJournal, KeepsBoth, IsMeasured, IsNext, DoesNext};
@@ -147,6 +149,11 @@ impl Progress {
         ensures both { KeepsBoth S.TakeStore J.Journal (is_err result) self.old.name
             stores.old.store stores.new.store stores.old.journal stores.new.journal }
         ensures calls { S.calls stores.new.store ≤ S.calls stores.old.store + 4 }
+        ensures refused { is_stored (verdict_on self.old.state.parts (meaning request.now))
+            ≡ false → stores.new.store ≡ stores.old.store }
+        ensures order { OnOk result (WasAsked S.TakeStore (judged_plan self.old.growing
+            self.old.state.parts (meaning request.now) self.new.growing.made)
+            stores.old.store stores.new.store) }
         ensures name { self.new.name ≡ self.old.name }
         ensures known { self.new.growing ≡ record self.old.growing {
           made = self.new.growing.made;
@@ -187,7 +194,7 @@ impl Progress {
         ensures unnoted { IsTrue (J.honest stores.old.journal) →
             S.failures stores.new.store ≢ S.failures stores.old.store →
             OnErr result (OnlyBegins (J.header stores.old.journal self.old.name)
-            (J.notes stores.old.journal self.old.name)
+            (length self.old.ledger.outcomes) (J.notes stores.old.journal self.old.name)
             (J.notes stores.new.journal self.old.name)) }
     {
         begin_notes(&mut stores.journal, &self.name, self.ledger.len())?;

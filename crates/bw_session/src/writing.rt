@@ -1,12 +1,13 @@
 //! What a request asks of the file of its take.
-ghost use Rattle.std.specs.Prelude.{◌≡◌, ◌+◌, ◌≤◌, IsTrue, false, is_err};
+ghost use Rattle.std.specs.Prelude.{◌≡◌, ◌+◌, ◌≤◌, IsTrue, true, false, is_err, OnOk, OnErr};
 ghost use Rattle.bw_model.specs.Take.{Stored, judge};
 ghost use Rattle.bw_model.specs.Limits.{largest};
 ghost use Rattle.bw_model.specs.Wire.{is_request};
 ghost use Rattle.bw_take.specs.Requests.{meaning};
 ghost use Rattle.bw_take.specs.States.{samples_in};
 ghost use Rattle.bw_file.specs.Stores.{Counts, KeepsOthers};
-ghost use Rattle.bw_session.specs.Writing.{is_mark, Knows, WritesRequest};
+ghost use Rattle.bw_file.specs.StoreSteps.{WasAsked, WasAskedFirst};
+ghost use Rattle.bw_session.specs.Writing.{is_mark, request_plan, Knows, WritesRequest};
 
 use bw_file::{Created, GrowingFile, StoreFault, TakeStore};
 use bw_layout::Fmt;
@@ -29,6 +30,10 @@ pub(crate) fn write_request<S: TakeStore>(
     requires dirty { IsTrue growing.old.dirty → is_mark (meaning request.now) ≡ false }
     ensures failures { Counts (S.failures store.old) (S.failures store.new) (is_err result) }
     ensures calls { S.calls store.new ≤ S.calls store.old + 4 }
+    ensures order { OnOk result (WasAsked S.TakeStore (request_plan growing.old state.now.parts
+        (meaning request.now) growing.new.made) store.old store.new) }
+    ensures begun { OnErr result (WasAskedFirst S.TakeStore (request_plan growing.old
+        state.now.parts (meaning request.now) true) store.old store.new) }
     ensures honest { S.honest store.new ≡ S.honest store.old }
     ensures others { IsTrue (S.honest store.old) →
         KeepsOthers (S.contents store.old) (S.contents store.new) growing.old.name }
