@@ -9,7 +9,7 @@ use std::test::Fail;
 /// A loudness of -23.00 under number 1.
 const LOUDNESS: &str = "0b00000004026131010000000804f7";
 
-/// The version of a `bext` with a loudness, what is before the five values, and what is behind them.
+/// The version of a `bext` with a loudness, and what is before and behind its five values.
 const VERSION_2: Piece = (1, "0200");
 
 const NO_UMID: Piece = (64, "00");

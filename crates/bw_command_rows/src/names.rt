@@ -85,7 +85,8 @@ static ORDERS: [Row; 2] = [
         ],
         lines: &[
             EXCHANGE,
-            "reply 2700000081207a7a7a7a7a7a7a7a7a7a7a7a7a7a7a7a7a7a7a7a7a7a7a7a7a7a7a7a7a7a7a7a0000000000",
+            "reply 270000008120\
+                7a7a7a7a7a7a7a7a7a7a7a7a7a7a7a7a7a7a7a7a7a7a7a7a7a7a7a7a7a7a7a7a0000000000",
         ],
         files: &[File {
             head: "zzzzzzzzzzzzzzzzzzzzzzzzzzzzzzzz 690",
