@@ -124,7 +124,7 @@ fn check_fused(rt: &impl Abort, alloc: Global, rows: &[(u32, Row)]) -> Result<()
     Ok(())
 }
 
-static RETRIES: [(u32, Row); 4] = [
+static RETRIES: [(u32, Row); 6] = [
     (
         3,
         Row {
@@ -167,6 +167,37 @@ static RETRIES: [(u32, Row); 4] = [
                 DELAYED_1,
                 STORED_1,
                 "reply 0d00000082026131010000002202000000",
+            ],
+            files: &[SMALL_FILE],
+        },
+    ),
+    (
+        3,
+        Row {
+            of: "a block and a number that waits",
+            input: &[OPEN, BLOCK, MARK],
+            lines: &[
+                EXCHANGE,
+                STORED_0,
+                DELAYED_1,
+                STORED_1,
+                "reply 0d00000082026131030000002002000000",
+            ],
+            files: &[SMALL_FILE],
+        },
+    ),
+    // number 17 is too far for the window at the turn's start, whatever the turn makes up for
+    (
+        3,
+        Row {
+            of: "a block and a number too far",
+            input: &[OPEN, BLOCK, "0c000000020261311100000001000200"],
+            lines: &[
+                EXCHANGE,
+                STORED_0,
+                DELAYED_1,
+                STORED_1,
+                "reply 0d00000082026131110000002102000000",
             ],
             files: &[SMALL_FILE],
         },

@@ -49,12 +49,18 @@ fn sixteen_numbers_are_waited_for(rt: HostRuntime) -> Result<(), Fail> {
     check(&rt, rt.alloc(), &NUMBERS)
 }
 
-/// Appends a byte in hex.
-fn put_byte(out: &mut Vec<u8>, byte: u8) -> Result<(), AllocError> {
-    for digit in [byte / 16, byte % 16] {
-        out.push(b"0123456789abcdef"[usize::from(digit)])?;
+/// Appends a digit of hex.
+fn put_digit(out: &mut Vec<u8>, digit: u8) -> Result<(), AllocError> {
+    if let Some(text) = b"0123456789abcdef".get(usize::from(digit)) {
+        out.push(*text)?;
     }
     Ok(())
+}
+
+/// Appends a byte in hex.
+fn put_byte(out: &mut Vec<u8>, byte: u8) -> Result<(), AllocError> {
+    put_digit(out, byte / 16)?;
+    put_digit(out, byte % 16)
 }
 
 /// Appends a text for each number, with the number's lowest byte in its middle.
@@ -72,7 +78,7 @@ fn put_for_each_number(
     Ok(())
 }
 
-static BACKWARDS: [u8; 16] = [16, 15, 14, 13, 12, 11, 10, 9, 8, 7, 6, 5, 4, 3, 2, 1];
+static BACKWARDS: [u8; 15] = [15, 14, 13, 12, 11, 10, 9, 8, 7, 6, 5, 4, 3, 2, 1];
 
 static FORWARDS: [u8; 17] = [0, 1, 2, 3, 4, 5, 6, 7, 8, 9, 10, 11, 12, 13, 14, 15, 16];
 
@@ -95,6 +101,7 @@ fn a_full_window_is_stored_at_once(rt: HostRuntime) -> Result<(), Fail> {
     let alloc = rt.alloc();
     let mut input = Vec::new(alloc);
     let (before, behind) = ("0c00000002026131", "00000001000200");
+    put_for_each_number(&mut input, &[16], before, behind)?;
     put_for_each_number(&mut input, &BACKWARDS, before, behind)?;
     input.extend_from_slice(OPEN.as_bytes())?;
     put_for_each_number(&mut input, &[16], before, behind)?;
@@ -104,7 +111,7 @@ fn a_full_window_is_stored_at_once(rt: HostRuntime) -> Result<(), Fail> {
         &[],
     )?;
     let (before, behind) = ("reply 0d00000082026131", "0000002000000000\n");
-    put_for_each_number(&mut wanted, &BACKWARDS[1..], before, behind)?;
+    put_for_each_number(&mut wanted, &BACKWARDS, before, behind)?;
     let (before, behind) = ("reply 0900000081026131", "00000000\n");
     put_for_each_number(&mut wanted, &FORWARDS, before, behind)?;
     wanted.extend_from_slice(printed(alloc, &[], &[SIXTEEN_BLOCKS])?.as_slice())?;

@@ -148,7 +148,7 @@ fn a_take_leaves_its_file(rt: HostRuntime) -> Result<(), Fail> {
     check(&rt, rt.alloc(), &FORMATS)
 }
 
-static REFUSED: [Row; 4] = [
+static REFUSED: [Row; 5] = [
     Row {
         of: "a wrong total, the right one, and a block behind it",
         input: &[
@@ -210,6 +210,37 @@ static REFUSED: [Row; 4] = [
             STORED_2,
         ],
         files: &[SMALL_FILE],
+    },
+    Row {
+        of: "a rate too great, the greatest, and OPEN behind the end",
+        input: &[
+            "12000000010261310000000001b80b00010010000000",
+            "12000000010261310100000000b80b00010010000000",
+            "1000000005026131020000000000000000000000",
+            "12000000010261310300000000b80b00010010000000",
+        ],
+        lines: &[
+            EXCHANGE,
+            "reply 09000000810261310000000005",
+            STORED_1,
+            STORED_2,
+            "reply 09000000810261310300000004",
+        ],
+        files: &[File {
+            head: "a1 690",
+            pieces: &[
+                FORM_682,
+                JUNK,
+                (
+                    1,
+                    "666d7420100000000100010000b80b000070170002001000626578745a020000",
+                ),
+                NO_FIELDS,
+                VERSION,
+                RESERVED,
+                NO_DATA,
+            ],
+        }],
     },
     Row {
         of: "a take that isn't opened, which has no file",
