@@ -3,6 +3,24 @@
 #![tactic(auto)]
 
 #[cfg(test)]
+mod asks;
+#[cfg(test)]
+mod devices;
+#[cfg(test)]
+mod faults;
+#[cfg(test)]
+mod fields;
+#[cfg(test)]
 mod inspections;
 #[cfg(test)]
-mod replays;
+mod limits;
+#[cfg(test)]
+mod lines;
+#[cfg(test)]
+mod names;
+#[cfg(test)]
+mod play;
+#[cfg(test)]
+mod retries;
+#[cfg(test)]
+mod takes;
