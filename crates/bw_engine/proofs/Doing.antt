@@ -26,6 +26,7 @@ pub run_more : (calls : List Call) (c : Call) →
     framer_run message_codec (calls ++ c ∷ []) ≡ with_call message_codec (framer_run message_codec calls) c
 run_more calls c = with_calls-append (record { given = []; state = fresh }) calls c
 
+-- a call more feeds its piece
 pub fed_in-more : (calls : List Call) (c : Call) → fed_in (calls ++ c ∷ []) ≡ fed_in calls ++ piece_of c
 fed_in-more calls c =
     flat_map-append piece_of calls (c ∷ [])
@@ -78,6 +79,7 @@ takes_fed : (fed : List ℕ) (xs : List Answered) (gone w : List ℕ) (p : Pendi
     fed_in (d.calls ++ Takes ∷ []) ≡ fed
 takes_fed fed xs gone w p d = fed_in-more d.calls Takes ∙ append-nil (fed_in d.calls) ∙ d.fed_by
 
+-- more replies are written behind the others
 pub replies_bytes-append : (xs ys : List Reply) → replies_bytes (xs ++ ys) ≡ replies_bytes xs ++ replies_bytes ys
 replies_bytes-append xs ys = flat_map-append (λ (r : Reply). framed (reply_body r)) xs ys
 

@@ -32,6 +32,7 @@ feeds_next (Ok x) left left' moved moved' count most buf e e' reads within long 
       by_end = inl (ap is_some end ∙ e.«open» hungry, omega (arith, len, some));
     }
 
+-- some bytes were read, for which there is no memory
 pub stops_reading : (r : Result (Unit {0}) ExchangeEnd) (left left' : Option (List ℕ)) (count most : ℕ)
     (buf : List ℕ) → Reads left most count buf left' → IsTrue (are_bytes (take count buf)) →
     IfErr r (λ end. end ≡ Memory) → IfErr r (λ end. StopsReading end left left')

@@ -20,6 +20,7 @@ use Rattle.bw_engine.specs.Done.{EndsSo, Done, DoesMore}
 use Rattle.bw_engine.proofs.Doing.{same_done, nothing_done, done_quiet}
 use Rattle.bw_engine.proofs.Staying.{stays}
 
+-- no end has come
 pub none_so_far : (e : Option StreamEnd) → is_some e ≡ false → end_so_far e ≡ None
 none_so_far None h = refl
 none_so_far (Some end) h = absurd cc
@@ -32,6 +33,7 @@ tells ends.EndOfInput p q t same = absurd t
 tells (ends.BadFrame fault) p q t same =
     inl (stays p q (Fails (reason_meaning fault.reason) fault.offset) t same tt)
 
+-- an end is no frame that is given
 pub no_turns : (end : StreamEnd) (t : Told Frame) → TellsEnd end t → given_by message_codec t ≡ []
 no_turns ends.Bye t e = ap (given_by message_codec) e
 no_turns ends.EndOfInput t e = absurd e
@@ -48,11 +50,13 @@ done_end fed xs gone p w e end new q none t same n d =
     (tells end p q t same)
     (subst (λ (x : Option End). Done fed xs gone p w x) (none_so_far e none) d)
 
+-- a server answers one frame
 pub answers_one : {S : Type 0} (answers : S → Frame → List Reply → S → Type 0) (s later : S) (frame : Frame)
     (replies : List Reply) → answers s frame replies later →
     AnswersAll answers s (record { frame = frame; replies = replies } ∷ []) later
 answers_one answers s later frame replies h = (later, h, refl)
 
+-- a server answers some frames, and then others
 pub answers_append : {S : Type 0} (answers : S → Frame → List Reply → S → Type 0) (xs ys : List Answered)
     (s mid later : S) → AnswersAll answers s xs mid → AnswersAll answers mid ys later →
     AnswersAll answers s (xs ++ ys) later

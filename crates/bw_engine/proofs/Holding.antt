@@ -48,6 +48,7 @@ held_in limit Reading (Err reason) p e f low held little = elim (cut_or_not reas
       (omega arith, omega arith)
 ]
 
+-- a framer that was asked holds no more than before, or little
 pub held_on : (limit : ℕ) (p q : Pending) → longest_rest ≤ limit → HoldsUpTo limit p →
     HoldsLittle message_codec (next_of message_codec p) → q ≡ (next_of message_codec p).1 → HoldsUpTo limit q
 held_on limit p q low held little same =
@@ -106,6 +107,7 @@ used_up_in Reading (Err reason) p e f = elim (cut_or_not reason) [
   | inr other ↦ subst (IsUsedUp p) (sym (next_of-bad message_codec p reason e f other)) (omega arith)
 ]
 
+-- a frame that is given uses up some of the bytes that a framer holds
 pub used_up : (p q : Pending) (given : List Frame) → q ≡ (next_of message_codec p).1 →
     given_by message_codec (next_of message_codec p).0 ≡ given → length given + length q.bytes ≤ length p.bytes
 used_up p q given same told =

@@ -126,6 +126,7 @@ settled : (bytes : List ℕ) (fs : List Frame) (e : Option End) → are_bytes by
 settled bytes fs None fits e = tt
 settled bytes fs (Some end) fits e = λ final more. stream_of-grows bytes more fs end fits final e
 
+-- what was done says of the bytes alone which frames were answered, and how it ended
 pub is_exchange : RunsFollowStreams → (fed : List ℕ) (xs : List Answered) (gone : List ℕ) (e : Exchange) →
     HasDone fed xs gone e → IsExchangeOf fed xs (gone ++ e.outgoing.items) e
 is_exchange law fed xs gone e d =

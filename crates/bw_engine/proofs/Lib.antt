@@ -9,6 +9,7 @@ pub mod Reading
 pub mod Feeds
 pub mod Writing
 pub mod Whole
+pub mod Ending
 mod ServerAnswers
 mod GoodRuns
 mod ServedRuns

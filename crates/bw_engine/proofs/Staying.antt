@@ -17,10 +17,11 @@ IsLast (Gives (Asks name number)) = ⊥
 IsLast (Gives Bye) = Unit {0}
 IsLast (Fails reason place) = Unit {0}
 
--- an answer that tells the last value, and so does the next
+-- what a framer tells, and what it then keeps
 abbrev Answer : Type 0
 Answer = Told Frame × Pending
 
+-- what it tells it tells again, where it does so from what it keeps
 stays_by : (p q : Pending) (t : Told Frame) → next_of message_codec p ≡ (t, q) → (next_of message_codec q).0 ≡ t →
     (next_of message_codec (next_of message_codec p).1).0 ≡ (next_of message_codec p).0
 stays_by p q t e again =

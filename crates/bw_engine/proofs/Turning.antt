@@ -12,12 +12,12 @@ use Rattle.bw_engine.specs.Bounds.{most_before_answer}
 use Rattle.bw_engine.specs.Done.{MustWait, AnswersUpTo}
 use Rattle.bw_engine.proofs.Going.{answers_append, does_none, does_on}
 
--- no end has come
+-- no end that has come isn't final
 pub no_end : (e : Option StreamEnd) → is_some e ≡ false → IfSome (end_so_far e) IsFinal
 no_end None h = tt
 no_end (Some end) h = absurd cc
 
--- none
+-- no frame is answered
 pub up_to_none : {S : Type 0} (answers : S → Frame → List Reply → S → Type 0) (s : S) (e : Exchange) →
     AnswersUpTo answers 0 s s e e
 up_to_none answers s e = record {
@@ -30,7 +30,7 @@ up_to_none answers s e = record {
   uses_up = omega arith;
 }
 
--- one more, where more can be answered
+-- one frame more is answered, where more can be
 pub up_to_more : {S : Type 0} (answers : S → Frame → List Reply → S → Type 0) (n : ℕ) (s mid later : S)
     (a b c : Exchange) → AnswersUpTo answers n s mid a b → (MustWait b → ⊥) → AnswersUpTo answers 1 mid later b c →
     AnswersUpTo answers (n + 1) s later a c

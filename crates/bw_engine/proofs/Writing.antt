@@ -37,7 +37,7 @@ all_gone fed xs gone e d none running =
     ∙ ap (λ (x : Option End). replies_bytes (replies_of xs ++ last_of x)) (none_so_far e.end running)
     ∙ ap replies_bytes (append-nil (replies_of xs))
 
--- first what waits is written
+-- what waits is written
 pub writes_first : {S : Type 0} (answers : S → Frame → List Reply → S → Type 0) (s : S) (w w' : Option (List ℕ))
     (e e' : Exchange) → DoesMore e [] [] e.outgoing.items e' → e'.outgoing.items ≡ [] → e'.end ≡ e.end →
     Writes w e.outgoing.items w' → WritesAnswers answers s s w w' e e'
@@ -53,7 +53,7 @@ writes_first answers s w w' e e' does none same taken = record {
       subst (λ (x : Option StreamEnd). IfSome (end_so_far x) IsFinal) (sym same) (no_end e.end running);
 }
 
--- then one frame more is answered
+-- one frame more is answered, and what waits is written
 pub writes_more : {S : Type 0} (answers : S → Frame → List Reply → S → Type 0) (s mid later : S)
     (w w' w'' : Option (List ℕ)) (a b c e : Exchange) → WritesAnswers answers s mid w w' a b →
     is_some b.end ≡ false → AnswersUpTo answers 1 mid later b c → DoesMore c [] [] c.outgoing.items e →
@@ -105,6 +105,7 @@ broken_off fed earlier last gone part rest e d all few whole =
       },
     )
 
+-- the first write failed
 pub stops_first : {S : Type 0} (answers : S → Frame → List Reply → S → Type 0) (s : S) (w w' : Option (List ℕ))
     (e : Exchange) → Begins w e.outgoing.items w' → StopsWriting answers s s w w' e
 stops_first answers s w w' e begins =
@@ -120,6 +121,7 @@ stops_first answers s w w' e begins =
           (sym (append-nil before)) refl d) all (omega arith) x.whole;
     }
 
+-- a later write failed
 pub stops_more : {S : Type 0} (answers : S → Frame → List Reply → S → Type 0) (s mid later : S)
     (w w' w'' : Option (List ℕ)) (a b c : Exchange) → WritesAnswers answers s mid w w' a b →
     is_some b.end ≡ false → AnswersUpTo answers 1 mid later b c → Begins w' c.outgoing.items w'' →

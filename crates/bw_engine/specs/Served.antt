@@ -1,7 +1,6 @@
 -- A whole exchange: what it reads, answers and writes, by how it ends.
 use Rattle.std.specs.Prelude.{◌≡◌, ◌⊎◌, ℕ, ◌-◌, ◌+◌, ◌^◌, ◌≤◌, Option, Some, List, [], ◌++◌, length}
-use Rattle.std.specs.Prelude.{min}
-use Rattle.std.specs.Prelude.{IfSome}
+use Rattle.std.specs.Prelude.{min, IfSome}
 use Rattle.bw_model.specs.Wire.{Second, Frame}
 use Rattle.bw_model.specs.Replies.{Reply}
 use Rattle.bw_model.specs.Stream.{End, EndOfInput, SaidBye, BadFrame, stream_of}
@@ -16,7 +15,7 @@ use Rattle.bw_engine.specs.Answering.{Answered, frames_of, replies_of, AnswersAl
 use Rattle.bw_engine.specs.Ends.{IsFinal}
 use Rattle.bw_engine.specs.Done.{last_of, AreFirstOf}
 
--- an exchange reads so often
+-- an exchange reads at most so often
 abbrev pub most_reads : ℕ
 most_reads = 2 ^ 32
 

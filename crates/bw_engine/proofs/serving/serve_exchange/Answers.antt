@@ -2,8 +2,9 @@ use Rattle.std.proofs.Common.{rules, refl, ap, subst, sym, ◌∙◌, arith}
 use Rattle.std.specs.Prelude.{is_some}
 use Rattle.bw_engine.specs.declared.serving.ExchangeEnd.{ExchangeEnd}
 use Rattle.bw_engine.specs.Served.{reads_failed, writes_failed, IsLimited, Serves}
-use Rattle.bw_engine.proofs.Whole.{so_far-none, counted, has_bytes, so_far-more, moved_on, no_memory, no_more_read}
-use Rattle.bw_engine.proofs.Whole.{write_failed, limit_reached, stream_ended, stopped_counts, ended_counts}
+use Rattle.bw_engine.proofs.Ending.{no_memory, no_more_read, write_failed, limit_reached, stream_ended}
+use Rattle.bw_engine.proofs.Ending.{stopped_counts, ended_counts}
+use Rattle.bw_engine.proofs.Whole.{so_far-none, counted, has_bytes, so_far-more, moved_on}
 use Rattle.bw_engine.proofs.serving.serve_exchange.Goals as goal
 
 pub returns-in_default-clause-served : goal.returns-in_default-clause-served
