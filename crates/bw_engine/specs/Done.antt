@@ -1,6 +1,6 @@
 -- What an exchange has done so far, and what a call adds to it.
 use Rattle.std.specs.Prelude.{◌≡◌, ◌⊎◌, ℕ, ◌+◌, ◌≤◌, ◌<◌, true, false, Option, Some, None, is_some}
-use Rattle.std.specs.Prelude.{IsTrue, IfSome, List, [], ◌++◌, length, vec_len}
+use Rattle.std.specs.Prelude.{IsTrue, IfSome, List, [], ◌++◌, length}
 use Rattle.std.specs.List.{list_all}
 use Rattle.bw_model.specs.Wire.{Second, Frame, Bye, are_bytes}
 use Rattle.bw_model.specs.Replies.{Reply, is_reply}
@@ -13,6 +13,7 @@ use Rattle.bw_engine.specs.declared.exchange.Exchange.{Exchange}
 use Rattle.bw_engine.specs.Answering.{Answered, frames_of, replies_of, AnswersAll}
 use Rattle.bw_engine.specs.Bounds.{most_before_answer}
 use Rattle.bw_engine.specs.Ends.{end_so_far, IsFinal}
+use Rattle.bw_engine.specs.Parts.{wants_piece, end_of, waiting_in, pending_of}
 
 -- a framer that is left in this state says that the exchange ends so
 abbrev pub EndsSo : End → Pending → Type 0
@@ -41,7 +42,8 @@ pub record Done (fed : List ℕ) (answered : List Answered) (gone : List ℕ) (p
 
 -- fed these bytes, this exchange has answered these frames, and these bytes were taken from it
 abbrev pub HasDone : List ℕ → List Answered → List ℕ → Exchange → Type 0
-HasDone fed answered gone e = Done fed answered gone e.framer e.outgoing.items (end_so_far e.end)
+HasDone fed answered gone e =
+    Done fed answered gone (pending_of e) (waiting_in e) (end_so_far (end_of e))
 
 -- a piece more is fed, frames more are answered, and bytes more are taken
 abbrev pub DoesMore : Exchange → List ℕ → List Answered → List ℕ → Exchange → Type 0
@@ -51,11 +53,11 @@ DoesMore e piece answered bytes later =
 
 -- nothing more can be answered until a piece is fed, or ever
 abbrev pub IsIdle : Exchange → Type 0
-IsIdle e = (e.hungry ≡ true) ⊎ (is_some e.end ≡ true)
+IsIdle e = (wants_piece e ≡ true) ⊎ (is_some (end_of e) ≡ true)
 
 -- nothing more can be answered until a piece is fed or bytes are taken, or ever
 abbrev pub MustWait : Exchange → Type 0
-MustWait e = IsIdle e ⊎ (most_before_answer < vec_len e.outgoing)
+MustWait e = IsIdle e ⊎ (most_before_answer < length (waiting_in e))
 
 -- a server answers at most so many frames of an exchange, and fewer only where it must wait
 pub record AnswersUpTo {S : Type 0} (answers : S → Frame → List Reply → S → Type 0) (turns : ℕ)
@@ -66,10 +68,10 @@ pub record AnswersUpTo {S : Type 0} (answers : S → Frame → List Reply → S 
   pub most : length answered ≤ turns
   pub stops : length answered < turns → MustWait e'
   -- the end that it comes to is one that no more bytes can change
-  pub final : is_some e.end ≡ false → (fed : List ℕ) (before : List Answered) (gone : List ℕ) →
-      HasDone fed before gone e → IfSome (end_so_far e'.end) IsFinal
+  pub final : is_some (end_of e) ≡ false → (fed : List ℕ) (before : List Answered) (gone : List ℕ) →
+      HasDone fed before gone e → IfSome (end_so_far (end_of e')) IsFinal
   -- each frame uses up some of the bytes that are held
-  pub uses_up : length answered + length e'.framer.bytes ≤ length e.framer.bytes
+  pub uses_up : length answered + length (pending_of e').bytes ≤ length (pending_of e).bytes
 
 -- these frames are the first of the stream of these bytes
 abbrev pub AreFirstOf : List Frame → List ℕ → Type 0
@@ -83,20 +85,20 @@ pub record IsExchangeOf (fed : List ℕ) (answered : List Answered) (out : List 
   pub front : (more : List ℕ) → IsTrue (are_bytes more) →
       AreFirstOf (frames_of answered) (fed ++ more)
   -- they are all of them where it is hungry
-  pub hungry : e.hungry ≡ true → (stream_of Second fed).0 ≡ frames_of answered
+  pub hungry : wants_piece e ≡ true → (stream_of Second fed).0 ≡ frames_of answered
   -- and where it is over, with this end
-  pub whole : IfSome (end_so_far e.end) (λ x. stream_of Second fed ≡ (frames_of answered, x))
+  pub whole : IfSome (end_so_far (end_of e)) (λ x. stream_of Second fed ≡ (frames_of answered, x))
   -- which is that of all longer input too, unless only the input's end could tell it
-  pub settled : IfSome (end_so_far e.end) (λ x. IsFinal x → (more : List ℕ) →
+  pub settled : IfSome (end_so_far (end_of e)) (λ x. IsFinal x → (more : List ℕ) →
       stream_of Second (fed ++ more) ≡ (frames_of answered, x))
   -- what came out is exactly their replies
-  pub written : out ≡ replies_bytes (replies_of answered ++ last_of (end_so_far e.end))
+  pub written : out ≡ replies_bytes (replies_of answered ++ last_of (end_so_far (end_of e)))
   -- each of which has a spelling
-  pub spelled : IsTrue (list_all is_reply (replies_of answered ++ last_of (end_so_far e.end)))
-  pub counted : e.framer.fed ≡ length fed
+  pub spelled : IsTrue (list_all is_reply (replies_of answered ++ last_of (end_so_far (end_of e))))
+  pub counted : (pending_of e).fed ≡ length fed
 
 -- so it is with each exchange
 abbrev pub ExchangesFollowStreams : Type 0
 ExchangesFollowStreams =
     (fed : List ℕ) (answered : List Answered) (gone : List ℕ) (e : Exchange) →
-    HasDone fed answered gone e → IsExchangeOf fed answered (gone ++ e.outgoing.items) e
+    HasDone fed answered gone e → IsExchangeOf fed answered (gone ++ waiting_in e) e

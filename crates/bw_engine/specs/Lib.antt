@@ -3,6 +3,7 @@ pub mod Bounds
 pub mod Ends
 pub mod Feeding
 pub mod Steps
+pub mod Parts
 pub mod Done
 pub mod Served
 pub mod Pieces

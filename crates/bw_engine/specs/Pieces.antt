@@ -12,6 +12,7 @@ use Rattle.bw_engine.specs.declared.serving.ExchangeEnd.{ExchangeEnd}
 use Rattle.bw_engine.specs.declared.serving.ExchangeEnd.TheVariants as ends
 use Rattle.bw_engine.specs.Answering.{Answered, frames_of, replies_of, AnswersAll}
 use Rattle.bw_engine.specs.Ends.{end_so_far, IsFinal}
+use Rattle.bw_engine.specs.Parts.{end_of, waiting_in}
 use Rattle.bw_engine.specs.Done.{HasDone, DoesMore, AreFirstOf}
 use Rattle.bw_engine.specs.Served.{HasGiven, HasNoneLeft, IsBrokenOff}
 
@@ -23,8 +24,8 @@ pub record FeedsNext (left left' : Option (List ℕ)) (moved moved' : ℕ) (e e'
   pub short : length piece ≤ longest_piece
   pub counted : moved' ≡ min (moved + length piece) (2 ^ 64 - 1)
   pub does : DoesMore e piece [] [] e'
-  pub by_end : ((is_some e'.end ≡ false) × (1 ≤ length piece))
-      ⊎ ((is_some e'.end ≡ true) × HasNoneLeft left left')
+  pub by_end : ((is_some (end_of e') ≡ false) × (1 ≤ length piece))
+      ⊎ ((is_some (end_of e') ≡ true) × HasNoneLeft left left')
 
 -- no piece was read, or one for which there was no memory
 abbrev pub StopsReading : ExchangeEnd → Option (List ℕ) → Option (List ℕ) → Type 0
@@ -41,12 +42,12 @@ pub record WritesAnswers {S : Type 0} (answers : S → Frame → List Reply → 
   pub bytes : List ℕ
   pub taken : Writes written bytes written'
   pub does : DoesMore e [] answered bytes e'
-  pub none_wait : e'.outgoing.items ≡ []
+  pub none_wait : waiting_in e' ≡ []
   -- an end that has come stays
-  pub stays : is_some e.end ≡ true → e'.end ≡ e.end
+  pub stays : is_some (end_of e) ≡ true → end_of e' ≡ end_of e
   -- the end that it comes to is one that no more bytes can change
-  pub final : is_some e.end ≡ false → (fed : List ℕ) (before : List Answered) (gone : List ℕ) →
-      HasDone fed before gone e → IfSome (end_so_far e'.end) IsFinal
+  pub final : is_some (end_of e) ≡ false → (fed : List ℕ) (before : List Answered) (gone : List ℕ) →
+      HasDone fed before gone e → IfSome (end_so_far (end_of e')) IsFinal
 
 -- the same, until a write failed
 pub record StopsWriting {S : Type 0} (answers : S → Frame → List Reply → S → Type 0)

@@ -1,6 +1,6 @@
 //! An exchange as a machine: bytes go in, frames are answered, bytes come out. No input or output.
 ghost use Rattle.std.specs.Prelude.{◌≡◌, ◌+◌, ◌≤◌, [], length, take, drop, true, false, IfOk, OnOk};
-ghost use Rattle.std.specs.Prelude.{OnErr, vec_len, vec_capacity, is_some};
+ghost use Rattle.std.specs.Prelude.{OnErr, None, vec_len, vec_capacity, is_some};
 ghost use Rattle.bw_wire.specs.Codecs.{message_codec};
 ghost use Rattle.bw_wire.specs.Held.{longest_rest, longest_piece};
 ghost use Rattle.bw_wire.specs.Pending.{Nothing, next_of, KeepsAtMost, HasSmallBlock};
@@ -55,6 +55,7 @@ pub struct Exchange {
 }
 
 impl Exchange {
+    ghost use Rattle.bw_engine.specs.Parts.{wants_piece, end_of, waiting_in, pending_of};
     ghost use Rattle.bw_engine.specs.Done.{HasDone, DoesMore, AnswersUpTo, IsIdle};
 
     /// An exchange at its start.
@@ -63,8 +64,8 @@ impl Exchange {
     /// `AllocError` where memory was refused.
     pub fn new(alloc: Global) -> Result<Exchange, AllocError>
         ensures fresh { IfOk result (λ e. HasDone [] [] [] e) }
-        ensures hungry { IfOk result (λ e. e.hungry ≡ true) }
-        ensures waiting { IfOk result (λ e. e.outgoing.items ≡ []) }
+        ensures hungry { IfOk result (λ e. wants_piece e ≡ true) }
+        ensures waiting { IfOk result (λ e. waiting_in e ≡ []) }
     {
         Ok(Exchange {
             framer: Framer::new(alloc),
@@ -76,8 +77,8 @@ impl Exchange {
 
     /// Whether a piece may be fed: every whole frame was answered, and the exchange isn't over.
     pub fn is_hungry(&self) -> bool
-        ensures value { result ≡ self.now.hungry }
-        ensures open { result ≡ true → is_some self.now.end ≡ false }
+        ensures value { result ≡ wants_piece self.now }
+        ensures open { result ≡ true → end_of self.now ≡ None }
     {
         self.hungry
     }
@@ -93,14 +94,14 @@ impl Exchange {
 
     /// How it ended, where it is over.
     pub fn end(&self) -> Option<StreamEnd>
-        ensures { result ≡ self.now.end }
+        ensures { result ≡ end_of self.now }
     {
         self.end
     }
 
     /// The bytes of replies that wait.
     pub fn outgoing(&self) -> &[u8]
-        ensures value { result.now ≡ self.now.outgoing.items }
+        ensures value { result.now ≡ waiting_in self.now }
         ensures len { length result.now ≤ most_waiting }
     {
         self.outgoing.as_slice()
@@ -111,14 +112,14 @@ impl Exchange {
     /// # Errors
     /// Why it wasn't fed: nothing changed.
     pub fn feed(&mut self, piece: &[u8]) -> Result<(), FeedError>
-        requires hungry { self.old.hungry ≡ true }
+        requires hungry { wants_piece self.old ≡ true }
         requires short { length piece.now ≤ longest_piece }
         ensures fed { OnOk result (DoesMore self.old piece.now [] [] self.new) }
-        ensures busy { OnOk result (self.new.hungry ≡ false) }
-        ensures end { OnOk result (self.new.end ≡ self.old.end) }
-        ensures waiting { OnOk result (self.new.outgoing ≡ self.old.outgoing) }
+        ensures busy { OnOk result (wants_piece self.new ≡ false) }
+        ensures end { OnOk result (end_of self.new ≡ end_of self.old) }
+        ensures waiting { OnOk result (waiting_in self.new ≡ waiting_in self.old) }
         ensures unchanged { OnErr result (self.new ≡ self.old) }
-        ensures why { IsFeeding self.old.framer piece.now result }
+        ensures why { IsFeeding (pending_of self.old) piece.now result }
     {
         if piece.len() as u64 > LONGEST_STREAM - self.framer.fed() {
             return Err(FeedError::TooLong);
@@ -158,10 +159,10 @@ impl Exchange {
 
     /// Ends the exchange, whose input has ended.
     pub fn finish(&mut self)
-        requires hungry { self.old.hungry ≡ true }
+        requires hungry { wants_piece self.old ≡ true }
         ensures done { DoesMore self.old [] [] [] self.new }
-        ensures over { is_some self.new.end ≡ true }
-        ensures idle { self.new.hungry ≡ false }
+        ensures over { is_some (end_of self.new) ≡ true }
+        ensures idle { wants_piece self.new ≡ false }
     {
         self.hungry = false;
         match self.framer.end() {
@@ -175,12 +176,12 @@ impl Exchange {
 
     /// Lets go of so many bytes at the front of those that wait, which were taken.
     pub fn took(&mut self, count: usize)
-        requires { count ≤ length self.old.outgoing.items }
-        ensures done { DoesMore self.old [] [] (take count self.old.outgoing.items) self.new }
-        ensures left { self.new.outgoing.items ≡ drop count self.old.outgoing.items }
-        ensures end { self.new.end ≡ self.old.end }
-        ensures hungry { self.new.hungry ≡ self.old.hungry }
-        ensures framer { self.new.framer ≡ self.old.framer }
+        requires { count ≤ length (waiting_in self.old) }
+        ensures done { DoesMore self.old [] [] (take count (waiting_in self.old)) self.new }
+        ensures left { waiting_in self.new ≡ drop count (waiting_in self.old) }
+        ensures end { end_of self.new ≡ end_of self.old }
+        ensures hungry { wants_piece self.new ≡ wants_piece self.old }
+        ensures kept { pending_of self.new ≡ pending_of self.old }
     {
         drop_front(&mut self.outgoing, count);
     }

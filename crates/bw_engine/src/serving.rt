@@ -5,6 +5,7 @@ ghost use Rattle.bw_model.specs.Wire.{are_bytes};
 ghost use Rattle.bw_stream.specs.Moves.{failures_after, Writes, Begins};
 ghost use Rattle.bw_wire.specs.Held.{longest_piece, longest_stream};
 ghost use Rattle.bw_engine.specs.declared.serving.ExchangeEnd.TheVariants.{Memory};
+ghost use Rattle.bw_engine.specs.Parts.{wants_piece, end_of, waiting_in, pending_of};
 ghost use Rattle.bw_engine.specs.Done.{DoesMore, IsIdle};
 ghost use Rattle.bw_engine.specs.Served.{reads_failed, writes_failed, IsLimited, Serves};
 ghost use Rattle.bw_engine.specs.Pieces.{FeedsNext, StopsReading, WritesAnswers, StopsWriting};
@@ -100,9 +101,9 @@ fn read_piece<R: Source>(
     reader: &mut R,
     buffer: &mut [u8],
 ) -> Result<(), ExchangeEnd>
-    requires hungry { exchange.old.hungry ≡ true }
+    requires hungry { wants_piece exchange.old ≡ true }
     requires buffer { length buffer.old ≡ longest_piece }
-    requires room { exchange.old.framer.fed + longest_piece ≤ longest_stream }
+    requires room { (pending_of exchange.old).fed + longest_piece ≤ longest_stream }
     ensures fed { OnOk result (FeedsNext (R.left reader.old) (R.left reader.new)
         (R.moved reader.old) (R.moved reader.new) exchange.old exchange.new) }
     ensures count { OnOk result (R.failures reader.new ≡ R.failures reader.old) }
@@ -127,12 +128,12 @@ fn read_piece<R: Source>(
 /// # Errors
 /// `Memory`: the exchange is as it was.
 fn feed_piece(exchange: &mut Exchange, piece: &[u8]) -> Result<(), ExchangeEnd>
-    requires hungry { exchange.old.hungry ≡ true }
+    requires hungry { wants_piece exchange.old ≡ true }
     requires short { length piece.now ≤ longest_piece }
-    requires room { exchange.old.framer.fed + longest_piece ≤ longest_stream }
+    requires room { (pending_of exchange.old).fed + longest_piece ≤ longest_stream }
     ensures bytes { IsTrue (are_bytes piece.now) }
     ensures fed { OnOk result (DoesMore exchange.old piece.now [] [] exchange.new) }
-    ensures end { OnOk result (exchange.new.end ≡ exchange.old.end) }
+    ensures end { OnOk result (end_of exchange.new ≡ end_of exchange.old) }
     ensures memory { IfErr result (λ end. end ≡ Memory) }
     ensures unchanged { OnErr result (exchange.new ≡ exchange.old) }
 {
@@ -174,15 +175,15 @@ fn answer_held<T: Turns, W: Sink>(
 /// # Errors
 /// `IoFailed` where the writer failed: a beginning of what waits was written.
 fn write_waiting<W: Sink>(exchange: &mut Exchange, writer: &mut W) -> Result<(), IoFailed>
-    ensures done { OnOk result (DoesMore exchange.old [] [] exchange.old.outgoing.items
+    ensures done { OnOk result (DoesMore exchange.old [] [] (waiting_in exchange.old)
         exchange.new) }
-    ensures none { OnOk result (exchange.new.outgoing.items ≡ []) }
-    ensures end { exchange.new.end ≡ exchange.old.end }
-    ensures hungry { exchange.new.hungry ≡ exchange.old.hungry }
-    ensures framer { exchange.new.framer ≡ exchange.old.framer }
-    ensures ok { OnOk result (Writes (W.written writer.old) exchange.old.outgoing.items
+    ensures none { OnOk result (waiting_in exchange.new ≡ []) }
+    ensures end { end_of exchange.new ≡ end_of exchange.old }
+    ensures hungry { wants_piece exchange.new ≡ wants_piece exchange.old }
+    ensures framer { pending_of exchange.new ≡ pending_of exchange.old }
+    ensures ok { OnOk result (Writes (W.written writer.old) (waiting_in exchange.old)
         (W.written writer.new)) }
-    ensures err { OnErr result (Begins (W.written writer.old) exchange.old.outgoing.items
+    ensures err { OnErr result (Begins (W.written writer.old) (waiting_in exchange.old)
         (W.written writer.new)) }
     ensures count { W.failures writer.new ≡ failures_after result (W.failures writer.old) }
 {
