@@ -108,7 +108,7 @@ fn a_fault_at_each_call_delays_one_number(rt: HostRuntime) -> Result<(), Fail> {
     for (fuse, lines) in FUSES {
         let wanted = printed(alloc, lines, &[FILE_OF_FIVE])?;
         let played = run_fused(alloc, fuse, input.as_slice());
-        prints(&rt, "a fuse", &played, wanted.as_slice());
+        prints(&rt, fuse, &played, wanted.as_slice());
     }
     Ok(())
 }

@@ -125,7 +125,7 @@ pub(crate) fn printed(
 }
 
 /// Ends the test where a run isn't done, or printed another text than the one wanted.
-pub(crate) fn prints(rt: &impl Abort, of: &str, played: &Played, wanted: &[u8]) {
+pub(crate) fn prints<L: Display + Copy>(rt: &impl Abort, of: L, played: &Played, wanted: &[u8]) {
     same(rt, of, &played.exit, &Exit::Done);
     assert!(rt; played.out.as_slice() == wanted, "text of {of}");
     assert!(rt; played.faults.is_empty(), "faults of {of}");
