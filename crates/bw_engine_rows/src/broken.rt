@@ -79,8 +79,12 @@ fn a_write_may_fail_at_each_call(rt: HostRuntime) -> Result<(), Fail> {
         let mut reader = MemorySource::new(TAKE);
         let end = serve_exchange(rt.alloc(), &mut server, &mut reader, &mut writer);
         same(&rt, calls, &end, &ExchangeEnd::WriteFault);
-        assert!(&rt; room.starts_with(&VERDICTS[..*count]), "{calls} calls");
-        assert!(&rt; room[*count..].iter().all(|byte| *byte == 0), "{calls} calls");
+        let count = (*count).min(VERDICTS.len());
+        assert!(&rt; room.starts_with(&VERDICTS[..count]), "{calls} calls");
+        assert!(&rt;
+            room[count..].iter().all(|byte| *byte == 0),
+            "{calls} calls"
+        );
         let again = serve(rt.alloc(), &mut server, &mut MemorySource::new(TAKE));
         same(&rt, calls, &again.end, &ExchangeEnd::EndOfInput);
         same(&rt, calls, &again.replies.as_slice(), &VERDICTS);

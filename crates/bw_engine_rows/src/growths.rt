@@ -39,7 +39,10 @@ fn an_exchange_again_makes_a_refused_growth_good(rt: HostRuntime) -> Result<(), 
     };
     serve_anew(alloc, &mut server);
     let name = a1()?;
-    assert!(&rt; server.store().content(&name) == Some(file.as_slice()), "another file");
+    assert!(&rt;
+        server.store().content(&name) == Some(file.as_slice()),
+        "another file"
+    );
     let last = serve_anew(alloc, &mut server);
     same(&rt, "the end", &last.end, &ExchangeEnd::EndOfInput);
     same(&rt, "the replies", &last.replies.as_slice(), &VERDICTS);

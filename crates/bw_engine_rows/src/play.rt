@@ -26,7 +26,7 @@ pub(crate) const VERDICTS: &[u8] = b"\x09\0\0\0\x81\x02a1\0\0\0\0\0\
 
 /// The first so many verdicts.
 pub(crate) fn verdicts(count: usize) -> &'static [u8] {
-    &VERDICTS[..13 * count]
+    &VERDICTS[..count.saturating_mul(13).min(VERDICTS.len())]
 }
 
 /// The name `a1`.

@@ -8,6 +8,10 @@ use std::alloc::{AllocError, Global};
 use std::process::Abort;
 use std::test::Fail;
 
+/// The take without its BLOCK.
+const OPEN_AND_CLOSE: &[u8] = b"\x12\0\0\0\x01\x02a1\0\0\0\0\x80\xbb\0\0\x01\0\x10\0\0\0\
+    \x10\0\0\0\x05\x02a1\x02\0\0\0\x02\0\0\0\0\0\0\0";
+
 /// Inputs of their own.
 fn inputs(alloc: Global, parts: &[&[u8]]) -> Result<Vec<Vec<u8>>, AllocError> {
     let mut inputs = Vec::with_capacity(alloc, parts.len())?;
@@ -46,21 +50,24 @@ fn no_exchange_leaves_the_store(rt: HostRuntime) -> Result<(), Fail> {
 /// CLOSE comes in the first exchange and waits for the BLOCK of the second.
 #[test]
 fn a_run_goes_on_from_exchange_to_exchange(rt: HostRuntime) -> Result<(), Fail> {
-    let mut first = TAKE[..OPEN_LEN].to_vec(rt.alloc())?;
-    first.extend_from_slice(&TAKE[BLOCK_LEN..])?;
-    let second = &TAKE[OPEN_LEN..BLOCK_LEN];
-    let parts = [first.as_slice(), second];
+    let parts = [OPEN_AND_CLOSE, &TAKE[OPEN_LEN..BLOCK_LEN]];
     let run = run_over(rt.alloc(), MemoryStore::new(rt.alloc()), &parts)?;
     let ends = [ExchangeEnd::EndOfInput, ExchangeEnd::EndOfInput];
     same(&rt, "its ends", &run.ends.as_slice(), &ends.as_slice());
     let held: &[u8] = b"\x0d\0\0\0\x82\x02a1\x02\0\0\0\x20\x01\0\0\0";
     let told = replies_of(&run, 0);
-    assert!(&rt; told.starts_with(verdicts(1)) && told.ends_with(held), "the first");
+    assert!(&rt;
+        told.starts_with(verdicts(1)) && told.ends_with(held),
+        "the first"
+    );
     same(&rt, "how many bytes", &told.len(), &30);
     same(&rt, "the second", &replies_of(&run, 1), &&VERDICTS[13..]);
     let file = two_frames(rt.alloc())?;
     let name = a1()?;
-    assert!(&rt; run.store.content(&name) == Some(file.as_slice()), "another file");
+    assert!(&rt;
+        run.store.content(&name) == Some(file.as_slice()),
+        "another file"
+    );
     Ok(())
 }
 
@@ -73,7 +80,10 @@ fn a_name_that_stood_is_left_alone(rt: HostRuntime) -> Result<(), Fail> {
     let run = run_over(rt.alloc(), store, &[&TAKE[..BLOCK_LEN]])?;
     let told: &[u8] = b"\x09\0\0\0\x81\x02a1\0\0\0\0\x01\x09\0\0\0\x81\x02a1\x01\0\0\0\x03";
     same(&rt, "its replies", &replies_of(&run, 0), &told);
-    assert!(&rt; run.store.content(&name) == Some(b"stood here".as_slice()), "another file");
+    assert!(&rt;
+        run.store.content(&name) == Some(b"stood here".as_slice()),
+        "another file"
+    );
     Ok(())
 }
 

@@ -1,6 +1,8 @@
 //! Exchanges that come to their end.
 use crate::compare::same;
-use crate::play::{BLOCK_LEN, OPEN_LEN, TAKE, VERDICTS, a1, new_server, serve, two_frames, verdicts};
+use crate::play::{
+    BLOCK_LEN, OPEN_LEN, TAKE, VERDICTS, a1, new_server, serve, two_frames, verdicts,
+};
 use bw_engine::ExchangeEnd;
 use bw_stream::MemorySource;
 use std::process::Abort;
@@ -42,13 +44,11 @@ fn an_exchange_may_be_cut_at_each_byte(rt: HostRuntime) -> Result<(), Fail> {
         let served = serve(rt.alloc(), &mut server, &mut reader);
         let (count, behind) = told_of_front(len);
         let is_cut = !behind.is_empty();
-        assert!(&rt; is_told(served.replies.as_slice(), count, behind), "cut at {len}");
-        same(
-            &rt,
-            len,
-            &(served.end == ExchangeEnd::EndOfInput),
-            &!is_cut,
+        assert!(&rt;
+            is_told(served.replies.as_slice(), count, behind),
+            "cut at {len}"
         );
+        same(&rt, len, &(served.end == ExchangeEnd::EndOfInput), &!is_cut);
     }
     Ok(())
 }
@@ -61,7 +61,10 @@ fn a_whole_exchange_leaves_its_file(rt: HostRuntime) -> Result<(), Fail> {
     same(&rt, "its replies", &served.replies.as_slice(), &VERDICTS);
     let file = two_frames(rt.alloc())?;
     let name = a1()?;
-    assert!(&rt; server.store().content(&name) == Some(file.as_slice()), "another file");
+    assert!(&rt;
+        server.store().content(&name) == Some(file.as_slice()),
+        "another file"
+    );
     Ok(())
 }
 
