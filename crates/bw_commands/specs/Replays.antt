@@ -1,6 +1,6 @@
 -- What a replay reads and writes, and how it ends.
-use Rattle.std.specs.Prelude.{◌≡◌, ◌+◌, ◌≤◌, ℕ, Option, Some, List, ◌++◌, drop, length, Result, Ok}
-use Rattle.std.specs.Prelude.{Err}
+use Rattle.std.specs.Prelude.{◌≡◌, ◌+◌, ◌≤◌, ℕ, Option, Some, None, List, [], ◌∷◌, ◌++◌, drop, length}
+use Rattle.std.specs.Prelude.{Result, Ok, Err}
 use Rattle.bw_file.specs.MemoryNames.{AreNames}
 use Rattle.bw_inspect.specs.Places.{Of}
 use Rattle.bw_commands.specs.Faults.{RefusesInput}
@@ -17,6 +17,11 @@ pub record IsReadAhead (input : List ℕ) (left : Option (List ℕ)) : Type 0 wh
   pub within : reached ≤ longest_input + 1
   pub inside : reached ≤ length input
   pub rest : left ≡ Some (drop reached input)
+
+-- the calls that fail
+abbrev pub fuses_of : Option ℕ → List ℕ
+fuses_of None = []
+fuses_of (Some fuse) = fuse ∷ []
 
 -- The text of a run of these inputs: its exchanges, and then the files in the order of their names.
 pub record IsRunText (limit : ℕ) (inputs : List (List ℕ)) (text : List ℕ) : Type 0 where

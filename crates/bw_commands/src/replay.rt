@@ -1,11 +1,12 @@
 //! The command `replay`: runs from standard input.
-ghost use Rattle.std.specs.Prelude.{◌≡◌, ◌+◌, ◌≤◌, All, length, map, IfOk, OnOk};
+ghost use Rattle.std.specs.Prelude.{◌≡◌, ℕ, ◌+◌, ◌≤◌, List, None, All, length, map, IfOk, OnOk};
+ghost use Rattle.bw_file.specs.Memory.{content_under};
 ghost use Rattle.bw_inspect.specs.Places.{Of};
 ghost use Rattle.bw_commands.specs.Deeds.{Deed, HasWritten, IsReplay};
 ghost use Rattle.bw_commands.specs.Faults.{is_read};
 ghost use Rattle.bw_commands.specs.Input.{longest_input};
 ghost use Rattle.bw_commands.specs.Printing.{IsPrint, Print, failures_if};
-ghost use Rattle.bw_commands.specs.Replays.{IsPrintOf, IsReadAhead, IsRunText};
+ghost use Rattle.bw_commands.specs.Replays.{IsPrintOf, IsReadAhead, IsRunText, fuses_of};
 
 use crate::exit::Exit;
 use crate::fault::Fault;
@@ -37,7 +38,7 @@ pub fn replay<R: Source, W: Sink, E: Sink>(
         × (R.failures input.new ≡ failures_if did.reads_all (R.failures input.old))
         × HasWritten W.Sink E.Sink did out.old out.new faults.old faults.new }
 {
-    replay_over(alloc, limit, &[], input, out, faults)
+    replay_over(alloc, limit, None, input, out, faults)
 }
 
 /// `replay` over a store of which the call number `fuse`, counted from 0, fails.
@@ -57,14 +58,14 @@ pub fn replay_fused<R: Source, W: Sink, E: Sink>(
         × (R.failures input.new ≡ failures_if did.reads_all (R.failures input.old))
         × HasWritten W.Sink E.Sink did out.old out.new faults.old faults.new }
 {
-    replay_over(alloc, limit, &[u64::from(fuse)], input, out, faults)
+    replay_over(alloc, limit, Some(fuse), input, out, faults)
 }
 
-/// `replay` over a store of which these calls fail.
+/// `replay` over a store of which the call of this number fails, if there is one.
 fn replay_over<R: Source, W: Sink, E: Sink>(
     alloc: Global,
     limit: Limit,
-    fuses: &[u64],
+    fuse: Option<u32>,
     input: &mut R,
     out: &mut W,
     faults: &mut E,
@@ -75,17 +76,18 @@ fn replay_over<R: Source, W: Sink, E: Sink>(
         × (R.failures input.new ≡ failures_if did.reads_all (R.failures input.old))
         × HasWritten W.Sink E.Sink did out.old out.new faults.old faults.new }
 {
-    match play(alloc, limit, fuses, input, out) {
+    match play(alloc, limit, fuse, input, out) {
         Ok(()) => Exit::Done,
         Err(fault) => give_up(faults, &fault),
     }
 }
 
-/// Runs each line of the input over a store of which these calls fail, and writes the run's text.
+/// Runs each line of the input over a store of which the call of this number fails, if there is one,
+/// and writes the run's text.
 fn play<R: Source, W: Sink>(
     alloc: Global,
     limit: Limit,
-    fuses: &[u64],
+    fuse: Option<u32>,
     input: &mut R,
     out: &mut W,
 ) -> Result<(), Fault>
@@ -96,28 +98,41 @@ fn play<R: Source, W: Sink>(
         × IsPrint W.Sink print out.old out.new }
 {
     let inputs = exchanges(alloc, input)?;
-    let text = run_text(alloc, limit, fuses, inputs.as_slice())?;
+    let text = run_text(alloc, limit, fuse, inputs.as_slice())?;
     match print(out, text.as_slice()) {
         Ok(()) => Ok(()),
         Err(_) => Err(Fault::Unwritable),
     }
 }
 
-/// The text of the inputs' run over an empty store of which these calls fail.
+/// The text of the inputs' run over an empty store of which the call of this number fails.
 fn run_text(
     alloc: Global,
     limit: Limit,
-    fuses: &[u64],
+    fuse: Option<u32>,
     inputs: &[Vec<u8>],
 ) -> Result<Vec<u8>, AllocError>
     requires { All (λ x. length x.items ≤ longest_input) inputs.now }
     ensures { IfOk result (λ text.
         IsRunText limit (map (λ x. x.items) inputs.now) text.items) }
 {
-    let store = FuseStore::new(MemoryStore::new(alloc), fuses.to_vec(alloc)?);
+    let store = fused(alloc, fuse)?;
     let Ok(run) = ingest_run(alloc, store, limit, inputs) else {
         return Err(AllocError);
     };
     let (replies, ends) = (run.replies.as_slice(), run.ends.as_slice());
     text_of_run(alloc, replies, ends, run.store.inner())
+}
+
+/// An empty store in memory of which the call of this number fails, if there is one.
+fn fused(alloc: Global, fuse: Option<u32>) -> Result<FuseStore<MemoryStore>, AllocError>
+    ensures fuses { IfOk result (λ s. s.fuses.items ≡ fuses_of fuse) }
+    ensures empty { IfOk result (λ s. (name : List ℕ) →
+        content_under s.inner.files name ≡ None) }
+{
+    let mut fuses = Vec::new(alloc);
+    if let Some(fuse) = fuse {
+        fuses.push(u64::from(fuse))?;
+    }
+    Ok(FuseStore::new(MemoryStore::new(alloc), fuses))
 }

@@ -1,4 +1,4 @@
-use Rattle.std.proofs.Common.{◌∙◌, ℕ, List, map, refl, ap, subst, sym}
+use Rattle.std.proofs.Common.{ℕ, List, map, refl, subst, sym}
 use Rattle.std.specs.Prelude.{Vec}
 use Rattle.std.specs.declared.alloc.Global.{Global}
 use Rattle.bw_file.specs.Memory.{content_under}
@@ -9,9 +9,8 @@ use Rattle.bw_commands.proofs.replay.run_text.Goals as goal
 pub returns : goal.returns
 returns c =
     let run = c.in-Ok.run' in
-    let ran = replayed _ c.args.limit c.new-store.result c.args.inputs.now run refl c.in-Ok.ensures.honest
-    (λ name. ap (λ s. content_under s.files name) c.new-store.ensures.inner ∙ c.new.ensures.empty name)
-    c.requires c.in-Ok.ensures.ok in
+    let ran = replayed _ c.args.limit c.in_ok-store.store c.args.inputs.now run refl c.in-Ok.ensures.honest
+    c.in_ok-store.ensures.empty c.requires c.in-Ok.ensures.ok in
     with_ok c.text_of_run.result _ _ _
     (λ text names is. text_replayed c.args.limit (map (λ x. x.items) c.args.inputs.now) _ _ run.store.inner
     c.inner.result.now text.items
