@@ -18,7 +18,8 @@ use Rattle.bw_engine.specs.Answering.{Answered, frames_of, replies_of}
 use Rattle.bw_engine.specs.Ends.{end_meaning, end_so_far, IsFinal}
 use Rattle.bw_engine.specs.Done.{last_of, AreFirstOf}
 use Rattle.bw_engine.specs.Served.{most_reads, ended_by, HasGiven, HasNoneLeft, ReachesEnd, AnswersAllRead, EndsBy}
-use Rattle.bw_engine.specs.Served.{Serves, reads_failed, writes_failed, IsLimited}
+use Rattle.bw_engine.specs.Served.{Serves, ReadsNoFurther, reads_failed, writes_failed, IsLimited}
+use Rattle.bw_wire.specs.Held.{longest_piece}
 use Rattle.bw_engine.specs.Pieces.{FeedsNext, StopsReading, WritesAnswers, StopsWriting}
 use Rattle.bw_engine.proofs.Going.{answers_append}
 use Rattle.bw_engine.proofs.Lawful.{is_exchange}
@@ -49,12 +50,36 @@ first_read answers reads s later left left' w w' e f =
     subst (AreFirstOf (frames_of f.answered)) (append-nil f.input)
     ((is_exchange runs_follow_streams f.input f.answered f.output e f.done).front [] refl)
 
+-- no end was found so far, so what is read from here on is the last piece
+no_further : {S : Type 0} (answers : S → Frame → List Reply → S → Type 0) (reads : ℕ) (s later : S)
+    (left left' w w' : Option (List ℕ)) (e : Exchange) → (f : SoFar answers reads s later left left' w w' e) →
+    (piece : List ℕ) → length piece ≤ longest_piece → ReadsNoFurther (f.input ++ piece)
+no_further answers reads s later left left' w w' e f piece short = record {
+  before = f.input;
+  last = piece;
+  all = refl;
+  short = short;
+  unended = (is_exchange runs_follow_streams f.input f.answered f.output e f.done).unended f.hungry;
+}
+
+no_more : {S : Type 0} (answers : S → Frame → List Reply → S → Type 0) (reads : ℕ) (s later : S)
+    (left left' w w' : Option (List ℕ)) (e : Exchange) → (f : SoFar answers reads s later left left' w w' e) →
+    ReadsNoFurther f.input
+no_more answers reads s later left left' w w' e f =
+    subst ReadsNoFurther (append-nil f.input)
+    (no_further answers reads s later left left' w w' e f [] (omega arith))
+
 -- each reply so far has a spelling
 all_spelled : {S : Type 0} (answers : S → Frame → List Reply → S → Type 0) (reads : ℕ) (s later : S)
     (left left' w w' : Option (List ℕ)) (e : Exchange) → (f : SoFar answers reads s later left left' w w' e) →
     IsTrue (list_all is_reply (replies_of f.answered))
 all_spelled answers reads s later left left' w w' e f =
     (spelled_parts (replies_of f.answered) (last_of (end_so_far e.end)) f.done.spelled).0
+
+-- no bytes have no final end
+nothing_ends : IsFinal (stream_of Second []).1 → ⊥
+unfolding stream_of
+nothing_ends final = final
 
 -- there was no memory for it
 pub no_memory : {S : Type 0} (answers : S → Frame → List Reply → S → Type 0) (s : S) (left w : Option (List ℕ)) →
@@ -64,6 +89,7 @@ no_memory answers s left w = record {
   by_server = refl;
   input = [];
   given = has_given-none left left (λ xs e. e);
+  no_further = record { before = []; last = []; all = refl; short = omega arith; unended = λ final. nothing_ends final };
   output = [];
   taken = writes-none w;
   front = (_, refl);
@@ -86,6 +112,7 @@ no_more_read answers reads s later left left' left'' w w' e ends.ReadFault f sto
   by_server = f.by_server;
   input = f.input;
   given = λ xs h. let x = f.given xs h in (x.0, stops x.0 x.1, x.2);
+  no_further = no_more answers reads s later left left' w w' e f;
   output = f.output;
   taken = f.taken;
   front = first_read answers reads s later left left' w w' e f;
@@ -97,6 +124,7 @@ no_more_read answers reads s later left left' left'' w w' e ends.Memory f stops 
   by_server = f.by_server;
   input = f.input ++ stops.0;
   given = has_given-on left left' left'' f.input stops.0 f.given stops.2;
+  no_further = no_further answers reads s later left left' w w' e f stops.0 stops.3;
   output = f.output;
   taken = f.taken;
   front = (is_exchange runs_follow_streams f.input f.answered f.output e f.done).front stops.0 stops.1;
@@ -118,6 +146,7 @@ write_failed answers reads s mid later left left' left'' w w' w'' moved moved' a
       by_server = answers_append answers f.answered g.answered s mid later f.by_server g.by_server;
       input = f.input ++ n.piece;
       given = has_given-on left left' left'' f.input n.piece f.given n.given;
+      no_further = no_further answers reads s mid left left' w w' a f n.piece n.short;
       output = f.output ++ g.bytes;
       taken = writes-on w w' w'' f.output g.bytes f.taken g.taken;
       front = told.0;
@@ -134,6 +163,7 @@ limit_reached answers reads s later left left' w w' e f often = record {
   by_server = f.by_server;
   input = f.input;
   given = f.given;
+  no_further = no_more answers reads s later left left' w w' e f;
   output = f.output;
   taken = f.taken;
   front = first_read answers reads s later left left' w w' e f;
@@ -189,6 +219,7 @@ stream_ended answers reads s mid later left left' left'' w w' w'' moved moved' a
       by_server = answers_append answers f.answered g.answered s mid later f.by_server g.by_server;
       input = input;
       given = given;
+      no_further = no_further answers reads s mid left left' w w' a f n.piece n.short;
       output = output;
       taken = writes-on w w' w'' f.output g.bytes f.taken g.taken;
       front = subst (AreFirstOf (frames_of xs)) (append-nil input) (x.front [] refl);

@@ -8,7 +8,8 @@ use Rattle.std.proofs.lemmas.List.Folds.{list_all-append}
 use Rattle.bw_model.specs.Wire.{Second, Frame, Says, Asks, Bye, Reason, is_below, are_bytes}
 use Rattle.bw_model.specs.Stream.{first_frame, End, EndOfInput, SaidBye, BadFrame, stream_of}
 use Rattle.bw_wire.specs.Codecs.{message_codec}
-use Rattle.bw_wire.specs.Pending.{Phase, Reading, Left, Failed, Pending, Told, Fails, fresh, next_of, with_piece}
+use Rattle.bw_wire.specs.Pending.{Phase, Reading, Left, Failed, Pending, Told, Nothing, Fails, fresh, next_of}
+use Rattle.bw_wire.specs.Pending.{with_piece, cut_off, end_in}
 use Rattle.bw_wire.specs.Runs.{Call, Feeds, Takes, fed_in, Run, framer_run, with_call, with_calls, input_end}
 use Rattle.bw_wire.specs.Runs.{FollowsStream}
 use Rattle.bw_wire.specs.Runs.{RunsFollowStreams}
@@ -120,6 +121,19 @@ whole_stream : (bytes : List ℕ) (fs : List Frame) (p : Pending) (e : Option En
 whole_stream bytes fs p None f e = tt
 whole_stream bytes fs p (Some end) f e = ends_stream bytes fs p end f e
 
+-- where nothing more is told, the input's end isn't final
+not_final : (h : Phase) (p : Pending) → p.phase ≡ h → (next_of message_codec p).0 ≡ Nothing →
+    IsFinal (input_end (end_in h p)) → ⊥
+not_final Reading p e none final = open_end p.bytes final
+  where
+    open_end : (bytes : List ℕ) → IsFinal (input_end (cut_off bytes p.used)) → ⊥
+    open_end [] final = final
+    open_end (b ∷ bs) final = final refl
+not_final Left p e none final =
+    let told = ap (λ (y : Told Frame × Pending). y.0) (sym (next_of-left message_codec p e)) ∙ none in cc
+not_final (Failed reason) p e none final =
+    let told = ap (λ (y : Told Frame × Pending). y.0) (sym (next_of-failed message_codec p reason e)) ∙ none in cc
+
 settled : (bytes : List ℕ) (fs : List Frame) (e : Option End) → are_bytes bytes ≡ true →
     IfSome e (λ x. stream_of Second bytes ≡ (fs, x))
     → IfSome e (λ x. IsFinal x → (more : List ℕ) → stream_of Second (bytes ++ more) ≡ (fs, x))
@@ -138,6 +152,8 @@ is_exchange law fed xs gone e d =
     record {
       front = front_grows law fed xs gone p w end d;
       hungry = λ h. ap (λ (s : List Frame × End). s.0) (f.nothing (e.quiet h).0);
+      unended = λ h final. not_final p.phase p refl (e.quiet h).0
+          (subst IsFinal (ap (λ (s : List Frame × End). s.1) (f.nothing (e.quiet h).0)) final);
       whole = whole;
       settled = settled fed (frames_of xs) end d.fits whole;
       written = d.written;

@@ -86,7 +86,9 @@ pub record IsExchangeOf (fed : List ℕ) (answered : List Answered) (out : List 
       AreFirstOf (frames_of answered) (fed ++ more)
   -- they are all of them where it is hungry
   pub hungry : wants_piece e ≡ true → (stream_of Second fed).0 ≡ frames_of answered
-  -- and where it is over, with this end
+  -- and no end is among them that more bytes can't change
+  pub unended : wants_piece e ≡ true → IsFinal (stream_of Second fed).1 → ⊥
+  -- they are all where it is over, with this end
   pub whole : IfSome (end_so_far (end_of e)) (λ x. stream_of Second fed ≡ (frames_of answered, x))
   -- which is that of all longer input too, unless only the input's end could tell it
   pub settled : IfSome (end_so_far (end_of e)) (λ x. IsFinal x → (more : List ℕ) →

@@ -7,6 +7,7 @@ use Rattle.bw_model.specs.Replies.{Reply, is_reply}
 use Rattle.bw_model.specs.Stream.{End, EndOfInput, SaidBye, BadFrame, stream_of}
 use Rattle.bw_model.specs.Exchange.{replies_bytes, last_reply}
 use Rattle.bw_stream.specs.Moves.{one_more, Writes}
+use Rattle.bw_wire.specs.Held.{longest_piece}
 use Rattle.bw_wire.specs.Reasons.{reason_meaning}
 use Rattle.bw_engine.specs.declared.serving.ExchangeEnd.{ExchangeEnd}
 use Rattle.bw_engine.specs.declared.serving.ExchangeEnd.TheVariants as ends
@@ -84,6 +85,15 @@ pub record IsBrokenOff (answered : List Answered) (input output : List ℕ) : Ty
   pub more : List ℕ
   pub has_earlier : output ≡ replies_bytes (replies_of earlier) ++ more
 
+-- Nothing is read once the stream has ended: without the last piece that was read, no end was found
+-- that more bytes can't change.
+pub record ReadsNoFurther (input : List ℕ) : Type 0 where
+  pub before : List ℕ
+  pub last : List ℕ
+  pub all : input ≡ before ++ last
+  pub short : length last ≤ longest_piece
+  pub unended : IsFinal (stream_of Second before).1 → ⊥
+
 -- what an exchange that ends so has answered and written of what it read
 abbrev pub EndsBy : ExchangeEnd → Option (List ℕ) → Option (List ℕ) → List Answered → List ℕ →
     List ℕ → Type 0
@@ -110,6 +120,7 @@ pub record Serves {S : Type 0} (answers : S → Frame → List Reply → S → T
   -- these bytes were read, and these were written
   pub input : List ℕ
   pub given : HasGiven left input left'
+  pub no_further : ReadsNoFurther input
   pub output : List ℕ
   pub taken : Writes written output written'
   pub front : AreFirstOf (frames_of answered) input
