@@ -1,0 +1,11 @@
+-- What a reply is to a sender, and what a window gives up.
+use Rattle.bw_model.specs.World as model
+use Rattle.bw_sender.specs.declared.heard.Heard.{Heard}
+use Rattle.bw_sender.specs.declared.heard.Heard.TheVariants as heards
+
+-- what a reply was, in the definitions' words
+abbrev pub heard_of : Heard → model.Heard
+heard_of heards.Counted = model.Counted
+heard_of heards.Known = model.Known
+heard_of heards.Noted = model.Noted
+heard_of heards.Stranger = model.Stranger

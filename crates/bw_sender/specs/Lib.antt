@@ -1,0 +1,5 @@
+pub mod Entries
+pub mod Offers
+pub mod Refused
+pub mod Senders
+pub mod Hearing

@@ -1,0 +1,31 @@
+-- An offered request, and why an offer is refused, in the definitions' words.
+use Rattle.std.specs.Prelude.{ℕ, Option, Some, None, Result, Ok, Err, option_map}
+use Rattle.std.specs.Borrow.{Bor}
+use Rattle.bw_model.specs.Take.{Request}
+use Rattle.bw_model.specs.World as model
+use Rattle.bw_take.specs.Verdicts.{verdict_meaning}
+use Rattle.bw_sender.specs.declared.offer.OfferError.{OfferError}
+use Rattle.bw_sender.specs.declared.offer.OfferError.TheVariants as errors
+use Rattle.bw_sender.specs.declared.window.Offered.{Offered}
+use Rattle.bw_sender.specs.Entries.{Entry}
+
+-- an offered request, beside its verdict
+abbrev pub entry_of : Offered → Entry
+entry_of o = record { request = o.request; verdict = option_map verdict_meaning o.verdict }
+
+-- why an offer is refused: want of memory is no cause of the definitions
+abbrev pub fault_of : OfferError → Option model.OfferFault
+fault_of errors.NumbersSpent = Some model.NumbersSpent
+fault_of errors.BeforeOpen = Some model.BeforeOpen
+fault_of errors.AfterClose = Some model.AfterClose
+fault_of errors.WindowFull = Some model.WindowFull
+fault_of errors.Memory = None
+
+-- a request that is lent, with its number
+abbrev pub lent_pending : ℕ × Bor Request → ℕ × Request
+lent_pending x = (x.0, x.1.now)
+
+-- why a check refuses an offer
+abbrev pub checked_fault : Result (Unit {0}) OfferError → Option model.OfferFault
+checked_fault (Ok x) = None
+checked_fault (Err e) = fault_of e

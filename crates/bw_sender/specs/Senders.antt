@@ -1,0 +1,29 @@
+-- What a sender keeps of all that was offered and heard.
+use Rattle.std.specs.Prelude.{◌≡◌, ◌≤◌, ℕ, List, [], length, take, drop, count_by}
+use Rattle.bw_model.specs.Bytes.{first_free}
+use Rattle.bw_model.specs.World.{Sender as Told, settled, refused_from}
+use Rattle.bw_model.specs.World.{has_closed_from, is_some_stored}
+use Rattle.bw_sender.specs.Entries.{entries}
+use Rattle.bw_sender.specs.declared.sender.Sender.{Sender}
+
+-- a sender of this name to which nothing was offered
+abbrev pub new_sender : List ℕ → Told
+new_sender name = record { name = name; offered = []; verdicts = [] }
+
+-- The sender keeps what these definitions say of it, with the first k numbers settled.
+pub record KeepsFrom (k : ℕ) (s : Told) (x : Sender) : Type 0 where
+  pub name : x.name ≡ s.name
+  pub offered : x.offered ≡ length s.offered
+  -- only what was offered has a verdict, and the first k all have theirs
+  pub within : length s.verdicts ≤ length s.offered
+  pub front : k ≤ first_free s.verdicts
+  -- the others stand in the window
+  pub window : x.window ≡ drop k (entries s.offered s.verdicts)
+  -- the first k are counted, or told with their verdicts
+  pub stored : x.stored ≡ count_by is_some_stored (take k s.verdicts)
+  pub refused : x.refused.numbers ≡ refused_from 0 (take k s.verdicts)
+  pub closed : x.closed ≡ has_closed_from (take k s.offered) (take k s.verdicts)
+
+-- The sender is what these definitions say.
+abbrev pub IsSender : Told → Sender → Type 0
+IsSender s x = KeepsFrom (settled s) s x

@@ -1,0 +1,14 @@
+//! What a reply is to a sender.
+
+/// What a reply was to a sender. Only `Counted` changes it.
+#[derive(Clone, Copy, Debug, PartialEq, Eq, Hash)]
+pub enum Heard {
+    /// The first verdict of an offered request.
+    Counted = 1,
+    /// A verdict of a request that has one.
+    Known = 2,
+    /// A notice of an offered request, or the answer to an ask for the sender's name.
+    Noted = 3,
+    /// A reply to another name, or of a number that wasn't offered, or to a bad frame.
+    Stranger = 4,
+}

@@ -1,0 +1,16 @@
+//! Why a request isn't taken over by a sender.
+
+/// Why an offer was refused: the first that holds.
+#[derive(Clone, Copy, Debug, PartialEq, Eq, Hash)]
+pub enum OfferError {
+    /// 16,777,216 requests were offered.
+    NumbersSpent = 1,
+    /// The first request is to be an OPEN.
+    BeforeOpen = 2,
+    /// A CLOSE was offered that has no verdict yet, or is stored.
+    AfterClose = 3,
+    /// Sixteen requests were offered from the first without a verdict on.
+    WindowFull = 4,
+    /// Memory was refused.
+    Memory = 5,
+}

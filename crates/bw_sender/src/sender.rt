@@ -1,0 +1,151 @@
+//! A sender: what a recorder offered, and what came of it.
+ghost use Rattle.std.specs.Prelude.{◌≡◌, ◌≢◌, ◌≤◌, ◌<◌, ◌+◌, length, map, IfOk, IfErr, OnOk, OnErr};
+ghost use Rattle.std.specs.Prelude.{None, option_map};
+ghost use Rattle.bw_model.specs.Wire.{Second, last_number};
+ghost use Rattle.bw_model.specs.World.{Sender as Told, settled as settled_of, stored as stored_of};
+ghost use Rattle.bw_model.specs.World.{refused as refused_of, pending as pending_of, hear, heard};
+ghost use Rattle.bw_model.specs.World.{offer_fault, offer as offered_to};
+ghost use Rattle.bw_wire.specs.Replies.{reply_of};
+ghost use Rattle.bw_sender.specs.Offers.{fault_of, lent_pending};
+ghost use Rattle.bw_sender.specs.Hearing.{heard_of};
+ghost use Rattle.bw_sender.specs.declared.heard.Heard.TheVariants.{Counted};
+
+use crate::heard::Heard;
+use crate::offer::OfferError;
+use crate::refusals::Refusals;
+use crate::window::Window;
+use bw_take::{Name, Request, Verdict};
+use bw_wire::Reply;
+use std::alloc::{AllocError, Global};
+
+/// A recorder's side of one take: it numbers requests, tells which of them have no verdict yet,
+/// and counts those that are stored.
+///
+/// It holds at most sixteen requests, and eight bytes for each refused number.
+#[derive(Drop)]
+pub struct Sender {
+    pub(crate) name: Name,
+    pub(crate) window: Window,
+    pub(crate) offered: u32,
+    pub(crate) stored: u32,
+    pub(crate) refused: Refusals,
+    pub(crate) closed: bool,
+    ghost few: { length window ≤ 16 },
+    ghost numbers: { offered ≤ last_number Second + 1 },
+    ghost counts: { length window + stored + length refused.numbers ≡ offered },
+    ghost room: { length window ≤ refused.room },
+}
+
+impl Sender {
+    ghost use Rattle.bw_sender.specs.Senders.{new_sender, IsSender};
+    ghost use Rattle.bw_sender.specs.Refused.{refusal_of};
+
+    /// A sender of a name, to which nothing was offered.
+    ///
+    /// # Errors
+    /// `AllocError` where memory was refused.
+    pub fn new(alloc: Global, name: Name) -> Result<Sender, AllocError>
+        ensures { IfOk result (λ x. IsSender (new_sender name) x) }
+    {
+        Ok(Sender {
+            name,
+            window: Window::new(alloc)?,
+            offered: 0,
+            stored: 0,
+            refused: Refusals::new(alloc),
+            closed: false,
+        })
+    }
+
+    /// The name of the take.
+    pub fn name(&self) -> &Name
+        ensures { (s : Told) → IsSender s self.now → result.now ≡ s.name }
+    {
+        &self.name
+    }
+
+    /// Takes over a request, and gives its number.
+    ///
+    /// # Errors
+    /// Why it wasn't taken over, with the request: nothing changed.
+    pub fn offer(&mut self, request: Request) -> Result<u32, (OfferError, Request)>
+        ensures ok { (s : Told) → IsSender s self.old → IfOk result (λ n.
+            (n ≡ length s.offered) × (offer_fault s request ≡ None)
+            × IsSender (offered_to s request) self.new) }
+        ensures err { (s : Told) → IsSender s self.old → IfErr result (λ e.
+            fault_of e.0 ≡ offer_fault s request) }
+        ensures back { IfErr result (λ e. e.1 ≡ request) }
+        ensures unchanged { OnErr result (self.new ≡ self.old) }
+    {
+        if let Err(error) = self.check_offer(&request) {
+            return Err((error, request));
+        }
+        // The room for a later entry is had now, so that hearing takes none.
+        let Ok(()) = self.refused.reserve(self.window.len() + 1) else {
+            return Err((OfferError::Memory, request));
+        };
+        let number = self.offered;
+        self.window.push(request);
+        self.offered += 1;
+        Ok(number)
+    }
+
+    /// The request at a place among those without a verdict, in the order of their numbers, with
+    /// its number.
+    pub fn pending(&self, place: usize) -> Option<(u32, &Request)>
+        ensures { (s : Told) → IsSender s self.now →
+            option_map lent_pending result ≡ pending_of s place }
+    {
+        self.window.pending(self.settled(), place)
+    }
+
+    /// Counts a verdict, if it is the first of an offered request, and tells what the reply is.
+    pub fn on_reply(&mut self, reply: &Reply) -> Heard
+        ensures heard { (s : Told) → IsSender s self.old →
+            heard_of result ≡ heard s (reply_of reply.now) }
+        ensures hears { (s : Told) → IsSender s self.old →
+            IsSender (hear s (reply_of reply.now)) self.new }
+        ensures unchanged { result ≢ Counted → self.new ≡ self.old }
+    {
+        match reply {
+            Reply::Verdict {
+                name,
+                number,
+                verdict,
+            } => self.on_verdict(name, *number, *verdict),
+            Reply::Notice {
+                name,
+                number,
+                code,
+                next: _next,
+            } => self.on_notice(name, *number, *code),
+            Reply::BadFrame {
+                reason: _reason,
+                offset: _offset,
+            } => Heard::Stranger,
+        }
+    }
+
+    /// How many numbers have their verdicts, up to the first that has none.
+    pub fn settled(&self) -> u32
+        ensures value { (s : Told) → IsSender s self.now → result ≡ settled_of s }
+        ensures rest { result + length self.now.window ≡ self.now.offered }
+        ensures range { result ≤ last_number Second + 1 }
+    {
+        self.offered - self.window.len() as u32
+    }
+
+    /// How many of the settled requests are stored.
+    pub fn stored(&self) -> u32
+        ensures { (s : Told) → IsSender s self.now → result ≡ stored_of s }
+    {
+        self.stored
+    }
+
+    /// The other settled numbers with their verdicts, in their order.
+    pub fn refused(&self) -> &[(u32, Verdict)]
+        ensures { (s : Told) → IsSender s self.now → map refusal_of result.now ≡ refused_of s }
+    {
+        self.refused.as_slice()
+    }
+}
