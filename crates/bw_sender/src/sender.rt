@@ -1,6 +1,6 @@
 //! A sender: what a recorder offered, and what came of it.
 ghost use Rattle.std.specs.Prelude.{◌≡◌, ◌≢◌, ◌≤◌, ◌<◌, ◌+◌, length, map, IfOk, IfErr, OnOk, OnErr};
-ghost use Rattle.std.specs.Prelude.{None, option_map};
+ghost use Rattle.std.specs.Prelude.{None, IfSome, option_map};
 ghost use Rattle.bw_model.specs.Wire.{Second, last_number};
 ghost use Rattle.bw_model.specs.World.{Sender as Told, settled as settled_of, stored as stored_of};
 ghost use Rattle.bw_model.specs.World.{refused as refused_of, pending as pending_of, hear, heard};
@@ -93,8 +93,9 @@ impl Sender {
     /// The request at a place among those without a verdict, in the order of their numbers, with
     /// its number.
     pub fn pending(&self, place: usize) -> Option<(u32, &Request)>
-        ensures { (s : Told) → IsSender s self.now →
+        ensures value { (s : Told) → IsSender s self.now →
             option_map lent_pending result ≡ pending_of s place }
+        ensures range { IfSome result (λ p. p.0 ≤ last_number Second) }
     {
         self.window.pending(self.settled(), place)
     }

@@ -1,6 +1,6 @@
 //! The offered requests that aren't settled.
 ghost use Rattle.std.specs.Prelude.{◌≡◌, ◌<◌, ◌≤◌, ◌+◌, ◌++◌, [], ◌∷◌, length, drop, slice_get};
-ghost use Rattle.std.specs.Prelude.{IfOk, option_map, option_copied};
+ghost use Rattle.std.specs.Prelude.{IfOk, IfSome, option_map, option_copied};
 ghost use Rattle.std.specs.List.{list_any};
 ghost use Rattle.bw_model.specs.Wire.{Second, last_number};
 ghost use Rattle.bw_model.specs.World.{is_open as is_opening_request};
@@ -127,8 +127,9 @@ impl Window {
     /// the window has this one.
     pub(crate) fn pending(&self, first: u32, place: usize) -> Option<(u32, &Request)>
         requires { first ≤ last_number Second + 1 }
-        ensures { option_map lent_pending result ≡
+        ensures value { option_map lent_pending result ≡
             slice_get (pending_entries first self.now) place }
+        ensures range { IfSome result (λ p. p.0 < first + length self.now) }
     {
         let mut left = place;
         for slot in 0..self.slots.len() {

@@ -3,7 +3,7 @@ use Rattle.std.specs.Prelude.{slice_get}
 use Rattle.bw_sender.proofs.SenderLaws.{pending_told}
 use Rattle.bw_sender.proofs.sender.Sender.pending.Goals as goal
 
-pub returns : goal.returns
-returns c = λ s f.
-    c.pending.ensures ∙ ap (λ xs. slice_get xs c.args.place)
+pub returns-clause-value : goal.returns-clause-value
+returns-clause-value c = λ s f.
+    c.pending.ensures.value ∙ ap (λ xs. slice_get xs c.args.place)
     (pending_told s c.args.self.now _ f c.settled.ensures.rest)

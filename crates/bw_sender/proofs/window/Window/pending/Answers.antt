@@ -14,8 +14,8 @@ one_more w first slot =
     ap (λ (n : ℕ). pending_entries n (drop (suc slot) w)) number
     ∙ ap (λ (n : ℕ). pending_entries (first + (slot + 1)) (drop n w)) next
 
-pub returns-then-left-eq0 : goal.returns-then-left-eq0
-returns-then-left-eq0 c =
+pub returns-then-left-eq0-clause-value : goal.returns-then-left-eq0-clause-value
+returns-then-left-eq0-clause-value c =
     sym (c.loop-slot.invariant.rest
     ∙ ap (λ (ps : List (ℕ × Request)). slice_get ps c.loop-slot.left)
     (pending_some c.loop-slot.slot (c.args.first + c.loop-slot.slot) c.args.self.now c.in-Some.request.now
