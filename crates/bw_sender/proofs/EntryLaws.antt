@@ -7,6 +7,7 @@ use Rattle.bw_model.specs.Bytes.{at, put, first_free}
 use Rattle.bw_model.specs.Take.{Request, Verdict, is_stored}
 use Rattle.bw_model.specs.World.{refused_from, pending_from, has_closed_from, is_close, is_some_stored}
 use Rattle.std.proofs.Common.{get_or}
+use Rattle.std.proofs.Math.Bool.{or-false, or_assoc, and-true}
 use Rattle.std.proofs.lemmas.Option.{slice_get-get_or}
 use Rattle.std.proofs.lemmas.List.Sums.{count_by_more_no, count_by_more_yes}
 use Rattle.bw_model.proofs.Elements.{some_inj}
@@ -138,18 +139,6 @@ refused_more n (Some y ∷ vs) (suc k) v h e =
 pub or_left : {a b : Bool} (c : Bool) → a ≡ b → (a || c) ≡ (b || c)
 or_left c e = ap (λ (x : Bool). x || c) e
 
-or_false : (b : Bool) → (b || false) ≡ b
-or_false true = refl
-or_false false = refl
-
-or_assoc : (a b c : Bool) → (a || (b || c)) ≡ ((a || b) || c)
-or_assoc true b c = refl
-or_assoc false b c = refl
-
-and_true : (b : Bool) → (b && true) ≡ b
-and_true true = refl
-and_true false = refl
-
 pub closed_more : (rs : List Request) (vs : List (Option Verdict)) (k : ℕ) (r : Request) (v : Verdict) →
     slice_get rs k ≡ Some r → slice_get vs k ≡ Some (Some v) →
     has_closed_from (take (suc k) rs) (take (suc k) vs)
@@ -158,13 +147,14 @@ closed_more [] vs k r v e f = absurd (no_some e)
 closed_more (x ∷ rs) [] k r v e f = absurd (no_some f)
 closed_more (x ∷ rs) (y ∷ vs) zero r v e f =
     ap (λ (o : Option Verdict). has_closed_from (x ∷ []) (o ∷ [])) (some_inj f)
-    ∙ ap (λ (z : Request). (is_close z && is_stored v) || false) (some_inj e) ∙ or_false (is_close r && is_stored v)
+    ∙ ap (λ (z : Request). (is_close z && is_stored v) || false) (some_inj e) ∙ or-false (is_close r && is_stored v)
 closed_more (x ∷ rs) (None ∷ vs) (suc k) r v e f =
     ap (λ (b : Bool). is_close x || b) (closed_more rs vs k r v e f)
-    ∙ or_assoc (is_close x) (has_closed_from (take k rs) (take k vs)) (is_close r && is_stored v)
+    ∙ sym (or_assoc (is_close x) (has_closed_from (take k rs) (take k vs)) (is_close r && is_stored v))
 closed_more (x ∷ rs) (Some y ∷ vs) (suc k) r v e f =
     ap (λ (b : Bool). (is_close x && is_stored y) || b) (closed_more rs vs k r v e f)
-    ∙ or_assoc (is_close x && is_stored y) (has_closed_from (take k rs) (take k vs)) (is_close r && is_stored v)
+    ∙ sym (or_assoc (is_close x && is_stored y) (has_closed_from (take k rs) (take k vs))
+    (is_close r && is_stored v))
 
 -- Offers.
 
@@ -179,10 +169,10 @@ entries_more (x ∷ rs) (v ∷ vs) r h =
 any_closes : (rs : List Request) (vs : List (Option Verdict)) → has_closed_from rs vs ≡ list_any closes (entries rs vs)
 any_closes [] vs = refl
 any_closes (r ∷ rs) [] =
-    ap (λ (b : Bool). b || has_closed_from rs []) (sym (and_true (is_close r)))
+    ap (λ (b : Bool). b || has_closed_from rs []) (sym (and-true (is_close r)))
     ∙ ap (λ (b : Bool). (is_close r && true) || b) (any_closes rs [])
 any_closes (r ∷ rs) (None ∷ vs) =
-    ap (λ (b : Bool). b || has_closed_from rs vs) (sym (and_true (is_close r)))
+    ap (λ (b : Bool). b || has_closed_from rs vs) (sym (and-true (is_close r)))
     ∙ ap (λ (b : Bool). (is_close r && true) || b) (any_closes rs vs)
 any_closes (r ∷ rs) (Some v ∷ vs) = ap (λ (b : Bool). (is_close r && is_stored v) || b) (any_closes rs vs)
 
@@ -193,11 +183,11 @@ closed_in rs [] (suc k) h l = absurd (omega (arith, h))
 closed_in [] (v ∷ vs) (suc k) h l = absurd (omega (arith, l))
 closed_in (r ∷ rs) (None ∷ vs) (suc k) h l =
     ap (λ (b : Bool). is_close r || b) (closed_in rs vs k (omega (arith, h)) (omega (arith, l)))
-    ∙ or_assoc (is_close r) (has_closed_from (take k rs) (take k vs)) (list_any closes (drop k (entries rs vs)))
+    ∙ sym (or_assoc (is_close r) (has_closed_from (take k rs) (take k vs)) (list_any closes (drop k (entries rs vs))))
 closed_in (r ∷ rs) (Some v ∷ vs) (suc k) h l =
     ap (λ (b : Bool). (is_close r && is_stored v) || b) (closed_in rs vs k (omega (arith, h)) (omega (arith, l)))
-    ∙ or_assoc (is_close r && is_stored v) (has_closed_from (take k rs) (take k vs))
-    (list_any closes (drop k (entries rs vs)))
+    ∙ sym (or_assoc (is_close r && is_stored v) (has_closed_from (take k rs) (take k vs))
+    (list_any closes (drop k (entries rs vs))))
 
 -- Verdicts.
 

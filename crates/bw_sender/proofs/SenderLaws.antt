@@ -3,7 +3,8 @@ use Rattle.std.proofs.Common.{◌≡◌, ℕ, suc, ◌+◌, ◌<◌, ◌≤◌, 
 use Rattle.std.proofs.Common.{length, take, drop, Option, Some, None, refl, sym, ◌∙◌, ap, subst, arith, not}
 use Rattle.std.proofs.Math.Bool.{or-false, and-false, and-true}
 use Rattle.std.proofs.lemmas.Bool.{ltb-true}
-use Rattle.std.specs.Prelude.{slice_get, count_by, if◌then◌else◌, is_some, is_none, option_and_then, nat_lt, nat_le, ◌==◌}
+use Rattle.std.specs.Prelude.{slice_get, count_by, if◌then◌else◌, is_some, is_none, option_and_then, nat_lt, nat_le}
+use Rattle.std.specs.Prelude.{◌==◌}
 use Rattle.std.specs.List.{list_any}
 use Rattle.std.specs.Str.{bytes_eq}
 use Rattle.std.proofs.lemmas.List.{length-drop, length-append, append-nil, drop-append-le, take-append-le}
@@ -61,7 +62,8 @@ settles_one k s x y r v f front name offered window stored refused closed =
           ∙ sym (stored_more s.verdicts k v told.1);
       refused = refused ∙ ap (λ (xs : List (ℕ × Verdict)). xs ++ (if is_stored v then [] else (k, v) ∷ [])) f.refused
           ∙ sym (refused_more 0 s.verdicts k v f.front told.1
-          ∙ ap (λ (m : ℕ). refused_from 0 (take k s.verdicts) ++ (if is_stored v then [] else (m, v) ∷ [])) (omega arith));
+          ∙ ap (λ (m : ℕ). refused_from 0 (take k s.verdicts) ++ (if is_stored v then [] else (m, v) ∷ []))
+          (omega arith));
       closed = closed ∙ ap (λ (b : Bool). b || (is_close r && is_stored v)) f.closed
           ∙ sym (closed_more s.offered s.verdicts k r v told.0 told.1);
     }

@@ -29,3 +29,11 @@ lent_pending x = (x.0, x.1.now)
 abbrev pub checked_fault : Result (Unit {0}) OfferError → Option model.OfferFault
 checked_fault (Ok x) = None
 checked_fault (Err e) = fault_of e
+
+-- the number of a refusal, in the order in which they are looked at
+abbrev pub refusal_number : OfferError → ℕ
+refusal_number errors.NumbersSpent = 1
+refusal_number errors.BeforeOpen = 2
+refusal_number errors.AfterClose = 3
+refusal_number errors.WindowFull = 4
+refusal_number errors.Memory = 5

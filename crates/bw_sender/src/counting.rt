@@ -1,5 +1,5 @@
 //! What a sender checks of an offer, and what it counts of a reply.
-ghost use Rattle.std.specs.Prelude.{◌≡◌, ◌≢◌, ◌≤◌, ◌<◌, ◌+◌, ◌&&◌, ℕ, length, true, false, OnOk, suc};
+ghost use Rattle.std.specs.Prelude.{◌≡◌, ◌≢◌, ◌≤◌, ◌<◌, ◌&&◌, ℕ, suc, length, true, false, OnOk};
 ghost use Rattle.std.specs.Prelude.{nat_lt, ◌==◌, not};
 ghost use Rattle.std.specs.Str.{bytes_eq};
 ghost use Rattle.bw_model.specs.Wire.{last_number, Second};

@@ -1,4 +1,6 @@
 //! What a reply is to a sender.
+ghost use Rattle.std.specs.Prelude.{◌≡◌, ◌≤◌};
+ghost use Rattle.bw_sender.specs.Hearing.{heard_number};
 
 /// What a reply was to a sender. Only `Counted` changes it.
 #[derive(Clone, Copy, Debug, PartialEq, Eq, Hash)]
@@ -11,4 +13,14 @@ pub enum Heard {
     Noted = 3,
     /// A reply to another name, or of a number that wasn't offered, or to a bad frame.
     Stranger = 4,
+}
+
+impl Heard {
+    /// Its number.
+    pub fn code(self) -> u8
+        ensures value { result ≡ heard_number self }
+        ensures range { result ≤ 4 }
+    {
+        self as u8
+    }
 }

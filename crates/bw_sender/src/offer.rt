@@ -1,4 +1,6 @@
 //! Why a request isn't taken over by a sender.
+ghost use Rattle.std.specs.Prelude.{◌≡◌, ◌≤◌};
+ghost use Rattle.bw_sender.specs.Offers.{refusal_number};
 
 /// Why an offer was refused: the first that holds.
 #[derive(Clone, Copy, Debug, PartialEq, Eq, Hash)]
@@ -13,4 +15,14 @@ pub enum OfferError {
     WindowFull = 4,
     /// Memory was refused.
     Memory = 5,
+}
+
+impl OfferError {
+    /// Its number.
+    pub fn code(self) -> u8
+        ensures value { result ≡ refusal_number self }
+        ensures range { result ≤ 5 }
+    {
+        self as u8
+    }
 }

@@ -22,7 +22,8 @@ with_verdict o v = Some (record { request = o.request; verdict = option_map verd
 
 pub returns-in_default-clause-none : goal.returns-in_default-clause-none
 returns-in_default-clause-none c = λ none k s f.
-    all_settled k s c.args.self.now f (sym (ap judged_in c.get.ensures.value) ∙ ap (λ o. judged_in (lent o)) c.in_default.is)
+    all_settled k s c.args.self.now f
+    (sym (ap judged_in c.get.ensures.value) ∙ ap (λ o. judged_in (lent o)) c.in_default.is)
 
 pub returns-in_default-verdict-clause-none : goal.returns-in_default-verdict-clause-none
 returns-in_default-verdict-clause-none c = λ none k s f.
