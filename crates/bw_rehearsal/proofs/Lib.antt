@@ -1,0 +1,3 @@
+mod Staging
+mod Playing
+mod Schedules

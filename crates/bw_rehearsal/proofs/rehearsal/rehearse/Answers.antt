@@ -1,0 +1,43 @@
+use Rattle.std.proofs.Common.{refl, ap, ◌∙◌, subst, ℕ, true, List, arith}
+use Rattle.std.proofs.lemmas.List.{take_all}
+use Rattle.bw_model.specs.Exchange.{content_in}
+use Rattle.bw_model.proofs.HeldFiles.{held_files}
+use Rattle.bw_session.specs.Servers.{kept_in}
+use Rattle.bw_file.specs.Memory.{content_under}
+use Rattle.bw_rehearsal.specs.Rehearsing.{LeadsTo, no_contents}
+use Rattle.bw_rehearsal.specs.declared.event.Event.{Event}
+use Rattle.bw_rehearsal.proofs.Schedules.{leads_on}
+use Rattle.bw_rehearsal.proofs.Staging.{frames_len, replies_len}
+use Rattle.bw_rehearsal.proofs.rehearsal.rehearse.Goals as goal
+
+pub loop-event-preserved : goal.loop-event-preserved
+loop-event-preserved c =
+    let i = c.loop-event.invariant in
+    let p = c.in_ok-play.ensures c.args.limit i.0 i.2 in (
+      _,
+      leads_on c.args.name c.args.events.now c.loop-event.event-index c.event-item.result i.0 p.luck (omega arith)
+          c.event-item.is i.1,
+      p.staged,
+    )
+
+pub returns : goal.returns
+returns c =
+    let i = c.loop-event.invariant in
+    let k = i.2 in
+    let w = i.0 in
+    let store = c.loop-event.stage.server.stores.store in
+    record {
+      world = w;
+      led = subst (λ (es : List Event). LeadsTo c.args.name es w)
+          (take_all c.loop-event.event-index c.args.events.now (omega arith)) i.1;
+      offered = k.offered;
+      sent = c.len.ensures ∙ c.loop-event.stage.sent.ok.0 ∙ frames_len w.sent _ k.sent;
+      replies = c.len-2.ensures ∙ c.loop-event.stage.replies.ok.0 ∙ replies_len _ w.replies k.replies;
+      sender = k.sender;
+      limited = k.limited;
+      held = k.held;
+      files = λ name which. held_files c.loop-event.stage.server.limit
+          (record { contents = content_under store.files; first = no_contents; honest = true })
+          (kept_in c.loop-event.stage.server.sessions) w.book k.held refl name which
+          ∙ ap (λ (n : ℕ). content_in no_contents n w.book name) k.limited;
+    }

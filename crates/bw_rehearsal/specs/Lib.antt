@@ -1,0 +1,3 @@
+pub mod Rehearsing
+pub mod Staged
+pub mod Worlds

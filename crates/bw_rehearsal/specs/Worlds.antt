@@ -1,0 +1,29 @@
+-- What a rehearsal comes to.
+use Rattle.std.specs.Prelude.{◌≡◌, ◌⊎◌, ℕ, true, false, List, length}
+use Rattle.bw_model.specs.Book.{log_of}
+use Rattle.bw_model.specs.CountedTurn.{is_pending}
+use Rattle.bw_model.specs.Exchange.{take_in, content_in}
+use Rattle.bw_model.specs.World as model
+use Rattle.bw_file.specs.Memory.{content_under}
+use Rattle.bw_session.specs.Books.{HoldsBook}
+use Rattle.bw_sender.specs.Senders.{IsSender}
+use Rattle.bw_rehearsal.specs.Rehearsing.{LeadsTo, no_contents}
+use Rattle.bw_rehearsal.specs.declared.event.Event.{Event}
+use Rattle.bw_rehearsal.specs.declared.rehearsal.World.{World}
+
+-- These events lead to a world of the definitions, and this is what it has.
+pub record WasRehearsed (name : List ℕ) (limit : ℕ) (events : List Event) (w : World) : Type 0 where
+  pub world : model.World
+  pub led : LeadsTo name events world
+  pub offered : w.offered ≡ length world.sender.offered
+  pub sent : w.sent ≡ length world.sent
+  pub replies : w.replies ≡ length world.replies
+  pub sender : IsSender world.sender w.sender
+  -- the server holds the world's book, over a store in memory that was empty
+  pub limited : w.server.limit ≡ limit
+  pub held : HoldsBook _ _ no_contents w.server world.book
+  -- .. so each name that is closed, or of which nothing waits, has its take's file
+  pub files : (name : List ℕ) → (is_pending (log_of world.book name) ≡ false)
+      ⊎ ((take_in false world.book name).closed ≡ true) →
+      content_under w.server.stores.store.files name
+      ≡ content_in no_contents limit world.book name

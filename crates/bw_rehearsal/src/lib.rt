@@ -1,0 +1,10 @@
+//! Rehearsals: loss and reordering played by hand, between a real sender and a real server.
+#![tactic(auto)]
+
+mod event;
+pub mod laws;
+mod rehearsal;
+mod stage;
+
+pub use event::Event;
+pub use rehearsal::{World, rehearse};

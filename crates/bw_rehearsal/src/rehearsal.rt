@@ -1,0 +1,63 @@
+//! Rehearsals: a sender and a server, and what is said between them, event by event.
+ghost use Rattle.std.specs.Prelude.{IfOk};
+ghost use Rattle.bw_rehearsal.specs.Worlds.{WasRehearsed};
+
+use crate::event::Event;
+use crate::stage::Stage;
+use bw_file::MemoryStore;
+use bw_layout::Limit;
+use bw_sender::Sender;
+use bw_session::Server;
+use bw_take::Name;
+use std::alloc::{AllocError, Global};
+
+/// What a rehearsal came to.
+#[derive(Drop)]
+pub struct World {
+    /// How many requests the sender took over.
+    pub offered: u64,
+    /// How many messages were sent.
+    pub sent: usize,
+    /// How many replies were written.
+    pub replies: usize,
+    pub sender: Sender,
+    pub server: Server<MemoryStore>,
+}
+
+/// Plays the events, in their order, with a new sender of this name, and a new server over an empty
+/// store in memory.
+///
+/// All that was ever sent and written stays: what isn't delivered or brought is lost, and what is
+/// may come again, in any order. Memory that is refused to the server or to its store is a part of
+/// the rehearsal.
+///
+/// # Errors
+/// `AllocError` where memory was refused to the sender, or for what is said between them.
+pub fn rehearse(
+    alloc: Global,
+    name: Name,
+    limit: Limit,
+    events: &[Event],
+) -> Result<World, AllocError>
+    ensures { IfOk result (λ w. WasRehearsed name limit events.now w) }
+{
+    let mut stage = Stage::new(alloc, name, limit)?;
+    for event in events {
+        stage.play(event)?;
+    }
+    let Stage {
+        sender,
+        server,
+        offered,
+        sent,
+        replies,
+        ..
+    } = stage;
+    Ok(World {
+        offered,
+        sent: sent.len(),
+        replies: replies.len(),
+        sender,
+        server,
+    })
+}
