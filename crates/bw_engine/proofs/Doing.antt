@@ -11,21 +11,21 @@ use Rattle.bw_model.specs.Wire.{Frame, framed, is_below, are_bytes}
 use Rattle.bw_model.specs.Replies.{Reply, reply_body, is_reply}
 use Rattle.bw_model.specs.Stream.{End}
 use Rattle.bw_model.specs.Exchange.{replies_bytes}
-use Rattle.bw_wire.specs.Codecs.{message_codec}
+use Rattle.bw_wire.specs.Codecs.{Codec, message_codec}
 use Rattle.bw_wire.specs.Pending.{Pending, fresh, with_piece, next_of}
 use Rattle.bw_wire.specs.Runs.{Call, Feeds, Takes, piece_of, fed_in, Run, given_by, with_call, with_calls, framer_run}
 use Rattle.bw_engine.specs.Answering.{Answered, frames_of, replies_of}
 use Rattle.bw_engine.specs.Done.{EndsSo, last_of, Done}
 
-with_calls-append : (r : Run Frame) (calls : List Call) (c : Call) →
-    with_calls message_codec r (calls ++ c ∷ []) ≡ with_call message_codec (with_calls message_codec r calls) c
-with_calls-append r [] c = refl
-with_calls-append r (d ∷ calls) c = with_calls-append (with_call message_codec r d) calls c
+with_calls-append : {X : Type 0} (codec : Codec X) (r : Run X) (calls : List Call) (c : Call) →
+    with_calls codec r (calls ++ c ∷ []) ≡ with_call codec (with_calls codec r calls) c
+with_calls-append codec r [] c = refl
+with_calls-append codec r (d ∷ calls) c = with_calls-append codec (with_call codec r d) calls c
 
 -- a call more in a run from the start
-pub run_more : (calls : List Call) (c : Call) →
-    framer_run message_codec (calls ++ c ∷ []) ≡ with_call message_codec (framer_run message_codec calls) c
-run_more calls c = with_calls-append (record { given = []; state = fresh }) calls c
+pub run_more : {X : Type 0} (codec : Codec X) (calls : List Call) (c : Call) →
+    framer_run codec (calls ++ c ∷ []) ≡ with_call codec (framer_run codec calls) c
+run_more codec calls c = with_calls-append codec (record { given = []; state = fresh }) calls c
 
 -- a call more feeds its piece
 pub fed_in-more : (calls : List Call) (c : Call) → fed_in (calls ++ c ∷ []) ≡ fed_in calls ++ piece_of c
@@ -59,7 +59,7 @@ done_fed fed xs gone p w piece q same bytes d =
       fits = list_all-append (is_below 256) fed piece ∙ and_from (are_bytes fed) (are_bytes piece) d.fits bytes;
       calls = d.calls ++ Feeds piece ∷ [];
       fed_by = fed_in-more d.calls (Feeds piece) ∙ ap (λ (x : List ℕ). x ++ piece) d.fed_by;
-      runs = run_more d.calls (Feeds piece)
+      runs = run_more message_codec d.calls (Feeds piece)
           ∙ ap (λ (r : Run Frame). with_call message_codec r (Feeds piece)) d.runs
           ∙ ap (λ (x : Pending). record { given = frames_of xs; state = x }) (sym same);
       ends = tt;
@@ -72,7 +72,7 @@ takes_run : (fed : List ℕ) (xs : List Answered) (gone w : List ℕ) (p q : Pen
     (d : Done fed xs gone p w None)
     → framer_run message_codec (d.calls ++ Takes ∷ []) ≡ record { given = frames_of xs ++ fs; state = q }
 takes_run fed xs gone w p q fs same told d =
-    run_more d.calls Takes
+    run_more message_codec d.calls Takes
     ∙ ap (λ (r : Run Frame). with_call message_codec r Takes) d.runs
     ∙ ap (λ (x : List Frame). record { given = frames_of xs ++ x; state = (next_of message_codec p).1 }) told
     ∙ ap (λ (x : Pending). record { given = frames_of xs ++ fs; state = x }) (sym same)

@@ -28,7 +28,7 @@ use Rattle.bw_engine.proofs.Growing.{stream_of-grows}
 
 -- ---- how many bytes were fed
 
-with_piece-fed : (h : Phase) (p : Pending) (piece : List ℕ) → p.phase ≡ h →
+pub with_piece-fed : (h : Phase) (p : Pending) (piece : List ℕ) → p.phase ≡ h →
     (with_piece p piece).fed ≡ p.fed + length piece
 with_piece-fed Reading p piece e = rw e refl
 with_piece-fed Left p piece e = rw e refl
@@ -102,7 +102,7 @@ front_grows law fed xs gone p w e d more bytes =
     list_all-append (is_below 256) fed more ∙ and_from (are_bytes fed) (are_bytes more) d.fits bytes in
     let f = law calls (ap are_bytes all ∙ fits) in
     let given : (framer_run message_codec calls).given ≡ frames_of xs =
-    ap (λ (r : Run Frame). r.given) (run_more d.calls (Feeds more)
+    ap (λ (r : Run Frame). r.given) (run_more message_codec d.calls (Feeds more)
     ∙ ap (λ (r : Run Frame). with_call message_codec r (Feeds more)) d.runs) in
     subst (AreFirstOf (frames_of xs)) all
     (subst (λ (fs : List Frame). AreFirstOf fs (fed_in calls)) given f.front)

@@ -18,3 +18,6 @@ mod StoreRuns
 mod FirstFrames
 mod ServedInputs
 mod Ending
+mod ReplyRuns
+mod Batching
+mod HeardPieces

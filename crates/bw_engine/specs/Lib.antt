@@ -10,3 +10,6 @@ pub mod Pieces
 pub mod ServerTurns
 pub mod ServerRuns
 pub mod Ingesting
+pub mod Batches
+pub mod Hears
+pub mod Sent

@@ -18,10 +18,10 @@ use bw_wire::WireFault;
 use std::alloc::Global;
 
 /// The longest piece that is read.
-const PIECE: usize = 65_536;
+pub(crate) const PIECE: usize = 65_536;
 
 /// The most reads of an exchange.
-const MOST_READS: u64 = 1 << 32;
+pub(crate) const MOST_READS: u64 = 1 << 32;
 
 /// How an exchange ended.
 #[derive(Clone, Copy, Debug, PartialEq, Eq)]

@@ -1,0 +1,135 @@
+//! The recorder's side of one exchange: what is sent, and then what is heard.
+ghost use Rattle.std.specs.Prelude.{◌≡◌, ◌≤◌, IfErr, OnOk, OnErr};
+ghost use Rattle.bw_model.specs.Wire.{Second, last_number, body, framed};
+ghost use Rattle.bw_model.specs.Stream.{frames_bytes};
+ghost use Rattle.bw_model.specs.World.{Sender as Told};
+ghost use Rattle.bw_stream.specs.Moves.{Writes, Begins};
+ghost use Rattle.bw_sender.specs.Senders.{IsSender};
+ghost use Rattle.bw_wire.specs.Encoded.{said};
+ghost use Rattle.bw_engine.specs.declared.send_fault.SendFault.TheVariants.{Write};
+ghost use Rattle.bw_engine.specs.Batches.{pending_messages, batch_bytes, BreaksBatch, sends_failed};
+ghost use Rattle.bw_engine.specs.Hears.{hears_failed, IsHearingLimited};
+ghost use Rattle.bw_engine.specs.Sent.{Exchanges};
+
+use crate::hearing::hear_replies;
+use crate::send_fault::SendFault;
+use bw_sender::Sender;
+use bw_stream::{Sink, Source, write_all};
+use bw_take::{Name, Request};
+use bw_wire::encode;
+use std::alloc::Global;
+
+/// At most so many requests have no verdict: as many as a sender's window holds.
+const MOST_PENDING: usize = 16;
+
+/// The frame that ends an exchange.
+const BYE: [u8; 5] = [1, 0, 0, 0, 9];
+
+/// Writes the messages that have no verdict, in the order of their numbers, and that it ends.
+///
+/// Each frame is written and let go before the next is made. Bytes that the writer holds back
+/// aren't flushed.
+///
+/// # Errors
+/// `Write` and `Memory`: a beginning of the frames was written.
+pub fn send_batch<W: Sink>(
+    alloc: Global,
+    sender: &Sender,
+    writer: &mut W,
+) -> Result<(), SendFault>
+    ensures ok { (s : Told) → IsSender s sender.now → OnOk result
+        (Writes (W.written writer.old) (batch_bytes s) (W.written writer.new)) }
+    ensures err { (s : Told) → IsSender s sender.now → OnErr result
+        (Begins (W.written writer.old) (batch_bytes s) (W.written writer.new)) }
+    ensures why { IfErr result BreaksBatch }
+    ensures count { W.failures writer.new ≡ sends_failed result (W.failures writer.old) }
+{
+    send_pending(alloc, sender, writer)?;
+    write_frame(writer, &BYE)
+}
+
+/// Writes the messages that have no verdict, in the order of their numbers.
+///
+/// # Errors
+/// `Write` and `Memory`: a beginning of their frames was written.
+fn send_pending<W: Sink>(
+    alloc: Global,
+    sender: &Sender,
+    writer: &mut W,
+) -> Result<(), SendFault>
+    ensures ok { (s : Told) → IsSender s sender.now → OnOk result
+        (Writes (W.written writer.old) (frames_bytes (pending_messages s)) (W.written writer.new)) }
+    ensures err { (s : Told) → IsSender s sender.now → OnErr result
+        (Begins (W.written writer.old) (frames_bytes (pending_messages s)) (W.written writer.new)) }
+    ensures why { IfErr result BreaksBatch }
+    ensures count { W.failures writer.new ≡ sends_failed result (W.failures writer.old) }
+{
+    for place in 0..MOST_PENDING {
+        let Some((number, request)) = sender.pending(place) else {
+            break;
+        };
+        send_message(alloc, sender.name(), number, request, writer)?;
+    }
+    Ok(())
+}
+
+/// Writes a request's message.
+///
+/// # Errors
+/// `Write` and `Memory`: a beginning of its frame was written.
+fn send_message<W: Sink>(
+    alloc: Global,
+    name: &Name,
+    number: u32,
+    request: &Request,
+    writer: &mut W,
+) -> Result<(), SendFault>
+    requires number { number ≤ last_number Second }
+    ensures ok { OnOk result (Writes (W.written writer.old)
+        (framed (body (said name.now number request.now))) (W.written writer.new)) }
+    ensures err { OnErr result (Begins (W.written writer.old)
+        (framed (body (said name.now number request.now))) (W.written writer.new)) }
+    ensures why { IfErr result BreaksBatch }
+    ensures count { W.failures writer.new ≡ sends_failed result (W.failures writer.old) }
+{
+    let Ok(frame) = encode(alloc, name, number, &request.as_ref()) else {
+        return Err(SendFault::Memory);
+    };
+    write_frame(writer, frame.as_slice())
+}
+
+/// Writes a whole frame.
+///
+/// # Errors
+/// `Write`: a beginning of it was written.
+fn write_frame<W: Sink>(writer: &mut W, frame: &[u8]) -> Result<(), SendFault>
+    ensures ok { OnOk result (Writes (W.written writer.old) frame.now (W.written writer.new)) }
+    ensures err { OnErr result (Begins (W.written writer.old) frame.now (W.written writer.new)) }
+    ensures why { IfErr result (λ fault. fault ≡ Write) }
+    ensures count { W.failures writer.new ≡ sends_failed result (W.failures writer.old) }
+{
+    match write_all(writer, frame) {
+        Ok(()) => Ok(()),
+        Err(_failed) => Err(SendFault::Write),
+    }
+}
+
+/// One exchange of a recorder: what has no verdict is sent, and then the replies are heard.
+///
+/// # Errors
+/// Why it broke off: where the batch did, nothing was read, and else what was heard is counted.
+pub fn send_exchange<R: Source, W: Sink>(
+    alloc: Global,
+    sender: &mut Sender,
+    reader: &mut R,
+    writer: &mut W,
+) -> Result<(), SendFault>
+    ensures exchanges { Exchanges result sender.old sender.new reader.old reader.new
+        (R.left reader.old) (R.left reader.new) (W.written writer.old) (W.written writer.new) }
+    ensures reads { R.failures reader.new ≡ hears_failed result (R.failures reader.old) }
+    ensures writes { W.failures writer.new ≡ sends_failed result (W.failures writer.old) }
+    ensures limit { IsHearingLimited result (R.moved reader.old) (R.moved reader.new) }
+{
+    send_batch(alloc, sender, writer)?;
+    hear_replies(alloc, sender, reader)
+}
