@@ -1,5 +1,6 @@
 -- Replies are heard piece by piece.
-use Rattle.std.proofs.Common.{◌≡◌, ◌≢◌, ◌⊎◌, ℕ, ◌+◌, ◌-◌, ◌*◌, ◌^◌, ◌≤◌, Bool, true, false, List, [], ◌∷◌, ◌++◌, length, take, Option}
+use Rattle.std.proofs.Common.{◌≡◌, ◌≢◌, ℕ, ◌+◌, ◌-◌, ◌*◌, ◌^◌, ◌≤◌, Bool, true, false, List, [], ◌∷◌, ◌++◌, length}
+use Rattle.std.proofs.Common.{take, Option}
 use Rattle.std.proofs.Common.{Some, None, Result, Ok, Err, refl, sym, ap, subst, ◌∙◌, append_assoc, arith, inl, inr}
 use Rattle.std.specs.Prelude.{IsTrue, IfErr, OnOk, OnErr, is_some, min}
 use Rattle.std.proofs.lemmas.List.{append-nil, length-append, length-take-le}
@@ -22,12 +23,12 @@ use Rattle.bw_wire.specs.declared.reply.Reply.{Reply as Answer}
 use Rattle.bw_engine.specs.declared.send_fault.SendFault.{SendFault}
 use Rattle.bw_engine.specs.declared.send_fault.SendFault.TheVariants as faults
 use Rattle.bw_engine.specs.Served.{most_reads, HasGiven, HasNoneLeft}
-use Rattle.bw_engine.specs.Hears.{hear_all, CountsAll, IsHeardUpTo, IsAllHeard, IsHeardWhole, HearsToTheEnd}
-use Rattle.bw_engine.specs.Hears.{FindsBadReply, HearsBy, HearsNoFurther, Hears, GaveReplies, HearsMore, TellsFault}
+use Rattle.bw_engine.specs.Hears.{hear_all, CountsAll, IsHeardUpTo, IsAllHeard, IsHeardWhole}
+use Rattle.bw_engine.specs.Hears.{HearsBy, HearsNoFurther, Hears, GaveReplies, HearsMore, TellsFault}
 use Rattle.bw_engine.specs.Hears.{hears_failed, IsHearingLimited, FeedsReplies, EndsReplies, ReadsReplies}
 use Rattle.bw_engine.specs.Hears.{StopsHearing}
 use Rattle.bw_engine.proofs.Reading.{has_given-none, has_given-on, has_given-piece}
-use Rattle.bw_engine.proofs.ReplyRuns.{IsNoReply, told_again, fresh_quiet, no_bytes_cut, gave_none, gave_fed, gave_more}
+use Rattle.bw_engine.proofs.ReplyRuns.{IsNoReply, fresh_quiet, no_bytes_cut, gave_none, gave_fed, gave_more}
 use Rattle.bw_engine.proofs.ReplyRuns.{gave_counted, gave_follows}
 
 -- ---- replies are counted
@@ -59,7 +60,8 @@ hears-on x y z p q r f g = record {
 }
 
 -- what an answer tells whose value is known
-pub as_told : {a b : Option Answer} {t : Tells Reply} → a ≡ b → told_as reply_of (Ok a) ≡ t → told_as reply_of (Ok b) ≡ t
+pub as_told : {a b : Option Answer} {t : Tells Reply} → a ≡ b → told_as reply_of (Ok a) ≡ t →
+    told_as reply_of (Ok b) ≡ t
 as_told same told = ap (λ (o : Option Answer). told_as reply_of (Ok o)) (sym same) ∙ told
 
 -- a framer was asked, and there was no reply
@@ -302,8 +304,7 @@ bad_reply reads x y z left left' left'' moved moved' p q r f n g told =
         drained = inl other;
         all = λ xs e.
             let a = given xs e in
-            subst (λ (bytes : List ℕ). IsHeardUpTo told.0 bytes heard) a.2
-            (
+            subst (λ (bytes : List ℕ). IsHeardUpTo told.0 bytes heard) a.2 (
               fault.0 ++ a.0,
               spelled-more input fault.0 a.0 heard fault.1,
               first_reply-bad_grows fault.0 a.0 told.0 other fault.2,

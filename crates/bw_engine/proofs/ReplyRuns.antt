@@ -1,5 +1,5 @@
 -- What a framer of replies was fed, what it gave, and what it tells next.
-use Rattle.std.proofs.Common.{◌≡◌, ◌⊎◌, ℕ, ◌+◌, ◌<◌, List, [], ◌∷◌, ◌++◌, length, drop, Some, None, Option, Result, Ok, Err}
+use Rattle.std.proofs.Common.{◌≡◌, ℕ, ◌+◌, ◌<◌, List, [], ◌∷◌, ◌++◌, length, Result, Ok, Err}
 use Rattle.std.proofs.Common.{refl, sym, ap, subst, ◌∙◌, arith, inl, inr}
 use Rattle.std.specs.Prelude.{IsTrue}
 use Rattle.std.proofs.lemmas.Bool.{and_from}
@@ -12,8 +12,8 @@ use Rattle.bw_model.specs.Stream.{first_reply}
 use Rattle.bw_model.proofs.FrameLaws.{reads_reply}
 use Rattle.bw_wire.specs.Codecs.{reply_codec}
 use Rattle.bw_wire.specs.Pending.{Phase, Reading, Left, Failed, Pending, Told, Nothing, Gives, Fails, fresh}
-use Rattle.bw_wire.specs.Pending.{with_piece, took, compacted, emptied, next_of}
-use Rattle.bw_wire.specs.Runs.{Call, Feeds, Takes, fed_in, Run, given_by, with_call, with_calls, framer_run}
+use Rattle.bw_wire.specs.Pending.{with_piece, compacted, emptied, next_of}
+use Rattle.bw_wire.specs.Runs.{Call, Feeds, Takes, fed_in, Run, given_by, with_call, with_calls}
 use Rattle.bw_wire.specs.Runs.{Follows}
 use Rattle.bw_wire.proofs.FramerLaws.{next_of-left, next_of-failed, next_of-partial, next_of-bad, next_of-value}
 use Rattle.bw_wire.proofs.FramerLaws.{cut_or_not}
@@ -137,8 +137,8 @@ pub gave_none : GaveReplies [] [] fresh
 gave_none = record { fits = refl; calls = []; fed_by = refl; runs = refl }
 
 -- a piece is fed
-pub gave_fed : (fed : List ℕ) (given : List Reply) (piece : List ℕ) (p q : Pending) → q ≡ with_piece p piece → IsTrue (are_bytes piece) →
-    GaveReplies fed given p → GaveReplies (fed ++ piece) given q
+pub gave_fed : (fed : List ℕ) (given : List Reply) (piece : List ℕ) (p q : Pending) →
+    q ≡ with_piece p piece → IsTrue (are_bytes piece) → GaveReplies fed given p → GaveReplies (fed ++ piece) given q
 gave_fed fed given piece p q same bytes d = record {
   fits = list_all-append (is_below 256) fed piece ∙ and_from (are_bytes fed) (are_bytes piece) d.fits bytes;
   calls = d.calls ++ Feeds piece ∷ [];

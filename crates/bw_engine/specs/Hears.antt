@@ -1,5 +1,5 @@
 -- What a sender hears in an exchange, by how it ends.
-use Rattle.std.specs.Prelude.{◌≡◌, ◌≢◌, ◌⊎◌, ℕ, ◌+◌, ◌-◌, ◌^◌, ◌≤◌, ◌<◌, Bool, true, false, Option}
+use Rattle.std.specs.Prelude.{◌≡◌, ◌≢◌, ◌⊎◌, ℕ, ◌+◌, ◌-◌, ◌^◌, ◌≤◌, Bool, true, false, Option}
 use Rattle.std.specs.Prelude.{Some, Result, Ok, Err, IsTrue, List, [], ◌∷◌, ◌++◌, length, min}
 use Rattle.bw_model.specs.Wire.{Reason, Cut, are_bytes}
 use Rattle.bw_model.specs.Replies.{Reply}
@@ -10,7 +10,7 @@ use Rattle.bw_sender.specs.Senders.{IsSender}
 use Rattle.bw_sender.specs.declared.sender.Sender.{Sender}
 use Rattle.bw_wire.specs.Codecs.{reply_codec, Spelled}
 use Rattle.bw_wire.specs.Held.{longest_piece}
-use Rattle.bw_wire.specs.Pending.{Pending, Nothing, Fails, next_of, with_piece}
+use Rattle.bw_wire.specs.Pending.{Pending, Fails, next_of, with_piece}
 use Rattle.bw_wire.specs.Runs.{Call, fed_in, framer_run}
 use Rattle.bw_engine.specs.declared.send_fault.SendFault.{SendFault}
 use Rattle.bw_engine.specs.declared.send_fault.SendFault.TheVariants as faults

@@ -32,11 +32,7 @@ const BYE: [u8; 5] = [1, 0, 0, 0, 9];
 ///
 /// # Errors
 /// `Write` and `Memory`: a beginning of the frames was written.
-pub fn send_batch<W: Sink>(
-    alloc: Global,
-    sender: &Sender,
-    writer: &mut W,
-) -> Result<(), SendFault>
+pub fn send_batch<W: Sink>(alloc: Global, sender: &Sender, writer: &mut W) -> Result<(), SendFault>
     ensures ok { (s : Told) → IsSender s sender.now → OnOk result
         (Writes (W.written writer.old) (batch_bytes s) (W.written writer.new)) }
     ensures err { (s : Told) → IsSender s sender.now → OnErr result
@@ -52,11 +48,7 @@ pub fn send_batch<W: Sink>(
 ///
 /// # Errors
 /// `Write` and `Memory`: a beginning of their frames was written.
-fn send_pending<W: Sink>(
-    alloc: Global,
-    sender: &Sender,
-    writer: &mut W,
-) -> Result<(), SendFault>
+fn send_pending<W: Sink>(alloc: Global, sender: &Sender, writer: &mut W) -> Result<(), SendFault>
     ensures ok { (s : Told) → IsSender s sender.now → OnOk result
         (Writes (W.written writer.old) (frames_bytes (pending_messages s)) (W.written writer.new)) }
     ensures err { (s : Told) → IsSender s sender.now → OnErr result

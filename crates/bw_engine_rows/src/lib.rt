@@ -13,4 +13,6 @@ mod play;
 #[cfg(test)]
 mod runs;
 #[cfg(test)]
+mod sending;
+#[cfg(test)]
 mod whole;

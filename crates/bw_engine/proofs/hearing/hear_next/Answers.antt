@@ -40,8 +40,7 @@ returns-in-Err-clause-hears c =
 pub returns-in-Err-clause-bad : goal.returns-in-Err-clause-bad
 returns-in-Err-clause-bad c =
     let fault = c.in-Err._fault in
-    let told = c.in-Err.ensures in
-    (
+    let told = c.in-Err.ensures in (
       reason_meaning fault.reason,
       fault.offset,
       told_again c.args.framer.now c.next_frame.new.self (Fails (reason_meaning fault.reason) fault.offset)

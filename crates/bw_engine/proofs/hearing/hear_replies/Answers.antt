@@ -1,7 +1,5 @@
-use Rattle.std.proofs.Common.{rules, refl, subst, sym, ◌∙◌, arith, Err}
+use Rattle.std.proofs.Common.{refl, ◌∙◌, arith}
 use Rattle.std.proofs.lemmas.Result.{err_from_is_err_and}
-use Rattle.bw_engine.specs.declared.send_fault.SendFault.{SendFault}
-use Rattle.bw_engine.specs.Hears.{Hears}
 use Rattle.bw_engine.proofs.HeardPieces.{heard-none, fed_so_far, heard-more, no_memory, no_more_heard, limit_reached}
 use Rattle.bw_engine.proofs.HeardPieces.{bad_reply, input_ended, has_fed, has_ended, unlimited, ended_counts}
 use Rattle.bw_engine.proofs.Whole.{moved_on}
