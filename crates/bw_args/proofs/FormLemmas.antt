@@ -9,15 +9,16 @@ use Rattle.clap.specs.declared.error.ErrorKind.TheVariants.{MissingSubcommand, U
 use Rattle.clap.specs.Words.{IsAmong, Row, Text, fault_of, first_of, kind_of}
 use Rattle.clap.proofs.OnLiterals.{clap_on_literals}
 use Rattle.bw_args.specs.Commands.{command_line}
-use Rattle.bw_args.specs.Lines.{AsksFor, GivesFuse, GivesLimit, Inspects, IsLineOf, IsPlain, IsToldAs, IsWishOf}
-use Rattle.bw_args.specs.Lines.{RefusesValues, RunsInspect, RunsReplay, TellsHelp, Wish, Inspecting, Replaying, wish_of}
+use Rattle.bw_args.specs.Lines.{AsksFor, GivesFuse, GivesLimit, GivesName, IsLineOf, IsWishOf, Wish, wish_of}
+use Rattle.bw_args.specs.Lines.{Inspecting, Rehearsing, Replaying}
+use Rattle.bw_args.specs.Forms.{Inspects, IsPlain, IsToldAs, RunsInspect, RunsReplay, TellsHelp}
 use Rattle.bw_args.specs.Numbers.{IsLimitText, IsNumber, default_limit, number_written}
 use Rattle.bw_args.specs.declared.CommandLine.{CommandLine}
-use Rattle.bw_args.specs.declared.CommandLine.TheVariants.{Run, BadLimit, BadFuse, Tell}
-use Rattle.bw_args.specs.declared.Task.TheVariants.{Inspect, Replay}
+use Rattle.bw_args.specs.declared.CommandLine.TheVariants.{Run, BadName, BadLimit, BadFuse, Tell}
+use Rattle.bw_args.specs.declared.Task.TheVariants.{Inspect, Rehearse, Replay}
 
 -- a digit is no hyphen, so the word is read as a value
-no_hyphen : (d : ℕ) (ds : Text) → IsNumber (d ∷ ds) → (d == 45) ≡ false
+pub no_hyphen : (d : ℕ) (ds : Text) → IsNumber (d ∷ ds) → (d == 45) ≡ false
 no_hyphen d ds given = go (d == 45) refl
   where
     go : (b : Bool) → (d == 45) ≡ b → b ≡ false
@@ -87,11 +88,26 @@ one_fuse : (text : Option Text) (a b : Option ℕ) → GivesFuse text a → Give
 one_fuse None a b x y = x ∙ sym y
 one_fuse (Some text) a b x y = x.1 ∙ sym y.1
 
+one_name : (text : Option Text) (a b : Text) → GivesName text a → GivesName text b → a ≡ b
+one_name None a b x y = absurd x
+one_name (Some text) a b x y = x.1 ∙ sym y.1
+
 one_wish : (command : Option (Text × List Row)) (a b : Wish) → IsWishOf command a → IsWishOf command b → a ≡ b
 one_wish None a b x y = absurd x
 one_wish (Some command) (Replaying a k) (Replaying b j) x y =
     let limits : a ≡ b = one_limit (first_of (codes "limit") command.1) a b x.1 y.1 in
     let fuses : k ≡ j = one_fuse (first_of (codes "fuse") command.1) k j x.2 y.2 in cc
+one_wish (Some command) (Rehearsing a n) (Rehearsing b m) x y =
+    let names : a ≡ b = one_name (first_of (codes "name") command.1) a b x.1 y.1 in
+    let limits : n ≡ m = one_limit (first_of (codes "limit") command.1) n m x.2 y.2 in cc
+one_wish (Some command) (Replaying a k) (Rehearsing b n) x y = let bad : codes "replay" ≡ codes "rehearse" =
+    sym x.0 ∙ y.0 in cc
+one_wish (Some command) (Rehearsing a n) (Replaying b k) x y = let bad : codes "rehearse" ≡ codes "replay" =
+    sym x.0 ∙ y.0 in cc
+one_wish (Some command) (Rehearsing a n) (Inspecting b) x y = let bad : codes "rehearse" ≡ codes "inspect" =
+    sym x.0 ∙ y.0 in cc
+one_wish (Some command) (Inspecting a) (Rehearsing b n) x y = let bad : codes "inspect" ≡ codes "rehearse" =
+    sym x.0 ∙ y.0 in cc
 one_wish (Some command) (Inspecting a) (Inspecting b) x y =
     let same : Some a ≡ Some b = sym x.1 ∙ y.1 in cc
 one_wish (Some command) (Replaying a k) (Inspecting b) x y = let bad : codes "replay" ≡ codes "inspect" =
@@ -100,16 +116,18 @@ one_wish (Some command) (Inspecting a) (Replaying b k) x y = let bad : codes "in
     sym x.0 ∙ y.0 in cc
 
 -- the line runs a task for this
-abbrev RunsFor : Wish → CommandLine → Type 0
+abbrev pub RunsFor : Wish → CommandLine → Type 0
 RunsFor wish (Run task) = wish_of task ≡ wish
+RunsFor wish BadName = ⊥
 RunsFor wish BadLimit = ⊥
 RunsFor wish BadFuse = ⊥
 RunsFor wish (Tell error) = ⊥
 
 -- words that ask for something run it
-runs : (words : List Text) (line : CommandLine) (wish : Wish) → IsLineOf words line → AsksFor words wish →
+pub runs : (words : List Text) (line : CommandLine) (wish : Wish) → IsLineOf words line → AsksFor words wish →
     RunsFor wish line
 runs words (Run task) wish is asks = one_wish _ (wish_of task) wish is.asked asks.asked
+runs words BadName wish is asks = absurd (is.asks_nothing wish asks)
 runs words BadLimit wish is asks = absurd (is.asks_nothing wish asks)
 runs words BadFuse wish is asks = absurd (is.asks_nothing wish asks)
 runs words (Tell error) wish is asks = absurd (is.asks_nothing wish asks)
@@ -117,7 +135,9 @@ runs words (Tell error) wish is asks = absurd (is.asks_nothing wish asks)
 replays : (limit : ℕ) (fuse : Option ℕ) (line : CommandLine) → RunsFor (Replaying limit fuse) line
     → line ≡ Run (Replay limit fuse)
 replays limit fuse (Run (Replay n k)) e = let limits : n ≡ limit = cc in let fuses : k ≡ fuse = cc in cc
+replays limit fuse (Run (Rehearse name n)) e = cc
 replays limit fuse (Run (Inspect file)) e = cc
+replays limit fuse BadName e = absurd e
 replays limit fuse BadLimit e = absurd e
 replays limit fuse BadFuse e = absurd e
 replays limit fuse (Tell error) e = absurd e
@@ -125,6 +145,8 @@ replays limit fuse (Tell error) e = absurd e
 inspects : (path : Text) (line : CommandLine) → RunsFor (Inspecting path) line → Inspects path line
 inspects path (Run (Inspect file)) e = cc
 inspects path (Run (Replay limit fuse)) e = cc
+inspects path (Run (Rehearse name limit)) e = cc
+inspects path BadName e = absurd e
 inspects path BadLimit e = absurd e
 inspects path BadFuse e = absurd e
 inspects path (Tell error) e = absurd e
@@ -148,47 +170,11 @@ runs_replay words line is = record {
       asked_replays words _ line _ _ is e (turned_asks program limit fuse given burns);
 }
 
--- values of another form
-bad_limit : (program text : Text) (line : CommandLine) → ¬ IsLimitText text
-    → IsLineOf (program ∷ codes "replay" ∷ (codes "--limit=" ++ text) ∷ []) line → line ≡ BadLimit
-unfolding clap_on_literals
-bad_limit program text (Run (Replay limit fuse)) none is = absurd (none is.asked.1.0)
-bad_limit program text (Run (Inspect file)) none is = let bad : codes "replay" ≡ codes "inspect" = is.asked.0 in cc
-bad_limit program text BadLimit none is = refl
-bad_limit program text BadFuse none is = absurd (none is.no_fuse.1.1.0)
-bad_limit program text (Tell error) none is = absurd is.reason
-
-bad_fuse : (program text : Text) (line : CommandLine) → ¬ IsNumber text
-    → IsLineOf (program ∷ codes "replay" ∷ (codes "--fuse=" ++ text) ∷ []) line → line ≡ BadFuse
-unfolding clap_on_literals
-bad_fuse program text (Run (Replay limit fuse)) none is = absurd (none is.asked.2.0)
-bad_fuse program text (Run (Inspect file)) none is = let bad : codes "replay" ≡ codes "inspect" = is.asked.0 in cc
-bad_fuse program text BadLimit none is = absurd (is.no_limit refl default_limit refl)
-bad_fuse program text BadFuse none is = refl
-bad_fuse program text (Tell error) none is = absurd is.reason
-
-bad_limit_first : (program limit fuse : Text) (line : CommandLine) → ¬ IsLimitText limit → IsLineOf
-    (program ∷ codes "replay" ∷ (codes "--fuse=" ++ fuse) ∷ (codes "--limit=" ++ limit) ∷ []) line → line ≡ BadLimit
-unfolding clap_on_literals
-bad_limit_first program limit fuse (Run (Replay n k)) none is = absurd (none is.asked.1.0)
-bad_limit_first program limit fuse (Run (Inspect file)) none is =
-    let bad : codes "replay" ≡ codes "inspect" = is.asked.0 in cc
-bad_limit_first program limit fuse BadLimit none is = refl
-bad_limit_first program limit fuse BadFuse none is = absurd (none is.no_fuse.1.1.0)
-bad_limit_first program limit fuse (Tell error) none is = absurd is.reason
-
-pub refuses_values : (words : List Text) (line : CommandLine) → IsLineOf words line → RefusesValues words line
-refuses_values words line is = record {
-  limit = λ program text none e. bad_limit program text line none (subst (λ w. IsLineOf w line) e is);
-  fuse = λ program text none e. bad_fuse program text line none (subst (λ w. IsLineOf w line) e is);
-  first = λ program limit fuse none e.
-      bad_limit_first program limit fuse line none (subst (λ w. IsLineOf w line) e is);
-}
-
 -- words with a fault of one kind tell it
-tells : (kind : ErrorKind) (words : List Text) (line : CommandLine) → fault_of command_line words ≡ kind ∷ []
+pub tells : (kind : ErrorKind) (words : List Text) (line : CommandLine) → fault_of command_line words ≡ kind ∷ []
     → IsLineOf words line → IsToldAs kind line
 tells kind words (Run task) fault is = let bad : kind ∷ [] ≡ [] = sym fault ∙ is.taken in cc
+tells kind words BadName fault is = let bad : kind ∷ [] ≡ [] = sym fault ∙ is.taken in cc
 tells kind words BadLimit fault is = let bad : kind ∷ [] ≡ [] = sym fault ∙ is.taken in cc
 tells kind words BadFuse fault is = let bad : kind ∷ [] ≡ [] = sym fault ∙ is.taken in cc
 tells kind words (Tell error) fault is =
@@ -213,7 +199,8 @@ tells_help words line is = record {
   bare = λ program e. tells MissingSubcommand words line (ap (fault_of command_line) e ∙ bare_fault program) is;
 }
 
-plain_byte : (d : ℕ) → d ≢ 45 → (d == 45) ≡ false
+-- a word that is no option is read as a value
+pub plain_byte : (d : ℕ) → d ≢ 45 → (d == 45) ≡ false
 plain_byte d plain = go (d == 45) refl
   where
     go : (b : Bool) → (d == 45) ≡ b → b ≡ false

@@ -1,3 +1,4 @@
 pub mod Numbers
 pub mod Commands
 pub mod Lines
+pub mod Forms

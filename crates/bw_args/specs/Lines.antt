@@ -1,5 +1,5 @@
 -- What a command line asks for.
-use Rattle.std.specs.Prelude.{◌≡◌, ◌≢◌, ⊤, ℕ, List, [], ◌∷◌, ◌++◌, Option, Some, None, codes}
+use Rattle.std.specs.Prelude.{◌≡◌, ◌≢◌, ⊤, ℕ, List, [], Option, Some, None, codes, IsTrue}
 use Rattle.std.specs.Prelude.{Result, Ok, Err, string_bytes}
 use Rattle.clap.specs.Walk.{Row, Text, first_of}
 use Rattle.clap.specs.Simple.{subcommand_of}
@@ -7,17 +7,30 @@ use Rattle.clap.specs.Faults.{fault_of}
 use Rattle.clap.specs.Kinds.{IsAmong}
 use Rattle.clap.specs.Values.{kind_of}
 use Rattle.clap.specs.declared.error.ErrorKind.{ErrorKind}
-use Rattle.clap.specs.declared.error.ErrorKind.TheVariants.{DisplayHelp, DisplayVersion}
-use Rattle.clap.specs.declared.error.ErrorKind.TheVariants.{MissingRequiredArgument}
-use Rattle.clap.specs.declared.error.ErrorKind.TheVariants.{MissingSubcommand, OutOfMemory}
-use Rattle.clap.specs.declared.error.ErrorKind.TheVariants.{UnknownArgument}
+use Rattle.clap.specs.declared.error.ErrorKind.TheVariants.{OutOfMemory}
+use Rattle.bw_model.specs.Wire.{is_name}
 use Rattle.bw_args.specs.Numbers.{IsLimit, IsLimitText, IsNumber, default_limit}
 use Rattle.bw_args.specs.Numbers.{number_written}
 use Rattle.bw_args.specs.Commands.{command_line}
 use Rattle.bw_args.specs.declared.CommandLine.{CommandLine}
-use Rattle.bw_args.specs.declared.CommandLine.TheVariants.{Run, BadLimit, BadFuse, Tell}
+use Rattle.bw_args.specs.declared.CommandLine.TheVariants.{Run, BadName, BadLimit}
+use Rattle.bw_args.specs.declared.CommandLine.TheVariants.{BadFuse, Tell}
 use Rattle.bw_args.specs.declared.Task.{Task}
-use Rattle.bw_args.specs.declared.Task.TheVariants.{Replay, Inspect}
+use Rattle.bw_args.specs.declared.Task.TheVariants.{Replay, Rehearse, Inspect}
+
+-- the bytes are a take's name
+abbrev pub IsName : Text → Type 0
+IsName text = IsTrue (is_name text)
+
+-- the name that an option gives
+abbrev pub GivesName : Option Text → Text → Type 0
+GivesName None name = ⊥
+GivesName (Some text) name = IsName text × (name ≡ text)
+
+-- exactly that name
+abbrev pub IsNameGiven : Option Text → Option Text → Type 0
+IsNameGiven text (Some name) = GivesName text name
+IsNameGiven text None = (name : Text) → ¬ GivesName text name
 
 -- the limit that an option gives, or the default
 abbrev pub GivesLimit : Option Text → ℕ → Type 0
@@ -44,14 +57,16 @@ IsFuseGiven text (Ok fuse) = GivesFuse text fuse
 IsFuseGiven text (Err fault) = GivesNoFuse text
 
 -- what may be asked for: a replay with this limit, in which the call of this number fails, or none;
--- or to inspect the file of this path
+-- a rehearsal of the take of this name, with this limit; or to inspect the file of this path
 pub data Wish : Type 0 where
   Replaying : ℕ → Option ℕ → Wish
+  Rehearsing : Text → ℕ → Wish
   Inspecting : Text → Wish
 
 -- what a task is about
 abbrev pub wish_of : Task → Wish
 wish_of (Replay limit fuse) = Replaying limit fuse
+wish_of (Rehearse name limit) = Rehearsing name limit
 wish_of (Inspect file) = Inspecting (string_bytes file)
 
 -- the command and its options ask for this
@@ -60,6 +75,9 @@ IsWishOf None wish = ⊥
 IsWishOf (Some command) (Replaying limit fuse) =
     (command.0 ≡ codes "replay") × GivesLimit (first_of (codes "limit") command.1) limit
     × GivesFuse (first_of (codes "fuse") command.1) fuse
+IsWishOf (Some command) (Rehearsing name limit) =
+    (command.0 ≡ codes "rehearse") × GivesName (first_of (codes "name") command.1) name
+    × GivesLimit (first_of (codes "limit") command.1) limit
 IsWishOf (Some command) (Inspecting path) =
     (command.0 ≡ codes "inspect") × (first_of (codes "file") command.1 ≡ Some path)
 
@@ -71,11 +89,24 @@ AsksNothing command = (wish : Wish) → ¬ IsWishOf command wish
 abbrev pub AsksForFile : Option (Text × List Row) → Type 0
 AsksForFile command = (path : Text) × IsWishOf command (Inspecting path)
 
--- where they name a replay, they give no limit that is one
+-- they name a rehearsal and give no name that is one
+abbrev pub LacksName : Option (Text × List Row) → Type 0
+LacksName None = ⊥
+LacksName (Some command) =
+    (command.0 ≡ codes "rehearse") × IsNameGiven (first_of (codes "name") command.1) None
+
+-- they give a name that is one, but no limit that is one
+abbrev pub LacksLimitOnly : List Row → Type 0
+LacksLimitOnly options = ((name : Text) × GivesName (first_of (codes "name") options) name)
+    × IsLimitGiven (first_of (codes "limit") options) None
+
+-- where they name a replay, they give no limit that is one; where a rehearsal, a name that is one,
+-- but no limit
 abbrev pub LacksLimit : Option (Text × List Row) → Type 0
 LacksLimit None = ⊤
 LacksLimit (Some command) =
-    command.0 ≡ codes "replay" → IsLimitGiven (first_of (codes "limit") command.1) None
+    (command.0 ≡ codes "replay" → IsLimitGiven (first_of (codes "limit") command.1) None)
+    × (command.0 ≡ codes "rehearse" → LacksLimitOnly command.1)
 
 -- they name a replay and give a limit that is one, but no fuse that is one
 abbrev pub LacksFuse : Option (Text × List Row) → Type 0
@@ -87,6 +118,7 @@ LacksFuse (Some command) = (command.0 ≡ codes "replay")
 -- exactly the line that they come to
 abbrev pub IsLineFor : Option (Text × List Row) → CommandLine → Type 0
 IsLineFor command (Run task) = IsWishOf command (wish_of task)
+IsLineFor command BadName = AsksNothing command × LacksName command
 IsLineFor command BadLimit = AsksNothing command × LacksLimit command
 IsLineFor command BadFuse = AsksNothing command × LacksFuse command
 IsLineFor command (Tell error) = ⊥
@@ -101,6 +133,12 @@ pub record IsToldOf (words : List Text) (kind : ErrorKind) : Type 0 where
   pub asks_nothing : (wish : Wish) → ¬ AsksFor words wish
   pub not_memory : kind ≢ OutOfMemory
   pub reason : IsAmong kind (fault_of command_line words)
+
+-- `clap` takes the words, and they ask for nothing, by a name that is none
+pub record HasBadName (words : List Text) : Type 0 where
+  pub taken : fault_of command_line words ≡ []
+  pub asks_nothing : (wish : Wish) → ¬ AsksFor words wish
+  pub no_name : LacksName (subcommand_of command_line words)
 
 -- `clap` takes the words, and they ask for nothing, by a limit that is none
 pub record HasBadLimit (words : List Text) : Type 0 where
@@ -117,6 +155,7 @@ pub record HasBadFuse (words : List Text) : Type 0 where
 -- what the words come to
 abbrev pub IsLineOf : List Text → CommandLine → Type 0
 IsLineOf words (Run task) = AsksFor words (wish_of task)
+IsLineOf words BadName = HasBadName words
 IsLineOf words BadLimit = HasBadLimit words
 IsLineOf words BadFuse = HasBadFuse words
 IsLineOf words (Tell error) = IsToldOf words (kind_of error)
@@ -124,90 +163,9 @@ IsLineOf words (Tell error) = IsToldOf words (kind_of error)
 -- where a task runs, its limit is one
 abbrev pub HasLimit : CommandLine → Type 0
 HasLimit (Run (Replay limit fuse)) = IsLimit limit
+HasLimit (Run (Rehearse name limit)) = IsLimit limit
 HasLimit (Run (Inspect file)) = ⊤
+HasLimit BadName = ⊤
 HasLimit BadLimit = ⊤
 HasLimit BadFuse = ⊤
 HasLimit (Tell error) = ⊤
-
--- `replay` runs, with a limit N and a fuse K or without, whatever the program's name, N and K
-pub record RunsReplay (words : List Text) (line : CommandLine) : Type 0 where
-  -- `replay`
-  pub plain : (program : Text) → words ≡ program ∷ codes "replay" ∷ []
-      → line ≡ Run (Replay default_limit None)
-  -- `replay --limit N`
-  pub apart : (program text : Text) → IsLimitText text
-      → words ≡ program ∷ codes "replay" ∷ codes "--limit" ∷ text ∷ []
-      → line ≡ Run (Replay (number_written text) None)
-  -- `replay --limit=N`
-  pub joined : (program text : Text) → IsLimitText text
-      → words ≡ program ∷ codes "replay" ∷ (codes "--limit=" ++ text) ∷ []
-      → line ≡ Run (Replay (number_written text) None)
-  -- `replay --fuse K`
-  pub fuse_apart : (program text : Text) → IsNumber text
-      → words ≡ program ∷ codes "replay" ∷ codes "--fuse" ∷ text ∷ []
-      → line ≡ Run (Replay default_limit (Some (number_written text)))
-  -- `replay --fuse=K`
-  pub fuse_joined : (program text : Text) → IsNumber text
-      → words ≡ program ∷ codes "replay" ∷ (codes "--fuse=" ++ text) ∷ []
-      → line ≡ Run (Replay default_limit (Some (number_written text)))
-  -- `replay --limit N --fuse K`
-  pub both : (program limit fuse : Text) → IsLimitText limit → IsNumber fuse
-      → words ≡ program ∷ codes "replay" ∷ codes "--limit" ∷ limit ∷ codes "--fuse" ∷ fuse ∷ []
-      → line ≡ Run (Replay (number_written limit) (Some (number_written fuse)))
-  -- `replay --fuse K --limit N`
-  pub turned : (program limit fuse : Text) → IsLimitText limit → IsNumber fuse
-      → words ≡ program ∷ codes "replay" ∷ codes "--fuse" ∷ fuse ∷ codes "--limit" ∷ limit ∷ []
-      → line ≡ Run (Replay (number_written limit) (Some (number_written fuse)))
-
--- a value of another form is a fault of its own, whatever the program's name, N and K; that of the
--- limit is told first
-pub record RefusesValues (words : List Text) (line : CommandLine) : Type 0 where
-  -- `replay --limit=N`
-  pub limit : (program text : Text) → ¬ IsLimitText text
-      → words ≡ program ∷ codes "replay" ∷ (codes "--limit=" ++ text) ∷ []
-      → line ≡ BadLimit
-  -- `replay --fuse=K`
-  pub fuse : (program text : Text) → ¬ IsNumber text
-      → words ≡ program ∷ codes "replay" ∷ (codes "--fuse=" ++ text) ∷ []
-      → line ≡ BadFuse
-  -- `replay --fuse=K --limit=N`
-  pub first : (program limit fuse : Text) → ¬ IsLimitText limit
-      → words ≡ program ∷ codes "replay" ∷ (codes "--fuse=" ++ fuse)
-      ∷ (codes "--limit=" ++ limit) ∷ [] → line ≡ BadLimit
-
--- the line tells an error of this kind
-abbrev pub IsToldAs : ErrorKind → CommandLine → Type 0
-IsToldAs kind (Run task) = ⊥
-IsToldAs kind BadLimit = ⊥
-IsToldAs kind BadFuse = ⊥
-IsToldAs kind (Tell error) = kind_of error ≡ kind
-
--- `--help` and `--version` are answered, and no command at all is a fault, whatever the program's
--- name
-pub record TellsHelp (words : List Text) (line : CommandLine) : Type 0 where
-  pub help : (program : Text) → words ≡ program ∷ codes "--help" ∷ [] → IsToldAs DisplayHelp line
-  pub version : (program : Text) → words ≡ program ∷ codes "--version" ∷ []
-      → IsToldAs DisplayVersion line
-  pub bare : (program : Text) → words ≡ program ∷ [] → IsToldAs MissingSubcommand line
-
--- the line inspects the file of this path
-abbrev pub Inspects : Text → CommandLine → Type 0
-Inspects path (Run (Inspect file)) = string_bytes file ≡ path
-Inspects path (Run (Replay limit fuse)) = ⊥
-Inspects path BadLimit = ⊥
-Inspects path BadFuse = ⊥
-Inspects path (Tell error) = ⊥
-
--- a word that is no option: it doesn't begin with a hyphen
-abbrev pub IsPlain : Text → Type 0
-IsPlain [] = ⊤
-IsPlain (byte ∷ bytes) = byte ≢ 45
-
--- `inspect FILE` runs, whatever the program's name; no file and a second one are faults
-pub record RunsInspect (words : List Text) (line : CommandLine) : Type 0 where
-  pub file : (program path : Text) → IsPlain path
-      → words ≡ program ∷ codes "inspect" ∷ path ∷ [] → Inspects path line
-  pub none : (program : Text) → words ≡ program ∷ codes "inspect" ∷ []
-      → IsToldAs MissingRequiredArgument line
-  pub second : (program path other : Text) → IsPlain path → IsPlain other
-      → words ≡ program ∷ codes "inspect" ∷ path ∷ other ∷ [] → IsToldAs UnknownArgument line

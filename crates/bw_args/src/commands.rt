@@ -4,10 +4,13 @@ ghost use Rattle.clap.specs.Words.{app_of, first_value, found_of, rows_of, rule_
 ghost use Rattle.clap.specs.Words.{subcommand_rows_of};
 ghost use Rattle.clap.specs.declared.builder.Command.TheViews.{out-Command};
 ghost use Rattle.bw_args.specs.Commands.{command_line, fuse_option, inspect_command, limit_option};
+ghost use Rattle.bw_args.specs.Commands.{name_option, program, rehearse_command};
 ghost use Rattle.bw_args.specs.Commands.{replay_command};
 ghost use Rattle.bw_args.specs.Lines.{AsksForFile, IsFuseGiven, IsLimitGiven, IsLineFor};
+ghost use Rattle.bw_args.specs.Lines.{IsNameGiven};
 
 use crate::{CommandLine, Task, numbers};
+use bw_take::Name;
 use clap::{Arg, ArgMatches, Command};
 use std::alloc::{AllocError, Global};
 
@@ -19,13 +22,22 @@ struct NoNumber;
 pub fn bwingest<'a>(alloc: Global) -> Result<Command<'a>, AllocError>
     ensures { IfOk result (λ c. app_of c ≡ command_line) }
 {
-    Command::new(alloc, "bwingest")
+    program(alloc)?
+        .subcommand(replay(alloc)?)?
+        .subcommand(rehearse(alloc)?)?
+        .subcommand(inspect(alloc)?)
+}
+
+/// The program without its commands.
+fn program<'a>(alloc: Global) -> Result<Command<'a>, AllocError>
+    ensures { IfOk result (λ c. app_of c ≡ program) }
+{
+    let command = Command::new(alloc, "bwingest")
         .bin_name("bwingest")?
         .version("1.0.0")
         .about("An ingest server for field recordings")
-        .subcommand_required(true)
-        .subcommand(replay(alloc)?)?
-        .subcommand(inspect(alloc)?)
+        .subcommand_required(true);
+    Ok(command)
 }
 
 fn replay<'a>(alloc: Global) -> Result<Command<'a>, AllocError>
@@ -36,6 +48,29 @@ fn replay<'a>(alloc: Global) -> Result<Command<'a>, AllocError>
         .about("Runs each line of standard input as an exchange, and prints replies and files")
         .arg(limit_option(alloc))?
         .arg(fuse_option(alloc))
+}
+
+fn rehearse<'a>(alloc: Global) -> Result<Command<'a>, AllocError>
+    ensures shape { IfOk result (λ c. app_of c ≡ rehearse_command) }
+    ensures local { IfOk result (λ c. (out-Command c).has_globals ≡ false) }
+{
+    Command::new(alloc, "rehearse")
+        .about("Plays a recorder and a server by hand, by the events on standard input")
+        .arg(name_option(alloc))?
+        .arg(limit_option(alloc))
+}
+
+/// A name that begins with a hyphen is taken in the word of its option alone, as `--name=-a`:
+/// `clap` says nothing exact of a command that takes such a word by itself.
+fn name_option<'a>(alloc: Global) -> Arg<'a>
+    ensures rule { rule_of result ≡ name_option }
+    ensures local { result.global ≡ false }
+{
+    Arg::new(alloc, "name")
+        .long("name")
+        .value_name("NAME")
+        .required(true)
+        .help("The take's name")
 }
 
 fn limit_option<'a>(alloc: Global) -> Arg<'a>
@@ -69,14 +104,15 @@ fn inspect<'a>(alloc: Global) -> Result<Command<'a>, AllocError>
         .arg(file)
 }
 
-/// What parsed words come to. Only the path of a file takes memory, so that a bad limit or fuse is
-/// told whatever is left of it.
+/// What parsed words come to. Only the path of a file takes memory, so that a bad name, limit or
+/// fuse is told whatever is left of it.
 pub fn line(alloc: Global, matches: &ArgMatches<'_>) -> Result<CommandLine, AllocError>
     ensures ok { IfOk result (IsLineFor (subcommand_rows_of matches.now)) }
     ensures err { OnErr result (AsksForFile (subcommand_rows_of matches.now)) }
 {
     match matches.subcommand() {
         Some(("replay", options)) => Ok(replay_line(options)),
+        Some(("rehearse", options)) => Ok(rehearse_line(options)),
         Some(("inspect", options)) => inspect_line(alloc, options),
         // `clap` refuses words without a command of ours.
         _ => Ok(CommandLine::BadLimit),
@@ -87,13 +123,26 @@ pub fn line(alloc: Global, matches: &ArgMatches<'_>) -> Result<CommandLine, Allo
 fn replay_line(options: &ArgMatches<'_>) -> CommandLine
     ensures { IsLineFor (Some (codes "replay", rows_of (found_of options.now))) result }
 {
-    let Some(limit) = replay_limit(options) else {
+    let Some(limit) = limit_given(options) else {
         return CommandLine::BadLimit;
     };
-    let Ok(fuse) = replay_fuse(options) else {
+    let Ok(fuse) = fuse_given(options) else {
         return CommandLine::BadFuse;
     };
     CommandLine::Run(Task::Replay { limit, fuse })
+}
+
+/// The name is looked at first.
+fn rehearse_line(options: &ArgMatches<'_>) -> CommandLine
+    ensures { IsLineFor (Some (codes "rehearse", rows_of (found_of options.now))) result }
+{
+    let Some(name) = name_given(options) else {
+        return CommandLine::BadName;
+    };
+    match limit_given(options) {
+        Some(limit) => CommandLine::Run(Task::Rehearse { name, limit }),
+        None => CommandLine::BadLimit,
+    }
 }
 
 fn inspect_line(alloc: Global, options: &ArgMatches<'_>) -> Result<CommandLine, AllocError>
@@ -109,8 +158,15 @@ fn inspect_line(alloc: Global, options: &ArgMatches<'_>) -> Result<CommandLine, 
     Ok(CommandLine::Run(Task::Inspect { file }))
 }
 
+/// The name that the options give; none where it is not of its form.
+fn name_given(options: &ArgMatches<'_>) -> Option<Name>
+    ensures { IsNameGiven (first_value (found_of options.now) (codes "name")) result }
+{
+    Name::new(options.get_str("name")?.as_bytes())
+}
+
 /// The limit that the options give, or the default; none where it is not of its form.
-fn replay_limit(options: &ArgMatches<'_>) -> Option<u64>
+fn limit_given(options: &ArgMatches<'_>) -> Option<u64>
     ensures { IsLimitGiven (first_value (found_of options.now) (codes "limit")) result }
 {
     match options.get_str("limit") {
@@ -120,7 +176,7 @@ fn replay_limit(options: &ArgMatches<'_>) -> Option<u64>
 }
 
 /// The number of the call that is to fail, as the options give it, or none.
-fn replay_fuse(options: &ArgMatches<'_>) -> Result<Option<u32>, NoNumber>
+fn fuse_given(options: &ArgMatches<'_>) -> Result<Option<u32>, NoNumber>
     ensures { IsFuseGiven (first_value (found_of options.now) (codes "fuse")) result }
 {
     let Some(text) = options.get_str("fuse") else {

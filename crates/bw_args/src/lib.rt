@@ -3,12 +3,14 @@
 
 ghost use Rattle.std.specs.Prelude.{◌≡◌, ◌↔◌, map, IfOk, IsErr, string_bytes};
 ghost use Rattle.clap.specs.Words.{kind_of};
-ghost use Rattle.bw_args.specs.Lines.{HasLimit, IsLineOf, RefusesValues, RunsInspect, RunsReplay};
-ghost use Rattle.bw_args.specs.Lines.{TellsHelp};
+ghost use Rattle.bw_args.specs.Lines.{HasLimit, IsLineOf};
+ghost use Rattle.bw_args.specs.Forms.{RefusesValues, RunsInspect, RunsRehearsal, RunsReplay};
+ghost use Rattle.bw_args.specs.Forms.{TellsHelp};
 
 mod commands;
 pub mod numbers;
 
+use bw_take::Name;
 use clap::Error;
 use clap::error::ErrorKind;
 use std::alloc::{AllocError, Global};
@@ -20,6 +22,9 @@ pub enum Task {
     /// `limit` bytes is written as BW64. With a `fuse`, the call of the store with that number
     /// fails, the first being number 0.
     Replay { limit: u64, fuse: Option<u32> },
+    /// Play a recorder and a server by hand, by the events on standard input: the take has this
+    /// name, and `limit` is that of a replay.
+    Rehearse { name: Name, limit: u64 },
     /// Tell what is in the file of this path.
     Inspect { file: String },
 }
@@ -28,7 +33,9 @@ pub enum Task {
 #[derive(Drop)]
 pub enum CommandLine {
     Run(Task),
-    /// A limit that is none, which is a usage fault: `BAD_LIMIT` is its text.
+    /// A name that is none, which is a usage fault: `BAD_NAME` is its text.
+    BadName,
+    /// A limit that is none, a usage fault too: `BAD_LIMIT` is its text. A name beside it is one.
     BadLimit,
     /// A fuse that is none beside a limit that is one, a usage fault too: `BAD_FUSE` is its text.
     BadFuse,
@@ -36,6 +43,15 @@ pub enum CommandLine {
     /// where its text goes, and `Error::exit_code` is the status, 0 or 2.
     Tell(Error),
 }
+
+/// What is said of a name that is none.
+pub const BAD_NAME: &str = "\
+error: '--name <NAME>' takes 1 to 32 bytes of a-z, 0-9, '-' and '_'
+
+Usage: bwingest <COMMAND>
+
+For more information, try '--help'.
+";
 
 /// What is said of a limit that is none.
 pub const BAD_LIMIT: &str = "\
@@ -58,11 +74,11 @@ For more information, try '--help'.
 /// Reads a command line, of which the first word is the program's own name.
 ///
 /// Which words run a task, and of what kind an error is, is `clap`'s own account of its walk over
-/// them (`line`). In plain terms the contract says of eight forms that they run (`replay`,
-/// `inspect`), of three which value is a fault (`values`) and of five what they tell (`help`,
-/// `inspect`). That both options may be given in any of their forms, and that all else but `--` at
-/// the end or before a file is refused, is tested by examples. Nothing is claimed of what the texts
-/// say and where they go.
+/// them (`line`). In plain terms the contract says of thirteen forms that they run (`replay`,
+/// `rehearse`, `inspect`), of six which value is a fault (`values`) and of seven what they tell
+/// (`help`, `rehearse`, `inspect`). That both options may be given in any of their forms, and that
+/// all else but `--` at the end or before a file is refused, is tested by examples. Nothing is
+/// claimed of what the texts say and where they go.
 ///
 /// # Errors
 /// `AllocError` where memory was refused.
@@ -70,6 +86,7 @@ pub fn parse(alloc: Global, words: &[String]) -> Result<CommandLine, AllocError>
     ensures line { IfOk result (IsLineOf (map string_bytes words.now)) }
     ensures limit { IfOk result HasLimit }
     ensures replay { IfOk result (RunsReplay (map string_bytes words.now)) }
+    ensures rehearse { IfOk result (RunsRehearsal (map string_bytes words.now)) }
     ensures values { IfOk result (RefusesValues (map string_bytes words.now)) }
     ensures inspect { IfOk result (RunsInspect (map string_bytes words.now)) }
     ensures help { IfOk result (TellsHelp (map string_bytes words.now)) }

@@ -1,7 +1,9 @@
 use Rattle.std.proofs.lemmas.Result.{IfOk-weaker}
 use Rattle.bw_args.proofs.Asked.{line_limit}
-use Rattle.bw_args.proofs.FormLemmas.{refuses_values, runs_inspect, runs_replay, tells_help}
+use Rattle.bw_args.proofs.FormLemmas.{runs_inspect, runs_replay, tells_help}
 use Rattle.bw_args.proofs.LineLemmas.{line_asked, told_line, told_result}
+use Rattle.bw_args.proofs.RehearsalLemmas.{runs_rehearsal}
+use Rattle.bw_args.proofs.ValueLemmas.{refuses_values}
 use Rattle.bw_args.proofs.parse.Goals as goal
 
 pub returns-in-Ok-clause-line : goal.returns-in-Ok-clause-line
@@ -23,6 +25,12 @@ returns-in-Ok-clause-replay c = IfOk-weaker c.line.result _ _ (runs_replay _) (r
 
 pub returns-clause-replay : goal.returns-clause-replay
 returns-clause-replay c = IfOk-weaker c.told.result _ _ (runs_replay _) (returns-clause-line c)
+
+pub returns-in-Ok-clause-rehearse : goal.returns-in-Ok-clause-rehearse
+returns-in-Ok-clause-rehearse c = IfOk-weaker c.line.result _ _ (runs_rehearsal _) (returns-in-Ok-clause-line c)
+
+pub returns-clause-rehearse : goal.returns-clause-rehearse
+returns-clause-rehearse c = IfOk-weaker c.told.result _ _ (runs_rehearsal _) (returns-clause-line c)
 
 pub returns-in-Ok-clause-values : goal.returns-in-Ok-clause-values
 returns-in-Ok-clause-values c = IfOk-weaker c.line.result _ _ (refuses_values _) (returns-in-Ok-clause-line c)

@@ -1,0 +1,144 @@
+-- The forms of the commands, in plain words, and what each comes to.
+use Rattle.std.specs.Prelude.{◌≡◌, ◌≢◌, ⊤, List, [], ◌∷◌, ◌++◌, Some, None, codes, string_bytes}
+use Rattle.clap.specs.Walk.{Text}
+use Rattle.clap.specs.Values.{kind_of}
+use Rattle.clap.specs.declared.error.ErrorKind.{ErrorKind}
+use Rattle.clap.specs.declared.error.ErrorKind.TheVariants.{DisplayHelp, DisplayVersion}
+use Rattle.clap.specs.declared.error.ErrorKind.TheVariants.{MissingRequiredArgument}
+use Rattle.clap.specs.declared.error.ErrorKind.TheVariants.{MissingSubcommand, UnknownArgument}
+use Rattle.bw_args.specs.Numbers.{IsLimitText, IsNumber, default_limit, number_written}
+use Rattle.bw_args.specs.Lines.{IsName}
+use Rattle.bw_args.specs.declared.CommandLine.{CommandLine}
+use Rattle.bw_args.specs.declared.CommandLine.TheVariants.{Run, BadName, BadLimit}
+use Rattle.bw_args.specs.declared.CommandLine.TheVariants.{BadFuse, Tell}
+use Rattle.bw_args.specs.declared.Task.TheVariants.{Replay, Rehearse, Inspect}
+
+-- `replay` runs, with a limit N and a fuse K or without, whatever the program's name, N and K
+pub record RunsReplay (words : List Text) (line : CommandLine) : Type 0 where
+  -- `replay`
+  pub plain : (program : Text) → words ≡ program ∷ codes "replay" ∷ []
+      → line ≡ Run (Replay default_limit None)
+  -- `replay --limit N`
+  pub apart : (program text : Text) → IsLimitText text
+      → words ≡ program ∷ codes "replay" ∷ codes "--limit" ∷ text ∷ []
+      → line ≡ Run (Replay (number_written text) None)
+  -- `replay --limit=N`
+  pub joined : (program text : Text) → IsLimitText text
+      → words ≡ program ∷ codes "replay" ∷ (codes "--limit=" ++ text) ∷ []
+      → line ≡ Run (Replay (number_written text) None)
+  -- `replay --fuse K`
+  pub fuse_apart : (program text : Text) → IsNumber text
+      → words ≡ program ∷ codes "replay" ∷ codes "--fuse" ∷ text ∷ []
+      → line ≡ Run (Replay default_limit (Some (number_written text)))
+  -- `replay --fuse=K`
+  pub fuse_joined : (program text : Text) → IsNumber text
+      → words ≡ program ∷ codes "replay" ∷ (codes "--fuse=" ++ text) ∷ []
+      → line ≡ Run (Replay default_limit (Some (number_written text)))
+  -- `replay --limit N --fuse K`
+  pub both : (program limit fuse : Text) → IsLimitText limit → IsNumber fuse
+      → words ≡ program ∷ codes "replay" ∷ codes "--limit" ∷ limit ∷ codes "--fuse" ∷ fuse ∷ []
+      → line ≡ Run (Replay (number_written limit) (Some (number_written fuse)))
+  -- `replay --fuse K --limit N`
+  pub turned : (program limit fuse : Text) → IsLimitText limit → IsNumber fuse
+      → words ≡ program ∷ codes "replay" ∷ codes "--fuse" ∷ fuse ∷ codes "--limit" ∷ limit ∷ []
+      → line ≡ Run (Replay (number_written limit) (Some (number_written fuse)))
+
+-- the line tells an error of this kind
+abbrev pub IsToldAs : ErrorKind → CommandLine → Type 0
+IsToldAs kind (Run task) = ⊥
+IsToldAs kind BadName = ⊥
+IsToldAs kind BadLimit = ⊥
+IsToldAs kind BadFuse = ⊥
+IsToldAs kind (Tell error) = kind_of error ≡ kind
+
+-- a word that is no option: it doesn't begin with a hyphen
+abbrev pub IsPlain : Text → Type 0
+IsPlain [] = ⊤
+IsPlain (byte ∷ bytes) = byte ≢ 45
+
+-- `rehearse` runs, with a limit N or without, whatever the program's name, NAME and N; a NAME that
+-- begins with a hyphen stands in the word of its option
+pub record RunsRehearsal (words : List Text) (line : CommandLine) : Type 0 where
+  -- `rehearse --name NAME`
+  pub apart : (program name : Text) → IsName name → IsPlain name
+      → words ≡ program ∷ codes "rehearse" ∷ codes "--name" ∷ name ∷ []
+      → line ≡ Run (Rehearse name default_limit)
+  -- `rehearse --name=NAME`
+  pub joined : (program name : Text) → IsName name
+      → words ≡ program ∷ codes "rehearse" ∷ (codes "--name=" ++ name) ∷ []
+      → line ≡ Run (Rehearse name default_limit)
+  -- `rehearse --name NAME --limit N`
+  pub both : (program name limit : Text) → IsName name → IsPlain name → IsLimitText limit
+      → words ≡ program ∷ codes "rehearse" ∷ codes "--name" ∷ name ∷ codes "--limit" ∷ limit ∷ []
+      → line ≡ Run (Rehearse name (number_written limit))
+  -- `rehearse --limit N --name NAME`
+  pub turned : (program name limit : Text) → IsName name → IsPlain name → IsLimitText limit
+      → words ≡ program ∷ codes "rehearse" ∷ codes "--limit" ∷ limit ∷ codes "--name" ∷ name ∷ []
+      → line ≡ Run (Rehearse name (number_written limit))
+  -- `rehearse --name=NAME --limit=N`
+  pub both_joined : (program name limit : Text) → IsName name → IsLimitText limit
+      → words ≡ program ∷ codes "rehearse" ∷ (codes "--name=" ++ name)
+      ∷ (codes "--limit=" ++ limit) ∷ []
+      → line ≡ Run (Rehearse name (number_written limit))
+  -- `rehearse`
+  pub none : (program : Text) → words ≡ program ∷ codes "rehearse" ∷ []
+      → IsToldAs MissingRequiredArgument line
+  -- `rehearse --limit=N`
+  pub limit_alone : (program limit : Text)
+      → words ≡ program ∷ codes "rehearse" ∷ (codes "--limit=" ++ limit) ∷ []
+      → IsToldAs MissingRequiredArgument line
+
+-- a value of another form is a fault of its own, whatever the program's name, NAME, N and K; that
+-- of the name is told first, then that of the limit
+pub record RefusesValues (words : List Text) (line : CommandLine) : Type 0 where
+  -- `replay --limit=N`
+  pub limit : (program text : Text) → ¬ IsLimitText text
+      → words ≡ program ∷ codes "replay" ∷ (codes "--limit=" ++ text) ∷ []
+      → line ≡ BadLimit
+  -- `replay --fuse=K`
+  pub fuse : (program text : Text) → ¬ IsNumber text
+      → words ≡ program ∷ codes "replay" ∷ (codes "--fuse=" ++ text) ∷ []
+      → line ≡ BadFuse
+  -- `replay --fuse=K --limit=N`
+  pub first : (program limit fuse : Text) → ¬ IsLimitText limit
+      → words ≡ program ∷ codes "replay" ∷ (codes "--fuse=" ++ fuse)
+      ∷ (codes "--limit=" ++ limit) ∷ [] → line ≡ BadLimit
+  -- `rehearse --name=NAME`
+  pub name : (program text : Text) → ¬ IsName text
+      → words ≡ program ∷ codes "rehearse" ∷ (codes "--name=" ++ text) ∷ []
+      → line ≡ BadName
+  -- `rehearse --limit=N --name=NAME`
+  pub name_first : (program name limit : Text) → ¬ IsName name
+      → words ≡ program ∷ codes "rehearse" ∷ (codes "--limit=" ++ limit)
+      ∷ (codes "--name=" ++ name) ∷ [] → line ≡ BadName
+  -- `rehearse --name=NAME --limit=N`
+  pub name_then : (program name limit : Text) → IsName name → ¬ IsLimitText limit
+      → words ≡ program ∷ codes "rehearse" ∷ (codes "--name=" ++ name)
+      ∷ (codes "--limit=" ++ limit) ∷ [] → line ≡ BadLimit
+
+-- `--help` and `--version` are answered, and no command at all is a fault, whatever the program's
+-- name
+pub record TellsHelp (words : List Text) (line : CommandLine) : Type 0 where
+  pub help : (program : Text) → words ≡ program ∷ codes "--help" ∷ [] → IsToldAs DisplayHelp line
+  pub version : (program : Text) → words ≡ program ∷ codes "--version" ∷ []
+      → IsToldAs DisplayVersion line
+  pub bare : (program : Text) → words ≡ program ∷ [] → IsToldAs MissingSubcommand line
+
+-- the line inspects the file of this path
+abbrev pub Inspects : Text → CommandLine → Type 0
+Inspects path (Run (Inspect file)) = string_bytes file ≡ path
+Inspects path (Run (Replay limit fuse)) = ⊥
+Inspects path (Run (Rehearse name limit)) = ⊥
+Inspects path BadName = ⊥
+Inspects path BadLimit = ⊥
+Inspects path BadFuse = ⊥
+Inspects path (Tell error) = ⊥
+
+-- `inspect FILE` runs, whatever the program's name; no file and a second one are faults
+pub record RunsInspect (words : List Text) (line : CommandLine) : Type 0 where
+  pub file : (program path : Text) → IsPlain path
+      → words ≡ program ∷ codes "inspect" ∷ path ∷ [] → Inspects path line
+  pub none : (program : Text) → words ≡ program ∷ codes "inspect" ∷ []
+      → IsToldAs MissingRequiredArgument line
+  pub second : (program path other : Text) → IsPlain path → IsPlain other
+      → words ≡ program ∷ codes "inspect" ∷ path ∷ other ∷ [] → IsToldAs UnknownArgument line
