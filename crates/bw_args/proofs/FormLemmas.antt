@@ -9,8 +9,9 @@ use Rattle.clap.specs.declared.error.ErrorKind.TheVariants.{MissingSubcommand, U
 use Rattle.clap.specs.Words.{IsAmong, Row, Text, fault_of, first_of, kind_of}
 use Rattle.clap.proofs.OnLiterals.{clap_on_literals}
 use Rattle.bw_args.specs.Commands.{command_line}
-use Rattle.bw_args.specs.Lines.{AsksFor, GivesFuse, GivesLimit, GivesName, IsLineOf, IsWishOf, Wish, wish_of}
-use Rattle.bw_args.specs.Lines.{Inspecting, Rehearsing, Replaying}
+use Rattle.bw_args.specs.Lines.{AsksFor, GivesFuse, GivesLimit, GivesName, IsLineOf, IsLineRead, IsWishOf, Wish}
+use Rattle.bw_args.specs.ReadWords.{as_read}
+use Rattle.bw_args.specs.Lines.{Inspecting, Rehearsing, Replaying, wish_of}
 use Rattle.bw_args.specs.Forms.{Inspects, IsPlain, IsToldAs, RunsInspect, RunsReplay, TellsHelp}
 use Rattle.bw_args.specs.Numbers.{IsLimitText, IsNumber, default_limit, number_written}
 use Rattle.bw_args.specs.declared.CommandLine.{CommandLine}
@@ -124,7 +125,7 @@ RunsFor wish BadFuse = ⊥
 RunsFor wish (Tell error) = ⊥
 
 -- words that ask for something run it
-pub runs : (words : List Text) (line : CommandLine) (wish : Wish) → IsLineOf words line → AsksFor words wish →
+pub runs : (words : List Text) (line : CommandLine) (wish : Wish) → IsLineRead words line → AsksFor words wish →
     RunsFor wish line
 runs words (Run task) wish is asks = one_wish _ (wish_of task) wish is.asked asks.asked
 runs words BadName wish is asks = absurd (is.asks_nothing wish asks)
@@ -153,9 +154,9 @@ inspects path (Tell error) e = absurd e
 
 -- words that ask for a replay run it
 asked_replays : (words asking : List Text) (line : CommandLine) (limit : ℕ) (fuse : Option ℕ) → IsLineOf words line
-    → words ≡ asking → AsksFor asking (Replaying limit fuse) → line ≡ Run (Replay limit fuse)
-asked_replays words asking line limit fuse is e asks =
-    replays limit fuse line (runs words line _ is (subst (λ w. AsksFor w (Replaying limit fuse)) (sym e) asks))
+    → words ≡ asking → AsksFor (as_read asking) (Replaying limit fuse) → line ≡ Run (Replay limit fuse)
+asked_replays words asking line limit fuse is e asks = replays limit fuse line
+    (runs (as_read words) line _ is (subst (λ w. AsksFor (as_read w) (Replaying limit fuse)) (sym e) asks))
 
 pub runs_replay : (words : List Text) (line : CommandLine) → IsLineOf words line → RunsReplay words line
 runs_replay words line is = record {
@@ -172,7 +173,7 @@ runs_replay words line is = record {
 
 -- words with a fault of one kind tell it
 pub tells : (kind : ErrorKind) (words : List Text) (line : CommandLine) → fault_of command_line words ≡ kind ∷ []
-    → IsLineOf words line → IsToldAs kind line
+    → IsLineRead words line → IsToldAs kind line
 tells kind words (Run task) fault is = let bad : kind ∷ [] ≡ [] = sym fault ∙ is.taken in cc
 tells kind words BadName fault is = let bad : kind ∷ [] ≡ [] = sym fault ∙ is.taken in cc
 tells kind words BadLimit fault is = let bad : kind ∷ [] ≡ [] = sym fault ∙ is.taken in cc
@@ -194,9 +195,12 @@ bare_fault program = refl
 
 pub tells_help : (words : List Text) (line : CommandLine) → IsLineOf words line → TellsHelp words line
 tells_help words line is = record {
-  help = λ program e. tells DisplayHelp words line (ap (fault_of command_line) e ∙ help_fault program) is;
-  version = λ program e. tells DisplayVersion words line (ap (fault_of command_line) e ∙ version_fault program) is;
-  bare = λ program e. tells MissingSubcommand words line (ap (fault_of command_line) e ∙ bare_fault program) is;
+  help = λ program e. tells DisplayHelp (as_read words) line
+      (ap (λ w. fault_of command_line (as_read w)) e ∙ help_fault program) is;
+  version = λ program e. tells DisplayVersion (as_read words) line
+      (ap (λ w. fault_of command_line (as_read w)) e ∙ version_fault program) is;
+  bare = λ program e. tells MissingSubcommand (as_read words) line
+      (ap (λ w. fault_of command_line (as_read w)) e ∙ bare_fault program) is;
 }
 
 -- a word that is no option is read as a value
@@ -230,10 +234,11 @@ second_fault program (c ∷ cs) (d ∷ ds) p q = let v = plain_byte c p in let w
 pub runs_inspect : (words : List Text) (line : CommandLine) → IsLineOf words line → RunsInspect words line
 runs_inspect words line is = record {
   file = λ program path plain e.
-      inspects path line (runs words line _ is
-      (subst (λ w. AsksFor w (Inspecting path)) (sym e) (file_asks program path plain)));
-  none = λ program e. tells MissingRequiredArgument words line
-      (ap (fault_of command_line) e ∙ no_file_fault program) is;
+      inspects path line (runs (as_read words) line _ is
+      (subst (λ w. AsksFor (as_read w) (Inspecting path)) (sym e) (file_asks program path plain)));
+  none = λ program e. tells MissingRequiredArgument (as_read words) line
+      (ap (λ w. fault_of command_line (as_read w)) e ∙ no_file_fault program) is;
   second = λ program path other p q e.
-      tells UnknownArgument words line (ap (fault_of command_line) e ∙ second_fault program path other p q) is;
+      tells UnknownArgument (as_read words) line
+      (ap (λ w. fault_of command_line (as_read w)) e ∙ second_fault program path other p q) is;
 }

@@ -8,7 +8,8 @@ use Rattle.clap.specs.declared.Error.{Error}
 use Rattle.clap.specs.declared.error.ErrorKind.TheVariants.{OutOfMemory}
 use Rattle.clap.proofs.OnLiterals.{clap_on_literals}
 use Rattle.bw_args.specs.Commands.{command_line}
-use Rattle.bw_args.specs.Lines.{AsksFor, AsksNothing, IsLineFor, IsLineOf, IsWishOf, IsToldOf, LacksFuse}
+use Rattle.bw_args.specs.ReadWords.{as_read}
+use Rattle.bw_args.specs.Lines.{AsksFor, AsksNothing, IsLineFor, IsLineOf, IsLineRead, IsWishOf, IsToldOf, LacksFuse}
 use Rattle.bw_args.specs.Lines.{LacksLimit, LacksName, Wish, wish_of}
 use Rattle.bw_args.specs.declared.CommandLine.{CommandLine}
 use Rattle.bw_args.specs.declared.CommandLine.TheVariants.{Run, BadName, BadLimit, BadFuse, Tell}
@@ -70,7 +71,7 @@ pub line_asked : (a : App) (words : List Text) (command : Option (Text × List R
     a ≡ command_line
     → (is_simple_and_free a ≡ true → fault_of a words ≡ [])
     → (is_simple a ≡ true → command ≡ subcommand_of a words)
-    → IsLineFor command line → IsLineOf words line
+    → IsLineFor command line → IsLineRead words line
 line_asked a words command (Run task) is free found given =
     asked_line a words command (wish_of task) is free found given
 line_asked a words command BadName is free found bad = record {
@@ -93,7 +94,12 @@ line_asked a words command (Tell error) is free found given = absurd given
 -- the line that tells an error, where memory did not run out
 pub told_result : (result : Result CommandLine AllocError) (words : List Text) (error : Error)
     → IfOk result (λ line. line ≡ Tell error) → (kind_of error ≡ OutOfMemory → IsErr result)
-    → (kind_of error ≢ OutOfMemory → IsToldOf words (kind_of error)) → IfOk result (IsLineOf words)
-told_result (Ok line) words error told failed known = subst (IsLineOf words) (sym told)
+    → (kind_of error ≢ OutOfMemory → IsToldOf words (kind_of error)) → IfOk result (IsLineRead words)
+told_result (Ok line) words error told failed known = subst (IsLineRead words) (sym told)
     (known (λ memory. let bad : false ≡ true = failed memory in cc))
 told_result (Err e) words error told failed known = told
+
+-- the line of the words as they are read is that of the words
+pub line_of_read : (read words : List Text) (line : CommandLine) → read ≡ as_read words → IsLineRead read line
+    → IsLineOf words line
+line_of_read read words line e is = subst (λ w. IsLineRead w line) e is

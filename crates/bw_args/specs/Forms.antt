@@ -51,16 +51,11 @@ IsToldAs kind BadLimit = ⊥
 IsToldAs kind BadFuse = ⊥
 IsToldAs kind (Tell error) = kind_of error ≡ kind
 
--- a word that is no option: it doesn't begin with a hyphen
-abbrev pub IsPlain : Text → Type 0
-IsPlain [] = ⊤
-IsPlain (byte ∷ bytes) = byte ≢ 45
-
--- `rehearse` runs, with a limit N or without, whatever the program's name, NAME and N; a NAME that
--- begins with a hyphen stands in the word of its option
+-- `rehearse` runs, with a limit N or without, whatever the program's name, NAME and N; a NAME may
+-- begin with a hyphen
 pub record RunsRehearsal (words : List Text) (line : CommandLine) : Type 0 where
   -- `rehearse --name NAME`
-  pub apart : (program name : Text) → IsName name → IsPlain name
+  pub apart : (program name : Text) → IsName name
       → words ≡ program ∷ codes "rehearse" ∷ codes "--name" ∷ name ∷ []
       → line ≡ Run (Rehearse name default_limit)
   -- `rehearse --name=NAME`
@@ -68,11 +63,11 @@ pub record RunsRehearsal (words : List Text) (line : CommandLine) : Type 0 where
       → words ≡ program ∷ codes "rehearse" ∷ (codes "--name=" ++ name) ∷ []
       → line ≡ Run (Rehearse name default_limit)
   -- `rehearse --name NAME --limit N`
-  pub both : (program name limit : Text) → IsName name → IsPlain name → IsLimitText limit
+  pub both : (program name limit : Text) → IsName name → IsLimitText limit
       → words ≡ program ∷ codes "rehearse" ∷ codes "--name" ∷ name ∷ codes "--limit" ∷ limit ∷ []
       → line ≡ Run (Rehearse name (number_written limit))
   -- `rehearse --limit N --name NAME`
-  pub turned : (program name limit : Text) → IsName name → IsPlain name → IsLimitText limit
+  pub turned : (program name limit : Text) → IsName name → IsLimitText limit
       → words ≡ program ∷ codes "rehearse" ∷ codes "--limit" ∷ limit ∷ codes "--name" ∷ name ∷ []
       → line ≡ Run (Rehearse name (number_written limit))
   -- `rehearse --name=NAME --limit=N`
@@ -133,6 +128,11 @@ Inspects path BadName = ⊥
 Inspects path BadLimit = ⊥
 Inspects path BadFuse = ⊥
 Inspects path (Tell error) = ⊥
+
+-- a word that is no option: it doesn't begin with a hyphen
+abbrev pub IsPlain : Text → Type 0
+IsPlain [] = ⊤
+IsPlain (byte ∷ bytes) = byte ≢ 45
 
 -- `inspect FILE` runs, whatever the program's name; no file and a second one are faults
 pub record RunsInspect (words : List Text) (line : CommandLine) : Type 0 where

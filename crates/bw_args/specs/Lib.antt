@@ -1,4 +1,5 @@
 pub mod Numbers
 pub mod Commands
+pub mod ReadWords
 pub mod Lines
 pub mod Forms

@@ -12,6 +12,7 @@ use Rattle.bw_model.specs.Wire.{is_name}
 use Rattle.bw_args.specs.Numbers.{IsLimit, IsLimitText, IsNumber, default_limit}
 use Rattle.bw_args.specs.Numbers.{number_written}
 use Rattle.bw_args.specs.Commands.{command_line}
+use Rattle.bw_args.specs.ReadWords.{as_read}
 use Rattle.bw_args.specs.declared.CommandLine.{CommandLine}
 use Rattle.bw_args.specs.declared.CommandLine.TheVariants.{Run, BadName, BadLimit}
 use Rattle.bw_args.specs.declared.CommandLine.TheVariants.{BadFuse, Tell}
@@ -152,13 +153,17 @@ pub record HasBadFuse (words : List Text) : Type 0 where
   pub asks_nothing : (wish : Wish) → ¬ AsksFor words wish
   pub no_fuse : LacksFuse (subcommand_of command_line words)
 
+-- what the words come to, as `clap` reads them
+abbrev pub IsLineRead : List Text → CommandLine → Type 0
+IsLineRead words (Run task) = AsksFor words (wish_of task)
+IsLineRead words BadName = HasBadName words
+IsLineRead words BadLimit = HasBadLimit words
+IsLineRead words BadFuse = HasBadFuse words
+IsLineRead words (Tell error) = IsToldOf words (kind_of error)
+
 -- what the words come to
 abbrev pub IsLineOf : List Text → CommandLine → Type 0
-IsLineOf words (Run task) = AsksFor words (wish_of task)
-IsLineOf words BadName = HasBadName words
-IsLineOf words BadLimit = HasBadLimit words
-IsLineOf words BadFuse = HasBadFuse words
-IsLineOf words (Tell error) = IsToldOf words (kind_of error)
+IsLineOf words line = IsLineRead (as_read words) line
 
 -- where a task runs, its limit is one
 abbrev pub HasLimit : CommandLine → Type 0

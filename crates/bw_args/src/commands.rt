@@ -60,8 +60,8 @@ fn rehearse<'a>(alloc: Global) -> Result<Command<'a>, AllocError>
         .arg(limit_option(alloc))
 }
 
-/// A name that begins with a hyphen is taken in the word of its option alone, as `--name=-a`:
-/// `clap` says nothing exact of a command that takes such a word by itself.
+/// A name that begins with a hyphen reaches `clap` in the word of its option (`read_words`): it says
+/// nothing exact of a command that takes such a word by itself.
 fn name_option<'a>(alloc: Global) -> Arg<'a>
     ensures rule { rule_of result ≡ name_option }
     ensures local { result.global ≡ false }

@@ -9,6 +9,7 @@ ghost use Rattle.bw_args.specs.Forms.{TellsHelp};
 
 mod commands;
 pub mod numbers;
+mod read_words;
 
 use bw_take::Name;
 use clap::Error;
@@ -91,8 +92,9 @@ pub fn parse(alloc: Global, words: &[String]) -> Result<CommandLine, AllocError>
     ensures inspect { IfOk result (RunsInspect (map string_bytes words.now)) }
     ensures help { IfOk result (TellsHelp (map string_bytes words.now)) }
 {
+    let read = read_words::read_words(alloc, words)?;
     let mut command = commands::bwingest(alloc)?;
-    match command.try_get_matches_from_mut(words) {
+    match command.try_get_matches_from_mut(read.as_slice()) {
         Ok(matches) => commands::line(alloc, &matches),
         Err(error) => told(error),
     }

@@ -1,21 +1,27 @@
+use Rattle.std.proofs.Common.{◌≡◌, map, rules, string_bytes}
 use Rattle.std.proofs.lemmas.Result.{IfOk-weaker}
+use Rattle.bw_args.specs.ReadWords.{as_read}
 use Rattle.bw_args.proofs.Asked.{line_limit}
 use Rattle.bw_args.proofs.FormLemmas.{runs_inspect, runs_replay, tells_help}
-use Rattle.bw_args.proofs.LineLemmas.{line_asked, told_line, told_result}
+use Rattle.bw_args.proofs.LineLemmas.{line_asked, line_of_read, told_line, told_result}
 use Rattle.bw_args.proofs.RehearsalLemmas.{runs_rehearsal}
 use Rattle.bw_args.proofs.ValueLemmas.{refuses_values}
 use Rattle.bw_args.proofs.parse.Goals as goal
 
 pub returns-in-Ok-clause-line : goal.returns-in-Ok-clause-line
-returns-in-Ok-clause-line c = IfOk-weaker c.line.result _ _
-    (λ line given. line_asked _ _ _ line c.in_ok-command.ensures c.in-Ok.ensures.kinds
-    (λ simple. (c.in-Ok.ensures.ok.2 simple).1) given)
+returns-in-Ok-clause-line c =
+    let read : map string_bytes c.as_slice.result.now ≡ as_read (map string_bytes c.args.words.now) = search rules in
+    IfOk-weaker c.line.result _ _
+    (λ line given. line_of_read _ _ line read (line_asked _ _ _ line c.in_ok-command.ensures c.in-Ok.ensures.kinds
+    (λ simple. (c.in-Ok.ensures.ok.2 simple).1) given))
     c.line.ensures.ok
 
 pub returns-clause-line : goal.returns-clause-line
-returns-clause-line c = told_result c.told.result _ c.in-Err.error c.told.ensures.told
-    c.told.ensures.out_of_memory.1
-    (told_line _ _ c.in-Err.error c.in_ok-command.ensures c.in-Err.ensures.kinds)
+returns-clause-line c =
+    let read : map string_bytes c.as_slice.result.now ≡ as_read (map string_bytes c.args.words.now) = search rules in
+    IfOk-weaker c.told.result _ _ (λ line given. line_of_read _ _ line read given)
+    (told_result c.told.result _ c.in-Err.error c.told.ensures.told c.told.ensures.out_of_memory.1
+    (told_line _ _ c.in-Err.error c.in_ok-command.ensures c.in-Err.ensures.kinds))
 
 pub returns-in-Ok-clause-limit : goal.returns-in-Ok-clause-limit
 returns-in-Ok-clause-limit c = IfOk-weaker c.line.result _ _ (line_limit _) c.line.ensures.ok
