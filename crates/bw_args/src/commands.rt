@@ -60,8 +60,8 @@ fn rehearse<'a>(alloc: Global) -> Result<Command<'a>, AllocError>
         .arg(limit_option(alloc))
 }
 
-/// A name that begins with a hyphen reaches `clap` in the word of its option (`read_words`): it says
-/// nothing exact of a command that takes such a word by itself.
+/// A name that begins with a hyphen reaches `clap` in the word of its option (`read_words`): of a
+/// command that takes such a word by itself it says nothing exact.
 fn name_option<'a>(alloc: Global) -> Arg<'a>
     ensures rule { rule_of result ≡ name_option }
     ensures local { result.global ≡ false }
