@@ -39,6 +39,7 @@ all_read : {S : Type 0} (answers : S → Frame → List Reply → S → Type 0) 
     AnswersAllRead f.answered f.input f.output
 all_read answers reads s later left left' w w' e f = record {
   frames = (is_exchange runs_follow_streams f.input f.answered f.output e f.done).hungry f.hungry;
+  unended = (is_exchange runs_follow_streams f.input f.answered f.output e f.done).unended f.hungry;
   written = gone_so_far answers reads s later left left' w w' e f;
 }
 
@@ -94,7 +95,7 @@ no_memory answers s left w = record {
   taken = writes-none w;
   front = (_, refl);
   spelled = refl;
-  by_end = refl;
+  by_end = (inl refl, refl);
 }
 
 -- no piece more was read
@@ -129,7 +130,17 @@ no_more_read answers reads s later left left' left'' w w' e ends.Memory f stops 
   taken = f.taken;
   front = (is_exchange runs_follow_streams f.input f.answered f.output e f.done).front stops.0 stops.1;
   spelled = all_spelled answers reads s later left left' w w' e f;
-  by_end = gone_so_far answers reads s later left left' w w' e f;
+  by_end = (
+    inr (record {
+      before = f.input;
+      last = stops.0;
+      all = refl;
+      short = stops.3;
+      some = stops.4;
+      frames = (all_read answers reads s later left left' w w' e f).frames;
+    }),
+    gone_so_far answers reads s later left left' w w' e f,
+  );
 }
 
 -- a write failed

@@ -35,9 +35,11 @@ feeds_next (Ok x) left left' moved moved' count most buf e e' reads within long 
 -- some bytes were read, for which there is no memory
 pub stops_reading : (r : Result (Unit {0}) ExchangeEnd) (left left' : Option (List ℕ)) (count most : ℕ)
     (buf : List ℕ) → Reads left most count buf left' → count ≤ length buf → length buf ≤ longest_piece →
-    IsTrue (are_bytes (take count buf)) → IfErr r (λ end. end ≡ Memory) → IfErr r (λ end. StopsReading end left left')
-stops_reading (Ok x) left left' count most buf reads within long bytes memory = tt
-stops_reading (Err end) left left' count most buf reads within long bytes memory =
+    (count ≡ 0 → ⊥) → IsTrue (are_bytes (take count buf)) → IfErr r (λ end. end ≡ Memory) →
+    IfErr r (λ end. StopsReading end left left')
+stops_reading (Ok x) left left' count most buf reads within long some bytes memory = tt
+stops_reading (Err end) left left' count most buf reads within long some bytes memory =
     let len = length-take-le count buf within in
     subst (λ (x : ExchangeEnd). StopsReading x left left') (sym memory)
-    (take count buf, bytes, has_given-piece left left' most count buf reads, omega (arith, len, within, long))
+    (take count buf, bytes, has_given-piece left left' most count buf reads, omega (arith, len, within, long),
+    omega (arith, len, some))

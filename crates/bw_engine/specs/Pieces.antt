@@ -32,7 +32,7 @@ abbrev pub StopsReading : ExchangeEnd → Option (List ℕ) → Option (List ℕ
 StopsReading ends.ReadFault left left' = Keeps left left'
 StopsReading ends.Memory left left' =
     (piece : List ℕ) × IsTrue (are_bytes piece) × HasGiven left piece left'
-    × (length piece ≤ longest_piece)
+    × (length piece ≤ longest_piece) × (1 ≤ length piece)
 StopsReading end left left' = ⊥
 
 -- frames were answered one by one, and all that waited was written behind each

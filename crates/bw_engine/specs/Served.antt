@@ -68,6 +68,8 @@ pub record ReachesEnd (end : End) (left left' : Option (List ℕ)) (answered : L
 -- all whole frames of what was read are answered, and their replies written
 pub record AnswersAllRead (answered : List Answered) (input output : List ℕ) : Type 0 where
   pub frames : (stream_of Second input).0 ≡ frames_of answered
+  -- and no end was found among them that more bytes can't change
+  pub unended : IsFinal (stream_of Second input).1 → ⊥
   pub written : output ≡ replies_bytes (replies_of answered)
 
 -- of the replies a beginning is written: those to all frames but the last that was answered, and
@@ -94,6 +96,15 @@ pub record ReadsNoFurther (input : List ℕ) : Type 0 where
   pub short : length last ≤ longest_piece
   pub unended : IsFinal (stream_of Second before).1 → ⊥
 
+-- memory was refused for the last piece that was read; all whole frames before it are answered
+pub record LacksMemory (answered : List Answered) (input : List ℕ) : Type 0 where
+  pub before : List ℕ
+  pub last : List ℕ
+  pub all : input ≡ before ++ last
+  pub short : length last ≤ longest_piece
+  pub some : 1 ≤ length last
+  pub frames : (stream_of Second before).0 ≡ frames_of answered
+
 -- what an exchange that ends so has answered and written of what it read
 abbrev pub EndsBy : ExchangeEnd → Option (List ℕ) → Option (List ℕ) → List Answered → List ℕ →
     List ℕ → Type 0
@@ -109,7 +120,8 @@ EndsBy ends.WriteFault left left' answered input output = IsBrokenOff answered i
 EndsBy ends.TurnLimit left left' answered input output =
     AnswersAllRead answered input output × (most_reads ≤ length input)
 EndsBy ends.Memory left left' answered input output =
-    output ≡ replies_bytes (replies_of answered)
+    ((input ≡ []) ⊎ LacksMemory answered input)
+    × (output ≡ replies_bytes (replies_of answered))
 
 -- a server, a reader and a writer are used by an exchange that ends so
 pub record Serves {S : Type 0} (answers : S → Frame → List Reply → S → Type 0) (end : ExchangeEnd)

@@ -66,6 +66,7 @@ impl Exchange {
         ensures fresh { IfOk result (λ e. HasDone [] [] [] e) }
         ensures hungry { IfOk result (λ e. wants_piece e ≡ true) }
         ensures waiting { IfOk result (λ e. waiting_in e ≡ []) }
+        ensures small { IfOk result (λ e. vec_capacity e.outgoing ≡ most_waiting) }
     {
         Ok(Exchange {
             framer: Framer::new(alloc),

@@ -30,4 +30,4 @@ returns-clause-fed g c =
 pub returns-clause-stops : goal.returns-clause-stops
 returns-clause-stops g c =
     stops_reading _ _ _ c.in-Ok.count _ c.read.new.buf c.in-Ok.ensures.ok (search rules) (search rules)
-    c.feed_piece.ensures.bytes c.feed_piece.ensures.memory
+    c.if-count-eq0.false c.feed_piece.ensures.bytes c.feed_piece.ensures.memory
