@@ -1,3 +1,4 @@
 mod Staging
 mod Playing
 mod Schedules
+pub mod EventWords

@@ -1,3 +1,4 @@
 pub mod Rehearsing
+pub mod EventLines
 pub mod Staged
 pub mod Worlds

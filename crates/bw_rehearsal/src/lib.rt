@@ -3,8 +3,10 @@
 
 mod event;
 pub mod laws;
+mod line;
 mod rehearsal;
 mod stage;
 
 pub use event::Event;
+pub use line::event_in;
 pub use rehearsal::{World, rehearse};

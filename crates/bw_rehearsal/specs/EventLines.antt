@@ -1,0 +1,35 @@
+-- Lines as the events of a rehearsal.
+use Rattle.std.specs.Prelude.{◌≡◌, ℕ, ◌^◌, ◌<◌, ◌≤◌, List, ◌++◌, length, Ok, codes}
+use Rattle.std.specs.Str.Parse.{IsNumeral, digits_value}
+use Rattle.hex.specs.Hex.{decode_of}
+use Rattle.bw_model.specs.Wire.{decoded_request}
+use Rattle.bw_model.specs.Take.{Request}
+use Rattle.bw_model.specs.World.{Event, Offer, Send, Deliver, Bring, Ask, Foreign}
+
+-- one to ten decimal digits of a number of 32 bits
+abbrev pub IsIndexText : List ℕ → Type 0
+IsIndexText text = IsNumeral 10 text × (length text ≤ 10) × (digits_value 10 text < 2 ^ 32)
+
+-- the number that they write
+abbrev pub index_written : List ℕ → ℕ
+index_written text = digits_value 10 text
+
+-- a text of this index
+abbrev pub IsIndex : List ℕ → ℕ → Type 0
+IsIndex text index = IsIndexText text × (index ≡ index_written text)
+
+-- the hex of a request: its kind byte and its payload
+pub record IsRequestText (text : List ℕ) (r : Request) : Type 0 where
+  pub bytes : List ℕ
+  pub hex : decode_of text ≡ Ok bytes
+  pub request : decoded_request bytes ≡ Ok r
+
+-- the line says this event
+abbrev pub SaysEvent : List ℕ → Event → Type 0
+SaysEvent line (Offer r) =
+    (text : List ℕ) × (line ≡ codes "offer " ++ text) × IsRequestText text r
+SaysEvent line (Send i) = (text : List ℕ) × (line ≡ codes "send " ++ text) × IsIndex text i
+SaysEvent line (Deliver k) = (text : List ℕ) × (line ≡ codes "deliver " ++ text) × IsIndex text k
+SaysEvent line (Bring k) = (text : List ℕ) × (line ≡ codes "bring " ++ text) × IsIndex text k
+SaysEvent line Ask = line ≡ codes "ask"
+SaysEvent line (Foreign f) = ⊥

@@ -1,0 +1,115 @@
+//! Lines as the events of a rehearsal.
+ghost use Rattle.std.specs.Prelude.{◌≡◌, ◌≢◌, ◌++◌, ℕ, List, Ok, IfOk, MatchOption};
+ghost use Rattle.std.specs.Option.{SomeIff};
+ghost use Rattle.bw_model.specs.Take.{Request as Requested};
+ghost use Rattle.bw_model.specs.Wire.{decoded_request};
+ghost use Rattle.bw_model.specs.World.{Event as ToldEvent};
+ghost use Rattle.bw_rehearsal.specs.Rehearsing.{event_meaning};
+ghost use Rattle.bw_rehearsal.specs.EventLines.{SaysEvent, IsIndexText, index_written};
+ghost use Rattle.bw_rehearsal.specs.EventLines.{IsRequestText};
+
+use crate::event::Event;
+use bw_take::Request;
+use bw_wire::decode_request;
+use hex::FromHexError;
+use std::alloc::{AllocError, Global};
+
+/// The event that a line says, if it says one: `offer HEX`, with the kind byte and the payload of a
+/// request, `send I`, `deliver K`, `bring K` or `ask`.
+///
+/// # Errors
+/// `AllocError` where memory was refused.
+pub fn event_in(alloc: Global, line: &[u8]) -> Result<Option<Event>, AllocError>
+    ensures { IfOk result (λ found. MatchOption found ((e : ToldEvent) → ¬ SaysEvent line.now e)
+        (λ event. SaysEvent line.now (event_meaning event))) }
+{
+    if line == b"ask".as_slice() {
+        return Ok(Some(Event::Ask));
+    }
+    if let Some(text) = behind(b"offer ", line) {
+        let Some(request) = request(alloc, text)? else {
+            return Ok(None);
+        };
+        return Ok(Some(Event::Offer(request)));
+    }
+    if let Some(text) = behind(b"send ", line) {
+        let Some(place) = index(text) else {
+            return Ok(None);
+        };
+        return Ok(Some(Event::Send(place)));
+    }
+    if let Some(text) = behind(b"deliver ", line) {
+        let Some(place) = index(text) else {
+            return Ok(None);
+        };
+        return Ok(Some(Event::Deliver(place)));
+    }
+    if let Some(text) = behind(b"bring ", line) {
+        let Some(place) = index(text) else {
+            return Ok(None);
+        };
+        return Ok(Some(Event::Bring(place)));
+    }
+    Ok(None)
+}
+
+/// What a line has behind a word, if it begins with it.
+fn behind<'a>(word: &[u8], line: &'a [u8]) -> Option<&'a [u8]>
+    ensures { MatchOption result ((rest : List ℕ) → line.now ≢ word.now ++ rest)
+        (λ rest. line.now ≡ word.now ++ rest.now) }
+{
+    line.strip_prefix(word)
+}
+
+/// The request whose kind byte and payload a text spells in hex, if it spells one.
+///
+/// # Errors
+/// `AllocError` where memory was refused.
+fn request(alloc: Global, text: &[u8]) -> Result<Option<Request>, AllocError>
+    ensures { IfOk result (λ found. MatchOption found
+        ((r : Requested) → ¬ IsRequestText text.now r) (λ r. IsRequestText text.now r)) }
+{
+    match hex::decode(alloc, text) {
+        Ok(bytes) => request_in(alloc, bytes.as_slice()),
+        Err(FromHexError::OutOfMemory) => Err(AllocError),
+        Err(FromHexError::InvalidHexCharacter { .. }) => Ok(None),
+        Err(FromHexError::OddLength) => Ok(None),
+        Err(FromHexError::InvalidStringLength) => Ok(None),
+    }
+}
+
+/// The request that a kind byte and a payload spell, if they spell one.
+///
+/// # Errors
+/// `AllocError` where memory was refused.
+fn request_in(alloc: Global, bytes: &[u8]) -> Result<Option<Request>, AllocError>
+    ensures { IfOk result (λ found. MatchOption found
+        ((r : Requested) → decoded_request bytes.now ≢ Ok r)
+        (λ r. decoded_request bytes.now ≡ Ok r)) }
+{
+    match decode_request(bytes) {
+        Ok(request) => Ok(Some(request.to_request(alloc)?)),
+        Err(_) => Ok(None),
+    }
+}
+
+/// The number that one to ten decimal digits write, below 2^32.
+fn index(text: &[u8]) -> Option<usize>
+    ensures { SomeIff result (IsIndexText text.now) (index_written text.now) }
+{
+    match str::from_utf8(text) {
+        Ok(digits) => number(digits),
+        Err(_) => None,
+    }
+}
+
+fn number(text: &str) -> Option<usize>
+    ensures { SomeIff result (IsIndexText text.now) (index_written text.now) }
+{
+    // `parse` takes a leading plus.
+    if text.len() > 10 || text.as_bytes().first() == Some(&b'+') {
+        return None;
+    }
+    let number: u32 = text.parse().ok()?;
+    Some(number as usize)
+}
