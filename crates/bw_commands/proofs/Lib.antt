@@ -5,3 +5,5 @@ pub mod InspectionLemmas
 pub mod OpeningLemmas
 pub mod ReplayLemmas
 pub mod TextLemmas
+pub mod EventLemmas
+pub mod WorldLemmas

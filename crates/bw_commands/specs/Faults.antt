@@ -1,13 +1,13 @@
 -- What a fault says of the input, its line, and how the program ends on it.
 use Rattle.std.specs.Prelude.{◌≡◌, ℕ, ◌++◌, List, Bool, true, false, Result, Ok, Err, codes}
-use Rattle.std.specs.Prelude.{decimal}
+use Rattle.std.specs.Prelude.{decimal, ◌<◌, length}
 use Rattle.hex.specs.declared.error.FromHexError.{FromHexError}
 use Rattle.hex.specs.declared.error.FromHexError.TheVariants.{OutOfMemory}
-use Rattle.bw_commands.specs.Input.{Asked, TooLong as AsksTooMuch, NotHex as AsksNoHex}
+use Rattle.bw_commands.specs.Input.{Asked, longest_input, TooLong as AsksTooMuch, NotHex as AsksNoHex}
 use Rattle.bw_commands.specs.Printing.{Print, Nothing, IsOf}
 use Rattle.bw_commands.specs.Text.{as_line}
 use Rattle.bw_commands.specs.declared.fault.Fault.{Fault}
-use Rattle.bw_commands.specs.declared.fault.Fault.TheVariants.{TooLong, NotHex}
+use Rattle.bw_commands.specs.declared.fault.Fault.TheVariants.{TooLong, NotHex, NotEvent}
 use Rattle.bw_commands.specs.declared.fault.Fault.TheVariants.{Unreadable}
 use Rattle.bw_commands.specs.declared.fault.Fault.TheVariants.{Unwritable, Memory}
 use Rattle.bw_commands.specs.declared.exit.Exit.{Exit}
@@ -24,6 +24,7 @@ line_fault _ n = NotHex n
 -- want of memory, or the first line that is not hex
 abbrev pub IsLineFault : Fault → Result (List (List ℕ)) ℕ → Type 0
 IsLineFault (NotHex n) lines = lines ≡ Err n
+IsLineFault (NotEvent n) lines = ⊥
 IsLineFault Memory lines = Unit {0}
 IsLineFault TooLong lines = ⊥
 IsLineFault Unreadable lines = ⊥
@@ -33,14 +34,25 @@ IsLineFault Unwritable lines = ⊥
 abbrev pub RefusesInput : Fault → Asked → Type 0
 RefusesInput TooLong asked = asked ≡ AsksTooMuch
 RefusesInput (NotHex n) asked = asked ≡ AsksNoHex n
+RefusesInput (NotEvent n) asked = ⊥
 RefusesInput Unreadable asked = Unit {0}
 RefusesInput Unwritable asked = Unit {0}
 RefusesInput Memory asked = Unit {0}
+
+-- a fault that refuses an input for its length alone, or none that refuses
+abbrev pub RefusesLength : Fault → List ℕ → Type 0
+RefusesLength TooLong input = longest_input < length input
+RefusesLength (NotHex n) input = ⊥
+RefusesLength (NotEvent n) input = ⊥
+RefusesLength Unreadable input = Unit {0}
+RefusesLength Unwritable input = ⊥
+RefusesLength Memory input = Unit {0}
 
 -- a fault as it is told
 abbrev pub input_fault_text : Fault → List ℕ
 input_fault_text TooLong = codes "input too long"
 input_fault_text (NotHex n) = codes "line " ++ decimal n ++ codes ": not hex"
+input_fault_text (NotEvent n) = codes "line " ++ decimal n ++ codes ": not an event"
 input_fault_text Unreadable = codes "the input can't be read"
 input_fault_text Unwritable = codes "the output can't be written"
 input_fault_text Memory = codes "out of memory"
@@ -49,6 +61,7 @@ input_fault_text Memory = codes "out of memory"
 abbrev pub exit_on : Fault → Exit
 exit_on TooLong = Exit-Refused
 exit_on (NotHex n) = Exit-Refused
+exit_on (NotEvent n) = Exit-Refused
 exit_on Unreadable = Exit-Device
 exit_on Unwritable = Exit-Device
 exit_on Memory = Exit-Memory
@@ -63,6 +76,7 @@ abbrev pub is_readable : Fault → Bool
 is_readable Unreadable = false
 is_readable TooLong = true
 is_readable (NotHex n) = true
+is_readable (NotEvent n) = true
 is_readable Unwritable = true
 is_readable Memory = true
 

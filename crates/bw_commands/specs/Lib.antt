@@ -4,9 +4,11 @@ pub mod Faults
 pub mod Exits
 pub mod Runs
 pub mod Text
+pub mod EventLines
 pub mod Printing
 pub mod Replays
 pub mod Deeds
+pub mod Rehearsals
 pub mod Inspections
 pub mod Unworded
 pub mod Openings

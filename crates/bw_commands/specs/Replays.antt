@@ -56,5 +56,7 @@ IsPrintOf limit input (Ok x) print = PrintsRun limit input Whole print
 IsPrintOf limit input (Err faults.Unwritable) print = PrintsRun limit input Part print
 IsPrintOf limit input (Err faults.TooLong) print = PrintsNothing input faults.TooLong print
 IsPrintOf limit input (Err (faults.NotHex n)) print = PrintsNothing input (faults.NotHex n) print
+IsPrintOf limit input (Err (faults.NotEvent n)) print =
+    PrintsNothing input (faults.NotEvent n) print
 IsPrintOf limit input (Err faults.Unreadable) print = PrintsNothing input faults.Unreadable print
 IsPrintOf limit input (Err faults.Memory) print = PrintsNothing input faults.Memory print

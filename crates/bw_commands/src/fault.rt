@@ -15,6 +15,8 @@ pub enum Fault {
     TooLong,
     /// The line with this number isn't hex.
     NotHex(u64),
+    /// The line with this number is no event of a rehearsal.
+    NotEvent(u64),
     /// The reader failed.
     Unreadable,
     /// The writer failed.
@@ -31,6 +33,7 @@ impl Fault {
         match self {
             Fault::TooLong => Exit::Refused,
             Fault::NotHex(_) => Exit::Refused,
+            Fault::NotEvent(_) => Exit::Refused,
             Fault::Unreadable => Exit::Device,
             Fault::Unwritable => Exit::Device,
             Fault::Memory => Exit::Memory,
@@ -56,7 +59,8 @@ impl Fault {
     {
         match self {
             Fault::TooLong => line.push_str("input too long"),
-            Fault::NotHex(number) => put_not_hex(line, *number),
+            Fault::NotHex(number) => put_line_fault(line, *number, ": not hex"),
+            Fault::NotEvent(number) => put_line_fault(line, *number, ": not an event"),
             Fault::Unreadable => line.push_str("the input can't be read"),
             Fault::Unwritable => line.push_str("the output can't be written"),
             Fault::Memory => line.push_str("out of memory"),
@@ -64,16 +68,17 @@ impl Fault {
     }
 }
 
-/// Puts on an empty line that the line with this number isn't hex.
-fn put_not_hex(line: &mut ArrayString<64>, number: u64)
-    requires { line.old.bytes ≡ [] }
-    ensures text { line.new.bytes ≡ codes "line " ++ decimal number ++ codes ": not hex" }
+/// Puts on an empty line what is wrong with the line of this number.
+fn put_line_fault(line: &mut ArrayString<64>, number: u64, wrong: &str)
+    requires empty { line.old.bytes ≡ [] }
+    requires short { length wrong.now ≤ 14 }
+    ensures text { line.new.bytes ≡ codes "line " ++ decimal number ++ wrong.now }
     ensures short { length line.new.bytes ≤ 60 }
 {
     let mut digits = Buffer::new();
     line.push_str("line ");
     line.push_str(digits.format(number));
-    line.push_str(": not hex");
+    line.push_str(wrong);
 }
 
 impl From<AllocError> for Fault {

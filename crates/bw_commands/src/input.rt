@@ -5,7 +5,7 @@ ghost use Rattle.std.specs.List.{position_or_len};
 ghost use Rattle.std.specs.Io.BufRead.{strip_last};
 ghost use Rattle.bw_commands.specs.Lines.{lines_of, decoded_from, is_line_end};
 ghost use Rattle.bw_commands.specs.Input.{asked_by, longest_input, Exchanges};
-ghost use Rattle.bw_commands.specs.Faults.{IsLineFault, RefusesInput, is_read};
+ghost use Rattle.bw_commands.specs.Faults.{IsLineFault, RefusesInput, RefusesLength, is_read};
 ghost use Rattle.bw_commands.specs.Faults.{line_fault as line_fault_of};
 ghost use Rattle.bw_commands.specs.Printing.{failures_if};
 ghost use Rattle.bw_commands.specs.Replays.{IsReadAhead};
@@ -36,7 +36,7 @@ pub fn exchanges<R: Source>(alloc: Global, input: &mut R) -> Result<Vec<Vec<u8>>
 }
 
 /// All bytes of an input.
-fn all_bytes<R: Source>(alloc: Global, input: &mut R) -> Result<Vec<u8>, Fault>
+pub(crate) fn all_bytes<R: Source>(alloc: Global, input: &mut R) -> Result<Vec<u8>, Fault>
     ensures reads { Of (R.left input.old) (λ xs. IsReadAhead xs (R.left input.new)) }
     ensures most { R.moved input.new ≤ R.moved input.old + (longest_input + 1) }
     ensures count { R.failures input.new ≡ failures_if (is_read result) (R.failures input.old) }
@@ -44,6 +44,7 @@ fn all_bytes<R: Source>(alloc: Global, input: &mut R) -> Result<Vec<u8>, Fault>
     ensures ok { IfOk result (λ bytes. Of (R.left input.old) (λ xs. bytes.items ≡ xs)) }
     ensures err { IfErr result (λ fault. Of (R.left input.old) (λ xs.
         RefusesInput fault (asked_by xs))) }
+    ensures long { IfErr result (λ fault. Of (R.left input.old) (λ xs. RefusesLength fault xs)) }
     ensures own { IfErr result (λ fault. fault ≢ Fault.Unwritable) }
 {
     let mut bytes = Vec::new(alloc);
@@ -101,7 +102,7 @@ fn line_fault(error: FromHexError, number: u64) -> Fault
 }
 
 /// The first line of bytes, and what follows it.
-fn first_line(bytes: &[u8]) -> (&[u8], &[u8])
+pub(crate) fn first_line(bytes: &[u8]) -> (&[u8], &[u8])
     requires { 0 < length bytes.now }
     ensures lines { lines_of bytes.now ≡ result.0.now ∷ lines_of result.1.now }
     ensures within { length result.0.now ≤ length bytes.now }

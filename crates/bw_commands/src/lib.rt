@@ -2,6 +2,7 @@
 //! command line stand above, in the program.
 #![tactic(auto)]
 
+mod events;
 mod exit;
 mod fault;
 mod host;
@@ -9,15 +10,18 @@ mod input;
 mod inspection;
 mod opening;
 pub mod print;
+mod rehearsal;
 pub mod replay;
 mod system;
 mod text;
 mod unworded;
+mod world_text;
 
 pub use exit::Exit;
 pub use fault::Fault;
 pub use host::Host;
 pub use inspection::inspect_run;
 pub use opening::inspect_file;
+pub use rehearsal::rehearse_run;
 pub use system::System;
 pub use unworded::tell_unworded;

@@ -117,7 +117,11 @@ fn split_frame(bytes: &[u8]) -> (&[u8], &[u8])
 }
 
 /// Adds the files in the order of their names.
-fn put_files(alloc: Global, out: &mut Vec<u8>, store: &MemoryStore) -> Result<(), AllocError>
+pub(crate) fn put_files(
+    alloc: Global,
+    out: &mut Vec<u8>,
+    store: &MemoryStore,
+) -> Result<(), AllocError>
     ensures files { OnOk result (out.new.items ≡ out.old.items
         ++ files_text (content_under store.now.files) (names_of store.now)) }
     ensures names { AreNames (names_of store.now) (content_under store.now.files) }

@@ -1,7 +1,9 @@
 use Rattle.std.proofs.Common.{map, refl, sym, subst}
-use Rattle.bw_commands.specs.Printing.{Whole, Part}
+use Rattle.std.proofs.lemmas.Result.{err_from_is_err_and}
+use Rattle.bw_commands.specs.Printing.{Nothing, Whole, Part}
 use Rattle.bw_commands.specs.Input.{Asked}
 use Rattle.bw_commands.specs.Replays.{IsTextFor, IsRunText}
+use Rattle.bw_commands.proofs.EventLemmas.{refuses_run}
 use Rattle.bw_commands.proofs.replay.play.Goals as goal
 
 pub returns-in-Ok-clause-prints : goal.returns-in-Ok-clause-prints
@@ -31,3 +33,12 @@ returns-clause-prints g c = (
   },
   c.in-Err.ensures.err,
 )
+
+pub returns-in_err-inputs-clause-prints : goal.returns-in_err-inputs-clause-prints
+returns-in_err-inputs-clause-prints g c =
+    let answer = err_from_is_err_and c.from_residual.result c.from_residual.ensures.1 in (
+      Nothing,
+      rw (answer.1, answer.2) (refuses_run c.args.limit _ c.in_err-inputs.field-0.0
+          c.in_err-inputs.ensures.err c.in_err-inputs.ensures.own),
+      refl,
+    )

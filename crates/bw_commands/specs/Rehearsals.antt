@@ -1,0 +1,122 @@
+-- What a rehearsal's command reads and writes, and how it ends.
+use Rattle.std.specs.Prelude.{◌≡◌, ◌⊎◌, ◌<◌, ◌≤◌, ℕ, Option, false, true, List, ◌++◌, length, map}
+use Rattle.std.specs.Prelude.{Result, Ok, Err, codes, decimal}
+use Rattle.bw_model.specs.Book.{log_of}
+use Rattle.bw_model.specs.CountedTurn.{is_pending}
+use Rattle.bw_model.specs.Turn.{Luck}
+use Rattle.bw_model.specs.Exchange.{nothing_stands, take_in, content_in}
+use Rattle.bw_model.specs.World as model
+use Rattle.bw_file.specs.MemoryNames.{AreNames}
+use Rattle.bw_inspect.specs.Places.{Of}
+use Rattle.bw_session.specs.Books.{HoldsBook}
+use Rattle.bw_sender.specs.Senders.{IsSender}
+use Rattle.bw_rehearsal.specs.Rehearsing.{no_contents}
+use Rattle.bw_rehearsal.specs.declared.rehearsal.World.{World}
+use Rattle.bw_commands.specs.EventLines.{SayEvents, FirstOther}
+use Rattle.bw_commands.specs.Input.{longest_input}
+use Rattle.bw_commands.specs.Lines.{lines_of}
+use Rattle.bw_commands.specs.Printing.{Print, Nothing, Whole, Part}
+use Rattle.bw_commands.specs.Faults.{IsToldBy, exit_of, is_read}
+use Rattle.bw_commands.specs.Deeds.{Deed}
+use Rattle.bw_commands.specs.Text.{as_line, files_text}
+use Rattle.bw_commands.specs.declared.fault.Fault.{Fault}
+use Rattle.bw_commands.specs.declared.fault.Fault.TheVariants as faults
+
+-- how many requests were offered, messages sent and replies written
+abbrev pub counts_line : ℕ → ℕ → ℕ → List ℕ
+counts_line offered sent replies =
+    as_line (codes "offered " ++ decimal offered ++ codes " sent " ++ decimal sent
+    ++ codes " replies " ++ decimal replies)
+
+-- how far the server and the sender came
+abbrev pub progress_line : ℕ → ℕ → ℕ → List ℕ
+progress_line done settled stored =
+    as_line (codes "done " ++ decimal done ++ codes " settled " ++ decimal settled
+    ++ codes " stored " ++ decimal stored)
+
+-- the two lines that tell of a world
+abbrev pub world_lines : model.World → List ℕ
+world_lines w =
+    counts_line (length w.sender.offered) (length w.sent) (length w.replies)
+    ++ progress_line (log_of w.book w.sender.name).done (model.settled w.sender)
+    (model.stored w.sender)
+
+-- a rehearsal came to this world
+pub record HasWorld (world : model.World) (w : World) : Type 0 where
+  pub offered : w.offered ≡ length world.sender.offered
+  pub sent : w.sent ≡ length world.sent
+  pub replies : w.replies ≡ length world.replies
+  pub sender : IsSender world.sender w.sender
+  pub held : HoldsBook _ _ no_contents w.server world.book
+
+-- The text of a world that just these events lead to, under some luck at each: its two lines, and
+-- the files in the order of their names; each name that is closed, or of which nothing waits, has
+-- its take's file.
+pub record IsWorldText (name : List ℕ) (limit : ℕ) (events : List model.Event) (text : List ℕ)
+    : Type 0 where
+  pub schedule : List (model.Event × Luck)
+  pub events_are : map (λ x. x.0) schedule ≡ events
+  pub world : model.World
+  pub reached : model.world_after nothing_stands (model.new_world name) schedule ≡ world
+  pub contents : List ℕ → Option (List ℕ)
+  pub files : (name : List ℕ) → (is_pending (log_of world.book name) ≡ false)
+      ⊎ ((take_in false world.book name).closed ≡ true) →
+      contents name ≡ content_in no_contents limit world.book name
+  pub names : List (List ℕ)
+  pub ordered : AreNames names contents
+  pub is : text ≡ world_lines world ++ files_text contents names
+
+-- the lines say events, and this is the text of a world that they lead to
+pub record IsTextOfLines (name : List ℕ) (limit : ℕ) (input text : List ℕ) : Type 0 where
+  pub within : length input ≤ longest_input
+  pub events : List model.Event
+  pub said : SayEvents (lines_of input) events
+  pub right : IsWorldText name limit events text
+
+-- the text of a world was to be printed
+pub record PrintsWorld (name : List ℕ) (limit : ℕ) (input : Option (List ℕ))
+    (printed : List ℕ → Print) (print : Print) : Type 0 where
+  pub text : List ℕ
+  pub is : print ≡ printed text
+  pub right : Of input (λ xs. IsTextOfLines name limit xs text)
+
+-- a fault that refuses is the one that the input has
+abbrev pub RefusesEvents : Fault → List ℕ → Type 0
+RefusesEvents faults.TooLong input = longest_input < length input
+RefusesEvents (faults.NotEvent n) input =
+    (length input ≤ longest_input) × FirstOther 1 (lines_of input) n
+RefusesEvents (faults.NotHex n) input = ⊥
+RefusesEvents faults.Unreadable input = Unit {0}
+RefusesEvents faults.Unwritable input = Unit {0}
+RefusesEvents faults.Memory input = Unit {0}
+
+-- nothing is printed, and a fault that refuses is the one that the input has
+pub record RefusesWorld (input : Option (List ℕ)) (fault : Fault) (print : Print) : Type 0 where
+  pub is : print ≡ Nothing
+  pub right : Of input (λ xs. RefusesEvents fault xs)
+
+-- what is printed of a rehearsal that comes to this
+abbrev pub IsPrintOfWorld : List ℕ → ℕ → Option (List ℕ) → Result (Unit {0}) Fault → Print →
+    Type 0
+IsPrintOfWorld name limit input (Ok x) print = PrintsWorld name limit input Whole print
+IsPrintOfWorld name limit input (Err faults.Unwritable) print =
+    PrintsWorld name limit input Part print
+IsPrintOfWorld name limit input (Err faults.TooLong) print =
+    RefusesWorld input faults.TooLong print
+IsPrintOfWorld name limit input (Err (faults.NotHex n)) print =
+    RefusesWorld input (faults.NotHex n) print
+IsPrintOfWorld name limit input (Err (faults.NotEvent n)) print =
+    RefusesWorld input (faults.NotEvent n) print
+IsPrintOfWorld name limit input (Err faults.Unreadable) print =
+    RefusesWorld input faults.Unreadable print
+IsPrintOfWorld name limit input (Err faults.Memory) print =
+    RefusesWorld input faults.Memory print
+
+-- a rehearsal of this input did this
+pub record IsRehearsal (name : List ℕ) (limit : ℕ) (input : Option (List ℕ)) (did : Deed)
+    : Type 0 where
+  pub outcome : Result (Unit {0}) Fault
+  pub exit_is : did.exit ≡ exit_of outcome
+  pub reads : did.reads_all ≡ is_read outcome
+  pub prints : IsPrintOfWorld name limit input outcome did.out
+  pub tells : IsToldBy outcome did.faults

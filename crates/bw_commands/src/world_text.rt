@@ -1,0 +1,75 @@
+//! The text of what a rehearsal came to.
+ghost use Rattle.std.specs.Prelude.{◌≡◌, ◌++◌, length, IfOk, OnOk};
+ghost use Rattle.bw_model.specs.Book.{log_of};
+ghost use Rattle.bw_model.specs.World.{World as ToldWorld, settled, stored};
+ghost use Rattle.bw_file.specs.Memory.{content_under};
+ghost use Rattle.bw_file.specs.MemoryNames.{names_of, AreNames};
+ghost use Rattle.bw_commands.specs.Rehearsals.{counts_line, progress_line, world_lines, HasWorld};
+ghost use Rattle.bw_commands.specs.Text.{files_text};
+
+use crate::text::put_files;
+use bw_rehearsal::World;
+use bw_take::Name;
+use std::alloc::{AllocError, Global};
+
+/// What the world came to, in two lines, and then the store's files in the order of their names.
+pub fn text_of_world(alloc: Global, name: &Name, world: &World) -> Result<Vec<u8>, AllocError>
+    ensures text { IfOk result (λ text. (w : ToldWorld) → HasWorld w world.now → w.sender.name ≡ name.now →
+        text.items ≡ world_lines w ++ files_text (content_under world.now.server.stores.store.files)
+        (names_of world.now.server.stores.store)) }
+    ensures names { OnOk result (AreNames (names_of world.now.server.stores.store)
+        (content_under world.now.server.stores.store.files)) }
+{
+    let mut text = Vec::new(alloc);
+    put_counts(alloc, &mut text, world)?;
+    put_progress(alloc, &mut text, name, world)?;
+    put_files(alloc, &mut text, world.server.store())?;
+    Ok(text)
+}
+
+/// Adds how many requests were offered, messages sent and replies written.
+fn put_counts(alloc: Global, out: &mut Vec<u8>, world: &World) -> Result<(), AllocError>
+    ensures { OnOk result (out.new.items ≡ out.old.items ++
+        counts_line world.now.offered world.now.sent world.now.replies) }
+{
+    let (offered, sent, replies) = (world.offered, world.sent, world.replies);
+    let text = format!(in alloc; "offered {offered} sent {sent} replies {replies}\n")?;
+    out.extend_from_slice(text.as_bytes())?;
+    Ok(())
+}
+
+/// Adds how far the server and the sender came.
+fn put_progress(
+    alloc: Global,
+    out: &mut Vec<u8>,
+    name: &Name,
+    world: &World,
+) -> Result<(), AllocError>
+    ensures { OnOk result ((w : ToldWorld) → HasWorld w world.now → w.sender.name ≡ name.now →
+        out.new.items ≡ out.old.items ++ progress_line (log_of w.book w.sender.name).done
+        (settled w.sender) (stored w.sender)) }
+{
+    let done = world.server.done(name).unwrap_or(0);
+    put_progress_of(
+        alloc,
+        out,
+        done,
+        world.sender.settled(),
+        world.sender.stored(),
+    )
+}
+
+/// Adds how many numbers are done, settled and stored.
+fn put_progress_of(
+    alloc: Global,
+    out: &mut Vec<u8>,
+    done: u32,
+    settled: u32,
+    stored: u32,
+) -> Result<(), AllocError>
+    ensures { OnOk result (out.new.items ≡ out.old.items ++ progress_line done settled stored) }
+{
+    let text = format!(in alloc; "done {done} settled {settled} stored {stored}\n")?;
+    out.extend_from_slice(text.as_bytes())?;
+    Ok(())
+}
