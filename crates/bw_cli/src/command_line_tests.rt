@@ -2,6 +2,7 @@
 //! texts they tell.
 use bw_args::numbers::number;
 use bw_args::{CommandLine, Task, parse};
+use bw_take::Name;
 use clap::Error;
 use std::alloc::{AllocError, Global};
 use std::process::Abort;
@@ -14,6 +15,8 @@ enum Outcome {
     Replays(u64),
     /// Replays with this limit and this fuse.
     Fuses(u64, u32),
+    /// Rehearses with this limit, under the name that the last word ends with.
+    Rehearses(u64),
     /// Inspects the file that the last word names.
     Inspects,
     /// Text on standard output, status 0.
@@ -35,7 +38,7 @@ fn parse_words(alloc: Global, words: &[&str]) -> Result<CommandLine, AllocError>
 fn outcome_of(alloc: Global, words: &[&str]) -> Result<Outcome, AllocError> {
     Ok(match parse_words(alloc, words)? {
         CommandLine::Run(task) => run_outcome(&task, words),
-        CommandLine::BadLimit | CommandLine::BadFuse => Outcome::Refuses,
+        CommandLine::BadLimit | CommandLine::BadFuse | CommandLine::BadName => Outcome::Refuses,
         CommandLine::Tell(error) => told_outcome(&error),
     })
 }
@@ -47,8 +50,17 @@ fn run_outcome(task: &Task, words: &[&str]) -> Outcome {
             limit,
             fuse: Some(number),
         } => Outcome::Fuses(*limit, *number),
+        Task::Rehearse { name, limit } if ends_with(words, name) => Outcome::Rehearses(*limit),
+        Task::Rehearse { .. } => Outcome::Confuses,
         Task::Inspect { file } if words.last() == Some(&file.as_str()) => Outcome::Inspects,
         Task::Inspect { .. } => Outcome::Confuses,
+    }
+}
+
+fn ends_with(words: &[&str], name: &Name) -> bool {
+    match words.last() {
+        Some(word) => word.as_bytes().ends_with(name.as_bytes()),
+        None => false,
     }
 }
 
@@ -58,6 +70,29 @@ fn told_outcome(error: &Error) -> Outcome {
         (true, 2) => Outcome::Refuses,
         _ => Outcome::Confuses,
     }
+}
+
+static REHEARSALS: [(&[&str], Outcome); 10] = [
+    (&["--name", "a1"], Outcome::Rehearses(4_294_967_294)),
+    (&["--name=a1"], Outcome::Rehearses(4_294_967_294)),
+    (&["--name", "-a"], Outcome::Rehearses(4_294_967_294)),
+    (&["--limit", "8192", "--name", "a1"], Outcome::Rehearses(8192)),
+    (&[], Outcome::Refuses),
+    (&["--name"], Outcome::Refuses),
+    (&["--name", "A"], Outcome::Refuses),
+    (&["--name="], Outcome::Refuses),
+    (&["--name=a1", "--name=a2"], Outcome::Refuses),
+    (&["--limit", "8191", "--name", "a1"], Outcome::Refuses),
+];
+
+#[test]
+fn a_rehearsal_has_a_name(rt: HostRuntime) -> Result<(), Fail> {
+    for (options, wanted) in &REHEARSALS {
+        let mut words = vec![in rt.alloc(); "bwingest", "rehearse"]?;
+        words.extend_from_slice(options)?;
+        comes_to(&rt, words.as_slice(), *wanted)?;
+    }
+    Ok(())
 }
 
 static LINES: [(&[&str], Outcome); 46] = [
@@ -286,6 +321,7 @@ fn texts_name_the_program(rt: HostRuntime) -> Result<(), Fail> {
             CommandLine::Run(task) => assert!(rt; false, "{words:?} runs {task:?}"),
             CommandLine::BadLimit => assert!(rt; false, "{words:?} has a bad limit"),
             CommandLine::BadFuse => assert!(rt; false, "{words:?} has a bad fuse"),
+            CommandLine::BadName => assert!(rt; false, "{words:?} has a bad name"),
             CommandLine::Tell(error) => {
                 let text = format!(in rt.alloc(); "{error}")?;
                 assert!(rt; text.as_str().contains(part), "{words:?}: {text}");

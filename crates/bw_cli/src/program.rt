@@ -8,10 +8,10 @@ ghost use Rattle.bw_commands.specs.declared.exit.Exit.{Exit};
 ghost use Rattle.bw_commands.specs.Exits.{status_of};
 ghost use Rattle.bw_cli.specs.Programs.{Given, IsDoneFor, IsProgram, IsTelling};
 
-use bw_args::{BAD_FUSE, BAD_LIMIT, CommandLine, Task, parse};
+use bw_args::{BAD_FUSE, BAD_LIMIT, BAD_NAME, CommandLine, Task, parse};
 use bw_commands::print::{give_up, print, tell};
 use bw_commands::replay::{replay, replay_fused};
-use bw_commands::{Exit, Fault, System, inspect_file, tell_unworded};
+use bw_commands::{Exit, Fault, System, inspect_file, rehearse_run, tell_unworded};
 use bw_layout::Limit;
 use bw_stream::{Sink, Source};
 use clap::Error;
@@ -110,12 +110,20 @@ fn perform<S: System, R: Source, W: Sink, E: Sink>(
         CommandLine::Run(Task::Inspect { file }) => {
             inspect_file(alloc, system, file.as_str(), out, faults)
         }
+        CommandLine::Run(Task::Rehearse { name, limit }) => match Limit::new(*limit) {
+            Some(limit) => rehearse_run(alloc, name.copy(), limit, input, out, faults),
+            None => unreachable!(),
+        },
         CommandLine::BadLimit => {
             tell(faults, BAD_LIMIT.as_bytes());
             Exit::Usage
         }
         CommandLine::BadFuse => {
             tell(faults, BAD_FUSE.as_bytes());
+            Exit::Usage
+        }
+        CommandLine::BadName => {
+            tell(faults, BAD_NAME.as_bytes());
             Exit::Usage
         }
         CommandLine::Tell(text) => show(alloc, text, out, faults),
