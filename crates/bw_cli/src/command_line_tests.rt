@@ -76,7 +76,10 @@ static REHEARSALS: [(&[&str], Outcome); 10] = [
     (&["--name", "a1"], Outcome::Rehearses(4_294_967_294)),
     (&["--name=a1"], Outcome::Rehearses(4_294_967_294)),
     (&["--name", "-a"], Outcome::Rehearses(4_294_967_294)),
-    (&["--limit", "8192", "--name", "a1"], Outcome::Rehearses(8192)),
+    (
+        &["--limit", "8192", "--name", "a1"],
+        Outcome::Rehearses(8192),
+    ),
     (&[], Outcome::Refuses),
     (&["--name"], Outcome::Refuses),
     (&["--name", "A"], Outcome::Refuses),

@@ -40,6 +40,10 @@ pub stops_reading : (r : Result (Unit {0}) ExchangeEnd) (left left' : Option (Li
 stops_reading (Ok x) left left' count most buf reads within long some bytes memory = tt
 stops_reading (Err end) left left' count most buf reads within long some bytes memory =
     let len = length-take-le count buf within in
-    subst (λ (x : ExchangeEnd). StopsReading x left left') (sym memory)
-    (take count buf, bytes, has_given-piece left left' most count buf reads, omega (arith, len, within, long),
-    omega (arith, len, some))
+    subst (λ (x : ExchangeEnd). StopsReading x left left') (sym memory) (
+      take count buf,
+      bytes,
+      has_given-piece left left' most count buf reads,
+      omega (arith, len, within, long),
+      omega (arith, len, some),
+    )
