@@ -108,11 +108,16 @@ feeds_replies left left' moved moved' count most buf p q reads within long some 
 
 -- some bytes were read, for which there is no memory
 pub no_room : (left left' : Option (List ℕ)) (count most : ℕ) (buf : List ℕ) → Reads left most count buf left' →
-    count ≤ length buf → length buf ≡ longest_piece → IsTrue (are_bytes (take count buf)) →
+    count ≤ length buf → length buf ≡ longest_piece → (count ≡ 0 → ⊥) → IsTrue (are_bytes (take count buf)) →
     StopsHearing faults.Memory left left'
-no_room left left' count most buf reads within long fits =
-    let len = length-take-le count buf within in
-    (take count buf, fits, has_given-piece left left' most count buf reads, omega (arith, len, within, long))
+no_room left left' count most buf reads within long some fits =
+    let len = length-take-le count buf within in (
+      take count buf,
+      fits,
+      has_given-piece left left' most count buf reads,
+      omega (arith, len, some),
+      omega (arith, len, within, long),
+    )
 
 -- ---- so far
 
@@ -222,7 +227,7 @@ no_memory x left =
       heard = [];
       front = first_heard 0 x x left left fresh f;
       counted = f.counted;
-      by_end = tt;
+      by_end = inl (record { unread = refl; unheard = refl });
     }
 
 -- no piece more was read
@@ -246,11 +251,18 @@ no_more_heard reads x y left left' left'' p faults.Memory f stops =
     record {
       input = f.input ++ stops.0;
       given = has_given-on left left' left'' f.input stops.0 f.given stops.2;
-      no_further = no_further reads x y left left' p f stops.0 stops.3;
+      no_further = no_further reads x y left left' p f stops.0 stops.4;
       heard = f.heard;
       front = (first.0 ++ stops.0, spelled-more f.input first.0 stops.0 f.heard first.1);
       counted = f.counted;
-      by_end = tt;
+      by_end = inr (record {
+        before = f.input;
+        last = stops.0;
+        all = refl;
+        some = stops.3;
+        short = stops.4;
+        all_heard = all_heard reads x y left left' p f;
+      });
     }
 
 -- too often was read

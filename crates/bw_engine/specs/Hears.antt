@@ -59,13 +59,29 @@ pub record FindsBadReply (left left' : Option (List ℕ)) (input : List ℕ) (he
   -- so it is with all that the reader had
   pub all : (xs : List ℕ) → left ≡ Some xs → IsHeardUpTo reason xs heard
 
+-- memory was refused before anything was read: nothing is heard
+pub record HearsNothing (input : List ℕ) (heard : List Reply) : Type 0 where
+  pub unread : input ≡ []
+  pub unheard : heard ≡ []
+
+-- memory was refused for the last piece that was read: all whole replies before it are heard, and
+-- no more
+pub record LacksMemoryToHear (input : List ℕ) (heard : List Reply) : Type 0 where
+  pub before : List ℕ
+  pub last : List ℕ
+  pub all : input ≡ before ++ last
+  pub some : 1 ≤ length last
+  pub short : length last ≤ longest_piece
+  pub all_heard : IsAllHeard before heard
+
 -- what a sender has heard of what was read, by how that ended
 abbrev pub HearsBy : Result (Unit {0}) SendFault → Option (List ℕ) → Option (List ℕ) → List ℕ →
     List Reply → Type 0
 HearsBy (Ok x) left left' input heard = HearsToTheEnd left left' input heard
 HearsBy (Err faults.Read) left left' input heard = IsAllHeard input heard
 HearsBy (Err faults.Write) left left' input heard = ⊥
-HearsBy (Err faults.Memory) left left' input heard = Unit {0}
+HearsBy (Err faults.Memory) left left' input heard =
+    HearsNothing input heard ⊎ LacksMemoryToHear input heard
 HearsBy (Err faults.BadReply) left left' input heard = FindsBadReply left left' input heard
 HearsBy (Err faults.TurnLimit) left left' input heard =
     IsAllHeard input heard × (most_reads ≤ length input)
@@ -164,6 +180,6 @@ StopsHearing faults.Read left left' = Keeps left left'
 StopsHearing faults.Write left left' = ⊥
 StopsHearing faults.Memory left left' =
     (piece : List ℕ) × IsTrue (are_bytes piece) × HasGiven left piece left'
-    × (length piece ≤ longest_piece)
+    × (1 ≤ length piece) × (length piece ≤ longest_piece)
 StopsHearing faults.BadReply left left' = ⊥
 StopsHearing faults.TurnLimit left left' = ⊥

@@ -22,4 +22,4 @@ returns-clause-reads g c =
 pub returns-in_default-feed_piece-clause-stops : goal.returns-in_default-feed_piece-clause-stops
 returns-in_default-feed_piece-clause-stops g c =
     no_room _ _ c.in-Ok.count _ c.read.new.buf c.in-Ok.ensures.ok (search rules) (search rules)
-    c.feed_piece.ensures.bytes
+    c.if-count-eq0.false c.feed_piece.ensures.bytes
