@@ -1,11 +1,10 @@
 -- A whole exchange of a sender: either its batch broke off, or replies were heard.
 use Rattle.std.specs.Prelude.{◌≡◌, ◌⊎◌, ℕ, Option, Result, Err, List}
 use Rattle.bw_model.specs.World.{Sender as Told}
-use Rattle.bw_stream.specs.Moves.{Writes, Begins}
 use Rattle.bw_sender.specs.Senders.{IsSender}
 use Rattle.bw_sender.specs.declared.sender.Sender.{Sender}
 use Rattle.bw_engine.specs.declared.send_fault.SendFault.{SendFault}
-use Rattle.bw_engine.specs.Batches.{batch_bytes, BreaksBatch}
+use Rattle.bw_engine.specs.Batches.{batch_bytes, WritesBatch, BreaksBytes, BreaksBatch}
 use Rattle.bw_engine.specs.Hears.{Hears}
 
 -- the batch broke off: nothing was read, and nothing heard
@@ -14,14 +13,14 @@ pub record BreaksOff {R : Type 0} (result : Result (Unit {0}) SendFault) (x y : 
   pub fault : SendFault
   pub broke : result ≡ Err fault
   pub why : BreaksBatch fault
-  pub begun : (s : Told) → IsSender s x → Begins written (batch_bytes s) written'
+  pub cut : (s : Told) → IsSender s x → BreaksBytes fault s (batch_bytes s) written written'
   pub unheard : y ≡ x
   pub unread : reader' ≡ reader
 
 -- the whole batch was written, and then replies were heard
 pub record SendsAndHears (result : Result (Unit {0}) SendFault) (x y : Sender)
     (left left' written written' : Option (List ℕ)) : Type 0 where
-  pub sent : (s : Told) → IsSender s x → Writes written (batch_bytes s) written'
+  pub sent : (s : Told) → IsSender s x → WritesBatch s written written'
   pub hears : Hears result x y left left'
 
 -- one or the other

@@ -1,6 +1,6 @@
 //! The recorder's side of one exchange: what is sent, and then what is heard.
-ghost use Rattle.std.specs.Prelude.{◌≡◌, ◌≤◌, IfErr, OnOk, OnErr};
-ghost use Rattle.bw_model.specs.Wire.{Second, last_number, body, framed};
+ghost use Rattle.std.specs.Prelude.{◌≡◌, ◌≤◌, IsTrue, IfErr, OnOk, OnErr};
+ghost use Rattle.bw_model.specs.Wire.{Second, last_number, is_frame, body, framed};
 ghost use Rattle.bw_model.specs.Stream.{frames_bytes};
 ghost use Rattle.bw_model.specs.World.{Sender as Told};
 ghost use Rattle.bw_stream.specs.Moves.{Writes, Begins};
@@ -8,6 +8,7 @@ ghost use Rattle.bw_sender.specs.Senders.{IsSender};
 ghost use Rattle.bw_wire.specs.Encoded.{said};
 ghost use Rattle.bw_engine.specs.declared.send_fault.SendFault.TheVariants.{Write};
 ghost use Rattle.bw_engine.specs.Batches.{pending_messages, batch_bytes, BreaksBatch, sends_failed};
+ghost use Rattle.bw_engine.specs.Batches.{WritesMessages, WritesBatch, BreaksBytes, BreaksFrame};
 ghost use Rattle.bw_engine.specs.Hears.{hears_failed, IsHearingLimited};
 ghost use Rattle.bw_engine.specs.Sent.{Exchanges};
 
@@ -31,12 +32,12 @@ const BYE: [u8; 5] = [1, 0, 0, 0, 9];
 /// aren't flushed.
 ///
 /// # Errors
-/// `Write` and `Memory`: a beginning of the frames was written.
+/// `Write`: a beginning of the frames was written. `Memory`: whole frames of the first messages.
 pub fn send_batch<W: Sink>(alloc: Global, sender: &Sender, writer: &mut W) -> Result<(), SendFault>
     ensures ok { (s : Told) → IsSender s sender.now → OnOk result
-        (Writes (W.written writer.old) (batch_bytes s) (W.written writer.new)) }
-    ensures err { (s : Told) → IsSender s sender.now → OnErr result
-        (Begins (W.written writer.old) (batch_bytes s) (W.written writer.new)) }
+        (WritesBatch s (W.written writer.old) (W.written writer.new)) }
+    ensures err { (s : Told) → IsSender s sender.now → IfErr result (λ fault.
+        BreaksBytes fault s (batch_bytes s) (W.written writer.old) (W.written writer.new)) }
     ensures why { IfErr result BreaksBatch }
     ensures count { W.failures writer.new ≡ sends_failed result (W.failures writer.old) }
 {
@@ -47,12 +48,13 @@ pub fn send_batch<W: Sink>(alloc: Global, sender: &Sender, writer: &mut W) -> Re
 /// Writes the messages that have no verdict, in the order of their numbers.
 ///
 /// # Errors
-/// `Write` and `Memory`: a beginning of their frames was written.
+/// `Write`: a beginning of their frames was written. `Memory`: whole frames of the first of them.
 fn send_pending<W: Sink>(alloc: Global, sender: &Sender, writer: &mut W) -> Result<(), SendFault>
     ensures ok { (s : Told) → IsSender s sender.now → OnOk result
-        (Writes (W.written writer.old) (frames_bytes (pending_messages s)) (W.written writer.new)) }
-    ensures err { (s : Told) → IsSender s sender.now → OnErr result
-        (Begins (W.written writer.old) (frames_bytes (pending_messages s)) (W.written writer.new)) }
+        (WritesMessages (pending_messages s) (W.written writer.old) (W.written writer.new)) }
+    ensures err { (s : Told) → IsSender s sender.now → IfErr result (λ fault.
+        BreaksBytes fault s (frames_bytes (pending_messages s)) (W.written writer.old)
+        (W.written writer.new)) }
     ensures why { IfErr result BreaksBatch }
     ensures count { W.failures writer.new ≡ sends_failed result (W.failures writer.old) }
 {
@@ -68,7 +70,7 @@ fn send_pending<W: Sink>(alloc: Global, sender: &Sender, writer: &mut W) -> Resu
 /// Writes a request's message.
 ///
 /// # Errors
-/// `Write` and `Memory`: a beginning of its frame was written.
+/// `Write`: a beginning of its frame was written. `Memory`: nothing.
 fn send_message<W: Sink>(
     alloc: Global,
     name: &Name,
@@ -79,8 +81,10 @@ fn send_message<W: Sink>(
     requires number { number ≤ last_number Second }
     ensures ok { OnOk result (Writes (W.written writer.old)
         (framed (body (said name.now number request.now))) (W.written writer.new)) }
-    ensures err { OnErr result (Begins (W.written writer.old)
-        (framed (body (said name.now number request.now))) (W.written writer.new)) }
+    ensures fits { OnOk result (IsTrue (is_frame Second (said name.now number request.now))) }
+    ensures err { IfErr result (λ fault. BreaksFrame fault
+        (framed (body (said name.now number request.now))) (W.written writer.old)
+        (W.written writer.new)) }
     ensures why { IfErr result BreaksBatch }
     ensures count { W.failures writer.new ≡ sends_failed result (W.failures writer.old) }
 {

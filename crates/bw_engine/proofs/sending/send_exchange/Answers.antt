@@ -9,7 +9,7 @@ returns-in_err-send_batch-clause-exchanges g c =
       fault = answer.0;
       broke = answer.1;
       why = rw (answer.2) c.in_err-send_batch.ensures.why;
-      begun = c.in_err-send_batch.ensures.err;
+      cut = λ s is. rw (answer.2) (c.in_err-send_batch.ensures.err s is);
       unheard = refl;
       unread = refl;
     })

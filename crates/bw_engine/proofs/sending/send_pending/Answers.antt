@@ -1,13 +1,15 @@
 use Rattle.std.proofs.Common.{rules, sym}
-use Rattle.bw_engine.proofs.Batching.{on_err, none_behind, sent-more, sent-part, sent-all}
+use Rattle.std.proofs.lemmas.Result.{err_from_is_err_and}
+use Rattle.bw_engine.proofs.Batching.{none_behind, sent-more, sent-cut, sent-all}
 use Rattle.bw_engine.proofs.sending.send_pending.Goals as goal
 
 pub returns-in_err-send_message-clause-err : goal.returns-in_err-send_message-clause-err
 returns-in_err-send_message-clause-err g c s is =
     let n = c.in-Some.number in
     let r = c.in-Some.request.now in
-    on_err c.from_residual.result
-    (sent-part c.loop-place.place s c.name.result.now _ _ _ (n, r) (c.name.ensures s is)
+    let answer = err_from_is_err_and c.from_residual.result c.from_residual.ensures.1 in
+    rw (answer.1, answer.2) (sent-cut
+    c.in_err-send_message.field-0.0 c.loop-place.place s c.name.result.now _ _ _ (n, r) (c.name.ensures s is)
     (sym (c.in-Some.ensures.value s is)) (c.loop-place.invariant.sent s is) c.in_err-send_message.ensures.err)
 
 pub loop-place-preserved : goal.loop-place-preserved
@@ -16,7 +18,8 @@ loop-place-preserved g c = record {
       let n = c.in-Some.number in
       let r = c.in-Some.request.now in
       sent-more c.loop-place.place s c.name.result.now _ _ _ (n, r) (c.name.ensures s is)
-      (sym (c.in-Some.ensures.value s is)) (c.loop-place.invariant.sent s is) c.in_ok-send_message.ensures.ok;
+      (sym (c.in-Some.ensures.value s is)) (c.loop-place.invariant.sent s is) c.in_ok-send_message.ensures.fits
+      c.in_ok-send_message.ensures.ok;
   writes = search rules;
 }
 
