@@ -1,5 +1,5 @@
 -- What a sender keeps of the settled requests that aren't stored.
-use Rattle.std.specs.Prelude.{ℕ, List}
+use Rattle.std.specs.Prelude.{ℕ, List, length, max}
 use Rattle.bw_model.specs.Take as model
 use Rattle.bw_take.specs.Verdicts.{verdict_meaning}
 use Rattle.bw_take.specs.declared.verdict.Verdict.{Verdict}
@@ -12,3 +12,8 @@ refusal_of x = (x.0, verdict_meaning x.1)
 pub record Refused : Type 0 where
   pub numbers : List (ℕ × model.Verdict)
   pub room : ℕ
+
+-- the most room that there is where room for so many was asked for: what there was, or what was
+-- asked for, or that for sixteen, or for as many as are there
+abbrev pub most_room : Refused → ℕ → ℕ
+most_room r count = max r.room (max count (max 16 (length r.numbers)))

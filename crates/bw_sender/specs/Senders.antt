@@ -1,5 +1,5 @@
 -- What a sender keeps of all that was offered and heard.
-use Rattle.std.specs.Prelude.{◌≡◌, ◌≤◌, ℕ, List, [], length, take, drop, count_by}
+use Rattle.std.specs.Prelude.{◌≡◌, ◌<◌, ◌≤◌, ℕ, List, [], length, take, drop, count_by}
 use Rattle.bw_model.specs.Bytes.{first_free}
 use Rattle.bw_model.specs.World.{Sender as Told, settled, refused_from}
 use Rattle.bw_model.specs.World.{has_closed_from, is_some_stored}
@@ -27,3 +27,7 @@ pub record KeepsFrom (k : ℕ) (s : Told) (x : Sender) : Type 0 where
 -- The sender is what these definitions say.
 abbrev pub IsSender : Told → Sender → Type 0
 IsSender s x = KeepsFrom (settled s) s x
+
+-- a refusal of each request that it holds, and of one more, has its room already
+abbrev pub HasRoom : Sender → Type 0
+HasRoom x = length x.window < x.refused.room

@@ -1,6 +1,6 @@
 //! What a sender checks of an offer, and what it counts of a reply.
 ghost use Rattle.std.specs.Prelude.{◌≡◌, ◌≢◌, ◌≤◌, ◌<◌, ◌&&◌, ℕ, suc, length, true, false, OnOk};
-ghost use Rattle.std.specs.Prelude.{nat_lt, ◌==◌, not};
+ghost use Rattle.std.specs.Prelude.{nat_lt, ◌==◌, not, IfErr, IsSome};
 ghost use Rattle.std.specs.Str.{bytes_eq};
 ghost use Rattle.bw_model.specs.Wire.{last_number, Second};
 ghost use Rattle.bw_model.specs.Replies.{Judged, Noticed};
@@ -8,7 +8,7 @@ ghost use Rattle.bw_model.specs.World.{Sender as Told, settled as settled_of, he
 ghost use Rattle.bw_model.specs.World.{offer_fault, has_closed_from, is_open as is_opening_request};
 ghost use Rattle.bw_take.specs.Verdicts.{verdict_meaning};
 ghost use Rattle.bw_wire.specs.Notices.{notice_meaning};
-ghost use Rattle.bw_sender.specs.Offers.{checked_fault};
+ghost use Rattle.bw_sender.specs.Offers.{checked_fault, fault_of};
 ghost use Rattle.bw_sender.specs.Hearing.{heard_of};
 ghost use Rattle.bw_sender.specs.declared.heard.Heard.TheVariants.{Counted};
 
@@ -32,6 +32,7 @@ impl Sender {
     pub(crate) fn check_offer(&self, request: &Request) -> Result<(), OfferError>
         ensures fault { (s : Told) → IsSender s self.now →
             checked_fault result ≡ offer_fault s request.now }
+        ensures own { IfErr result (λ e. IsSome (fault_of e)) }
         ensures slot { OnOk result (length self.now.window < 16) }
         ensures number { OnOk result (self.now.offered ≤ last_number Second) }
     {

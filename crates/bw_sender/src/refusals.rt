@@ -1,8 +1,10 @@
 //! The settled requests that aren't stored.
-ghost use Rattle.std.specs.Prelude.{◌≡◌, ◌≤◌, ◌+◌, ◌++◌, ◌∷◌, [], length, map, OnOk, OnErr};
+ghost use Rattle.std.specs.Prelude.{◌≡◌, ◌≤◌, ◌<◌, ◌+◌, ◌++◌, ◌∷◌, [], length, map, OnOk, OnErr};
+ghost use Rattle.std.specs.Prelude.{◌⊎◌, IsOk};
 ghost use Rattle.bw_take.specs.Verdicts.{verdict_meaning};
-ghost use Rattle.bw_sender.specs.Refused.{refusal_of};
+ghost use Rattle.bw_sender.specs.Refused.{refusal_of, most_room};
 
+use crate::window::SLOTS;
 use bw_take::Verdict;
 use std::alloc::{AllocError, Global};
 use std::marker::Model;
@@ -28,23 +30,34 @@ impl Model for Refusals {
 impl Refusals {
     /// None yet.
     pub(crate) fn new(alloc: Global) -> Refusals
-        ensures { result.numbers ≡ [] }
+        ensures numbers { result.numbers ≡ [] }
+        ensures room { result.room ≡ 0 }
     {
         Refusals {
             entries: Vec::new(alloc),
         }
     }
 
-    /// Makes room for so many more.
+    /// Makes room for so many more. Where it grows there is room for at least sixteen, and for as
+    /// many as are there, so that they are not copied over and over.
     ///
     /// # Errors
     /// `AllocError` where the growth was refused.
     pub(crate) fn reserve(&mut self, count: usize) -> Result<(), AllocError>
         ensures numbers { self.new.numbers ≡ self.old.numbers }
         ensures ok { OnOk result (count ≤ self.new.room) }
+        ensures most { self.new.room ≤ most_room self.old count }
         ensures err { OnErr result (self.new ≡ self.old) }
+        ensures enough { count ≤ self.old.room → IsOk result }
+        ensures full { OnErr result (self.old.room < count) }
+        ensures grows { OnOk result ((self.new ≡ self.old)
+            ⊎ (length self.old.numbers ≤ self.new.room)) }
     {
-        self.entries.reserve(count)
+        if count <= self.entries.capacity() - self.entries.len() {
+            return Ok(());
+        }
+        let room = self.entries.len().max(SLOTS);
+        self.entries.reserve_exact(room.max(count))
     }
 
     /// Notes a number behind the others, in room that is there.
@@ -52,9 +65,9 @@ impl Refusals {
         requires { 1 ≤ self.old.room }
         ensures numbers { self.new.numbers ≡
             self.old.numbers ++ (number, verdict_meaning verdict) ∷ [] }
-        ensures room { self.old.room ≤ self.new.room + 1 }
+        ensures room { self.new.room + 1 ≡ self.old.room }
     {
-        self.entries.push((number, verdict)).unwrap();
+        self.entries.push_reserved((number, verdict));
     }
 
     /// All of them.

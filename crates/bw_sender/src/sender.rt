@@ -1,6 +1,6 @@
 //! A sender: what a recorder offered, and what came of it.
 ghost use Rattle.std.specs.Prelude.{◌≡◌, ◌≢◌, ◌≤◌, ◌<◌, ◌+◌, length, map, IfOk, IfErr, OnOk, OnErr};
-ghost use Rattle.std.specs.Prelude.{None, IfSome, option_map};
+ghost use Rattle.std.specs.Prelude.{None, IfSome, IsSome, option_map};
 ghost use Rattle.bw_model.specs.Wire.{Second, last_number};
 ghost use Rattle.bw_model.specs.World.{Sender as Told, settled as settled_of, stored as stored_of};
 ghost use Rattle.bw_model.specs.World.{refused as refused_of, pending as pending_of, hear, heard};
@@ -21,7 +21,8 @@ use std::alloc::{AllocError, Global};
 /// A recorder's side of one take: it numbers requests, tells which of them have no verdict yet,
 /// and counts those that are stored.
 ///
-/// It holds at most sixteen requests, and eight bytes for each refused number.
+/// It holds at most sixteen requests, and room for at most twice as many refused numbers as there
+/// are and sixteen more, of eight bytes each.
 #[derive(Drop)]
 pub struct Sender {
     pub(crate) name: Name,
@@ -34,10 +35,11 @@ pub struct Sender {
     ghost numbers: { offered ≤ last_number Second + 1 },
     ghost counts: { length window + stored + length refused.numbers ≡ offered },
     ghost room: { length window ≤ refused.room },
+    ghost spare: { refused.room ≤ length refused.numbers + 16 },
 }
 
 impl Sender {
-    ghost use Rattle.bw_sender.specs.Senders.{new_sender, IsSender};
+    ghost use Rattle.bw_sender.specs.Senders.{new_sender, IsSender, HasRoom};
     ghost use Rattle.bw_sender.specs.Refused.{refusal_of};
 
     /// A sender of a name, to which nothing was offered.
@@ -76,6 +78,7 @@ impl Sender {
             fault_of e.0 ≡ offer_fault s request) }
         ensures back { IfErr result (λ e. e.1 ≡ request) }
         ensures unchanged { OnErr result (self.new ≡ self.old) }
+        ensures room { HasRoom self.old → IfErr result (λ e. IsSome (fault_of e.0)) }
     {
         if let Err(error) = self.check_offer(&request) {
             return Err((error, request));
