@@ -1,4 +1,5 @@
 mod Staging
 mod Playing
 mod Schedules
+mod LuckLaws
 pub mod EventWords

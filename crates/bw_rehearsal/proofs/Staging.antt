@@ -1,7 +1,7 @@
 -- What lies on a stage, by its place, and what an event changes of it.
 use Rattle.std.proofs.Common.{◌≡◌, ℕ, suc, zero, ◌+◌, ◌<◌, ◌≤◌, Bool, true, false, List, [], ◌∷◌, ◌++◌, length}
 use Rattle.std.proofs.Common.{◌-◌, take, drop, get_or, Option, Some, None, cond, refl, sym, ◌∙◌, ap, subst}
-use Rattle.std.specs.Prelude.{slice_get, is_none, IsSome, Vec, Result, Ok, Err, OnOk, map, option_map}
+use Rattle.std.specs.Prelude.{slice_get, is_none, IsSome, Vec, Result, Ok, Err, OnOk, OnErr, map, option_map}
 use Rattle.std.specs.declared.alloc.Global.{Global}
 use Rattle.std.proofs.lemmas.List.{length-append, length-map, map-append, take_rest}
 use Rattle.std.proofs.lemmas.Option.{slice_get_read, slice_get_past, slice_get-map}
@@ -154,6 +154,10 @@ replies_more xs ys more w told e was is =
 pub on_ok : {X E : Type 0} {P Q : Type 0} (r : Result X E) → OnOk r P → (P → Q) → OnOk r Q
 on_ok (Ok x) p f = f p
 on_ok (Err e) p f = tt
+
+pub on_err : {X E : Type 0} {P : Type 0} (r : Result X E) → P → OnErr r P
+on_err (Ok x) p = tt
+on_err (Err e) p = p
 
 -- What a decoder answers to a message's body.
 

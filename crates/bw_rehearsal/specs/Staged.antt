@@ -1,15 +1,18 @@
 -- A stage as a world of the definitions.
-use Rattle.std.specs.Prelude.{◌≡◌, ℕ, List, [], ◌∷◌, length, map, Vec}
+use Rattle.std.specs.Prelude.{◌≡◌, ◌<◌, ◌+◌, ℕ, List, [], ◌∷◌, length, map, slice_get, IsSome, Vec}
+use Rattle.std.specs.Prelude.{vec_capacity}
 use Rattle.std.specs.declared.alloc.Global.{Global}
 use Rattle.bw_model.specs.Wire.{Message, Says}
 use Rattle.bw_model.specs.Turn.{Luck}
 use Rattle.bw_model.specs.Exchange.{nothing_stands}
-use Rattle.bw_model.specs.World.{World, Event, happens}
+use Rattle.bw_model.specs.World.{World, Event, Offer, Send, Deliver, Bring, Ask, Foreign}
+use Rattle.bw_model.specs.World.{happens, pending}
 use Rattle.bw_wire.specs.Encoded.{IsFrameOf}
 use Rattle.bw_wire.specs.Replies.{reply_of}
-use Rattle.bw_session.specs.Books.{HoldsBook}
+use Rattle.bw_session.specs.Books.{HoldsBook, failures_of}
 use Rattle.bw_sender.specs.Senders.{IsSender}
 use Rattle.bw_rehearsal.specs.Rehearsing.{no_contents}
+use Rattle.bw_rehearsal.specs.Lucks.{IsLuckOf}
 use Rattle.bw_rehearsal.specs.declared.stage.Stage.{Stage}
 
 -- each is the frame of the message at its place
@@ -28,7 +31,25 @@ pub record IsStaged (limit : ℕ) (w : World) (s : Stage) : Type 0 where
   pub limited : s.server.limit ≡ limit
   pub held : HoldsBook _ _ no_contents s.server w.book
 
--- Behind an event the stage has what the definitions' world has, under some luck.
-pub record PlaysOn (limit : ℕ) (w : World) (e : Event) (later : Stage) : Type 0 where
+-- how many calls of the stage's store failed
+abbrev pub failures_on : Stage → ℕ
+failures_on s = failures_of _ _ s.server
+
+-- Behind an event the stage has what the definitions' world has, under some luck, which is told.
+pub record PlaysOn (limit : ℕ) (w : World) (e : Event) (old later : Stage) : Type 0 where
   pub luck : Luck
   pub staged : IsStaged limit (happens nothing_stands w e luck) later
+  pub luck_is : IsLuckOf (failures_on old) (failures_on later) w e luck
+
+-- there is no room for so many replies more
+abbrev pub LacksRoom : ℕ → Stage → Type 0
+LacksRoom n s = vec_capacity s.replies < length s.replies.items + n
+
+-- playing this event may take memory: that of a reply only where room for it isn't there
+abbrev pub TakesMemory : Stage → World → Event → Type 0
+TakesMemory s w (Offer r) = Unit {0}
+TakesMemory s w (Send i) = IsSome (pending w.sender i)
+TakesMemory s w (Deliver k) = IsSome (slice_get w.sent k) × LacksRoom 17 s
+TakesMemory s w (Bring k) = ⊥
+TakesMemory s w Ask = LacksRoom 1 s
+TakesMemory s w (Foreign f) = ⊥

@@ -5,7 +5,7 @@ use Rattle.bw_model.specs.CountedTurn.{is_pending}
 use Rattle.bw_model.specs.Exchange.{take_in, content_in}
 use Rattle.bw_model.specs.World as model
 use Rattle.bw_file.specs.Memory.{content_under}
-use Rattle.bw_session.specs.Books.{HoldsBook}
+use Rattle.bw_session.specs.Books.{HoldsBook, failures_of}
 use Rattle.bw_sender.specs.Senders.{IsSender}
 use Rattle.bw_rehearsal.specs.Rehearsing.{LeadsTo, no_contents}
 use Rattle.bw_rehearsal.specs.declared.event.Event.{Event}
@@ -14,7 +14,8 @@ use Rattle.bw_rehearsal.specs.declared.rehearsal.World.{World}
 -- These events lead to a world of the definitions, and this is what it has.
 pub record WasRehearsed (name : List ℕ) (limit : ℕ) (events : List Event) (w : World) : Type 0 where
   pub world : model.World
-  pub led : LeadsTo name events world
+  -- .. with as many failures of the store as its server counted
+  pub led : LeadsTo name events (failures_of _ _ w.server) world
   pub offered : w.offered ≡ length world.sender.offered
   pub sent : w.sent ≡ length world.sent
   pub replies : w.replies ≡ length world.replies

@@ -29,7 +29,7 @@ pub struct World {
 ///
 /// All that was ever sent and written stays: what isn't delivered or brought is lost, and what is
 /// may come again, in any order. Memory that is refused to the server or to its store is a part of
-/// the rehearsal.
+/// the rehearsal: a reply says so, or the store's count of failures.
 ///
 /// # Errors
 /// `AllocError` where memory was refused to the sender, or for what is said between them.

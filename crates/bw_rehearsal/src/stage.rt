@@ -1,13 +1,15 @@
 //! A stage: a sender, a server, and all that went between them.
-ghost use Rattle.std.specs.Prelude.{◌≡◌, ◌≤◌, ◌+◌, ◌++◌, ℕ, Some, IsSome, IfOk, OnOk, option_map};
-ghost use Rattle.std.specs.Prelude.{length, vec_capacity};
+ghost use Rattle.std.specs.Prelude.{◌≡◌, ◌≤◌, ◌+◌, ◌++◌, ℕ, Some, None, IsSome, IfOk, OnOk, OnErr};
+ghost use Rattle.std.specs.Prelude.{length, vec_capacity, slice_get, option_map};
 ghost use Rattle.bw_model.specs.Wire.{Message as Said, Says};
 ghost use Rattle.bw_model.specs.World.{World, Offer, Send, Deliver, Bring, Ask, new_world};
+ghost use Rattle.bw_model.specs.World.{pending};
 ghost use Rattle.bw_wire.specs.Encoded.{IsFrameOf};
 ghost use Rattle.bw_wire.specs.Frames.{message_of};
 ghost use Rattle.bw_sender.specs.Offers.{fault_of};
 ghost use Rattle.bw_rehearsal.specs.Rehearsing.{event_meaning};
-ghost use Rattle.bw_rehearsal.specs.Staged.{IsStaged, PlaysOn};
+ghost use Rattle.bw_rehearsal.specs.Staged.{IsStaged, PlaysOn, TakesMemory, LacksRoom};
+ghost use Rattle.bw_rehearsal.specs.Staged.{failures_on};
 
 use crate::event::Event;
 use arrayvec::ArrayVec;
@@ -40,7 +42,8 @@ impl Stage {
     /// # Errors
     /// `AllocError` where memory was refused.
     pub(crate) fn new(alloc: Global, name: Name, limit: Limit) -> Result<Stage, AllocError>
-        ensures { IfOk result (λ s. IsStaged limit (new_world name) s) }
+        ensures staged { IfOk result (λ s. IsStaged limit (new_world name) s) }
+        ensures failures { IfOk result (λ s. failures_on s ≡ 0) }
     {
         let sender = Sender::new(alloc, name)?;
         let Ok(server) = Server::new(alloc, MemoryStore::new(alloc), limit) else {
@@ -59,10 +62,14 @@ impl Stage {
     /// Plays an event.
     ///
     /// # Errors
-    /// `AllocError` where memory was refused to the sender or to the network.
+    /// `AllocError` where memory was refused to the sender or to the network: the server was told
+    /// nothing.
     pub(crate) fn play(&mut self, event: &Event) -> Result<(), AllocError>
-        ensures { (limit : ℕ) (w : World) → IsStaged limit w self.old →
-            OnOk result (PlaysOn limit w (event_meaning event.now) self.new) }
+        ensures ok { (limit : ℕ) (w : World) → IsStaged limit w self.old →
+            OnOk result (PlaysOn limit w (event_meaning event.now) self.old self.new) }
+        ensures err { (limit : ℕ) (w : World) → IsStaged limit w self.old →
+            OnErr result (TakesMemory self.old w (event_meaning event.now)) }
+        ensures server { OnErr result (self.new.server ≡ self.old.server) }
     {
         match event {
             Event::Offer(request) => self.offer(request),
@@ -81,8 +88,9 @@ impl Stage {
     /// # Errors
     /// `AllocError` where memory was refused.
     fn offer(&mut self, request: &Request) -> Result<(), AllocError>
-        ensures { (limit : ℕ) (w : World) → IsStaged limit w self.old →
-            OnOk result (PlaysOn limit w (Offer request.now) self.new) }
+        ensures ok { (limit : ℕ) (w : World) → IsStaged limit w self.old →
+            OnOk result (PlaysOn limit w (Offer request.now) self.old self.new) }
+        ensures server { self.new.server ≡ self.old.server }
     {
         let copy = request.as_ref().to_request(self.alloc)?;
         match self.sender.offer(copy) {
@@ -99,8 +107,11 @@ impl Stage {
     /// # Errors
     /// `AllocError` where memory was refused.
     fn send(&mut self, place: usize) -> Result<(), AllocError>
-        ensures { (limit : ℕ) (w : World) → IsStaged limit w self.old →
-            OnOk result (PlaysOn limit w (Send place) self.new) }
+        ensures ok { (limit : ℕ) (w : World) → IsStaged limit w self.old →
+            OnOk result (PlaysOn limit w (Send place) self.old self.new) }
+        ensures err { (limit : ℕ) (w : World) → IsStaged limit w self.old →
+            OnErr result (IsSome (pending w.sender place)) }
+        ensures server { self.new.server ≡ self.old.server }
     {
         let Some((number, request)) = self.sender.pending(place) else {
             return Ok(());
@@ -115,8 +126,12 @@ impl Stage {
     /// # Errors
     /// `AllocError` where memory was refused for the replies: the server wasn't told.
     fn deliver(&mut self, place: usize) -> Result<(), AllocError>
-        ensures { (limit : ℕ) (w : World) → IsStaged limit w self.old →
-            OnOk result (PlaysOn limit w (Deliver place) self.new) }
+        ensures ok { (limit : ℕ) (w : World) → IsStaged limit w self.old →
+            OnOk result (PlaysOn limit w (Deliver place) self.old self.new) }
+        ensures err { (limit : ℕ) (w : World) → IsStaged limit w self.old →
+            OnErr result (IsSome (slice_get w.sent place)) }
+        ensures full { OnErr result (LacksRoom 17 self.old) }
+        ensures server { OnErr result (self.new.server ≡ self.old.server) }
     {
         let Some(frame) = self.sent.get(place) else {
             return Ok(());
@@ -135,7 +150,7 @@ impl Stage {
     /// Brings the written reply at a place to the sender.
     fn bring(&mut self, place: usize)
         ensures { (limit : ℕ) (w : World) → IsStaged limit w self.old →
-            PlaysOn limit w (Bring place) self.new }
+            PlaysOn limit w (Bring place) self.old self.new }
     {
         if let Some(reply) = self.replies.get(place) {
             self.sender.on_reply(reply);
@@ -147,8 +162,10 @@ impl Stage {
     /// # Errors
     /// `AllocError` where memory was refused.
     fn ask(&mut self) -> Result<(), AllocError>
-        ensures { (limit : ℕ) (w : World) → IsStaged limit w self.old →
-            OnOk result (PlaysOn limit w Ask self.new) }
+        ensures ok { (limit : ℕ) (w : World) → IsStaged limit w self.old →
+            OnOk result (PlaysOn limit w Ask self.old self.new) }
+        ensures full { OnErr result (LacksRoom 1 self.old) }
+        ensures server { self.new.server ≡ self.old.server }
     {
         let reply = self.server.ask(self.sender.name(), 0);
         self.replies.push(reply)?;
@@ -161,7 +178,8 @@ impl Stage {
 /// # Errors
 /// `AllocError` where it was for want of memory.
 fn unless_memory(error: OfferError) -> Result<(), AllocError>
-    ensures { OnOk result (IsSome (fault_of error)) }
+    ensures ok { OnOk result (IsSome (fault_of error)) }
+    ensures err { OnErr result (fault_of error ≡ None) }
 {
     match error {
         OfferError::Memory => Err(AllocError),

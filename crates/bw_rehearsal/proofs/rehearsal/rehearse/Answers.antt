@@ -5,6 +5,7 @@ use Rattle.bw_model.proofs.HeldFiles.{held_files}
 use Rattle.bw_session.specs.Servers.{kept_in}
 use Rattle.bw_file.specs.Memory.{content_under}
 use Rattle.bw_rehearsal.specs.Rehearsing.{LeadsTo, no_contents}
+use Rattle.bw_rehearsal.specs.Staged.{failures_on}
 use Rattle.bw_rehearsal.specs.declared.event.Event.{Event}
 use Rattle.bw_rehearsal.proofs.Schedules.{leads_on}
 use Rattle.bw_rehearsal.proofs.Staging.{frames_len, replies_len}
@@ -13,10 +14,10 @@ use Rattle.bw_rehearsal.proofs.rehearsal.rehearse.Goals as goal
 pub loop-event-preserved : goal.loop-event-preserved
 loop-event-preserved c =
     let i = c.loop-event.invariant in
-    let p = c.in_ok-play.ensures c.args.limit i.0 i.2 in (
+    let p = c.in_ok-play.ensures.ok c.args.limit i.0 i.2 in (
       _,
-      leads_on c.args.name c.args.events.now c.loop-event.event-index c.event-item.result i.0 p.luck (omega arith)
-          c.event-item.is i.1,
+      leads_on c.args.name c.args.events.now c.loop-event.event-index c.event-item.result i.0 p.luck _ _ (omega arith)
+          c.event-item.is p.luck_is i.1,
       p.staged,
     )
 
@@ -28,7 +29,7 @@ returns c =
     let store = c.loop-event.stage.server.stores.store in
     record {
       world = w;
-      led = subst (λ (es : List Event). LeadsTo c.args.name es w)
+      led = subst (λ (es : List Event). LeadsTo c.args.name es (failures_on c.loop-event.stage) w)
           (take_all c.loop-event.event-index c.args.events.now (omega arith)) i.1;
       offered = k.offered;
       sent = c.len.ensures ∙ c.loop-event.stage.sent.ok.0 ∙ frames_len w.sent _ k.sent;

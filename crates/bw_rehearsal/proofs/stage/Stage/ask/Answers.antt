@@ -1,4 +1,4 @@
-use Rattle.std.proofs.Common.{ℕ, List, [], ◌∷◌, ◌∙◌, ap}
+use Rattle.std.proofs.Common.{refl, ℕ, List, [], ◌∷◌, ◌∙◌, ap}
 use Rattle.bw_model.specs.Replies.{Reply, Noticed, Next}
 use Rattle.bw_model.specs.Book.{log_of}
 use Rattle.bw_rehearsal.specs.Rehearsing.{no_contents}
@@ -6,11 +6,11 @@ use Rattle.bw_rehearsal.proofs.Staging.{replies_more}
 use Rattle.bw_rehearsal.proofs.Playing.{asked}
 use Rattle.bw_rehearsal.proofs.stage.Stage.ask.Goals as goal
 
-pub returns : goal.returns
-returns c = λ limit w k.
+pub returns-clause-ok : goal.returns-clause-ok
+returns-clause-ok c = λ limit w k.
     let told = c.ask-reply.ensures.value no_contents w.book k.held
     ∙ ap (λ (name : List ℕ). Noticed name 0 Next (log_of w.book name).done) (c.name.ensures w.sender k.sender) in
-    asked limit w _ (record {
+    asked limit w c.args.self.now _ refl (record {
       sender = k.sender;
       offered = k.offered;
       sent = k.sent;

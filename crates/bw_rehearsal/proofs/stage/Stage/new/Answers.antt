@@ -5,8 +5,8 @@ use Rattle.bw_wire.specs.Replies.{reply_of}
 use Rattle.bw_rehearsal.proofs.Staging.{no_frames}
 use Rattle.bw_rehearsal.proofs.stage.Stage.new.Goals as goal
 
-pub returns : goal.returns
-returns c = record {
+pub returns-clause-staged : goal.returns-clause-staged
+returns-clause-staged c = record {
   sender = c.in_ok-sender.ensures;
   offered = refl;
   sent = no_frames _ c.new-4.ensures.items;

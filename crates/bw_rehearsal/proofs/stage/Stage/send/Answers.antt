@@ -1,4 +1,4 @@
-use Rattle.std.proofs.Common.{List, [], ◌∷◌, ◌++◌, sym, subst, ℕ}
+use Rattle.std.proofs.Common.{refl, List, [], ◌∷◌, ◌++◌, sym, subst, ℕ}
 use Rattle.bw_model.specs.Take.{Request}
 use Rattle.bw_model.specs.Wire.{Message}
 use Rattle.bw_wire.specs.Encoded.{IsFrameOf, said}
@@ -7,12 +7,12 @@ use Rattle.bw_rehearsal.proofs.Staging.{frames_more}
 use Rattle.bw_rehearsal.proofs.Playing.{sent_one, sent_none}
 use Rattle.bw_rehearsal.proofs.stage.Stage.send.Goals as goal
 
-pub returns-in_default : goal.returns-in_default
-returns-in_default c = λ limit w k.
-    sent_none limit w _ c.args.place (sym (c.in_default.ensures.value w.sender k.sender)) k
+pub returns-in_default-clause-ok : goal.returns-in_default-clause-ok
+returns-in_default-clause-ok c = λ limit w k.
+    sent_none limit w c.args.self.now _ c.args.place (sym (c.in_default.ensures.value w.sender k.sender)) refl k
 
-pub returns : goal.returns
-returns c = λ limit w k.
+pub returns-clause-ok : goal.returns-clause-ok
+returns-clause-ok c = λ limit w k.
     let n = c.in-Some.number in
     let r = c.in-Some.request.now in
     let m : Message = record { name = w.sender.name; number = n; request = r } in
@@ -20,7 +20,7 @@ returns c = λ limit w k.
     (c.name.ensures w.sender k.sender)
     (subst (λ (x : Request). IsFrameOf (said c.name.result.now n x) c.in_ok-frame.frame.items) c.as_ref.ensures.same
     c.in_ok-frame.ensures) in
-    sent_one limit w _ c.args.place (n, r) (sym (c.in-Some.ensures.value w.sender k.sender))
+    sent_one limit w c.args.self.now _ c.args.place (n, r) (sym (c.in-Some.ensures.value w.sender k.sender)) refl
     (record {
       sender = k.sender;
       offered = k.offered;
