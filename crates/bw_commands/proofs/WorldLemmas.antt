@@ -1,6 +1,6 @@
 -- The text of what a rehearsal came to.
 use Rattle.std.proofs.Common.{◌≡◌, ℕ, Bool, true, false, List, ◌++◌, Result, Ok, Err, OnOk, Option, Some, None, refl, sym}
-use Rattle.std.proofs.Common.{◌∙◌, ap, [], ◌∷◌, map}
+use Rattle.std.proofs.Common.{◌∙◌, ap, [], ◌∷◌, map, subst}
 use Rattle.std.specs.Prelude.{unwrap_or, is_none, slice_get, if◌then◌else◌}
 use Rattle.bw_model.specs.Bytes.{put}
 use Rattle.bw_model.specs.Take.{Request}
@@ -13,10 +13,11 @@ use Rattle.bw_model.specs.World.{bring, comes, hear, is_counted, offer_fault, pe
 use Rattle.bw_model.specs.World.{settled, stored}
 use Rattle.bw_model.specs.Book.{Book, Log, log_of, is_known}
 use Rattle.bw_model.proofs.BookLemmas.{unknown_log}
-use Rattle.bw_session.specs.Books.{of_known}
+use Rattle.bw_session.specs.Books.{of_known, failures_of}
 use Rattle.bw_file.specs.Memory.{content_under}
 use Rattle.bw_file.specs.MemoryNames.{names_of, AreNames}
 use Rattle.bw_file.specs.declared.memory.MemoryStore.{MemoryStore}
+use Rattle.bw_rehearsal.specs.Lucks.{AreLucksOf}
 use Rattle.bw_rehearsal.specs.Rehearsing.{event_meaning}
 use Rattle.bw_rehearsal.specs.Worlds.{WasRehearsed}
 use Rattle.bw_rehearsal.specs.declared.event.Event.{Event as Read}
@@ -121,6 +122,8 @@ rehearsed_text name copy limit events x text same r put names = record {
   events_are = r.led.meant;
   world = r.world;
   reached = ap (λ (n : List ℕ). world_after nothing_stands (new_world n) r.led.schedule) (sym same) ∙ r.led.reached;
+  failures = failures_of _ _ x.server;
+  lucks = subst (λ (n : List ℕ). AreLucksOf 0 (failures_of _ _ x.server) (new_world n) r.led.schedule) same r.led.lucks;
   contents = content_under x.server.stores.store.files;
   files = r.files;
   names = names_of x.server.stores.store;

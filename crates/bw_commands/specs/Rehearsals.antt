@@ -10,6 +10,7 @@ use Rattle.bw_file.specs.MemoryNames.{AreNames}
 use Rattle.bw_inspect.specs.Places.{Of}
 use Rattle.bw_session.specs.Books.{HoldsBook}
 use Rattle.bw_sender.specs.Senders.{IsSender}
+use Rattle.bw_rehearsal.specs.Lucks.{AreLucksOf}
 use Rattle.bw_rehearsal.specs.Rehearsing.{no_contents}
 use Rattle.bw_rehearsal.specs.declared.rehearsal.World.{World}
 use Rattle.bw_commands.specs.EventLines.{SayEvents, FirstOther}
@@ -49,15 +50,17 @@ pub record HasWorld (world : model.World) (w : World) : Type 0 where
   pub sender : IsSender world.sender w.sender
   pub held : HoldsBook _ _ no_contents w.server world.book
 
--- The text of a world that just these events lead to, under some luck at each: its two lines, and
--- the files in the order of their names; each name that is closed, or of which nothing waits, has
--- its take's file.
+-- The text of a world that just these events lead to, under some luck at each, which is told where
+-- so many calls of the store failed: its two lines, and the files in the order of their names; each
+-- name that is closed, or of which nothing waits, has its take's file.
 pub record IsWorldText (name : List ℕ) (limit : ℕ) (events : List model.Event) (text : List ℕ)
     : Type 0 where
   pub schedule : List (model.Event × Luck)
   pub events_are : map (λ x. x.0) schedule ≡ events
   pub world : model.World
   pub reached : model.world_after nothing_stands (model.new_world name) schedule ≡ world
+  pub failures : ℕ
+  pub lucks : AreLucksOf 0 failures (model.new_world name) schedule
   pub contents : List ℕ → Option (List ℕ)
   pub files : (name : List ℕ) → (is_pending (log_of world.book name) ≡ false)
       ⊎ ((take_in false world.book name).closed ≡ true) →
