@@ -24,6 +24,10 @@ pub record IsRequestText (text : List ℕ) (r : Request) : Type 0 where
   pub hex : decode_of text ≡ Ok bytes
   pub request : decoded_request bytes ≡ Ok r
 
+-- the line begins as one that says an offer
+abbrev pub BeginsOffer : List ℕ → Type 0
+BeginsOffer line = (text : List ℕ) × (line ≡ codes "offer " ++ text)
+
 -- the line says this event
 abbrev pub SaysEvent : List ℕ → Event → Type 0
 SaysEvent line (Offer r) =

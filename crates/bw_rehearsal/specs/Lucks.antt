@@ -19,7 +19,7 @@ pub record IsTold (before after : ℕ) (book : Book) (f : Frame) (luck : Luck) :
   pub count : Counts before after (stops_short nothing_stands book f luck)
   pub stop : IsFalse (stops_short nothing_stands book f luck) → luck.stop ≡ None
 
--- the server is told nothing: no luck is bad, and no call of the store fails
+-- nothing is asked of the server's memory and store: the luck is good, and the count stays
 pub record IsUntouched (before after : ℕ) (luck : Luck) : Type 0 where
   pub luck_is : luck ≡ good
   pub count : after ≡ before

@@ -1,12 +1,13 @@
 //! Lines as the events of a rehearsal.
-ghost use Rattle.std.specs.Prelude.{◌≡◌, ◌≢◌, ◌++◌, ℕ, List, Ok, IfOk, MatchOption};
+ghost use Rattle.std.specs.Prelude.{◌≡◌, ◌≢◌, ◌++◌, ℕ, List, Ok, IfOk, OnErr};
+ghost use Rattle.std.specs.Prelude.{MatchOption};
 ghost use Rattle.std.specs.Option.{SomeIff};
 ghost use Rattle.bw_model.specs.Take.{Request as Requested};
 ghost use Rattle.bw_model.specs.Wire.{decoded_request};
 ghost use Rattle.bw_model.specs.World.{Event as ToldEvent};
 ghost use Rattle.bw_rehearsal.specs.Rehearsing.{event_meaning};
 ghost use Rattle.bw_rehearsal.specs.EventLines.{SaysEvent, IsIndexText, index_written};
-ghost use Rattle.bw_rehearsal.specs.EventLines.{IsRequestText};
+ghost use Rattle.bw_rehearsal.specs.EventLines.{IsRequestText, BeginsOffer};
 
 use crate::event::Event;
 use bw_take::Request;
@@ -18,10 +19,11 @@ use std::alloc::{AllocError, Global};
 /// request, `send I`, `deliver K`, `bring K` or `ask`.
 ///
 /// # Errors
-/// `AllocError` where memory was refused.
+/// `AllocError` where memory was refused: only a line that begins with `offer ` takes some.
 pub fn event_in(alloc: Global, line: &[u8]) -> Result<Option<Event>, AllocError>
-    ensures { IfOk result (λ found. MatchOption found ((e : ToldEvent) → ¬ SaysEvent line.now e)
+    ensures ok { IfOk result (λ found. MatchOption found ((e : ToldEvent) → ¬ SaysEvent line.now e)
         (λ event. SaysEvent line.now (event_meaning event))) }
+    ensures err { OnErr result (BeginsOffer line.now) }
 {
     if line == b"ask".as_slice() {
         return Ok(Some(Event::Ask));

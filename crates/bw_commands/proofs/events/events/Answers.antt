@@ -21,7 +21,7 @@ loop-rest-preserved c =
           SaidSoFar (lines_of c.args.input.now) (lines_of c.first_line.result.1.now) es (c.loop-rest.number + 1))
           (sym pushed) (one_said _ _ _ _ _ c.first_line.result.0.now _ c.loop-rest.invariant.said
           c.first_line.ensures.lines (read_some c.first_line.result.0.now c.in_ok-event.field-0 c.in-Some.event
-          c.in-Some.is c.in_ok-event.ensures));
+          c.in-Some.is c.in_ok-event.ensures.ok));
     }
 
 pub returns-clause-ok : goal.returns-clause-ok
@@ -33,4 +33,4 @@ returns-clause-ok c =
 pub returns-in_default-clause-err : goal.returns-in_default-clause-err
 returns-in_default-clause-err c =
     stops_at _ _ _ _ _ c.first_line.result.0.now c.loop-rest.invariant.said c.first_line.ensures.lines
-    (read_none c.first_line.result.0.now c.in_ok-event.field-0 c.in_default.is c.in_ok-event.ensures)
+    (read_none c.first_line.result.0.now c.in_ok-event.field-0 c.in_default.is c.in_ok-event.ensures.ok)
