@@ -87,6 +87,7 @@ pub length_refuses : (fault : Fault) (xs : List ℕ) → RefusesLength fault xs 
 length_refuses faults.TooLong xs h = h
 length_refuses (faults.NotHex n) xs h = h
 length_refuses (faults.NotEvent n) xs h = absurd h
+length_refuses (faults.NotRequest n) xs h = absurd h
 length_refuses faults.Unreadable xs h = tt
 length_refuses faults.Unwritable xs h = tt
 length_refuses faults.Memory xs h = tt
@@ -97,6 +98,7 @@ pub refuses_prints : (name : List ℕ) (limit : ℕ) (input : Option (List ℕ))
 refuses_prints name limit input faults.TooLong h own = record { is = refl; right = h }
 refuses_prints name limit input (faults.NotHex n) h own = record { is = refl; right = h }
 refuses_prints name limit input (faults.NotEvent n) h own = record { is = refl; right = h }
+refuses_prints name limit input (faults.NotRequest n) h own = record { is = refl; right = h }
 refuses_prints name limit input faults.Unreadable h own = record { is = refl; right = h }
 refuses_prints name limit input faults.Unwritable h own = absurd (own refl)
 refuses_prints name limit input faults.Memory h own = record { is = refl; right = h }
@@ -107,6 +109,7 @@ pub refuses_run : (limit : ℕ) (input : Option (List ℕ)) (fault : Fault) →
 refuses_run limit input faults.TooLong h own = record { is = refl; right = h }
 refuses_run limit input (faults.NotHex n) h own = record { is = refl; right = h }
 refuses_run limit input (faults.NotEvent n) h own = record { is = refl; right = h }
+refuses_run limit input (faults.NotRequest n) h own = record { is = refl; right = h }
 refuses_run limit input faults.Unreadable h own = record { is = refl; right = h }
 refuses_run limit input faults.Unwritable h own = absurd (own refl)
 refuses_run limit input faults.Memory h own = record { is = refl; right = h }

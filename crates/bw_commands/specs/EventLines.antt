@@ -4,6 +4,7 @@ use Rattle.bw_model.specs.World.{Event}
 use Rattle.bw_rehearsal.specs.EventLines.{SaysEvent}
 use Rattle.bw_commands.specs.declared.fault.Fault.{Fault}
 use Rattle.bw_commands.specs.declared.fault.Fault.TheVariants.{TooLong, NotHex, NotEvent}
+use Rattle.bw_commands.specs.declared.fault.Fault.TheVariants.{NotRequest}
 use Rattle.bw_commands.specs.declared.fault.Fault.TheVariants.{Unreadable, Unwritable, Memory}
 
 -- each line says its event
@@ -25,6 +26,7 @@ abbrev pub IsEventFault : Fault → List (List ℕ) → Type 0
 IsEventFault (NotEvent number) lines = FirstOther 1 lines number
 IsEventFault Memory lines = Unit {0}
 IsEventFault (NotHex number) lines = ⊥
+IsEventFault (NotRequest number) lines = ⊥
 IsEventFault TooLong lines = ⊥
 IsEventFault Unreadable lines = ⊥
 IsEventFault Unwritable lines = ⊥

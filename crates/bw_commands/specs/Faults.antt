@@ -8,7 +8,7 @@ use Rattle.bw_commands.specs.Printing.{Print, Nothing, IsOf}
 use Rattle.bw_commands.specs.Text.{as_line}
 use Rattle.bw_commands.specs.declared.fault.Fault.{Fault}
 use Rattle.bw_commands.specs.declared.fault.Fault.TheVariants.{TooLong, NotHex, NotEvent}
-use Rattle.bw_commands.specs.declared.fault.Fault.TheVariants.{Unreadable}
+use Rattle.bw_commands.specs.declared.fault.Fault.TheVariants.{NotRequest, Unreadable}
 use Rattle.bw_commands.specs.declared.fault.Fault.TheVariants.{Unwritable, Memory}
 use Rattle.bw_commands.specs.declared.exit.Exit.{Exit}
 use Rattle.bw_commands.specs.declared.exit.Exit.TheVariants.{Done as Exit-Done}
@@ -25,6 +25,7 @@ line_fault _ n = NotHex n
 abbrev pub IsLineFault : Fault → Result (List (List ℕ)) ℕ → Type 0
 IsLineFault (NotHex n) lines = lines ≡ Err n
 IsLineFault (NotEvent n) lines = ⊥
+IsLineFault (NotRequest n) lines = ⊥
 IsLineFault Memory lines = Unit {0}
 IsLineFault TooLong lines = ⊥
 IsLineFault Unreadable lines = ⊥
@@ -35,6 +36,7 @@ abbrev pub RefusesInput : Fault → Asked → Type 0
 RefusesInput TooLong asked = asked ≡ AsksTooMuch
 RefusesInput (NotHex n) asked = asked ≡ AsksNoHex n
 RefusesInput (NotEvent n) asked = ⊥
+RefusesInput (NotRequest n) asked = ⊥
 RefusesInput Unreadable asked = Unit {0}
 RefusesInput Unwritable asked = Unit {0}
 RefusesInput Memory asked = Unit {0}
@@ -44,6 +46,7 @@ abbrev pub RefusesLength : Fault → List ℕ → Type 0
 RefusesLength TooLong input = longest_input < length input
 RefusesLength (NotHex n) input = ⊥
 RefusesLength (NotEvent n) input = ⊥
+RefusesLength (NotRequest n) input = ⊥
 RefusesLength Unreadable input = Unit {0}
 RefusesLength Unwritable input = ⊥
 RefusesLength Memory input = Unit {0}
@@ -53,6 +56,7 @@ abbrev pub input_fault_text : Fault → List ℕ
 input_fault_text TooLong = codes "input too long"
 input_fault_text (NotHex n) = codes "line " ++ decimal n ++ codes ": not hex"
 input_fault_text (NotEvent n) = codes "line " ++ decimal n ++ codes ": not an event"
+input_fault_text (NotRequest n) = codes "line " ++ decimal n ++ codes ": not a request"
 input_fault_text Unreadable = codes "the input can't be read"
 input_fault_text Unwritable = codes "the output can't be written"
 input_fault_text Memory = codes "out of memory"
@@ -62,6 +66,7 @@ abbrev pub exit_on : Fault → Exit
 exit_on TooLong = Exit-Refused
 exit_on (NotHex n) = Exit-Refused
 exit_on (NotEvent n) = Exit-Refused
+exit_on (NotRequest n) = Exit-Refused
 exit_on Unreadable = Exit-Device
 exit_on Unwritable = Exit-Device
 exit_on Memory = Exit-Memory
@@ -77,6 +82,7 @@ is_readable Unreadable = false
 is_readable TooLong = true
 is_readable (NotHex n) = true
 is_readable (NotEvent n) = true
+is_readable (NotRequest n) = true
 is_readable Unwritable = true
 is_readable Memory = true
 

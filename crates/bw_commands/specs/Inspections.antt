@@ -51,6 +51,7 @@ IsPrintOfText text (Err failures.Memory) print = print ≡ Nothing
 IsPrintOfText text (Err failures.TooLong) print = ⊥
 IsPrintOfText text (Err (failures.NotHex n)) print = ⊥
 IsPrintOfText text (Err (failures.NotEvent n)) print = ⊥
+IsPrintOfText text (Err (failures.NotRequest n)) print = ⊥
 IsPrintOfText text (Err failures.Unreadable) print = ⊥
 
 -- the bytes have a reading, and this is the text of its report

@@ -89,6 +89,7 @@ RefusesEvents faults.TooLong input = longest_input < length input
 RefusesEvents (faults.NotEvent n) input =
     (length input ≤ longest_input) × FirstOther 1 (lines_of input) n
 RefusesEvents (faults.NotHex n) input = ⊥
+RefusesEvents (faults.NotRequest n) input = ⊥
 RefusesEvents faults.Unreadable input = Unit {0}
 RefusesEvents faults.Unwritable input = Unit {0}
 RefusesEvents faults.Memory input = Unit {0}
@@ -110,6 +111,8 @@ IsPrintOfWorld name limit input (Err (faults.NotHex n)) print =
     RefusesWorld input (faults.NotHex n) print
 IsPrintOfWorld name limit input (Err (faults.NotEvent n)) print =
     RefusesWorld input (faults.NotEvent n) print
+IsPrintOfWorld name limit input (Err (faults.NotRequest n)) print =
+    RefusesWorld input (faults.NotRequest n) print
 IsPrintOfWorld name limit input (Err faults.Unreadable) print =
     RefusesWorld input faults.Unreadable print
 IsPrintOfWorld name limit input (Err faults.Memory) print =

@@ -58,5 +58,7 @@ IsPrintOf limit input (Err faults.TooLong) print = PrintsNothing input faults.To
 IsPrintOf limit input (Err (faults.NotHex n)) print = PrintsNothing input (faults.NotHex n) print
 IsPrintOf limit input (Err (faults.NotEvent n)) print =
     PrintsNothing input (faults.NotEvent n) print
+IsPrintOf limit input (Err (faults.NotRequest n)) print =
+    PrintsNothing input (faults.NotRequest n) print
 IsPrintOf limit input (Err faults.Unreadable) print = PrintsNothing input faults.Unreadable print
 IsPrintOf limit input (Err faults.Memory) print = PrintsNothing input faults.Memory print

@@ -17,6 +17,8 @@ pub enum Fault {
     NotHex(u64),
     /// The line with this number is no event of a rehearsal.
     NotEvent(u64),
+    /// The line with this number is no request.
+    NotRequest(u64),
     /// The reader failed.
     Unreadable,
     /// The writer failed.
@@ -34,6 +36,7 @@ impl Fault {
             Fault::TooLong => Exit::Refused,
             Fault::NotHex(_) => Exit::Refused,
             Fault::NotEvent(_) => Exit::Refused,
+            Fault::NotRequest(_) => Exit::Refused,
             Fault::Unreadable => Exit::Device,
             Fault::Unwritable => Exit::Device,
             Fault::Memory => Exit::Memory,
@@ -61,6 +64,7 @@ impl Fault {
             Fault::TooLong => line.push_str("input too long"),
             Fault::NotHex(number) => put_line_fault(line, *number, ": not hex"),
             Fault::NotEvent(number) => put_line_fault(line, *number, ": not an event"),
+            Fault::NotRequest(number) => put_line_fault(line, *number, ": not a request"),
             Fault::Unreadable => line.push_str("the input can't be read"),
             Fault::Unwritable => line.push_str("the output can't be written"),
             Fault::Memory => line.push_str("out of memory"),
@@ -71,7 +75,7 @@ impl Fault {
 /// Puts on an empty line what is wrong with the line of this number.
 fn put_line_fault(line: &mut ArrayString<64>, number: u64, wrong: &str)
     requires empty { line.old.bytes ≡ [] }
-    requires short { length wrong.now ≤ 14 }
+    requires short { length wrong.now ≤ 15 }
     ensures text { line.new.bytes ≡ codes "line " ++ decimal number ++ wrong.now }
     ensures short { length line.new.bytes ≤ 60 }
 {

@@ -36,7 +36,10 @@ pub fn exchanges<R: Source>(alloc: Global, input: &mut R) -> Result<Vec<Vec<u8>>
 }
 
 /// All bytes of an input.
-pub(crate) fn all_bytes<R: Source>(alloc: Global, input: &mut R) -> Result<Vec<u8>, Fault>
+///
+/// # Errors
+/// `TooLong`, `Unreadable` or `Memory`. At most 16,777,217 bytes were read.
+pub fn all_bytes<R: Source>(alloc: Global, input: &mut R) -> Result<Vec<u8>, Fault>
     ensures reads { Of (R.left input.old) (λ xs. IsReadAhead xs (R.left input.new)) }
     ensures most { R.moved input.new ≤ R.moved input.old + (longest_input + 1) }
     ensures count { R.failures input.new ≡ failures_if (is_read result) (R.failures input.old) }
@@ -102,7 +105,7 @@ fn line_fault(error: FromHexError, number: u64) -> Fault
 }
 
 /// The first line of bytes, and what follows it.
-pub(crate) fn first_line(bytes: &[u8]) -> (&[u8], &[u8])
+pub fn first_line(bytes: &[u8]) -> (&[u8], &[u8])
     requires { 0 < length bytes.now }
     ensures lines { lines_of bytes.now ≡ result.0.now ∷ lines_of result.1.now }
     ensures within { length result.0.now ≤ length bytes.now }

@@ -1,5 +1,5 @@
 //! The text of a run.
-ghost use Rattle.std.specs.Prelude.{◌≡◌, ℕ, ◌+◌, ◌*◌, ◌^◌, ◌<◌, List, [], ◌∷◌, ◌++◌, length};
+ghost use Rattle.std.specs.Prelude.{◌≡◌, ℕ, ◌+◌, ◌*◌, ◌^◌, ◌<◌, ◌≤◌, List, [], ◌∷◌, ◌++◌, length};
 ghost use Rattle.std.specs.Prelude.{flat_map, codes, decimal, IsTrue, IfOk, OnOk, Some, slice_get};
 ghost use Rattle.std.specs.List.{list_all};
 ghost use Rattle.hex.specs.Hex.{encode_lower};
@@ -71,8 +71,10 @@ fn put_exchange_line(
     Ok(())
 }
 
-fn end_name(end: ExchangeEnd) -> &'static str
-    ensures { result.now ≡ name_of_end end }
+/// The name of an exchange's end.
+pub fn end_name(end: ExchangeEnd) -> &'static str
+    ensures value { result.now ≡ name_of_end end }
+    ensures short { length result.now ≤ 10 }
 {
     match end {
         ExchangeEnd::Bye => "Bye",

@@ -29,7 +29,7 @@ pub fn event_in(alloc: Global, line: &[u8]) -> Result<Option<Event>, AllocError>
         return Ok(Some(Event::Ask));
     }
     if let Some(text) = behind(b"offer ", line) {
-        let Some(request) = request(alloc, text)? else {
+        let Some(request) = request_from_hex(alloc, text)? else {
             return Ok(None);
         };
         return Ok(Some(Event::Offer(request)));
@@ -67,7 +67,7 @@ fn behind<'a>(word: &[u8], line: &'a [u8]) -> Option<&'a [u8]>
 ///
 /// # Errors
 /// `AllocError` where memory was refused.
-fn request(alloc: Global, text: &[u8]) -> Result<Option<Request>, AllocError>
+pub fn request_from_hex(alloc: Global, text: &[u8]) -> Result<Option<Request>, AllocError>
     ensures { IfOk result (λ found. MatchOption found
         ((r : Requested) → ¬ IsRequestText text.now r) (λ r. IsRequestText text.now r)) }
 {
