@@ -1,0 +1,4 @@
+pub mod OfferSteps
+pub mod RequestLemmas
+pub mod RefusedLines
+pub mod RoundSteps

@@ -1,0 +1,34 @@
+use Rattle.std.proofs.Common.{refl, inr}
+use Rattle.bw_transfer.specs.RoundsMade.{heard_over}
+use Rattle.bw_transfer.proofs.RoundSteps.{on_ok, counted}
+use Rattle.bw_transfer.proofs.rounds.make_round.Goals as goal
+
+pub returns : goal.returns
+returns g c = λ s is.
+    let sent = c.send_exchange-ended.ensures in
+    on_ok c.unless_memory.result c.unless_memory.ensures (λ goes. (
+      heard_over sent.exchanges,
+      counted sent.exchanges s is,
+      inr (record {
+        counted = c.in-Ok.ensures.count;
+        gives = g.D.Reader.Source.left c.in-Ok.link.reader;
+        next = c.in-Ok.ensures.ok;
+        exchange = record {
+          result = c.send_exchange-ended.result;
+          goes_on = goes;
+          before = c.args.sender.now;
+          after = c.send_exchange-ended.new.sender;
+          is_sender = is;
+          r = c.in-Ok.link.reader;
+          r' = c.send_exchange-ended.new.reader;
+          w = c.in-Ok.link.writer;
+          w' = c.send_exchange-ended.new.writer;
+          given = refl;
+          exchanges = sent.exchanges;
+          heard_is = refl;
+          reads = sent.reads;
+          writes = sent.writes;
+          limit = sent.limit;
+        };
+      }),
+    ))

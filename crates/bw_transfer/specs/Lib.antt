@@ -1,0 +1,7 @@
+pub mod Links
+pub mod ServedOne
+pub mod RequestLines
+pub mod SendState
+pub mod RoundsMade
+pub mod SenderText
+pub mod Sends

@@ -1,0 +1,81 @@
+-- Rounds: a link and an exchange over it each, as far as both go.
+use mathlib.Core.Logic.{inl, inr}
+use Rattle.std.specs.Prelude.{◌≡◌, ◌≢◌, ◌⊎◌, ℕ, ◌<◌, Option, Result, Err, List, [], ◌∷◌}
+use Rattle.std.specs.Prelude.{length}
+use Rattle.bw_model.specs.Replies.{Reply}
+use Rattle.bw_model.specs.World.{Sender as Told}
+use Rattle.bw_stream.specs.Moves.{one_more}
+use Rattle.bw_stream.specs.declared.sink.Sink.{Ghosts as Writer}
+use Rattle.bw_stream.specs.declared.source.Source.{Ghosts as Reader}
+use Rattle.bw_sender.specs.Senders.{IsSender}
+use Rattle.bw_sender.specs.declared.sender.Sender.{Sender}
+use Rattle.bw_engine.specs.Batches.{sends_failed}
+use Rattle.bw_engine.specs.Hears.{hears_failed, IsHearingLimited}
+use Rattle.bw_engine.specs.Sent.{Exchanges}
+use Rattle.bw_engine.specs.declared.send_fault.SendFault.{SendFault}
+use Rattle.bw_engine.specs.declared.send_fault.SendFault.TheVariants.{Memory}
+use Rattle.bw_transfer.specs.Links.{GivesNext}
+use Rattle.bw_transfer.specs.SendState.{Sending, IsSettled, hear_in, offer_more}
+
+-- the replies that were heard in an exchange: none where its batch broke off
+abbrev pub heard_over : {R : Type 0} → {result : Result (Unit {0}) SendFault} → {x y : Sender} →
+    {r r' : R} → {left left' written written' : Option (List ℕ)} →
+    Exchanges result x y r r' left left' written written' → List Reply
+heard_over (inl broke) = []
+heard_over (inr exchange) = exchange.hears.heard
+
+module _ {D R W : Type 0} (links : D → Option (List (List ℕ))) (failures : D → ℕ)
+    (reader : Reader R) (writer : Writer W) where
+  -- An exchange of the sender over a link that gives these bytes, where that is told: what has no
+  -- verdict was written, or a beginning of it, and these replies were heard. Memory was there.
+  pub record IsExchange (s : Told) (heard : List Reply) (gives : Option (List ℕ)) : Type 0 where
+    pub result : Result (Unit {0}) SendFault
+    pub goes_on : result ≢ Err Memory
+    pub before : Sender
+    pub after : Sender
+    pub is_sender : IsSender s before
+    pub r : R
+    pub r' : R
+    pub w : W
+    pub w' : W
+    pub given : reader.left r ≡ gives
+    pub exchanges : Exchanges result before after r r' (reader.left r) (reader.left r')
+        (writer.written w) (writer.written w')
+    pub heard_is : heard ≡ heard_over exchanges
+    pub reads : reader.failures r' ≡ hears_failed result (reader.failures r)
+    pub writes : writer.failures w' ≡ sends_failed result (writer.failures w)
+    pub limit : IsHearingLimited result (reader.moved r) (reader.moved r')
+
+  -- no link was made, and nothing heard
+  pub record MakesNoLink (heard : List Reply) (d d' : D) : Type 0 where
+    pub counted : failures d' ≡ one_more (failures d)
+    pub kept : links d' ≡ links d
+    pub none : heard ≡ []
+
+  -- the next link was made, for an exchange
+  pub record MakesLink (s : Told) (heard : List Reply) (d d' : D) : Type 0 where
+    pub counted : failures d' ≡ failures d
+    pub gives : Option (List ℕ)
+    pub next : GivesNext (links d) gives (links d')
+    pub exchange : IsExchange s heard gives
+
+  -- a round of the sender, in which these replies were heard
+  abbrev pub IsRound : Told → List Reply → D → D → Type 0
+  IsRound s heard d d' = MakesNoLink heard d d' ⊎ MakesLink s heard d d'
+
+  -- Rounds, in each of which these replies were heard. Before each of them more is offered, as far
+  -- as the window goes, and something has no verdict.
+  abbrev pub AreRounds : Sending → List (List Reply) → Sending → D → D → Type 0
+  AreRounds x [] y d d' = (y ≡ x) × (d' ≡ d)
+  AreRounds x (heard ∷ more) y d d' =
+      (mid : D) × (¬ IsSettled (offer_more x)) × IsRound (offer_more x).sender heard d mid
+      × AreRounds (hear_in (offer_more x) heard) more y mid d'
+
+  -- So many rounds were made, or fewer, behind which nothing more can be offered and all that was
+  -- offered has its verdict.
+  pub record MakesRounds (rounds : ℕ) (x y : Sending) (d d' : D) : Type 0 where
+    pub heard : List (List Reply)
+    pub behind : Sending
+    pub went : AreRounds x heard behind d d'
+    pub ends : ((length heard ≡ rounds) × (y ≡ behind))
+        ⊎ ((length heard < rounds) × (y ≡ offer_more behind) × IsSettled y)

@@ -1,0 +1,74 @@
+-- What the command `send` reads and writes, and how it ends.
+use Rattle.std.specs.Prelude.{◌≡◌, ℕ, Option, List, Result, Ok, Err}
+use Rattle.bw_model.specs.Take.{Request}
+use Rattle.bw_stream.specs.declared.sink.Sink.{Ghosts as Writer}
+use Rattle.bw_stream.specs.declared.source.Source.{Ghosts as Reader}
+use Rattle.bw_inspect.specs.Places.{Of}
+use Rattle.bw_commands.specs.Deeds.{Deed}
+use Rattle.bw_commands.specs.Faults.{IsToldBy, exit_on, is_read}
+use Rattle.bw_commands.specs.Printing.{Print, Nothing, Whole, Part}
+use Rattle.bw_commands.specs.declared.exit.Exit.{Exit}
+use Rattle.bw_commands.specs.declared.fault.Fault.{Fault}
+use Rattle.bw_commands.specs.declared.fault.Fault.TheVariants as faults
+use Rattle.bw_transfer.specs.RequestLines.{AreRequestsOf, RefusesRequests}
+use Rattle.bw_transfer.specs.RoundsMade.{MakesRounds}
+use Rattle.bw_transfer.specs.SenderText.{sender_text}
+use Rattle.bw_transfer.specs.SendState.{Sending, exit_for, new_sending}
+
+-- how the command ends on what it comes to
+abbrev pub exit_of_send : Result Exit Fault → Exit
+exit_of_send (Ok exit) = exit
+exit_of_send (Err fault) = exit_on fault
+
+-- what a command comes to, whatever its exit
+abbrev pub without_exit : Result Exit Fault → Result (Unit {0}) Fault
+without_exit (Ok exit) = Ok tt
+without_exit (Err fault) = Err fault
+
+module _ {D R W : Type 0} (links : D → Option (List (List ℕ))) (failures : D → ℕ)
+    (reader : Reader R) (writer : Writer W) where
+  -- The input's requests were sent in rounds by a new sender of this name, and the text of what the
+  -- sender came to was to be printed.
+  pub record PrintsSender (name : List ℕ) (rounds : ℕ) (input : Option (List ℕ)) (d d' : D)
+      (printed : List ℕ → Print) (exit : Exit) (print : Print) : Type 0 where
+    pub requests : List Request
+    pub said : Of input (λ xs. AreRequestsOf xs requests)
+    pub last : Sending
+    pub went : MakesRounds links failures reader writer rounds (new_sending name requests) last d d'
+    pub is : print ≡ printed (sender_text last.sender)
+    pub exit_is : exit ≡ exit_for last
+
+  -- nothing is printed, and nothing was sent: the input can't be read, or has this fault
+  pub record RefusesSend (input : Option (List ℕ)) (d d' : D) (fault : Fault) (print : Print)
+      : Type 0 where
+    pub is : print ≡ Nothing
+    pub right : Of input (λ xs. RefusesRequests fault xs)
+    pub unsent : d' ≡ d
+
+  -- what is printed by the command that comes to this
+  abbrev pub IsPrintOfSend : List ℕ → ℕ → Option (List ℕ) → D → D → Result Exit Fault → Print →
+      Type 0
+  IsPrintOfSend name rounds input d d' (Ok exit) print =
+      PrintsSender name rounds input d d' Whole exit print
+  IsPrintOfSend name rounds input d d' (Err faults.Unwritable) print =
+      (exit : Exit) × PrintsSender name rounds input d d' Part exit print
+  IsPrintOfSend name rounds input d d' (Err faults.Memory) print = print ≡ Nothing
+  IsPrintOfSend name rounds input d d' (Err faults.TooLong) print =
+      RefusesSend input d d' faults.TooLong print
+  IsPrintOfSend name rounds input d d' (Err (faults.NotHex n)) print =
+      RefusesSend input d d' (faults.NotHex n) print
+  IsPrintOfSend name rounds input d d' (Err (faults.NotEvent n)) print =
+      RefusesSend input d d' (faults.NotEvent n) print
+  IsPrintOfSend name rounds input d d' (Err (faults.NotRequest n)) print =
+      RefusesSend input d d' (faults.NotRequest n) print
+  IsPrintOfSend name rounds input d d' (Err faults.Unreadable) print =
+      RefusesSend input d d' faults.Unreadable print
+
+  -- the command did this with the input and the links
+  pub record IsSendRun (name : List ℕ) (rounds : ℕ) (input : Option (List ℕ)) (d d' : D)
+      (did : Deed) : Type 0 where
+    pub outcome : Result Exit Fault
+    pub exit_is : did.exit ≡ exit_of_send outcome
+    pub reads : did.reads_all ≡ is_read outcome
+    pub prints : IsPrintOfSend name rounds input d d' outcome did.out
+    pub tells : IsToldBy (without_exit outcome) did.faults

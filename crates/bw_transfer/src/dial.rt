@@ -1,0 +1,43 @@
+//! Where a recorder's exchanges go: a link for each.
+ghost use Rattle.std.specs.Prelude.{◌≡◌, ℕ, List, Option, IfOk, OnErr};
+ghost use Rattle.bw_stream.specs.Moves.{failures_after};
+ghost use Rattle.bw_transfer.specs.Links.{GivesNext};
+
+use bw_stream::{Sink, Source};
+use thiserror::Error;
+
+/// No link could be made.
+#[derive(Debug, Drop, Error)]
+#[error("the connection can't be made")]
+pub struct DialFault;
+
+/// A link to a server: two values over one stream.
+#[derive(Drop)]
+pub struct Link<R, W> {
+    /// What the server says.
+    pub reader: R,
+    /// What is said to it. Bytes are passed on as they are written: nothing flushes them.
+    pub writer: W,
+}
+
+/// What makes links: what each of the next ones will give, where it tells that, and how often it
+/// failed.
+pub trait Dial {
+    type Reader: Source + Drop;
+
+    type Writer: Sink + Drop;
+
+    ghost links: { Self → Option (List (List ℕ)) };
+
+    ghost failures: { Self → ℕ };
+
+    /// Makes a link.
+    ///
+    /// # Errors
+    /// `DialFault` where none could be made: the next ones are as they were.
+    fn dial(&mut self) -> Result<Link<Self::Reader, Self::Writer>, DialFault>
+        ensures count { failures self.new ≡ failures_after result (failures self.old) }
+        ensures ok { IfOk result (λ link.
+            GivesNext (links self.old) (Self.Reader.left link.reader) (links self.new)) }
+        ensures err { OnErr result (links self.new ≡ links self.old) };
+}

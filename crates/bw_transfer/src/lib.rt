@@ -1,0 +1,16 @@
+//! What goes between recorders and a server: an exchange served, and a recorder's requests sent in
+//! rounds. Sockets stand above, behind `Source`, `Sink` and `Dial`.
+#![tactic(auto)]
+
+mod dial;
+mod dispatch;
+mod offering;
+mod requests;
+mod rounds;
+mod sending;
+mod serving;
+mod text;
+
+pub use dial::{Dial, DialFault, Link};
+pub use sending::send_run;
+pub use serving::serve_one;

@@ -1,0 +1,103 @@
+//! The command `send`: a recorder's requests from standard input, in rounds.
+ghost use Rattle.std.specs.Prelude.{◌≡◌, ◌+◌, ◌≤◌, IfOk};
+ghost use Rattle.bw_inspect.specs.Places.{Of};
+ghost use Rattle.bw_commands.specs.Deeds.{Deed, HasWritten};
+ghost use Rattle.bw_commands.specs.Faults.{is_read};
+ghost use Rattle.bw_commands.specs.Input.{longest_input};
+ghost use Rattle.bw_commands.specs.Printing.{IsPrint, Print, failures_if};
+ghost use Rattle.bw_commands.specs.Replays.{IsReadAhead};
+ghost use Rattle.bw_transfer.specs.RoundsMade.{MakesRounds};
+ghost use Rattle.bw_transfer.specs.SendState.{Sending, IsSending, new_sending};
+ghost use Rattle.bw_transfer.specs.Sends.{IsPrintOfSend, IsSendRun};
+
+use crate::dial::Dial;
+use crate::dispatch::{Dispatch, exit_after};
+use crate::requests::read_requests;
+use crate::rounds::make_rounds;
+use crate::text::text_of_sender;
+use bw_commands::print::{give_up, print};
+use bw_commands::{Exit, Fault};
+use bw_sender::Sender;
+use bw_stream::{Sink, Source};
+use bw_take::{Name, Request};
+use std::alloc::{AllocError, Global};
+
+/// Sends the requests that the lines of the input say, as a recorder of this name, and writes as
+/// text what came of them.
+///
+/// All lines are read before the first link is made. `Done` where each line's request is settled
+/// and stored; `Refused` where one is refused, or the input is. A fault's line goes to `faults`;
+/// one that can't be written changes nothing. Of the input at most 16,777,217 bytes are read. The
+/// contract doesn't say that an answered want of memory was a real one.
+pub fn send_run<D: Dial, R: Source, W: Sink, E: Sink>(
+    alloc: Global,
+    name: Name,
+    rounds: u32,
+    dial: &mut D,
+    input: &mut R,
+    out: &mut W,
+    faults: &mut E,
+) -> Exit
+    ensures within { Of (R.left input.old) (λ xs. IsReadAhead xs (R.left input.new)) }
+    ensures most { R.moved input.new ≤ R.moved input.old + (longest_input + 1) }
+    ensures did { (did : Deed) × (did.exit ≡ result)
+        × IsSendRun D.links D.failures D.Reader.Source D.Writer.Sink name rounds (R.left input.old)
+        dial.old dial.new did
+        × (R.failures input.new ≡ failures_if did.reads_all (R.failures input.old))
+        × HasWritten W.Sink E.Sink did out.old out.new faults.old faults.new }
+{
+    match send(alloc, name, rounds, dial, input, out) {
+        Ok(exit) => exit,
+        Err(fault) => give_up(faults, &fault),
+    }
+}
+
+/// Sends the requests that the lines of the input say, and writes the text of what came of them.
+fn send<D: Dial, R: Source, W: Sink>(
+    alloc: Global,
+    name: Name,
+    rounds: u32,
+    dial: &mut D,
+    input: &mut R,
+    out: &mut W,
+) -> Result<Exit, Fault>
+    ensures within { Of (R.left input.old) (λ xs. IsReadAhead xs (R.left input.new)) }
+    ensures most { R.moved input.new ≤ R.moved input.old + (longest_input + 1) }
+    ensures count { R.failures input.new ≡ failures_if (is_read result) (R.failures input.old) }
+    ensures prints { (print : Print)
+        × IsPrintOfSend D.links D.failures D.Reader.Source D.Writer.Sink name rounds
+        (R.left input.old) dial.old dial.new result print
+        × IsPrint W.Sink print out.old out.new }
+{
+    let requests = read_requests(alloc, input)?;
+    let dispatch = send_requests(alloc, name, rounds, requests.as_slice(), dial)?;
+    let text = text_of_sender(alloc, &dispatch.sender)?;
+    match print(out, text.as_slice()) {
+        Ok(()) => Ok(exit_after(&dispatch, requests.len())),
+        Err(_) => Err(Fault::Unwritable),
+    }
+}
+
+/// Sends the requests in rounds, as a new sender of this name. How far it got.
+///
+/// # Errors
+/// `AllocError` where memory was refused.
+fn send_requests<D: Dial>(
+    alloc: Global,
+    name: Name,
+    rounds: u32,
+    requests: &[Request],
+    dial: &mut D,
+) -> Result<Dispatch, AllocError>
+    ensures { IfOk result (λ dispatch. (last : Sending) × IsSending last dispatch
+        × MakesRounds D.links D.failures D.Reader.Source D.Writer.Sink rounds
+        (new_sending name requests.now) last dial.old dial.new) }
+{
+    let mut dispatch = Dispatch {
+        sender: Sender::new(alloc, name)?,
+        offered: 0,
+        is_stopped: false,
+    };
+    make_rounds(alloc, rounds, &mut dispatch, requests, dial)?;
+    Ok(dispatch)
+}
