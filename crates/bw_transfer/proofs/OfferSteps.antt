@@ -45,7 +45,8 @@ next_taken x r r' p sender same k goes e is =
     )
 
 pub next_refused : (x : Sending) (r r' : Request) (p : Dispatch) (sender : Sender) (last : Bool)
-    (o : Option OfferFault) → r ≡ r' → IsSending x p → o ≡ offer_fault x.sender r → o ≢ None → last ≡ is_last_offer o → sender ≡ p.sender →
+    (o : Option OfferFault) → r ≡ r' → IsSending x p → o ≡ offer_fault x.sender r → o ≢ None →
+    last ≡ is_last_offer o → sender ≡ p.sender →
     IsSending (offer_next x r') (dispatched sender p.offered last)
     × (false ≡ is_none (offer_fault x.sender r'))
 next_refused x r r' p sender last None same k e some is unchanged = absurd (some refl)
@@ -71,7 +72,8 @@ none_behind x e = ap (λ (b : Bool). cond b x (offer_all x (unoffered x))) e
 pub none_left : (x : Sending) → length x.requests ≤ length x.sender.offered → offer_more x ≡ x
 unfolding offer_more offer_all
 none_left x past =
-    ap (λ (rs : List Request). cond x.is_stopped x (offer_all x rs)) (drop_of_length-le x.requests past) ∙ go x.is_stopped
+    ap (λ (rs : List Request). cond x.is_stopped x (offer_all x rs)) (drop_of_length-le x.requests past)
+    ∙ go x.is_stopped
   where
     go : (b : Bool) → cond b x x ≡ x
     go true = refl
