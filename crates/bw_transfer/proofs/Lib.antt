@@ -2,3 +2,4 @@ pub mod OfferSteps
 pub mod RequestLemmas
 pub mod RefusedLines
 pub mod RoundSteps
+pub mod RunSteps

@@ -1,5 +1,6 @@
 pub mod Links
 pub mod ServedOne
+pub mod ServedAll
 pub mod RequestLines
 pub mod SendState
 pub mod RoundsMade

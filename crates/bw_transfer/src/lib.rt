@@ -5,12 +5,16 @@
 mod dial;
 mod dispatch;
 mod offering;
+mod peers;
 mod requests;
 mod rounds;
+mod running;
 mod sending;
 mod serving;
 mod text;
 
 pub use dial::{Dial, DialFault, Link};
+pub use peers::{AcceptFault, Peers};
+pub use running::serve_run;
 pub use sending::send_run;
 pub use serving::serve_one;

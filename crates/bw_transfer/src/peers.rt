@@ -1,0 +1,34 @@
+//! Where a server's exchanges come from: a link for each.
+ghost use Rattle.std.specs.Prelude.{◌≡◌, ℕ};
+ghost use Rattle.bw_stream.specs.Moves.{failures_after};
+
+use crate::dial::Link;
+use bw_stream::{Sink, Source};
+use thiserror::Error;
+
+/// No link was made.
+#[derive(Clone, Copy, Debug, PartialEq, Eq, Error)]
+pub enum AcceptFault {
+    /// A peer went away before it was let in; others may come.
+    #[error("a connection can't be accepted")]
+    Gone,
+    /// No more peers are let in: what the server keeps can't be reached any longer.
+    #[error("the server can't go on")]
+    Closed,
+}
+
+/// What lets peers in, and how often it failed.
+pub trait Peers {
+    type Reader: Source + Drop;
+
+    type Writer: Sink + Drop;
+
+    ghost failures: { Self → ℕ };
+
+    /// Waits for the next peer, and makes a link to it.
+    ///
+    /// # Errors
+    /// Why there is none.
+    fn accept(&mut self) -> Result<Link<Self::Reader, Self::Writer>, AcceptFault>
+        ensures count { failures self.new ≡ failures_after result (failures self.old) };
+}
