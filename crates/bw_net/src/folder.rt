@@ -1,0 +1,26 @@
+//! The folder that a server keeps its files in.
+use std::alloc::Global;
+use std::fs::{self, File, Files};
+use std::io;
+
+/// The file by which a folder is tried: no take's name has a dot.
+const PROBE: &str = ".bwingest";
+
+/// Whether a folder stands at a path.
+pub fn has_folder<R: Files>(rt: &R, folder: &str) -> bool {
+    match fs::metadata(rt, folder) {
+        Ok(found) => found.is_dir(),
+        Err(_) => false,
+    }
+}
+
+/// Tries a folder: a file is made in it, and removed.
+///
+/// # Errors
+/// Why it can't be: the folder is missing, none, or closed to this process.
+pub fn check_folder<R: Files>(rt: &R, alloc: Global, folder: &str) -> io::Result<()> {
+    let path = format!(in alloc; "{folder}/{PROBE}")?;
+    let file = File::create(rt, path.as_str())?;
+    drop(file);
+    fs::remove_file(rt, path.as_str())
+}

@@ -1,0 +1,8 @@
+//! What `serve` and `send` ask of the system: links over TCP, and the server's folder.
+#![tactic(auto)]
+
+mod folder;
+mod tcp;
+
+pub use folder::{check_folder, has_folder};
+pub use tcp::{TcpDial, TcpPeers};

@@ -1,0 +1,143 @@
+//! Links over TCP: to a server, and of its peers.
+ghost use Rattle.std.specs.Prelude.{◌≡◌, None};
+
+use crate::folder::has_folder;
+use bw_stream::Plain;
+use bw_transfer::{AcceptFault, Dial, DialFault, Link, Peers};
+use std::fs::Files;
+use std::io;
+use std::io::{Read, Write};
+use std::net::{Net, OpenListener, OpenStream, SocketAddr, TcpListener, TcpStream};
+use std::time::Duration;
+
+/// What opens links to a server. It tells nothing of what they give: no clause of std says what comes
+/// over a socket.
+#[derive(Drop)]
+pub struct TcpDial<'a, R> {
+    rt: &'a R,
+    address: SocketAddr,
+    /// How long a call may wait, where there is an end to it.
+    timeout: Option<Duration>,
+    failures: u64,
+}
+
+impl<'a, R> TcpDial<'a, R> {
+    /// What opens links to this address, and has not failed yet.
+    pub fn new(rt: &'a R, address: SocketAddr, timeout: Option<Duration>) -> TcpDial<'a, R>
+        ensures { result.failures ≡ 0 }
+    {
+        TcpDial {
+            rt,
+            address,
+            timeout,
+            failures: 0,
+        }
+    }
+}
+
+impl<R: Net> Dial for TcpDial<'_, R> {
+    type Reader = Plain<R::Stream>;
+
+    type Writer = Plain<R::Stream>;
+
+    ghost links = { λ d. None };
+
+    ghost failures = { λ d. d.failures };
+
+    fn dial(&mut self) -> Result<Link<Plain<R::Stream>, Plain<R::Stream>>, DialFault> {
+        match connect(self.rt, self.address, self.timeout) {
+            Ok(link) => Ok(link),
+            Err(_) => {
+                self.failures = self.failures.saturating_add(1);
+                Err(DialFault)
+            }
+        }
+    }
+}
+
+fn connect<R: Net>(
+    rt: &R,
+    address: SocketAddr,
+    timeout: Option<Duration>,
+) -> io::Result<Link<Plain<R::Stream>, Plain<R::Stream>>> {
+    let stream = match timeout {
+        Some(most) => TcpStream::connect_timeout(rt, &address, most)?,
+        None => TcpStream::connect(rt, address)?,
+    };
+    link_over(stream, timeout)
+}
+
+/// A link over a stream: two handles of one socket. A batch's last bytes go out at once.
+fn link_over<S: Read + Write + OpenStream + Drop>(
+    stream: S,
+    timeout: Option<Duration>,
+) -> io::Result<Link<Plain<S>, Plain<S>>> {
+    stream.set_nodelay(true)?;
+    stream.set_read_timeout(timeout)?;
+    stream.set_write_timeout(timeout)?;
+    let reader = Plain::new(stream.try_clone()?);
+    let writer = Plain::new(stream);
+    Ok(Link { reader, writer })
+}
+
+/// The peers that knock at an address, while the server's folder stands.
+#[derive(Drop)]
+pub struct TcpPeers<'a, R, L: Drop> {
+    rt: &'a R,
+    listener: L,
+    folder: String,
+    timeout: Option<Duration>,
+    failures: u64,
+}
+
+impl<'a, R: Net> TcpPeers<'a, R, R::Listener> {
+    /// Listens at an address for those who come to a server over this folder.
+    ///
+    /// # Errors
+    /// Why the system doesn't let it.
+    pub fn listen(
+        rt: &'a R,
+        address: SocketAddr,
+        folder: String,
+        timeout: Option<Duration>,
+    ) -> io::Result<TcpPeers<'a, R, R::Listener>> {
+        Ok(TcpPeers {
+            rt,
+            listener: TcpListener::bind(rt, address)?,
+            folder,
+            timeout,
+            failures: 0,
+        })
+    }
+}
+
+impl<R: Net + Files> Peers for TcpPeers<'_, R, R::Listener> {
+    type Reader = Plain<R::Stream>;
+
+    type Writer = Plain<R::Stream>;
+
+    ghost failures = { λ p. p.failures };
+
+    fn accept(&mut self) -> Result<Link<Plain<R::Stream>, Plain<R::Stream>>, AcceptFault> {
+        let link = self.next_link();
+        if link.is_err() {
+            self.failures = self.failures.saturating_add(1);
+        }
+        link
+    }
+}
+
+impl<R: Net + Files> TcpPeers<'_, R, R::Listener> {
+    /// The link to the next peer. A peer that comes when the folder is gone isn't heard: its requests
+    /// wait for another server.
+    fn next_link(&self) -> Result<Link<Plain<R::Stream>, Plain<R::Stream>>, AcceptFault> {
+        let accepted = self.listener.accept();
+        if !has_folder(self.rt, self.folder.as_str()) {
+            return Err(AcceptFault::Closed);
+        }
+        let Ok((stream, _address)) = accepted else {
+            return Err(AcceptFault::Gone);
+        };
+        link_over(stream, self.timeout).map_err(|_| AcceptFault::Gone)
+    }
+}

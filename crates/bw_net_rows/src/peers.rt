@@ -1,0 +1,69 @@
+//! Peers that say nothing, and folders that are not there.
+use crate::compare::same;
+use crate::take::at;
+use bw_commands::Exit;
+use bw_file::MemoryStore;
+use bw_layout::Limit;
+use bw_net::{TcpDial, TcpPeers, check_folder};
+use bw_session::Server;
+use bw_stream::MemorySink;
+use bw_transfer::{Dial, serve_run};
+use std::fs;
+use std::process::Abort;
+use std::test::Fail;
+use std::time::Duration;
+
+/// Serves one exchange of a peer that says nothing, and a server that waits for it a moment only.
+/// How that ends, and what is printed.
+fn serve_silent(rt: &HostRuntime, folder: &str, port: u16) -> Result<(Exit, Vec<u8>), Fail> {
+    let alloc = rt.alloc();
+    let most = Some(Duration::from_millis(50));
+    let folder = String::from_str(alloc, folder)?;
+    let mut peers = TcpPeers::listen(rt, at(port), folder, most)?;
+    let Ok(_link) = TcpDial::new(rt, at(port), most).dial() else {
+        return Err("no link")?;
+    };
+    let Ok(mut server) = Server::new(alloc, MemoryStore::new(alloc), Limit::default()) else {
+        return Err("memory")?;
+    };
+    let mut out = MemorySink::new(Vec::new(alloc));
+    let exit = serve_run(alloc, &mut server, &mut peers, 1, &mut out);
+    Ok((exit, out.into_bytes()))
+}
+
+#[test]
+fn a_peer_that_says_nothing_ends_its_exchange_alone(rt: HostRuntime) -> Result<(), Fail> {
+    let (exit, printed) = serve_silent(&rt, ".", 47_313)?;
+    same(&rt, "the server", &exit, &Exit::Done);
+    assert!(&rt;
+        printed.as_slice() == b"exchange 0 ReadFault\n".as_slice(),
+        "another line"
+    );
+    Ok(())
+}
+
+#[test]
+fn a_server_ends_where_its_folder_is_gone(rt: HostRuntime) -> Result<(), Fail> {
+    let (exit, printed) = serve_silent(&rt, "gone", 47_314)?;
+    same(&rt, "the server", &exit, &Exit::Device);
+    assert!(&rt; printed.is_empty(), "a line");
+    Ok(())
+}
+
+#[test]
+fn no_link_is_made_where_nobody_listens(rt: HostRuntime) -> Result<(), Fail> {
+    assert!(&rt;
+        TcpDial::new(&rt, at(47_315), None).dial().is_err(),
+        "a link"
+    );
+    Ok(())
+}
+
+#[test]
+fn a_folder_is_tried_before_it_is_used(rt: HostRuntime) -> Result<(), Fail> {
+    fs::create_dir(&rt, "tried")?;
+    check_folder(&rt, rt.alloc(), "tried")?;
+    fs::remove_dir(&rt, "tried")?;
+    assert!(&rt; check_folder(&rt, rt.alloc(), "tried").is_err(), "a folder");
+    Ok(())
+}
