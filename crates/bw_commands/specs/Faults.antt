@@ -3,7 +3,8 @@ use Rattle.std.specs.Prelude.{◌≡◌, ℕ, ◌++◌, List, Bool, true, false,
 use Rattle.std.specs.Prelude.{decimal, ◌<◌, length}
 use Rattle.hex.specs.declared.error.FromHexError.{FromHexError}
 use Rattle.hex.specs.declared.error.FromHexError.TheVariants.{OutOfMemory}
-use Rattle.bw_commands.specs.Input.{Asked, longest_input, TooLong as AsksTooMuch, NotHex as AsksNoHex}
+use Rattle.bw_commands.specs.Input.{Asked, longest_input}
+use Rattle.bw_commands.specs.Input.{TooLong as AsksTooMuch, NotHex as AsksNoHex}
 use Rattle.bw_commands.specs.Printing.{Print, Nothing, IsOf}
 use Rattle.bw_commands.specs.Text.{as_line}
 use Rattle.bw_commands.specs.declared.fault.Fault.{Fault}

@@ -1,5 +1,6 @@
 -- What a replay reads and writes, and how it ends.
-use Rattle.std.specs.Prelude.{◌≡◌, ◌+◌, ◌≤◌, ℕ, Option, Some, None, List, [], ◌∷◌, ◌++◌, drop, length}
+use Rattle.std.specs.Prelude.{◌≡◌, ◌+◌, ◌≤◌, ℕ, Option, Some, None}
+use Rattle.std.specs.Prelude.{List, [], ◌∷◌, ◌++◌, drop, length}
 use Rattle.std.specs.Prelude.{Result, Ok, Err}
 use Rattle.bw_file.specs.MemoryNames.{AreNames}
 use Rattle.bw_inspect.specs.Places.{Of}

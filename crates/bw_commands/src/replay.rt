@@ -82,8 +82,8 @@ fn replay_over<R: Source, W: Sink, E: Sink>(
     }
 }
 
-/// Runs each line of the input over a store of which the call of this number fails, if there is one,
-/// and writes the run's text.
+/// Runs each line of the input over a store of which the call of this number fails, if there is
+/// one, and writes the run's text.
 fn play<R: Source, W: Sink>(
     alloc: Global,
     limit: Limit,

@@ -26,7 +26,8 @@ pub fn text_of_run(
 ) -> Result<Vec<u8>, AllocError>
     ensures text { IfOk result (λ text. (told : List ToldExchange) →
         AllTell replies.now ends.now told → text.items
-        ≡ exchanges_text 0 told ++ files_text (content_under store.now.files) (names_of store.now)) }
+        ≡ exchanges_text 0 told
+        ++ files_text (content_under store.now.files) (names_of store.now)) }
     ensures names { OnOk result (AreNames (names_of store.now) (content_under store.now.files)) }
 {
     let mut text = Vec::new(alloc);

@@ -14,7 +14,8 @@ use std::alloc::{AllocError, Global};
 
 /// What the world came to, in two lines, and then the store's files in the order of their names.
 pub fn text_of_world(alloc: Global, name: &Name, world: &World) -> Result<Vec<u8>, AllocError>
-    ensures text { IfOk result (λ text. (w : ToldWorld) → HasWorld w world.now → w.sender.name ≡ name.now →
+    ensures text { IfOk result (λ text. (w : ToldWorld) →
+        HasWorld w world.now → w.sender.name ≡ name.now →
         text.items ≡ world_lines w ++ files_text (content_under world.now.server.stores.store.files)
         (names_of world.now.server.stores.store)) }
     ensures names { OnOk result (AreNames (names_of world.now.server.stores.store)

@@ -10,8 +10,8 @@ use std::io::{Read, Write};
 use std::net::{Net, OpenListener, OpenStream, SocketAddr, TcpListener, TcpStream};
 use std::time::Duration;
 
-/// What opens links to a server. It tells nothing of what they give: no clause of std says what comes
-/// over a socket.
+/// What opens links to a server. It tells nothing of what they give: no clause of std says what
+/// comes over a socket.
 #[derive(Drop)]
 pub struct TcpDial<'a, R> {
     rt: &'a R,
@@ -128,8 +128,8 @@ impl<R: Net + Files> Peers for TcpPeers<'_, R, R::Listener> {
 }
 
 impl<R: Net + Files> TcpPeers<'_, R, R::Listener> {
-    /// The link to the next peer. A peer that comes when the folder is gone isn't heard: its requests
-    /// wait for another server.
+    /// The link to the next peer. A peer that comes when the folder is gone isn't heard: its
+    /// requests wait for another server.
     fn next_link(&self) -> Result<Link<Plain<R::Stream>, Plain<R::Stream>>, AcceptFault> {
         let accepted = self.listener.accept();
         if !has_folder(self.rt, self.folder.as_str()) {

@@ -9,11 +9,11 @@ use bw_engine::Turns;
 use bw_stream::Sink;
 use std::alloc::Global;
 
-/// Serves so many exchanges, one after another, each over a link of its own, and tells how each ended
-/// in a line.
+/// Serves so many exchanges, one after another, each over a link of its own, and tells how each
+/// ended in a line.
 ///
-/// An exchange that breaks off, whose line can't be written or whose peer goes away before it is let
-/// in, is the end of that exchange alone, and counts. `Done` behind the last one; `Memory` where
+/// An exchange that breaks off, whose line can't be written or whose peer goes away before it is
+/// let in, is the end of that exchange alone, and counts. `Done` behind the last one; `Memory` where
 /// memory was refused to one; `Device` where no more peers are let in.
 pub fn serve_run<P: Peers, T: Turns, O: Sink>(
     alloc: Global,
