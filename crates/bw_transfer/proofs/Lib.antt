@@ -3,3 +3,4 @@ pub mod RequestLemmas
 pub mod RefusedLines
 pub mod RoundSteps
 pub mod RunSteps
+pub mod InOrder

@@ -14,10 +14,10 @@ use Rattle.bw_transfer.specs.declared.dispatch.Dispatch.{Dispatch}
 
 -- The sender.
 
-taken : (s : Told) (r : Request) → offer_fault s r ≡ None → offer s r ≡ record s { offered = s.offered ++ r ∷ [] }
+pub taken : (s : Told) (r : Request) → offer_fault s r ≡ None → offer s r ≡ record s { offered = s.offered ++ r ∷ [] }
 taken s r e = ap (λ (o : Option OfferFault). cond (is_none o) (record s { offered = s.offered ++ r ∷ [] }) s) e
 
-refused : (s : Told) (r : Request) (f : OfferFault) → offer_fault s r ≡ Some f → offer s r ≡ s
+pub refused : (s : Told) (r : Request) (f : OfferFault) → offer_fault s r ≡ Some f → offer s r ≡ s
 refused s r f e = ap (λ (o : Option OfferFault). cond (is_none o) (record s { offered = s.offered ++ r ∷ [] }) s) e
 
 one_offered : (s : Told) (r : Request) → offer_fault s r ≡ None → length (offer s r).offered ≡ length s.offered + 1
@@ -83,13 +83,13 @@ goes_on : (x : Sending) → x.is_stopped ≡ false → offer_more x ≡ offer_al
 unfolding offer_more
 goes_on x e = ap (λ (b : Bool). cond b x (offer_all x (unoffered x))) e
 
-all_taken : (x : Sending) (r : Request) (rs : List Request) → offer_fault x.sender r ≡ None →
+pub all_taken : (x : Sending) (r : Request) (rs : List Request) → offer_fault x.sender r ≡ None →
     offer_all x (r ∷ rs) ≡ offer_all (offer_next x r) rs
 unfolding offer_all
 all_taken x r rs e =
     ap (λ (o : Option OfferFault). cond (is_none o) (offer_all (offer_next x r) rs) (offer_next x r)) e
 
-all_refused : (x : Sending) (r : Request) (rs : List Request) (f : OfferFault) → offer_fault x.sender r ≡ Some f →
+pub all_refused : (x : Sending) (r : Request) (rs : List Request) (f : OfferFault) → offer_fault x.sender r ≡ Some f →
     offer_all x (r ∷ rs) ≡ offer_next x r
 unfolding offer_all
 all_refused x r rs f e =

@@ -38,16 +38,16 @@ counted (inl broke) s is = subst (IsSender s) (sym broke.unheard) is
 counted (inr exchange) s is = exchange.hears.counted s is
 
 -- hearing changes no offer
-one_heard : (s : Told) (r : Reply) → length (hear s r).offered ≡ length s.offered
+one_heard : (s : Told) (r : Reply) → (hear s r).offered ≡ s.offered
 one_heard s (Judged name n v) = go (is_counted s name n)
   where
-    go : (b : Bool) → length (cond b (record s { verdicts = put s.verdicts n v }) s).offered ≡ length s.offered
+    go : (b : Bool) → (cond b (record s { verdicts = put s.verdicts n v }) s).offered ≡ s.offered
     go true = refl
     go false = refl
 one_heard s (Noticed name n code next) = refl
 one_heard s (Refused reason place) = refl
 
-pub all_heard : (s : Told) (rs : List Reply) → length (hear_all s rs).offered ≡ length s.offered
+pub all_heard : (s : Told) (rs : List Reply) → (hear_all s rs).offered ≡ s.offered
 all_heard s [] = refl
 all_heard s (r ∷ rs) = all_heard (hear s r) rs ∙ one_heard s r
 
@@ -56,7 +56,7 @@ pub heard_dispatch : (y : Sending) (heard : List Reply) (p : Dispatch) (sender :
     IsSending (hear_in y heard) (record { sender = sender; offered = p.offered; is_stopped = p.is_stopped })
 heard_dispatch y heard p sender k is = record {
   sender = is;
-  offered = k.offered ∙ sym (all_heard y.sender heard);
+  offered = k.offered ∙ ap length (sym (all_heard y.sender heard));
   stopped = k.stopped;
 }
 

@@ -1,7 +1,9 @@
 -- A sender and the requests that it is to send.
-use Rattle.std.specs.Prelude.{◌≡◌, ℕ, Bool, true, false, ◌||◌, not, Option, Some, None, is_none}
+use Rattle.std.specs.Prelude.{◌≡◌, ◌<◌, ◌≤◌, ◌++◌, ℕ, Bool, true, false, ◌||◌, not, Option}
+use Rattle.std.specs.Prelude.{Some, None, is_none}
 use Rattle.std.specs.Prelude.{List, [], ◌∷◌, length, drop, ◌==◌, if◌then◌else◌}
-use Rattle.bw_model.specs.Take.{Request}
+use Rattle.bw_model.specs.Bytes.{at}
+use Rattle.bw_model.specs.Take.{Request, Stored}
 use Rattle.bw_model.specs.Replies.{Reply}
 use Rattle.bw_model.specs.World.{Sender, OfferFault, NumbersSpent, BeforeOpen, AfterClose}
 use Rattle.bw_model.specs.World.{WindowFull, offer, offer_fault, pending, refused, stored}
@@ -67,6 +69,16 @@ abbrev pub exit_for : Sending → Exit
 exit_for x =
     if has_refused x then Refused
     else if stored x.sender == length x.requests then Done else Device
+
+-- The requests that were offered are the first of the input, and only they have verdicts.
+pub record OffersInOrder (x : Sending) : Type 0 where
+  pub front : x.sender.offered ++ unoffered x ≡ x.requests
+  pub within : length x.sender.verdicts ≤ length x.sender.offered
+
+-- Each request of the input was offered, and has the verdict Stored.
+pub record EachIsStored (x : Sending) : Type 0 where
+  pub all : x.sender.offered ≡ x.requests
+  pub stored : (n : ℕ) → n < length x.requests → at x.sender.verdicts n ≡ Some Stored
 
 -- the code has got this far with the requests
 pub record IsSending (x : Sending) (p : Dispatch) : Type 0 where

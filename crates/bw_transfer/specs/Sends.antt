@@ -8,12 +8,14 @@ use Rattle.bw_commands.specs.Deeds.{Deed}
 use Rattle.bw_commands.specs.Faults.{IsToldBy, exit_on, is_read}
 use Rattle.bw_commands.specs.Printing.{Print, Nothing, Whole, Part}
 use Rattle.bw_commands.specs.declared.exit.Exit.{Exit}
+use Rattle.bw_commands.specs.declared.exit.Exit.TheVariants.{Done}
 use Rattle.bw_commands.specs.declared.fault.Fault.{Fault}
 use Rattle.bw_commands.specs.declared.fault.Fault.TheVariants as faults
 use Rattle.bw_transfer.specs.RequestLines.{AreRequestsOf, RefusesRequests}
 use Rattle.bw_transfer.specs.RoundsMade.{MakesRounds}
 use Rattle.bw_transfer.specs.SenderText.{sender_text}
-use Rattle.bw_transfer.specs.SendState.{Sending, exit_for, new_sending}
+use Rattle.bw_transfer.specs.SendState.{Sending, OffersInOrder, EachIsStored, exit_for}
+use Rattle.bw_transfer.specs.SendState.{new_sending}
 
 -- how the command ends on what it comes to
 abbrev pub exit_of_send : Result Exit Fault → Exit
@@ -37,6 +39,8 @@ module _ {D R W : Type 0} (links : D → Option (List (List ℕ))) (failures : D
     pub went : MakesRounds links failures reader writer rounds (new_sending name requests) last d d'
     pub is : print ≡ printed (sender_text last.sender)
     pub exit_is : exit ≡ exit_for last
+    pub in_order : OffersInOrder last
+    pub done : exit ≡ Done → EachIsStored last
 
   -- nothing is printed, and nothing was sent: the input can't be read, or has this fault
   pub record RefusesSend (input : Option (List ℕ)) (d d' : D) (fault : Fault) (print : Print)

@@ -2,14 +2,21 @@ use Rattle.std.proofs.Common.{◌∙◌, ap, length, refl, sym, subst}
 use Rattle.std.proofs.lemmas.Result.{err_from_is_err_and}
 use Rattle.bw_commands.specs.Printing.{Nothing, Whole, Part}
 use Rattle.bw_transfer.specs.RequestLines.{AreRequestsOf}
-use Rattle.bw_transfer.specs.SendState.{exit_for}
+use Rattle.bw_transfer.specs.SendState.{OffersInOrder, exit_for}
+use Rattle.bw_transfer.proofs.InOrder.{done_stored, made_front}
 use Rattle.bw_transfer.proofs.RoundSteps.{refuses_send, rounds_keep}
 use Rattle.bw_transfer.proofs.sending.send.Goals as goal
 
 pub returns-in-Ok-clause-prints : goal.returns-in-Ok-clause-prints
 returns-in-Ok-clause-prints g c =
     let sent = c.in_ok-dispatch.ensures in
-    let kept = rounds_keep _ _ _ _ c.args.rounds _ sent.0 _ _ sent.2 in (
+    let kept = rounds_keep _ _ _ _ c.args.rounds _ sent.0 _ _ sent.2 in
+    let exit_is = c.exit_after.ensures sent.0 sent.1
+    (c.len.ensures ∙ sym c.as_slice.ensures.len ∙ ap length (sym kept)) in
+    let ordered : OffersInOrder sent.0 = record {
+      front = made_front _ _ _ _ c.args.name c.as_slice.result.now c.args.rounds sent.0 _ _ sent.2;
+      within = sent.1.sender.within;
+    } in (
       Whole c.as_slice-2.result.now,
       record {
         requests = c.as_slice.result.now;
@@ -18,15 +25,20 @@ returns-in-Ok-clause-prints g c =
         last = sent.0;
         went = sent.2;
         is = ap Whole (c.as_slice-2.ensures.value ∙ c.in_ok-text.ensures sent.0.sender sent.1.sender);
-        exit_is = c.exit_after.ensures sent.0 sent.1
-            (c.len.ensures ∙ sym c.as_slice.ensures.len ∙ ap length (sym kept));
+        exit_is = exit_is;
+        in_order = ordered;
+        done = λ exit. done_stored sent.0 ordered (sym exit_is ∙ exit);
       },
       c.in-Ok.ensures.ok,
     )
 
 pub returns-clause-prints : goal.returns-clause-prints
 returns-clause-prints g c =
-    let sent = c.in_ok-dispatch.ensures in (
+    let sent = c.in_ok-dispatch.ensures in
+    let ordered : OffersInOrder sent.0 = record {
+      front = made_front _ _ _ _ c.args.name c.as_slice.result.now c.args.rounds sent.0 _ _ sent.2;
+      within = sent.1.sender.within;
+    } in (
       Part c.as_slice-2.result.now,
       (
         exit_for sent.0,
@@ -38,6 +50,8 @@ returns-clause-prints g c =
           went = sent.2;
           is = ap Part (c.as_slice-2.ensures.value ∙ c.in_ok-text.ensures sent.0.sender sent.1.sender);
           exit_is = refl;
+          in_order = ordered;
+          done = done_stored sent.0 ordered;
         },
       ),
       c.in-Err.ensures.err,
