@@ -15,7 +15,7 @@ use Rattle.bw_args.specs.Lines.{Inspecting, Rehearsing, Replaying, wish_of}
 use Rattle.bw_args.specs.Forms.{Inspects, IsPlain, IsToldAs, RunsInspect, RunsReplay, TellsHelp}
 use Rattle.bw_args.specs.Numbers.{IsLimitText, IsNumber, default_limit, number_written}
 use Rattle.bw_args.specs.declared.CommandLine.{CommandLine}
-use Rattle.bw_args.specs.declared.CommandLine.TheVariants.{Run, BadName, BadLimit, BadFuse, Tell}
+use Rattle.bw_args.specs.declared.CommandLine.TheVariants.{Run, BadValue as Bad, Tell}
 use Rattle.bw_args.specs.declared.Task.TheVariants.{Inspect, Rehearse, Replay}
 
 -- a digit is no hyphen, so the word is read as a value
@@ -119,18 +119,14 @@ one_wish (Some command) (Inspecting a) (Replaying b k) x y = let bad : codes "in
 -- the line runs a task for this
 abbrev pub RunsFor : Wish → CommandLine → Type 0
 RunsFor wish (Run task) = wish_of task ≡ wish
-RunsFor wish BadName = ⊥
-RunsFor wish BadLimit = ⊥
-RunsFor wish BadFuse = ⊥
+RunsFor wish (Bad value) = ⊥
 RunsFor wish (Tell error) = ⊥
 
 -- words that ask for something run it
 pub runs : (words : List Text) (line : CommandLine) (wish : Wish) → IsLineRead words line → AsksFor words wish →
     RunsFor wish line
 runs words (Run task) wish is asks = one_wish _ (wish_of task) wish is.asked asks.asked
-runs words BadName wish is asks = absurd (is.asks_nothing wish asks)
-runs words BadLimit wish is asks = absurd (is.asks_nothing wish asks)
-runs words BadFuse wish is asks = absurd (is.asks_nothing wish asks)
+runs words (Bad value) wish is asks = absurd (is.asks_nothing wish asks)
 runs words (Tell error) wish is asks = absurd (is.asks_nothing wish asks)
 
 replays : (limit : ℕ) (fuse : Option ℕ) (line : CommandLine) → RunsFor (Replaying limit fuse) line
@@ -138,18 +134,14 @@ replays : (limit : ℕ) (fuse : Option ℕ) (line : CommandLine) → RunsFor (Re
 replays limit fuse (Run (Replay n k)) e = let limits : n ≡ limit = cc in let fuses : k ≡ fuse = cc in cc
 replays limit fuse (Run (Rehearse name n)) e = cc
 replays limit fuse (Run (Inspect file)) e = cc
-replays limit fuse BadName e = absurd e
-replays limit fuse BadLimit e = absurd e
-replays limit fuse BadFuse e = absurd e
+replays limit fuse (Bad value) e = absurd e
 replays limit fuse (Tell error) e = absurd e
 
 inspects : (path : Text) (line : CommandLine) → RunsFor (Inspecting path) line → Inspects path line
 inspects path (Run (Inspect file)) e = cc
 inspects path (Run (Replay limit fuse)) e = cc
 inspects path (Run (Rehearse name limit)) e = cc
-inspects path BadName e = absurd e
-inspects path BadLimit e = absurd e
-inspects path BadFuse e = absurd e
+inspects path (Bad value) e = absurd e
 inspects path (Tell error) e = absurd e
 
 -- words that ask for a replay run it
@@ -175,9 +167,7 @@ runs_replay words line is = record {
 pub tells : (kind : ErrorKind) (words : List Text) (line : CommandLine) → fault_of command_line words ≡ kind ∷ []
     → IsLineRead words line → IsToldAs kind line
 tells kind words (Run task) fault is = let bad : kind ∷ [] ≡ [] = sym fault ∙ is.taken in cc
-tells kind words BadName fault is = let bad : kind ∷ [] ≡ [] = sym fault ∙ is.taken in cc
-tells kind words BadLimit fault is = let bad : kind ∷ [] ≡ [] = sym fault ∙ is.taken in cc
-tells kind words BadFuse fault is = let bad : kind ∷ [] ≡ [] = sym fault ∙ is.taken in cc
+tells kind words (Bad value) fault is = let bad : kind ∷ [] ≡ [] = sym fault ∙ is.taken in cc
 tells kind words (Tell error) fault is =
     elim (subst (IsAmong (kind_of error)) fault is.reason) [ inl same ↦ same | inr none ↦ absurd none ]
 

@@ -9,10 +9,10 @@ use Rattle.clap.specs.declared.error.ErrorKind.TheVariants.{OutOfMemory}
 use Rattle.clap.proofs.OnLiterals.{clap_on_literals}
 use Rattle.bw_args.specs.Commands.{command_line}
 use Rattle.bw_args.specs.ReadWords.{as_read}
-use Rattle.bw_args.specs.Lines.{AsksFor, AsksNothing, IsLineFor, IsLineOf, IsLineRead, IsWishOf, IsToldOf, LacksFuse}
-use Rattle.bw_args.specs.Lines.{LacksLimit, LacksName, Wish, wish_of}
+use Rattle.bw_args.specs.Lines.{AsksFor, AsksNothing, IsLineFor, IsLineOf, IsLineRead, IsWishOf, IsToldOf, Lacks}
+use Rattle.bw_args.specs.Lines.{Wish, wish_of}
 use Rattle.bw_args.specs.declared.CommandLine.{CommandLine}
-use Rattle.bw_args.specs.declared.CommandLine.TheVariants.{Run, BadName, BadLimit, BadFuse, Tell}
+use Rattle.bw_args.specs.declared.CommandLine.TheVariants.{Run, BadValue as Bad, Tell}
 
 -- the contracts of `clap` are exact at this command line
 is_exact : is_simple_and_free command_line ≡ true
@@ -74,20 +74,10 @@ pub line_asked : (a : App) (words : List Text) (command : Option (Text × List R
     → IsLineFor command line → IsLineRead words line
 line_asked a words command (Run task) is free found given =
     asked_line a words command (wish_of task) is free found given
-line_asked a words command BadName is free found bad = record {
+line_asked a words command (Bad value) is free found bad = record {
   taken = no_fault a words is free;
   asks_nothing = asks_nothing a words command is found bad.0;
-  no_name = subst LacksName (same_command a words command is found) bad.1;
-}
-line_asked a words command BadLimit is free found bad = record {
-  taken = no_fault a words is free;
-  asks_nothing = asks_nothing a words command is found bad.0;
-  no_limit = subst LacksLimit (same_command a words command is found) bad.1;
-}
-line_asked a words command BadFuse is free found bad = record {
-  taken = no_fault a words is free;
-  asks_nothing = asks_nothing a words command is found bad.0;
-  no_fuse = subst LacksFuse (same_command a words command is found) bad.1;
+  lacks = subst (λ o. Lacks o value) (same_command a words command is found) bad.1;
 }
 line_asked a words command (Tell error) is free found given = absurd given
 

@@ -10,7 +10,7 @@ use Rattle.bw_args.specs.Lines.{AsksFor, IsLineOf, IsName, IsWishOf, Rehearsing}
 use Rattle.bw_args.specs.Forms.{RunsRehearsal}
 use Rattle.bw_args.specs.Numbers.{IsLimitText, default_limit, number_written}
 use Rattle.bw_args.specs.declared.CommandLine.{CommandLine}
-use Rattle.bw_args.specs.declared.CommandLine.TheVariants.{Run, BadName, BadLimit, BadFuse, Tell}
+use Rattle.bw_args.specs.declared.CommandLine.TheVariants.{Run, BadValue as Bad, Tell}
 use Rattle.bw_args.specs.declared.Task.TheVariants.{Inspect, Rehearse, Replay}
 use Rattle.bw_args.proofs.FormLemmas.{RunsFor, no_hyphen, runs, tells}
 
@@ -84,9 +84,7 @@ rehearses : (name : Text) (limit : ℕ) (line : CommandLine) → RunsFor (Rehear
 rehearses name limit (Run (Rehearse m n)) e = let names : m ≡ name = cc in let limits : n ≡ limit = cc in cc
 rehearses name limit (Run (Replay n k)) e = cc
 rehearses name limit (Run (Inspect file)) e = cc
-rehearses name limit BadName e = absurd e
-rehearses name limit BadLimit e = absurd e
-rehearses name limit BadFuse e = absurd e
+rehearses name limit (Bad value) e = absurd e
 rehearses name limit (Tell error) e = absurd e
 
 -- words that ask for a rehearsal run it

@@ -1,102 +1,98 @@
 -- Values of another form, each of which is a fault of its own.
-use Rattle.std.proofs.Common.{◌≡◌, List, [], ◌∷◌, ◌++◌, codes, refl, subst}
-use Rattle.clap.specs.Words.{Text}
+use Rattle.std.proofs.Common.{◌≡◌, List, [], ◌∷◌, ◌++◌, Option, Some, None, codes, refl, ap, subst, inl, inr}
+use Rattle.clap.specs.Words.{IsAmong, Row, Text, fault_of, kind_of, subcommand_of}
 use Rattle.clap.proofs.OnLiterals.{clap_on_literals}
+use Rattle.bw_args.specs.Commands.{command_line}
 use Rattle.bw_args.specs.ReadWords.{as_read}
-use Rattle.bw_args.specs.Lines.{IsLineOf, IsLineRead, IsName}
+use Rattle.bw_args.specs.Lines.{IsFirstBad, IsLineOf, IsLineRead, IsName, IsWishOf, Lacks, Wish, looked_at, wish_of}
 use Rattle.bw_args.specs.Forms.{RefusesValues}
 use Rattle.bw_args.specs.Numbers.{IsLimitText, IsNumber, default_limit}
 use Rattle.bw_args.specs.declared.CommandLine.{CommandLine}
-use Rattle.bw_args.specs.declared.CommandLine.TheVariants.{Run, BadName, BadLimit, BadFuse, Tell}
-use Rattle.bw_args.specs.declared.Task.TheVariants.{Inspect, Rehearse, Replay}
+use Rattle.bw_args.specs.declared.CommandLine.TheVariants.{Run, BadValue as Bad, Tell}
+use Rattle.bw_args.specs.declared.bad_value.BadValue.{BadValue}
+use Rattle.bw_args.specs.declared.bad_value.BadValue.TheVariants.{Name, Limit, Fuse}
+use Rattle.bw_args.proofs.Asked.{good_not_bad, one_bad, wished_good}
 
-bad_limit : (program text : Text) (line : CommandLine) → ¬ IsLimitText text
-    → IsLineRead (program ∷ codes "replay" ∷ (codes "--limit=" ++ text) ∷ []) line → line ≡ BadLimit
-unfolding clap_on_literals
-bad_limit program text (Run (Replay limit fuse)) none is = absurd (none is.asked.1.0)
-bad_limit program text (Run (Inspect file)) none is = let bad : codes "replay" ≡ codes "inspect" = is.asked.0 in cc
-bad_limit program text (Run (Rehearse name limit)) none is =
-    let bad : codes "replay" ≡ codes "rehearse" = is.asked.0 in cc
-bad_limit program text BadName none is = let bad : codes "replay" ≡ codes "rehearse" = is.no_name.0 in cc
-bad_limit program text BadLimit none is = refl
-bad_limit program text BadFuse none is = absurd (none is.no_fuse.1.1.0)
-bad_limit program text (Tell error) none is = absurd is.reason
+-- the command's first bad value
+abbrev pub HasFirstBad : Option (Text × List Row) → BadValue → Type 0
+HasFirstBad None value = ⊥
+HasFirstBad (Some command) value = IsFirstBad (looked_at command.0) command.1 value
 
-bad_fuse : (program text : Text) (line : CommandLine) → ¬ IsNumber text
-    → IsLineRead (program ∷ codes "replay" ∷ (codes "--fuse=" ++ text) ∷ []) line → line ≡ BadFuse
-unfolding clap_on_literals
-bad_fuse program text (Run (Replay limit fuse)) none is = absurd (none is.asked.2.0)
-bad_fuse program text (Run (Inspect file)) none is = let bad : codes "replay" ≡ codes "inspect" = is.asked.0 in cc
-bad_fuse program text (Run (Rehearse name limit)) none is =
-    let bad : codes "replay" ≡ codes "rehearse" = is.asked.0 in cc
-bad_fuse program text BadName none is = let bad : codes "replay" ≡ codes "rehearse" = is.no_name.0 in cc
-bad_fuse program text BadLimit none is = absurd (is.no_limit.0 refl default_limit refl)
-bad_fuse program text BadFuse none is = refl
-bad_fuse program text (Tell error) none is = absurd is.reason
+-- a command with a bad value asks for nothing
+bad_not_wished : (command : Option (Text × List Row)) (value : BadValue) (wish : Wish) → HasFirstBad command value
+    → ¬ IsWishOf command wish
+bad_not_wished None value wish bad asked = bad
+bad_not_wished (Some command) value wish bad asked =
+    good_not_bad (looked_at command.0) command.1 value (wished_good command.0 command.1 wish asked) bad
 
-bad_limit_first : (program limit fuse : Text) (line : CommandLine) → ¬ IsLimitText limit → IsLineRead
-    (program ∷ codes "replay" ∷ (codes "--fuse=" ++ fuse) ∷ (codes "--limit=" ++ limit) ∷ []) line → line ≡ BadLimit
-unfolding clap_on_literals
-bad_limit_first program limit fuse (Run (Replay n k)) none is = absurd (none is.asked.1.0)
-bad_limit_first program limit fuse (Run (Inspect file)) none is =
-    let bad : codes "replay" ≡ codes "inspect" = is.asked.0 in cc
-bad_limit_first program limit fuse (Run (Rehearse name n)) none is =
-    let bad : codes "replay" ≡ codes "rehearse" = is.asked.0 in cc
-bad_limit_first program limit fuse BadName none is =
-    let bad : codes "replay" ≡ codes "rehearse" = is.no_name.0 in cc
-bad_limit_first program limit fuse BadLimit none is = refl
-bad_limit_first program limit fuse BadFuse none is = absurd (none is.no_fuse.1.1.0)
-bad_limit_first program limit fuse (Tell error) none is = absurd is.reason
+-- .. and lacks no other one
+one_lacked : (command : Option (Text × List Row)) (a b : BadValue) → HasFirstBad command a → Lacks command b → b ≡ a
+one_lacked None a b bad lacks = absurd bad
+one_lacked (Some command) a b bad lacks = elim lacks [
+  | inl first ↦ one_bad (looked_at command.0) command.1 b a first bad
+  | inr none ↦ absurd (subst (λ (values : List BadValue). IsFirstBad values command.1 a) none.0 bad)
+]
 
-bad_name : (program text : Text) (line : CommandLine) → ¬ IsName text
-    → IsLineRead (program ∷ codes "rehearse" ∷ (codes "--name=" ++ text) ∷ []) line → line ≡ BadName
-unfolding clap_on_literals
-bad_name program text (Run (Replay limit fuse)) none is =
-    let bad : codes "rehearse" ≡ codes "replay" = is.asked.0 in cc
-bad_name program text (Run (Rehearse name limit)) none is = absurd (none is.asked.1.0)
-bad_name program text (Run (Inspect file)) none is = let bad : codes "rehearse" ≡ codes "inspect" = is.asked.0 in cc
-bad_name program text BadName none is = refl
-bad_name program text BadLimit none is = absurd (none (is.no_limit.1 refl).0.1.0)
-bad_name program text BadFuse none is = let bad : codes "rehearse" ≡ codes "replay" = is.no_fuse.0 in cc
-bad_name program text (Tell error) none is = absurd is.reason
+-- words that `clap` takes, and whose command has a first bad value, tell it
+bad_told : (words : List Text) (line : CommandLine) (value : BadValue) → fault_of command_line words ≡ []
+    → HasFirstBad (subcommand_of command_line words) value → IsLineRead words line → line ≡ Bad value
+bad_told words (Run task) value taken bad is =
+    absurd (bad_not_wished (subcommand_of command_line words) value (wish_of task) bad is.asked)
+bad_told words (Bad other) value taken bad is =
+    ap Bad (one_lacked (subcommand_of command_line words) value other bad is.lacks)
+bad_told words (Tell error) value taken bad is = absurd (subst (IsAmong (kind_of error)) taken is.reason)
 
-bad_name_first : (program name limit : Text) (line : CommandLine) → ¬ IsName name → IsLineRead
-    (program ∷ codes "rehearse" ∷ (codes "--limit=" ++ limit) ∷ (codes "--name=" ++ name) ∷ []) line → line ≡ BadName
-unfolding clap_on_literals
-bad_name_first program name limit (Run (Replay n k)) none is =
-    let bad : codes "rehearse" ≡ codes "replay" = is.asked.0 in cc
-bad_name_first program name limit (Run (Rehearse given n)) none is = absurd (none is.asked.1.0)
-bad_name_first program name limit (Run (Inspect file)) none is =
-    let bad : codes "rehearse" ≡ codes "inspect" = is.asked.0 in cc
-bad_name_first program name limit BadName none is = refl
-bad_name_first program name limit BadLimit none is = absurd (none (is.no_limit.1 refl).0.1.0)
-bad_name_first program name limit BadFuse none is =
-    let bad : codes "rehearse" ≡ codes "replay" = is.no_fuse.0 in cc
-bad_name_first program name limit (Tell error) none is = absurd is.reason
+-- .. as they are read
+pub told : (words asking : List Text) (line : CommandLine) (value : BadValue) → IsLineOf words line
+    → words ≡ asking
+    → (fault_of command_line (as_read asking) ≡ []) × HasFirstBad (subcommand_of command_line (as_read asking)) value
+    → line ≡ Bad value
+told words asking line value is e bad =
+    bad_told (as_read asking) line value bad.0 bad.1 (subst (λ w. IsLineRead (as_read w) line) e is)
 
-bad_limit_then : (program name limit : Text) (line : CommandLine) → IsName name → ¬ IsLimitText limit → IsLineRead
-    (program ∷ codes "rehearse" ∷ (codes "--name=" ++ name) ∷ (codes "--limit=" ++ limit) ∷ []) line → line ≡ BadLimit
+-- the words are taken, and this is the first bad value
+abbrev pub IsBadAt : List Text → BadValue → Type 0
+IsBadAt words value =
+    (fault_of command_line words ≡ []) × HasFirstBad (subcommand_of command_line words) value
+
+bad_limit : (program text : Text) → ¬ IsLimitText text
+    → IsBadAt (program ∷ codes "replay" ∷ (codes "--limit=" ++ text) ∷ []) Limit
 unfolding clap_on_literals
-bad_limit_then program name limit (Run (Replay n k)) named none is =
-    let bad : codes "rehearse" ≡ codes "replay" = is.asked.0 in cc
-bad_limit_then program name limit (Run (Rehearse given n)) named none is = absurd (none is.asked.2.0)
-bad_limit_then program name limit (Run (Inspect file)) named none is =
-    let bad : codes "rehearse" ≡ codes "inspect" = is.asked.0 in cc
-bad_limit_then program name limit BadName named none is = absurd (is.no_name.1 name (named, refl))
-bad_limit_then program name limit BadLimit named none is = refl
-bad_limit_then program name limit BadFuse named none is =
-    let bad : codes "rehearse" ≡ codes "replay" = is.no_fuse.0 in cc
-bad_limit_then program name limit (Tell error) named none is = absurd is.reason
+bad_limit program text none = (refl, inl ((λ good. none good.1.0), refl))
+
+bad_fuse : (program text : Text) → ¬ IsNumber text
+    → IsBadAt (program ∷ codes "replay" ∷ (codes "--fuse=" ++ text) ∷ []) Fuse
+unfolding clap_on_literals
+bad_fuse program text none = (refl, inr ((default_limit, refl), inl ((λ good. none good.1.0), refl)))
+
+bad_limit_first : (program limit fuse : Text) → ¬ IsLimitText limit
+    → IsBadAt (program ∷ codes "replay" ∷ (codes "--fuse=" ++ fuse) ∷ (codes "--limit=" ++ limit) ∷ []) Limit
+unfolding clap_on_literals
+bad_limit_first program limit fuse none = (refl, inl ((λ good. none good.1.0), refl))
+
+bad_name : (program text : Text) → ¬ IsName text
+    → IsBadAt (program ∷ codes "rehearse" ∷ (codes "--name=" ++ text) ∷ []) Name
+unfolding clap_on_literals
+bad_name program text none = (refl, inl ((λ good. none good.1.0), refl))
+
+bad_name_first : (program name limit : Text) → ¬ IsName name
+    → IsBadAt (program ∷ codes "rehearse" ∷ (codes "--limit=" ++ limit) ∷ (codes "--name=" ++ name) ∷ []) Name
+unfolding clap_on_literals
+bad_name_first program name limit none = (refl, inl ((λ good. none good.1.0), refl))
+
+bad_limit_then : (program name limit : Text) → IsName name → ¬ IsLimitText limit
+    → IsBadAt (program ∷ codes "rehearse" ∷ (codes "--name=" ++ name) ∷ (codes "--limit=" ++ limit) ∷ []) Limit
+unfolding clap_on_literals
+bad_limit_then program name limit named none =
+    (refl, inr ((name, (named, refl)), inl ((λ good. none good.1.0), refl)))
 
 pub refuses_values : (words : List Text) (line : CommandLine) → IsLineOf words line → RefusesValues words line
 refuses_values words line is = record {
-  limit = λ program text none e. bad_limit program text line none (subst (λ w. IsLineRead (as_read w) line) e is);
-  fuse = λ program text none e. bad_fuse program text line none (subst (λ w. IsLineRead (as_read w) line) e is);
-  first = λ program limit fuse none e.
-      bad_limit_first program limit fuse line none (subst (λ w. IsLineRead (as_read w) line) e is);
-  name = λ program text none e. bad_name program text line none (subst (λ w. IsLineRead (as_read w) line) e is);
-  name_first = λ program name limit none e.
-      bad_name_first program name limit line none (subst (λ w. IsLineRead (as_read w) line) e is);
+  limit = λ program text none e. told words _ line Limit is e (bad_limit program text none);
+  fuse = λ program text none e. told words _ line Fuse is e (bad_fuse program text none);
+  first = λ program limit fuse none e. told words _ line Limit is e (bad_limit_first program limit fuse none);
+  name = λ program text none e. told words _ line Name is e (bad_name program text none);
+  name_first = λ program name limit none e. told words _ line Name is e (bad_name_first program name limit none);
   name_then = λ program name limit named none e.
-      bad_limit_then program name limit line named none (subst (λ w. IsLineRead (as_read w) line) e is);
+      told words _ line Limit is e (bad_limit_then program name limit named none);
 }

@@ -1,5 +1,6 @@
 -- The forms of the commands, in plain words, and what each comes to.
-use Rattle.std.specs.Prelude.{◌≡◌, ◌≢◌, ⊤, List, [], ◌∷◌, ◌++◌, Some, None, codes, string_bytes}
+use Rattle.std.specs.Prelude.{◌≡◌, ◌≢◌, ⊤, List, [], ◌∷◌, ◌++◌, Some, None, codes}
+use Rattle.std.specs.Prelude.{string_bytes}
 use Rattle.clap.specs.Walk.{Text}
 use Rattle.clap.specs.Values.{kind_of}
 use Rattle.clap.specs.declared.error.ErrorKind.{ErrorKind}
@@ -9,8 +10,8 @@ use Rattle.clap.specs.declared.error.ErrorKind.TheVariants.{MissingSubcommand, U
 use Rattle.bw_args.specs.Numbers.{IsLimitText, IsNumber, default_limit, number_written}
 use Rattle.bw_args.specs.Lines.{IsName}
 use Rattle.bw_args.specs.declared.CommandLine.{CommandLine}
-use Rattle.bw_args.specs.declared.CommandLine.TheVariants.{Run, BadName, BadLimit}
-use Rattle.bw_args.specs.declared.CommandLine.TheVariants.{BadFuse, Tell}
+use Rattle.bw_args.specs.declared.CommandLine.TheVariants.{Run, BadValue as Bad, Tell}
+use Rattle.bw_args.specs.declared.bad_value.BadValue.TheVariants.{Name, Limit, Fuse}
 use Rattle.bw_args.specs.declared.Task.TheVariants.{Replay, Rehearse, Inspect}
 
 -- `replay` runs, with a limit N and a fuse K or without, whatever the program's name, N and K
@@ -36,19 +37,19 @@ pub record RunsReplay (words : List Text) (line : CommandLine) : Type 0 where
       → line ≡ Run (Replay default_limit (Some (number_written text)))
   -- `replay --limit N --fuse K`
   pub both : (program limit fuse : Text) → IsLimitText limit → IsNumber fuse
-      → words ≡ program ∷ codes "replay" ∷ codes "--limit" ∷ limit ∷ codes "--fuse" ∷ fuse ∷ []
+      → words ≡ program ∷ codes "replay" ∷ codes "--limit" ∷ limit
+      ∷ codes "--fuse" ∷ fuse ∷ []
       → line ≡ Run (Replay (number_written limit) (Some (number_written fuse)))
   -- `replay --fuse K --limit N`
   pub turned : (program limit fuse : Text) → IsLimitText limit → IsNumber fuse
-      → words ≡ program ∷ codes "replay" ∷ codes "--fuse" ∷ fuse ∷ codes "--limit" ∷ limit ∷ []
+      → words ≡ program ∷ codes "replay" ∷ codes "--fuse" ∷ fuse
+      ∷ codes "--limit" ∷ limit ∷ []
       → line ≡ Run (Replay (number_written limit) (Some (number_written fuse)))
 
 -- the line tells an error of this kind
 abbrev pub IsToldAs : ErrorKind → CommandLine → Type 0
 IsToldAs kind (Run task) = ⊥
-IsToldAs kind BadName = ⊥
-IsToldAs kind BadLimit = ⊥
-IsToldAs kind BadFuse = ⊥
+IsToldAs kind (Bad value) = ⊥
 IsToldAs kind (Tell error) = kind_of error ≡ kind
 
 -- `rehearse` runs, with a limit N or without, whatever the program's name, NAME and N; a NAME may
@@ -64,11 +65,13 @@ pub record RunsRehearsal (words : List Text) (line : CommandLine) : Type 0 where
       → line ≡ Run (Rehearse name default_limit)
   -- `rehearse --name NAME --limit N`
   pub both : (program name limit : Text) → IsName name → IsLimitText limit
-      → words ≡ program ∷ codes "rehearse" ∷ codes "--name" ∷ name ∷ codes "--limit" ∷ limit ∷ []
+      → words ≡ program ∷ codes "rehearse" ∷ codes "--name" ∷ name
+      ∷ codes "--limit" ∷ limit ∷ []
       → line ≡ Run (Rehearse name (number_written limit))
   -- `rehearse --limit N --name NAME`
   pub turned : (program name limit : Text) → IsName name → IsLimitText limit
-      → words ≡ program ∷ codes "rehearse" ∷ codes "--limit" ∷ limit ∷ codes "--name" ∷ name ∷ []
+      → words ≡ program ∷ codes "rehearse" ∷ codes "--limit" ∷ limit
+      ∷ codes "--name" ∷ name ∷ []
       → line ≡ Run (Rehearse name (number_written limit))
   -- `rehearse --name=NAME --limit=N`
   pub both_joined : (program name limit : Text) → IsName name → IsLimitText limit
@@ -89,27 +92,27 @@ pub record RefusesValues (words : List Text) (line : CommandLine) : Type 0 where
   -- `replay --limit=N`
   pub limit : (program text : Text) → ¬ IsLimitText text
       → words ≡ program ∷ codes "replay" ∷ (codes "--limit=" ++ text) ∷ []
-      → line ≡ BadLimit
+      → line ≡ Bad Limit
   -- `replay --fuse=K`
   pub fuse : (program text : Text) → ¬ IsNumber text
       → words ≡ program ∷ codes "replay" ∷ (codes "--fuse=" ++ text) ∷ []
-      → line ≡ BadFuse
+      → line ≡ Bad Fuse
   -- `replay --fuse=K --limit=N`
   pub first : (program limit fuse : Text) → ¬ IsLimitText limit
       → words ≡ program ∷ codes "replay" ∷ (codes "--fuse=" ++ fuse)
-      ∷ (codes "--limit=" ++ limit) ∷ [] → line ≡ BadLimit
+      ∷ (codes "--limit=" ++ limit) ∷ [] → line ≡ Bad Limit
   -- `rehearse --name=NAME`
   pub name : (program text : Text) → ¬ IsName text
       → words ≡ program ∷ codes "rehearse" ∷ (codes "--name=" ++ text) ∷ []
-      → line ≡ BadName
+      → line ≡ Bad Name
   -- `rehearse --limit=N --name=NAME`
   pub name_first : (program name limit : Text) → ¬ IsName name
       → words ≡ program ∷ codes "rehearse" ∷ (codes "--limit=" ++ limit)
-      ∷ (codes "--name=" ++ name) ∷ [] → line ≡ BadName
+      ∷ (codes "--name=" ++ name) ∷ [] → line ≡ Bad Name
   -- `rehearse --name=NAME --limit=N`
   pub name_then : (program name limit : Text) → IsName name → ¬ IsLimitText limit
       → words ≡ program ∷ codes "rehearse" ∷ (codes "--name=" ++ name)
-      ∷ (codes "--limit=" ++ limit) ∷ [] → line ≡ BadLimit
+      ∷ (codes "--limit=" ++ limit) ∷ [] → line ≡ Bad Limit
 
 -- `--help` and `--version` are answered, and no command at all is a fault, whatever the program's
 -- name
@@ -124,9 +127,7 @@ abbrev pub Inspects : Text → CommandLine → Type 0
 Inspects path (Run (Inspect file)) = string_bytes file ≡ path
 Inspects path (Run (Replay limit fuse)) = ⊥
 Inspects path (Run (Rehearse name limit)) = ⊥
-Inspects path BadName = ⊥
-Inspects path BadLimit = ⊥
-Inspects path BadFuse = ⊥
+Inspects path (Bad value) = ⊥
 Inspects path (Tell error) = ⊥
 
 -- a word that is no option: it doesn't begin with a hyphen

@@ -1,5 +1,6 @@
 pub mod Numbers
 pub mod Commands
 pub mod ReadWords
+pub mod BadValues
 pub mod Lines
 pub mod Forms

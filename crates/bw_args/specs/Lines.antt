@@ -1,6 +1,7 @@
 -- What a command line asks for.
-use Rattle.std.specs.Prelude.{◌≡◌, ◌≢◌, ⊤, ℕ, List, [], Option, Some, None, codes, IsTrue}
-use Rattle.std.specs.Prelude.{Result, Ok, Err, string_bytes}
+use Rattle.std.specs.Prelude.{◌≡◌, ◌≢◌, ◌⊎◌, ⊤, ℕ, List, [], ◌∷◌, Option, Some, None}
+use Rattle.std.specs.Prelude.{Result, Ok, Err, string_bytes, codes, IsTrue, if◌then◌else◌}
+use Rattle.std.specs.Str.{bytes_eq}
 use Rattle.clap.specs.Walk.{Row, Text, first_of}
 use Rattle.clap.specs.Simple.{subcommand_of}
 use Rattle.clap.specs.Faults.{fault_of}
@@ -14,8 +15,9 @@ use Rattle.bw_args.specs.Numbers.{number_written}
 use Rattle.bw_args.specs.Commands.{command_line}
 use Rattle.bw_args.specs.ReadWords.{as_read}
 use Rattle.bw_args.specs.declared.CommandLine.{CommandLine}
-use Rattle.bw_args.specs.declared.CommandLine.TheVariants.{Run, BadName, BadLimit}
-use Rattle.bw_args.specs.declared.CommandLine.TheVariants.{BadFuse, Tell}
+use Rattle.bw_args.specs.declared.CommandLine.TheVariants.{Run, BadValue as Bad, Tell}
+use Rattle.bw_args.specs.declared.bad_value.BadValue.{BadValue}
+use Rattle.bw_args.specs.declared.bad_value.BadValue.TheVariants.{Name, Limit, Fuse}
 use Rattle.bw_args.specs.declared.Task.{Task}
 use Rattle.bw_args.specs.declared.Task.TheVariants.{Replay, Rehearse, Inspect}
 
@@ -90,38 +92,34 @@ AsksNothing command = (wish : Wish) → ¬ IsWishOf command wish
 abbrev pub AsksForFile : Option (Text × List Row) → Type 0
 AsksForFile command = (path : Text) × IsWishOf command (Inspecting path)
 
--- they name a rehearsal and give no name that is one
-abbrev pub LacksName : Option (Text × List Row) → Type 0
-LacksName None = ⊥
-LacksName (Some command) =
-    (command.0 ≡ codes "rehearse") × IsNameGiven (first_of (codes "name") command.1) None
+-- the options give a value of this kind that is one, or may do without
+abbrev pub IsGood : BadValue → List Row → Type 0
+IsGood Name options = (name : Text) × GivesName (first_of (codes "name") options) name
+IsGood Limit options = (limit : ℕ) × GivesLimit (first_of (codes "limit") options) limit
+IsGood Fuse options = (fuse : Option ℕ) × GivesFuse (first_of (codes "fuse") options) fuse
 
--- they give a name that is one, but no limit that is one
-abbrev pub LacksLimitOnly : List Row → Type 0
-LacksLimitOnly options = ((name : Text) × GivesName (first_of (codes "name") options) name)
-    × IsLimitGiven (first_of (codes "limit") options) None
+-- the values that a command looks at, in this order
+abbrev pub looked_at : Text → List BadValue
+looked_at command = if bytes_eq command (codes "replay") then Limit ∷ Fuse ∷ []
+    else (if bytes_eq command (codes "rehearse") then Name ∷ Limit ∷ [] else [])
 
--- where they name a replay, they give no limit that is one; where a rehearsal, a name that is one,
--- but no limit
-abbrev pub LacksLimit : Option (Text × List Row) → Type 0
-LacksLimit None = ⊤
-LacksLimit (Some command) =
-    (command.0 ≡ codes "replay" → IsLimitGiven (first_of (codes "limit") command.1) None)
-    × (command.0 ≡ codes "rehearse" → LacksLimitOnly command.1)
+-- of these values, in this order, it is the first that is bad
+abbrev pub IsFirstBad : List BadValue → List Row → BadValue → Type 0
+IsFirstBad [] options value = ⊥
+IsFirstBad (first ∷ later) options value = (¬ IsGood first options × (value ≡ first))
+    ⊎ (IsGood first options × IsFirstBad later options value)
 
--- they name a replay and give a limit that is one, but no fuse that is one
-abbrev pub LacksFuse : Option (Text × List Row) → Type 0
-LacksFuse None = ⊥
-LacksFuse (Some command) = (command.0 ≡ codes "replay")
-    × ((limit : ℕ) × GivesLimit (first_of (codes "limit") command.1) limit)
-    × GivesNoFuse (first_of (codes "fuse") command.1)
+-- the value for which they ask for nothing; where no value is looked at, a limit stands for what
+-- `clap` doesn't let through
+abbrev pub Lacks : Option (Text × List Row) → BadValue → Type 0
+Lacks None value = value ≡ Limit
+Lacks (Some command) value = IsFirstBad (looked_at command.0) command.1 value
+    ⊎ ((looked_at command.0 ≡ []) × (value ≡ Limit))
 
 -- exactly the line that they come to
 abbrev pub IsLineFor : Option (Text × List Row) → CommandLine → Type 0
 IsLineFor command (Run task) = IsWishOf command (wish_of task)
-IsLineFor command BadName = AsksNothing command × LacksName command
-IsLineFor command BadLimit = AsksNothing command × LacksLimit command
-IsLineFor command BadFuse = AsksNothing command × LacksFuse command
+IsLineFor command (Bad value) = AsksNothing command × Lacks command value
 IsLineFor command (Tell error) = ⊥
 
 -- `clap` takes the words, of which the first is the program's name, and they ask for this
@@ -135,30 +133,16 @@ pub record IsToldOf (words : List Text) (kind : ErrorKind) : Type 0 where
   pub not_memory : kind ≢ OutOfMemory
   pub reason : IsAmong kind (fault_of command_line words)
 
--- `clap` takes the words, and they ask for nothing, by a name that is none
-pub record HasBadName (words : List Text) : Type 0 where
+-- `clap` takes the words, and they ask for nothing, by this value
+pub record HasBadValue (value : BadValue) (words : List Text) : Type 0 where
   pub taken : fault_of command_line words ≡ []
   pub asks_nothing : (wish : Wish) → ¬ AsksFor words wish
-  pub no_name : LacksName (subcommand_of command_line words)
-
--- `clap` takes the words, and they ask for nothing, by a limit that is none
-pub record HasBadLimit (words : List Text) : Type 0 where
-  pub taken : fault_of command_line words ≡ []
-  pub asks_nothing : (wish : Wish) → ¬ AsksFor words wish
-  pub no_limit : LacksLimit (subcommand_of command_line words)
-
--- `clap` takes the words, and they ask for nothing, by a fuse that is none; their limit is one
-pub record HasBadFuse (words : List Text) : Type 0 where
-  pub taken : fault_of command_line words ≡ []
-  pub asks_nothing : (wish : Wish) → ¬ AsksFor words wish
-  pub no_fuse : LacksFuse (subcommand_of command_line words)
+  pub lacks : Lacks (subcommand_of command_line words) value
 
 -- what the words come to, as `clap` reads them
 abbrev pub IsLineRead : List Text → CommandLine → Type 0
 IsLineRead words (Run task) = AsksFor words (wish_of task)
-IsLineRead words BadName = HasBadName words
-IsLineRead words BadLimit = HasBadLimit words
-IsLineRead words BadFuse = HasBadFuse words
+IsLineRead words (Bad value) = HasBadValue value words
 IsLineRead words (Tell error) = IsToldOf words (kind_of error)
 
 -- what the words come to
@@ -170,7 +154,5 @@ abbrev pub HasLimit : CommandLine → Type 0
 HasLimit (Run (Replay limit fuse)) = IsLimit limit
 HasLimit (Run (Rehearse name limit)) = IsLimit limit
 HasLimit (Run (Inspect file)) = ⊤
-HasLimit BadName = ⊤
-HasLimit BadLimit = ⊤
-HasLimit BadFuse = ⊤
+HasLimit (Bad value) = ⊤
 HasLimit (Tell error) = ⊤

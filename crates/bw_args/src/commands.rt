@@ -9,7 +9,7 @@ ghost use Rattle.bw_args.specs.Commands.{replay_command};
 ghost use Rattle.bw_args.specs.Lines.{AsksForFile, IsFuseGiven, IsLimitGiven, IsLineFor};
 ghost use Rattle.bw_args.specs.Lines.{IsNameGiven};
 
-use crate::{CommandLine, Task, numbers};
+use crate::{BadValue, CommandLine, Task, numbers};
 use bw_take::Name;
 use clap::{Arg, ArgMatches, Command};
 use std::alloc::{AllocError, Global};
@@ -115,7 +115,7 @@ pub fn line(alloc: Global, matches: &ArgMatches<'_>) -> Result<CommandLine, Allo
         Some(("rehearse", options)) => Ok(rehearse_line(options)),
         Some(("inspect", options)) => inspect_line(alloc, options),
         // `clap` refuses words without a command of ours.
-        _ => Ok(CommandLine::BadLimit),
+        _ => Ok(CommandLine::BadValue(BadValue::Limit)),
     }
 }
 
@@ -124,10 +124,10 @@ fn replay_line(options: &ArgMatches<'_>) -> CommandLine
     ensures { IsLineFor (Some (codes "replay", rows_of (found_of options.now))) result }
 {
     let Some(limit) = limit_given(options) else {
-        return CommandLine::BadLimit;
+        return CommandLine::BadValue(BadValue::Limit);
     };
     let Ok(fuse) = fuse_given(options) else {
-        return CommandLine::BadFuse;
+        return CommandLine::BadValue(BadValue::Fuse);
     };
     CommandLine::Run(Task::Replay { limit, fuse })
 }
@@ -137,11 +137,11 @@ fn rehearse_line(options: &ArgMatches<'_>) -> CommandLine
     ensures { IsLineFor (Some (codes "rehearse", rows_of (found_of options.now))) result }
 {
     let Some(name) = name_given(options) else {
-        return CommandLine::BadName;
+        return CommandLine::BadValue(BadValue::Name);
     };
     match limit_given(options) {
         Some(limit) => CommandLine::Run(Task::Rehearse { name, limit }),
-        None => CommandLine::BadLimit,
+        None => CommandLine::BadValue(BadValue::Limit),
     }
 }
 
@@ -152,7 +152,7 @@ fn inspect_line(alloc: Global, options: &ArgMatches<'_>) -> Result<CommandLine, 
 {
     // `clap` refuses words without the file.
     let Some(path) = options.get_str("file") else {
-        return Ok(CommandLine::BadLimit);
+        return Ok(CommandLine::BadValue(BadValue::Limit));
     };
     let file = String::from_str(alloc, path)?;
     Ok(CommandLine::Run(Task::Inspect { file }))

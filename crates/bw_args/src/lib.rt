@@ -7,10 +7,12 @@ ghost use Rattle.bw_args.specs.Lines.{HasLimit, IsLineOf};
 ghost use Rattle.bw_args.specs.Forms.{RefusesValues, RunsInspect, RunsRehearsal, RunsReplay};
 ghost use Rattle.bw_args.specs.Forms.{TellsHelp};
 
+mod bad_value;
 mod commands;
 pub mod numbers;
 mod read_words;
 
+pub use bad_value::BadValue;
 use bw_take::Name;
 use clap::Error;
 use clap::error::ErrorKind;
@@ -34,43 +36,12 @@ pub enum Task {
 #[derive(Drop)]
 pub enum CommandLine {
     Run(Task),
-    /// A name that is none, which is a usage fault: `BAD_NAME` is its text.
-    BadName,
-    /// A limit that is none, a usage fault too: `BAD_LIMIT` is its text. A name beside it is one.
-    BadLimit,
-    /// A fuse that is none beside a limit that is one, a usage fault too: `BAD_FUSE` is its text.
-    BadFuse,
+    /// A value that is none of its kind, a usage fault: of several the first that is looked at.
+    BadValue(BadValue),
     /// Help, the version or another usage fault, and never want of memory. `Error::use_stderr` says
     /// where its text goes, and `Error::exit_code` is the status, 0 or 2.
     Tell(Error),
 }
-
-/// What is said of a name that is none.
-pub const BAD_NAME: &str = "\
-error: '--name <NAME>' takes 1 to 32 bytes of a-z, 0-9, '-' and '_'
-
-Usage: bwingest <COMMAND>
-
-For more information, try '--help'.
-";
-
-/// What is said of a limit that is none.
-pub const BAD_LIMIT: &str = "\
-error: '--limit <N>' takes an even number from 8192 to 4294967294, in at most ten digits
-
-Usage: bwingest <COMMAND>
-
-For more information, try '--help'.
-";
-
-/// What is said of a fuse that is none.
-pub const BAD_FUSE: &str = "\
-error: '--fuse <K>' takes a number from 0 to 4294967295, in at most ten digits
-
-Usage: bwingest <COMMAND>
-
-For more information, try '--help'.
-";
 
 /// Reads a command line, of which the first word is the program's own name.
 ///

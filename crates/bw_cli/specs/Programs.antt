@@ -7,9 +7,9 @@ use Rattle.clap.specs.Values.{kind_of}
 use Rattle.clap.specs.declared.error.ErrorKind.{ErrorKind as TextKind}
 use Rattle.clap.specs.declared.error.ErrorKind.TheVariants as texts
 use Rattle.bw_args.specs.Lines.{IsLineOf}
-use Rattle.bw_args.specs.declared.TheConstants.{BAD_FUSE, BAD_LIMIT, BAD_NAME}
+use Rattle.bw_args.specs.BadValues.{text_of}
 use Rattle.bw_args.specs.declared.CommandLine.{CommandLine}
-use Rattle.bw_args.specs.declared.CommandLine.TheVariants.{Run, BadLimit, BadFuse, BadName, Tell}
+use Rattle.bw_args.specs.declared.CommandLine.TheVariants.{Run, BadValue as Bad, Tell}
 use Rattle.bw_args.specs.declared.Task.TheVariants.{Replay, Inspect, Rehearse}
 use Rattle.bw_commands.specs.Deeds.{Deed, IsReplay, IsWant}
 use Rattle.bw_commands.specs.Faults.{IsToldBy, exit_of}
@@ -68,9 +68,8 @@ IsDoneFor file_at input (Run (Inspect file)) gives_all did =
     IsLook (file_at (string_bytes file)) (string_bytes file) gives_all did
 IsDoneFor file_at input (Run (Rehearse name limit)) gives_all did =
     IsRehearsal name limit input did × (gives_all ≡ true)
-IsDoneFor file_at input BadLimit gives_all did = IsBadValue BAD_LIMIT.now did × (gives_all ≡ true)
-IsDoneFor file_at input BadFuse gives_all did = IsBadValue BAD_FUSE.now did × (gives_all ≡ true)
-IsDoneFor file_at input BadName gives_all did = IsBadValue BAD_NAME.now did × (gives_all ≡ true)
+IsDoneFor file_at input (Bad value) gives_all did =
+    IsBadValue (text_of value) did × (gives_all ≡ true)
 IsDoneFor file_at input (Tell error) gives_all did =
     IsTelling (kind_of error) did × (gives_all ≡ true)
 

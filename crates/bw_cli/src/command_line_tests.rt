@@ -38,7 +38,7 @@ fn parse_words(alloc: Global, words: &[&str]) -> Result<CommandLine, AllocError>
 fn outcome_of(alloc: Global, words: &[&str]) -> Result<Outcome, AllocError> {
     Ok(match parse_words(alloc, words)? {
         CommandLine::Run(task) => run_outcome(&task, words),
-        CommandLine::BadLimit | CommandLine::BadFuse | CommandLine::BadName => Outcome::Refuses,
+        CommandLine::BadValue(_) => Outcome::Refuses,
         CommandLine::Tell(error) => told_outcome(&error),
     })
 }
@@ -322,9 +322,7 @@ fn texts_name_the_program(rt: HostRuntime) -> Result<(), Fail> {
     for (words, part) in &TEXTS {
         match parse_words(rt.alloc(), words)? {
             CommandLine::Run(task) => assert!(rt; false, "{words:?} runs {task:?}"),
-            CommandLine::BadLimit => assert!(rt; false, "{words:?} has a bad limit"),
-            CommandLine::BadFuse => assert!(rt; false, "{words:?} has a bad fuse"),
-            CommandLine::BadName => assert!(rt; false, "{words:?} has a bad name"),
+            CommandLine::BadValue(value) => assert!(rt; false, "{words:?} has a bad {value:?}"),
             CommandLine::Tell(error) => {
                 let text = format!(in rt.alloc(); "{error}")?;
                 assert!(rt; text.as_str().contains(part), "{words:?}: {text}");

@@ -8,7 +8,7 @@ ghost use Rattle.bw_commands.specs.declared.exit.Exit.{Exit};
 ghost use Rattle.bw_commands.specs.Exits.{status_of};
 ghost use Rattle.bw_cli.specs.Programs.{Given, IsDoneFor, IsProgram, IsTelling};
 
-use bw_args::{BAD_FUSE, BAD_LIMIT, BAD_NAME, CommandLine, Task, parse};
+use bw_args::{CommandLine, Task, parse};
 use bw_commands::print::{give_up, print, tell};
 use bw_commands::replay::{replay, replay_fused};
 use bw_commands::{Exit, Fault, System, inspect_file, rehearse_run, tell_unworded};
@@ -114,16 +114,8 @@ fn perform<S: System, R: Source, W: Sink, E: Sink>(
             Some(limit) => rehearse_run(alloc, name.copy(), limit, input, out, faults),
             None => unreachable!(),
         },
-        CommandLine::BadLimit => {
-            tell(faults, BAD_LIMIT.as_bytes());
-            Exit::Usage
-        }
-        CommandLine::BadFuse => {
-            tell(faults, BAD_FUSE.as_bytes());
-            Exit::Usage
-        }
-        CommandLine::BadName => {
-            tell(faults, BAD_NAME.as_bytes());
+        CommandLine::BadValue(value) => {
+            tell(faults, value.text().as_bytes());
             Exit::Usage
         }
         CommandLine::Tell(text) => show(alloc, text, out, faults),

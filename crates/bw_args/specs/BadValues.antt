@@ -1,0 +1,22 @@
+-- What is told of a value that is none of its kind.
+use Rattle.std.specs.Prelude.{[], ◌∷◌, ◌++◌, codes}
+use Rattle.clap.specs.Walk.{Text}
+use Rattle.bw_args.specs.declared.bad_value.BadValue.{BadValue}
+use Rattle.bw_args.specs.declared.bad_value.BadValue.TheVariants.{Name, Limit, Fuse}
+
+-- which option it is, and what that takes
+abbrev pub fault_said : BadValue → Text
+fault_said Name = codes "'--name <NAME>' takes 1 to 32 bytes of a-z, 0-9, '-' and '_'"
+fault_said Limit =
+    codes "'--limit <N>' takes an even number from 8192 to 4294967294, in at most ten digits"
+fault_said Fuse = codes "'--fuse <K>' takes a number from 0 to 4294967295, in at most ten digits"
+
+-- the end of a line, and an empty line
+abbrev pub line_and_gap : Text
+line_and_gap = 10 ∷ 10 ∷ []
+
+-- the fault, and where help is to be had
+abbrev pub text_of : BadValue → Text
+text_of value = codes "error: " ++ fault_said value ++ line_and_gap
+    ++ codes "Usage: bwingest <COMMAND>" ++ line_and_gap
+    ++ codes "For more information, try '--help'." ++ 10 ∷ []
