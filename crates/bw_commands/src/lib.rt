@@ -22,7 +22,7 @@ pub use fault::Fault;
 pub use host::Host;
 pub use input::{all_bytes, first_line};
 pub use inspection::inspect_run;
-pub use opening::inspect_file;
+pub use opening::{inspect_file, tell_unopened};
 pub use rehearsal::rehearse_run;
 pub use system::System;
 pub use text::end_name;

@@ -37,8 +37,8 @@ pub fn inspect_file<S: System, W: Sink, E: Sink>(
     }
 }
 
-/// Tells why the file of a path can't be opened.
-fn tell_unopened<E: Sink>(alloc: Global, path: &str, error: &io::Error, faults: &mut E) -> Exit
+/// Tells why what is named so can't be opened.
+pub fn tell_unopened<E: Sink>(alloc: Global, path: &str, error: &io::Error, faults: &mut E) -> Exit
     ensures { (did : Deed) × (did.exit ≡ result)
         × (IsUnopened path.now (error_kind error.now) did ⊎ IsWant did)
         × IsPrint E.Sink did.faults faults.old faults.new }

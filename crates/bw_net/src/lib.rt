@@ -2,7 +2,9 @@
 #![tactic(auto)]
 
 mod folder;
+mod place;
 mod tcp;
 
 pub use folder::{check_folder, has_folder};
+pub use place::TcpPlace;
 pub use tcp::{TcpDial, TcpPeers};

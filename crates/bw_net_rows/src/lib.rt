@@ -8,4 +8,6 @@ mod loopback;
 #[cfg(test)]
 mod peers;
 #[cfg(test)]
+mod places;
+#[cfg(test)]
 mod take;

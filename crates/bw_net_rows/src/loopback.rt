@@ -44,7 +44,7 @@ fn a_take_comes_into_a_folder(rt: HostRuntime) -> Result<(), Fail> {
     fs::create_dir(&rt, "takes")?;
     check_folder(&rt, rt.alloc(), "takes")?;
     let mut sender = offered(rt.alloc())?;
-    let (exit, printed) = exchange(&rt, &mut sender, 47_311)?;
+    let (exit, printed) = exchange(&rt, &mut sender, 28_311)?;
     same(&rt, "the server", &exit, &Exit::Done);
     assert!(&rt;
         printed.as_slice() == b"exchange 0 Bye\n".as_slice(),
@@ -56,7 +56,7 @@ fn a_take_comes_into_a_folder(rt: HostRuntime) -> Result<(), Fail> {
 
     // A second server finds the name taken, and leaves the file alone.
     let mut later = offered(rt.alloc())?;
-    exchange(&rt, &mut later, 47_312)?;
+    exchange(&rt, &mut later, 28_312)?;
     same(
         &rt,
         "refused",

@@ -33,7 +33,7 @@ fn serve_silent(rt: &HostRuntime, folder: &str, port: u16) -> Result<(Exit, Vec<
 
 #[test]
 fn a_peer_that_says_nothing_ends_its_exchange_alone(rt: HostRuntime) -> Result<(), Fail> {
-    let (exit, printed) = serve_silent(&rt, ".", 47_313)?;
+    let (exit, printed) = serve_silent(&rt, ".", 28_313)?;
     same(&rt, "the server", &exit, &Exit::Done);
     assert!(&rt;
         printed.as_slice() == b"exchange 0 ReadFault\n".as_slice(),
@@ -44,7 +44,7 @@ fn a_peer_that_says_nothing_ends_its_exchange_alone(rt: HostRuntime) -> Result<(
 
 #[test]
 fn a_server_ends_where_its_folder_is_gone(rt: HostRuntime) -> Result<(), Fail> {
-    let (exit, printed) = serve_silent(&rt, "gone", 47_314)?;
+    let (exit, printed) = serve_silent(&rt, "gone", 28_314)?;
     same(&rt, "the server", &exit, &Exit::Device);
     assert!(&rt; printed.is_empty(), "a line");
     Ok(())
@@ -53,7 +53,7 @@ fn a_server_ends_where_its_folder_is_gone(rt: HostRuntime) -> Result<(), Fail> {
 #[test]
 fn no_link_is_made_where_nobody_listens(rt: HostRuntime) -> Result<(), Fail> {
     assert!(&rt;
-        TcpDial::new(&rt, at(47_315), None).dial().is_err(),
+        TcpDial::new(&rt, at(28_315), None).dial().is_err(),
         "a link"
     );
     Ok(())

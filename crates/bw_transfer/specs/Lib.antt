@@ -1,6 +1,7 @@
 pub mod Links
 pub mod ServedOne
 pub mod ServedAll
+pub mod Hosted
 pub mod RequestLines
 pub mod SendState
 pub mod RoundsMade

@@ -4,8 +4,10 @@
 
 mod dial;
 mod dispatch;
+mod hosting;
 mod offering;
 mod peers;
+mod place;
 mod requests;
 mod rounds;
 mod running;
@@ -14,7 +16,9 @@ mod serving;
 mod text;
 
 pub use dial::{Dial, DialFault, Link};
+pub use hosting::serve;
 pub use peers::{AcceptFault, Peers};
+pub use place::{Place, Serving};
 pub use running::serve_run;
 pub use sending::send_run;
 pub use serving::serve_one;

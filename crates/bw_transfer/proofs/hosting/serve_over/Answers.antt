@@ -1,0 +1,20 @@
+use Rattle.std.proofs.Common.{◌≡◌, ◌∙◌, List, ℕ, inl}
+use Rattle.bw_transfer.specs.Hosted.{listening_line}
+use Rattle.bw_transfer.proofs.hosting.serve_over.Goals as goal
+
+pub returns : goal.returns
+returns g c =
+    let line : c.as_bytes.result.now ≡ listening_line c.args.serving.now.address.now =
+    c.as_bytes.ensures.value ∙ (c.as_str.ensures.value ∙ c.in-Ok-format_listening.ensures) in
+    inl (record {
+      server = c.in-Ok.server;
+      store_is = c.in-Ok.ensures.store;
+      limit_is = c.in-Ok.ensures.limit;
+      new = c.in-Ok.ensures.book;
+      behind = _;
+      between = _;
+      listens = rw line at c.in-Ok-print.ensures.ok;
+      ended = c.serve_run-exit.result;
+      run = c.serve_run-exit.ensures;
+      tells = c.tell_end.ensures;
+    })

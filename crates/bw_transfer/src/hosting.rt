@@ -1,0 +1,89 @@
+//! The command `serve`: a server over a folder, from its first line to its end.
+ghost use Rattle.std.specs.Prelude.{◌≡◌, string_bytes, IfOk};
+ghost use Rattle.bw_transfer.specs.Hosted.{Hosts, HostsOver, TellsEnd, listening_line};
+
+use crate::peers::Peers;
+use crate::place::{Place, Serving};
+use crate::running::serve_run;
+use bw_commands::print::{give_up, print, tell};
+use bw_commands::{Exit, Fault, tell_unopened};
+use bw_file::TakeStore;
+use bw_journal::{Journal, NoJournal};
+use bw_session::Server;
+use bw_stream::Sink;
+use std::alloc::{AllocError, Global};
+
+/// What is told where no more peers are let in.
+const GONE: &str = "the folder is gone\n";
+
+/// Serves so many exchanges over a new server and the place's store.
+///
+/// What can't be used is a line on `faults` before anything is printed. Then `listening ADDRESS`
+/// and a line for each exchange are; where the first can't be, nothing is served. Why the system
+/// doesn't let a folder or an address be used, the contract doesn't say.
+pub fn serve<P: Place, O: Sink, E: Sink>(
+    alloc: Global,
+    place: &mut P,
+    serving: &Serving<'_>,
+    out: &mut O,
+    faults: &mut E,
+) -> Exit
+    ensures { Hosts P.Store.TakeStore ⟦<NoJournal as Journal>⟧ P.Peers.failures
+        P.Peers.Reader.Source P.Peers.Writer.Sink O.Sink E.Sink P.failures serving.now result place.old place.new out.old out.new
+        faults.old faults.new }
+{
+    let store = match place.store() {
+        Ok(store) => store,
+        Err(error) => return tell_unopened(alloc, serving.folder, &error, faults),
+    };
+    match place.listen() {
+        Ok(mut peers) => serve_over(alloc, store, &mut peers, serving, out, faults),
+        Err(error) => tell_unopened(alloc, serving.address, &error, faults),
+    }
+}
+
+/// Serves so many exchanges over a new server and this store.
+fn serve_over<S: TakeStore, P: Peers, O: Sink, E: Sink>(
+    alloc: Global,
+    store: S,
+    peers: &mut P,
+    serving: &Serving<'_>,
+    out: &mut O,
+    faults: &mut E,
+) -> Exit
+    ensures { HostsOver S.TakeStore ⟦<NoJournal as Journal>⟧ P.failures P.Reader.Source P.Writer.Sink
+        O.Sink E.Sink
+        serving.now result store peers.old peers.new out.old out.new faults.old faults.new }
+{
+    let Ok(mut server) = Server::new(alloc, store, serving.limit) else {
+        return give_up(faults, &Fault::Memory);
+    };
+    let Ok(line) = format_listening(alloc, serving.address) else {
+        return give_up(faults, &Fault::Memory);
+    };
+    let Ok(()) = print(out, line.as_str().as_bytes()) else {
+        return give_up(faults, &Fault::Unwritable);
+    };
+    let exit = serve_run(alloc, &mut server, peers, serving.exchanges, out);
+    tell_end(exit, faults)
+}
+
+fn format_listening(alloc: Global, address: &str) -> Result<String, AllocError>
+    ensures { IfOk result (λ line. string_bytes line ≡ listening_line address.now) }
+{
+    format!(in alloc; "listening {address}\n")
+}
+
+/// Tells why a run ended before its last exchange.
+fn tell_end<E: Sink>(exit: Exit, faults: &mut E) -> Exit
+    ensures { TellsEnd E.Sink exit result faults.old faults.new }
+{
+    match exit {
+        Exit::Done => Exit::Done,
+        Exit::Memory => give_up(faults, &Fault::Memory),
+        Exit::Refused | Exit::Usage | Exit::Device => {
+            tell(faults, GONE.as_bytes());
+            Exit::Device
+        }
+    }
+}
