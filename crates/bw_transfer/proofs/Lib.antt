@@ -4,3 +4,4 @@ pub mod RefusedLines
 pub mod RoundSteps
 pub mod RunSteps
 pub mod InOrder
+pub mod ToldLinks

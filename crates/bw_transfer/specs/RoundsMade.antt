@@ -1,6 +1,6 @@
 -- Rounds: a link and an exchange over it each, as far as both go.
 use mathlib.Core.Logic.{inl, inr}
-use Rattle.std.specs.Prelude.{◌≡◌, ◌≢◌, ◌⊎◌, ℕ, ◌<◌, Option, Result, Err, List, [], ◌∷◌}
+use Rattle.std.specs.Prelude.{◌≡◌, ◌≢◌, ◌⊎◌, ℕ, ◌<◌, Option, Some, Result, Err, List, [], ◌∷◌}
 use Rattle.std.specs.Prelude.{length}
 use Rattle.bw_model.specs.Replies.{Reply}
 use Rattle.bw_model.specs.World.{Sender as Told}
@@ -9,6 +9,7 @@ use Rattle.bw_stream.specs.declared.sink.Sink.{Ghosts as Writer}
 use Rattle.bw_stream.specs.declared.source.Source.{Ghosts as Reader}
 use Rattle.bw_sender.specs.Senders.{IsSender}
 use Rattle.bw_sender.specs.declared.sender.Sender.{Sender}
+use Rattle.bw_wire.specs.Codecs.{reply_codec, Spelled}
 use Rattle.bw_engine.specs.Batches.{sends_failed}
 use Rattle.bw_engine.specs.Hears.{hears_failed, IsHearingLimited}
 use Rattle.bw_engine.specs.Sent.{Exchanges}
@@ -23,6 +24,19 @@ abbrev pub heard_over : {R : Type 0} → {result : Result (Unit {0}) SendFault} 
     Exchanges result x y r r' left left' written written' → List Reply
 heard_over (inl broke) = []
 heard_over (inr exchange) = exchange.hears.heard
+
+-- these bytes begin with the frames of these replies
+abbrev pub BeginWith : List ℕ → List Reply → Type 0
+BeginWith bytes heard = (rest : List ℕ) × Spelled Reply reply_codec bytes heard rest
+
+-- Of links that give these bytes, one after another, this was heard in rounds: in each what the
+-- bytes of its link begin with, and nothing where it had none.
+abbrev pub AreHeardFrom : List (List Reply) → List (List ℕ) → Type 0
+AreHeardFrom [] links = Unit {0}
+AreHeardFrom (heard ∷ more) links =
+    ((heard ≡ []) × AreHeardFrom more links)
+    ⊎ ((bytes : List ℕ) × (rest : List (List ℕ)) × (links ≡ bytes ∷ rest) × BeginWith bytes heard
+    × AreHeardFrom more rest)
 
 module _ {D R W : Type 0} (links : D → Option (List (List ℕ))) (failures : D → ℕ)
     (reader : Reader R) (writer : Writer W) where
@@ -77,5 +91,7 @@ module _ {D R W : Type 0} (links : D → Option (List (List ℕ))) (failures : D
     pub heard : List (List Reply)
     pub behind : Sending
     pub went : AreRounds x heard behind d d'
+    -- what was heard is what the links gave, where that is told
+    pub told : (xs : List (List ℕ)) → links d ≡ Some xs → AreHeardFrom heard xs
     pub ends : ((length heard ≡ rounds) × (y ≡ behind))
         ⊎ ((length heard < rounds) × (y ≡ offer_more behind) × IsSettled y)

@@ -3,6 +3,7 @@ use Rattle.std.proofs.lemmas.List.{length-append}
 use Rattle.bw_transfer.specs.SendState.{hear_in, offer_more}
 use Rattle.bw_transfer.proofs.OfferSteps.{more_keeps}
 use Rattle.bw_transfer.proofs.RoundSteps.{heard_dispatch, one_round, settled, unsettled}
+use Rattle.bw_transfer.proofs.ToldLinks.{rounds_told}
 use Rattle.bw_transfer.proofs.rounds.make_rounds.Goals as goal
 
 pub loop-round-init : goal.loop-round-init
@@ -37,6 +38,7 @@ returns-then-is_none g c = λ x k from.
         heard = o.heard;
         behind = o.y;
         went = o.went;
+        told = rounds_told _ _ _ _ x o.heard o.y _ _ o.went;
         ends = inr (
           before,
           refl,
@@ -53,4 +55,5 @@ returns g c = λ x k from.
     let past = c.loop-round-test.false in
     let within = c.loop-round.auto._round-end in
     omega (arith, e, past, within) in
-    (o.y, o.is, record { heard = o.heard; behind = o.y; went = o.went; ends = inl (all, refl) })
+    let told = rounds_told _ _ _ _ x o.heard o.y _ _ o.went in
+    (o.y, o.is, record { heard = o.heard; behind = o.y; went = o.went; told = told; ends = inl (all, refl) })
