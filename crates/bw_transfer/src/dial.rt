@@ -20,21 +20,27 @@ pub struct Link<R, W> {
     pub writer: W,
 }
 
-/// What makes links: what each of the next ones will give, where it tells that, and how often it
-/// failed.
+/// What makes links, one after another.
+///
+/// It may tell beforehand what its links give, as one over recorded replies does. A socket tells
+/// nothing.
 pub trait Dial {
+    /// Reads what the server says.
     type Reader: Source + Drop;
 
+    /// Takes what is said to the server.
     type Writer: Sink + Drop;
 
+    /// What each of the next links gives, in their order, where that is told.
     ghost links: { Self → Option (List (List ℕ)) };
 
+    /// How many calls failed; the count stays at 2^64 - 1.
     ghost failures: { Self → ℕ };
 
-    /// Makes a link.
+    /// Makes the next link.
     ///
     /// # Errors
-    /// `DialFault` where none could be made: the next ones are as they were.
+    /// `DialFault` where none could be made: it is still the next one.
     fn dial(&mut self) -> Result<Link<Self::Reader, Self::Writer>, DialFault>
         ensures count { failures self.new ≡ failures_after result (failures self.old) }
         ensures ok { IfOk result (λ link.
