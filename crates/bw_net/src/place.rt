@@ -1,6 +1,5 @@
 //! A server's place on this machine: a folder, and an address.
 ghost use Rattle.std.specs.Prelude.{◌≡◌};
-ghost use Rattle.bw_stream.specs.Moves.{failures_after};
 
 use crate::folder::check_folder;
 use crate::tcp::TcpPeers;
@@ -41,25 +40,9 @@ impl<'a> TcpPlace<'a> {
         }
     }
 
-    fn open_store(&self) -> io::Result<FolderStore<SystemDisk<&'a HostRuntime>>> {
-        let alloc = self.rt.alloc();
-        check_folder(self.rt, alloc, self.folder)?;
-        Ok(FolderStore::new(self.rt, alloc, self.folder)?)
-    }
-
     fn open_peers(&self) -> io::Result<TcpPeers<'a, HostRuntime, TcpListener>> {
         let folder = String::from_str(self.rt.alloc(), self.folder)?;
         TcpPeers::listen(self.rt, self.address, folder, self.timeout)
-    }
-
-    fn count<T>(&mut self, answer: io::Result<T>) -> io::Result<T>
-        ensures count { self.new.failures ≡ failures_after result self.old.failures }
-        ensures same { result ≡ answer }
-    {
-        if answer.is_err() {
-            self.failures = self.failures.saturating_add(1);
-        }
-        answer
     }
 }
 
@@ -71,12 +54,25 @@ impl<'a> Place for TcpPlace<'a> {
     ghost failures = { λ p. p.failures };
 
     fn store(&mut self) -> io::Result<FolderStore<SystemDisk<&'a HostRuntime>>> {
-        let store = self.open_store();
-        self.count(store)
+        let alloc = self.rt.alloc();
+        if let Err(error) = check_folder(self.rt, alloc, self.folder) {
+            self.failures = self.failures.saturating_add(1);
+            return Err(error);
+        }
+        match FolderStore::new(self.rt, alloc, self.folder) {
+            Ok(store) => Ok(store),
+            Err(error) => {
+                self.failures = self.failures.saturating_add(1);
+                Err(io::Error::from(error))
+            }
+        }
     }
 
     fn listen(&mut self) -> io::Result<TcpPeers<'a, HostRuntime, TcpListener>> {
         let peers = self.open_peers();
-        self.count(peers)
+        if peers.is_err() {
+            self.failures = self.failures.saturating_add(1);
+        }
+        peers
     }
 }
