@@ -50,8 +50,8 @@ module _ {D R W : Type 0} (links : D → Option (List (List ℕ))) (failures : D
     pub unsent : d' ≡ d
 
   -- what is printed by the command that comes to this
-  abbrev pub IsPrintOfSend : List ℕ → ℕ → Option (List ℕ) → D → D → Result Exit Fault → Print →
-      Type 0
+  abbrev pub IsPrintOfSend : List ℕ → ℕ → Option (List ℕ) → D → D → Result Exit Fault →
+      Print → Type 0
   IsPrintOfSend name rounds input d d' (Ok exit) print =
       PrintsSender name rounds input d d' Whole exit print
   IsPrintOfSend name rounds input d d' (Err faults.Unwritable) print =
