@@ -47,7 +47,8 @@ pub record LacksMemoryToSend (s : Sender) (written written' : Option (List ℕ))
   pub front : WritesMessages sent written written'
 
 -- what is written of a sender's bytes where they break off, by why they do
-abbrev pub BreaksBytes : SendFault → Sender → List ℕ → Option (List ℕ) → Option (List ℕ) → Type 0
+abbrev pub BreaksBytes : SendFault → Sender → List ℕ → Option (List ℕ) →
+    Option (List ℕ) → Type 0
 BreaksBytes faults.Read s bytes written written' = ⊥
 BreaksBytes faults.Write s bytes written written' = Begins written bytes written'
 BreaksBytes faults.Memory s bytes written written' = LacksMemoryToSend s written written'

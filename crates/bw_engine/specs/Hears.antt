@@ -169,8 +169,8 @@ pub record EndsReplies (left left' : Option (List ℕ)) (p q : Pending) : Type 0
   pub kept : q ≡ p
 
 -- whether there was a piece
-abbrev pub ReadsReplies : Bool → Option (List ℕ) → Option (List ℕ) → ℕ → ℕ → Pending → Pending →
-    Type 0
+abbrev pub ReadsReplies : Bool → Option (List ℕ) → Option (List ℕ) → ℕ → ℕ →
+    Pending → Pending → Type 0
 ReadsReplies true left left' moved moved' p q = FeedsReplies left left' moved moved' p q
 ReadsReplies false left left' moved moved' p q = EndsReplies left left' p q
 
