@@ -2,9 +2,9 @@
 #![tactic(auto)]
 
 mod folder;
-mod place;
+mod network;
 mod tcp;
 
 pub use folder::{check_folder, has_folder};
-pub use place::TcpPlace;
+pub use network::TcpNetwork;
 pub use tcp::{TcpDial, TcpPeers};

@@ -1,5 +1,6 @@
 //! Links over TCP: to a server, and of its peers.
-ghost use Rattle.std.specs.Prelude.{◌≡◌, None};
+ghost use Rattle.std.specs.Prelude.{◌≡◌, IfOk, None};
+ghost use Rattle.bw_stream.specs.Moves.{failures_after};
 
 use crate::folder::has_folder;
 use bw_stream::Plain;
@@ -24,7 +25,9 @@ pub struct TcpDial<'a, R> {
 impl<'a, R> TcpDial<'a, R> {
     /// What opens links to this address, and has not failed yet.
     pub fn new(rt: &'a R, address: SocketAddr, timeout: Option<Duration>) -> TcpDial<'a, R>
-        ensures { result.failures ≡ 0 }
+        ensures failures { result.failures ≡ 0 }
+        ensures address { result.address ≡ address }
+        ensures timeout { result.timeout ≡ timeout }
     {
         TcpDial {
             rt,
@@ -43,6 +46,8 @@ impl<R: Net> Dial for TcpDial<'_, R> {
     ghost links = { λ d. None };
 
     ghost failures = { λ d. d.failures };
+
+    ghost dials = { λ d result d'. d'.failures ≡ failures_after result d.failures };
 
     fn dial(&mut self) -> Result<Link<Plain<R::Stream>, Plain<R::Stream>>, DialFault> {
         match connect(self.rt, self.address, self.timeout) {
@@ -100,7 +105,11 @@ impl<'a, R: Net> TcpPeers<'a, R, R::Listener> {
         address: SocketAddr,
         folder: String,
         timeout: Option<Duration>,
-    ) -> io::Result<TcpPeers<'a, R, R::Listener>> {
+    ) -> io::Result<TcpPeers<'a, R, R::Listener>>
+        ensures failures { IfOk result (λ peers. peers.failures ≡ 0) }
+        ensures folder { IfOk result (λ peers. peers.folder ≡ folder) }
+        ensures timeout { IfOk result (λ peers. peers.timeout ≡ timeout) }
+    {
         Ok(TcpPeers {
             rt,
             listener: TcpListener::bind(rt, address)?,
@@ -117,6 +126,8 @@ impl<R: Net + Files> Peers for TcpPeers<'_, R, R::Listener> {
     type Writer = Plain<R::Stream>;
 
     ghost failures = { λ p. p.failures };
+
+    ghost accepts = { λ p result p'. p'.failures ≡ failures_after result p.failures };
 
     fn accept(&mut self) -> Result<Link<Plain<R::Stream>, Plain<R::Stream>>, AcceptFault> {
         let link = self.next_link();

@@ -3,7 +3,7 @@ use crate::compare::same;
 use crate::take::at;
 use bw_commands::Exit;
 use bw_layout::Limit;
-use bw_net::{TcpPeers, TcpPlace};
+use bw_net::{TcpNetwork, TcpPeers};
 use bw_stream::MemorySink;
 use bw_transfer::{Serving, serve};
 use std::fs;
@@ -18,18 +18,19 @@ struct Came {
     faults: Vec<u8>,
 }
 
-/// Serves no exchange at this place.
-fn serve_none(rt: &HostRuntime, port: u16, address: &str, folder: &str) -> Came {
-    let mut place = TcpPlace::new(rt, at(port), folder, None);
+/// Serves no exchange at this port of this machine, over this folder.
+fn serve_none(rt: &HostRuntime, port: u16, folder: &str) -> Came {
+    let mut network = TcpNetwork::new(rt);
     let serving = Serving {
-        address,
+        address: at(port),
         folder,
         exchanges: 0,
         limit: Limit::default(),
+        timeout: None,
     };
     let mut out = MemorySink::new(Vec::new(rt.alloc()));
     let mut faults = MemorySink::new(Vec::new(rt.alloc()));
-    let exit = serve(rt.alloc(), &mut place, &serving, &mut out, &mut faults);
+    let exit = serve(rt.alloc(), &mut network, &serving, &mut out, &mut faults);
     Came {
         exit,
         out: out.into_bytes(),
@@ -40,7 +41,7 @@ fn serve_none(rt: &HostRuntime, port: u16, address: &str, folder: &str) -> Came 
 #[test]
 fn a_server_tells_where_it_listens(rt: HostRuntime) -> Result<(), Fail> {
     fs::create_dir(&rt, "here")?;
-    let came = serve_none(&rt, 28_316, "127.0.0.1:28316", "here");
+    let came = serve_none(&rt, 28_316, "here");
     same(&rt, "its end", &came.exit, &Exit::Done);
     let line = b"listening 127.0.0.1:28316\n".as_slice();
     assert!(&rt; came.out.as_slice() == line, "another line");
@@ -51,7 +52,7 @@ fn a_server_tells_where_it_listens(rt: HostRuntime) -> Result<(), Fail> {
 
 #[test]
 fn a_folder_that_is_missing_is_told_at_the_start(rt: HostRuntime) -> Result<(), Fail> {
-    let came = serve_none(&rt, 28_317, "127.0.0.1:28317", "missing");
+    let came = serve_none(&rt, 28_317, "missing");
     same(&rt, "its end", &came.exit, &Exit::Device);
     assert!(&rt; came.out.is_empty(), "a line");
     assert!(&rt;
@@ -65,7 +66,7 @@ fn a_folder_that_is_missing_is_told_at_the_start(rt: HostRuntime) -> Result<(), 
 fn a_port_in_use_is_told_at_the_start(rt: HostRuntime) -> Result<(), Fail> {
     let folder = String::from_str(rt.alloc(), ".")?;
     let _peers = TcpPeers::listen(&rt, at(28_318), folder, None)?;
-    let came = serve_none(&rt, 28_318, "127.0.0.1:28318", ".");
+    let came = serve_none(&rt, 28_318, ".");
     same(&rt, "its end", &came.exit, &Exit::Device);
     assert!(&rt; came.out.is_empty(), "a line");
     assert!(&rt;

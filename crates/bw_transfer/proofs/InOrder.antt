@@ -21,6 +21,7 @@ use Rattle.bw_commands.specs.declared.exit.Exit.TheVariants.{Done, Refused, Devi
 use Rattle.bw_transfer.specs.SendState.{unoffered, OffersInOrder, EachIsStored, exit_for, has_refused}
 use Rattle.bw_transfer.proofs.OfferSteps.{taken, refused, all_taken, all_refused}
 use Rattle.bw_transfer.proofs.RoundSteps.{all_heard}
+use Rattle.bw_transfer.specs.declared.dial.Dial.{Ghosts as DialGhosts}
 
 -- what was offered, and then these, are the requests of the input
 abbrev pub Front : Sending → List Request → Type 0
@@ -66,10 +67,9 @@ more_front x rest e = go x.is_stopped
 hear_front : (x : Sending) (heard : List Reply) (rest : List Request) → Front x rest → Front (hear_in x heard) rest
 hear_front x heard rest e = ap (λ (rs : List Request). rs ++ rest) (all_heard x.sender heard) ∙ e
 
-module _ {D R W : Type 0} (links : D → Option (List (List ℕ))) (failures : D → ℕ)
-    (reader : Reader R) (writer : Writer W) where
+module _ {D R W : Type 0} (dial : DialGhosts D R W) (reader : Reader R) (writer : Writer W) where
   went_front : (x : Sending) (heard : List (List Reply)) (y : Sending) (d e : D) →
-      AreRounds links failures reader writer x heard y d e → (rest : List Request) → Front x rest →
+      AreRounds dial reader writer x heard y d e → (rest : List Request) → Front x rest →
       (rest : List Request) × Front y rest
   went_front x [] y d e went rest f = (rest, subst (λ (z : Sending). Front z rest) (sym went.0) f)
   went_front x (h ∷ hs) y d e went rest f =
@@ -78,7 +78,7 @@ module _ {D R W : Type 0} (links : D → Option (List (List ℕ))) (failures : D
 
   -- behind rounds what was offered is the front of the requests
   pub made_front : (name : List ℕ) (requests : List Request) (rounds : ℕ) (y : Sending) (d e : D) →
-      MakesRounds links failures reader writer rounds (new_sending name requests) y d e →
+      MakesRounds dial reader writer rounds (new_sending name requests) y d e →
       y.sender.offered ++ unoffered y ≡ y.requests
   made_front name requests rounds y d e made = go made.ends
     where

@@ -23,6 +23,7 @@ use Rattle.bw_transfer.specs.Sends.{IsPrintOfSend}
 use Rattle.bw_transfer.specs.RoundsMade.{AreRounds, IsRound, MakesRounds, heard_over}
 use Rattle.bw_transfer.specs.SendState.{Sending, IsSending, IsSettled, hear_in, offer_more}
 use Rattle.bw_transfer.proofs.OfferSteps.{more_keeps}
+use Rattle.bw_transfer.specs.declared.dial.Dial.{Ghosts as DialGhosts}
 use Rattle.bw_transfer.specs.declared.dispatch.Dispatch.{Dispatch}
 
 pub on_ok : {X E : Type 0} {P Q : Type 0} (r : Result X E) → OnOk r P → (P → Q) → OnOk r Q
@@ -72,27 +73,26 @@ pub unsettled : (o : Option (ℕ × Bor Request)) (p : Option (ℕ × Request)) 
 unsettled None p e is = absurd (cc)
 unsettled (Some x) p e is = λ none. absurd (cc)
 
-module _ {D R W : Type 0} (links : D → Option (List (List ℕ))) (failures : D → ℕ)
-    (reader : Reader R) (writer : Writer W) where
+module _ {D R W : Type 0} (dial : DialGhosts D R W) (reader : Reader R) (writer : Writer W) where
   -- from x on so many rounds were made
   pub record RoundsOn (requests : List Request) (x : Sending) (p : Dispatch) (count : ℕ) (d d' : D) : Type 0 where
     pub heard : List (List Reply)
     pub y : Sending
     pub is : IsSending y p
-    pub went : AreRounds links failures reader writer x heard y d d'
+    pub went : AreRounds dial reader writer x heard y d d'
     pub counted : length heard ≡ count
     pub from : y.requests ≡ requests
 
   -- one round more
   pub one_round : (x : Sending) (heard : List (List Reply)) (y : Sending) (new : List Reply) (d e f : D) →
-      AreRounds links failures reader writer x heard y d e → (¬ IsSettled (offer_more y)) →
-      IsRound links failures reader writer (offer_more y).sender new e f →
-      AreRounds links failures reader writer x (heard ++ new ∷ []) (hear_in (offer_more y) new) d f
+      AreRounds dial reader writer x heard y d e → (¬ IsSettled (offer_more y)) →
+      IsRound dial reader writer (offer_more y).sender new e f →
+      AreRounds dial reader writer x (heard ++ new ∷ []) (hear_in (offer_more y) new) d f
   one_round x [] y new d e f went some round = (
     f,
     subst (λ (z : Sending). ¬ IsSettled (offer_more z)) went.0 some,
-    subst (λ (z : Sending). IsRound links failures reader writer (offer_more z).sender new d f) went.0
-        (subst (λ (q : D). IsRound links failures reader writer (offer_more y).sender new q f) went.1 round),
+    subst (λ (z : Sending). IsRound dial reader writer (offer_more z).sender new d f) went.0
+        (subst (λ (q : D). IsRound dial reader writer (offer_more y).sender new q f) went.1 round),
     (ap (λ (z : Sending). hear_in (offer_more z) new) went.0, refl),
   )
   one_round x (h ∷ hs) y new d e f went some round =
@@ -100,11 +100,11 @@ module _ {D R W : Type 0} (links : D → Option (List (List ℕ))) (failures : D
 
   -- rounds leave the requests
   went_keeps : (x : Sending) (heard : List (List Reply)) (y : Sending) (d e : D) →
-      AreRounds links failures reader writer x heard y d e → y.requests ≡ x.requests
+      AreRounds dial reader writer x heard y d e → y.requests ≡ x.requests
   went_keeps x [] y d e went = ap (λ (z : Sending). z.requests) went.0
   went_keeps x (h ∷ hs) y d e went = went_keeps (hear_in (offer_more x) h) hs y went.0 e went.3 ∙ more_keeps x
 
-  pub rounds_keep : (rounds : ℕ) (x y : Sending) (d e : D) → MakesRounds links failures reader writer rounds x y d e →
+  pub rounds_keep : (rounds : ℕ) (x y : Sending) (d e : D) → MakesRounds dial reader writer rounds x y d e →
       y.requests ≡ x.requests
   rounds_keep rounds x y d e made = go made.ends
     where
@@ -117,11 +117,10 @@ module _ {D R W : Type 0} (links : D → Option (List (List ℕ))) (failures : D
 
 -- What refuses an input.
 
-module _ {D R W : Type 0} (links : D → Option (List (List ℕ))) (failures : D → ℕ)
-    (reader : Reader R) (writer : Writer W) where
+module _ {D R W : Type 0} (dial : DialGhosts D R W) (reader : Reader R) (writer : Writer W) where
   pub refuses_send : (name : List ℕ) (rounds : ℕ) (input : Option (List ℕ)) (d : D) (fault : Fault) →
       ((xs : List ℕ) → input ≡ Some xs → RefusesRequests fault xs) → fault ≢ faults.Unwritable →
-      IsPrintOfSend links failures reader writer name rounds input d d (Err fault) Nothing
+      IsPrintOfSend dial reader writer name rounds input d d (Err fault) Nothing
   refuses_send name rounds input d faults.TooLong h own = record { is = refl; right = h; unsent = refl }
   refuses_send name rounds input d (faults.NotHex n) h own = record { is = refl; right = h; unsent = refl }
   refuses_send name rounds input d (faults.NotEvent n) h own = record { is = refl; right = h; unsent = refl }

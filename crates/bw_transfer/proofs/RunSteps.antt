@@ -10,6 +10,7 @@ use Rattle.bw_commands.specs.declared.exit.Exit.{Exit}
 use Rattle.bw_commands.specs.declared.exit.Exit.TheVariants.{Done, Refused, Usage, Device, Memory}
 use Rattle.bw_transfer.specs.ServedAll.{Outcome, Served, Gone, Closed, exit_now, ServesNext, ServesEach, ServesAll}
 use Rattle.bw_transfer.specs.ServedAll.{EndsEarly, ServesRun}
+use Rattle.bw_transfer.specs.declared.peers.Peers.{Ghosts as PeerGhosts}
 
 not_done : (x : Outcome) → exit_now x ≡ Some Done → ⊥
 not_done (Served Done) e = absurd (cc)
@@ -20,27 +21,27 @@ not_done (Served Memory) e = absurd (cc)
 not_done Gone e = absurd (cc)
 not_done Closed e = absurd (cc)
 
-module _ {T P R W O : Type 0} (answers : T → Frame → List Reply → T → Type 0) (failures : P → ℕ)
+module _ {T P R W O : Type 0} (answers : T → Frame → List Reply → T → Type 0) (peers : PeerGhosts P R W)
     (reader : Reader R) (writer : Writer W) (out : Writer O) where
   -- one peer more
   each_more : (index : ℕ) (xs : List Outcome) (x : Outcome) (t m t' : T) (p q p' : P) (o n o' : O) →
-      ServesEach answers failures reader writer out index xs t m p q o n →
-      ServesNext answers failures reader writer out (index + length xs) x m t' q p' n o' → exit_now x ≡ None →
-      ServesEach answers failures reader writer out index (xs ++ x ∷ []) t t' p p' o o'
+      ServesEach answers peers reader writer out index xs t m p q o n →
+      ServesNext answers peers reader writer out (index + length xs) x m t' q p' n o' → exit_now x ≡ None →
+      ServesEach answers peers reader writer out index (xs ++ x ∷ []) t t' p p' o o'
   each_more index [] x t m t' p q p' o n o' each next goes = (
     t',
     p',
     o',
-    subst (λ (a : T). ServesNext answers failures reader writer out index x a t' p p' o o') each.0
-        (subst (λ (b : P). ServesNext answers failures reader writer out index x m t' b p' o o') each.1
-        (subst (λ (c : O). ServesNext answers failures reader writer out index x m t' q p' c o') each.2
-        (subst (λ (i : ℕ). ServesNext answers failures reader writer out i x m t' q p' n o') (omega (arith)) next))),
+    subst (λ (a : T). ServesNext answers peers reader writer out index x a t' p p' o o') each.0
+        (subst (λ (b : P). ServesNext answers peers reader writer out index x m t' b p' o o') each.1
+        (subst (λ (c : O). ServesNext answers peers reader writer out index x m t' q p' c o') each.2
+        (subst (λ (i : ℕ). ServesNext answers peers reader writer out i x m t' q p' n o') (omega (arith)) next))),
     goes,
     (refl, refl, refl),
   )
   each_more index (y ∷ ys) x t m t' p q p' o n o' each next goes =
       let rest = each.5 in
-      let behind = subst (λ (i : ℕ). ServesNext answers failures reader writer out i x m t' q p' n o') (omega (arith)) next in (
+      let behind = subst (λ (i : ℕ). ServesNext answers peers reader writer out i x m t' q p' n o') (omega (arith)) next in (
         each.0,
         each.1,
         each.2,
@@ -50,20 +51,20 @@ module _ {T P R W O : Type 0} (answers : T → Frame → List Reply → T → Ty
       )
 
   pub run_more : (count : ℕ) (x : Outcome) (t m t' : T) (p q p' : P) (o n o' : O) →
-      ServesAll answers failures reader writer out count t m p q o n →
-      ServesNext answers failures reader writer out count x m t' q p' n o' → exit_now x ≡ None →
-      ServesAll answers failures reader writer out (count + 1) t t' p p' o o'
+      ServesAll answers peers reader writer out count t m p q o n →
+      ServesNext answers peers reader writer out count x m t' q p' n o' → exit_now x ≡ None →
+      ServesAll answers peers reader writer out (count + 1) t t' p p' o o'
   run_more count x t m t' p q p' o n o' all next goes = record {
     outcomes = all.outcomes ++ x ∷ [];
     all = let n = length-append all.outcomes (x ∷ []) in let e = all.all in omega (arith, n, e);
     each = each_more 0 all.outcomes x t m t' p q p' o n o' all.each
-        (subst (λ (i : ℕ). ServesNext answers failures reader writer out i x m t' q p' n o')
+        (subst (λ (i : ℕ). ServesNext answers peers reader writer out i x m t' q p' n o')
         (let e = all.all in omega (arith, e)) next) goes;
   }
 
   -- a run that ends before its last exchange
-  pub run_ends : (exchanges : ℕ) (exit : Exit) (t t' : T) (p p' : P) (o o' : O) (e : EndsEarly answers failures
-      reader writer out exchanges exit t t' p p' o o') → ServesRun answers failures reader writer out exchanges exit
+  pub run_ends : (exchanges : ℕ) (exit : Exit) (t t' : T) (p p' : P) (o o' : O) (e : EndsEarly answers peers
+      reader writer out exchanges exit t t' p p' o o') → ServesRun answers peers reader writer out exchanges exit
       t t' p p' o o'
   run_ends exchanges Done t t' p p' o o' e = absurd (not_done e.last e.ends)
   run_ends exchanges Refused t t' p p' o o' e = e

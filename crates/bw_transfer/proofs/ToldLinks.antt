@@ -10,6 +10,7 @@ use Rattle.bw_engine.specs.Sent.{Exchanges}
 use Rattle.bw_engine.specs.declared.send_fault.SendFault.{SendFault}
 use Rattle.bw_transfer.specs.RoundsMade.{AreHeardFrom, AreRounds, BeginWith, IsRound, heard_over}
 use Rattle.bw_transfer.specs.SendState.{Sending, hear_in, offer_more}
+use Rattle.bw_transfer.specs.declared.dial.Dial.{Ghosts as DialGhosts}
 
 longer : (input rest more bytes : List ℕ) (heard : List Reply) → Spelled Reply reply_codec input heard rest →
     input ++ more ≡ bytes → BeginWith bytes heard
@@ -31,18 +32,17 @@ heard_begin (inr exchange) bytes told =
     let given = exchange.hears.given bytes told in
     longer exchange.hears.input exchange.hears.front.0 given.0 bytes exchange.hears.heard exchange.hears.front.1 given.2
 
-module _ {D R W : Type 0} (links : D → Option (List (List ℕ))) (failures : D → ℕ)
-    (reader : Reader R) (writer : Writer W) where
+module _ {D R W : Type 0} (dial : DialGhosts D R W) (reader : Reader R) (writer : Writer W) where
   pub rounds_told : (x : Sending) (heard : List (List Reply)) (y : Sending) (d e : D) →
-      AreRounds links failures reader writer x heard y d e → (xs : List (List ℕ)) → links d ≡ Some xs →
+      AreRounds dial reader writer x heard y d e → (xs : List (List ℕ)) → dial.links d ≡ Some xs →
       AreHeardFrom heard xs
   rounds_told x [] y d e went xs told = tt
   rounds_told x (h ∷ hs) y d e went xs told = go went.2 (rounds_told (hear_in (offer_more x) h) hs y went.0 e went.3)
     where
-      go : IsRound links failures reader writer (offer_more x).sender h d went.0 →
-          ((xs : List (List ℕ)) → links went.0 ≡ Some xs → AreHeardFrom hs xs) → AreHeardFrom (h ∷ hs) xs
+      go : IsRound dial reader writer (offer_more x).sender h d went.0 →
+          ((xs : List (List ℕ)) → dial.links went.0 ≡ Some xs → AreHeardFrom hs xs) → AreHeardFrom (h ∷ hs) xs
       go (inl none) rec = inl (none.none, rec xs (none.kept ∙ told))
       go (inr made) rec =
           let next = made.next xs told in
-          let first = heard_begin made.exchange.exchanges next.0 (made.exchange.given ∙ next.3) in
+          let first = heard_begin made.exchange.exchanges next.0 next.3 in
           inr (next.0, next.1, next.2, subst (BeginWith next.0) (sym made.exchange.heard_is) first, rec next.1 next.4)

@@ -1,6 +1,10 @@
 -- What the command `serve` does.
-use Rattle.std.specs.Prelude.{◌≡◌, ◌⊎◌, ℕ, ◌++◌, Option, List, [], codes}
+use Rattle.std.specs.Prelude.{◌≡◌, ◌⊎◌, ℕ, ◌++◌, List, [], Ok, Err, codes}
+use Rattle.std.specs.IoError.{error_kind}
+use Rattle.std.specs.Net.Text.{socket_text}
+use Rattle.std.specs.declared.io.Error.{Error as IoError}
 use Rattle.std.specs.declared.io.ErrorKind.{ErrorKind}
+use Rattle.std.specs.declared.net.socket_addr.SocketAddr.{SocketAddr}
 use Rattle.bw_stream.specs.Moves.{one_more}
 use Rattle.bw_stream.specs.declared.sink.Sink.{Ghosts as Writer}
 use Rattle.bw_stream.specs.declared.source.Source.{Ghosts as Reader}
@@ -19,11 +23,13 @@ use Rattle.bw_commands.specs.declared.exit.Exit.TheVariants as exits
 use Rattle.bw_commands.specs.declared.fault.Fault.{Fault}
 use Rattle.bw_commands.specs.declared.fault.Fault.TheVariants as faults
 use Rattle.bw_transfer.specs.ServedAll.{ServesRun}
-use Rattle.bw_transfer.specs.declared.place.Serving.{Serving}
+use Rattle.bw_transfer.specs.declared.network.Network.{Ghosts as NetworkGhosts}
+use Rattle.bw_transfer.specs.declared.network.Serving.{Serving}
+use Rattle.bw_transfer.specs.declared.peers.Peers.{Ghosts as PeerGhosts}
 
 -- the first line, from which on peers may come
-abbrev pub listening_line : List ℕ → List ℕ
-listening_line address = as_line (codes "listening " ++ address)
+abbrev pub listening_line : SocketAddr → List ℕ
+listening_line address = as_line (codes "listening " ++ socket_text address)
 
 -- what is told where no more peers are let in
 abbrev pub gone_line : List ℕ
@@ -50,16 +56,18 @@ TellsEnd told exits.Done exit e e' = (exit ≡ exits.Done) × (e' ≡ e)
 TellsEnd told exits.Memory exit e e' = GivesUp told faults.Memory exit e e'
 TellsEnd told _ exit e e' = TellsGone told exit e e'
 
--- it is told why what is named so can't be opened, and the command ends so
-pub record TellsUnopened {E : Type 0} (told : Writer E) (what : List ℕ) (exit : Exit) (e e' : E)
-    : Type 0 where
+-- it is told that what is named so can't be opened, for an error of this kind, and the command ends
+-- so
+pub record TellsUnopened {E : Type 0} (told : Writer E) (what : List ℕ) (kind : ErrorKind)
+    (exit : Exit) (e e' : E) : Type 0 where
   pub did : Deed
   pub ends : did.exit ≡ exit
-  pub is : ((kind : ErrorKind) × IsUnopened what kind did) ⊎ IsWant did
+  pub is : IsUnopened what kind did ⊎ IsWant did
   pub tells : IsPrint told did.faults e e'
 
-module _ {X Y P R W O E : Type 0} (S : StoreGhosts X) (J : JournalGhosts Y) (failures : P → ℕ)
-    (reader : Reader R) (writer : Writer W) (out : Writer O) (told : Writer E) where
+module _ {X Y P R W O E : Type 0} (S : StoreGhosts X) (J : JournalGhosts Y)
+    (peers : PeerGhosts P R W) (reader : Reader R) (writer : Writer W) (out : Writer O)
+    (told : Writer E) where
   -- a new server over this store served its exchanges, behind its first line
   pub record HostsRun (serving : Serving) (exit : Exit) (store : X) (p p' : P) (o o' : O)
       (e e' : E) : Type 0 where
@@ -69,23 +77,23 @@ module _ {X Y P R W O E : Type 0} (S : StoreGhosts X) (J : JournalGhosts Y) (fai
     pub new : HoldsBook S J (S.contents store) server []
     pub behind : Server X Y S J
     pub between : O
-    pub listens : HasPrinted out (listening_line serving.address.now) o between
+    pub listens : HasPrinted out (listening_line serving.address) o between
     pub ended : Exit
-    pub run : ServesRun (ServerTurn S J) failures reader writer out serving.exchanges ended
+    pub run : ServesRun (ServerTurn S J) peers reader writer out serving.exchanges ended
         server behind p p' between o'
     pub tells : TellsEnd told ended exit e e'
 
   -- memory was refused before the first line
   pub record WantsFirst (exit : Exit) (p p' : P) (o o' : O) (e e' : E) : Type 0 where
-    pub peers : p' ≡ p
+    pub peers_are : p' ≡ p
     pub printed : o' ≡ o
     pub tells : GivesUp told faults.Memory exit e e'
 
   -- the first line can't be written, and nothing is served
   pub record CantListen (serving : Serving) (exit : Exit) (p p' : P) (o o' : O) (e e' : E)
       : Type 0 where
-    pub peers : p' ≡ p
-    pub printed : HasStopped out (listening_line serving.address.now) o o'
+    pub peers_are : p' ≡ p
+    pub printed : HasStopped out (listening_line serving.address) o o'
     pub tells : GivesUp told faults.Unwritable exit e e'
 
   -- what comes of a server over this store
@@ -94,26 +102,44 @@ module _ {X Y P R W O E : Type 0} (S : StoreGhosts X) (J : JournalGhosts Y) (fai
       HostsRun serving exit store p p' o o' e e'
       ⊎ (WantsFirst exit p p' o o' e e' ⊎ CantListen serving exit p p' o o' e e')
 
-  module _ {L : Type 0} (faults_of : L → ℕ) where
-    -- the folder or the address can't be used: nothing is printed
-    pub record CantUse (what : List ℕ) (exit : Exit) (l l' : L) (o o' : O) (e e' : E)
+  module _ {N D A B : Type 0} (network : NetworkGhosts N X P D R W A B) where
+    -- the folder can't be used: nothing else is asked for, and nothing is printed
+    pub record CantStore (serving : Serving) (exit : Exit) (n n' : N) (o o' : O) (e e' : E)
         : Type 0 where
-      pub counted : faults_of l' ≡ one_more (faults_of l)
+      pub error : IoError
+      pub refused : network.stores n serving.folder.now (Err error) n'
+      pub counted : network.failures n' ≡ one_more (network.failures n)
       pub printed : o' ≡ o
-      pub tells : TellsUnopened told what exit e e'
+      pub tells : TellsUnopened told serving.folder.now (error_kind error) exit e e'
+
+    -- the folder can be used, and the address can't: nothing is printed
+    pub record CantBind (serving : Serving) (exit : Exit) (n n' : N) (o o' : O) (e e' : E)
+        : Type 0 where
+      pub store : X
+      pub between : N
+      pub stored : network.stores n serving.folder.now (Ok store) between
+      pub error : IoError
+      pub refused : network.listens between serving.address serving.folder.now serving.timeout
+          (Err error) n'
+      pub counted : network.failures n' ≡ one_more (network.failures n)
+      pub printed : o' ≡ o
+      pub tells : TellsUnopened told (socket_text serving.address) (error_kind error) exit e e'
 
     -- both are there, and a server is over them
-    pub record HostsAt (serving : Serving) (exit : Exit) (l l' : L) (o o' : O) (e e' : E)
+    pub record HostsAt (serving : Serving) (exit : Exit) (n n' : N) (o o' : O) (e e' : E)
         : Type 0 where
-      pub counted : faults_of l' ≡ faults_of l
       pub store : X
-      pub peers : P
-      pub peers' : P
-      pub hosts : HostsOver serving exit store peers peers' o o' e e'
+      pub between : N
+      pub stored : network.stores n serving.folder.now (Ok store) between
+      pub first : P
+      pub listened : network.listens between serving.address serving.folder.now serving.timeout
+          (Ok first) n'
+      pub counted : network.failures n' ≡ network.failures n
+      pub last : P
+      pub hosts : HostsOver serving exit store first last o o' e e'
 
     -- what the command does
-    abbrev pub Hosts : Serving → Exit → L → L → O → O → E → E → Type 0
-    Hosts serving exit l l' o o' e e' =
-        HostsAt serving exit l l' o o' e e'
-        ⊎ (CantUse serving.folder.now exit l l' o o' e e'
-        ⊎ CantUse serving.address.now exit l l' o o' e e')
+    abbrev pub Hosts : Serving → Exit → N → N → O → O → E → E → Type 0
+    Hosts serving exit n n' o o' e e' =
+        HostsAt serving exit n n' o o' e e'
+        ⊎ (CantStore serving exit n n' o o' e e' ⊎ CantBind serving exit n n' o o' e e')

@@ -1,6 +1,6 @@
 -- Rounds: a link and an exchange over it each, as far as both go.
 use mathlib.Core.Logic.{inl, inr}
-use Rattle.std.specs.Prelude.{◌≡◌, ◌≢◌, ◌⊎◌, ℕ, ◌<◌, Option, Some, Result, Err, List, [], ◌∷◌}
+use Rattle.std.specs.Prelude.{◌≡◌, ◌≢◌, ◌⊎◌, ℕ, ◌<◌, Option, Some, Result, Ok, Err, List, [], ◌∷◌}
 use Rattle.std.specs.Prelude.{length}
 use Rattle.bw_model.specs.Replies.{Reply}
 use Rattle.bw_model.specs.World.{Sender as Told}
@@ -17,6 +17,9 @@ use Rattle.bw_engine.specs.declared.send_fault.SendFault.{SendFault}
 use Rattle.bw_engine.specs.declared.send_fault.SendFault.TheVariants.{Memory}
 use Rattle.bw_transfer.specs.Links.{GivesNext}
 use Rattle.bw_transfer.specs.SendState.{Sending, IsSettled, hear_in, offer_more}
+use Rattle.bw_transfer.specs.declared.dial.Dial.{Ghosts as DialGhosts}
+use Rattle.bw_transfer.specs.declared.dial.DialFault.{DialFault}
+use Rattle.bw_transfer.specs.declared.dial.Link.{Link}
 
 -- the replies that were heard in an exchange: none where its batch broke off
 abbrev pub heard_over : {R : Type 0} → {result : Result (Unit {0}) SendFault} → {x y : Sender} →
@@ -38,40 +41,39 @@ AreHeardFrom (heard ∷ more) links =
     ⊎ ((bytes : List ℕ) × (rest : List (List ℕ)) × (links ≡ bytes ∷ rest) × BeginWith bytes heard
     × AreHeardFrom more rest)
 
-module _ {D R W : Type 0} (links : D → Option (List (List ℕ))) (failures : D → ℕ)
-    (reader : Reader R) (writer : Writer W) where
-  -- An exchange of the sender over a link that gives these bytes, where that is told: what has no
-  -- verdict was written, or a beginning of it, and these replies were heard. Memory was there.
-  pub record IsExchange (s : Told) (heard : List Reply) (gives : Option (List ℕ)) : Type 0 where
+module _ {D R W : Type 0} (dial : DialGhosts D R W) (reader : Reader R) (writer : Writer W) where
+  -- An exchange of the sender over this link: what has no verdict was written, or a beginning of
+  -- it, and these replies were heard. Memory was there.
+  pub record IsExchange (s : Told) (heard : List Reply) (link : Link R W) : Type 0 where
     pub result : Result (Unit {0}) SendFault
     pub goes_on : result ≢ Err Memory
     pub before : Sender
     pub after : Sender
     pub is_sender : IsSender s before
-    pub r : R
     pub r' : R
-    pub w : W
     pub w' : W
-    pub given : reader.left r ≡ gives
-    pub exchanges : Exchanges result before after r r' (reader.left r) (reader.left r')
-        (writer.written w) (writer.written w')
+    pub exchanges : Exchanges result before after link.reader r' (reader.left link.reader)
+        (reader.left r') (writer.written link.writer) (writer.written w')
     pub heard_is : heard ≡ heard_over exchanges
-    pub reads : reader.failures r' ≡ hears_failed result (reader.failures r)
-    pub writes : writer.failures w' ≡ sends_failed result (writer.failures w)
-    pub limit : IsHearingLimited result (reader.moved r) (reader.moved r')
+    pub reads : reader.failures r' ≡ hears_failed result (reader.failures link.reader)
+    pub writes : writer.failures w' ≡ sends_failed result (writer.failures link.writer)
+    pub limit : IsHearingLimited result (reader.moved link.reader) (reader.moved r')
 
   -- no link was made, and nothing heard
   pub record MakesNoLink (heard : List Reply) (d d' : D) : Type 0 where
-    pub counted : failures d' ≡ one_more (failures d)
-    pub kept : links d' ≡ links d
+    pub fault : DialFault
+    pub called : dial.dials d (Err fault) d'
+    pub counted : dial.failures d' ≡ one_more (dial.failures d)
+    pub kept : dial.links d' ≡ dial.links d
     pub none : heard ≡ []
 
   -- the next link was made, for an exchange
   pub record MakesLink (s : Told) (heard : List Reply) (d d' : D) : Type 0 where
-    pub counted : failures d' ≡ failures d
-    pub gives : Option (List ℕ)
-    pub next : GivesNext (links d) gives (links d')
-    pub exchange : IsExchange s heard gives
+    pub link : Link R W
+    pub called : dial.dials d (Ok link) d'
+    pub counted : dial.failures d' ≡ dial.failures d
+    pub next : GivesNext (dial.links d) (reader.left link.reader) (dial.links d')
+    pub exchange : IsExchange s heard link
 
   -- a round of the sender, in which these replies were heard
   abbrev pub IsRound : Told → List Reply → D → D → Type 0
@@ -92,6 +94,6 @@ module _ {D R W : Type 0} (links : D → Option (List (List ℕ))) (failures : D
     pub behind : Sending
     pub went : AreRounds x heard behind d d'
     -- what was heard is what the links gave, where that is told
-    pub told : (xs : List (List ℕ)) → links d ≡ Some xs → AreHeardFrom heard xs
+    pub told : (xs : List (List ℕ)) → dial.links d ≡ Some xs → AreHeardFrom heard xs
     pub ends : ((length heard ≡ rounds) × (y ≡ behind))
         ⊎ ((length heard < rounds) × (y ≡ offer_more behind) × IsSettled y)

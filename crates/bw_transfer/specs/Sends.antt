@@ -16,6 +16,7 @@ use Rattle.bw_transfer.specs.RoundsMade.{MakesRounds}
 use Rattle.bw_transfer.specs.SenderText.{sender_text}
 use Rattle.bw_transfer.specs.SendState.{Sending, OffersInOrder, EachIsStored, exit_for}
 use Rattle.bw_transfer.specs.SendState.{new_sending}
+use Rattle.bw_transfer.specs.declared.dial.Dial.{Ghosts as DialGhosts}
 
 -- how the command ends on what it comes to
 abbrev pub exit_of_send : Result Exit Fault → Exit
@@ -27,8 +28,7 @@ abbrev pub without_exit : Result Exit Fault → Result (Unit {0}) Fault
 without_exit (Ok exit) = Ok tt
 without_exit (Err fault) = Err fault
 
-module _ {D R W : Type 0} (links : D → Option (List (List ℕ))) (failures : D → ℕ)
-    (reader : Reader R) (writer : Writer W) where
+module _ {D R W : Type 0} (dial : DialGhosts D R W) (reader : Reader R) (writer : Writer W) where
   -- The input's requests were sent in rounds by a new sender of this name, and the text of what the
   -- sender came to was to be printed.
   pub record PrintsSender (name : List ℕ) (rounds : ℕ) (input : Option (List ℕ)) (d d' : D)
@@ -36,7 +36,7 @@ module _ {D R W : Type 0} (links : D → Option (List (List ℕ))) (failures : D
     pub requests : List Request
     pub said : Of input (λ xs. AreRequestsOf xs requests)
     pub last : Sending
-    pub went : MakesRounds links failures reader writer rounds (new_sending name requests) last d d'
+    pub went : MakesRounds dial reader writer rounds (new_sending name requests) last d d'
     pub is : print ≡ printed (sender_text last.sender)
     pub exit_is : exit ≡ exit_for last
     pub in_order : OffersInOrder last

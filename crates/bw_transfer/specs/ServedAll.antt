@@ -1,5 +1,5 @@
 -- What serving exchanges one after another comes to.
-use Rattle.std.specs.Prelude.{◌≡◌, ℕ, suc, Option, Some, None, List, [], ◌∷◌, length, ◌≤◌}
+use Rattle.std.specs.Prelude.{◌≡◌, ℕ, suc, Option, Some, None, Ok, Err, List, [], ◌∷◌, length, ◌≤◌}
 use Rattle.bw_model.specs.Wire.{Frame}
 use Rattle.bw_model.specs.Replies.{Reply}
 use Rattle.bw_stream.specs.Moves.{one_more}
@@ -8,6 +8,10 @@ use Rattle.bw_stream.specs.declared.source.Source.{Ghosts as Reader}
 use Rattle.bw_commands.specs.declared.exit.Exit.{Exit}
 use Rattle.bw_commands.specs.declared.exit.Exit.TheVariants.{Done, Device, Memory}
 use Rattle.bw_transfer.specs.ServedOne.{ServesOne}
+use Rattle.bw_transfer.specs.declared.dial.Link.{Link}
+use Rattle.bw_transfer.specs.declared.peers.AcceptFault.{AcceptFault}
+use Rattle.bw_transfer.specs.declared.peers.AcceptFault.TheVariants as accepting
+use Rattle.bw_transfer.specs.declared.peers.Peers.{Ghosts as PeerGhosts}
 
 -- what came of the next peer: its exchange was served and ended so, it went away, or no more are
 -- let in
@@ -23,28 +27,30 @@ exit_now (Served exit) = None
 exit_now Gone = None
 exit_now Closed = Some Device
 
-module _ {T P R W O : Type 0} (answers : T → Frame → List Reply → T → Type 0) (failures : P → ℕ)
-    (reader : Reader R) (writer : Writer W) (out : Writer O) where
-  -- a link was made, and one exchange served over it, with this number
+module _ {T P R W O : Type 0} (answers : T → Frame → List Reply → T → Type 0)
+    (peers : PeerGhosts P R W) (reader : Reader R) (writer : Writer W) (out : Writer O) where
+  -- a peer was let in, and one exchange served over its link, with this number
   pub record ServesLink (index : ℕ) (exit : Exit) (t t' : T) (p p' : P) (o o' : O) : Type 0 where
-    pub accepted : failures p' ≡ failures p
-    pub r : R
+    pub link : Link R W
+    pub accepted : peers.accepts p (Ok link) p'
+    pub counted : peers.failures p' ≡ peers.failures p
     pub r' : R
-    pub w : W
     pub w' : W
-    pub served : ServesOne answers reader writer out index exit t t' r r' w w' o o'
+    pub served : ServesOne answers reader writer out index exit t t' link.reader r' link.writer w'
+        o o'
 
-  -- no link was made: the server and what is printed are as they were
-  pub record ServesNone (t t' : T) (p p' : P) (o o' : O) : Type 0 where
-    pub counted : failures p' ≡ one_more (failures p)
+  -- no peer was let in, for this reason: the server and what is printed are as they were
+  pub record ServesNone (fault : AcceptFault) (t t' : T) (p p' : P) (o o' : O) : Type 0 where
+    pub refused : peers.accepts p (Err fault) p'
+    pub counted : peers.failures p' ≡ one_more (peers.failures p)
     pub server : t' ≡ t
     pub printed : o' ≡ o
 
   -- the next peer, by what came of it
   abbrev pub ServesNext : ℕ → Outcome → T → T → P → P → O → O → Type 0
   ServesNext index (Served exit) t t' p p' o o' = ServesLink index exit t t' p p' o o'
-  ServesNext index Gone t t' p p' o o' = ServesNone t t' p p' o o'
-  ServesNext index Closed t t' p p' o o' = ServesNone t t' p p' o o'
+  ServesNext index Gone t t' p p' o o' = ServesNone accepting.Gone t t' p p' o o'
+  ServesNext index Closed t t' p p' o o' = ServesNone accepting.Closed t t' p p' o o'
 
   -- one peer behind another, the first with this number, and none but the last ends the run
   abbrev pub ServesEach : ℕ → List Outcome → T → T → P → P → O → O → Type 0

@@ -1,7 +1,9 @@
 //! Where a recorder's exchanges go: a link for each.
-ghost use Rattle.std.specs.Prelude.{◌≡◌, ℕ, List, Option, IfOk, OnErr};
+ghost use Rattle.std.specs.Prelude.{◌≡◌, ℕ, List, Option, Result, IfOk, OnErr};
 ghost use Rattle.bw_stream.specs.Moves.{failures_after};
 ghost use Rattle.bw_transfer.specs.Links.{GivesNext};
+ghost use Rattle.bw_transfer.specs.declared.dial.DialFault.{DialFault};
+ghost use Rattle.bw_transfer.specs.declared.dial.Link.{Link};
 
 use bw_stream::{Sink, Source};
 use thiserror::Error;
@@ -37,11 +39,16 @@ pub trait Dial {
     /// How many calls failed; the count stays at 2^64 - 1.
     ghost failures: { Self → ℕ };
 
+    /// What a call may come to, and what it leaves. Rounds are told in these words, so that each
+    /// exchange goes over the link that was made for it.
+    ghost dials: { Self → Result (Link Self.Reader Self.Writer) DialFault → Self → Type 0 };
+
     /// Makes the next link.
     ///
     /// # Errors
     /// `DialFault` where none could be made: it is still the next one.
     fn dial(&mut self) -> Result<Link<Self::Reader, Self::Writer>, DialFault>
+        ensures came { dials self.old result self.new }
         ensures count { failures self.new ≡ failures_after result (failures self.old) }
         ensures ok { IfOk result (λ link.
             GivesNext (links self.old) (Self.Reader.left link.reader) (links self.new)) }

@@ -1,9 +1,12 @@
 //! The command `serve`: a server over a folder, from its first line to its end.
 ghost use Rattle.std.specs.Prelude.{◌≡◌, string_bytes, IfOk};
-ghost use Rattle.bw_transfer.specs.Hosted.{Hosts, HostsOver, TellsEnd, listening_line};
+ghost use Rattle.std.specs.IoError.{error_kind};
+ghost use Rattle.std.specs.Net.Text.{socket_text};
+ghost use Rattle.bw_transfer.specs.Hosted.{Hosts, HostsOver, TellsEnd, TellsUnopened};
+ghost use Rattle.bw_transfer.specs.Hosted.{listening_line};
 
+use crate::network::{Network, Serving};
 use crate::peers::Peers;
-use crate::place::{Place, Serving};
 use crate::running::serve_run;
 use bw_commands::print::{give_up, print, tell};
 use bw_commands::{Exit, Fault, tell_unopened};
@@ -12,34 +15,52 @@ use bw_journal::{Journal, NoJournal};
 use bw_session::Server;
 use bw_stream::Sink;
 use std::alloc::{AllocError, Global};
+use std::io;
+use std::net::SocketAddr;
 
 /// What is told where no more peers are let in.
 const GONE: &str = "the folder is gone\n";
 
-/// Serves so many exchanges over a new server and the place's store.
+/// Serves so many exchanges over a new server and the folder's store.
 ///
 /// What can't be used is a line on `faults` before anything is printed. Then `listening ADDRESS`
 /// and a line for each exchange are; where the first can't be, nothing is served. Why the system
 /// doesn't let a folder or an address be used, the contract doesn't say.
-pub fn serve<P: Place, O: Sink, E: Sink>(
+pub fn serve<N: Network, O: Sink, E: Sink>(
     alloc: Global,
-    place: &mut P,
+    network: &mut N,
     serving: &Serving<'_>,
     out: &mut O,
     faults: &mut E,
 ) -> Exit
-    ensures { Hosts P.Store.TakeStore ⟦<NoJournal as Journal>⟧ P.Peers.failures
-        P.Peers.Reader.Source P.Peers.Writer.Sink O.Sink E.Sink P.failures serving.now result place.old place.new out.old out.new
-        faults.old faults.new }
+    ensures { Hosts N.Store.TakeStore ⟦<NoJournal as Journal>⟧ N.Peers.Peers
+        N.Peers.Reader.Source N.Peers.Writer.Sink O.Sink E.Sink N.Network
+        serving.now result network.old network.new out.old out.new faults.old faults.new }
 {
-    let store = match place.store() {
+    let store = match network.store(serving.folder) {
         Ok(store) => store,
         Err(error) => return tell_unopened(alloc, serving.folder, &error, faults),
     };
-    match place.listen() {
+    match network.listen(serving.address, serving.folder, serving.timeout) {
         Ok(mut peers) => serve_over(alloc, store, &mut peers, serving, out, faults),
-        Err(error) => tell_unopened(alloc, serving.address, &error, faults),
+        Err(error) => tell_unbound(alloc, serving.address, &error, faults),
     }
+}
+
+/// Tells why nobody can come to an address.
+fn tell_unbound<E: Sink>(
+    alloc: Global,
+    address: SocketAddr,
+    error: &io::Error,
+    faults: &mut E,
+) -> Exit
+    ensures { TellsUnopened E.Sink (socket_text address) (error_kind error.now) result
+        faults.old faults.new }
+{
+    let Ok(text) = format!(in alloc; "{address}") else {
+        return give_up(faults, &Fault::Memory);
+    };
+    tell_unopened(alloc, text.as_str(), error, faults)
 }
 
 /// Serves so many exchanges over a new server and this store.
@@ -51,9 +72,8 @@ fn serve_over<S: TakeStore, P: Peers, O: Sink, E: Sink>(
     out: &mut O,
     faults: &mut E,
 ) -> Exit
-    ensures { HostsOver S.TakeStore ⟦<NoJournal as Journal>⟧ P.failures P.Reader.Source P.Writer.Sink
-        O.Sink E.Sink
-        serving.now result store peers.old peers.new out.old out.new faults.old faults.new }
+    ensures { HostsOver S.TakeStore ⟦<NoJournal as Journal>⟧ P.Peers P.Reader.Source
+        P.Writer.Sink O.Sink E.Sink serving.now result store peers.old peers.new out.old out.new faults.old faults.new }
 {
     let Ok(mut server) = Server::new(alloc, store, serving.limit) else {
         return give_up(faults, &Fault::Memory);
@@ -68,8 +88,8 @@ fn serve_over<S: TakeStore, P: Peers, O: Sink, E: Sink>(
     tell_end(exit, faults)
 }
 
-fn format_listening(alloc: Global, address: &str) -> Result<String, AllocError>
-    ensures { IfOk result (λ line. string_bytes line ≡ listening_line address.now) }
+fn format_listening(alloc: Global, address: SocketAddr) -> Result<String, AllocError>
+    ensures { IfOk result (λ line. string_bytes line ≡ listening_line address) }
 {
     format!(in alloc; "listening {address}\n")
 }

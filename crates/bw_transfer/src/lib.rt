@@ -1,13 +1,13 @@
-//! What goes between recorders and a server: an exchange served, and a recorder's requests sent in
-//! rounds. Sockets stand above, behind `Source`, `Sink` and `Dial`.
+//! What goes between recorders and a server: exchanges served, and a recorder's requests sent in
+//! rounds. Sockets stand above, behind `Source`, `Sink` and `Network`.
 #![tactic(auto)]
 
 mod dial;
 mod dispatch;
 mod hosting;
+mod network;
 mod offering;
 mod peers;
-mod place;
 mod requests;
 mod rounds;
 mod running;
@@ -17,8 +17,8 @@ mod text;
 
 pub use dial::{Dial, DialFault, Link};
 pub use hosting::serve;
+pub use network::{Network, Serving};
 pub use peers::{AcceptFault, Peers};
-pub use place::{Place, Serving};
 pub use running::serve_run;
 pub use sending::send_run;
 pub use serving::serve_one;

@@ -1,6 +1,6 @@
 //! Requests are offered to a sender, as far as its window goes.
 ghost use Rattle.std.specs.Prelude.{◌≡◌, ◌≢◌, ◌+◌, ◌<◌, ◌^◌, None, true, false, is_none};
-ghost use Rattle.std.specs.Prelude.{IfOk, OnOk};
+ghost use Rattle.std.specs.Prelude.{IfOk, OnErr, OnOk};
 ghost use Rattle.bw_model.specs.World.{offer_fault};
 ghost use Rattle.bw_sender.specs.Offers.{fault_of};
 ghost use Rattle.bw_transfer.specs.SendState.{Sending, IsSending, is_last_offer, offer_more};
@@ -62,8 +62,9 @@ fn offer_next(alloc: Global, dispatch: &mut Dispatch, request: &Request) -> Resu
 /// # Errors
 /// `AllocError` where memory was refused.
 fn is_last(error: OfferError) -> Result<bool, AllocError>
-    ensures { IfOk result (λ last.
+    ensures ok { IfOk result (λ last.
         (fault_of error ≢ None) × (last ≡ is_last_offer (fault_of error))) }
+    ensures err { OnErr result (error ≡ OfferError.Memory) }
 {
     match error {
         OfferError::NumbersSpent => Ok(true),

@@ -1,6 +1,8 @@
 //! Where a server's exchanges come from: a link for each.
-ghost use Rattle.std.specs.Prelude.{◌≡◌, ℕ};
+ghost use Rattle.std.specs.Prelude.{◌≡◌, ℕ, Result};
 ghost use Rattle.bw_stream.specs.Moves.{failures_after};
+ghost use Rattle.bw_transfer.specs.declared.dial.Link.{Link};
+ghost use Rattle.bw_transfer.specs.declared.peers.AcceptFault.{AcceptFault};
 
 use crate::dial::Link;
 use bw_stream::{Sink, Source};
@@ -25,10 +27,15 @@ pub trait Peers {
 
     ghost failures: { Self → ℕ };
 
+    /// What a call may come to, and what it leaves. A run of exchanges is told in these words, so
+    /// that each goes over the link of the peer that was let in for it.
+    ghost accepts: { Self → Result (Link Self.Reader Self.Writer) AcceptFault → Self → Type 0 };
+
     /// Waits for the next peer, and makes a link to it.
     ///
     /// # Errors
     /// Why there is none.
     fn accept(&mut self) -> Result<Link<Self::Reader, Self::Writer>, AcceptFault>
+        ensures came { accepts self.old result self.new }
         ensures count { failures self.new ≡ failures_after result (failures self.old) };
 }

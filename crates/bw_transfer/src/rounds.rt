@@ -1,5 +1,5 @@
 //! The rounds of a recorder: an exchange over a new link each.
-ghost use Rattle.std.specs.Prelude.{◌≡◌, ◌≢◌, Err, List, OnOk};
+ghost use Rattle.std.specs.Prelude.{◌≡◌, ◌≢◌, Err, List, OnOk, OnErr};
 ghost use Rattle.bw_model.specs.Replies.{Reply};
 ghost use Rattle.bw_model.specs.World.{Sender as Told};
 ghost use Rattle.bw_sender.specs.Senders.{IsSender};
@@ -30,7 +30,7 @@ pub(crate) fn make_rounds<D: Dial>(
 ) -> Result<(), AllocError>
     ensures { (x : Sending) → IsSending x dispatch.old → x.requests ≡ requests.now →
         OnOk result ((y : Sending) × IsSending y dispatch.new
-        × MakesRounds D.links D.failures D.Reader.Source D.Writer.Sink rounds x y
+        × MakesRounds D.Dial D.Reader.Source D.Writer.Sink rounds x y
         dial.old dial.new) }
 {
     for _round in 0..rounds {
@@ -51,7 +51,7 @@ pub(crate) fn make_rounds<D: Dial>(
 fn make_round<D: Dial>(alloc: Global, sender: &mut Sender, dial: &mut D) -> Result<(), AllocError>
     ensures { (s : Told) → IsSender s sender.old → OnOk result ((heard : List Reply)
         × IsSender (hear_all s heard) sender.new
-        × IsRound D.links D.failures D.Reader.Source D.Writer.Sink s heard dial.old dial.new) }
+        × IsRound D.Dial D.Reader.Source D.Writer.Sink s heard dial.old dial.new) }
 {
     let Ok(mut link) = dial.dial() else {
         return Ok(());
@@ -63,7 +63,8 @@ fn make_round<D: Dial>(alloc: Global, sender: &mut Sender, dial: &mut D) -> Resu
 /// # Errors
 /// `AllocError` where memory was refused to the exchange.
 fn unless_memory(ended: Result<(), SendFault>) -> Result<(), AllocError>
-    ensures { OnOk result (ended ≢ Err Memory) }
+    ensures ok { OnOk result (ended ≢ Err Memory) }
+    ensures err { OnErr result (ended ≡ Err Memory) }
 {
     match ended {
         Ok(()) => Ok(()),

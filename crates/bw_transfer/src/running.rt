@@ -22,8 +22,7 @@ pub fn serve_run<P: Peers, T: Turns, O: Sink>(
     exchanges: u64,
     out: &mut O,
 ) -> Exit
-    ensures { ServesRun T.answers P.failures P.Reader.Source P.Writer.Sink O.Sink
-        exchanges result server.old server.new peers.old peers.new out.old out.new }
+    ensures { ServesRun T.answers P.Peers P.Reader.Source P.Writer.Sink O.Sink exchanges result server.old server.new peers.old peers.new out.old out.new }
 {
     for index in 0..exchanges {
         if let Some(exit) = serve_next(alloc, server, peers, index, out) {
@@ -42,7 +41,7 @@ fn serve_next<P: Peers, T: Turns, O: Sink>(
     out: &mut O,
 ) -> Option<Exit>
     ensures { (outcome : Outcome) × (result ≡ exit_now outcome)
-        × ServesNext T.answers P.failures P.Reader.Source P.Writer.Sink O.Sink index outcome
+        × ServesNext T.answers P.Peers P.Reader.Source P.Writer.Sink O.Sink index outcome
         server.old server.new peers.old peers.new out.old out.new }
 {
     let mut link = match peers.accept() {

@@ -41,7 +41,7 @@ pub fn send_run<D: Dial, R: Source, W: Sink, E: Sink>(
     ensures within { Of (R.left input.old) (λ xs. IsReadAhead xs (R.left input.new)) }
     ensures most { R.moved input.new ≤ R.moved input.old + (longest_input + 1) }
     ensures did { (did : Deed) × (did.exit ≡ result)
-        × IsSendRun D.links D.failures D.Reader.Source D.Writer.Sink name rounds (R.left input.old)
+        × IsSendRun D.Dial D.Reader.Source D.Writer.Sink name rounds (R.left input.old)
         dial.old dial.new did
         × (R.failures input.new ≡ failures_if did.reads_all (R.failures input.old))
         × HasWritten W.Sink E.Sink did out.old out.new faults.old faults.new }
@@ -65,7 +65,7 @@ fn send<D: Dial, R: Source, W: Sink>(
     ensures most { R.moved input.new ≤ R.moved input.old + (longest_input + 1) }
     ensures count { R.failures input.new ≡ failures_if (is_read result) (R.failures input.old) }
     ensures prints { (print : Print)
-        × IsPrintOfSend D.links D.failures D.Reader.Source D.Writer.Sink name rounds
+        × IsPrintOfSend D.Dial D.Reader.Source D.Writer.Sink name rounds
         (R.left input.old) dial.old dial.new result print
         × IsPrint W.Sink print out.old out.new }
 {
@@ -90,7 +90,7 @@ fn send_requests<D: Dial>(
     dial: &mut D,
 ) -> Result<Dispatch, AllocError>
     ensures { IfOk result (λ dispatch. (last : Sending) × IsSending last dispatch
-        × MakesRounds D.links D.failures D.Reader.Source D.Writer.Sink rounds
+        × MakesRounds D.Dial D.Reader.Source D.Writer.Sink rounds
         (new_sending name requests.now) last dial.old dial.new) }
 {
     let mut dispatch = Dispatch {

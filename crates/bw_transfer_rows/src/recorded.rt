@@ -1,5 +1,6 @@
 //! Links whose replies were recorded.
-ghost use Rattle.std.specs.Prelude.{drop, map, Some};
+ghost use Rattle.std.specs.Prelude.{◌≡◌, drop, map, Some};
+ghost use Rattle.bw_stream.specs.Moves.{failures_after};
 
 use bw_stream::{MemorySink, MemorySource};
 use bw_transfer::{Dial, DialFault, Link};
@@ -39,6 +40,8 @@ impl Dial for Recorded {
     ghost links = { λ d. Some (map (λ link. link.now) (drop d.made d.links.now)) };
 
     ghost failures = { λ d. d.failures };
+
+    ghost dials = { λ d result d'. d'.failures ≡ failures_after result d.failures };
 
     fn dial(&mut self) -> Result<Link<MemorySource<'static>, MemorySink>, DialFault> {
         if self.made >= self.links.len() {

@@ -4,7 +4,7 @@ use Rattle.bw_transfer.proofs.hosting.serve_over.Goals as goal
 
 pub returns : goal.returns
 returns g c =
-    let line : c.as_bytes.result.now ≡ listening_line c.args.serving.now.address.now =
+    let line : c.as_bytes.result.now ≡ listening_line c.args.serving.now.address =
     c.as_bytes.ensures.value ∙ (c.as_str.ensures.value ∙ c.in-Ok-format_listening.ensures) in
     inl (record {
       server = c.in-Ok.server;

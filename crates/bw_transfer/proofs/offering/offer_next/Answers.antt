@@ -14,4 +14,4 @@ returns-in_ok-dispatch-in-Err-clause-offered c = λ x k.
     let copied = c.in_ok-copy.ensures.ok ∙ c.as_ref.ensures.same in
     next_refused x c.in_ok-copy.copy c.args.request.now c.args.dispatch.now c.offer.new.self
     c.in_ok-dispatch-in-Err.field-0 _ copied k (c.in-Err.ensures.err x.sender k.sender)
-    c.in_ok-dispatch-in-Err.ensures.0 c.in_ok-dispatch-in-Err.ensures.1 c.in-Err.ensures.unchanged
+    c.in_ok-dispatch-in-Err.ensures.ok.0 c.in_ok-dispatch-in-Err.ensures.ok.1 c.in-Err.ensures.unchanged

@@ -6,12 +6,13 @@ use Rattle.bw_transfer.proofs.rounds.make_round.Goals as goal
 pub returns : goal.returns
 returns g c = λ s is.
     let sent = c.send_exchange-ended.ensures in
-    on_ok c.unless_memory.result c.unless_memory.ensures (λ goes. (
+    on_ok c.unless_memory.result c.unless_memory.ensures.ok (λ goes. (
       heard_over sent.exchanges,
       counted sent.exchanges s is,
       inr (record {
         counted = c.in-Ok.ensures.count;
-        gives = g.D.Reader.Source.left c.in-Ok.link.reader;
+        link = c.in-Ok.link;
+        called = c.in-Ok.ensures.came;
         next = c.in-Ok.ensures.ok;
         exchange = record {
           result = c.send_exchange-ended.result;
@@ -19,11 +20,8 @@ returns g c = λ s is.
           before = c.args.sender.now;
           after = c.send_exchange-ended.new.sender;
           is_sender = is;
-          r = c.in-Ok.link.reader;
           r' = c.send_exchange-ended.new.reader;
-          w = c.in-Ok.link.writer;
           w' = c.send_exchange-ended.new.writer;
-          given = refl;
           exchanges = sent.exchanges;
           heard_is = refl;
           reads = sent.reads;

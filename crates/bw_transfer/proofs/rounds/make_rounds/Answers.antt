@@ -19,7 +19,7 @@ loop-round-preserved g c = λ x k from.
       heard = o.heard ++ made.0 ∷ [];
       y = hear_in (offer_more o.y) made.0;
       is = heard_dispatch (offer_more o.y) made.0 _ _ offered made.1;
-      went = one_round _ _ _ _ x o.heard o.y made.0 _ _ _ o.went
+      went = one_round _ _ _ x o.heard o.y made.0 _ _ _ o.went
           (unsettled c.pending.result _ (c.pending.ensures.value (offer_more o.y).sender offered.sender)
           (search rules)) made.2;
       counted = let n = length-append o.heard (made.0 ∷ []) in let e = o.counted in omega (arith, n, e);
@@ -38,7 +38,7 @@ returns-then-is_none g c = λ x k from.
         heard = o.heard;
         behind = o.y;
         went = o.went;
-        told = rounds_told _ _ _ _ x o.heard o.y _ _ o.went;
+        told = rounds_told _ _ _ x o.heard o.y _ _ o.went;
         ends = inr (
           before,
           refl,
@@ -55,5 +55,5 @@ returns g c = λ x k from.
     let past = c.loop-round-test.false in
     let within = c.loop-round.auto._round-end in
     omega (arith, e, past, within) in
-    let told = rounds_told _ _ _ _ x o.heard o.y _ _ o.went in
+    let told = rounds_told _ _ _ x o.heard o.y _ _ o.went in
     (o.y, o.is, record { heard = o.heard; behind = o.y; went = o.went; told = told; ends = inl (all, refl) })

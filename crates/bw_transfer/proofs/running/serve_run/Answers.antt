@@ -6,14 +6,14 @@ use Rattle.bw_transfer.proofs.running.serve_run.Goals as goal
 pub loop-index-preserved : goal.loop-index-preserved
 loop-index-preserved g c =
     let next = c.serve_next.ensures in
-    run_more g.T.Turns.answers g.P.Peers.failures g.P.Reader.Source g.P.Writer.Sink g.O.Sink _ next.0 _ _ _ _ _ _ _ _ _
+    run_more g.T.Turns.answers g.P.Peers g.P.Reader.Source g.P.Writer.Sink g.O.Sink _ next.0 _ _ _ _ _ _ _ _ _
     c.loop-index.invariant next.2 (sym next.1 ∙ c.in_default.is)
 
 pub returns-in-Some : goal.returns-in-Some
 returns-in-Some g c =
     let next = c.serve_next.ensures in
     let before = c.loop-index.invariant in
-    run_ends g.T.Turns.answers g.P.Peers.failures g.P.Reader.Source g.P.Writer.Sink g.O.Sink _ _ _ _ _ _ _ _ (record {
+    run_ends g.T.Turns.answers g.P.Peers g.P.Reader.Source g.P.Writer.Sink g.O.Sink _ _ _ _ _ _ _ _ (record {
       before = before.outcomes;
       few = let e = before.all in let t = c.loop-index-test.true in omega (arith, e, t);
       m = c.loop-index.server;
@@ -21,7 +21,7 @@ returns-in-Some g c =
       n = c.loop-index.out;
       each = before.each;
       last = next.0;
-      next = subst (λ (i : ℕ). ServesNext g.T.Turns.answers g.P.Peers.failures g.P.Reader.Source g.P.Writer.Sink
+      next = subst (λ (i : ℕ). ServesNext g.T.Turns.answers g.P.Peers g.P.Reader.Source g.P.Writer.Sink
           g.O.Sink i next.0 c.loop-index.server c.serve_next.new.server c.loop-index.peers c.serve_next.new.peers
           c.loop-index.out c.serve_next.new.out) (sym before.all) next.2;
       ends = sym next.1 ∙ c.in-Some.is;

@@ -2,5 +2,5 @@ use Rattle.bw_transfer.specs.ServedAll.{ServesAll}
 use Rattle.bw_transfer.proofs.running.serve_run.Given as goal
 
 abbrev pub invariant-loop-index : goal.invariant-loop-index
-invariant-loop-index g l = ServesAll g.T.Turns.answers g.P.Peers.failures g.P.Reader.Source g.P.Writer.Sink g.O.Sink
+invariant-loop-index g l = ServesAll g.T.Turns.answers g.P.Peers g.P.Reader.Source g.P.Writer.Sink g.O.Sink
     l.index l.fn.server l.server l.fn.peers l.peers l.fn.out l.out

@@ -10,11 +10,11 @@ use Rattle.bw_transfer.proofs.sending.send.Goals as goal
 pub returns-in-Ok-clause-prints : goal.returns-in-Ok-clause-prints
 returns-in-Ok-clause-prints g c =
     let sent = c.in_ok-dispatch.ensures in
-    let kept = rounds_keep _ _ _ _ c.args.rounds _ sent.0 _ _ sent.2 in
+    let kept = rounds_keep _ _ _ c.args.rounds _ sent.0 _ _ sent.2 in
     let exit_is = c.exit_after.ensures sent.0 sent.1
     (c.len.ensures ∙ sym c.as_slice.ensures.len ∙ ap length (sym kept)) in
     let ordered : OffersInOrder sent.0 = record {
-      front = made_front _ _ _ _ c.args.name c.as_slice.result.now c.args.rounds sent.0 _ _ sent.2;
+      front = made_front _ _ _ c.args.name c.as_slice.result.now c.args.rounds sent.0 _ _ sent.2;
       within = sent.1.sender.within;
     } in (
       Whole c.as_slice-2.result.now,
@@ -36,7 +36,7 @@ pub returns-clause-prints : goal.returns-clause-prints
 returns-clause-prints g c =
     let sent = c.in_ok-dispatch.ensures in
     let ordered : OffersInOrder sent.0 = record {
-      front = made_front _ _ _ _ c.args.name c.as_slice.result.now c.args.rounds sent.0 _ _ sent.2;
+      front = made_front _ _ _ c.args.name c.as_slice.result.now c.args.rounds sent.0 _ _ sent.2;
       within = sent.1.sender.within;
     } in (
       Part c.as_slice-2.result.now,
@@ -61,7 +61,7 @@ pub returns-in_err-requests-clause-prints : goal.returns-in_err-requests-clause-
 returns-in_err-requests-clause-prints g c =
     let answer = err_from_is_err_and c.from_residual.result c.from_residual.ensures.1 in (
       Nothing,
-      rw (answer.1, answer.2) (refuses_send _ _ _ _ c.args.name c.args.rounds _ c.args.dial.now
+      rw (answer.1, answer.2) (refuses_send _ _ _ c.args.name c.args.rounds _ c.args.dial.now
           c.in_err-requests.field-0.0 c.in_err-requests.ensures.err c.in_err-requests.ensures.own),
       refl,
     )

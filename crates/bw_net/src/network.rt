@@ -1,0 +1,103 @@
+//! The network and the folders of this machine, for `serve` and `send`.
+ghost use Rattle.std.specs.Prelude.{◌≡◌, ◌*◌, IfOk, option_map, string_bytes};
+ghost use Rattle.std.specs.Duration.{as_nanos};
+ghost use Rattle.bw_stream.specs.Moves.{failures_after};
+
+use crate::folder::check_folder;
+use crate::tcp::{TcpDial, TcpPeers};
+use bw_file::{FolderStore, SystemDisk};
+use bw_transfer::Network;
+use std::io;
+use std::net::{SocketAddr, TcpListener};
+use std::time::Duration;
+
+/// The network and the folders of the machine that the process runs on, by the calls of std. Of what
+/// is in a folder, and of what comes over a socket, no clause of std says anything.
+#[derive(Drop)]
+pub struct TcpNetwork<'a> {
+    rt: &'a HostRuntime,
+    failures: u64,
+}
+
+impl<'a> TcpNetwork<'a> {
+    /// The network of this runtime, which has not failed yet.
+    pub fn new(rt: &'a HostRuntime) -> TcpNetwork<'a>
+        ensures { result.failures ≡ 0 }
+    {
+        TcpNetwork { rt, failures: 0 }
+    }
+
+    fn open_peers(
+        &self,
+        address: SocketAddr,
+        folder: &str,
+        timeout: Option<u32>,
+    ) -> io::Result<TcpPeers<'a, HostRuntime, TcpListener>>
+        ensures { IfOk result (λ peers. (string_bytes peers.folder ≡ folder.now)
+            × (option_map as_nanos peers.timeout ≡ option_map (λ s. s * 1_000_000_000) timeout)) }
+    {
+        let folder = String::from_str(self.rt.alloc(), folder)?;
+        TcpPeers::listen(self.rt, address, folder, span(timeout))
+    }
+}
+
+/// So many seconds, where there is an end.
+fn span(seconds: Option<u32>) -> Option<Duration>
+    ensures { option_map as_nanos result ≡ option_map (λ s. s * 1_000_000_000) seconds }
+{
+    match seconds {
+        Some(seconds) => Some(Duration::from_secs(u64::from(seconds))),
+        None => None,
+    }
+}
+
+impl<'a> Network for TcpNetwork<'a> {
+    type Store = FolderStore<SystemDisk<&'a HostRuntime>>;
+
+    type Peers = TcpPeers<'a, HostRuntime, TcpListener>;
+
+    type Dial = TcpDial<'a, HostRuntime>;
+
+    ghost failures = { λ n. n.failures };
+
+    ghost stores = { λ n folder result n'. n'.failures ≡ failures_after result n.failures };
+
+    ghost listens = { λ n address folder timeout result n'. IfOk result (λ peers.
+        (string_bytes peers.folder ≡ folder)
+        × (option_map as_nanos peers.timeout ≡ option_map (λ s. s * 1_000_000_000) timeout)) };
+
+    ghost calls = { λ n address timeout dial. (dial.address ≡ address)
+        × (option_map as_nanos dial.timeout ≡ option_map (λ s. s * 1_000_000_000) timeout) };
+
+    fn store(&mut self, folder: &str) -> io::Result<FolderStore<SystemDisk<&'a HostRuntime>>> {
+        let alloc = self.rt.alloc();
+        if let Err(error) = check_folder(self.rt, alloc, folder) {
+            self.failures = self.failures.saturating_add(1);
+            return Err(error);
+        }
+        match FolderStore::new(self.rt, alloc, folder) {
+            Ok(store) => Ok(store),
+            Err(error) => {
+                self.failures = self.failures.saturating_add(1);
+                Err(io::Error::from(error))
+            }
+        }
+    }
+
+    fn listen(
+        &mut self,
+        address: SocketAddr,
+        folder: &str,
+        timeout: Option<u32>,
+    ) -> io::Result<TcpPeers<'a, HostRuntime, TcpListener>> {
+        let peers = self.open_peers(address, folder, timeout);
+        if peers.is_err() {
+            self.failures = self.failures.saturating_add(1);
+        }
+        peers
+    }
+
+    fn dial(&self, address: SocketAddr, timeout: Option<u32>) -> TcpDial<'a, HostRuntime> {
+        TcpDial::new(self.rt, address, span(timeout))
+    }
+}

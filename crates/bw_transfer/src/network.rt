@@ -1,0 +1,73 @@
+//! What `serve` and `send` ask of the system: a folder's store, peers, and links to a server.
+ghost use Rattle.std.specs.Prelude.{◌≡◌, ℕ, List, Result, Option};
+ghost use Rattle.std.specs.declared.io.Error.{Error as IoError};
+ghost use Rattle.std.specs.declared.net.socket_addr.SocketAddr.{SocketAddr};
+ghost use Rattle.bw_stream.specs.Moves.{failures_after};
+
+use crate::dial::Dial;
+use crate::peers::Peers;
+use bw_file::TakeStore;
+use bw_layout::Limit;
+use std::io;
+use std::net::SocketAddr;
+
+/// What a server is asked for.
+#[derive(Clone, Copy)]
+pub struct Serving<'a> {
+    /// Where peers come.
+    pub address: SocketAddr,
+    /// The folder of its files, as it was given.
+    pub folder: &'a str,
+    /// How many exchanges it serves.
+    pub exchanges: u64,
+    pub limit: Limit,
+    /// For how many seconds it waits for a peer; for good, where there is none.
+    pub timeout: Option<u32>,
+}
+
+/// Where a server stands and a recorder calls, and how often that failed.
+pub trait Network {
+    type Store: TakeStore;
+
+    type Peers: Peers + Drop;
+
+    type Dial: Dial + Drop;
+
+    ghost failures: { Self → ℕ };
+
+    /// What a call of `store` for this folder may come to, and what it leaves.
+    ghost stores: { Self → List ℕ → Result Self.Store IoError → Self → Type 0 };
+
+    /// What a call of `listen` for this address, folder and timeout may come to, and what it leaves.
+    ghost listens: { Self → SocketAddr → List ℕ → Option ℕ → Result Self.Peers IoError → Self
+        → Type 0 };
+
+    /// What a call of `dial` for this address and timeout gives.
+    ghost calls: { Self → SocketAddr → Option ℕ → Self.Dial → Type 0 };
+
+    /// The store of the folder's files.
+    ///
+    /// # Errors
+    /// Why the folder can't be used.
+    fn store(&mut self, folder: &str) -> io::Result<Self::Store>
+        ensures came { stores self.old folder.now result self.new }
+        ensures count { failures self.new ≡ failures_after result (failures self.old) };
+
+    /// Those who come to this address from now on, to a server over the folder, which waits for each
+    /// of their bytes no longer than so many seconds.
+    ///
+    /// # Errors
+    /// Why nobody can come.
+    fn listen(
+        &mut self,
+        address: SocketAddr,
+        folder: &str,
+        timeout: Option<u32>,
+    ) -> io::Result<Self::Peers>
+        ensures came { listens self.old address folder.now timeout result self.new }
+        ensures count { failures self.new ≡ failures_after result (failures self.old) };
+
+    /// What makes links to the server at this address, and waits no longer than so many seconds.
+    fn dial(&self, address: SocketAddr, timeout: Option<u32>) -> Self::Dial
+        ensures came { calls self.now address timeout result };
+}
