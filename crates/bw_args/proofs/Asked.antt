@@ -1,65 +1,97 @@
 -- What the getters of `clap` say of the task.
-use Rattle.std.proofs.Common.{◌≡◌, ℕ, List, [], ◌∷◌, Option, Some, None, Result, Ok, Err, OnErr, codes, refl}
-use Rattle.std.proofs.Common.{subst, sym, ◌∙◌, arith, inl, inr}
+use Rattle.std.proofs.Common.{◌≡◌, ℕ, ◌<◌, ◌≤◌, Bool, true, false, List, [], ◌∷◌, Option, Some, None, Result, Ok, Err}
+use Rattle.std.proofs.Common.{OnErr, codes, refl, subst, sym, ◌∙◌, arith, inl, inr, unwrap_or}
+use Rattle.std.proofs.Math.Path.{fun_ext}
 use Rattle.std.specs.Prelude.{⊤}
+use Rattle.std.specs.declared.net.socket_addr.SocketAddr.{SocketAddr}
+use Rattle.std.specs.Net.Socket.{socket_port}
 use Rattle.clap.specs.Words.{Row, Text, first_of, first_value, rows_of}
 use Rattle.clap.specs.declared.parser.matches.Found.{Found}
 use Rattle.clap.proofs.WalkLemmas.{first_value-rows}
-use Rattle.bw_args.specs.Lines.{AsksNothing, GivesFuse, GivesLimit, GivesName, GivesNoFuse, HasLimit, IsFirstBad}
-use Rattle.bw_args.specs.Lines.{IsGood, IsLimitGiven, IsNameGiven, IsLineFor, IsWishOf, Wish, looked_at}
-use Rattle.bw_args.specs.Lines.{Replaying, Rehearsing, Inspecting}
-use Rattle.bw_args.specs.Numbers.{IsLimit}
+use Rattle.bw_args.specs.Lines.{AsksNothing, GivesAddress, GivesCount, GivesEnd, GivesFuse, GivesLimit, GivesName}
+use Rattle.bw_args.specs.Lines.{GivesNoFuse, IsAddressGiven, IsEndGiven, is_set}
+use Rattle.bw_args.specs.Lines.{GivesSender, GivesServer, HasLimit, IsEnd, IsEndWithin, IsFirstBad, IsGood}
+use Rattle.bw_args.specs.Lines.{IsLimitGiven}
+use Rattle.bw_args.specs.Lines.{IsNameGiven, IsLineFor, IsWishOf, IsWithin, Service, Wish, given_by, looked_at}
+use Rattle.bw_args.specs.Lines.{Replaying, Rehearsing, Inspecting, Sending, Serving}
+use Rattle.bw_args.specs.Numbers.{IsLimit, default_rounds, most_exchanges, most_rounds}
 use Rattle.bw_args.specs.declared.CommandLine.{CommandLine}
 use Rattle.bw_args.specs.declared.CommandLine.TheVariants.{Run, BadValue as Bad, Tell}
-use Rattle.bw_args.specs.declared.Task.TheVariants.{Replay, Rehearse, Inspect}
+use Rattle.bw_args.specs.declared.Task.TheVariants.{Replay, Rehearse, Inspect, Serve, Send}
+use Rattle.bw_args.proofs.WishLemmas.{one_count}
+use Rattle.bw_args.specs.declared.peers.End.{End}
+use Rattle.bw_args.specs.declared.peers.Send.{Send as Sender}
 use Rattle.bw_args.specs.declared.bad_value.BadValue.{BadValue}
-use Rattle.bw_args.specs.declared.bad_value.BadValue.TheVariants.{Name, Limit, Fuse}
+use Rattle.bw_args.specs.declared.bad_value.BadValue.TheVariants.{Name, Limit, Fuse, UntilStopped}
 
 -- what the getters give of the options, by their rows
-in_rows : (found : Found) (id : Text) (P : Option Text → Type 0) → P (first_value found id)
-    → P (first_of id (rows_of found))
-in_rows found id P given = subst P (first_value-rows found id) given
+by_rows : (found : Found) (P : (Text → Option Text) → Type 0) → P (first_value found) → P (given_by (rows_of found))
+by_rows found P given = subst P (fun_ext (first_value-rows found)) given
 
 -- none of these values is bad
-abbrev pub AllGood : List BadValue → List Row → Type 0
-AllGood [] options = ⊤
-AllGood (value ∷ values) options = IsGood value options × AllGood values options
+abbrev pub AllGood : List BadValue → (Text → Option Text) → Type 0
+AllGood [] given = ⊤
+AllGood (value ∷ values) given = IsGood value given × AllGood values given
 
 -- what is asked for has good values alone
 pub wished_good : (name : Text) (options : List Row) (wish : Wish) → IsWishOf (Some (name, options)) wish
-    → AllGood (looked_at name) options
-wished_good name options (Replaying limit fuse) asked =
-    subst (λ n. AllGood (looked_at n) options) (sym asked.0) ((limit, asked.1), ((fuse, asked.2), tt))
-wished_good name options (Rehearsing take_name limit) asked =
-    subst (λ n. AllGood (looked_at n) options) (sym asked.0) ((take_name, asked.1), ((limit, asked.2), tt))
-wished_good name options (Inspecting path) asked = subst (λ n. AllGood (looked_at n) options) (sym asked.0) tt
+    → AllGood (looked_at name) (given_by options)
+wished_good name options wish asked = go wish asked
+  where
+    at : (command : Text) → name ≡ command → AllGood (looked_at command) (given_by options)
+        → AllGood (looked_at name) (given_by options)
+    at command same good = subst (λ n. AllGood (looked_at n) (given_by options)) (sym same) good
+
+    go : (w : Wish) → IsWishOf (Some (name, options)) w → AllGood (looked_at name) (given_by options)
+    go (Replaying limit fuse) a = at (codes "replay") a.0 ((limit, a.1), ((fuse, a.2), tt))
+    go (Rehearsing take_name limit) a = at (codes "rehearse") a.0 ((take_name, a.1), ((limit, a.2), tt))
+    go (Inspecting path) a = at (codes "inspect") a.0 tt
+    go (Serving server) a = at (codes "serve") a.0 (
+      (server.listen, a.1.listens),
+      (
+        (server.folder, a.1.keeps),
+        (
+          (a.1.ends.0, a.1.ends.1),
+          (
+            (server.limit, a.1.limited),
+            ((server.timeout, a.1.waits), ((server.end, a.1.ends), tt)),
+          ),
+        ),
+      ),
+    )
+    go (Sending sender) a = at (codes "send") a.0 (
+      (sender.connect, a.1.connects),
+      ((sender.name, a.1.named), ((a.1.tries.0, a.1.tries.1), ((sender.timeout, a.1.waits), tt))),
+    )
 
 -- where all are good none is the first that is bad
-pub good_not_bad : (values : List BadValue) (options : List Row) (value : BadValue) → AllGood values options
-    → ¬ IsFirstBad values options value
-good_not_bad [] options value good bad = bad
-good_not_bad (first ∷ later) options value good bad = elim bad [
+pub good_not_bad : (values : List BadValue) (given : Text → Option Text) (value : BadValue) → AllGood values given
+    → ¬ IsFirstBad values given value
+good_not_bad [] given value good bad = bad
+good_not_bad (first ∷ later) given value good bad = elim bad [
   | inl here ↦ here.0 good.0
-  | inr behind ↦ good_not_bad later options value good.1 behind.1
+  | inr behind ↦ good_not_bad later given value good.1 behind.1
 ]
 
 -- the first bad value is one
-pub one_bad : (values : List BadValue) (options : List Row) (a b : BadValue) → IsFirstBad values options a
-    → IsFirstBad values options b → a ≡ b
-one_bad [] options a b x y = absurd x
-one_bad (first ∷ later) options a b x y = elim x [
+pub one_bad : (values : List BadValue) (given : Text → Option Text) (a b : BadValue) → IsFirstBad values given a
+    → IsFirstBad values given b → a ≡ b
+one_bad [] given a b x y = absurd x
+one_bad (first ∷ later) given a b x y = elim x [
   | inl here ↦ elim y [ inl too ↦ here.1 ∙ sym too.1 | inr behind ↦ absurd (here.0 behind.0) ]
-  | inr behind ↦ elim y [ inl here ↦ absurd (here.0 behind.0) | inr too ↦ one_bad later options a b behind.1 too.1 ]
+  | inr behind ↦ elim y [ inl here ↦ absurd (here.0 behind.0) | inr too ↦ one_bad later given a b behind.1 too.1 ]
 ]
 
 -- where a value is the first that is bad, that is the line
 pub bad_line : (found : Found) (command : Text) (value : BadValue)
-    → IsFirstBad (looked_at command) (rows_of found) value → IsLineFor (Some (command, rows_of found)) (Bad value)
-bad_line found command value first = (
-  (λ wish asked.
-      good_not_bad (looked_at command) (rows_of found) value (wished_good command (rows_of found) wish asked) first),
-  inl first,
-)
+    → IsFirstBad (looked_at command) (first_value found) value → IsLineFor (Some (command, rows_of found)) (Bad value)
+bad_line found command value first =
+    let bad : IsFirstBad (looked_at command) (given_by (rows_of found)) value =
+    by_rows found (λ g. IsFirstBad (looked_at command) g value) first in (
+      (λ wish asked. good_not_bad (looked_at command) (given_by (rows_of found)) value
+          (wished_good command (rows_of found) wish asked) bad),
+      inl bad,
+    )
 
 -- what is given is what is asked for
 pub given_asked : (found : Found) (limit : ℕ) (fuse : Option ℕ)
@@ -67,13 +99,14 @@ pub given_asked : (found : Found) (limit : ℕ) (fuse : Option ℕ)
     → IsWishOf (Some (codes "replay", rows_of found)) (Replaying limit fuse)
 given_asked found limit fuse given burns = (
   refl,
-  in_rows found (codes "limit") (λ t. GivesLimit t limit) given,
-  in_rows found (codes "fuse") (λ t. GivesFuse t fuse) burns,
+  by_rows found (λ g. GivesLimit (g (codes "limit")) limit) given,
+  by_rows found (λ g. GivesFuse (g (codes "fuse")) fuse) burns,
 )
 
 -- no limit that is one
-no_limit : (found : Found) → IsLimitGiven (first_value found (codes "limit")) None → ¬ IsGood Limit (rows_of found)
-no_limit found given good = in_rows found (codes "limit") (λ t. IsLimitGiven t None) given good.0 good.1
+pub no_limit : (found : Found) → IsLimitGiven (first_value found (codes "limit")) None
+    → ¬ IsGood Limit (first_value found)
+no_limit found given good = given good.0 good.1
 
 -- where no limit is given that is one, that is the line
 pub no_limit_line : (found : Found) → IsLimitGiven (first_value found (codes "limit")) None
@@ -83,10 +116,8 @@ no_limit_line found given = bad_line found (codes "replay") Limit (inl (no_limit
 -- where no fuse is given that is one beside a limit, that is the line
 pub no_fuse_line : (found : Found) (limit : ℕ) → GivesLimit (first_value found (codes "limit")) limit
     → GivesNoFuse (first_value found (codes "fuse")) → IsLineFor (Some (codes "replay", rows_of found)) (Bad Fuse)
-no_fuse_line found limit given burns = bad_line found (codes "replay") Fuse (inr (
-  (limit, in_rows found (codes "limit") (λ t. GivesLimit t limit) given),
-  inl ((λ good. in_rows found (codes "fuse") GivesNoFuse burns good.0 good.1), refl),
-))
+no_fuse_line found limit given burns = bad_line found (codes "replay") Fuse
+    (inr ((limit, given), inl ((λ good. burns good.0 good.1), refl)))
 
 -- the name and the limit that are given are those that are asked for
 pub given_rehearsed : (found : Found) (name : Text) (limit : ℕ)
@@ -94,26 +125,21 @@ pub given_rehearsed : (found : Found) (name : Text) (limit : ℕ)
     → IsWishOf (Some (codes "rehearse", rows_of found)) (Rehearsing name limit)
 given_rehearsed found name limit named given = (
   refl,
-  in_rows found (codes "name") (λ t. GivesName t name) named,
-  in_rows found (codes "limit") (λ t. GivesLimit t limit) given,
+  by_rows found (λ g. GivesName (g (codes "name")) name) named,
+  by_rows found (λ g. GivesLimit (g (codes "limit")) limit) given,
 )
 
 -- where no name is given that is one, that is the line
 pub no_name_line : (found : Found) → IsNameGiven (first_value found (codes "name")) None
     → IsLineFor (Some (codes "rehearse", rows_of found)) (Bad Name)
-no_name_line found given = bad_line found (codes "rehearse") Name (inl (
-  (λ good. in_rows found (codes "name") (λ t. IsNameGiven t None) given good.0 good.1),
-  refl,
-))
+no_name_line found given = bad_line found (codes "rehearse") Name (inl ((λ good. given good.0 good.1), refl))
 
 -- where no limit is given that is one beside a name, that is the line
 pub name_alone_line : (found : Found) (name : Text) → GivesName (first_value found (codes "name")) name
     → IsLimitGiven (first_value found (codes "limit")) None
     → IsLineFor (Some (codes "rehearse", rows_of found)) (Bad Limit)
-name_alone_line found name named given = bad_line found (codes "rehearse") Limit (inr (
-  (name, in_rows found (codes "name") (λ t. GivesName t name) named),
-  inl (no_limit found given, refl),
-))
+name_alone_line found name named given = bad_line found (codes "rehearse") Limit
+    (inr ((name, named), inl (no_limit found given, refl)))
 
 -- the file that is given is the one that is asked for
 pub file_asked : (found : Found) (path : Text) → Some path ≡ first_value found (codes "file")
@@ -128,20 +154,94 @@ no_file_line found given = (nothing, inr (refl, refl))
     nothing : AsksNothing (Some (codes "inspect", rows_of found))
     nothing (Replaying n k) asked = let bad : codes "inspect" ≡ codes "replay" = asked.0 in cc
     nothing (Rehearsing name n) asked = let bad : codes "inspect" ≡ codes "rehearse" = asked.0 in cc
+    nothing (Serving server) asked = let bad : codes "inspect" ≡ codes "serve" = asked.0 in cc
+    nothing (Sending sender) asked = let bad : codes "inspect" ≡ codes "send" = asked.0 in cc
     nothing (Inspecting path) asked =
         let bad : None ≡ Some path = given ∙ first_value-rows found (codes "file") ∙ asked.1 in cc
+
+-- the server that is given is the one that is asked for
+pub server_asked : (found : Found) (server : Service) → GivesServer (first_value found) server
+    → IsWishOf (Some (codes "serve", rows_of found)) (Serving server)
+server_asked found server given = (refl, by_rows found (λ g. GivesServer g server) given)
+
+-- .. and the sender
+pub sender_asked : (found : Found) (sender : Sender) → GivesSender (first_value found) sender
+    → IsWishOf (Some (codes "send", rows_of found)) (Sending sender)
+sender_asked found sender given = (refl, by_rows found (λ g. GivesSender g sender) given)
+
+-- addresses and ends, where a flag was read before
+pub an_address : (found : Found) (option : Text) (network : Bool) (address : SocketAddr)
+    → network ≡ is_set (first_value found (codes "network")) → GivesAddress network (first_value found option) address
+    → GivesAddress (is_set (first_value found (codes "network"))) (first_value found option) address
+an_address found option network address is given =
+    subst (λ n. GivesAddress n (first_value found option) address) is given
+
+pub no_address : (found : Found) (option : Text) (network : Bool)
+    → network ≡ is_set (first_value found (codes "network")) → IsAddressGiven network (first_value found option) None
+    → ¬ ((address : SocketAddr)
+    × GivesAddress (is_set (first_value found (codes "network"))) (first_value found option) address)
+no_address found option network is none good =
+    subst (λ n. IsAddressGiven n (first_value found option) None) is none good.0 good.1
+
+pub an_end : (found : Found) (until_stopped : Bool) (count : Option ℕ) (end : End)
+    → until_stopped ≡ is_set (first_value found (codes "until-stopped"))
+    → GivesCount most_exchanges (first_value found (codes "exchanges")) count → IsEnd count until_stopped end
+    → GivesEnd (first_value found (codes "exchanges")) (is_set (first_value found (codes "until-stopped"))) end
+an_end found until_stopped count end is given ends = (count, given, subst (λ u. IsEnd count u end) is ends)
+
+pub no_end : (found : Found) (until_stopped : Bool) (count : Option ℕ)
+    → until_stopped ≡ is_set (first_value found (codes "until-stopped"))
+    → GivesCount most_exchanges (first_value found (codes "exchanges")) count → IsEndGiven count until_stopped None
+    → ¬ IsGood UntilStopped (first_value found)
+no_end found until_stopped count is given none good =
+    let same : good.1.0 ≡ count =
+    one_count most_exchanges (first_value found (codes "exchanges")) good.1.0 count good.1.1 given in
+    none good.0 (subst (λ u. IsEnd count u good.0) (sym is)
+    (subst (λ c. IsEnd c (is_set (first_value found (codes "until-stopped"))) good.0) same good.1.2))
 
 given_limit : (text : Option Text) (limit : ℕ) → GivesLimit text limit → IsLimit limit
 given_limit (Some text) limit given = subst IsLimit (sym given.1) given.0.1
 given_limit None limit given = subst IsLimit (sym given) (refl, omega arith, omega arith)
 
--- a replay or a rehearsal that is asked for has a limit
+given_port : (network : Bool) (text : Option Text) (address : SocketAddr) → GivesAddress network text address
+    → 0 < socket_port address
+given_port network (Some text) address given = given.port
+given_port network None address given = absurd given
+
+given_count : (most : ℕ) (text : Option Text) (count : Option ℕ) → GivesCount most text count → IsWithin most count
+given_count most None count given = subst (IsWithin most) (sym given) tt
+given_count most (Some text) count given = subst (IsWithin most) (sym given.1) (given.0.1, given.0.2)
+
+given_end : (count : Option ℕ) (until_stopped : Bool) (end : End) → IsWithin most_exchanges count
+    → IsEnd count until_stopped end → IsEndWithin end
+given_end None false end within is = subst IsEndWithin (sym is) (omega arith, omega arith)
+given_end (Some count) false end within is = subst IsEndWithin (sym is) within
+given_end None true end within is = subst IsEndWithin (sym is) tt
+given_end (Some count) true end within is = absurd is
+
+given_rounds : (count : Option ℕ) (rounds : ℕ) → IsWithin most_rounds count → rounds ≡ unwrap_or count default_rounds
+    → (1 ≤ rounds) × (rounds ≤ most_rounds)
+given_rounds None rounds within is = rw is (omega arith, omega arith)
+given_rounds (Some count) rounds within is = rw is within
+
+-- the numbers of a task that is asked for are in their ranges
 pub line_limit : (command : Option (Text × List Row)) (line : CommandLine) → IsLineFor command line → HasLimit line
 line_limit (Some command) (Run (Replay limit fuse)) asked =
     given_limit (first_of (codes "limit") command.1) limit asked.1
 line_limit (Some command) (Run (Rehearse name limit)) asked =
     given_limit (first_of (codes "limit") command.1) limit asked.2
 line_limit (Some command) (Run (Inspect file)) asked = tt
+line_limit (Some command) (Run (Serve server)) asked = (
+  given_port _ _ server.listen asked.1.listens,
+  given_end _ _ server.end (given_count _ _ _ asked.1.ends.1) asked.1.ends.2,
+  given_limit _ server.limit asked.1.limited,
+  given_count _ _ server.timeout asked.1.waits,
+)
+line_limit (Some command) (Run (Send sender)) asked = (
+  given_port _ _ sender.connect asked.1.connects,
+  given_rounds _ sender.rounds (given_count _ _ _ asked.1.tries.1) asked.1.tries.2,
+  given_count _ _ sender.timeout asked.1.waits,
+)
 line_limit None (Run task) asked = absurd asked
 line_limit command (Bad value) asked = tt
 line_limit command (Tell error) asked = tt

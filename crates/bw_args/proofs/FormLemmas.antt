@@ -6,17 +6,18 @@ use Rattle.std.proofs.lemmas.Bool.{eqb-true}
 use Rattle.clap.specs.declared.error.ErrorKind.{ErrorKind}
 use Rattle.clap.specs.declared.error.ErrorKind.TheVariants.{DisplayHelp, DisplayVersion, MissingRequiredArgument}
 use Rattle.clap.specs.declared.error.ErrorKind.TheVariants.{MissingSubcommand, UnknownArgument}
-use Rattle.clap.specs.Words.{IsAmong, Row, Text, fault_of, first_of, kind_of}
+use Rattle.clap.specs.Words.{IsAmong, Text, fault_of, kind_of}
 use Rattle.clap.proofs.OnLiterals.{clap_on_literals}
 use Rattle.bw_args.specs.Commands.{command_line}
-use Rattle.bw_args.specs.Lines.{AsksFor, GivesFuse, GivesLimit, GivesName, IsLineOf, IsLineRead, IsWishOf, Wish}
+use Rattle.bw_args.specs.Lines.{AsksFor, IsLineOf, IsLineRead, Wish}
 use Rattle.bw_args.specs.ReadWords.{as_read}
-use Rattle.bw_args.specs.Lines.{Inspecting, Rehearsing, Replaying, wish_of}
-use Rattle.bw_args.specs.Forms.{Inspects, IsPlain, IsToldAs, RunsInspect, RunsReplay, TellsHelp}
+use Rattle.bw_args.specs.Lines.{Inspecting, Replaying, wish_of}
+use Rattle.bw_args.specs.Forms.{Inspects, IsPlain, IsToldAs, RunsFor, RunsInspect, RunsReplay, TellsHelp}
 use Rattle.bw_args.specs.Numbers.{IsLimitText, IsNumber, default_limit, number_written}
+use Rattle.bw_args.proofs.WishLemmas.{one_wish}
 use Rattle.bw_args.specs.declared.CommandLine.{CommandLine}
 use Rattle.bw_args.specs.declared.CommandLine.TheVariants.{Run, BadValue as Bad, Tell}
-use Rattle.bw_args.specs.declared.Task.TheVariants.{Inspect, Rehearse, Replay}
+use Rattle.bw_args.specs.declared.Task.TheVariants.{Inspect, Rehearse, Replay, Send, Serve}
 
 -- a digit is no hyphen, so the word is read as a value
 pub no_hyphen : (d : ℕ) (ds : Text) → IsNumber (d ∷ ds) → (d == 45) ≡ false
@@ -80,48 +81,6 @@ turned_asks program (c ∷ cs) (d ∷ ds) given burns =
     let w = no_hyphen d ds burns in
     record { taken = rw (w, w, v, v) (refl {a = []}); asked = simp (v, w) (refl, (given, refl), (burns, refl)) }
 
--- a command asks for one task
-one_limit : (text : Option Text) (a b : ℕ) → GivesLimit text a → GivesLimit text b → a ≡ b
-one_limit None a b x y = x ∙ sym y
-one_limit (Some text) a b x y = x.1 ∙ sym y.1
-
-one_fuse : (text : Option Text) (a b : Option ℕ) → GivesFuse text a → GivesFuse text b → a ≡ b
-one_fuse None a b x y = x ∙ sym y
-one_fuse (Some text) a b x y = x.1 ∙ sym y.1
-
-one_name : (text : Option Text) (a b : Text) → GivesName text a → GivesName text b → a ≡ b
-one_name None a b x y = absurd x
-one_name (Some text) a b x y = x.1 ∙ sym y.1
-
-one_wish : (command : Option (Text × List Row)) (a b : Wish) → IsWishOf command a → IsWishOf command b → a ≡ b
-one_wish None a b x y = absurd x
-one_wish (Some command) (Replaying a k) (Replaying b j) x y =
-    let limits : a ≡ b = one_limit (first_of (codes "limit") command.1) a b x.1 y.1 in
-    let fuses : k ≡ j = one_fuse (first_of (codes "fuse") command.1) k j x.2 y.2 in cc
-one_wish (Some command) (Rehearsing a n) (Rehearsing b m) x y =
-    let names : a ≡ b = one_name (first_of (codes "name") command.1) a b x.1 y.1 in
-    let limits : n ≡ m = one_limit (first_of (codes "limit") command.1) n m x.2 y.2 in cc
-one_wish (Some command) (Replaying a k) (Rehearsing b n) x y = let bad : codes "replay" ≡ codes "rehearse" =
-    sym x.0 ∙ y.0 in cc
-one_wish (Some command) (Rehearsing a n) (Replaying b k) x y = let bad : codes "rehearse" ≡ codes "replay" =
-    sym x.0 ∙ y.0 in cc
-one_wish (Some command) (Rehearsing a n) (Inspecting b) x y = let bad : codes "rehearse" ≡ codes "inspect" =
-    sym x.0 ∙ y.0 in cc
-one_wish (Some command) (Inspecting a) (Rehearsing b n) x y = let bad : codes "inspect" ≡ codes "rehearse" =
-    sym x.0 ∙ y.0 in cc
-one_wish (Some command) (Inspecting a) (Inspecting b) x y =
-    let same : Some a ≡ Some b = sym x.1 ∙ y.1 in cc
-one_wish (Some command) (Replaying a k) (Inspecting b) x y = let bad : codes "replay" ≡ codes "inspect" =
-    sym x.0 ∙ y.0 in cc
-one_wish (Some command) (Inspecting a) (Replaying b k) x y = let bad : codes "inspect" ≡ codes "replay" =
-    sym x.0 ∙ y.0 in cc
-
--- the line runs a task for this
-abbrev pub RunsFor : Wish → CommandLine → Type 0
-RunsFor wish (Run task) = wish_of task ≡ wish
-RunsFor wish (Bad value) = ⊥
-RunsFor wish (Tell error) = ⊥
-
 -- words that ask for something run it
 pub runs : (words : List Text) (line : CommandLine) (wish : Wish) → IsLineRead words line → AsksFor words wish →
     RunsFor wish line
@@ -134,6 +93,8 @@ replays : (limit : ℕ) (fuse : Option ℕ) (line : CommandLine) → RunsFor (Re
 replays limit fuse (Run (Replay n k)) e = let limits : n ≡ limit = cc in let fuses : k ≡ fuse = cc in cc
 replays limit fuse (Run (Rehearse name n)) e = cc
 replays limit fuse (Run (Inspect file)) e = cc
+replays limit fuse (Run (Serve server)) e = cc
+replays limit fuse (Run (Send sender)) e = cc
 replays limit fuse (Bad value) e = absurd e
 replays limit fuse (Tell error) e = absurd e
 
@@ -141,6 +102,8 @@ inspects : (path : Text) (line : CommandLine) → RunsFor (Inspecting path) line
 inspects path (Run (Inspect file)) e = cc
 inspects path (Run (Replay limit fuse)) e = cc
 inspects path (Run (Rehearse name limit)) e = cc
+inspects path (Run (Serve server)) e = cc
+inspects path (Run (Send sender)) e = cc
 inspects path (Bad value) e = absurd e
 inspects path (Tell error) e = absurd e
 
@@ -208,7 +171,8 @@ file_asks program (d ∷ ds) plain =
     let value = plain_byte d plain in
     record { taken = rw (value, value) (refl {a = []}); asked = simp value (refl, refl) }
 
-no_file_fault : (program : Text) → fault_of command_line (program ∷ codes "inspect" ∷ []) ≡ MissingRequiredArgument ∷ []
+no_file_fault : (program : Text)
+    → fault_of command_line (program ∷ codes "inspect" ∷ []) ≡ MissingRequiredArgument ∷ []
 unfolding clap_on_literals
 no_file_fault program = refl
 
@@ -216,8 +180,10 @@ second_fault : (program path other : Text) → IsPlain path → IsPlain other
     → fault_of command_line (program ∷ codes "inspect" ∷ path ∷ other ∷ []) ≡ UnknownArgument ∷ []
 unfolding clap_on_literals
 second_fault program [] [] p q = refl {a = UnknownArgument ∷ []}
-second_fault program [] (d ∷ ds) p q = let value = plain_byte d q in rw (value, value) (refl {a = UnknownArgument ∷ []})
-second_fault program (d ∷ ds) [] p q = let value = plain_byte d p in rw (value, value) (refl {a = UnknownArgument ∷ []})
+second_fault program [] (d ∷ ds) p q = let value = plain_byte d q in rw (value, value) (refl {a = UnknownArgument
+    ∷ []})
+second_fault program (d ∷ ds) [] p q = let value = plain_byte d p in rw (value, value) (refl {a = UnknownArgument
+    ∷ []})
 second_fault program (c ∷ cs) (d ∷ ds) p q = let v = plain_byte c p in let w =
     plain_byte d q in rw (v, v, w, w) (refl {a = UnknownArgument ∷ []})
 

@@ -1,5 +1,10 @@
+pub mod AddressLemmas
+pub mod WishLemmas
 pub mod Asked
 pub mod LineLemmas
 pub mod FormLemmas
 pub mod ValueLemmas
 pub mod RehearsalLemmas
+pub mod ServerLemmas
+pub mod SenderLemmas
+pub mod PeerValueLemmas

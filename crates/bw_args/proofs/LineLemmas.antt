@@ -1,5 +1,6 @@
 -- What a parse by `clap` says of the words.
-use Rattle.std.proofs.Common.{◌≡◌, ◌≢◌, List, [], true, false, refl, ap, subst, sym, ◌∙◌, inl, inr, Option, Result, Ok}
+use Rattle.std.proofs.Common.{◌≡◌, ◌≢◌, List, [], true, false, refl, ap, subst, sym, ◌∙◌, inl, inr, Option, Result}
+use Rattle.std.proofs.Common.{Ok}
 use Rattle.std.proofs.Common.{Err, IfOk, IsErr}
 use Rattle.std.specs.declared.alloc.AllocError.{AllocError}
 use Rattle.clap.specs.Words.{App, Text, HasKind, IsAmong, Row, fault_of, is_simple, is_simple_and_free, kind_of}

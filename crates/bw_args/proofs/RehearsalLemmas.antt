@@ -7,17 +7,17 @@ use Rattle.clap.proofs.OnLiterals.{clap_on_literals}
 use Rattle.bw_args.specs.Commands.{command_line}
 use Rattle.bw_args.specs.ReadWords.{as_read, joined}
 use Rattle.bw_args.specs.Lines.{AsksFor, IsLineOf, IsName, IsWishOf, Rehearsing}
-use Rattle.bw_args.specs.Forms.{RunsRehearsal}
+use Rattle.bw_args.specs.Forms.{RunsFor, RunsRehearsal}
 use Rattle.bw_args.specs.Numbers.{IsLimitText, default_limit, number_written}
 use Rattle.bw_args.specs.declared.CommandLine.{CommandLine}
 use Rattle.bw_args.specs.declared.CommandLine.TheVariants.{Run, BadValue as Bad, Tell}
-use Rattle.bw_args.specs.declared.Task.TheVariants.{Inspect, Rehearse, Replay}
-use Rattle.bw_args.proofs.FormLemmas.{RunsFor, no_hyphen, runs, tells}
+use Rattle.bw_args.specs.declared.Task.TheVariants.{Inspect, Rehearse, Replay, Send, Serve}
+use Rattle.bw_args.proofs.FormLemmas.{no_hyphen, runs, tells}
 
 -- a limit's word is read as it stands
 limit_stays : (d : ℕ) (ds : Text) (rest : List Text) → (d == 45) ≡ false
-    → joined false ((d ∷ ds) ∷ rest) ≡ (d ∷ ds) ∷ joined false rest
-limit_stays d ds rest value = rw value (refl {a = (d ∷ ds) ∷ joined false rest})
+    → joined (codes "--name") false ((d ∷ ds) ∷ rest) ≡ (d ∷ ds) ∷ joined (codes "--name") false rest
+limit_stays d ds rest value = rw value (refl {a = (d ∷ ds) ∷ joined (codes "--name") false rest})
 
 joined_asks : (program name : Text) → IsName name
     → AsksFor (program ∷ codes "rehearse" ∷ (codes "--name=" ++ name) ∷ []) (Rehearsing name default_limit)
@@ -77,13 +77,18 @@ both_joined_asks : (program name limit : Text) → IsName name → IsLimitText l
     (program ∷ codes "rehearse" ∷ (codes "--name=" ++ name) ∷ (codes "--limit=" ++ limit) ∷ [])
     (Rehearsing name (number_written limit))
 unfolding clap_on_literals
-both_joined_asks program name limit named given = record { taken = refl; asked = (refl, (named, refl), (given, refl)) }
+both_joined_asks program name limit named given = record {
+  taken = refl;
+  asked = (refl, (named, refl), (given, refl));
+}
 
 rehearses : (name : Text) (limit : ℕ) (line : CommandLine) → RunsFor (Rehearsing name limit) line
     → line ≡ Run (Rehearse name limit)
 rehearses name limit (Run (Rehearse m n)) e = let names : m ≡ name = cc in let limits : n ≡ limit = cc in cc
 rehearses name limit (Run (Replay n k)) e = cc
 rehearses name limit (Run (Inspect file)) e = cc
+rehearses name limit (Run (Serve server)) e = cc
+rehearses name limit (Run (Send sender)) e = cc
 rehearses name limit (Bad value) e = absurd e
 rehearses name limit (Tell error) e = absurd e
 

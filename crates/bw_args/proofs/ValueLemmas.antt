@@ -4,7 +4,8 @@ use Rattle.clap.specs.Words.{IsAmong, Row, Text, fault_of, kind_of, subcommand_o
 use Rattle.clap.proofs.OnLiterals.{clap_on_literals}
 use Rattle.bw_args.specs.Commands.{command_line}
 use Rattle.bw_args.specs.ReadWords.{as_read}
-use Rattle.bw_args.specs.Lines.{IsFirstBad, IsLineOf, IsLineRead, IsName, IsWishOf, Lacks, Wish, looked_at, wish_of}
+use Rattle.bw_args.specs.Lines.{IsFirstBad, IsLineOf, IsLineRead, IsName, IsWishOf, Lacks, Wish}
+use Rattle.bw_args.specs.Lines.{given_by, looked_at, wish_of}
 use Rattle.bw_args.specs.Forms.{RefusesValues}
 use Rattle.bw_args.specs.Numbers.{IsLimitText, IsNumber, default_limit}
 use Rattle.bw_args.specs.declared.CommandLine.{CommandLine}
@@ -16,21 +17,21 @@ use Rattle.bw_args.proofs.Asked.{good_not_bad, one_bad, wished_good}
 -- the command's first bad value
 abbrev pub HasFirstBad : Option (Text × List Row) → BadValue → Type 0
 HasFirstBad None value = ⊥
-HasFirstBad (Some command) value = IsFirstBad (looked_at command.0) command.1 value
+HasFirstBad (Some command) value = IsFirstBad (looked_at command.0) (given_by command.1) value
 
 -- a command with a bad value asks for nothing
 bad_not_wished : (command : Option (Text × List Row)) (value : BadValue) (wish : Wish) → HasFirstBad command value
     → ¬ IsWishOf command wish
 bad_not_wished None value wish bad asked = bad
 bad_not_wished (Some command) value wish bad asked =
-    good_not_bad (looked_at command.0) command.1 value (wished_good command.0 command.1 wish asked) bad
+    good_not_bad (looked_at command.0) (given_by command.1) value (wished_good command.0 command.1 wish asked) bad
 
 -- .. and lacks no other one
 one_lacked : (command : Option (Text × List Row)) (a b : BadValue) → HasFirstBad command a → Lacks command b → b ≡ a
 one_lacked None a b bad lacks = absurd bad
 one_lacked (Some command) a b bad lacks = elim lacks [
-  | inl first ↦ one_bad (looked_at command.0) command.1 b a first bad
-  | inr none ↦ absurd (subst (λ (values : List BadValue). IsFirstBad values command.1 a) none.0 bad)
+  | inl first ↦ one_bad (looked_at command.0) (given_by command.1) b a first bad
+  | inr none ↦ absurd (subst (λ (values : List BadValue). IsFirstBad values (given_by command.1) a) none.0 bad)
 ]
 
 -- words that `clap` takes, and whose command has a first bad value, tell it

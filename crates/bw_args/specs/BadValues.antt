@@ -2,7 +2,14 @@
 use Rattle.std.specs.Prelude.{[], ◌∷◌, ◌++◌, codes}
 use Rattle.clap.specs.Walk.{Text}
 use Rattle.bw_args.specs.declared.bad_value.BadValue.{BadValue}
-use Rattle.bw_args.specs.declared.bad_value.BadValue.TheVariants.{Name, Limit, Fuse}
+use Rattle.bw_args.specs.declared.bad_value.BadValue.TheVariants.{Name, Limit, Fuse, Listen}
+use Rattle.bw_args.specs.declared.bad_value.BadValue.TheVariants.{Folder, Exchanges, Timeout}
+use Rattle.bw_args.specs.declared.bad_value.BadValue.TheVariants.{UntilStopped, Connect, Rounds}
+
+-- what an address is
+abbrev pub address_wanted : Text
+address_wanted =
+    codes "127.0.0.1:PORT, or any IP:PORT with '--network'; PORT is 1 to 65535"
 
 -- which option it is, and what that takes
 abbrev pub fault_said : BadValue → Text
@@ -10,6 +17,15 @@ fault_said Name = codes "'--name <NAME>' takes 1 to 32 bytes of a-z, 0-9, '-' an
 fault_said Limit =
     codes "'--limit <N>' takes an even number from 8192 to 4294967294, in at most ten digits"
 fault_said Fuse = codes "'--fuse <K>' takes a number from 0 to 4294967295, in at most ten digits"
+fault_said Listen = codes "'--listen <ADDR>' takes " ++ address_wanted
+fault_said Folder = codes "'--folder <DIR>' takes the path of a folder, which isn't empty"
+fault_said Exchanges =
+    codes "'--exchanges <N>' takes a number from 1 to 1000000, in at most ten digits"
+fault_said Timeout =
+    codes "'--timeout <SECONDS>' takes a number from 1 to 86400, in at most ten digits"
+fault_said UntilStopped = codes "'--until-stopped' can't be given beside '--exchanges <N>'"
+fault_said Connect = codes "'--connect <ADDR>' takes " ++ address_wanted
+fault_said Rounds = codes "'--rounds <N>' takes a number from 1 to 1000, in at most ten digits"
 
 -- the end of a line, and an empty line
 abbrev pub line_and_gap : Text

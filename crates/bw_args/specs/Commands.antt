@@ -1,23 +1,40 @@
 -- The command line as `clap` sees it.
 use Rattle.std.specs.Prelude.{Some, true, codes}
-use Rattle.clap.specs.Walk.{Rule}
+use Rattle.clap.specs.Walk.{Rule, Text}
 use Rattle.clap.specs.Simple.{App, new_app, new_rule, on_top, with_rule, with_subcommand}
+use Rattle.clap.specs.declared.builder.action.ArgAction.TheVariants.{SetTrue}
+
+-- an option with a value, `--limit N`
+abbrev pub option : Text → Rule
+option name = record (new_rule name) { long = Some name; value_names = 1 }
+
+-- one that may not be left out
+abbrev pub required : Text → Rule
+required name = record (option name) { required = true }
+
+-- a flag, `--network`
+abbrev pub flag : Text → Rule
+flag name = record (new_rule name) { long = Some name; action = Some SetTrue }
 
 -- `--limit N`
 abbrev pub limit_option : Rule
-limit_option = record (new_rule (codes "limit")) { long = Some (codes "limit"); value_names = 1 }
+limit_option = option (codes "limit")
 
--- `--name NAME`, which may not be left out
+-- `--name NAME`
 abbrev pub name_option : Rule
-name_option = record (new_rule (codes "name")) {
-  long = Some (codes "name");
-  value_names = 1;
-  required = true;
-}
+name_option = required (codes "name")
 
 -- `--fuse K`
 abbrev pub fuse_option : Rule
-fuse_option = record (new_rule (codes "fuse")) { long = Some (codes "fuse"); value_names = 1 }
+fuse_option = option (codes "fuse")
+
+-- `--timeout SECONDS`
+abbrev pub timeout_option : Rule
+timeout_option = option (codes "timeout")
+
+-- `--network`
+abbrev pub network_flag : Rule
+network_flag = flag (codes "network")
 
 -- `replay`, with its two options
 abbrev pub replay_command : App
@@ -35,14 +52,66 @@ file_argument = record (new_rule (codes "file")) { value_names = 1; required = t
 abbrev pub inspect_command : App
 inspect_command = with_rule (new_app (codes "inspect")) file_argument
 
+-- `--listen ADDR`
+abbrev pub listen_option : Rule
+listen_option = required (codes "listen")
+
+-- `--folder DIR`
+abbrev pub folder_option : Rule
+folder_option = required (codes "folder")
+
+-- `--exchanges N`
+abbrev pub exchanges_option : Rule
+exchanges_option = option (codes "exchanges")
+
+-- `--until-stopped`
+abbrev pub until_stopped_flag : Rule
+until_stopped_flag = flag (codes "until-stopped")
+
+-- `serve` with the options that say what is served and where
+abbrev pub serve_where : App
+serve_where =
+    with_rule
+    (with_rule (with_rule (new_app (codes "serve")) listen_option) folder_option) exchanges_option
+
+-- .. and how peers are treated
+abbrev pub serve_how : App
+serve_how = with_rule (with_rule (with_rule serve_where limit_option) timeout_option) network_flag
+
+-- `serve`, with its seven options
+abbrev pub serve_command : App
+serve_command = with_rule serve_how until_stopped_flag
+
+-- `--connect ADDR`
+abbrev pub connect_option : Rule
+connect_option = required (codes "connect")
+
+-- `--rounds N`
+abbrev pub rounds_option : Rule
+rounds_option = option (codes "rounds")
+
+-- `send` with the options that say what is sent, and where
+abbrev pub send_where : App
+send_where = with_rule
+    (with_rule (with_rule (new_app (codes "send")) connect_option) name_option)
+    rounds_option
+
+-- `send`, with its five options
+abbrev pub send_command : App
+send_command = with_rule (with_rule send_where timeout_option) network_flag
+
 -- the program, which has a version and wants a command
 abbrev pub program : App
 program = on_top (λ s. record s { has_version = true; subcommand_required = true })
     (new_app (codes "bwingest"))
 
--- the whole
-abbrev pub command_line : App
-command_line =
+-- the program with the commands that use no network
+abbrev pub offline : App
+offline =
     with_subcommand
     (with_subcommand (with_subcommand program replay_command.top) rehearse_command.top)
     inspect_command.top
+
+-- the whole
+abbrev pub command_line : App
+command_line = with_subcommand (with_subcommand offline serve_command.top) send_command.top

@@ -8,11 +8,17 @@ use Rattle.clap.specs.declared.error.ErrorKind.TheVariants.{DisplayHelp, Display
 use Rattle.clap.specs.declared.error.ErrorKind.TheVariants.{MissingRequiredArgument}
 use Rattle.clap.specs.declared.error.ErrorKind.TheVariants.{MissingSubcommand, UnknownArgument}
 use Rattle.bw_args.specs.Numbers.{IsLimitText, IsNumber, default_limit, number_written}
-use Rattle.bw_args.specs.Lines.{IsName}
+use Rattle.bw_args.specs.Lines.{IsName, Wish, wish_of}
 use Rattle.bw_args.specs.declared.CommandLine.{CommandLine}
 use Rattle.bw_args.specs.declared.CommandLine.TheVariants.{Run, BadValue as Bad, Tell}
 use Rattle.bw_args.specs.declared.bad_value.BadValue.TheVariants.{Name, Limit, Fuse}
-use Rattle.bw_args.specs.declared.Task.TheVariants.{Replay, Rehearse, Inspect}
+use Rattle.bw_args.specs.declared.Task.TheVariants.{Replay, Rehearse, Inspect, Serve, Send}
+
+-- the line runs a task for this
+abbrev pub RunsFor : Wish → CommandLine → Type 0
+RunsFor wish (Run task) = wish_of task ≡ wish
+RunsFor wish (Bad value) = ⊥
+RunsFor wish (Tell error) = ⊥
 
 -- `replay` runs, with a limit N and a fuse K or without, whatever the program's name, N and K
 pub record RunsReplay (words : List Text) (line : CommandLine) : Type 0 where
@@ -127,6 +133,8 @@ abbrev pub Inspects : Text → CommandLine → Type 0
 Inspects path (Run (Inspect file)) = string_bytes file ≡ path
 Inspects path (Run (Replay limit fuse)) = ⊥
 Inspects path (Run (Rehearse name limit)) = ⊥
+Inspects path (Run (Serve server)) = ⊥
+Inspects path (Run (Send sender)) = ⊥
 Inspects path (Bad value) = ⊥
 Inspects path (Tell error) = ⊥
 

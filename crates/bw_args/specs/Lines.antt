@@ -1,7 +1,11 @@
 -- What a command line asks for.
-use Rattle.std.specs.Prelude.{◌≡◌, ◌≢◌, ◌⊎◌, ⊤, ℕ, List, [], ◌∷◌, Option, Some, None}
-use Rattle.std.specs.Prelude.{Result, Ok, Err, string_bytes, codes, IsTrue, if◌then◌else◌}
+use Rattle.std.specs.Prelude.{◌≡◌, ◌≢◌, ◌⊎◌, ⊤, ℕ, ◌<◌, ◌≤◌, Bool, true}
+use Rattle.std.specs.Prelude.{false, List, [], ◌∷◌}
+use Rattle.std.specs.Prelude.{Option, Some, None, unwrap_or, Result, Ok, Err, string_bytes, codes}
+use Rattle.std.specs.Prelude.{IsTrue, if◌then◌else◌}
 use Rattle.std.specs.Str.{bytes_eq}
+use Rattle.std.specs.declared.net.socket_addr.SocketAddr.{SocketAddr}
+use Rattle.std.specs.Net.Socket.{socket_port}
 use Rattle.clap.specs.Walk.{Row, Text, first_of}
 use Rattle.clap.specs.Simple.{subcommand_of}
 use Rattle.clap.specs.Faults.{fault_of}
@@ -10,16 +14,23 @@ use Rattle.clap.specs.Values.{kind_of}
 use Rattle.clap.specs.declared.error.ErrorKind.{ErrorKind}
 use Rattle.clap.specs.declared.error.ErrorKind.TheVariants.{OutOfMemory}
 use Rattle.bw_model.specs.Wire.{is_name}
-use Rattle.bw_args.specs.Numbers.{IsLimit, IsLimitText, IsNumber, default_limit}
+use Rattle.bw_args.specs.Addresses.{IsAddress}
+use Rattle.bw_args.specs.Numbers.{IsCountText, IsLimit, IsLimitText, IsNumber, default_limit}
+use Rattle.bw_args.specs.Numbers.{default_rounds, most_exchanges, most_rounds, most_seconds}
 use Rattle.bw_args.specs.Numbers.{number_written}
 use Rattle.bw_args.specs.Commands.{command_line}
 use Rattle.bw_args.specs.ReadWords.{as_read}
 use Rattle.bw_args.specs.declared.CommandLine.{CommandLine}
 use Rattle.bw_args.specs.declared.CommandLine.TheVariants.{Run, BadValue as Bad, Tell}
 use Rattle.bw_args.specs.declared.bad_value.BadValue.{BadValue}
-use Rattle.bw_args.specs.declared.bad_value.BadValue.TheVariants.{Name, Limit, Fuse}
+use Rattle.bw_args.specs.declared.bad_value.BadValue.TheVariants.{Name, Limit, Fuse, Listen}
+use Rattle.bw_args.specs.declared.bad_value.BadValue.TheVariants.{Folder, Exchanges, Timeout}
+use Rattle.bw_args.specs.declared.bad_value.BadValue.TheVariants.{UntilStopped, Connect, Rounds}
+use Rattle.bw_args.specs.declared.peers.End.{End}
+use Rattle.bw_args.specs.declared.peers.End.TheVariants as when
+use Rattle.bw_args.specs.declared.peers.Send.{Send as Sender}
 use Rattle.bw_args.specs.declared.Task.{Task}
-use Rattle.bw_args.specs.declared.Task.TheVariants.{Replay, Rehearse, Inspect}
+use Rattle.bw_args.specs.declared.Task.TheVariants.{Replay, Rehearse, Inspect, Serve, Send}
 
 -- the bytes are a take's name
 abbrev pub IsName : Text → Type 0
@@ -59,18 +70,117 @@ abbrev pub IsFuseGiven : {E : Type 0} → Option Text → Result (Option ℕ) E 
 IsFuseGiven text (Ok fuse) = GivesFuse text fuse
 IsFuseGiven text (Err fault) = GivesNoFuse text
 
+-- what the options of a command give, by their names
+abbrev pub given_by : List Row → Text → Option Text
+given_by options id = first_of id options
+
+-- the flag is given
+abbrev pub is_set : Option Text → Bool
+is_set None = false
+is_set (Some text) = bytes_eq text (codes "true")
+
+-- the address that an option gives, which may be any where there is leave for the network
+abbrev pub GivesAddress : Bool → Option Text → SocketAddr → Type 0
+GivesAddress network None address = ⊥
+GivesAddress network (Some text) address = IsAddress network text address
+
+-- exactly that address
+abbrev pub IsAddressGiven : Bool → Option Text → Option SocketAddr → Type 0
+IsAddressGiven network text (Some address) = GivesAddress network text address
+IsAddressGiven network text None = (address : SocketAddr) → ¬ GivesAddress network text address
+
+-- the folder's path that an option gives
+abbrev pub GivesFolder : Option Text → Text → Type 0
+GivesFolder None folder = ⊥
+GivesFolder (Some text) folder = (text ≢ []) × (folder ≡ text)
+
+-- exactly that path
+abbrev pub IsFolderGiven : Option Text → Option Text → Type 0
+IsFolderGiven text (Some folder) = GivesFolder text folder
+IsFolderGiven text None = (folder : Text) → ¬ GivesFolder text folder
+
+-- the number from 1 to the most that an option gives, or none
+abbrev pub GivesCount : ℕ → Option Text → Option ℕ → Type 0
+GivesCount most None count = count ≡ None
+GivesCount most (Some text) count = IsCountText most text × (count ≡ Some (number_written text))
+
+-- exactly that number, or none; a fault where the option gives what is no such number
+abbrev pub IsCountGiven : {E : Type 0} → ℕ → Option Text → Result (Option ℕ) E → Type 0
+IsCountGiven most text (Ok count) = GivesCount most text count
+IsCountGiven most text (Err fault) = (count : Option ℕ) → ¬ GivesCount most text count
+
+-- when a server ends: after so many exchanges, one where no number is given, or when it is stopped,
+-- where that is asked for; not both
+abbrev pub IsEnd : Option ℕ → Bool → End → Type 0
+IsEnd None false end = end ≡ when.Exchanges 1
+IsEnd (Some count) false end = end ≡ when.Exchanges count
+IsEnd None true end = end ≡ when.UntilStopped
+IsEnd (Some count) true end = ⊥
+
+-- exactly that end
+abbrev pub IsEndGiven : Option ℕ → Bool → Option End → Type 0
+IsEndGiven count until_stopped (Some end) = IsEnd count until_stopped end
+IsEndGiven count until_stopped None = (end : End) → ¬ IsEnd count until_stopped end
+
+-- when a server ends, by the two options that say it
+abbrev pub GivesEnd : Option Text → Bool → End → Type 0
+GivesEnd text until_stopped end =
+    (count : Option ℕ) × GivesCount most_exchanges text count × IsEnd count until_stopped end
+
+-- the rounds that an option gives, or the default
+abbrev pub GivesRounds : Option Text → ℕ → Type 0
+GivesRounds text rounds = (count : Option ℕ) × GivesCount most_rounds text count
+    × (rounds ≡ unwrap_or count default_rounds)
+
+-- a server as it is asked for
+pub record Service : Type 0 where
+  pub listen : SocketAddr
+  pub folder : Text
+  pub end : End
+  pub limit : ℕ
+  pub timeout : Option ℕ
+
 -- what may be asked for: a replay with this limit, in which the call of this number fails, or none;
--- a rehearsal of the take of this name, with this limit; or to inspect the file of this path
+-- a rehearsal of the take of this name, with this limit; to inspect the file of this path; a server
+-- or a sender
 pub data Wish : Type 0 where
   Replaying : ℕ → Option ℕ → Wish
   Rehearsing : Text → ℕ → Wish
   Inspecting : Text → Wish
+  Serving : Service → Wish
+  Sending : Sender → Wish
 
 -- what a task is about
 abbrev pub wish_of : Task → Wish
 wish_of (Replay limit fuse) = Replaying limit fuse
 wish_of (Rehearse name limit) = Rehearsing name limit
 wish_of (Inspect file) = Inspecting (string_bytes file)
+wish_of (Serve server) = Serving (record {
+  listen = server.listen;
+  folder = string_bytes server.folder;
+  end = server.end;
+  limit = server.limit;
+  timeout = server.timeout;
+})
+wish_of (Send sender) = Sending sender
+
+-- what is given is this server
+pub record GivesServer (given : Text → Option Text) (server : Service) : Type 0 where
+  pub listens :
+      GivesAddress (is_set (given (codes "network"))) (given (codes "listen")) server.listen
+  pub keeps : GivesFolder (given (codes "folder")) server.folder
+  pub ends :
+      GivesEnd (given (codes "exchanges")) (is_set (given (codes "until-stopped"))) server.end
+  pub limited : GivesLimit (given (codes "limit")) server.limit
+  pub waits : GivesCount most_seconds (given (codes "timeout")) server.timeout
+
+-- what is given is this sender
+pub record GivesSender (given : Text → Option Text) (sender : Sender) : Type 0 where
+  pub connects :
+      GivesAddress (is_set (given (codes "network"))) (given (codes "connect")) sender.connect
+  pub named : GivesName (given (codes "name")) sender.name
+  pub tries : GivesRounds (given (codes "rounds")) sender.rounds
+  pub waits : GivesCount most_seconds (given (codes "timeout")) sender.timeout
 
 -- the command and its options ask for this
 abbrev pub IsWishOf : Option (Text × List Row) → Wish → Type 0
@@ -83,37 +193,56 @@ IsWishOf (Some command) (Rehearsing name limit) =
     × GivesLimit (first_of (codes "limit") command.1) limit
 IsWishOf (Some command) (Inspecting path) =
     (command.0 ≡ codes "inspect") × (first_of (codes "file") command.1 ≡ Some path)
+IsWishOf (Some command) (Serving server) =
+    (command.0 ≡ codes "serve") × GivesServer (given_by command.1) server
+IsWishOf (Some command) (Sending sender) =
+    (command.0 ≡ codes "send") × GivesSender (given_by command.1) sender
 
 -- they ask for nothing
 abbrev pub AsksNothing : Option (Text × List Row) → Type 0
 AsksNothing command = (wish : Wish) → ¬ IsWishOf command wish
 
--- they ask for a file, whose path is kept
-abbrev pub AsksForFile : Option (Text × List Row) → Type 0
-AsksForFile command = (path : Text) × IsWishOf command (Inspecting path)
+-- they ask for a file or a server, of which a path is kept
+abbrev pub AsksForPath : Option (Text × List Row) → Type 0
+AsksForPath command = ((path : Text) × IsWishOf command (Inspecting path))
+    ⊎ ((server : Service) × IsWishOf command (Serving server))
 
--- the options give a value of this kind that is one, or may do without
-abbrev pub IsGood : BadValue → List Row → Type 0
-IsGood Name options = (name : Text) × GivesName (first_of (codes "name") options) name
-IsGood Limit options = (limit : ℕ) × GivesLimit (first_of (codes "limit") options) limit
-IsGood Fuse options = (fuse : Option ℕ) × GivesFuse (first_of (codes "fuse") options) fuse
+-- what is given of this kind is good: a value that is one, or none where there is a default
+abbrev pub IsGood : BadValue → (Text → Option Text) → Type 0
+IsGood Name given = (name : Text) × GivesName (given (codes "name")) name
+IsGood Limit given = (limit : ℕ) × GivesLimit (given (codes "limit")) limit
+IsGood Fuse given = (fuse : Option ℕ) × GivesFuse (given (codes "fuse")) fuse
+IsGood Listen given = (address : SocketAddr)
+    × GivesAddress (is_set (given (codes "network"))) (given (codes "listen")) address
+IsGood Folder given = (folder : Text) × GivesFolder (given (codes "folder")) folder
+IsGood Exchanges given = (count : Option ℕ)
+    × GivesCount most_exchanges (given (codes "exchanges")) count
+IsGood Timeout given = (count : Option ℕ) × GivesCount most_seconds (given (codes "timeout")) count
+IsGood UntilStopped given = (end : End)
+    × GivesEnd (given (codes "exchanges")) (is_set (given (codes "until-stopped"))) end
+IsGood Connect given = (address : SocketAddr)
+    × GivesAddress (is_set (given (codes "network"))) (given (codes "connect")) address
+IsGood Rounds given = (count : Option ℕ) × GivesCount most_rounds (given (codes "rounds")) count
 
 -- the values that a command looks at, in this order
 abbrev pub looked_at : Text → List BadValue
 looked_at command = if bytes_eq command (codes "replay") then Limit ∷ Fuse ∷ []
-    else (if bytes_eq command (codes "rehearse") then Name ∷ Limit ∷ [] else [])
+    else (if bytes_eq command (codes "rehearse") then Name ∷ Limit ∷ []
+    else (if bytes_eq command (codes "serve")
+    then Listen ∷ Folder ∷ Exchanges ∷ Limit ∷ Timeout ∷ UntilStopped ∷ []
+    else (if bytes_eq command (codes "send") then Connect ∷ Name ∷ Rounds ∷ Timeout ∷ [] else [])))
 
 -- of these values, in this order, it is the first that is bad
-abbrev pub IsFirstBad : List BadValue → List Row → BadValue → Type 0
-IsFirstBad [] options value = ⊥
-IsFirstBad (first ∷ later) options value = (¬ IsGood first options × (value ≡ first))
-    ⊎ (IsGood first options × IsFirstBad later options value)
+abbrev pub IsFirstBad : List BadValue → (Text → Option Text) → BadValue → Type 0
+IsFirstBad [] given value = ⊥
+IsFirstBad (first ∷ later) given value = (¬ IsGood first given × (value ≡ first))
+    ⊎ (IsGood first given × IsFirstBad later given value)
 
 -- the value for which they ask for nothing; where no value is looked at, a limit stands for what
 -- `clap` doesn't let through
 abbrev pub Lacks : Option (Text × List Row) → BadValue → Type 0
 Lacks None value = value ≡ Limit
-Lacks (Some command) value = IsFirstBad (looked_at command.0) command.1 value
+Lacks (Some command) value = IsFirstBad (looked_at command.0) (given_by command.1) value
     ⊎ ((looked_at command.0 ≡ []) × (value ≡ Limit))
 
 -- exactly the line that they come to
@@ -149,10 +278,25 @@ IsLineRead words (Tell error) = IsToldOf words (kind_of error)
 abbrev pub IsLineOf : List Text → CommandLine → Type 0
 IsLineOf words line = IsLineRead (as_read words) line
 
--- where a task runs, its limit is one
+-- no number, or one from 1 to the most
+abbrev pub IsWithin : ℕ → Option ℕ → Type 0
+IsWithin most None = ⊤
+IsWithin most (Some count) = (1 ≤ count) × (count ≤ most)
+
+-- it ends after at most as many exchanges as may be asked for, or when it is stopped
+abbrev pub IsEndWithin : End → Type 0
+IsEndWithin (when.Exchanges count) = (1 ≤ count) × (count ≤ most_exchanges)
+IsEndWithin when.UntilStopped = ⊤
+
+-- where a task runs, its numbers are such as may be asked for
 abbrev pub HasLimit : CommandLine → Type 0
 HasLimit (Run (Replay limit fuse)) = IsLimit limit
 HasLimit (Run (Rehearse name limit)) = IsLimit limit
 HasLimit (Run (Inspect file)) = ⊤
+HasLimit (Run (Serve server)) = (0 < socket_port server.listen) × IsEndWithin server.end
+    × IsLimit server.limit × IsWithin most_seconds server.timeout
+HasLimit (Run (Send sender)) = (0 < socket_port sender.connect)
+    × ((1 ≤ sender.rounds) × (sender.rounds ≤ most_rounds))
+    × IsWithin most_seconds sender.timeout
 HasLimit (Bad value) = ⊤
 HasLimit (Tell error) = ⊤

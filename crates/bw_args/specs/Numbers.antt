@@ -21,3 +21,23 @@ default_limit = 4294967294
 -- a text of a number that is a limit
 abbrev pub IsLimitText : List ℕ → Type 0
 IsLimitText text = IsNumber text × IsLimit (number_written text)
+
+-- a text of a number from 1 to this one
+abbrev pub IsCountText : ℕ → List ℕ → Type 0
+IsCountText most text = IsNumber text × (1 ≤ number_written text) × (number_written text ≤ most)
+
+-- the most exchanges that a server may be asked for
+abbrev pub most_exchanges : ℕ
+most_exchanges = 1000000
+
+-- the most rounds that a sender may be asked for
+abbrev pub most_rounds : ℕ
+most_rounds = 1000
+
+-- the rounds where no number is given
+abbrev pub default_rounds : ℕ
+default_rounds = 16
+
+-- the longest time for which a peer may be waited for, in seconds: a day
+abbrev pub most_seconds : ℕ
+most_seconds = 86400

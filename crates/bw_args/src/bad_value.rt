@@ -11,6 +11,20 @@ pub enum BadValue {
     Limit,
     /// The number of the store's call that is to fail.
     Fuse,
+    /// The address at which a server listens.
+    Listen,
+    /// The path of a server's folder.
+    Folder,
+    /// How many exchanges a server serves.
+    Exchanges,
+    /// For how long a peer is waited for.
+    Timeout,
+    /// That a server goes on until it is stopped, beside a number of exchanges.
+    UntilStopped,
+    /// The address of the server to which is sent.
+    Connect,
+    /// How many exchanges a sender makes.
+    Rounds,
 }
 
 impl BadValue {
@@ -22,6 +36,13 @@ impl BadValue {
             BadValue::Name => BAD_NAME,
             BadValue::Limit => BAD_LIMIT,
             BadValue::Fuse => BAD_FUSE,
+            BadValue::Listen => BAD_LISTEN,
+            BadValue::Folder => BAD_FOLDER,
+            BadValue::Exchanges => BAD_EXCHANGES,
+            BadValue::Timeout => BAD_TIMEOUT,
+            BadValue::UntilStopped => BAD_UNTIL_STOPPED,
+            BadValue::Connect => BAD_CONNECT,
+            BadValue::Rounds => BAD_ROUNDS,
         }
     }
 }
@@ -44,6 +65,62 @@ For more information, try '--help'.
 
 const BAD_FUSE: &str = "\
 error: '--fuse <K>' takes a number from 0 to 4294967295, in at most ten digits
+
+Usage: bwingest <COMMAND>
+
+For more information, try '--help'.
+";
+
+const BAD_LISTEN: &str = "\
+error: '--listen <ADDR>' takes 127.0.0.1:PORT, or any IP:PORT with '--network'; PORT is 1 to 65535
+
+Usage: bwingest <COMMAND>
+
+For more information, try '--help'.
+";
+
+const BAD_FOLDER: &str = "\
+error: '--folder <DIR>' takes the path of a folder, which isn't empty
+
+Usage: bwingest <COMMAND>
+
+For more information, try '--help'.
+";
+
+const BAD_EXCHANGES: &str = "\
+error: '--exchanges <N>' takes a number from 1 to 1000000, in at most ten digits
+
+Usage: bwingest <COMMAND>
+
+For more information, try '--help'.
+";
+
+const BAD_TIMEOUT: &str = "\
+error: '--timeout <SECONDS>' takes a number from 1 to 86400, in at most ten digits
+
+Usage: bwingest <COMMAND>
+
+For more information, try '--help'.
+";
+
+const BAD_UNTIL_STOPPED: &str = "\
+error: '--until-stopped' can't be given beside '--exchanges <N>'
+
+Usage: bwingest <COMMAND>
+
+For more information, try '--help'.
+";
+
+const BAD_CONNECT: &str = "\
+error: '--connect <ADDR>' takes 127.0.0.1:PORT, or any IP:PORT with '--network'; PORT is 1 to 65535
+
+Usage: bwingest <COMMAND>
+
+For more information, try '--help'.
+";
+
+const BAD_ROUNDS: &str = "\
+error: '--rounds <N>' takes a number from 1 to 1000, in at most ten digits
 
 Usage: bwingest <COMMAND>
 

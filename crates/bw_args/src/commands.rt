@@ -4,23 +4,36 @@ ghost use Rattle.clap.specs.Words.{app_of, first_value, found_of, rows_of, rule_
 ghost use Rattle.clap.specs.Words.{subcommand_rows_of};
 ghost use Rattle.clap.specs.declared.builder.Command.TheViews.{out-Command};
 ghost use Rattle.bw_args.specs.Commands.{command_line, fuse_option, inspect_command, limit_option};
-ghost use Rattle.bw_args.specs.Commands.{name_option, program, rehearse_command};
+ghost use Rattle.bw_args.specs.Commands.{name_option, offline, program, rehearse_command};
 ghost use Rattle.bw_args.specs.Commands.{replay_command};
-ghost use Rattle.bw_args.specs.Lines.{AsksForFile, IsFuseGiven, IsLimitGiven, IsLineFor};
+ghost use Rattle.bw_args.specs.Lines.{AsksForPath, IsFuseGiven, IsLimitGiven, IsLineFor};
 ghost use Rattle.bw_args.specs.Lines.{IsNameGiven};
+
+mod network;
+mod sending;
+mod serving;
 
 use crate::{BadValue, CommandLine, Task, numbers};
 use bw_take::Name;
 use clap::{Arg, ArgMatches, Command};
 use std::alloc::{AllocError, Global};
 
-/// A text that writes no number.
+/// A text that writes no number of its kind.
 #[derive(Drop)]
 struct NoNumber;
 
 /// The whole command line.
 pub fn bwingest<'a>(alloc: Global) -> Result<Command<'a>, AllocError>
     ensures { IfOk result (λ c. app_of c ≡ command_line) }
+{
+    offline(alloc)?
+        .subcommand(serving::serve(alloc)?)?
+        .subcommand(sending::send(alloc)?)
+}
+
+/// The program with the commands that use no network.
+fn offline<'a>(alloc: Global) -> Result<Command<'a>, AllocError>
+    ensures { IfOk result (λ c. app_of c ≡ offline) }
 {
     program(alloc)?
         .subcommand(replay(alloc)?)?
@@ -104,16 +117,18 @@ fn inspect<'a>(alloc: Global) -> Result<Command<'a>, AllocError>
         .arg(file)
 }
 
-/// What parsed words come to. Only the path of a file takes memory, so that a bad name, limit or
-/// fuse is told whatever is left of it.
+/// What parsed words come to. Only the path of a file or a folder takes memory, so that a bad value
+/// is told whatever is left of it.
 pub fn line(alloc: Global, matches: &ArgMatches<'_>) -> Result<CommandLine, AllocError>
     ensures ok { IfOk result (IsLineFor (subcommand_rows_of matches.now)) }
-    ensures err { OnErr result (AsksForFile (subcommand_rows_of matches.now)) }
+    ensures err { OnErr result (AsksForPath (subcommand_rows_of matches.now)) }
 {
     match matches.subcommand() {
         Some(("replay", options)) => Ok(replay_line(options)),
         Some(("rehearse", options)) => Ok(rehearse_line(options)),
         Some(("inspect", options)) => inspect_line(alloc, options),
+        Some(("serve", options)) => serving::serve_line(alloc, options),
+        Some(("send", options)) => Ok(sending::send_line(options)),
         // `clap` refuses words without a command of ours.
         _ => Ok(CommandLine::BadValue(BadValue::Limit)),
     }
@@ -148,7 +163,7 @@ fn rehearse_line(options: &ArgMatches<'_>) -> CommandLine
 fn inspect_line(alloc: Global, options: &ArgMatches<'_>) -> Result<CommandLine, AllocError>
     ensures ok { IfOk result (IsLineFor (Some (codes "inspect", rows_of (found_of options.now)))) }
     ensures err { OnErr result
-        (AsksForFile (Some (codes "inspect", rows_of (found_of options.now)))) }
+        (AsksForPath (Some (codes "inspect", rows_of (found_of options.now)))) }
 {
     // `clap` refuses words without the file.
     let Some(path) = options.get_str("file") else {

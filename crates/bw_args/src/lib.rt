@@ -6,16 +6,20 @@ ghost use Rattle.clap.specs.Words.{kind_of};
 ghost use Rattle.bw_args.specs.Lines.{HasLimit, IsLineOf};
 ghost use Rattle.bw_args.specs.Forms.{RefusesValues, RunsInspect, RunsRehearsal, RunsReplay};
 ghost use Rattle.bw_args.specs.Forms.{TellsHelp};
+ghost use Rattle.bw_args.specs.PeerForms.{RefusesPeers, RunsSender, RunsServer, WantsPeers};
 
+mod addresses;
 mod bad_value;
 mod commands;
 pub mod numbers;
+mod peers;
 mod read_words;
 
 pub use bad_value::BadValue;
 use bw_take::Name;
 use clap::Error;
 use clap::error::ErrorKind;
+pub use peers::{End, Send, Serve};
 use std::alloc::{AllocError, Global};
 
 /// What a command line asks the program to do.
@@ -30,6 +34,10 @@ pub enum Task {
     Rehearse { name: Name, limit: u64 },
     /// Tell what is in the file of this path.
     Inspect { file: String },
+    /// Serve exchanges over TCP, one after the other.
+    Serve(Serve),
+    /// Send the requests on standard input to a server.
+    Send(Send),
 }
 
 /// What a command line comes to.
@@ -46,11 +54,11 @@ pub enum CommandLine {
 /// Reads a command line, of which the first word is the program's own name.
 ///
 /// Which words run a task, and of what kind an error is, is `clap`'s own account of its walk over
-/// them (`line`). In plain terms the contract says of thirteen forms that they run (`replay`,
-/// `rehearse`, `inspect`), of six which value is a fault (`values`) and of seven what they tell
-/// (`help`, `rehearse`, `inspect`). That both options may be given in any of their forms, and that
-/// all else but `--` at the end or before a file is refused, is tested by examples. Nothing is
-/// claimed of what the texts say and where they go.
+/// them (`line`). In plain terms the contract says of thirty forms that they run (`replay`,
+/// `rehearse`, `inspect`, `serve`, `send`), of eighteen which value is a fault (`values`, `peers`)
+/// and of thirteen what they tell (`help`, `rehearse`, `inspect`, `wanted`). That options may be
+/// given in any of their forms and orders, and that all else but `--` at the end or before a file
+/// is refused, is tested by examples. Nothing is claimed of what the texts say and where they go.
 ///
 /// # Errors
 /// `AllocError` where memory was refused.
@@ -61,6 +69,10 @@ pub fn parse(alloc: Global, words: &[String]) -> Result<CommandLine, AllocError>
     ensures rehearse { IfOk result (RunsRehearsal (map string_bytes words.now)) }
     ensures values { IfOk result (RefusesValues (map string_bytes words.now)) }
     ensures inspect { IfOk result (RunsInspect (map string_bytes words.now)) }
+    ensures serve { IfOk result (RunsServer (map string_bytes words.now)) }
+    ensures send { IfOk result (RunsSender (map string_bytes words.now)) }
+    ensures peers { IfOk result (RefusesPeers (map string_bytes words.now)) }
+    ensures wanted { IfOk result (WantsPeers (map string_bytes words.now)) }
     ensures help { IfOk result (TellsHelp (map string_bytes words.now)) }
 {
     let read = read_words::read_words(alloc, words)?;

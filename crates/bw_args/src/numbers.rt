@@ -1,6 +1,6 @@
 //! Numbers and limits as they are written on the command line.
 ghost use Rattle.std.specs.Option.{SomeIff};
-ghost use Rattle.bw_args.specs.Numbers.{IsLimitText, IsNumber, number_written};
+ghost use Rattle.bw_args.specs.Numbers.{IsCountText, IsLimitText, IsNumber, number_written};
 
 /// The least limit on a RIFF file's form size, in bytes.
 const LEAST_LIMIT: u64 = 8_192;
@@ -8,6 +8,18 @@ const LEAST_LIMIT: u64 = 8_192;
 /// The limit where none is given, and the greatest: the greatest even size that the size field of a
 /// RIFF file can hold beside 0xFFFFFFFF, which stands for a size given elsewhere.
 pub(crate) const DEFAULT_LIMIT: u64 = 4_294_967_294;
+
+/// The most exchanges that a server may be asked for.
+pub(crate) const MOST_EXCHANGES: u32 = 1_000_000;
+
+/// The most rounds that a sender may be asked for.
+pub(crate) const MOST_ROUNDS: u32 = 1_000;
+
+/// The rounds where no number is given.
+pub(crate) const DEFAULT_ROUNDS: u32 = 16;
+
+/// The longest time for which a peer may be waited for, in seconds: a day.
+pub(crate) const MOST_SECONDS: u32 = 86_400;
 
 /// The number that a text of one to ten decimal digits writes: no sign, no blank, below 2^32.
 pub fn number(text: &str) -> Option<u32>
@@ -27,6 +39,18 @@ pub fn limit(text: &str) -> Option<u64>
 {
     let value = u64::from(number(text)?);
     if value % 2 == 0 && (LEAST_LIMIT..=DEFAULT_LIMIT).contains(&value) {
+        Some(value)
+    } else {
+        None
+    }
+}
+
+/// The number from 1 to the most that a text of one to ten decimal digits writes.
+pub fn count(text: &str, most: u32) -> Option<u32>
+    ensures { SomeIff result (IsCountText most text.now) (number_written text.now) }
+{
+    let value = number(text)?;
+    if (1..=most).contains(&value) {
         Some(value)
     } else {
         None

@@ -1,11 +1,13 @@
 //! The words of a command line as `clap` reads them.
-ghost use Rattle.std.specs.Prelude.{◌≡◌, ◌++◌, ◌∷◌, false, List, map, string_bytes, IfOk, OnOk};
+ghost use Rattle.std.specs.Prelude.{◌≡◌, ◌++◌, ◌∷◌, false, List, map, string_bytes, IfOk};
+ghost use Rattle.std.specs.Prelude.{OnOk, option_map};
 ghost use Rattle.clap.specs.Words.{Text};
-ghost use Rattle.bw_args.specs.ReadWords.{as_read, joined, names_rehearsal};
+ghost use Rattle.bw_args.specs.ReadWords.{as_read, first_joined, joined};
 
 use std::alloc::{AllocError, Global};
 
-/// The words, with the name of a rehearsal joined to its option: so it may begin with a hyphen.
+/// The words, with a take's name or a server's folder joined to its option: so it may begin with a
+/// hyphen.
 pub fn read_words(alloc: Global, words: &[String]) -> Result<Vec<String>, AllocError>
     ensures { IfOk result (λ read.
         map string_bytes read.items ≡ as_read (map string_bytes words.now)) }
@@ -16,21 +18,26 @@ pub fn read_words(alloc: Global, words: &[String]) -> Result<Vec<String>, AllocE
     };
     read.push(String::from_str(alloc, program.as_str())?)?;
     let rest = &words[1..];
-    if names_rehearsal(rest) {
-        push_joined(alloc, &mut read, rest)?;
-    } else {
-        push_copies(alloc, &mut read, rest)?;
+    match first_joined(rest) {
+        Some(option) => push_joined(alloc, &mut read, option, rest)?,
+        None => push_copies(alloc, &mut read, rest)?,
     }
     Ok(read)
 }
 
-fn names_rehearsal(words: &[String]) -> bool
-    ensures { result ≡ names_rehearsal (map string_bytes words.now) }
+/// The option that is joined of the command that the words begin with, if it has one.
+fn first_joined(words: &[String]) -> Option<&'static str>
+    ensures { option_map (λ option. option.now) result
+        ≡ first_joined (map string_bytes words.now) }
 {
-    match words.first() {
-        Some(command) => command.as_str() == "rehearse",
-        None => false,
+    let command = words.first()?.as_str();
+    if command == "rehearse" || command == "send" {
+        return Some("--name");
     }
+    if command == "serve" {
+        return Some("--folder");
+    }
+    None
 }
 
 /// Adds the words as they stand.
@@ -44,39 +51,47 @@ fn push_copies(alloc: Global, read: &mut Vec<String>, words: &[String]) -> Resul
     Ok(())
 }
 
-/// Adds the words, each `--name` and the word behind it as one.
-fn push_joined(alloc: Global, read: &mut Vec<String>, words: &[String]) -> Result<(), AllocError>
+/// Adds the words, each such option and the word behind it as one.
+fn push_joined(
+    alloc: Global,
+    read: &mut Vec<String>,
+    option: &str,
+    words: &[String],
+) -> Result<(), AllocError>
     ensures { OnOk result (map string_bytes read.new.items
-        ≡ map string_bytes read.old.items ++ joined false (map string_bytes words.now)) }
+        ≡ map string_bytes read.old.items
+        ++ joined option.now false (map string_bytes words.now)) }
 {
     let mut waits = false;
     for word in words {
-        waits = push_word(alloc, read, waits, word.as_str())?;
+        waits = push_word(alloc, read, option, waits, word.as_str())?;
     }
     if waits {
-        read.push(String::from_str(alloc, "--name")?)?;
+        read.push(String::from_str(alloc, option)?)?;
     }
     Ok(())
 }
 
-/// Adds a word, joined to a `--name` that waits for it, and answers whether one waits now.
+/// Adds a word, joined to an option that waits for it, and answers whether one waits now.
 fn push_word(
     alloc: Global,
     read: &mut Vec<String>,
+    option: &str,
     waits: bool,
     word: &str,
 ) -> Result<bool, AllocError>
     ensures { IfOk result (λ waits_now. (rest : List Text) →
-        map string_bytes read.new.items ++ joined waits_now rest
-        ≡ map string_bytes read.old.items ++ joined waits (word.now ∷ rest)) }
+        map string_bytes read.new.items ++ joined option.now waits_now rest
+        ≡ map string_bytes read.old.items ++ joined option.now waits (word.now ∷ rest)) }
 {
     if waits {
-        let mut option = String::from_str(alloc, "--name=")?;
-        option.push_str(word)?;
-        read.push(option)?;
+        let mut joined = String::from_str(alloc, option)?;
+        joined.push_str("=")?;
+        joined.push_str(word)?;
+        read.push(joined)?;
         return Ok(false);
     }
-    if word == "--name" {
+    if word == option {
         return Ok(true);
     }
     read.push(String::from_str(alloc, word)?)?;

@@ -6,6 +6,9 @@ use Rattle.bw_args.proofs.FormLemmas.{runs_inspect, runs_replay, tells_help}
 use Rattle.bw_args.proofs.LineLemmas.{line_asked, line_of_read, told_line, told_result}
 use Rattle.bw_args.proofs.RehearsalLemmas.{runs_rehearsal}
 use Rattle.bw_args.proofs.ValueLemmas.{refuses_values}
+use Rattle.bw_args.proofs.PeerValueLemmas.{refuses_peers, wants_peers}
+use Rattle.bw_args.proofs.SenderLemmas.{runs_sender}
+use Rattle.bw_args.proofs.ServerLemmas.{runs_server}
 use Rattle.bw_args.proofs.parse.Goals as goal
 
 pub returns-in-Ok-clause-line : goal.returns-in-Ok-clause-line
@@ -55,3 +58,27 @@ returns-in-Ok-clause-inspect c = IfOk-weaker c.line.result _ _ (runs_inspect _) 
 
 pub returns-clause-inspect : goal.returns-clause-inspect
 returns-clause-inspect c = IfOk-weaker c.told.result _ _ (runs_inspect _) (returns-clause-line c)
+
+pub returns-in-Ok-clause-serve : goal.returns-in-Ok-clause-serve
+returns-in-Ok-clause-serve c = IfOk-weaker c.line.result _ _ (runs_server _) (returns-in-Ok-clause-line c)
+
+pub returns-clause-serve : goal.returns-clause-serve
+returns-clause-serve c = IfOk-weaker c.told.result _ _ (runs_server _) (returns-clause-line c)
+
+pub returns-in-Ok-clause-send : goal.returns-in-Ok-clause-send
+returns-in-Ok-clause-send c = IfOk-weaker c.line.result _ _ (runs_sender _) (returns-in-Ok-clause-line c)
+
+pub returns-clause-send : goal.returns-clause-send
+returns-clause-send c = IfOk-weaker c.told.result _ _ (runs_sender _) (returns-clause-line c)
+
+pub returns-in-Ok-clause-peers : goal.returns-in-Ok-clause-peers
+returns-in-Ok-clause-peers c = IfOk-weaker c.line.result _ _ (refuses_peers _) (returns-in-Ok-clause-line c)
+
+pub returns-clause-peers : goal.returns-clause-peers
+returns-clause-peers c = IfOk-weaker c.told.result _ _ (refuses_peers _) (returns-clause-line c)
+
+pub returns-in-Ok-clause-wanted : goal.returns-in-Ok-clause-wanted
+returns-in-Ok-clause-wanted c = IfOk-weaker c.line.result _ _ (wants_peers _) (returns-in-Ok-clause-line c)
+
+pub returns-clause-wanted : goal.returns-clause-wanted
+returns-clause-wanted c = IfOk-weaker c.told.result _ _ (wants_peers _) (returns-clause-line c)

@@ -1,0 +1,278 @@
+-- The forms of `serve`, at values that are not known.
+use Rattle.std.proofs.Common.{◌≡◌, ◌≢◌, ℕ, List, [], ◌∷◌, ◌++◌, true, false, Some, None, ◌<◌}
+use Rattle.std.proofs.Common.{◌+◌, ◌-◌, codes, suc, zero}
+use Rattle.std.proofs.Common.{refl, subst, sym, arith}
+use Rattle.std.proofs.lemmas.Str.Parse.{digit_from_value}
+use Rattle.std.specs.Int.{IsInRange}
+use Rattle.std.specs.declared.net.socket_addr.SocketAddr.{SocketAddr}
+use Rattle.std.specs.Net.Socket.{socket_port}
+use Rattle.clap.specs.Words.{Text, fault_of, subcommand_of}
+use Rattle.clap.proofs.OnLiterals.{clap_on_literals}
+use Rattle.bw_args.specs.Addresses.{IsAddress, local}
+use Rattle.bw_args.specs.Commands.{command_line}
+use Rattle.bw_args.specs.Numbers.{IsCountText, IsLimitText, IsNumber, most_exchanges}
+use Rattle.bw_args.specs.Numbers.{most_seconds}
+use Rattle.bw_args.specs.Numbers.{number_written}
+use Rattle.bw_args.specs.ReadWords.{as_read}
+use Rattle.bw_args.specs.Lines.{AsksFor, IsLineOf, IsWishOf, Serving, Wish}
+use Rattle.bw_args.specs.Forms.{RunsFor}
+use Rattle.bw_args.specs.PeerForms.{RunsServer, plain_server}
+use Rattle.bw_args.specs.PeerForms.{serving}
+use Rattle.bw_args.specs.declared.CommandLine.{CommandLine}
+use Rattle.bw_args.specs.declared.peers.End.TheVariants as when
+use Rattle.bw_args.proofs.FormLemmas.{runs}
+
+alone_asks : (program listen folder : Text) (address : SocketAddr) → IsAddress false listen address → folder ≢ []
+    → AsksFor (as_read (serving program listen folder [])) (Serving (plain_server address folder))
+unfolding clap_on_literals
+alone_asks program listen folder address at full =
+    record {
+      taken = refl;
+      asked = (
+        refl,
+        record {
+          listens = at;
+          keeps = (full, refl);
+          ends = (None, refl, refl);
+          limited = refl;
+          waits = refl;
+        },
+      );
+    }
+
+exchanges_asks : (program listen folder : Text) (address : SocketAddr) (count : Text)
+    → IsAddress false listen address → folder ≢ [] → IsCountText most_exchanges count
+    → AsksFor (as_read (serving program listen folder ((codes "--exchanges=" ++ count) ∷ []))) (Serving
+    (record (plain_server address folder) { end = when.Exchanges (number_written count) }))
+unfolding clap_on_literals
+exchanges_asks program listen folder address count at full given =
+    record {
+      taken = refl;
+      asked = (
+        refl,
+        record {
+          listens = at;
+          keeps = (full, refl);
+          ends = (Some (number_written count), (given, refl), refl);
+          limited = refl;
+          waits = refl;
+        },
+      );
+    }
+
+limit_asks : (program listen folder : Text) (address : SocketAddr) (limit : Text) → IsAddress false listen address
+    → folder ≢ [] → IsLimitText limit
+    → AsksFor (as_read (serving program listen folder ((codes "--limit=" ++ limit) ∷ []))) (Serving
+    (record (plain_server address folder) { limit = number_written limit }))
+unfolding clap_on_literals
+limit_asks program listen folder address limit at full given =
+    record {
+      taken = refl;
+      asked = (
+        refl,
+        record {
+          listens = at;
+          keeps = (full, refl);
+          ends = (None, refl, refl);
+          limited = (given, refl);
+          waits = refl;
+        },
+      );
+    }
+
+timeout_asks : (program listen folder : Text) (address : SocketAddr) (seconds : Text)
+    → IsAddress false listen address → folder ≢ [] → IsCountText most_seconds seconds
+    → AsksFor (as_read (serving program listen folder ((codes "--timeout=" ++ seconds) ∷ []))) (Serving
+    (record (plain_server address folder) { timeout = Some (number_written seconds) }))
+unfolding clap_on_literals
+timeout_asks program listen folder address seconds at full given =
+    record {
+      taken = refl;
+      asked = (
+        refl,
+        record {
+          listens = at;
+          keeps = (full, refl);
+          ends = (None, refl, refl);
+          limited = refl;
+          waits = (given, refl);
+        },
+      );
+    }
+
+network_asks : (program listen folder : Text) (address : SocketAddr) → IsAddress true listen address → folder ≢ []
+    → AsksFor (as_read (serving program listen folder (codes "--network" ∷ [])))
+    (Serving (plain_server address folder))
+unfolding clap_on_literals
+network_asks program listen folder address at full =
+    record {
+      taken = refl;
+      asked = (
+        refl,
+        record {
+          listens = at;
+          keeps = (full, refl);
+          ends = (None, refl, refl);
+          limited = refl;
+          waits = refl;
+        },
+      );
+    }
+
+until_stopped_asks : (program listen folder : Text) (address : SocketAddr) → IsAddress false listen address
+    → folder ≢ []
+    → AsksFor (as_read (serving program listen folder (codes "--until-stopped" ∷ []))) (Serving
+    (record (plain_server address folder) { end = when.UntilStopped }))
+unfolding clap_on_literals
+until_stopped_asks program listen folder address at full =
+    record {
+      taken = refl;
+      asked = (
+        refl,
+        record {
+          listens = at;
+          keeps = (full, refl);
+          ends = (None, refl, refl);
+          limited = refl;
+          waits = refl;
+        },
+      );
+    }
+
+-- a local address is no option
+apart_near : (program folder : Text) (address : SocketAddr) → IsAddress false (local (socket_port address)) address
+    → folder ≢ [] → AsksFor
+    (as_read (program ∷ codes "serve" ∷ codes "--listen" ∷ local (socket_port address) ∷ codes "--folder" ∷ folder
+    ∷ []))
+    (Serving (plain_server address folder))
+unfolding clap_on_literals
+apart_near program folder address at full = record {
+  taken = refl;
+  asked = (
+    refl,
+    record {
+      listens = at;
+      keeps = (full, refl);
+      ends = (None, refl, refl);
+      limited = refl;
+      waits = refl;
+    },
+  );
+}
+
+apart_asks : (program listen folder : Text) (address : SocketAddr) → IsAddress false listen address → folder ≢ []
+    → AsksFor (as_read (program ∷ codes "serve" ∷ codes "--listen" ∷ listen ∷ codes "--folder" ∷ folder ∷ []))
+    (Serving (plain_server address folder))
+apart_asks program listen folder address at full =
+    subst (λ t. AsksFor (as_read (program ∷ codes "serve" ∷ codes "--listen" ∷ t ∷ codes "--folder" ∷ folder ∷ []))
+    (Serving (plain_server address folder))) (sym (at.near refl))
+    (apart_near program folder address (subst (λ t. IsAddress false t address) (at.near refl) at) full)
+
+-- what holds of each of the ten digits holds of a digit
+pub by_digit : (P : ℕ → Type 0)
+    → P 48 × P 49 × P 50 × P 51 × P 52 × P 53 × P 54 × P 55 × P 56 × P 57
+    → (d : ℕ) → IsInRange 48 57 d → P d
+by_digit P each d is = subst P (omega arith) (go (d - 48) (omega arith))
+  where
+    go : (n : ℕ) → n < 10 → P (48 + n)
+    go zero below = each.0
+    go (suc zero) below = each.1
+    go (suc (suc zero)) below = each.2
+    go (suc (suc (suc zero))) below = each.3
+    go (suc (suc (suc (suc zero)))) below = each.4
+    go (suc (suc (suc (suc (suc zero))))) below = each.5
+    go (suc (suc (suc (suc (suc (suc zero)))))) below = each.6
+    go (suc (suc (suc (suc (suc (suc (suc zero))))))) below = each.7
+    go (suc (suc (suc (suc (suc (suc (suc (suc zero)))))))) below = each.8
+    go (suc (suc (suc (suc (suc (suc (suc (suc (suc zero))))))))) below = each.9
+    go (suc (suc (suc (suc (suc (suc (suc (suc (suc (suc n)))))))))) below = absurd (omega arith)
+
+-- words that come to the same command ask for the same
+pub same_asks : (words other : List Text) (wish : Wish) → fault_of command_line words ≡ []
+    → subcommand_of command_line words ≡ subcommand_of command_line other → AsksFor other wish → AsksFor words wish
+same_asks words other wish taken same asks =
+    record { taken = taken; asked = subst (λ o. IsWishOf o wish) (sym same) asks.asked }
+
+-- what is asked for in one word is asked for in two
+exchanges_apart : (program listen folder count : Text) (wish : Wish) → IsNumber count
+    → AsksFor (as_read (serving program listen folder ((codes "--exchanges=" ++ count) ∷ []))) wish
+    → AsksFor (as_read (serving program listen folder (codes "--exchanges" ∷ count ∷ []))) wish
+unfolding clap_on_literals
+exchanges_apart program listen folder [] wish number asks = let bad : 0 < 0 = number.0.0 in absurd (omega arith)
+exchanges_apart program listen folder (d ∷ ds) wish number asks = by_digit
+    (λ c. AsksFor (as_read (serving program listen folder ((codes "--exchanges=" ++ (c ∷ ds)) ∷ []))) wish
+    → AsksFor (as_read (serving program listen folder (codes "--exchanges" ∷ (c ∷ ds) ∷ []))) wish) (
+      same_asks _ _ wish refl refl,
+      same_asks _ _ wish refl refl,
+      same_asks _ _ wish refl refl,
+      same_asks _ _ wish refl refl,
+      same_asks _ _ wish refl refl,
+      same_asks _ _ wish refl refl,
+      same_asks _ _ wish refl refl,
+      same_asks _ _ wish refl refl,
+      same_asks _ _ wish refl refl,
+      same_asks _ _ wish refl refl,
+    ) d (digit_from_value d number.0.1.0) asks
+
+limit_apart : (program listen folder count : Text) (wish : Wish) → IsNumber count
+    → AsksFor (as_read (serving program listen folder ((codes "--limit=" ++ count) ∷ []))) wish
+    → AsksFor (as_read (serving program listen folder (codes "--limit" ∷ count ∷ []))) wish
+unfolding clap_on_literals
+limit_apart program listen folder [] wish number asks = let bad : 0 < 0 = number.0.0 in absurd (omega arith)
+limit_apart program listen folder (d ∷ ds) wish number asks = by_digit
+    (λ c. AsksFor (as_read (serving program listen folder ((codes "--limit=" ++ (c ∷ ds)) ∷ []))) wish
+    → AsksFor (as_read (serving program listen folder (codes "--limit" ∷ (c ∷ ds) ∷ []))) wish) (
+      same_asks _ _ wish refl refl,
+      same_asks _ _ wish refl refl,
+      same_asks _ _ wish refl refl,
+      same_asks _ _ wish refl refl,
+      same_asks _ _ wish refl refl,
+      same_asks _ _ wish refl refl,
+      same_asks _ _ wish refl refl,
+      same_asks _ _ wish refl refl,
+      same_asks _ _ wish refl refl,
+      same_asks _ _ wish refl refl,
+    ) d (digit_from_value d number.0.1.0) asks
+
+timeout_apart : (program listen folder count : Text) (wish : Wish) → IsNumber count
+    → AsksFor (as_read (serving program listen folder ((codes "--timeout=" ++ count) ∷ []))) wish
+    → AsksFor (as_read (serving program listen folder (codes "--timeout" ∷ count ∷ []))) wish
+unfolding clap_on_literals
+timeout_apart program listen folder [] wish number asks = let bad : 0 < 0 = number.0.0 in absurd (omega arith)
+timeout_apart program listen folder (d ∷ ds) wish number asks = by_digit
+    (λ c. AsksFor (as_read (serving program listen folder ((codes "--timeout=" ++ (c ∷ ds)) ∷ []))) wish
+    → AsksFor (as_read (serving program listen folder (codes "--timeout" ∷ (c ∷ ds) ∷ []))) wish) (
+      same_asks _ _ wish refl refl,
+      same_asks _ _ wish refl refl,
+      same_asks _ _ wish refl refl,
+      same_asks _ _ wish refl refl,
+      same_asks _ _ wish refl refl,
+      same_asks _ _ wish refl refl,
+      same_asks _ _ wish refl refl,
+      same_asks _ _ wish refl refl,
+      same_asks _ _ wish refl refl,
+      same_asks _ _ wish refl refl,
+    ) d (digit_from_value d number.0.1.0) asks
+
+-- words that ask for this run it
+pub asked_runs : (words asking : List Text) (line : CommandLine) (wish : Wish) → IsLineOf words line → words ≡ asking
+    → AsksFor (as_read asking) wish → RunsFor wish line
+asked_runs words asking line wish is e asks =
+    runs (as_read words) line wish is (subst (λ w. AsksFor (as_read w) wish) (sym e) asks)
+
+pub runs_server : (words : List Text) (line : CommandLine) → IsLineOf words line → RunsServer words line
+runs_server words line is = record {
+  alone = λ p l f a at full e. asked_runs words _ line _ is e (alone_asks p l f a at full);
+  apart = λ p l f a at full e. asked_runs words _ line _ is e (apart_asks p l f a at full);
+  exchanges = λ n given p l f a at full e. asked_runs words _ line _ is e (exchanges_asks p l f a n at full given);
+  exchanges_apart = λ n given p l f a at full e.
+      asked_runs words _ line _ is e (exchanges_apart p l f n _ given.0 (exchanges_asks p l f a n at full given));
+  limit = λ n given p l f a at full e. asked_runs words _ line _ is e (limit_asks p l f a n at full given);
+  limit_apart = λ n given p l f a at full e.
+      asked_runs words _ line _ is e (limit_apart p l f n _ given.0 (limit_asks p l f a n at full given));
+  timeout = λ n given p l f a at full e. asked_runs words _ line _ is e (timeout_asks p l f a n at full given);
+  timeout_apart = λ n given p l f a at full e.
+      asked_runs words _ line _ is e (timeout_apart p l f n _ given.0 (timeout_asks p l f a n at full given));
+  network = λ p l f a at full e. asked_runs words _ line _ is e (network_asks p l f a at full);
+  until_stopped = λ p l f a at full e. asked_runs words _ line _ is e (until_stopped_asks p l f a at full);
+}

@@ -1,0 +1,134 @@
+-- A command asks for one task.
+use Rattle.std.proofs.Common.{◌≡◌, ℕ, List, Bool, true, false, Option, Some, None, codes, sym, ◌∙◌, ap, subst}
+use Rattle.std.proofs.Common.{unwrap_or}
+use Rattle.std.specs.declared.net.socket_addr.SocketAddr.{SocketAddr}
+use Rattle.std.proofs.NetLemmas.Theorems.{IsSocketText_unique}
+use Rattle.clap.specs.Words.{Row, Text, first_of}
+use Rattle.bw_args.specs.Lines.{GivesAddress, GivesCount, GivesEnd, GivesFolder, GivesFuse, GivesLimit, GivesName}
+use Rattle.bw_args.specs.Lines.{GivesRounds, GivesSender, GivesServer, IsEnd, IsWishOf, Service, Wish}
+use Rattle.bw_args.specs.Lines.{Inspecting, Rehearsing, Replaying, Sending, Serving}
+use Rattle.bw_args.specs.Numbers.{most_exchanges, most_rounds}
+use Rattle.bw_args.specs.declared.peers.End.{End}
+use Rattle.bw_args.specs.declared.peers.Send.{Send as Sender}
+
+one_limit : (text : Option Text) (a b : ℕ) → GivesLimit text a → GivesLimit text b → a ≡ b
+one_limit None a b x y = x ∙ sym y
+one_limit (Some text) a b x y = x.1 ∙ sym y.1
+
+one_fuse : (text : Option Text) (a b : Option ℕ) → GivesFuse text a → GivesFuse text b → a ≡ b
+one_fuse None a b x y = x ∙ sym y
+one_fuse (Some text) a b x y = x.1 ∙ sym y.1
+
+one_name : (text : Option Text) (a b : Text) → GivesName text a → GivesName text b → a ≡ b
+one_name None a b x y = absurd x
+one_name (Some text) a b x y = x.1 ∙ sym y.1
+
+-- a text spells one address
+pub one_address : (network : Bool) (text : Option Text) (a b : SocketAddr) → GivesAddress network text a
+    → GivesAddress network text b → a ≡ b
+one_address network None a b x y = absurd x
+one_address network (Some text) a b x y = IsSocketText_unique text a b x.spelled y.spelled
+
+one_folder : (text : Option Text) (a b : Text) → GivesFolder text a → GivesFolder text b → a ≡ b
+one_folder None a b x y = absurd x
+one_folder (Some text) a b x y = x.1 ∙ sym y.1
+
+pub one_count : (most : ℕ) (text : Option Text) (a b : Option ℕ) → GivesCount most text a → GivesCount most text b
+    → a ≡ b
+one_count most None a b x y = x ∙ sym y
+one_count most (Some text) a b x y = x.1 ∙ sym y.1
+
+one_end : (count : Option ℕ) (until_stopped : Bool) (a b : End) → IsEnd count until_stopped a
+    → IsEnd count until_stopped b → a ≡ b
+one_end None false a b x y = x ∙ sym y
+one_end (Some count) false a b x y = x ∙ sym y
+one_end None true a b x y = x ∙ sym y
+one_end (Some count) true a b x y = absurd x
+
+ends_once : (text : Option Text) (until_stopped : Bool) (a b : End) → GivesEnd text until_stopped a
+    → GivesEnd text until_stopped b → a ≡ b
+ends_once text until_stopped a b x y =
+    let same : x.0 ≡ y.0 = one_count most_exchanges text x.0 y.0 x.1 y.1 in
+    one_end y.0 until_stopped a b (subst (λ c. IsEnd c until_stopped a) same x.2) y.2
+
+one_round : (text : Option Text) (a b : ℕ) → GivesRounds text a → GivesRounds text b → a ≡ b
+one_round text a b x y =
+    let same : x.0 ≡ y.0 = one_count most_rounds text x.0 y.0 x.1 y.1 in
+    x.2 ∙ ap (λ c. unwrap_or c 16) same ∙ sym y.2
+
+one_server : (given : Text → Option Text) (a b : Service) → GivesServer given a → GivesServer given b → a ≡ b
+one_server given a b x y =
+    let listens = one_address _ _ a.listen b.listen x.listens y.listens in
+    let keeps = one_folder _ a.folder b.folder x.keeps y.keeps in
+    let stops = ends_once _ _ a.end b.end x.ends y.ends in
+    let limited = one_limit _ a.limit b.limit x.limited y.limited in
+    let waits = one_count _ _ a.timeout b.timeout x.waits y.waits in
+    λ i. record {
+      listen = listens i;
+      folder = keeps i;
+      end = stops i;
+      limit = limited i;
+      timeout = waits i;
+    }
+
+one_sender : (given : Text → Option Text) (a b : Sender) → GivesSender given a → GivesSender given b → a ≡ b
+one_sender given a b x y =
+    let connects = one_address _ _ a.connect b.connect x.connects y.connects in
+    let named = one_name _ a.name b.name x.named y.named in
+    let tries = one_round _ a.rounds b.rounds x.tries y.tries in
+    let waits = one_count _ _ a.timeout b.timeout x.waits y.waits in
+    λ i. record { connect = connects i; name = named i; rounds = tries i; timeout = waits i }
+
+-- a command has one name, and so one kind of task
+pub one_wish : (command : Option (Text × List Row)) (a b : Wish) → IsWishOf command a → IsWishOf command b → a ≡ b
+one_wish None a b x y = absurd x
+one_wish (Some command) (Replaying a k) (Replaying b j) x y =
+    let limits : a ≡ b = one_limit (first_of (codes "limit") command.1) a b x.1 y.1 in
+    let fuses : k ≡ j = one_fuse (first_of (codes "fuse") command.1) k j x.2 y.2 in cc
+one_wish (Some command) (Rehearsing a n) (Rehearsing b m) x y =
+    let names : a ≡ b = one_name (first_of (codes "name") command.1) a b x.1 y.1 in
+    let limits : n ≡ m = one_limit (first_of (codes "limit") command.1) n m x.2 y.2 in cc
+one_wish (Some command) (Inspecting a) (Inspecting b) x y =
+    let same : Some a ≡ Some b = sym x.1 ∙ y.1 in cc
+one_wish (Some command) (Serving a) (Serving b) x y = ap Serving (one_server _ a b x.1 y.1)
+one_wish (Some command) (Sending a) (Sending b) x y = ap Sending (one_sender _ a b x.1 y.1)
+one_wish (Some command) (Replaying a k) (Rehearsing b m) x y =
+    let bad : codes "replay" ≡ codes "rehearse" = sym x.0 ∙ y.0 in cc
+one_wish (Some command) (Replaying a k) (Inspecting b) x y =
+    let bad : codes "replay" ≡ codes "inspect" = sym x.0 ∙ y.0 in cc
+one_wish (Some command) (Replaying a k) (Serving b) x y =
+    let bad : codes "replay" ≡ codes "serve" = sym x.0 ∙ y.0 in cc
+one_wish (Some command) (Replaying a k) (Sending b) x y =
+    let bad : codes "replay" ≡ codes "send" = sym x.0 ∙ y.0 in cc
+one_wish (Some command) (Rehearsing a n) (Replaying b j) x y =
+    let bad : codes "rehearse" ≡ codes "replay" = sym x.0 ∙ y.0 in cc
+one_wish (Some command) (Rehearsing a n) (Inspecting b) x y =
+    let bad : codes "rehearse" ≡ codes "inspect" = sym x.0 ∙ y.0 in cc
+one_wish (Some command) (Rehearsing a n) (Serving b) x y =
+    let bad : codes "rehearse" ≡ codes "serve" = sym x.0 ∙ y.0 in cc
+one_wish (Some command) (Rehearsing a n) (Sending b) x y =
+    let bad : codes "rehearse" ≡ codes "send" = sym x.0 ∙ y.0 in cc
+one_wish (Some command) (Inspecting a) (Replaying b j) x y =
+    let bad : codes "inspect" ≡ codes "replay" = sym x.0 ∙ y.0 in cc
+one_wish (Some command) (Inspecting a) (Rehearsing b m) x y =
+    let bad : codes "inspect" ≡ codes "rehearse" = sym x.0 ∙ y.0 in cc
+one_wish (Some command) (Inspecting a) (Serving b) x y =
+    let bad : codes "inspect" ≡ codes "serve" = sym x.0 ∙ y.0 in cc
+one_wish (Some command) (Inspecting a) (Sending b) x y =
+    let bad : codes "inspect" ≡ codes "send" = sym x.0 ∙ y.0 in cc
+one_wish (Some command) (Serving a) (Replaying b j) x y =
+    let bad : codes "serve" ≡ codes "replay" = sym x.0 ∙ y.0 in cc
+one_wish (Some command) (Serving a) (Rehearsing b m) x y =
+    let bad : codes "serve" ≡ codes "rehearse" = sym x.0 ∙ y.0 in cc
+one_wish (Some command) (Serving a) (Inspecting b) x y =
+    let bad : codes "serve" ≡ codes "inspect" = sym x.0 ∙ y.0 in cc
+one_wish (Some command) (Serving a) (Sending b) x y =
+    let bad : codes "serve" ≡ codes "send" = sym x.0 ∙ y.0 in cc
+one_wish (Some command) (Sending a) (Replaying b j) x y =
+    let bad : codes "send" ≡ codes "replay" = sym x.0 ∙ y.0 in cc
+one_wish (Some command) (Sending a) (Rehearsing b m) x y =
+    let bad : codes "send" ≡ codes "rehearse" = sym x.0 ∙ y.0 in cc
+one_wish (Some command) (Sending a) (Inspecting b) x y =
+    let bad : codes "send" ≡ codes "inspect" = sym x.0 ∙ y.0 in cc
+one_wish (Some command) (Sending a) (Serving b) x y =
+    let bad : codes "send" ≡ codes "serve" = sym x.0 ∙ y.0 in cc

@@ -1,0 +1,128 @@
+use Rattle.std.proofs.Common.{codes, inl, inr, refl, subst, sym}
+use Rattle.clap.specs.Words.{found_of}
+use Rattle.bw_args.specs.Lines.{GivesFolder}
+use Rattle.bw_args.specs.declared.bad_value.BadValue.TheVariants.{Listen, Folder, Exchanges, Limit, Timeout}
+use Rattle.bw_args.specs.declared.bad_value.BadValue.TheVariants.{UntilStopped}
+use Rattle.bw_args.proofs.Asked.{an_address, an_end, bad_line, no_address, no_end, on_err, server_asked}
+use Rattle.bw_args.proofs.commands.serving.serve_line.Goals as goal
+
+pub returns-in_default-clause-ok : goal.returns-in_default-clause-ok
+returns-in_default-clause-ok c = bad_line (found_of c.args.options.now) (codes "serve") Listen
+    (inl (
+      no_address (found_of c.args.options.now) (codes "listen") _
+          c.flag_given-network.ensures c.in_default.ensures,
+      refl,
+    ))
+
+pub returns-in_default-folder_given-clause-ok : goal.returns-in_default-folder_given-clause-ok
+returns-in_default-folder_given-clause-ok c = bad_line (found_of c.args.options.now) (codes "serve") Folder (inr (
+  (
+    c.in-Some.listen,
+    an_address (found_of c.args.options.now) (codes "listen") _ _
+        c.flag_given-network.ensures c.in-Some.ensures,
+  ),
+  inl ((λ good. c.in_default-folder_given.ensures good.0 good.1), refl),
+))
+
+pub returns-in_default-count_given-clause-ok : goal.returns-in_default-count_given-clause-ok
+returns-in_default-count_given-clause-ok c = bad_line (found_of c.args.options.now) (codes "serve") Exchanges (inr (
+  (
+    c.in-Some.listen,
+    an_address (found_of c.args.options.now) (codes "listen") _ _
+        c.flag_given-network.ensures c.in-Some.ensures,
+  ),
+  inr (
+    (_, c.in-Some-folder_given.ensures),
+    inl ((λ good. c.in_default-count_given.ensures good.0 good.1), refl),
+  ),
+))
+
+pub returns-in_default-limit_given-clause-ok : goal.returns-in_default-limit_given-clause-ok
+returns-in_default-limit_given-clause-ok c = bad_line (found_of c.args.options.now) (codes "serve") Limit (inr (
+  (
+    c.in-Some.listen,
+    an_address (found_of c.args.options.now) (codes "listen") _ _
+        c.flag_given-network.ensures c.in-Some.ensures,
+  ),
+  inr (
+    (_, c.in-Some-folder_given.ensures),
+    inr (
+      (c.in-Ok.count, c.in-Ok.ensures),
+      inl ((λ good. c.in_default-limit_given.ensures good.0 good.1), refl),
+    ),
+  ),
+))
+
+pub returns-in_default-count_given-2-clause-ok : goal.returns-in_default-count_given-2-clause-ok
+returns-in_default-count_given-2-clause-ok c = bad_line (found_of c.args.options.now) (codes "serve") Timeout (inr (
+  (
+    c.in-Some.listen,
+    an_address (found_of c.args.options.now) (codes "listen") _ _
+        c.flag_given-network.ensures c.in-Some.ensures,
+  ),
+  inr (
+    (_, c.in-Some-folder_given.ensures),
+    inr (
+      (c.in-Ok.count, c.in-Ok.ensures),
+      inr (
+        (c.in-Some-limit_given.limit, c.in-Some-limit_given.ensures),
+        inl ((λ good. c.in_default-count_given-2.ensures good.0 good.1), refl),
+      ),
+    ),
+  ),
+))
+
+pub returns-in_default-end_given-clause-ok : goal.returns-in_default-end_given-clause-ok
+returns-in_default-end_given-clause-ok c = bad_line (found_of c.args.options.now) (codes "serve") UntilStopped (inr (
+  (
+    c.in-Some.listen,
+    an_address (found_of c.args.options.now) (codes "listen") _ _
+        c.flag_given-network.ensures c.in-Some.ensures,
+  ),
+  inr (
+    (_, c.in-Some-folder_given.ensures),
+    inr (
+      (c.in-Ok.count, c.in-Ok.ensures),
+      inr (
+        (c.in-Some-limit_given.limit, c.in-Some-limit_given.ensures),
+        inr (
+          (c.in-Ok-count_given.timeout, c.in-Ok-count_given.ensures),
+          inl (
+            no_end (found_of c.args.options.now) _ _
+                c.flag_given.ensures c.in-Ok.ensures c.in_default-end_given.ensures,
+            refl,
+          ),
+        ),
+      ),
+    ),
+  ),
+))
+
+pub returns-in_err-folder-clause-err : goal.returns-in_err-folder-clause-err
+returns-in_err-folder-clause-err c = on_err c.from_residual.result (inr (
+  record {
+    listen = c.in-Some.listen;
+    folder = c.in-Some-folder_given.path.now;
+    end = c.in-Some-end_given.end;
+    limit = c.in-Some-limit_given.limit;
+    timeout = c.in-Ok-count_given.timeout;
+  },
+  server_asked (found_of c.args.options.now) _ (record {
+    listens = an_address (found_of c.args.options.now) (codes "listen") _ _
+        c.flag_given-network.ensures c.in-Some.ensures;
+    keeps = c.in-Some-folder_given.ensures;
+    ends = an_end (found_of c.args.options.now) _ _ _ c.flag_given.ensures c.in-Ok.ensures c.in-Some-end_given.ensures;
+    limited = c.in-Some-limit_given.ensures;
+    waits = c.in-Ok-count_given.ensures;
+  }),
+))
+
+pub returns-clause-ok : goal.returns-clause-ok
+returns-clause-ok c = server_asked (found_of c.args.options.now) _ (record {
+  listens = an_address (found_of c.args.options.now) (codes "listen") _ _
+      c.flag_given-network.ensures c.in-Some.ensures;
+  keeps = subst (GivesFolder _) (sym c.in_ok-folder.ensures.ok) c.in-Some-folder_given.ensures;
+  ends = an_end (found_of c.args.options.now) _ _ _ c.flag_given.ensures c.in-Ok.ensures c.in-Some-end_given.ensures;
+  limited = c.in-Some-limit_given.ensures;
+  waits = c.in-Ok-count_given.ensures;
+})

@@ -1,0 +1,200 @@
+-- The forms of `serve` and `send`, in plain words, and what each comes to.
+use Rattle.std.specs.Prelude.{◌≡◌, ◌≢◌, Bool, true, false, List, [], ◌∷◌, ◌++◌, Some}
+use Rattle.std.specs.Prelude.{None, codes}
+use Rattle.std.specs.declared.net.socket_addr.SocketAddr.{SocketAddr}
+use Rattle.clap.specs.Walk.{Text}
+use Rattle.clap.specs.declared.error.ErrorKind.TheVariants.{MissingRequiredArgument}
+use Rattle.bw_args.specs.Addresses.{IsAddress}
+use Rattle.bw_args.specs.Numbers.{IsCountText, IsLimitText, default_limit, default_rounds}
+use Rattle.bw_args.specs.Numbers.{most_exchanges, most_rounds, most_seconds, number_written}
+use Rattle.bw_args.specs.Lines.{IsName, Sending, Service, Serving}
+use Rattle.bw_args.specs.Forms.{IsToldAs, RunsFor}
+use Rattle.bw_args.specs.declared.CommandLine.{CommandLine}
+use Rattle.bw_args.specs.declared.CommandLine.TheVariants.{BadValue as Bad}
+use Rattle.bw_args.specs.declared.bad_value.BadValue.{BadValue}
+use Rattle.bw_args.specs.declared.bad_value.BadValue.TheVariants.{Name, Limit, Listen, Folder}
+use Rattle.bw_args.specs.declared.bad_value.BadValue.TheVariants.{Exchanges, Timeout, UntilStopped}
+use Rattle.bw_args.specs.declared.bad_value.BadValue.TheVariants.{Connect, Rounds}
+use Rattle.bw_args.specs.declared.peers.End.TheVariants as when
+use Rattle.bw_args.specs.declared.peers.Send.{Send as Sender}
+
+-- the server of which only address and folder are said
+abbrev pub plain_server : SocketAddr → Text → Service
+plain_server address folder = record {
+  listen = address;
+  folder = folder;
+  end = when.Exchanges 1;
+  limit = default_limit;
+  timeout = None;
+}
+
+-- `serve --listen=ADDR --folder=DIR`, and what follows
+abbrev pub serving : Text → Text → Text → List Text → List Text
+serving program listen folder more = program ∷ codes "serve" ∷ (codes "--listen=" ++ listen)
+    ∷ (codes "--folder=" ++ folder) ∷ more
+
+-- with a local address, or under `--network` with any, and a folder that isn't empty, whatever the
+-- program's name, this holds of the line for these further words
+abbrev pub ForServer : Bool → List Text → List Text → (SocketAddr → Text → Type 0) → Type 0
+ForServer network words more Holds = (program listen folder : Text) (address : SocketAddr)
+    → IsAddress network listen address → folder ≢ [] → words ≡ serving program listen folder more
+    → Holds address folder
+
+-- the line runs the server that so comes of the plain one
+abbrev pub Serves : CommandLine → (Service → Service) → SocketAddr → Text → Type 0
+Serves line change address folder = RunsFor (Serving (change (plain_server address folder))) line
+
+-- `serve` runs, with each of its options; DIR may begin with a hyphen
+pub record RunsServer (words : List Text) (line : CommandLine) : Type 0 where
+  -- `serve --listen=ADDR --folder=DIR`
+  pub alone : ForServer false words [] (Serves line (λ s. s))
+  -- `serve --listen ADDR --folder DIR`
+  pub apart : (program listen folder : Text) (address : SocketAddr)
+      → IsAddress false listen address → folder ≢ []
+      → words ≡ program ∷ codes "serve" ∷ codes "--listen" ∷ listen
+      ∷ codes "--folder" ∷ folder ∷ [] → Serves line (λ s. s) address folder
+  -- .. `--exchanges=N`
+  pub exchanges : (count : Text) → IsCountText most_exchanges count
+      → ForServer false words ((codes "--exchanges=" ++ count) ∷ [])
+      (Serves line (λ s. record s { end = when.Exchanges (number_written count) }))
+  -- .. `--exchanges N`
+  pub exchanges_apart : (count : Text) → IsCountText most_exchanges count
+      → ForServer false words (codes "--exchanges" ∷ count ∷ [])
+      (Serves line (λ s. record s { end = when.Exchanges (number_written count) }))
+  -- .. `--limit=N`
+  pub limit : (limit : Text) → IsLimitText limit
+      → ForServer false words ((codes "--limit=" ++ limit) ∷ [])
+      (Serves line (λ s. record s { limit = number_written limit }))
+  -- .. `--limit N`
+  pub limit_apart : (limit : Text) → IsLimitText limit
+      → ForServer false words (codes "--limit" ∷ limit ∷ [])
+      (Serves line (λ s. record s { limit = number_written limit }))
+  -- .. `--timeout=SECONDS`
+  pub timeout : (seconds : Text) → IsCountText most_seconds seconds
+      → ForServer false words ((codes "--timeout=" ++ seconds) ∷ [])
+      (Serves line (λ s. record s { timeout = Some (number_written seconds) }))
+  -- .. `--timeout SECONDS`
+  pub timeout_apart : (seconds : Text) → IsCountText most_seconds seconds
+      → ForServer false words (codes "--timeout" ∷ seconds ∷ [])
+      (Serves line (λ s. record s { timeout = Some (number_written seconds) }))
+  -- .. `--network`
+  pub network : ForServer true words (codes "--network" ∷ []) (Serves line (λ s. s))
+  -- .. `--until-stopped`
+  pub until_stopped : ForServer false words (codes "--until-stopped" ∷ [])
+      (Serves line (λ s. record s { end = when.UntilStopped }))
+
+-- the sender of which only address and name are said
+abbrev pub plain_sender : SocketAddr → Text → Sender
+plain_sender address name =
+    record { connect = address; name = name; rounds = default_rounds; timeout = None }
+
+-- `send --connect=ADDR --name=NAME`, and what follows
+abbrev pub sending : Text → Text → Text → List Text → List Text
+sending program connect name more = program ∷ codes "send" ∷ (codes "--connect=" ++ connect)
+    ∷ (codes "--name=" ++ name) ∷ more
+
+-- the same as for servers, with a name
+abbrev pub ForSender : Bool → List Text → List Text → (SocketAddr → Text → Type 0) → Type 0
+ForSender network words more Holds = (program connect name : Text) (address : SocketAddr)
+    → IsAddress network connect address → IsName name → words ≡ sending program connect name more
+    → Holds address name
+
+-- the line runs the sender that so comes of the plain one
+abbrev pub Sends : CommandLine → (Sender → Sender) → SocketAddr → Text → Type 0
+Sends line change address name = RunsFor (Sending (change (plain_sender address name))) line
+
+-- `send` runs, with each of its options; NAME may begin with a hyphen
+pub record RunsSender (words : List Text) (line : CommandLine) : Type 0 where
+  -- `send --connect=ADDR --name=NAME`
+  pub alone : ForSender false words [] (Sends line (λ s. s))
+  -- `send --connect ADDR --name NAME`
+  pub apart : (program connect name : Text) (address : SocketAddr)
+      → IsAddress false connect address → IsName name
+      → words ≡ program ∷ codes "send" ∷ codes "--connect" ∷ connect
+      ∷ codes "--name" ∷ name ∷ [] → Sends line (λ s. s) address name
+  -- .. `--rounds=N`
+  pub rounds : (count : Text) → IsCountText most_rounds count
+      → ForSender false words ((codes "--rounds=" ++ count) ∷ [])
+      (Sends line (λ s. record s { rounds = number_written count }))
+  -- .. `--rounds N`
+  pub rounds_apart : (count : Text) → IsCountText most_rounds count
+      → ForSender false words (codes "--rounds" ∷ count ∷ [])
+      (Sends line (λ s. record s { rounds = number_written count }))
+  -- .. `--timeout=SECONDS`
+  pub timeout : (seconds : Text) → IsCountText most_seconds seconds
+      → ForSender false words ((codes "--timeout=" ++ seconds) ∷ [])
+      (Sends line (λ s. record s { timeout = Some (number_written seconds) }))
+  -- .. `--timeout SECONDS`
+  pub timeout_apart : (seconds : Text) → IsCountText most_seconds seconds
+      → ForSender false words (codes "--timeout" ∷ seconds ∷ [])
+      (Sends line (λ s. record s { timeout = Some (number_written seconds) }))
+  -- .. `--network`
+  pub network : ForSender true words (codes "--network" ∷ []) (Sends line (λ s. s))
+
+-- the line tells this value as bad
+abbrev pub TellsBad : CommandLine → BadValue → SocketAddr → Text → Type 0
+TellsBad line value address text = line ≡ Bad value
+
+-- a value of another form is a fault of its own
+pub record RefusesPeers (words : List Text) (line : CommandLine) : Type 0 where
+  -- `serve --listen=ADDR --folder=DIR`, where ADDR is no local address
+  pub listen : (program listen folder : Text)
+      → ((address : SocketAddr) → ¬ IsAddress false listen address)
+      → words ≡ serving program listen folder [] → line ≡ Bad Listen
+  -- .. `--network`, where it is none at all
+  pub listen_far : (program listen folder : Text)
+      → ((address : SocketAddr) → ¬ IsAddress true listen address)
+      → words ≡ serving program listen folder (codes "--network" ∷ []) → line ≡ Bad Listen
+  -- `serve --listen=ADDR --folder=`
+  pub folder : (program listen : Text) (address : SocketAddr) → IsAddress false listen address
+      → words ≡ serving program listen [] [] → line ≡ Bad Folder
+  -- `serve` with `--exchanges=N`
+  pub exchanges : (count : Text) → ¬ IsCountText most_exchanges count
+      → ForServer false words ((codes "--exchanges=" ++ count) ∷ []) (TellsBad line Exchanges)
+  -- .. with `--limit=N`
+  pub limit : (limit : Text) → ¬ IsLimitText limit
+      → ForServer false words ((codes "--limit=" ++ limit) ∷ []) (TellsBad line Limit)
+  -- .. with `--timeout=SECONDS`
+  pub timeout : (seconds : Text) → ¬ IsCountText most_seconds seconds
+      → ForServer false words ((codes "--timeout=" ++ seconds) ∷ []) (TellsBad line Timeout)
+  -- .. with `--exchanges=N --until-stopped`
+  pub both : (count : Text) → IsCountText most_exchanges count
+      → ForServer false words ((codes "--exchanges=" ++ count) ∷ codes "--until-stopped" ∷ [])
+      (TellsBad line UntilStopped)
+  -- `send --connect=ADDR --name=NAME`, where ADDR is no local address
+  pub connect : (program connect name : Text)
+      → ((address : SocketAddr) → ¬ IsAddress false connect address)
+      → words ≡ sending program connect name [] → line ≡ Bad Connect
+  -- .. `--network`, where it is none at all
+  pub connect_far : (program connect name : Text)
+      → ((address : SocketAddr) → ¬ IsAddress true connect address)
+      → words ≡ sending program connect name (codes "--network" ∷ []) → line ≡ Bad Connect
+  -- .. where NAME is none
+  pub name : (program connect name : Text) (address : SocketAddr)
+      → IsAddress false connect address → ¬ IsName name
+      → words ≡ sending program connect name [] → line ≡ Bad Name
+  -- `send` with `--rounds=N`
+  pub rounds : (count : Text) → ¬ IsCountText most_rounds count
+      → ForSender false words ((codes "--rounds=" ++ count) ∷ []) (TellsBad line Rounds)
+  -- .. with `--timeout=SECONDS`
+  pub send_timeout : (seconds : Text) → ¬ IsCountText most_seconds seconds
+      → ForSender false words ((codes "--timeout=" ++ seconds) ∷ []) (TellsBad line Timeout)
+
+-- `serve` wants an address and a folder, `send` an address and a name
+pub record WantsPeers (words : List Text) (line : CommandLine) : Type 0 where
+  pub serve : (program : Text) → words ≡ program ∷ codes "serve" ∷ []
+      → IsToldAs MissingRequiredArgument line
+  pub folder : (program listen : Text)
+      → words ≡ program ∷ codes "serve" ∷ (codes "--listen=" ++ listen) ∷ []
+      → IsToldAs MissingRequiredArgument line
+  pub listen : (program folder : Text)
+      → words ≡ program ∷ codes "serve" ∷ (codes "--folder=" ++ folder) ∷ []
+      → IsToldAs MissingRequiredArgument line
+  pub send : (program : Text) → words ≡ program ∷ codes "send" ∷ []
+      → IsToldAs MissingRequiredArgument line
+  pub name : (program connect : Text)
+      → words ≡ program ∷ codes "send" ∷ (codes "--connect=" ++ connect) ∷ []
+      → IsToldAs MissingRequiredArgument line
+  pub connect : (program name : Text)
+      → words ≡ program ∷ codes "send" ∷ (codes "--name=" ++ name) ∷ []
+      → IsToldAs MissingRequiredArgument line
