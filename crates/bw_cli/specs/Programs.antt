@@ -10,16 +10,26 @@ use Rattle.bw_args.specs.Lines.{IsLineOf}
 use Rattle.bw_args.specs.BadValues.{text_of}
 use Rattle.bw_args.specs.declared.CommandLine.{CommandLine}
 use Rattle.bw_args.specs.declared.CommandLine.TheVariants.{Run, BadValue as Bad, Tell}
-use Rattle.bw_args.specs.declared.Task.TheVariants.{Replay, Inspect, Rehearse}
-use Rattle.bw_commands.specs.Deeds.{Deed, IsReplay, IsWant}
+use Rattle.bw_args.specs.declared.Task.{Task}
+use Rattle.bw_args.specs.declared.Task.TheVariants.{Replay, Inspect, Rehearse, Serve, Send}
+use Rattle.bw_stream.specs.declared.sink.Sink.{Ghosts as Writer}
+use Rattle.bw_stream.specs.declared.source.Source.{Ghosts as Reader}
+use Rattle.bw_file.specs.declared.store.TakeStore.{Ghosts as StoreGhosts}
+use Rattle.bw_journal.specs.declared.journal.Journal.{Ghosts as JournalGhosts}
+use Rattle.bw_commands.specs.Deeds.{Deed, Does, IsReplay, IsWant}
 use Rattle.bw_commands.specs.Faults.{IsToldBy, exit_of}
 use Rattle.bw_commands.specs.Inspections.{IsPrintOfText}
 use Rattle.bw_commands.specs.Openings.{IsLook}
 use Rattle.bw_commands.specs.Printing.{Nothing, IsOf}
 use Rattle.bw_commands.specs.Rehearsals.{IsRehearsal}
 use Rattle.bw_commands.specs.Unworded.{IsUnworded}
+use Rattle.bw_commands.specs.declared.exit.Exit.{Exit}
 use Rattle.bw_commands.specs.declared.exit.Exit.TheVariants as exits
 use Rattle.bw_commands.specs.declared.fault.Fault.{Fault}
+use Rattle.bw_transfer.specs.declared.dial.Dial.{Ghosts as DialGhosts}
+use Rattle.bw_transfer.specs.declared.network.Network.{Ghosts as NetworkGhosts}
+use Rattle.bw_transfer.specs.declared.peers.Peers.{Ghosts as PeerGhosts}
+use Rattle.bw_cli.specs.Remote.{Sends, Serves}
 
 -- help or the version is printed
 pub record IsHelp (did : Deed) : Type 0 where
@@ -51,35 +61,68 @@ IsTelling texts.DisplayHelp did = IsHelp did
 IsTelling texts.DisplayVersion did = IsHelp did
 IsTelling _ did = IsUsage did ⊎ IsWant did
 
--- what the program is given: the words of its command line, the bytes at each path, and those of
--- its input
+-- what the system gives: the words of the command line, and the bytes at each path
 pub record Given : Type 0 where
   pub words : Option (List Text)
   pub file_at : Text → Option (List ℕ)
-  pub input : Option (List ℕ)
 
--- what is done for a command line over these files and this input, where the system gives what is
--- asked of it, or not
-abbrev pub IsDoneFor : (Text → Option (List ℕ)) → Option (List ℕ) → CommandLine → Bool →
-    Deed → Type 0
-IsDoneFor file_at input (Run (Replay limit fuse)) gives_all did =
+-- what is done for a task over these files and this input, where the system gives what is asked of
+-- it, or not; those that use the network are told elsewhere
+abbrev pub IsTaskDone : (Text → Option (List ℕ)) → Option (List ℕ) → Task → Bool → Deed → Type 0
+IsTaskDone file_at input (Replay limit fuse) gives_all did =
     IsReplay limit input did × (gives_all ≡ true)
-IsDoneFor file_at input (Run (Inspect file)) gives_all did =
+IsTaskDone file_at input (Inspect file) gives_all did =
     IsLook (file_at (string_bytes file)) (string_bytes file) gives_all did
-IsDoneFor file_at input (Run (Rehearse name limit)) gives_all did =
+IsTaskDone file_at input (Rehearse name limit) gives_all did =
     IsRehearsal name limit input did × (gives_all ≡ true)
-IsDoneFor file_at input (Bad value) gives_all did =
+IsTaskDone file_at input (Serve server) gives_all did = ⊥
+IsTaskDone file_at input (Send sender) gives_all did = ⊥
+
+-- .. for a command line
+abbrev pub IsLineDone : (Text → Option (List ℕ)) → Option (List ℕ) → CommandLine → Bool →
+    Deed → Type 0
+IsLineDone file_at input (Run task) gives_all did = IsTaskDone file_at input task gives_all did
+IsLineDone file_at input (Bad value) gives_all did =
     IsBadValue (text_of value) did × (gives_all ≡ true)
-IsDoneFor file_at input (Tell error) gives_all did =
+IsLineDone file_at input (Tell error) gives_all did =
     IsTelling (kind_of error) did × (gives_all ≡ true)
 
--- the words come to a command line, and this is done for it
-pub record IsAnswer (given : Given) (gives_all : Bool) (did : Deed) : Type 0 where
-  pub line : CommandLine
-  pub comes : (words : List Text) → given.words ≡ Some words → IsLineOf words line
-  pub done : IsDoneFor given.file_at given.input line gives_all did
+-- the words can't be read: where the system fails, that is told; where it doesn't, memory is wanted
+abbrev pub IsUnread : Bool → Deed → Type 0
+IsUnread true did = IsWant did
+IsUnread false did = (kind : ErrorKind) × IsUnworded kind did
 
--- what the program does: where the system fails, that is told; where it doesn't, memory may
-abbrev pub IsProgram : Given → Bool → Deed → Type 0
-IsProgram given true did = IsAnswer given true did ⊎ IsWant did
-IsProgram given false did = IsAnswer given false did ⊎ ((kind : ErrorKind) × IsUnworded kind did)
+module _ {X Y P R W N D A B I O E : Type 0} (S : StoreGhosts X) (J : JournalGhosts Y)
+    (peers : PeerGhosts P R W) (reader : Reader R) (writer : Writer W)
+    (network : NetworkGhosts N X P D R W A B) (dial : DialGhosts D A B) (replies : Reader A)
+    (requests : Writer B) (input : Reader I) (out : Writer O) (told : Writer E) where
+  -- this is done without the network
+  pub record DoesAlone (is_asked : Bool → Deed → Type 0) (exit : Exit) (s s' : ℕ) (n n' : N)
+      (i i' : I) (o o' : O) (e e' : E) : Type 0 where
+    pub does : Does input out told is_asked exit s s' i i' o o' e e'
+    pub unused : n' ≡ n
+
+  -- what is done for a command line, and how the program ends
+  abbrev pub IsDoneFor : (Text → Option (List ℕ)) → CommandLine → Exit → ℕ → ℕ → N → N → I → I →
+      O → O → E → E → Type 0
+  IsDoneFor file_at (Run (Serve server)) exit s s' n n' i i' o o' e e' =
+      Serves S J peers reader writer out told network server exit n n' o o' e e'
+      × (s' ≡ s) × (i' ≡ i)
+  IsDoneFor file_at (Run (Send sender)) exit s s' n n' i i' o o' e e' =
+      Sends network dial replies requests input out told sender exit n i i' o o' e e'
+      × (s' ≡ s) × (n' ≡ n)
+  IsDoneFor file_at line exit s s' n n' i i' o o' e e' =
+      DoesAlone (IsLineDone file_at (input.left i) line) exit s s' n n' i i' o o' e e'
+
+  -- the words come to a command line, and this is done for it
+  pub record IsAnswered (given : Given) (exit : Exit) (s s' : ℕ) (n n' : N) (i i' : I) (o o' : O)
+      (e e' : E) : Type 0 where
+    pub line : CommandLine
+    pub comes : (words : List Text) → given.words ≡ Some words → IsLineOf words line
+    pub done : IsDoneFor given.file_at line exit s s' n n' i i' o o' e e'
+
+  -- what the program does
+  abbrev pub IsProgram : Given → Exit → ℕ → ℕ → N → N → I → I → O → O → E → E → Type 0
+  IsProgram given exit s s' n n' i i' o o' e e' =
+      IsAnswered given exit s s' n n' i i' o o' e e'
+      ⊎ DoesAlone IsUnread exit s s' n n' i i' o o' e e'

@@ -1,7 +1,7 @@
 //! What no clause says of command lines: that they are taken or refused, by examples, and what
 //! texts they tell.
 use bw_args::numbers::number;
-use bw_args::{CommandLine, Task, parse};
+use bw_args::{CommandLine, End, Send, Serve, Task, parse};
 use bw_take::Name;
 use clap::Error;
 use std::alloc::{AllocError, Global};
@@ -19,6 +19,16 @@ enum Outcome {
     Rehearses(u64),
     /// Inspects the file that the last word names.
     Inspects,
+    /// Serves at the address and in the folder that the rows' first words give: until this end, with
+    /// this limit and timeout.
+    Serves(End, u64, Option<u32>),
+    /// Serves at another address or in another folder.
+    ServesElsewhere,
+    /// Sends to the address and under the name that the rows' first words give, in so many rounds at
+    /// most, with this timeout.
+    Sends(u32, Option<u32>),
+    /// Sends to another address.
+    SendsElsewhere,
     /// Text on standard output, status 0.
     Shows,
     /// Text on standard error, status 2.
@@ -54,6 +64,24 @@ fn run_outcome(task: &Task, words: &[&str]) -> Outcome {
         Task::Rehearse { .. } => Outcome::Confuses,
         Task::Inspect { file } if words.last() == Some(&file.as_str()) => Outcome::Inspects,
         Task::Inspect { .. } => Outcome::Confuses,
+        Task::Serve(server) => server_outcome(server),
+        Task::Send(sender) => sender_outcome(sender),
+    }
+}
+
+fn server_outcome(server: &Serve) -> Outcome {
+    if server.listen.port() == 4100 && server.listen.is_ipv4() && server.folder.as_str() == "-d" {
+        Outcome::Serves(server.end, server.limit, server.timeout)
+    } else {
+        Outcome::ServesElsewhere
+    }
+}
+
+fn sender_outcome(sender: &Send) -> Outcome {
+    if sender.connect.port() == 4100 && sender.name.as_bytes() == b"-a".as_slice() {
+        Outcome::Sends(sender.rounds, sender.timeout)
+    } else {
+        Outcome::SendsElsewhere
     }
 }
 
@@ -306,7 +334,128 @@ fn a_fuse_is_a_number(rt: HostRuntime) -> Result<(), Fail> {
     Ok(())
 }
 
-static TEXTS: [(&[&str], &str); 5] = [
+static SERVERS: [(&[&str], Outcome); 17] = [
+    (&[], Outcome::Serves(End::Exchanges(1), MOST, None)),
+    (
+        &["--timeout=30", "--limit", "8192", "--exchanges=7"],
+        Outcome::Serves(End::Exchanges(7), 8_192, Some(30)),
+    ),
+    (
+        &["--until-stopped", "--network", "--"],
+        Outcome::Serves(End::UntilStopped, MOST, None),
+    ),
+    (
+        &["--exchanges", "1000000", "--timeout", "86400"],
+        Outcome::Serves(End::Exchanges(1_000_000), MOST, Some(86_400)),
+    ),
+    (&["--exchanges", "0"], Outcome::Refuses),
+    (&["--exchanges", "1000001"], Outcome::Refuses),
+    (&["--exchanges", "+1"], Outcome::Refuses),
+    (&["--exchanges=1", "--until-stopped"], Outcome::Refuses),
+    (&["--timeout", "0"], Outcome::Refuses),
+    (&["--timeout", "86401"], Outcome::Refuses),
+    (&["--limit", "8191"], Outcome::Refuses),
+    (&["--network", "--network"], Outcome::Refuses),
+    (&["--network=true"], Outcome::Refuses),
+    (&["--fuse", "1"], Outcome::Refuses),
+    (&["--folder", "e"], Outcome::Refuses),
+    (&["--listen", "127.0.0.1:1"], Outcome::Refuses),
+    (&["e"], Outcome::Refuses),
+];
+
+const MOST: u64 = 4_294_967_294;
+
+#[test]
+fn a_server_takes_its_options_in_any_order(rt: HostRuntime) -> Result<(), Fail> {
+    for (options, wanted) in &SERVERS {
+        let mut words = vec![in rt.alloc(); "bwingest", "serve", "--listen", "127.0.0.1:4100"]?;
+        words.extend_from_slice(&["--folder", "-d"])?;
+        words.extend_from_slice(options)?;
+        comes_to(&rt, words.as_slice(), *wanted)?;
+    }
+    Ok(())
+}
+
+static SENDERS: [(&[&str], Outcome); 9] = [
+    (&[], Outcome::Sends(16, None)),
+    (
+        &["--timeout", "1", "--rounds=1000"],
+        Outcome::Sends(1000, Some(1)),
+    ),
+    (
+        &["--network", "--rounds", "0000000002"],
+        Outcome::Sends(2, None),
+    ),
+    (&["--rounds", "0"], Outcome::Refuses),
+    (&["--rounds", "1001"], Outcome::Refuses),
+    (&["--timeout=86401"], Outcome::Refuses),
+    (&["--limit", "8192"], Outcome::Refuses),
+    (&["--name", "b"], Outcome::Refuses),
+    (&["--until-stopped"], Outcome::Refuses),
+];
+
+#[test]
+fn a_sender_takes_its_options_in_any_order(rt: HostRuntime) -> Result<(), Fail> {
+    for (options, wanted) in &SENDERS {
+        let mut words = vec![in rt.alloc(); "bwingest", "send", "--connect=127.0.0.1:4100"]?;
+        words.extend_from_slice(&["--name", "-a"])?;
+        words.extend_from_slice(options)?;
+        comes_to(&rt, words.as_slice(), *wanted)?;
+    }
+    Ok(())
+}
+
+/// Addresses, with what they come to without leave for the network and with it.
+static ADDRESSES: [(&str, Outcome, Outcome); 20] = [
+    ("127.0.0.1:4100", PLAIN, PLAIN),
+    (
+        "127.0.0.1:1",
+        Outcome::ServesElsewhere,
+        Outcome::ServesElsewhere,
+    ),
+    (
+        "127.0.0.1:65535",
+        Outcome::ServesElsewhere,
+        Outcome::ServesElsewhere,
+    ),
+    ("127.0.0.1:04100", Outcome::Refuses, PLAIN),
+    ("127.0.0.2:4100", Outcome::Refuses, PLAIN),
+    ("0.0.0.0:4100", Outcome::Refuses, PLAIN),
+    ("[::1]:4100", Outcome::Refuses, Outcome::ServesElsewhere),
+    (
+        "[fe80::1%2]:4100",
+        Outcome::Refuses,
+        Outcome::ServesElsewhere,
+    ),
+    ("127.0.0.1:0", Outcome::Refuses, Outcome::Refuses),
+    ("[::1]:0", Outcome::Refuses, Outcome::Refuses),
+    ("127.0.0.1:65536", Outcome::Refuses, Outcome::Refuses),
+    ("127.0.0.1:+4100", Outcome::Refuses, Outcome::Refuses),
+    ("127.0.0.1: 4100", Outcome::Refuses, Outcome::Refuses),
+    ("127.0.0.1:", Outcome::Refuses, Outcome::Refuses),
+    ("127.0.0.1", Outcome::Refuses, Outcome::Refuses),
+    ("127.0.0.01:4100", Outcome::Refuses, Outcome::Refuses),
+    ("localhost:4100", Outcome::Refuses, Outcome::Refuses),
+    ("::1:4100", Outcome::Refuses, Outcome::Refuses),
+    (":4100", Outcome::Refuses, Outcome::Refuses),
+    ("", Outcome::Refuses, Outcome::Refuses),
+];
+
+const PLAIN: Outcome = Outcome::Serves(End::Exchanges(1), MOST, None);
+
+#[test]
+fn an_address_is_local_without_leave_for_the_network(rt: HostRuntime) -> Result<(), Fail> {
+    for (address, near, far) in &ADDRESSES {
+        let listen = format!(in rt.alloc(); "--listen={address}")?;
+        let mut words = vec![in rt.alloc(); "bwingest", "serve", listen.as_str(), "--folder=-d"]?;
+        comes_to(&rt, words.as_slice(), *near)?;
+        words.push("--network")?;
+        comes_to(&rt, words.as_slice(), *far)?;
+    }
+    Ok(())
+}
+
+static TEXTS: [(&[&str], &str); 9] = [
     (&["/tmp/x", "--version"], "bwingest 1.0.0\n"),
     (&["/tmp/x", "--help"], "Usage: bwingest <COMMAND>\n"),
     (&["/tmp/x"], "Usage: bwingest <COMMAND>\n"),
@@ -315,6 +464,22 @@ static TEXTS: [(&[&str], &str); 5] = [
         "Usage: bwingest replay [OPTIONS]\n",
     ),
     (&["/tmp/x", "inspect"], "Usage: bwingest inspect <FILE>\n"),
+    (
+        &["/tmp/x", "serve", "--help"],
+        "Example: bwingest serve --listen 127.0.0.1:4100 --folder takes --timeout 30\n",
+    ),
+    (
+        &["/tmp/x", "serve", "--help"],
+        "nothing on the wire is encrypted or signed",
+    ),
+    (
+        &["/tmp/x", "send", "--help"],
+        "without it one stops the program for good",
+    ),
+    (
+        &["/tmp/x", "send", "--help"],
+        "Example: bwingest send --connect 127.0.0.1:4100 --name a1 < requests.hex\n",
+    ),
 ];
 
 #[test]

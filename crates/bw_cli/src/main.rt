@@ -6,16 +6,26 @@ mod command_line_tests;
 pub mod program;
 #[cfg(test)]
 mod program_tests;
+mod remote;
 
 use bw_commands::Host;
+use bw_net::TcpNetwork;
 use bw_stream::Plain;
 use program::start;
 use std::process::ExitCode;
 
 fn main(rt: HostRuntime) -> ExitCode {
     let mut system = Host::new(&rt);
+    let mut network = TcpNetwork::new(&rt);
     let mut input = Plain::new(rt.stdin());
     let mut out = Plain::new(rt.stdout());
     let mut faults = Plain::new(rt.stderr());
-    start(rt.alloc(), &mut system, &mut input, &mut out, &mut faults)
+    start(
+        rt.alloc(),
+        &mut system,
+        &mut network,
+        &mut input,
+        &mut out,
+        &mut faults,
+    )
 }

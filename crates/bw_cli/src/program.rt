@@ -3,25 +3,29 @@ ghost use Rattle.std.specs.Prelude.{◌≡◌, true, Some, map, string_bytes};
 ghost use Rattle.std.specs.Process.{exit_status};
 ghost use Rattle.clap.specs.Values.{kind_of};
 ghost use Rattle.bw_args.specs.Lines.{HasLimit};
-ghost use Rattle.bw_commands.specs.Deeds.{Deed, Does, HasWritten};
+ghost use Rattle.bw_commands.specs.Deeds.{Deed, HasWritten};
 ghost use Rattle.bw_commands.specs.declared.exit.Exit.{Exit};
 ghost use Rattle.bw_commands.specs.Exits.{status_of};
 ghost use Rattle.bw_cli.specs.Programs.{Given, IsDoneFor, IsProgram, IsTelling};
 
+use crate::remote::{send_as, serve_as};
 use bw_args::{CommandLine, Task, parse};
 use bw_commands::print::{give_up, print, tell};
 use bw_commands::replay::{replay, replay_fused};
 use bw_commands::{Exit, Fault, System, inspect_file, rehearse_run, tell_unworded};
+use bw_journal::{Journal, NoJournal};
 use bw_layout::Limit;
 use bw_stream::{Sink, Source};
+use bw_transfer::Network;
 use clap::Error;
 use std::alloc::Global;
 use std::process::ExitCode;
 
 /// Reads the command line, does what it asks for, and answers the program's status.
-pub fn start<S: System, R: Source, W: Sink, E: Sink>(
+pub fn start<S: System, N: Network, R: Source, W: Sink, E: Sink>(
     alloc: Global,
     system: &mut S,
+    network: &mut N,
     input: &mut R,
     out: &mut W,
     faults: &mut E,
@@ -29,20 +33,22 @@ pub fn start<S: System, R: Source, W: Sink, E: Sink>(
     ensures { let given : Given = record {
       words = S.words system.old;
       file_at = S.file_at system.old;
-      input = R.left input.old;
     } in
         (exit : Exit) × (exit_status result ≡ status_of exit)
-        × Does R.Source W.Sink E.Sink (IsProgram given) exit
-        (S.failures system.old) (S.failures system.new) input.old input.new
-        out.old out.new faults.old faults.new }
+        × IsProgram N.Store.TakeStore ⟦<NoJournal as Journal>⟧ N.Peers.Peers
+        N.Peers.Reader.Source N.Peers.Writer.Sink N.Network N.Dial.Dial N.Dial.Reader.Source
+        N.Dial.Writer.Sink R.Source W.Sink E.Sink given exit
+        (S.failures system.old) (S.failures system.new) network.old network.new
+        input.old input.new out.old out.new faults.old faults.new }
 {
-    ExitCode::from(obey(alloc, system, input, out, faults).status())
+    ExitCode::from(obey(alloc, system, network, input, out, faults).status())
 }
 
 /// Reads the command line, and does what it asks for.
-fn obey<S: System, R: Source, W: Sink, E: Sink>(
+fn obey<S: System, N: Network, R: Source, W: Sink, E: Sink>(
     alloc: Global,
     system: &mut S,
+    network: &mut N,
     input: &mut R,
     out: &mut W,
     faults: &mut E,
@@ -50,23 +56,25 @@ fn obey<S: System, R: Source, W: Sink, E: Sink>(
     ensures { let given : Given = record {
       words = S.words system.old;
       file_at = S.file_at system.old;
-      input = R.left input.old;
     } in
-        Does R.Source W.Sink E.Sink (IsProgram given) result
-        (S.failures system.old) (S.failures system.new) input.old input.new
-        out.old out.new faults.old faults.new }
+        IsProgram N.Store.TakeStore ⟦<NoJournal as Journal>⟧ N.Peers.Peers
+        N.Peers.Reader.Source N.Peers.Writer.Sink N.Network N.Dial.Dial N.Dial.Reader.Source
+        N.Dial.Writer.Sink R.Source W.Sink E.Sink given result
+        (S.failures system.old) (S.failures system.new) network.old network.new
+        input.old input.new out.old out.new faults.old faults.new }
 {
     match system.words() {
-        Ok(words) => answer(alloc, words.as_slice(), system, input, out, faults),
+        Ok(words) => answer(alloc, words.as_slice(), system, network, input, out, faults),
         Err(error) => tell_unworded(&error, faults),
     }
 }
 
 /// Does what these words ask for.
-fn answer<S: System, R: Source, W: Sink, E: Sink>(
+fn answer<S: System, N: Network, R: Source, W: Sink, E: Sink>(
     alloc: Global,
     words: &[String],
     system: &mut S,
+    network: &mut N,
     input: &mut R,
     out: &mut W,
     faults: &mut E,
@@ -74,51 +82,76 @@ fn answer<S: System, R: Source, W: Sink, E: Sink>(
     ensures { let given : Given = record {
       words = Some (map string_bytes words.now);
       file_at = S.file_at system.old;
-      input = R.left input.old;
     } in
-        Does R.Source W.Sink E.Sink (IsProgram given) result
-        (S.failures system.old) (S.failures system.new) input.old input.new
-        out.old out.new faults.old faults.new }
+        IsProgram N.Store.TakeStore ⟦<NoJournal as Journal>⟧ N.Peers.Peers
+        N.Peers.Reader.Source N.Peers.Writer.Sink N.Network N.Dial.Dial N.Dial.Reader.Source
+        N.Dial.Writer.Sink R.Source W.Sink E.Sink given result
+        (S.failures system.old) (S.failures system.new) network.old network.new
+        input.old input.new out.old out.new faults.old faults.new }
 {
     match parse(alloc, words) {
-        Ok(line) => perform(alloc, &line, system, input, out, faults),
+        Ok(line) => perform(alloc, &line, system, network, input, out, faults),
         Err(_) => give_up(faults, &Fault::Memory),
     }
 }
 
 /// Does what a command line asks for.
-fn perform<S: System, R: Source, W: Sink, E: Sink>(
+fn perform<S: System, N: Network, R: Source, W: Sink, E: Sink>(
     alloc: Global,
     line: &CommandLine,
     system: &mut S,
+    network: &mut N,
     input: &mut R,
     out: &mut W,
     faults: &mut E,
 ) -> Exit
     requires { HasLimit line.now }
-    ensures { let done = IsDoneFor (S.file_at system.old) (R.left input.old) line.now in
-        Does R.Source W.Sink E.Sink done result
-        (S.failures system.old) (S.failures system.new) input.old input.new
-        out.old out.new faults.old faults.new }
+    ensures { IsDoneFor N.Store.TakeStore ⟦<NoJournal as Journal>⟧ N.Peers.Peers
+        N.Peers.Reader.Source N.Peers.Writer.Sink N.Network N.Dial.Dial N.Dial.Reader.Source
+        N.Dial.Writer.Sink R.Source W.Sink E.Sink (S.file_at system.old) line.now result
+        (S.failures system.old) (S.failures system.new) network.old network.new
+        input.old input.new out.old out.new faults.old faults.new }
 {
     match line {
-        CommandLine::Run(Task::Replay { limit, fuse }) => match (Limit::new(*limit), fuse) {
-            (Some(limit), Some(fuse)) => replay_fused(alloc, limit, *fuse, input, out, faults),
-            (Some(limit), None) => replay(alloc, limit, input, out, faults),
-            (None, _) => unreachable!(),
-        },
-        CommandLine::Run(Task::Inspect { file }) => {
-            inspect_file(alloc, system, file.as_str(), out, faults)
-        }
-        CommandLine::Run(Task::Rehearse { name, limit }) => match Limit::new(*limit) {
-            Some(limit) => rehearse_run(alloc, name.copy(), limit, input, out, faults),
-            None => unreachable!(),
-        },
+        CommandLine::Run(task) => run(alloc, task, system, network, input, out, faults),
         CommandLine::BadValue(value) => {
             tell(faults, value.text().as_bytes());
             Exit::Usage
         }
         CommandLine::Tell(text) => show(alloc, text, out, faults),
+    }
+}
+
+/// Runs a task.
+fn run<S: System, N: Network, R: Source, W: Sink, E: Sink>(
+    alloc: Global,
+    task: &Task,
+    system: &mut S,
+    network: &mut N,
+    input: &mut R,
+    out: &mut W,
+    faults: &mut E,
+) -> Exit
+    requires { HasLimit (CommandLine.Run task.now) }
+    ensures { IsDoneFor N.Store.TakeStore ⟦<NoJournal as Journal>⟧ N.Peers.Peers
+        N.Peers.Reader.Source N.Peers.Writer.Sink N.Network N.Dial.Dial N.Dial.Reader.Source
+        N.Dial.Writer.Sink R.Source W.Sink E.Sink (S.file_at system.old) (CommandLine.Run task.now) result
+        (S.failures system.old) (S.failures system.new) network.old network.new
+        input.old input.new out.old out.new faults.old faults.new }
+{
+    match task {
+        Task::Replay { limit, fuse } => match (Limit::new(*limit), fuse) {
+            (Some(limit), Some(fuse)) => replay_fused(alloc, limit, *fuse, input, out, faults),
+            (Some(limit), None) => replay(alloc, limit, input, out, faults),
+            (None, _) => unreachable!(),
+        },
+        Task::Inspect { file } => inspect_file(alloc, system, file.as_str(), out, faults),
+        Task::Rehearse { name, limit } => match Limit::new(*limit) {
+            Some(limit) => rehearse_run(alloc, name.copy(), limit, input, out, faults),
+            None => unreachable!(),
+        },
+        Task::Serve(server) => serve_as(alloc, server, network, out, faults),
+        Task::Send(sender) => send_as(alloc, sender, network, input, out, faults),
     }
 }
 

@@ -5,10 +5,11 @@ ghost use Rattle.std.specs.Str.{bytes_eq};
 
 use crate::program::start;
 use bw_commands::System;
+use bw_net::TcpNetwork;
 use bw_stream::{MemorySink, MemorySource};
 use std::alloc::Global;
 use std::io::{self, ErrorKind};
-use std::process::{Abort, ExitCode};
+use std::process::ExitCode;
 
 /// The words of a command line with one command and one argument, and the file of one path.
 #[derive(Drop)]
@@ -61,7 +62,7 @@ fn line(alloc: Global, first: &str, second: &str, third: &str) -> io::Result<Vec
 
 /// What the program prints, tells and ends with for `inspect` of a path, where `a.wav` has two
 /// bytes.
-fn inspects(rt: &impl Abort, alloc: Global, argument: &str, wanted: ExitCode, told: &[u8]) {
+fn inspects(rt: &HostRuntime, alloc: Global, argument: &str, wanted: ExitCode, told: &[u8]) {
     let mut desk = Desk {
         alloc,
         command: "inspect",
@@ -75,6 +76,7 @@ fn inspects(rt: &impl Abort, alloc: Global, argument: &str, wanted: ExitCode, to
     let ended = start(
         alloc,
         &mut desk,
+        &mut TcpNetwork::new(rt),
         &mut MemorySource::new(b""),
         &mut out,
         &mut faults,

@@ -6,12 +6,15 @@ use Rattle.bw_cli.proofs.program.answer.Goals as goal
 pub returns-in-Err : goal.returns-in-Err
 returns-in-Err g c =
     let l = c.give_up.ensures.line in
-    record {
-      did = record { reads_all = true; out = Nothing; faults = l.0; exit = Memory };
-      ends = sym c.give_up.ensures.exit;
-      gives_all = true;
-      is = inr (record { exit_is = refl; reads = refl; prints = refl; tells = l.1 });
-      failures = refl;
-      reads = refl;
-      writes = record { printed = refl; told = l.2 };
-    }
+    inr (record {
+      does = record {
+        did = record { reads_all = true; out = Nothing; faults = l.0; exit = Memory };
+        ends = sym c.give_up.ensures.exit;
+        gives_all = true;
+        is = record { exit_is = refl; reads = refl; prints = refl; tells = l.1 };
+        failures = refl;
+        reads = refl;
+        writes = record { printed = refl; told = l.2 };
+      };
+      unused = refl;
+    })

@@ -1,32 +1,25 @@
 use Rattle.std.proofs.Common.{◌∙◌, inr, ap, map, string_bytes, false, refl}
-use Rattle.bw_commands.specs.Printing.{failures_if}
+use Rattle.bw_commands.specs.Printing.{Nothing}
 use Rattle.bw_cli.proofs.ProgramLemmas.{told-words}
 use Rattle.bw_cli.proofs.program.obey.Goals as goal
 
 pub returns-in-Ok : goal.returns-in-Ok
-returns-in-Ok g c =
-    let a = c.answer.ensures in
-    record {
-      did = a.did;
-      ends = a.ends;
-      gives_all = a.gives_all;
-      is = told-words _ _ _ _ _ a.gives_all a.did
-          (λ told e. ap (map string_bytes) c.as_slice.ensures.value ∙ c.in-Ok.ensures.ok told e)
-          c.in-Ok.ensures.files a.is;
-      failures = a.failures ∙ ap (failures_if a.gives_all) c.in-Ok.ensures.count;
-      reads = a.reads;
-      writes = a.writes;
-    }
+returns-in-Ok g c = told-words _ _ _ _ _ _ _ _ _ _ _ _ _ _ _ _ _ _ _ _ _ _ _ _ _ _ _ _
+    (λ told e. ap (map string_bytes) c.as_slice.ensures.value ∙ c.in-Ok.ensures.ok told e)
+    c.in-Ok.ensures.files c.in-Ok.ensures.count c.answer.ensures
 
 pub returns-in-Err : goal.returns-in-Err
 returns-in-Err g c =
     let l = c.tell_unworded.ensures in
-    record {
-      did = l.0;
-      ends = l.1;
-      gives_all = false;
-      is = inr (_, l.2);
-      failures = c.in-Err.ensures.count;
-      reads = rw l.2.reads refl;
-      writes = record { printed = rw l.2.prints refl; told = l.3 };
-    }
+    inr (record {
+      does = record {
+        did = l.0;
+        ends = l.1;
+        gives_all = false;
+        is = (_, l.2);
+        failures = c.in-Err.ensures.count;
+        reads = rw l.2.reads refl;
+        writes = record { printed = rw l.2.prints refl; told = l.3 };
+      };
+      unused = refl;
+    })

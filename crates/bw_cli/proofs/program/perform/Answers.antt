@@ -8,12 +8,15 @@ pub returns-in-BadValue : goal.returns-in-BadValue
 returns-in-BadValue g c =
     let l = c.tell.ensures in
     let told : IsOf (text_of c.in-BadValue.value) l.0 = rw (c.as_bytes.ensures.value, c.text.ensures) at l.1 in
-    record {
-      did = record { reads_all = true; out = Nothing; faults = l.0; exit = Usage };
-      ends = refl;
-      gives_all = true;
-      is = rw c.in-BadValue.is (record { exit_is = refl; reads = refl; prints = refl; tells = told }, refl);
-      failures = refl;
-      reads = refl;
-      writes = record { printed = refl; told = l.2 };
-    }
+    rw c.in-BadValue.is (record {
+      does = record {
+        did = record { reads_all = true; out = Nothing; faults = l.0; exit = Usage };
+        ends = refl;
+        gives_all = true;
+        is = (record { exit_is = refl; reads = refl; prints = refl; tells = told }, refl);
+        failures = refl;
+        reads = refl;
+        writes = record { printed = refl; told = l.2 };
+      };
+      unused = refl;
+    })
