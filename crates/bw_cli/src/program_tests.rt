@@ -9,7 +9,7 @@ use bw_net::TcpNetwork;
 use bw_stream::{MemorySink, MemorySource};
 use std::alloc::Global;
 use std::io::{self, ErrorKind};
-use std::process::ExitCode;
+use std::process::{Abort, ExitCode};
 
 /// The words of a command line with one command and one argument, and the file of one path.
 #[derive(Drop)]
@@ -62,7 +62,14 @@ fn line(alloc: Global, first: &str, second: &str, third: &str) -> io::Result<Vec
 
 /// What the program prints, tells and ends with for `inspect` of a path, where `a.wav` has two
 /// bytes.
-fn inspects(rt: &HostRuntime, alloc: Global, argument: &str, wanted: ExitCode, told: &[u8]) {
+fn inspects(
+    rt: &impl Abort,
+    network: &mut TcpNetwork<'_>,
+    alloc: Global,
+    argument: &str,
+    wanted: ExitCode,
+    told: &[u8],
+) {
     let mut desk = Desk {
         alloc,
         command: "inspect",
@@ -76,7 +83,7 @@ fn inspects(rt: &HostRuntime, alloc: Global, argument: &str, wanted: ExitCode, t
     let ended = start(
         alloc,
         &mut desk,
-        &mut TcpNetwork::new(rt),
+        network,
         &mut MemorySource::new(b""),
         &mut out,
         &mut faults,
@@ -95,8 +102,10 @@ fn inspects(rt: &HostRuntime, alloc: Global, argument: &str, wanted: ExitCode, t
 #[test]
 fn the_file_of_the_path_is_inspected(rt: HostRuntime) {
     let alloc = rt.alloc();
+    let mut network = TcpNetwork::new(&rt);
     inspects(
         &rt,
+        &mut network,
         alloc,
         "a.wav",
         ExitCode::from(1),
@@ -104,6 +113,7 @@ fn the_file_of_the_path_is_inspected(rt: HostRuntime) {
     );
     inspects(
         &rt,
+        &mut network,
         alloc,
         "b.wav",
         ExitCode::from(3),
