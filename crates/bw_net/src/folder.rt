@@ -1,7 +1,7 @@
 //! The folder that a server keeps its files in.
 use std::alloc::Global;
 use std::fs::{self, File, Files};
-use std::io;
+use std::io::{self, ErrorKind};
 
 /// The file by which a folder is tried: no take's name has a dot.
 const PROBE: &str = ".bwingest";
@@ -14,13 +14,17 @@ pub fn has_folder<R: Files>(rt: &R, folder: &str) -> bool {
     }
 }
 
-/// Tries a folder: a file is made in it, and removed.
+/// Tries a folder: a file is made in it, and removed. Where something stands under that file's name,
+/// a link too, it is left alone, and the folder untried.
 ///
 /// # Errors
-/// Why it can't be: the folder is missing, none, or closed to this process.
+/// Why no file can be made: the folder is missing, none, or closed to this process.
 pub fn check_folder<R: Files>(rt: &R, alloc: Global, folder: &str) -> io::Result<()> {
     let path = format!(in alloc; "{folder}/{PROBE}")?;
-    let file = File::create(rt, path.as_str())?;
-    drop(file);
+    match File::create_new(rt, path.as_str()) {
+        Ok(file) => drop(file),
+        Err(error) if error.kind() == ErrorKind::AlreadyExists => return Ok(()),
+        Err(error) => return Err(error),
+    }
     fs::remove_file(rt, path.as_str())
 }

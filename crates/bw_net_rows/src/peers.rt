@@ -63,6 +63,11 @@ fn no_link_is_made_where_nobody_listens(rt: HostRuntime) -> Result<(), Fail> {
 fn a_folder_is_tried_before_it_is_used(rt: HostRuntime) -> Result<(), Fail> {
     fs::create_dir(&rt, "tried")?;
     check_folder(&rt, rt.alloc(), "tried")?;
+    fs::write(&rt, "tried/.bwingest", b"mine")?;
+    check_folder(&rt, rt.alloc(), "tried")?;
+    let kept = fs::read(&rt, "tried/.bwingest")?;
+    assert!(&rt; kept.as_slice() == b"mine".as_slice(), "another file");
+    fs::remove_file(&rt, "tried/.bwingest")?;
     fs::remove_dir(&rt, "tried")?;
     assert!(&rt; check_folder(&rt, rt.alloc(), "tried").is_err(), "a folder");
     Ok(())
