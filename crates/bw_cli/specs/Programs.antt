@@ -68,7 +68,8 @@ pub record Given : Type 0 where
 
 -- what is done for a task over these files and this input, where the system gives what is asked of
 -- it, or not; those that use the network are told elsewhere
-abbrev pub IsTaskDone : (Text → Option (List ℕ)) → Option (List ℕ) → Task → Bool → Deed → Type 0
+abbrev pub IsTaskDone : (Text → Option (List ℕ)) → Option (List ℕ) → Task → Bool →
+    Deed → Type 0
 IsTaskDone file_at input (Replay limit fuse) gives_all did =
     IsReplay limit input did × (gives_all ≡ true)
 IsTaskDone file_at input (Inspect file) gives_all did =
@@ -103,8 +104,8 @@ module _ {X Y P R W N D A B I O E : Type 0} (S : StoreGhosts X) (J : JournalGhos
     pub unused : n' ≡ n
 
   -- what is done for a command line, and how the program ends
-  abbrev pub IsDoneFor : (Text → Option (List ℕ)) → CommandLine → Exit → ℕ → ℕ → N → N → I → I →
-      O → O → E → E → Type 0
+  abbrev pub IsDoneFor : (Text → Option (List ℕ)) → CommandLine → Exit → ℕ → ℕ → N → N →
+      I → I → O → O → E → E → Type 0
   IsDoneFor file_at (Run (Serve server)) exit s s' n n' i i' o o' e e' =
       Serves S J peers reader writer out told network server exit n n' o o' e e'
       × (s' ≡ s) × (i' ≡ i)
@@ -122,7 +123,8 @@ module _ {X Y P R W N D A B I O E : Type 0} (S : StoreGhosts X) (J : JournalGhos
     pub done : IsDoneFor given.file_at line exit s s' n n' i i' o o' e e'
 
   -- what the program does
-  abbrev pub IsProgram : Given → Exit → ℕ → ℕ → N → N → I → I → O → O → E → E → Type 0
+  abbrev pub IsProgram : Given → Exit → ℕ → ℕ → N → N → I → I → O → O →
+      E → E → Type 0
   IsProgram given exit s s' n n' i i' o o' e e' =
       IsAnswered given exit s s' n n' i i' o o' e e'
       ⊎ DoesAlone IsUnread exit s s' n n' i i' o o' e e'
