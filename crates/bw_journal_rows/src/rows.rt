@@ -101,17 +101,64 @@ fn tells(rt: &impl Abort, alloc: Global, bytes: &[u8], used: usize, entries: usi
     );
 }
 
-/// Appends the entry of a body of `a1`.
-fn note(
-    alloc: Global,
-    out: &mut Vec<u8>,
-    body: &[u8],
+/// A body of `a1`, and what it says and came to.
+struct Noted {
+    body: &'static [u8],
     verdict: Verdict,
-    request: &RequestRef<'_>,
-) -> Result<(), AllocError>
-    requires { IsTrue (is_request (meaning request.now)) }
+    request: RequestRef<'static>,
+}
+
+static BODIES: [Noted; 6] = [
+    Noted {
+        body: b"\x01\x02a1\0\0\0\0\x80\xbb\0\0\x01\0\x10\0\x05\0A=PCM",
+        verdict: Verdict::Stored,
+        request: RequestRef::OpenTake {
+            rate: 48_000,
+            channels: 1,
+            bits: 16,
+            history: b"A=PCM",
+        },
+    },
+    Noted {
+        body: b"\x02\x02a1\x01\0\0\0\x01\0\x02\0",
+        verdict: Verdict::Stored,
+        request: RequestRef::Block {
+            bytes: &[1, 0, 2, 0],
+        },
+    },
+    Noted {
+        body: b"\x02\x02a1\x02\0\0\0\x01",
+        verdict: Verdict::BadBlock,
+        request: RequestRef::Block { bytes: &[1] },
+    },
+    MARK,
+    Noted {
+        body: b"\x04\x02a1\x04\0\0\0\x02bw",
+        verdict: Verdict::Stored,
+        request: RequestRef::SetField {
+            tag: 2,
+            value: b"bw",
+        },
+    },
+    Noted {
+        body: b"\x05\x02a1\x05\0\0\0\x02\0\0\0\0\0\0\0",
+        verdict: Verdict::Stored,
+        request: RequestRef::CloseTake { frames: 2 },
+    },
+];
+
+const MARK: Noted = Noted {
+    body: b"\x03\x02a1\x03\0\0\0\x07\0\0\0\x02\0\0\0",
+    verdict: Verdict::Stored,
+    request: RequestRef::Mark { id: 7, frame: 2 },
+};
+
+/// Appends the entry of a body.
+fn note(alloc: Global, out: &mut Vec<u8>, noted: &Noted) -> Result<(), AllocError>
+    requires { IsTrue (is_request (meaning noted.now.request)) }
 {
-    put_entry(alloc, out, verdict, &Sha256::digest(body), request)
+    let digest = Sha256::digest(noted.body);
+    put_entry(alloc, out, noted.verdict, &digest, &noted.request)
 }
 
 #[test]
@@ -123,59 +170,10 @@ fn entries_are_written_byte_for_byte(rt: HostRuntime) -> Result<(), Fail> {
         stood: false,
     };
     out.extend_from_slice(&header.to_bytes())?;
-    let opening = RequestRef::OpenTake {
-        rate: 48_000,
-        channels: 1,
-        bits: 16,
-        history: b"A=PCM",
-    };
-    let body = b"\x01\x02a1\0\0\0\0\x80\xbb\0\0\x01\0\x10\0\x05\0A=PCM";
-    note(alloc, &mut out, body, Verdict::Stored, &opening)?;
-    let block = RequestRef::Block {
-        bytes: &[1, 0, 2, 0],
-    };
-    note(
-        alloc,
-        &mut out,
-        b"\x02\x02a1\x01\0\0\0\x01\0\x02\0",
-        Verdict::Stored,
-        &block,
-    )?;
-    let odd = RequestRef::Block { bytes: &[1] };
-    note(
-        alloc,
-        &mut out,
-        b"\x02\x02a1\x02\0\0\0\x01",
-        Verdict::BadBlock,
-        &odd,
-    )?;
-    let mark = RequestRef::Mark { id: 7, frame: 2 };
-    note(
-        alloc,
-        &mut out,
-        b"\x03\x02a1\x03\0\0\0\x07\0\0\0\x02\0\0\0",
-        Verdict::Stored,
-        &mark,
-    )?;
-    let field = RequestRef::SetField {
-        tag: 2,
-        value: b"bw",
-    };
-    note(
-        alloc,
-        &mut out,
-        b"\x04\x02a1\x04\0\0\0\x02bw",
-        Verdict::Stored,
-        &field,
-    )?;
-    let closing = RequestRef::CloseTake { frames: 2 };
-    note(
-        alloc,
-        &mut out,
-        b"\x05\x02a1\x05\0\0\0\x02\0\0\0\0\0\0\0",
-        Verdict::Stored,
-        &closing,
-    )?;
+    for noted in &BODIES {
+        assert!(&rt; noted.request.fits(), "no request");
+        note(alloc, &mut out, noted)?;
+    }
     assert!(&rt; out.as_slice() == &JOURNAL[..], "other bytes");
     Ok(())
 }
@@ -248,12 +246,10 @@ fn a_refused_growth_is_told_and_changes_nothing(rt: HostRuntime) -> Result<(), F
     }
     assert!(&rt; found == Ok((325, 0, 198)), "another story");
     let mut out = Vec::new(alloc);
-    let mark = RequestRef::Mark { id: 7, frame: 2 };
-    let body = b"\x03\x02a1\x03\0\0\0\x07\0\0\0\x02\0\0\0";
     for entries in 0..4usize {
-        if note(alloc, &mut out, body, Verdict::Stored, &mark).is_err() {
+        if note(alloc, &mut out, &MARK).is_err() {
             assert!(&rt; out.len() == 52 * entries, "a part of a refused entry");
-            note(alloc, &mut out, body, Verdict::Stored, &mark)?;
+            note(alloc, &mut out, &MARK)?;
         }
     }
     assert!(&rt; out.len() == 208, "another length");
@@ -266,47 +262,69 @@ fn a_refused_growth_is_told_and_changes_nothing(rt: HostRuntime) -> Result<(), F
     Ok(())
 }
 
-#[test]
-fn journals_begin_and_grow_behind_faults(rt: HostRuntime) -> Result<(), Fail> {
-    let alloc = rt.alloc();
-    let name = Name::new(b"a1").ok_or("a name")?;
-    let other = Name::new(b"b2").ok_or("a name")?;
+fn a1() -> Result<Name, Fail> {
+    Ok(Name::new(b"a1").ok_or("a name")?)
+}
+
+/// A memory in which the journal of `a1` has these bytes.
+fn planted(alloc: Global, bytes: &[u8]) -> Result<MemoryJournal, Fail> {
     let mut memory = MemoryJournal::new(alloc, Limit::default());
-    memory.plant(&name, &JOURNAL[..7])?;
-    let mut journal = FuseJournal::new(memory, [0u64, 2].to_vec(alloc)?);
-    assert!(&rt; journal.begin(&name).is_err(), "a fuse is left");
-    journal.begin(&name)?;
-    assert!(&rt;
-        journal.note(&name, 19, &JOURNAL[19..78]).is_err(),
-        "a fuse is left"
-    );
-    let torn = journal.inner().content(&name).ok_or("a content")?;
-    assert!(&rt; torn == &JOURNAL[..48], "not the first half");
-    journal.note(&name, 19, &JOURNAL[19..78])?;
-    journal.note(&name, 78, &JOURNAL[78..])?;
-    journal.begin(&name)?;
-    assert!(&rt;
-        journal.note(&other, 0, b"x").is_err(),
-        "a journal that was never begun"
-    );
-    let whole = journal.inner().content(&name).ok_or("a content")?;
-    assert!(&rt; whole == &JOURNAL[..], "other bytes");
-    assert_eq!(&rt; journal.calls(), 7);
+    memory.plant(&a1()?, bytes)?;
+    Ok(memory)
+}
+
+/// Ends the test where the journal of `a1` has other bytes.
+fn has(rt: &impl Abort, memory: &MemoryJournal, bytes: &[u8]) -> Result<(), Fail> {
+    let found = memory.content(&a1()?).ok_or("a content")?;
+    assert!(rt; found == bytes, "other bytes");
     Ok(())
 }
 
 #[test]
+fn a_fault_leaves_the_beginning_of_an_entry(rt: HostRuntime) -> Result<(), Fail> {
+    let name = a1()?;
+    let fuses = [0u64, 2].to_vec(rt.alloc())?;
+    let mut journal = FuseJournal::new(planted(rt.alloc(), &JOURNAL[..7])?, fuses);
+    assert!(&rt; journal.begin(&name).is_err(), "a fuse is left");
+    journal.begin(&name)?;
+    let noted = journal.note(&name, 19, &JOURNAL[19..78]);
+    assert!(&rt; noted.is_err(), "a fuse is left");
+    has(&rt, journal.inner(), &JOURNAL[..48])
+}
+
+#[test]
+fn a_journal_grows_behind_what_it_has_whole(rt: HostRuntime) -> Result<(), Fail> {
+    let name = a1()?;
+    let memory = planted(rt.alloc(), &JOURNAL[..48])?;
+    let mut journal = FuseJournal::new(memory, Vec::new(rt.alloc()));
+    journal.note(&name, 19, &JOURNAL[19..78])?;
+    journal.note(&name, 78, &JOURNAL[78..])?;
+    journal.begin(&name)?;
+    assert!(&rt; journal.calls() == 3, "other calls");
+    has(&rt, journal.inner(), &JOURNAL)
+}
+
+#[test]
+fn a_journal_that_was_never_begun_takes_no_note(rt: HostRuntime) -> Result<(), Fail> {
+    let mut journal = planted(rt.alloc(), &JOURNAL)?;
+    let other = Name::new(b"b2").ok_or("a name")?;
+    assert!(&rt; journal.note(&other, 0, b"x").is_err(), "a note");
+    has(&rt, &journal, &JOURNAL)
+}
+
+#[test]
 fn a_journal_knows_which_files_stood(rt: HostRuntime) -> Result<(), Fail> {
-    let alloc = rt.alloc();
-    let name = Name::new(b"a1").ok_or("a name")?;
-    let mut journal = MemoryJournal::new(alloc, Limit::new(8192).ok_or("a limit")?);
+    let name = a1()?;
+    let limit = Limit::new(8192).ok_or("a limit")?;
+    let mut journal = MemoryJournal::new(rt.alloc(), limit);
     journal.set_stood(&name)?;
     journal.begin(&name)?;
-    let bytes = journal.content(&name).ok_or("a content")?;
-    let header = b"\x09\0BWJ1\0\x20\0\0\x01V\xb6*B\xccH3\x9a";
-    assert!(&rt; bytes == &header[..], "another header");
-    let mut none = NoJournal;
-    none.begin(&name)?;
-    none.note(&name, 7, b"x")?;
+    has(&rt, &journal, b"\x09\0BWJ1\0\x20\0\0\x01V\xb6*B\xccH3\x9a")
+}
+
+#[test]
+fn no_journal_takes_every_note(_rt: HostRuntime) -> Result<(), Fail> {
+    NoJournal.begin(&a1()?)?;
+    NoJournal.note(&a1()?, 7, b"x")?;
     Ok(())
 }

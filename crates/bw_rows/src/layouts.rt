@@ -148,8 +148,15 @@ fn a_given_loudness_makes_version_2(rt: HostRuntime) -> Result<(), Fail> {
     ];
     let want = joined(rt.alloc(), pieces.as_slice())?;
     same(&rt, "the header", &given, &want);
+    Ok(())
+}
+
+#[test]
+fn a_loudness_that_is_taken_back_leaves_no_trace(rt: HostRuntime) -> Result<(), Fail> {
+    let mut bext = Bext::new();
+    bext.set(8, b"\x04\xf7")?;
     bext.set(8, b"")?;
-    let taken_back = header_of(rt.alloc(), &bext.copy(), 4, Limit::default())?;
+    let taken_back = header_of(rt.alloc(), &bext, 4, Limit::default())?;
     let never = header_of(rt.alloc(), &Bext::new(), 4, Limit::default())?;
     same(&rt, "a loudness taken back", &taken_back, &never);
     Ok(())

@@ -1,11 +1,12 @@
 //! Worked replies, in pieces of many sizes, and each call once.
-ghost use Rattle.std.specs.Prelude.{IfOk};
+ghost use Rattle.std.specs.Prelude.{◌≤◌, IfOk};
 ghost use Rattle.bw_wire.specs.Replies.{HasWireNumbers};
 
 use crate::compare::same;
 use arrayvec::ArrayVec;
 use bw_take::{Name, Verdict};
 use bw_wire::*;
+use std::alloc::Global;
 use std::process::Abort;
 use std::test::Fail;
 
@@ -160,6 +161,29 @@ fn feed(rt: &impl Abort, framer: &mut ReplyFramer, piece: &[u8]) -> Result<(), F
     Ok(())
 }
 
+/// The replies of bytes that come in pieces of a size; their end is one between two replies.
+fn in_pieces(
+    rt: &impl Abort,
+    alloc: Global,
+    bytes: &[u8],
+    size: usize,
+) -> Result<Vec<Reply>, Fail>
+    requires { 1 ≤ size }
+{
+    let mut framer = ReplyFramer::new(alloc);
+    let mut found = Vec::new(alloc);
+    for piece in bytes.chunks(size) {
+        feed(rt, &mut framer, piece)?;
+        for _ in 0..3 {
+            if let Some(reply) = framer.next_frame()? {
+                found.push(reply)?;
+            }
+        }
+    }
+    same(rt, size, &framer.end(), &Ok(()));
+    Ok(found)
+}
+
 #[test]
 fn replies_are_read_in_pieces_of_any_size(rt: HostRuntime) -> Result<(), Fail> {
     let mut bytes = STORED.to_vec(rt.alloc())?;
@@ -167,18 +191,8 @@ fn replies_are_read_in_pieces_of_any_size(rt: HostRuntime) -> Result<(), Fail> {
     bytes.extend_from_slice(&BAD_LENGTH)?;
     let want = [stored()?, held()?, bad_length()];
     for size in [1, 2, 3, 44] {
-        let mut framer = ReplyFramer::new(rt.alloc());
-        let mut found = Vec::new(rt.alloc());
-        for piece in bytes.chunks(size) {
-            feed(&rt, &mut framer, piece)?;
-            for _ in 0..3 {
-                if let Some(reply) = framer.next_frame()? {
-                    found.push(reply)?;
-                }
-            }
-        }
+        let found = in_pieces(&rt, rt.alloc(), bytes.as_slice(), size)?;
         same(&rt, size, &found.as_slice(), &want.as_slice());
-        same(&rt, size, &framer.end(), &Ok(()));
     }
     Ok(())
 }

@@ -198,7 +198,7 @@ fn fits(
 }
 
 #[test]
-fn a_request_fits_up_to_its_limit(rt: HostRuntime) -> Result<(), Fail> {
+fn a_history_fits_up_to_its_limit(rt: HostRuntime) -> Result<(), Fail> {
     for (len, want) in [(0, true), (4096, true), (4097, false)] {
         let history = BLANKS.get(..len).ok_or("blanks")?;
         let request = RequestRef::OpenTake {
@@ -209,15 +209,30 @@ fn a_request_fits_up_to_its_limit(rt: HostRuntime) -> Result<(), Fail> {
         };
         fits(&rt, rt.alloc(), request, want)?;
     }
+    Ok(())
+}
+
+#[test]
+fn a_block_fits_up_to_its_limit(rt: HostRuntime) -> Result<(), Fail> {
     for (len, want) in [(0, false), (1, true), (32_768, true), (32_769, false)] {
         let bytes = BLANKS.get(..len).ok_or("blanks")?;
         fits(&rt, rt.alloc(), RequestRef::Block { bytes }, want)?;
     }
+    Ok(())
+}
+
+#[test]
+fn a_value_fits_up_to_its_limit(rt: HostRuntime) -> Result<(), Fail> {
     for (len, want) in [(0, true), (256, true), (257, false)] {
         let value = BLANKS.get(..len).ok_or("blanks")?;
         let request = RequestRef::SetField { tag: 255, value };
         fits(&rt, rt.alloc(), request, want)?;
     }
+    Ok(())
+}
+
+#[test]
+fn the_largest_numbers_fit(rt: HostRuntime) -> Result<(), Fail> {
     let id = u32::MAX;
     let mark = RequestRef::Mark { id, frame: id };
     fits(&rt, rt.alloc(), mark, true)?;
