@@ -7,9 +7,12 @@ use std::alloc::Global;
 use std::process::Abort;
 use std::test::Fail;
 
-/// An event without a request.
+/// An event; an offer is one of the take's requests.
 #[derive(Clone, Copy)]
 enum Step {
+    Open,
+    Block,
+    Close,
     Send(usize),
     Deliver(usize),
     Bring(usize),
@@ -30,7 +33,10 @@ struct Counts {
 
 /// CLOSE goes first and waits; the verdicts come out of order, and number 1 is told twice. An ask
 /// comes last.
-const STEPS: &[Step] = &[
+const TAKE: &[Step] = &[
+    Step::Open,
+    Step::Block,
+    Step::Close,
     Step::Send(2),
     Step::Deliver(0),
     Step::Send(0),
@@ -46,23 +52,35 @@ const STEPS: &[Step] = &[
     Step::Bring(5),
 ];
 
-fn event_of(step: Step) -> Event {
-    match step {
+/// A block before OPEN, and one behind CLOSE, are refused; no place is there.
+const ABSENT: &[Step] = &[
+    Step::Block,
+    Step::Send(0),
+    Step::Deliver(0),
+    Step::Bring(0),
+    Step::Open,
+    Step::Close,
+    Step::Block,
+    Step::Send(2),
+];
+
+fn event_of(alloc: Global, step: Step) -> Result<Event, Fail> {
+    Ok(match step {
+        Step::Open => Event::Offer(open(alloc)?),
+        Step::Block => Event::Offer(block(alloc)?),
+        Step::Close => Event::Offer(close(alloc)?),
         Step::Send(place) => Event::Send(place),
         Step::Deliver(place) => Event::Deliver(place),
         Step::Bring(place) => Event::Bring(place),
         Step::Ask => Event::Ask,
-    }
+    })
 }
 
-/// The world behind the offers of the take and the first so many steps.
-fn rehearsed(alloc: Global, count: usize) -> Result<World, Fail> {
+/// The world behind the first so many steps.
+fn rehearsed(alloc: Global, steps: &[Step], count: usize) -> Result<World, Fail> {
     let mut events = Vec::new(alloc);
-    events.push(Event::Offer(open(alloc)?))?;
-    events.push(Event::Offer(block(alloc)?))?;
-    events.push(Event::Offer(close(alloc)?))?;
-    for step in STEPS.iter().take(count) {
-        events.push(event_of(*step))?;
+    for step in steps.iter().take(count) {
+        events.push(event_of(alloc, *step)?)?;
     }
     Ok(rehearse(alloc, a1()?, Limit::default(), events.as_slice())?)
 }
@@ -93,34 +111,23 @@ fn a_take_is_settled_once_each_verdict_came(rt: HostRuntime) -> Result<(), Fail>
         settled: 1,
         stored: 1,
     };
-    let world = rehearsed(rt.alloc(), 10)?;
+    let world = rehearsed(rt.alloc(), TAKE, 13)?;
     has_counts(&rt, "before the verdict of number 1", &world, counts)?;
     counts.settled = 3;
     counts.stored = 3;
-    let world = rehearsed(rt.alloc(), 11)?;
+    let world = rehearsed(rt.alloc(), TAKE, 14)?;
     has_counts(&rt, "behind it", &world, counts)?;
     let file = world.server.store().content(&a1()?).ok_or("a file")?;
     same(&rt, "the file", &file.len(), &694);
     assert!(&rt; file.starts_with(FRONT), "the file's front");
     counts.replies = 6;
-    let world = rehearsed(rt.alloc(), STEPS.len())?;
+    let world = rehearsed(rt.alloc(), TAKE, TAKE.len())?;
     has_counts(&rt, "behind an ask", &world, counts)
 }
 
 #[test]
 fn what_is_not_there_changes_nothing(rt: HostRuntime) -> Result<(), Fail> {
-    let alloc = rt.alloc();
-    let mut events = Vec::new(alloc);
-    // A block before OPEN, and one behind CLOSE, are refused.
-    events.push(Event::Offer(block(alloc)?))?;
-    events.push(Event::Send(0))?;
-    events.push(Event::Deliver(0))?;
-    events.push(Event::Bring(0))?;
-    events.push(Event::Offer(open(alloc)?))?;
-    events.push(Event::Offer(close(alloc)?))?;
-    events.push(Event::Offer(block(alloc)?))?;
-    events.push(Event::Send(2))?;
-    let world = rehearse(alloc, a1()?, Limit::default(), events.as_slice())?;
+    let world = rehearsed(rt.alloc(), ABSENT, ABSENT.len())?;
     let counts = Counts {
         offered: 2,
         sent: 0,
@@ -129,10 +136,6 @@ fn what_is_not_there_changes_nothing(rt: HostRuntime) -> Result<(), Fail> {
         settled: 0,
         stored: 0,
     };
-    has_counts(
-        &rt,
-        "refused offers and places past the end",
-        &world,
-        counts,
-    )
+    let of = "refused offers and places past the end";
+    has_counts(&rt, of, &world, counts)
 }

@@ -1,6 +1,6 @@
 //! A store over a real folder, over a disk in memory, and over a system that fails once.
 use crate::play::{file_of_row, keep};
-use crate::rows::two_frames;
+use crate::rows::TWO_FRAMES_CLOSED;
 use bw_file::{Created, FolderStore, GrowingFile, MemoryDisk, TakeStore};
 use bw_layout::Limit;
 use bw_take::{Name, TakeState};
@@ -46,29 +46,54 @@ fn write_two_frames<S: TakeStore>(rt: &HostRuntime, store: &mut S) -> Result<(),
     let name = Name::new(b"a1").ok_or("a name")?;
     let mut file = GrowingFile::new(rt.alloc(), name, Limit::default())?;
     let mut state = TakeState::new(rt.alloc());
-    for step in two_frames().steps {
+    for step in TWO_FRAMES_CLOSED.steps {
         keep(&mut file, store, &mut state, &step.request)?;
     }
     Ok(())
 }
 
-#[test]
-fn a_folder_has_the_file_and_keeps_it(rt: HostRuntime) -> Result<(), Fail> {
-    let alloc = rt.alloc();
-    let folder = new_folder(&rt)?;
-    let path = format!(in alloc; "{folder}/a1.wav")?;
-    let wanted = file_of_row(alloc, two_frames())?;
-    let mut store = FolderStore::new(&rt, alloc, folder.as_str())?;
-    write_two_frames(&rt, &mut store)?;
-    assert!(rt; fs::read(&rt, path.as_str())?.as_slice() == wanted.as_slice());
+/// Whether the folder has the file of two frames.
+fn has_two_frames(rt: &HostRuntime, folder: &str) -> Result<bool, Fail> {
+    let path = format!(in rt.alloc(); "{folder}/a1.wav")?;
+    let wanted = file_of_row(rt.alloc(), &TWO_FRAMES_CLOSED)?;
+    Ok(fs::read(rt, path.as_str())?.as_slice() == wanted.as_slice())
+}
 
+/// Ends the test where a write or `finish` succeeds.
+fn writes_nothing<S: TakeStore>(rt: &impl Abort, store: &mut S) -> Result<(), Fail> {
     let name = Name::new(b"a1").ok_or("a name")?;
-    assert_eq!(rt; store.create(&name)?, Created::Exists);
-    let mut later = FolderStore::new(&rt, alloc, folder.as_str())?;
-    assert_eq!(rt; later.create(&name)?, Created::Exists);
-    assert!(rt; later.write_at(&name, 0, b"x").is_err());
-    assert!(rt; later.finish(&name).is_err());
-    assert!(rt; fs::read(&rt, path.as_str())?.as_slice() == wanted.as_slice());
+    assert!(rt; store.write_at(&name, 0, b"x").is_err());
+    assert!(rt; store.finish(&name).is_err());
+    Ok(())
+}
+
+/// Ends the test where the name isn't taken.
+fn is_taken<S: TakeStore>(rt: &impl Abort, store: &mut S) -> Result<(), Fail> {
+    let name = Name::new(b"a1").ok_or("a name")?;
+    assert!(rt; store.create(&name)? == Created::Exists);
+    Ok(())
+}
+
+#[test]
+fn a_folder_has_the_file(rt: HostRuntime) -> Result<(), Fail> {
+    let folder = new_folder(&rt)?;
+    let mut store = FolderStore::new(&rt, rt.alloc(), folder.as_str())?;
+    write_two_frames(&rt, &mut store)?;
+    is_taken(&rt, &mut store)?;
+    assert!(rt; has_two_frames(&rt, folder.as_str())?);
+    fs::remove_dir_all(&rt, folder.as_str())?;
+    Ok(())
+}
+
+#[test]
+fn a_folder_keeps_the_file_of_another_store(rt: HostRuntime) -> Result<(), Fail> {
+    let folder = new_folder(&rt)?;
+    let mut store = FolderStore::new(&rt, rt.alloc(), folder.as_str())?;
+    write_two_frames(&rt, &mut store)?;
+    let mut later = FolderStore::new(&rt, rt.alloc(), folder.as_str())?;
+    is_taken(&rt, &mut later)?;
+    writes_nothing(&rt, &mut later)?;
+    assert!(rt; has_two_frames(&rt, folder.as_str())?);
     fs::remove_dir_all(&rt, folder.as_str())?;
     Ok(())
 }
@@ -76,7 +101,7 @@ fn a_folder_has_the_file_and_keeps_it(rt: HostRuntime) -> Result<(), Fail> {
 #[test]
 fn a_folder_of_a_disk_in_memory_has_the_file(rt: HostRuntime) -> Result<(), Fail> {
     let alloc = rt.alloc();
-    let wanted = file_of_row(alloc, two_frames())?;
+    let wanted = file_of_row(alloc, &TWO_FRAMES_CLOSED)?;
     let mut store = FolderStore::over(MemoryDisk::new(alloc), alloc, "takes")?;
     write_two_frames(&rt, &mut store)?;
     assert_eq!(rt;

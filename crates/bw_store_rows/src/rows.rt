@@ -188,6 +188,17 @@ const EARLY_MARK: Step = Step {
     again: &[],
 };
 
+/// Two frames, closed without a marker.
+const CLOSED: Row = Row {
+    what: "two frames",
+    limit: NO_LIMIT,
+    steps: &[OPEN, BLOCK, CLOSE],
+    calls: 6,
+    written: 702,
+    len: 694,
+    pieces: &[FORM_686, MONO, VERSION_1, TWO_FRAMES],
+};
+
 static SHORT: [Row; 9] = [
     Row {
         what: "opened",
@@ -198,15 +209,7 @@ static SHORT: [Row; 9] = [
         len: 690,
         pieces: &[FORM_682, MONO, VERSION_1, (682, b"data")],
     },
-    Row {
-        what: "two frames",
-        limit: NO_LIMIT,
-        steps: &[OPEN, BLOCK, CLOSE],
-        calls: 6,
-        written: 702,
-        len: 694,
-        pieces: &[FORM_686, MONO, VERSION_1, TWO_FRAMES],
-    },
+    CLOSED,
     Row {
         what: "closed without data",
         limit: NO_LIMIT,
@@ -415,10 +418,8 @@ pub(crate) static LONG: [Row; 3] = [
     },
 ];
 
-/// Two frames, closed without a marker.
-pub(crate) fn two_frames() -> &'static Row {
-    &SHORT[1]
-}
+/// Two frames, closed without a marker. A place in `SHORT` would be far more costly to check.
+pub(crate) static TWO_FRAMES_CLOSED: Row = CLOSED;
 
 #[test]
 fn a_take_is_written_in_the_calls_that_its_requests_need(rt: HostRuntime) -> Result<(), Fail> {
