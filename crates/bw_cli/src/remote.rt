@@ -1,8 +1,6 @@
 //! The commands that use the network, as a command line asks for them.
-ghost use Rattle.std.specs.Prelude.{◌≡◌, ◌+◌, ◌≤◌};
+ghost use Rattle.std.specs.Prelude.{◌≡◌};
 ghost use Rattle.bw_layout.specs.Limits.{IsLimit};
-ghost use Rattle.bw_commands.specs.Deeds.{Does};
-ghost use Rattle.bw_commands.specs.Input.{longest_input};
 ghost use Rattle.bw_cli.specs.Remote.{Sends, Serves, exchanges_of};
 
 use bw_args::{End, Send, Serve};

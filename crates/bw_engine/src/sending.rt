@@ -9,8 +9,7 @@ ghost use Rattle.bw_wire.specs.Encoded.{said};
 ghost use Rattle.bw_engine.specs.declared.send_fault.SendFault.TheVariants.{Write};
 ghost use Rattle.bw_engine.specs.Batches.{pending_messages, batch_bytes, BreaksBatch, sends_failed};
 ghost use Rattle.bw_engine.specs.Batches.{WritesMessages, WritesBatch, BreaksBytes, BreaksFrame};
-ghost use Rattle.bw_engine.specs.Hears.{hears_failed, IsHearingLimited};
-ghost use Rattle.bw_engine.specs.Sent.{Exchanges};
+ghost use Rattle.bw_engine.specs.Sent.{Exchanges, after_write};
 
 use crate::hearing::hear_replies;
 use crate::send_fault::SendFault;
@@ -112,20 +111,34 @@ fn write_frame<W: Sink>(writer: &mut W, frame: &[u8]) -> Result<(), SendFault>
 
 /// One exchange of a recorder: what has no verdict is sent, and then the replies are heard.
 ///
+/// Where the writer fails, the replies are heard all the same: what came through before has its
+/// verdicts, and over a link that breaks again and again nothing else would ever be settled.
+///
 /// # Errors
-/// Why it broke off: where the batch did, nothing was read, and else what was heard is counted.
+/// Why it broke off. What was heard is counted. `Memory` goes before `Write`; where the batch wants
+/// it, nothing is read.
 pub fn send_exchange<R: Source, W: Sink>(
     alloc: Global,
     sender: &mut Sender,
     reader: &mut R,
     writer: &mut W,
 ) -> Result<(), SendFault>
-    ensures exchanges { Exchanges result sender.old sender.new reader.old reader.new
-        (R.left reader.old) (R.left reader.new) (W.written writer.old) (W.written writer.new) }
-    ensures reads { R.failures reader.new ≡ hears_failed result (R.failures reader.old) }
-    ensures writes { W.failures writer.new ≡ sends_failed result (W.failures writer.old) }
-    ensures limit { IsHearingLimited result (R.moved reader.old) (R.moved reader.new) }
+    ensures { Exchanges R.Source W.Sink result sender.old sender.new reader.old reader.new
+        writer.old writer.new }
 {
-    send_batch(alloc, sender, writer)?;
-    hear_replies(alloc, sender, reader)
+    match send_batch(alloc, sender, writer) {
+        Ok(()) => hear_replies(alloc, sender, reader),
+        Err(SendFault::Write) => end_after_write(hear_replies(alloc, sender, reader)),
+        Err(fault) => Err(fault),
+    }
+}
+
+/// How an exchange ends whose batch broke off at a write.
+fn end_after_write(hearing: Result<(), SendFault>) -> Result<(), SendFault>
+    ensures { result ≡ after_write hearing }
+{
+    match hearing {
+        Err(SendFault::Memory) => Err(SendFault::Memory),
+        _ => Err(SendFault::Write),
+    }
 }

@@ -1,9 +1,9 @@
 //! A sender's exchanges, byte by byte.
 use crate::compare::same;
-use crate::play::{BLOCK_LEN, OPEN_LEN, TAKE, a1};
-use bw_engine::{send_batch, send_exchange};
+use crate::play::{BLOCK_LEN, OPEN_LEN, TAKE, a1, verdicts};
+use bw_engine::{SendFault, send_batch, send_exchange};
 use bw_sender::Sender;
-use bw_stream::{MemorySink, MemorySource};
+use bw_stream::{MemorySink, MemorySource, Plain};
 use bw_take::RequestRef;
 use std::alloc::Global;
 use std::process::Abort;
@@ -84,5 +84,18 @@ fn what_got_its_verdict_is_not_sent_again(rt: HostRuntime) -> Result<(), Fail> {
         is_batch(sent.as_slice(), &TAKE[OPEN_LEN..BLOCK_LEN]),
         "one message"
     );
+    Ok(())
+}
+
+#[test]
+fn what_came_back_is_heard_where_the_writer_fails(rt: HostRuntime) -> Result<(), Fail> {
+    let alloc = rt.alloc();
+    let mut sender = offered(alloc)?;
+    let mut room = [0; 30];
+    let mut writer = Plain::new(room.as_mut_slice());
+    let mut reader = MemorySource::new(verdicts(1));
+    let ended = send_exchange(alloc, &mut sender, &mut reader, &mut writer);
+    same(&rt, "its end", &ended, &Err(SendFault::Write));
+    same(&rt, "settled", &sender.settled(), &1);
     Ok(())
 }

@@ -33,7 +33,8 @@ impl<'a> TcpNetwork<'a> {
         folder: &str,
         timeout: Option<u32>,
     ) -> io::Result<TcpPeers<'a, HostRuntime, TcpListener>>
-        ensures { IfOk result (λ peers. (string_bytes peers.folder ≡ folder.now)
+        ensures { IfOk result (λ peers. (peers.address ≡ address)
+            × (string_bytes peers.folder ≡ folder.now)
             × (option_map as_nanos peers.timeout ≡ option_map (λ s. s * 1_000_000_000) timeout)) }
     {
         let folder = String::from_str(self.rt.alloc(), folder)?;
@@ -60,10 +61,11 @@ impl<'a> Network for TcpNetwork<'a> {
 
     ghost failures = { λ n. n.failures };
 
-    ghost stores = { λ n folder result n'. n'.failures ≡ failures_after result n.failures };
+    ghost stores = { λ n folder result n'. IfOk result (λ store.
+        string_bytes store.folder ≡ folder) };
 
     ghost listens = { λ n address folder timeout result n'. IfOk result (λ peers.
-        (string_bytes peers.folder ≡ folder)
+        (peers.address ≡ address) × (string_bytes peers.folder ≡ folder)
         × (option_map as_nanos peers.timeout ≡ option_map (λ s. s * 1_000_000_000) timeout)) };
 
     ghost calls = { λ n address timeout dial. (dial.address ≡ address)

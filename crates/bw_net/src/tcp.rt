@@ -47,7 +47,8 @@ impl<R: Net> Dial for TcpDial<'_, R> {
 
     ghost failures = { λ d. d.failures };
 
-    ghost dials = { λ d result d'. d'.failures ≡ failures_after result d.failures };
+    ghost dials = { λ d result d'. (d'.failures ≡ failures_after result d.failures)
+        × (d'.address ≡ d.address) × (d'.timeout ≡ d.timeout) };
 
     fn dial(&mut self) -> Result<Link<Plain<R::Stream>, Plain<R::Stream>>, DialFault> {
         match connect(self.rt, self.address, self.timeout) {
@@ -89,6 +90,8 @@ fn link_over<S: Read + Write + OpenStream + Drop>(
 #[derive(Drop)]
 pub struct TcpPeers<'a, R, L: Drop> {
     rt: &'a R,
+    /// Where it listens.
+    address: SocketAddr,
     listener: L,
     folder: String,
     timeout: Option<Duration>,
@@ -107,11 +110,13 @@ impl<'a, R: Net> TcpPeers<'a, R, R::Listener> {
         timeout: Option<Duration>,
     ) -> io::Result<TcpPeers<'a, R, R::Listener>>
         ensures failures { IfOk result (λ peers. peers.failures ≡ 0) }
+        ensures address { IfOk result (λ peers. peers.address ≡ address) }
         ensures folder { IfOk result (λ peers. peers.folder ≡ folder) }
         ensures timeout { IfOk result (λ peers. peers.timeout ≡ timeout) }
     {
         Ok(TcpPeers {
             rt,
+            address,
             listener: TcpListener::bind(rt, address)?,
             folder,
             timeout,
@@ -127,7 +132,8 @@ impl<R: Net + Files> Peers for TcpPeers<'_, R, R::Listener> {
 
     ghost failures = { λ p. p.failures };
 
-    ghost accepts = { λ p result p'. p'.failures ≡ failures_after result p.failures };
+    ghost accepts = { λ p result p'. (p'.failures ≡ failures_after result p.failures)
+        × (p'.folder ≡ p.folder) × (p'.timeout ≡ p.timeout) };
 
     fn accept(&mut self) -> Result<Link<Plain<R::Stream>, Plain<R::Stream>>, AcceptFault> {
         let link = self.next_link();

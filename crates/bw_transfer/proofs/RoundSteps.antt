@@ -31,12 +31,12 @@ on_ok (Ok x) p f = f p
 on_ok (Err e) p f = tt
 
 -- what was heard in an exchange is counted
-pub counted : {R : Type 0} {result : Result (Unit {0}) SendFault} {x y : Sender} {r r' : R}
-    {left left' written written' : Option (List ℕ)}
-    (e : Exchanges result x y r r' left left' written written') (s : Told) → IsSender s x →
-    IsSender (hear_all s (heard_over e)) y
-counted (inl broke) s is = subst (IsSender s) (sym broke.unheard) is
-counted (inr exchange) s is = exchange.hears.counted s is
+pub counted : {R W : Type 0} {reader : Reader R} {writer : Writer W} {result : Result (Unit {0}) SendFault}
+    {x y : Sender} {r r' : R} {w w' : W} (e : Exchanges reader writer result x y r r' w w') (s : Told) →
+    IsSender s x → IsSender (hear_all s (heard_over e)) y
+counted (inl whole) s is = whole.over.hears.counted s is
+counted (inr (inl broke)) s is = broke.over.hears.counted s is
+counted (inr (inr lacks)) s is = subst (IsSender s) (sym lacks.unheard) is
 
 -- hearing changes no offer
 one_heard : (s : Told) (r : Reply) → (hear s r).offered ≡ s.offered

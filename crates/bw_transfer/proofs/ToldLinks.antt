@@ -6,6 +6,7 @@ use Rattle.bw_stream.specs.declared.sink.Sink.{Ghosts as Writer}
 use Rattle.bw_stream.specs.declared.source.Source.{Ghosts as Reader}
 use Rattle.bw_sender.specs.declared.sender.Sender.{Sender}
 use Rattle.bw_wire.specs.Codecs.{reply_codec, spelling_of, Spelled}
+use Rattle.bw_engine.specs.Hears.{Hears}
 use Rattle.bw_engine.specs.Sent.{Exchanges}
 use Rattle.bw_engine.specs.declared.send_fault.SendFault.{SendFault}
 use Rattle.bw_transfer.specs.RoundsMade.{AreHeardFrom, AreRounds, BeginWith, IsRound, heard_over}
@@ -23,14 +24,17 @@ longer input rest more bytes heard s e = (
 )
 
 -- what was heard in an exchange are the first replies that its link gave
-heard_begin : {R : Type 0} {result : Result (Unit {0}) SendFault} {x y : Sender} {r r' : R}
-    {left left' written written' : Option (List ℕ)}
-    (e : Exchanges result x y r r' left left' written written') (bytes : List ℕ) → left ≡ Some bytes →
-    BeginWith bytes (heard_over e)
-heard_begin (inl broke) bytes told = (bytes, record { each = search rules; whole = refl })
-heard_begin (inr exchange) bytes told =
-    let given = exchange.hears.given bytes told in
-    longer exchange.hears.input exchange.hears.front.0 given.0 bytes exchange.hears.heard exchange.hears.front.1 given.2
+hears_begin : {result : Result (Unit {0}) SendFault} {x y : Sender} {left left' : Option (List ℕ)}
+    (h : Hears result x y left left') (bytes : List ℕ) → left ≡ Some bytes → BeginWith bytes h.heard
+hears_begin h bytes told =
+    let given = h.given bytes told in longer h.input h.front.0 given.0 bytes h.heard h.front.1 given.2
+
+heard_begin : {R W : Type 0} {reader : Reader R} {writer : Writer W} {result : Result (Unit {0}) SendFault}
+    {x y : Sender} {r r' : R} {w w' : W} (e : Exchanges reader writer result x y r r' w w') (bytes : List ℕ) →
+    reader.left r ≡ Some bytes → BeginWith bytes (heard_over e)
+heard_begin (inl whole) bytes told = hears_begin whole.over.hears bytes told
+heard_begin (inr (inl broke)) bytes told = hears_begin broke.over.hears bytes told
+heard_begin (inr (inr lacks)) bytes told = (bytes, record { each = search rules; whole = refl })
 
 module _ {D R W : Type 0} (dial : DialGhosts D R W) (reader : Reader R) (writer : Writer W) where
   pub rounds_told : (x : Sending) (heard : List (List Reply)) (y : Sending) (d e : D) →

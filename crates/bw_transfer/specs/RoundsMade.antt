@@ -10,8 +10,6 @@ use Rattle.bw_stream.specs.declared.source.Source.{Ghosts as Reader}
 use Rattle.bw_sender.specs.Senders.{IsSender}
 use Rattle.bw_sender.specs.declared.sender.Sender.{Sender}
 use Rattle.bw_wire.specs.Codecs.{reply_codec, Spelled}
-use Rattle.bw_engine.specs.Batches.{sends_failed}
-use Rattle.bw_engine.specs.Hears.{hears_failed, IsHearingLimited}
 use Rattle.bw_engine.specs.Sent.{Exchanges}
 use Rattle.bw_engine.specs.declared.send_fault.SendFault.{SendFault}
 use Rattle.bw_engine.specs.declared.send_fault.SendFault.TheVariants.{Memory}
@@ -21,12 +19,13 @@ use Rattle.bw_transfer.specs.declared.dial.Dial.{Ghosts as DialGhosts}
 use Rattle.bw_transfer.specs.declared.dial.DialFault.{DialFault}
 use Rattle.bw_transfer.specs.declared.dial.Link.{Link}
 
--- the replies that were heard in an exchange: none where its batch broke off
-abbrev pub heard_over : {R : Type 0} → {result : Result (Unit {0}) SendFault} → {x y : Sender} →
-    {r r' : R} → {left left' written written' : Option (List ℕ)} →
-    Exchanges result x y r r' left left' written written' → List Reply
-heard_over (inl broke) = []
-heard_over (inr exchange) = exchange.hears.heard
+-- the replies that were heard in an exchange: none where its batch wanted memory
+abbrev pub heard_over : {R W : Type 0} → {reader : Reader R} → {writer : Writer W} →
+    {result : Result (Unit {0}) SendFault} → {x y : Sender} → {r r' : R} → {w w' : W} →
+    Exchanges reader writer result x y r r' w w' → List Reply
+heard_over (inl whole) = whole.over.hears.heard
+heard_over (inr (inl broke)) = broke.over.hears.heard
+heard_over (inr (inr lacks)) = []
 
 -- these bytes begin with the frames of these replies
 abbrev pub BeginWith : List ℕ → List Reply → Type 0
@@ -52,12 +51,8 @@ module _ {D R W : Type 0} (dial : DialGhosts D R W) (reader : Reader R) (writer 
     pub is_sender : IsSender s before
     pub r' : R
     pub w' : W
-    pub exchanges : Exchanges result before after link.reader r' (reader.left link.reader)
-        (reader.left r') (writer.written link.writer) (writer.written w')
+    pub exchanges : Exchanges reader writer result before after link.reader r' link.writer w'
     pub heard_is : heard ≡ heard_over exchanges
-    pub reads : reader.failures r' ≡ hears_failed result (reader.failures link.reader)
-    pub writes : writer.failures w' ≡ sends_failed result (writer.failures link.writer)
-    pub limit : IsHearingLimited result (reader.moved link.reader) (reader.moved r')
 
   -- no link was made, and nothing heard
   pub record MakesNoLink (heard : List Reply) (d d' : D) : Type 0 where

@@ -1,14 +1,15 @@
 -- What the command `send` reads and writes, and how it ends.
-use Rattle.std.specs.Prelude.{◌≡◌, ℕ, Option, List, Result, Ok, Err}
+use Rattle.std.specs.Prelude.{◌≡◌, ℕ, Option, List, Result, Ok, Err, codes}
 use Rattle.bw_model.specs.Take.{Request}
 use Rattle.bw_stream.specs.declared.sink.Sink.{Ghosts as Writer}
 use Rattle.bw_stream.specs.declared.source.Source.{Ghosts as Reader}
 use Rattle.bw_inspect.specs.Places.{Of}
 use Rattle.bw_commands.specs.Deeds.{Deed}
 use Rattle.bw_commands.specs.Faults.{IsToldBy, exit_on, is_read}
-use Rattle.bw_commands.specs.Printing.{Print, Nothing, Whole, Part}
+use Rattle.bw_commands.specs.Printing.{Print, Nothing, Whole, Part, IsOf}
+use Rattle.bw_commands.specs.Text.{as_line}
 use Rattle.bw_commands.specs.declared.exit.Exit.{Exit}
-use Rattle.bw_commands.specs.declared.exit.Exit.TheVariants.{Done}
+use Rattle.bw_commands.specs.declared.exit.Exit.TheVariants.{Done, Device}
 use Rattle.bw_commands.specs.declared.fault.Fault.{Fault}
 use Rattle.bw_commands.specs.declared.fault.Fault.TheVariants as faults
 use Rattle.bw_transfer.specs.RequestLines.{AreRequestsOf, RefusesRequests}
@@ -23,10 +24,19 @@ abbrev pub exit_of_send : Result Exit Fault → Exit
 exit_of_send (Ok exit) = exit
 exit_of_send (Err fault) = exit_on fault
 
--- what a command comes to, whatever its exit
-abbrev pub without_exit : Result Exit Fault → Result (Unit {0}) Fault
-without_exit (Ok exit) = Ok tt
-without_exit (Err fault) = Err fault
+-- what is told of a sender that isn't done
+abbrev pub unsettled_line : List ℕ
+unsettled_line = as_line (codes "not every request has its verdict yet")
+
+-- what is told where the input was sent: that line, where the sender isn't done
+abbrev pub TellsOfExit : Exit → Print → Type 0
+TellsOfExit Device told = IsOf unsettled_line told
+TellsOfExit exit told = told ≡ Nothing
+
+-- what is told on what the command comes to
+abbrev pub TellsOfSend : Result Exit Fault → Print → Type 0
+TellsOfSend (Ok exit) told = TellsOfExit exit told
+TellsOfSend (Err fault) told = IsToldBy (Err fault) told
 
 module _ {D R W : Type 0} (dial : DialGhosts D R W) (reader : Reader R) (writer : Writer W) where
   -- The input's requests were sent in rounds by a new sender of this name, and the text of what the
@@ -75,4 +85,4 @@ module _ {D R W : Type 0} (dial : DialGhosts D R W) (reader : Reader R) (writer 
     pub exit_is : did.exit ≡ exit_of_send outcome
     pub reads : did.reads_all ≡ is_read outcome
     pub prints : IsPrintOfSend name rounds input d d' outcome did.out
-    pub tells : IsToldBy (without_exit outcome) did.faults
+    pub tells : TellsOfSend outcome did.faults

@@ -8,19 +8,22 @@ ghost use Rattle.bw_commands.specs.Printing.{IsPrint, Print, failures_if};
 ghost use Rattle.bw_commands.specs.Replays.{IsReadAhead};
 ghost use Rattle.bw_transfer.specs.RoundsMade.{MakesRounds};
 ghost use Rattle.bw_transfer.specs.SendState.{Sending, IsSending, new_sending};
-ghost use Rattle.bw_transfer.specs.Sends.{IsPrintOfSend, IsSendRun};
+ghost use Rattle.bw_transfer.specs.Sends.{IsPrintOfSend, IsSendRun, TellsOfExit};
 
 use crate::dial::Dial;
 use crate::dispatch::{Dispatch, exit_after};
 use crate::requests::read_requests;
 use crate::rounds::make_rounds;
 use crate::text::text_of_sender;
-use bw_commands::print::{give_up, print};
+use bw_commands::print::{give_up, print, tell};
 use bw_commands::{Exit, Fault};
 use bw_sender::Sender;
 use bw_stream::{Sink, Source};
 use bw_take::{Name, Request};
 use std::alloc::{AllocError, Global};
+
+/// What is told of a sender that isn't done.
+const UNSETTLED: &str = "not every request has its verdict yet\n";
 
 /// Sends the requests that the lines of the input say, as a recorder of this name, and writes as
 /// text what came of them.
@@ -47,9 +50,22 @@ pub fn send_run<D: Dial, R: Source, W: Sink, E: Sink>(
         × HasWritten W.Sink E.Sink did out.old out.new faults.old faults.new }
 {
     match send(alloc, name, rounds, dial, input, out) {
-        Ok(exit) => exit,
+        Ok(exit) => tell_of_exit(exit, faults),
         Err(fault) => give_up(faults, &fault),
     }
+}
+
+/// Tells where the sender isn't done. That it can't be written changes nothing.
+fn tell_of_exit<E: Sink>(exit: Exit, faults: &mut E) -> Exit
+    ensures exit { result ≡ exit }
+    ensures told { (print : Print) × TellsOfExit exit print
+        × IsPrint E.Sink print faults.old faults.new }
+{
+    match exit {
+        Exit::Device => tell(faults, UNSETTLED.as_bytes()),
+        Exit::Done | Exit::Refused | Exit::Usage | Exit::Memory => (),
+    }
+    exit
 }
 
 /// Sends the requests that the lines of the input say, and writes the text of what came of them.

@@ -1,15 +1,14 @@
-use Rattle.std.proofs.Common.{refl, inl}
-use Rattle.std.proofs.lemmas.Result.{err_from_is_err_and}
+use Rattle.std.proofs.Common.{inl, inr}
 use Rattle.bw_engine.proofs.sending.send_exchange.Goals as goal
 
-pub returns-in_err-send_batch-clause-exchanges : goal.returns-in_err-send_batch-clause-exchanges
-returns-in_err-send_batch-clause-exchanges g c =
-    let answer = err_from_is_err_and c.from_residual.result c.from_residual.ensures.1 in
-    inl (record {
-      fault = answer.0;
-      broke = answer.1;
-      why = rw (answer.2) c.in_err-send_batch.ensures.why;
-      cut = λ s is. rw (answer.2) (c.in_err-send_batch.ensures.err s is);
-      unheard = refl;
-      unread = refl;
-    })
+pub returns-in-Err-Write : goal.returns-in-Err-Write
+returns-in-Err-Write g c =
+    let write = c.in-Err-Write.field-0-is in
+    let heard = c.hear_replies-in-Err-Write.ensures in
+    inr (inl (record {
+      cut = λ s is. rw write at c.in-Err-Write.ensures.err s is;
+      counted = rw write at c.in-Err-Write.ensures.count;
+      hearing = c.hear_replies-in-Err-Write.result;
+      over = record { hears = heard.hears; reads = heard.reads; limit = heard.limit };
+      ends = c.end_after_write.ensures;
+    }))

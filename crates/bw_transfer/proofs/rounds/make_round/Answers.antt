@@ -7,8 +7,8 @@ pub returns : goal.returns
 returns g c = λ s is.
     let sent = c.send_exchange-ended.ensures in
     on_ok c.unless_memory.result c.unless_memory.ensures.ok (λ goes. (
-      heard_over sent.exchanges,
-      counted sent.exchanges s is,
+      heard_over sent,
+      counted sent s is,
       inr (record {
         counted = c.in-Ok.ensures.count;
         link = c.in-Ok.link;
@@ -22,11 +22,8 @@ returns g c = λ s is.
           is_sender = is;
           r' = c.send_exchange-ended.new.reader;
           w' = c.send_exchange-ended.new.writer;
-          exchanges = sent.exchanges;
+          exchanges = sent;
           heard_is = refl;
-          reads = sent.reads;
-          writes = sent.writes;
-          limit = sent.limit;
         };
       }),
     ))

@@ -6,12 +6,13 @@ use Rattle.bw_transfer.proofs.sending.send_run.Goals as goal
 pub returns-in-Ok-clause-did : goal.returns-in-Ok-clause-did
 returns-in-Ok-clause-did g c =
     let exit = c.in-Ok.exit in
-    let p = c.in-Ok.ensures.prints in (
-      record { reads_all = true; out = p.0; faults = Nothing; exit = exit },
-      refl,
-      record { outcome = Ok exit; exit_is = refl; reads = refl; prints = p.1; tells = refl },
+    let p = c.in-Ok.ensures.prints in
+    let l = c.tell_of_exit.ensures.told in (
+      record { reads_all = true; out = p.0; faults = l.0; exit = exit },
+      sym c.tell_of_exit.ensures.exit,
+      record { outcome = Ok exit; exit_is = refl; reads = refl; prints = p.1; tells = l.1 },
       c.in-Ok.ensures.count,
-      record { printed = p.2; told = refl },
+      record { printed = p.2; told = l.2 },
     )
 
 pub returns-in-Err-clause-did : goal.returns-in-Err-clause-did
