@@ -162,12 +162,7 @@ fn feed(rt: &impl Abort, framer: &mut ReplyFramer, piece: &[u8]) -> Result<(), F
 }
 
 /// The replies of bytes that come in pieces of a size; their end is one between two replies.
-fn in_pieces(
-    rt: &impl Abort,
-    alloc: Global,
-    bytes: &[u8],
-    size: usize,
-) -> Result<Vec<Reply>, Fail>
+fn in_pieces(rt: &impl Abort, alloc: Global, bytes: &[u8], size: usize) -> Result<Vec<Reply>, Fail>
     requires { 1 ≤ size }
 {
     let mut framer = ReplyFramer::new(alloc);
