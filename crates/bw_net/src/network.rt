@@ -1,7 +1,6 @@
 //! The network and the folders of this machine, for `serve` and `send`.
 ghost use Rattle.std.specs.Prelude.{◌≡◌, ◌*◌, IfOk, option_map, string_bytes};
 ghost use Rattle.std.specs.Duration.{as_nanos};
-ghost use Rattle.bw_stream.specs.Moves.{failures_after};
 
 use crate::folder::check_folder;
 use crate::tcp::{TcpDial, TcpPeers};

@@ -1,6 +1,5 @@
 //! Links over TCP: to a server, and of its peers.
 ghost use Rattle.std.specs.Prelude.{◌≡◌, IfOk, None};
-ghost use Rattle.bw_stream.specs.Moves.{failures_after};
 
 use crate::folder::has_folder;
 use bw_stream::Plain;
@@ -47,8 +46,7 @@ impl<R: Net> Dial for TcpDial<'_, R> {
 
     ghost failures = { λ d. d.failures };
 
-    ghost dials = { λ d result d'. (d'.failures ≡ failures_after result d.failures)
-        × (d'.address ≡ d.address) × (d'.timeout ≡ d.timeout) };
+    ghost dials = { λ d result d'. (d'.address ≡ d.address) × (d'.timeout ≡ d.timeout) };
 
     fn dial(&mut self) -> Result<Link<Plain<R::Stream>, Plain<R::Stream>>, DialFault> {
         match connect(self.rt, self.address, self.timeout) {
@@ -132,8 +130,8 @@ impl<R: Net + Files> Peers for TcpPeers<'_, R, R::Listener> {
 
     ghost failures = { λ p. p.failures };
 
-    ghost accepts = { λ p result p'. (p'.failures ≡ failures_after result p.failures)
-        × (p'.folder ≡ p.folder) × (p'.timeout ≡ p.timeout) };
+    ghost accepts = { λ p result p'. (p'.address ≡ p.address) × (p'.folder ≡ p.folder)
+        × (p'.timeout ≡ p.timeout) };
 
     fn accept(&mut self) -> Result<Link<Plain<R::Stream>, Plain<R::Stream>>, AcceptFault> {
         let link = self.next_link();

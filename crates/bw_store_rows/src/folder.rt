@@ -74,28 +74,35 @@ fn is_taken<S: TakeStore>(rt: &impl Abort, store: &mut S) -> Result<(), Fail> {
     Ok(())
 }
 
-#[test]
-fn a_folder_has_the_file(rt: HostRuntime) -> Result<(), Fail> {
-    let folder = new_folder(&rt)?;
-    let mut store = FolderStore::new(&rt, rt.alloc(), folder.as_str())?;
-    write_two_frames(&rt, &mut store)?;
-    is_taken(&rt, &mut store)?;
-    assert!(rt; has_two_frames(&rt, folder.as_str())?);
-    fs::remove_dir_all(&rt, folder.as_str())?;
+/// A folder of this test's own, in which a store wrote the file of two frames.
+fn filled_folder(rt: &HostRuntime) -> Result<String, Fail> {
+    let folder = new_folder(rt)?;
+    let mut store = FolderStore::new(rt, rt.alloc(), folder.as_str())?;
+    write_two_frames(rt, &mut store)?;
+    is_taken(rt, &mut store)?;
+    Ok(folder)
+}
+
+/// Removes the folder. Ends the test where it doesn't have the file of two frames.
+fn remove_filled(rt: &HostRuntime, folder: &str) -> Result<(), Fail> {
+    assert!(rt; has_two_frames(rt, folder)?);
+    fs::remove_dir_all(rt, folder)?;
     Ok(())
 }
 
 #[test]
+fn a_folder_has_the_file(rt: HostRuntime) -> Result<(), Fail> {
+    let folder = filled_folder(&rt)?;
+    remove_filled(&rt, folder.as_str())
+}
+
+#[test]
 fn a_folder_keeps_the_file_of_another_store(rt: HostRuntime) -> Result<(), Fail> {
-    let folder = new_folder(&rt)?;
-    let mut store = FolderStore::new(&rt, rt.alloc(), folder.as_str())?;
-    write_two_frames(&rt, &mut store)?;
+    let folder = filled_folder(&rt)?;
     let mut later = FolderStore::new(&rt, rt.alloc(), folder.as_str())?;
     is_taken(&rt, &mut later)?;
     writes_nothing(&rt, &mut later)?;
-    assert!(rt; has_two_frames(&rt, folder.as_str())?);
-    fs::remove_dir_all(&rt, folder.as_str())?;
-    Ok(())
+    remove_filled(&rt, folder.as_str())
 }
 
 #[test]
