@@ -1,11 +1,7 @@
 //! The program `bwingest`: its commands, over standard input and output.
 #![tactic(auto)]
 
-#[cfg(test)]
-mod command_line_tests;
 pub mod program;
-#[cfg(test)]
-mod program_tests;
 mod remote;
 
 use bw_commands::Host;
