@@ -1,11 +1,11 @@
 //! `replay` on devices that fail.
-use crate::play::{joined, run_on};
+use crate::play::{Played, joined, prints, run_on, same};
 use crate::takes::{BLOCK, CLOSE, OPEN};
 use bw_commands::Exit;
 use bw_commands::replay::replay;
 use bw_layout::Limit;
 use bw_stream::{MemorySink, MemorySource, Plain};
-use std::alloc::Global;
+use std::alloc::{AllocError, Global};
 use std::io::{self, ErrorKind, Read, Write};
 use std::process::Abort;
 use std::test::Fail;
@@ -60,59 +60,68 @@ impl Write for FailingWriter {
     }
 }
 
+/// The messages of a small take in one exchange.
+fn take(alloc: Global) -> Result<Vec<u8>, AllocError> {
+    joined(alloc, &[OPEN, BLOCK, CLOSE, "\n"])
+}
+
+/// Ends the test where it isn't told that a reader fails behind so many calls.
+fn tells_no_more(rt: &impl Abort, alloc: Global, bytes: &[u8], calls: usize) {
+    let played = run_on(alloc, Limit::default(), FailingReader { bytes, calls });
+    let told = b"the input can't be read\n".as_slice();
+    same(rt, calls, &played.exit, &Exit::Device);
+    assert!(rt; played.faults.as_slice() == told, "after {calls}");
+    assert!(rt; played.out.is_empty(), "after {calls}");
+}
+
 #[test]
 fn tells_a_read_that_fails(rt: HostRuntime) -> Result<(), Fail> {
-    let input = joined(rt.alloc(), &[OPEN, BLOCK, CLOSE, "\n"])?;
-    let whole = run_on(rt.alloc(), Limit::default(), input.as_slice());
+    let input = take(rt.alloc())?;
+    let bytes = input.as_slice();
     // 117 bytes are three pieces, and a read behind them finds the end
     for calls in 0..4 {
-        let bytes = input.as_slice();
-        let played = run_on(rt.alloc(), Limit::default(), FailingReader { bytes, calls });
-        assert_eq!(rt; played.exit, Exit::Device, "after {calls}");
-        assert!(rt;
-            played.faults.as_slice() == b"the input can't be read\n".as_slice(),
-            "after {calls}"
-        );
-        assert!(rt; played.out.is_empty(), "after {calls}");
+        tells_no_more(&rt, rt.alloc(), bytes, calls);
     }
-    let bytes = input.as_slice();
-    let played = run_on(
-        rt.alloc(),
-        Limit::default(),
-        FailingReader { bytes, calls: 4 },
-    );
-    assert_eq!(rt; played.exit, Exit::Done);
-    assert!(rt; played.out.as_slice() == whole.out.as_slice());
+    let whole = run_on(rt.alloc(), Limit::default(), bytes);
+    let reader = FailingReader { bytes, calls: 4 };
+    let played = run_on(rt.alloc(), Limit::default(), reader);
+    prints(&rt, "four calls", &played, whole.out.as_slice());
     Ok(())
+}
+
+/// Runs an input; the writer fails behind so many calls.
+fn run_to(alloc: Global, input: &[u8], calls: usize) -> Played {
+    let mut faults = MemorySink::new(Vec::new(alloc));
+    let written = Vec::new(alloc);
+    let mut out = Plain::new(FailingWriter { written, calls });
+    let mut input = MemorySource::new(input);
+    let exit = replay(alloc, Limit::default(), &mut input, &mut out, &mut faults);
+    Played {
+        exit,
+        out: out.into_inner().written,
+        faults: faults.into_bytes(),
+    }
+}
+
+/// Ends the test where it isn't told that a writer fails behind so many calls, or where it was given
+/// anything but a beginning of the whole text.
+fn writes_no_more(rt: &impl Abort, played: &Played, whole: &[u8], calls: usize) {
+    same(rt, calls, &played.exit, &Exit::Device);
+    assert!(rt; whole.starts_with(played.out.as_slice()), "after {calls}");
+    assert!(rt; !played.faults.is_empty(), "after {calls}");
 }
 
 #[test]
 fn tells_a_write_that_fails(rt: HostRuntime) -> Result<(), Fail> {
-    let alloc = rt.alloc();
-    let input = joined(alloc, &[OPEN, BLOCK, CLOSE, "\n"])?;
-    let whole = run_on(alloc, Limit::default(), input.as_slice());
+    let input = take(rt.alloc())?;
+    let whole = run_on(rt.alloc(), Limit::default(), input.as_slice());
     // 1,522 bytes are four pieces, and the flush is one more call
-    for calls in 0..6 {
-        let mut faults = MemorySink::new(Vec::new(alloc));
-        let written = Vec::new(alloc);
-        let mut out = Plain::new(FailingWriter { written, calls });
-        let exit = replay(
-            alloc,
-            Limit::default(),
-            &mut MemorySource::new(input.as_slice()),
-            &mut out,
-            &mut faults,
-        );
-        let out = out.into_inner();
-        let faults = faults.into_bytes();
-        let wanted = if calls < 5 { Exit::Device } else { Exit::Done };
-        assert_eq!(rt; exit, wanted, "after {calls}");
-        assert!(rt;
-            whole.out.as_slice().starts_with(out.written.as_slice()),
-            "after {calls}"
-        );
-        assert_eq!(rt; faults.is_empty(), calls == 5, "after {calls}");
+    for calls in 0..5 {
+        let played = run_to(rt.alloc(), input.as_slice(), calls);
+        writes_no_more(&rt, &played, whole.out.as_slice(), calls);
     }
+    let played = run_to(rt.alloc(), input.as_slice(), 5);
+    prints(&rt, "five calls", &played, whole.out.as_slice());
     Ok(())
 }
 

@@ -6,7 +6,8 @@ use crate::takes::{
     VERSION,
 };
 use bw_layout::Limit;
-use std::alloc::AllocError;
+use std::alloc::{AllocError, Global};
+use std::process::Abort;
 use std::test::Fail;
 
 static NUMBERS: [Row; 3] = [
@@ -96,26 +97,34 @@ const SIXTEEN_BLOCKS: File = File {
     ],
 };
 
-#[test]
-fn a_full_window_is_stored_at_once(rt: HostRuntime) -> Result<(), Fail> {
-    let alloc = rt.alloc();
-    let mut input = Vec::new(alloc);
+/// Number 16, then 15 to 1, then OPEN, then 16 again.
+fn full_window(alloc: Global) -> Result<Vec<u8>, AllocError> {
     let (before, behind) = ("0c00000002026131", "00000001000200");
+    let mut input = Vec::new(alloc);
     put_for_each_number(&mut input, &[16], before, behind)?;
     put_for_each_number(&mut input, &BACKWARDS, before, behind)?;
     input.extend_from_slice(OPEN.as_bytes())?;
     put_for_each_number(&mut input, &[16], before, behind)?;
-    let mut wanted = printed(
-        alloc,
-        &[EXCHANGE, "reply 0d00000082026131100000002100000000"],
-        &[],
-    )?;
+    Ok(input)
+}
+
+/// That 16 is too far, that the others wait, and the verdicts of all.
+fn told_of_full_window(alloc: Global) -> Result<Vec<u8>, AllocError> {
+    let too_far = "reply 0d00000082026131100000002100000000";
+    let mut text = printed(alloc, &[EXCHANGE, too_far], &[])?;
     let (before, behind) = ("reply 0d00000082026131", "0000002000000000\n");
-    put_for_each_number(&mut wanted, &BACKWARDS, before, behind)?;
+    put_for_each_number(&mut text, &BACKWARDS, before, behind)?;
     let (before, behind) = ("reply 0900000081026131", "00000000\n");
-    put_for_each_number(&mut wanted, &FORWARDS, before, behind)?;
-    wanted.extend_from_slice(printed(alloc, &[], &[SIXTEEN_BLOCKS])?.as_slice())?;
-    let played = run_on(alloc, Limit::default(), input.as_slice());
+    put_for_each_number(&mut text, &FORWARDS, before, behind)?;
+    text.extend_from_slice(printed(alloc, &[], &[SIXTEEN_BLOCKS])?.as_slice())?;
+    Ok(text)
+}
+
+#[test]
+fn a_full_window_is_stored_at_once(rt: HostRuntime) -> Result<(), Fail> {
+    let input = full_window(rt.alloc())?;
+    let wanted = told_of_full_window(rt.alloc())?;
+    let played = run_on(rt.alloc(), Limit::default(), input.as_slice());
     prints(&rt, "a full window", &played, wanted.as_slice());
     Ok(())
 }
@@ -154,19 +163,29 @@ const FILE_AA: File = File {
     pieces: SMALL,
 };
 
-#[test]
-fn a_server_of_256_names_turns_another_away(rt: HostRuntime) -> Result<(), Fail> {
-    let alloc = rt.alloc();
+/// A block that waits under each of 256 names, and the further messages.
+fn many_names(alloc: Global) -> Result<Vec<u8>, AllocError> {
     let mut input = Vec::new(alloc);
     put_for_each_name(&mut input, "0c0000000202", "0100000001000200")?;
     for message in FURTHER {
         input.extend_from_slice(message.as_bytes())?;
     }
-    let mut wanted = printed(alloc, &[EXCHANGE], &[])?;
-    put_for_each_name(&mut wanted, "reply 0d0000008202", "010000002000000000\n")?;
+    Ok(input)
+}
+
+fn told_of_many_names(alloc: Global) -> Result<Vec<u8>, AllocError> {
+    let mut text = printed(alloc, &[EXCHANGE], &[])?;
+    put_for_each_name(&mut text, "reply 0d0000008202", "010000002000000000\n")?;
     let further = printed(alloc, &TOLD_OF_FURTHER, &[FILE_AA])?;
-    wanted.extend_from_slice(further.as_slice())?;
-    let played = run_on(alloc, Limit::default(), input.as_slice());
+    text.extend_from_slice(further.as_slice())?;
+    Ok(text)
+}
+
+#[test]
+fn a_server_of_256_names_turns_another_away(rt: HostRuntime) -> Result<(), Fail> {
+    let input = many_names(rt.alloc())?;
+    let wanted = told_of_many_names(rt.alloc())?;
+    let played = run_on(rt.alloc(), Limit::default(), input.as_slice());
     prints(&rt, "256 names", &played, wanted.as_slice());
     Ok(())
 }
@@ -183,7 +202,7 @@ const FIRST_FRAME: Piece = (
     "637565201c00000001000000070000000000000064617461000000000000000000000000",
 );
 
-static REACHED: File = File {
+const REACHED: File = File {
     head: "a1 8200",
     pieces: &[
         (1, "5249464600200000574156454a554e4b1c000000"),
@@ -197,7 +216,7 @@ static REACHED: File = File {
     ],
 };
 
-static PASSED: File = File {
+const PASSED: File = File {
     head: "a1 8236",
     pieces: &[
         (
@@ -216,7 +235,7 @@ static PASSED: File = File {
 };
 
 /// The same take under the greatest limit.
-static FAR_BELOW: File = File {
+const FAR_BELOW: File = File {
     head: "a1 8236",
     pieces: &[
         (1, "5249464624200000574156454a554e4b1c000000"),
@@ -231,24 +250,49 @@ static FAR_BELOW: File = File {
     ],
 };
 
-#[test]
-fn a_file_past_the_limit_is_bw64(rt: HostRuntime) -> Result<(), Fail> {
-    let alloc = rt.alloc();
-    let limit = Limit::new(8192).ok_or("a limit")?;
+/// OPEN and that block.
+fn long_take(alloc: Global) -> Result<Vec<u8>, AllocError> {
     let mut input = OPEN.as_bytes().to_vec(alloc)?;
     for piece in LONG_BLOCK {
         put_piece(&mut input, piece)?;
     }
-    let wanted = printed(alloc, &[EXCHANGE, STORED_0, STORED_1], &[REACHED])?;
-    let played = run_on(alloc, limit, input.as_slice());
-    prints(&rt, "the limit", &played, wanted.as_slice());
-    input.extend_from_slice(MARK_AND_CLOSE.as_bytes())?;
-    let lines = [EXCHANGE, STORED_0, STORED_1, STORED_2, STORED_3];
-    let wanted = printed(alloc, &lines, &[PASSED])?;
-    let played = run_on(alloc, limit, input.as_slice());
-    prints(&rt, "past the limit", &played, wanted.as_slice());
-    let wanted = printed(alloc, &lines, &[FAR_BELOW])?;
-    let played = run_on(alloc, Limit::default(), input.as_slice());
-    prints(&rt, "another limit", &played, wanted.as_slice());
+    Ok(input)
+}
+
+/// Ends the test where an input leaves another file under a limit, or has other verdicts than these.
+fn leaves(
+    rt: &impl Abort,
+    alloc: Global,
+    limit: Limit,
+    input: &[u8],
+    verdicts: &[&str],
+    file: File,
+) -> Result<(), Fail> {
+    let wanted = printed(alloc, verdicts, &[file])?;
+    let played = run_on(alloc, limit, input);
+    prints(rt, file.head, &played, wanted.as_slice());
     Ok(())
+}
+
+const OPEN_VERDICTS: &[&str] = &[EXCHANGE, STORED_0, STORED_1];
+
+const CLOSED_VERDICTS: &[&str] = &[EXCHANGE, STORED_0, STORED_1, STORED_2, STORED_3];
+
+#[test]
+fn a_file_past_the_limit_is_bw64(rt: HostRuntime) -> Result<(), Fail> {
+    let alloc = rt.alloc();
+    let limit = Limit::new(8192).ok_or("a limit")?;
+    let mut input = long_take(alloc)?;
+    leaves(&rt, alloc, limit, input.as_slice(), OPEN_VERDICTS, REACHED)?;
+    input.extend_from_slice(MARK_AND_CLOSE.as_bytes())?;
+    let closed = input.as_slice();
+    leaves(&rt, alloc, limit, closed, CLOSED_VERDICTS, PASSED)?;
+    leaves(
+        &rt,
+        alloc,
+        Limit::default(),
+        closed,
+        CLOSED_VERDICTS,
+        FAR_BELOW,
+    )
 }

@@ -1,8 +1,8 @@
 //! Asks: which number comes next under a name.
 use crate::compare::same;
 use crate::play::Told::Noticed;
-use crate::play::{Told, a1, fused_server, knows, send, tells};
-use crate::takes::{APPENDED, BLOCK, CLOSE, CLOSED, OPEN, OPENED};
+use crate::play::{Told, a1, fused_server, knows, send, send_all, tells};
+use crate::takes::{APPENDED, APPENDS, BLOCK, CLOSE, CLOSED, OPEN, OPENED, OPENS};
 use bw_file::TakeStore;
 use bw_session::Server;
 use bw_wire::Notice::{DelayedStore, Held, Next};
@@ -35,8 +35,7 @@ fn an_ask_is_told_the_number_that_comes_next(rt: HostRuntime) -> Result<(), Fail
     let mut server = fused_server(rt.alloc(), &[])?;
     ask(&rt, &server, ASK, Noticed(0, Next, 0))?;
     same(&rt, "an ask", &knows(&server, &a1()?), &None);
-    send(&rt, "OPEN", &mut server, OPEN, &[OPENED])?;
-    send(&rt, "BLOCK", &mut server, BLOCK, &[APPENDED])?;
+    send_all(&rt, "a take", &mut server, &[OPENS, APPENDS])?;
     ask(&rt, &server, ASK, Noticed(0, Next, 2))?;
     ask(&rt, &server, OTHER_ASK, Noticed(7, Next, 2))
 }

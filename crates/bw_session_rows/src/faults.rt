@@ -3,15 +3,18 @@
 //! OPEN makes the calls 0 and 1, BLOCK the calls 2, 3 and 4, CLOSE the call 5, where none fails.
 use crate::compare::same;
 use crate::play::Told::{Judged, Noticed};
-use crate::play::{Known, Row, Turn, a1, check, fused_server, has_file, knows, send, server_over};
+use crate::play::{
+    Known, Row, Turn, a1, check, fused_server, has_file, knows, send, send_all, server_over,
+};
 use crate::takes::{
-    ALL_DONE, APPENDED, APPENDS, BLOCK, CLOSE, CLOSED, File, MONO, OPEN, OPENED, OPENS,
+    ALL_DONE, APPENDED, APPENDS, BLOCK, CLOSE, CLOSED, CLOSES, File, MONO, OPEN, OPENED, OPENS,
     OTHER_BLOCK, TWO_DONE, TWO_FRAMES, VERSION_1,
 };
 use bw_file::{FuseStore, MemoryStore, TakeStore};
 use bw_session::Server;
 use bw_take::Verdict::{NameTaken, NotOpen, Stored};
 use bw_wire::Notice::{Conflict, DelayedStore, Held, TooFar};
+use std::alloc::Global;
 use std::process::Abort;
 use std::test::Fail;
 
@@ -73,10 +76,7 @@ static MENDED: [Row; 4] = [
                 body: CLOSE,
                 told: &[Noticed(2, DelayedStore, 2)],
             },
-            Turn {
-                body: CLOSE,
-                told: &[CLOSED],
-            },
+            CLOSES,
         ],
         known: ALL_DONE,
         file: TWO_FRAMES,
@@ -201,25 +201,45 @@ fn a_turn_that_meets_the_fault_of_another_number_answers_its_own(
     Ok(())
 }
 
+/// OPEN meets a fault, and finds the name taken.
+static FINDS_IT_TAKEN: [Turn; 3] = [
+    Turn {
+        body: OPEN,
+        told: &[Noticed(0, DelayedStore, 0)],
+    },
+    Turn {
+        body: OPEN,
+        told: &[Judged(0, NameTaken)],
+    },
+    Turn {
+        body: BLOCK,
+        told: &[Judged(1, NotOpen)],
+    },
+];
+
+/// What is known of a take that was never opened.
+const NEVER_OPENED: Known = Known {
+    done: 2,
+    frames: 0,
+    is_closed: false,
+    held: 0,
+    kept_bytes: 66,
+};
+
+/// A store in which the name stands, and whose first call fails.
+fn store_with_name(alloc: Global) -> Result<FuseStore<MemoryStore>, Fail> {
+    let mut inner = MemoryStore::new(alloc);
+    inner.plant(&a1()?, b"old")?;
+    Ok(FuseStore::new(inner, vec![in alloc; 0]?))
+}
+
 #[test]
 fn a_name_that_stood_is_found_taken_behind_a_fault(rt: HostRuntime) -> Result<(), Fail> {
     let of = "a name that stood";
     let name = a1()?;
-    let mut inner = MemoryStore::new(rt.alloc());
-    inner.plant(&name, b"old")?;
-    let store = FuseStore::new(inner, vec![in rt.alloc(); 0]?);
-    let mut server = server_over(rt.alloc(), store)?;
-    send(&rt, of, &mut server, OPEN, &[Noticed(0, DelayedStore, 0)])?;
-    send(&rt, of, &mut server, OPEN, &[Judged(0, NameTaken)])?;
-    send(&rt, of, &mut server, BLOCK, &[Judged(1, NotOpen)])?;
-    let want = Known {
-        done: 2,
-        frames: 0,
-        is_closed: false,
-        held: 0,
-        kept_bytes: 66,
-    };
-    same(&rt, of, &knows(&server, &name), &Some(want));
+    let mut server = server_over(rt.alloc(), store_with_name(rt.alloc())?)?;
+    send_all(&rt, of, &mut server, &FINDS_IT_TAKEN)?;
+    same(&rt, of, &knows(&server, &name), &Some(NEVER_OPENED));
     let store = server.into_store();
     same(&rt, of, &store.calls(), &2);
     let inner = store.into_inner();

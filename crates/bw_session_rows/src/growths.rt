@@ -1,13 +1,13 @@
 //! Memory that is refused to a server.
 use crate::compare::same;
-use crate::play::{a1, knows, send};
-use crate::takes::{ALL_DONE, APPENDED, BLOCK, CLOSE, CLOSED, OPEN, OPENED, TWO_FRAMES};
+use crate::play::{a1, knows, send_all};
+use crate::takes::{ALL_DONE, APPENDS, BLOCK, CLOSE, CLOSES, OPEN, OPENS, TWO_FRAMES};
 use arrayvec::ArrayVec;
 use bw_file::MemoryStore;
 use bw_layout::Limit;
 use bw_session::Server;
 use bw_wire::{Frame, Notice, Reply, decode};
-use std::alloc::Global;
+use std::alloc::{AllocError, Global};
 use std::process::Abort;
 use std::test::Fail;
 
@@ -49,6 +49,14 @@ fn send_anew(rt: &impl Abort, server: &mut Server<MemoryStore>, body: &[u8]) -> 
     Ok(())
 }
 
+/// The file's bytes, made in the second try where memory was refused in the first.
+fn bytes_anew(alloc: Global) -> Result<Vec<u8>, AllocError> {
+    match TWO_FRAMES.bytes(alloc) {
+        Ok(bytes) => Ok(bytes),
+        Err(_refused) => TWO_FRAMES.bytes(alloc),
+    }
+}
+
 /// Run once more with each growth refused, by `tools/refuse_growths`. A growth that is refused to
 /// the store is a fault of the store.
 #[test]
@@ -60,16 +68,9 @@ fn a_refused_growth_is_told_and_changes_nothing(rt: HostRuntime) -> Result<(), F
     }
     let name = a1()?;
     same(&rt, of, &knows(&server, &name), &Some(ALL_DONE));
-    send(&rt, of, &mut server, OPEN, &[OPENED])?;
-    send(&rt, of, &mut server, BLOCK, &[APPENDED])?;
-    send(&rt, of, &mut server, CLOSE, &[CLOSED])?;
-    let bytes = match TWO_FRAMES.bytes(rt.alloc()) {
-        Ok(bytes) => bytes,
-        Err(_refused) => TWO_FRAMES.bytes(rt.alloc())?,
-    };
-    assert!(&rt;
-        server.store().content(&name) == Some(bytes.as_slice()),
-        "another file"
-    );
+    send_all(&rt, of, &mut server, &[OPENS, APPENDS, CLOSES])?;
+    let bytes = bytes_anew(rt.alloc())?;
+    let found = server.store().content(&name);
+    assert!(&rt; found == Some(bytes.as_slice()), "another file");
     Ok(())
 }

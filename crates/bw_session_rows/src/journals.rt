@@ -3,18 +3,17 @@
 ghost use Rattle.std.specs.Prelude.{None, false};
 
 use crate::compare::same;
+use crate::orders::BACKWARDS;
 use crate::play::Told::{Judged, Noticed};
-use crate::play::{Told, a1, has_file, knows, send};
-use crate::takes::{
-    ALL_DONE, APPENDED, BLOCK, CLOSE, CLOSED, OPEN, OPENED, OTHER_BLOCK, TWO_FRAMES,
-};
+use crate::play::{Told, Turn, a1, has_file, knows, send, send_all};
+use crate::takes::{ALL_DONE, APPENDED, BLOCK, OPEN, OPENS, OTHER_BLOCK, TWO_FRAMES};
 use bw_file::{MemoryStore, StoreFault, Tally};
 use bw_journal::{FuseJournal, Journal, MemoryJournal};
 use bw_layout::Limit;
 use bw_session::Server;
 use bw_take::Name;
 use bw_take::Verdict::{BadBlock, Stored};
-use bw_wire::Notice::{Conflict, DelayedStore, Held};
+use bw_wire::Notice::{Conflict, DelayedStore};
 use std::alloc::Global;
 use std::test::Fail;
 
@@ -129,27 +128,39 @@ fn a_server_over_a_journal_in_memory_does_the_same(rt: HostRuntime) -> Result<()
     let name = a1()?;
     let journal = MemoryJournal::new(rt.alloc(), Limit::default());
     let mut server = noting_server(rt.alloc(), journal)?;
-    send(&rt, of, &mut server, CLOSE, &[Noticed(2, Held, 0)])?;
-    send(&rt, of, &mut server, BLOCK, &[Noticed(1, Held, 0)])?;
-    send(&rt, of, &mut server, OPEN, &[OPENED, APPENDED, CLOSED])?;
+    send_all(&rt, of, &mut server, BACKWARDS.turns)?;
     same(&rt, of, &knows(&server, &name), &Some(ALL_DONE));
     has_file(&rt, rt.alloc(), of, server.store(), &name, &TWO_FRAMES)
 }
 
+/// OPEN meets a fault of the journal.
+const DELAYS_OPEN: Turn = Turn {
+    body: OPEN,
+    told: &[Noticed(0, DelayedStore, 0)],
+};
+
 /// The journal's calls: its beginning fails, then the note of OPEN behind another beginning, then
 /// the note of BLOCK.
+static DELAYED: [Turn; 5] = [
+    DELAYS_OPEN,
+    DELAYS_OPEN,
+    OPENS,
+    Turn {
+        body: BLOCK,
+        told: &[Noticed(1, DelayedStore, 1)],
+    },
+    Turn {
+        body: OTHER_BLOCK,
+        told: &[APPENDED, Noticed(1, Conflict, 2)],
+    },
+];
+
 #[test]
 fn a_fault_of_the_journal_delays_a_number(rt: HostRuntime) -> Result<(), Fail> {
     let of = "a journal behind fuses";
-    let name = a1()?;
     let inner = MemoryJournal::new(rt.alloc(), Limit::default());
     let journal = FuseJournal::new(inner, [0u64, 2, 5].to_vec(rt.alloc())?);
     let mut server = noting_server(rt.alloc(), journal)?;
-    send(&rt, of, &mut server, OPEN, &[Noticed(0, DelayedStore, 0)])?;
-    send(&rt, of, &mut server, OPEN, &[Noticed(0, DelayedStore, 0)])?;
-    send(&rt, of, &mut server, OPEN, &[OPENED])?;
-    send(&rt, of, &mut server, BLOCK, &[Noticed(1, DelayedStore, 1)])?;
-    let told = [APPENDED, Noticed(1, Conflict, 2)];
-    send(&rt, of, &mut server, OTHER_BLOCK, &told)?;
-    has_file(&rt, rt.alloc(), of, server.store(), &name, &TWO_FRAMES)
+    send_all(&rt, of, &mut server, &DELAYED)?;
+    has_file(&rt, rt.alloc(), of, server.store(), &a1()?, &TWO_FRAMES)
 }

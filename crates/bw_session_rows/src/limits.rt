@@ -1,12 +1,14 @@
 //! A server's limit, from which on its files are BW64.
 use crate::compare::same;
 use crate::play::Told::Judged;
-use crate::play::{Known, a1, has_file, knows, send};
-use crate::takes::{APPENDED, File, MONO, OPEN, OPENED, VERSION_1};
+use crate::play::{Known, Turn, a1, has_file, knows, send, send_all};
+use crate::takes::{APPENDED, File, MONO, OPENS, VERSION_1};
 use bw_file::MemoryStore;
 use bw_layout::Limit;
 use bw_session::Server;
 use bw_take::Verdict::Stored;
+use std::alloc::Global;
+use std::process::Abort;
 use std::test::Fail;
 
 /// A take of 7,510 bytes, whose form size is 8,192.
@@ -38,9 +40,15 @@ static LONG: File = File {
 };
 
 /// MARK 2 with identifier 7 at frame 0, and CLOSE 3 with the total 3,755.
-const MARK: &[u8] = b"\x03\x02a1\x02\0\0\0\x07\0\0\0\0\0\0\0";
+const MARKS: Turn = Turn {
+    body: b"\x03\x02a1\x02\0\0\0\x07\0\0\0\0\0\0\0",
+    told: &[Judged(2, Stored)],
+};
 
-const CLOSE: &[u8] = b"\x05\x02a1\x03\0\0\0\xab\x0e\0\0\0\0\0\0";
+const CLOSES: Turn = Turn {
+    body: b"\x05\x02a1\x03\0\0\0\xab\x0e\0\0\0\0\0\0",
+    told: &[Judged(3, Stored)],
+};
 
 const ALL_DONE: Known = Known {
     done: 4,
@@ -50,23 +58,37 @@ const ALL_DONE: Known = Known {
     kept_bytes: 132,
 };
 
-#[test]
-fn a_file_past_the_limit_becomes_bw64(rt: HostRuntime) -> Result<(), Fail> {
-    let of = "a limit of 8,192 bytes";
-    let alloc = rt.alloc();
-    let name = a1()?;
+const OF: &str = "a limit of 8,192 bytes";
+
+/// A server of that limit.
+fn limited(alloc: Global) -> Result<Server<MemoryStore>, Fail> {
     let limit = Limit::new(8192).ok_or("a limit")?;
-    let Ok(mut server) = Server::new(alloc, MemoryStore::new(alloc), limit) else {
-        return Err("memory")?;
-    };
-    send(&rt, of, &mut server, OPEN, &[OPENED])?;
+    match Server::new(alloc, MemoryStore::new(alloc), limit) {
+        Ok(server) => Ok(server),
+        Err(_refused) => Err("memory")?,
+    }
+}
+
+/// Sends the take up to its marker.
+fn send_open_take(
+    rt: &impl Abort,
+    alloc: Global,
+    server: &mut Server<MemoryStore>,
+) -> Result<(), Fail> {
     let mut block = b"\x02\x02a1\x01\0\0\0".to_vec(alloc)?;
     block.resize(7518, 0x11)?;
-    send(&rt, of, &mut server, &block, &[APPENDED])?;
-    send(&rt, of, &mut server, MARK, &[Judged(2, Stored)])?;
-    has_file(&rt, alloc, of, server.store(), &name, &SHORT)?;
-    send(&rt, of, &mut server, CLOSE, &[Judged(3, Stored)])?;
-    has_file(&rt, alloc, of, server.store(), &name, &LONG)?;
-    same(&rt, of, &knows(&server, &name), &Some(ALL_DONE));
-    Ok(())
+    send_all(rt, OF, server, &[OPENS])?;
+    send(rt, OF, server, &block, &[APPENDED])?;
+    send_all(rt, OF, server, &[MARKS])
+}
+
+#[test]
+fn a_file_past_the_limit_becomes_bw64(rt: HostRuntime) -> Result<(), Fail> {
+    let name = a1()?;
+    let mut server = limited(rt.alloc())?;
+    send_open_take(&rt, rt.alloc(), &mut server)?;
+    has_file(&rt, rt.alloc(), OF, server.store(), &name, &SHORT)?;
+    send_all(&rt, OF, &mut server, &[CLOSES])?;
+    same(&rt, OF, &knows(&server, &name), &Some(ALL_DONE));
+    has_file(&rt, rt.alloc(), OF, server.store(), &name, &LONG)
 }

@@ -2,8 +2,8 @@
 use crate::asks::{ASK, ask};
 use crate::compare::same;
 use crate::play::Told::Noticed;
-use crate::play::{a1, fused_server, has_file, knows, send, server_over};
-use crate::takes::{APPENDED, BLOCK, EMPTY, OPEN, OPENED, TWO_DONE, TWO_FRAMES};
+use crate::play::{Turn, a1, fused_server, has_file, knows, send, send_all, server_over};
+use crate::takes::{APPENDED, APPENDS, BLOCK, EMPTY, OPEN, OPENED, OPENS, TWO_DONE, TWO_FRAMES};
 use bw_file::MemoryStore;
 use bw_session::Server;
 use bw_take::Name;
@@ -75,18 +75,29 @@ fn a_server_of_256_names_turns_another_away_and_serves_its_own(
     Ok(())
 }
 
+/// OPEN under the name `b2`.
+const OTHER_OPEN: &[u8] = b"\x01\x02b2\0\0\0\0\x80\xbb\0\0\x01\0\x10\0\0\0";
+
+const DELAYS_OTHER: Turn = Turn {
+    body: OTHER_OPEN,
+    told: &[Noticed(0, DelayedStore, 0)],
+};
+
+const OPENS_OTHER: Turn = Turn {
+    body: OTHER_OPEN,
+    told: &[OPENED],
+};
+
 #[test]
 fn a_fault_under_one_name_leaves_another_alone(rt: HostRuntime) -> Result<(), Fail> {
     let of = "two names";
-    let alloc = rt.alloc();
-    let (a1, b2) = (a1()?, Name::new(b"b2").ok_or("a name")?);
-    let mut server = fused_server(alloc, &[2])?;
-    let other = body_of(alloc, OPEN, *b"b2")?;
-    send(&rt, of, &mut server, OPEN, &[OPENED])?;
-    send(&rt, of, &mut server, &other, &[Noticed(0, DelayedStore, 0)])?;
-    send(&rt, of, &mut server, BLOCK, &[APPENDED])?;
+    let b2 = Name::new(b"b2").ok_or("a name")?;
+    let mut server = fused_server(rt.alloc(), &[2])?;
+    send_all(&rt, of, &mut server, &[OPENS, DELAYS_OTHER, APPENDS])?;
     same(&rt, of, &server.done(&b2), &Some(0));
-    has_file(&rt, alloc, of, server.store().inner(), &a1, &TWO_FRAMES)?;
-    send(&rt, of, &mut server, &other, &[OPENED])?;
-    has_file(&rt, alloc, of, server.store().inner(), &b2, &EMPTY)
+    let store = server.store().inner();
+    has_file(&rt, rt.alloc(), of, store, &a1()?, &TWO_FRAMES)?;
+    send_all(&rt, of, &mut server, &[OPENS_OTHER])?;
+    let store = server.store().inner();
+    has_file(&rt, rt.alloc(), of, store, &b2, &EMPTY)
 }

@@ -1,10 +1,10 @@
 //! Messages of one take in many orders, repeated, and with other bodies under the same numbers.
 use crate::compare::same;
 use crate::play::Told::{Judged, Noticed};
-use crate::play::{Known, Row, Turn, a1, check, has_file, knows, send, server_over};
+use crate::play::{Known, Row, Turn, a1, check, has_file, knows, send_all, server_over};
 use crate::takes::{
-    ALL_DONE, APPENDED, APPENDS, BLOCK, CLOSE, CLOSED, EMPTY, OPEN, OPENED, OPENS, OTHER_BLOCK,
-    OTHER_CLOSE, TWO_DONE, TWO_FRAMES,
+    ALL_DONE, APPENDED, APPENDS, BLOCK, CLOSE, CLOSED, CLOSES, EMPTY, OPEN, OPENED, OPENS,
+    OTHER_BLOCK, OTHER_CLOSE, TWO_DONE, TWO_FRAMES,
 };
 use bw_file::MemoryStore;
 use bw_take::Verdict::{
@@ -40,7 +40,7 @@ const OPENS_FOR_ALL: Turn = Turn {
 };
 
 /// The take from its last message to its first.
-static BACKWARDS: Row = Row {
+pub(crate) static BACKWARDS: Row = Row {
     what: "a take backwards",
     fuses: &[],
     turns: &[CLOSE_WAITS, BLOCK_WAITS, OPENS_FOR_ALL],
@@ -53,16 +53,7 @@ static REPEATED: [Row; 4] = [
     Row {
         what: "a block three times",
         fuses: &[],
-        turns: &[
-            OPENS,
-            APPENDS,
-            APPENDS,
-            APPENDS,
-            Turn {
-                body: CLOSE,
-                told: &[CLOSED],
-            },
-        ],
+        turns: &[OPENS, APPENDS, APPENDS, APPENDS, CLOSES],
         known: ALL_DONE,
         file: TWO_FRAMES,
     },
@@ -231,15 +222,26 @@ fn a_server_over_memory_does_the_same(rt: HostRuntime) -> Result<(), Fail> {
     let mut server = server_over(rt.alloc(), MemoryStore::new(rt.alloc()))?;
     same(&rt, of, &knows(&server, &name), &None);
     same(&rt, of, &server.is_closed(&name), &false);
-    send(&rt, of, &mut server, CLOSE, &[Noticed(2, Held, 0)])?;
-    send(&rt, of, &mut server, BLOCK, &[Noticed(1, Held, 0)])?;
+    send_all(&rt, of, &mut server, &[CLOSE_WAITS, BLOCK_WAITS])?;
     same(&rt, of, &knows(&server, &name), &Some(TWO_HELD));
-    send(&rt, of, &mut server, OPEN, &[OPENED, APPENDED, CLOSED])?;
+    send_all(&rt, of, &mut server, &[OPENS_FOR_ALL])?;
     same(&rt, of, &knows(&server, &name), &Some(ALL_DONE));
     has_file(&rt, rt.alloc(), of, server.store(), &name, &TWO_FRAMES)?;
     let store = server.into_store();
     has_file(&rt, rt.alloc(), of, &store, &name, &TWO_FRAMES)
 }
+
+/// Under a name that stands nothing is opened.
+static FINDS_IT_TAKEN: [Turn; 2] = [
+    Turn {
+        body: OPEN,
+        told: &[Judged(0, NameTaken)],
+    },
+    Turn {
+        body: BLOCK,
+        told: &[Judged(1, NotOpen)],
+    },
+];
 
 #[test]
 fn a_name_that_stood_is_taken_and_its_bytes_stay(rt: HostRuntime) -> Result<(), Fail> {
@@ -248,13 +250,8 @@ fn a_name_that_stood_is_taken_and_its_bytes_stay(rt: HostRuntime) -> Result<(), 
     let mut store = MemoryStore::new(rt.alloc());
     store.plant(&name, b"old")?;
     let mut server = server_over(rt.alloc(), store)?;
-    send(&rt, of, &mut server, OPEN, &[Judged(0, NameTaken)])?;
-    send(&rt, of, &mut server, BLOCK, &[Judged(1, NotOpen)])?;
-    same(
-        &rt,
-        of,
-        &server.store().content(&name),
-        &Some(b"old".as_slice()),
-    );
+    send_all(&rt, of, &mut server, &FINDS_IT_TAKEN)?;
+    let found = server.store().content(&name);
+    same(&rt, of, &found, &Some(b"old".as_slice()));
     Ok(())
 }

@@ -116,6 +116,19 @@ pub(crate) fn send<S: TakeStore, J: Journal>(
     Ok(())
 }
 
+/// Gives the server messages, one after another.
+pub(crate) fn send_all<S: TakeStore, J: Journal>(
+    rt: &impl Abort,
+    of: &str,
+    server: &mut Server<S, J>,
+    turns: &[Turn],
+) -> Result<(), Fail> {
+    for turn in turns {
+        send(rt, of, server, turn.body, turn.told)?;
+    }
+    Ok(())
+}
+
 /// What a server knows of a name; None where it isn't known.
 pub(crate) fn knows<S: TakeStore, J: Journal>(server: &Server<S, J>, name: &Name) -> Option<Known> {
     let done = server.done(name)?;
@@ -149,9 +162,7 @@ pub(crate) fn has_file(
 pub(crate) fn check(rt: &impl Abort, alloc: Global, row: &Row) -> Result<(), Fail> {
     let name = a1()?;
     let mut server = fused_server(alloc, row.fuses)?;
-    for turn in row.turns {
-        send(rt, row.what, &mut server, turn.body, turn.told)?;
-    }
+    send_all(rt, row.what, &mut server, row.turns)?;
     same(rt, row.what, &knows(&server, &name), &Some(row.known));
     let store = server.store().inner();
     has_file(rt, alloc, row.what, store, &name, &row.file)

@@ -26,7 +26,7 @@ pub(crate) const APPENDED: Told = Judged(1, Stored);
 
 pub(crate) const CLOSED: Told = Judged(2, Stored);
 
-/// OPEN and BLOCK, each in its turn.
+/// OPEN, BLOCK and CLOSE, each in its turn.
 pub(crate) const OPENS: Turn = Turn {
     body: OPEN,
     told: &[OPENED],
@@ -35,6 +35,11 @@ pub(crate) const OPENS: Turn = Turn {
 pub(crate) const APPENDS: Turn = Turn {
     body: BLOCK,
     told: &[APPENDED],
+};
+
+pub(crate) const CLOSES: Turn = Turn {
+    body: CLOSE,
+    told: &[CLOSED],
 };
 
 /// What is known of the take once it is closed.

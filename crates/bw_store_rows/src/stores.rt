@@ -24,20 +24,30 @@ fn a_memory_store_keeps_what_is_written(rt: HostRuntime) -> Result<(), Fail> {
     Ok(())
 }
 
+/// Ends the test where a store tells other names.
+fn has_names(rt: &impl Abort, store: &MemoryStore, names: &[&Name]) {
+    for (place, name) in names.iter().enumerate() {
+        assert!(rt; store.name_at(place) == Some(*name));
+    }
+    assert!(rt; store.name_at(names.len()).is_none());
+}
+
 #[test]
 fn a_memory_store_tells_its_names_in_their_order(rt: HostRuntime) -> Result<(), Fail> {
     let a = Name::new(b"a").ok_or("a name")?;
     let b = Name::new(b"b").ok_or("a name")?;
     let mut store = MemoryStore::new(rt.alloc());
-    assert!(rt; store.name_at(0).is_none());
+    has_names(&rt, &store, &[]);
     store.plant(&b, b"old")?;
-    assert!(rt; store.create(&b)? == Created::Exists);
-    assert!(rt; store.create(&a)? == Created::New);
-    assert!(rt; store.create(&a)? == Created::Exists);
+    for (name, created) in [
+        (&b, Created::Exists),
+        (&a, Created::New),
+        (&a, Created::Exists),
+    ] {
+        assert!(rt; store.create(name)? == created);
+    }
     assert!(rt; store.content(&b) == Some(b"old".as_slice()));
-    assert!(rt; store.name_at(0) == Some(&a));
-    assert!(rt; store.name_at(1) == Some(&b));
-    assert!(rt; store.name_at(2).is_none());
+    has_names(&rt, &store, &[&a, &b]);
     Ok(())
 }
 
