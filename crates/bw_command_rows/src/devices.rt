@@ -138,7 +138,7 @@ fn a_fault_line_that_fails_changes_nothing(rt: HostRuntime) -> Result<(), Fail> 
         &mut out,
         &mut faults,
     );
-    assert_eq!(rt; exit, Exit::Refused);
+    same(&rt, "a fault line", &exit, &Exit::Refused);
     assert!(rt; out.into_bytes().is_empty());
     Ok(())
 }

@@ -1,4 +1,5 @@
 //! `inspect` on a worked file: its report and its faults byte for byte, and devices that fail.
+use crate::play::same;
 use bw_commands::{Exit, inspect_run};
 use bw_stream::{MemorySink, Plain, SeekSource, Source};
 use std::alloc::{AllocError, Global};
@@ -66,9 +67,9 @@ fn file(alloc: Global) -> Result<Vec<u8>, AllocError> {
 
 /// Ends the test where the end, the text or the fault line is another.
 fn came_to(rt: &impl Abort, found: &Inspected, exit: Exit, out: &[u8], faults: &[u8]) {
-    assert_eq!(rt; found.exit, exit);
-    assert_eq!(rt; found.out.as_slice(), out);
-    assert_eq!(rt; found.faults.as_slice(), faults);
+    same(rt, "an inspection", &found.exit, &exit);
+    assert!(rt; found.out.as_slice() == out, "another text");
+    assert!(rt; found.faults.as_slice() == faults, "another fault");
 }
 
 #[test]

@@ -98,12 +98,12 @@ fn the_first_line_that_is_not_hex_is_told_before_anything_is_run(
 fn sixteen_mebibytes_are_taken_and_no_more(rt: HostRuntime) -> Result<(), Fail> {
     let mut input = vec![in rt.alloc(); b'0'; 16_777_216]?;
     let longest = run_on(rt.alloc(), Limit::default(), input.as_slice());
-    assert_eq!(rt; longest.exit, Exit::Done);
+    same(&rt, "the longest", &longest.exit, &Exit::Done);
     let wanted: &[u8] = b"exchange 0 BadFrame\nreply 0a00000083010000000000000000\n";
     assert!(rt; longest.out.as_slice() == wanted);
     input.push(b'0')?;
     let longer = run_on(rt.alloc(), Limit::default(), input.as_slice());
-    assert_eq!(rt; longer.exit, Exit::Refused);
+    same(&rt, "a longer one", &longer.exit, &Exit::Refused);
     assert!(rt; longer.faults.as_slice() == b"input too long\n".as_slice());
     assert!(rt; longer.out.is_empty());
     Ok(())

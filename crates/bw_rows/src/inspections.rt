@@ -56,13 +56,13 @@ fn fault_in(rt: &impl Abort, alloc: Global, file: &[u8]) -> Option<InspectFault>
     let read = inspect(alloc, &mut MemorySource::new(file)).err();
     let mut seeking = SeekSource::new(Cursor::new(file), file.len() as u64);
     let sought = inspect(alloc, &mut seeking).err();
-    assert_eq!(rt; sought, read, "sought over");
+    same(rt, "sought over", &sought, &read);
     read
 }
 
 fn same_fault(rt: &impl Abort, found: Option<InspectFault>, kind: InspectKind, offset: u64) {
     let want = Some(InspectFault { kind, offset });
-    assert_eq!(rt; found, want);
+    same(rt, "the fault", &found, &want);
 }
 
 /// What is answered, as text.
@@ -167,7 +167,8 @@ fn the_last_pad_byte_may_be_absent(rt: HostRuntime) -> Result<(), Fail> {
     file[686] = 3;
     file.truncate(693);
     let report = report_of(alloc, file.as_slice())?;
-    assert_eq!(rt; (report.data_at, report.data_size), (690, 3));
+    let data = (report.data_at, report.data_size);
+    same(&rt, "the data", &data, &(690, 3));
     Ok(())
 }
 
@@ -217,7 +218,8 @@ fn answers<R: Source + Drop>(
     mut reader: R,
     want: &[u8],
 ) -> Result<(), Fail> {
-    assert_eq!(rt; answer(rt, alloc, &mut reader)?.as_slice(), want);
+    let found = answer(rt, alloc, &mut reader)?;
+    assert!(rt; found.as_slice() == want, "another answer");
     Ok(())
 }
 

@@ -5,7 +5,6 @@ use crate::rows::MONO_TAKE;
 use bw_file::{GrowingFile, MemoryStore};
 use bw_layout::Limit;
 use bw_take::{Name, RequestRef, TakeState};
-use std::alloc::Global;
 use std::test::Fail;
 
 /// A tag, a value, and the place and the length of the field in the file (EBU Tech 3285).
@@ -26,23 +25,13 @@ static FIELDS: [(u8, &[u8], u64, usize); 12] = [
     (12, b"\x04\0", 426, 76),
 ];
 
-/// A file and its take behind their OPEN.
-fn opened(
-    alloc: Global,
-    store: &mut Recorder<MemoryStore>,
-) -> Result<(GrowingFile, TakeState), Fail> {
-    let name = Name::new(b"a1").ok_or("a name")?;
-    let mut file = GrowingFile::new(alloc, name, Limit::default())?;
-    let mut state = TakeState::new(alloc);
-    keep(&mut file, store, &mut state, &MONO_TAKE)?;
-    Ok((file, state))
-}
-
 #[test]
 fn a_field_is_written_whole_where_it_changes(rt: HostRuntime) -> Result<(), Fail> {
     let name = Name::new(b"a1").ok_or("a name")?;
+    let mut file = GrowingFile::new(rt.alloc(), name.copy(), Limit::default())?;
     let mut store = Recorder::new(rt.alloc(), MemoryStore::new(rt.alloc()));
-    let (mut file, mut state) = opened(rt.alloc(), &mut store)?;
+    let mut state = TakeState::new(rt.alloc());
+    keep(&mut file, &mut store, &mut state, &MONO_TAKE)?;
     let mut calls = vec![in rt.alloc(); Call::Create, Call::Write(0, 690)]?;
     for (tag, value, place, len) in &FIELDS {
         let request = RequestRef::SetField { tag: *tag, value };

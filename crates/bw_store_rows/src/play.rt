@@ -221,7 +221,7 @@ pub(crate) fn check(
     let store = play(rt, alloc, row, fuses)?;
     let calls = planned(alloc, row, fuses)?;
     assert!(rt; store.got(&name, &calls), "{}, {fuses:?}", row.what);
-    assert_eq!(rt; store.inner().calls(), calls.len() as u64);
+    assert!(rt; store.inner().calls() == calls.len() as u64);
     assert!(rt; has_file(alloc, &store, row)?, "{}, {fuses:?}", row.what);
     Ok(store)
 }

@@ -425,8 +425,8 @@ pub(crate) static TWO_FRAMES_CLOSED: Row = CLOSED;
 fn a_take_is_written_in_the_calls_that_its_requests_need(rt: HostRuntime) -> Result<(), Fail> {
     for row in SHORT.iter().chain(LONG.iter()) {
         let store = check(&rt, rt.alloc(), row, &[])?;
-        assert_eq!(rt; store.inner().calls(), row.calls, "{}", row.what);
-        assert_eq!(rt; store.inner().written(), row.written, "{}", row.what);
+        assert!(rt; store.inner().calls() == row.calls, "{}", row.what);
+        assert!(rt; store.inner().written() == row.written, "{}", row.what);
     }
     Ok(())
 }
