@@ -7,22 +7,17 @@ use crate::play::{
     Known, Row, Turn, a1, check, fused_server, has_file, knows, send, send_all, server_over,
 };
 use crate::takes::{
-    ALL_DONE, APPENDED, APPENDS, BLOCK, CLOSE, CLOSED, CLOSES, File, MONO, OPEN, OPENED, OPENS,
-    OTHER_BLOCK, TWO_DONE, TWO_FRAMES, VERSION_1,
+    ALL_DONE, APPENDED, APPENDS, BLOCK, CLOSE, CLOSED, CLOSES, DELAYS_BLOCK, DELAYS_OPEN,
+    FINDS_NAME_TAKEN, FINDS_NONE_OPEN, File, MONO, OPEN, OPENED, OPENS, OTHER_BLOCK, TWO_DONE,
+    TWO_FRAMES, VERSION_1,
 };
 use bw_file::{FuseStore, MemoryStore, TakeStore};
 use bw_session::Server;
-use bw_take::Verdict::{NameTaken, NotOpen, Stored};
+use bw_take::Verdict::Stored;
 use bw_wire::Notice::{Conflict, DelayedStore, Held, TooFar};
 use std::alloc::Global;
 use std::process::Abort;
 use std::test::Fail;
-
-/// BLOCK meets a fault.
-const DELAYED: Turn = Turn {
-    body: BLOCK,
-    told: &[Noticed(1, DelayedStore, 1)],
-};
 
 /// BLOCK is sent again, and CLOSE has waited for it.
 const CLOSES_BOTH: Turn = Turn {
@@ -41,7 +36,7 @@ static MENDED: [Row; 4] = [
     Row {
         what: "the same block behind a fault",
         fuses: &[3],
-        turns: &[OPENS, DELAYED, APPENDS, OTHER_BEHIND],
+        turns: &[OPENS, DELAYS_BLOCK, APPENDS, OTHER_BEHIND],
         known: TWO_DONE,
         file: TWO_FRAMES,
     },
@@ -50,7 +45,7 @@ static MENDED: [Row; 4] = [
         fuses: &[3],
         turns: &[
             OPENS,
-            DELAYED,
+            DELAYS_BLOCK,
             Turn {
                 body: OTHER_BLOCK,
                 told: &[APPENDED, Noticed(1, Conflict, 2)],
@@ -62,7 +57,7 @@ static MENDED: [Row; 4] = [
     Row {
         what: "a block behind two faults",
         fuses: &[2, 3],
-        turns: &[OPENS, DELAYED, DELAYED, APPENDS, OTHER_BEHIND],
+        turns: &[OPENS, DELAYS_BLOCK, DELAYS_BLOCK, APPENDS, OTHER_BEHIND],
         known: TWO_DONE,
         file: TWO_FRAMES,
     },
@@ -111,7 +106,7 @@ static MET_BY_OTHERS: [Row; 5] = [
         fuses: &[2, 3],
         turns: &[
             OPENS,
-            DELAYED,
+            DELAYS_BLOCK,
             OPENS,
             Turn {
                 body: OPEN,
@@ -126,7 +121,7 @@ static MET_BY_OTHERS: [Row; 5] = [
         fuses: &[2, 3],
         turns: &[
             OPENS,
-            DELAYED,
+            DELAYS_BLOCK,
             Turn {
                 body: CLOSE,
                 told: &[Noticed(2, DelayedStore, 1)],
@@ -141,7 +136,7 @@ static MET_BY_OTHERS: [Row; 5] = [
         fuses: &[2, 3],
         turns: &[
             OPENS,
-            DELAYED,
+            DELAYS_BLOCK,
             Turn {
                 body: OTHER_BLOCK,
                 told: &[Noticed(1, Conflict, 1)],
@@ -156,7 +151,7 @@ static MET_BY_OTHERS: [Row; 5] = [
         fuses: &[2, 3],
         turns: &[
             OPENS,
-            DELAYED,
+            DELAYS_BLOCK,
             Turn {
                 body: FAR_BLOCK,
                 told: &[Noticed(17, TooFar, 1)],
@@ -201,22 +196,6 @@ fn a_turn_that_meets_the_fault_of_another_number_answers_its_own(
     Ok(())
 }
 
-/// OPEN meets a fault, and finds the name taken.
-static FINDS_IT_TAKEN: [Turn; 3] = [
-    Turn {
-        body: OPEN,
-        told: &[Noticed(0, DelayedStore, 0)],
-    },
-    Turn {
-        body: OPEN,
-        told: &[Judged(0, NameTaken)],
-    },
-    Turn {
-        body: BLOCK,
-        told: &[Judged(1, NotOpen)],
-    },
-];
-
 /// What is known of a take that was never opened.
 const NEVER_OPENED: Known = Known {
     done: 2,
@@ -238,7 +217,8 @@ fn a_name_that_stood_is_found_taken_behind_a_fault(rt: HostRuntime) -> Result<()
     let of = "a name that stood";
     let name = a1()?;
     let mut server = server_over(rt.alloc(), store_with_name(rt.alloc())?)?;
-    send_all(&rt, of, &mut server, &FINDS_IT_TAKEN)?;
+    let turns = [DELAYS_OPEN, FINDS_NAME_TAKEN, FINDS_NONE_OPEN];
+    send_all(&rt, of, &mut server, &turns)?;
     same(&rt, of, &knows(&server, &name), &Some(NEVER_OPENED));
     let store = server.into_store();
     same(&rt, of, &store.calls(), &2);

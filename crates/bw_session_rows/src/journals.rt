@@ -6,14 +6,16 @@ use crate::compare::same;
 use crate::orders::BACKWARDS;
 use crate::play::Told::{Judged, Noticed};
 use crate::play::{Told, Turn, a1, has_file, knows, send, send_all};
-use crate::takes::{ALL_DONE, APPENDED, BLOCK, OPEN, OPENS, OTHER_BLOCK, TWO_FRAMES};
+use crate::takes::{
+    ALL_DONE, APPENDED, BLOCK, DELAYS_BLOCK, DELAYS_OPEN, OPENS, OTHER_BLOCK, TWO_FRAMES,
+};
 use bw_file::{MemoryStore, StoreFault, Tally};
 use bw_journal::{FuseJournal, Journal, MemoryJournal};
 use bw_layout::Limit;
 use bw_session::Server;
 use bw_take::Name;
 use bw_take::Verdict::{BadBlock, Stored};
-use bw_wire::Notice::{Conflict, DelayedStore};
+use bw_wire::Notice::Conflict;
 use std::alloc::Global;
 use std::test::Fail;
 
@@ -133,22 +135,13 @@ fn a_server_over_a_journal_in_memory_does_the_same(rt: HostRuntime) -> Result<()
     has_file(&rt, rt.alloc(), of, server.store(), &name, &TWO_FRAMES)
 }
 
-/// OPEN meets a fault of the journal.
-const DELAYS_OPEN: Turn = Turn {
-    body: OPEN,
-    told: &[Noticed(0, DelayedStore, 0)],
-};
-
 /// The journal's calls: its beginning fails, then the note of OPEN behind another beginning, then
 /// the note of BLOCK.
 static DELAYED: [Turn; 5] = [
     DELAYS_OPEN,
     DELAYS_OPEN,
     OPENS,
-    Turn {
-        body: BLOCK,
-        told: &[Noticed(1, DelayedStore, 1)],
-    },
+    DELAYS_BLOCK,
     Turn {
         body: OTHER_BLOCK,
         told: &[APPENDED, Noticed(1, Conflict, 2)],

@@ -3,13 +3,11 @@ use crate::compare::same;
 use crate::play::Told::{Judged, Noticed};
 use crate::play::{Known, Row, Turn, a1, check, has_file, knows, send_all, server_over};
 use crate::takes::{
-    ALL_DONE, APPENDED, APPENDS, BLOCK, CLOSE, CLOSED, CLOSES, EMPTY, OPEN, OPENED, OPENS,
-    OTHER_BLOCK, OTHER_CLOSE, TWO_DONE, TWO_FRAMES,
+    ALL_DONE, APPENDED, APPENDS, BLOCK, CLOSE, CLOSED, CLOSES, EMPTY, FINDS_NAME_TAKEN,
+    FINDS_NONE_OPEN, OPEN, OPENED, OPENS, OTHER_BLOCK, OTHER_CLOSE, TWO_DONE, TWO_FRAMES,
 };
 use bw_file::MemoryStore;
-use bw_take::Verdict::{
-    AlreadyOpen, BadBlock, BadFormat, Closed, NameTaken, NotOpen, Stored, WrongTotal,
-};
+use bw_take::Verdict::{AlreadyOpen, BadBlock, BadFormat, Closed, Stored, WrongTotal};
 use bw_wire::Notice::{Conflict, Held};
 use std::test::Fail;
 
@@ -231,18 +229,6 @@ fn a_server_over_memory_does_the_same(rt: HostRuntime) -> Result<(), Fail> {
     has_file(&rt, rt.alloc(), of, &store, &name, &TWO_FRAMES)
 }
 
-/// Under a name that stands nothing is opened.
-static FINDS_IT_TAKEN: [Turn; 2] = [
-    Turn {
-        body: OPEN,
-        told: &[Judged(0, NameTaken)],
-    },
-    Turn {
-        body: BLOCK,
-        told: &[Judged(1, NotOpen)],
-    },
-];
-
 #[test]
 fn a_name_that_stood_is_taken_and_its_bytes_stay(rt: HostRuntime) -> Result<(), Fail> {
     let of = "a name that stood";
@@ -250,7 +236,8 @@ fn a_name_that_stood_is_taken_and_its_bytes_stay(rt: HostRuntime) -> Result<(), 
     let mut store = MemoryStore::new(rt.alloc());
     store.plant(&name, b"old")?;
     let mut server = server_over(rt.alloc(), store)?;
-    send_all(&rt, of, &mut server, &FINDS_IT_TAKEN)?;
+    let turns = [FINDS_NAME_TAKEN, FINDS_NONE_OPEN];
+    send_all(&rt, of, &mut server, &turns)?;
     let found = server.store().content(&name);
     same(&rt, of, &found, &Some(b"old".as_slice()));
     Ok(())

@@ -1,7 +1,8 @@
 //! The messages of worked takes, byte by byte, and the files that they leave.
-use crate::play::Told::{self, Judged};
+use crate::play::Told::{self, Judged, Noticed};
 use crate::play::{Known, Turn};
-use bw_take::Verdict::Stored;
+use bw_take::Verdict::{NameTaken, NotOpen, Stored};
+use bw_wire::Notice::DelayedStore;
 use std::alloc::{AllocError, Global};
 
 /// OPEN `a1` with number 0: 48,000 Hz, one channel, 16 bits, no history.
@@ -40,6 +41,28 @@ pub(crate) const APPENDS: Turn = Turn {
 pub(crate) const CLOSES: Turn = Turn {
     body: CLOSE,
     told: &[CLOSED],
+};
+
+/// OPEN and BLOCK, each in a turn that meets a fault.
+pub(crate) const DELAYS_OPEN: Turn = Turn {
+    body: OPEN,
+    told: &[Noticed(0, DelayedStore, 0)],
+};
+
+pub(crate) const DELAYS_BLOCK: Turn = Turn {
+    body: BLOCK,
+    told: &[Noticed(1, DelayedStore, 1)],
+};
+
+/// OPEN and BLOCK under a name that stood in the store.
+pub(crate) const FINDS_NAME_TAKEN: Turn = Turn {
+    body: OPEN,
+    told: &[Judged(0, NameTaken)],
+};
+
+pub(crate) const FINDS_NONE_OPEN: Turn = Turn {
+    body: BLOCK,
+    told: &[Judged(1, NotOpen)],
 };
 
 /// What is known of the take once it is closed.
