@@ -36,6 +36,7 @@ alone_asks program listen folder address at full =
           ends = (None, refl, refl);
           limited = refl;
           waits = refl;
+          tells = refl;
         },
       );
     }
@@ -56,6 +57,7 @@ exchanges_asks program listen folder address count at full given =
           ends = (Some (number_written count), (given, refl), refl);
           limited = refl;
           waits = refl;
+          tells = refl;
         },
       );
     }
@@ -76,6 +78,7 @@ limit_asks program listen folder address limit at full given =
           ends = (None, refl, refl);
           limited = (given, refl);
           waits = refl;
+          tells = refl;
         },
       );
     }
@@ -96,6 +99,7 @@ timeout_asks program listen folder address seconds at full given =
           ends = (None, refl, refl);
           limited = refl;
           waits = (given, refl);
+          tells = refl;
         },
       );
     }
@@ -115,6 +119,7 @@ network_asks program listen folder address at full =
           ends = (None, refl, refl);
           limited = refl;
           waits = refl;
+          tells = refl;
         },
       );
     }
@@ -135,6 +140,27 @@ until_stopped_asks program listen folder address at full =
           ends = (None, refl, refl);
           limited = refl;
           waits = refl;
+          tells = refl;
+        },
+      );
+    }
+
+log_asks : (program listen folder : Text) (address : SocketAddr) → IsAddress false listen address → folder ≢ []
+    → AsksFor (as_read (serving program listen folder (codes "--log" ∷ [])))
+    (Serving (record (plain_server address folder) { log = true }))
+unfolding clap_on_literals
+log_asks program listen folder address at full =
+    record {
+      taken = refl;
+      asked = (
+        refl,
+        record {
+          listens = at;
+          keeps = (full, refl);
+          ends = (None, refl, refl);
+          limited = refl;
+          waits = refl;
+          tells = refl;
         },
       );
     }
@@ -156,6 +182,7 @@ apart_near program folder address at full = record {
       ends = (None, refl, refl);
       limited = refl;
       waits = refl;
+      tells = refl;
     },
   );
 }
@@ -275,4 +302,5 @@ runs_server words line is = record {
       asked_runs words _ line _ is e (timeout_apart p l f n _ given.0 (timeout_asks p l f a n at full given));
   network = λ p l f a at full e. asked_runs words _ line _ is e (network_asks p l f a at full);
   until_stopped = λ p l f a at full e. asked_runs words _ line _ is e (until_stopped_asks p l f a at full);
+  log = λ p l f a at full e. asked_runs words _ line _ is e (log_asks p l f a at full);
 }

@@ -63,12 +63,14 @@ one_server given a b x y =
     let stops = ends_once _ _ a.end b.end x.ends y.ends in
     let limited = one_limit _ a.limit b.limit x.limited y.limited in
     let waits = one_count _ _ a.timeout b.timeout x.waits y.waits in
+    let tells = x.tells ∙ sym y.tells in
     λ i. record {
       listen = listens i;
       folder = keeps i;
       end = stops i;
       limit = limited i;
       timeout = waits i;
+      log = tells i;
     }
 
 one_sender : (given : Text → Option Text) (a b : Sender) → GivesSender given a → GivesSender given b → a ≡ b

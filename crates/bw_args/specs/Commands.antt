@@ -68,6 +68,10 @@ exchanges_option = option (codes "exchanges")
 abbrev pub until_stopped_flag : Rule
 until_stopped_flag = flag (codes "until-stopped")
 
+-- `--log`
+abbrev pub log_flag : Rule
+log_flag = flag (codes "log")
+
 -- `serve` with the options that say what is served and where
 abbrev pub serve_where : App
 serve_where =
@@ -78,9 +82,9 @@ serve_where =
 abbrev pub serve_how : App
 serve_how = with_rule (with_rule (with_rule serve_where limit_option) timeout_option) network_flag
 
--- `serve`, with its seven options
+-- `serve`, with its eight options
 abbrev pub serve_command : App
-serve_command = with_rule serve_how until_stopped_flag
+serve_command = with_rule (with_rule serve_how until_stopped_flag) log_flag
 
 -- `--connect ADDR`
 abbrev pub connect_option : Rule

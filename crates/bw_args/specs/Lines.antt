@@ -139,6 +139,7 @@ pub record Service : Type 0 where
   pub end : End
   pub limit : ℕ
   pub timeout : Option ℕ
+  pub log : Bool
 
 -- what may be asked for: a replay with this limit, in which the call of this number fails, or none;
 -- a rehearsal of the take of this name, with this limit; to inspect the file of this path; a server
@@ -161,6 +162,7 @@ wish_of (Serve server) = Serving (record {
   end = server.end;
   limit = server.limit;
   timeout = server.timeout;
+  log = server.log;
 })
 wish_of (Send sender) = Sending sender
 
@@ -173,6 +175,7 @@ pub record GivesServer (given : Text → Option Text) (server : Service) : Type 
       GivesEnd (given (codes "exchanges")) (is_set (given (codes "until-stopped"))) server.end
   pub limited : GivesLimit (given (codes "limit")) server.limit
   pub waits : GivesCount most_seconds (given (codes "timeout")) server.timeout
+  pub tells : server.log ≡ is_set (given (codes "log"))
 
 -- what is given is this sender
 pub record GivesSender (given : Text → Option Text) (sender : Sender) : Type 0 where

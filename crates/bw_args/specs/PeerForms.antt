@@ -26,6 +26,7 @@ plain_server address folder = record {
   end = when.Exchanges 1;
   limit = default_limit;
   timeout = None;
+  log = false;
 }
 
 -- `serve --listen=ADDR --folder=DIR`, and what follows
@@ -82,6 +83,8 @@ pub record RunsServer (words : List Text) (line : CommandLine) : Type 0 where
   -- .. `--until-stopped`
   pub until_stopped : ForServer false words (codes "--until-stopped" ∷ [])
       (Serves line (λ s. record s { end = when.UntilStopped }))
+  -- .. `--log`
+  pub log : ForServer false words (codes "--log" ∷ []) (Serves line (λ s. record s { log = true }))
 
 -- the sender of which only address and name are said
 abbrev pub plain_sender : SocketAddr → Text → Sender

@@ -24,6 +24,8 @@ pub struct Serve {
     pub limit: u64,
     /// For how many seconds it waits for a peer, 1 to 86,400; for good, where there is none.
     pub timeout: Option<u32>,
+    /// Whether each connection is told in a line on standard error.
+    pub log: bool,
 }
 
 /// A sender as it is asked for.

@@ -22,6 +22,8 @@ enum Outcome {
     /// Serves at the address and in the folder that the rows' first words give: until this end, with
     /// this limit and timeout.
     Serves(End, u64, Option<u32>),
+    /// The same, and tells each connection.
+    Logs(End, u64, Option<u32>),
     /// Serves at another address or in another folder.
     ServesElsewhere,
     /// Sends to the address and under the name that the rows' first words give, in so many rounds at
@@ -70,10 +72,12 @@ fn run_outcome(task: &Task, words: &[&str]) -> Outcome {
 }
 
 fn server_outcome(server: &Serve) -> Outcome {
-    if server.listen.port() == 4100 && server.listen.is_ipv4() && server.folder.as_str() == "-d" {
-        Outcome::Serves(server.end, server.limit, server.timeout)
-    } else {
+    if server.listen.port() != 4100 || !server.listen.is_ipv4() || server.folder.as_str() != "-d" {
         Outcome::ServesElsewhere
+    } else if server.log {
+        Outcome::Logs(server.end, server.limit, server.timeout)
+    } else {
+        Outcome::Serves(server.end, server.limit, server.timeout)
     }
 }
 
@@ -257,7 +261,7 @@ fn a_limit_is_even_and_in_range(rt: HostRuntime) -> Result<(), Fail> {
     Ok(())
 }
 
-static OPTIONS: [(&[&str], Outcome); 20] = [
+static OPTIONS: [(&[&str], Outcome); 21] = [
     (&["--fuse", "0"], Outcome::Fuses(4_294_967_294, 0)),
     (&["--fuse=3"], Outcome::Fuses(4_294_967_294, 3)),
     (
@@ -287,6 +291,7 @@ static OPTIONS: [(&[&str], Outcome); 20] = [
     (&["--limit", "1", "--fuse", "1"], Outcome::Refuses),
     (&["--fus", "1"], Outcome::Refuses),
     (&["-f", "1"], Outcome::Refuses),
+    (&["--log"], Outcome::Refuses),
 ];
 
 #[test]
@@ -334,7 +339,7 @@ fn a_fuse_is_a_number(rt: HostRuntime) -> Result<(), Fail> {
     Ok(())
 }
 
-static SERVERS: [(&[&str], Outcome); 17] = [
+static SERVERS: [(&[&str], Outcome); 21] = [
     (&[], Outcome::Serves(End::Exchanges(1), MOST, None)),
     (
         &["--timeout=30", "--limit", "8192", "--exchanges=7"],
@@ -357,6 +362,13 @@ static SERVERS: [(&[&str], Outcome); 17] = [
     (&["--limit", "8191"], Outcome::Refuses),
     (&["--network", "--network"], Outcome::Refuses),
     (&["--network=true"], Outcome::Refuses),
+    (&["--log"], Outcome::Logs(End::Exchanges(1), MOST, None)),
+    (
+        &["--log", "--until-stopped", "--timeout=30", "--network"],
+        Outcome::Logs(End::UntilStopped, MOST, Some(30)),
+    ),
+    (&["--log", "--log"], Outcome::Refuses),
+    (&["--log=true"], Outcome::Refuses),
     (&["--fuse", "1"], Outcome::Refuses),
     (&["--folder", "e"], Outcome::Refuses),
     (&["--listen", "127.0.0.1:1"], Outcome::Refuses),
@@ -376,7 +388,7 @@ fn a_server_takes_its_options_in_any_order(rt: HostRuntime) -> Result<(), Fail> 
     Ok(())
 }
 
-static SENDERS: [(&[&str], Outcome); 9] = [
+static SENDERS: [(&[&str], Outcome); 10] = [
     (&[], Outcome::Sends(16, None)),
     (
         &["--timeout", "1", "--rounds=1000"],
@@ -392,6 +404,7 @@ static SENDERS: [(&[&str], Outcome); 9] = [
     (&["--limit", "8192"], Outcome::Refuses),
     (&["--name", "b"], Outcome::Refuses),
     (&["--until-stopped"], Outcome::Refuses),
+    (&["--log"], Outcome::Refuses),
 ];
 
 #[test]
@@ -455,7 +468,7 @@ fn an_address_is_local_without_leave_for_the_network(rt: HostRuntime) -> Result<
     Ok(())
 }
 
-static TEXTS: [(&[&str], &str); 9] = [
+static TEXTS: [(&[&str], &str); 10] = [
     (&["/tmp/x", "--version"], "bwingest 1.0.0\n"),
     (&["/tmp/x", "--help"], "Usage: bwingest <COMMAND>\n"),
     (&["/tmp/x"], "Usage: bwingest <COMMAND>\n"),
@@ -471,6 +484,10 @@ static TEXTS: [(&[&str], &str); 9] = [
     (
         &["/tmp/x", "serve", "--help"],
         "nothing on the wire is encrypted or signed",
+    ),
+    (
+        &["/tmp/x", "serve", "--help"],
+        "Tells each connection in a line on standard error\n",
     ),
     (
         &["/tmp/x", "send", "--help"],

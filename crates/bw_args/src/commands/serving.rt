@@ -2,7 +2,7 @@
 ghost use Rattle.std.specs.Prelude.{◌≡◌, false, codes, Some, IfOk, OnErr, option_map};
 ghost use Rattle.clap.specs.Words.{app_of, first_value, found_of, rows_of, rule_of};
 ghost use Rattle.clap.specs.declared.builder.Command.TheViews.{out-Command};
-ghost use Rattle.bw_args.specs.Commands.{exchanges_option, folder_option, listen_option};
+ghost use Rattle.bw_args.specs.Commands.{exchanges_option, folder_option, listen_option, log_flag};
 ghost use Rattle.bw_args.specs.Commands.{serve_command, serve_how, serve_where, until_stopped_flag};
 ghost use Rattle.bw_args.specs.Lines.{AsksForPath, IsEndGiven, IsFolderGiven, IsLineFor};
 
@@ -16,7 +16,9 @@ pub(crate) fn serve<'a>(alloc: Global) -> Result<Command<'a>, AllocError>
     ensures shape { IfOk result (λ c. app_of c ≡ serve_command) }
     ensures local { IfOk result (λ c. (out-Command c).has_globals ≡ false) }
 {
-    serve_how(alloc)?.arg(until_stopped_flag(alloc))
+    serve_how(alloc)?
+        .arg(until_stopped_flag(alloc))?
+        .arg(log_flag(alloc))
 }
 
 /// The command with these and the options that say how peers are treated.
@@ -86,6 +88,16 @@ fn until_stopped_flag<'a>(alloc: Global) -> Arg<'a>
         .help("Serves exchanges until the program is stopped, in place of --exchanges")
 }
 
+fn log_flag<'a>(alloc: Global) -> Arg<'a>
+    ensures rule { rule_of result ≡ log_flag }
+    ensures local { result.global ≡ false }
+{
+    Arg::new(alloc, "log")
+        .long("log")
+        .action(ArgAction::SetTrue)
+        .help("Tells each connection in a line on standard error")
+}
+
 /// Bad values are told in this order: the address, the folder, the exchanges, the limit, the
 /// timeout, and `--until-stopped` beside a number of exchanges.
 pub(crate) fn serve_line(alloc: Global, options: &ArgMatches<'_>) -> Result<CommandLine, AllocError>
@@ -112,6 +124,7 @@ pub(crate) fn serve_line(alloc: Global, options: &ArgMatches<'_>) -> Result<Comm
     let Some(end) = end_given(count, flag_given(options, "until-stopped")) else {
         return Ok(CommandLine::BadValue(BadValue::UntilStopped));
     };
+    let log = flag_given(options, "log");
     let folder = String::from_str(alloc, path)?;
     Ok(CommandLine::Run(Task::Serve(Serve {
         listen,
@@ -119,6 +132,7 @@ pub(crate) fn serve_line(alloc: Global, options: &ArgMatches<'_>) -> Result<Comm
         end,
         limit,
         timeout,
+        log,
     })))
 }
 

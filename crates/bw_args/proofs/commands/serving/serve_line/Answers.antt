@@ -106,6 +106,7 @@ returns-in_err-folder-clause-err c = on_err c.from_residual.result (inr (
     end = c.in-Some-end_given.end;
     limit = c.in-Some-limit_given.limit;
     timeout = c.in-Ok-count_given.timeout;
+    log = c.flag_given-log.result;
   },
   server_asked (found_of c.args.options.now) _ (record {
     listens = an_address (found_of c.args.options.now) (codes "listen") _ _
@@ -114,6 +115,7 @@ returns-in_err-folder-clause-err c = on_err c.from_residual.result (inr (
     ends = an_end (found_of c.args.options.now) _ _ _ c.flag_given.ensures c.in-Ok.ensures c.in-Some-end_given.ensures;
     limited = c.in-Some-limit_given.ensures;
     waits = c.in-Ok-count_given.ensures;
+    tells = c.flag_given-log.ensures;
   }),
 ))
 
@@ -125,4 +127,5 @@ returns-clause-ok c = server_asked (found_of c.args.options.now) _ (record {
   ends = an_end (found_of c.args.options.now) _ _ _ c.flag_given.ensures c.in-Ok.ensures c.in-Some-end_given.ensures;
   limited = c.in-Some-limit_given.ensures;
   waits = c.in-Ok-count_given.ensures;
+  tells = c.flag_given-log.ensures;
 })
