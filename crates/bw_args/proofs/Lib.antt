@@ -1,4 +1,5 @@
 pub mod AddressLemmas
+pub mod BuilderLemmas
 pub mod WishLemmas
 pub mod Asked
 pub mod LineLemmas

@@ -1,0 +1,18 @@
+use Rattle.bw_args.specs.Commands.{name_option}
+use Rattle.bw_args.proofs.BuilderLemmas.{HasRule, arg_help, arg_long, arg_required, arg_value_name}
+use Rattle.bw_args.proofs.commands.name_option.Goals as goal
+
+-- the option as the calls leave it
+made : (c : goal.After-help) → HasRule name_option c.help.result
+made c =
+    let new : HasRule _ c.new.result = (c.new.ensures.rule, c.new.ensures.optional.1) in
+    let long = arg_long c.new.result c.long.result _ _ new c.long.ensures in
+    let value_name = arg_value_name c.long.result c.value_name.result _ _ long c.value_name.ensures in
+    let required = arg_required c.value_name.result c.required.result _ value_name c.required.ensures in
+    arg_help c.required.result c.help.result _ _ required c.help.ensures
+
+pub returns-clause-rule : goal.returns-clause-rule
+returns-clause-rule c = (made c).0
+
+pub returns-clause-local : goal.returns-clause-local
+returns-clause-local c = (made c).1
