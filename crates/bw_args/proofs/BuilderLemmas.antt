@@ -4,8 +4,8 @@ use Rattle.std.proofs.Common.{◌≡◌, ◌∙◌, true, false, Some, List, ℕ
 use Rattle.std.specs.Borrow.{Bor}
 use Rattle.clap.specs.Walk.{Rule}
 use Rattle.clap.specs.Words.{app_of, rule_of}
-use Rattle.clap.specs.Simple.{App, app_of_fields, with_rule}
-use Rattle.clap.specs.Built.{AddsArg}
+use Rattle.clap.specs.Simple.{App, app_of_fields, shape_of, with_rule, with_subcommand}
+use Rattle.clap.specs.Built.{AddsArg, AddsSubcommand}
 use Rattle.clap.specs.declared.builder.texts.Texts.TheVariants.{One}
 use Rattle.clap.specs.declared.builder.arg.Arg.{Arg}
 use Rattle.clap.specs.declared.builder.action.ArgAction.TheVariants.{SetTrue}
@@ -66,3 +66,10 @@ command_arg a b option app rule is has adds = (
   adds.shape has.1 ∙ ap (λ c. with_rule c (rule_of option)) is.0 ∙ ap (with_rule app) has.0,
   adds.globals ∙ ap (λ g. g || option.global) is.1 ∙ has.1,
 )
+
+-- `Command::subcommand`
+pub command_subcommand : (a b sub : Command) (app under : App) → app_of a ≡ app → IsCommand under sub
+    → AddsSubcommand a sub b → app_of b ≡ with_subcommand app under.top
+command_subcommand a b sub app under is command adds =
+    adds.shape command.1 ∙ ap (λ c. with_subcommand c (shape_of sub)) is
+    ∙ ap (λ (u : App). with_subcommand app u.top) command.0
