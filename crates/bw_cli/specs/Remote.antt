@@ -30,6 +30,7 @@ pub record IsServing (server : Serve) (serving : Serving) : Type 0 where
   pub ends : serving.exchanges ≡ exchanges_of server.end
   pub limited : serving.limit ≡ server.limit
   pub waits : serving.timeout ≡ server.timeout
+  pub logs : serving.log ≡ server.log
 
 module _ {X Y P R W O E N D A B : Type 0} (S : StoreGhosts X) (J : JournalGhosts Y)
     (peers : PeerGhosts P R W) (reader : Reader R) (writer : Writer W) (out : Writer O)

@@ -33,6 +33,7 @@ pub(crate) fn serve_as<N: Network, W: Sink, E: Sink>(
         exchanges: exchanges(server.end),
         limit,
         timeout: server.timeout,
+        log: server.log,
     };
     serve(alloc, network, &serving, out, faults)
 }

@@ -3,7 +3,7 @@ ghost use Rattle.std.specs.Prelude.{◌≡◌, IfOk, None};
 
 use crate::folder::has_folder;
 use bw_stream::Plain;
-use bw_transfer::{AcceptFault, Dial, DialFault, Link, Peers};
+use bw_transfer::{AcceptFault, Dial, DialFault, Link, Peer, Peers};
 use std::fs::Files;
 use std::io;
 use std::io::{Read, Write};
@@ -133,26 +133,27 @@ impl<R: Net + Files> Peers for TcpPeers<'_, R, R::Listener> {
     ghost accepts = { λ p result p'. (p'.address ≡ p.address) × (p'.folder ≡ p.folder)
         × (p'.timeout ≡ p.timeout) };
 
-    fn accept(&mut self) -> Result<Link<Plain<R::Stream>, Plain<R::Stream>>, AcceptFault> {
-        let link = self.next_link();
-        if link.is_err() {
+    fn accept(&mut self) -> Result<Peer<Plain<R::Stream>, Plain<R::Stream>>, AcceptFault> {
+        let peer = self.next_peer();
+        if peer.is_err() {
             self.failures = self.failures.saturating_add(1);
         }
-        link
+        peer
     }
 }
 
 impl<R: Net + Files> TcpPeers<'_, R, R::Listener> {
-    /// The link to the next peer. A peer that comes when the folder is gone isn't heard: its
-    /// requests wait for another server.
-    fn next_link(&self) -> Result<Link<Plain<R::Stream>, Plain<R::Stream>>, AcceptFault> {
+    /// The next peer. One that comes when the folder is gone isn't heard: its requests wait for
+    /// another server.
+    fn next_peer(&self) -> Result<Peer<Plain<R::Stream>, Plain<R::Stream>>, AcceptFault> {
         let accepted = self.listener.accept();
         if !has_folder(self.rt, self.folder.as_str()) {
             return Err(AcceptFault::Closed);
         }
-        let Ok((stream, _address)) = accepted else {
+        let Ok((stream, address)) = accepted else {
             return Err(AcceptFault::Gone);
         };
-        link_over(stream, self.timeout).map_err(|_| AcceptFault::Gone)
+        let link = link_over(stream, self.timeout).map_err(|_| AcceptFault::Gone)?;
+        Ok(Peer { address, link })
     }
 }

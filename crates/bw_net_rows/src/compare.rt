@@ -1,5 +1,6 @@
 //! How a test compares.
 
+use bw_commands::Exit;
 use std::fmt::{Debug, Display};
 use std::process::Abort;
 
@@ -12,4 +13,12 @@ pub(crate) fn same<T: PartialEq + Debug, L: Display + Copy>(
     want: &T,
 ) {
     assert_eq!(rt; found, want, "of {of}");
+}
+
+/// What a command came to.
+#[derive(Drop)]
+pub(crate) struct Came {
+    pub(crate) exit: Exit,
+    pub(crate) out: Vec<u8>,
+    pub(crate) faults: Vec<u8>,
 }

@@ -10,7 +10,7 @@ use bw_sender::Sender;
 use bw_session::Server;
 use bw_stream::MemorySink;
 use bw_take::Verdict;
-use bw_transfer::{Dial, Peers, serve_run};
+use bw_transfer::{Dial, Peers, Tallied, serve_run};
 use std::fs;
 use std::test::Fail;
 
@@ -36,11 +36,13 @@ fn exchange(rt: &HostRuntime, sender: &mut Sender, port: u16) -> Result<(Exit, V
 fn serve_once<P: Peers>(rt: &HostRuntime, peers: &mut P) -> Result<(Exit, Vec<u8>), Fail> {
     let alloc = rt.alloc();
     let store = FolderStore::new(rt, alloc, "takes")?;
-    let Ok(mut server) = Server::new(alloc, store, Limit::default()) else {
+    let Ok(server) = Server::new(alloc, store, Limit::default()) else {
         return Err("memory")?;
     };
+    let mut server = Tallied::new(server);
     let mut out = MemorySink::new(Vec::new(alloc));
-    let exit = serve_run(alloc, &mut server, peers, 1, &mut out);
+    let mut faults = MemorySink::new(Vec::new(alloc));
+    let exit = serve_run(alloc, &mut server, peers, 1, false, &mut out, &mut faults);
     Ok((exit, out.into_bytes()))
 }
 

@@ -1,5 +1,5 @@
 //! What the command `serve` prints and tells before anyone comes.
-use crate::compare::same;
+use crate::compare::{Came, same};
 use crate::take::at;
 use bw_commands::Exit;
 use bw_layout::Limit;
@@ -10,14 +10,6 @@ use std::fs;
 use std::process::Abort;
 use std::test::Fail;
 
-/// What a command came to.
-#[derive(Drop)]
-struct Came {
-    exit: Exit,
-    out: Vec<u8>,
-    faults: Vec<u8>,
-}
-
 /// Serves no exchange at this port of this machine, over this folder.
 fn serve_none(rt: &HostRuntime, port: u16, folder: &str) -> Came {
     let mut network = TcpNetwork::new(rt);
@@ -27,6 +19,7 @@ fn serve_none(rt: &HostRuntime, port: u16, folder: &str) -> Came {
         exchanges: 0,
         limit: Limit::default(),
         timeout: None,
+        log: false,
     };
     let mut out = MemorySink::new(Vec::new(rt.alloc()));
     let mut faults = MemorySink::new(Vec::new(rt.alloc()));

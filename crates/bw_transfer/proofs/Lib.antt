@@ -3,5 +3,6 @@ pub mod RequestLemmas
 pub mod RefusedLines
 pub mod RoundSteps
 pub mod RunSteps
+pub mod TallyLemmas
 pub mod InOrder
 pub mod ToldLinks

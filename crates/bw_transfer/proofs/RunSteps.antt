@@ -1,5 +1,5 @@
 -- A run of exchanges, one by one.
-use Rattle.std.proofs.Common.{◌≡◌, ℕ, suc, ◌+◌, List, [], ◌∷◌, ◌++◌, length, refl, subst, arith}
+use Rattle.std.proofs.Common.{◌≡◌, ℕ, Bool, suc, ◌+◌, List, [], ◌∷◌, ◌++◌, length, refl, subst, arith}
 use Rattle.std.proofs.Common.{Some, None}
 use Rattle.std.proofs.lemmas.List.{length-append}
 use Rattle.bw_model.specs.Wire.{Frame}
@@ -21,53 +21,58 @@ not_done (Served Memory) e = absurd (cc)
 not_done Gone e = absurd (cc)
 not_done Closed e = absurd (cc)
 
-module _ {T P R W O : Type 0} (answers : T → Frame → List Reply → T → Type 0) (peers : PeerGhosts P R W)
-    (reader : Reader R) (writer : Writer W) (out : Writer O) where
+module _ {T P R W O E : Type 0} (answers : T → Frame → List Reply → T → Type 0) (peers : PeerGhosts P R W)
+    (reader : Reader R) (writer : Writer W) (out : Writer O) (told : Writer E) (log : Bool) where
   -- one peer more
-  each_more : (index : ℕ) (xs : List Outcome) (x : Outcome) (t m t' : T) (p q p' : P) (o n o' : O) →
-      ServesEach answers peers reader writer out index xs t m p q o n →
-      ServesNext answers peers reader writer out (index + length xs) x m t' q p' n o' → exit_now x ≡ None →
-      ServesEach answers peers reader writer out index (xs ++ x ∷ []) t t' p p' o o'
-  each_more index [] x t m t' p q p' o n o' each next goes = (
+  each_more : (index : ℕ) (xs : List Outcome) (x : Outcome) (t m t' : T) (p q p' : P) (o n o' : O) (e f e' : E) →
+      ServesEach answers peers reader writer out told log index xs t m p q o n e f →
+      ServesNext answers peers reader writer out told log (index + length xs) x m t' q p' n o' f e' →
+      exit_now x ≡ None →
+      ServesEach answers peers reader writer out told log index (xs ++ x ∷ []) t t' p p' o o' e e'
+  each_more index [] x t m t' p q p' o n o' e f e' each next goes = (
     t',
     p',
     o',
-    subst (λ (a : T). ServesNext answers peers reader writer out index x a t' p p' o o') each.0
-        (subst (λ (b : P). ServesNext answers peers reader writer out index x m t' b p' o o') each.1
-        (subst (λ (c : O). ServesNext answers peers reader writer out index x m t' q p' c o') each.2
-        (subst (λ (i : ℕ). ServesNext answers peers reader writer out i x m t' q p' n o') (omega (arith)) next))),
+    e',
+    subst (λ (a : T). ServesNext answers peers reader writer out told log index x a t' p p' o o' e e') each.0
+        (subst (λ (b : P). ServesNext answers peers reader writer out told log index x m t' b p' o o' e e') each.1
+        (subst (λ (c : O). ServesNext answers peers reader writer out told log index x m t' q p' c o' e e') each.2
+        (subst (λ (d : E). ServesNext answers peers reader writer out told log index x m t' q p' n o' d e') each.3
+        (subst (λ (i : ℕ). ServesNext answers peers reader writer out told log i x m t' q p' n o' f e')
+        (omega (arith)) next)))),
     goes,
-    (refl, refl, refl),
+    (refl, refl, refl, refl),
   )
-  each_more index (y ∷ ys) x t m t' p q p' o n o' each next goes =
-      let rest = each.5 in
-      let behind = subst (λ (i : ℕ). ServesNext answers peers reader writer out i x m t' q p' n o') (omega (arith)) next in (
+  each_more index (y ∷ ys) x t m t' p q p' o n o' e f e' each next goes =
+      let behind = subst (λ (i : ℕ). ServesNext answers peers reader writer out told log i x m t' q p' n o' f e')
+      (omega (arith)) next in (
         each.0,
         each.1,
         each.2,
         each.3,
         each.4,
-        each_more (suc index) ys x each.0 m t' each.1 q p' each.2 n o' rest behind goes,
+        each.5,
+        each_more (suc index) ys x each.0 m t' each.1 q p' each.2 n o' each.3 f e' each.6 behind goes,
       )
 
-  pub run_more : (count : ℕ) (x : Outcome) (t m t' : T) (p q p' : P) (o n o' : O) →
-      ServesAll answers peers reader writer out count t m p q o n →
-      ServesNext answers peers reader writer out count x m t' q p' n o' → exit_now x ≡ None →
-      ServesAll answers peers reader writer out (count + 1) t t' p p' o o'
-  run_more count x t m t' p q p' o n o' all next goes = record {
+  pub run_more : (count : ℕ) (x : Outcome) (t m t' : T) (p q p' : P) (o n o' : O) (e f e' : E) →
+      ServesAll answers peers reader writer out told log count t m p q o n e f →
+      ServesNext answers peers reader writer out told log count x m t' q p' n o' f e' → exit_now x ≡ None →
+      ServesAll answers peers reader writer out told log (count + 1) t t' p p' o o' e e'
+  run_more count x t m t' p q p' o n o' e f e' all next goes = record {
     outcomes = all.outcomes ++ x ∷ [];
     all = let n = length-append all.outcomes (x ∷ []) in let e = all.all in omega (arith, n, e);
-    each = each_more 0 all.outcomes x t m t' p q p' o n o' all.each
-        (subst (λ (i : ℕ). ServesNext answers peers reader writer out i x m t' q p' n o')
+    each = each_more 0 all.outcomes x t m t' p q p' o n o' e f e' all.each
+        (subst (λ (i : ℕ). ServesNext answers peers reader writer out told log i x m t' q p' n o' f e')
         (let e = all.all in omega (arith, e)) next) goes;
   }
 
   -- a run that ends before its last exchange
-  pub run_ends : (exchanges : ℕ) (exit : Exit) (t t' : T) (p p' : P) (o o' : O) (e : EndsEarly answers peers
-      reader writer out exchanges exit t t' p p' o o') → ServesRun answers peers reader writer out exchanges exit
-      t t' p p' o o'
-  run_ends exchanges Done t t' p p' o o' e = absurd (not_done e.last e.ends)
-  run_ends exchanges Refused t t' p p' o o' e = e
-  run_ends exchanges Usage t t' p p' o o' e = e
-  run_ends exchanges Device t t' p p' o o' e = e
-  run_ends exchanges Memory t t' p p' o o' e = e
+  pub run_ends : (exchanges : ℕ) (exit : Exit) (t t' : T) (p p' : P) (o o' : O) (e e' : E) →
+      EndsEarly answers peers reader writer out told log exchanges exit t t' p p' o o' e e' →
+      ServesRun answers peers reader writer out told log exchanges exit t t' p p' o o' e e'
+  run_ends exchanges Done t t' p p' o o' e e' ends = absurd (not_done ends.last ends.ends)
+  run_ends exchanges Refused t t' p p' o o' e e' ends = ends
+  run_ends exchanges Usage t t' p p' o o' e e' ends = ends
+  run_ends exchanges Device t t' p p' o o' e e' ends = ends
+  run_ends exchanges Memory t t' p p' o o' e e' ends = ends

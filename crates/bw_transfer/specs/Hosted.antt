@@ -79,9 +79,10 @@ module _ {X Y P R W O E : Type 0} (S : StoreGhosts X) (J : JournalGhosts Y)
     pub between : O
     pub listens : HasPrinted out (listening_line serving.address) o between
     pub ended : Exit
-    pub run : ServesRun (ServerTurn S J) peers reader writer out serving.exchanges ended
-        server behind p p' between o'
-    pub tells : TellsEnd told ended exit e e'
+    pub logged : E
+    pub run : ServesRun (ServerTurn S J) peers reader writer out told serving.log serving.exchanges
+        ended server behind p p' between o' e logged
+    pub tells : TellsEnd told ended exit logged e'
 
   -- memory was refused before the first line
   pub record WantsFirst (exit : Exit) (p p' : P) (o o' : O) (e e' : E) : Type 0 where

@@ -1,5 +1,7 @@
 pub mod Links
 pub mod ServedOne
+pub mod Tallies
+pub mod Tallied
 pub mod ServedAll
 pub mod Hosted
 pub mod RequestLines

@@ -1,5 +1,6 @@
 -- What serving exchanges one after another comes to.
-use Rattle.std.specs.Prelude.{◌≡◌, ℕ, suc, Option, Some, None, Ok, Err, List, [], ◌∷◌, length, ◌≤◌}
+use Rattle.std.specs.Prelude.{◌≡◌, ℕ, Bool, suc, Option, Some, None, Ok, Err, List, [], ◌∷◌, length}
+use Rattle.std.specs.Prelude.{◌≤◌}
 use Rattle.bw_model.specs.Wire.{Frame}
 use Rattle.bw_model.specs.Replies.{Reply}
 use Rattle.bw_stream.specs.Moves.{one_more}
@@ -7,10 +8,13 @@ use Rattle.bw_stream.specs.declared.sink.Sink.{Ghosts as Writer}
 use Rattle.bw_stream.specs.declared.source.Source.{Ghosts as Reader}
 use Rattle.bw_commands.specs.declared.exit.Exit.{Exit}
 use Rattle.bw_commands.specs.declared.exit.Exit.TheVariants.{Done, Device, Memory}
-use Rattle.bw_transfer.specs.ServedOne.{ServesOne}
-use Rattle.bw_transfer.specs.declared.dial.Link.{Link}
+use Rattle.bw_engine.specs.Answering.{frames_of}
+use Rattle.bw_engine.specs.declared.serving.ExchangeEnd.{ExchangeEnd}
+use Rattle.bw_transfer.specs.ServedOne.{ServesTo}
+use Rattle.bw_transfer.specs.Tallies.{Logs, count_of, link_line}
 use Rattle.bw_transfer.specs.declared.peers.AcceptFault.{AcceptFault}
 use Rattle.bw_transfer.specs.declared.peers.AcceptFault.TheVariants as accepting
+use Rattle.bw_transfer.specs.declared.peers.Peer.{Peer}
 use Rattle.bw_transfer.specs.declared.peers.Peers.{Ghosts as PeerGhosts}
 
 -- what came of the next peer: its exchange was served and ended so, it went away, or no more are
@@ -27,56 +31,72 @@ exit_now (Served exit) = None
 exit_now Gone = None
 exit_now Closed = Some Device
 
-module _ {T P R W O : Type 0} (answers : T → Frame → List Reply → T → Type 0)
-    (peers : PeerGhosts P R W) (reader : Reader R) (writer : Writer W) (out : Writer O) where
-  -- a peer was let in, and one exchange served over its link, with this number
-  pub record ServesLink (index : ℕ) (exit : Exit) (t t' : T) (p p' : P) (o o' : O) : Type 0 where
-    pub link : Link R W
-    pub accepted : peers.accepts p (Ok link) p'
-    pub counted : peers.failures p' ≡ peers.failures p
+module _ {T R W O E : Type 0} (answers : T → Frame → List Reply → T → Type 0) (reader : Reader R)
+    (writer : Writer W) (out : Writer O) (told : Writer E) (log : Bool) where
+  -- one exchange was served over a peer's link, and told of where that is asked for
+  pub record ServesPeer (index : ℕ) (exit : Exit) (peer : Peer R W) (t t' : T) (o o' : O)
+      (e e' : E) : Type 0 where
+    pub end : ExchangeEnd
     pub r' : R
     pub w' : W
-    pub served : ServesOne answers reader writer out index exit t t' link.reader r' link.writer w'
-        o o'
+    pub served : ServesTo answers reader writer out index end exit t t' peer.link.reader r'
+        peer.link.writer w' o o'
+    pub logs : Logs told log
+        (link_line peer.address end (count_of (frames_of served.serves.answered))) e e'
 
-  -- no peer was let in, for this reason: the server and what is printed are as they were
-  pub record ServesNone (fault : AcceptFault) (t t' : T) (p p' : P) (o o' : O) : Type 0 where
+module _ {T P R W O E : Type 0} (answers : T → Frame → List Reply → T → Type 0)
+    (peers : PeerGhosts P R W) (reader : Reader R) (writer : Writer W) (out : Writer O)
+    (told : Writer E) (log : Bool) where
+  -- a peer was let in, and its exchange served, with this number
+  pub record ServesLink (index : ℕ) (exit : Exit) (t t' : T) (p p' : P) (o o' : O) (e e' : E)
+      : Type 0 where
+    pub peer : Peer R W
+    pub accepted : peers.accepts p (Ok peer) p'
+    pub counted : peers.failures p' ≡ peers.failures p
+    pub served : ServesPeer answers reader writer out told log index exit peer t t' o o' e e'
+
+  -- no peer was let in, for this reason: the server and what is written are as they were
+  pub record ServesNone (fault : AcceptFault) (t t' : T) (p p' : P) (o o' : O) (e e' : E)
+      : Type 0 where
     pub refused : peers.accepts p (Err fault) p'
     pub counted : peers.failures p' ≡ one_more (peers.failures p)
     pub server : t' ≡ t
     pub printed : o' ≡ o
+    pub logged : e' ≡ e
 
   -- the next peer, by what came of it
-  abbrev pub ServesNext : ℕ → Outcome → T → T → P → P → O → O → Type 0
-  ServesNext index (Served exit) t t' p p' o o' = ServesLink index exit t t' p p' o o'
-  ServesNext index Gone t t' p p' o o' = ServesNone accepting.Gone t t' p p' o o'
-  ServesNext index Closed t t' p p' o o' = ServesNone accepting.Closed t t' p p' o o'
+  abbrev pub ServesNext : ℕ → Outcome → T → T → P → P → O → O → E → E → Type 0
+  ServesNext index (Served exit) t t' p p' o o' e e' = ServesLink index exit t t' p p' o o' e e'
+  ServesNext index Gone t t' p p' o o' e e' = ServesNone accepting.Gone t t' p p' o o' e e'
+  ServesNext index Closed t t' p p' o o' e e' = ServesNone accepting.Closed t t' p p' o o' e e'
 
   -- one peer behind another, the first with this number, and none but the last ends the run
-  abbrev pub ServesEach : ℕ → List Outcome → T → T → P → P → O → O → Type 0
-  ServesEach index [] t t' p p' o o' = (t' ≡ t) × (p' ≡ p) × (o' ≡ o)
-  ServesEach index (x ∷ xs) t t' p p' o o' = (m : T) × (q : P) × (n : O)
-      × ServesNext index x t m p q o n × (exit_now x ≡ None)
-      × ServesEach (suc index) xs m t' q p' n o'
+  abbrev pub ServesEach : ℕ → List Outcome → T → T → P → P → O → O → E → E → Type 0
+  ServesEach index [] t t' p p' o o' e e' = (t' ≡ t) × (p' ≡ p) × (o' ≡ o) × (e' ≡ e)
+  ServesEach index (x ∷ xs) t t' p p' o o' e e' = (m : T) × (q : P) × (n : O) × (f : E)
+      × ServesNext index x t m p q o n e f × (exit_now x ≡ None)
+      × ServesEach (suc index) xs m t' q p' n o' f e'
 
   -- A run of so many exchanges: these peers came, each but the last with nothing that ends the run.
   -- It is done behind the last exchange; before it the run ends as the last peer says.
-  pub record EndsEarly (exchanges : ℕ) (exit : Exit) (t t' : T) (p p' : P) (o o' : O) : Type 0 where
+  pub record EndsEarly (exchanges : ℕ) (exit : Exit) (t t' : T) (p p' : P) (o o' : O) (e e' : E)
+      : Type 0 where
     pub before : List Outcome
     pub few : suc (length before) ≤ exchanges
     pub m : T
     pub q : P
     pub n : O
-    pub each : ServesEach 0 before t m p q o n
+    pub f : E
+    pub each : ServesEach 0 before t m p q o n e f
     pub last : Outcome
-    pub next : ServesNext (length before) last m t' q p' n o'
+    pub next : ServesNext (length before) last m t' q p' n o' f e'
     pub ends : exit_now last ≡ Some exit
 
-  pub record ServesAll (exchanges : ℕ) (t t' : T) (p p' : P) (o o' : O) : Type 0 where
+  pub record ServesAll (exchanges : ℕ) (t t' : T) (p p' : P) (o o' : O) (e e' : E) : Type 0 where
     pub outcomes : List Outcome
     pub all : length outcomes ≡ exchanges
-    pub each : ServesEach 0 outcomes t t' p p' o o'
+    pub each : ServesEach 0 outcomes t t' p p' o o' e e'
 
-  abbrev pub ServesRun : ℕ → Exit → T → T → P → P → O → O → Type 0
-  ServesRun exchanges Done t t' p p' o o' = ServesAll exchanges t t' p p' o o'
-  ServesRun exchanges exit t t' p p' o o' = EndsEarly exchanges exit t t' p p' o o'
+  abbrev pub ServesRun : ℕ → Exit → T → T → P → P → O → O → E → E → Type 0
+  ServesRun exchanges Done t t' p p' o o' e e' = ServesAll exchanges t t' p p' o o' e e'
+  ServesRun exchanges exit t t' p p' o o' e e' = EndsEarly exchanges exit t t' p p' o o' e e'

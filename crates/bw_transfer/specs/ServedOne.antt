@@ -42,9 +42,8 @@ module _ {S R W O : Type 0} (answers : S → Frame → List Reply → S → Type
     (writer : Writer W) (out : Writer O) where
   -- An exchange was served to this end: what the server answered, what was read and what was
   -- written is that of such an exchange. Its line and no other was printed, and the call ends so.
-  pub record ServesOne (index : ℕ) (exit : Exit) (s s' : S) (r r' : R) (w w' : W) (o o' : O)
-      : Type 0 where
-    pub end : ExchangeEnd
+  pub record ServesTo (index : ℕ) (end : ExchangeEnd) (exit : Exit) (s s' : S) (r r' : R)
+      (w w' : W) (o o' : O) : Type 0 where
     pub serves : Serves answers end s s' (reader.left r) (reader.left r') (writer.written w)
         (writer.written w')
     pub reads : reader.failures r' ≡ reads_failed end (reader.failures r)
@@ -54,3 +53,8 @@ module _ {S R W O : Type 0} (answers : S → Frame → List Reply → S → Type
     pub line : IsOf (exchange_end_line index end) print
     pub printed : IsPrint out print o o'
     pub exit_is : exit ≡ exit_behind end print
+
+  -- to any end
+  abbrev pub ServesOne : ℕ → Exit → S → S → R → R → W → W → O → O → Type 0
+  ServesOne index exit s s' r r' w w' o o' =
+      (end : ExchangeEnd) × ServesTo index end exit s s' r r' w w' o o'

@@ -8,6 +8,7 @@ ghost use Rattle.bw_transfer.specs.Hosted.{listening_line};
 use crate::network::{Network, Serving};
 use crate::peers::Peers;
 use crate::running::serve_run;
+use crate::tally::Tallied;
 use bw_commands::print::{give_up, print, tell};
 use bw_commands::{Exit, Fault, tell_unopened};
 use bw_file::TakeStore;
@@ -24,7 +25,8 @@ const GONE: &str = "the folder is gone\n";
 /// Serves so many exchanges over a new server and the folder's store.
 ///
 /// What can't be used is a line on `faults` before anything is printed. Then `listening ADDRESS`
-/// and a line for each exchange are; where the first can't be, nothing is served. Why the system
+/// and a line for each exchange are; where the first can't be, nothing is served. Where a log is
+/// asked for, each link is a line on `faults`, as `serve_run` says. Why the system
 /// doesn't let a folder or an address be used, the contract doesn't say.
 pub fn serve<N: Network, O: Sink, E: Sink>(
     alloc: Global,
@@ -75,7 +77,7 @@ fn serve_over<S: TakeStore, P: Peers, O: Sink, E: Sink>(
     ensures { HostsOver S.TakeStore ⟦<NoJournal as Journal>⟧ P.Peers P.Reader.Source
         P.Writer.Sink O.Sink E.Sink serving.now result store peers.old peers.new out.old out.new faults.old faults.new }
 {
-    let Ok(mut server) = Server::new(alloc, store, serving.limit) else {
+    let Ok(server) = Server::new(alloc, store, serving.limit) else {
         return give_up(faults, &Fault::Memory);
     };
     let Ok(line) = format_listening(alloc, serving.address) else {
@@ -84,7 +86,9 @@ fn serve_over<S: TakeStore, P: Peers, O: Sink, E: Sink>(
     let Ok(()) = print(out, line.as_str().as_bytes()) else {
         return give_up(faults, &Fault::Unwritable);
     };
-    let exit = serve_run(alloc, &mut server, peers, serving.exchanges, out);
+    let mut server = Tallied::new(server);
+    let (exchanges, log) = (serving.exchanges, serving.log);
+    let exit = serve_run(alloc, &mut server, peers, exchanges, log, out, faults);
     tell_end(exit, faults)
 }
 

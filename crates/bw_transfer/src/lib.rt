@@ -13,12 +13,15 @@ mod rounds;
 mod running;
 mod sending;
 mod serving;
+mod tally;
+mod telling;
 mod text;
 
 pub use dial::{Dial, DialFault, Link};
 pub use hosting::serve;
 pub use network::{Network, Serving};
-pub use peers::{AcceptFault, Peers};
+pub use peers::{AcceptFault, Peer, Peers};
 pub use running::serve_run;
 pub use sending::send_run;
 pub use serving::serve_one;
+pub use tally::Tallied;

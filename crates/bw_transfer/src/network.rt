@@ -23,6 +23,8 @@ pub struct Serving<'a> {
     pub limit: Limit,
     /// For how many seconds it waits for a peer; for good, where there is none.
     pub timeout: Option<u32>,
+    /// Whether each link is told in a line.
+    pub log: bool,
 }
 
 /// Where a server stands and a recorder calls, and how often that failed.

@@ -1,11 +1,12 @@
 //! Where a server's exchanges come from: a link for each.
 ghost use Rattle.std.specs.Prelude.{◌≡◌, ℕ, Result};
 ghost use Rattle.bw_stream.specs.Moves.{failures_after};
-ghost use Rattle.bw_transfer.specs.declared.dial.Link.{Link};
+ghost use Rattle.bw_transfer.specs.declared.peers.Peer.{Peer};
 ghost use Rattle.bw_transfer.specs.declared.peers.AcceptFault.{AcceptFault};
 
 use crate::dial::Link;
 use bw_stream::{Sink, Source};
+use std::net::SocketAddr;
 use thiserror::Error;
 
 /// No link was made.
@@ -19,6 +20,14 @@ pub enum AcceptFault {
     Closed,
 }
 
+/// One who was let in.
+#[derive(Drop)]
+pub struct Peer<R, W> {
+    /// Where it calls from.
+    pub address: SocketAddr,
+    pub link: Link<R, W>,
+}
+
 /// What lets peers in, and how often it failed.
 pub trait Peers {
     type Reader: Source + Drop;
@@ -29,13 +38,13 @@ pub trait Peers {
 
     /// What a call may come to, and what it leaves. A run of exchanges is told in these words, so
     /// that each goes over the link of the peer that was let in for it.
-    ghost accepts: { Self → Result (Link Self.Reader Self.Writer) AcceptFault → Self → Type 0 };
+    ghost accepts: { Self → Result (Peer Self.Reader Self.Writer) AcceptFault → Self → Type 0 };
 
     /// Waits for the next peer, and makes a link to it.
     ///
     /// # Errors
     /// Why there is none.
-    fn accept(&mut self) -> Result<Link<Self::Reader, Self::Writer>, AcceptFault>
+    fn accept(&mut self) -> Result<Peer<Self::Reader, Self::Writer>, AcceptFault>
         ensures came { accepts self.old result self.new }
         ensures count { failures self.new ≡ failures_after result (failures self.old) };
 }

@@ -1,12 +1,15 @@
 //! The exchanges of the command `serve`, one after another.
-ghost use Rattle.std.specs.Prelude.{◌≡◌, ℕ};
-ghost use Rattle.bw_transfer.specs.ServedAll.{Outcome, Served, ServesNext, ServesRun, exit_now};
+ghost use Rattle.std.specs.Prelude.{◌≡◌};
+ghost use Rattle.bw_transfer.specs.ServedAll.{Outcome, Served, ServesNext, ServesPeer, ServesRun};
+ghost use Rattle.bw_transfer.specs.ServedAll.{exit_now};
 
-use crate::peers::{AcceptFault, Peers};
-use crate::serving::serve_one;
+use crate::peers::{AcceptFault, Peer, Peers};
+use crate::serving::serve_link;
+use crate::tally::Tallied;
+use crate::telling::tell_link;
 use bw_commands::Exit;
 use bw_engine::Turns;
-use bw_stream::Sink;
+use bw_stream::{Sink, Source};
 use std::alloc::Global;
 
 /// Serves so many exchanges, one after another, each over a link of its own, and tells how each
@@ -15,17 +18,24 @@ use std::alloc::Global;
 /// An exchange that breaks off, whose line can't be written or whose peer goes away before it is
 /// let in, is the end of that exchange alone, and counts. `Done` behind the last one; `Memory` where
 /// memory was refused to one; `Device` where no more peers are let in.
-pub fn serve_run<P: Peers, T: Turns, O: Sink>(
+///
+/// With `log` each link is a line on `faults` too: `peer ADDRESS end END messages N bytes N names`,
+/// and the first eight names of its messages, each behind a blank.
+pub fn serve_run<P: Peers, T: Turns, O: Sink, E: Sink>(
     alloc: Global,
-    server: &mut T,
+    server: &mut Tallied<T>,
     peers: &mut P,
     exchanges: u64,
+    log: bool,
     out: &mut O,
+    faults: &mut E,
 ) -> Exit
-    ensures { ServesRun T.answers P.Peers P.Reader.Source P.Writer.Sink O.Sink exchanges result server.old server.new peers.old peers.new out.old out.new }
+    ensures { ServesRun T.answers P.Peers P.Reader.Source P.Writer.Sink O.Sink E.Sink log exchanges
+        result server.old.server server.new.server peers.old peers.new out.old out.new faults.old
+        faults.new }
 {
     for index in 0..exchanges {
-        if let Some(exit) = serve_next(alloc, server, peers, index, out) {
+        if let Some(exit) = serve_next(alloc, server, peers, index, log, out, faults) {
             return exit;
         }
     }
@@ -33,23 +43,45 @@ pub fn serve_run<P: Peers, T: Turns, O: Sink>(
 }
 
 /// Serves the exchange of the next peer. How the run ends, where it ends behind it.
-fn serve_next<P: Peers, T: Turns, O: Sink>(
+fn serve_next<P: Peers, T: Turns, O: Sink, E: Sink>(
     alloc: Global,
-    server: &mut T,
+    server: &mut Tallied<T>,
     peers: &mut P,
     index: u64,
+    log: bool,
     out: &mut O,
+    faults: &mut E,
 ) -> Option<Exit>
     ensures { (outcome : Outcome) × (result ≡ exit_now outcome)
-        × ServesNext T.answers P.Peers P.Reader.Source P.Writer.Sink O.Sink index outcome
-        server.old server.new peers.old peers.new out.old out.new }
+        × ServesNext T.answers P.Peers P.Reader.Source P.Writer.Sink O.Sink E.Sink log index outcome
+        server.old.server server.new.server peers.old peers.new out.old out.new faults.old
+        faults.new }
 {
-    let mut link = match peers.accept() {
-        Ok(link) => link,
+    let peer = match peers.accept() {
+        Ok(peer) => peer,
         Err(AcceptFault::Gone) => return None,
         Err(AcceptFault::Closed) => return Some(Exit::Device),
     };
-    let exit = serve_one(
+    let exit = serve_peer(alloc, server, peer, index, log, out, faults);
+    end_behind(exit)
+}
+
+/// Serves the exchange of a peer, and tells of it where lines are asked for.
+fn serve_peer<R: Source + Drop, W: Sink + Drop, T: Turns, O: Sink, E: Sink>(
+    alloc: Global,
+    server: &mut Tallied<T>,
+    peer: Peer<R, W>,
+    index: u64,
+    log: bool,
+    out: &mut O,
+    faults: &mut E,
+) -> Exit
+    ensures { ServesPeer T.answers R.Source W.Sink O.Sink E.Sink log index result peer
+        server.old.server server.new.server out.old out.new faults.old faults.new }
+{
+    let Peer { address, mut link } = peer;
+    server.start();
+    let ended = serve_link(
         alloc,
         server,
         &mut link.reader,
@@ -57,7 +89,8 @@ fn serve_next<P: Peers, T: Turns, O: Sink>(
         index,
         out,
     );
-    end_behind(exit)
+    tell_link(alloc, log, address, ended.end, server.tally(), faults);
+    ended.exit
 }
 
 /// How the run ends behind an exchange that ended so, where it ends there: want of memory would end

@@ -1,6 +1,6 @@
 //! One exchange of the command `serve`, and its line.
 ghost use Rattle.std.specs.Prelude.{◌≡◌};
-ghost use Rattle.bw_transfer.specs.ServedOne.{ServesOne, exchange_end_line, exit_of_end};
+ghost use Rattle.bw_transfer.specs.ServedOne.{ServesOne, ServesTo, exchange_end_line, exit_of_end};
 ghost use Rattle.bw_transfer.specs.ServedOne.{exit_untold};
 
 use arrayvec::ArrayString;
@@ -27,11 +27,34 @@ pub fn serve_one<R: Source, W: Sink, T: Turns, O: Sink>(
     ensures { ServesOne T.answers R.Source W.Sink O.Sink index result server.old server.new
         reader.old reader.new writer.old writer.new out.old out.new }
 {
+    serve_link(alloc, server, reader, writer, index, out).exit
+}
+
+/// How an exchange ended, and how the call that served it ends.
+#[derive(Clone, Copy)]
+pub(crate) struct Ended {
+    pub(crate) end: ExchangeEnd,
+    pub(crate) exit: Exit,
+}
+
+/// Serves one exchange as `serve_one` does.
+pub(crate) fn serve_link<R: Source, W: Sink, T: Turns, O: Sink>(
+    alloc: Global,
+    server: &mut T,
+    reader: &mut R,
+    writer: &mut W,
+    index: u64,
+    out: &mut O,
+) -> Ended
+    ensures { ServesTo T.answers R.Source W.Sink O.Sink index result.end result.exit server.old
+        server.new reader.old reader.new writer.old writer.new out.old out.new }
+{
     let end = serve_exchange(alloc, server, reader, writer);
-    match print(out, end_line(index, end).as_str().as_bytes()) {
+    let exit = match print(out, end_line(index, end).as_str().as_bytes()) {
         Ok(()) => exit_told(end),
         Err(_failed) => exit_unwritten(end),
-    }
+    };
+    Ended { end, exit }
 }
 
 /// The line of an exchange that ended so.

@@ -15,6 +15,7 @@ returns g c =
       between = _;
       listens = rw line at c.in-Ok-print.ensures.ok;
       ended = c.serve_run-exit.result;
-      run = c.serve_run-exit.ensures;
+      logged = _;
+      run = rw c.new-server.ensures at c.serve_run-exit.ensures;
       tells = c.tell_end.ensures;
     })

@@ -1,10 +1,9 @@
 use Rattle.std.proofs.Common.{ap, inl, inr, ◌∙◌}
 use Rattle.bw_commands.specs.Printing.{Whole, Part}
-use Rattle.bw_transfer.proofs.serving.serve_one.Goals as goal
+use Rattle.bw_transfer.proofs.serving.serve_link.Goals as goal
 
 pub returns-in-Ok : goal.returns-in-Ok
 returns-in-Ok g c = record {
-  end = c.serve_exchange-end.result;
   serves = c.serve_exchange-end.ensures.served;
   reads = c.serve_exchange-end.ensures.reads;
   writes = c.serve_exchange-end.ensures.writes;
@@ -12,12 +11,11 @@ returns-in-Ok g c = record {
   print = Whole c.as_bytes.result.now;
   line = inl (ap Whole (c.as_bytes.ensures.value ∙ c.as_str.ensures.value ∙ c.end_line.ensures));
   printed = c.in-Ok.ensures.ok;
-  exit_is = c.exit_told.ensures;
+  exit_is = c.exit_told-exit.ensures;
 }
 
 pub returns-in-Err : goal.returns-in-Err
 returns-in-Err g c = record {
-  end = c.serve_exchange-end.result;
   serves = c.serve_exchange-end.ensures.served;
   reads = c.serve_exchange-end.ensures.reads;
   writes = c.serve_exchange-end.ensures.writes;
@@ -25,5 +23,5 @@ returns-in-Err g c = record {
   print = Part c.as_bytes.result.now;
   line = inr (ap Part (c.as_bytes.ensures.value ∙ c.as_str.ensures.value ∙ c.end_line.ensures));
   printed = c.in-Err.ensures.err;
-  exit_is = c.exit_unwritten.ensures;
+  exit_is = c.exit_unwritten-exit.ensures;
 }

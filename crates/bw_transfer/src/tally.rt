@@ -1,0 +1,167 @@
+//! A server that counts what it answers over one link.
+ghost use Rattle.std.specs.Prelude.{◌≡◌};
+ghost use Rattle.std.specs.List.{list_any};
+ghost use Rattle.std.specs.Str.{bytes_eq};
+ghost use Rattle.bw_model.specs.Wire.{Says};
+ghost use Rattle.bw_wire.specs.Frames.{message_of};
+ghost use Rattle.bw_transfer.specs.Tallies.{none_counted, with_frame};
+
+use arrayvec::ArrayVec;
+use bw_engine::Turns;
+use bw_take::Name;
+use bw_wire::{Ask, Message, Reply};
+use std::marker::Model;
+
+/// How many names a tally keeps.
+const NAMES: usize = 8;
+
+/// The bytes of a name, or of none: a tally has places that wait for one.
+#[derive(Drop)]
+pub(crate) struct KnownName {
+    bytes: ArrayVec<u8, 32>,
+}
+
+impl Model for KnownName {
+    ghost use Rattle.std.specs.Prelude.{◌≤◌, ℕ, List, length};
+
+    ghost Value = { List ℕ };
+
+    ghost view = { λ n. n.bytes.items };
+
+    ghost invariant = { λ n. length n.bytes.items ≤ 32 };
+
+    ghost inverse = { λ v. record { bytes = record { items = v } } };
+}
+
+impl Default for KnownName {
+    fn default() -> KnownName {
+        KnownName {
+            bytes: ArrayVec::new(),
+        }
+    }
+}
+
+impl KnownName {
+    fn of(name: &Name) -> KnownName
+        ensures { result ≡ name.now }
+    {
+        let mut bytes = ArrayVec::new();
+        let _ = bytes.try_extend_from_slice(name.as_bytes());
+        KnownName { bytes }
+    }
+
+    pub(crate) fn as_bytes(&self) -> &[u8]
+        ensures { result.now ≡ self.now }
+    {
+        self.bytes.as_slice()
+    }
+}
+
+/// The messages that came over a link: how many, the bytes of their bodies, and their first names,
+/// each once.
+#[derive(Drop)]
+pub(crate) struct Tally {
+    pub(crate) messages: u64,
+    pub(crate) bytes: u64,
+    pub(crate) names: ArrayVec<KnownName, NAMES>,
+}
+
+impl Model for Tally {
+    ghost use Rattle.bw_transfer.specs.Tallies.{Counted};
+
+    ghost Value = { Counted };
+
+    ghost view = { λ t. record { messages = t.messages; bytes = t.bytes; names = t.names.items } };
+
+    ghost inverse = { λ c. record {
+      messages = c.messages;
+      bytes = c.bytes;
+      names = record { items = c.names };
+    } };
+}
+
+impl Tally {
+    fn new() -> Tally
+        ensures { result ≡ none_counted }
+    {
+        Tally {
+            messages: 0,
+            bytes: 0,
+            names: ArrayVec::new(),
+        }
+    }
+
+    fn count(&mut self, message: &Message<'_>)
+        ensures { self.new ≡ with_frame self.old (Says (message_of message.now)) }
+    {
+        let name = message.name();
+        self.messages = self.messages.saturating_add(1);
+        self.bytes = self.bytes.saturating_add(message.body().len() as u64);
+        if !self.has_name(&name) {
+            let _full = self.names.try_push(KnownName::of(&name));
+        }
+    }
+
+    fn has_name(&self, name: &Name) -> bool
+        ensures { result ≡ list_any (λ n. bytes_eq n name.now) self.now.names }
+    {
+        let name = name.as_bytes();
+        self.names.iter().any(|known| known.as_bytes() == name)
+    }
+}
+
+/// A server that counts the messages of each link for itself.
+#[derive(Drop)]
+pub struct Tallied<T> {
+    server: T,
+    tally: Tally,
+}
+
+impl<T> Tallied<T> {
+    /// The server, which has counted nothing.
+    pub fn new(server: T) -> Tallied<T>
+        ensures { result.server ≡ server }
+    {
+        Tallied {
+            server,
+            tally: Tally::new(),
+        }
+    }
+
+    /// The server itself.
+    pub fn server(&self) -> &T
+        ensures { result.now ≡ self.now.server }
+    {
+        &self.server
+    }
+
+    /// What was counted since the last start.
+    pub(crate) fn tally(&self) -> &Tally
+        ensures { result.now ≡ self.now.tally }
+    {
+        &self.tally
+    }
+
+    /// Begins to count for another link.
+    pub(crate) fn start(&mut self)
+        ensures server { self.new.server ≡ self.old.server }
+        ensures tally { self.new.tally ≡ none_counted }
+    {
+        self.tally = Tally::new();
+    }
+}
+
+impl<T: Turns> Turns for Tallied<T> {
+    ghost use Rattle.bw_transfer.specs.Tallied.{AnswersCounted};
+
+    ghost answers = { AnswersCounted T.answers };
+
+    fn turn(&mut self, message: &Message<'_>, replies: &mut ArrayVec<Reply, 17>) {
+        self.tally.count(message);
+        self.server.turn(message, replies);
+    }
+
+    fn ask(&mut self, ask: &Ask<'_>) -> Reply {
+        self.server.ask(ask)
+    }
+}
