@@ -53,7 +53,7 @@ fn a_peer_that_says_nothing_ends_its_exchange_alone(rt: HostRuntime) -> Result<(
     assert!(&rt; came.out.as_slice() == line, "another line");
     let log = came.faults.as_slice();
     assert!(&rt; log.starts_with(b"peer 127.0.0.1:"), "another peer");
-    let counts = b" end ReadFault messages 0 bytes 0 names\n";
+    let counts = b" names end ReadFault messages 0 bytes 0\n";
     assert!(&rt; log.ends_with(counts), "other counts");
     Ok(())
 }

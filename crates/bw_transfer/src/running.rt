@@ -19,8 +19,8 @@ use std::alloc::Global;
 /// let in, is the end of that exchange alone, and counts. `Done` behind the last one; `Memory` where
 /// memory was refused to one; `Device` where no more peers are let in.
 ///
-/// With `log` each link is a line on `faults` too: `peer ADDRESS end END messages N bytes N names`,
-/// and the first eight names of its messages, each behind a blank.
+/// With `log` each link is a line on `faults` too: `peer ADDRESS names NAME.. end END messages N
+/// bytes N`, with the first eight names of its messages.
 pub fn serve_run<P: Peers, T: Turns, O: Sink, E: Sink>(
     alloc: Global,
     server: &mut Tallied<T>,
