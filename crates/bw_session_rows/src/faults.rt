@@ -4,7 +4,7 @@
 use crate::compare::same;
 use crate::play::Told::{Judged, Noticed};
 use crate::play::{
-    Known, Row, Turn, a1, check, fused_server, has_file, knows, send, send_all, server_over,
+    Known, Row, Told, Turn, a1, check, fused_server, keeps_file, knows, send, send_all, server_over,
 };
 use crate::takes::{
     ALL_DONE, APPENDED, APPENDS, BLOCK, CLOSE, CLOSED, CLOSES, DELAYS_BLOCK, DELAYS_OPEN,
@@ -209,7 +209,7 @@ const NEVER_OPENED: Known = Known {
 fn store_with_name(alloc: Global) -> Result<FuseStore<MemoryStore>, Fail> {
     let mut inner = MemoryStore::new(alloc);
     inner.plant(&a1()?, b"old")?;
-    Ok(FuseStore::new(inner, vec![in alloc; 0]?))
+    Ok(FuseStore::new(inner, [0u64].to_vec(alloc)?))
 }
 
 #[test]
@@ -256,6 +256,43 @@ static MARKED_FILE: File = File {
 /// the form size and the data size; the description; the markers, the form size and `finish`.
 static CALLERS: [u32; 9] = [0, 0, 1, 1, 1, 2, 4, 4, 4];
 
+/// Sends a message. The one before it is done in the same turn, where it waits behind a fault.
+fn send_behind<S: TakeStore>(
+    rt: &impl Abort,
+    server: &mut Server<S>,
+    body: &[u8],
+    before: Option<u32>,
+    own: Told,
+) -> Result<(), Fail> {
+    let of = "a marked take";
+    match before {
+        Some(number) => send(rt, of, server, body, &[Judged(number, Stored), own]),
+        None => send(rt, of, server, body, &[own]),
+    }
+}
+
+/// Sends the take, of which one number meets a fault, where one is given; another may wait behind a
+/// fault already. Which one waits then.
+fn send_take<S: TakeStore>(
+    rt: &impl Abort,
+    server: &mut Server<S>,
+    failing: Option<u32>,
+    waiting: Option<u32>,
+) -> Result<Option<u32>, Fail> {
+    let mut before = waiting;
+    for (number, body) in &MARKED {
+        if failing == Some(*number) {
+            let delayed = Noticed(*number, DelayedStore, *number);
+            send_behind(rt, server, body, before, delayed)?;
+            before = failing;
+        } else {
+            send_behind(rt, server, body, before, Judged(*number, Stored))?;
+            before = None;
+        }
+    }
+    Ok(before)
+}
+
 /// Sends the take twice: the message of one number meets a fault once, where one is given, and is
 /// done in the turn of the next.
 fn send_twice<S: TakeStore>(
@@ -263,22 +300,8 @@ fn send_twice<S: TakeStore>(
     server: &mut Server<S>,
     failing: Option<u32>,
 ) -> Result<(), Fail> {
-    let of = "a marked take";
-    let mut failing = failing;
-    let mut waiting = None;
-    for (number, body) in MARKED.iter().chain(MARKED.iter()) {
-        let own = Judged(*number, Stored);
-        if failing == Some(*number) {
-            failing = None;
-            waiting = Some(*number);
-            let told = Noticed(*number, DelayedStore, *number);
-            send(rt, of, server, body, &[told])?;
-        } else if let Some(before) = waiting.take() {
-            send(rt, of, server, body, &[Judged(before, Stored), own])?;
-        } else {
-            send(rt, of, server, body, &[own])?;
-        }
-    }
+    let waiting = send_take(rt, server, failing, None)?;
+    send_take(rt, server, None, waiting)?;
     Ok(())
 }
 
@@ -290,9 +313,9 @@ fn a_fault_at_any_call_is_told_once_and_mended(rt: HostRuntime) -> Result<(), Fa
         let mut server = fused_server(rt.alloc(), &[fuse])?;
         let failing = CALLERS.get(fuse as usize).copied();
         send_twice(&rt, &mut server, failing)?;
-        let store = server.store();
-        same(&rt, fuse, &store.has_blown(), &failing.is_some());
-        has_file(&rt, rt.alloc(), of, store.inner(), &name, &MARKED_FILE)?;
+        let has_blown = server.store().has_blown();
+        same(&rt, fuse, &has_blown, &failing.is_some());
+        keeps_file(&rt, rt.alloc(), of, &server, &name, &MARKED_FILE)?;
     }
     Ok(())
 }

@@ -7,6 +7,8 @@ mod asks;
 #[cfg(test)]
 mod compare;
 #[cfg(test)]
+mod entries;
+#[cfg(test)]
 mod faults;
 #[cfg(test)]
 mod growths;

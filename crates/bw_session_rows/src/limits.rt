@@ -1,9 +1,10 @@
 //! A server's limit, from which on its files are BW64.
 use crate::compare::same;
 use crate::play::Told::Judged;
-use crate::play::{Known, Turn, a1, has_file, knows, send, send_all};
+use crate::play::{Known, Turn, a1, has_file, knows, send, send_all, server_with};
 use crate::takes::{APPENDED, File, MONO, OPENS, VERSION_1};
 use bw_file::MemoryStore;
+use bw_journal::NoJournal;
 use bw_layout::Limit;
 use bw_session::Server;
 use bw_take::Verdict::Stored;
@@ -63,10 +64,7 @@ const OF: &str = "a limit of 8,192 bytes";
 /// A server of that limit.
 fn limited(alloc: Global) -> Result<Server<MemoryStore>, Fail> {
     let limit = Limit::new(8192).ok_or("a limit")?;
-    match Server::new(alloc, MemoryStore::new(alloc), limit) {
-        Ok(server) => Ok(server),
-        Err(_refused) => Err("memory")?,
-    }
+    server_with(alloc, MemoryStore::new(alloc), NoJournal, limit)
 }
 
 /// Sends the take up to its marker.

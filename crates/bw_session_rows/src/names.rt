@@ -2,7 +2,9 @@
 use crate::asks::{ASK, ask};
 use crate::compare::same;
 use crate::play::Told::Noticed;
-use crate::play::{Turn, a1, fused_server, has_file, knows, send, send_all, server_over};
+use crate::play::{
+    Turn, a1, fused_server, has_file, keeps_file, knows, send, send_all, server_over,
+};
 use crate::takes::{APPENDED, APPENDS, BLOCK, EMPTY, OPEN, OPENED, OPENS, TWO_DONE, TWO_FRAMES};
 use bw_file::MemoryStore;
 use bw_session::Server;
@@ -12,9 +14,11 @@ use std::alloc::Global;
 use std::process::Abort;
 use std::test::Fail;
 
-/// The letters of a name of its own for each number: `aa` to `pp`.
+/// The letters of a name of its own for each number: `aa` to `pp`. No sum comes near 255, which
+/// `saturating_add` saves proving.
 fn letters(place: u8) -> [u8; 2] {
-    [b'a' + place / 16, b'a' + place % 16]
+    let first = b'a'.saturating_add(place / 16);
+    [first, b'a'.saturating_add(place % 16)]
 }
 
 /// The body of another name's message, with a name of two letters in its place.
@@ -88,16 +92,17 @@ const OPENS_OTHER: Turn = Turn {
     told: &[OPENED],
 };
 
+/// The store's third call fails.
+const TWO_NAMES: [Turn; 3] = [OPENS, DELAYS_OTHER, APPENDS];
+
 #[test]
 fn a_fault_under_one_name_leaves_another_alone(rt: HostRuntime) -> Result<(), Fail> {
     let of = "two names";
     let b2 = Name::new(b"b2").ok_or("a name")?;
     let mut server = fused_server(rt.alloc(), &[2])?;
-    send_all(&rt, of, &mut server, &[OPENS, DELAYS_OTHER, APPENDS])?;
+    send_all(&rt, of, &mut server, &TWO_NAMES)?;
     same(&rt, of, &server.done(&b2), &Some(0));
-    let store = server.store().inner();
-    has_file(&rt, rt.alloc(), of, store, &a1()?, &TWO_FRAMES)?;
+    keeps_file(&rt, rt.alloc(), of, &server, &a1()?, &TWO_FRAMES)?;
     send_all(&rt, of, &mut server, &[OPENS_OTHER])?;
-    let store = server.store().inner();
-    has_file(&rt, rt.alloc(), of, store, &b2, &EMPTY)
+    keeps_file(&rt, rt.alloc(), of, &server, &b2, &EMPTY)
 }

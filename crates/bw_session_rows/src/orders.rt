@@ -31,6 +31,8 @@ const BLOCK_WAITS: Turn = Turn {
     told: &[Noticed(1, Held, 0)],
 };
 
+const WAIT: [Turn; 2] = [CLOSE_WAITS, BLOCK_WAITS];
+
 /// OPEN, behind which both wait.
 const OPENS_FOR_ALL: Turn = Turn {
     body: OPEN,
@@ -214,15 +216,23 @@ fn a_request_that_is_not_stored_uses_its_number(rt: HostRuntime) -> Result<(), F
 }
 
 #[test]
-fn a_server_over_memory_does_the_same(rt: HostRuntime) -> Result<(), Fail> {
+fn what_waits_is_known_over_memory_too(rt: HostRuntime) -> Result<(), Fail> {
     let of = "a store in memory";
     let name = a1()?;
     let mut server = server_over(rt.alloc(), MemoryStore::new(rt.alloc()))?;
     same(&rt, of, &knows(&server, &name), &None);
     same(&rt, of, &server.is_closed(&name), &false);
-    send_all(&rt, of, &mut server, &[CLOSE_WAITS, BLOCK_WAITS])?;
+    send_all(&rt, of, &mut server, &WAIT)?;
     same(&rt, of, &knows(&server, &name), &Some(TWO_HELD));
-    send_all(&rt, of, &mut server, &[OPENS_FOR_ALL])?;
+    Ok(())
+}
+
+#[test]
+fn a_server_over_memory_does_the_same(rt: HostRuntime) -> Result<(), Fail> {
+    let of = "a store in memory";
+    let name = a1()?;
+    let mut server = server_over(rt.alloc(), MemoryStore::new(rt.alloc()))?;
+    send_all(&rt, of, &mut server, BACKWARDS.turns)?;
     same(&rt, of, &knows(&server, &name), &Some(ALL_DONE));
     has_file(&rt, rt.alloc(), of, server.store(), &name, &TWO_FRAMES)?;
     let store = server.into_store();

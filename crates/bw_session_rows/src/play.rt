@@ -4,7 +4,7 @@ use crate::compare::same;
 use crate::takes::File;
 use arrayvec::ArrayVec;
 use bw_file::{FuseStore, MemoryStore, TakeStore};
-use bw_journal::Journal;
+use bw_journal::{Journal, NoJournal};
 use bw_layout::Limit;
 use bw_session::Server;
 use bw_take::{Name, Verdict};
@@ -55,12 +55,23 @@ pub(crate) fn a1() -> Result<Name, Fail> {
     Ok(Name::new(b"a1").ok_or("a name")?)
 }
 
-/// A new server over a store.
-pub(crate) fn server_over<S: TakeStore>(alloc: Global, store: S) -> Result<Server<S>, Fail> {
-    match Server::new(alloc, store, Limit::default()) {
+/// A new server over a store and a journal. All tests but the one of refused growths make theirs
+/// here, since each `match` on what the call gives back takes long to prove.
+pub(crate) fn server_with<S: TakeStore, J: Journal>(
+    alloc: Global,
+    store: S,
+    journal: J,
+    limit: Limit,
+) -> Result<Server<S, J>, Fail> {
+    match Server::with_journal(alloc, store, journal, limit) {
         Ok(server) => Ok(server),
         Err(_refused) => Err("memory")?,
     }
+}
+
+/// A new server over a store.
+pub(crate) fn server_over<S: TakeStore>(alloc: Global, store: S) -> Result<Server<S>, Fail> {
+    server_with(alloc, store, NoJournal, Limit::default())
 }
 
 /// A new server over a store in memory whose calls of these numbers fail.
@@ -158,12 +169,23 @@ pub(crate) fn has_file(
     Ok(())
 }
 
+/// Ends the test where the store behind a server's fuses doesn't hold a file under a name.
+pub(crate) fn keeps_file(
+    rt: &impl Abort,
+    alloc: Global,
+    of: &str,
+    server: &Server<FuseStore<MemoryStore>>,
+    name: &Name,
+    file: &File,
+) -> Result<(), Fail> {
+    has_file(rt, alloc, of, server.store().inner(), name, file)
+}
+
 /// Plays a row on a new server: its senders are told what it says, and it leaves its file.
 pub(crate) fn check(rt: &impl Abort, alloc: Global, row: &Row) -> Result<(), Fail> {
     let name = a1()?;
     let mut server = fused_server(alloc, row.fuses)?;
     send_all(rt, row.what, &mut server, row.turns)?;
     same(rt, row.what, &knows(&server, &name), &Some(row.known));
-    let store = server.store().inner();
-    has_file(rt, alloc, row.what, store, &name, &row.file)
+    keeps_file(rt, alloc, row.what, &server, &name, &row.file)
 }

@@ -1,12 +1,12 @@
 //! The window: sixteen numbers from the first without a verdict on.
 use crate::compare::same;
 use crate::play::Told::{Judged, Noticed};
-use crate::play::{Known, Told, a1, fused_server, knows, send};
-use crate::takes::OPEN;
+use crate::play::{Known, Told, Turn, a1, fused_server, knows, send, send_all};
+use crate::takes::{DELAYS_OPEN, OPEN};
 use bw_file::TakeStore;
 use bw_session::Server;
 use bw_take::Verdict::Stored;
-use bw_wire::Notice::{DelayedStore, Held, TooFar};
+use bw_wire::Notice::{Held, TooFar};
 use std::process::Abort;
 use std::test::Fail;
 
@@ -17,17 +17,8 @@ fn block(number: u8) -> [u8; 12] {
     body
 }
 
-/// Sends the BLOCKs 1 to 15, which wait for OPEN.
-fn fill<S: TakeStore>(rt: &impl Abort, server: &mut Server<S>) -> Result<(), Fail> {
-    for number in 1..16u8 {
-        let told = [Noticed(number as u32, Held, 0)];
-        send(rt, "a block that waits", server, &block(number), &told)?;
-    }
-    Ok(())
-}
-
 /// The verdicts of the numbers 0 to 15, and what the sender of number 16 is told with them.
-static ALL: [Told; 17] = [
+const ALL: [Told; 17] = [
     Judged(0, Stored),
     Judged(1, Stored),
     Judged(2, Stored),
@@ -47,8 +38,58 @@ static ALL: [Told; 17] = [
     Noticed(16, TooFar, 16),
 ];
 
-/// A BLOCK under the greatest number that there is.
+/// The BLOCKs 15 to 17, and one under the greatest number that there is.
+const BLOCK_15: &[u8] = b"\x02\x02a1\x0f\0\0\0\x01\0\x02\0";
+
+const BLOCK_16: &[u8] = b"\x02\x02a1\x10\0\0\0\x01\0\x02\0";
+
+const BLOCK_17: &[u8] = b"\x02\x02a1\x11\0\0\0\x01\0\x02\0";
+
 const LAST: &[u8] = b"\x02\x02a1\xff\xff\xff\0\x01\0\x02\0";
+
+/// The first is too far while OPEN is missing.
+const TOO_FAR: Turn = Turn {
+    body: BLOCK_16,
+    told: &[Noticed(16, TooFar, 0)],
+};
+
+/// The last one too.
+const FAR_OFF: [Turn; 2] = [
+    TOO_FAR,
+    Turn {
+        body: LAST,
+        told: &[Noticed(16_777_215, TooFar, 0)],
+    },
+];
+
+/// Number 15 isn't.
+const WAITS: Turn = Turn {
+    body: BLOCK_15,
+    told: &[Noticed(15, Held, 0)],
+};
+
+/// Once the numbers 0 to 15 are done, 17 waits for 16.
+const GO_ON: [Turn; 2] = [
+    Turn {
+        body: BLOCK_17,
+        told: &[Noticed(17, Held, 16)],
+    },
+    Turn {
+        body: BLOCK_16,
+        told: &[Judged(16, Stored), Judged(17, Stored)],
+    },
+];
+
+/// A turn of number 16 in which the full window is done, and the next turn of it.
+const DRAINS: Turn = Turn {
+    body: BLOCK_16,
+    told: &ALL,
+};
+
+const GOES_ON: Turn = Turn {
+    body: BLOCK_16,
+    told: &[Judged(16, Stored)],
+};
 
 /// What is known while OPEN is missing.
 const FULL: Known = Known {
@@ -68,20 +109,28 @@ const DRAINED: Known = Known {
     kept_bytes: 528,
 };
 
+/// Sends the BLOCKs 1 to 15, which wait for OPEN.
+fn fill<S: TakeStore>(rt: &impl Abort, server: &mut Server<S>) -> Result<(), Fail> {
+    let of = "a block that waits";
+    for number in 1..16u8 {
+        let told = [Noticed(number as u32, Held, 0)];
+        send(rt, of, server, &block(number), &told)?;
+    }
+    same(rt, of, &knows(server, &a1()?), &Some(FULL));
+    Ok(())
+}
+
 #[test]
 fn sixteen_numbers_wait_and_are_done_in_one_turn(rt: HostRuntime) -> Result<(), Fail> {
     let of = "a full window";
     let name = a1()?;
     let mut server = fused_server(rt.alloc(), &[])?;
     fill(&rt, &mut server)?;
-    same(&rt, of, &knows(&server, &name), &Some(FULL));
-    send(&rt, of, &mut server, &block(16), &[Noticed(16, TooFar, 0)])?;
+    send_all(&rt, of, &mut server, &[TOO_FAR])?;
     same(&rt, of, &knows(&server, &name), &Some(FULL));
     send(&rt, of, &mut server, OPEN, &ALL[..16])?;
     same(&rt, of, &knows(&server, &name), &Some(DRAINED));
-    send(&rt, of, &mut server, &block(17), &[Noticed(17, Held, 16)])?;
-    let told = [Judged(16, Stored), Judged(17, Stored)];
-    send(&rt, of, &mut server, &block(16), &told)
+    send_all(&rt, of, &mut server, &GO_ON)
 }
 
 #[test]
@@ -92,11 +141,11 @@ fn a_message_too_far_has_a_full_window_done_and_seventeen_replies(
     let name = a1()?;
     let mut server = fused_server(rt.alloc(), &[0])?;
     fill(&rt, &mut server)?;
-    send(&rt, of, &mut server, OPEN, &[Noticed(0, DelayedStore, 0)])?;
+    send_all(&rt, of, &mut server, &[DELAYS_OPEN])?;
     same(&rt, of, &server.held(&name), &Some(16));
-    send(&rt, of, &mut server, &block(16), &ALL)?;
+    send_all(&rt, of, &mut server, &[DRAINS])?;
     same(&rt, of, &knows(&server, &name), &Some(DRAINED));
-    send(&rt, of, &mut server, &block(16), &[Judged(16, Stored)])
+    send_all(&rt, of, &mut server, &[GOES_ON])
 }
 
 #[test]
@@ -104,16 +153,9 @@ fn a_new_name_has_a_window_too(rt: HostRuntime) -> Result<(), Fail> {
     let of = "a new name";
     let name = a1()?;
     let mut server = fused_server(rt.alloc(), &[])?;
-    send(&rt, of, &mut server, &block(16), &[Noticed(16, TooFar, 0)])?;
-    send(
-        &rt,
-        of,
-        &mut server,
-        LAST,
-        &[Noticed(16_777_215, TooFar, 0)],
-    )?;
+    send_all(&rt, of, &mut server, &FAR_OFF)?;
     same(&rt, of, &knows(&server, &name), &None);
-    send(&rt, of, &mut server, &block(15), &[Noticed(15, Held, 0)])?;
+    send_all(&rt, of, &mut server, &[WAITS])?;
     same(&rt, of, &server.held(&name), &Some(1));
     Ok(())
 }

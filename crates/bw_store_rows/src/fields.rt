@@ -1,10 +1,10 @@
 //! Each field of `bext` in a clean file: one write at its place, and none where nothing changes.
-use crate::play::keep;
+use crate::play::{Writing, a1};
 use crate::recorder::{Call, Recorder};
 use crate::rows::MONO_TAKE;
-use bw_file::{GrowingFile, MemoryStore};
+use bw_file::MemoryStore;
 use bw_layout::Limit;
-use bw_take::{Name, RequestRef, TakeState};
+use bw_take::RequestRef;
 use std::test::Fail;
 
 /// A tag, a value, and the place and the length of the field in the file (EBU Tech 3285).
@@ -25,18 +25,30 @@ static FIELDS: [(u8, &[u8], u64, usize); 12] = [
     (12, b"\x04\0", 426, 76),
 ];
 
+/// The calls of an OPEN.
+const OPENED: [Call; 2] = [Call::Create, Call::Write(0, 690)];
+
+/// Sets a field, and sets it again.
+fn set_twice(
+    take: &mut Writing,
+    store: &mut Recorder<MemoryStore>,
+    tag: u8,
+    value: &[u8],
+) -> Result<(), Fail> {
+    let request = RequestRef::SetField { tag, value };
+    take.keep(store, &request)?;
+    take.keep(store, &request)
+}
+
 #[test]
 fn a_field_is_written_whole_where_it_changes(rt: HostRuntime) -> Result<(), Fail> {
-    let name = Name::new(b"a1").ok_or("a name")?;
-    let mut file = GrowingFile::new(rt.alloc(), name.copy(), Limit::default())?;
+    let name = a1()?;
+    let mut take = Writing::new(rt.alloc(), Limit::default())?;
     let mut store = Recorder::new(rt.alloc(), MemoryStore::new(rt.alloc()));
-    let mut state = TakeState::new(rt.alloc());
-    keep(&mut file, &mut store, &mut state, &MONO_TAKE)?;
-    let mut calls = vec![in rt.alloc(); Call::Create, Call::Write(0, 690)]?;
+    take.keep(&mut store, &MONO_TAKE)?;
+    let mut calls = OPENED.to_vec(rt.alloc())?;
     for (tag, value, place, len) in &FIELDS {
-        let request = RequestRef::SetField { tag: *tag, value };
-        keep(&mut file, &mut store, &mut state, &request)?;
-        keep(&mut file, &mut store, &mut state, &request)?;
+        set_twice(&mut take, &mut store, *tag, value)?;
         calls.push(Call::Write(*place, *len))?;
         assert!(rt; store.got(&name, &calls), "of tag {tag}");
     }

@@ -1,9 +1,10 @@
 //! A store over a real folder, over a disk in memory, and over a system that fails once.
-use crate::play::{file_of_row, keep};
+use crate::play::{Row, Writing, a1, file_of_row};
 use crate::rows::TWO_FRAMES_CLOSED;
-use bw_file::{Created, FolderStore, GrowingFile, MemoryDisk, TakeStore};
+use bw_file::{Created, FolderStore, MemoryDisk, TakeStore};
 use bw_layout::Limit;
-use bw_take::{Name, TakeState};
+use bw_take::Name;
+use std::alloc::{AllocError, Global};
 use std::cell::Cell;
 use std::fs::{self, File, Files, Metadata, OpenFile, OpenOptions};
 use std::io::{self, ErrorKind, Read, Seek, SeekFrom, Write};
@@ -31,63 +32,64 @@ fn new_folder(rt: &HostRuntime) -> Result<String, Fail> {
     Err("a thousand folders stand")?
 }
 
-/// Ends the test where the calls on a name succeed otherwise: `create`, a write, `finish`.
-fn succeeds<S: TakeStore>(rt: &impl Abort, store: &mut S, wanted: [bool; 3]) -> Result<(), Fail> {
-    let name = Name::new(b"a1").ok_or("a name")?;
-    let made = store.create(&name).is_ok();
-    let wrote = store.write_at(&name, 0, b"x").is_ok();
-    let finished = store.finish(&name).is_ok();
-    assert!(rt; [made, wrote, finished] == wanted);
-    Ok(())
-}
-
-/// Writes the file of two frames.
-fn write_two_frames<S: TakeStore>(rt: &HostRuntime, store: &mut S) -> Result<(), Fail> {
-    let name = Name::new(b"a1").ok_or("a name")?;
-    let mut file = GrowingFile::new(rt.alloc(), name, Limit::default())?;
-    let mut state = TakeState::new(rt.alloc());
-    for step in TWO_FRAMES_CLOSED.steps {
-        keep(&mut file, store, &mut state, &step.request)?;
+/// Ends the test where one of these calls succeeds.
+fn fails<S: TakeStore>(store: &mut S, steps: &[Step]) -> Result<(), Fail> {
+    let name = a1()?;
+    for step in steps {
+        if runs(store, &name, *step) {
+            return Err("a call succeeded")?;
+        }
     }
     Ok(())
 }
 
-/// Whether the folder has the file of two frames.
-fn has_two_frames(rt: &HostRuntime, folder: &str) -> Result<bool, Fail> {
-    let path = format!(in rt.alloc(); "{folder}/a1.wav")?;
-    let wanted = file_of_row(rt.alloc(), &TWO_FRAMES_CLOSED)?;
-    Ok(fs::read(rt, path.as_str())?.as_slice() == wanted.as_slice())
-}
-
-/// Ends the test where a write or `finish` succeeds.
-fn writes_nothing<S: TakeStore>(rt: &impl Abort, store: &mut S) -> Result<(), Fail> {
-    let name = Name::new(b"a1").ok_or("a name")?;
-    assert!(rt; store.write_at(&name, 0, b"x").is_err());
-    assert!(rt; store.finish(&name).is_err());
+/// Writes the take of a row of which each step is stored.
+fn write_row<S: TakeStore>(alloc: Global, store: &mut S, row: &Row) -> Result<(), Fail> {
+    let mut take = Writing::new(alloc, Limit::default())?;
+    for step in row.steps {
+        take.keep(store, &step.request)?;
+    }
     Ok(())
 }
 
 /// Ends the test where the name isn't taken.
 fn is_taken<S: TakeStore>(store: &mut S) -> Result<(), Fail> {
-    let name = Name::new(b"a1").ok_or("a name")?;
-    match store.create(&name)? {
+    match store.create(&a1()?)? {
         Created::Exists => Ok(()),
         Created::New => Err("the name was free")?,
     }
 }
 
-/// A folder of this test's own, in which a store wrote the file of two frames.
-fn filled_folder(rt: &HostRuntime) -> Result<String, Fail> {
-    let folder = new_folder(rt)?;
-    let mut store = FolderStore::new(rt, rt.alloc(), folder.as_str())?;
-    write_two_frames(rt, &mut store)?;
-    is_taken(&mut store)?;
-    Ok(folder)
+/// Writes the file of two frames into a folder, where its name is taken then.
+fn fill<R: Files + Drop>(rt: R, alloc: Global, folder: &str) -> Result<(), Fail> {
+    let mut store = FolderStore::new(rt, alloc, folder)?;
+    write_row(alloc, &mut store, &TWO_FRAMES_CLOSED)?;
+    is_taken(&mut store)
+}
+
+/// Ends the test where a store that is made later doesn't leave the file alone.
+fn leave_alone<R: Files + Drop>(rt: R, alloc: Global, folder: &str) -> Result<(), Fail> {
+    let mut later = FolderStore::new(rt, alloc, folder)?;
+    is_taken(&mut later)?;
+    fails(&mut later, &[Step::Write, Step::Finish])
+}
+
+/// Ends the test where a store over what is no folder does anything.
+fn fails_over<R: Files + Drop>(rt: R, alloc: Global, none: &str) -> Result<(), Fail> {
+    let mut store = FolderStore::new(rt, alloc, none)?;
+    fails(&mut store, &STEPS)
+}
+
+/// The path of the take's file.
+fn path_in(alloc: Global, folder: &str) -> Result<String, AllocError> {
+    format!(in alloc; "{folder}/a1.wav")
 }
 
 /// Removes the folder. Ends the test where it doesn't have the file of two frames.
 fn remove_filled(rt: &HostRuntime, folder: &str) -> Result<(), Fail> {
-    if !has_two_frames(rt, folder)? {
+    let path = path_in(rt.alloc(), folder)?;
+    let wanted = file_of_row(rt.alloc(), &TWO_FRAMES_CLOSED)?;
+    if !stands(rt, path.as_str(), Some(wanted.as_slice())) {
         return Err("another file")?;
     }
     fs::remove_dir_all(rt, folder)?;
@@ -96,16 +98,16 @@ fn remove_filled(rt: &HostRuntime, folder: &str) -> Result<(), Fail> {
 
 #[test]
 fn a_folder_has_the_file(rt: HostRuntime) -> Result<(), Fail> {
-    let folder = filled_folder(&rt)?;
+    let folder = new_folder(&rt)?;
+    fill(&rt, rt.alloc(), folder.as_str())?;
     remove_filled(&rt, folder.as_str())
 }
 
 #[test]
 fn a_folder_keeps_the_file_of_another_store(rt: HostRuntime) -> Result<(), Fail> {
-    let folder = filled_folder(&rt)?;
-    let mut later = FolderStore::new(&rt, rt.alloc(), folder.as_str())?;
-    is_taken(&mut later)?;
-    writes_nothing(&rt, &mut later)?;
+    let folder = new_folder(&rt)?;
+    fill(&rt, rt.alloc(), folder.as_str())?;
+    leave_alone(&rt, rt.alloc(), folder.as_str())?;
     remove_filled(&rt, folder.as_str())
 }
 
@@ -114,7 +116,7 @@ fn a_folder_of_a_disk_in_memory_has_the_file(rt: HostRuntime) -> Result<(), Fail
     let alloc = rt.alloc();
     let wanted = file_of_row(alloc, &TWO_FRAMES_CLOSED)?;
     let mut store = FolderStore::over(MemoryDisk::new(alloc), alloc, "takes")?;
-    write_two_frames(&rt, &mut store)?;
+    write_row(alloc, &mut store, &TWO_FRAMES_CLOSED)?;
     let found = store.disk().content("takes/a1.wav");
     assert!(rt; found == Some(wanted.as_slice()));
     Ok(())
@@ -127,10 +129,8 @@ fn a_folder_that_is_none_fails_each_call(rt: HostRuntime) -> Result<(), Fail> {
     let file = format!(in alloc; "{folder}/file")?;
     fs::write(&rt, file.as_str(), "not a folder")?;
     let missing = format!(in alloc; "{folder}/missing")?;
-    for none in [missing.as_str(), file.as_str()] {
-        let mut store = FolderStore::new(&rt, alloc, none)?;
-        succeeds(&rt, &mut store, [false, false, false])?;
-    }
+    fails_over(&rt, alloc, missing.as_str())?;
+    fails_over(&rt, alloc, file.as_str())?;
     fs::remove_dir_all(&rt, folder.as_str())?;
     Ok(())
 }
@@ -280,6 +280,9 @@ enum Step {
     Finish,
 }
 
+/// All of them, in their order.
+const STEPS: [Step; 3] = [Step::Create, Step::Write, Step::Finish];
+
 /// Whether the call succeeds.
 fn runs<S: TakeStore>(store: &mut S, name: &Name, step: Step) -> bool {
     match step {
@@ -290,7 +293,9 @@ fn runs<S: TakeStore>(store: &mut S, name: &Name, step: Step) -> bool {
 }
 
 /// What fails, the call that fails by it, and what stands under its path then.
-static FAILURES: [(Asked, Step, Option<&[u8]>); 5] = [
+type Failure = (Asked, Step, Option<&'static [u8]>);
+
+static FAILURES: [Failure; 5] = [
     (Asked::Open, Step::Create, None),
     (Asked::Seek, Step::Write, Some(b"")),
     (Asked::Write, Step::Write, Some(b"ab")),
@@ -307,27 +312,39 @@ fn stands(rt: &HostRuntime, path: &str, wanted: Option<&[u8]>) -> bool {
     }
 }
 
+/// Whether just the one call fails, leaves what it should, and succeeds when it is tried again.
+fn is_retried<S: TakeStore>(
+    rt: &HostRuntime,
+    store: &mut S,
+    path: &str,
+    failure: &Failure,
+) -> Result<bool, Fail> {
+    let (_asked, fails, left) = failure;
+    let name = a1()?;
+    for step in STEPS {
+        if step == *fails && (runs(store, &name, step) || !stands(rt, path, *left)) {
+            return Ok(false);
+        }
+        if !runs(store, &name, step) {
+            return Ok(false);
+        }
+    }
+    Ok(stands(rt, path, Some(b"abcd")))
+}
+
 #[test]
 fn a_call_that_failed_may_be_tried_again(rt: HostRuntime) -> Result<(), Fail> {
-    let alloc = rt.alloc();
     let folder = new_folder(&rt)?;
-    let path = format!(in alloc; "{folder}/a1.wav")?;
-    let name = Name::new(b"a1").ok_or("a name")?;
-    for (asked, fails, left) in &FAILURES {
-        let fails_at = Cell::new(*asked);
+    let path = path_in(rt.alloc(), folder.as_str())?;
+    for failure in &FAILURES {
+        let fails_at = Cell::new(failure.0);
         let system = Failing {
             rt: &rt,
             fails_at: &fails_at,
         };
-        let mut store = FolderStore::new(system, alloc, folder.as_str())?;
-        for step in [Step::Create, Step::Write, Step::Finish] {
-            if step == *fails {
-                assert!(rt; !runs(&mut store, &name, step), "{asked:?}");
-                assert!(rt; stands(&rt, path.as_str(), *left), "{asked:?}");
-            }
-            assert!(rt; runs(&mut store, &name, step), "{asked:?} {step:?}");
-        }
-        assert!(rt; stands(&rt, path.as_str(), Some(b"abcd")), "{asked:?}");
+        let mut store = FolderStore::new(system, rt.alloc(), folder.as_str())?;
+        let is_retried = is_retried(&rt, &mut store, path.as_str(), failure)?;
+        assert!(rt; is_retried, "{:?}", failure.0);
         fs::remove_file(&rt, path.as_str())?;
     }
     fs::remove_dir_all(&rt, folder.as_str())?;

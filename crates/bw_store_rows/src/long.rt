@@ -1,10 +1,10 @@
 //! A take whose data grow past the largest file that RIFF can tell.
 ghost use Rattle.std.specs.Prelude.{None, false};
 
-use crate::play::keep;
-use bw_file::{Created, GrowingFile, StoreFault, TakeStore, Tally};
+use crate::play::Writing;
+use bw_file::{Created, StoreFault, TakeStore, Tally};
 use bw_layout::Limit;
-use bw_take::{Name, RequestRef, TakeState};
+use bw_take::{Name, RequestRef};
 use std::alloc::Global;
 use std::process::Abort;
 use std::test::Fail;
@@ -81,25 +81,22 @@ static LONG: [Long; 2] = [
 /// A take that grows, and the front of its file.
 #[derive(Drop)]
 struct Growing {
-    file: GrowingFile,
-    state: TakeState,
+    take: Writing,
     store: Front,
 }
 
 impl Growing {
     fn new(alloc: Global) -> Result<Growing, Fail> {
-        let name = Name::new(b"a1").ok_or("a name")?;
         let bytes = [0; 690];
         let tally = Tally::new();
         Ok(Growing {
-            file: GrowingFile::new(alloc, name, Limit::default())?,
-            state: TakeState::new(alloc),
+            take: Writing::new(alloc, Limit::default())?,
             store: Front { bytes, tally },
         })
     }
 
     fn keep(&mut self, request: &RequestRef<'_>) -> Result<(), Fail> {
-        keep(&mut self.file, &mut self.store, &mut self.state, request)
+        self.take.keep(&mut self.store, request)
     }
 
     fn append(&mut self, bytes: &[u8]) -> Result<(), Fail> {
@@ -107,9 +104,9 @@ impl Growing {
     }
 }
 
-/// Ends the test where the front of a file begins or ends with other bytes.
-fn has_heads(rt: &impl Abort, front: &[u8], outer: &[u8], data_head: &[u8]) {
-    assert!(rt; front.starts_with(outer) && front.ends_with(data_head));
+/// Whether the front of a file begins and ends with these bytes.
+fn has_heads(front: &[u8], outer: &[u8], data_head: &[u8]) -> bool {
+    front.get(..outer.len()) == Some(outer) && front.get(682..) == Some(data_head)
 }
 
 #[test]
@@ -127,17 +124,14 @@ fn a_file_is_riff_up_to_four_gibibytes(rt: HostRuntime) -> Result<(), Fail> {
         }
         take.append(long.last)?;
         let outer = b"RIFF\xfe\xff\xff\xffWAVEJUNK";
-        has_heads(&rt, take.store.bytes.as_slice(), outer, &long.data_head);
+        let front = take.store.bytes.as_slice();
+        assert!(rt; has_heads(front, outer, &long.data_head), "RIFF");
 
         take.append(long.frame)?;
         let outer =
             b"BW64\xff\xff\xff\xffWAVEds64\x1c\0\0\0\0\0\0\0\x01\0\0\0\x56\xfd\xff\xff\0\0\0\0";
-        has_heads(
-            &rt,
-            take.store.bytes.as_slice(),
-            outer,
-            b"data\xff\xff\xff\xff",
-        );
+        let front = take.store.bytes.as_slice();
+        assert!(rt; has_heads(front, outer, b"data\xff\xff\xff\xff"), "BW64");
     }
     Ok(())
 }

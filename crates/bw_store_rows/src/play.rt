@@ -129,7 +129,7 @@ fn ask_again<S: TakeStore>(
 }
 
 /// Asks until the store takes a request, and counts it in the take.
-pub(crate) fn keep<S: TakeStore>(
+fn keep<S: TakeStore>(
     file: &mut GrowingFile,
     store: &mut S,
     state: &mut TakeState,
@@ -144,6 +144,67 @@ pub(crate) fn keep<S: TakeStore>(
     Ok(())
 }
 
+/// The name `a1`.
+pub(crate) fn a1() -> Result<Name, Fail> {
+    Ok(Name::new(b"a1").ok_or("a name")?)
+}
+
+/// The take `a1`, and its file. What its calls tell is hidden here, so that each test that makes
+/// them is soon proved.
+#[derive(Drop)]
+pub(crate) struct Writing {
+    file: GrowingFile,
+    state: TakeState,
+}
+
+impl Writing {
+    pub(crate) fn new(alloc: Global, limit: Limit) -> Result<Writing, Fail> {
+        Ok(Writing {
+            file: GrowingFile::new(alloc, a1()?, limit)?,
+            state: TakeState::new(alloc),
+        })
+    }
+
+    /// Asks until the store takes a request, and counts it in the take.
+    pub(crate) fn keep<S: TakeStore>(
+        &mut self,
+        store: &mut S,
+        request: &RequestRef<'_>,
+    ) -> Result<(), Fail> {
+        keep(&mut self.file, store, &mut self.state, request)
+    }
+
+    /// Judges each step of a row, and writes those that are stored.
+    pub(crate) fn keep_row<S: TakeStore>(
+        &mut self,
+        rt: &impl Abort,
+        store: &mut S,
+        row: &Row,
+    ) -> Result<(), Fail> {
+        for step in row.steps {
+            assert_eq!(rt;
+                judge(&self.state, &step.request),
+                step.verdict,
+                "{}",
+                row.what
+            );
+            if step.verdict.is_stored() {
+                self.keep(store, &step.request)?;
+            }
+        }
+        Ok(())
+    }
+}
+
+/// A store in memory whose calls of these numbers fail, and that notes its calls.
+pub(crate) fn fused_store(
+    alloc: Global,
+    fuses: &[u64],
+) -> Result<Recorder<FuseStore<MemoryStore>>, Fail> {
+    let fused = FuseStore::new(MemoryStore::new(alloc), fuses.to_vec(alloc)?);
+    Ok(Recorder::new(alloc, fused))
+}
+
 /// Plays a row over a store whose calls of these numbers fail.
 fn play(
     rt: &impl Abort,
@@ -151,18 +212,9 @@ fn play(
     row: &Row,
     fuses: &[u64],
 ) -> Result<Recorder<FuseStore<MemoryStore>>, Fail> {
-    let name = Name::new(b"a1").ok_or("a name")?;
     let limit = Limit::new(row.limit).ok_or("a limit")?;
-    let mut file = GrowingFile::new(alloc, name, limit)?;
-    let mut state = TakeState::new(alloc);
-    let fused = FuseStore::new(MemoryStore::new(alloc), fuses.to_vec(alloc)?);
-    let mut store = Recorder::new(alloc, fused);
-    for step in row.steps {
-        assert_eq!(rt; judge(&state, &step.request), step.verdict, "{}", row.what);
-        if step.verdict.is_stored() {
-            keep(&mut file, &mut store, &mut state, &step.request)?;
-        }
-    }
+    let mut store = fused_store(alloc, fuses)?;
+    Writing::new(alloc, limit)?.keep_row(rt, &mut store, row)?;
     Ok(store)
 }
 
@@ -172,7 +224,7 @@ fn has_file(
     store: &Recorder<FuseStore<MemoryStore>>,
     row: &Row,
 ) -> Result<bool, Fail> {
-    let name = Name::new(b"a1").ok_or("a name")?;
+    let name = a1()?;
     let content = store.inner().inner().content(&name).ok_or("a content")?;
     Ok(content == file_of_row(alloc, row)?.as_slice())
 }
@@ -217,7 +269,7 @@ pub(crate) fn check(
     row: &Row,
     fuses: &[u64],
 ) -> Result<Recorder<FuseStore<MemoryStore>>, Fail> {
-    let name = Name::new(b"a1").ok_or("a name")?;
+    let name = a1()?;
     let store = play(rt, alloc, row, fuses)?;
     let calls = planned(alloc, row, fuses)?;
     assert!(rt; store.got(&name, &calls), "{}, {fuses:?}", row.what);

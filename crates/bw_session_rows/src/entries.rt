@@ -1,9 +1,9 @@
-//! What no clause says: worked journals, byte by byte; that calls succeed; what a damaged journal
-//! tells.
+//! Worked journals, byte by byte; that their calls succeed; what a damaged journal tells.
 ghost use Rattle.std.specs.Prelude.{IsTrue};
 ghost use Rattle.bw_model.specs.Wire.{is_request};
 ghost use Rattle.bw_take.specs.Requests.{meaning};
 
+use crate::play::a1;
 use bw_journal::{
     FuseJournal, Journal, JournalHeader, MemoryJournal, NoJournal, ReplayFault, Replayed,
     put_entry, replay,
@@ -15,9 +15,9 @@ use std::alloc::{AllocError, Global};
 use std::process::Abort;
 use std::test::Fail;
 
-/// A header, and six done numbers: OPEN, BLOCK, a BLOCK that doesn't end with a frame, MARK, BEXT,
-/// CLOSE.
-static JOURNAL: [u8; 325] = [
+/// A header, and six done numbers, written by another program: OPEN with a history, BLOCK, a BLOCK
+/// that doesn't end with a frame, MARK, BEXT, CLOSE.
+pub(crate) static JOURNAL: [u8; 325] = [
     0x09, 0x00, 0x42, 0x57, 0x4a, 0x31, 0xfe, 0xff, 0xff, 0xff, 0x00, 0xc4, 0x3b, 0xb4, 0xc3, 0x86,
     0x9c, 0x49, 0xee, 0x31, 0x00, 0x00, 0xa3, 0xb2, 0xfa, 0xd4, 0x7f, 0x5a, 0xa6, 0x70, 0xef, 0x56,
     0x8e, 0xe1, 0x03, 0x92, 0x11, 0x9f, 0xe3, 0x67, 0xb0, 0x62, 0x44, 0x79, 0x69, 0xcd, 0x16, 0x88,
@@ -260,10 +260,6 @@ fn a_refused_growth_is_told_and_changes_nothing(rt: HostRuntime) -> Result<(), F
         );
     }
     Ok(())
-}
-
-fn a1() -> Result<Name, Fail> {
-    Ok(Name::new(b"a1").ok_or("a name")?)
 }
 
 /// A memory in which the journal of `a1` has these bytes.
