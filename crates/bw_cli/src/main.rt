@@ -7,7 +7,7 @@ mod program_tests;
 mod remote;
 
 use bw_commands::Host;
-use bw_net::TcpNetwork;
+use bw_net::{TcpNetwork, Terminal};
 use bw_stream::Plain;
 use program::start;
 use std::process::ExitCode;
@@ -18,6 +18,7 @@ fn main(rt: HostRuntime) -> ExitCode {
     let mut input = Plain::new(rt.stdin());
     let mut out = Plain::new(rt.stdout());
     let mut faults = Plain::new(rt.stderr());
+    let mut watch = Terminal::new(&rt);
     start(
         rt.alloc(),
         &mut system,
@@ -25,5 +26,6 @@ fn main(rt: HostRuntime) -> ExitCode {
         &mut input,
         &mut out,
         &mut faults,
+        &mut watch,
     )
 }

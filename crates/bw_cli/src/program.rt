@@ -16,19 +16,21 @@ use bw_commands::{Exit, Fault, System, inspect_file, rehearse_run, tell_unworded
 use bw_journal::{Journal, NoJournal};
 use bw_layout::Limit;
 use bw_stream::{Sink, Source};
-use bw_transfer::Network;
+use bw_transfer::{Network, Watch};
 use clap::Error;
 use std::alloc::Global;
 use std::process::ExitCode;
 
-/// Reads the command line, does what it asks for, and answers the program's status.
-pub fn start<S: System, N: Network, R: Source, W: Sink, E: Sink>(
+/// Reads the command line, does what it asks for, and answers the program's status. The watcher
+/// hears how far `send` is.
+pub fn start<S: System, N: Network, R: Source, W: Sink, E: Sink, V: Watch>(
     alloc: Global,
     system: &mut S,
     network: &mut N,
     input: &mut R,
     out: &mut W,
     faults: &mut E,
+    watch: &mut V,
 ) -> ExitCode
     ensures { let given : Given = record {
       words = S.words system.old;
@@ -41,17 +43,18 @@ pub fn start<S: System, N: Network, R: Source, W: Sink, E: Sink>(
         (S.failures system.old) (S.failures system.new) network.old network.new
         input.old input.new out.old out.new faults.old faults.new }
 {
-    ExitCode::from(obey(alloc, system, network, input, out, faults).status())
+    ExitCode::from(obey(alloc, system, network, input, out, faults, watch).status())
 }
 
 /// Reads the command line, and does what it asks for.
-fn obey<S: System, N: Network, R: Source, W: Sink, E: Sink>(
+fn obey<S: System, N: Network, R: Source, W: Sink, E: Sink, V: Watch>(
     alloc: Global,
     system: &mut S,
     network: &mut N,
     input: &mut R,
     out: &mut W,
     faults: &mut E,
+    watch: &mut V,
 ) -> Exit
     ensures { let given : Given = record {
       words = S.words system.old;
@@ -64,13 +67,22 @@ fn obey<S: System, N: Network, R: Source, W: Sink, E: Sink>(
         input.old input.new out.old out.new faults.old faults.new }
 {
     match system.words() {
-        Ok(words) => answer(alloc, words.as_slice(), system, network, input, out, faults),
+        Ok(words) => answer(
+            alloc,
+            words.as_slice(),
+            system,
+            network,
+            input,
+            out,
+            faults,
+            watch,
+        ),
         Err(error) => tell_unworded(&error, faults),
     }
 }
 
 /// Does what these words ask for.
-fn answer<S: System, N: Network, R: Source, W: Sink, E: Sink>(
+fn answer<S: System, N: Network, R: Source, W: Sink, E: Sink, V: Watch>(
     alloc: Global,
     words: &[String],
     system: &mut S,
@@ -78,6 +90,7 @@ fn answer<S: System, N: Network, R: Source, W: Sink, E: Sink>(
     input: &mut R,
     out: &mut W,
     faults: &mut E,
+    watch: &mut V,
 ) -> Exit
     ensures { let given : Given = record {
       words = Some (map string_bytes words.now);
@@ -90,13 +103,13 @@ fn answer<S: System, N: Network, R: Source, W: Sink, E: Sink>(
         input.old input.new out.old out.new faults.old faults.new }
 {
     match parse(alloc, words) {
-        Ok(line) => perform(alloc, &line, system, network, input, out, faults),
+        Ok(line) => perform(alloc, &line, system, network, input, out, faults, watch),
         Err(_) => give_up(faults, &Fault::Memory),
     }
 }
 
 /// Does what a command line asks for.
-fn perform<S: System, N: Network, R: Source, W: Sink, E: Sink>(
+fn perform<S: System, N: Network, R: Source, W: Sink, E: Sink, V: Watch>(
     alloc: Global,
     line: &CommandLine,
     system: &mut S,
@@ -104,6 +117,7 @@ fn perform<S: System, N: Network, R: Source, W: Sink, E: Sink>(
     input: &mut R,
     out: &mut W,
     faults: &mut E,
+    watch: &mut V,
 ) -> Exit
     requires { HasLimit line.now }
     ensures { IsDoneFor N.Store.TakeStore ⟦<NoJournal as Journal>⟧ N.Peers.Peers
@@ -113,7 +127,7 @@ fn perform<S: System, N: Network, R: Source, W: Sink, E: Sink>(
         input.old input.new out.old out.new faults.old faults.new }
 {
     match line {
-        CommandLine::Run(task) => run(alloc, task, system, network, input, out, faults),
+        CommandLine::Run(task) => run(alloc, task, system, network, input, out, faults, watch),
         CommandLine::BadValue(value) => {
             tell(faults, value.text().as_bytes());
             Exit::Usage
@@ -123,7 +137,7 @@ fn perform<S: System, N: Network, R: Source, W: Sink, E: Sink>(
 }
 
 /// Runs a task.
-fn run<S: System, N: Network, R: Source, W: Sink, E: Sink>(
+fn run<S: System, N: Network, R: Source, W: Sink, E: Sink, V: Watch>(
     alloc: Global,
     task: &Task,
     system: &mut S,
@@ -131,6 +145,7 @@ fn run<S: System, N: Network, R: Source, W: Sink, E: Sink>(
     input: &mut R,
     out: &mut W,
     faults: &mut E,
+    watch: &mut V,
 ) -> Exit
     requires { HasLimit (CommandLine.Run task.now) }
     ensures { IsDoneFor N.Store.TakeStore ⟦<NoJournal as Journal>⟧ N.Peers.Peers
@@ -151,7 +166,7 @@ fn run<S: System, N: Network, R: Source, W: Sink, E: Sink>(
             None => unreachable!(),
         },
         Task::Serve(server) => serve_as(alloc, server, network, out, faults),
-        Task::Send(sender) => send_as(alloc, sender, network, input, out, faults),
+        Task::Send(sender) => send_as(alloc, sender, network, input, out, faults, watch),
     }
 }
 

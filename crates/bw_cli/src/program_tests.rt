@@ -7,6 +7,7 @@ use crate::program::start;
 use bw_commands::System;
 use bw_net::TcpNetwork;
 use bw_stream::{MemorySink, MemorySource};
+use bw_transfer::NoWatch;
 use std::alloc::Global;
 use std::io::{self, ErrorKind};
 use std::process::{Abort, ExitCode};
@@ -87,6 +88,7 @@ fn inspects(
         &mut MemorySource::new(b""),
         &mut out,
         &mut faults,
+        &mut NoWatch,
     );
     assert!(rt; ended == wanted, "the status of {argument}");
     assert!(rt;

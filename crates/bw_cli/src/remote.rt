@@ -8,7 +8,7 @@ use bw_commands::Exit;
 use bw_journal::{Journal, NoJournal};
 use bw_layout::Limit;
 use bw_stream::{Sink, Source};
-use bw_transfer::{Network, Serving, send_run, serve};
+use bw_transfer::{Network, Serving, Watch, send_watched, serve};
 use std::alloc::Global;
 
 /// Serves as it is asked for.
@@ -48,21 +48,22 @@ fn exchanges(end: End) -> u64
     }
 }
 
-/// Sends as it is asked for.
-pub(crate) fn send_as<N: Network, R: Source, W: Sink, E: Sink>(
+/// Sends as it is asked for, and lets the watcher hear how far it is.
+pub(crate) fn send_as<N: Network, R: Source, W: Sink, E: Sink, V: Watch>(
     alloc: Global,
     sender: &Send,
     network: &N,
     input: &mut R,
     out: &mut W,
     faults: &mut E,
+    watch: &mut V,
 ) -> Exit
     ensures { Sends N.Network N.Dial.Dial N.Dial.Reader.Source N.Dial.Writer.Sink
         R.Source W.Sink E.Sink sender.now result network.now input.old input.new out.old out.new
         faults.old faults.new }
 {
     let mut dial = network.dial(sender.connect, sender.timeout);
-    send_run(
+    send_watched(
         alloc,
         sender.name.copy(),
         sender.rounds,
@@ -70,5 +71,6 @@ pub(crate) fn send_as<N: Network, R: Source, W: Sink, E: Sink>(
         input,
         out,
         faults,
+        watch,
     )
 }

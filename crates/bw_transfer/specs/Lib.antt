@@ -9,3 +9,4 @@ pub mod SendState
 pub mod RoundsMade
 pub mod SenderText
 pub mod Sends
+pub mod Watched

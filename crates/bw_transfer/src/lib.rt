@@ -16,12 +16,14 @@ mod serving;
 mod tally;
 mod telling;
 mod text;
+mod watch;
 
 pub use dial::{Dial, DialFault, Link};
 pub use hosting::serve;
 pub use network::{Network, Serving};
 pub use peers::{AcceptFault, Peer, Peers};
 pub use running::serve_run;
-pub use sending::send_run;
+pub use sending::{send_run, send_watched};
 pub use serving::serve_one;
 pub use tally::Tallied;
+pub use watch::{NoWatch, Progress, Watch};

@@ -11,34 +11,37 @@ ghost use Rattle.bw_transfer.specs.SendState.{Sending, IsSending};
 use crate::dial::Dial;
 use crate::dispatch::Dispatch;
 use crate::offering::offer_more_of;
+use crate::watch::{Progress, Watch};
 use bw_engine::{SendFault, send_exchange};
 use bw_sender::Sender;
 use bw_take::Request;
 use std::alloc::{AllocError, Global};
 
 /// Offers requests and makes exchanges, one a round and at most so many, until all that was offered
-/// is settled and no more can be offered.
+/// is settled and no more can be offered. The watcher hears of each round.
 ///
 /// # Errors
 /// `AllocError` where memory was refused.
-pub(crate) fn make_rounds<D: Dial>(
+pub(crate) fn make_rounds<D: Dial, V: Watch>(
     alloc: Global,
     rounds: u32,
     dispatch: &mut Dispatch,
     requests: &[Request],
     dial: &mut D,
+    watch: &mut V,
 ) -> Result<(), AllocError>
     ensures { (x : Sending) → IsSending x dispatch.old → x.requests ≡ requests.now →
         OnOk result ((y : Sending) × IsSending y dispatch.new
         × MakesRounds D.Dial D.Reader.Source D.Writer.Sink rounds x y
         dial.old dial.new) }
 {
-    for _round in 0..rounds {
+    for round in 0..rounds {
         offer_more_of(alloc, dispatch, requests)?;
         if dispatch.sender.pending(0).is_none() {
             return Ok(());
         }
         make_round(alloc, &mut dispatch.sender, dial)?;
+        watch.round(&Progress::new(round + 1, &dispatch.sender, requests));
     }
     Ok(())
 }

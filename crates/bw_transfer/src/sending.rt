@@ -15,6 +15,7 @@ use crate::dispatch::{Dispatch, exit_after};
 use crate::requests::read_requests;
 use crate::rounds::make_rounds;
 use crate::text::text_of_sender;
+use crate::watch::{NoWatch, Watch};
 use bw_commands::print::{give_up, print, tell};
 use bw_commands::{Exit, Fault};
 use bw_sender::Sender;
@@ -49,7 +50,29 @@ pub fn send_run<D: Dial, R: Source, W: Sink, E: Sink>(
         × (R.failures input.new ≡ failures_if did.reads_all (R.failures input.old))
         × HasWritten W.Sink E.Sink did out.old out.new faults.old faults.new }
 {
-    match send(alloc, name, rounds, dial, input, out) {
+    send_watched(alloc, name, rounds, dial, input, out, faults, &mut NoWatch)
+}
+
+/// Sends as `send_run` does, and lets a watcher hear how far it is behind each round.
+pub fn send_watched<D: Dial, R: Source, W: Sink, E: Sink, V: Watch>(
+    alloc: Global,
+    name: Name,
+    rounds: u32,
+    dial: &mut D,
+    input: &mut R,
+    out: &mut W,
+    faults: &mut E,
+    watch: &mut V,
+) -> Exit
+    ensures within { Of (R.left input.old) (λ xs. IsReadAhead xs (R.left input.new)) }
+    ensures most { R.moved input.new ≤ R.moved input.old + (longest_input + 1) }
+    ensures did { (did : Deed) × (did.exit ≡ result)
+        × IsSendRun D.Dial D.Reader.Source D.Writer.Sink name rounds (R.left input.old)
+        dial.old dial.new did
+        × (R.failures input.new ≡ failures_if did.reads_all (R.failures input.old))
+        × HasWritten W.Sink E.Sink did out.old out.new faults.old faults.new }
+{
+    match send(alloc, name, rounds, dial, input, out, watch) {
         Ok(exit) => tell_of_exit(exit, faults),
         Err(fault) => give_up(faults, &fault),
     }
@@ -69,13 +92,14 @@ fn tell_of_exit<E: Sink>(exit: Exit, faults: &mut E) -> Exit
 }
 
 /// Sends the requests that the lines of the input say, and writes the text of what came of them.
-fn send<D: Dial, R: Source, W: Sink>(
+fn send<D: Dial, R: Source, W: Sink, V: Watch>(
     alloc: Global,
     name: Name,
     rounds: u32,
     dial: &mut D,
     input: &mut R,
     out: &mut W,
+    watch: &mut V,
 ) -> Result<Exit, Fault>
     ensures within { Of (R.left input.old) (λ xs. IsReadAhead xs (R.left input.new)) }
     ensures most { R.moved input.new ≤ R.moved input.old + (longest_input + 1) }
@@ -86,7 +110,7 @@ fn send<D: Dial, R: Source, W: Sink>(
         × IsPrint W.Sink print out.old out.new }
 {
     let requests = read_requests(alloc, input)?;
-    let dispatch = send_requests(alloc, name, rounds, requests.as_slice(), dial)?;
+    let dispatch = send_requests(alloc, name, rounds, requests.as_slice(), dial, watch)?;
     let text = text_of_sender(alloc, &dispatch.sender)?;
     match print(out, text.as_slice()) {
         Ok(()) => Ok(exit_after(&dispatch, requests.len())),
@@ -98,12 +122,13 @@ fn send<D: Dial, R: Source, W: Sink>(
 ///
 /// # Errors
 /// `AllocError` where memory was refused.
-fn send_requests<D: Dial>(
+fn send_requests<D: Dial, V: Watch>(
     alloc: Global,
     name: Name,
     rounds: u32,
     requests: &[Request],
     dial: &mut D,
+    watch: &mut V,
 ) -> Result<Dispatch, AllocError>
     ensures { IfOk result (λ dispatch. (last : Sending) × IsSending last dispatch
         × MakesRounds D.Dial D.Reader.Source D.Writer.Sink rounds
@@ -114,6 +139,6 @@ fn send_requests<D: Dial>(
         offered: 0,
         is_stopped: false,
     };
-    make_rounds(alloc, rounds, &mut dispatch, requests, dial)?;
+    make_rounds(alloc, rounds, &mut dispatch, requests, dial, watch)?;
     Ok(dispatch)
 }

@@ -120,7 +120,8 @@ pub struct Tallied<T> {
 impl<T> Tallied<T> {
     /// The server, which has counted nothing.
     pub fn new(server: T) -> Tallied<T>
-        ensures { result.server ≡ server }
+        ensures server { result.server ≡ server }
+        ensures tally { result.tally ≡ none_counted }
     {
         Tallied {
             server,

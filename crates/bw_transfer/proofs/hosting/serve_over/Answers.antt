@@ -16,6 +16,6 @@ returns g c =
       listens = rw line at c.in-Ok-print.ensures.ok;
       ended = c.serve_run-exit.result;
       logged = _;
-      run = rw c.new-server.ensures at c.serve_run-exit.ensures;
+      run = rw c.new-server.ensures.server at c.serve_run-exit.ensures;
       tells = c.tell_end.ensures;
     })

@@ -53,7 +53,7 @@ returns g c = λ x k from.
     let all : length o.heard ≡ c.args.rounds =
     let e = o.counted in
     let past = c.loop-round-test.false in
-    let within = c.loop-round.auto._round-end in
+    let within = c.loop-round.auto.round-end in
     omega (arith, e, past, within) in
     let told = rounds_told _ _ _ x o.heard o.y _ _ o.went in
     (o.y, o.is, record { heard = o.heard; behind = o.y; went = o.went; told = told; ends = inl (all, refl) })

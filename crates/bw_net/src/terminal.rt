@@ -1,0 +1,37 @@
+//! The terminal that a sender's progress is told to.
+use bw_stream::Plain;
+use bw_transfer::{Progress, Watch};
+use std::alloc::Global;
+use std::io::{IsTerminal, Stderr};
+
+/// Standard error where it is a terminal, for the progress of a sender. What a terminal shows, no
+/// clause says.
+#[derive(Drop)]
+pub struct Terminal {
+    alloc: Global,
+    screen: Option<Plain<Stderr>>,
+}
+
+impl Terminal {
+    /// The terminal of this runtime's process: none where its standard error leads elsewhere.
+    pub fn new(rt: &HostRuntime) -> Terminal {
+        let faults = rt.stderr();
+        let screen = if faults.is_terminal() {
+            Some(Plain::new(faults))
+        } else {
+            None
+        };
+        Terminal {
+            alloc: rt.alloc(),
+            screen,
+        }
+    }
+}
+
+impl Watch for Terminal {
+    fn round(&mut self, progress: &Progress<'_>) {
+        if let Some(screen) = &mut self.screen {
+            progress.tell(self.alloc, screen);
+        }
+    }
+}
