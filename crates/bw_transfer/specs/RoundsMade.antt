@@ -1,6 +1,6 @@
 -- Rounds: a link and an exchange over it each, as far as both go.
 use mathlib.Core.Logic.{inl, inr}
-use Rattle.std.specs.Prelude.{◌≡◌, ◌≢◌, ◌⊎◌, ℕ, ◌<◌, Option, Some, Result, Ok, Err, List, [], ◌∷◌}
+use Rattle.std.specs.Prelude.{◌≡◌, ◌≢◌, ◌⊎◌, ℕ, ◌<◌, Some, Result, Ok, Err, List, [], ◌∷◌}
 use Rattle.std.specs.Prelude.{length}
 use Rattle.bw_model.specs.Replies.{Reply}
 use Rattle.bw_model.specs.World.{Sender as Told}

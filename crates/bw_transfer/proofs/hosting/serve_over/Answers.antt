@@ -1,4 +1,4 @@
-use Rattle.std.proofs.Common.{◌≡◌, ◌∙◌, List, ℕ, inl}
+use Rattle.std.proofs.Common.{◌≡◌, ◌∙◌, inl}
 use Rattle.bw_transfer.specs.Hosted.{listening_line}
 use Rattle.bw_transfer.proofs.hosting.serve_over.Goals as goal
 

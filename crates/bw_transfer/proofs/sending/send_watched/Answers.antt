@@ -1,6 +1,5 @@
 use Rattle.std.proofs.Common.{Ok, Err, true, refl, sym}
 use Rattle.bw_commands.specs.Faults.{exit_on, is_readable}
-use Rattle.bw_commands.specs.Printing.{Nothing}
 use Rattle.bw_transfer.proofs.sending.send_watched.Goals as goal
 
 pub returns-in-Ok-clause-did : goal.returns-in-Ok-clause-did
