@@ -257,19 +257,19 @@ stream_ended answers reads s mid later left left' left'' w w' w'' moved moved' a
 -- ---- counts
 
 -- where no piece was read, no write failed, and no limit was reached
-pub stopped_counts : (end : ExchangeEnd) (left left' : Option (List ℕ)) → StopsReading end left left' → (n m m' : ℕ) →
-    (n ≡ writes_failed end n) × IsLimited end m m'
-stopped_counts ends.Bye left left' stops n m m' = absurd stops
-stopped_counts ends.EndOfInput left left' stops n m m' = absurd stops
-stopped_counts (ends.BadFrame fault) left left' stops n m m' = absurd stops
-stopped_counts ends.WriteFault left left' stops n m m' = absurd stops
-stopped_counts ends.TurnLimit left left' stops n m m' = absurd stops
-stopped_counts ends.ReadFault left left' stops n m m' = (refl, tt)
-stopped_counts ends.Memory left left' stops n m m' = (refl, tt)
+pub stopped_counts : (end : ExchangeEnd) (left left' : Option (List ℕ)) → StopsReading end left left' →
+    (n m m' c c' : ℕ) → (n ≡ writes_failed end n) × IsLimited end m m' c c'
+stopped_counts ends.Bye left left' stops n m m' c c' = absurd stops
+stopped_counts ends.EndOfInput left left' stops n m m' c c' = absurd stops
+stopped_counts (ends.BadFrame fault) left left' stops n m m' c c' = absurd stops
+stopped_counts ends.WriteFault left left' stops n m m' c c' = absurd stops
+stopped_counts ends.TurnLimit left left' stops n m m' c c' = absurd stops
+stopped_counts ends.ReadFault left left' stops n m m' c c' = (refl, tt)
+stopped_counts ends.Memory left left' stops n m m' c c' = (refl, tt)
 
 -- where the stream ended, no call failed
-pub ended_counts : (end : StreamEnd) (n m m' : ℕ) →
-    (n ≡ reads_failed (ended_by end) n) × (n ≡ writes_failed (ended_by end) n) × IsLimited (ended_by end) m m'
-ended_counts streams.Bye n m m' = (refl, refl, tt)
-ended_counts streams.EndOfInput n m m' = (refl, refl, tt)
-ended_counts (streams.BadFrame fault) n m m' = (refl, refl, tt)
+pub ended_counts : (end : StreamEnd) (n m m' c c' : ℕ) →
+    (n ≡ reads_failed (ended_by end) n) × (n ≡ writes_failed (ended_by end) n) × IsLimited (ended_by end) m m' c c'
+ended_counts streams.Bye n m m' c c' = (refl, refl, tt)
+ended_counts streams.EndOfInput n m m' c c' = (refl, refl, tt)
+ended_counts (streams.BadFrame fault) n m m' c c' = (refl, refl, tt)

@@ -414,17 +414,17 @@ has_ended moved moved' false e n = n
 -- ---- counts
 
 -- where no piece was read, no limit was reached
-pub unlimited : (fault : SendFault) (left left' : Option (List ℕ)) → StopsHearing fault left left' → (m m' : ℕ) →
-    IsHearingLimited (Err fault) m m'
-unlimited faults.Read left left' stops m m' = tt
-unlimited faults.Write left left' stops m m' = tt
-unlimited faults.Memory left left' stops m m' = tt
-unlimited faults.BadReply left left' stops m m' = tt
-unlimited faults.TurnLimit left left' stops m m' = absurd stops
+pub unlimited : (fault : SendFault) (left left' : Option (List ℕ)) → StopsHearing fault left left' → (m m' c c' : ℕ) →
+    IsHearingLimited (Err fault) m m' c c'
+unlimited faults.Read left left' stops m m' c c' = tt
+unlimited faults.Write left left' stops m m' c c' = tt
+unlimited faults.Memory left left' stops m m' c c' = tt
+unlimited faults.BadReply left left' stops m m' c c' = tt
+unlimited faults.TurnLimit left left' stops m m' c c' = absurd stops
 
 -- at the input's end neither, and no read failed
-pub ended_counts : (r : Result (Unit {0}) SendFault) → IfErr r (λ fault. fault ≡ faults.BadReply) → (n m m' : ℕ) →
-    (n ≡ hears_failed r n) × IsHearingLimited r m m'
-ended_counts (Ok x) why n m m' = (refl, tt)
-ended_counts (Err fault) why n m m' =
-    subst (λ (x : SendFault). (n ≡ hears_failed (Err x) n) × IsHearingLimited (Err x) m m') (sym why) (refl, tt)
+pub ended_counts : (r : Result (Unit {0}) SendFault) → IfErr r (λ fault. fault ≡ faults.BadReply) →
+    (n m m' c c' : ℕ) → (n ≡ hears_failed r n) × IsHearingLimited r m m' c c'
+ended_counts (Ok x) why n m m' c c' = (refl, tt)
+ended_counts (Err fault) why n m m' c c' =
+    subst (λ (x : SendFault). (n ≡ hears_failed (Err x) n) × IsHearingLimited (Err x) m m' c c') (sym why) (refl, tt)

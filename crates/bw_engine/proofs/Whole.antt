@@ -5,7 +5,7 @@ use Rattle.std.specs.Prelude.{is_some, min}
 use Rattle.std.proofs.lemmas.List.{append-nil, length-append}
 use Rattle.bw_model.specs.Wire.{Frame}
 use Rattle.bw_model.specs.Replies.{Reply}
-use Rattle.bw_stream.specs.Moves.{Writes}
+use Rattle.bw_stream.specs.Moves.{one_more, Writes}
 use Rattle.bw_wire.specs.Held.{longest_piece}
 use Rattle.bw_wire.proofs.StreamRuns.{runs_follow_streams}
 use Rattle.bw_engine.specs.declared.exchange.Exchange.{Exchange}
@@ -119,3 +119,8 @@ so_far-more answers reads s mid later left left' left'' w w' w'' moved moved' a 
 pub moved_on : (first moved moved' reads n : ℕ) → min (first + reads) (2 ^ 64 - 1) ≤ moved →
     moved' ≡ min (moved + n) (2 ^ 64 - 1) → 1 ≤ n → min (first + (reads + 1)) (2 ^ 64 - 1) ≤ moved'
 moved_on first moved moved' reads n before e some = omega (arith, before, e, some)
+
+-- .. and exactly as many calls more, or as many as it can count
+pub called_on : (first calls calls' reads : ℕ) → calls ≡ min (first + reads) (2 ^ 64 - 1) → calls' ≡ one_more calls →
+    calls' ≡ min (first + (reads + 1)) (2 ^ 64 - 1)
+called_on first calls calls' reads before e = omega (arith, before, e)

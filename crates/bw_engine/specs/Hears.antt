@@ -118,16 +118,17 @@ hears_failed (Err faults.Memory) n = n
 hears_failed (Err faults.BadReply) n = n
 hears_failed (Err faults.TurnLimit) n = n
 
--- the limit of reads is told only where a reader has counted so many bytes more, or as many as it
--- can count
-abbrev pub IsHearingLimited : Result (Unit {0}) SendFault → ℕ → ℕ → Type 0
-IsHearingLimited (Ok x) moved moved' = Unit {0}
-IsHearingLimited (Err faults.Read) moved moved' = Unit {0}
-IsHearingLimited (Err faults.Write) moved moved' = Unit {0}
-IsHearingLimited (Err faults.Memory) moved moved' = Unit {0}
-IsHearingLimited (Err faults.BadReply) moved moved' = Unit {0}
-IsHearingLimited (Err faults.TurnLimit) moved moved' =
-    min (moved + most_reads) (2 ^ 64 - 1) ≤ moved'
+-- the limit of reads is told only where a reader has counted so many bytes more, and so many calls
+-- more, or as many as it can count
+abbrev pub IsHearingLimited : Result (Unit {0}) SendFault → ℕ → ℕ → ℕ → ℕ → Type 0
+IsHearingLimited (Ok x) moved moved' calls calls' = Unit {0}
+IsHearingLimited (Err faults.Read) moved moved' calls calls' = Unit {0}
+IsHearingLimited (Err faults.Write) moved moved' calls calls' = Unit {0}
+IsHearingLimited (Err faults.Memory) moved moved' calls calls' = Unit {0}
+IsHearingLimited (Err faults.BadReply) moved moved' calls calls' = Unit {0}
+IsHearingLimited (Err faults.TurnLimit) moved moved' calls calls' =
+    (min (moved + most_reads) (2 ^ 64 - 1) ≤ moved')
+    × (min (calls + most_reads) (2 ^ 64 - 1) ≤ calls')
 
 -- Piece by piece.
 

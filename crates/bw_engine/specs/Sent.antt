@@ -1,5 +1,5 @@
 -- A whole exchange of a sender: what is sent, and what is heard behind it.
-use Rattle.std.specs.Prelude.{◌≡◌, ◌⊎◌, Result, Err}
+use Rattle.std.specs.Prelude.{◌≡◌, ◌⊎◌, ◌+◌, ◌≤◌, Result, Err}
 use Rattle.bw_model.specs.World.{Sender as Told}
 use Rattle.bw_stream.specs.Moves.{one_more}
 use Rattle.bw_stream.specs.declared.sink.Sink.{Ghosts as Writer}
@@ -10,6 +10,7 @@ use Rattle.bw_engine.specs.declared.send_fault.SendFault.{SendFault}
 use Rattle.bw_engine.specs.declared.send_fault.SendFault.TheVariants as faults
 use Rattle.bw_engine.specs.Batches.{batch_bytes, WritesBatch, BreaksBytes}
 use Rattle.bw_engine.specs.Hears.{Hears, hears_failed, IsHearingLimited}
+use Rattle.bw_engine.specs.Served.{most_reads}
 
 -- how an exchange ends whose batch broke off at a write, by how its hearing did: want of memory
 -- goes before
@@ -23,7 +24,9 @@ module _ {R W : Type 0} (reader : Reader R) (writer : Writer W) where
       : Type 0 where
     pub hears : Hears hearing x y (reader.left r) (reader.left r')
     pub reads : reader.failures r' ≡ hears_failed hearing (reader.failures r)
-    pub limit : IsHearingLimited hearing (reader.moved r) (reader.moved r')
+    pub calls : reader.calls r' ≤ reader.calls r + most_reads
+    pub limit : IsHearingLimited hearing (reader.moved r) (reader.moved r') (reader.calls r)
+        (reader.calls r')
 
   -- the whole batch was written, and then replies were heard
   pub record SendsAndHears (result : Result (Unit {0}) SendFault) (x y : Sender) (r r' : R)

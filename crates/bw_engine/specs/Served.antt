@@ -37,11 +37,13 @@ abbrev pub writes_failed : ExchangeEnd → ℕ → ℕ
 writes_failed ends.WriteFault n = one_more n
 writes_failed end n = n
 
--- the limit of turns is told only where a reader has counted so many bytes more, or as many as it
--- can count
-abbrev pub IsLimited : ExchangeEnd → ℕ → ℕ → Type 0
-IsLimited ends.TurnLimit moved moved' = min (moved + most_reads) (2 ^ 64 - 1) ≤ moved'
-IsLimited end moved moved' = Unit {0}
+-- the limit of turns is told only where a reader has counted so many bytes more, and so many calls
+-- more, or as many as it can count
+abbrev pub IsLimited : ExchangeEnd → ℕ → ℕ → ℕ → ℕ → Type 0
+IsLimited ends.TurnLimit moved moved' calls calls' =
+    (min (moved + most_reads) (2 ^ 64 - 1) ≤ moved')
+    × (min (calls + most_reads) (2 ^ 64 - 1) ≤ calls')
+IsLimited end moved moved' calls calls' = Unit {0}
 
 -- a reader that tells its bytes gave these
 abbrev pub HasGiven : Option (List ℕ) → List ℕ → Option (List ℕ) → Type 0

@@ -2,12 +2,14 @@
 ghost use Rattle.std.specs.Prelude.{◌≡◌, ◌+◌, ◌≤◌, ◌<◌, length, true, false, None, is_some};
 ghost use Rattle.std.specs.Prelude.{IsTrue, IfOk, IfErr, OnOk, OnErr, Err};
 ghost use Rattle.bw_model.specs.Wire.{are_bytes};
+ghost use Rattle.bw_stream.specs.Moves.{one_more};
 ghost use Rattle.bw_wire.specs.Codecs.{reply_codec};
 ghost use Rattle.bw_wire.specs.Held.{longest_piece, longest_stream};
 ghost use Rattle.bw_wire.specs.Pending.{Nothing, next_of, with_piece, end_fault};
 ghost use Rattle.bw_engine.specs.declared.send_fault.SendFault.TheVariants.{BadReply};
 ghost use Rattle.bw_engine.specs.Hears.{Hears, hears_failed, IsHearingLimited, HearsMore};
 ghost use Rattle.bw_engine.specs.Hears.{TellsFault, ReadsReplies, StopsHearing};
+ghost use Rattle.bw_engine.specs.Served.{most_reads};
 
 use crate::send_fault::SendFault;
 use crate::serving::{MOST_READS, PIECE};
@@ -27,7 +29,9 @@ pub fn hear_replies<R: Source>(
 ) -> Result<(), SendFault>
     ensures hears { Hears result sender.old sender.new (R.left reader.old) (R.left reader.new) }
     ensures reads { R.failures reader.new ≡ hears_failed result (R.failures reader.old) }
-    ensures limit { IsHearingLimited result (R.moved reader.old) (R.moved reader.new) }
+    ensures calls { R.calls reader.new ≤ R.calls reader.old + most_reads }
+    ensures limit { IsHearingLimited result (R.moved reader.old) (R.moved reader.new)
+        (R.calls reader.old) (R.calls reader.new) }
 {
     let mut framer = ReplyFramer::new(alloc);
     let Ok(mut buffer) = Vec::from_elem(alloc, 0u8, PIECE) else {
@@ -55,6 +59,7 @@ fn read_piece<R: Source>(
     requires room { framer.old.fed + longest_piece ≤ longest_stream }
     ensures reads { IfOk result (λ some. ReadsReplies some (R.left reader.old) (R.left reader.new)
         (R.moved reader.old) (R.moved reader.new) framer.old framer.new) }
+    ensures calls { R.calls reader.new ≡ one_more (R.calls reader.old) }
     ensures count { OnOk result (R.failures reader.new ≡ R.failures reader.old) }
     ensures stops { IfErr result (λ fault.
         StopsHearing fault (R.left reader.old) (R.left reader.new)) }

@@ -2,12 +2,12 @@
 ghost use Rattle.std.specs.Prelude.{◌≡◌, ◌+◌, ◌≤◌, [], length, true, false, IfErr, OnOk, OnErr};
 ghost use Rattle.std.specs.Prelude.{is_some, IsTrue};
 ghost use Rattle.bw_model.specs.Wire.{are_bytes};
-ghost use Rattle.bw_stream.specs.Moves.{failures_after, Writes, Begins};
+ghost use Rattle.bw_stream.specs.Moves.{one_more, failures_after, Writes, Begins};
 ghost use Rattle.bw_wire.specs.Held.{longest_piece, longest_stream};
 ghost use Rattle.bw_engine.specs.declared.serving.ExchangeEnd.TheVariants.{Memory};
 ghost use Rattle.bw_engine.specs.Parts.{wants_piece, end_of, waiting_in, pending_of};
 ghost use Rattle.bw_engine.specs.Done.{DoesMore, IsIdle};
-ghost use Rattle.bw_engine.specs.Served.{reads_failed, writes_failed, IsLimited, Serves};
+ghost use Rattle.bw_engine.specs.Served.{most_reads, reads_failed, writes_failed, IsLimited, Serves};
 ghost use Rattle.bw_engine.specs.Pieces.{FeedsNext, StopsReading, WritesAnswers, StopsWriting};
 
 use crate::exchange::{Exchange, FeedError};
@@ -70,7 +70,9 @@ pub fn serve_exchange<R: Source, W: Sink, T: Turns>(
         (R.left reader.old) (R.left reader.new) (W.written writer.old) (W.written writer.new) }
     ensures reads { R.failures reader.new ≡ reads_failed result (R.failures reader.old) }
     ensures writes { W.failures writer.new ≡ writes_failed result (W.failures writer.old) }
-    ensures limit { IsLimited result (R.moved reader.old) (R.moved reader.new) }
+    ensures calls { R.calls reader.new ≤ R.calls reader.old + most_reads }
+    ensures limit { IsLimited result (R.moved reader.old) (R.moved reader.new)
+        (R.calls reader.old) (R.calls reader.new) }
 {
     let Ok(mut exchange) = Exchange::new(alloc) else {
         return ExchangeEnd::Memory;
@@ -106,6 +108,7 @@ fn read_piece<R: Source>(
     requires room { (pending_of exchange.old).fed + longest_piece ≤ longest_stream }
     ensures fed { OnOk result (FeedsNext (R.left reader.old) (R.left reader.new)
         (R.moved reader.old) (R.moved reader.new) exchange.old exchange.new) }
+    ensures calls { R.calls reader.new ≡ one_more (R.calls reader.old) }
     ensures count { OnOk result (R.failures reader.new ≡ R.failures reader.old) }
     ensures stops { IfErr result (λ end.
         StopsReading end (R.left reader.old) (R.left reader.new)) }

@@ -11,14 +11,20 @@ use crate::source::{IoFailed, Source};
 pub struct MemorySource<'a> {
     bytes: &'a [u8],
     moved: u64,
+    calls: u64,
 }
 
 impl<'a> MemorySource<'a> {
     pub fn new(bytes: &'a [u8]) -> MemorySource<'a>
         ensures bytes { result.bytes.now ≡ bytes.now }
         ensures moved { result.moved ≡ 0 }
+        ensures calls { result.calls ≡ 0 }
     {
-        MemorySource { bytes, moved: 0 }
+        MemorySource {
+            bytes,
+            moved: 0,
+            calls: 0,
+        }
     }
 }
 
@@ -26,6 +32,8 @@ impl<'a> Source for MemorySource<'a> {
     ghost left = { λ s. Some s.bytes.now };
 
     ghost moved = { λ s. s.moved };
+
+    ghost calls = { λ s. s.calls };
 
     ghost failures = { λ s. 0 };
 
@@ -35,6 +43,7 @@ impl<'a> Source for MemorySource<'a> {
         buf[..count].copy_from_slice(piece);
         self.bytes = rest;
         self.moved = self.moved.saturating_add(count as u64);
+        self.calls = self.calls.saturating_add(1);
         Ok(count)
     }
 
@@ -42,6 +51,7 @@ impl<'a> Source for MemorySource<'a> {
         let count = most.min(self.bytes.len() as u64);
         self.bytes = &self.bytes[count as usize..];
         self.moved = self.moved.saturating_add(count);
+        self.calls = self.calls.saturating_add(1);
         Ok(count)
     }
 }

@@ -1,18 +1,22 @@
 //! Readers and writers of std as a `Source` and a `Sink`.
 ghost use Rattle.std.specs.Prelude.{◌≡◌, ◌<◌, ◌≤◌, length, take, true, false, IfOk, OnErr};
-ghost use Rattle.bw_stream.specs.Moves.{failures_after, moved_after, Keeps, Reads, Skips, Writes};
+ghost use Rattle.bw_stream.specs.Moves.{one_more, failures_after, moved_after, Keeps, Reads, Skips};
+ghost use Rattle.bw_stream.specs.Moves.{Writes};
 
 use crate::sink::Sink;
 use crate::source::{IoFailed, Source};
 use std::io::{Read, Write};
 
-/// A reader or a writer of std, with a count of its failures, and of the bytes that were read.
+/// A reader or a writer of std, with a count of its failures, of the reads, and of the bytes that
+/// were read.
 ///
 /// A write of no byte of a piece that has some counts as a failure.
 #[derive(Drop)]
 pub struct Plain<T> {
     pub(crate) inner: T,
     pub(crate) moved: u64,
+    /// How often something was read or passed over; the count stays at 2^64 - 1.
+    pub(crate) calls: u64,
     pub(crate) failures: u64,
     /// No byte was written since the last flush.
     is_flushed: bool,
@@ -22,12 +26,14 @@ impl<T: Drop> Plain<T> {
     pub fn new(inner: T) -> Plain<T>
         ensures inner { result.inner ≡ inner }
         ensures moved { result.moved ≡ 0 }
+        ensures calls { result.calls ≡ 0 }
         ensures failures { result.failures ≡ 0 }
         ensures flushed { result.is_flushed ≡ true }
     {
         Plain {
             inner,
             moved: 0,
+            calls: 0,
             failures: 0,
             is_flushed: true,
         }
@@ -43,6 +49,7 @@ impl<T: Drop> Plain<T> {
 
 impl<T: Read> Plain<T> {
     fn read_counted(&mut self, buf: &mut [u8]) -> Result<usize, IoFailed>
+        ensures calls { self.new.calls ≡ one_more self.old.calls }
         ensures count { self.new.failures ≡ failures_after result self.old.failures }
         ensures moved { self.new.moved ≡ moved_after result self.old.moved }
         ensures within { IfOk result (λ n. n ≤ length buf.old) }
@@ -52,6 +59,7 @@ impl<T: Read> Plain<T> {
         ensures err { OnErr result
             (Keeps (T.remaining self.old.inner) (T.remaining self.new.inner)) }
     {
+        self.calls = self.calls.saturating_add(1);
         let Ok(count) = self.inner.read(buf) else {
             self.failures = self.failures.saturating_add(1);
             return Err(IoFailed);
@@ -63,6 +71,7 @@ impl<T: Read> Plain<T> {
     /// Reads some of the next bytes, at most `most`, into a piece, and drops them.
     pub(crate) fn read_past(&mut self, piece: &mut [u8], most: u64) -> Result<u64, IoFailed>
         requires { 0 < length piece.old }
+        ensures calls { self.new.calls ≡ one_more self.old.calls }
         ensures count { self.new.failures ≡ failures_after result self.old.failures }
         ensures moved { self.new.moved ≡ moved_after result self.old.moved }
         ensures within { IfOk result (λ n. n ≤ most) }
@@ -81,6 +90,8 @@ impl<T: Read> Source for Plain<T> {
     ghost left = { λ s. T.remaining s.inner };
 
     ghost moved = { λ s. s.moved };
+
+    ghost calls = { λ s. s.calls };
 
     ghost failures = { λ s. s.failures };
 

@@ -1,8 +1,8 @@
 //! A file as a `Source` that seeks over what it passes by.
 ghost use Rattle.std.specs.Prelude.{◌≡◌, ◌≤◌, None, length, IfOk, OnOk, OnErr};
 ghost use Rattle.std.specs.Io.Seek.{MovesTo};
-ghost use Rattle.bw_stream.specs.Moves.{failures_after, moved_after, Keeps, Reads, ReadsOn, Skips};
-ghost use Rattle.bw_stream.specs.Moves.{SeeksOver};
+ghost use Rattle.bw_stream.specs.Moves.{one_more, failures_after, moved_after, Keeps, Reads, ReadsOn};
+ghost use Rattle.bw_stream.specs.Moves.{SeeksOver, Skips};
 
 use crate::plain::Plain;
 use crate::source::{IoFailed, Source};
@@ -29,6 +29,7 @@ impl<T: Drop> SeekSource<T> {
     /// pipe.
     pub fn new(inner: T, len: u64) -> SeekSource<T>
         ensures inner { result.plain.inner ≡ inner }
+        ensures calls { result.plain.calls ≡ 0 }
         ensures failures { result.plain.failures ≡ 0 }
         ensures place { result.place ≡ 0 }
         ensures len { result.len ≡ len }
@@ -45,12 +46,14 @@ impl<T: Drop> SeekSource<T> {
 impl<T: Seek> SeekSource<T> {
     /// Seeks to a place, counted from the start.
     fn seek_to(&mut self, place: u64) -> Result<(), IoFailed>
+        ensures calls { self.new.plain.calls ≡ one_more self.old.plain.calls }
         ensures count { self.new.plain.failures ≡ failures_after result self.old.plain.failures }
         ensures ok { OnOk result (self.new.place ≡ place) }
         ensures err { OnErr result (self.new.place ≡ self.old.place) }
         ensures seeks { MovesTo (T.stream_position self.old.plain.inner)
             (T.stream_position self.new.plain.inner) place result }
     {
+        self.plain.calls = self.plain.calls.saturating_add(1);
         let Ok(_) = self.plain.inner.seek(SeekFrom::Start(place)) else {
             self.plain.failures = self.plain.failures.saturating_add(1);
             return Err(IoFailed);
@@ -65,9 +68,12 @@ impl<T: Read + Seek> Source for SeekSource<T> {
 
     ghost moved = { λ s. s.place };
 
+    ghost calls = { λ s. s.plain.calls };
+
     ghost failures = { λ s. s.plain.failures };
 
     fn read(&mut self, buf: &mut [u8]) -> Result<usize, IoFailed>
+        ensures calls { self.new.plain.calls ≡ one_more self.old.plain.calls }
         ensures count { self.new.plain.failures ≡ failures_after result self.old.plain.failures }
         ensures moved { self.new.place ≡ moved_after result self.old.place }
         ensures within { IfOk result (λ n. n ≤ length buf.old) }
@@ -83,6 +89,7 @@ impl<T: Read + Seek> Source for SeekSource<T> {
     }
 
     fn skip(&mut self, most: u64) -> Result<u64, IoFailed>
+        ensures calls { self.new.plain.calls ≡ one_more self.old.plain.calls }
         ensures count { self.new.plain.failures ≡ failures_after result self.old.plain.failures }
         ensures moved { self.new.place ≡ moved_after result self.old.place }
         ensures within { IfOk result (λ n. n ≤ most) }

@@ -1,17 +1,20 @@
 //! What bytes are read from: forward, once, and with a count of the failures.
 ghost use Rattle.std.specs.Prelude.{◌≡◌, ℕ, ◌≤◌, List, length, Option, IfOk, OnErr};
-ghost use Rattle.bw_stream.specs.Moves.{failures_after, moved_after, Keeps, Reads, Skips};
+ghost use Rattle.bw_stream.specs.Moves.{one_more, failures_after, moved_after, Keeps, Reads, Skips};
 
 /// A reader or a writer failed.
 #[derive(Clone, Copy, PartialEq, Eq, Debug, Drop)]
 pub struct IoFailed;
 
-/// A reader: the bytes that it has left, where it tells them, how many it gave or passed over, and
-/// how often it failed.
+/// A reader: the bytes that it has left, where it tells them, how many it gave or passed over, how
+/// often it was asked for some, and how often it failed.
 pub trait Source {
     ghost left: { Self → Option (List ℕ) };
 
     ghost moved: { Self → ℕ };
+
+    /// How many calls came; the count stays at 2^64 - 1.
+    ghost calls: { Self → ℕ };
 
     ghost failures: { Self → ℕ };
 
@@ -21,6 +24,7 @@ pub trait Source {
     /// # Errors
     /// `IoFailed` where the reader failed: no byte was used up.
     fn read(&mut self, buf: &mut [u8]) -> Result<usize, IoFailed>
+        ensures calls { calls self.new ≡ one_more (calls self.old) }
         ensures count { failures self.new ≡ failures_after result (failures self.old) }
         ensures moved { moved self.new ≡ moved_after result (moved self.old) }
         ensures within { IfOk result (λ n. n ≤ length buf.old) }
@@ -34,6 +38,7 @@ pub trait Source {
     /// # Errors
     /// `IoFailed` where the reader failed: no byte was used up.
     fn skip(&mut self, most: u64) -> Result<u64, IoFailed>
+        ensures calls { calls self.new ≡ one_more (calls self.old) }
         ensures count { failures self.new ≡ failures_after result (failures self.old) }
         ensures moved { moved self.new ≡ moved_after result (moved self.old) }
         ensures within { IfOk result (λ n. n ≤ most) }

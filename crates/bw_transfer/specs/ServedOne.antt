@@ -1,10 +1,10 @@
 -- What serving one exchange comes to.
-use Rattle.std.specs.Prelude.{◌≡◌, ℕ, ◌++◌, List, codes, decimal}
+use Rattle.std.specs.Prelude.{◌≡◌, ℕ, ◌+◌, ◌≤◌, ◌++◌, List, codes, decimal}
 use Rattle.bw_model.specs.Wire.{Frame}
 use Rattle.bw_model.specs.Replies.{Reply}
 use Rattle.bw_stream.specs.declared.sink.Sink.{Ghosts as Writer}
 use Rattle.bw_stream.specs.declared.source.Source.{Ghosts as Reader}
-use Rattle.bw_engine.specs.Served.{Serves, reads_failed, writes_failed, IsLimited}
+use Rattle.bw_engine.specs.Served.{Serves, most_reads, reads_failed, writes_failed, IsLimited}
 use Rattle.bw_engine.specs.declared.serving.ExchangeEnd.{ExchangeEnd}
 use Rattle.bw_engine.specs.declared.serving.ExchangeEnd.TheVariants as ends
 use Rattle.bw_commands.specs.Printing.{Print, Nothing, Whole, Part, IsOf, IsPrint}
@@ -48,7 +48,8 @@ module _ {S R W O : Type 0} (answers : S → Frame → List Reply → S → Type
         (writer.written w')
     pub reads : reader.failures r' ≡ reads_failed end (reader.failures r)
     pub writes : writer.failures w' ≡ writes_failed end (writer.failures w)
-    pub limit : IsLimited end (reader.moved r) (reader.moved r')
+    pub calls : reader.calls r' ≤ reader.calls r + most_reads
+    pub limit : IsLimited end (reader.moved r) (reader.moved r') (reader.calls r) (reader.calls r')
     pub print : Print
     pub line : IsOf (exchange_end_line index end) print
     pub printed : IsPrint out print o o'

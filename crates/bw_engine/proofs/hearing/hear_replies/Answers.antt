@@ -2,7 +2,7 @@ use Rattle.std.proofs.Common.{refl, ◌∙◌, arith}
 use Rattle.std.proofs.lemmas.Result.{err_from_is_err_and}
 use Rattle.bw_engine.proofs.HeardPieces.{heard-none, fed_so_far, heard-more, no_memory, no_more_heard, limit_reached}
 use Rattle.bw_engine.proofs.HeardPieces.{bad_reply, input_ended, has_fed, has_ended, unlimited, ended_counts}
-use Rattle.bw_engine.proofs.Whole.{moved_on}
+use Rattle.bw_engine.proofs.Whole.{moved_on, called_on}
 use Rattle.bw_engine.proofs.hearing.hear_replies.Goals as goal
 
 pub returns-in_default-clause-hears : goal.returns-in_default-clause-hears
@@ -14,6 +14,7 @@ loop-read-init g c = record {
   so_far = heard-none c.args.sender.now _ c.new-framer.result c.new-framer.ensures;
   reads = refl;
   moved = omega arith;
+  calls = omega arith;
 }
 
 pub read_piece-requires-clause-room : goal.read_piece-requires-clause-room
@@ -32,7 +33,7 @@ returns-in_err-read_piece-clause-hears g c =
 pub returns-in_err-read_piece-clause-limit : goal.returns-in_err-read_piece-clause-limit
 returns-in_err-read_piece-clause-limit g c =
     let answer = err_from_is_err_and c.from_residual.result c.from_residual.ensures.1 in
-    rw (answer.1, answer.2) (unlimited c.in_err-read_piece.field-0.0 _ _ c.in_err-read_piece.ensures.stops _ _)
+    rw (answer.1, answer.2) (unlimited c.in_err-read_piece.field-0.0 _ _ c.in_err-read_piece.ensures.stops _ _ _ _)
 
 pub returns-then-not-branch-clause-hears : goal.returns-then-not-branch-clause-hears
 returns-then-not-branch-clause-hears g c =
@@ -44,12 +45,13 @@ returns-then-not-branch-clause-hears g c =
 pub returns-then-not-branch-clause-reads : goal.returns-then-not-branch-clause-reads
 returns-then-not-branch-clause-reads g c =
     c.in_ok-read_piece.ensures.count ∙ c.loop-read.invariant.reads
-    ∙ (ended_counts c.end_of_input.result c.end_of_input.ensures.why (g.R.Source.failures c.args.reader.now) 0 0).0
+    ∙ (ended_counts c.end_of_input.result c.end_of_input.ensures.why (g.R.Source.failures c.args.reader.now) 0 0 0 0).0
 
 pub returns-then-not-branch-clause-limit : goal.returns-then-not-branch-clause-limit
 returns-then-not-branch-clause-limit g c =
     (ended_counts c.end_of_input.result c.end_of_input.ensures.why 0 (g.R.Source.moved c.args.reader.now)
-    (g.R.Source.moved c.read_piece.new.reader)).1
+    (g.R.Source.moved c.read_piece.new.reader) (g.R.Source.calls c.args.reader.now)
+    (g.R.Source.calls c.read_piece.new.reader)).1
 
 pub returns-in_err-hear_held-clause-hears : goal.returns-in_err-hear_held-clause-hears
 returns-in_err-hear_held-clause-hears g c =
@@ -72,6 +74,8 @@ loop-read-preserved g c =
           c.in_ok-hear_held.ensures.none;
       reads = c.in_ok-read_piece.ensures.count ∙ i.reads;
       moved = moved_on (g.R.Source.moved c.args.reader.now) _ _ c.loop-read._read _ i.moved n.counted n.some;
+      calls = called_on (g.R.Source.calls c.args.reader.now) _ _ c.loop-read._read i.calls
+          c.in_ok-read_piece.ensures.calls;
     }
 
 pub returns-clause-hears : goal.returns-clause-hears

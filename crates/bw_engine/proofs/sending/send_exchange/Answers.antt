@@ -9,6 +9,6 @@ returns-in-Err-Write g c =
       cut = λ s is. rw write at c.in-Err-Write.ensures.err s is;
       counted = rw write at c.in-Err-Write.ensures.count;
       hearing = c.hear_replies-in-Err-Write.result;
-      over = record { hears = heard.hears; reads = heard.reads; limit = heard.limit };
+      over = record { hears = heard.hears; reads = heard.reads; calls = heard.calls; limit = heard.limit };
       ends = c.end_after_write.ensures;
     }))

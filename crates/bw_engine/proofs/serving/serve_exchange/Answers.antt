@@ -4,7 +4,7 @@ use Rattle.bw_engine.specs.declared.serving.ExchangeEnd.{ExchangeEnd}
 use Rattle.bw_engine.specs.Served.{reads_failed, writes_failed, IsLimited, Serves}
 use Rattle.bw_engine.proofs.Ending.{no_memory, no_more_read, write_failed, limit_reached, stream_ended}
 use Rattle.bw_engine.proofs.Ending.{stopped_counts, ended_counts}
-use Rattle.bw_engine.proofs.Whole.{so_far-none, counted, has_bytes, so_far-more, moved_on}
+use Rattle.bw_engine.proofs.Whole.{so_far-none, counted, has_bytes, so_far-more, moved_on, called_on}
 use Rattle.bw_engine.proofs.serving.serve_exchange.Goals as goal
 
 pub returns-in_default-clause-served : goal.returns-in_default-clause-served
@@ -21,6 +21,7 @@ loop-read-init g c = record {
   reads = refl;
   writes = refl;
   moved = omega arith;
+  calls = omega arith;
 }
 
 pub read_piece-requires-clause-room : goal.read_piece-requires-clause-room
@@ -37,12 +38,13 @@ returns-in-Err-clause-served g c =
 pub returns-in-Err-clause-writes : goal.returns-in-Err-clause-writes
 returns-in-Err-clause-writes g c =
     c.loop-read.invariant.writes
-    ∙ (stopped_counts c.in-Err.end _ _ c.in-Err.ensures.stops (g.W.Sink.failures c.args.writer.now) 0 0).0
+    ∙ (stopped_counts c.in-Err.end _ _ c.in-Err.ensures.stops (g.W.Sink.failures c.args.writer.now) 0 0 0 0).0
 
 pub returns-in-Err-clause-limit : goal.returns-in-Err-clause-limit
 returns-in-Err-clause-limit g c =
     (stopped_counts c.in-Err.end _ _ c.in-Err.ensures.stops 0 (g.R.Source.moved c.args.reader.now)
-    (g.R.Source.moved c.read_piece.new.reader)).1
+    (g.R.Source.moved c.read_piece.new.reader) (g.R.Source.calls c.args.reader.now)
+    (g.R.Source.calls c.read_piece.new.reader)).1
 
 pub returns-in-Err-answer_held-clause-served : goal.returns-in-Err-answer_held-clause-served
 returns-in-Err-answer_held-clause-served g c =
@@ -63,20 +65,23 @@ returns-in-Some-clause-served g c =
 pub returns-in-Some-clause-reads : goal.returns-in-Some-clause-reads
 returns-in-Some-clause-reads g c =
     let n = g.R.Source.failures c.args.reader.now in
-    c.in_default-read_piece.ensures.count ∙ c.loop-read.invariant.reads ∙ (ended_counts c.in-Some.end n 0 0).0
+    c.in_default-read_piece.ensures.count ∙ c.loop-read.invariant.reads ∙ (ended_counts c.in-Some.end n 0 0 0 0).0
     ∙ ap (λ (end : ExchangeEnd). reads_failed end n) (sym c.from.ensures)
 
 pub returns-in-Some-clause-writes : goal.returns-in-Some-clause-writes
 returns-in-Some-clause-writes g c =
     let n = g.W.Sink.failures c.args.writer.now in
-    c.in_default-answer_held.ensures.count ∙ c.loop-read.invariant.writes ∙ (ended_counts c.in-Some.end n 0 0).1
+    c.in_default-answer_held.ensures.count ∙ c.loop-read.invariant.writes ∙ (ended_counts c.in-Some.end n 0 0 0 0).1
     ∙ ap (λ (end : ExchangeEnd). writes_failed end n) (sym c.from.ensures)
 
 pub returns-in-Some-clause-limit : goal.returns-in-Some-clause-limit
 returns-in-Some-clause-limit g c =
     let m = g.R.Source.moved c.args.reader.now in
     let m' = g.R.Source.moved c.read_piece.new.reader in
-    subst (λ (end : ExchangeEnd). IsLimited end m m') (sym c.from.ensures) (ended_counts c.in-Some.end 0 m m').2
+    let k = g.R.Source.calls c.args.reader.now in
+    let k' = g.R.Source.calls c.read_piece.new.reader in
+    subst (λ (end : ExchangeEnd). IsLimited end m m' k k') (sym c.from.ensures)
+    (ended_counts c.in-Some.end 0 m m' k k').2
 
 pub loop-read-preserved : goal.loop-read-preserved
 loop-read-preserved g c =
@@ -96,6 +101,8 @@ loop-read-preserved g c =
       reads = c.in_default-read_piece.ensures.count ∙ i.reads;
       writes = w.count ∙ i.writes;
       moved = moved_on (g.R.Source.moved c.args.reader.now) _ _ c.loop-read._read _ i.moved n.counted some;
+      calls = called_on (g.R.Source.calls c.args.reader.now) _ _ c.loop-read._read i.calls
+          c.in_default-read_piece.ensures.calls;
     }
 
 pub returns-clause-served : goal.returns-clause-served

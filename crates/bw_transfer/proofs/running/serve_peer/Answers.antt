@@ -32,6 +32,7 @@ returns g c =
         };
         reads = to.reads;
         writes = to.writes;
+        calls = to.calls;
         limit = to.limit;
         print = to.print;
         line = to.line;
