@@ -111,11 +111,11 @@ impl<S: TakeStore, J: Journal> Server<S, J> {
     }
 
     /// Takes a message, and tells its sender, in `out`, which is emptied first: the verdicts of the
-    /// numbers of its name that are done by it, in their order, sixteen at most, and behind them what
-    /// is said of the message itself, where its verdict isn't among these.
+    /// numbers of its name that are done by it, in their order, at most sixteen, and behind them
+    /// what is said of the message itself, where its verdict isn't among these.
     ///
-    /// A message that is held is done when those before it have come; after a failure of the store or
-    /// the journal, when the next message of its name comes.
+    /// A message that is held is done when those before it have come; after a failure of the store
+    /// or the journal, when the next message of its name comes.
     pub fn turn(&mut self, message: &Message<'_>, out: &mut ArrayVec<Reply, 17>)
         ensures few { length out.new.items ≤ 17 }
         ensures numbers { All HasWireNumbers out.new.items }
