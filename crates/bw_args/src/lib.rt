@@ -54,7 +54,7 @@ pub enum CommandLine {
 /// Reads a command line, of which the first word is the program's own name.
 ///
 /// Which words run a task, and of what kind an error is, is `clap`'s own account of its walk over
-/// them (`line`). In plain terms the contract says of thirty forms that they run (`replay`,
+/// them (`line`). In plain terms the contract says of thirty-one forms that they run (`replay`,
 /// `rehearse`, `inspect`, `serve`, `send`), of eighteen which value is a fault (`values`, `peers`)
 /// and of thirteen what they tell (`help`, `rehearse`, `inspect`, `wanted`). That options may be
 /// given in any of their forms and orders, and that all else but `--` at the end or before a file

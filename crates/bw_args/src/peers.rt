@@ -19,6 +19,7 @@ pub struct Serve {
     pub listen: SocketAddr,
     /// The path of the folder that keeps the takes' files, as it was given.
     pub folder: String,
+    /// When it ends.
     pub end: End,
     /// The greatest form size of a RIFF file, in bytes.
     pub limit: u64,

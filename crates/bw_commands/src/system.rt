@@ -8,12 +8,16 @@ use std::io;
 /// A system: the words of the command line and the bytes at each path, where it tells them, and how
 /// often it failed.
 pub trait System {
+    /// Reads an opened file.
     type File: Source + Drop;
 
+    /// The words of the command line, where the system tells them.
     ghost words: { Self → Option (List (List ℕ)) };
 
+    /// The bytes of the file at each path, where the system tells them.
     ghost file_at: { Self → List ℕ → Option (List ℕ) };
 
+    /// How many calls failed; the count stays at 2^64 - 1.
     ghost failures: { Self → ℕ };
 
     /// The words of the command line, the program's own name first.

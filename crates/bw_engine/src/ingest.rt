@@ -16,8 +16,11 @@ use thiserror::Error;
 /// What a run leaves: for each input the bytes of its replies and its end, and the store.
 #[derive(Drop)]
 pub struct Run<S: TakeStore> {
+    /// The bytes of the replies to each input.
     pub replies: Vec<Vec<u8>>,
+    /// How the exchange of each input ended.
     pub ends: Vec<ExchangeEnd>,
+    /// The store, as the run leaves it.
     pub store: S,
 }
 

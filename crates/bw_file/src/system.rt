@@ -7,8 +7,9 @@ use std::fs::{File, Files, OpenFile};
 use std::io;
 use std::io::{ErrorKind, Seek, SeekFrom, Write};
 
-/// The files of the system, by the calls of std. No clause can say what they hold: that this disk
-/// is an honest one is a premise.
+/// The files of the system, by the calls of std. No clause can say what they hold, so `honest` is
+/// false here, and what is proved of honest disks says nothing of this one: that its calls do what
+/// is asked of an honest disk is a premise.
 #[derive(Drop)]
 pub struct SystemDisk<R> {
     rt: R,

@@ -40,7 +40,7 @@ HasFewCues k = length (unwrap_or k.cues []) ≤ most_cues
 abbrev pub nothing : Facts
 nothing = record { fmt = None; samples = None; bext = None; cues = None }
 
--- what one chunk tells
+-- what `fmt ` tells
 abbrev pub fmt_told : List ℕ → reading.Entry → report.RawFmt
 fmt_told b e = report.raw_fmt (report.content_of b (Some e))
 

@@ -1,4 +1,5 @@
--- What a folder has after a stop at any moment, and what a server that goes on over it holds.
+-- What a folder has after a stop between two turns, and what a server that goes on over it holds. A
+-- stop within a turn is taken for one behind a turn in which a call failed.
 use Rattle.std.specs.Prelude.{◌≡◌, ◌⊎◌, ℕ, ◌+◌, ◌≤◌, Bool, true, false, not, ◌&&◌, Option, Some}
 use Rattle.std.specs.Prelude.{None, IsSome, IsTrue, is_some, List, [], ◌++◌, length, take, drop}
 use Rattle.std.specs.Prelude.{nat_lt, if◌then◌else◌}
@@ -19,7 +20,7 @@ abbrev pub IsOnTheWay : Take → ℕ → Option Request → Option (List ℕ) �
 IsOnTheWay t limit waits found =
     (found ≡ file_of t limit) ⊎ IsInTheMiddle t limit waits found
 
--- A server's files are so at each moment, whatever it is told and whichever calls fail.
+-- A server's files are so behind each turn, whatever it is told and whichever calls fail.
 abbrev pub HeldFilesSurvive : Type 0
 HeldFilesSurvive =
     (limit : ℕ) (store : Store) (kept_of : List ℕ → Option Kept) (book : Book) →
@@ -63,7 +64,7 @@ RecoveryHolds =
     Holds limit (record { contents = contents; first = first; honest = honest })
     (kept_after first contents book) (cut_book book)
 
--- The file of a closed take is whole at each moment: a repair leaves it alone.
+-- The file of a closed take is whole: a repair leaves it alone.
 abbrev pub ClosedFilesAreWhole : Type 0
 ClosedFilesAreWhole = (t : Take) (limit : ℕ) (waits : Option Request) (found : Option (List ℕ)) →
     t.closed ≡ true → IsOnTheWay t limit waits found → found ≡ file_of t limit

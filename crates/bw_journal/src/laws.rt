@@ -36,7 +36,7 @@ pub fn law_stops()
     ensures worlds { EachWorldGoesOn }
 {}
 
-/// At each moment a server's files are those of its done numbers, or between them and the next;
+/// Behind each turn a server's files are those of its done numbers, or between them and the next;
 /// behind their repair a server with what the journals tell holds the book that the stop left; and
 /// files of closed takes need no repair.
 pub fn law_recovery()

@@ -30,7 +30,7 @@ unfoldable pub riff_middle : Format → List (List ℕ) → List ℕ → List �
 riff_middle f fields history =
     codes "WAVE" ++ chunk junk_chunk ++ middle f fields history ++ codes "data"
 
--- a BW64 header before its two sizes, and behind them
+-- a BW64 header before its two sizes
 unfoldable pub bw64_front : List ℕ
 bw64_front = head (codes "BW64") unsaid ++ codes "WAVE" ++ head (codes "ds64") 28
 

@@ -18,7 +18,7 @@ use Rattle.bw_model.specs.Report.{RawFmt, RawBext, RawCue, Report, report_of}
 abbrev pub is_marker : (ℕ × ℕ) → Bool
 is_marker m = nat_lt m.0 (2 ^ 32) && nat_lt m.1 (2 ^ 32)
 
--- a take that an open server may hold, whose form is at most 2^62 bytes
+-- a take that is open or closed, as a server may hold it, whose form is at most 2^62 bytes
 pub record IsWithinLimits (f : Format) (t : Take) : Type 0 where
   pub format : IsTrue (is_format f)
   pub fields : AreFields t.fields

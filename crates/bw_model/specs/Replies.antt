@@ -77,7 +77,7 @@ pub record SpellsReply (bytes : List ℕ) (r : Reply) : Type 0 where
   pub fits : IsTrue (is_reply r)
   pub spelled : bytes ≡ reply_body r
 
--- what has this code
+-- all verdicts
 abbrev pub verdicts : List Verdict
 verdicts = Stored ∷ NameTaken ∷ AlreadyOpen ∷ NotOpen ∷ Closed ∷ BadFormat ∷ BadBlock
     ∷ BadMarker ∷ DuplicateMarker ∷ TooManyMarkers ∷ BadField ∷ WrongTotal ∷ []
@@ -102,7 +102,7 @@ notice_of code = find (λ n. notice_code n == code) notices
 abbrev pub reason_of : ℕ → Option Reason
 reason_of code = find (λ r. reason_code r == code) reasons
 
--- the reply that a code and what follows it make
+-- the verdict that a code with nothing behind it makes
 abbrev pub judged_by : List ℕ → ℕ → List ℕ → Option Reply
 judged_by name number [] = None
 judged_by name number (code ∷ more) =

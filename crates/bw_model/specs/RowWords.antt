@@ -28,7 +28,7 @@ hex s = from_hex (codes s)
 
 -- Takes.
 
--- 48,000 Hz, one channel, 16 or 24 bits
+-- 48,000 Hz, one channel, 16 bits
 abbrev pub mono : Format
 mono = record { rate = 48000; channels = 1; bits = 16 }
 
@@ -44,7 +44,7 @@ default_limit = 4294967294
 abbrev pub take_of : List Request → Take
 take_of rs = fold after (new_take false) rs
 
--- two frames at 16 bits, and two others
+-- two frames at 16 bits
 abbrev pub two_frames : List ℕ
 two_frames = hex "01000200"
 
@@ -89,7 +89,7 @@ cue_file =
 abbrev pub a1 : List ℕ
 a1 = codes "a1"
 
--- OPEN, BLOCK and CLOSE with the numbers 0, 1 and 2, and a BLOCK with other bytes
+-- the frame of OPEN, number 0
 abbrev pub open_0 : List ℕ
 open_0 = hex "12000000010261310000000080bb0000010010000000"
 
@@ -105,7 +105,7 @@ other_1 = hex "0c000000020261310100000001000300"
 abbrev pub close_2 : List ℕ
 close_2 = hex "1000000005026131020000000200000000000000"
 
--- a verdict on a number, and a notice with what comes next
+-- a verdict on a number
 abbrev pub judged : ℕ → ℕ → List ℕ
 judged n code = hex "0900000081026131" ++ le32 n ++ code ∷ []
 
@@ -117,7 +117,7 @@ noticed n code next = hex "0d00000082026131" ++ le32 n ++ code ∷ le32 next
 abbrev pub file_in : Book → Option (List ℕ)
 file_in book = content_in (λ name. None) default_limit book a1
 
--- what a new server answers these bytes, how the exchange ends, and the file of `a1` behind it
+-- a server's answer, how the exchange ended, and the file of `a1` behind it
 abbrev pub Outcome : Type 0
 Outcome = List ℕ × End × Option (List ℕ)
 

@@ -13,7 +13,7 @@ use Rattle.bw_model.specs.RowWords.{a1, mono, two_frames, other_frames, default_
 use Rattle.bw_model.specs.RowWords.{cue_file, hex, says, fails_after, answers_to}
 use Rattle.bw_model.specs.RowWords.{file_in, Turns}
 
--- the messages of two frames, and a BLOCK with other bytes
+-- OPEN, number 0
 abbrev pub says_open : Frame
 says_open = says 0 (Open mono [])
 
@@ -69,8 +69,7 @@ StoppedDrainRow = Turns
     ∷ (stored 1 ∷ stored 2 ∷ []) ∷ [])
     (Some small_file)
 
--- fifteen numbers wait while OPEN's store call fails; a sixteenth then drains all, sixteen verdicts
--- and its own TooFar
+-- BLOCKs of so many numbers from n on, where nothing fails
 abbrev pub waiting : ℕ → ℕ → List (Frame × Luck)
 waiting n zero = []
 waiting n (suc count) = (says n (Block two_frames), good) ∷ waiting (suc n) count
@@ -85,7 +84,8 @@ abbrev pub stored_each : ℕ → ℕ → List Reply
 stored_each n zero = []
 stored_each n (suc count) = stored n ∷ stored_each (suc n) count
 
--- one turn gives seventeen replies
+-- fifteen numbers wait while OPEN's store call fails; a sixteenth then drains all: sixteen verdicts
+-- and its own TooFar
 abbrev pub SeventeenRepliesRow : Type 0
 SeventeenRepliesRow =
     answers_to (waiting 1 15 ++ (says_open, fails_after 0) ∷ (says 16 (Block two_frames), good)

@@ -53,12 +53,12 @@ HearsRow =
     × (stored (behind first_batch) ≡ 1)
     × (pending (behind first_batch) 0 ≡ Some (1, Block two_frames))
 
--- a refused block is settled and not stored, its first verdict stays, and other names and numbers
--- are strange
+-- then the block's verdict comes, a refusal
 abbrev pub second_batch : List Reply
 second_batch = first_batch ++ Judged a1 1 BadBlock ∷ []
 
--- a refused number is settled, and what is known or strange changes nothing
+-- a refused block is settled and not stored, its first verdict stays, and other names and numbers
+-- are strange
 abbrev pub RefusedRow : Type 0
 RefusedRow =
     (settled (behind second_batch) ≡ 3) × (stored (behind second_batch) ≡ 2)

@@ -110,7 +110,12 @@ impl<S: TakeStore, J: Journal> Server<S, J> {
         })
     }
 
-    /// Takes a message, and tells its sender, in `out`, which is emptied first.
+    /// Takes a message, and tells its sender, in `out`, which is emptied first: the verdicts of the
+    /// numbers of its name that are done by it, in their order, at most sixteen, and behind them
+    /// what is said of the message itself, where its verdict isn't among these.
+    ///
+    /// A message that is held is done when those before it have come; after a failure of the store
+    /// or the journal, when the next message of its name comes.
     pub fn turn(&mut self, message: &Message<'_>, out: &mut ArrayVec<Reply, 17>)
         ensures few { length out.new.items ≤ 17 }
         ensures numbers { All HasWireNumbers out.new.items }
@@ -309,7 +314,8 @@ impl<S: TakeStore, J: Journal> Server<S, J> {
         }
     }
 
-    /// The answer to an ask: how many numbers of the name have their verdicts.
+    /// The answer to an ask: how many numbers of the name have their verdicts, 0 of one that isn't
+    /// known. The number that was asked with is repeated.
     pub fn ask(&self, name: &Name, number: u32) -> Reply
         ensures value { (first : List ℕ → Option (List ℕ)) (book : Book) →
             HoldsBook S.TakeStore J.Journal first self.now book →
@@ -347,7 +353,7 @@ impl<S: TakeStore, J: Journal> Server<S, J> {
         Some(session.progress.state.frames())
     }
 
-    /// Whether a name's take is closed.
+    /// Whether a name's take is closed; false of a name that isn't known.
     pub fn is_closed(&self, name: &Name) -> bool
         ensures { (first : List ℕ → Option (List ℕ)) (book : Book) →
             HoldsBook S.TakeStore J.Journal first self.now book →

@@ -15,6 +15,7 @@ pub struct MemorySource<'a> {
 }
 
 impl<'a> MemorySource<'a> {
+    /// A reader of these bytes, at their start.
     pub fn new(bytes: &'a [u8]) -> MemorySource<'a>
         ensures bytes { result.bytes.now ≡ bytes.now }
         ensures moved { result.moved ≡ 0 }
@@ -64,6 +65,7 @@ pub struct MemorySink {
 }
 
 impl MemorySink {
+    /// A writer behind these bytes.
     pub fn new(bytes: Vec<u8>) -> MemorySink
         ensures bytes { result.bytes.items ≡ bytes.items }
         ensures failures { result.failures ≡ 0 }

@@ -23,6 +23,7 @@ pub struct Plain<T> {
 }
 
 impl<T: Drop> Plain<T> {
+    /// This reader or writer, which has not failed yet and holds nothing back.
     pub fn new(inner: T) -> Plain<T>
         ensures inner { result.inner ≡ inner }
         ensures moved { result.moved ≡ 0 }

@@ -8,10 +8,13 @@ use crate::source::IoFailed;
 /// A writer: the bytes written so far, where it tells them, how often it failed, and whether none
 /// of them is held back.
 pub trait Sink {
+    /// All bytes written so far, where the writer tells them.
     ghost written: { Self → Option (List ℕ) };
 
+    /// How many calls failed; the count stays at 2^64 - 1.
     ghost failures: { Self → ℕ };
 
+    /// Whether none of the bytes is held back.
     ghost is_flushed: { Self → Bool };
 
     /// Writes some of the first bytes, at least one where there are any.

@@ -9,13 +9,16 @@ pub struct IoFailed;
 /// A reader: the bytes that it has left, where it tells them, how many it gave or passed over, how
 /// often it was asked for some, and how often it failed.
 pub trait Source {
+    /// The bytes that are still to come, where the reader tells them.
     ghost left: { Self → Option (List ℕ) };
 
+    /// How many bytes were given or passed over; the count stays at 2^64 - 1.
     ghost moved: { Self → ℕ };
 
     /// How many calls came; the count stays at 2^64 - 1.
     ghost calls: { Self → ℕ };
 
+    /// How many calls failed; the count stays at 2^64 - 1.
     ghost failures: { Self → ℕ };
 
     /// Reads some of the next bytes into the front of `buf`, at least one unless they are at their

@@ -24,7 +24,7 @@ pub enum Verdict {
     BadFormat = 5,
     /// The block doesn't end with a frame.
     BadBlock = 6,
-    /// The marker lies behind the take's last frame.
+    /// The marker's frame is greater than the number of frames so far.
     BadMarker = 7,
     /// The take has a marker of this identifier.
     DuplicateMarker = 8,

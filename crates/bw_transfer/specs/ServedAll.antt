@@ -77,8 +77,8 @@ module _ {T P R W O E : Type 0} (answers : T → Frame → List Reply → T → 
       × ServesNext index x t m p q o n e f × (exit_now x ≡ None)
       × ServesEach (suc index) xs m t' q p' n o' f e'
 
-  -- A run of so many exchanges: these peers came, each but the last with nothing that ends the run.
-  -- It is done behind the last exchange; before it the run ends as the last peer says.
+  -- A run ended at one of its exchanges, as the last of these peers says; those before it ended
+  -- nothing.
   pub record EndsEarly (exchanges : ℕ) (exit : Exit) (t t' : T) (p p' : P) (o o' : O) (e e' : E)
       : Type 0 where
     pub before : List Outcome
@@ -92,11 +92,13 @@ module _ {T P R W O E : Type 0} (answers : T → Frame → List Reply → T → 
     pub next : ServesNext (length before) last m t' q p' n o' f e'
     pub ends : exit_now last ≡ Some exit
 
+  -- so many peers came, and none of them ended the run
   pub record ServesAll (exchanges : ℕ) (t t' : T) (p p' : P) (o o' : O) (e e' : E) : Type 0 where
     pub outcomes : List Outcome
     pub all : length outcomes ≡ exchanges
     pub each : ServesEach 0 outcomes t t' p p' o o' e e'
 
+  -- a run of so many exchanges: Done where none of them ended it
   abbrev pub ServesRun : ℕ → Exit → T → T → P → P → O → O → E → E → Type 0
   ServesRun exchanges Done t t' p p' o o' e e' = ServesAll exchanges t t' p p' o o' e e'
   ServesRun exchanges exit t t' p p' o o' e e' = EndsEarly exchanges exit t t' p p' o o' e e'

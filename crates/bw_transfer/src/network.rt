@@ -20,6 +20,7 @@ pub struct Serving<'a> {
     pub folder: &'a str,
     /// How many exchanges it serves.
     pub exchanges: u64,
+    /// The greatest form size of a RIFF file.
     pub limit: Limit,
     /// For how many seconds it waits for a peer; for good, where there is none.
     pub timeout: Option<u32>,
@@ -29,12 +30,16 @@ pub struct Serving<'a> {
 
 /// Where a server stands and a recorder calls, and how often that failed.
 pub trait Network {
+    /// Keeps the files of a folder.
     type Store: TakeStore;
 
+    /// Lets in those who come to an address.
     type Peers: Peers + Drop;
 
+    /// Makes links to a server.
     type Dial: Dial + Drop;
 
+    /// How many calls failed; the count stays at 2^64 - 1.
     ghost failures: { Self → ℕ };
 
     /// What a call of `store` for this folder may come to, and what it leaves.

@@ -25,15 +25,19 @@ pub enum AcceptFault {
 pub struct Peer<R, W> {
     /// Where it calls from.
     pub address: SocketAddr,
+    /// What it says, and what is said to it.
     pub link: Link<R, W>,
 }
 
 /// What lets peers in, and how often it failed.
 pub trait Peers {
+    /// Reads what a peer says.
     type Reader: Source + Drop;
 
+    /// Takes what is said to a peer.
     type Writer: Sink + Drop;
 
+    /// How many calls failed; the count stays at 2^64 - 1.
     ghost failures: { Self → ℕ };
 
     /// What a call may come to, and what it leaves. A run of exchanges is told in these words, so

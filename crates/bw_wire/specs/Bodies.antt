@@ -4,11 +4,11 @@ use Rattle.bw_model.specs.Take.{Request}
 use Rattle.bw_model.specs.Wire.{Second, Message, Frame, Says, Asks, Bye, Reason, name_in, number_in}
 use Rattle.bw_model.specs.Wire.{payload_in, request_of, are_bytes, decoded}
 
--- the name, the number and the request of a body that has them
+-- the name in the body of a message or an ask
 unfoldable pub body_name : List ℕ → List ℕ
 body_name bytes = name_in (drop 1 bytes)
 
--- the number of a message's body
+-- the number in the body of a message or an ask
 unfoldable pub body_number : List ℕ → ℕ
 body_number bytes = number_in (drop 1 bytes)
 
@@ -38,7 +38,7 @@ is_ask_read (Ok (Asks name number)) = true
 is_ask_read (Ok Bye) = false
 is_ask_read (Err reason) = false
 
--- the bytes spell a message, or an ask
+-- whether the bytes spell a message
 abbrev pub is_message_body : List ℕ → Bool
 is_message_body bytes = are_bytes bytes && is_message_read (decoded Second bytes)
 

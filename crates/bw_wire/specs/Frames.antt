@@ -16,11 +16,11 @@ use Rattle.bw_wire.specs.Bodies.{body_name, body_number, message_in}
 abbrev pub message_of : Message → model.Message
 message_of m = message_in m.body.now
 
--- the name and the number that an ask's body spells
+-- the name that an ask's body spells
 abbrev pub asked_name : Ask → List ℕ
 asked_name a = body_name a.body.now
 
--- the number that an ask asks for
+-- the number that an ask's body spells, which the reply repeats
 abbrev pub asked_number : Ask → ℕ
 asked_number a = body_number a.body.now
 

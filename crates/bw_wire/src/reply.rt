@@ -19,7 +19,7 @@ pub enum Notice {
     TableFull = 35,
     /// The server had no memory for it.
     NoRoom = 36,
-    /// The store failed: the message is kept, and tried again.
+    /// The store failed: the message is kept, and tried again when the next one of its name comes.
     DelayedStore = 37,
     /// The answer to an ask.
     Next = 39,
