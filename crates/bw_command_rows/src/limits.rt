@@ -1,9 +1,9 @@
-//! The window of numbers, the greatest number, as many names as a server knows, and the limit of a
-//! RIFF file.
+//! The window of numbers, the greatest number, the longest block, as many names as a server knows,
+//! and the limit of a RIFF file.
 use crate::play::{File, Piece, Row, check, printed, prints, put_piece, run_on};
 use crate::takes::{
-    EXCHANGE, JUNK, MONO, NO_FIELDS, OPEN, RESERVED, SMALL, STORED_0, STORED_1, STORED_2, STORED_3,
-    VERSION,
+    EMPTY_FILE, EXCHANGE, JUNK, MONO, NO_FIELDS, OPEN, RESERVED, SMALL, STORED_0, STORED_1,
+    STORED_2, STORED_3, VERSION,
 };
 use bw_layout::Limit;
 use std::alloc::{AllocError, Global};
@@ -250,10 +250,10 @@ const FAR_BELOW: File = File {
     ],
 };
 
-/// OPEN and that block.
-fn long_take(alloc: Global) -> Result<Vec<u8>, AllocError> {
+/// OPEN and a block.
+fn take_with(alloc: Global, block: [Piece; 2]) -> Result<Vec<u8>, AllocError> {
     let mut input = OPEN.as_bytes().to_vec(alloc)?;
-    for piece in LONG_BLOCK {
+    for piece in block {
         put_piece(&mut input, piece)?;
     }
     Ok(input)
@@ -282,7 +282,7 @@ const CLOSED_VERDICTS: &[&str] = &[EXCHANGE, STORED_0, STORED_1, STORED_2, STORE
 fn a_file_past_the_limit_is_bw64(rt: HostRuntime) -> Result<(), Fail> {
     let alloc = rt.alloc();
     let limit = Limit::new(8192).ok_or("a limit")?;
-    let mut input = long_take(alloc)?;
+    let mut input = take_with(alloc, LONG_BLOCK)?;
     leaves(&rt, alloc, limit, input.as_slice(), OPEN_VERDICTS, REACHED)?;
     input.extend_from_slice(MARK_AND_CLOSE.as_bytes())?;
     let closed = input.as_slice();
@@ -295,4 +295,39 @@ fn a_file_past_the_limit_is_bw64(rt: HostRuntime) -> Result<(), Fail> {
         CLOSED_VERDICTS,
         FAR_BELOW,
     )
+}
+
+/// A block of 32,768 bytes, and one of a byte more.
+const LONGEST_BLOCK: [Piece; 2] = [(1, "088000000202613101000000"), (32_768, "11")];
+
+const LONGER_BLOCK: [Piece; 2] = [(1, "098000000202613101000000"), (32_769, "11")];
+
+const LONGEST: File = File {
+    head: "a1 33458",
+    pieces: &[
+        (1, "52494646aa820000574156454a554e4b1c000000"),
+        JUNK,
+        MONO,
+        NO_FIELDS,
+        VERSION,
+        RESERVED,
+        (1, "6461746100800000"),
+        (32_768, "11"),
+    ],
+};
+
+const BAD_FRAME: &[&str] = &[
+    "exchange 0 BadFrame",
+    STORED_0,
+    "reply 0a00000083051600000000000000",
+];
+
+#[test]
+fn a_block_has_at_most_32_768_bytes(rt: HostRuntime) -> Result<(), Fail> {
+    let alloc = rt.alloc();
+    let limit = Limit::default();
+    let input = take_with(alloc, LONGEST_BLOCK)?;
+    leaves(&rt, alloc, limit, input.as_slice(), OPEN_VERDICTS, LONGEST)?;
+    let input = take_with(alloc, LONGER_BLOCK)?;
+    leaves(&rt, alloc, limit, input.as_slice(), BAD_FRAME, EMPTY_FILE)
 }

@@ -8,7 +8,7 @@ use bw_layout::Limit;
 use std::process::Abort;
 use std::test::Fail;
 
-static ENDS: [Row; 5] = [
+static ENDS: [Row; 6] = [
     Row {
         of: "a length of 0, one too long, and a message that is cut off",
         input: &[OPEN, "00000000\n27800000\n120000"],
@@ -41,6 +41,12 @@ static ENDS: [Row; 5] = [
         input: &[OPEN, "0100000009", BLOCK, "ff"],
         lines: &["exchange 0 Bye", STORED_0],
         files: &[EMPTY_FILE],
+    },
+    Row {
+        of: "a byte inside BYE",
+        input: &["020000000900"],
+        lines: &["exchange 0 BadFrame", "reply 0a00000083050000000000000000"],
+        files: &[],
     },
     Row {
         of: "a dropped byte 13, an empty line, and digits in either case",

@@ -21,7 +21,7 @@ fn serve_anew(alloc: Global, server: &mut Server<MemoryStore>) -> Served {
     }
 }
 
-/// Run once more with each growth refused, by `tools/refuse_growths`.
+/// Run once more with each growth refused, by `tools/refuse_calls --tests`.
 #[test]
 fn an_exchange_again_makes_a_refused_growth_good(rt: HostRuntime) -> Result<(), Fail> {
     let alloc = rt.alloc();
@@ -32,7 +32,7 @@ fn an_exchange_again_makes_a_refused_growth_good(rt: HostRuntime) -> Result<(), 
             Err(_refused) => return Err("memory")?,
         },
     };
-    serve_anew(alloc, &mut server);
+    serve(alloc, &mut server, &mut MemorySource::new(TAKE));
     let file = match two_frames(alloc) {
         Ok(file) => file,
         Err(_refused) => two_frames(alloc)?,

@@ -8,11 +8,15 @@ pub(crate) fn a1() -> Result<Name, Fail> {
     Ok(Name::new(b"a1").ok_or("a name")?)
 }
 
+/// A request, made in the second try where memory was refused in the first.
 fn owned(alloc: Global, request: RequestRef<'_>) -> Result<Request, Fail> {
     if !request.fits() {
         return Err("a request")?;
     }
-    Ok(request.to_request(alloc)?)
+    match request.to_request(alloc) {
+        Ok(owned) => Ok(owned),
+        Err(_refused) => Ok(request.to_request(alloc)?),
+    }
 }
 
 /// OPEN: 48,000 Hz, one channel, 16 bits, no coding history.

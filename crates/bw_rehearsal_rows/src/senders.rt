@@ -2,7 +2,7 @@
 use crate::compare::same;
 use crate::requests::{a1, block, close, open};
 use bw_sender::{Heard, OfferError, Sender};
-use bw_take::{Name, Request, Verdict};
+use bw_take::{Name, Request, RequestRef, Verdict};
 use bw_wire::{Notice, Reply};
 use std::alloc::Global;
 use std::process::Abort;
@@ -90,6 +90,21 @@ fn other_verdicts_count_nothing(rt: HostRuntime) -> Result<(), Fail> {
 }
 
 #[test]
+fn what_comes_next_counts_nothing(rt: HostRuntime) -> Result<(), Fail> {
+    let mut sender = sender_of_take(&rt, rt.alloc())?;
+    let next = Reply::Notice {
+        name: a1()?,
+        number: 9,
+        code: Notice::Next,
+        next: 3,
+    };
+    same(&rt, "a next", &sender.on_reply(&next), &Heard::Noted);
+    same(&rt, "settled", &sender.settled(), &0);
+    same(&rt, "stored", &sender.stored(), &0);
+    Ok(())
+}
+
+#[test]
 fn a_seventeenth_offer_is_refused_until_number_0_has_its_verdict(
     rt: HostRuntime,
 ) -> Result<(), Fail> {
@@ -105,5 +120,42 @@ fn a_seventeenth_offer_is_refused_until_number_0_has_its_verdict(
     }
     hears(&rt, &mut sender, a1()?, 0, Verdict::Stored, Heard::Counted);
     offer(&rt, &mut sender, block(alloc)?, 16);
+    Ok(())
+}
+
+/// The bytes of the take's block.
+const BLOCK: RequestRef<'static> = RequestRef::Block {
+    bytes: b"\x01\0\x02\0",
+};
+
+/// Offers a request: what came back once more, where memory was refused, and nothing was offered.
+fn offer_anew(rt: &impl Abort, sender: &mut Sender, request: Request, number: u32) {
+    match sender.offer(request) {
+        Ok(found) => same(rt, "an offer", &found, &number),
+        Err((error, back)) => {
+            same(rt, "a refused offer", &error, &OfferError::Memory);
+            assert!(rt; sender.pending(number as usize).is_none(), "an offer");
+            offer(rt, sender, back, number);
+        }
+    }
+}
+
+/// Run once more with each growth refused, by `tools/refuse_calls --tests`.
+#[test]
+fn a_refused_offer_comes_back_and_is_taken_then(rt: HostRuntime) -> Result<(), Fail> {
+    let alloc = rt.alloc();
+    let mut sender = match Sender::new(alloc, a1()?) {
+        Ok(sender) => sender,
+        Err(_refused) => Sender::new(alloc, a1()?)?,
+    };
+    offer_anew(&rt, &mut sender, open(alloc)?, 0);
+    for number in 1..16u32 {
+        offer_anew(&rt, &mut sender, block(alloc)?, number);
+        let Some((pending, request)) = sender.pending(number as usize) else {
+            return Err("a pending block")?;
+        };
+        same(&rt, "its number", &pending, &number);
+        same(&rt, "the block", &request.as_ref(), &BLOCK);
+    }
     Ok(())
 }

@@ -33,6 +33,9 @@ static CHANGES: &[Change] = &[
     (12, b"fmt ", InspectKind::NoDs64, 12),
 ];
 
+/// A change of `TABLED`: the sizes don't come first.
+const NO_SIZES: Change = (12, b"fmt ", InspectKind::NoDs64, 12);
+
 /// Changes of the file with a marker.
 static MARKED_CHANGES: &[Change] = &[
     (702, b"\x02\0\0\0", InspectKind::BadCue, 694),
@@ -126,6 +129,7 @@ fn each_change_is_refused_at_its_place(rt: HostRuntime) -> Result<(), Fail> {
     for change in MARKED_CHANGES {
         refuses_changed(&rt, alloc, marked_file(alloc)?, change);
     }
+    refuses_changed(&rt, alloc, Vec::from_slice(alloc, TABLED)?, &NO_SIZES);
     Ok(())
 }
 

@@ -1,6 +1,6 @@
 //! Worked reports, and a writer that fails in the midst of one.
 use crate::compare::same;
-use crate::files::{RF64, report_of, small_file};
+use crate::files::{RF64, TABLED, report_of, small_file};
 use bw_inspect::{WriteFailed, write_report};
 use bw_stream::{MemorySink, Plain};
 use std::alloc::Global;
@@ -13,6 +13,14 @@ static RF64_TEXT: &str = "form RF64 90\n\
     chunk data 86 4\n\
     fmt tag=1 channels=1 rate=48000 bytes=96000 align=2 bits=16\n\
     data at=94 bytes=4 frames=2\n";
+
+static TABLED_TEXT: &str = "form BW64 102\n\
+    chunk ds64 12 40\n\
+    chunk fmt. 60 18\n\
+    chunk LIST 86 4\n\
+    chunk data 98 4\n\
+    fmt tag=1 channels=1 rate=48000 bytes=96000 align=2 bits=16\n\
+    data at=106 bytes=4 frames=2\n";
 
 static SMALL_TEXT: &str = "form RIFF 686\n\
     chunk JUNK 12 28\n\
@@ -51,6 +59,8 @@ fn a_report_has_a_line_for_each_thing_told(rt: HostRuntime) -> Result<(), Fail> 
     let alloc = rt.alloc();
     let text = text_of(alloc, RF64)?;
     assert!(rt; text.as_slice() == RF64_TEXT.as_bytes(), "another text");
+    let text = text_of(alloc, TABLED)?;
+    assert!(rt; text.as_slice() == TABLED_TEXT.as_bytes(), "another text");
     let text = text_of(alloc, small_file(alloc)?.as_slice())?;
     assert!(rt; text.as_slice() == SMALL_TEXT.as_bytes(), "another text");
     Ok(())

@@ -236,7 +236,7 @@ fn what_is_no_journal_of_this_server_is_refused(rt: HostRuntime) -> Result<(), F
     Ok(())
 }
 
-/// Run once more with each growth refused, by `tools/refuse_growths`.
+/// Run once more with each growth refused, by `tools/refuse_calls --tests`.
 #[test]
 fn a_refused_growth_is_told_and_changes_nothing(rt: HostRuntime) -> Result<(), Fail> {
     let alloc = rt.alloc();

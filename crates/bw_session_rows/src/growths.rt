@@ -31,7 +31,8 @@ fn is_refused(replies: &[Reply]) -> bool {
     }
 }
 
-/// Gives the server a message: once more where memory was refused to it, and nothing changed.
+/// Gives the server a message: once more where memory was refused to it, and nothing changed. The
+/// store has nothing then, since no message is admitted behind OPEN, which comes last.
 fn send_anew(rt: &impl Abort, server: &mut Server<MemoryStore>, body: &[u8]) -> Result<(), Fail> {
     let of = "a refused growth";
     let name = a1()?;
@@ -43,6 +44,7 @@ fn send_anew(rt: &impl Abort, server: &mut Server<MemoryStore>, body: &[u8]) -> 
     server.turn(&message, &mut replies);
     if is_refused(replies.as_slice()) {
         same(rt, of, &knows(server, &name), &before);
+        assert!(rt; server.store().content(&name).is_none(), "a file");
         server.turn(&message, &mut replies);
         same(rt, of, &is_refused(replies.as_slice()), &false);
     }
@@ -57,8 +59,8 @@ fn bytes_anew(alloc: Global) -> Result<Vec<u8>, AllocError> {
     }
 }
 
-/// Run once more with each growth refused, by `tools/refuse_growths`. A growth that is refused to
-/// the store is a fault of the store.
+/// Run once more with each growth refused, by `tools/refuse_calls --tests`. A growth that is refused
+/// to the store is a fault of the store.
 #[test]
 fn a_refused_growth_is_told_and_changes_nothing(rt: HostRuntime) -> Result<(), Fail> {
     let of = "a refused growth";
