@@ -1,7 +1,8 @@
 -- A whole exchange, piece by piece.
 use Rattle.std.proofs.Common.{◌≡◌, ℕ, ◌+◌, ◌-◌, ◌*◌, ◌^◌, ◌≤◌, true, false, List, [], ◌++◌, length, Option}
 use Rattle.std.proofs.Common.{refl, ap, subst, ◌∙◌, arith, inl, inr}
-use Rattle.std.specs.Prelude.{is_some, min}
+use Rattle.std.specs.Prelude.{Bool, if◌then◌else◌, is_some, min, nat_lt}
+use Rattle.std.proofs.lemmas.Bool.{ltb-false}
 use Rattle.std.proofs.lemmas.List.{append-nil, length-append}
 use Rattle.bw_model.specs.Wire.{Frame}
 use Rattle.bw_model.specs.Replies.{Reply}
@@ -120,7 +121,21 @@ pub moved_on : (first moved moved' reads n : ℕ) → min (first + reads) (2 ^ 6
     moved' ≡ min (moved + n) (2 ^ 64 - 1) → 1 ≤ n → min (first + (reads + 1)) (2 ^ 64 - 1) ≤ moved'
 moved_on first moved moved' reads n before e some = omega (arith, before, e, some)
 
--- .. and exactly as many calls more, or as many as it can count
-pub called_on : (first calls calls' reads : ℕ) → calls ≡ min (first + reads) (2 ^ 64 - 1) → calls' ≡ one_more calls →
-    calls' ≡ min (first + (reads + 1)) (2 ^ 64 - 1)
-called_on first calls calls' reads before e = omega (arith, before, e)
+-- one more of a count that stays at its last value
+once_more : (n : ℕ) → (one_more n ≤ n + 1) × (min (n + 1) (2 ^ 64 - 1) ≤ one_more n)
+once_more n = go (nat_lt n (2 ^ 64 - 1)) refl
+  where
+    go : (b : Bool) → nat_lt n (2 ^ 64 - 1) ≡ b →
+        ((if b then n + 1 else n) ≤ n + 1) × (min (n + 1) (2 ^ 64 - 1) ≤ (if b then n + 1 else n))
+    go true e = (omega arith, omega arith)
+    go false e = (omega arith, let most = ltb-false n (2 ^ 64 - 1) e in omega (arith, most))
+
+-- .. and as many calls more, or as many as it can count
+pub called_on : (first calls calls' reads : ℕ) → min (first + reads) (2 ^ 64 - 1) ≤ calls →
+    calls' ≡ one_more calls → min (first + (reads + 1)) (2 ^ 64 - 1) ≤ calls'
+called_on first calls calls' reads before e = let m = (once_more calls).1 in omega (arith, before, e, m)
+
+-- .. and no more than so many
+pub called_once : (first calls calls' reads : ℕ) → calls ≤ first + reads → calls' ≡ one_more calls →
+    calls' ≤ first + (reads + 1)
+called_once first calls calls' reads before e = let m = (once_more calls).0 in omega (arith, before, e, m)

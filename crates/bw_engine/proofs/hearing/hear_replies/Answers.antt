@@ -2,7 +2,7 @@ use Rattle.std.proofs.Common.{refl, ◌∙◌, arith}
 use Rattle.std.proofs.lemmas.Result.{err_from_is_err_and}
 use Rattle.bw_engine.proofs.HeardPieces.{heard-none, fed_so_far, heard-more, no_memory, no_more_heard, limit_reached}
 use Rattle.bw_engine.proofs.HeardPieces.{bad_reply, input_ended, has_fed, has_ended, unlimited, ended_counts}
-use Rattle.bw_engine.proofs.Whole.{moved_on, called_on}
+use Rattle.bw_engine.proofs.Whole.{moved_on, called_on, called_once}
 use Rattle.bw_engine.proofs.hearing.hear_replies.Goals as goal
 
 pub returns-in_default-clause-hears : goal.returns-in_default-clause-hears
@@ -15,6 +15,7 @@ loop-read-init g c = record {
   reads = refl;
   moved = omega arith;
   calls = omega arith;
+  most = omega arith;
 }
 
 pub read_piece-requires-clause-room : goal.read_piece-requires-clause-room
@@ -75,10 +76,32 @@ loop-read-preserved g c =
       reads = c.in_ok-read_piece.ensures.count ∙ i.reads;
       moved = moved_on (g.R.Source.moved c.args.reader.now) _ _ c.loop-read._read _ i.moved n.counted n.some;
       calls = called_on (g.R.Source.calls c.args.reader.now) _ _ c.loop-read._read i.calls
-          c.in_ok-read_piece.ensures.calls;
+          c.read_piece.ensures.calls;
+      most = called_once (g.R.Source.calls c.args.reader.now) _ _ c.loop-read._read i.most c.read_piece.ensures.calls;
     }
 
 pub returns-clause-hears : goal.returns-clause-hears
 returns-clause-hears g c =
     limit_reached c.loop-read._read c.args.sender.now c.loop-read.sender _ _ c.loop-read.framer
     c.loop-read.invariant.so_far (omega (arith, c.loop-read-test.false))
+
+pub returns-in_err-read_piece-clause-calls : goal.returns-in_err-read_piece-clause-calls
+returns-in_err-read_piece-clause-calls g c =
+    let most = called_once (g.R.Source.calls c.args.reader.now) _ _ c.loop-read._read c.loop-read.invariant.most
+    c.read_piece.ensures.calls in
+    omega (arith, most, c.loop-read-test.true)
+
+pub returns-then-not-branch-clause-calls : goal.returns-then-not-branch-clause-calls
+returns-then-not-branch-clause-calls g c =
+    let most = called_once (g.R.Source.calls c.args.reader.now) _ _ c.loop-read._read c.loop-read.invariant.most
+    c.read_piece.ensures.calls in
+    omega (arith, most, c.loop-read-test.true)
+
+pub returns-in_err-hear_held-clause-calls : goal.returns-in_err-hear_held-clause-calls
+returns-in_err-hear_held-clause-calls g c =
+    let most = called_once (g.R.Source.calls c.args.reader.now) _ _ c.loop-read._read c.loop-read.invariant.most
+    c.read_piece.ensures.calls in
+    omega (arith, most, c.loop-read-test.true)
+
+pub returns-clause-calls : goal.returns-clause-calls
+returns-clause-calls g c = let most = c.loop-read.invariant.most in omega (arith, most, c.loop-read-test.false)

@@ -10,5 +10,6 @@ invariant-loop-read g l = record {
   so_far : HeardSoFar l._read l.fn.sender l.sender (g.R.Source.left l.fn.reader) (g.R.Source.left l.reader) l.framer;
   reads : g.R.Source.failures l.reader ≡ g.R.Source.failures l.fn.reader;
   moved : min (g.R.Source.moved l.fn.reader + l._read) (2 ^ 64 - 1) ≤ g.R.Source.moved l.reader;
-  calls : g.R.Source.calls l.reader ≡ min (g.R.Source.calls l.fn.reader + l._read) (2 ^ 64 - 1);
+  calls : min (g.R.Source.calls l.fn.reader + l._read) (2 ^ 64 - 1) ≤ g.R.Source.calls l.reader;
+  most : g.R.Source.calls l.reader ≤ g.R.Source.calls l.fn.reader + l._read;
 }

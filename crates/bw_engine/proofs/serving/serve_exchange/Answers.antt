@@ -4,7 +4,7 @@ use Rattle.bw_engine.specs.declared.serving.ExchangeEnd.{ExchangeEnd}
 use Rattle.bw_engine.specs.Served.{reads_failed, writes_failed, IsLimited, Serves}
 use Rattle.bw_engine.proofs.Ending.{no_memory, no_more_read, write_failed, limit_reached, stream_ended}
 use Rattle.bw_engine.proofs.Ending.{stopped_counts, ended_counts}
-use Rattle.bw_engine.proofs.Whole.{so_far-none, counted, has_bytes, so_far-more, moved_on, called_on}
+use Rattle.bw_engine.proofs.Whole.{so_far-none, counted, has_bytes, so_far-more, moved_on, called_on, called_once}
 use Rattle.bw_engine.proofs.serving.serve_exchange.Goals as goal
 
 pub returns-in_default-clause-served : goal.returns-in_default-clause-served
@@ -22,6 +22,7 @@ loop-read-init g c = record {
   writes = refl;
   moved = omega arith;
   calls = omega arith;
+  most = omega arith;
 }
 
 pub read_piece-requires-clause-room : goal.read_piece-requires-clause-room
@@ -102,10 +103,32 @@ loop-read-preserved g c =
       writes = w.count ∙ i.writes;
       moved = moved_on (g.R.Source.moved c.args.reader.now) _ _ c.loop-read._read _ i.moved n.counted some;
       calls = called_on (g.R.Source.calls c.args.reader.now) _ _ c.loop-read._read i.calls
-          c.in_default-read_piece.ensures.calls;
+          c.read_piece.ensures.calls;
+      most = called_once (g.R.Source.calls c.args.reader.now) _ _ c.loop-read._read i.most c.read_piece.ensures.calls;
     }
 
 pub returns-clause-served : goal.returns-clause-served
 returns-clause-served g c =
     limit_reached g.T.Turns.answers c.loop-read._read c.args.server.now c.loop-read.server _ _ _ _
     c.loop-read.exchange c.loop-read.invariant.so_far (search rules)
+
+pub returns-in-Err-clause-calls : goal.returns-in-Err-clause-calls
+returns-in-Err-clause-calls g c =
+    let most = called_once (g.R.Source.calls c.args.reader.now) _ _ c.loop-read._read c.loop-read.invariant.most
+    c.read_piece.ensures.calls in
+    omega (arith, most, c.loop-read-test.true)
+
+pub returns-in-Err-answer_held-clause-calls : goal.returns-in-Err-answer_held-clause-calls
+returns-in-Err-answer_held-clause-calls g c =
+    let most = called_once (g.R.Source.calls c.args.reader.now) _ _ c.loop-read._read c.loop-read.invariant.most
+    c.read_piece.ensures.calls in
+    omega (arith, most, c.loop-read-test.true)
+
+pub returns-in-Some-clause-calls : goal.returns-in-Some-clause-calls
+returns-in-Some-clause-calls g c =
+    let most = called_once (g.R.Source.calls c.args.reader.now) _ _ c.loop-read._read c.loop-read.invariant.most
+    c.read_piece.ensures.calls in
+    omega (arith, most, c.loop-read-test.true)
+
+pub returns-clause-calls : goal.returns-clause-calls
+returns-clause-calls g c = let most = c.loop-read.invariant.most in omega (arith, most, c.loop-read-test.false)

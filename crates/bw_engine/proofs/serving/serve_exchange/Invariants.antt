@@ -12,5 +12,6 @@ invariant-loop-read g l = record {
   reads : g.R.Source.failures l.reader ≡ g.R.Source.failures l.fn.reader;
   writes : g.W.Sink.failures l.writer ≡ g.W.Sink.failures l.fn.writer;
   moved : min (g.R.Source.moved l.fn.reader + l._read) (2 ^ 64 - 1) ≤ g.R.Source.moved l.reader;
-  calls : g.R.Source.calls l.reader ≡ min (g.R.Source.calls l.fn.reader + l._read) (2 ^ 64 - 1);
+  calls : min (g.R.Source.calls l.fn.reader + l._read) (2 ^ 64 - 1) ≤ g.R.Source.calls l.reader;
+  most : g.R.Source.calls l.reader ≤ g.R.Source.calls l.fn.reader + l._read;
 }
