@@ -3,6 +3,7 @@ pub mod RequestLemmas
 pub mod RefusedLines
 pub mod RoundSteps
 pub mod RunSteps
+pub mod AnsweredRuns
 pub mod TallyLemmas
 pub mod InOrder
 pub mod ToldLinks

@@ -1,5 +1,5 @@
 -- What the command `serve` does.
-use Rattle.std.specs.Prelude.{◌≡◌, ◌⊎◌, ℕ, ◌++◌, List, [], Ok, Err, codes}
+use Rattle.std.specs.Prelude.{◌≡◌, ◌⊎◌, ℕ, ◌++◌, List, [], Ok, Err, codes, IsTrue}
 use Rattle.std.specs.IoError.{error_kind}
 use Rattle.std.specs.Net.Text.{socket_text}
 use Rattle.std.specs.declared.io.Error.{Error as IoError}
@@ -12,6 +12,7 @@ use Rattle.bw_file.specs.declared.store.TakeStore.{Ghosts as StoreGhosts}
 use Rattle.bw_journal.specs.declared.journal.Journal.{Ghosts as JournalGhosts}
 use Rattle.bw_session.specs.Books.{HoldsBook}
 use Rattle.bw_session.specs.declared.server.Server.{Server}
+use Rattle.bw_engine.specs.Ingesting.{LeavesRun}
 use Rattle.bw_engine.specs.ServerTurns.{ServerTurn}
 use Rattle.bw_commands.specs.Deeds.{Deed, IsWant}
 use Rattle.bw_commands.specs.Faults.{exit_on, input_fault_text}
@@ -22,7 +23,7 @@ use Rattle.bw_commands.specs.declared.exit.Exit.{Exit}
 use Rattle.bw_commands.specs.declared.exit.Exit.TheVariants as exits
 use Rattle.bw_commands.specs.declared.fault.Fault.{Fault}
 use Rattle.bw_commands.specs.declared.fault.Fault.TheVariants as faults
-use Rattle.bw_transfer.specs.ServedAll.{ServesRun}
+use Rattle.bw_transfer.specs.ServedAll.{ServesRun, answered_in_run}
 use Rattle.bw_transfer.specs.declared.network.Network.{Ghosts as NetworkGhosts}
 use Rattle.bw_transfer.specs.declared.network.Serving.{Serving}
 use Rattle.bw_transfer.specs.declared.peers.Peers.{Ghosts as PeerGhosts}
@@ -82,6 +83,10 @@ module _ {X Y P R W O E : Type 0} (S : StoreGhosts X) (J : JournalGhosts Y)
     pub logged : E
     pub run : ServesRun (ServerTurn S J) peers reader writer out told serving.log serving.exchanges
         ended server behind p p' between o' e logged
+    -- an honest store has the files of what was answered
+    pub leaves : IsTrue (S.honest store) → LeavesRun S serving.limit store
+        (answered_in_run (ServerTurn S J) peers reader writer out told serving.log ended run)
+        behind.stores.store
     pub tells : TellsEnd told ended exit logged e'
 
   -- memory was refused before the first line

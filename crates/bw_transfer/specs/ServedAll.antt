@@ -1,14 +1,14 @@
 -- What serving exchanges one after another comes to.
 use Rattle.std.specs.Prelude.{◌≡◌, ℕ, Bool, suc, Option, Some, None, Ok, Err, List, [], ◌∷◌, length}
-use Rattle.std.specs.Prelude.{◌≤◌}
+use Rattle.std.specs.Prelude.{◌≤◌, ◌++◌}
 use Rattle.bw_model.specs.Wire.{Frame}
 use Rattle.bw_model.specs.Replies.{Reply}
 use Rattle.bw_stream.specs.Moves.{one_more}
 use Rattle.bw_stream.specs.declared.sink.Sink.{Ghosts as Writer}
 use Rattle.bw_stream.specs.declared.source.Source.{Ghosts as Reader}
 use Rattle.bw_commands.specs.declared.exit.Exit.{Exit}
-use Rattle.bw_commands.specs.declared.exit.Exit.TheVariants.{Done, Device, Memory}
-use Rattle.bw_engine.specs.Answering.{frames_of}
+use Rattle.bw_commands.specs.declared.exit.Exit.TheVariants.{Done, Refused, Usage, Device, Memory}
+use Rattle.bw_engine.specs.Answering.{Answered, frames_of}
 use Rattle.bw_engine.specs.declared.serving.ExchangeEnd.{ExchangeEnd}
 use Rattle.bw_transfer.specs.ServedOne.{ServesTo}
 use Rattle.bw_transfer.specs.Tallies.{Logs, count_of, link_line}
@@ -102,3 +102,30 @@ module _ {T P R W O E : Type 0} (answers : T → Frame → List Reply → T → 
   abbrev pub ServesRun : ℕ → Exit → T → T → P → P → O → O → E → E → Type 0
   ServesRun exchanges Done t t' p p' o o' e e' = ServesAll exchanges t t' p p' o o' e e'
   ServesRun exchanges exit t t' p p' o o' e e' = EndsEarly exchanges exit t t' p p' o o' e e'
+
+  -- what was answered of the next peer's frames
+  abbrev pub answered_next : {index : ℕ} → {t t' : T} → {p p' : P} → {o o' : O} → {e e' : E} →
+      (x : Outcome) → ServesNext index x t t' p p' o o' e e' → List Answered
+  answered_next (Served exit) next = next.served.served.serves.answered
+  answered_next Gone next = []
+  answered_next Closed next = []
+
+  -- .. of the frames of these peers, one behind another
+  abbrev pub answered_each : {index : ℕ} → {t t' : T} → {p p' : P} → {o o' : O} → {e e' : E} →
+      (xs : List Outcome) → ServesEach index xs t t' p p' o o' e e' → List Answered
+  answered_each [] each = []
+  answered_each (x ∷ xs) each = answered_next x each.4 ++ answered_each xs each.6
+
+  -- .. where one of them ended the run
+  abbrev pub answered_early : {exchanges : ℕ} → {exit : Exit} → {t t' : T} → {p p' : P} →
+      {o o' : O} → {e e' : E} → EndsEarly exchanges exit t t' p p' o o' e e' → List Answered
+  answered_early run = answered_each run.before run.each ++ answered_next run.last run.next
+
+  -- .. in a whole run
+  abbrev pub answered_in_run : {exchanges : ℕ} → {t t' : T} → {p p' : P} → {o o' : O} →
+      {e e' : E} → (exit : Exit) → ServesRun exchanges exit t t' p p' o o' e e' → List Answered
+  answered_in_run Done run = answered_each run.outcomes run.each
+  answered_in_run Refused run = answered_early run
+  answered_in_run Usage run = answered_early run
+  answered_in_run Device run = answered_early run
+  answered_in_run Memory run = answered_early run
