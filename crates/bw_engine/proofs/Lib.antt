@@ -1,7 +1,7 @@
 mod Staying
 mod Holding
 mod Doing
-mod Going
+pub mod Going
 mod Turning
 mod Growing
 mod Lawful
@@ -14,7 +14,7 @@ pub mod GoodRuns
 mod ServedRuns
 mod InputSteps
 pub mod GoodExchanges
-mod StoreRuns
+pub mod StoreRuns
 mod FirstFrames
 mod ServedInputs
 mod Ending

@@ -24,34 +24,40 @@ module _ {T P R W O E : Type 0} (answers : T → Frame → List Reply → T → 
     (reader : Reader R) (writer : Writer W) (out : Writer O) (told : Writer E) (log : Bool) where
   by_next : (index : ℕ) (x : Outcome) (t t' : T) (p p' : P) (o o' : O) (e e' : E)
       (next : ServesNext answers peers reader writer out told log index x t t' p p' o o' e e') →
-      AnswersAll answers t (answered_next answers peers reader writer out told log x next) t'
+      AnswersAll answers t
+      (answered_next answers peers reader writer out told log index x t t' p p' o o' e e' next) t'
   by_next index (Served exit) t t' p p' o o' e e' next = next.served.served.serves.by_server
   by_next index Gone t t' p p' o o' e e' next = next.server
   by_next index Closed t t' p p' o o' e e' next = next.server
 
   by_each : (index : ℕ) (xs : List Outcome) (t t' : T) (p p' : P) (o o' : O) (e e' : E)
       (each : ServesEach answers peers reader writer out told log index xs t t' p p' o o' e e') →
-      AnswersAll answers t (answered_each answers peers reader writer out told log xs each) t'
+      AnswersAll answers t
+      (answered_each answers peers reader writer out told log index xs t t' p p' o o' e e' each) t'
   by_each index [] t t' p p' o o' e e' each = each.0
   by_each index (x ∷ xs) t t' p p' o o' e e' each =
-      answers_append answers (answered_next answers peers reader writer out told log x each.4)
-      (answered_each answers peers reader writer out told log xs each.6) t each.0 t'
-      (by_next index x t each.0 p each.1 o each.2 e each.3 each.4)
+      answers_append answers
+      (answered_next answers peers reader writer out told log index x t each.0 p each.1 o each.2 e each.3 each.4)
+      (answered_each answers peers reader writer out told log (suc index) xs each.0 t' each.1 p' each.2 o' each.3 e'
+      each.6) t each.0 t' (by_next index x t each.0 p each.1 o each.2 e each.3 each.4)
       (by_each (suc index) xs each.0 t' each.1 p' each.2 o' each.3 e' each.6)
 
   by_early : (exchanges : ℕ) (exit : Exit) (t t' : T) (p p' : P) (o o' : O) (e e' : E)
       (run : EndsEarly answers peers reader writer out told log exchanges exit t t' p p' o o' e e') →
-      AnswersAll answers t (answered_early answers peers reader writer out told log run) t'
+      AnswersAll answers t
+      (answered_early answers peers reader writer out told log exchanges exit t t' p p' o o' e e' run) t'
   by_early exchanges exit t t' p p' o o' e e' run =
-      answers_append answers (answered_each answers peers reader writer out told log run.before run.each)
-      (answered_next answers peers reader writer out told log run.last run.next) t run.m t'
-      (by_each 0 run.before t run.m p run.q o run.n e run.f run.each)
+      answers_append answers
+      (answered_each answers peers reader writer out told log 0 run.before t run.m p run.q o run.n e run.f run.each)
+      (answered_next answers peers reader writer out told log (length run.before) run.last run.m t' run.q p' run.n o'
+      run.f e' run.next) t run.m t' (by_each 0 run.before t run.m p run.q o run.n e run.f run.each)
       (by_next (length run.before) run.last run.m t' run.q p' run.n o' run.f e' run.next)
 
   -- the server has answered them so
   pub by_run : (exchanges : ℕ) (exit : Exit) (t t' : T) (p p' : P) (o o' : O) (e e' : E)
       (run : ServesRun answers peers reader writer out told log exchanges exit t t' p p' o o' e e') →
-      AnswersAll answers t (answered_in_run answers peers reader writer out told log exit run) t'
+      AnswersAll answers t
+      (answered_in_run answers peers reader writer out told log exchanges exit t t' p p' o o' e e' run) t'
   by_run exchanges Done t t' p p' o o' e e' run = by_each 0 run.outcomes t t' p p' o o' e e' run.each
   by_run exchanges Refused t t' p p' o o' e e' run = by_early exchanges Refused t t' p p' o o' e e' run
   by_run exchanges Usage t t' p p' o o' e e' run = by_early exchanges Usage t t' p p' o o' e e' run
@@ -67,9 +73,9 @@ module _ {X Y P R W O E : Type 0} (S : StoreGhosts X) (J : JournalGhosts Y) (qui
       HoldsBook S J (S.contents store) old [] →
       (run : ServesRun (ServerTurn S J) peers reader writer out told log exchanges exit old new p p' o o' e e') →
       IsTrue (S.honest store) →
-      LeavesRun S limit store (answered_in_run (ServerTurn S J) peers reader writer out told log exit run)
+      LeavesRun S limit store (answered_in_run (ServerTurn S J) peers reader writer out told log exchanges exit old new p p' o o' e e' run)
       new.stores.store
   run_leaves limit store old new exchanges exit p p' o o' e e' begun limited empty run honest =
       leaves_run S J quiet limit store old new begun limited empty honest
-      (answered_in_run (ServerTurn S J) peers reader writer out told log exit run)
+      (answered_in_run (ServerTurn S J) peers reader writer out told log exchanges exit old new p p' o o' e e' run)
       (by_run (ServerTurn S J) peers reader writer out told log exchanges exit old new p p' o o' e e' run)

@@ -85,8 +85,8 @@ module _ {X Y P R W O E : Type 0} (S : StoreGhosts X) (J : JournalGhosts Y)
         ended server behind p p' between o' e logged
     -- an honest store has the files of what was answered
     pub leaves : IsTrue (S.honest store) → LeavesRun S serving.limit store
-        (answered_in_run (ServerTurn S J) peers reader writer out told serving.log ended run)
-        behind.stores.store
+        (answered_in_run (ServerTurn S J) peers reader writer out told serving.log
+        serving.exchanges ended server behind p p' between o' e logged run) behind.stores.store
     pub tells : TellsEnd told ended exit logged e'
 
   -- memory was refused before the first line

@@ -104,28 +104,37 @@ module _ {T P R W O E : Type 0} (answers : T → Frame → List Reply → T → 
   ServesRun exchanges exit t t' p p' o o' e e' = EndsEarly exchanges exit t t' p p' o o' e e'
 
   -- what was answered of the next peer's frames
-  abbrev pub answered_next : {index : ℕ} → {t t' : T} → {p p' : P} → {o o' : O} → {e e' : E} →
-      (x : Outcome) → ServesNext index x t t' p p' o o' e e' → List Answered
-  answered_next (Served exit) next = next.served.served.serves.answered
-  answered_next Gone next = []
-  answered_next Closed next = []
+  abbrev pub answered_next : (index : ℕ) (x : Outcome) (t t' : T) (p p' : P) (o o' : O) (e e' : E) →
+      ServesNext index x t t' p p' o o' e e' → List Answered
+  answered_next index (Served exit) t t' p p' o o' e e' next = next.served.served.serves.answered
+  answered_next index Gone t t' p p' o o' e e' next = []
+  answered_next index Closed t t' p p' o o' e e' next = []
 
   -- .. of the frames of these peers, one behind another
-  abbrev pub answered_each : {index : ℕ} → {t t' : T} → {p p' : P} → {o o' : O} → {e e' : E} →
-      (xs : List Outcome) → ServesEach index xs t t' p p' o o' e e' → List Answered
-  answered_each [] each = []
-  answered_each (x ∷ xs) each = answered_next x each.4 ++ answered_each xs each.6
+  abbrev pub answered_each : (index : ℕ) (xs : List Outcome) (t t' : T) (p p' : P) (o o' : O)
+      (e e' : E) → ServesEach index xs t t' p p' o o' e e' → List Answered
+  answered_each index [] t t' p p' o o' e e' each = []
+  answered_each index (x ∷ xs) t t' p p' o o' e e' each =
+      answered_next index x t each.0 p each.1 o each.2 e each.3 each.4
+      ++ answered_each (suc index) xs each.0 t' each.1 p' each.2 o' each.3 e' each.6
 
   -- .. where one of them ended the run
-  abbrev pub answered_early : {exchanges : ℕ} → {exit : Exit} → {t t' : T} → {p p' : P} →
-      {o o' : O} → {e e' : E} → EndsEarly exchanges exit t t' p p' o o' e e' → List Answered
-  answered_early run = answered_each run.before run.each ++ answered_next run.last run.next
+  abbrev pub answered_early : (exchanges : ℕ) (exit : Exit) (t t' : T) (p p' : P) (o o' : O)
+      (e e' : E) → EndsEarly exchanges exit t t' p p' o o' e e' → List Answered
+  answered_early exchanges exit t t' p p' o o' e e' run =
+      answered_each 0 run.before t run.m p run.q o run.n e run.f run.each
+      ++ answered_next (length run.before) run.last run.m t' run.q p' run.n o' run.f e' run.next
 
   -- .. in a whole run
-  abbrev pub answered_in_run : {exchanges : ℕ} → {t t' : T} → {p p' : P} → {o o' : O} →
-      {e e' : E} → (exit : Exit) → ServesRun exchanges exit t t' p p' o o' e e' → List Answered
-  answered_in_run Done run = answered_each run.outcomes run.each
-  answered_in_run Refused run = answered_early run
-  answered_in_run Usage run = answered_early run
-  answered_in_run Device run = answered_early run
-  answered_in_run Memory run = answered_early run
+  abbrev pub answered_in_run : (exchanges : ℕ) (exit : Exit) (t t' : T) (p p' : P) (o o' : O)
+      (e e' : E) → ServesRun exchanges exit t t' p p' o o' e e' → List Answered
+  answered_in_run exchanges Done t t' p p' o o' e e' run =
+      answered_each 0 run.outcomes t t' p p' o o' e e' run.each
+  answered_in_run exchanges Refused t t' p p' o o' e e' run =
+      answered_early exchanges Refused t t' p p' o o' e e' run
+  answered_in_run exchanges Usage t t' p p' o o' e e' run =
+      answered_early exchanges Usage t t' p p' o o' e e' run
+  answered_in_run exchanges Device t t' p p' o o' e e' run =
+      answered_early exchanges Device t t' p p' o o' e e' run
+  answered_in_run exchanges Memory t t' p p' o o' e e' run =
+      answered_early exchanges Memory t t' p p' o o' e e' run
