@@ -1,0 +1,335 @@
+-- Steps of a connection.
+use Rattle.std.proofs.Common.{◌≡◌, ◌⊎◌, inl, inr, ℕ, ◌+◌, ◌-◌, ◌≤◌, ◌<◌, Bool, true, Option, Some, None, List, [], ◌∷◌, ◌++◌, length}
+use Rattle.std.proofs.Common.{refl, sym, ap, subst, ◌∙◌, append_assoc, Result, Ok, Err, arith, unwrap_or}
+use Rattle.std.specs.Prelude.{IfSome, OnOk, is_some, false, nat_lt, if◌then◌else◌}
+use Rattle.bw_model.specs.Wire.{Frame}
+use Rattle.bw_model.specs.Replies.{Reply}
+use Rattle.std.proofs.lemmas.List.{append-nil}
+use Rattle.bw_wire.specs.Held.{longest_piece, longest_stream}
+use Rattle.bw_engine.specs.declared.exchange.Exchange.{Exchange}
+use Rattle.bw_engine.specs.declared.serving.ExchangeEnd.TheVariants as ends
+use Rattle.bw_engine.specs.declared.step.StreamEnd.{StreamEnd}
+use Rattle.bw_engine.specs.declared.step.StreamEnd.TheVariants as streams
+use Rattle.bw_engine.specs.Answering.{Answered}
+use Rattle.bw_engine.specs.Done.{AnswersSome, DoesMore, HasDone, MustWait}
+use Rattle.bw_engine.specs.Ends.{IsFinal, end_so_far}
+use Rattle.bw_engine.specs.Parts.{wants_piece, end_of, waiting_in, pending_of}
+use Rattle.bw_engine.specs.Served.{ended_by}
+use Rattle.bw_many.specs.declared.connection.Connection.{Connection}
+use Rattle.bw_many.specs.declared.connection.ConnectionEnd.{ConnectionEnd}
+use Rattle.bw_many.specs.declared.connection.ConnectionEnd.TheVariants.{Idle, Over}
+use Rattle.bw_many.specs.declared.connection.Phase.{Phase}
+use Rattle.bw_many.specs.declared.connection.Phase.TheVariants as phases
+use Rattle.bw_many.specs.declared.link.Link.{Ghosts as LinkGhosts}
+use Rattle.bw_many.specs.Feeding.{Feeds}
+use Rattle.bw_many.specs.Lives.{EndsAs, Goes, IsInPhase, IsOver, Lives, Settles, Steps}
+use Rattle.bw_many.specs.Lives.{AnswersHeld, Begins, expired_at, expired_by, longest_drain, quantum, quiet_since}
+
+-- what a link did: it gave these bytes more, took these more, and stayed at its end
+pub record Moves {L : Type 0} (G : LinkGhosts L) (in_bytes out_bytes : List ℕ) (l l' : L) : Type 0 where
+  pub given : (xs : List ℕ) → G.given l xs → G.given l' (xs ++ in_bytes)
+  pub taken : (ys : List ℕ) → G.taken l ys → G.taken l' (ys ++ out_bytes)
+  pub ended : G.ended l → G.ended l'
+
+-- nothing moved
+pub no_more : {L : Type 0} (P : L → List ℕ → Type 0) (l l' : L) → ((xs : List ℕ) → P l xs → P l' xs) → (xs : List ℕ) →
+    P l xs → P l' (xs ++ [])
+no_more P l l' f xs p = subst (P l') (sym (append-nil xs)) (f xs p)
+
+-- nothing more is done
+nothing_more : (e : Exchange) (fed gone : List ℕ) (xs : List Answered) → HasDone fed xs gone e →
+    HasDone fed (xs ++ []) (gone ++ []) e
+nothing_more e fed gone xs d =
+    subst (λ (x : List Answered). HasDone fed x (gone ++ []) e) (sym (append-nil xs))
+    (subst (λ (y : List ℕ). HasDone fed xs y e) (sym (append-nil gone)) d)
+
+-- a link that nothing was asked of
+pub still : {L : Type 0} (G : LinkGhosts L) (l : L) → Moves G [] [] l l
+still G l = record { given = no_more G.given l l (λ xs p. p); taken = no_more G.taken l l (λ ys p. p); ended = λ p. p }
+
+-- an end that was told stays as it was
+kept_end : {L : Type 0} (G : LinkGhosts L) (l l' : L) (e : Option StreamEnd) → (G.ended l → G.ended l') →
+    IfSome (end_so_far e) (λ x. IsFinal x ⊎ G.ended l) → IfSome (end_so_far e) (λ x. IsFinal x ⊎ G.ended l')
+kept_end G l l' None f h = tt
+kept_end G l l' (Some end) f (inl final) = inl final
+kept_end G l l' (Some end) f (inr at_end) = inr (f at_end)
+
+-- in a connection that is served nothing came that wasn't fed
+none_unread : {L : Type 0} (c : Connection L) (unread : List ℕ) → c.phase ≡ phases.Serving →
+    IsInPhase c.phase c.exchange unread → unread ≡ []
+none_unread c unread serving p = subst (λ x. IsInPhase x c.exchange unread) serving p
+
+-- a connection that was served is over, and these bytes came last
+pub over : {L : Type 0} (G : LinkGhosts L) (end : ConnectionEnd) (c c' : Connection L) (last : List ℕ) →
+    c.phase ≡ phases.Serving → c'.exchange ≡ c.exchange → Moves G last [] c.link c'.link →
+    EndsAs end c.exchange last → Goes G (Err end) c [] c'
+over G end c c' last serving exchange m e before l =
+    let none = none_unread c l.unread serving l.by_phase in
+    record {
+      exchange = c.exchange;
+      fed = l.fed;
+      gone = l.gone ++ [];
+      unread = last;
+      given = subst (λ (x : List ℕ). G.given c'.link (x ++ last))
+          (ap (λ (x : List ℕ). l.fed ++ x) none ∙ append-nil l.fed) (m.given (l.fed ++ l.unread) l.given);
+      taken = m.taken l.gone l.taken;
+      done = nothing_more c.exchange l.fed l.gone before l.done;
+      at_end = kept_end G c.link c'.link (end_of c.exchange) m.ended l.at_end;
+      by_end = e;
+    }
+
+-- one that was drained is over
+pub drained : {L : Type 0} (G : LinkGhosts L) (fault : _) (c c' : Connection L) (last : List ℕ) →
+    c.phase ≡ phases.Draining fault → Moves G last [] c.link c'.link →
+    Goes G (Err (Over (ends.BadFrame fault))) c [] c'
+drained G fault c c' last phase m before l =
+    let in_phase = subst (λ x. IsInPhase x c.exchange l.unread) phase l.by_phase in
+    record {
+      exchange = c.exchange;
+      fed = l.fed;
+      gone = l.gone ++ [];
+      unread = l.unread ++ last;
+      given = subst (G.given c'.link) (append_assoc l.fed l.unread last) (m.given (l.fed ++ l.unread) l.given);
+      taken = m.taken l.gone l.taken;
+      done = nothing_more c.exchange l.fed l.gone before l.done;
+      at_end = kept_end G c.link c'.link (end_of c.exchange) m.ended l.at_end;
+      by_end = (in_phase.0, in_phase.2, inr in_phase.1);
+    }
+
+-- a connection that goes on being served: its exchange did more, and its link gave what was fed and
+-- took what was taken
+pub steps : {L : Type 0} (G : LinkGhosts L) (c c' : Connection L) (piece bytes : List ℕ) (answered : List Answered) →
+    c.phase ≡ phases.Serving → c'.phase ≡ phases.Serving → Moves G piece bytes c.link c'.link →
+    DoesMore c.exchange piece answered bytes c'.exchange →
+    ((before : List Answered) (fed gone : List ℕ) → HasDone fed before gone c.exchange →
+    IfSome (end_so_far (end_of c.exchange)) (λ x. IsFinal x ⊎ G.ended c.link) →
+    IfSome (end_so_far (end_of c'.exchange)) (λ x. IsFinal x ⊎ G.ended c'.link)) →
+    Steps G c answered c'
+steps G c c' piece bytes answered serving still m d end before l =
+    let none = none_unread c l.unread serving l.by_phase in
+    record {
+      fed = l.fed ++ piece;
+      gone = l.gone ++ bytes;
+      unread = [];
+      given = subst (G.given c'.link) (sym (append-nil (l.fed ++ piece)))
+          (subst (λ (x : List ℕ). G.given c'.link (x ++ piece))
+          (ap (λ (x : List ℕ). l.fed ++ x) none ∙ append-nil l.fed) (m.given (l.fed ++ l.unread) l.given));
+      taken = m.taken l.gone l.taken;
+      done = d l.fed before l.gone l.done;
+      at_end = end before l.fed l.gone l.done l.at_end;
+      by_phase = subst (λ x. IsInPhase x c'.exchange []) (sym still) refl;
+    }
+
+-- where the end stays
+pub same_end : {L : Type 0} (G : LinkGhosts L) (c c' : Connection L) → end_of c'.exchange ≡ end_of c.exchange →
+    (G.ended c.link → G.ended c'.link) → IfSome (end_so_far (end_of c.exchange)) (λ x. IsFinal x ⊎ G.ended c.link) →
+    IfSome (end_so_far (end_of c'.exchange)) (λ x. IsFinal x ⊎ G.ended c'.link)
+same_end G c c' e f h =
+    subst (λ (x : Option StreamEnd). IfSome (end_so_far x) (λ y. IsFinal y ⊎ G.ended c'.link)) (sym e)
+    (kept_end G c.link c'.link (end_of c.exchange) f h)
+
+-- one step after another
+pub steps_on : {L : Type 0} (G : LinkGhosts L) (a b c : Connection L) (xs ys : List Answered) → Steps G a xs b →
+    Steps G b ys c → Steps G a (xs ++ ys) c
+steps_on G a b c xs ys f g before l =
+    subst (Lives G c) (append_assoc before xs ys) (g (before ++ xs) (f before l))
+
+-- a step, and what comes of the next
+pub goes_behind : {L : Type 0} (G : LinkGhosts L) (r : Result (Unit {0}) ConnectionEnd) (a b c : Connection L)
+    (xs ys : List Answered) → Steps G a xs b → Goes G r b ys c → Goes G r a (xs ++ ys) c
+goes_behind G (Ok x) a b c xs ys f g = steps_on G a b c xs ys f g
+goes_behind G (Err end) a b c xs ys f g =
+    λ before l. subst (IsOver G end c.link) (append_assoc before xs ys) (g (before ++ xs) (f before l))
+
+-- a piece came, and was fed or not
+pub fed_or_over : {L : Type 0} (G : LinkGhosts L) (r : Result (Unit {0}) ConnectionEnd) (c c' : Connection L)
+    (piece : List ℕ) → c.phase ≡ phases.Serving → c'.phase ≡ phases.Serving → wants_piece c.exchange ≡ true →
+    waiting_in c.exchange ≡ [] → 1 ≤ length piece → length piece ≤ longest_piece → Moves G piece [] c.link c'.link →
+    Feeds piece r c.exchange c'.exchange → Goes G r c [] c'
+fed_or_over G (Ok x) c c' piece serving still hungry none some short m f =
+    steps G c c' piece [] [] serving still m f.0 (λ before fed gone d h. same_end G c c' f.1 m.ended h)
+fed_or_over G (Err end) c c' piece serving still hungry none some short m f = go f.1
+  where
+    ends_so : (x : ConnectionEnd) → end ≡ x → EndsAs x c.exchange piece → Goes G (Err end) c [] c'
+    ends_so x e k = over G end c c' piece serving f.0 m (subst (λ y. EndsAs y c.exchange piece) (sym e) k)
+
+    go : (end ≡ Over ends.Memory) ⊎ ((end ≡ Over ends.TurnLimit) × (longest_stream < (pending_of c.exchange).fed + length piece)) → Goes G (Err end) c [] c'
+    go (inl e) = ends_so (Over ends.Memory) e ((hungry, none), some, short)
+    go (inr e) = ends_so (Over ends.TurnLimit) e.0 ((hungry, none), e.1)
+
+-- the stream has ended, and all replies are out
+pub ends_as : (end : StreamEnd) (e : Exchange) → end_of e ≡ Some end → waiting_in e ≡ [] →
+    EndsAs (Over (ended_by end)) e []
+ends_as streams.Bye e is none = (is, none, inl refl)
+ends_as streams.EndOfInput e is none = (is, none, inl refl)
+ends_as (streams.BadFrame fault) e is none = (is, none, inl refl)
+
+-- a step, and what comes of a call behind it that answers nothing
+pub goes_at_last : {L : Type 0} (G : LinkGhosts L) (r : Result (Unit {0}) ConnectionEnd) (a b c : Connection L)
+    (xs : List Answered) → Steps G a xs b → Goes G r b [] c → Goes G r a xs c
+goes_at_last G r a b c xs f g =
+    subst (λ (x : List Answered). Goes G r a x c) (append-nil xs) (goes_behind G r a b c xs [] f g)
+
+-- the time stays, or is that of the answer
+pub quiet_on : {L : Type 0} (now : ℕ) (was : Connection L) (answered : List Answered) → was.phase ≡ phases.Serving →
+    (c c' : Connection L) (r : Result (Unit {0}) ConnectionEnd) → c.phase ≡ was.phase →
+    c.since ≡ quiet_since now was.since was.phase was.phase answered → Settles now r c c' →
+    OnOk r (c'.since ≡ quiet_since now was.since was.phase c'.phase answered)
+quiet_on now was answered serving c c' (Err end) phase since s = tt
+quiet_on now was answered serving c c' (Ok x) phase since s =
+    go c'.phase (s.2 ∙ (ap (λ (p : Phase). quiet_since now c.since p c'.phase []) (phase ∙ serving))) answered
+    (since ∙ ap (λ (p : Phase). quiet_since now was.since p p answered) serving)
+    ∙ ap (λ (p : Phase). quiet_since now was.since p c'.phase answered) (sym serving)
+  where
+    go : (p : Phase) → c'.since ≡ quiet_since now c.since phases.Serving p [] → (xs : List Answered) →
+        c.since ≡ quiet_since now was.since phases.Serving phases.Serving xs →
+        c'.since ≡ quiet_since now was.since phases.Serving p xs
+    go phases.Serving e [] h = e ∙ h
+    go phases.Serving e (x ∷ xs) h = e ∙ h
+    go (phases.Draining fault) e xs h = e
+
+-- whatever comes of a call on it, a drained connection stays as quiet as it was
+pub quiet_drained : {L : Type 0} (now : ℕ) (c c' : Connection L) (fault : _) → c.phase ≡ phases.Draining fault →
+    c'.phase ≡ c.phase → c'.since ≡ c.since → c'.since ≡ quiet_since now c.since c.phase c'.phase []
+quiet_drained now c c' fault is same since =
+    since
+    ∙ sym (ap (λ (p : Phase). quiet_since now c.since p c'.phase []) is
+    ∙ ap (λ (p : Phase). quiet_since now c.since (phases.Draining fault) p []) (same ∙ is))
+
+pub not_served : {L : Type 0} (c : Connection L) (fault : _) → c.phase ≡ phases.Draining fault →
+    c.phase ≡ phases.Serving → ⊥
+not_served c fault is serving = let e = sym is ∙ serving in cc
+
+-- what a look at the stream's end leaves
+pub number_left : {L : Type 0} (now : ℕ) (r : Result (Unit {0}) ConnectionEnd) (c c' : Connection L) →
+    Settles now r c c' → c'.number ≡ c.number
+number_left now (Ok x) c c' s = s.0
+number_left now (Err end) c c' s = s
+
+pub waits_left : {L : Type 0} (now : ℕ) (r : Result (Unit {0}) ConnectionEnd) (c c' : Connection L) (P : Type 0) →
+    Settles now r c c' → (P → MustWait c.exchange) → OnOk r (c'.phase ≡ phases.Serving → P → MustWait c'.exchange)
+waits_left now (Ok x) c c' P s w = λ serving p. subst MustWait (sym s.1) (w p)
+waits_left now (Err end) c c' P s w = tt
+
+-- the time is told of one that had the same
+pub quiet_as : {L : Type 0} (now later : ℕ) (p : Phase) (answered : List Answered) (c d : Connection L)
+    (r : Result (Unit {0}) ConnectionEnd) → c.phase ≡ d.phase → c.since ≡ d.since →
+    OnOk r (later ≡ quiet_since now c.since c.phase p answered) →
+    OnOk r (later ≡ quiet_since now d.since d.phase p answered)
+quiet_as now later p answered c d r phase since h =
+    subst (λ (n : ℕ). OnOk r (later ≡ quiet_since now n d.phase p answered)) since
+    (subst (λ (x : Phase). OnOk r (later ≡ quiet_since now c.since x p answered)) phase h)
+
+pub drained_on : {P : Type 0} (r : Result (Unit {0}) ConnectionEnd) → P → OnOk r P
+drained_on (Ok x) p = p
+drained_on (Err end) p = tt
+
+-- no end had come: the one that came is final
+pub new_end : {L : Type 0} (G : LinkGhosts L) (l : L) (e : Option StreamEnd) → IfSome (end_so_far e) IsFinal →
+    IfSome (end_so_far e) (λ x. IsFinal x ⊎ G.ended l)
+new_end G l None h = tt
+new_end G l (Some end) h = inl h
+
+-- frames were answered of one whose stream had not ended
+pub answers_held : {L S : Type 0} (G : LinkGhosts L) (answers : S → Frame → List Reply → S → Type 0) (now count : ℕ)
+    (s s' : S) (c c' : Connection L) → c.phase ≡ phases.Serving → is_some (end_of c.exchange) ≡ false →
+    c'.link ≡ c.link → c'.number ≡ c.number → c'.phase ≡ c.phase →
+    (h : AnswersSome answers quantum count s s' c.exchange c'.exchange) →
+    c'.since ≡ quiet_since now c.since c.phase c.phase h.0.answered → AnswersHeld G answers now c c' s s'
+answers_held {L} G answers now count s s' c c' serving running link number phase h since = record {
+  answered = h.0.answered;
+  by_server = h.0.by_server;
+  most = h.0.most;
+  steps = steps G c c' [] [] h.0.answered serving (phase ∙ serving)
+      (subst (λ (l : L). Moves G [] [] c.link l) (sym link) (still G c.link)) h.0.does
+      (λ before fed gone d was. new_end G c'.link (end_of c'.exchange) (h.0.final running fed before gone d));
+  waits = h.0.stops;
+  number = number;
+  phase = phase;
+  since = since;
+}
+
+-- none were answered of one whose stream had ended
+pub answers_none : {L S : Type 0} (G : LinkGhosts L) (answers : S → Frame → List Reply → S → Type 0) (now : ℕ) (s : S)
+    (c : Connection L) → c.phase ≡ phases.Serving → is_some (end_of c.exchange) ≡ true →
+    AnswersHeld G answers now c c s s
+answers_none G answers now s c serving over = record {
+  answered = [];
+  by_server = refl;
+  most = omega arith;
+  steps = λ before l. subst (Lives G c) (sym (append-nil before)) l;
+  waits = λ few. inl (inr over);
+  number = refl;
+  phase = refl;
+  since = sym (ap (λ (p : Phase). quiet_since now c.since p p []) serving);
+}
+
+-- the time, where no frame was answered, and where one was
+pub quiet_where_none : {L : Type 0} (now : ℕ) (c : Connection L) (answered : List Answered) → c.phase ≡ phases.Serving →
+    length answered ≡ 0 → c.since ≡ quiet_since now c.since c.phase c.phase answered
+quiet_where_none now c [] serving none = sym (ap (λ (p : Phase). quiet_since now c.since p p []) serving)
+quiet_where_none now c (a ∷ answered) serving none = absurd (omega (arith, none))
+
+pub quiet_where_some : {L : Type 0} (now : ℕ) (c : Connection L) (answered : List Answered) → c.phase ≡ phases.Serving →
+    (length answered ≡ 0 → ⊥) → now ≡ quiet_since now c.since c.phase c.phase answered
+quiet_where_some now c [] serving some = absurd (some refl)
+quiet_where_some now c (a ∷ answered) serving some =
+    sym (ap (λ (p : Phase). quiet_since now c.since p p (a ∷ answered)) serving)
+
+-- what a connection is and has done stays
+pub woken : {L : Type 0} (G : LinkGhosts L) (c c' : Connection L) → c'.link ≡ c.link → c'.exchange ≡ c.exchange →
+    c'.phase ≡ c.phase → Steps G c [] c'
+woken G c c' link exchange phase before l = record {
+  fed = l.fed;
+  gone = l.gone;
+  unread = l.unread;
+  given = subst (λ x. G.given x (l.fed ++ l.unread)) (sym link) l.given;
+  taken = subst (λ x. G.taken x l.gone) (sym link) l.taken;
+  done = subst (HasDone l.fed (before ++ []) l.gone) (sym exchange)
+      (subst (λ (x : List Answered). HasDone l.fed x l.gone c.exchange) (sym (append-nil before)) l.done);
+  at_end = subst (λ (e : Exchange). IfSome (end_so_far (end_of e)) (λ x. IsFinal x ⊎ G.ended c'.link)) (sym exchange)
+      (subst (λ y. IfSome (end_so_far (end_of c.exchange)) (λ x. IsFinal x ⊎ G.ended y)) (sym link) l.at_end);
+  by_phase = subst (λ (e : Exchange). IsInPhase c'.phase e l.unread) (sym exchange)
+      (subst (λ (p : Phase). IsInPhase p c.exchange l.unread) (sym phase) l.by_phase);
+}
+
+-- a connection at its start
+pub begun : {L : Type 0} (G : LinkGhosts L) (link : L) (number now : ℕ) (c : Connection L) → G.given link [] →
+    G.taken link [] → Begins link number now c → Lives G c []
+begun G link number now c given taken b = record {
+  fed = [];
+  gone = [];
+  unread = [];
+  given = subst (λ x. G.given x []) (sym b.over) given;
+  taken = subst (λ x. G.taken x []) (sym b.over) taken;
+  done = b.fresh;
+  at_end = subst (λ (x : Option StreamEnd). IfSome (end_so_far x) (λ y. IsFinal y ⊎ G.ended c.link)) (sym b.unended) tt;
+  by_phase = subst (λ (p : Phase). IsInPhase p c.exchange []) (sym b.serving) refl;
+}
+
+some_if : {X : Type 0} (b : Bool) (x y : X) → (if b then Some x else None) ≡ Some y → x ≡ y
+some_if true x y e = ap (λ o. unwrap_or o x) e
+some_if false x y e = absurd cc
+
+expired_as : (p : Phase) (idle quiet : ℕ) (end : ConnectionEnd) (e : Exchange) (unread : List ℕ) →
+    expired_by p idle quiet ≡ Some end → IsInPhase p e unread → EndsAs end e unread
+expired_as phases.Serving idle quiet end e unread is h =
+    subst (λ x. EndsAs x e unread) (some_if (nat_lt idle quiet) Idle end is) h
+expired_as (phases.Draining fault) idle quiet end e unread is h =
+    subst (λ x. EndsAs x e unread) (some_if (nat_lt longest_drain quiet) (Over (ends.BadFrame fault)) end is)
+    (h.0, h.2, inr h.1)
+
+-- a connection whose time is up is over
+pub expires : {L : Type 0} (G : LinkGhosts L) (now idle : ℕ) (c : Connection L) (end : ConnectionEnd) →
+    expired_at now idle c ≡ Some end → (before : List Answered) → Lives G c before → IsOver G end c.link (before ++ [])
+expires G now idle c end is before l = record {
+  exchange = c.exchange;
+  fed = l.fed;
+  gone = l.gone;
+  unread = l.unread;
+  given = l.given;
+  taken = l.taken;
+  done = subst (λ (x : List Answered). HasDone l.fed x l.gone c.exchange) (sym (append-nil before)) l.done;
+  at_end = l.at_end;
+  by_end = expired_as c.phase idle (now - c.since) end c.exchange l.unread is l.by_phase;
+}

@@ -1,0 +1,15 @@
+use Rattle.std.proofs.Common.{[]}
+use Rattle.bw_many.proofs.Going.{drained, no_more}
+use Rattle.bw_many.proofs.connection.Connection.drain.Goals as goal
+
+pub returns-in-Ended-clause-goes : goal.returns-in-Ended-clause-goes
+returns-in-Ended-clause-goes g c =
+    let r = c.in-Ended.ensures in
+    drained g.L.Link c.args.fault c.args.self.now (record c.args.self.now { link = c.receive.new.self }) [] c.requires
+    (record { given = r.given; taken = no_more g.L.Link.taken _ _ r.taken; ended = r.ended })
+
+pub returns-in-Failed-clause-goes : goal.returns-in-Failed-clause-goes
+returns-in-Failed-clause-goes g c =
+    let r = c.in-Failed.ensures in
+    drained g.L.Link c.args.fault c.args.self.now (record c.args.self.now { link = c.receive.new.self }) [] c.requires
+    (record { given = r.given; taken = no_more g.L.Link.taken _ _ r.taken; ended = r.ended })

@@ -1,0 +1,64 @@
+use Rattle.std.proofs.Common.{rules, ◌≡◌, ◌∙◌, refl, sym, [], arith, Err}
+use Rattle.bw_many.specs.declared.connection.Phase.TheVariants as phases
+use Rattle.std.proofs.lemmas.Result.{err_from_is_err_and}
+use Rattle.bw_many.proofs.Going.{goes_at_last, not_served, number_left, quiet_as, quiet_drained, quiet_on, steps_on}
+use Rattle.bw_many.proofs.Going.{drained_on, waits_left}
+use Rattle.bw_many.proofs.connection.Connection.work.Goals as goal
+
+pub returns-in-Draining : goal.returns-in-Draining
+returns-in-Draining g c =
+    let d = c.drain.ensures in
+    let old = c.args.self.now in
+    let is = c.in-Draining.is in
+    record {
+      answered = [];
+      by_server = refl;
+      most = omega arith;
+      goes = d.goes;
+      number = d.stays.number;
+      waits = drained_on c.drain.result (λ serving few. absurd (not_served c.drain.new.self c.in-Draining.fault (d.stays.phase ∙ is) serving));
+      since = drained_on c.drain.result (quiet_drained c.args.now old c.drain.new.self c.in-Draining.fault is d.stays.phase d.stays.since);
+    }
+
+pub returns-in_err-receive_piece : goal.returns-in_err-receive_piece
+returns-in_err-receive_piece g c =
+    let a = err_from_is_err_and c.from_residual-in_err-receive_piece.result c.from_residual-in_err-receive_piece.ensures.1 in
+    let old = c.args.self.now in
+    let sent = c.send_waiting.new.self in
+    rw (a.1, a.2) record {
+      answered = [];
+      by_server = refl;
+      most = omega arith;
+      goes = goes_at_last g.L.Link (Err c.in_err-receive_piece.field-0.0) old sent c.receive_piece.new.self []
+          c.in_ok-send_waiting.ensures.goes c.in_err-receive_piece.ensures.goes;
+      number = c.in_err-receive_piece.ensures.stays.number ∙ c.in_ok-send_waiting.ensures.stays.number;
+      waits = tt;
+      since = tt;
+    }
+
+pub returns : goal.returns
+returns g c =
+    let h = c.answer_held.ensures in
+    let s = c.settle.ensures in
+    let old = c.args.self.now in
+    let sent = c.send_waiting.new.self in
+    let fed = c.receive_piece.new.self in
+    let held = c.answer_held.new.self in
+    let first = c.in_ok-send_waiting.ensures in
+    let then = c.in_ok-receive_piece.ensures in
+    let phase = then.stays.phase ∙ first.stays.phase in
+    let serving : old.phase ≡ phases.Serving = search rules in
+    record {
+      answered = h.answered;
+      by_server = h.by_server;
+      most = h.most;
+      goes = goes_at_last g.L.Link c.settle.result old held c.settle.new.self h.answered
+          (steps_on g.L.Link old fed held [] h.answered (steps_on g.L.Link old sent fed [] [] first.goes then.goes) h.steps)
+          s.goes;
+      number = number_left c.args.now c.settle.result held c.settle.new.self s.settles
+          ∙ (h.number ∙ (then.stays.number ∙ first.stays.number));
+      waits = waits_left c.args.now c.settle.result held c.settle.new.self _ s.settles h.waits;
+      since = quiet_as c.args.now c.settle.new.self.since c.settle.new.self.phase h.answered fed old c.settle.result phase
+          (then.stays.since ∙ first.stays.since)
+          (quiet_on c.args.now fed h.answered (phase ∙ serving) held c.settle.new.self c.settle.result h.phase h.since s.settles);
+    }

@@ -1,0 +1,11 @@
+use Rattle.bw_many.proofs.Going.{begun}
+use Rattle.bw_many.proofs.Standing.{adds_none, keeps_begun}
+use Rattle.bw_many.proofs.many.Many.begin.Goals as goal
+
+pub returns-clause-adds : goal.returns-clause-adds
+returns-clause-adds g c =
+    let b = c.in-Ok.ensures in
+    adds_none g.L.Link c.args.self.now _ (λ over trace.
+    keeps_begun g.L.Link c.args.self.now _ c.args.place c.in-Ok.connection over trace c.in-Some.ensures.1 c.requires.free
+    c.put_at.ensures.sets b.under
+    (begun g.L.Link c.args.link c.args.self.now.next c.args.now c.in-Ok.connection c.requires.given c.requires.taken b))

@@ -1,0 +1,30 @@
+use Rattle.std.proofs.Common.{ap, refl, ◌∙◌, subst, sym, List, Some, None, [], ◌++◌}
+use Rattle.bw_engine.specs.Answering.{Answered}
+use Rattle.bw_many.specs.Lives.{IsOver, Lives}
+use Rattle.bw_many.proofs.Going.{expires, woken}
+use Rattle.bw_many.proofs.Standing.{adds_closed, adds_none, adds_on, keeps_free, sets_again}
+use Rattle.bw_many.proofs.many.Many.expire.Goals as goal
+
+pub returns-in_default-clause-adds : goal.returns-in_default-clause-adds
+returns-in_default-clause-adds g c =
+    let t = c.in_default.ensures in
+    adds_none g.L.Link c.args.self.now _ (λ over trace.
+    keeps_free g.L.Link c.args.self.now _ c.args.place over trace refl t.was t.sets)
+
+pub returns-in-Some-expired-clause-adds : goal.returns-in-Some-expired-clause-adds
+returns-in-Some-expired-clause-adds g c =
+    let t = c.in-Some.ensures in
+    let was = c.in-Some.connection in
+    let is = c.close.ensures in
+    adds_closed g.L.Link c.args.self.now _ c.args.place was c.close.result was.number [] refl refl t.was t.sets
+    (ap (λ y. y.number) is)
+    (subst (λ y. (before : List Answered) → Lives g.L.Link was before → IsOver g.L.Link y.end y.link (before ++ []))
+    (sym is) (expires g.L.Link c.args.now c.args.idle was c.in-Some-expired.end (sym c.expired.ensures ∙ c.in-Some-expired.is)))
+
+pub returns-in-None-clause-adds : goal.returns-in-None-clause-adds
+returns-in-None-clause-adds g c =
+    let t = c.in-Some.ensures in
+    let was = c.in-Some.connection in
+    adds_on g.L.Link c.args.self.now _ c.args.place was was was.number [] refl refl t.was
+    (sets_again c.args.self.now.places.items c.take_at.new.places.items c.put_at.new.places.items c.args.place None (Some was) t.sets c.put_at.ensures.sets) refl
+    (woken g.L.Link was was refl refl refl)

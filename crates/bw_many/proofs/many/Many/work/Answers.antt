@@ -1,0 +1,62 @@
+use Rattle.std.proofs.Common.{ap, arith, refl, subst, sym, ◌∙◌, List, Some, None, [], ◌++◌, length, ◌<◌, ◌≡◌}
+use Rattle.bw_engine.specs.Answering.{Answered}
+use Rattle.bw_engine.specs.Done.{MustWait}
+use Rattle.bw_many.specs.declared.connection.Phase.TheVariants as phases
+use Rattle.bw_many.specs.Lives.{IsOver, Lives, quantum}
+use Rattle.bw_many.proofs.Standing.{adds_closed, adds_none, adds_on, keeps_free, not_some, sets_again, some_is}
+use Rattle.bw_many.proofs.many.Many.work.Goals as goal
+
+pub returns-in_default : goal.returns-in_default
+returns-in_default g c =
+    let t = c.in_default.ensures in
+    record {
+      number = 0;
+      answered = [];
+      by_server = refl;
+      most = omega arith;
+      is_its = λ d at. absurd (not_some d (some_is None (Some d) (sym t.was ∙ at)));
+      adds = adds_none g.L.Link c.args.self.now _ (λ over trace.
+          keeps_free g.L.Link c.args.self.now _ c.args.place over trace refl t.was t.sets);
+      others = record { others = t.sets.elsewhere; count = t.count };
+      waits = λ d at. absurd (not_some d (some_is None (Some d) (sym t.sets.there ∙ at)));
+    }
+
+pub returns-in-Ok : goal.returns-in-Ok
+returns-in-Ok g c =
+    let t = c.in-Some.ensures in
+    let was = c.in-Some.connection in
+    let new = c.work.new.self in
+    let w = c.in-Ok.ensures in
+    let sets = sets_again c.args.self.now.places.items c.take_at.new.places.items c.put_at.new.places.items c.args.place None (Some new) t.sets c.put_at.ensures.sets in
+    record {
+      number = was.number;
+      answered = w.answered;
+      by_server = w.by_server;
+      most = w.most;
+      is_its = λ d at. ap (λ x. x.number) (sym (some_is was d (some_is (Some was) (Some d) (sym t.was ∙ at))));
+      adds = adds_on g.L.Link c.args.self.now _ c.args.place was new was.number w.answered refl refl t.was sets w.number
+          w.goes;
+      others = record { others = sets.elsewhere; count = c.put_at.ensures.count ∙ t.count };
+      waits = λ d at. subst (λ x. x.phase ≡ phases.Serving → length w.answered < quantum → MustWait x.exchange)
+          (some_is new d (some_is (Some new) (Some d) (sym sets.there ∙ at))) w.waits;
+    }
+
+pub returns-in-Err : goal.returns-in-Err
+returns-in-Err g c =
+    let t = c.in-Some.ensures in
+    let was = c.in-Some.connection in
+    let w = c.in-Err.ensures in
+    let is = c.close.ensures in
+    record {
+      number = was.number;
+      answered = w.answered;
+      by_server = w.by_server;
+      most = w.most;
+      is_its = λ d at. ap (λ x. x.number) (sym (some_is was d (some_is (Some was) (Some d) (sym t.was ∙ at))));
+      adds = adds_closed g.L.Link c.args.self.now _ c.args.place was c.close.result was.number w.answered refl refl t.was
+          t.sets (ap (λ y. y.number) is ∙ w.number)
+          (subst (λ y. (before : List Answered) → Lives g.L.Link was before →
+          IsOver g.L.Link y.end y.link (before ++ w.answered)) (sym is) w.goes);
+      others = record { others = t.sets.elsewhere; count = t.count };
+      waits = λ d at. absurd (not_some d (some_is None (Some d) (sym t.sets.there ∙ at)));
+    }

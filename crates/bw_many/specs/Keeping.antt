@@ -1,0 +1,86 @@
+-- Many connections over one server: the frames of all of them that were answered are one list, and
+-- each one's own are a part of it.
+use Rattle.std.specs.Prelude.{◌≡◌, ◌≢◌, ◌⊎◌, ℕ, ◌<◌, ◌≤◌, ◌==◌, Option, Some, None, List, [], ◌∷◌, ◌++◌}
+use Rattle.std.specs.Prelude.{map, filter, slice_get}
+use Rattle.std.specs.List.{AllByRecursion}
+use Rattle.bw_engine.specs.Answering.{Answered}
+use Rattle.bw_many.specs.declared.connection.Connection.{Connection}
+use Rattle.bw_many.specs.declared.link.Link.{Ghosts as LinkGhosts}
+use Rattle.bw_many.specs.declared.many.Closed.{Closed}
+use Rattle.bw_many.specs.declared.many.Many.{Many}
+use Rattle.bw_many.specs.Lives.{Lives, IsOver}
+
+-- a frame that was answered, behind the number of the connection that it came over
+abbrev pub Tagged : Type 0
+Tagged = ℕ × Answered
+
+-- these frames, of one connection
+abbrev pub tagged : ℕ → List Answered → List Tagged
+tagged n answered = map (λ a. (n, a)) answered
+
+-- the frames without their numbers, in the order in which the server answered them
+abbrev pub all_answered : List Tagged → List Answered
+all_answered trace = map (λ t. t.1) trace
+
+-- the frames of one connection, in their order among all
+abbrev pub own : ℕ → List Tagged → List Answered
+own n trace = map (λ t. t.1) (filter (λ t. t.0 == n) trace)
+
+-- one place has another content
+pub record Sets {X : Type 0} (xs : List X) (i : ℕ) (x : X) (ys : List X) : Type 0 where
+  pub there : slice_get ys i ≡ Some x
+  pub elsewhere : (j : ℕ) → j ≢ i → slice_get ys j ≡ slice_get xs j
+
+-- a connection stands at a place
+abbrev pub StandsAt : {L : Type 0} → Many L → ℕ → Connection L → Type 0
+StandsAt m i c = slice_get m.places.items i ≡ Some (Some c)
+
+-- the place is there, and no connection stands at it
+abbrev pub IsFree : {L : Type 0} → Many L → ℕ → Type 0
+IsFree m i = slice_get m.places.items i ≡ Some None
+
+-- the connection with this number stands somewhere
+abbrev pub Stands : {L : Type 0} → Many L → ℕ → Type 0
+Stands {L} m n = (i : ℕ) × (c : Connection L) × StandsAt m i c × (c.number ≡ n)
+
+-- the connection with this number is one of those that are over
+abbrev pub IsAmong : {L : Type 0} → ℕ → List (Closed L) → Type 0
+IsAmong n [] = ⊥
+IsAmong n (x ∷ xs) = (x.number ≡ n) ⊎ IsAmong n xs
+
+-- no two of those that are over have one number
+abbrev pub AreApart : {L : Type 0} → List (Closed L) → Type 0
+AreApart [] = Unit {0}
+AreApart (x ∷ xs) = AllByRecursion (λ y. y.number ≢ x.number) xs × AreApart xs
+
+-- the list of what is there
+abbrev pub those : {X : Type 0} → Option X → List X
+those None = []
+those (Some x) = x ∷ []
+
+module _ {L : Type 0} (G : LinkGhosts L) where
+  -- a connection is over, and stands no longer: it ended so, with its own part of these frames
+  pub record HasLeft (m : Many L) (trace : List Tagged) (x : Closed L) : Type 0 where
+    pub before : x.number < m.next
+    pub over : IsOver G x.end x.link (own x.number trace)
+    pub away : (i : ℕ) (c : Connection L) → StandsAt m i c → c.number ≢ x.number
+
+  -- So far these frames were answered, over connections that stand and over these, which are over.
+  pub record Keeps (m : Many L) (over : List (Closed L)) (trace : List Tagged) : Type 0 where
+    -- one that stands has answered its own part of them
+    pub lives : (i : ℕ) (c : Connection L) → StandsAt m i c →
+        (c.number < m.next) × Lives G c (own c.number trace)
+    -- no two places have one number
+    pub apart : (i j : ℕ) (c d : Connection L) → StandsAt m i c → StandsAt m j d →
+        c.number ≡ d.number → i ≡ j
+    pub left : AllByRecursion (HasLeft m trace) over
+    pub once : AreApart over
+    -- each that was begun stands, or is over
+    pub each : (n : ℕ) → n < m.next → Stands m n ⊎ IsAmong n over
+    -- and no other has answered any
+    pub fresh : (n : ℕ) → m.next ≤ n → own n trace ≡ []
+
+  -- frames more are answered, and connections more are over
+  abbrev pub Adds : Many L → List Tagged → List (Closed L) → Many L → Type 0
+  Adds m more closed m' = (over : List (Closed L)) (trace : List Tagged) → Keeps m over trace →
+      Keeps m' (over ++ closed) (trace ++ more)

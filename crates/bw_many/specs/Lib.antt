@@ -1,0 +1,6 @@
+pub mod Links
+pub mod Feeding
+pub mod Lives
+pub mod Keeping
+pub mod Places
+pub mod Working

@@ -1,0 +1,177 @@
+-- What a connection has done so far, what a call adds to it, and what is left of one that is over.
+use Rattle.std.specs.Prelude.{◌≡◌, ◌⊎◌, ℕ, ◌+◌, ◌-◌, ◌≤◌, ◌<◌, true, Bool, not, ◌||◌, Option, Some, None}
+use Rattle.std.specs.Prelude.{Result, Ok, Err, IfSome, OnOk, List, [], ◌∷◌, ◌++◌, length, nat_lt}
+use Rattle.std.specs.Prelude.{if◌then◌else◌}
+use Rattle.bw_model.specs.Wire.{Frame}
+use Rattle.bw_model.specs.Replies.{Reply}
+use Rattle.bw_wire.specs.Held.{longest_piece, longest_stream}
+use Rattle.bw_engine.specs.declared.exchange.Exchange.{Exchange}
+use Rattle.bw_engine.specs.declared.serving.ExchangeEnd.{ExchangeEnd}
+use Rattle.bw_engine.specs.declared.serving.ExchangeEnd.TheVariants as ends
+use Rattle.bw_engine.specs.declared.step.StreamEnd.{StreamEnd}
+use Rattle.bw_engine.specs.declared.step.StreamEnd.TheVariants as streams
+use Rattle.bw_engine.specs.Answering.{Answered, AnswersAll}
+use Rattle.bw_engine.specs.Done.{HasDone, MustWait}
+use Rattle.bw_engine.specs.Ends.{IsFinal, end_so_far, end_meaning}
+use Rattle.bw_engine.specs.Parts.{wants_piece, end_of, waiting_in, pending_of}
+use Rattle.bw_many.specs.declared.connection.Connection.{Connection}
+use Rattle.bw_many.specs.declared.connection.ConnectionEnd.{ConnectionEnd}
+use Rattle.bw_many.specs.declared.connection.ConnectionEnd.TheVariants.{Over, Idle}
+use Rattle.bw_many.specs.declared.connection.Phase.{Phase}
+use Rattle.bw_many.specs.declared.connection.Phase.TheVariants as phases
+use Rattle.bw_many.specs.declared.link.Link.{Ghosts as LinkGhosts}
+
+-- at most so many frames are answered in a quantum
+abbrev pub quantum : ℕ
+quantum = 64
+
+-- behind a bad frame a connection is drained for so many milliseconds
+abbrev pub longest_drain : ℕ
+longest_drain = 2000
+
+-- Bytes that the link gave and the exchange was not fed: none while it is served; behind a bad
+-- frame, what still comes.
+abbrev pub IsInPhase : Phase → Exchange → List ℕ → Type 0
+IsInPhase phases.Serving e unread = unread ≡ []
+IsInPhase (phases.Draining fault) e unread =
+    (end_of e ≡ Some (streams.BadFrame fault)) × IsFinal (end_meaning (streams.BadFrame fault))
+    × (waiting_in e ≡ [])
+
+-- the exchange has ended with its stream, and all replies are out
+abbrev pub HasEnded : StreamEnd → Exchange → List ℕ → Type 0
+HasEnded end e unread =
+    (end_of e ≡ Some end) × (waiting_in e ≡ []) × ((unread ≡ []) ⊎ IsFinal (end_meaning end))
+
+-- all whole frames are answered, and all replies are out
+abbrev pub IsUpToDate : Exchange → Type 0
+IsUpToDate e = (wants_piece e ≡ true) × (waiting_in e ≡ [])
+
+-- how a connection's exchange stands where it ended so, and what it was not fed of what the link
+-- gave
+abbrev pub EndsAs : ConnectionEnd → Exchange → List ℕ → Type 0
+EndsAs (Over ends.Bye) e unread = HasEnded streams.Bye e unread
+EndsAs (Over ends.EndOfInput) e unread = HasEnded streams.EndOfInput e unread
+EndsAs (Over (ends.BadFrame fault)) e unread = HasEnded (streams.BadFrame fault) e unread
+EndsAs (Over ends.ReadFault) e unread = IsUpToDate e × (unread ≡ [])
+EndsAs (Over ends.WriteFault) e unread = (1 ≤ length (waiting_in e)) × (unread ≡ [])
+EndsAs (Over ends.TurnLimit) e unread =
+    IsUpToDate e × (longest_stream < (pending_of e).fed + length unread)
+EndsAs (Over ends.Memory) e unread =
+    IsUpToDate e × (1 ≤ length unread) × (length unread ≤ longest_piece)
+EndsAs Idle e unread = unread ≡ []
+
+-- what no call but `work` changes
+pub record Stays {L : Type 0} (c c' : Connection L) : Type 0 where
+  pub number : c'.number ≡ c.number
+  pub phase : c'.phase ≡ c.phase
+  pub since : c'.since ≡ c.since
+
+-- whether a connection can go on before its link has more bytes, or room
+abbrev pub can_go_on : {L : Type 0} → Connection L → Bool
+can_go_on c = goes c.phase (waiting_in c.exchange)
+  where
+    goes : Phase → List ℕ → Bool
+    goes (phases.Draining fault) waiting = c.readable
+    goes phases.Serving [] = c.readable || not (wants_piece c.exchange)
+    goes phases.Serving (b ∷ bs) = c.writable
+
+-- how a connection that is quiet for so long ends, by its phase: where that is longer than so many
+-- milliseconds, or it was drained for long enough
+abbrev pub expired_by : Phase → ℕ → ℕ → Option ConnectionEnd
+expired_by phases.Serving idle quiet = if nat_lt idle quiet then Some Idle else None
+expired_by (phases.Draining fault) idle quiet =
+    if nat_lt longest_drain quiet then Some (Over (ends.BadFrame fault)) else None
+
+-- how it ends at a time
+abbrev pub expired_at : {L : Type 0} → ℕ → ℕ → Connection L → Option ConnectionEnd
+expired_at now idle c = expired_by c.phase idle (now - c.since)
+
+-- the time since which a connection is quiet: that of the quantum where a frame was answered in it,
+-- or its draining began
+abbrev pub quiet_since : ℕ → ℕ → Phase → Phase → List Answered → ℕ
+quiet_since now since phase phases.Serving [] = since
+quiet_since now since phase phases.Serving (a ∷ answered) = now
+quiet_since now since phases.Serving (phases.Draining fault) answered = now
+quiet_since now since (phases.Draining was) (phases.Draining fault) answered = since
+
+-- the stream's end is looked at: where it has come and all replies are out, the connection is over,
+-- or drained
+abbrev pub Settles : {L : Type 0} → ℕ → Result (Unit {0}) ConnectionEnd → Connection L →
+    Connection L → Type 0
+Settles now (Ok x) c c' = (c'.number ≡ c.number) × (c'.exchange ≡ c.exchange)
+    × (c'.since ≡ quiet_since now c.since c.phase c'.phase [])
+Settles now (Err end) c c' = c'.number ≡ c.number
+
+module _ {L : Type 0} (G : LinkGhosts L) where
+  -- so far these frames of a connection were answered
+  pub record Lives (c : Connection L) (answered : List Answered) : Type 0 where
+    -- the bytes that its exchange was fed, those that were taken from it, and those that came and
+    -- were let go
+    pub fed : List ℕ
+    pub gone : List ℕ
+    pub unread : List ℕ
+    pub given : G.given c.link (fed ++ unread)
+    pub taken : G.taken c.link gone
+    pub done : HasDone fed answered gone c.exchange
+    -- an end that more bytes could change is told only where there are no more
+    pub at_end : IfSome (end_so_far (end_of c.exchange)) (λ x. IsFinal x ⊎ G.ended c.link)
+    pub by_phase : IsInPhase c.phase c.exchange unread
+
+  -- a connection over this link ended so, and these are all of its frames that were answered
+  pub record IsOver (end : ConnectionEnd) (link : L) (answered : List Answered) : Type 0 where
+    pub exchange : Exchange
+    pub fed : List ℕ
+    pub gone : List ℕ
+    pub unread : List ℕ
+    pub given : G.given link (fed ++ unread)
+    pub taken : G.taken link gone
+    pub done : HasDone fed answered gone exchange
+    pub at_end : IfSome (end_so_far (end_of exchange)) (λ x. IsFinal x ⊎ G.ended link)
+    pub by_end : EndsAs end exchange unread
+
+  -- frames more were answered, and it goes on
+  abbrev pub Steps : Connection L → List Answered → Connection L → Type 0
+  Steps c answered c' = (before : List Answered) → Lives c before → Lives c' (before ++ answered)
+
+  -- frames more were answered, and it goes on, or is over
+  abbrev pub Goes : Result (Unit {0}) ConnectionEnd → Connection L → List Answered →
+      Connection L → Type 0
+  Goes (Ok x) c answered c' = Steps c answered c'
+  Goes (Err end) c answered c' =
+      (before : List Answered) → Lives c before → IsOver end c'.link (before ++ answered)
+
+  -- The server answered so many frames of a connection at this time, and fewer than a quantum only
+  -- where the exchange must wait.
+  pub record AnswersHeld {S : Type 0} (answers : S → Frame → List Reply → S → Type 0) (now : ℕ)
+      (c c' : Connection L) (s s' : S) : Type 0 where
+    pub answered : List Answered
+    pub by_server : AnswersAll answers s answered s'
+    pub most : length answered ≤ quantum
+    pub steps : Steps c answered c'
+    pub waits : length answered < quantum → MustWait c'.exchange
+    pub number : c'.number ≡ c.number
+    pub phase : c'.phase ≡ c.phase
+    pub since : c'.since ≡ quiet_since now c.since c.phase c.phase answered
+
+  -- A quantum of a connection, at this time: the server answered so many frames of it, and, where
+  -- it goes on being served, fewer than a quantum only where the exchange must wait.
+  pub record Works {S : Type 0} (answers : S → Frame → List Reply → S → Type 0) (now : ℕ)
+      (result : Result (Unit {0}) ConnectionEnd) (c c' : Connection L) (s s' : S) : Type 0 where
+    pub answered : List Answered
+    pub by_server : AnswersAll answers s answered s'
+    pub most : length answered ≤ quantum
+    pub goes : Goes result c answered c'
+    pub number : c'.number ≡ c.number
+    pub waits : OnOk result (c'.phase ≡ phases.Serving → length answered < quantum →
+        MustWait c'.exchange)
+    pub since : OnOk result (c'.since ≡ quiet_since now c.since c.phase c'.phase answered)
+
+-- a new connection
+pub record Begins {L : Type 0} (link : L) (number now : ℕ) (c : Connection L) : Type 0 where
+  pub over : c.link ≡ link
+  pub under : c.number ≡ number
+  pub fresh : HasDone [] [] [] c.exchange
+  pub unended : end_of c.exchange ≡ None
+  pub serving : c.phase ≡ phases.Serving
+  pub goes : can_go_on c ≡ true
+  pub since : c.since ≡ now

@@ -1,0 +1,32 @@
+-- A quantum of the connection at a place.
+use Rattle.std.specs.Prelude.{◌≡◌, ◌≢◌, ℕ, ◌≤◌, ◌<◌, Option, List, length, slice_get, vec_len}
+use Rattle.bw_model.specs.Wire.{Frame}
+use Rattle.bw_model.specs.Replies.{Reply}
+use Rattle.bw_engine.specs.Answering.{Answered, AnswersAll}
+use Rattle.bw_engine.specs.Done.{MustWait}
+use Rattle.bw_many.specs.declared.connection.Connection.{Connection}
+use Rattle.bw_many.specs.declared.connection.Phase.TheVariants as phases
+use Rattle.bw_many.specs.declared.link.Link.{Ghosts as LinkGhosts}
+use Rattle.bw_many.specs.declared.many.Closed.{Closed}
+use Rattle.bw_many.specs.declared.many.Many.{Many}
+use Rattle.bw_many.specs.Keeping.{Adds, StandsAt, tagged, those}
+use Rattle.bw_many.specs.Lives.{quantum}
+
+-- the other places are as they were
+pub record LeavesOthers {L : Type 0} (place : ℕ) (m m' : Many L) : Type 0 where
+  pub others : (j : ℕ) → j ≢ place → slice_get m'.places.items j ≡ slice_get m.places.items j
+  pub count : vec_len m'.places ≡ vec_len m.places
+
+-- The server answered so many frames of the connection at this place, which may be over behind them;
+-- and, where it goes on being served, fewer than a quantum only where its exchange must wait.
+pub record WorksAt {L S : Type 0} (G : LinkGhosts L) (answers : S → Frame → List Reply → S → Type 0)
+    (place : ℕ) (closed : Option (Closed L)) (m m' : Many L) (s s' : S) : Type 0 where
+  pub number : ℕ
+  pub answered : List Answered
+  pub by_server : AnswersAll answers s answered s'
+  pub most : length answered ≤ quantum
+  pub is_its : (c : Connection L) → StandsAt m place c → c.number ≡ number
+  pub adds : Adds G m (tagged number answered) (those closed) m'
+  pub others : LeavesOthers place m m'
+  pub waits : (c : Connection L) → StandsAt m' place c → c.phase ≡ phases.Serving →
+      length answered < quantum → MustWait c.exchange

@@ -1,0 +1,65 @@
+//! A link to a recorder, of which no call ever waits.
+ghost use Rattle.std.specs.Prelude.{◌≡◌, ◌++◌, List, ℕ, length};
+ghost use Rattle.bw_many.specs.Links.{received, sent, IsReceived, IsSent};
+
+/// What came of a call for bytes.
+#[derive(Clone, Copy, Debug, PartialEq, Eq)]
+pub enum Received {
+    /// So many bytes came, at least one.
+    Bytes(usize),
+    /// No more will come.
+    Ended,
+    /// None is there now.
+    Nothing,
+    /// The link is broken.
+    Failed,
+}
+
+/// What came of a call that offers bytes.
+#[derive(Clone, Copy, Debug, PartialEq, Eq)]
+pub enum Sent {
+    /// So many bytes at the front were taken, at least one.
+    Bytes(usize),
+    /// There is room for none now.
+    Nothing,
+    /// The link is broken.
+    Failed,
+}
+
+/// Gives bytes and takes bytes, and never waits.
+///
+/// What it has given and taken so far is told by relations, so that one over memory can tell all of
+/// it, and a socket nothing.
+pub trait Link {
+    /// These bytes may be all that it has given so far.
+    ghost given: { Self → List ℕ → Type 0 };
+
+    /// These bytes may be all that it has taken so far.
+    ghost taken: { Self → List ℕ → Type 0 };
+
+    /// It may have no more to give.
+    ghost ended: { Self → Type 0 };
+
+    /// Puts the next bytes at the front of the buffer.
+    fn receive(&mut self, buffer: &mut [u8]) -> Received
+        ensures within { IsReceived result (length buffer.old) }
+        ensures given { (xs : List ℕ) → given self.old xs →
+            given self.new (xs ++ received result buffer.new) }
+        ensures taken { (ys : List ℕ) → taken self.old ys → taken self.new ys }
+        ensures end { result ≡ Received.Ended → ended self.new }
+        ensures ended { ended self.old → ended self.new };
+
+    /// Takes bytes at the front of these, which are some.
+    fn send(&mut self, bytes: &[u8]) -> Sent
+        ensures within { IsSent result (length bytes.now) }
+        ensures given { (xs : List ℕ) → given self.old xs → given self.new xs }
+        ensures taken { (ys : List ℕ) → taken self.old ys →
+            taken self.new (ys ++ sent result bytes.now) }
+        ensures ended { ended self.old → ended self.new };
+
+    /// Tells the peer that no more bytes will be sent.
+    fn shut(&mut self)
+        ensures given { (xs : List ℕ) → given self.old xs → given self.new xs }
+        ensures taken { (ys : List ℕ) → taken self.old ys → taken self.new ys }
+        ensures ended { ended self.old → ended self.new };
+}

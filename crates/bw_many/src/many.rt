@@ -1,0 +1,201 @@
+//! Many connections over one server, each at a place of its own.
+ghost use Rattle.std.specs.Prelude.{◌≡◌, ◌≤◌, ◌<◌, [], List, length, vec_len, slice_get, Some, None, IfOk};
+ghost use Rattle.std.specs.Prelude.{OnOk, OnErr, is_some};
+ghost use Rattle.bw_wire.specs.Held.{longest_piece};
+ghost use Rattle.bw_many.specs.Keeping.{Sets};
+
+use crate::connection::{Connection, ConnectionEnd};
+use crate::link::Link;
+use bw_engine::Turns;
+use std::alloc::{AllocError, Global};
+use thiserror::Error;
+
+/// Why a connection can't be begun.
+#[derive(Clone, Copy, Debug, PartialEq, Eq, Error)]
+pub enum BeginError {
+    /// Memory was refused.
+    #[error("memory was refused")]
+    Memory,
+    /// 2^64 - 1 connections were begun.
+    #[error("there are no more numbers")]
+    NumbersSpent,
+}
+
+/// A connection that is over.
+#[derive(Drop)]
+pub struct Closed<L> {
+    /// The link that it had.
+    pub link: L,
+    /// Its number: how many were begun before it.
+    pub number: u64,
+    /// How it ended.
+    pub end: ConnectionEnd,
+}
+
+/// Takes what is at a place.
+fn take_at<L>(places: &mut Vec<Option<Connection<L>>>, place: usize) -> Option<Connection<L>>
+    requires { place < vec_len places.old }
+    ensures was { slice_get places.old.items place ≡ Some result }
+    ensures sets { Sets places.old.items place None places.new.items }
+    ensures count { vec_len places.new ≡ vec_len places.old }
+{
+    places[place].take()
+}
+
+/// Puts a connection at a place.
+fn put_at<L: Drop>(places: &mut Vec<Option<Connection<L>>>, place: usize, connection: Connection<L>)
+    requires { place < vec_len places.old }
+    ensures sets { Sets places.old.items place (Some connection) places.new.items }
+    ensures count { vec_len places.new ≡ vec_len places.old }
+{
+    places[place] = Some(connection);
+}
+
+/// Connections to many recorders over one server, each at a place, and under a number that no other
+/// ever has.
+#[derive(Drop)]
+pub struct Many<L> {
+    places: Vec<Option<Connection<L>>>,
+    next: u64,
+}
+
+impl<L: Link + Drop> Many<L> {
+    ghost use Rattle.bw_many.specs.Keeping.{Keeps, Adds, IsFree, those};
+    ghost use Rattle.bw_many.specs.Working.{LeavesOthers, WorksAt};
+    ghost use Rattle.bw_many.specs.Places.{count_of, can_go_on_at, first_free};
+
+    /// So many places, at none of which a connection stands.
+    ///
+    /// # Errors
+    /// `AllocError` where memory was refused.
+    pub fn new(alloc: Global, count: usize) -> Result<Many<L>, AllocError>
+        ensures keeps { IfOk result (λ m. Keeps L.Link m [] []) }
+        ensures count { IfOk result (λ m. count_of m ≡ count) }
+    {
+        let mut places = Vec::with_capacity(alloc, count)?;
+        for _place in 0..count {
+            places.push(None)?;
+        }
+        Ok(Many { places, next: 0 })
+    }
+
+    /// How many places there are.
+    pub fn places(&self) -> usize
+        ensures { result ≡ count_of self.now }
+    {
+        self.places.len()
+    }
+
+    /// The first place at which no connection stands, if there is one.
+    pub fn free_place(&self) -> Option<usize>
+        ensures { result ≡ first_free self.now }
+    {
+        self.places.iter().position(|place| place.is_none())
+    }
+
+    /// Whether the connection at a place can go on before its link has more bytes, or room.
+    pub fn can_go_on(&self, place: usize) -> bool
+        ensures { result ≡ can_go_on_at self.now place }
+    {
+        let Some(Some(connection)) = self.places.get(place) else {
+            return false;
+        };
+        connection.can_go_on()
+    }
+
+    /// Begins a connection at a free place, at a time in milliseconds.
+    ///
+    /// # Errors
+    /// Why it can't be begun: nothing changed, and the link is closed.
+    pub fn begin(
+        &mut self,
+        alloc: Global,
+        place: usize,
+        link: L,
+        now: u64,
+    ) -> Result<(), BeginError>
+        requires free { IsFree self.old place }
+        requires given { L.given link [] }
+        requires taken { L.taken link [] }
+        ensures adds { Adds L.Link self.old [] [] self.new }
+        ensures others { LeavesOthers place self.old self.new }
+        ensures err { OnErr result (self.new ≡ self.old) }
+    {
+        let Some(next) = self.next.checked_add(1) else {
+            return Err(BeginError::NumbersSpent);
+        };
+        let Ok(connection) = Connection::new(alloc, link, self.next, now) else {
+            return Err(BeginError::Memory);
+        };
+        put_at(&mut self.places, place, connection);
+        self.next = next;
+        Ok(())
+    }
+
+    /// Notes that the connection at a place may have bytes again, or room.
+    pub fn wake(&mut self, place: usize, readable: bool, writable: bool)
+        ensures adds { Adds L.Link self.old [] [] self.new }
+        ensures others { LeavesOthers place self.old self.new }
+    {
+        if place >= self.places.len() {
+            return;
+        }
+        let Some(mut connection) = take_at(&mut self.places, place) else {
+            return;
+        };
+        connection.wake(readable, writable);
+        put_at(&mut self.places, place, connection);
+    }
+
+    /// One quantum of the connection at a place, at a time in milliseconds. The connection, where it
+    /// is over.
+    pub fn work<T: Turns>(
+        &mut self,
+        place: usize,
+        server: &mut T,
+        buffer: &mut [u8],
+        now: u64,
+    ) -> Option<Closed<L>>
+        requires place { place < count_of self.old }
+        requires buffer { length buffer.old ≤ longest_piece }
+        ensures { WorksAt L.Link T.answers place result self.old self.new server.old server.new }
+    {
+        let Some(mut connection) = take_at(&mut self.places, place) else {
+            return None;
+        };
+        match connection.work(server, buffer, now) {
+            Ok(()) => {
+                put_at(&mut self.places, place, connection);
+                None
+            }
+            Err(end) => Some(close(connection, end)),
+        }
+    }
+
+    /// Ends the connection at a place where it was quiet for longer than `idle` milliseconds, or
+    /// drained for long enough.
+    pub fn expire(&mut self, place: usize, now: u64, idle: u64) -> Option<Closed<L>>
+        requires place { place < count_of self.old }
+        ensures adds { Adds L.Link self.old [] (those result) self.new }
+        ensures others { LeavesOthers place self.old self.new }
+    {
+        let Some(connection) = take_at(&mut self.places, place) else {
+            return None;
+        };
+        match connection.expired(now, idle) {
+            Some(end) => Some(close(connection, end)),
+            None => {
+                put_at(&mut self.places, place, connection);
+                None
+            }
+        }
+    }
+}
+
+/// What is left of a connection that ended so.
+fn close<L: Drop>(connection: Connection<L>, end: ConnectionEnd) -> Closed<L>
+    ensures { result ≡ record { link = connection.link; number = connection.number; end = end } }
+{
+    let Connection { link, number, .. } = connection;
+    Closed { link, number, end }
+}
