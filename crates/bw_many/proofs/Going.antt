@@ -148,14 +148,14 @@ pub fed_or_over : {L : Type 0} (G : LinkGhosts L) (r : Result (Unit {0}) Connect
     Feeds piece r c.exchange c'.exchange → Goes G r c [] c'
 fed_or_over G (Ok x) c c' piece serving still hungry none some short m f =
     steps G c c' piece [] [] serving still m f.0 (λ before fed gone d h. same_end G c c' f.1 m.ended h)
-fed_or_over G (Err end) c c' piece serving still hungry none some short m f = go f.1
+fed_or_over G (Err end) c c' piece serving still hungry none some short m f = go f.2
   where
     ends_so : (x : ConnectionEnd) → end ≡ x → EndsAs x c.exchange piece → Goes G (Err end) c [] c'
     ends_so x e k = over G end c c' piece serving f.0 m (subst (λ y. EndsAs y c.exchange piece) (sym e) k)
 
     go : (end ≡ Over ends.Memory) ⊎ ((end ≡ Over ends.TurnLimit) × (longest_stream < (pending_of c.exchange).fed + length piece)) → Goes G (Err end) c [] c'
-    go (inl e) = ends_so (Over ends.Memory) e ((hungry, none), some, short)
-    go (inr e) = ends_so (Over ends.TurnLimit) e.0 ((hungry, none), e.1)
+    go (inl e) = ends_so (Over ends.Memory) e ((hungry, none), f.1, some, short)
+    go (inr e) = ends_so (Over ends.TurnLimit) e.0 ((hungry, none), f.1, e.1)
 
 -- the stream has ended, and all replies are out
 pub ends_as : (end : StreamEnd) (e : Exchange) → end_of e ≡ Some end → waiting_in e ≡ [] →

@@ -1,2 +1,3 @@
 mod Going
 mod Standing
+mod Serving

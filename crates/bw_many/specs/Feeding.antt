@@ -1,7 +1,7 @@
 -- What feeding a piece to a connection's exchange comes to, and how its stream's end is met.
-use Rattle.std.specs.Prelude.{◌≡◌, ◌⊎◌, ℕ, ◌+◌, ◌<◌, Option, Some, None, Result, Ok, Err, List}
+use Rattle.std.specs.Prelude.{◌≡◌, ◌⊎◌, ℕ, ◌+◌, ◌<◌, Option, Some, None, Result, Ok, Err, List, IsTrue}
 use Rattle.std.specs.Prelude.{[], length}
-use Rattle.bw_model.specs.Wire.{Reason, Cut}
+use Rattle.bw_model.specs.Wire.{Reason, Cut, are_bytes}
 use Rattle.bw_wire.specs.Held.{longest_stream}
 use Rattle.bw_wire.specs.Reasons.{reason_meaning}
 use Rattle.bw_wire.specs.declared.fault.WireFault.{WireFault}
@@ -17,7 +17,7 @@ use Rattle.bw_many.specs.declared.connection.ConnectionEnd.TheVariants.{Over}
 -- it is fed, or the connection ends: memory was refused, or the stream would be longer than any
 abbrev pub Feeds : List ℕ → Result (Unit {0}) ConnectionEnd → Exchange → Exchange → Type 0
 Feeds piece (Ok x) e e' = DoesMore e piece [] [] e' × (end_of e' ≡ end_of e)
-Feeds piece (Err end) e e' = (e' ≡ e)
+Feeds piece (Err end) e e' = (e' ≡ e) × IsTrue (are_bytes piece)
     × ((end ≡ Over ends.Memory)
     ⊎ ((end ≡ Over ends.TurnLimit) × (longest_stream < (pending_of e).fed + length piece)))
 

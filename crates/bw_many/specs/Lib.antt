@@ -4,3 +4,4 @@ pub mod Lives
 pub mod Keeping
 pub mod Places
 pub mod Working
+pub mod Served

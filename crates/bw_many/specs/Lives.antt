@@ -1,8 +1,8 @@
 -- What a connection has done so far, what a call adds to it, and what is left of one that is over.
 use Rattle.std.specs.Prelude.{◌≡◌, ◌⊎◌, ℕ, ◌+◌, ◌-◌, ◌≤◌, ◌<◌, true, Bool, not, ◌||◌, Option, Some, None}
-use Rattle.std.specs.Prelude.{Result, Ok, Err, IfSome, OnOk, List, [], ◌∷◌, ◌++◌, length, nat_lt}
+use Rattle.std.specs.Prelude.{Result, Ok, Err, IfSome, IsTrue, OnOk, List, [], ◌∷◌, ◌++◌, length, nat_lt}
 use Rattle.std.specs.Prelude.{if◌then◌else◌}
-use Rattle.bw_model.specs.Wire.{Frame}
+use Rattle.bw_model.specs.Wire.{Frame, are_bytes}
 use Rattle.bw_model.specs.Replies.{Reply}
 use Rattle.bw_wire.specs.Held.{longest_piece, longest_stream}
 use Rattle.bw_engine.specs.declared.exchange.Exchange.{Exchange}
@@ -54,10 +54,10 @@ EndsAs (Over ends.EndOfInput) e unread = HasEnded streams.EndOfInput e unread
 EndsAs (Over (ends.BadFrame fault)) e unread = HasEnded (streams.BadFrame fault) e unread
 EndsAs (Over ends.ReadFault) e unread = IsUpToDate e × (unread ≡ [])
 EndsAs (Over ends.WriteFault) e unread = (1 ≤ length (waiting_in e)) × (unread ≡ [])
-EndsAs (Over ends.TurnLimit) e unread =
-    IsUpToDate e × (longest_stream < (pending_of e).fed + length unread)
-EndsAs (Over ends.Memory) e unread =
-    IsUpToDate e × (1 ≤ length unread) × (length unread ≤ longest_piece)
+EndsAs (Over ends.TurnLimit) e unread = IsUpToDate e × IsTrue (are_bytes unread)
+    × (longest_stream < (pending_of e).fed + length unread)
+EndsAs (Over ends.Memory) e unread = IsUpToDate e × IsTrue (are_bytes unread)
+    × (1 ≤ length unread) × (length unread ≤ longest_piece)
 EndsAs Idle e unread = unread ≡ []
 
 -- what no call but `work` changes

@@ -3,6 +3,7 @@
 #![tactic(auto)]
 
 mod connection;
+pub mod laws;
 mod link;
 mod many;
 

@@ -1,0 +1,89 @@
+-- What many connections come to in bytes: those that each link gave and took.
+use Rattle.std.specs.Prelude.{◌≡◌, ◌⊎◌, ℕ, ◌<◌, ◌≤◌, Option, Some, None, IfSome, IsTrue, List, [], ◌++◌, length}
+use Rattle.std.specs.List.{AllByRecursion, list_all}
+use Rattle.bw_model.specs.Wire.{Second}
+use Rattle.bw_model.specs.Replies.{is_reply}
+use Rattle.bw_model.specs.Stream.{End, EndOfInput, SaidBye, BadFrame, stream_of}
+use Rattle.bw_model.specs.Exchange.{replies_bytes}
+use Rattle.bw_wire.specs.Held.{longest_stream}
+use Rattle.bw_wire.specs.Reasons.{reason_meaning}
+use Rattle.bw_engine.specs.declared.serving.ExchangeEnd.TheVariants as ends
+use Rattle.bw_engine.specs.Answering.{Answered, frames_of, replies_of}
+use Rattle.bw_engine.specs.Done.{AreFirstOf, last_of}
+use Rattle.bw_engine.specs.Ends.{IsFinal}
+use Rattle.bw_engine.specs.Served.{LacksMemory}
+use Rattle.bw_many.specs.declared.connection.Connection.{Connection}
+use Rattle.bw_many.specs.declared.connection.ConnectionEnd.{ConnectionEnd}
+use Rattle.bw_many.specs.declared.connection.ConnectionEnd.TheVariants.{Over, Idle}
+use Rattle.bw_many.specs.declared.link.Link.{Ghosts as LinkGhosts}
+use Rattle.bw_many.specs.declared.many.Closed.{Closed}
+use Rattle.bw_many.specs.declared.many.Many.{Many}
+use Rattle.bw_many.specs.Keeping.{Tagged, IsAmong, Keeps, Stands, StandsAt, own}
+
+-- all whole frames that came are answered and their replies sent, and the stream has not ended
+pub record IsUpTo (stream_end : Option End) (answered : List Answered) (input unsent : List ℕ)
+    : Type 0 where
+  pub all_sent : unsent ≡ []
+  pub going : stream_end ≡ None
+  pub frames : (stream_of Second input).0 ≡ frames_of answered
+  pub unended : IsFinal (stream_of Second input).1 → ⊥
+
+module _ {L : Type 0} (G : LinkGhosts L) where
+  -- A link gave these bytes and took those: the answered frames are the first of what it gave, and
+  -- what it took, with what is still unsent, is exactly their replies.
+  pub record Exchanged (link : L) (stream_end : Option End) (answered : List Answered)
+      (input output unsent : List ℕ) : Type 0 where
+    pub given : G.given link input
+    pub taken : G.taken link output
+    pub front : AreFirstOf (frames_of answered) input
+    -- they are all of them where the stream has ended
+    pub whole : IfSome stream_end (λ x. stream_of Second input ≡ (frames_of answered, x))
+    pub replies : output ++ unsent ≡ replies_bytes (replies_of answered ++ last_of stream_end)
+    pub spelled : IsTrue (list_all is_reply (replies_of answered ++ last_of stream_end))
+
+  -- the stream has ended so, which no more bytes can change, or there are no more; all is sent
+  abbrev pub ReachesEnd : L → Option End → List ℕ → End → Type 0
+  ReachesEnd link stream_end unsent end =
+      (stream_end ≡ Some end) × (unsent ≡ []) × (IsFinal end ⊎ G.ended link)
+
+  -- what an end of a connection tells
+  abbrev pub TellsEnd : ConnectionEnd → L → Option End → List Answered → List ℕ → List ℕ → Type 0
+  TellsEnd (Over ends.Bye) link stream_end answered input unsent =
+      ReachesEnd link stream_end unsent SaidBye
+  TellsEnd (Over ends.EndOfInput) link stream_end answered input unsent =
+      ReachesEnd link stream_end unsent EndOfInput
+  TellsEnd (Over (ends.BadFrame fault)) link stream_end answered input unsent =
+      ReachesEnd link stream_end unsent (BadFrame (reason_meaning fault.reason) fault.offset)
+  TellsEnd (Over ends.ReadFault) link stream_end answered input unsent =
+      IsUpTo stream_end answered input unsent
+  TellsEnd (Over ends.WriteFault) link stream_end answered input unsent = 1 ≤ length unsent
+  TellsEnd (Over ends.TurnLimit) link stream_end answered input unsent =
+      (stream_end ≡ None) × (unsent ≡ []) × (longest_stream < length input)
+  TellsEnd (Over ends.Memory) link stream_end answered input unsent =
+      (stream_end ≡ None) × (unsent ≡ []) × LacksMemory answered input
+  TellsEnd Idle link stream_end answered input unsent = Unit {0}
+
+  -- a connection over this link, so far
+  pub record ServesLink (link : L) (answered : List Answered) : Type 0 where
+    pub stream_end : Option End
+    pub input : List ℕ
+    pub output : List ℕ
+    pub unsent : List ℕ
+    pub exchanged : Exchanged link stream_end answered input output unsent
+
+  -- a connection over this link, which ended so
+  pub record EndsLink (end : ConnectionEnd) (link : L) (answered : List Answered) : Type 0 where
+    pub serves : ServesLink link answered
+    pub tells : TellsEnd end link serves.stream_end answered serves.input serves.unsent
+
+  -- Whatever came between them, the frames of each connection are those of its own link, and what
+  -- that took is exactly their replies.
+  pub record ServesEach (m : Many L) (over : List (Closed L)) (trace : List Tagged) : Type 0 where
+    pub each : (n : ℕ) → n < m.next → Stands m n ⊎ IsAmong n over
+    pub stands : (i : ℕ) (c : Connection L) → StandsAt m i c → ServesLink c.link (own c.number trace)
+    pub ended : AllByRecursion (λ x. EndsLink x.end x.link (own x.number trace)) over
+    pub none : (n : ℕ) → m.next ≤ n → own n trace ≡ []
+
+  abbrev pub EachIsServed : Type 0
+  EachIsServed = (m : Many L) (over : List (Closed L)) (trace : List Tagged) → Keeps G m over trace →
+      ServesEach m over trace
