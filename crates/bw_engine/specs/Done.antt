@@ -77,6 +77,12 @@ pub record AnswersUpTo {S : Type 0} (answers : S → Frame → List Reply → S 
 abbrev pub AreFirstOf : List Frame → List ℕ → Type 0
 AreFirstOf frames bytes = (later : List Frame) × ((stream_of Second bytes).0 ≡ frames ++ later)
 
+-- exactly so many of them
+abbrev pub AnswersSome : {S : Type 0} → (S → Frame → List Reply → S → Type 0) → ℕ → ℕ →
+    S → S → Exchange → Exchange → Type 0
+AnswersSome answers turns count s later e e' =
+    (done : AnswersUpTo answers turns s later e e') × (length done.answered ≡ count)
+
 -- What was done by an exchange that is now this one says of the bytes alone: those that it was fed
 -- and those that came out of it.
 pub record IsExchangeOf (fed : List ℕ) (answered : List Answered) (out : List ℕ) (e : Exchange)

@@ -1,6 +1,6 @@
 //! An exchange as a machine: bytes go in, frames are answered, bytes come out. No input or output.
 ghost use Rattle.std.specs.Prelude.{◌≡◌, ◌+◌, ◌≤◌, [], length, take, drop, true, false, IfOk, OnOk};
-ghost use Rattle.std.specs.Prelude.{OnErr, None, vec_len, vec_capacity, is_some};
+ghost use Rattle.std.specs.Prelude.{OnErr, None, vec_len, vec_capacity, is_some, if◌then◌else◌};
 ghost use Rattle.bw_wire.specs.Codecs.{message_codec};
 ghost use Rattle.bw_wire.specs.Held.{longest_rest, longest_piece};
 ghost use Rattle.bw_wire.specs.Pending.{Nothing, next_of, KeepsAtMost, HasSmallBlock};
@@ -56,7 +56,7 @@ pub struct Exchange {
 
 impl Exchange {
     ghost use Rattle.bw_engine.specs.Parts.{wants_piece, end_of, waiting_in, pending_of};
-    ghost use Rattle.bw_engine.specs.Done.{HasDone, DoesMore, AnswersUpTo, IsIdle};
+    ghost use Rattle.bw_engine.specs.Done.{HasDone, DoesMore, AnswersSome, IsIdle};
 
     /// An exchange at its start.
     ///
@@ -132,29 +132,40 @@ impl Exchange {
         Ok(())
     }
 
-    /// Has whole frames answered: at most so many, and as long as there is room for replies.
-    pub fn answer<T: Turns>(&mut self, server: &mut T, turns: usize)
-        ensures { AnswersUpTo T.answers turns server.old server.new self.old self.new }
+    /// Has whole frames answered: at most so many, and as long as there is room for replies. How
+    /// many were.
+    pub fn answer<T: Turns>(&mut self, server: &mut T, turns: usize) -> usize
+        ensures { AnswersSome T.answers turns result server.old server.new self.old self.new }
     {
-        for _turn in 0..turns {
+        for turn in 0..turns {
             if self.is_idle() || self.outgoing.len() > MOST_BEFORE_ANSWER {
-                break;
+                return turn;
             }
-            self.answer_one(server);
+            if !self.answer_one(server) {
+                return turn;
+            }
         }
+        turns
     }
 
-    /// Has the next frame answered, if it is whole.
-    pub(crate) fn answer_one<T: Turns>(&mut self, server: &mut T)
+    /// Has the next frame answered, if it is whole. Whether one was.
+    pub(crate) fn answer_one<T: Turns>(&mut self, server: &mut T) -> bool
         requires room { vec_len self.old.outgoing ≤ most_before_answer }
         requires open { is_some self.old.end ≡ false }
-        ensures answers { AnswersUpTo T.answers 1 server.old server.new self.old self.new }
+        ensures answers { AnswersSome T.answers 1 (if result then 1 else 0) server.old server.new
+            self.old self.new }
         ensures waiting { vec_len self.new.outgoing ≤ vec_len self.old.outgoing + longest_answer }
     {
         match take_next(server, &mut self.framer, &mut self.outgoing) {
-            Step::Hungry => self.hungry = true,
-            Step::Answered => {}
-            Step::Ended(end) => self.end = Some(end),
+            Step::Hungry => {
+                self.hungry = true;
+                false
+            }
+            Step::Answered => true,
+            Step::Ended(end) => {
+                self.end = Some(end);
+                false
+            }
         }
     }
 

@@ -24,7 +24,7 @@ loop-exchange-preserved g c =
       answers = writes_more g.T.Turns.answers c.args.server.now c.loop-exchange.server c.answer_one.new.server _ _ _
           c.args.exchange.now c.loop-exchange.exchange c.answer_one.new.self
           c.write_waiting-in-loop-exchange.new.exchange i.answers (c.loop-exchange-test.ensures.«open» refl)
-          c.answer_one.ensures.answers w.done w.none w.end w.ok;
+          c.answer_one.ensures.answers.0 w.done w.none w.end w.ok;
       count = search rules;
     }
 
@@ -33,4 +33,4 @@ returns-in_err-write_waiting-2-clause-stops g c =
     on_err c.from_residual-in_err-write_waiting-2.result
     (stops_more g.T.Turns.answers c.args.server.now c.loop-exchange.server c.answer_one.new.server _ _ _
     c.args.exchange.now c.loop-exchange.exchange c.answer_one.new.self c.loop-exchange.invariant.answers
-    (c.loop-exchange-test.ensures.«open» refl) c.answer_one.ensures.answers c.in_err-write_waiting-2.ensures.err)
+    (c.loop-exchange-test.ensures.«open» refl) c.answer_one.ensures.answers.0 c.in_err-write_waiting-2.ensures.err)

@@ -60,8 +60,7 @@ returns-in-Hungry-clause-answers g c =
     let q = c.take_next.new.framer in
     let w = c.take_next.new.outgoing.items in
     let none = none_so_far s.end c.requires.«open» in
-    let quiet = ap (given_by message_codec) a.comes.0 in
-    record {
+    let quiet = ap (given_by message_codec) a.comes.0 in (record {
       answered = [];
       by_server = a.comes.1;
       does = λ fed before gone d.
@@ -73,7 +72,7 @@ returns-in-Hungry-clause-answers g c =
       stops = λ h. inl (inl refl);
       final = λ none fed before gone d. no_end s.end none;
       uses_up = used_up s.framer q [] a.next quiet;
-    }
+    }, refl)
 
 pub returns-in-Answered-clause-answers : goal.returns-in-Answered-clause-answers
 returns-in-Answered-clause-answers g c =
@@ -82,8 +81,7 @@ returns-in-Answered-clause-answers g c =
     let s = c.args.self.now in
     let q = c.take_next.new.framer in
     let w = c.take_next.new.outgoing.items in
-    let none = none_so_far s.end c.requires.«open» in
-    record {
+    let none = none_so_far s.end c.requires.«open» in (record {
       answered = record { frame = t.frame; replies = t.replies } ∷ [];
       by_server = answers_one g.T.Turns.answers _ _ t.frame t.replies t.answered;
       does = λ fed before gone d.
@@ -95,15 +93,14 @@ returns-in-Answered-clause-answers g c =
       stops = λ h. absurd (omega (arith, h));
       final = λ none fed before gone d. no_end s.end none;
       uses_up = used_up s.framer q (t.frame ∷ []) a.next t.goes_on;
-    }
+    }, refl)
 
 pub returns-in-Ended-clause-answers : goal.returns-in-Ended-clause-answers
 returns-in-Ended-clause-answers g c =
     let a = c.in-Ended.ensures.takes in
     let s = c.args.self.now in
     let q = c.take_next.new.framer in
-    let w = c.take_next.new.outgoing.items in
-    record {
+    let w = c.take_next.new.outgoing.items in (record {
       answered = [];
       by_server = a.comes.1;
       does = λ fed before gone d.
@@ -115,4 +112,4 @@ returns-in-Ended-clause-answers g c =
           final_end fed before gone s.framer s.outgoing.items (end_so_far s.end) c.in-Ended.end d a.comes.0;
       uses_up = used_up s.framer q [] a.next
           (no_turns c.in-Ended.end (next_of message_codec s.framer).0 a.comes.0);
-    }
+    }, refl)
