@@ -3,8 +3,7 @@ ghost use Rattle.std.specs.Prelude.{◌≡◌, ◌+◌, ◌≤◌, length};
 
 use crate::compare::same;
 use crate::files::{RF64, TABLED, empty_chunks, marked_file, report_of, small_file};
-use bw_inspect::{InspectFault, InspectKind, ListedChunk, inspect, write_report};
-use bw_layout::ChunkId;
+use bw_inspect::{InspectFault, InspectKind, inspect, write_report};
 use bw_stream::{MemorySink, MemorySource, Plain, SeekSource, Source};
 use std::alloc::Global;
 use std::io::{self, Cursor, Read};
@@ -130,26 +129,6 @@ fn each_change_is_refused_at_its_place(rt: HostRuntime) -> Result<(), Fail> {
         refuses_changed(&rt, alloc, marked_file(alloc)?, change);
     }
     refuses_changed(&rt, alloc, Vec::from_slice(alloc, TABLED)?, &NO_SIZES);
-    Ok(())
-}
-
-#[test]
-fn a_table_tells_the_size_of_its_first_row(rt: HostRuntime) -> Result<(), Fail> {
-    let report = report_of(rt.alloc(), TABLED)?;
-    let list = ListedChunk {
-        id: ChunkId(*b"LIST"),
-        place: 86,
-        size: 4,
-    };
-    let listed = report.chunks.as_slice().get(2);
-    same(&rt, "the list", &listed, &Some(&list));
-    same(
-        &rt,
-        "the data",
-        &(report.data_at, report.data_size),
-        &(106, 4),
-    );
-    same(&rt, "the align", &report.fmt.align, &2);
     Ok(())
 }
 

@@ -1,3 +1,4 @@
+use Rattle.std.proofs.lemmas.Grind.{common_steps}
 use Rattle.std.proofs.Common.{◌∙◌, ◌∷◌, [], arith}
 use Rattle.bw_file.proofs.Tears.{written_tears, tears_wider, tears_twice}
 use Rattle.bw_file.proofs.Asked.{first_as, gets_all, gets_as, gets_before, gets_one, gets_then}
@@ -40,3 +41,6 @@ returns-in_ok-write_at-2-clause-order g c =
 pub returns-in_err-write_at-clause-begun : goal.returns-in_err-write_at-clause-begun
 returns-in_err-write_at-clause-begun g c =
     on_err _ _ (gets_before _ (gets_all (gets_one c.write_at.ensures.calls c.write_at.ensures.asked)))
+
+pub returns-in_ok-write_at-2-clause-put : goal.returns-in_ok-write_at-2-clause-put
+returns-in_ok-write_at-2-clause-put g c = grind (arith, common_steps)

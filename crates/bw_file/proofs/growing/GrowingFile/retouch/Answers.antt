@@ -1,4 +1,4 @@
-use Rattle.std.proofs.Common.{◌∙◌, Some, refl, sym, ap}
+use Rattle.std.proofs.Common.{◌∙◌, Some, refl, sym, ap, rules}
 use Rattle.std.proofs.lemmas.Result.{err_from_is_err_and}
 use Rattle.bw_model.specs.Take.{Parts, SetField, parts, with_request}
 use Rattle.bw_file.specs.contracts.growing.GrowingFile.{the_view}
@@ -114,3 +114,12 @@ returns-clause-calls g c =
     gets_few (the_view c.self.inside) c.args.state.now.parts c.heading_of-heading.result c.with_bext-retouched.result
     c.data_len.result of.bext of.history with.format with.history with.limit c.requires.tag sets
     c.in_ok-put_retouched_header.ensures.order
+
+pub returns-in_err-put_retouched_header-clause-known : goal.returns-in_err-put_retouched_header-clause-known
+returns-in_err-put_retouched_header-clause-known g c = search rules
+
+pub returns-in_err-put_retouched_header-clause-shared : goal.returns-in_err-put_retouched_header-clause-shared
+returns-in_err-put_retouched_header-clause-shared g c = search rules
+
+pub returns-clause-shared : goal.returns-clause-shared
+returns-clause-shared g c = search rules

@@ -1,3 +1,4 @@
+use Rattle.std.proofs.Common.{rules}
 use Rattle.bw_file.proofs.Names.{stands_iff}
 use Rattle.bw_file.proofs.memory.MemoryStore.name_count.Goals as goal
 
@@ -6,3 +7,6 @@ returns-clause-names c = record {
   ordered = c.keys.ensures.ordered;
   each = λ name. stands_iff c.args.self.now.files name (rw c.keys.ensures.rest at (c.keys.ensures.has name));
 }
+
+pub returns-clause-count : goal.returns-clause-count
+returns-clause-count c = search rules
