@@ -5,3 +5,4 @@ pub mod Keeping
 pub mod Places
 pub mod Working
 pub mod Served
+pub mod Names
