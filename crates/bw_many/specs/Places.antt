@@ -9,6 +9,10 @@ use Rattle.bw_many.specs.Lives.{can_go_on}
 abbrev pub count_of : {L : Type 0} → Many L → ℕ
 count_of m = vec_len m.places
 
+-- how many connections were begun
+abbrev pub begun_of : {L : Type 0} → Many L → ℕ
+begun_of m = m.next
+
 -- the first at which no connection stands, if there is one
 abbrev pub first_free : {L : Type 0} → Many L → Option ℕ
 first_free m = position is_none m.places.items

@@ -1,5 +1,5 @@
 -- A quantum of the connection at a place.
-use Rattle.std.specs.Prelude.{◌≡◌, ◌≢◌, ℕ, ◌≤◌, ◌<◌, Option, List, length, slice_get, vec_len}
+use Rattle.std.specs.Prelude.{◌≡◌, ◌≢◌, ℕ, ◌≤◌, ◌<◌, Option, List, length, slice_get}
 use Rattle.bw_model.specs.Wire.{Frame}
 use Rattle.bw_model.specs.Replies.{Reply}
 use Rattle.bw_engine.specs.Answering.{Answered, AnswersAll}
@@ -11,11 +11,16 @@ use Rattle.bw_many.specs.declared.many.Closed.{Closed}
 use Rattle.bw_many.specs.declared.many.Many.{Many}
 use Rattle.bw_many.specs.Keeping.{Adds, StandsAt, tagged, those}
 use Rattle.bw_many.specs.Lives.{quantum}
+use Rattle.bw_many.specs.Places.{begun_of, count_of}
 
 -- the other places are as they were
 pub record LeavesOthers {L : Type 0} (place : ℕ) (m m' : Many L) : Type 0 where
   pub others : (j : ℕ) → j ≢ place → slice_get m'.places.items j ≡ slice_get m.places.items j
-  pub count : vec_len m'.places ≡ vec_len m.places
+  pub count : count_of m' ≡ count_of m
+
+-- .. and no connection was begun
+abbrev pub StaysAt : {L : Type 0} → ℕ → Many L → Many L → Type 0
+StaysAt place m m' = LeavesOthers place m m' × (begun_of m' ≡ begun_of m)
 
 -- The server answered so many frames of the connection at this place, which may be over behind them;
 -- and, where it goes on being served, fewer than a quantum only where its exchange must wait.
@@ -27,6 +32,6 @@ pub record WorksAt {L S : Type 0} (G : LinkGhosts L) (answers : S → Frame → 
   pub most : length answered ≤ quantum
   pub is_its : (c : Connection L) → StandsAt m place c → c.number ≡ number
   pub adds : Adds G m (tagged number answered) (those closed) m'
-  pub others : LeavesOthers place m m'
+  pub others : StaysAt place m m'
   pub waits : (c : Connection L) → StandsAt m' place c → c.phase ≡ phases.Serving →
       length answered < quantum → MustWait c.exchange

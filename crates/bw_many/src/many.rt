@@ -1,5 +1,5 @@
 //! Many connections over one server, each at a place of its own.
-ghost use Rattle.std.specs.Prelude.{◌≡◌, ◌≤◌, ◌<◌, [], List, length, vec_len, slice_get, Some, None, IfOk};
+ghost use Rattle.std.specs.Prelude.{◌≡◌, ◌+◌, ◌≤◌, ◌<◌, [], List, length, vec_len, slice_get, Some, None, IfOk};
 ghost use Rattle.std.specs.Prelude.{OnOk, OnErr, is_some};
 ghost use Rattle.bw_wire.specs.Held.{longest_piece};
 ghost use Rattle.bw_many.specs.Keeping.{Sets};
@@ -61,8 +61,8 @@ pub struct Many<L> {
 
 impl<L: Link + Drop> Many<L> {
     ghost use Rattle.bw_many.specs.Keeping.{Keeps, Adds, IsFree, those};
-    ghost use Rattle.bw_many.specs.Working.{LeavesOthers, WorksAt};
-    ghost use Rattle.bw_many.specs.Places.{count_of, can_go_on_at, first_free};
+    ghost use Rattle.bw_many.specs.Working.{LeavesOthers, StaysAt, WorksAt};
+    ghost use Rattle.bw_many.specs.Places.{begun_of, count_of, can_go_on_at, first_free};
 
     /// So many places, at none of which a connection stands.
     ///
@@ -84,6 +84,13 @@ impl<L: Link + Drop> Many<L> {
         ensures { result ≡ count_of self.now }
     {
         self.places.len()
+    }
+
+    /// How many connections were begun.
+    pub fn begun(&self) -> u64
+        ensures { result ≡ begun_of self.now }
+    {
+        self.next
     }
 
     /// The first place at which no connection stands, if there is one.
@@ -119,6 +126,7 @@ impl<L: Link + Drop> Many<L> {
         requires taken { L.taken link [] }
         ensures adds { Adds L.Link self.old [] [] self.new }
         ensures others { LeavesOthers place self.old self.new }
+        ensures begun { OnOk result (begun_of self.new ≡ begun_of self.old + 1) }
         ensures err { OnErr result (self.new ≡ self.old) }
     {
         let Some(next) = self.next.checked_add(1) else {
@@ -135,7 +143,7 @@ impl<L: Link + Drop> Many<L> {
     /// Notes that the connection at a place may have bytes again, or room.
     pub fn wake(&mut self, place: usize, readable: bool, writable: bool)
         ensures adds { Adds L.Link self.old [] [] self.new }
-        ensures others { LeavesOthers place self.old self.new }
+        ensures others { StaysAt place self.old self.new }
     {
         if place >= self.places.len() {
             return;
@@ -177,7 +185,7 @@ impl<L: Link + Drop> Many<L> {
     pub fn expire(&mut self, place: usize, now: u64, idle: u64) -> Option<Closed<L>>
         requires place { place < count_of self.old }
         ensures adds { Adds L.Link self.old [] (those result) self.new }
-        ensures others { LeavesOthers place self.old self.new }
+        ensures others { StaysAt place self.old self.new }
     {
         let Some(connection) = take_at(&mut self.places, place) else {
             return None;

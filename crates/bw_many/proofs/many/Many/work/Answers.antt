@@ -17,7 +17,7 @@ returns-in_default g c =
       is_its = λ d at. absurd (not_some d (some_is None (Some d) (sym t.was ∙ at)));
       adds = adds_none g.L.Link c.args.self.now _ (λ over trace.
           keeps_free g.L.Link c.args.self.now _ c.args.place over trace refl t.was t.sets);
-      others = record { others = t.sets.elsewhere; count = t.count };
+      others = (record { others = t.sets.elsewhere; count = t.count }, refl);
       waits = λ d at. absurd (not_some d (some_is None (Some d) (sym t.sets.there ∙ at)));
     }
 
@@ -36,7 +36,7 @@ returns-in-Ok g c =
       is_its = λ d at. ap (λ x. x.number) (sym (some_is was d (some_is (Some was) (Some d) (sym t.was ∙ at))));
       adds = adds_on g.L.Link c.args.self.now _ c.args.place was new was.number w.answered refl refl t.was sets w.number
           w.goes;
-      others = record { others = sets.elsewhere; count = c.put_at.ensures.count ∙ t.count };
+      others = (record { others = sets.elsewhere; count = c.put_at.ensures.count ∙ t.count }, refl);
       waits = λ d at. subst (λ x. x.phase ≡ phases.Serving → length w.answered < quantum → MustWait x.exchange)
           (some_is new d (some_is (Some new) (Some d) (sym sets.there ∙ at))) w.waits;
     }
@@ -57,6 +57,6 @@ returns-in-Err g c =
           t.sets (ap (λ y. y.number) is ∙ w.number)
           (subst (λ y. (before : List Answered) → Lives g.L.Link was before →
           IsOver g.L.Link y.end y.link (before ++ w.answered)) (sym is) w.goes);
-      others = record { others = t.sets.elsewhere; count = t.count };
+      others = (record { others = t.sets.elsewhere; count = t.count }, refl);
       waits = λ d at. absurd (not_some d (some_is None (Some d) (sym t.sets.there ∙ at)));
     }
