@@ -22,6 +22,10 @@ pub record LeavesOthers {L : Type 0} (place : ℕ) (m m' : Many L) : Type 0 wher
 abbrev pub StaysAt : {L : Type 0} → ℕ → Many L → Many L → Type 0
 StaysAt place m m' = LeavesOthers place m m' × (begun_of m' ≡ begun_of m)
 
+-- who stands there now stood there before, as it is
+abbrev pub StoodAt : {L : Type 0} → ℕ → Many L → Many L → Type 0
+StoodAt {L} place m m' = (c : Connection L) → StandsAt m' place c → StandsAt m place c
+
 -- The server answered so many frames of the connection at this place, which may be over behind them;
 -- and, where it goes on being served, fewer than a quantum only where its exchange must wait.
 pub record WorksAt {L S : Type 0} (G : LinkGhosts L) (answers : S → Frame → List Reply → S → Type 0)

@@ -61,7 +61,7 @@ pub struct Many<L> {
 
 impl<L: Link + Drop> Many<L> {
     ghost use Rattle.bw_many.specs.Keeping.{Keeps, Adds, IsFree, those};
-    ghost use Rattle.bw_many.specs.Working.{LeavesOthers, StaysAt, WorksAt};
+    ghost use Rattle.bw_many.specs.Working.{LeavesOthers, StaysAt, StoodAt, WorksAt};
     ghost use Rattle.bw_many.specs.Places.{begun_of, count_of, can_go_on_at, first_free};
 
     /// So many places, at none of which a connection stands.
@@ -186,6 +186,7 @@ impl<L: Link + Drop> Many<L> {
         requires place { place < count_of self.old }
         ensures adds { Adds L.Link self.old [] (those result) self.new }
         ensures others { StaysAt place self.old self.new }
+        ensures stands { StoodAt place self.old self.new }
     {
         let Some(connection) = take_at(&mut self.places, place) else {
             return None;
