@@ -10,7 +10,7 @@ use Rattle.bw_many.specs.declared.link.Link.{Ghosts as LinkGhosts}
 use Rattle.bw_many.specs.declared.many.Closed.{Closed}
 use Rattle.bw_many.specs.declared.many.Many.{Many}
 use Rattle.bw_many.specs.Keeping.{Adds, StandsAt, tagged, those}
-use Rattle.bw_many.specs.Lives.{Begins, Stays, quantum}
+use Rattle.bw_many.specs.Lives.{Begins, IsOpen, Stays, quantum}
 
 -- the other places are as they were
 pub record LeavesOthers {L : Type 0} (place : ℕ) (m m' : Many L) : Type 0 where
@@ -38,7 +38,8 @@ WakesAt {L} place bytes room m m' = (c : Connection L) → StandsAt m place c �
     (c' : Connection L) × StandsAt m' place c' × Wakes bytes room c c'
 
 -- The server answered so many frames of the connection at this place, which may be over behind them;
--- and, where it goes on being served, fewer than a quantum only where its exchange must wait.
+-- and, where it goes on being served, fewer than a quantum only where its exchange must wait. It is
+-- over, or drained, once its stream has ended and all replies are out.
 pub record WorksAt {L S : Type 0} (G : LinkGhosts L) (answers : S → Frame → List Reply → S → Type 0)
     (place : ℕ) (closed : Option (Closed L)) (m m' : Many L) (s s' : S) : Type 0 where
   pub number : ℕ
@@ -50,3 +51,4 @@ pub record WorksAt {L S : Type 0} (G : LinkGhosts L) (answers : S → Frame → 
   pub others : LeavesOthers place m m'
   pub waits : (c : Connection L) → StandsAt m' place c → c.phase ≡ phases.Serving →
       length answered < quantum → MustWait c.exchange
+  pub unended : (c : Connection L) → StandsAt m' place c → IsOpen c

@@ -19,7 +19,7 @@ returns-in-Some-expired-clause-adds g c =
     adds_closed g.L.Link c.args.self.now _ c.args.place was c.close.result was.number [] refl refl t.was t.sets
     (ap (λ y. y.number) is)
     (subst (λ y. (before : List Answered) → Lives g.L.Link was before → IsOver g.L.Link y.end y.link (before ++ []))
-    (sym is) (expires g.L.Link c.args.now c.args.idle was c.in-Some-expired.end (sym c.expired.ensures ∙ c.in-Some-expired.is)))
+    (sym is) (expires g.L.Link _ _ was c.in-Some-expired.end (sym c.expired.ensures ∙ c.in-Some-expired.is)))
 
 pub returns-in-None-clause-adds : goal.returns-in-None-clause-adds
 returns-in-None-clause-adds g c =
