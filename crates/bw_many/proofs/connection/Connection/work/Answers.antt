@@ -1,4 +1,4 @@
-use Rattle.std.proofs.Common.{rules, ◌≡◌, ◌∙◌, refl, sym, [], arith, Err}
+use Rattle.std.proofs.Common.{rules, ◌≡◌, ◌∙◌, refl, [], arith, Err}
 use Rattle.bw_many.specs.declared.connection.Phase.TheVariants as phases
 use Rattle.std.proofs.lemmas.Result.{err_from_is_err_and}
 use Rattle.bw_many.proofs.Going.{goes_at_last, not_served, number_left, quiet_as, quiet_drained, quiet_on, steps_on}

@@ -31,8 +31,7 @@ returns-in_default-clause-wakes g c = λ d at.
 pub returns-clause-wakes : goal.returns-clause-wakes
 returns-clause-wakes g c = λ d at.
     let was = c.in-Some.connection in
-    let w = c.wake.ensures in
-    (
+    let w = c.wake.ensures in (
       c.wake.new.self,
       c.put_at.ensures.sets.there,
       subst (λ x. Wakes c.args.readable c.args.writable x c.wake.new.self)
