@@ -22,7 +22,7 @@ use Rattle.bw_many.specs.declared.connection.Phase.{Phase}
 use Rattle.bw_many.specs.declared.connection.Phase.TheVariants as phases
 use Rattle.bw_many.specs.declared.link.Link.{Ghosts as LinkGhosts}
 use Rattle.bw_many.specs.Feeding.{Feeds}
-use Rattle.bw_many.specs.Lives.{EndsAs, Goes, IsInPhase, IsOver, Lives, Settles, Steps}
+use Rattle.bw_many.specs.Lives.{EndsAs, Goes, IsInPhase, IsOpen, IsOver, Lives, Settles, Steps}
 use Rattle.bw_many.specs.Lives.{AnswersHeld, Begins, expired_at, expired_by, longest_drain, quantum, quiet_since}
 
 -- what a link did: it gave these bytes more, took these more, and stayed at its end
@@ -205,6 +205,11 @@ pub number_left : {L : Type 0} (now : ℕ) (r : Result (Unit {0}) ConnectionEnd)
     Settles now r c c' → c'.number ≡ c.number
 number_left now (Ok x) c c' s = s.0
 number_left now (Err end) c c' s = s
+
+pub open_left : {L : Type 0} (now : ℕ) (r : Result (Unit {0}) ConnectionEnd) (c c' : Connection L) →
+    Settles now r c c' → OnOk r (IsOpen c')
+open_left now (Ok x) c c' s = s.3
+open_left now (Err end) c c' s = tt
 
 pub waits_left : {L : Type 0} (now : ℕ) (r : Result (Unit {0}) ConnectionEnd) (c c' : Connection L) (P : Type 0) →
     Settles now r c c' → (P → MustWait c.exchange) → OnOk r (c'.phase ≡ phases.Serving → P → MustWait c'.exchange)

@@ -1,6 +1,6 @@
 -- What connections come to in bytes.
-use Rattle.std.proofs.Common.{◌≡◌, ◌⊎◌, inl, inr, ℕ, ◌+◌, ◌<◌, ◌≤◌, true, false, Option, Some, None, List, [], ◌∷◌, ◌++◌, length}
-use Rattle.std.proofs.Common.{refl, sym, ap, subst, ◌∙◌, arith, append_assoc}
+use Rattle.std.proofs.Common.{◌≡◌, ◌⊎◌, inl, inr, ℕ, true, false, Option, Some, None, List, [], ◌∷◌, ◌++◌}
+use Rattle.std.proofs.Common.{refl, sym, ap, subst, ◌∙◌, arith}
 use Rattle.std.specs.Prelude.{IfSome, IsTrue, is_some}
 use Rattle.std.specs.List.{AllByRecursion}
 use Rattle.std.proofs.lemmas.List.{append-nil, length-append}
@@ -14,7 +14,6 @@ use Rattle.bw_engine.specs.Answering.{Answered, frames_of}
 use Rattle.bw_engine.specs.Done.{AreFirstOf, ExchangesFollowStreams, IsExchangeOf}
 use Rattle.bw_engine.specs.Ends.{IsFinal, end_meaning, end_so_far}
 use Rattle.bw_engine.specs.Parts.{end_of, wants_piece, waiting_in}
-use Rattle.bw_engine.specs.Served.{LacksMemory}
 use Rattle.bw_many.specs.declared.connection.Connection.{Connection}
 use Rattle.bw_many.specs.declared.connection.ConnectionEnd.{ConnectionEnd}
 use Rattle.bw_many.specs.declared.connection.ConnectionEnd.TheVariants.{Idle, Over}
@@ -24,8 +23,8 @@ use Rattle.bw_many.specs.declared.link.Link.{Ghosts as LinkGhosts}
 use Rattle.bw_many.specs.declared.many.Closed.{Closed}
 use Rattle.bw_many.specs.declared.many.Many.{Many}
 use Rattle.bw_many.specs.Keeping.{HasLeft, Keeps, Tagged, own}
-use Rattle.bw_many.specs.Lives.{EndsAs, HasEnded, IsInPhase, IsOver, IsUpToDate, Lives}
-use Rattle.bw_many.specs.Served.{EndsLink, Exchanged, IsUpTo, ReachesEnd, ServesEach, ServesLink, TellsEnd}
+use Rattle.bw_many.specs.Lives.{HasEnded, IsInPhase, IsOver, Lives}
+use Rattle.bw_many.specs.Served.{EndsLink, ReachesEnd, ServesEach, ServesLink, TellsEnd}
 
 -- What bytes that weren't fed leave of what is known: nothing was, or none could change it.
 record Unchanged (e : Exchange) (answered : List Answered) (fed unread : List ℕ) : Type 0 where

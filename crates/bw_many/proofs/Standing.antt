@@ -1,6 +1,6 @@
 -- Places, and the frames of each connection.
 use Rattle.std.proofs.Common.{◌≡◌, ◌≢◌, ℕ, zero, suc, ◌+◌, ◌<◌, ◌≤◌, ◌==◌, true, false, Option, Some, None, List, [], ◌∷◌, ◌++◌, map}
-use Rattle.std.proofs.Common.{refl, sym, ap, subst, ◌∙◌, arith, append_assoc, ◌⊎◌, inl, inr, unwrap_or}
+use Rattle.std.proofs.Common.{refl, sym, ap, subst, ◌∙◌, arith, ◌⊎◌, inl, inr, unwrap_or}
 use Rattle.std.specs.Prelude.{slice_get, filter}
 use Rattle.std.specs.List.{AllByRecursion}
 use Rattle.std.proofs.Math.Nat.{eq-or-lt_of_le}
@@ -14,7 +14,7 @@ use Rattle.bw_many.specs.declared.link.Link.{Ghosts as LinkGhosts}
 use Rattle.bw_many.specs.declared.many.Closed.{Closed}
 use Rattle.bw_many.specs.declared.many.Many.{Many}
 use Rattle.bw_many.specs.Keeping.{Tagged, tagged, all_answered, own, Sets, StandsAt, IsFree, Stands, IsAmong, AreApart}
-use Rattle.bw_many.specs.Keeping.{those, HasLeft, Keeps, Adds}
+use Rattle.bw_many.specs.Keeping.{HasLeft, Keeps, Adds}
 use Rattle.bw_many.specs.Lives.{Lives, IsOver, Steps}
 
 -- Frames under a number.

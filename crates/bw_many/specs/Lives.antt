@@ -6,7 +6,6 @@ use Rattle.bw_model.specs.Wire.{Frame, are_bytes}
 use Rattle.bw_model.specs.Replies.{Reply}
 use Rattle.bw_wire.specs.Held.{longest_piece, longest_stream}
 use Rattle.bw_engine.specs.declared.exchange.Exchange.{Exchange}
-use Rattle.bw_engine.specs.declared.serving.ExchangeEnd.{ExchangeEnd}
 use Rattle.bw_engine.specs.declared.serving.ExchangeEnd.TheVariants as ends
 use Rattle.bw_engine.specs.declared.step.StreamEnd.{StreamEnd}
 use Rattle.bw_engine.specs.declared.step.StreamEnd.TheVariants as streams
@@ -94,12 +93,16 @@ quiet_since now since phase phases.Serving (a ∷ answered) = now
 quiet_since now since phases.Serving (phases.Draining fault) answered = now
 quiet_since now since (phases.Draining was) (phases.Draining fault) answered = since
 
+-- it is served only until its stream has ended and all replies are out
+abbrev pub IsOpen : {L : Type 0} → Connection L → Type 0
+IsOpen c = c.phase ≡ phases.Serving → waiting_in c.exchange ≡ [] → end_of c.exchange ≡ None
+
 -- the stream's end is looked at: where it has come and all replies are out, the connection is over,
 -- or drained
 abbrev pub Settles : {L : Type 0} → ℕ → Result (Unit {0}) ConnectionEnd → Connection L →
     Connection L → Type 0
 Settles now (Ok x) c c' = (c'.number ≡ c.number) × (c'.exchange ≡ c.exchange)
-    × (c'.since ≡ quiet_since now c.since c.phase c'.phase [])
+    × (c'.since ≡ quiet_since now c.since c.phase c'.phase []) × IsOpen c'
 Settles now (Err end) c c' = c'.number ≡ c.number
 
 module _ {L : Type 0} (G : LinkGhosts L) where
@@ -165,6 +168,7 @@ module _ {L : Type 0} (G : LinkGhosts L) where
     pub waits : OnOk result (c'.phase ≡ phases.Serving → length answered < quantum →
         MustWait c'.exchange)
     pub since : OnOk result (c'.since ≡ quiet_since now c.since c.phase c'.phase answered)
+    pub unended : OnOk result (IsOpen c')
 
 -- a new connection
 pub record Begins {L : Type 0} (link : L) (number now : ℕ) (c : Connection L) : Type 0 where

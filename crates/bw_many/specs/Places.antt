@@ -1,9 +1,11 @@
 -- The places of many connections.
-use Rattle.std.specs.Prelude.{ℕ, Bool, false, Option, Some, slice_get, vec_len, is_none}
+use Rattle.std.specs.Prelude.{ℕ, Bool, false, Option, Some, None, slice_get, vec_len, is_none}
 use Rattle.std.specs.List.{position}
 use Rattle.bw_many.specs.declared.connection.Connection.{Connection}
+use Rattle.bw_many.specs.declared.connection.ConnectionEnd.{ConnectionEnd}
+use Rattle.bw_many.specs.declared.many.Closed.{Closed}
 use Rattle.bw_many.specs.declared.many.Many.{Many}
-use Rattle.bw_many.specs.Lives.{can_go_on}
+use Rattle.bw_many.specs.Lives.{can_go_on, expired_at}
 
 -- how many there are
 abbrev pub count_of : {L : Type 0} → Many L → ℕ
@@ -24,3 +26,17 @@ can_go_on_at {L} m place = goes (slice_get m.places.items place)
     goes : Option (Option (Connection L)) → Bool
     goes (Some (Some c)) = can_go_on c
     goes _ = false
+
+-- how the connection at a place ends at a time, where one stands there and it was quiet for longer
+-- than so many milliseconds, or drained for long enough
+abbrev pub expired_there : {L : Type 0} → ℕ → ℕ → Many L → ℕ → Option ConnectionEnd
+expired_there {L} now idle m place = ends (slice_get m.places.items place)
+  where
+    ends : Option (Option (Connection L)) → Option ConnectionEnd
+    ends (Some (Some c)) = expired_at now idle c
+    ends _ = None
+
+-- the end of a connection, where one is over
+abbrev pub end_told : {L : Type 0} → Option (Closed L) → Option ConnectionEnd
+end_told None = None
+end_told (Some x) = Some x.end

@@ -1,5 +1,5 @@
 -- A quantum of the connection at a place.
-use Rattle.std.specs.Prelude.{◌≡◌, ◌≢◌, ℕ, ◌≤◌, ◌<◌, Option, List, length, slice_get}
+use Rattle.std.specs.Prelude.{◌≡◌, ◌≢◌, ℕ, ◌+◌, ◌≤◌, ◌<◌, Bool, ◌||◌, Option, List, length, slice_get}
 use Rattle.bw_model.specs.Wire.{Frame}
 use Rattle.bw_model.specs.Replies.{Reply}
 use Rattle.bw_engine.specs.Answering.{Answered, AnswersAll}
@@ -10,7 +10,7 @@ use Rattle.bw_many.specs.declared.link.Link.{Ghosts as LinkGhosts}
 use Rattle.bw_many.specs.declared.many.Closed.{Closed}
 use Rattle.bw_many.specs.declared.many.Many.{Many}
 use Rattle.bw_many.specs.Keeping.{Adds, StandsAt, tagged, those}
-use Rattle.bw_many.specs.Lives.{quantum}
+use Rattle.bw_many.specs.Lives.{Begins, IsOpen, Stays, quantum}
 use Rattle.bw_many.specs.Places.{begun_of, count_of}
 
 -- the other places are as they were
@@ -26,8 +26,29 @@ StaysAt place m m' = LeavesOthers place m m' × (begun_of m' ≡ begun_of m)
 abbrev pub StoodAt : {L : Type 0} → ℕ → Many L → Many L → Type 0
 StoodAt {L} place m m' = (c : Connection L) → StandsAt m' place c → StandsAt m place c
 
+-- a new connection over this link stands at this place, under the next number
+pub record BeginsAt {L : Type 0} (place : ℕ) (link : L) (now : ℕ) (m m' : Many L) : Type 0 where
+  pub connection : Connection L
+  pub there : StandsAt m' place connection
+  pub begins : Begins link m.next now connection
+  pub next : m'.next ≡ m.next + 1
+
+-- there may be bytes again, or room
+pub record Wakes {L : Type 0} (bytes room : Bool) (c c' : Connection L) : Type 0 where
+  pub readable : c'.readable ≡ c.readable || bytes
+  pub writable : c'.writable ≡ c.writable || room
+  pub link : c'.link ≡ c.link
+  pub exchange : c'.exchange ≡ c.exchange
+  pub stays : Stays c c'
+
+-- the connection at this place, where one stands there, may have bytes again, or room
+abbrev pub WakesAt : {L : Type 0} → ℕ → Bool → Bool → Many L → Many L → Type 0
+WakesAt {L} place bytes room m m' = (c : Connection L) → StandsAt m place c →
+    (c' : Connection L) × StandsAt m' place c' × Wakes bytes room c c'
+
 -- The server answered so many frames of the connection at this place, which may be over behind them;
--- and, where it goes on being served, fewer than a quantum only where its exchange must wait.
+-- and, where it goes on being served, fewer than a quantum only where its exchange must wait. It is
+-- over, or drained, once its stream has ended and all replies are out.
 pub record WorksAt {L S : Type 0} (G : LinkGhosts L) (answers : S → Frame → List Reply → S → Type 0)
     (place : ℕ) (closed : Option (Closed L)) (m m' : Many L) (s s' : S) : Type 0 where
   pub number : ℕ
@@ -39,3 +60,4 @@ pub record WorksAt {L S : Type 0} (G : LinkGhosts L) (answers : S → Frame → 
   pub others : StaysAt place m m'
   pub waits : (c : Connection L) → StandsAt m' place c → c.phase ≡ phases.Serving →
       length answered < quantum → MustWait c.exchange
+  pub unended : (c : Connection L) → StandsAt m' place c → IsOpen c

@@ -196,7 +196,8 @@ impl<L: Link> Connection<L> {
 
     /// Whether all replies are out.
     fn is_all_out(&self) -> bool
-        ensures { result ≡ true → waiting_in self.now.exchange ≡ [] }
+        ensures all { result ≡ true → waiting_in self.now.exchange ≡ [] }
+        ensures some { waiting_in self.now.exchange ≡ [] → result ≡ true }
     {
         self.exchange.outgoing().is_empty()
     }

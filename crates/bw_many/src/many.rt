@@ -61,8 +61,9 @@ pub struct Many<L> {
 
 impl<L: Link + Drop> Many<L> {
     ghost use Rattle.bw_many.specs.Keeping.{Keeps, Adds, IsFree, those};
-    ghost use Rattle.bw_many.specs.Working.{LeavesOthers, StaysAt, StoodAt, WorksAt};
-    ghost use Rattle.bw_many.specs.Places.{begun_of, count_of, can_go_on_at, first_free};
+    ghost use Rattle.bw_many.specs.Working.{BeginsAt, LeavesOthers, StaysAt, StoodAt, WakesAt, WorksAt};
+    ghost use Rattle.bw_many.specs.Places.{begun_of, count_of, can_go_on_at, end_told, expired_there};
+    ghost use Rattle.bw_many.specs.Places.{first_free};
 
     /// So many places, at none of which a connection stands.
     ///
@@ -125,8 +126,8 @@ impl<L: Link + Drop> Many<L> {
         requires given { L.given link [] }
         requires taken { L.taken link [] }
         ensures adds { Adds L.Link self.old [] [] self.new }
+        ensures begins { OnOk result (BeginsAt place link now self.old self.new) }
         ensures others { LeavesOthers place self.old self.new }
-        ensures begun { OnOk result (begun_of self.new ≡ begun_of self.old + 1) }
         ensures err { OnErr result (self.new ≡ self.old) }
     {
         let Some(next) = self.next.checked_add(1) else {
@@ -143,6 +144,7 @@ impl<L: Link + Drop> Many<L> {
     /// Notes that the connection at a place may have bytes again, or room.
     pub fn wake(&mut self, place: usize, readable: bool, writable: bool)
         ensures adds { Adds L.Link self.old [] [] self.new }
+        ensures wakes { WakesAt place readable writable self.old self.new }
         ensures others { StaysAt place self.old self.new }
     {
         if place >= self.places.len() {
@@ -185,6 +187,7 @@ impl<L: Link + Drop> Many<L> {
     pub fn expire(&mut self, place: usize, now: u64, idle: u64) -> Option<Closed<L>>
         requires place { place < count_of self.old }
         ensures adds { Adds L.Link self.old [] (those result) self.new }
+        ensures end { end_told result ≡ expired_there now idle self.old place }
         ensures others { StaysAt place self.old self.new }
         ensures stands { StoodAt place self.old self.new }
     {

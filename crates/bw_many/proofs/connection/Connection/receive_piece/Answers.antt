@@ -1,4 +1,4 @@
-use Rattle.std.proofs.Common.{rules, refl, [], arith}
+use Rattle.std.proofs.Common.{rules, refl, []}
 use Rattle.bw_engine.specs.declared.serving.ExchangeEnd.TheVariants as ends
 use Rattle.bw_many.specs.declared.connection.ConnectionEnd.TheVariants.{Over}
 use Rattle.bw_many.proofs.Going.{fed_or_over, no_more, over}

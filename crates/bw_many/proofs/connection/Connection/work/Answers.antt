@@ -1,8 +1,8 @@
-use Rattle.std.proofs.Common.{rules, ◌≡◌, ◌∙◌, refl, sym, [], arith, Err}
+use Rattle.std.proofs.Common.{rules, ◌≡◌, ◌∙◌, refl, [], arith, Err}
 use Rattle.bw_many.specs.declared.connection.Phase.TheVariants as phases
 use Rattle.std.proofs.lemmas.Result.{err_from_is_err_and}
 use Rattle.bw_many.proofs.Going.{goes_at_last, not_served, number_left, quiet_as, quiet_drained, quiet_on, steps_on}
-use Rattle.bw_many.proofs.Going.{drained_on, waits_left}
+use Rattle.bw_many.proofs.Going.{drained_on, open_left, waits_left}
 use Rattle.bw_many.proofs.connection.Connection.work.Goals as goal
 
 pub returns-in-Draining : goal.returns-in-Draining
@@ -18,6 +18,7 @@ returns-in-Draining g c =
       number = d.stays.number;
       waits = drained_on c.drain.result (λ serving few. absurd (not_served c.drain.new.self c.in-Draining.fault (d.stays.phase ∙ is) serving));
       since = drained_on c.drain.result (quiet_drained c.args.now old c.drain.new.self c.in-Draining.fault is d.stays.phase d.stays.since);
+      unended = drained_on c.drain.result (λ serving none. absurd (not_served c.drain.new.self c.in-Draining.fault (d.stays.phase ∙ is) serving));
     }
 
 pub returns-in_err-receive_piece : goal.returns-in_err-receive_piece
@@ -34,6 +35,7 @@ returns-in_err-receive_piece g c =
       number = c.in_err-receive_piece.ensures.stays.number ∙ c.in_ok-send_waiting.ensures.stays.number;
       waits = tt;
       since = tt;
+      unended = tt;
     }
 
 pub returns : goal.returns
@@ -61,4 +63,5 @@ returns g c =
       since = quiet_as c.args.now c.settle.new.self.since c.settle.new.self.phase h.answered fed old c.settle.result phase
           (then.stays.since ∙ first.stays.since)
           (quiet_on c.args.now fed h.answered (phase ∙ serving) held c.settle.new.self c.settle.result h.phase h.since s.settles);
+      unended = open_left c.args.now c.settle.result held c.settle.new.self s.settles;
     }

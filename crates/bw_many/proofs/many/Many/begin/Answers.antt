@@ -9,3 +9,11 @@ returns-clause-adds g c =
     keeps_begun g.L.Link c.args.self.now _ c.args.place c.in-Ok.connection over trace c.in-Some.ensures.1 c.requires.free
     c.put_at.ensures.sets b.under
     (begun g.L.Link c.args.link c.args.self.now.next c.args.now c.in-Ok.connection c.requires.given c.requires.taken b))
+
+pub returns-clause-begins : goal.returns-clause-begins
+returns-clause-begins g c = record {
+  connection = c.in-Ok.connection;
+  there = c.put_at.ensures.sets.there;
+  begins = c.in-Ok.ensures;
+  next = c.in-Some.ensures.1;
+}

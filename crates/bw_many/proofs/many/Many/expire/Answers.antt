@@ -19,7 +19,7 @@ returns-in-Some-expired-clause-adds g c =
     adds_closed g.L.Link c.args.self.now _ c.args.place was c.close.result was.number [] refl refl t.was t.sets
     (ap (λ y. y.number) is)
     (subst (λ y. (before : List Answered) → Lives g.L.Link was before → IsOver g.L.Link y.end y.link (before ++ []))
-    (sym is) (expires g.L.Link c.args.now c.args.idle was c.in-Some-expired.end (sym c.expired.ensures ∙ c.in-Some-expired.is)))
+    (sym is) (expires g.L.Link _ _ was c.in-Some-expired.end (sym c.expired.ensures ∙ c.in-Some-expired.is)))
 
 pub returns-in-None-clause-adds : goal.returns-in-None-clause-adds
 returns-in-None-clause-adds g c =
@@ -28,3 +28,14 @@ returns-in-None-clause-adds g c =
     adds_on g.L.Link c.args.self.now _ c.args.place was was was.number [] refl refl t.was
     (sets_again c.args.self.now.places.items c.take_at.new.places.items c.put_at.new.places.items c.args.place None (Some was) t.sets c.put_at.ensures.sets) refl
     (woken g.L.Link was was refl refl refl)
+
+pub returns-in_default-clause-end : goal.returns-in_default-clause-end
+returns-in_default-clause-end g c = rw c.in_default.ensures.was refl
+
+pub returns-in-Some-expired-clause-end : goal.returns-in-Some-expired-clause-end
+returns-in-Some-expired-clause-end g c =
+    rw c.in-Some.ensures.was
+    (ap (λ y. Some y.end) c.close.ensures ∙ (sym c.in-Some-expired.is ∙ c.expired.ensures))
+
+pub returns-in-None-clause-end : goal.returns-in-None-clause-end
+returns-in-None-clause-end g c = rw c.in-Some.ensures.was (sym c.in-None.is ∙ c.expired.ensures)

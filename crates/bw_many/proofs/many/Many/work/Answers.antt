@@ -2,7 +2,7 @@ use Rattle.std.proofs.Common.{ap, arith, refl, subst, sym, ◌∙◌, List, Some
 use Rattle.bw_engine.specs.Answering.{Answered}
 use Rattle.bw_engine.specs.Done.{MustWait}
 use Rattle.bw_many.specs.declared.connection.Phase.TheVariants as phases
-use Rattle.bw_many.specs.Lives.{IsOver, Lives, quantum}
+use Rattle.bw_many.specs.Lives.{IsOpen, IsOver, Lives, quantum}
 use Rattle.bw_many.proofs.Standing.{adds_closed, adds_none, adds_on, keeps_free, not_some, sets_again, some_is}
 use Rattle.bw_many.proofs.many.Many.work.Goals as goal
 
@@ -19,6 +19,7 @@ returns-in_default g c =
           keeps_free g.L.Link c.args.self.now _ c.args.place over trace refl t.was t.sets);
       others = (record { others = t.sets.elsewhere; count = t.count }, refl);
       waits = λ d at. absurd (not_some d (some_is None (Some d) (sym t.sets.there ∙ at)));
+      unended = λ d at. absurd (not_some d (some_is None (Some d) (sym t.sets.there ∙ at)));
     }
 
 pub returns-in-Ok : goal.returns-in-Ok
@@ -39,6 +40,7 @@ returns-in-Ok g c =
       others = (record { others = sets.elsewhere; count = c.put_at.ensures.count ∙ t.count }, refl);
       waits = λ d at. subst (λ x. x.phase ≡ phases.Serving → length w.answered < quantum → MustWait x.exchange)
           (some_is new d (some_is (Some new) (Some d) (sym sets.there ∙ at))) w.waits;
+      unended = λ d at. subst IsOpen (some_is new d (some_is (Some new) (Some d) (sym sets.there ∙ at))) w.unended;
     }
 
 pub returns-in-Err : goal.returns-in-Err
@@ -59,4 +61,5 @@ returns-in-Err g c =
           IsOver g.L.Link y.end y.link (before ++ w.answered)) (sym is) w.goes);
       others = (record { others = t.sets.elsewhere; count = t.count }, refl);
       waits = λ d at. absurd (not_some d (some_is None (Some d) (sym t.sets.there ∙ at)));
+      unended = λ d at. absurd (not_some d (some_is None (Some d) (sym t.sets.there ∙ at)));
     }
