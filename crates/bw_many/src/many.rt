@@ -1,6 +1,6 @@
 //! Many connections over one server, each at a place of its own.
 ghost use Rattle.std.specs.Prelude.{◌≡◌, ◌+◌, ◌≤◌, ◌<◌, [], List, length, vec_len, slice_get, Some, None, IfOk};
-ghost use Rattle.std.specs.Prelude.{OnOk, OnErr, is_some};
+ghost use Rattle.std.specs.Prelude.{OnOk, OnErr, IfSome};
 ghost use Rattle.bw_wire.specs.Held.{longest_piece};
 ghost use Rattle.bw_many.specs.Keeping.{Sets};
 
@@ -72,6 +72,7 @@ impl<L: Link + Drop> Many<L> {
     pub fn new(alloc: Global, count: usize) -> Result<Many<L>, AllocError>
         ensures keeps { IfOk result (λ m. Keeps L.Link m [] []) }
         ensures count { IfOk result (λ m. count_of m ≡ count) }
+        ensures begun { IfOk result (λ m. begun_of m ≡ 0) }
     {
         let mut places = Vec::with_capacity(alloc, count)?;
         for _place in 0..count {
@@ -96,7 +97,8 @@ impl<L: Link + Drop> Many<L> {
 
     /// The first place at which no connection stands, if there is one.
     pub fn free_place(&self) -> Option<usize>
-        ensures { result ≡ first_free self.now }
+        ensures first { result ≡ first_free self.now }
+        ensures free { IfSome result (λ place. IsFree self.now place) }
     {
         self.places.iter().position(|place| place.is_none())
     }
