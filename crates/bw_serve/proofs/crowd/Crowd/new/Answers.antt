@@ -1,0 +1,6 @@
+use Rattle.std.proofs.Common.{refl}
+use Rattle.bw_serve.proofs.crowd.Crowd.new.Goals as goal
+
+pub returns : goal.returns
+returns g c =
+    let m = c.in_ok-new.ensures in record { keeps = m.keeps; places_are = m.count; begun = m.begun; ended = refl }

@@ -1,0 +1,43 @@
+//! The line of a connection that ended.
+ghost use Rattle.std.specs.Prelude.{◌≡◌, ◌≤◌, codes, length};
+ghost use Rattle.bw_commands.specs.Printing.{IsOf, IsPrint, Print};
+ghost use Rattle.bw_serve.specs.Lines.{connection_line, name_of_connection_end};
+
+use arrayvec::ArrayString;
+use bw_commands::end_name;
+use bw_commands::print::tell;
+use bw_many::ConnectionEnd;
+use bw_stream::Sink;
+use itoa::Buffer;
+
+/// Prints the line of the connection that ended as the one with this number. That it can't be
+/// written changes nothing.
+pub(crate) fn tell_end<O: Sink>(index: u64, end: ConnectionEnd, out: &mut O)
+    ensures { (print : Print) × IsOf (connection_line index end) print
+        × IsPrint O.Sink print out.old out.new }
+{
+    tell(out, end_line(index, end).as_str().as_bytes());
+}
+
+fn end_line(index: u64, end: ConnectionEnd) -> ArrayString<64>
+    ensures { result.bytes ≡ connection_line index end }
+{
+    let mut digits = Buffer::new();
+    let mut line = ArrayString::new();
+    line.push_str("exchange ");
+    line.push_str(digits.format(index));
+    line.push_str(" ");
+    line.push_str(name_of(end));
+    line.push_str("\n");
+    line
+}
+
+fn name_of(end: ConnectionEnd) -> &'static str
+    ensures name { result.now ≡ name_of_connection_end end }
+    ensures short { length result.now ≤ 16 }
+{
+    match end {
+        ConnectionEnd::Over(end) => end_name(end),
+        ConnectionEnd::Idle => "Idle",
+    }
+}

@@ -1,0 +1,96 @@
+//! A run of many exchanges at once.
+ghost use Rattle.std.specs.Prelude.{◌≡◌, ◌≤◌, vec_len};
+ghost use Rattle.bw_wire.specs.Held.{longest_piece};
+ghost use Rattle.bw_many.specs.Places.{begun_of};
+ghost use Rattle.bw_serve.specs.Crowds.{Advances};
+ghost use Rattle.bw_serve.specs.Serving.{ServesCrowd};
+
+use crate::crowd::{Crowd, Shut};
+use crate::lobby::Lobby;
+use bw_commands::Exit;
+use bw_engine::Turns;
+use bw_stream::Sink;
+use std::alloc::Global;
+
+/// The longest piece that is read.
+const PIECE: usize = 65_536;
+
+/// The longest wait, in milliseconds: so much later than its time a silent connection may be ended.
+const LONGEST_WAIT: u64 = 250;
+
+/// How many are served.
+#[derive(Clone, Copy, Debug, PartialEq, Eq)]
+pub struct Bounds {
+    /// How many at once.
+    pub places: usize,
+    /// How many in all.
+    pub exchanges: u64,
+    /// For how many milliseconds a connection may answer no whole frame.
+    pub idle: u64,
+}
+
+/// Serves so many exchanges, many at once, and prints the line `exchange INDEX END` of each as it
+/// ends.
+///
+/// Where there is no free place nobody is let in; a connection that sends no whole frame for too
+/// long is ended. `Done` behind the last one; `Memory` where memory was refused before the first;
+/// `Device` where no more peers are let in, or nothing can be waited for.
+pub fn serve_crowd<B: Lobby, T: Turns, O: Sink>(
+    alloc: Global,
+    server: &mut T,
+    lobby: &mut B,
+    bounds: &Bounds,
+    out: &mut O,
+) -> Exit
+    ensures { ServesCrowd B.Link.Link T.answers O.Sink bounds.now result server.old server.new
+        out.old out.new }
+{
+    let Ok(mut crowd) = Crowd::new(alloc, bounds.places) else {
+        return Exit::Memory;
+    };
+    let Ok(mut buffer) = Vec::from_elem(alloc, 0u8, PIECE) else {
+        return Exit::Memory;
+    };
+    bw_many::laws::law_many::<B::Link>();
+    for _round in 0..u64::MAX {
+        if crowd.ended() >= bounds.exchanges {
+            return Exit::Done;
+        }
+        let served = serve_round(alloc, &mut crowd, server, lobby, bounds, &mut buffer, out);
+        if served.is_err() {
+            return Exit::Device;
+        }
+    }
+    Exit::Device
+}
+
+/// Waits until someone comes or a connection can go on, and gives each a quantum.
+///
+/// # Errors
+/// `Shut` where no more peers are let in, or nothing can be waited for.
+fn serve_round<B: Lobby, T: Turns, O: Sink>(
+    alloc: Global,
+    crowd: &mut Crowd<B::Link>,
+    server: &mut T,
+    lobby: &mut B,
+    bounds: &Bounds,
+    buffer: &mut Vec<u8>,
+    out: &mut O,
+) -> Result<(), Shut>
+    requires buffer { vec_len buffer.old ≤ longest_piece }
+    requires begun { begun_of crowd.old.many ≤ bounds.now.exchanges }
+    ensures advances { Advances B.Link.Link T.answers O.Sink crowd.old crowd.new server.old server.new
+        out.old out.new }
+    ensures begun { begun_of crowd.new.many ≤ bounds.now.exchanges }
+    ensures buffer { vec_len buffer.new ≡ vec_len buffer.old }
+{
+    let most = if crowd.can_go_on() { 0 } else { LONGEST_WAIT };
+    let Ok(()) = lobby.wait(most) else {
+        return Err(Shut);
+    };
+    crowd.notice(lobby);
+    let now = lobby.now();
+    crowd.welcome(alloc, lobby, bounds.exchanges, now)?;
+    crowd.serve_each(server, buffer.as_mut_slice(), now, bounds.idle, out);
+    Ok(())
+}
