@@ -225,6 +225,13 @@ quiet_as now later p answered c d r phase since h =
     subst (λ (n : ℕ). OnOk r (later ≡ quiet_since now n d.phase p answered)) since
     (subst (λ (x : Phase). OnOk r (later ≡ quiet_since now c.since x p answered)) phase h)
 
+pub quiet_at : {L : Type 0} (now : ℕ) (was c new c' : Connection L) (answered : List Answered) → was ≡ c → new ≡ c' →
+    new.since ≡ quiet_since now was.since was.phase new.phase answered →
+    c'.since ≡ quiet_since now c.since c.phase c'.phase answered
+quiet_at now was c new c' answered is to h =
+    subst (λ x. x.since ≡ quiet_since now c.since c.phase x.phase answered) to
+    (subst (λ x. new.since ≡ quiet_since now x.since x.phase new.phase answered) is h)
+
 pub drained_on : {P : Type 0} (r : Result (Unit {0}) ConnectionEnd) → P → OnOk r P
 drained_on (Ok x) p = p
 drained_on (Err end) p = tt

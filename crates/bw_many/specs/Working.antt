@@ -10,7 +10,7 @@ use Rattle.bw_many.specs.declared.link.Link.{Ghosts as LinkGhosts}
 use Rattle.bw_many.specs.declared.many.Closed.{Closed}
 use Rattle.bw_many.specs.declared.many.Many.{Many}
 use Rattle.bw_many.specs.Keeping.{Adds, StandsAt, tagged, those}
-use Rattle.bw_many.specs.Lives.{Begins, IsOpen, Stays, quantum}
+use Rattle.bw_many.specs.Lives.{Begins, IsOpen, Stays, quantum, quiet_since}
 use Rattle.bw_many.specs.Places.{begun_of, count_of}
 
 -- the other places are as they were
@@ -46,11 +46,11 @@ abbrev pub WakesAt : {L : Type 0} → ℕ → Bool → Bool → Many L → Many 
 WakesAt {L} place bytes room m m' = (c : Connection L) → StandsAt m place c →
     (c' : Connection L) × StandsAt m' place c' × Wakes bytes room c c'
 
--- The server answered so many frames of the connection at this place, which may be over behind them;
+-- At this time the server answered so many frames of the connection at this place, which may be over behind them;
 -- and, where it goes on being served, fewer than a quantum only where its exchange must wait. It is
 -- over, or drained, once its stream has ended and all replies are out.
 pub record WorksAt {L S : Type 0} (G : LinkGhosts L) (answers : S → Frame → List Reply → S → Type 0)
-    (place : ℕ) (closed : Option (Closed L)) (m m' : Many L) (s s' : S) : Type 0 where
+    (place now : ℕ) (closed : Option (Closed L)) (m m' : Many L) (s s' : S) : Type 0 where
   pub number : ℕ
   pub answered : List Answered
   pub by_server : AnswersAll answers s answered s'
@@ -61,3 +61,5 @@ pub record WorksAt {L S : Type 0} (G : LinkGhosts L) (answers : S → Frame → 
   pub waits : (c : Connection L) → StandsAt m' place c → c.phase ≡ phases.Serving →
       length answered < quantum → MustWait c.exchange
   pub unended : (c : Connection L) → StandsAt m' place c → IsOpen c
+  pub since : (c c' : Connection L) → StandsAt m place c → StandsAt m' place c' →
+      c'.since ≡ quiet_since now c.since c.phase c'.phase answered

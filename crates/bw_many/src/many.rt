@@ -170,7 +170,7 @@ impl<L: Link + Drop> Many<L> {
     ) -> Option<Closed<L>>
         requires place { place < count_of self.old }
         requires buffer { length buffer.old ≤ longest_piece }
-        ensures { WorksAt L.Link T.answers place result self.old self.new server.old server.new }
+        ensures { WorksAt L.Link T.answers place now result self.old self.new server.old server.new }
     {
         let Some(mut connection) = take_at(&mut self.places, place) else {
             return None;

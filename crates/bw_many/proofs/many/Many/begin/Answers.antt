@@ -8,7 +8,7 @@ returns-clause-adds g c =
     adds_none g.L.Link c.args.self.now _ (λ over trace.
     keeps_begun g.L.Link c.args.self.now _ c.args.place c.in-Ok.connection over trace c.in-Some.ensures.1 c.requires.free
     c.put_at.ensures.sets b.under
-    (begun g.L.Link c.args.link c.args.self.now.next c.args.now c.in-Ok.connection c.requires.given c.requires.taken b))
+    (begun g.L.Link c.args.link c.args.self.now.next _ c.in-Ok.connection c.requires.given c.requires.taken b))
 
 pub returns-clause-begins : goal.returns-clause-begins
 returns-clause-begins g c = record {

@@ -3,6 +3,7 @@ use Rattle.bw_engine.specs.Answering.{Answered}
 use Rattle.bw_engine.specs.Done.{MustWait}
 use Rattle.bw_many.specs.declared.connection.Phase.TheVariants as phases
 use Rattle.bw_many.specs.Lives.{IsOpen, IsOver, Lives, quantum}
+use Rattle.bw_many.proofs.Going.{quiet_at}
 use Rattle.bw_many.proofs.Standing.{adds_closed, adds_none, adds_on, keeps_free, not_some, sets_again, some_is}
 use Rattle.bw_many.proofs.many.Many.work.Goals as goal
 
@@ -20,6 +21,7 @@ returns-in_default g c =
       others = (record { others = t.sets.elsewhere; count = t.count }, refl);
       waits = λ d at. absurd (not_some d (some_is None (Some d) (sym t.sets.there ∙ at)));
       unended = λ d at. absurd (not_some d (some_is None (Some d) (sym t.sets.there ∙ at)));
+      since = λ d e at there. absurd (not_some d (some_is None (Some d) (sym t.was ∙ at)));
     }
 
 pub returns-in-Ok : goal.returns-in-Ok
@@ -41,6 +43,9 @@ returns-in-Ok g c =
       waits = λ d at. subst (λ x. x.phase ≡ phases.Serving → length w.answered < quantum → MustWait x.exchange)
           (some_is new d (some_is (Some new) (Some d) (sym sets.there ∙ at))) w.waits;
       unended = λ d at. subst IsOpen (some_is new d (some_is (Some new) (Some d) (sym sets.there ∙ at))) w.unended;
+      since = λ d e at there. quiet_at c.args.now was d new e w.answered
+          (some_is was d (some_is (Some was) (Some d) (sym t.was ∙ at)))
+          (some_is new e (some_is (Some new) (Some e) (sym sets.there ∙ there))) w.since;
     }
 
 pub returns-in-Err : goal.returns-in-Err
@@ -62,4 +67,5 @@ returns-in-Err g c =
       others = (record { others = t.sets.elsewhere; count = t.count }, refl);
       waits = λ d at. absurd (not_some d (some_is None (Some d) (sym t.sets.there ∙ at)));
       unended = λ d at. absurd (not_some d (some_is None (Some d) (sym t.sets.there ∙ at)));
+      since = λ d e at there. absurd (not_some e (some_is None (Some e) (sym t.sets.there ∙ there)));
     }
