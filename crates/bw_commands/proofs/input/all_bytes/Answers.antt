@@ -1,4 +1,4 @@
-use Rattle.std.proofs.Common.{arith, ◌∙◌}
+use Rattle.std.proofs.Common.{arith, ◌∙◌, rules}
 use Rattle.std.proofs.lemmas.Grind.{common_steps}
 use Rattle.bw_commands.proofs.InputLemmas.{front-is-all, more-front, read-ahead}
 use Rattle.bw_commands.proofs.input.all_bytes.Goals as goal
@@ -39,3 +39,9 @@ returns-in_err-extend_from_slice-clause-reads g c b e =
     let front = c.loop-piece.invariant.front b e in
     read-ahead b _ _ _ _ _ _ front (c.in-Ok.ensures.ok _ front.rest)
     (grind (arith, common_steps, c.in-Ok.ensures.within))
+
+pub returns-in_default-clause-count : goal.returns-in_default-clause-count
+returns-in_default-clause-count g c = search rules
+
+pub returns-in_default-clause-ok : goal.returns-in_default-clause-ok
+returns-in_default-clause-ok g c = search rules

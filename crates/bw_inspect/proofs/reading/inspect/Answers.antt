@@ -1,4 +1,4 @@
-use Rattle.std.proofs.Common.{◌∙◌, arith, rules}
+use Rattle.std.proofs.Common.{◌∙◌, arith}
 use Rattle.std.proofs.lemmas.Result.{err_from_is_err_and, IfOk-weaker}
 use Rattle.bw_inspect.proofs.Whole.{outside_refused, step_refused, end_refused, refused_outside, told, err_both}
 use Rattle.bw_inspect.proofs.reading.inspect.Goals as goal
@@ -62,9 +62,3 @@ returns-clause-only g c = err_both c.finish.result _ _ _ c.finish.ensures.kind c
     let k = c.in_ok-next_chunk.ensures.ok b s.stands in
     refused_outside b _ _ (end_refused b c.in_ok-form.form c.next_chunk.new.walk f _ c.in_ok-form.ensures.size
     (record { header = s.header; stands = k.stands }) (k.ends c.if-branch.false) n (h b k.stands.facts)))
-
-pub returns-clause-consumed : goal.returns-clause-consumed
-returns-clause-consumed g c = search rules
-
-pub returns-clause-within : goal.returns-clause-within
-returns-clause-within g c = search rules

@@ -6,3 +6,6 @@ pub returns-clause-spent : goal.returns-clause-spent
 returns-clause-spent c =
     filter_same _ (λ (f : ℕ). not (f == c.args.call)) _ (λ x b f r. search rules) c.args.fuses.now.items
     c.retain.new.self.items c.retain.ensures.filtered
+
+pub returns-clause-told : goal.returns-clause-told
+returns-clause-told c = search rules

@@ -1,4 +1,4 @@
-use Rattle.std.proofs.Common.{◌∙◌, refl, sym, ap, subst, rules}
+use Rattle.std.proofs.Common.{◌∙◌, refl, sym, ap, subst}
 use Rattle.std.proofs.lemmas.Result.{err_from_is_err_and}
 use Rattle.bw_model.specs.Take.{Parts, AreFields}
 use Rattle.bw_file.proofs.Judged.{unopened_for_open}
@@ -60,12 +60,3 @@ pub returns-clause-order : goal.returns-clause-order
 returns-clause-order g c =
     rw (← c.self.view_is) (gets_then c.in_ok-make_name.ensures.order
     (rw c.new-heading.ensures.history at c.in_ok-put_header.ensures.order))
-
-pub returns-in-Exists-clause-calls : goal.returns-in-Exists-clause-calls
-returns-in-Exists-clause-calls g c = search rules
-
-pub returns-in-Exists-clause-order : goal.returns-in-Exists-clause-order
-returns-in-Exists-clause-order g c = search rules
-
-pub returns-in-Exists-clause-name : goal.returns-in-Exists-clause-name
-returns-in-Exists-clause-name g c = search rules

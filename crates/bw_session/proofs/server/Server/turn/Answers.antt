@@ -1,3 +1,4 @@
+use Rattle.std.proofs.Common.{rules}
 use Rattle.std.proofs.Common.{◌≡◌, ◌+◌, ◌≤◌, ℕ, List, Option, Some, true, false, Bool, cond, length, refl, sym, ◌∙◌, ap, subst, inr, map, not, ◌&&◌}
 use Rattle.std.specs.Prelude.{is_some, nat_le}
 use Rattle.std.specs.Str.{bytes_eq}
@@ -189,3 +190,9 @@ returns-in-Some-clause-unmet g c = λ none.
     no_false (sym (ap is_some none) ∙ ap is_some (put_here (session_in c.args.self.now.sessions)
     (session_in (c.get_mut.follows.lender c.answer.new.self)) (message_of c.args.message.now).name
     c.answer.new.self sets))
+
+pub answer-requires-clause-empty : goal.answer-requires-clause-empty
+answer-requires-clause-empty g c = search rules
+
+pub meet-requires-clause-empty : goal.meet-requires-clause-empty
+meet-requires-clause-empty g c = search rules

@@ -117,3 +117,6 @@ returns-in-Err-clause-noted g c = λ honest honest_notes first log h stood noted
     c.do_next.new.self.progress.noted
     (g.J.Journal.notes c.do_next.new.stores.journal c.args.self.now.progress.name)) c.in-Err.is
     (c.in_ok-verdict.ensures.noted honest honest_notes first log h stood noted))
+
+pub do_next-requires-clause-free : goal.do_next-requires-clause-free
+do_next-requires-clause-free g c = search rules
