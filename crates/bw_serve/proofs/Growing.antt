@@ -131,11 +131,11 @@ module _ {L S O : Type 0} (G : LinkGhosts L) (answers : S → Frame → List Rep
   }
 
   -- The quantum at a place, and what became of its connection behind it.
-  pub place_served : (place : ℕ) (a b : Crowd L) (m m' : Many L) (first : Option (Closed L)) (rest : List (Closed L))
-      (s t : S) (o p : O) → WorksAt G answers place first a.many m s t → Adds G m [] rest m' → StaysAt place m m' →
+  pub place_served : (place now : ℕ) (a b : Crowd L) (m m' : Many L) (first : Option (Closed L)) (rest : List (Closed L))
+      (s t : S) (o p : O) → WorksAt G answers place now first a.many m s t → Adds G m [] rest m' → StaysAt place m m' →
       StoodAt place m m' → b.many ≡ m' → Counts out a b (those first ++ rest) o p →
       ServesPlace G answers out place a b s t o p
-  place_served place a b m m' first rest s t o p w adds stays stood is told = record {
+  place_served place now a b m m' first rest s t o p w adds stays stood is told = record {
     number = w.number;
     answered = w.answered;
     closed = those first ++ rest;
