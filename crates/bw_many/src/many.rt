@@ -1,6 +1,6 @@
 //! Many connections over one server, each at a place of its own.
-ghost use Rattle.std.specs.Prelude.{◌≡◌, ◌+◌, ◌≤◌, ◌<◌, [], List, length, vec_len, slice_get, Some, None, IfOk};
-ghost use Rattle.std.specs.Prelude.{OnOk, OnErr, IfSome};
+ghost use Rattle.std.specs.Prelude.{◌≡◌, ◌≤◌, ◌<◌, [], List, length, vec_len, slice_get, Some, None, IfOk};
+ghost use Rattle.std.specs.Prelude.{◌+◌, ◌^◌, Err, OnOk, OnErr, IfSome};
 ghost use Rattle.bw_wire.specs.Held.{longest_piece};
 ghost use Rattle.bw_many.specs.Keeping.{Sets};
 
@@ -131,6 +131,7 @@ impl<L: Link + Drop> Many<L> {
         ensures begins { OnOk result (BeginsAt place link now self.old self.new) }
         ensures others { LeavesOthers place self.old self.new }
         ensures err { OnErr result (self.new ≡ self.old) }
+        ensures spent { result ≡ Err BeginError.NumbersSpent → 2 ^ 64 ≤ self.old.next + 1 }
     {
         let Some(next) = self.next.checked_add(1) else {
             return Err(BeginError::NumbersSpent);
