@@ -1,4 +1,4 @@
-use Rattle.std.proofs.Common.{arith, ◌≡◌, ◌∙◌, ℕ, List, [], ◌∷◌, ◌++◌, ◌≤◌, length, map, ap, rules}
+use Rattle.std.proofs.Common.{arith, ◌≡◌, ◌∙◌, ℕ, List, [], ◌∷◌, ◌++◌, ◌≤◌, length, map, ap}
 use Rattle.std.proofs.lemmas.Grind.{common_steps}
 use Rattle.std.proofs.lemmas.List.{map_push}
 use Rattle.std.proofs.lemmas.List.Elements.{All-push}
@@ -47,6 +47,3 @@ returns-in-Err-clause-err c =
     rw c.line_fault.ensures (line_faulted c.in-Err.error c.loop-rest.number _ _ c.in-Err.ensures.err (λ refused.
     c.loop-rest.invariant.lines
     ∙ (lines_step found _ _ _ _ c.first_line.ensures.lines ∙ decoded_stop found _ _ _ _ refused)))
-
-pub loop-rest-init : goal.loop-rest-init
-loop-rest-init c = search rules

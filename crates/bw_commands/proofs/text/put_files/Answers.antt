@@ -1,4 +1,4 @@
-use Rattle.std.proofs.Common.{arith, rules}
+use Rattle.std.proofs.Common.{arith}
 use Rattle.bw_commands.proofs.TextLemmas.{file_step, no_file_left}
 use Rattle.bw_commands.proofs.text.put_files.Goals as goal
 
@@ -14,6 +14,3 @@ returns-clause-files c =
     let count = c.name_count-place-end.ensures.count in
     let past = c.loop-place-test.false in
     no_file_left _ _ c.loop-place.place _ _ (omega (arith, count, past)) c.loop-place.invariant
-
-pub loop-place-init : goal.loop-place-init
-loop-place-init c = search rules
