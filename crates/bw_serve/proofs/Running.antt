@@ -5,7 +5,7 @@ use Rattle.std.proofs.lemmas.List.{length-append, map-append}
 use Rattle.bw_model.specs.Wire.{Frame}
 use Rattle.bw_model.specs.Replies.{Reply}
 use Rattle.bw_stream.specs.declared.sink.Sink.{Ghosts as Writer}
-use Rattle.bw_commands.specs.declared.exit.Exit.TheVariants as exits
+use Rattle.bw_commands.specs.declared.exit.Exit.{Exit}
 use Rattle.bw_engine.specs.Answering.{Answered, AnswersAll}
 use Rattle.bw_engine.proofs.Going.{answers_append}
 use Rattle.bw_many.specs.declared.link.Link.{Ghosts as LinkGhosts}
@@ -16,7 +16,7 @@ use Rattle.bw_many.specs.Served.{EachIsServed}
 use Rattle.bw_transfer.specs.Tallies.{up_to_last}
 use Rattle.bw_serve.specs.Crowds.{Advances, IsNew}
 use Rattle.bw_serve.specs.Lines.{TellsEnds}
-use Rattle.bw_serve.specs.Serving.{HasServed}
+use Rattle.bw_serve.specs.Serving.{EndsAt, HasServed}
 use Rattle.bw_serve.specs.declared.crowd.Crowd.{Crowd}
 use Rattle.bw_serve.specs.declared.serving.Bounds.{Bounds}
 use Rattle.bw_serve.proofs.Growing.{tells_then}
@@ -56,24 +56,16 @@ module _ {L S O : Type 0} (G : LinkGhosts L) (answers : S → Frame → List Rep
         ended = told.1 ∙ ap up_to_last (sym (length-append f.over g.closed));
       }
 
-  -- it ended, as many as were asked for having ended
-  pub all_served : EachIsServed G → (bounds : Bounds) (c : Crowd L) (s s' : S) (o o' : O) → SoFar c s s' o o' →
-      begun_of c.many ≤ bounds.exchanges → bounds.exchanges ≤ c.ended → HasServed G answers out bounds exits.Done s s' o o'
-  all_served law bounds c s s' o o' f most all = record {
-    trace = f.trace;
-    by_server = f.by_server;
-    many = c.many;
-    over = f.over;
-    each = law c.many f.over f.trace f.keeps;
-    most = most;
-    told = f.told;
-    ends = (let e = f.ended in omega (arith, e, all));
-  }
+  -- as many have ended as were asked for
+  pub all_ended : (exchanges : ℕ) (c : Crowd L) (s s' : S) (o o' : O) (f : SoFar c s s' o o') → exchanges ≤ c.ended →
+      exchanges ≤ length f.over
+  all_ended exchanges c s s' o o' f all = let e = f.ended in omega (arith, e, all)
 
-  -- or since no more are let in
-  pub some_served : EachIsServed G → (bounds : Bounds) (c : Crowd L) (s s' : S) (o o' : O) → SoFar c s s' o o' →
-      begun_of c.many ≤ bounds.exchanges → HasServed G answers out bounds exits.Device s s' o o'
-  some_served law bounds c s s' o o' f most = record {
+  -- it ends so
+  pub has_served : EachIsServed G → (bounds : Bounds) (exit : Exit) (c : Crowd L) (s s' : S) (o o' : O) →
+      (f : SoFar c s s' o o') → begun_of c.many ≤ bounds.exchanges → EndsAt exit bounds.exchanges (length f.over) →
+      HasServed G answers out bounds exit s s' o o'
+  has_served law bounds exit c s s' o o' f most ends = record {
     trace = f.trace;
     by_server = f.by_server;
     many = c.many;
@@ -81,5 +73,5 @@ module _ {L S O : Type 0} (G : LinkGhosts L) (answers : S → Frame → List Rep
     each = law c.many f.over f.trace f.keeps;
     most = most;
     told = f.told;
-    ends = tt;
+    ends = ends;
   }
