@@ -1,12 +1,11 @@
 //! How connections end, and the run.
 use crate::compare::same;
 use crate::hall::{Comes, Plan, Visit};
-use crate::play::{
-    ALL, OTHER, OTHERS_FIRST, QUICK, VERDICTS, is_over, is_told, serve,
-};
+use crate::play::{ALL, OTHER, OTHERS_FIRST, QUICK, VERDICTS, is_over, is_told, serve};
 use crate::scripted::{Give, Script, Take};
 use bw_commands::Exit;
 use bw_serve::Bounds;
+use std::alloc::Global;
 use std::process::Abort;
 use std::test::Fail;
 
@@ -84,7 +83,7 @@ const GONE_FIRST: &[Visit] = &[GONE, QUICK, GONE];
 /// Compares a run of so many rounds at most, in which one is let in and comes to its end.
 fn ends_so(
     rt: &impl Abort,
-    alloc: std::alloc::Global,
+    alloc: Global,
     visits: &'static [Visit],
     exchanges: u64,
     exit: Exit,

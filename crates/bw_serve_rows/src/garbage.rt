@@ -5,6 +5,7 @@ use crate::play::{ALL, Came, is_over, is_told, serve};
 use crate::scripted::{Give, Script};
 use bw_commands::Exit;
 use bw_serve::Bounds;
+use std::alloc::Global;
 use std::process::Abort;
 use std::test::Fail;
 
@@ -60,7 +61,7 @@ const ONE: Bounds = Bounds {
 /// it gave, and when it was ended.
 fn is_bad(
     rt: &impl Abort,
-    alloc: std::alloc::Global,
+    alloc: Global,
     visits: &'static [Visit],
     given: usize,
     time: u64,

@@ -9,7 +9,7 @@ use std::cell::RefCell;
 use std::rc::Rc;
 
 /// Who comes, or what is met in place of a peer.
-#[derive(Clone, Copy, Debug, PartialEq, Eq)]
+#[derive(Clone, Copy)]
 pub(crate) enum Comes {
     Peer(Script),
     Gone,
@@ -17,14 +17,14 @@ pub(crate) enum Comes {
 }
 
 /// Someone who comes in this round, counted from 1, or as soon as there is a place.
-#[derive(Clone, Copy, Debug, PartialEq, Eq)]
+#[derive(Clone, Copy)]
 pub(crate) struct Visit {
     pub(crate) round: u64,
     pub(crate) comes: Comes,
 }
 
 /// How a lobby behaves.
-#[derive(Clone, Copy, Debug, PartialEq, Eq)]
+#[derive(Clone, Copy)]
 pub(crate) struct Plan {
     pub(crate) visits: &'static [Visit],
     /// How many milliseconds pass at each wait.

@@ -48,7 +48,12 @@ fn the_next_is_let_in_where_a_place_is_free(rt: HostRuntime) -> Result<(), Fail>
 #[test]
 fn no_more_are_let_in_than_are_wanted(rt: HostRuntime) -> Result<(), Fail> {
     let came = serve(rt.alloc(), &TWO_WANTED, PLAN)?;
-    is_over(&rt, &came, Exit::Done, b"exchange 0 EndOfInput\nexchange 1 Bye\n");
+    is_over(
+        &rt,
+        &came,
+        Exit::Done,
+        b"exchange 0 EndOfInput\nexchange 1 Bye\n",
+    );
     same(&rt, "how many came", &came.hall.let_in(), &2);
     same(&rt, "the second", &came.hall.round_and_place(1), &(1, 1));
     Ok(())

@@ -102,11 +102,19 @@ pub(crate) fn is_over(rt: &impl Abort, came: &Came, exit: Exit, lines: &[u8]) {
 
 /// Compares the replies to the one with this number.
 pub(crate) fn is_told(rt: &impl Abort, came: &Came, number: usize, replies: &[u8]) {
-    assert!(rt; came.hall.has_taken(number, replies), "other replies to {number}");
+    assert!(rt;
+        came.hall.has_taken(number, replies),
+        "other replies to {number}"
+    );
 }
 
 /// Compares what stands under a name with the file of two frames.
-pub(crate) fn has_file(rt: &impl Abort, alloc: Global, came: &Came, name: &[u8]) -> Result<(), Fail> {
+pub(crate) fn has_file(
+    rt: &impl Abort,
+    alloc: Global,
+    came: &Came,
+    name: &[u8],
+) -> Result<(), Fail> {
     let file = two_frames(alloc)?;
     let name = Name::new(name).ok_or("a name")?;
     assert!(rt;

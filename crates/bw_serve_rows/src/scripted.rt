@@ -7,7 +7,7 @@ use std::cell::RefCell;
 use std::rc::Rc;
 
 /// What a call for bytes gives.
-#[derive(Clone, Copy, Debug, PartialEq, Eq)]
+#[derive(Clone, Copy)]
 pub(crate) enum Give {
     /// So many of the input's next bytes, or the end behind the last.
     Bytes(usize),
@@ -16,7 +16,7 @@ pub(crate) enum Give {
 }
 
 /// What a call that offers bytes takes.
-#[derive(Clone, Copy, Debug, PartialEq, Eq)]
+#[derive(Clone, Copy)]
 pub(crate) enum Take {
     /// So many bytes.
     Bytes(usize),
@@ -25,7 +25,7 @@ pub(crate) enum Take {
 }
 
 /// What a link gives and takes at its calls; each last step is followed again and again.
-#[derive(Clone, Copy, Debug, PartialEq, Eq)]
+#[derive(Clone, Copy)]
 pub(crate) struct Script {
     pub(crate) input: &'static [u8],
     pub(crate) gives: &'static [Give],

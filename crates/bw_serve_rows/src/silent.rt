@@ -5,6 +5,7 @@ use crate::play::{ALL, FIRST, OTHERS, QUICK_OTHER, TAKE, is_over, is_told, serve
 use crate::scripted::{Give, Script, Take};
 use bw_commands::Exit;
 use bw_serve::Bounds;
+use std::alloc::Global;
 use std::process::Abort;
 use std::test::Fail;
 
@@ -56,7 +57,7 @@ const LINES: &[u8] = b"exchange 0 Bye\nexchange 1 Idle\n";
 /// when it was ended.
 fn is_idle(
     rt: &impl Abort,
-    alloc: std::alloc::Global,
+    alloc: Global,
     visits: &'static [Visit],
     replies: &[u8],
     given: usize,

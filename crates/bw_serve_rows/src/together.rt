@@ -40,7 +40,12 @@ fn two_are_served_byte_by_byte(rt: HostRuntime) -> Result<(), Fail> {
         rounds: 1_000,
     };
     let came = serve(rt.alloc(), &TWO, plan)?;
-    is_over(&rt, &came, Exit::Done, b"exchange 0 Bye\nexchange 1 EndOfInput\n");
+    is_over(
+        &rt,
+        &came,
+        Exit::Done,
+        b"exchange 0 Bye\nexchange 1 EndOfInput\n",
+    );
     is_told(&rt, &came, 0, VERDICTS);
     is_told(&rt, &came, 1, OTHERS);
     has_file(&rt, rt.alloc(), &came, b"a1")?;
