@@ -1,0 +1,179 @@
+//! A lobby to which peers come by a plan, with a clock that each wait puts on.
+ghost use Rattle.std.specs.Prelude.{[], IfOk};
+
+use crate::scripted::{Record, Script, Scripted, new_record};
+use bw_many::Link;
+use bw_serve::{AcceptFault, Lobby, Ready, WaitFault};
+use std::alloc::{AllocError, Global};
+use std::cell::RefCell;
+use std::rc::Rc;
+
+/// Who comes, or what is met in place of a peer.
+#[derive(Clone, Copy)]
+pub(crate) enum Comes {
+    Peer(Script),
+    Gone,
+    Closed,
+}
+
+/// Someone who comes in this round, counted from 1, or as soon as there is a place.
+#[derive(Clone, Copy)]
+pub(crate) struct Visit {
+    pub(crate) round: u64,
+    pub(crate) comes: Comes,
+}
+
+/// How a lobby behaves.
+#[derive(Clone, Copy)]
+pub(crate) struct Plan {
+    pub(crate) visits: &'static [Visit],
+    /// How many milliseconds pass at each wait.
+    pub(crate) tick: u64,
+    /// How many rounds there are before a wait fails.
+    pub(crate) rounds: u64,
+}
+
+/// A lobby in memory, which keeps a record of each link.
+#[derive(Drop)]
+pub(crate) struct Hall {
+    alloc: Global,
+    plan: Plan,
+    now: u64,
+    round: u64,
+    /// How many of the visits were met.
+    met: usize,
+    /// How many links were told of since the last wait.
+    told: usize,
+    records: Vec<Rc<RefCell<Record>>>,
+}
+
+/// For how many places a link is told of after each wait.
+const MOST_PLACES: usize = 4;
+
+impl Hall {
+    pub(crate) fn new(alloc: Global, plan: Plan) -> Hall {
+        Hall {
+            alloc,
+            plan,
+            now: 0,
+            round: 0,
+            met: 0,
+            told: 0,
+            records: Vec::new(alloc),
+        }
+    }
+
+    /// The time, in milliseconds.
+    pub(crate) fn time(&self) -> u64 {
+        self.now
+    }
+
+    /// How many were let in.
+    pub(crate) fn let_in(&self) -> usize {
+        self.records.len()
+    }
+
+    /// Whether the one with this number took exactly these bytes.
+    pub(crate) fn has_taken(&self, number: usize, bytes: &[u8]) -> bool {
+        match self.records.get(number) {
+            Some(record) => has_taken(record, bytes),
+            None => false,
+        }
+    }
+
+    /// How many bytes the one with this number gave, and behind how many of its replies it was shut.
+    pub(crate) fn given_and_shut(&self, number: usize) -> (usize, Option<usize>) {
+        match self.records.get(number) {
+            Some(record) => given_and_shut(record),
+            None => (0, None),
+        }
+    }
+
+    /// In which round the one with this number was let in, and at which place.
+    pub(crate) fn round_and_place(&self, number: usize) -> (u64, usize) {
+        match self.records.get(number) {
+            Some(record) => round_and_place(record),
+            None => (0, 0),
+        }
+    }
+
+    /// Makes the link of the next one.
+    fn meet(&mut self, script: Script, place: usize) -> Result<Scripted, AllocError>
+        ensures given { IfOk result (λ link. ⟦<Scripted as Link>⟧.given link []) }
+        ensures taken { IfOk result (λ link. ⟦<Scripted as Link>⟧.taken link []) }
+    {
+        let record = new_record(self.alloc, self.round, place)?;
+        self.records.push(record.clone()?)?;
+        Ok(Scripted::new(self.alloc, script, record))
+    }
+}
+
+fn has_taken(record: &RefCell<Record>, bytes: &[u8]) -> bool {
+    match record.try_borrow() {
+        Ok(record) => record.taken.as_slice() == bytes,
+        Err(_used) => false,
+    }
+}
+
+fn given_and_shut(record: &RefCell<Record>) -> (usize, Option<usize>) {
+    match record.try_borrow() {
+        Ok(record) => (record.given, record.shut),
+        Err(_used) => (0, None),
+    }
+}
+
+fn round_and_place(record: &RefCell<Record>) -> (u64, usize) {
+    match record.try_borrow() {
+        Ok(record) => (record.round, record.place),
+        Err(_used) => (0, 0),
+    }
+}
+
+impl Lobby for Hall {
+    type Link = Scripted;
+
+    fn wait(&mut self, _most: u64) -> Result<(), WaitFault> {
+        if self.round >= self.plan.rounds {
+            return Err(WaitFault);
+        }
+        self.round += 1;
+        self.now = self.now.saturating_add(self.plan.tick);
+        self.told = 0;
+        Ok(())
+    }
+
+    fn next_ready(&mut self) -> Option<Ready> {
+        if self.told >= MOST_PLACES {
+            return None;
+        }
+        let place = self.told;
+        self.told += 1;
+        Some(Ready {
+            place,
+            readable: true,
+            writable: true,
+        })
+    }
+
+    fn accept(&mut self, place: usize) -> Result<Scripted, AcceptFault> {
+        let Some(visit) = self.plan.visits.get(self.met).copied() else {
+            return Err(AcceptFault::Nobody);
+        };
+        if visit.round > self.round {
+            return Err(AcceptFault::Nobody);
+        }
+        self.met = self.met.saturating_add(1);
+        match visit.comes {
+            Comes::Gone => Err(AcceptFault::Gone),
+            Comes::Closed => Err(AcceptFault::Closed),
+            Comes::Peer(script) => match self.meet(script, place) {
+                Ok(link) => Ok(link),
+                Err(_refused) => Err(AcceptFault::Gone),
+            },
+        }
+    }
+
+    fn now(&mut self) -> u64 {
+        self.now
+    }
+}

@@ -1,0 +1,68 @@
+//! More recorders than places, or than are wanted.
+use crate::compare::same;
+use crate::hall::{Plan, Visit};
+use crate::play::{OTHERS, QUICK, QUICK_OTHER, VERDICTS, is_over, is_told, serve};
+use bw_commands::Exit;
+use bw_serve::Bounds;
+use std::test::Fail;
+
+const THREE_VISITS: &[Visit] = &[QUICK, QUICK_OTHER, QUICK];
+
+const PLAN: Plan = Plan {
+    visits: THREE_VISITS,
+    tick: 10,
+    rounds: 100,
+};
+
+const ONE_PLACE: Bounds = Bounds {
+    places: 1,
+    exchanges: 3,
+    idle: 60_000,
+};
+
+const TWO_WANTED: Bounds = Bounds {
+    places: 4,
+    exchanges: 2,
+    idle: 60_000,
+};
+
+const NONE_WANTED: Bounds = Bounds {
+    places: 4,
+    exchanges: 0,
+    idle: 60_000,
+};
+
+#[test]
+fn the_next_is_let_in_where_a_place_is_free(rt: HostRuntime) -> Result<(), Fail> {
+    let came = serve(rt.alloc(), &ONE_PLACE, PLAN)?;
+    let lines = b"exchange 0 EndOfInput\nexchange 1 Bye\nexchange 2 EndOfInput\n";
+    is_over(&rt, &came, Exit::Done, lines);
+    is_told(&rt, &came, 1, OTHERS);
+    is_told(&rt, &came, 2, VERDICTS);
+    // each is over in its second round
+    same(&rt, "the second", &came.hall.round_and_place(1), &(3, 0));
+    same(&rt, "the third", &came.hall.round_and_place(2), &(5, 0));
+    Ok(())
+}
+
+#[test]
+fn no_more_are_let_in_than_are_wanted(rt: HostRuntime) -> Result<(), Fail> {
+    let came = serve(rt.alloc(), &TWO_WANTED, PLAN)?;
+    is_over(
+        &rt,
+        &came,
+        Exit::Done,
+        b"exchange 0 EndOfInput\nexchange 1 Bye\n",
+    );
+    same(&rt, "how many came", &came.hall.let_in(), &2);
+    same(&rt, "the second", &came.hall.round_and_place(1), &(1, 1));
+    Ok(())
+}
+
+#[test]
+fn nobody_is_waited_for_where_none_is_wanted(rt: HostRuntime) -> Result<(), Fail> {
+    let came = serve(rt.alloc(), &NONE_WANTED, PLAN)?;
+    is_over(&rt, &came, Exit::Done, b"");
+    same(&rt, "the time", &came.hall.time(), &0);
+    Ok(())
+}

@@ -1,0 +1,94 @@
+//! Recorders that send no whole frame, or take no reply, beside another.
+use crate::compare::same;
+use crate::hall::{Comes, Plan, Visit};
+use crate::play::{ALL, FIRST, OTHERS, QUICK_OTHER, TAKE, is_over, is_told, serve};
+use crate::scripted::{Give, Script, Take};
+use bw_commands::Exit;
+use bw_serve::Bounds;
+use std::alloc::Global;
+use std::process::Abort;
+use std::test::Fail;
+
+/// Silent in the middle of its second frame.
+const SILENT: Visit = Visit {
+    round: 1,
+    comes: Comes::Peer(Script {
+        input: TAKE,
+        gives: &[Give::Bytes(30), Give::Nothing],
+        takes: ALL,
+    }),
+};
+
+/// A byte a round, behind its first frame.
+const SLOW: Visit = Visit {
+    round: 1,
+    comes: Comes::Peer(Script {
+        input: TAKE,
+        gives: &[Give::Bytes(22), Give::Bytes(1)],
+        takes: ALL,
+    }),
+};
+
+/// Takes no replies.
+const DEAF: Visit = Visit {
+    round: 1,
+    comes: Comes::Peer(Script {
+        input: TAKE,
+        gives: &[Give::Bytes(22), Give::Bytes(16)],
+        takes: &[Take::Nothing],
+    }),
+};
+
+const BESIDE_SILENT: &[Visit] = &[SILENT, QUICK_OTHER];
+
+const BESIDE_SLOW: &[Visit] = &[SLOW, QUICK_OTHER];
+
+const BESIDE_DEAF: &[Visit] = &[DEAF, QUICK_OTHER];
+
+const TWO: Bounds = Bounds {
+    places: 2,
+    exchanges: 2,
+    idle: 1_000,
+};
+
+const LINES: &[u8] = b"exchange 0 Bye\nexchange 1 Idle\n";
+
+/// Compares a run of one of these beside `QUICK_OTHER`: its replies, how many bytes it gave, and
+/// when it was ended.
+fn is_idle(
+    rt: &impl Abort,
+    alloc: Global,
+    visits: &'static [Visit],
+    replies: &[u8],
+    given: usize,
+) -> Result<(), Fail> {
+    let plan = Plan {
+        visits,
+        tick: 100,
+        rounds: 1_000,
+    };
+    let came = serve(alloc, &TWO, plan)?;
+    is_over(rt, &came, Exit::Done, LINES);
+    is_told(rt, &came, 0, replies);
+    is_told(rt, &came, 1, OTHERS);
+    same(rt, "the bytes", &came.hall.given_and_shut(0).0, &given);
+    // its first frame was answered after 100 milliseconds
+    same(rt, "the time", &came.hall.time(), &1_200);
+    Ok(())
+}
+
+#[test]
+fn who_is_silent_in_a_frame_is_ended(rt: HostRuntime) -> Result<(), Fail> {
+    is_idle(&rt, rt.alloc(), BESIDE_SILENT, FIRST, 30)
+}
+
+#[test]
+fn who_sends_no_whole_frame_is_ended(rt: HostRuntime) -> Result<(), Fail> {
+    // a byte in each of the rounds 2 to 12
+    is_idle(&rt, rt.alloc(), BESIDE_SLOW, FIRST, 33)
+}
+
+#[test]
+fn who_takes_no_replies_is_not_read(rt: HostRuntime) -> Result<(), Fail> {
+    is_idle(&rt, rt.alloc(), BESIDE_DEAF, b"", 22)
+}
