@@ -20,15 +20,18 @@ no_end (Some end) h = absurd cc
 -- no frame is answered
 pub up_to_none : {S : Type 0} (answers : S → Frame → List Reply → S → Type 0) (s : S) (e : Exchange) →
     AnswersSome answers 0 0 s s e e
-up_to_none answers s e = (record {
-  answered = [];
-  by_server = refl;
-  does = does_none e;
-  most = omega arith;
-  stops = λ h. absurd (omega (arith, h));
-  final = λ none fed before gone d. no_end e.end none;
-  uses_up = omega arith;
-}, refl)
+up_to_none answers s e = (
+  record {
+    answered = [];
+    by_server = refl;
+    does = does_none e;
+    most = omega arith;
+    stops = λ h. absurd (omega (arith, h));
+    final = λ none fed before gone d. no_end e.end none;
+    uses_up = omega arith;
+  },
+  refl,
+)
 
 -- one frame more is answered, where more can be
 pub up_to_more : {S : Type 0} (answers : S → Frame → List Reply → S → Type 0) (n : ℕ) (s mid later : S)
@@ -36,20 +39,23 @@ pub up_to_more : {S : Type 0} (answers : S → Frame → List Reply → S → Ty
     (g : AnswersUpTo answers 1 mid later b c) →
     AnswersSome answers (n + 1) (length f.answered + length g.answered) s later a c
 up_to_more answers n s mid later a b c f goes g =
-    let len = length-append f.answered g.answered in (record {
-      answered = f.answered ++ g.answered;
-      by_server = answers_append answers f.answered g.answered s mid later f.by_server g.by_server;
-      does = does_on a b c [] [] f.answered g.answered [] [] f.does g.does;
-      most = omega (arith, f.most, g.most, len);
-      stops = λ h. elim (all_or_fewer (length f.answered) n f.most) [
-        | inl all ↦ g.stops (omega (arith, h, all, len))
-        | inr fewer ↦ absurd (goes (f.stops fewer))
-      ];
-      final = λ none fed before gone d.
-          g.final (runs (is_some b.end) refl) (fed ++ []) (before ++ f.answered) (gone ++ [])
-          (f.does fed before gone d);
-      uses_up = omega (arith, f.uses_up, g.uses_up, len);
-    }, len)
+    let len = length-append f.answered g.answered in (
+      record {
+        answered = f.answered ++ g.answered;
+        by_server = answers_append answers f.answered g.answered s mid later f.by_server g.by_server;
+        does = does_on a b c [] [] f.answered g.answered [] [] f.does g.does;
+        most = omega (arith, f.most, g.most, len);
+        stops = λ h. elim (all_or_fewer (length f.answered) n f.most) [
+          | inl all ↦ g.stops (omega (arith, h, all, len))
+          | inr fewer ↦ absurd (goes (f.stops fewer))
+        ];
+        final = λ none fed before gone d.
+            g.final (runs (is_some b.end) refl) (fed ++ []) (before ++ f.answered) (gone ++ [])
+            (f.does fed before gone d);
+        uses_up = omega (arith, f.uses_up, g.uses_up, len);
+      },
+      len,
+    )
   where
     runs : (over : Bool) → is_some b.end ≡ over → is_some b.end ≡ false
     runs true e = absurd (goes (inl (inr e)))
@@ -83,15 +89,18 @@ some_one answers n false s mid later a b c is f goes g = absurd cc
 pub some_of : {S : Type 0} (answers : S → Frame → List Reply → S → Type 0) (n turns : ℕ) (s later : S)
     (a b : Exchange) → n ≤ turns → MustWait b → AnswersSome answers n n s later a b →
     AnswersSome answers turns n s later a b
-some_of answers n turns s later a b le waits f = (record {
-  answered = f.0.answered;
-  by_server = f.0.by_server;
-  does = f.0.does;
-  most = (let len = f.1 in omega (arith, len, le));
-  stops = λ h. waits;
-  final = f.0.final;
-  uses_up = f.0.uses_up;
-}, f.1)
+some_of answers n turns s later a b le waits f = (
+  record {
+    answered = f.0.answered;
+    by_server = f.0.by_server;
+    does = f.0.does;
+    most = (let len = f.1 in omega (arith, len, le));
+    stops = λ h. waits;
+    final = f.0.final;
+    uses_up = f.0.uses_up;
+  },
+  f.1,
+)
 
 -- the next call answers none
 pub some_stopped : {S : Type 0} (answers : S → Frame → List Reply → S → Type 0) (n turns : ℕ) (one : Bool)
@@ -101,15 +110,18 @@ pub some_stopped : {S : Type 0} (answers : S → Frame → List Reply → S → 
 some_stopped answers n turns true s mid later a b c is le f goes g = absurd cc
 some_stopped answers n turns false s mid later a b c is le f goes g =
     let more = some_more answers n 0 s mid later a b c f goes g in
-    let len : length more.0.answered ≡ n + 0 = more.1 in (record {
-      answered = more.0.answered;
-      by_server = more.0.by_server;
-      does = more.0.does;
-      most = omega (arith, len, le);
-      stops = λ h. more.0.stops (omega (arith, len));
-      final = more.0.final;
-      uses_up = more.0.uses_up;
-    }, omega (arith, len))
+    let len : length more.0.answered ≡ n + 0 = more.1 in (
+      record {
+        answered = more.0.answered;
+        by_server = more.0.by_server;
+        does = more.0.does;
+        most = omega (arith, len, le);
+        stops = λ h. more.0.stops (omega (arith, len));
+        final = more.0.final;
+        uses_up = more.0.uses_up;
+      },
+      omega (arith, len),
+    )
 
 -- where it is neither idle nor without room, it needn't wait
 pub goes_on : (e : Exchange) → e.hungry ≡ false → is_some e.end ≡ false → vec_len e.outgoing ≤ most_before_answer →

@@ -60,19 +60,22 @@ returns-in-Hungry-clause-answers g c =
     let q = c.take_next.new.framer in
     let w = c.take_next.new.outgoing.items in
     let none = none_so_far s.end c.requires.«open» in
-    let quiet = ap (given_by message_codec) a.comes.0 in (record {
-      answered = [];
-      by_server = a.comes.1;
-      does = λ fed before gone d.
-          subst (λ (x : Option End). Done (fed ++ []) (before ++ []) (gone ++ []) q w x) (sym none)
-          (done_quiet fed before gone s.framer s.outgoing.items None w q quiet a.next
-          (a.comes.2 ∙ sym (append-nil s.outgoing.items)) refl tt
-          (subst (λ (x : Option End). Done fed before gone s.framer s.outgoing.items x) none d));
-      most = search rules;
-      stops = λ h. inl (inl refl);
-      final = λ none fed before gone d. no_end s.end none;
-      uses_up = used_up s.framer q [] a.next quiet;
-    }, refl)
+    let quiet = ap (given_by message_codec) a.comes.0 in (
+      record {
+        answered = [];
+        by_server = a.comes.1;
+        does = λ fed before gone d.
+            subst (λ (x : Option End). Done (fed ++ []) (before ++ []) (gone ++ []) q w x) (sym none)
+            (done_quiet fed before gone s.framer s.outgoing.items None w q quiet a.next
+            (a.comes.2 ∙ sym (append-nil s.outgoing.items)) refl tt
+            (subst (λ (x : Option End). Done fed before gone s.framer s.outgoing.items x) none d));
+        most = search rules;
+        stops = λ h. inl (inl refl);
+        final = λ none fed before gone d. no_end s.end none;
+        uses_up = used_up s.framer q [] a.next quiet;
+      },
+      refl,
+    )
 
 pub returns-in-Answered-clause-answers : goal.returns-in-Answered-clause-answers
 returns-in-Answered-clause-answers g c =
@@ -81,35 +84,41 @@ returns-in-Answered-clause-answers g c =
     let s = c.args.self.now in
     let q = c.take_next.new.framer in
     let w = c.take_next.new.outgoing.items in
-    let none = none_so_far s.end c.requires.«open» in (record {
-      answered = record { frame = t.frame; replies = t.replies } ∷ [];
-      by_server = answers_one g.T.Turns.answers _ _ t.frame t.replies t.answered;
-      does = λ fed before gone d.
-          subst (λ (x : Option End). Done (fed ++ []) (before ++ record { frame = t.frame; replies = t.replies } ∷ [])
-          (gone ++ []) q w x) (sym none)
-          (done_answer fed before gone s.framer s.outgoing.items t.frame t.replies w q t.goes_on a.next t.waits t.spelled
-          (subst (λ (x : Option End). Done fed before gone s.framer s.outgoing.items x) none d));
-      most = search rules;
-      stops = λ h. absurd (omega (arith, h));
-      final = λ none fed before gone d. no_end s.end none;
-      uses_up = used_up s.framer q (t.frame ∷ []) a.next t.goes_on;
-    }, refl)
+    let none = none_so_far s.end c.requires.«open» in (
+      record {
+        answered = record { frame = t.frame; replies = t.replies } ∷ [];
+        by_server = answers_one g.T.Turns.answers _ _ t.frame t.replies t.answered;
+        does = λ fed before gone d.
+            subst (λ (x : Option End). Done (fed ++ []) (before ++ record { frame = t.frame; replies = t.replies } ∷ [])
+            (gone ++ []) q w x) (sym none)
+            (done_answer fed before gone s.framer s.outgoing.items t.frame t.replies w q t.goes_on a.next t.waits t.spelled
+            (subst (λ (x : Option End). Done fed before gone s.framer s.outgoing.items x) none d));
+        most = search rules;
+        stops = λ h. absurd (omega (arith, h));
+        final = λ none fed before gone d. no_end s.end none;
+        uses_up = used_up s.framer q (t.frame ∷ []) a.next t.goes_on;
+      },
+      refl,
+    )
 
 pub returns-in-Ended-clause-answers : goal.returns-in-Ended-clause-answers
 returns-in-Ended-clause-answers g c =
     let a = c.in-Ended.ensures.takes in
     let s = c.args.self.now in
     let q = c.take_next.new.framer in
-    let w = c.take_next.new.outgoing.items in (record {
-      answered = [];
-      by_server = a.comes.1;
-      does = λ fed before gone d.
-          done_end fed before gone s.framer s.outgoing.items s.end c.in-Ended.end w q
-          c.requires.«open» a.comes.0 a.next a.comes.2 a.comes.3 d;
-      most = search rules;
-      stops = λ h. inl (inr refl);
-      final = λ none fed before gone d.
-          final_end fed before gone s.framer s.outgoing.items (end_so_far s.end) c.in-Ended.end d a.comes.0;
-      uses_up = used_up s.framer q [] a.next
-          (no_turns c.in-Ended.end (next_of message_codec s.framer).0 a.comes.0);
-    }, refl)
+    let w = c.take_next.new.outgoing.items in (
+      record {
+        answered = [];
+        by_server = a.comes.1;
+        does = λ fed before gone d.
+            done_end fed before gone s.framer s.outgoing.items s.end c.in-Ended.end w q
+            c.requires.«open» a.comes.0 a.next a.comes.2 a.comes.3 d;
+        most = search rules;
+        stops = λ h. inl (inr refl);
+        final = λ none fed before gone d.
+            final_end fed before gone s.framer s.outgoing.items (end_so_far s.end) c.in-Ended.end d a.comes.0;
+        uses_up = used_up s.framer q [] a.next
+            (no_turns c.in-Ended.end (next_of message_codec s.framer).0 a.comes.0);
+      },
+      refl,
+    )
