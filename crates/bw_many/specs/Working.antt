@@ -46,9 +46,9 @@ abbrev pub WakesAt : {L : Type 0} → ℕ → Bool → Bool → Many L → Many 
 WakesAt {L} place bytes room m m' = (c : Connection L) → StandsAt m place c →
     (c' : Connection L) × StandsAt m' place c' × Wakes bytes room c c'
 
--- At this time the server answered so many frames of the connection at this place, which may be over behind them;
--- and, where it goes on being served, fewer than a quantum only where its exchange must wait. It is
--- over, or drained, once its stream has ended and all replies are out.
+-- At this time the server answered so many frames of the connection at this place, which may be
+-- over behind them; and, where it goes on being served, fewer than a quantum only where its exchange
+-- must wait. It is over, or drained, once its stream has ended and all replies are out.
 pub record WorksAt {L S : Type 0} (G : LinkGhosts L) (answers : S → Frame → List Reply → S → Type 0)
     (place now : ℕ) (closed : Option (Closed L)) (m m' : Many L) (s s' : S) : Type 0 where
   pub number : ℕ
