@@ -153,7 +153,9 @@ fed_or_over G (Err end) c c' piece serving still hungry none some short m f = go
     ends_so : (x : ConnectionEnd) → end ≡ x → EndsAs x c.exchange piece → Goes G (Err end) c [] c'
     ends_so x e k = over G end c c' piece serving f.0 m (subst (λ y. EndsAs y c.exchange piece) (sym e) k)
 
-    go : (end ≡ Over ends.Memory) ⊎ ((end ≡ Over ends.TurnLimit) × (longest_stream < (pending_of c.exchange).fed + length piece)) → Goes G (Err end) c [] c'
+    go : (end ≡ Over ends.Memory)
+        ⊎ ((end ≡ Over ends.TurnLimit) × (longest_stream < (pending_of c.exchange).fed + length piece)) →
+        Goes G (Err end) c [] c'
     go (inl e) = ends_so (Over ends.Memory) e ((hungry, none), f.1, some, short)
     go (inr e) = ends_so (Over ends.TurnLimit) e.0 ((hungry, none), f.1, e.1)
 

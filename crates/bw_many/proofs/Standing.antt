@@ -190,7 +190,8 @@ module _ {L : Type 0} (G : LinkGhosts L) (m m' : Many L) (i : ℕ) where
     left = all_more (HasLeft G m' (trace ++ tagged c.number xs)) over y
         (all_left (HasLeft G m trace) (HasLeft G m' (trace ++ tagged c.number xs)) over (still_left c.number c None xs trace next s at
         (λ e is. absurd (not_some e is))) k.left) last;
-    once = apart_more over y k.once (all_left (HasLeft G m trace) (λ x. y.number ≢ x.number) over (λ x h e. h.away i c at (sym same ∙ e)) k.left);
+    once = apart_more over y k.once (all_left (HasLeft G m trace) (λ x. y.number ≢ x.number) over
+        (λ x h e. h.away i c at (sym same ∙ e)) k.left);
     each = λ n below. each n (k.each n (subst (λ (b : ℕ). n < b) next below));
     fresh = λ n le. (let l = (k.lives i c at).0 in
         own-kept n c.number trace xs (λ e. absurd (omega (arith, e, l, le, next))) ∙ k.fresh n (omega (arith, le, next)));

@@ -1,5 +1,6 @@
 -- What many connections come to in bytes: those that each link gave and took.
-use Rattle.std.specs.Prelude.{◌≡◌, ◌⊎◌, ℕ, ◌<◌, ◌≤◌, Option, Some, None, IfSome, IsTrue, List, [], ◌++◌, length}
+use Rattle.std.specs.Prelude.{◌≡◌, ◌⊎◌, ℕ, ◌<◌, ◌≤◌, Option, Some, None, IfSome, IsTrue}
+use Rattle.std.specs.Prelude.{List, [], ◌++◌, length}
 use Rattle.std.specs.List.{AllByRecursion, list_all}
 use Rattle.bw_model.specs.Wire.{Second}
 use Rattle.bw_model.specs.Replies.{is_reply}

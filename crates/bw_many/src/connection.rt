@@ -118,8 +118,8 @@ impl<L: Link> Connection<L> {
     }
 
     /// One quantum: some of the bytes that wait go out, a piece comes in where one is wanted, and
-    /// frames are answered. Whether a piece comes before all replies are out is never: from one who
-    /// doesn't read its replies nothing more is read.
+    /// frames are answered. No piece comes in before all replies are out: from one who doesn't read
+    /// its replies nothing more is read.
     ///
     /// # Errors
     /// How the connection ended.

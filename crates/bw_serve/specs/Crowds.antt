@@ -1,5 +1,6 @@
 -- What a crowd's calls come to.
-use Rattle.std.specs.Prelude.{◌≡◌, ℕ, zero, suc, ◌+◌, ◌≤◌, ◌<◌, Bool, false, ◌||◌, List, [], length}
+use Rattle.std.specs.Prelude.{◌≡◌, ℕ, zero, suc, ◌+◌, ◌≤◌, ◌<◌, Bool, false, ◌||◌}
+use Rattle.std.specs.Prelude.{List, [], length}
 use Rattle.bw_model.specs.Wire.{Frame}
 use Rattle.bw_model.specs.Replies.{Reply}
 use Rattle.bw_stream.specs.declared.sink.Sink.{Ghosts as Writer}
@@ -45,7 +46,8 @@ pub record Stays {L : Type 0} (G : LinkGhosts L) (c c' : Crowd L) : Type 0 where
   pub begun : begun_of c'.many ≡ begun_of c.many
 
 -- the line of each connection that ended was printed, and each was counted
-abbrev pub Counts : {L O : Type 0} → Writer O → Crowd L → Crowd L → List (Closed L) → O → O → Type 0
+abbrev pub Counts : {L O : Type 0} → Writer O → Crowd L → Crowd L → List (Closed L) → O → O →
+    Type 0
 Counts out c c' closed o o' = (n : ℕ) → c.ended ≡ up_to_last n →
     TellsEnds out n closed o o' × (c'.ended ≡ up_to_last (n + length closed))
 

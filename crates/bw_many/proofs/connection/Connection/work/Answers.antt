@@ -16,9 +16,11 @@ returns-in-Draining g c =
       most = omega arith;
       goes = d.goes;
       number = d.stays.number;
-      waits = drained_on c.drain.result (λ serving few. absurd (not_served c.drain.new.self c.in-Draining.fault (d.stays.phase ∙ is) serving));
+      waits = drained_on c.drain.result (λ serving few.
+          absurd (not_served c.drain.new.self c.in-Draining.fault (d.stays.phase ∙ is) serving));
       since = drained_on c.drain.result (quiet_drained c.args.now old c.drain.new.self c.in-Draining.fault is d.stays.phase d.stays.since);
-      unended = drained_on c.drain.result (λ serving none. absurd (not_served c.drain.new.self c.in-Draining.fault (d.stays.phase ∙ is) serving));
+      unended = drained_on c.drain.result (λ serving none.
+          absurd (not_served c.drain.new.self c.in-Draining.fault (d.stays.phase ∙ is) serving));
     }
 
 pub returns-in_err-receive_piece : goal.returns-in_err-receive_piece

@@ -26,7 +26,8 @@ returns-in-None-clause-adds g c =
     let t = c.in-Some.ensures in
     let was = c.in-Some.connection in
     adds_on g.L.Link c.args.self.now _ c.args.place was was was.number [] refl refl t.was
-    (sets_again c.args.self.now.places.items c.take_at.new.places.items c.put_at.new.places.items c.args.place None (Some was) t.sets c.put_at.ensures.sets) refl
+    (sets_again c.args.self.now.places.items c.take_at.new.places.items c.put_at.new.places.items
+    c.args.place None (Some was) t.sets c.put_at.ensures.sets) refl
     (woken g.L.Link was was refl refl refl)
 
 pub returns-in_default-clause-end : goal.returns-in_default-clause-end

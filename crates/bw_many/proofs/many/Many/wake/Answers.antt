@@ -17,7 +17,8 @@ returns-clause-adds g c =
     let was = c.in-Some.connection in
     let w = c.wake.ensures in
     adds_on g.L.Link c.args.self.now _ c.args.place was c.wake.new.self was.number [] refl refl t.was
-    (sets_again c.args.self.now.places.items c.take_at.new.places.items c.put_at.new.places.items c.args.place None (Some c.wake.new.self) t.sets c.put_at.ensures.sets) w.stays.number
+    (sets_again c.args.self.now.places.items c.take_at.new.places.items c.put_at.new.places.items
+    c.args.place None (Some c.wake.new.self) t.sets c.put_at.ensures.sets) w.stays.number
     (woken g.L.Link was c.wake.new.self w.link w.exchange w.stays.phase)
 
 pub returns-then-place-len-clause-wakes : goal.returns-then-place-len-clause-wakes

@@ -30,7 +30,8 @@ returns-in-Ok g c =
     let was = c.in-Some.connection in
     let new = c.work.new.self in
     let w = c.in-Ok.ensures in
-    let sets = sets_again c.args.self.now.places.items c.take_at.new.places.items c.put_at.new.places.items c.args.place None (Some new) t.sets c.put_at.ensures.sets in
+    let sets = sets_again c.args.self.now.places.items c.take_at.new.places.items c.put_at.new.places.items
+    c.args.place None (Some new) t.sets c.put_at.ensures.sets in
     record {
       number = was.number;
       answered = w.answered;
