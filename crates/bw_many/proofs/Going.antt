@@ -22,6 +22,7 @@ use Rattle.bw_many.specs.declared.connection.Phase.{Phase}
 use Rattle.bw_many.specs.declared.connection.Phase.TheVariants as phases
 use Rattle.bw_many.specs.declared.link.Link.{Ghosts as LinkGhosts}
 use Rattle.bw_many.specs.Feeding.{Feeds}
+use Rattle.bw_many.specs.Lives.{TellsFault}
 use Rattle.bw_many.specs.Lives.{EndsAs, Goes, IsInPhase, IsOpen, IsOver, Lives, Settles, Steps}
 use Rattle.bw_many.specs.Lives.{AnswersHeld, Begins, expired_at, expired_by, longest_drain, quantum, quiet_since}
 
@@ -62,8 +63,8 @@ none_unread c unread serving p = subst (λ x. IsInPhase x c.exchange unread) ser
 -- a connection that was served is over, and these bytes came last
 pub over : {L : Type 0} (G : LinkGhosts L) (end : ConnectionEnd) (c c' : Connection L) (last : List ℕ) →
     c.phase ≡ phases.Serving → c'.exchange ≡ c.exchange → Moves G last [] c.link c'.link →
-    EndsAs end c.exchange last → Goes G (Err end) c [] c'
-over G end c c' last serving exchange m e before l =
+    EndsAs end c.exchange last → TellsFault end (G.broken c'.link) → Goes G (Err end) c [] c'
+over G end c c' last serving exchange m e fault before l =
     let none = none_unread c l.unread serving l.by_phase in
     record {
       exchange = c.exchange;
@@ -76,6 +77,7 @@ over G end c c' last serving exchange m e before l =
       done = nothing_more c.exchange l.fed l.gone before l.done;
       at_end = kept_end G c.link c'.link (end_of c.exchange) m.ended l.at_end;
       by_end = e;
+      fault = fault;
     }
 
 -- one that was drained is over
@@ -94,6 +96,7 @@ drained G fault c c' last phase m before l =
       done = nothing_more c.exchange l.fed l.gone before l.done;
       at_end = kept_end G c.link c'.link (end_of c.exchange) m.ended l.at_end;
       by_end = (in_phase.0, in_phase.2, inr in_phase.1);
+      fault = tt;
     }
 
 -- a connection that goes on being served: its exchange did more, and its link gave what was fed and
@@ -150,14 +153,23 @@ fed_or_over G (Ok x) c c' piece serving still hungry none some short m f =
     steps G c c' piece [] [] serving still m f.0 (λ before fed gone d h. same_end G c c' f.1 m.ended h)
 fed_or_over G (Err end) c c' piece serving still hungry none some short m f = go f.2
   where
-    ends_so : (x : ConnectionEnd) → end ≡ x → EndsAs x c.exchange piece → Goes G (Err end) c [] c'
-    ends_so x e k = over G end c c' piece serving f.0 m (subst (λ y. EndsAs y c.exchange piece) (sym e) k)
+    ends_so : (x : ConnectionEnd) → end ≡ x → EndsAs x c.exchange piece → TellsFault x (G.broken c'.link) →
+        Goes G (Err end) c [] c'
+    ends_so x e k t =
+        over G end c c' piece serving f.0 m (subst (λ y. EndsAs y c.exchange piece) (sym e) k)
+        (subst (λ y. TellsFault y (G.broken c'.link)) (sym e) t)
 
     go : (end ≡ Over ends.Memory)
         ⊎ ((end ≡ Over ends.TurnLimit) × (longest_stream < (pending_of c.exchange).fed + length piece)) →
         Goes G (Err end) c [] c'
-    go (inl e) = ends_so (Over ends.Memory) e ((hungry, none), f.1, some, short)
-    go (inr e) = ends_so (Over ends.TurnLimit) e.0 ((hungry, none), f.1, e.1)
+    go (inl e) = ends_so (Over ends.Memory) e ((hungry, none), f.1, some, short) tt
+    go (inr e) = ends_so (Over ends.TurnLimit) e.0 ((hungry, none), f.1, e.1) tt
+
+-- an end of the stream is no fault of the link
+pub ends_well : (end : StreamEnd) (broken : Type 0) → TellsFault (Over (ended_by end)) broken
+ends_well streams.Bye broken = tt
+ends_well streams.EndOfInput broken = tt
+ends_well (streams.BadFrame fault) broken = tt
 
 -- the stream has ended, and all replies are out
 pub ends_as : (end : StreamEnd) (e : Exchange) → end_of e ≡ Some end → waiting_in e ≡ [] →
@@ -333,6 +345,13 @@ expired_as (phases.Draining fault) idle quiet end e unread is h =
     subst (λ x. EndsAs x e unread) (some_if (nat_lt longest_drain quiet) (Over (ends.BadFrame fault)) end is)
     (h.0, h.2, inr h.1)
 
+expired_well : (p : Phase) (idle quiet : ℕ) (end : ConnectionEnd) (broken : Type 0) →
+    expired_by p idle quiet ≡ Some end → TellsFault end broken
+expired_well phases.Serving idle quiet end broken is =
+    subst (λ x. TellsFault x broken) (some_if (nat_lt idle quiet) Idle end is) tt
+expired_well (phases.Draining fault) idle quiet end broken is =
+    subst (λ x. TellsFault x broken) (some_if (nat_lt longest_drain quiet) (Over (ends.BadFrame fault)) end is) tt
+
 -- a connection whose time is up is over
 pub expires : {L : Type 0} (G : LinkGhosts L) (now idle : ℕ) (c : Connection L) (end : ConnectionEnd) →
     expired_at now idle c ≡ Some end → (before : List Answered) → Lives G c before → IsOver G end c.link (before ++ [])
@@ -346,4 +365,5 @@ expires G now idle c end is before l = record {
   done = subst (λ (x : List Answered). HasDone l.fed x l.gone c.exchange) (sym (append-nil before)) l.done;
   at_end = l.at_end;
   by_end = expired_as c.phase idle (now - c.since) end c.exchange l.unread is l.by_phase;
+  fault = expired_well c.phase idle (now - c.since) end (G.broken c.link) is;
 }

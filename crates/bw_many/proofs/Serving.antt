@@ -115,6 +115,7 @@ module _ {L : Type 0} (G : LinkGhosts L) (law : ExchangesFollowStreams) where
           };
         };
         tells = tells;
+        fault = o.fault;
       }
 
   -- a connection that stands

@@ -59,6 +59,12 @@ EndsAs (Over ends.Memory) e unread = IsUpToDate e × IsTrue (are_bytes unread)
     × (1 ≤ length unread) × (length unread ≤ longest_piece)
 EndsAs Idle e unread = unread ≡ []
 
+-- a fault is told only of a link that failed
+abbrev pub TellsFault : ConnectionEnd → Type 0 → Type 0
+TellsFault (Over ends.ReadFault) broken = broken
+TellsFault (Over ends.WriteFault) broken = broken
+TellsFault _ broken = Unit {0}
+
 -- what no call but `work` changes
 pub record Stays {L : Type 0} (c c' : Connection L) : Type 0 where
   pub number : c'.number ≡ c.number
@@ -131,6 +137,7 @@ module _ {L : Type 0} (G : LinkGhosts L) where
     pub done : HasDone fed answered gone exchange
     pub at_end : IfSome (end_so_far (end_of exchange)) (λ x. IsFinal x ⊎ G.ended link)
     pub by_end : EndsAs end exchange unread
+    pub fault : TellsFault end (G.broken link)
 
   -- frames more were answered, and it goes on
   abbrev pub Steps : Connection L → List Answered → Connection L → Type 0

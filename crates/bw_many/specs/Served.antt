@@ -19,6 +19,7 @@ use Rattle.bw_many.specs.declared.connection.ConnectionEnd.TheVariants.{Over, Id
 use Rattle.bw_many.specs.declared.link.Link.{Ghosts as LinkGhosts}
 use Rattle.bw_many.specs.declared.many.Closed.{Closed}
 use Rattle.bw_many.specs.declared.many.Many.{Many}
+use Rattle.bw_many.specs.Lives.{TellsFault}
 use Rattle.bw_many.specs.Keeping.{Tagged, IsAmong, Keeps, Stands, StandsAt, own}
 
 -- all whole frames that came are answered and their replies sent, and the stream has not ended
@@ -76,6 +77,7 @@ module _ {L : Type 0} (G : LinkGhosts L) where
   pub record EndsLink (end : ConnectionEnd) (link : L) (answered : List Answered) : Type 0 where
     pub serves : ServesLink link answered
     pub tells : TellsEnd end link serves.stream_end answered serves.input serves.unsent
+    pub fault : TellsFault end (G.broken link)
 
   -- Whatever came between them, the frames of each connection are those of its own link, and what
   -- that took is exactly their replies.

@@ -40,6 +40,9 @@ pub trait Link {
     /// It may have no more to give.
     ghost ended: { Self → Type 0 };
 
+    /// It may have failed.
+    ghost broken: { Self → Type 0 };
+
     /// Puts the next bytes at the front of the buffer.
     fn receive(&mut self, buffer: &mut [u8]) -> Received
         ensures within { IsReceived result (length buffer.old) }
@@ -47,6 +50,7 @@ pub trait Link {
             given self.new (xs ++ received result buffer.new) }
         ensures taken { (ys : List ℕ) → taken self.old ys → taken self.new ys }
         ensures end { result ≡ Received.Ended → ended self.new }
+        ensures fault { result ≡ Received.Failed → broken self.new }
         ensures ended { ended self.old → ended self.new };
 
     /// Takes bytes at the front of these, which are some.
@@ -55,6 +59,7 @@ pub trait Link {
         ensures given { (xs : List ℕ) → given self.old xs → given self.new xs }
         ensures taken { (ys : List ℕ) → taken self.old ys →
             taken self.new (ys ++ sent result bytes.now) }
+        ensures fault { result ≡ Sent.Failed → broken self.new }
         ensures ended { ended self.old → ended self.new };
 
     /// Tells the peer that no more bytes will be sent.

@@ -55,6 +55,7 @@ pub(crate) struct Scripted {
     receives: usize,
     sends: usize,
     is_ended: bool,
+    is_broken: bool,
     given: Vec<u8>,
     taken: Vec<u8>,
     record: Rc<RefCell<Record>>,
@@ -72,6 +73,7 @@ impl Scripted {
             receives: 0,
             sends: 0,
             is_ended: false,
+            is_broken: false,
             given: Vec::new(alloc),
             taken: Vec::new(alloc),
             record,
@@ -86,6 +88,8 @@ impl Link for Scripted {
 
     ghost ended = { λ l. l.is_ended ≡ true };
 
+    ghost broken = { λ l. l.is_broken ≡ true };
+
     fn receive(&mut self, buffer: &mut [u8]) -> Received {
         if self.is_ended {
             return Received::Ended;
@@ -95,7 +99,10 @@ impl Link for Scripted {
         let most = match step {
             Some(Give::Bytes(most)) => most,
             Some(Give::Nothing) => return Received::Nothing,
-            Some(Give::Failed) => return Received::Failed,
+            Some(Give::Failed) => {
+                self.is_broken = true;
+                return Received::Failed;
+            }
             None => 0,
         };
         let count = most.min(buffer.len()).min(self.left.len());
@@ -105,6 +112,7 @@ impl Link for Scripted {
         }
         let (piece, rest) = self.left.split_at(count);
         let Ok(()) = self.given.extend_from_slice(piece) else {
+            self.is_broken = true;
             return Received::Failed;
         };
         buffer[..count].copy_from_slice(piece);
@@ -119,7 +127,10 @@ impl Link for Scripted {
         let most = match step {
             Some(Take::Bytes(most)) => most,
             Some(Take::Nothing) => return Sent::Nothing,
-            Some(Take::Failed) => return Sent::Failed,
+            Some(Take::Failed) => {
+                self.is_broken = true;
+                return Sent::Failed;
+            }
             None => 0,
         };
         let count = most.min(bytes.len());
@@ -127,6 +138,7 @@ impl Link for Scripted {
             return Sent::Nothing;
         }
         let Ok(()) = self.taken.extend_from_slice(&bytes[..count]) else {
+            self.is_broken = true;
             return Sent::Failed;
         };
         note_taken(&self.record, &bytes[..count]);

@@ -18,4 +18,4 @@ returns-in-Failed-clause-goes g c =
     over g.L.Link (Over ends.ReadFault) c.args.self.now (record c.args.self.now { link = c.receive.new.self }) []
     c.requires.serving refl
     (record { given = r.given; taken = no_more g.L.Link.taken _ _ r.taken; ended = r.ended })
-    (c.is_up_to_date.ensures (search rules), refl)
+    (c.is_up_to_date.ensures (search rules), refl) (r.fault refl)

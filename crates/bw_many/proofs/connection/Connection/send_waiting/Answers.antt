@@ -9,4 +9,4 @@ returns-in-Failed-clause-goes g c =
     let r = c.in-Failed.ensures in
     over g.L.Link (Over ends.WriteFault) c.args.self.now (record c.args.self.now { link = c.send.new.self }) []
     c.requires refl (record { given = no_more g.L.Link.given _ _ r.given; taken = r.taken; ended = r.ended })
-    (search rules, refl)
+    (search rules, refl) (r.fault refl)
