@@ -57,15 +57,19 @@ name_behind name = codes " " ++ name
 abbrev pub peer_text : SocketAddr → List (List ℕ) → List ℕ
 peer_text peer names = codes "peer " ++ socket_text peer ++ codes " names" ++ flat_map name_behind names
 
--- the end of the exchange, how many messages came, and their bytes, to the end of the line
-abbrev pub counts_text : ExchangeEnd → ℕ → ℕ → List ℕ
+-- what the end is called, how many messages came, and their bytes, to the end of the line
+abbrev pub counts_text : List ℕ → ℕ → ℕ → List ℕ
 counts_text end messages bytes = as_line
-    (codes " end " ++ name_of_end end ++ codes " messages " ++ decimal messages ++ codes " bytes "
+    (codes " end " ++ end ++ codes " messages " ++ decimal messages ++ codes " bytes "
     ++ decimal bytes)
+
+-- the line of a link to this peer, whose end is called so
+abbrev pub peer_line : SocketAddr → List ℕ → Counted → List ℕ
+peer_line peer end c = peer_text peer c.names ++ counts_text end c.messages c.bytes
 
 -- the line of a link to this peer, whose exchange ended so
 abbrev pub link_line : SocketAddr → ExchangeEnd → Counted → List ℕ
-link_line peer end c = peer_text peer c.names ++ counts_text end c.messages c.bytes
+link_line peer end c = peer_line peer (name_of_end end) c
 
 -- where lines are asked for this one is told, unless memory is refused for it
 abbrev pub Logs : {E : Type 0} → Writer E → Bool → List ℕ → E → E → Type 0

@@ -50,7 +50,7 @@ pub fn serve<N: Network, O: Sink, E: Sink>(
 }
 
 /// Tells why nobody can come to an address.
-fn tell_unbound<E: Sink>(
+pub fn tell_unbound<E: Sink>(
     alloc: Global,
     address: SocketAddr,
     error: &io::Error,
@@ -92,14 +92,15 @@ fn serve_over<S: TakeStore, P: Peers, O: Sink, E: Sink>(
     tell_end(exit, faults)
 }
 
-fn format_listening(alloc: Global, address: SocketAddr) -> Result<String, AllocError>
+/// The first line of a server at an address.
+pub fn format_listening(alloc: Global, address: SocketAddr) -> Result<String, AllocError>
     ensures { IfOk result (λ line. string_bytes line ≡ listening_line address) }
 {
     format!(in alloc; "listening {address}\n")
 }
 
 /// Tells why a run ended before its last exchange.
-fn tell_end<E: Sink>(exit: Exit, faults: &mut E) -> Exit
+pub fn tell_end<E: Sink>(exit: Exit, faults: &mut E) -> Exit
     ensures { TellsEnd E.Sink exit result faults.old faults.new }
 {
     match exit {

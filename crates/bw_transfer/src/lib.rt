@@ -4,7 +4,7 @@
 
 mod dial;
 mod dispatch;
-mod hosting;
+pub mod hosting;
 mod network;
 mod offering;
 mod peers;
@@ -25,5 +25,6 @@ pub use peers::{AcceptFault, Peer, Peers};
 pub use running::serve_run;
 pub use sending::{send_run, send_watched};
 pub use serving::serve_one;
-pub use tally::Tallied;
+pub use tally::{Tallied, Tally};
+pub use telling::tell_link;
 pub use watch::{NoWatch, Progress, Watch};

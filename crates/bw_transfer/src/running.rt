@@ -7,7 +7,7 @@ use crate::peers::{AcceptFault, Peer, Peers};
 use crate::serving::serve_link;
 use crate::tally::Tallied;
 use crate::telling::tell_link;
-use bw_commands::Exit;
+use bw_commands::{Exit, end_name};
 use bw_engine::Turns;
 use bw_stream::{Sink, Source};
 use std::alloc::Global;
@@ -89,7 +89,14 @@ fn serve_peer<R: Source + Drop, W: Sink + Drop, T: Turns, O: Sink, E: Sink>(
         index,
         out,
     );
-    tell_link(alloc, log, address, ended.end, server.tally(), faults);
+    tell_link(
+        alloc,
+        log,
+        address,
+        end_name(ended.end),
+        server.tally(),
+        faults,
+    );
     ended.exit
 }
 

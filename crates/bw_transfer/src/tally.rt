@@ -11,6 +11,7 @@ use bw_engine::Turns;
 use bw_take::Name;
 use bw_wire::{Ask, Message, Reply};
 use std::marker::Model;
+use std::mem;
 
 /// How many names a tally keeps.
 const NAMES: usize = 8;
@@ -57,10 +58,10 @@ impl KnownName {
     }
 }
 
-/// The messages that came over a link: how many, the bytes of their bodies, and their first names,
-/// each once.
+/// The messages that came over a link: how many, the bytes of their bodies, and their first eight
+/// names, each once. The counts stay at 2^64 - 1.
 #[derive(Drop)]
-pub(crate) struct Tally {
+pub struct Tally {
     pub(crate) messages: u64,
     pub(crate) bytes: u64,
     pub(crate) names: ArrayVec<KnownName, NAMES>,
@@ -81,7 +82,8 @@ impl Model for Tally {
 }
 
 impl Tally {
-    fn new() -> Tally
+    /// No message.
+    pub fn new() -> Tally
         ensures { result ≡ none_counted }
     {
         Tally {
@@ -141,6 +143,15 @@ impl<T> Tallied<T> {
         ensures { result.now ≡ self.now.tally }
     {
         &self.tally
+    }
+
+    /// Goes on from another count, which is given what was counted so far.
+    pub fn swap_tally(&mut self, tally: &mut Tally)
+        ensures server { self.new.server ≡ self.old.server }
+        ensures tally { self.new.tally ≡ tally.old }
+        ensures given { tally.new ≡ self.old.tally }
+    {
+        mem::swap(&mut self.tally, tally);
     }
 
     /// Begins to count for another link.

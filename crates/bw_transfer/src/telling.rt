@@ -1,27 +1,25 @@
 //! The line of a link, where lines are asked for.
 ghost use Rattle.std.specs.Prelude.{◌≡◌, ◌++◌, [], flat_map, IfOk, OnOk};
-ghost use Rattle.bw_transfer.specs.Tallies.{Logs, counts_text, link_line, name_behind};
+ghost use Rattle.bw_transfer.specs.Tallies.{Logs, counts_text, name_behind, peer_line};
 ghost use Rattle.bw_transfer.specs.Tallies.{peer_text};
 
 use crate::tally::{KnownName, Tally};
-use bw_commands::end_name;
 use bw_commands::print::tell;
-use bw_engine::ExchangeEnd;
 use bw_stream::Sink;
 use std::alloc::{AllocError, Global};
 use std::net::SocketAddr;
 
-/// Tells in a line who came, how the exchange ended and what was counted of it, where lines are
-/// asked for. Where memory is refused for the line, it is left out.
-pub(crate) fn tell_link<E: Sink>(
+/// Tells in a line who came, what the end of its exchange is called and what was counted of it,
+/// where lines are asked for. Where memory is refused for the line, it is left out.
+pub fn tell_link<E: Sink>(
     alloc: Global,
     log: bool,
     peer: SocketAddr,
-    end: ExchangeEnd,
+    end: &str,
     tally: &Tally,
     faults: &mut E,
 )
-    ensures { Logs E.Sink log (link_line peer end tally.now) faults.old faults.new }
+    ensures { Logs E.Sink log (peer_line peer end.now tally.now) faults.old faults.new }
 {
     if !log {
         return;
@@ -34,10 +32,10 @@ pub(crate) fn tell_link<E: Sink>(
 fn line_of_link(
     alloc: Global,
     peer: SocketAddr,
-    end: ExchangeEnd,
+    end: &str,
     tally: &Tally,
 ) -> Result<Vec<u8>, AllocError>
-    ensures { IfOk result (λ line. line.items ≡ link_line peer end tally.now) }
+    ensures { IfOk result (λ line. line.items ≡ peer_line peer end.now tally.now) }
 {
     let mut line = Vec::new(alloc);
     put_peer(alloc, &mut line, peer)?;
@@ -57,17 +55,16 @@ fn put_peer(alloc: Global, out: &mut Vec<u8>, peer: SocketAddr) -> Result<(), Al
     Ok(())
 }
 
-/// Adds how the exchange ended, how many messages came, and their bytes.
+/// Adds what the end of the exchange is called, how many messages came, and their bytes.
 fn put_counts(
     alloc: Global,
     out: &mut Vec<u8>,
-    end: ExchangeEnd,
+    end: &str,
     messages: u64,
     bytes: u64,
 ) -> Result<(), AllocError>
-    ensures { OnOk result (out.new.items ≡ out.old.items ++ counts_text end messages bytes) }
+    ensures { OnOk result (out.new.items ≡ out.old.items ++ counts_text end.now messages bytes) }
 {
-    let end = end_name(end);
     let text = format!(in alloc; " end {end} messages {messages} bytes {bytes}\n")?;
     out.extend_from_slice(text.as_bytes())?;
     Ok(())

@@ -1,6 +1,6 @@
-use Rattle.std.proofs.Common.{◌∙◌, ap, fold, subst}
+use Rattle.std.proofs.Common.{◌∙◌, ℕ, List, ap, fold, subst}
 use Rattle.bw_engine.specs.Answering.{AnswersAll, frames_of}
-use Rattle.bw_transfer.specs.Tallies.{Counted, Logs, link_line, with_frame}
+use Rattle.bw_transfer.specs.Tallies.{Counted, Logs, count_of, peer_line, with_frame}
 use Rattle.bw_transfer.proofs.TallyLemmas.{all_by_server, all_counted}
 use Rattle.bw_transfer.proofs.running.serve_peer.Goals as goal
 
@@ -39,6 +39,8 @@ returns g c =
         printed = to.printed;
         exit_is = to.exit_is;
       };
-      logs = subst (λ (x : Counted). Logs g.E.Sink c.args.log (link_line c.args.peer.address
-          c.serve_link-ended.result.end x) c.args.faults.now c.tell_link.new.faults) counted c.tell_link.ensures;
+      logs = subst (λ (n : List ℕ). Logs g.E.Sink c.args.log (peer_line c.args.peer.address n
+          (count_of (frames_of to.serves.answered))) c.args.faults.now c.tell_link.new.faults) c.end_name.ensures.value
+          (subst (λ (x : Counted). Logs g.E.Sink c.args.log (peer_line c.args.peer.address c.end_name.result.now x)
+          c.args.faults.now c.tell_link.new.faults) counted c.tell_link.ensures);
     }
