@@ -23,7 +23,7 @@ use Rattle.bw_many.specs.declared.connection.Phase.TheVariants as phases
 use Rattle.bw_many.specs.declared.link.Link.{Ghosts as LinkGhosts}
 use Rattle.bw_many.specs.Feeding.{Feeds}
 use Rattle.bw_many.specs.Lives.{TellsFault}
-use Rattle.bw_many.specs.Lives.{EndsAs, Goes, IsInPhase, IsOpen, IsOver, Lives, Settles, Steps}
+use Rattle.bw_many.specs.Lives.{EndsAs, Goes, IsInPhase, IsOpen, IsOver, KeepsPeer, Lives, Settles, Steps}
 use Rattle.bw_many.specs.Lives.{AnswersHeld, Begins, expired_at, expired_by, longest_drain, quantum, quiet_since}
 
 -- what a link did: it gave these bytes more, took these more, and stayed at its end
@@ -270,6 +270,7 @@ answers_held {L} G answers now count s s' c c' serving running link number phase
       (subst (λ (l : L). Moves G [] [] c.link l) (sym link) (still G c.link)) h.0.does
       (λ before fed gone d was. new_end G c'.link (end_of c'.exchange) (h.0.final running fed before gone d));
   waits = h.0.stops;
+  link = link;
   number = number;
   phase = phase;
   since = since;
@@ -285,10 +286,18 @@ answers_none G answers now s c serving over = record {
   most = omega arith;
   steps = λ before l. subst (Lives G c) (sym (append-nil before)) l;
   waits = λ few. inl (inr over);
+  link = refl;
   number = refl;
   phase = refl;
   since = sym (ap (λ (p : Phase). quiet_since now c.since p p []) serving);
 }
+
+-- who may be at the other end stays behind a step, and behind one more
+pub peer_then : {L : Type 0} (G : LinkGhosts L) (x y z : L) → KeepsPeer G x y → KeepsPeer G y z → KeepsPeer G x z
+peer_then G x y z f g p at = g p (f p at)
+
+pub peer_same : {L : Type 0} (G : LinkGhosts L) (x y : L) → y ≡ x → KeepsPeer G x y
+peer_same G x y same p at = subst (λ l. G.calls_from l p) (sym same) at
 
 -- the time, where no frame was answered, and where one was
 pub quiet_where_none : {L : Type 0} (now : ℕ) (c : Connection L) (answered : List Answered) → c.phase ≡ phases.Serving →

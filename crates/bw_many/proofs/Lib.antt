@@ -1,3 +1,3 @@
 mod Going
-mod Standing
+pub mod Standing
 mod Serving

@@ -23,7 +23,7 @@ pub answered-tagged : (n : ℕ) (xs : List Answered) → all_answered (tagged n 
 answered-tagged n [] = refl
 answered-tagged n (x ∷ xs) = ap (λ (ys : List Answered). x ∷ ys) (answered-tagged n xs)
 
-own-append : (n : ℕ) (xs ys : List Tagged) → own n (xs ++ ys) ≡ own n xs ++ own n ys
+pub own-append : (n : ℕ) (xs ys : List Tagged) → own n (xs ++ ys) ≡ own n xs ++ own n ys
 own-append n xs ys =
     ap (map (λ (t : Tagged). t.1)) (filter-append (λ (t : Tagged). t.0 == n) xs ys)
     ∙ map-append (λ (t : Tagged). t.1) (filter (λ (t : Tagged). t.0 == n) xs) (filter (λ (t : Tagged). t.0 == n) ys)
@@ -32,17 +32,17 @@ own-same : (n : ℕ) (xs : List Answered) → own n (tagged n xs) ≡ xs
 own-same n [] = refl
 own-same n (x ∷ xs) = rw (eq-eqb n n refl) (ap (λ (ys : List Answered). x ∷ ys) (own-same n xs))
 
-own-other : (n m : ℕ) (xs : List Answered) → (m == n) ≡ false → own n (tagged m xs) ≡ []
+pub own-other : (n m : ℕ) (xs : List Answered) → (m == n) ≡ false → own n (tagged m xs) ≡ []
 own-other n m [] h = refl
 own-other n m (x ∷ xs) h = rw h (own-other n m xs h)
 
 -- a connection's own frames behind more of its own
-own-more : (n : ℕ) (trace : List Tagged) (xs : List Answered) → own n (trace ++ tagged n xs) ≡ own n trace ++ xs
+pub own-more : (n : ℕ) (trace : List Tagged) (xs : List Answered) → own n (trace ++ tagged n xs) ≡ own n trace ++ xs
 own-more n trace xs =
     own-append n trace (tagged n xs) ∙ ap (λ (ys : List Answered). own n trace ++ ys) (own-same n xs)
 
 -- and behind more of another's
-own-kept : (n m : ℕ) (trace : List Tagged) (xs : List Answered) → m ≢ n → own n (trace ++ tagged m xs) ≡ own n trace
+pub own-kept : (n m : ℕ) (trace : List Tagged) (xs : List Answered) → m ≢ n → own n (trace ++ tagged m xs) ≡ own n trace
 own-kept n m trace xs other = go (eqb_tells m n)
   where
     go : (((m == n) ≡ true) × (m ≡ n)) ⊎ (((m == n) ≡ false) × (m ≢ n)) → own n (trace ++ tagged m xs) ≡ own n trace

@@ -2,6 +2,7 @@
 use Rattle.std.specs.Prelude.{◌≡◌, ◌⊎◌, ℕ, ◌+◌, ◌-◌, ◌≤◌, ◌<◌, true, Bool, not, ◌||◌, Option, Some, None}
 use Rattle.std.specs.Prelude.{Result, Ok, Err, IfSome, IsTrue, OnOk, List, [], ◌∷◌, ◌++◌, length, nat_lt}
 use Rattle.std.specs.Prelude.{if◌then◌else◌}
+use Rattle.std.specs.declared.net.socket_addr.SocketAddr.{SocketAddr}
 use Rattle.bw_model.specs.Wire.{Frame, are_bytes}
 use Rattle.bw_model.specs.Replies.{Reply}
 use Rattle.bw_wire.specs.Held.{longest_piece, longest_stream}
@@ -70,6 +71,10 @@ pub record Stays {L : Type 0} (c c' : Connection L) : Type 0 where
   pub number : c'.number ≡ c.number
   pub phase : c'.phase ≡ c.phase
   pub since : c'.since ≡ c.since
+
+-- from where a link may be called stays
+abbrev pub KeepsPeer : {L : Type 0} → LinkGhosts L → L → L → Type 0
+KeepsPeer G l l' = (p : SocketAddr) → G.calls_from l p → G.calls_from l' p
 
 -- whether a connection can go on before its link has more bytes, or room
 abbrev pub can_go_on : {L : Type 0} → Connection L → Bool
@@ -159,6 +164,7 @@ module _ {L : Type 0} (G : LinkGhosts L) where
     pub most : length answered ≤ quantum
     pub steps : Steps c answered c'
     pub waits : length answered < quantum → MustWait c'.exchange
+    pub link : c'.link ≡ c.link
     pub number : c'.number ≡ c.number
     pub phase : c'.phase ≡ c.phase
     pub since : c'.since ≡ quiet_since now c.since c.phase c.phase answered
@@ -171,6 +177,7 @@ module _ {L : Type 0} (G : LinkGhosts L) where
     pub by_server : AnswersAll answers s answered s'
     pub most : length answered ≤ quantum
     pub goes : Goes result c answered c'
+    pub peer : KeepsPeer G c.link c'.link
     pub number : c'.number ≡ c.number
     pub waits : OnOk result (c'.phase ≡ phases.Serving → length answered < quantum →
         MustWait c'.exchange)

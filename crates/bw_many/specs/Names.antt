@@ -1,5 +1,5 @@
 -- What many connections come to in takes: each name's own are not changed by the others.
-use Rattle.std.specs.Prelude.{◌≡◌, ℕ, Option, is_some, IsTrue, List, []}
+use Rattle.std.specs.Prelude.{◌≡◌, ℕ, is_some, IsTrue, List, []}
 use Rattle.bw_model.specs.Wire.{Frame}
 use Rattle.bw_model.specs.Turn.{IsolatesNames, Luck, book_after, run}
 use Rattle.bw_file.specs.declared.store.TakeStore.{Ghosts as StoreGhosts}

@@ -1,5 +1,6 @@
 -- A quantum of the connection at a place.
-use Rattle.std.specs.Prelude.{◌≡◌, ◌≢◌, ℕ, ◌+◌, ◌≤◌, ◌<◌, Bool, ◌||◌, Option, List, length, slice_get}
+use Rattle.std.specs.Prelude.{◌≡◌, ◌≢◌, ℕ, ◌+◌, ◌≤◌, ◌<◌, Bool, ◌||◌, Option, None, IfSome}
+use Rattle.std.specs.Prelude.{List, [], length, slice_get}
 use Rattle.bw_model.specs.Wire.{Frame}
 use Rattle.bw_model.specs.Replies.{Reply}
 use Rattle.bw_engine.specs.Answering.{Answered, AnswersAll}
@@ -10,7 +11,7 @@ use Rattle.bw_many.specs.declared.link.Link.{Ghosts as LinkGhosts}
 use Rattle.bw_many.specs.declared.many.Closed.{Closed}
 use Rattle.bw_many.specs.declared.many.Many.{Many}
 use Rattle.bw_many.specs.Keeping.{Adds, StandsAt, tagged, those}
-use Rattle.bw_many.specs.Lives.{Begins, IsOpen, Stays, quantum, quiet_since}
+use Rattle.bw_many.specs.Lives.{Begins, IsOpen, KeepsPeer, Stays, quantum, quiet_since}
 use Rattle.bw_many.specs.Places.{begun_of, count_of}
 
 -- the other places are as they were
@@ -25,6 +26,21 @@ StaysAt place m m' = LeavesOthers place m m' × (begun_of m' ≡ begun_of m)
 -- who stands there now stood there before, as it is
 abbrev pub StoodAt : {L : Type 0} → ℕ → Many L → Many L → Type 0
 StoodAt {L} place m m' = (c : Connection L) → StandsAt m' place c → StandsAt m place c
+
+-- who stands there now stood there before, under the same number, and is called from there still
+abbrev pub StoodUnder : {L : Type 0} → LinkGhosts L → ℕ → Many L → Many L → Type 0
+StoodUnder {L} G place m m' = (c' : Connection L) → StandsAt m' place c' →
+    (c : Connection L) × StandsAt m place c × (c'.number ≡ c.number) × KeepsPeer G c.link c'.link
+
+-- the connection that is over, where one is, has the number of the one that stood there, and is
+-- called from there still
+abbrev pub EndsIts : {L : Type 0} → LinkGhosts L → ℕ → Option (Closed L) → Many L → Type 0
+EndsIts {L} G place closed m = (c : Connection L) → StandsAt m place c →
+    IfSome closed (λ x. (x.number ≡ c.number) × KeepsPeer G c.link x.link)
+
+-- no connection stands at a place
+abbrev pub IsEmpty : {L : Type 0} → ℕ → Many L → Type 0
+IsEmpty {L} place m = (c : Connection L) → StandsAt m place c → ⊥
 
 -- a new connection over this link stands at this place, under the next number
 pub record BeginsAt {L : Type 0} (place : ℕ) (link : L) (now : ℕ) (m m' : Many L) : Type 0 where
@@ -56,6 +72,10 @@ pub record WorksAt {L S : Type 0} (G : LinkGhosts L) (answers : S → Frame → 
   pub by_server : AnswersAll answers s answered s'
   pub most : length answered ≤ quantum
   pub is_its : (c : Connection L) → StandsAt m place c → c.number ≡ number
+  pub ends_its : EndsIts G place closed m
+  pub stood : StoodUnder G place m m'
+  -- where nobody stands nothing is answered, and none is over
+  pub nobody : IsEmpty place m → (answered ≡ []) × (closed ≡ None)
   pub adds : Adds G m (tagged number answered) (those closed) m'
   pub others : StaysAt place m m'
   pub waits : (c : Connection L) → StandsAt m' place c → c.phase ≡ phases.Serving →

@@ -51,7 +51,7 @@ pub(crate) struct Connection<L> {
 
 impl<L: Link> Connection<L> {
     ghost use Rattle.bw_many.specs.Lives.{Begins, Goes, Stays, AnswersHeld, Settles, Works};
-    ghost use Rattle.bw_many.specs.Lives.{IsUpToDate, can_go_on, expired_at};
+    ghost use Rattle.bw_many.specs.Lives.{IsUpToDate, KeepsPeer, can_go_on, expired_at};
 
     /// A connection over this link, which has given and taken nothing yet.
     ///
@@ -148,6 +148,7 @@ impl<L: Link> Connection<L> {
     fn send_waiting(&mut self) -> Result<(), ConnectionEnd>
         requires { self.old.phase ≡ Phase.Serving }
         ensures goes { Goes L.Link result self.old [] self.new }
+        ensures peer { KeepsPeer L.Link self.old.link self.new.link }
         ensures stays { Stays self.old self.new }
     {
         let waiting = self.exchange.outgoing();
@@ -175,6 +176,7 @@ impl<L: Link> Connection<L> {
         requires serving { self.old.phase ≡ Phase.Serving }
         requires buffer { length buffer.old ≤ longest_piece }
         ensures goes { Goes L.Link result self.old [] self.new }
+        ensures peer { KeepsPeer L.Link self.old.link self.new.link }
         ensures stays { Stays self.old self.new }
     {
         if !self.readable || !self.is_up_to_date() {
@@ -230,6 +232,7 @@ impl<L: Link> Connection<L> {
     fn drain(&mut self, fault: WireFault, buffer: &mut [u8]) -> Result<(), ConnectionEnd>
         requires { self.old.phase ≡ Phase.Draining fault }
         ensures goes { Goes L.Link result self.old [] self.new }
+        ensures peer { KeepsPeer L.Link self.old.link self.new.link }
         ensures stays { Stays self.old self.new }
     {
         if !self.readable {
@@ -254,6 +257,7 @@ impl<L: Link> Connection<L> {
     fn settle(&mut self, now: u64) -> Result<(), ConnectionEnd>
         requires { self.old.phase ≡ Phase.Serving }
         ensures goes { Goes L.Link result self.old [] self.new }
+        ensures peer { KeepsPeer L.Link self.old.link self.new.link }
         ensures settles { Settles now result self.old self.new }
     {
         if !self.is_all_out() {

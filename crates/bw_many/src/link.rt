@@ -1,5 +1,6 @@
 //! A link to a recorder, of which no call ever waits.
 ghost use Rattle.std.specs.Prelude.{◌≡◌, ◌++◌, List, ℕ, length};
+ghost use Rattle.std.specs.declared.net.socket_addr.SocketAddr.{SocketAddr};
 ghost use Rattle.bw_many.specs.Links.{received, sent, IsReceived, IsSent};
 
 /// What came of a call for bytes.
@@ -43,6 +44,9 @@ pub trait Link {
     /// It may have failed.
     ghost broken: { Self → Type 0 };
 
+    /// It may be a link to the one who calls from this address.
+    ghost calls_from: { Self → SocketAddr → Type 0 };
+
     /// Puts the next bytes at the front of the buffer.
     fn receive(&mut self, buffer: &mut [u8]) -> Received
         ensures within { IsReceived result (length buffer.old) }
@@ -51,7 +55,8 @@ pub trait Link {
         ensures taken { (ys : List ℕ) → taken self.old ys → taken self.new ys }
         ensures end { result ≡ Received.Ended → ended self.new }
         ensures fault { result ≡ Received.Failed → broken self.new }
-        ensures ended { ended self.old → ended self.new };
+        ensures ended { ended self.old → ended self.new }
+        ensures peer { (p : SocketAddr) → calls_from self.old p → calls_from self.new p };
 
     /// Takes bytes at the front of these, which are some.
     fn send(&mut self, bytes: &[u8]) -> Sent
@@ -60,11 +65,13 @@ pub trait Link {
         ensures taken { (ys : List ℕ) → taken self.old ys →
             taken self.new (ys ++ sent result bytes.now) }
         ensures fault { result ≡ Sent.Failed → broken self.new }
-        ensures ended { ended self.old → ended self.new };
+        ensures ended { ended self.old → ended self.new }
+        ensures peer { (p : SocketAddr) → calls_from self.old p → calls_from self.new p };
 
     /// Tells the peer that no more bytes will be sent.
     fn shut(&mut self)
         ensures given { (xs : List ℕ) → given self.old xs → given self.new xs }
         ensures taken { (ys : List ℕ) → taken self.old ys → taken self.new ys }
-        ensures ended { ended self.old → ended self.new };
+        ensures ended { ended self.old → ended self.new }
+        ensures peer { (p : SocketAddr) → calls_from self.old p → calls_from self.new p };
 }

@@ -61,7 +61,8 @@ pub struct Many<L> {
 
 impl<L: Link + Drop> Many<L> {
     ghost use Rattle.bw_many.specs.Keeping.{Keeps, Adds, IsFree, those};
-    ghost use Rattle.bw_many.specs.Working.{BeginsAt, LeavesOthers, StaysAt, StoodAt, WakesAt, WorksAt};
+    ghost use Rattle.bw_many.specs.Working.{BeginsAt, EndsIts, LeavesOthers, StaysAt, StoodAt};
+    ghost use Rattle.bw_many.specs.Working.{StoodUnder, WakesAt, WorksAt};
     ghost use Rattle.bw_many.specs.Places.{begun_of, count_of, can_go_on_at, end_told, expired_there};
     ghost use Rattle.bw_many.specs.Places.{first_free};
 
@@ -148,6 +149,7 @@ impl<L: Link + Drop> Many<L> {
     pub fn wake(&mut self, place: usize, readable: bool, writable: bool)
         ensures adds { Adds L.Link self.old [] [] self.new }
         ensures wakes { WakesAt place readable writable self.old self.new }
+        ensures stood { StoodUnder L.Link place self.old self.new }
         ensures others { StaysAt place self.old self.new }
     {
         if place >= self.places.len() {
@@ -191,6 +193,7 @@ impl<L: Link + Drop> Many<L> {
         requires place { place < count_of self.old }
         ensures adds { Adds L.Link self.old [] (those result) self.new }
         ensures end { end_told result ≡ expired_there now idle self.old place }
+        ensures its { EndsIts L.Link place result self.old }
         ensures others { StaysAt place self.old self.new }
         ensures stands { StoodAt place self.old self.new }
     {

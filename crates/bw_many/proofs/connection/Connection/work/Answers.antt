@@ -2,7 +2,7 @@ use Rattle.std.proofs.Common.{rules, ◌≡◌, ◌∙◌, refl, [], arith, Err}
 use Rattle.bw_many.specs.declared.connection.Phase.TheVariants as phases
 use Rattle.std.proofs.lemmas.Result.{err_from_is_err_and}
 use Rattle.bw_many.proofs.Going.{goes_at_last, not_served, number_left, quiet_as, quiet_drained, quiet_on, steps_on}
-use Rattle.bw_many.proofs.Going.{drained_on, open_left, waits_left}
+use Rattle.bw_many.proofs.Going.{drained_on, open_left, peer_same, peer_then, waits_left}
 use Rattle.bw_many.proofs.connection.Connection.work.Goals as goal
 
 pub returns-in-Draining : goal.returns-in-Draining
@@ -15,6 +15,7 @@ returns-in-Draining g c =
       by_server = refl;
       most = omega arith;
       goes = d.goes;
+      peer = d.peer;
       number = d.stays.number;
       waits = drained_on c.drain.result (λ serving few.
           absurd (not_served c.drain.new.self c.in-Draining.fault (d.stays.phase ∙ is) serving));
@@ -34,6 +35,8 @@ returns-in_err-receive_piece g c =
       most = omega arith;
       goes = goes_at_last g.L.Link (Err c.in_err-receive_piece.field-0.0) old sent c.receive_piece.new.self []
           c.in_ok-send_waiting.ensures.goes c.in_err-receive_piece.ensures.goes;
+      peer = peer_then g.L.Link old.link sent.link c.receive_piece.new.self.link c.in_ok-send_waiting.ensures.peer
+          c.in_err-receive_piece.ensures.peer;
       number = c.in_err-receive_piece.ensures.stays.number ∙ c.in_ok-send_waiting.ensures.stays.number;
       waits = tt;
       since = tt;
@@ -59,6 +62,10 @@ returns g c =
       goes = goes_at_last g.L.Link c.settle.result old held c.settle.new.self h.answered
           (steps_on g.L.Link old fed held [] h.answered (steps_on g.L.Link old sent fed [] [] first.goes then.goes) h.steps)
           s.goes;
+      peer = peer_then g.L.Link old.link held.link c.settle.new.self.link
+          (peer_then g.L.Link old.link fed.link held.link
+          (peer_then g.L.Link old.link sent.link fed.link first.peer then.peer)
+          (peer_same g.L.Link fed.link held.link h.link)) s.peer;
       number = number_left c.args.now c.settle.result held c.settle.new.self s.settles
           ∙ (h.number ∙ (then.stays.number ∙ first.stays.number));
       waits = waits_left c.args.now c.settle.result held c.settle.new.self _ s.settles h.waits;

@@ -1,8 +1,8 @@
-use Rattle.std.proofs.Common.{ap, refl, ◌∙◌, subst, sym, List, Some, None, [], ◌++◌}
+use Rattle.std.proofs.Common.{◌≡◌, ap, refl, ◌∙◌, subst, sym, List, Some, None, [], ◌++◌}
 use Rattle.bw_engine.specs.Answering.{Answered}
-use Rattle.bw_many.specs.Lives.{IsOver, Lives}
+use Rattle.bw_many.specs.Lives.{IsOver, KeepsPeer, Lives}
 use Rattle.bw_many.proofs.Going.{expires, woken}
-use Rattle.bw_many.proofs.Standing.{adds_closed, adds_none, adds_on, keeps_free, sets_again}
+use Rattle.bw_many.proofs.Standing.{adds_closed, adds_none, adds_on, keeps_free, sets_again, some_is}
 use Rattle.bw_many.proofs.many.Many.expire.Goals as goal
 
 pub returns-in_default-clause-adds : goal.returns-in_default-clause-adds
@@ -40,3 +40,19 @@ returns-in-Some-expired-clause-end g c =
 
 pub returns-in-None-clause-end : goal.returns-in-None-clause-end
 returns-in-None-clause-end g c = rw c.in-Some.ensures.was (sym c.in-None.is ∙ c.expired.ensures)
+
+pub returns-in_default-clause-its : goal.returns-in_default-clause-its
+returns-in_default-clause-its g c = λ d at. tt
+
+pub returns-in-Some-expired-clause-its : goal.returns-in-Some-expired-clause-its
+returns-in-Some-expired-clause-its g c = λ d at.
+    let was = c.in-Some.connection in
+    let is = c.close.ensures in
+    let one : was ≡ d = some_is was d (some_is (Some was) (Some d) (sym c.in-Some.ensures.was ∙ at)) in (
+      ap (λ y. y.number) is ∙ ap (λ x. x.number) one,
+      subst (λ x. KeepsPeer g.L.Link x.link c.close.result.link) one
+          (subst (λ y. KeepsPeer g.L.Link was.link y.link) (sym is) (λ p from. from)),
+    )
+
+pub returns-in-None-clause-its : goal.returns-in-None-clause-its
+returns-in-None-clause-its g c = λ d at. tt

@@ -1,7 +1,8 @@
-use Rattle.std.proofs.Common.{rules, refl, subst, sym, ◌∙◌, Some, None, []}
+use Rattle.std.proofs.Common.{rules, ap, refl, subst, sym, ◌∙◌, Some, None, []}
 use Rattle.std.proofs.lemmas.Option.{slice_get_past}
 use Rattle.bw_many.specs.Working.{Wakes}
-use Rattle.bw_many.proofs.Going.{woken}
+use Rattle.bw_many.specs.Lives.{KeepsPeer}
+use Rattle.bw_many.proofs.Going.{peer_same, woken}
 use Rattle.bw_many.proofs.Standing.{adds_none, adds_on, keeps_free, not_some, sets_again, some_is}
 use Rattle.bw_many.proofs.many.Many.wake.Goals as goal
 
@@ -38,4 +39,24 @@ returns-clause-wakes g c = λ d at.
       subst (λ x. Wakes c.args.readable c.args.writable x c.wake.new.self)
           (some_is was d (some_is (Some was) (Some d) (sym c.in-Some.ensures.was ∙ at)))
           (record { readable = w.readable; writable = w.writable; link = w.link; exchange = w.exchange; stays = w.stays }),
+    )
+
+pub returns-then-place-len-clause-stood : goal.returns-then-place-len-clause-stood
+returns-then-place-len-clause-stood g c = λ d at. (d, at, refl, (λ p from. from))
+
+pub returns-in_default-clause-stood : goal.returns-in_default-clause-stood
+returns-in_default-clause-stood g c = λ d at.
+    absurd (not_some d (some_is None (Some d) (sym c.in_default.ensures.sets.there ∙ at)))
+
+pub returns-clause-stood : goal.returns-clause-stood
+returns-clause-stood g c = λ d at.
+    let was = c.in-Some.connection in
+    let new = c.wake.new.self in (
+      was,
+      c.in-Some.ensures.was,
+      ap (λ x. x.number) (sym (some_is new d (some_is (Some new) (Some d) (sym c.put_at.ensures.sets.there ∙ at))))
+          ∙ c.wake.ensures.stays.number,
+      subst (λ x. KeepsPeer g.L.Link was.link x.link)
+          (some_is new d (some_is (Some new) (Some d) (sym c.put_at.ensures.sets.there ∙ at)))
+          (peer_same g.L.Link was.link new.link c.wake.ensures.link),
     )

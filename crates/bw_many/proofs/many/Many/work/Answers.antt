@@ -2,7 +2,7 @@ use Rattle.std.proofs.Common.{ap, arith, refl, subst, sym, ◌∙◌, List, Some
 use Rattle.bw_engine.specs.Answering.{Answered}
 use Rattle.bw_engine.specs.Done.{MustWait}
 use Rattle.bw_many.specs.declared.connection.Phase.TheVariants as phases
-use Rattle.bw_many.specs.Lives.{IsOpen, IsOver, Lives, quantum}
+use Rattle.bw_many.specs.Lives.{IsOpen, IsOver, KeepsPeer, Lives, quantum}
 use Rattle.bw_many.proofs.Going.{quiet_at}
 use Rattle.bw_many.proofs.Standing.{adds_closed, adds_none, adds_on, keeps_free, not_some, sets_again, some_is}
 use Rattle.bw_many.proofs.many.Many.work.Goals as goal
@@ -16,6 +16,9 @@ returns-in_default g c =
       by_server = refl;
       most = omega arith;
       is_its = λ d at. absurd (not_some d (some_is None (Some d) (sym t.was ∙ at)));
+      ends_its = λ d at. tt;
+      stood = λ d at. absurd (not_some d (some_is None (Some d) (sym t.sets.there ∙ at)));
+      nobody = λ empty. (refl, refl);
       adds = adds_none g.L.Link c.args.self.now _ (λ over trace.
           keeps_free g.L.Link c.args.self.now _ c.args.place over trace refl t.was t.sets);
       others = (record { others = t.sets.elsewhere; count = t.count }, refl);
@@ -38,6 +41,16 @@ returns-in-Ok g c =
       by_server = w.by_server;
       most = w.most;
       is_its = λ d at. ap (λ x. x.number) (sym (some_is was d (some_is (Some was) (Some d) (sym t.was ∙ at))));
+      ends_its = λ d at. tt;
+      stood = λ d at. (
+        was,
+        t.was,
+        ap (λ x. x.number) (sym (some_is new d (some_is (Some new) (Some d)
+            (sym sets.there ∙ at)))) ∙ w.number,
+        subst (λ x. KeepsPeer g.L.Link was.link x.link)
+            (some_is new d (some_is (Some new) (Some d) (sym sets.there ∙ at))) w.peer,
+      );
+      nobody = λ empty. absurd (empty was t.was);
       adds = adds_on g.L.Link c.args.self.now _ c.args.place was new was.number w.answered refl refl t.was sets w.number
           w.goes;
       others = (record { others = sets.elsewhere; count = c.put_at.ensures.count ∙ t.count }, refl);
@@ -61,6 +74,14 @@ returns-in-Err g c =
       by_server = w.by_server;
       most = w.most;
       is_its = λ d at. ap (λ x. x.number) (sym (some_is was d (some_is (Some was) (Some d) (sym t.was ∙ at))));
+      ends_its = λ d at.
+          let one : was ≡ d = some_is was d (some_is (Some was) (Some d) (sym t.was ∙ at)) in (
+            (ap (λ y. y.number) is ∙ w.number) ∙ ap (λ x. x.number) one,
+            subst (λ x. KeepsPeer g.L.Link x.link c.close.result.link) one
+                (subst (λ y. KeepsPeer g.L.Link was.link y.link) (sym is) w.peer),
+          );
+      stood = λ d at. absurd (not_some d (some_is None (Some d) (sym t.sets.there ∙ at)));
+      nobody = λ empty. absurd (empty was t.was);
       adds = adds_closed g.L.Link c.args.self.now _ c.args.place was c.close.result was.number w.answered refl refl t.was
           t.sets (ap (λ y. y.number) is ∙ w.number)
           (subst (λ y. (before : List Answered) → Lives g.L.Link was before →
