@@ -1,6 +1,6 @@
 -- Steps of a crowd.
-use Rattle.std.proofs.Common.{◌≡◌, ◌⊎◌, inl, inr, ℕ, zero, suc, ◌+◌, ◌≤◌, ◌<◌, ◌||◌, Bool, true, false, Option, List, [], ◌∷◌, ◌++◌}
-use Rattle.std.proofs.Common.{length, refl, sym, ap, subst, ◌∙◌, arith, append_assoc}
+use Rattle.std.proofs.Common.{◌≡◌, ◌⊎◌, inl, inr, ℕ, zero, suc, ◌+◌, ◌≤◌, ◌<◌, ◌||◌, Bool, true, false, List, [], ◌∷◌, ◌++◌}
+use Rattle.std.proofs.Common.{length, vec_len, refl, sym, ap, subst, ◌∙◌, arith, append_assoc}
 use Rattle.std.proofs.Math.Nat.{eq-or-lt_of_le}
 use Rattle.std.proofs.lemmas.List.{append-nil, length-append, map-append}
 use Rattle.bw_model.specs.Wire.{Frame}
@@ -11,13 +11,14 @@ use Rattle.bw_engine.proofs.Going.{answers_append}
 use Rattle.bw_many.specs.declared.link.Link.{Ghosts as LinkGhosts}
 use Rattle.bw_many.specs.declared.many.Closed.{Closed}
 use Rattle.bw_many.specs.declared.many.Many.{Many}
-use Rattle.bw_many.specs.Keeping.{Adds, Keeps, StandsAt, Tagged, all_answered, tagged, those}
+use Rattle.bw_many.specs.Keeping.{Adds, Keeps, Tagged, all_answered, tagged}
 use Rattle.bw_many.specs.Places.{begun_of, can_go_on_at}
-use Rattle.bw_many.specs.Working.{StaysAt, StoodAt, WorksAt}
+use Rattle.bw_many.specs.Working.{StaysAt, StoodAt, StoodUnder}
 use Rattle.bw_transfer.specs.Tallies.{up_to_last}
-use Rattle.bw_serve.specs.Crowds.{Advances, Counts, Grows, InTurn, ServesPlace, Stays, can_go_on_below}
+use Rattle.bw_serve.specs.Crowds.{Advances, Counts, Grows, HasSeats, InTurn, ServesPlace, Stays, can_go_on_below}
 use Rattle.bw_serve.specs.Lines.{TellsEnds}
 use Rattle.bw_serve.specs.declared.crowd.Crowd.{Crowd}
+use Rattle.bw_serve.proofs.Counting.{counts_stood, tells_none, tells_then}
 
 -- one of the first can go on
 pub one_can : {L : Type 0} (c : Crowd L) (place n : ℕ) → place < n → can_go_on_at c.many place ≡ true →
@@ -60,19 +61,19 @@ pub stood_still : {L : Type 0} (place : ℕ) (m : Many L) → StoodAt place m m
 stood_still place m c at = at
 
 -- Lines, one behind another.
-pub tells_then : {L O : Type 0} (out : Writer O) (n m : ℕ) (us vs : List (Closed L)) (o p q : O) →
+pub ends_then : {L O : Type 0} (out : Writer O) (n m : ℕ) (us vs : List (Closed L)) (o p q : O) →
     m ≡ n + length us → TellsEnds out n us o p → TellsEnds out m vs p q → TellsEnds out n (us ++ vs) o q
-tells_then out n m [] vs o p q e f g =
+ends_then out n m [] vs o p q e f g =
     subst (λ (k : ℕ). TellsEnds out k vs o q) (omega (arith, e)) (subst (λ x. TellsEnds out m vs x q) f g)
-tells_then out n m (u ∷ us) vs o p q e f g =
-    (f.0, f.1, f.2, f.3, tells_then out (suc n) m us vs f.0 p q (omega (arith, e)) f.4 g)
+ends_then out n m (u ∷ us) vs o p q e f g =
+    (f.0, f.1, f.2, f.3, ends_then out (suc n) m us vs f.0 p q (omega (arith, e)) f.4 g)
 
 pub counts_then : {L O : Type 0} (out : Writer O) (a b c : Crowd L) (us vs : List (Closed L)) (o p q : O) →
     Counts out a b us o p → Counts out b c vs p q → Counts out a c (us ++ vs) o q
 counts_then out a b c us vs o p q f g n e =
     let x = f n e in
     let y = g (n + length us) x.1 in (
-      tells_then out n (n + length us) us vs o p q refl x.0 y.0,
+      ends_then out n (n + length us) us vs o p q refl x.0 y.0,
       y.1 ∙ ap up_to_last (let len = length-append us vs in omega (arith, len)),
     )
 
@@ -81,37 +82,78 @@ pub counts_none : {L O : Type 0} (out : Writer O) (a b : Crowd L) (o : O) → b.
     Counts out a b [] o o
 counts_none out a b o e n h = (refl, e ∙ (h ∙ ap up_to_last (omega arith)))
 
+-- it counts on from a step that ended none
+pub counts_on : {L O : Type 0} (out : Writer O) (a b c : Crowd L) (closed : List (Closed L)) (o p : O) →
+    b.ended ≡ a.ended → Counts out b c closed o p → Counts out a c closed o p
+counts_on out a b c closed o p same f n e = f n (same ∙ e)
+
 -- nothing happened, and then more stays as it was
 pub grows_still : {L : Type 0} (G : LinkGhosts L) (c : Crowd L) → Grows G c c
-grows_still G c = record { adds = adds_still G c.many; places_are = refl; ended = refl }
+grows_still G c = record {
+  adds = adds_still G c.many;
+  places_are = refl;
+  seats_are = refl;
+  counts = λ over trace k own. own;
+  ended = refl;
+}
 
 pub grows_then : {L : Type 0} (G : LinkGhosts L) (a b c : Crowd L) → Grows G a b → Grows G b c → Grows G a c
-grows_then G a b c f g = record {
+grows_then {L} G a b c f g = record {
   adds = adds_then G a.many b.many c.many [] [] [] [] f.adds g.adds;
   places_are = g.places_are ∙ f.places_are;
+  seats_are = g.seats_are ∙ f.seats_are;
+  counts = λ over trace k own. g.counts over trace
+      (subst (λ (o : List (Closed L)). Keeps G b.many o trace) (append-nil over)
+      (subst (λ (t : List Tagged). Keeps G b.many (over ++ []) t) (append-nil trace) (f.adds over trace k)))
+      (f.counts over trace k own);
   ended = g.ended ∙ f.ended;
 }
 
-module _ {L S O : Type 0} (G : LinkGhosts L) (answers : S → Frame → List Reply → S → Type 0) (out : Writer O) where
-  pub advances_none : (a b : Crowd L) (s : S) (o : O) → Grows G a b → Advances G answers out a b s s o o
-  advances_none a b s o g = record {
+pub grown_seats : {L : Type 0} (G : LinkGhosts L) (a b : Crowd L) → Grows G a b → HasSeats a → HasSeats b
+grown_seats G a b g seats = g.seats_are ∙ (seats ∙ sym g.places_are)
+
+-- who may have bytes or room is told so
+pub stays_woken : {L : Type 0} (G : LinkGhosts L) (place : ℕ) (a b : Crowd L) → Adds G a.many [] [] b.many →
+    StoodUnder G place a.many b.many → StaysAt place a.many b.many → b.seats ≡ a.seats → b.ended ≡ a.ended → Stays G a b
+stays_woken G place a b adds stood stays seats ended = record {
+  grows = record {
+    adds = adds;
+    places_are = stays.0.count;
+    seats_are = ap (λ s. vec_len s) seats;
+    counts = λ over trace k own. counts_stood G place a b trace seats stood stays.0 own;
+    ended = ended;
+  };
+  begun = stays.1;
+}
+
+pub stays_then : {L : Type 0} (G : LinkGhosts L) (a b c : Crowd L) → Stays G a b → Stays G b c → Stays G a c
+stays_then G a b c f g = record { grows = grows_then G a b c f.grows g.grows; begun = g.begun ∙ f.begun }
+
+module _ {L S O E : Type 0} (G : LinkGhosts L) (answers : S → Frame → List Reply → S → Type 0) (out : Writer O)
+    (told : Writer E) (log : Bool) where
+  pub advances_none : (a b : Crowd L) (s : S) (o : O) (e : E) → Grows G a b →
+      Advances G answers out told log a b s s o o e e
+  advances_none a b s o e g = record {
     more = [];
     closed = [];
     by_server = refl;
     adds = g.adds;
-    told = counts_none out a b o g.ended;
+    prints = counts_none out a b o g.ended;
+    tells = tells_none G told log a b e g;
   }
 
-  pub advances_then : (a b c : Crowd L) (s t u : S) (o p q : O) → Advances G answers out a b s t o p →
-      Advances G answers out b c t u p q → Advances G answers out a c s u o q
-  advances_then a b c s t u o p q f g = record {
-    more = f.more ++ g.more;
-    closed = f.closed ++ g.closed;
+  pub advances_then : (a b c : Crowd L) (s t u : S) (o p q : O) (e f g : E) →
+      Advances G answers out told log a b s t o p e f → Advances G answers out told log b c t u p q f g →
+      Advances G answers out told log a c s u o q e g
+  advances_then a b c s t u o p q e f g x y = record {
+    more = x.more ++ y.more;
+    closed = x.closed ++ y.closed;
     by_server = subst (λ (xs : List Answered). AnswersAll answers s xs u)
-        (sym (map-append (λ (x : Tagged). x.1) f.more g.more))
-        (answers_append answers (all_answered f.more) (all_answered g.more) s t u f.by_server g.by_server);
-    adds = adds_then G a.many b.many c.many f.more g.more f.closed g.closed f.adds g.adds;
-    told = counts_then out a b c f.closed g.closed o p q f.told g.told;
+        (sym (map-append (λ (x : Tagged). x.1) x.more y.more))
+        (answers_append answers (all_answered x.more) (all_answered y.more) s t u x.by_server y.by_server);
+    adds = adds_then G a.many b.many c.many x.more y.more x.closed y.closed x.adds y.adds;
+    prints = counts_then out a b c x.closed y.closed o p q x.prints y.prints;
+    tells = tells_then G told log a b c x.more y.more x.closed y.closed e f g x.adds x.tells y.tells;
   }
 
   answered_by : (n : ℕ) (xs : List Answered) → all_answered (tagged n xs) ≡ xs
@@ -119,63 +161,47 @@ module _ {L S O : Type 0} (G : LinkGhosts L) (answers : S → Frame → List Rep
   answered_by n (x ∷ xs) = ap (λ (ys : List Answered). x ∷ ys) (answered_by n xs)
 
   -- what a quantum at a place adds
-  pub place_advances : (place : ℕ) (a b : Crowd L) (s t : S) (o p : O) → ServesPlace G answers out place a b s t o p →
-      Advances G answers out a b s t o p
-  place_advances place a b s t o p f = record {
-    more = tagged f.number f.answered;
-    closed = f.closed;
-    by_server = subst (λ (xs : List Answered). AnswersAll answers s xs t) (sym (answered_by f.number f.answered))
-        f.by_server;
-    adds = f.adds;
-    told = f.told;
+  pub place_advances : (place : ℕ) (a b : Crowd L) (s t : S) (o p : O) (e f : E) →
+      ServesPlace G answers out told log place a b s t o p e f → Advances G answers out told log a b s t o p e f
+  place_advances place a b s t o p e f x = record {
+    more = tagged x.number x.answered;
+    closed = x.closed;
+    by_server = subst (λ (xs : List Answered). AnswersAll answers s xs t) (sym (answered_by x.number x.answered))
+        x.by_server;
+    adds = x.adds;
+    prints = x.prints;
+    tells = x.tells;
   }
 
-  -- The quantum at a place, and what became of its connection behind it.
-  pub place_served : (place now : ℕ) (a b : Crowd L) (m m' : Many L) (first : Option (Closed L)) (rest : List (Closed L))
-      (s t : S) (o p : O) → WorksAt G answers place now first a.many m s t → Adds G m [] rest m' → StaysAt place m m' →
-      StoodAt place m m' → b.many ≡ m' → Counts out a b (those first ++ rest) o p →
-      ServesPlace G answers out place a b s t o p
-  place_served place now a b m m' first rest s t o p w adds stays stood is told = record {
-    number = w.number;
-    answered = w.answered;
-    closed = those first ++ rest;
-    by_server = w.by_server;
-    most = w.most;
-    is_its = w.is_its;
-    adds = subst (λ x. Adds G a.many (tagged w.number w.answered) (those first ++ rest) x) (sym is)
-        (subst (λ (xs : List Tagged). Adds G a.many xs (those first ++ rest) m')
-        (append-nil (tagged w.number w.answered))
-        (adds_then G a.many m m' (tagged w.number w.answered) [] (those first) rest w.adds adds));
-    stays = subst (λ x. StaysAt place a.many x) (sym is) (
-      record {
-        others = λ j other. stays.0.others j other ∙ w.others.0.others j other;
-        count = stays.0.count ∙ w.others.0.count;
-      },
-      stays.1 ∙ w.others.1,
-    );
-    waits = λ d at. w.waits d (stood d (subst (λ x. StandsAt x place d) is at));
-    told = told;
-  }
-
-  pub turn_more : (n : ℕ) (a b c : Crowd L) (s t u : S) (o p q : O) → InTurn G answers out n a b s t o p →
-      ServesPlace G answers out n b c t u p q → InTurn G answers out (n + 1) a c s u o q
-  turn_more n a b c s t u o p q f g =
+  pub turn_more : (n : ℕ) (a b c : Crowd L) (s t u : S) (o p q : O) (e f g : E) →
+      InTurn G answers out told log n a b s t o p e f → ServesPlace G answers out told log n b c t u p q f g →
+      InTurn G answers out told log (n + 1) a c s u o q e g
+  turn_more n a b c s t u o p q e f g x y =
       let next : suc n ≡ n + 1 = omega arith in
-      subst (λ (k : ℕ). InTurn G answers out k a c s u o q) next (b, t, p, f, g)
+      subst (λ (k : ℕ). InTurn G answers out told log k a c s u o q e g) next (b, t, p, f, x, y)
 
   -- nobody is let in by quanta
-  pub turn_begun : (n : ℕ) (a b : Crowd L) (s t : S) (o p : O) → InTurn G answers out n a b s t o p →
-      begun_of b.many ≡ begun_of a.many
-  turn_begun zero a b s t o p f = ap (λ (x : Crowd L). begun_of x.many) f.0
-  turn_begun (suc n) a b s t o p f = f.4.stays.1 ∙ turn_begun n a f.0 s f.1 o f.2 f.3
+  pub turn_begun : (n : ℕ) (a b : Crowd L) (s t : S) (o p : O) (e f : E) →
+      InTurn G answers out told log n a b s t o p e f → begun_of b.many ≡ begun_of a.many
+  turn_begun zero a b s t o p e f x = ap (λ (c : Crowd L). begun_of c.many) x.0
+  turn_begun (suc n) a b s t o p e f x = x.5.stays.1 ∙ turn_begun n a x.0 s x.1 o x.2 e x.3 x.4
+
+  -- and there are as many seats for as many places
+  pub turn_seats : (n : ℕ) (a b : Crowd L) (s t : S) (o p : O) (e f : E) →
+      InTurn G answers out told log n a b s t o p e f → HasSeats a → HasSeats b
+  turn_seats zero a b s t o p e f x h = subst HasSeats (sym x.0) h
+  turn_seats (suc n) a b s t o p e f x h =
+      x.5.seats_are ∙ (turn_seats n a x.0 s x.1 o x.2 e x.3 x.4 h ∙ sym x.5.stays.0.count)
 
   -- and what one at each of the first places adds
-  pub turn_advances : (n : ℕ) (a b : Crowd L) (s t : S) (o p : O) → InTurn G answers out n a b s t o p →
-      Advances G answers out a b s t o p
-  turn_advances zero a b s t o p f =
-      subst (λ (x : Crowd L). Advances G answers out a x s t o p) (sym f.0)
-      (subst (λ (x : S). Advances G answers out a a s x o p) (sym f.1)
-      (subst (λ (x : O). Advances G answers out a a s s o x) (sym f.2) (advances_none a a s o (grows_still G a))))
-  turn_advances (suc n) a b s t o p f =
-      advances_then a f.0 b s f.1 t o f.2 p (turn_advances n a f.0 s f.1 o f.2 f.3)
-      (place_advances n f.0 b f.1 t f.2 p f.4)
+  pub turn_advances : (n : ℕ) (a b : Crowd L) (s t : S) (o p : O) (e f : E) →
+      InTurn G answers out told log n a b s t o p e f → Advances G answers out told log a b s t o p e f
+  turn_advances zero a b s t o p e f x =
+      subst (λ (c : Crowd L). Advances G answers out told log a c s t o p e f) (sym x.0)
+      (subst (λ (u : S). Advances G answers out told log a a s u o p e f) (sym x.1)
+      (subst (λ (q : O). Advances G answers out told log a a s s o q e f) (sym x.2)
+      (subst (λ (g : E). Advances G answers out told log a a s s o o e g) (sym x.3)
+      (advances_none a a s o e (grows_still G a)))))
+  turn_advances (suc n) a b s t o p e f x =
+      advances_then a x.0 b s x.1 t o x.2 p e x.3 f (turn_advances n a x.0 s x.1 o x.2 e x.3 x.4)
+      (place_advances n x.0 b x.1 t x.2 p x.3 f x.5)

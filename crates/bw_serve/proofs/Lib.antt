@@ -1,2 +1,5 @@
+mod Counting
 mod Growing
+mod Leaving
+mod Quanta
 mod Running

@@ -1,27 +1,31 @@
 -- What a crowd's calls come to.
 use Rattle.std.specs.Prelude.{◌≡◌, ℕ, zero, suc, ◌+◌, ◌≤◌, ◌<◌, Bool, false, ◌||◌}
-use Rattle.std.specs.Prelude.{List, [], length}
+use Rattle.std.specs.Prelude.{Option, Some, List, [], ◌++◌, fold, length, slice_get, vec_len}
+use Rattle.std.specs.List.{AllByRecursion}
 use Rattle.bw_model.specs.Wire.{Frame}
 use Rattle.bw_model.specs.Replies.{Reply}
 use Rattle.bw_stream.specs.declared.sink.Sink.{Ghosts as Writer}
-use Rattle.bw_engine.specs.Answering.{Answered, AnswersAll}
+use Rattle.bw_engine.specs.Answering.{Answered, AnswersAll, frames_of}
 use Rattle.bw_engine.specs.Done.{MustWait}
 use Rattle.bw_many.specs.declared.connection.Connection.{Connection}
 use Rattle.bw_many.specs.declared.connection.Phase.TheVariants as phases
 use Rattle.bw_many.specs.declared.link.Link.{Ghosts as LinkGhosts}
 use Rattle.bw_many.specs.declared.many.Closed.{Closed}
-use Rattle.bw_many.specs.Keeping.{Adds, Keeps, StandsAt, Tagged, all_answered, tagged}
+use Rattle.bw_many.specs.Keeping.{Adds, Keeps, Sets, StandsAt, Tagged}
+use Rattle.bw_many.specs.Keeping.{all_answered, own, tagged}
 use Rattle.bw_many.specs.Lives.{quantum}
 use Rattle.bw_many.specs.Places.{begun_of, can_go_on_at, count_of}
-use Rattle.bw_many.specs.Working.{StaysAt}
-use Rattle.bw_transfer.specs.Tallies.{up_to_last}
-use Rattle.bw_serve.specs.Lines.{TellsEnds}
+use Rattle.bw_many.specs.Working.{StaysAt, WorksAt}
+use Rattle.bw_transfer.specs.Tallies.{up_to_last, with_frame}
+use Rattle.bw_serve.specs.Lines.{LogsEnds, TellsEnds, counted_of}
 use Rattle.bw_serve.specs.declared.crowd.Crowd.{Crowd}
+use Rattle.bw_serve.specs.declared.seat.Seat.{Seat}
 
 -- nobody has come yet
 pub record IsNew {L : Type 0} (G : LinkGhosts L) (places : ℕ) (c : Crowd L) : Type 0 where
   pub keeps : Keeps G c.many [] []
   pub places_are : count_of c.many ≡ places
+  pub seats_are : vec_len c.seats ≡ places
   pub begun : begun_of c.many ≡ 0
   pub ended : c.ended ≡ 0
 
@@ -34,10 +38,33 @@ can_go_on_below c (suc n) = can_go_on_below c n || can_go_on_at c.many n
 abbrev pub can_go_on_in : {L : Type 0} → Crowd L → Bool
 can_go_on_in c = can_go_on_below c (count_of c.many)
 
+-- there is a seat for each place
+abbrev pub HasSeats : {L : Type 0} → Crowd L → Type 0
+HasSeats c = vec_len c.seats ≡ count_of c.many
+
+-- the seat at a place has the address of this connection, and the count of its part of these frames
+pub record SeatOf {L : Type 0} (G : LinkGhosts L) (c : Crowd L) (trace : List Tagged) (i : ℕ)
+    (d : Connection L) : Type 0 where
+  pub seat : Seat
+  pub there : slice_get c.seats.items i ≡ Some seat
+  pub tally : seat.tally ≡ counted_of d.number trace
+  pub peer : G.calls_from d.link seat.address
+
+-- it is so of each that stands
+abbrev pub CountsOwn : {L : Type 0} → LinkGhosts L → Crowd L → List Tagged → Type 0
+CountsOwn {L} G c trace = (i : ℕ) (d : Connection L) → StandsAt c.many i d → SeatOf G c trace i d
+
+-- none of these frames came over one of these connections
+abbrev pub AreSilent : {L : Type 0} → List (Closed L) → List Tagged → Type 0
+AreSilent over more = AllByRecursion (λ x. own x.number more ≡ []) over
+
 -- nothing was answered, nobody's connection ended, and there are as many places
 pub record Grows {L : Type 0} (G : LinkGhosts L) (c c' : Crowd L) : Type 0 where
   pub adds : Adds G c.many [] [] c'.many
   pub places_are : count_of c'.many ≡ count_of c.many
+  pub seats_are : vec_len c'.seats ≡ vec_len c.seats
+  pub counts : (over : List (Closed L)) (trace : List Tagged) → Keeps G c.many over trace →
+      CountsOwn G c trace → CountsOwn G c' trace
   pub ended : c'.ended ≡ c.ended
 
 -- .. and nobody was let in
@@ -51,11 +78,35 @@ abbrev pub Counts : {L O : Type 0} → Writer O → Crowd L → Crowd L → List
 Counts out c c' closed o o' = (n : ℕ) → c.ended ≡ up_to_last n →
     TellsEnds out n closed o o' × (c'.ended ≡ up_to_last (n + length closed))
 
-module _ {L S O : Type 0} (G : LinkGhosts L) (answers : S → Frame → List Reply → S → Type 0)
-    (out : Writer O) where
+-- Frames more were answered, none of them over a connection that was over, and connections more are
+-- over: where of each its own frames were counted they still are, and the ends are told of so.
+abbrev pub Tells : {L E : Type 0} → LinkGhosts L → Writer E → Bool → Crowd L → List Tagged →
+    List (Closed L) → Crowd L → E → E → Type 0
+Tells {L} G told log c more closed c' e e' = (over : List (Closed L)) (trace : List Tagged) →
+    Keeps G c.many over trace → CountsOwn G c trace →
+    CountsOwn G c' (trace ++ more) × LogsEnds G told log (trace ++ more) closed e e'
+    × AreSilent over more
+
+module _ {L S : Type 0} (G : LinkGhosts L) (answers : S → Frame → List Reply → S → Type 0) where
+  -- a quantum of the connection at a place, whose frames are counted at its seat
+  pub record WorksCounted (place now : ℕ) (closed : Option (Closed L)) (c c' : Crowd L) (s s' : S)
+      : Type 0 where
+    pub works : WorksAt G answers place now closed c.many c'.many s s'
+    pub seat : Seat
+    pub was : slice_get c.seats.items place ≡ Some seat
+    pub seat' : Seat
+    pub sets : Sets c.seats.items place seat' c'.seats.items
+    pub address : seat'.address ≡ seat.address
+    pub counted : seat'.tally ≡ fold with_frame seat.tally (frames_of works.answered)
+    pub seats_are : vec_len c'.seats ≡ vec_len c.seats
+    pub ended : c'.ended ≡ c.ended
+
+module _ {L S O E : Type 0} (G : LinkGhosts L) (answers : S → Frame → List Reply → S → Type 0)
+    (out : Writer O) (told : Writer E) (log : Bool) where
   -- The connection at a place had its quantum: it answered no more frames, and fewer only where its
-  -- exchange must wait; or it is over, and its line is printed.
-  pub record ServesPlace (place : ℕ) (c c' : Crowd L) (s s' : S) (o o' : O) : Type 0 where
+  -- exchange must wait; or it is over, and its line is printed, and told of.
+  pub record ServesPlace (place : ℕ) (c c' : Crowd L) (s s' : S) (o o' : O) (e e' : E)
+      : Type 0 where
     pub number : ℕ
     pub answered : List Answered
     pub closed : List (Closed L)
@@ -64,20 +115,23 @@ module _ {L S O : Type 0} (G : LinkGhosts L) (answers : S → Frame → List Rep
     pub is_its : (d : Connection L) → StandsAt c.many place d → d.number ≡ number
     pub adds : Adds G c.many (tagged number answered) closed c'.many
     pub stays : StaysAt place c.many c'.many
+    pub seats_are : vec_len c'.seats ≡ vec_len c.seats
     pub waits : (d : Connection L) → StandsAt c'.many place d → d.phase ≡ phases.Serving →
         length answered < quantum → MustWait d.exchange
-    pub told : Counts out c c' closed o o'
+    pub prints : Counts out c c' closed o o'
+    pub tells : Tells G told log c (tagged number answered) closed c' e e'
 
   -- the connections at the first places had a quantum each, one after another
-  abbrev pub InTurn : ℕ → Crowd L → Crowd L → S → S → O → O → Type 0
-  InTurn zero c c' s s' o o' = (c' ≡ c) × (s' ≡ s) × (o' ≡ o)
-  InTurn (suc place) c c' s s' o o' = (d : Crowd L) × (t : S) × (p : O)
-      × InTurn place c d s t o p × ServesPlace place d c' t s' p o'
+  abbrev pub InTurn : ℕ → Crowd L → Crowd L → S → S → O → O → E → E → Type 0
+  InTurn zero c c' s s' o o' e e' = (c' ≡ c) × (s' ≡ s) × (o' ≡ o) × (e' ≡ e)
+  InTurn (suc place) c c' s s' o o' e e' = (d : Crowd L) × (t : S) × (p : O) × (f : E)
+      × InTurn place c d s t o p e f × ServesPlace place d c' t s' p o' f e'
 
-  -- frames more were answered, and the lines of those that are over printed
-  pub record Advances (c c' : Crowd L) (s s' : S) (o o' : O) : Type 0 where
+  -- frames more were answered, and the lines of those that are over printed, and told of
+  pub record Advances (c c' : Crowd L) (s s' : S) (o o' : O) (e e' : E) : Type 0 where
     pub more : List Tagged
     pub closed : List (Closed L)
     pub by_server : AnswersAll answers s (all_answered more) s'
     pub adds : Adds G c.many more closed c'.many
-    pub told : Counts out c c' closed o o'
+    pub prints : Counts out c c' closed o o'
+    pub tells : Tells G told log c more closed c' e e'

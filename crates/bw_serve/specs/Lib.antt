@@ -1,3 +1,5 @@
 pub mod Lines
+pub mod Seats
 pub mod Crowds
 pub mod Serving
+pub mod HostedMany

@@ -1,12 +1,16 @@
 -- The lines of connections that ended.
-use Rattle.std.specs.Prelude.{◌≡◌, ℕ, suc, List, [], ◌∷◌, ◌++◌, codes, decimal}
+use Rattle.std.specs.Prelude.{◌≡◌, ℕ, suc, Bool, List, [], ◌∷◌, ◌++◌, codes, decimal}
+use Rattle.std.specs.declared.net.socket_addr.SocketAddr.{SocketAddr}
 use Rattle.bw_stream.specs.declared.sink.Sink.{Ghosts as Writer}
 use Rattle.bw_commands.specs.Printing.{Print, IsOf, IsPrint}
 use Rattle.bw_commands.specs.Text.{as_line, name_of_end}
+use Rattle.bw_engine.specs.Answering.{frames_of}
 use Rattle.bw_many.specs.declared.connection.ConnectionEnd.{ConnectionEnd}
 use Rattle.bw_many.specs.declared.connection.ConnectionEnd.TheVariants.{Over, Idle}
+use Rattle.bw_many.specs.declared.link.Link.{Ghosts as LinkGhosts}
 use Rattle.bw_many.specs.declared.many.Closed.{Closed}
-use Rattle.bw_transfer.specs.Tallies.{up_to_last}
+use Rattle.bw_many.specs.Keeping.{Tagged, own}
+use Rattle.bw_transfer.specs.Tallies.{Counted, Logs, count_of, peer_line, up_to_last}
 
 -- what an end is called
 abbrev pub name_of_connection_end : ConnectionEnd → List ℕ
@@ -24,3 +28,19 @@ TellsEnds out index [] o o' = o' ≡ o
 TellsEnds {L} {O} out index (x ∷ xs) o o' = (mid : O) × (print : Print)
     × IsOf (connection_line (up_to_last index) x.end) print × IsPrint out print o mid
     × TellsEnds out (suc index) xs mid o'
+
+-- what is counted of one connection's own part of these frames
+abbrev pub counted_of : ℕ → List Tagged → Counted
+counted_of number trace = count_of (frames_of (own number trace))
+
+-- Where lines are asked for, that of each of these connections was told, one behind another, with
+-- the address from which its link was called, its end and what is counted of its own frames, or left
+-- out where memory was refused for it.
+abbrev pub LogsEnds : {L E : Type 0} → LinkGhosts L → Writer E → Bool → List Tagged →
+    List (Closed L) → E → E → Type 0
+LogsEnds G told log trace [] e e' = e' ≡ e
+LogsEnds {L} {E} G told log trace (x ∷ xs) e e' = (mid : E) × (peer : SocketAddr)
+    × G.calls_from x.link peer
+    × Logs told log
+    (peer_line peer (name_of_connection_end x.end) (counted_of x.number trace)) e mid
+    × LogsEnds G told log trace xs mid e'

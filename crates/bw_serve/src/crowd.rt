@@ -1,30 +1,47 @@
 //! A crowd: many connections, those that come and those that end.
-ghost use Rattle.std.specs.Prelude.{◌≡◌, ◌≤◌, ◌<◌, [], ◌∷◌, length, IfOk};
+ghost use Rattle.std.specs.Prelude.{◌≡◌, ◌+◌, ◌≤◌, ◌<◌, [], ◌∷◌, length, vec_len, IfOk};
 ghost use Rattle.bw_wire.specs.Held.{longest_piece};
 
 use crate::line::tell_end;
-use crate::lobby::{AcceptFault, Lobby};
+use crate::lobby::{AcceptFault, Guest, Lobby};
+use crate::seat::{Seat, empty_seats, put_at, swap_at, tell_at};
 use bw_engine::Turns;
 use bw_many::{Closed, Link, Many};
 use bw_stream::Sink;
+use bw_transfer::Tallied;
 use std::alloc::{AllocError, Global};
 
 /// No more peers are let in.
 #[derive(Clone, Copy, Debug, PartialEq, Eq, Drop)]
 pub(crate) struct Shut;
 
-/// Many connections, and how many have ended.
+/// What each quantum of a round goes by.
+#[derive(Clone, Copy)]
+pub(crate) struct Round {
+    /// The time, in milliseconds.
+    pub(crate) now: u64,
+    /// For how many milliseconds a connection may answer no whole frame.
+    pub(crate) idle: u64,
+    /// Whether each that is over is a line on `faults` too.
+    pub(crate) log: bool,
+}
+
+/// Many connections, who stands at each place, and how many have ended.
 #[derive(Drop)]
 pub(crate) struct Crowd<L> {
     many: Many<L>,
+    /// One for each place.
+    seats: Vec<Seat>,
     /// Stays at 2^64 - 1.
     ended: u64,
 }
 
 impl<L: Link + Drop> Crowd<L> {
+    ghost use Rattle.bw_many.specs.Keeping.{IsFree};
     ghost use Rattle.bw_many.specs.Places.{begun_of, count_of};
-    ghost use Rattle.bw_serve.specs.Crowds.{Counts, Grows, IsNew, InTurn, ServesPlace, Stays};
-    ghost use Rattle.bw_serve.specs.Crowds.{can_go_on_in};
+    ghost use Rattle.bw_serve.specs.Crowds.{Counts, Grows, HasSeats, IsNew, InTurn, ServesPlace};
+    ghost use Rattle.bw_serve.specs.Crowds.{Stays, WorksCounted, can_go_on_in};
+    ghost use Rattle.bw_serve.specs.Seats.{LogsAt};
 
     /// Nobody, and so many places.
     ///
@@ -35,6 +52,7 @@ impl<L: Link + Drop> Crowd<L> {
     {
         Ok(Crowd {
             many: Many::new(alloc, places)?,
+            seats: empty_seats(alloc, places)?,
             ended: 0,
         })
     }
@@ -81,7 +99,8 @@ impl<L: Link + Drop> Crowd<L> {
         exchanges: u64,
         now: u64,
     ) -> Result<(), Shut>
-        requires { begun_of self.old.many ≤ exchanges }
+        requires begun { begun_of self.old.many ≤ exchanges }
+        requires seats { HasSeats self.old }
         ensures grows { Grows L.Link self.old self.new }
         ensures most { begun_of self.new.many ≤ exchanges }
     {
@@ -93,10 +112,7 @@ impl<L: Link + Drop> Crowd<L> {
                 return Ok(());
             };
             match lobby.accept(place) {
-                // Where memory is refused the link is closed: its peer may come again.
-                Ok(link) => {
-                    let _refused = self.many.begin(alloc, place, link, now);
-                }
+                Ok(guest) => self.seat(alloc, place, guest, now),
                 Err(AcceptFault::Nobody) => return Ok(()),
                 Err(AcceptFault::Gone) => {}
                 Err(AcceptFault::Closed) => return Err(Shut),
@@ -105,55 +121,111 @@ impl<L: Link + Drop> Crowd<L> {
         Ok(())
     }
 
+    /// Seats a guest at a free place. Where memory is refused its link is closed, and it may come
+    /// again.
+    fn seat(&mut self, alloc: Global, place: usize, guest: Guest<L>, now: u64)
+        requires free { IsFree self.old.many place }
+        requires place { place < vec_len self.old.seats }
+        requires given { L.given guest.link [] }
+        requires taken { L.taken guest.link [] }
+        requires peer { L.calls_from guest.link guest.address }
+        ensures grows { Grows L.Link self.old self.new }
+        ensures most { begun_of self.new.many ≤ begun_of self.old.many + 1 }
+    {
+        let Guest { address, link } = guest;
+        // nothing is counted yet of who comes to a place
+        put_at(&mut self.seats, place, Seat::new(address));
+        let _refused = self.many.begin(alloc, place, link, now);
+    }
+
     /// One quantum of each connection, in the order of their places.
-    pub(crate) fn serve_each<T: Turns, O: Sink>(
+    pub(crate) fn serve_each<T: Turns, O: Sink, E: Sink>(
         &mut self,
-        server: &mut T,
+        alloc: Global,
+        server: &mut Tallied<T>,
         buffer: &mut [u8],
-        now: u64,
-        idle: u64,
+        round: Round,
         out: &mut O,
+        faults: &mut E,
     )
-        requires { length buffer.old ≤ longest_piece }
-        ensures in_turn { InTurn L.Link T.answers O.Sink (count_of self.old.many)
-            self.old self.new server.old server.new out.old out.new }
+        requires buffer { length buffer.old ≤ longest_piece }
+        requires seats { HasSeats self.old }
+        ensures in_turn { InTurn L.Link T.answers O.Sink E.Sink round.log (count_of self.old.many)
+            self.old self.new server.old.server server.new.server out.old out.new faults.old
+            faults.new }
     {
         for place in 0..self.many.places() {
-            self.serve_place(place, server, buffer, now, idle, out);
+            self.serve_place(alloc, place, server, buffer, round, out, faults);
         }
     }
 
     /// One quantum of the connection at a place, which may be over behind it, or for its silence.
-    fn serve_place<T: Turns, O: Sink>(
+    fn serve_place<T: Turns, O: Sink, E: Sink>(
         &mut self,
+        alloc: Global,
         place: usize,
-        server: &mut T,
+        server: &mut Tallied<T>,
         buffer: &mut [u8],
-        now: u64,
-        idle: u64,
+        round: Round,
         out: &mut O,
+        faults: &mut E,
     )
         requires place { place < count_of self.old.many }
+        requires seats { HasSeats self.old }
         requires buffer { length buffer.old ≤ longest_piece }
-        ensures { ServesPlace L.Link T.answers O.Sink place
-            self.old self.new server.old server.new out.old out.new }
+        ensures { ServesPlace L.Link T.answers O.Sink E.Sink round.log place self.old self.new
+            server.old.server server.new.server out.old out.new faults.old faults.new }
     {
-        if let Some(closed) = self.many.work(place, server, buffer, now) {
-            self.end(closed, out);
+        if let Some(closed) = self.work(place, server, buffer, round.now) {
+            self.end(alloc, place, closed, round.log, out, faults);
             return;
         }
-        let Some(closed) = self.many.expire(place, now, idle) else {
+        let Some(closed) = self.many.expire(place, round.now, round.idle) else {
             return;
         };
-        self.end(closed, out);
+        self.end(alloc, place, closed, round.log, out, faults);
     }
 
-    /// Prints the line of a connection that is over, and counts it. Its link is closed.
-    fn end<O: Sink>(&mut self, closed: Closed<L>, out: &mut O)
+    /// One quantum of the connection at a place, whose messages are counted for it alone.
+    fn work<T: Turns>(
+        &mut self,
+        place: usize,
+        server: &mut Tallied<T>,
+        buffer: &mut [u8],
+        now: u64,
+    ) -> Option<Closed<L>>
+        requires place { place < count_of self.old.many }
+        requires seats { HasSeats self.old }
+        requires buffer { length buffer.old ≤ longest_piece }
+        ensures { WorksCounted L.Link T.answers place now result self.old self.new
+            server.old.server server.new.server }
+    {
+        swap_at(&mut self.seats, place, server);
+        let closed = self.many.work(place, server, buffer, now);
+        swap_at(&mut self.seats, place, server);
+        closed
+    }
+
+    /// Prints the line of the connection at a place, which is over, counts it, and tells of it
+    /// where lines are asked for. Its link is closed.
+    fn end<O: Sink, E: Sink>(
+        &mut self,
+        alloc: Global,
+        place: usize,
+        closed: Closed<L>,
+        log: bool,
+        out: &mut O,
+        faults: &mut E,
+    )
+        requires { place < vec_len self.old.seats }
         ensures many { self.new.many ≡ self.old.many }
+        ensures seats { self.new.seats ≡ self.old.seats }
         ensures counts { Counts O.Sink self.old self.new (closed ∷ []) out.old out.new }
+        ensures logs { LogsAt E.Sink log place closed.end self.old.seats.items faults.old
+            faults.new }
     {
         tell_end(self.ended, closed.end, out);
         self.ended = self.ended.saturating_add(1);
+        tell_at(alloc, &self.seats, place, closed.end, log, faults);
     }
 }

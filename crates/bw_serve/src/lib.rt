@@ -3,9 +3,14 @@
 #![tactic(auto)]
 
 mod crowd;
+mod gathering;
+mod hosting;
 mod line;
 mod lobby;
+mod seat;
 mod serving;
 
-pub use lobby::{AcceptFault, Lobby, Ready, WaitFault};
+pub use gathering::Gathering;
+pub use hosting::{Hosting, serve_many};
+pub use lobby::{AcceptFault, Guest, Lobby, Ready, WaitFault};
 pub use serving::{Bounds, serve_crowd};

@@ -32,7 +32,8 @@ fn end_line(index: u64, end: ConnectionEnd) -> ArrayString<64>
     line
 }
 
-fn name_of(end: ConnectionEnd) -> &'static str
+/// The name of a connection's end.
+pub(crate) fn name_of(end: ConnectionEnd) -> &'static str
     ensures name { result.now ≡ name_of_connection_end end }
     ensures short { length result.now ≤ 16 }
 {

@@ -2,6 +2,7 @@
 ghost use Rattle.std.specs.Prelude.{IfOk, []};
 
 use bw_many::Link;
+use std::net::SocketAddr;
 use thiserror::Error;
 
 /// A link that can go on.
@@ -13,6 +14,15 @@ pub struct Ready {
     pub readable: bool,
     /// There may be room to write, or the peer has gone.
     pub writable: bool,
+}
+
+/// One who was let in.
+#[derive(Drop)]
+pub struct Guest<L> {
+    /// Where it calls from.
+    pub address: SocketAddr,
+    /// What it says, and what is said to it.
+    pub link: L,
 }
 
 /// Nothing can be waited for any longer.
@@ -36,7 +46,7 @@ pub enum AcceptFault {
 
 /// Where many peers come. No clause says who comes, nor when a link can go on.
 pub trait Lobby {
-    /// The link to a peer.
+    /// A link to a peer.
     type Link: Link + Drop;
 
     /// Waits until a peer comes or a link can go on, no longer than so many milliseconds.
@@ -52,9 +62,10 @@ pub trait Lobby {
     ///
     /// # Errors
     /// Why there is none.
-    fn accept(&mut self, place: usize) -> Result<Self::Link, AcceptFault>
-        ensures given { IfOk result (λ link. Self.Link.given link []) }
-        ensures taken { IfOk result (λ link. Self.Link.taken link []) };
+    fn accept(&mut self, place: usize) -> Result<Guest<Self::Link>, AcceptFault>
+        ensures given { IfOk result (λ guest. Self.Link.given guest.link []) }
+        ensures taken { IfOk result (λ guest. Self.Link.taken guest.link []) }
+        ensures peer { IfOk result (λ guest. Self.Link.calls_from guest.link guest.address) };
 
     /// The time, in milliseconds since some start. Where it can't be told, the last one.
     fn now(&mut self) -> u64;

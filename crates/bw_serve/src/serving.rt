@@ -2,14 +2,15 @@
 ghost use Rattle.std.specs.Prelude.{◌≡◌, ◌≤◌, vec_len};
 ghost use Rattle.bw_wire.specs.Held.{longest_piece};
 ghost use Rattle.bw_many.specs.Places.{begun_of};
-ghost use Rattle.bw_serve.specs.Crowds.{Advances};
+ghost use Rattle.bw_serve.specs.Crowds.{Advances, HasSeats};
 ghost use Rattle.bw_serve.specs.Serving.{ServesCrowd};
 
-use crate::crowd::{Crowd, Shut};
+use crate::crowd::{Crowd, Round, Shut};
 use crate::lobby::Lobby;
 use bw_commands::Exit;
 use bw_engine::Turns;
 use bw_stream::Sink;
+use bw_transfer::Tallied;
 use std::alloc::Global;
 
 /// The longest piece that is read.
@@ -35,15 +36,21 @@ pub struct Bounds {
 /// Where there is no free place nobody is let in; a connection that sends no whole frame for too
 /// long is ended. `Done` behind the last one; `Memory` where memory was refused before the first;
 /// `Device` where no more peers are let in, or nothing can be waited for.
-pub fn serve_crowd<B: Lobby, T: Turns, O: Sink>(
+///
+/// With `log` each that is over is a line on `faults` too: `peer ADDRESS names NAME.. end END
+/// messages N bytes N`, with the first eight names of its messages. Where memory is refused for the
+/// line, it is left out.
+pub fn serve_crowd<B: Lobby, T: Turns, O: Sink, E: Sink>(
     alloc: Global,
-    server: &mut T,
+    server: &mut Tallied<T>,
     lobby: &mut B,
     bounds: &Bounds,
+    log: bool,
     out: &mut O,
+    faults: &mut E,
 ) -> Exit
-    ensures { ServesCrowd B.Link.Link T.answers O.Sink bounds.now result server.old server.new
-        out.old out.new }
+    ensures { ServesCrowd B.Link.Link T.answers O.Sink E.Sink log bounds.now result
+        server.old.server server.new.server out.old out.new faults.old faults.new }
 {
     let Ok(mut crowd) = Crowd::new(alloc, bounds.places) else {
         return Exit::Memory;
@@ -56,7 +63,17 @@ pub fn serve_crowd<B: Lobby, T: Turns, O: Sink>(
         if crowd.ended() >= bounds.exchanges {
             return Exit::Done;
         }
-        let served = serve_round(alloc, &mut crowd, server, lobby, bounds, &mut buffer, out);
+        let served = serve_round(
+            alloc,
+            &mut crowd,
+            server,
+            lobby,
+            bounds,
+            log,
+            &mut buffer,
+            out,
+            faults,
+        );
         if served.is_err() {
             return Exit::Device;
         }
@@ -68,20 +85,24 @@ pub fn serve_crowd<B: Lobby, T: Turns, O: Sink>(
 ///
 /// # Errors
 /// `Shut` where no more peers are let in, or nothing can be waited for.
-fn serve_round<B: Lobby, T: Turns, O: Sink>(
+fn serve_round<B: Lobby, T: Turns, O: Sink, E: Sink>(
     alloc: Global,
     crowd: &mut Crowd<B::Link>,
-    server: &mut T,
+    server: &mut Tallied<T>,
     lobby: &mut B,
     bounds: &Bounds,
+    log: bool,
     buffer: &mut Vec<u8>,
     out: &mut O,
+    faults: &mut E,
 ) -> Result<(), Shut>
     requires buffer { vec_len buffer.old ≤ longest_piece }
     requires begun { begun_of crowd.old.many ≤ bounds.now.exchanges }
-    ensures advances { Advances B.Link.Link T.answers O.Sink crowd.old crowd.new server.old server.new
-        out.old out.new }
+    requires seats { HasSeats crowd.old }
+    ensures advances { Advances B.Link.Link T.answers O.Sink E.Sink log crowd.old crowd.new
+        server.old.server server.new.server out.old out.new faults.old faults.new }
     ensures begun { begun_of crowd.new.many ≤ bounds.now.exchanges }
+    ensures seats { HasSeats crowd.new }
     ensures buffer { vec_len buffer.new ≡ vec_len buffer.old }
 {
     let most = if crowd.can_go_on() { 0 } else { LONGEST_WAIT };
@@ -91,6 +112,11 @@ fn serve_round<B: Lobby, T: Turns, O: Sink>(
     crowd.notice(lobby);
     let now = lobby.now();
     crowd.welcome(alloc, lobby, bounds.exchanges, now)?;
-    crowd.serve_each(server, buffer.as_mut_slice(), now, bounds.idle, out);
+    let round = Round {
+        now,
+        idle: bounds.idle,
+        log,
+    };
+    crowd.serve_each(alloc, server, buffer.as_mut_slice(), round, out, faults);
     Ok(())
 }

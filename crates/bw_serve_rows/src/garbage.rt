@@ -84,7 +84,12 @@ fn is_bad(
 }
 
 fn has_no_file(rt: &impl Abort, came: &Came) {
-    same(rt, "the names", &came.server.store().name_count(), &0);
+    same(
+        rt,
+        "the names",
+        &came.server.server().store().name_count(),
+        &0,
+    );
 }
 
 #[test]

@@ -22,7 +22,7 @@ fn a_run_ends_where_a_growth_is_refused(rt: HostRuntime) -> Result<(), Fail> {
         tick: 10,
         rounds: 100,
     };
-    if let Some(came) = try_serve(rt.alloc(), &TWO, plan) {
+    if let Some(came) = try_serve(rt.alloc(), &TWO, true, plan) {
         assert!(&rt; is_end(came.exit), "no end of a run");
     }
     Ok(())

@@ -3,9 +3,10 @@ ghost use Rattle.std.specs.Prelude.{[], IfOk};
 
 use crate::scripted::{Record, Script, Scripted, new_record};
 use bw_many::Link;
-use bw_serve::{AcceptFault, Lobby, Ready, WaitFault};
+use bw_serve::{AcceptFault, Guest, Lobby, Ready, WaitFault};
 use std::alloc::{AllocError, Global};
 use std::cell::RefCell;
+use std::net::{Ipv4Addr, SocketAddr};
 use std::rc::Rc;
 
 /// Who comes, or what is met in place of a peer.
@@ -44,6 +45,8 @@ pub(crate) struct Hall {
     met: usize,
     /// How many links were told of since the last wait.
     told: usize,
+    /// From where the next one calls: each from the port behind that of the one before.
+    port: u16,
     records: Vec<Rc<RefCell<Record>>>,
 }
 
@@ -59,6 +62,7 @@ impl Hall {
             round: 0,
             met: 0,
             told: 0,
+            port: 4100,
             records: Vec::new(alloc),
         }
     }
@@ -95,6 +99,19 @@ impl Hall {
             Some(record) => round_and_place(record),
             None => (0, 0),
         }
+    }
+
+    /// Lets in the next one.
+    fn admit(&mut self, script: Script, place: usize) -> Result<Guest<Scripted>, AcceptFault>
+        ensures given { IfOk result (λ guest. ⟦<Scripted as Link>⟧.given guest.link []) }
+        ensures taken { IfOk result (λ guest. ⟦<Scripted as Link>⟧.taken guest.link []) }
+    {
+        let Ok(link) = self.meet(script, place) else {
+            return Err(AcceptFault::Gone);
+        };
+        let address = SocketAddr::from((Ipv4Addr::LOCALHOST, self.port));
+        self.port = self.port.saturating_add(1);
+        Ok(Guest { address, link })
     }
 
     /// Makes the link of the next one.
@@ -155,7 +172,7 @@ impl Lobby for Hall {
         })
     }
 
-    fn accept(&mut self, place: usize) -> Result<Scripted, AcceptFault> {
+    fn accept(&mut self, place: usize) -> Result<Guest<Scripted>, AcceptFault> {
         let Some(visit) = self.plan.visits.get(self.met).copied() else {
             return Err(AcceptFault::Nobody);
         };
@@ -166,10 +183,7 @@ impl Lobby for Hall {
         match visit.comes {
             Comes::Gone => Err(AcceptFault::Gone),
             Comes::Closed => Err(AcceptFault::Closed),
-            Comes::Peer(script) => match self.meet(script, place) {
-                Ok(link) => Ok(link),
-                Err(_refused) => Err(AcceptFault::Gone),
-            },
+            Comes::Peer(script) => self.admit(script, place),
         }
     }
 

@@ -1,4 +1,5 @@
-//! Worked runs of `serve_crowd`, byte by byte, over links and a lobby in memory.
+//! Worked runs of `serve_crowd` and `serve_many`, byte by byte, over links, a lobby and a network in
+//! memory.
 #![tactic(auto)]
 
 #[cfg(test)]
@@ -12,6 +13,10 @@ mod growths;
 #[cfg(test)]
 mod hall;
 #[cfg(test)]
+mod hosts;
+#[cfg(test)]
+mod logged;
+#[cfg(test)]
 mod places;
 #[cfg(test)]
 mod play;
@@ -21,3 +26,5 @@ mod scripted;
 mod silent;
 #[cfg(test)]
 mod together;
+#[cfg(test)]
+mod town;

@@ -9,6 +9,7 @@ use bw_serve::{Bounds, serve_crowd};
 use bw_session::Server;
 use bw_stream::MemorySink;
 use bw_take::Name;
+use bw_transfer::Tallied;
 use std::alloc::{AllocError, Global};
 use std::process::Abort;
 use std::test::Fail;
@@ -69,35 +70,57 @@ pub(crate) const QUICK_OTHER: Visit = Visit {
 pub(crate) struct Came {
     pub(crate) exit: Exit,
     pub(crate) out: Vec<u8>,
+    pub(crate) faults: Vec<u8>,
     pub(crate) hall: Hall,
-    pub(crate) server: Server<MemoryStore>,
+    pub(crate) server: Tallied<Server<MemoryStore>>,
 }
 
 /// Serves a crowd with a new server over an empty store in memory, where there is memory for one.
-pub(crate) fn try_serve(alloc: Global, bounds: &Bounds, plan: Plan) -> Option<Came> {
-    let Ok(mut server) = Server::new(alloc, MemoryStore::new(alloc), Limit::default()) else {
+pub(crate) fn try_serve(alloc: Global, bounds: &Bounds, log: bool, plan: Plan) -> Option<Came> {
+    let Ok(server) = Server::new(alloc, MemoryStore::new(alloc), Limit::default()) else {
         return None;
     };
+    let mut server = Tallied::new(server);
     let mut hall = Hall::new(alloc, plan);
     let mut out = MemorySink::new(Vec::new(alloc));
-    let exit = serve_crowd(alloc, &mut server, &mut hall, bounds, &mut out);
+    let mut faults = MemorySink::new(Vec::new(alloc));
+    let exit = serve_crowd(
+        alloc,
+        &mut server,
+        &mut hall,
+        bounds,
+        log,
+        &mut out,
+        &mut faults,
+    );
     Some(Came {
         exit,
         out: out.into_bytes(),
+        faults: faults.into_bytes(),
         hall,
         server,
     })
 }
 
-/// The same where memory is ample.
+/// The same where memory is ample, without a log.
 pub(crate) fn serve(alloc: Global, bounds: &Bounds, plan: Plan) -> Result<Came, Fail> {
-    Ok(try_serve(alloc, bounds, plan).ok_or("memory")?)
+    Ok(try_serve(alloc, bounds, false, plan).ok_or("memory")?)
+}
+
+/// .. and with one.
+pub(crate) fn serve_logged(alloc: Global, bounds: &Bounds, plan: Plan) -> Result<Came, Fail> {
+    Ok(try_serve(alloc, bounds, true, plan).ok_or("memory")?)
 }
 
 /// Compares how a run ended and what it printed.
 pub(crate) fn is_over(rt: &impl Abort, came: &Came, exit: Exit, lines: &[u8]) {
     same(rt, "the exit", &came.exit, &exit);
     assert!(rt; came.out.as_slice() == lines, "other lines");
+}
+
+/// Compares the log of a run.
+pub(crate) fn is_logged(rt: &impl Abort, came: &Came, lines: &[u8]) {
+    assert!(rt; came.faults.as_slice() == lines, "another log");
 }
 
 /// Compares the replies to the one with this number.
@@ -118,7 +141,7 @@ pub(crate) fn has_file(
     let file = two_frames(alloc)?;
     let name = Name::new(name).ok_or("a name")?;
     assert!(rt;
-        came.server.store().content(&name) == Some(file.as_slice()),
+        came.server.server().store().content(&name) == Some(file.as_slice()),
         "another file"
     );
     Ok(())

@@ -1,5 +1,5 @@
 //! Links that follow a script.
-ghost use Rattle.std.specs.Prelude.{◌≡◌, [], true};
+ghost use Rattle.std.specs.Prelude.{◌≡◌, [], true, ⊤};
 
 use bw_many::{Link, Received, Sent};
 use std::alloc::{AllocError, Global};
@@ -89,6 +89,8 @@ impl Link for Scripted {
     ghost ended = { λ l. l.is_ended ≡ true };
 
     ghost broken = { λ l. l.is_broken ≡ true };
+
+    ghost calls_from = { λ _ _. ⊤ };
 
     fn receive(&mut self, buffer: &mut [u8]) -> Received {
         if self.is_ended {

@@ -1,4 +1,4 @@
-use Rattle.std.proofs.Common.{◌∙◌}
+use Rattle.std.proofs.Common.{◌∙◌, sym}
 use Rattle.bw_serve.proofs.Growing.{turn_more}
 use Rattle.bw_serve.proofs.crowd.Crowd.serve_each.Goals as goal
 
@@ -8,6 +8,8 @@ loop-place-preserved g c =
     let s = c.serve_place in
     record {
       places_are = s.ensures.stays.0.count ∙ l.invariant.places_are;
-      in_turn = turn_more g.L.Link g.T.Turns.answers g.O.Sink l.place c.args.self.now l.self s.new.self
-          c.args.server.now l.server s.new.server c.args.out.now l.out s.new.out l.invariant.in_turn s.ensures;
+      seats = s.ensures.seats_are ∙ (l.invariant.seats ∙ sym s.ensures.stays.0.count);
+      in_turn = turn_more g.L.Link g.T.Turns.answers g.O.Sink g.E.Sink c.args.round.log l.place c.args.self.now l.self
+          s.new.self c.args.server.now.server l.server.server s.new.server.server c.args.out.now l.out s.new.out
+          c.args.faults.now l.faults s.new.faults l.invariant.in_turn s.ensures;
     }

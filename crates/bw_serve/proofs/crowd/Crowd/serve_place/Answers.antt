@@ -1,27 +1,46 @@
-use Rattle.std.proofs.Common.{refl, sym, subst, [], ◌∷◌, Some, None}
-use Rattle.bw_serve.proofs.Growing.{adds_still, counts_none, place_served, stays_still, stood_still}
+use Rattle.std.proofs.Common.{refl, sym, [], ◌∷◌, Some, None}
+use Rattle.bw_many.proofs.Standing.{not_some}
+use Rattle.bw_serve.proofs.Growing.{adds_still, counts_none, counts_on, stays_still, stood_still}
+use Rattle.bw_serve.proofs.Quanta.{place_served, silence_ends}
 use Rattle.bw_serve.proofs.crowd.Crowd.serve_place.Goals as goal
 
 pub returns-in-Some : goal.returns-in-Some
 returns-in-Some g c =
-    let m = c.work.new.self in
-    place_served g.L.Link g.T.Turns.answers g.O.Sink c.args.place c.args.now c.args.self.now c.end.new.self m m
-    (Some c.in-Some.closed) [] c.args.server.now c.work.new.server c.args.out.now c.end.new.out c.in-Some.ensures
-    (adds_still g.L.Link m) (stays_still c.args.place m) (stood_still c.args.place m) c.end.ensures.many
-    c.end.ensures.counts
+    let mid = c.work.new.self in
+    let w = c.in-Some.ensures in
+    let m = mid.many in
+    let end = c.end.ensures in
+    place_served g.L.Link g.T.Turns.answers g.O.Sink g.E.Sink c.args.round.log c.args.place c.args.round.now
+    c.args.self.now mid c.end.new.self m (Some c.in-Some.closed) [] c.args.server.now.server c.work.new.server.server
+    c.args.out.now c.end.new.out c.args.faults.now c.end.new.faults w (adds_still g.L.Link m)
+    (stays_still c.args.place m) (stood_still c.args.place m) end.many end.seats
+    (counts_on g.O.Sink c.args.self.now mid c.end.new.self (c.in-Some.closed ∷ []) c.args.out.now c.end.new.out w.ended
+    end.counts)
+    (w.works.ends_its, (λ empty. not_some c.in-Some.closed (sym (w.works.nobody empty).1)), end.logs)
 
 pub returns-in_default-expire : goal.returns-in_default-expire
 returns-in_default-expire g c =
     let e = c.in_default-expire.ensures in
-    place_served g.L.Link g.T.Turns.answers g.O.Sink c.args.place c.args.now c.args.self.now
-    (record { many = c.expire.new.self; ended = c.args.self.now.ended }) c.work.new.self c.expire.new.self None []
-    c.args.server.now c.work.new.server c.args.out.now c.args.out.now c.in_default.ensures e.adds e.others e.stands refl
-    (counts_none g.O.Sink c.args.self.now (record { many = c.expire.new.self; ended = c.args.self.now.ended })
-    c.args.out.now refl)
+    let mid = c.work.new.self in
+    let w = c.in_default.ensures in
+    place_served g.L.Link g.T.Turns.answers g.O.Sink g.E.Sink c.args.round.log c.args.place c.args.round.now
+    c.args.self.now mid (record { many = c.expire.new.self; seats = mid.seats; ended = mid.ended }) c.expire.new.self None [] c.args.server.now.server c.work.new.server.server c.args.out.now
+    c.args.out.now c.args.faults.now c.args.faults.now w e.adds e.others e.stands refl refl
+    (counts_none g.O.Sink c.args.self.now (record { many = c.expire.new.self; seats = mid.seats; ended = mid.ended })
+    c.args.out.now w.ended) refl
 
 pub returns : goal.returns
 returns g c =
     let e = c.in-Some-expire.ensures in
-    place_served g.L.Link g.T.Turns.answers g.O.Sink c.args.place c.args.now c.args.self.now c.end-2.new.self c.work.new.self
-    c.expire.new.self None (c.in-Some-expire.closed ∷ []) c.args.server.now c.work.new.server c.args.out.now
-    c.end-2.new.out c.in_default.ensures e.adds e.others e.stands c.end-2.ensures.many c.end-2.ensures.counts
+    let mid = c.work.new.self in
+    let w = c.in_default.ensures in
+    let y = c.in-Some-expire.closed in
+    let end = c.end-2.ensures in
+    let ends = silence_ends g.L.Link c.args.round.now c.args.round.idle c.args.place c.args.self.now.many mid.many y w.works.stood
+    e.its e.end in
+    place_served g.L.Link g.T.Turns.answers g.O.Sink g.E.Sink c.args.round.log c.args.place c.args.round.now
+    c.args.self.now mid c.end-2.new.self c.expire.new.self None (y ∷ []) c.args.server.now.server
+    c.work.new.server.server c.args.out.now c.end-2.new.out c.args.faults.now c.end-2.new.faults w e.adds e.others
+    e.stands end.many end.seats
+    (counts_on g.O.Sink c.args.self.now mid c.end-2.new.self (y ∷ []) c.args.out.now c.end-2.new.out w.ended end.counts)
+    (ends.0, ends.1, end.logs)

@@ -1,0 +1,35 @@
+-- What a run leaves in an honest store.
+use Rattle.std.proofs.Common.{◌≡◌, ℕ, Bool, []}
+use Rattle.std.specs.Prelude.{IsTrue}
+use Rattle.bw_stream.specs.declared.sink.Sink.{Ghosts as Writer}
+use Rattle.bw_file.specs.declared.store.TakeStore.{Ghosts as StoreGhosts}
+use Rattle.bw_journal.specs.declared.journal.Journal.{Ghosts as JournalGhosts}
+use Rattle.bw_session.specs.Books.{HoldsBook}
+use Rattle.bw_session.specs.declared.server.Server.{Server}
+use Rattle.bw_commands.specs.declared.exit.Exit.{Exit}
+use Rattle.bw_commands.specs.declared.exit.Exit.TheVariants.{Done, Refused, Usage, Device, Memory}
+use Rattle.bw_engine.specs.ServerTurns.{ServerTurn}
+use Rattle.bw_many.specs.Names.{KeepsNamesApart, NamesStandApart}
+use Rattle.bw_many.specs.declared.link.Link.{Ghosts as LinkGhosts}
+use Rattle.bw_serve.specs.HostedMany.{answered_in_crowd}
+use Rattle.bw_serve.specs.Serving.{ServesCrowd}
+use Rattle.bw_serve.specs.declared.serving.Bounds.{Bounds}
+
+module _ {X Y L O E : Type 0} (S : StoreGhosts X) (J : JournalGhosts Y) (link : LinkGhosts L) (out : Writer O)
+    (told : Writer E) (log : Bool) (law : NamesStandApart S J) where
+  -- a new server leaves the files of what it answered over all its connections
+  pub crowd_leaves : (limit : ℕ) (store : X) (old new : Server X Y S J) (bounds : Bounds) (exit : Exit) (o o' : O)
+      (e e' : E) → old.stores.store ≡ store → old.limit ≡ limit → HoldsBook S J (S.contents store) old [] →
+      (run : ServesCrowd link (ServerTurn S J) out told log bounds exit old new o o' e e') → IsTrue (S.honest store) →
+      KeepsNamesApart S J limit store new.stores.store
+      (answered_in_crowd link (ServerTurn S J) out told log bounds exit old new o o' e e' run)
+  crowd_leaves limit store old new bounds Done o o' e e' begun limited empty run honest =
+      law limit store old new run.trace honest begun limited empty run.by_server
+  crowd_leaves limit store old new bounds Refused o o' e e' begun limited empty run honest =
+      law limit store old new run.trace honest begun limited empty run.by_server
+  crowd_leaves limit store old new bounds Usage o o' e e' begun limited empty run honest =
+      law limit store old new run.trace honest begun limited empty run.by_server
+  crowd_leaves limit store old new bounds Device o o' e e' begun limited empty run honest =
+      law limit store old new run.trace honest begun limited empty run.by_server
+  crowd_leaves limit store old new bounds Memory o o' e e' begun limited empty run honest =
+      law limit store old new [] honest begun limited empty run.0

@@ -1,0 +1,18 @@
+use Rattle.std.proofs.Common.{refl, subst, sym}
+use Rattle.bw_serve.proofs.Counting.{counts_seated}
+use Rattle.bw_serve.proofs.crowd.Crowd.seat.Goals as goal
+
+pub returns-clause-grows : goal.returns-clause-grows
+returns-clause-grows g c =
+    let b = c.begin-refused.ensures in
+    record {
+      adds = b.adds;
+      places_are = b.others.count;
+      seats_are = c.put_at.ensures.count;
+      counts = counts_seated g.L.Link c.args.place c.args.now c.args.guest.link c.args.self.now
+          (record { many = c.begin-refused.new.self; seats = c.put_at.new.seats; ended = c.args.self.now.ended })
+          c.new.result c.begin-refused.result c.put_at.ensures.sets c.new.ensures.tally
+          (subst (g.L.Link.calls_from c.args.guest.link) (sym c.new.ensures.address) c.requires.peer) c.requires.free b.begins b.err
+          b.others;
+      ended = refl;
+    }

@@ -1,0 +1,123 @@
+-- What the command `serve` does for many recorders at once.
+use Rattle.std.specs.Prelude.{◌≡◌, ◌⊎◌, Bool, List, [], Ok, Err, IsTrue}
+use Rattle.std.specs.IoError.{error_kind}
+use Rattle.std.specs.Net.Text.{socket_text}
+use Rattle.std.specs.declared.io.Error.{Error as IoError}
+use Rattle.bw_model.specs.Wire.{Frame}
+use Rattle.bw_model.specs.Replies.{Reply}
+use Rattle.bw_stream.specs.Moves.{one_more}
+use Rattle.bw_stream.specs.declared.sink.Sink.{Ghosts as Writer}
+use Rattle.bw_file.specs.declared.store.TakeStore.{Ghosts as StoreGhosts}
+use Rattle.bw_journal.specs.declared.journal.Journal.{Ghosts as JournalGhosts}
+use Rattle.bw_session.specs.Books.{HoldsBook}
+use Rattle.bw_session.specs.declared.server.Server.{Server}
+use Rattle.bw_commands.specs.Printing.{HasPrinted, HasStopped}
+use Rattle.bw_commands.specs.declared.exit.Exit.{Exit}
+use Rattle.bw_commands.specs.declared.exit.Exit.TheVariants.{Done, Refused, Usage, Device, Memory}
+use Rattle.bw_commands.specs.declared.fault.Fault.TheVariants as faults
+use Rattle.bw_engine.specs.Answering.{Answered}
+use Rattle.bw_engine.specs.ServerTurns.{ServerTurn}
+use Rattle.bw_many.specs.declared.link.Link.{Ghosts as LinkGhosts}
+use Rattle.bw_many.specs.Keeping.{all_answered}
+use Rattle.bw_many.specs.Names.{KeepsNamesApart}
+use Rattle.bw_transfer.specs.Hosted.{GivesUp, TellsEnd, TellsUnopened, listening_line}
+use Rattle.bw_transfer.specs.declared.network.Network.{Ghosts as NetworkGhosts}
+use Rattle.bw_serve.specs.Serving.{ServesCrowd}
+use Rattle.bw_serve.specs.declared.gathering.Gathering.{Ghosts as GatheringGhosts}
+use Rattle.bw_serve.specs.declared.hosting.Hosting.{Hosting}
+use Rattle.bw_serve.specs.declared.serving.Bounds.{Bounds}
+
+module _ {L T O E : Type 0} (link : LinkGhosts L) (answers : T → Frame → List Reply → T → Type 0)
+    (out : Writer O) (told : Writer E) (log : Bool) where
+  -- what a server has answered in a run, over all its connections
+  abbrev pub answered_in_crowd : (bounds : Bounds) (exit : Exit) (t t' : T) (o o' : O)
+      (e e' : E) → ServesCrowd link answers out told log bounds exit t t' o o' e e' →
+      List Answered
+  answered_in_crowd bounds Done t t' o o' e e' run = all_answered run.trace
+  answered_in_crowd bounds Refused t t' o o' e e' run = all_answered run.trace
+  answered_in_crowd bounds Usage t t' o o' e e' run = all_answered run.trace
+  answered_in_crowd bounds Device t t' o o' e e' run = all_answered run.trace
+  answered_in_crowd bounds Memory t t' o o' e e' run = []
+
+module _ {X Y L O E : Type 0} (S : StoreGhosts X) (J : JournalGhosts Y) (link : LinkGhosts L)
+    (out : Writer O) (told : Writer E) where
+  -- a new server over this store served its exchanges, behind its first line
+  pub record HostsManyRun (hosting : Hosting) (exit : Exit) (store : X) (o o' : O) (e e' : E)
+      : Type 0 where
+    pub server : Server X Y S J
+    pub store_is : server.stores.store ≡ store
+    pub limit_is : server.limit ≡ hosting.limit
+    pub new : HoldsBook S J (S.contents store) server []
+    pub behind : Server X Y S J
+    pub between : O
+    pub listens : HasPrinted out (listening_line hosting.address) o between
+    pub ended : Exit
+    pub logged : E
+    pub run : ServesCrowd link (ServerTurn S J) out told hosting.log hosting.bounds ended server
+        behind between o' e logged
+    -- an honest store has the files of what was answered, each name's from its own messages alone
+    pub leaves : IsTrue (S.honest store) → KeepsNamesApart S J hosting.limit store
+        behind.stores.store
+        (answered_in_crowd link (ServerTurn S J) out told hosting.log hosting.bounds ended server
+        behind between o' e logged run)
+    pub tells : TellsEnd told ended exit logged e'
+
+  -- memory was refused before the first line
+  pub record WantsBefore (exit : Exit) (o o' : O) (e e' : E) : Type 0 where
+    pub printed : o' ≡ o
+    pub tells : GivesUp told faults.Memory exit e e'
+
+  -- the first line can't be written, and nothing is served
+  pub record CantTell (hosting : Hosting) (exit : Exit) (o o' : O) (e e' : E) : Type 0 where
+    pub printed : HasStopped out (listening_line hosting.address) o o'
+    pub tells : GivesUp told faults.Unwritable exit e e'
+
+  -- what comes of a server over this store
+  abbrev pub HostsManyOver : Hosting → Exit → X → O → O → E → E → Type 0
+  HostsManyOver hosting exit store o o' e e' =
+      HostsManyRun hosting exit store o o' e e'
+      ⊎ (WantsBefore exit o o' e e' ⊎ CantTell hosting exit o o' e e')
+
+  module _ {N B P R W D A C : Type 0} (network : NetworkGhosts N X P D R W A C)
+      (gathering : GatheringGhosts N B L) where
+    -- the folder can't be used: nothing else is asked for, and nothing is printed
+    pub record CantStore (hosting : Hosting) (exit : Exit) (n n' : N) (o o' : O) (e e' : E)
+        : Type 0 where
+      pub error : IoError
+      pub refused : network.stores n hosting.folder.now (Err error) n'
+      pub counted : network.failures n' ≡ one_more (network.failures n)
+      pub printed : o' ≡ o
+      pub tells : TellsUnopened told hosting.folder.now (error_kind error) exit e e'
+
+    -- the folder can be used, and the address can't: nothing is printed
+    pub record CantGather (hosting : Hosting) (exit : Exit) (n n' : N) (o o' : O) (e e' : E)
+        : Type 0 where
+      pub store : X
+      pub between : N
+      pub stored : network.stores n hosting.folder.now (Ok store) between
+      pub kept : network.failures between ≡ network.failures n
+      pub error : IoError
+      pub refused : gathering.opens between hosting.address hosting.folder.now
+          hosting.bounds.places (Err error) n'
+      pub counted : gathering.failures n' ≡ one_more (gathering.failures between)
+      pub printed : o' ≡ o
+      pub tells : TellsUnopened told (socket_text hosting.address) (error_kind error) exit e e'
+
+    -- both are there, and a server is over them
+    pub record HostsManyAt (hosting : Hosting) (exit : Exit) (n n' : N) (o o' : O) (e e' : E)
+        : Type 0 where
+      pub store : X
+      pub between : N
+      pub stored : network.stores n hosting.folder.now (Ok store) between
+      pub kept : network.failures between ≡ network.failures n
+      pub lobby : B
+      pub opened : gathering.opens between hosting.address hosting.folder.now
+          hosting.bounds.places (Ok lobby) n'
+      pub counted : gathering.failures n' ≡ gathering.failures between
+      pub hosts : HostsManyOver hosting exit store o o' e e'
+
+    -- what the command does
+    abbrev pub HostsMany : Hosting → Exit → N → N → O → O → E → E → Type 0
+    HostsMany hosting exit n n' o o' e e' =
+        HostsManyAt hosting exit n n' o o' e e'
+        ⊎ (CantStore hosting exit n n' o o' e e' ⊎ CantGather hosting exit n n' o o' e e')

@@ -1,0 +1,89 @@
+//! The command `serve` for many recorders at once: a server over a folder, from its first line to its
+//! end.
+ghost use Rattle.std.specs.Prelude.{◌≡◌};
+ghost use Rattle.bw_serve.specs.HostedMany.{HostsMany, HostsManyOver};
+
+use crate::gathering::Gathering;
+use crate::lobby::Lobby;
+use crate::serving::{Bounds, serve_crowd};
+use bw_commands::print::{give_up, print};
+use bw_commands::{Exit, Fault, tell_unopened};
+use bw_file::TakeStore;
+use bw_journal::{Journal, NoJournal};
+use bw_layout::Limit;
+use bw_session::Server;
+use bw_stream::Sink;
+use bw_transfer::hosting::{format_listening, tell_end, tell_unbound};
+use bw_transfer::{Network, Tallied};
+use std::alloc::Global;
+use std::net::SocketAddr;
+
+/// What a server of many recorders is asked for.
+#[derive(Clone, Copy)]
+pub struct Hosting<'a> {
+    /// Where recorders come.
+    pub address: SocketAddr,
+    /// The folder of its files, as it was given.
+    pub folder: &'a str,
+    /// How many are served.
+    pub bounds: Bounds,
+    /// The greatest form size of a RIFF file.
+    pub limit: Limit,
+    /// Whether each connection is told in a line.
+    pub log: bool,
+}
+
+/// Serves so many exchanges, many at once, over a new server and the folder's store.
+///
+/// What can't be used is a line on `faults` before anything is printed. Then `listening ADDRESS`
+/// and a line for each exchange are, as `serve_crowd` says; where the first can't be, nothing is
+/// served. Where a log is asked for, each connection is a line on `faults`, as it says too. Why the
+/// system doesn't let a folder or an address be used, the contract doesn't say.
+pub fn serve_many<N: Network + Gathering, O: Sink, E: Sink>(
+    alloc: Global,
+    network: &mut N,
+    hosting: &Hosting<'_>,
+    out: &mut O,
+    faults: &mut E,
+) -> Exit
+    ensures { HostsMany N.Store.TakeStore ⟦<NoJournal as Journal>⟧ N.Lobby.Link.Link O.Sink E.Sink
+        N.Network N.Gathering hosting.now result network.old network.new out.old out.new faults.old
+        faults.new }
+{
+    let store = match network.store(hosting.folder) {
+        Ok(store) => store,
+        Err(error) => return tell_unopened(alloc, hosting.folder, &error, faults),
+    };
+    match network.lobby(hosting.address, hosting.folder, hosting.bounds.places) {
+        Ok(mut lobby) => serve_over(alloc, store, &mut lobby, hosting, out, faults),
+        Err(error) => tell_unbound(alloc, hosting.address, &error, faults),
+    }
+}
+
+/// Serves so many exchanges, many at once, over a new server and this store.
+fn serve_over<S: TakeStore, B: Lobby, O: Sink, E: Sink>(
+    alloc: Global,
+    store: S,
+    lobby: &mut B,
+    hosting: &Hosting<'_>,
+    out: &mut O,
+    faults: &mut E,
+) -> Exit
+    ensures { HostsManyOver S.TakeStore ⟦<NoJournal as Journal>⟧ B.Link.Link O.Sink E.Sink hosting.now
+        result store out.old out.new faults.old faults.new }
+{
+    let Ok(server) = Server::new(alloc, store, hosting.limit) else {
+        return give_up(faults, &Fault::Memory);
+    };
+    let Ok(line) = format_listening(alloc, hosting.address) else {
+        return give_up(faults, &Fault::Memory);
+    };
+    let Ok(()) = print(out, line.as_str().as_bytes()) else {
+        return give_up(faults, &Fault::Unwritable);
+    };
+    bw_many::laws::law_names::<S>();
+    let mut server = Tallied::new(server);
+    let (bounds, log) = (&hosting.bounds, hosting.log);
+    let exit = serve_crowd(alloc, &mut server, lobby, bounds, log, out, faults);
+    tell_end(exit, faults)
+}
