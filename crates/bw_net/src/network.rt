@@ -1,10 +1,13 @@
 //! The network and the folders of this machine, for `serve` and `send`.
-ghost use Rattle.std.specs.Prelude.{◌≡◌, ◌*◌, IfOk, option_map, string_bytes};
+ghost use Rattle.std.specs.Prelude.{◌≡◌, ◌*◌, ◌+◌, IfOk, option_map, string_bytes};
 ghost use Rattle.std.specs.Duration.{as_nanos};
+ghost use Rattle.mio.specs.Events.{capacity as room_of};
 
 use crate::folder::check_folder;
+use crate::lobby::TcpLobby;
 use crate::tcp::{TcpDial, TcpPeers};
 use bw_file::{FolderStore, SystemDisk};
+use bw_serve::Gathering;
 use bw_transfer::Network;
 use std::io;
 use std::net::{SocketAddr, TcpListener};
@@ -38,6 +41,20 @@ impl<'a> TcpNetwork<'a> {
     {
         let folder = String::from_str(self.rt.alloc(), folder)?;
         TcpPeers::listen(self.rt, address, folder, span(timeout))
+    }
+
+    fn open_lobby(
+        &self,
+        address: SocketAddr,
+        folder: &str,
+        places: usize,
+    ) -> io::Result<TcpLobby<'a>>
+        ensures { IfOk result (λ lobby. (lobby.address ≡ address)
+            × (string_bytes lobby.folder ≡ folder.now)
+            × (room_of lobby.events ≡ places + 1)) }
+    {
+        let folder = String::from_str(self.rt.alloc(), folder)?;
+        TcpLobby::listen(self.rt, address, folder, places)
     }
 }
 
@@ -100,5 +117,28 @@ impl<'a> Network for TcpNetwork<'a> {
 
     fn dial(&self, address: SocketAddr, timeout: Option<u32>) -> TcpDial<'a, HostRuntime> {
         TcpDial::new(self.rt, address, span(timeout))
+    }
+}
+
+impl<'a> Gathering for TcpNetwork<'a> {
+    type Lobby = TcpLobby<'a>;
+
+    ghost failures = { λ n. n.failures };
+
+    ghost opens = { λ n address folder places result n'. IfOk result (λ lobby.
+        (lobby.address ≡ address) × (string_bytes lobby.folder ≡ folder)
+        × (room_of lobby.events ≡ places + 1)) };
+
+    fn lobby(
+        &mut self,
+        address: SocketAddr,
+        folder: &str,
+        places: usize,
+    ) -> io::Result<TcpLobby<'a>> {
+        let lobby = self.open_lobby(address, folder, places);
+        if lobby.is_err() {
+            self.failures = self.failures.saturating_add(1);
+        }
+        lobby
     }
 }

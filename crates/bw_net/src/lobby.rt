@@ -1,0 +1,161 @@
+//! Where many recorders come over TCP, and what tells which of their sockets can go on.
+ghost use Rattle.std.specs.Prelude.{◌≡◌, ◌||◌, ◌+◌, IfOk};
+ghost use Rattle.mio.specs.Event.{event_token, is_error, is_readable, is_read_closed};
+ghost use Rattle.mio.specs.Event.{is_writable, is_write_closed};
+ghost use Rattle.mio.specs.Events.{capacity as room_of};
+
+use crate::folder::has_folder;
+use crate::socket::Socket;
+use bw_serve::{AcceptFault, Guest, Lobby, Ready, WaitFault};
+use mio::event::Event;
+use mio::net::{TcpListener, TcpStream};
+use mio::{Events, Interest, Poll, Token};
+use std::io::{self, ErrorKind};
+use std::net::SocketAddr;
+use std::time::{Duration, Instant};
+
+/// The token of the listener; those of the links are their places.
+const LISTENER: Token = Token(usize::MAX);
+
+/// Those who come to an address, while the server's folder stands.
+#[derive(Drop)]
+pub struct TcpLobby<'a> {
+    rt: &'a HostRuntime,
+    /// Where it listens.
+    address: SocketAddr,
+    folder: String,
+    listener: TcpListener,
+    poll: Poll,
+    /// What was ready when it was last waited: there is room for each place, and for the listener.
+    events: Events,
+    /// How many of these were looked at.
+    seen: usize,
+    start: Instant,
+    /// When the time could last be told, in milliseconds since the start.
+    now: u64,
+}
+
+impl<'a> TcpLobby<'a> {
+    /// Listens at an address for those who come to a server over this folder, at so many places.
+    ///
+    /// # Errors
+    /// Why the system doesn't let it; `OutOfMemory` where memory was refused.
+    pub fn listen(
+        rt: &'a HostRuntime,
+        address: SocketAddr,
+        folder: String,
+        places: usize,
+    ) -> io::Result<TcpLobby<'a>>
+        ensures address { IfOk result (λ lobby. lobby.address ≡ address) }
+        ensures folder { IfOk result (λ lobby. lobby.folder ≡ folder) }
+        ensures room { IfOk result (λ lobby. room_of lobby.events ≡ places + 1) }
+    {
+        let Some(room) = places.checked_add(1) else {
+            return Err(io::Error::from(ErrorKind::OutOfMemory));
+        };
+        let events = Events::with_capacity(rt.alloc(), room)?;
+        let poll = Poll::new(rt)?;
+        let mut listener = TcpListener::bind(rt, address)?;
+        poll.registry()
+            .register(&mut listener, LISTENER, Interest::READABLE)?;
+        Ok(TcpLobby {
+            rt,
+            address,
+            folder,
+            listener,
+            poll,
+            events,
+            seen: 0,
+            start: Instant::now(rt)?,
+            now: 0,
+        })
+    }
+}
+
+impl Lobby for TcpLobby<'_> {
+    type Link = Socket;
+
+    fn wait(&mut self, most: u64) -> Result<(), WaitFault> {
+        self.seen = 0;
+        match self
+            .poll
+            .poll(&mut self.events, Some(Duration::from_millis(most)))
+        {
+            Ok(()) => Ok(()),
+            // A signal ends a wait, not the server.
+            Err(error) if error.kind() == ErrorKind::Interrupted => Ok(()),
+            Err(_) => Err(WaitFault),
+        }
+    }
+
+    fn next_ready(&mut self) -> Option<Ready> {
+        for event in self.events.iter().skip(self.seen) {
+            self.seen = self.seen.saturating_add(1);
+            if event.token() != LISTENER {
+                return Some(ready_of(event));
+            }
+        }
+        None
+    }
+
+    fn accept(&mut self, place: usize) -> Result<Guest<Socket>, AcceptFault> {
+        let accepted = self.listener.accept();
+        if is_nobody(&accepted) {
+            return Err(AcceptFault::Nobody);
+        }
+        // One that comes when the folder is gone isn't heard: its requests wait for another server.
+        if !has_folder(self.rt, self.folder.as_str()) {
+            return Err(AcceptFault::Closed);
+        }
+        let Ok((stream, address)) = accepted else {
+            return Err(AcceptFault::Gone);
+        };
+        let Ok(link) = self.link_at(place, stream) else {
+            return Err(AcceptFault::Gone);
+        };
+        Ok(Guest { address, link })
+    }
+
+    fn now(&mut self) -> u64 {
+        if let Ok(passed) = self.start.elapsed(self.rt) {
+            self.now = u64::try_from(passed.as_millis()).unwrap_or(u64::MAX);
+        }
+        self.now
+    }
+}
+
+impl TcpLobby<'_> {
+    /// The link over a stream that is told of under this place. A batch's last bytes go out at once.
+    fn link_at(&self, place: usize, mut stream: TcpStream) -> io::Result<Socket> {
+        stream.set_nodelay(true)?;
+        let both = Interest::READABLE | Interest::WRITABLE;
+        self.poll
+            .registry()
+            .register(&mut stream, Token(place), both)?;
+        Ok(Socket::new(stream))
+    }
+}
+
+/// Whether nobody waits to be let in.
+fn is_nobody(accepted: &io::Result<(TcpStream, SocketAddr)>) -> bool {
+    let Err(error) = accepted else {
+        return false;
+    };
+    matches!(error.kind(), ErrorKind::WouldBlock | ErrorKind::Interrupted)
+}
+
+/// The link that an event tells of: one that has failed or ended can go on both ways, to its end.
+fn ready_of(event: &Event) -> Ready
+    ensures place { result.place ≡ (event_token event.now).0 }
+    ensures readable { result.readable ≡ is_readable event.now || (is_error event.now
+        || is_read_closed event.now || is_write_closed event.now) }
+    ensures writable { result.writable ≡ is_writable event.now || (is_error event.now
+        || is_read_closed event.now || is_write_closed event.now) }
+{
+    let is_over = event.is_error() || event.is_read_closed() || event.is_write_closed();
+    Ready {
+        place: event.token().0,
+        readable: event.is_readable() || is_over,
+        writable: event.is_writable() || is_over,
+    }
+}

@@ -1,0 +1,76 @@
+//! A link over a socket, of which no call waits.
+ghost use Rattle.std.specs.Prelude.{⊤};
+
+use bw_many::{Link, Received, Sent};
+use mio::net::TcpStream;
+use std::io::{ErrorKind, Read, Write};
+use std::net::Shutdown;
+
+/// How often a call is made that signals interrupt. That a socket is ready is told only once, so it
+/// can't be put off until that is told again.
+const MOST_TRIES: u32 = 16;
+
+/// The link over a recorder's stream. No clause says which bytes it gives and takes.
+#[derive(Drop)]
+pub struct Socket {
+    stream: TcpStream,
+}
+
+impl Socket {
+    /// The link over this stream.
+    pub(crate) fn new(stream: TcpStream) -> Socket {
+        Socket { stream }
+    }
+}
+
+impl Link for Socket {
+    ghost given = { λ _ _. ⊤ };
+
+    ghost taken = { λ _ _. ⊤ };
+
+    ghost ended = { λ _. ⊤ };
+
+    ghost broken = { λ _. ⊤ };
+
+    ghost calls_from = { λ _ _. ⊤ };
+
+    fn receive(&mut self, buffer: &mut [u8]) -> Received {
+        if buffer.is_empty() {
+            return Received::Nothing;
+        }
+        for _try in 0..MOST_TRIES {
+            match self.stream.read(buffer) {
+                Ok(0) => return Received::Ended,
+                Ok(count) => return Received::Bytes(count),
+                Err(error) => match error.kind() {
+                    ErrorKind::Interrupted => {}
+                    ErrorKind::WouldBlock => return Received::Nothing,
+                    _ => return Received::Failed,
+                },
+            }
+        }
+        Received::Failed
+    }
+
+    fn send(&mut self, bytes: &[u8]) -> Sent {
+        if bytes.is_empty() {
+            return Sent::Nothing;
+        }
+        for _try in 0..MOST_TRIES {
+            match self.stream.write(bytes) {
+                Ok(0) => return Sent::Failed,
+                Ok(count) => return Sent::Bytes(count),
+                Err(error) => match error.kind() {
+                    ErrorKind::Interrupted => {}
+                    ErrorKind::WouldBlock => return Sent::Nothing,
+                    _ => return Sent::Failed,
+                },
+            }
+        }
+        Sent::Failed
+    }
+
+    fn shut(&mut self) {
+        let _gone = self.stream.shutdown(Shutdown::Write);
+    }
+}
