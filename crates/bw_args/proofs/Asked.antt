@@ -1,5 +1,5 @@
 -- What the getters of `clap` say of the task.
-use Rattle.std.proofs.Common.{◌≡◌, ℕ, ◌<◌, ◌≤◌, Bool, true, false, List, [], ◌∷◌, Option, Some, None, Result, Ok, Err}
+use Rattle.std.proofs.Common.{◌≡◌, ℕ, ◌<◌, ◌≤◌, Bool, true, false, List, [], ◌∷◌, ◌++◌, Option, Some, None, Result, Ok, Err}
 use Rattle.std.proofs.Common.{OnErr, codes, refl, subst, sym, ◌∙◌, arith, inl, inr, unwrap_or}
 use Rattle.std.proofs.Math.Path.{fun_ext}
 use Rattle.std.specs.Prelude.{⊤}
@@ -10,19 +10,20 @@ use Rattle.clap.specs.declared.parser.matches.Found.{Found}
 use Rattle.clap.proofs.WalkLemmas.{first_value-rows}
 use Rattle.bw_args.specs.Lines.{AsksNothing, GivesAddress, GivesCount, GivesEnd, GivesFuse, GivesLimit, GivesName}
 use Rattle.bw_args.specs.Lines.{GivesNoFuse, IsAddressGiven, IsEndGiven, is_set}
-use Rattle.bw_args.specs.Lines.{GivesSender, GivesServer, HasLimit, IsEnd, IsEndWithin, IsFirstBad, IsGood}
-use Rattle.bw_args.specs.Lines.{IsLimitGiven}
+use Rattle.bw_args.specs.Lines.{GivesRecorders, GivesSender, GivesServer, HasLimit, IsEnd, IsEndWithin, IsFirstBad}
+use Rattle.bw_args.specs.Lines.{IsGood, IsLimitGiven, IsRecorders, IsRecordersGiven, IsWayWithin, looked_at_waiting}
 use Rattle.bw_args.specs.Lines.{IsNameGiven, IsLineFor, IsWishOf, IsWithin, Service, Wish, given_by, looked_at}
 use Rattle.bw_args.specs.Lines.{Replaying, Rehearsing, Inspecting, Sending, Serving}
-use Rattle.bw_args.specs.Numbers.{IsLimit, default_rounds, most_exchanges, most_rounds}
+use Rattle.bw_args.specs.Numbers.{IsLimit, default_rounds, most_exchanges, most_recorders, most_rounds, most_seconds}
 use Rattle.bw_args.specs.declared.CommandLine.{CommandLine}
 use Rattle.bw_args.specs.declared.CommandLine.TheVariants.{Run, BadValue as Bad, Tell}
 use Rattle.bw_args.specs.declared.Task.TheVariants.{Replay, Rehearse, Inspect, Serve, Send}
-use Rattle.bw_args.proofs.WishLemmas.{one_count}
+use Rattle.bw_args.proofs.WishLemmas.{one_count, same_way}
 use Rattle.bw_args.specs.declared.peers.End.{End}
+use Rattle.bw_args.specs.declared.peers.Recorders.{Recorders as Way}
 use Rattle.bw_args.specs.declared.peers.Send.{Send as Sender}
 use Rattle.bw_args.specs.declared.bad_value.BadValue.{BadValue}
-use Rattle.bw_args.specs.declared.bad_value.BadValue.TheVariants.{Name, Limit, Fuse, UntilStopped}
+use Rattle.bw_args.specs.declared.bad_value.BadValue.TheVariants.{Name, Limit, Fuse, UntilStopped, Wait}
 
 -- what the getters give of the options, by their rows
 by_rows : (found : Found) (P : (Text → Option Text) → Type 0) → P (first_value found) → P (given_by (rows_of found))
@@ -54,7 +55,16 @@ wished_good name options wish asked = go wish asked
           (a.1.ends.0, a.1.ends.1),
           (
             (server.limit, a.1.limited),
-            ((server.timeout, a.1.waits), ((server.end, a.1.ends), tt)),
+            (
+              (a.1.serves.timeout, a.1.serves.waits),
+              (
+                (a.1.serves.most, a.1.serves.serves),
+                (
+                  (a.1.serves.idle, a.1.serves.idles),
+                  ((server.recorders, a.1.serves), ((server.end, a.1.ends), tt)),
+                ),
+              ),
+            ),
           ),
         ),
       ),
@@ -199,6 +209,30 @@ no_end found until_stopped count is given none good =
     none good.0 (subst (λ u. IsEnd count u good.0) (sym is)
     (subst (λ c. IsEnd c (is_set (first_value found (codes "until-stopped"))) good.0) same good.1.2))
 
+-- the ways that were looked at are the only ones
+pub no_way : (found : Found) (timeout most idle : Option ℕ)
+    → GivesCount most_seconds (first_value found (codes "timeout")) timeout
+    → GivesCount most_recorders (first_value found (codes "recorders")) most
+    → GivesCount most_seconds (first_value found (codes "idle")) idle → IsRecordersGiven timeout most idle None
+    → ¬ IsGood Wait (first_value found)
+no_way found timeout most idle waits serves idles none good =
+    none good.0 (same_way (first_value found) good.0 timeout most idle waits serves idles good.1)
+
+-- the first of these values that is bad is the first of them and of later ones
+pub first_then : (values later : List BadValue) (given : Text → Option Text) (value : BadValue)
+    → IsFirstBad values given value → IsFirstBad (values ++ later) given value
+first_then [] later given value bad = absurd bad
+first_then (first ∷ rest) later given value bad = elim bad [
+  | inl here ↦ inl here
+  | inr behind ↦ inr (behind.0, first_then rest later given value behind.1)
+]
+
+-- where how recorders are served is good, a later value may be the first that is bad
+pub way_then : (later : List BadValue) (given : Text → Option Text) (value : BadValue) (way : Way)
+    → GivesRecorders given way → IsFirstBad later given value → IsFirstBad (looked_at_waiting ++ later) given value
+way_then later given value way g bad =
+    inr ((g.timeout, g.waits), inr ((g.most, g.serves), inr ((g.idle, g.idles), inr ((way, g), bad))))
+
 given_limit : (text : Option Text) (limit : ℕ) → GivesLimit text limit → IsLimit limit
 given_limit (Some text) limit given = subst IsLimit (sym given.1) given.0.1
 given_limit None limit given = subst IsLimit (sym given) (refl, omega arith, omega arith)
@@ -219,6 +253,14 @@ given_end (Some count) false end within is = subst IsEndWithin (sym is) within
 given_end None true end within is = subst IsEndWithin (sym is) tt
 given_end (Some count) true end within is = absurd is
 
+given_way : (timeout most idle : Option ℕ) (way : Way) → IsWithin most_seconds timeout → IsWithin most_recorders most
+    → IsWithin most_seconds idle → IsRecorders timeout most idle way → IsWayWithin way
+given_way timeout None None way t m i is = subst IsWayWithin (sym is) t
+given_way timeout None (Some idle) way t m i is = absurd is
+given_way None (Some most) None way t m i is = subst IsWayWithin (sym is) (m, (omega arith, omega arith))
+given_way None (Some most) (Some idle) way t m i is = subst IsWayWithin (sym is) (m, i)
+given_way (Some timeout) (Some most) idle way t m i is = absurd is
+
 given_rounds : (count : Option ℕ) (rounds : ℕ) → IsWithin most_rounds count → rounds ≡ unwrap_or count default_rounds
     → (1 ≤ rounds) × (rounds ≤ most_rounds)
 given_rounds None rounds within is = rw is (omega arith, omega arith)
@@ -235,7 +277,8 @@ line_limit (Some command) (Run (Serve server)) asked = (
   given_port _ _ server.listen asked.1.listens,
   given_end _ _ server.end (given_count _ _ _ asked.1.ends.1) asked.1.ends.2,
   given_limit _ server.limit asked.1.limited,
-  given_count _ _ server.timeout asked.1.waits,
+  given_way _ _ _ server.recorders (given_count _ _ _ asked.1.serves.waits) (given_count _ _ _ asked.1.serves.serves)
+      (given_count _ _ _ asked.1.serves.idles) asked.1.serves.is,
 )
 line_limit (Some command) (Run (Send sender)) asked = (
   given_port _ _ sender.connect asked.1.connects,

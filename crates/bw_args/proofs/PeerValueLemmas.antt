@@ -1,5 +1,5 @@
 -- Values of `serve` and `send` that are bad, and what they want.
-use Rattle.std.proofs.Common.{◌≡◌, ◌≢◌, List, [], ◌∷◌, ◌++◌, true, false, Some, None}
+use Rattle.std.proofs.Common.{◌≡◌, ◌≢◌, ℕ, List, [], ◌∷◌, ◌++◌, true, false, Option, Some, None}
 use Rattle.std.proofs.Common.{codes}
 use Rattle.std.proofs.Common.{refl, ap, subst, ◌∙◌, inl, inr}
 use Rattle.std.specs.declared.net.socket_addr.SocketAddr.{SocketAddr}
@@ -8,10 +8,11 @@ use Rattle.clap.specs.Words.{Text, fault_of}
 use Rattle.clap.proofs.OnLiterals.{clap_on_literals}
 use Rattle.bw_args.specs.Addresses.{IsAddress}
 use Rattle.bw_args.specs.Commands.{command_line}
-use Rattle.bw_args.specs.Numbers.{IsCountText, IsLimitText, default_limit, most_exchanges, most_rounds, most_seconds}
+use Rattle.bw_args.specs.Numbers.{IsCountText, IsLimitText, default_limit, most_exchanges, most_recorders}
+use Rattle.bw_args.specs.Numbers.{most_rounds, most_seconds}
 use Rattle.bw_args.specs.Numbers.{number_written}
 use Rattle.bw_args.specs.ReadWords.{as_read}
-use Rattle.bw_args.specs.Lines.{IsEnd, IsLineOf, IsName}
+use Rattle.bw_args.specs.Lines.{GivesCount, GivesRecorders, IsEnd, IsLineOf, IsName, IsRecordersGiven}
 use Rattle.bw_args.specs.Forms.{IsToldAs}
 use Rattle.bw_args.specs.PeerForms.{RefusesPeers, WantsPeers}
 use Rattle.bw_args.specs.PeerForms.{sending, serving}
@@ -19,7 +20,12 @@ use Rattle.bw_args.specs.declared.CommandLine.{CommandLine}
 use Rattle.bw_args.proofs.FormLemmas.{tells}
 use Rattle.bw_args.proofs.ValueLemmas.{IsBadAt, told}
 use Rattle.bw_args.specs.declared.bad_value.BadValue.TheVariants.{Name, Limit, Listen, Folder, Exchanges, Timeout}
+use Rattle.bw_args.specs.declared.bad_value.BadValue.TheVariants.{Recorders, Idle, Wait}
 use Rattle.bw_args.specs.declared.bad_value.BadValue.TheVariants.{UntilStopped, Connect, Rounds}
+use Rattle.bw_args.specs.declared.peers.Recorders.{Recorders as Way}
+use Rattle.bw_args.specs.declared.peers.Recorders.TheVariants.{InTurn}
+use Rattle.bw_args.proofs.ServerLemmas.{serves_by}
+use Rattle.bw_args.proofs.WishLemmas.{same_way}
 
 listen : (program address folder : Text) → ((a : SocketAddr) → ¬ IsAddress false address a)
     → IsBadAt (as_read (serving program address folder [])) Listen
@@ -71,6 +77,132 @@ timeout program listen folder address seconds at full none = (
   ),
 )
 
+recorders : (program listen folder : Text) (address : SocketAddr) (count : Text) → IsAddress false listen address
+    → folder ≢ [] → ¬ IsCountText most_recorders count
+    → IsBadAt (as_read (serving program listen folder ((codes "--recorders=" ++ count) ∷ []))) Recorders
+unfolding clap_on_literals
+recorders program listen folder address count at full none = (
+  refl,
+  inr (
+    (address, at),
+    inr (
+      (folder, (full, refl)),
+      inr (
+        (None, refl),
+        inr (
+          (default_limit, refl),
+          inr (
+            (None, refl),
+            inl ((λ good. none good.1.0), refl),
+          ),
+        ),
+      ),
+    ),
+  ),
+)
+
+idle : (program listen folder : Text) (address : SocketAddr) (seconds : Text) → IsAddress false listen address
+    → folder ≢ [] → ¬ IsCountText most_seconds seconds
+    → IsBadAt (as_read (serving program listen folder ((codes "--idle=" ++ seconds) ∷ []))) Idle
+unfolding clap_on_literals
+idle program listen folder address seconds at full none = (
+  refl,
+  inr (
+    (address, at),
+    inr (
+      (folder, (full, refl)),
+      inr (
+        (None, refl),
+        inr (
+          (default_limit, refl),
+          inr (
+            (None, refl),
+            inr (
+              (None, refl),
+              inl ((λ good. none good.1.0), refl),
+            ),
+          ),
+        ),
+      ),
+    ),
+  ),
+)
+
+-- no way has these times and numbers
+no_way : {given : Text → Option Text} (timeout most idle : Option ℕ)
+    → GivesCount most_seconds (given (codes "timeout")) timeout
+    → GivesCount most_recorders (given (codes "recorders")) most
+    → GivesCount most_seconds (given (codes "idle")) idle → IsRecordersGiven timeout most idle None
+    → ¬ ((way : Way) × GivesRecorders given way)
+no_way {given} timeout most idle waits serves idles none good =
+    none good.0 (same_way given good.0 timeout most idle waits serves idles good.1)
+
+idle_alone : (program listen folder : Text) (address : SocketAddr) (seconds : Text) → IsAddress false listen address
+    → folder ≢ [] → IsCountText most_seconds seconds
+    → IsBadAt (as_read (serving program listen folder ((codes "--idle=" ++ seconds) ∷ []))) Wait
+unfolding clap_on_literals
+idle_alone program listen folder address seconds at full given = (
+  refl,
+  inr (
+    (address, at),
+    inr (
+      (folder, (full, refl)),
+      inr (
+        (None, refl),
+        inr (
+          (default_limit, refl),
+          inr (
+            (None, refl),
+            inr (
+              (None, refl),
+              inr (
+                (Some (number_written seconds), (given, refl)),
+                inl (no_way None None (Some (number_written seconds)) refl refl (given, refl) (λ way is. is), refl),
+              ),
+            ),
+          ),
+        ),
+      ),
+    ),
+  ),
+)
+
+timeout_beside : (program listen folder : Text) (address : SocketAddr) (count seconds : Text)
+    → IsAddress false listen address → folder ≢ [] → IsCountText most_recorders count
+    → IsCountText most_seconds seconds
+    → IsBadAt (as_read (serving program listen folder ((codes "--recorders=" ++ count)
+    ∷ (codes "--timeout=" ++ seconds) ∷ []))) Wait
+unfolding clap_on_literals
+timeout_beside program listen folder address count seconds at full given waits = (
+  refl,
+  inr (
+    (address, at),
+    inr (
+      (folder, (full, refl)),
+      inr (
+        (None, refl),
+        inr (
+          (default_limit, refl),
+          inr (
+            (Some (number_written seconds), (waits, refl)),
+            inr (
+              (Some (number_written count), (given, refl)),
+              inr (
+                (None, refl),
+                inl (
+                  no_way (Some (number_written seconds)) (Some (number_written count)) None (waits, refl)
+                      (given, refl) refl (λ way is. is),
+                  refl,
+                ),
+              ),
+            ),
+          ),
+        ),
+      ),
+    ),
+  ),
+)
+
 both : (program listen folder : Text) (address : SocketAddr) (count : Text) → IsAddress false listen address
     → folder ≢ [] → IsCountText most_exchanges count
     → IsBadAt (as_read (serving program listen folder ((codes "--exchanges=" ++ count) ∷ codes "--until-stopped"
@@ -88,7 +220,16 @@ both program listen folder address count at full given = (
           (default_limit, refl),
           inr (
             (None, refl),
-            inl ((λ good. subst (λ c. IsEnd c true good.0) good.1.1.1 good.1.2), refl),
+            inr (
+              (None, refl),
+              inr (
+                (None, refl),
+                inr (
+                  (InTurn None, serves_by None None None _ refl refl refl refl),
+                  inl ((λ good. subst (λ c. IsEnd c true good.0) good.1.1.1 good.1.2), refl),
+                ),
+              ),
+            ),
           ),
         ),
       ),
@@ -138,6 +279,11 @@ refuses_peers words line is = record {
   exchanges = λ n none p l f a at full e. told words _ line Exchanges is e (exchanges p l f a n at full none);
   limit = λ n none p l f a at full e. told words _ line Limit is e (limit p l f a n at full none);
   timeout = λ n none p l f a at full e. told words _ line Timeout is e (timeout p l f a n at full none);
+  recorders = λ n none p l f a at full e. told words _ line Recorders is e (recorders p l f a n at full none);
+  idle = λ n none p l f a at full e. told words _ line Idle is e (idle p l f a n at full none);
+  idle_alone = λ n given p l f a at full e. told words _ line Wait is e (idle_alone p l f a n at full given);
+  timeout_beside = λ n s given waits p l f a at full e.
+      told words _ line Wait is e (timeout_beside p l f a n s at full given waits);
   both = λ n given p l f a at full e. told words _ line UntilStopped is e (both p l f a n at full given);
   connect = λ p c n none e. told words _ line Connect is e (connect p c n none);
   connect_far = λ p c n none e. told words _ line Connect is e (connect_far p c n none);

@@ -1,5 +1,5 @@
 -- The forms of `serve`, at values that are not known.
-use Rattle.std.proofs.Common.{◌≡◌, ◌≢◌, ℕ, List, [], ◌∷◌, ◌++◌, true, false, Some, None, ◌<◌}
+use Rattle.std.proofs.Common.{◌≡◌, ◌≢◌, ℕ, List, [], ◌∷◌, ◌++◌, true, false, Option, Some, None, ◌<◌}
 use Rattle.std.proofs.Common.{◌+◌, ◌-◌, codes, suc, zero}
 use Rattle.std.proofs.Common.{refl, subst, sym, arith}
 use Rattle.std.proofs.lemmas.Str.Parse.{digit_from_value}
@@ -10,17 +10,35 @@ use Rattle.clap.specs.Words.{Text, fault_of, subcommand_of}
 use Rattle.clap.proofs.OnLiterals.{clap_on_literals}
 use Rattle.bw_args.specs.Addresses.{IsAddress, local}
 use Rattle.bw_args.specs.Commands.{command_line}
-use Rattle.bw_args.specs.Numbers.{IsCountText, IsLimitText, IsNumber, most_exchanges}
-use Rattle.bw_args.specs.Numbers.{most_seconds}
+use Rattle.bw_args.specs.Numbers.{IsCountText, IsLimitText, IsNumber, default_idle, most_exchanges}
+use Rattle.bw_args.specs.Numbers.{most_recorders, most_seconds}
 use Rattle.bw_args.specs.Numbers.{number_written}
 use Rattle.bw_args.specs.ReadWords.{as_read}
-use Rattle.bw_args.specs.Lines.{AsksFor, IsLineOf, IsWishOf, Serving, Wish}
+use Rattle.bw_args.specs.Lines.{AsksFor, GivesCount, GivesRecorders, IsLineOf, IsRecorders, IsWishOf, Serving, Wish}
 use Rattle.bw_args.specs.Forms.{RunsFor}
 use Rattle.bw_args.specs.PeerForms.{RunsServer, plain_server}
 use Rattle.bw_args.specs.PeerForms.{serving}
 use Rattle.bw_args.specs.declared.CommandLine.{CommandLine}
 use Rattle.bw_args.specs.declared.peers.End.TheVariants as when
+use Rattle.bw_args.specs.declared.peers.Recorders.{Recorders as Way}
+use Rattle.bw_args.specs.declared.peers.Recorders.TheVariants.{InTurn, AtOnce}
 use Rattle.bw_args.proofs.FormLemmas.{runs}
+
+-- how recorders are served, where these are the times and numbers that are given
+pub serves_by : {given : Text → Option Text} (timeout most idle : Option ℕ) (way : Way)
+    → GivesCount most_seconds (given (codes "timeout")) timeout
+    → GivesCount most_recorders (given (codes "recorders")) most
+    → GivesCount most_seconds (given (codes "idle")) idle → IsRecorders timeout most idle way
+    → GivesRecorders given way
+serves_by timeout most idle way waits serves idles is = record {
+  timeout = timeout;
+  most = most;
+  idle = idle;
+  waits = waits;
+  serves = serves;
+  idles = idles;
+  is = is;
+}
 
 alone_asks : (program listen folder : Text) (address : SocketAddr) → IsAddress false listen address → folder ≢ []
     → AsksFor (as_read (serving program listen folder [])) (Serving (plain_server address folder))
@@ -35,7 +53,7 @@ alone_asks program listen folder address at full =
           keeps = (full, refl);
           ends = (None, refl, refl);
           limited = refl;
-          waits = refl;
+          serves = serves_by None None None _ refl refl refl refl;
           tells = refl;
         },
       );
@@ -56,7 +74,7 @@ exchanges_asks program listen folder address count at full given =
           keeps = (full, refl);
           ends = (Some (number_written count), (given, refl), refl);
           limited = refl;
-          waits = refl;
+          serves = serves_by None None None _ refl refl refl refl;
           tells = refl;
         },
       );
@@ -77,7 +95,7 @@ limit_asks program listen folder address limit at full given =
           keeps = (full, refl);
           ends = (None, refl, refl);
           limited = (given, refl);
-          waits = refl;
+          serves = serves_by None None None _ refl refl refl refl;
           tells = refl;
         },
       );
@@ -86,7 +104,7 @@ limit_asks program listen folder address limit at full given =
 timeout_asks : (program listen folder : Text) (address : SocketAddr) (seconds : Text)
     → IsAddress false listen address → folder ≢ [] → IsCountText most_seconds seconds
     → AsksFor (as_read (serving program listen folder ((codes "--timeout=" ++ seconds) ∷ []))) (Serving
-    (record (plain_server address folder) { timeout = Some (number_written seconds) }))
+    (record (plain_server address folder) { recorders = InTurn (Some (number_written seconds)) }))
 unfolding clap_on_literals
 timeout_asks program listen folder address seconds at full given =
     record {
@@ -98,7 +116,52 @@ timeout_asks program listen folder address seconds at full given =
           keeps = (full, refl);
           ends = (None, refl, refl);
           limited = refl;
-          waits = (given, refl);
+          serves = serves_by (Some (number_written seconds)) None None _ (given, refl) refl refl refl;
+          tells = refl;
+        },
+      );
+    }
+
+recorders_asks : (program listen folder : Text) (address : SocketAddr) (count : Text)
+    → IsAddress false listen address → folder ≢ [] → IsCountText most_recorders count
+    → AsksFor (as_read (serving program listen folder ((codes "--recorders=" ++ count) ∷ []))) (Serving
+    (record (plain_server address folder) { recorders = AtOnce (number_written count) default_idle }))
+unfolding clap_on_literals
+recorders_asks program listen folder address count at full given =
+    record {
+      taken = refl;
+      asked = (
+        refl,
+        record {
+          listens = at;
+          keeps = (full, refl);
+          ends = (None, refl, refl);
+          limited = refl;
+          serves = serves_by None (Some (number_written count)) None _ refl (given, refl) refl refl;
+          tells = refl;
+        },
+      );
+    }
+
+idle_asks : (program listen folder : Text) (address : SocketAddr) (count seconds : Text)
+    → IsAddress false listen address → folder ≢ [] → IsCountText most_recorders count
+    → IsCountText most_seconds seconds
+    → AsksFor (as_read (serving program listen folder ((codes "--recorders=" ++ count) ∷ (codes "--idle=" ++ seconds)
+    ∷ []))) (Serving
+    (record (plain_server address folder) { recorders = AtOnce (number_written count) (number_written seconds) }))
+unfolding clap_on_literals
+idle_asks program listen folder address count seconds at full given idles =
+    record {
+      taken = refl;
+      asked = (
+        refl,
+        record {
+          listens = at;
+          keeps = (full, refl);
+          ends = (None, refl, refl);
+          limited = refl;
+          serves = serves_by None (Some (number_written count)) (Some (number_written seconds)) _ refl (given, refl)
+              (idles, refl) refl;
           tells = refl;
         },
       );
@@ -118,7 +181,7 @@ network_asks program listen folder address at full =
           keeps = (full, refl);
           ends = (None, refl, refl);
           limited = refl;
-          waits = refl;
+          serves = serves_by None None None _ refl refl refl refl;
           tells = refl;
         },
       );
@@ -139,7 +202,7 @@ until_stopped_asks program listen folder address at full =
           keeps = (full, refl);
           ends = (None, refl, refl);
           limited = refl;
-          waits = refl;
+          serves = serves_by None None None _ refl refl refl refl;
           tells = refl;
         },
       );
@@ -159,7 +222,7 @@ log_asks program listen folder address at full =
           keeps = (full, refl);
           ends = (None, refl, refl);
           limited = refl;
-          waits = refl;
+          serves = serves_by None None None _ refl refl refl refl;
           tells = refl;
         },
       );
@@ -181,7 +244,7 @@ apart_near program folder address at full = record {
       keeps = (full, refl);
       ends = (None, refl, refl);
       limited = refl;
-      waits = refl;
+      serves = serves_by None None None _ refl refl refl refl;
       tells = refl;
     },
   );
@@ -281,6 +344,26 @@ timeout_apart program listen folder (d ∷ ds) wish number asks = by_digit
       same_asks _ _ wish refl refl,
     ) d (digit_from_value d number.0.1.0) asks
 
+recorders_apart : (program listen folder count : Text) (wish : Wish) → IsNumber count
+    → AsksFor (as_read (serving program listen folder ((codes "--recorders=" ++ count) ∷ []))) wish
+    → AsksFor (as_read (serving program listen folder (codes "--recorders" ∷ count ∷ []))) wish
+unfolding clap_on_literals
+recorders_apart program listen folder [] wish number asks = let bad : 0 < 0 = number.0.0 in absurd (omega arith)
+recorders_apart program listen folder (d ∷ ds) wish number asks = by_digit
+    (λ c. AsksFor (as_read (serving program listen folder ((codes "--recorders=" ++ (c ∷ ds)) ∷ []))) wish
+    → AsksFor (as_read (serving program listen folder (codes "--recorders" ∷ (c ∷ ds) ∷ []))) wish) (
+      same_asks _ _ wish refl refl,
+      same_asks _ _ wish refl refl,
+      same_asks _ _ wish refl refl,
+      same_asks _ _ wish refl refl,
+      same_asks _ _ wish refl refl,
+      same_asks _ _ wish refl refl,
+      same_asks _ _ wish refl refl,
+      same_asks _ _ wish refl refl,
+      same_asks _ _ wish refl refl,
+      same_asks _ _ wish refl refl,
+    ) d (digit_from_value d number.0.1.0) asks
+
 -- words that ask for this run it
 pub asked_runs : (words asking : List Text) (line : CommandLine) (wish : Wish) → IsLineOf words line → words ≡ asking
     → AsksFor (as_read asking) wish → RunsFor wish line
@@ -300,6 +383,11 @@ runs_server words line is = record {
   timeout = λ n given p l f a at full e. asked_runs words _ line _ is e (timeout_asks p l f a n at full given);
   timeout_apart = λ n given p l f a at full e.
       asked_runs words _ line _ is e (timeout_apart p l f n _ given.0 (timeout_asks p l f a n at full given));
+  recorders = λ n given p l f a at full e. asked_runs words _ line _ is e (recorders_asks p l f a n at full given);
+  recorders_apart = λ n given p l f a at full e.
+      asked_runs words _ line _ is e (recorders_apart p l f n _ given.0 (recorders_asks p l f a n at full given));
+  idle = λ n s given idles p l f a at full e.
+      asked_runs words _ line _ is e (idle_asks p l f a n s at full given idles);
   network = λ p l f a at full e. asked_runs words _ line _ is e (network_asks p l f a at full);
   until_stopped = λ p l f a at full e. asked_runs words _ line _ is e (until_stopped_asks p l f a at full);
   log = λ p l f a at full e. asked_runs words _ line _ is e (log_asks p l f a at full);

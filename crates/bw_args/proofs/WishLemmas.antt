@@ -5,10 +5,12 @@ use Rattle.std.specs.declared.net.socket_addr.SocketAddr.{SocketAddr}
 use Rattle.std.proofs.NetLemmas.Theorems.{IsSocketText_unique}
 use Rattle.clap.specs.Words.{Row, Text, first_of}
 use Rattle.bw_args.specs.Lines.{GivesAddress, GivesCount, GivesEnd, GivesFolder, GivesFuse, GivesLimit, GivesName}
-use Rattle.bw_args.specs.Lines.{GivesRounds, GivesSender, GivesServer, IsEnd, IsWishOf, Service, Wish}
+use Rattle.bw_args.specs.Lines.{GivesRecorders, GivesRounds, GivesSender, GivesServer, IsEnd, IsRecorders, IsWishOf}
+use Rattle.bw_args.specs.Lines.{Service, Wish}
 use Rattle.bw_args.specs.Lines.{Inspecting, Rehearsing, Replaying, Sending, Serving}
-use Rattle.bw_args.specs.Numbers.{most_exchanges, most_rounds}
+use Rattle.bw_args.specs.Numbers.{most_exchanges, most_recorders, most_rounds, most_seconds}
 use Rattle.bw_args.specs.declared.peers.End.{End}
+use Rattle.bw_args.specs.declared.peers.Recorders.{Recorders as Way}
 use Rattle.bw_args.specs.declared.peers.Send.{Send as Sender}
 
 one_limit : (text : Option Text) (a b : ℕ) → GivesLimit text a → GivesLimit text b → a ≡ b
@@ -56,20 +58,46 @@ one_round text a b x y =
     let same : x.0 ≡ y.0 = one_count most_rounds text x.0 y.0 x.1 y.1 in
     x.2 ∙ ap (λ c. unwrap_or c 16) same ∙ sym y.2
 
+-- what is given of the times and numbers says the way
+pub same_way : (given : Text → Option Text) (way : Way) (timeout most idle : Option ℕ)
+    → GivesCount most_seconds (given (codes "timeout")) timeout
+    → GivesCount most_recorders (given (codes "recorders")) most
+    → GivesCount most_seconds (given (codes "idle")) idle → GivesRecorders given way
+    → IsRecorders timeout most idle way
+same_way given way timeout most idle waits serves idles g =
+    subst (λ (t : Option ℕ). IsRecorders t most idle way)
+    (one_count most_seconds (given (codes "timeout")) g.timeout timeout g.waits waits)
+    (subst (λ (n : Option ℕ). IsRecorders g.timeout n idle way)
+    (one_count most_recorders (given (codes "recorders")) g.most most g.serves serves)
+    (subst (λ (i : Option ℕ). IsRecorders g.timeout g.most i way)
+    (one_count most_seconds (given (codes "idle")) g.idle idle g.idles idles) g.is))
+
+-- there is one
+way_once : (timeout most idle : Option ℕ) (a b : Way) → IsRecorders timeout most idle a
+    → IsRecorders timeout most idle b → a ≡ b
+way_once timeout None None a b x y = x ∙ sym y
+way_once timeout None (Some idle) a b x y = absurd x
+way_once None (Some most) idle a b x y = x ∙ sym y
+way_once (Some timeout) (Some most) idle a b x y = absurd x
+
+one_way : (given : Text → Option Text) (a b : Way) → GivesRecorders given a → GivesRecorders given b → a ≡ b
+one_way given a b x y =
+    way_once y.timeout y.most y.idle a b (same_way given a y.timeout y.most y.idle y.waits y.serves y.idles x) y.is
+
 one_server : (given : Text → Option Text) (a b : Service) → GivesServer given a → GivesServer given b → a ≡ b
 one_server given a b x y =
     let listens = one_address _ _ a.listen b.listen x.listens y.listens in
     let keeps = one_folder _ a.folder b.folder x.keeps y.keeps in
     let stops = ends_once _ _ a.end b.end x.ends y.ends in
     let limited = one_limit _ a.limit b.limit x.limited y.limited in
-    let waits = one_count _ _ a.timeout b.timeout x.waits y.waits in
+    let serves = one_way given a.recorders b.recorders x.serves y.serves in
     let tells = x.tells ∙ sym y.tells in
     λ i. record {
       listen = listens i;
       folder = keeps i;
       end = stops i;
       limit = limited i;
-      timeout = waits i;
+      recorders = serves i;
       log = tells i;
     }
 

@@ -4,6 +4,7 @@ use Rattle.clap.specs.Walk.{Text}
 use Rattle.bw_args.specs.declared.bad_value.BadValue.{BadValue}
 use Rattle.bw_args.specs.declared.bad_value.BadValue.TheVariants.{Name, Limit, Fuse, Listen}
 use Rattle.bw_args.specs.declared.bad_value.BadValue.TheVariants.{Folder, Exchanges, Timeout}
+use Rattle.bw_args.specs.declared.bad_value.BadValue.TheVariants.{Recorders, Idle, Wait}
 use Rattle.bw_args.specs.declared.bad_value.BadValue.TheVariants.{UntilStopped, Connect, Rounds}
 
 -- what an address is
@@ -23,6 +24,12 @@ fault_said Exchanges =
     codes "'--exchanges <N>' takes a number from 1 to 1000000, in at most ten digits"
 fault_said Timeout =
     codes "'--timeout <SECONDS>' takes a number from 1 to 86400, in at most ten digits"
+fault_said Recorders =
+    codes "'--recorders <N>' takes a number from 1 to 256, in at most ten digits"
+fault_said Idle =
+    codes "'--idle <SECONDS>' takes a number from 1 to 86400, in at most ten digits"
+fault_said Wait = codes "'--idle <SECONDS>' is for '--recorders <N>', and "
+    ++ codes "'--timeout <SECONDS>' for a server without it"
 fault_said UntilStopped = codes "'--until-stopped' can't be given beside '--exchanges <N>'"
 fault_said Connect = codes "'--connect <ADDR>' takes " ++ address_wanted
 fault_said Rounds = codes "'--rounds <N>' takes a number from 1 to 1000, in at most ten digits"

@@ -64,6 +64,14 @@ folder_option = required (codes "folder")
 abbrev pub exchanges_option : Rule
 exchanges_option = option (codes "exchanges")
 
+-- `--recorders N`
+abbrev pub recorders_option : Rule
+recorders_option = option (codes "recorders")
+
+-- `--idle SECONDS`
+abbrev pub idle_option : Rule
+idle_option = option (codes "idle")
+
 -- `--until-stopped`
 abbrev pub until_stopped_flag : Rule
 until_stopped_flag = flag (codes "until-stopped")
@@ -82,9 +90,13 @@ serve_where =
 abbrev pub serve_how : App
 serve_how = with_rule (with_rule (with_rule serve_where limit_option) timeout_option) network_flag
 
--- `serve`, with its eight options
+-- .. and many of them at once
+abbrev pub serve_many : App
+serve_many = with_rule (with_rule serve_how recorders_option) idle_option
+
+-- `serve`, with its ten options
 abbrev pub serve_command : App
-serve_command = with_rule (with_rule serve_how until_stopped_flag) log_flag
+serve_command = with_rule (with_rule serve_many until_stopped_flag) log_flag
 
 -- `--connect ADDR`
 abbrev pub connect_option : Rule

@@ -1,6 +1,6 @@
 -- What a command line asks for.
 use Rattle.std.specs.Prelude.{◌≡◌, ◌≢◌, ◌⊎◌, ⊤, ℕ, ◌<◌, ◌≤◌, Bool, true}
-use Rattle.std.specs.Prelude.{false, List, [], ◌∷◌}
+use Rattle.std.specs.Prelude.{false, List, [], ◌∷◌, ◌++◌}
 use Rattle.std.specs.Prelude.{Option, Some, None, unwrap_or, Result, Ok, Err, string_bytes, codes}
 use Rattle.std.specs.Prelude.{IsTrue, if◌then◌else◌}
 use Rattle.std.specs.Str.{bytes_eq}
@@ -16,8 +16,8 @@ use Rattle.clap.specs.declared.error.ErrorKind.TheVariants.{OutOfMemory}
 use Rattle.bw_model.specs.Wire.{is_name}
 use Rattle.bw_args.specs.Addresses.{IsAddress}
 use Rattle.bw_args.specs.Numbers.{IsCountText, IsLimit, IsLimitText, IsNumber, default_limit}
-use Rattle.bw_args.specs.Numbers.{default_rounds, most_exchanges, most_rounds, most_seconds}
-use Rattle.bw_args.specs.Numbers.{number_written}
+use Rattle.bw_args.specs.Numbers.{default_idle, default_rounds, most_exchanges, most_recorders}
+use Rattle.bw_args.specs.Numbers.{most_rounds, most_seconds, number_written}
 use Rattle.bw_args.specs.Commands.{command_line}
 use Rattle.bw_args.specs.ReadWords.{as_read}
 use Rattle.bw_args.specs.declared.CommandLine.{CommandLine}
@@ -25,9 +25,12 @@ use Rattle.bw_args.specs.declared.CommandLine.TheVariants.{Run, BadValue as Bad,
 use Rattle.bw_args.specs.declared.bad_value.BadValue.{BadValue}
 use Rattle.bw_args.specs.declared.bad_value.BadValue.TheVariants.{Name, Limit, Fuse, Listen}
 use Rattle.bw_args.specs.declared.bad_value.BadValue.TheVariants.{Folder, Exchanges, Timeout}
+use Rattle.bw_args.specs.declared.bad_value.BadValue.TheVariants.{Recorders, Idle, Wait}
 use Rattle.bw_args.specs.declared.bad_value.BadValue.TheVariants.{UntilStopped, Connect, Rounds}
 use Rattle.bw_args.specs.declared.peers.End.{End}
 use Rattle.bw_args.specs.declared.peers.End.TheVariants as when
+use Rattle.bw_args.specs.declared.peers.Recorders.{Recorders as Way}
+use Rattle.bw_args.specs.declared.peers.Recorders.TheVariants.{InTurn, AtOnce}
 use Rattle.bw_args.specs.declared.peers.Send.{Send as Sender}
 use Rattle.bw_args.specs.declared.Task.{Task}
 use Rattle.bw_args.specs.declared.Task.TheVariants.{Replay, Rehearse, Inspect, Serve, Send}
@@ -127,6 +130,29 @@ abbrev pub GivesEnd : Option Text → Bool → End → Type 0
 GivesEnd text until_stopped end =
     (count : Option ℕ) × GivesCount most_exchanges text count × IsEnd count until_stopped end
 
+-- how recorders are served: many at once, where their number is given, and one after the other where
+-- it isn't; each way has a time of its own, of which only the first has a default
+abbrev pub IsRecorders : Option ℕ → Option ℕ → Option ℕ → Way → Type 0
+IsRecorders timeout None None way = way ≡ InTurn timeout
+IsRecorders timeout None (Some idle) way = ⊥
+IsRecorders None (Some most) idle way = way ≡ AtOnce most (unwrap_or idle default_idle)
+IsRecorders (Some timeout) (Some most) idle way = ⊥
+
+-- exactly that way
+abbrev pub IsRecordersGiven : Option ℕ → Option ℕ → Option ℕ → Option Way → Type 0
+IsRecordersGiven timeout most idle (Some way) = IsRecorders timeout most idle way
+IsRecordersGiven timeout most idle None = (way : Way) → ¬ IsRecorders timeout most idle way
+
+-- how recorders are served, by the three options that say it
+pub record GivesRecorders (given : Text → Option Text) (way : Way) : Type 0 where
+  pub timeout : Option ℕ
+  pub most : Option ℕ
+  pub idle : Option ℕ
+  pub waits : GivesCount most_seconds (given (codes "timeout")) timeout
+  pub serves : GivesCount most_recorders (given (codes "recorders")) most
+  pub idles : GivesCount most_seconds (given (codes "idle")) idle
+  pub is : IsRecorders timeout most idle way
+
 -- the rounds that an option gives, or the default
 abbrev pub GivesRounds : Option Text → ℕ → Type 0
 GivesRounds text rounds = (count : Option ℕ) × GivesCount most_rounds text count
@@ -138,7 +164,7 @@ pub record Service : Type 0 where
   pub folder : Text
   pub end : End
   pub limit : ℕ
-  pub timeout : Option ℕ
+  pub recorders : Way
   pub log : Bool
 
 -- what may be asked for: a replay with this limit, in which the call of this number fails, or none;
@@ -161,7 +187,7 @@ wish_of (Serve server) = Serving (record {
   folder = string_bytes server.folder;
   end = server.end;
   limit = server.limit;
-  timeout = server.timeout;
+  recorders = server.recorders;
   log = server.log;
 })
 wish_of (Send sender) = Sending sender
@@ -174,7 +200,7 @@ pub record GivesServer (given : Text → Option Text) (server : Service) : Type 
   pub ends :
       GivesEnd (given (codes "exchanges")) (is_set (given (codes "until-stopped"))) server.end
   pub limited : GivesLimit (given (codes "limit")) server.limit
-  pub waits : GivesCount most_seconds (given (codes "timeout")) server.timeout
+  pub serves : GivesRecorders given server.recorders
   pub tells : server.log ≡ is_set (given (codes "log"))
 
 -- what is given is this sender
@@ -221,18 +247,26 @@ IsGood Folder given = (folder : Text) × GivesFolder (given (codes "folder")) fo
 IsGood Exchanges given = (count : Option ℕ)
     × GivesCount most_exchanges (given (codes "exchanges")) count
 IsGood Timeout given = (count : Option ℕ) × GivesCount most_seconds (given (codes "timeout")) count
+IsGood Recorders given = (count : Option ℕ)
+    × GivesCount most_recorders (given (codes "recorders")) count
+IsGood Idle given = (count : Option ℕ) × GivesCount most_seconds (given (codes "idle")) count
+IsGood Wait given = (way : Way) × GivesRecorders given way
 IsGood UntilStopped given = (end : End)
     × GivesEnd (given (codes "exchanges")) (is_set (given (codes "until-stopped"))) end
 IsGood Connect given = (address : SocketAddr)
     × GivesAddress (is_set (given (codes "network"))) (given (codes "connect")) address
 IsGood Rounds given = (count : Option ℕ) × GivesCount most_rounds (given (codes "rounds")) count
 
+-- the values that say how recorders are served, in the order in which they are looked at
+abbrev pub looked_at_waiting : List BadValue
+looked_at_waiting = Timeout ∷ Recorders ∷ Idle ∷ Wait ∷ []
+
 -- the values that a command looks at, in this order
 abbrev pub looked_at : Text → List BadValue
 looked_at command = if bytes_eq command (codes "replay") then Limit ∷ Fuse ∷ []
     else (if bytes_eq command (codes "rehearse") then Name ∷ Limit ∷ []
     else (if bytes_eq command (codes "serve")
-    then Listen ∷ Folder ∷ Exchanges ∷ Limit ∷ Timeout ∷ UntilStopped ∷ []
+    then Listen ∷ Folder ∷ Exchanges ∷ Limit ∷ (looked_at_waiting ++ UntilStopped ∷ [])
     else (if bytes_eq command (codes "send") then Connect ∷ Name ∷ Rounds ∷ Timeout ∷ [] else [])))
 
 -- of these values, in this order, it is the first that is bad
@@ -291,13 +325,19 @@ abbrev pub IsEndWithin : End → Type 0
 IsEndWithin (when.Exchanges count) = (1 ≤ count) × (count ≤ most_exchanges)
 IsEndWithin when.UntilStopped = ⊤
 
+-- how recorders are served is in the ranges of what may be asked for
+abbrev pub IsWayWithin : Way → Type 0
+IsWayWithin (InTurn timeout) = IsWithin most_seconds timeout
+IsWayWithin (AtOnce most idle) = ((1 ≤ most) × (most ≤ most_recorders))
+    × ((1 ≤ idle) × (idle ≤ most_seconds))
+
 -- where a task runs, its numbers are such as may be asked for
 abbrev pub HasLimit : CommandLine → Type 0
 HasLimit (Run (Replay limit fuse)) = IsLimit limit
 HasLimit (Run (Rehearse name limit)) = IsLimit limit
 HasLimit (Run (Inspect file)) = ⊤
 HasLimit (Run (Serve server)) = (0 < socket_port server.listen) × IsEndWithin server.end
-    × IsLimit server.limit × IsWithin most_seconds server.timeout
+    × IsLimit server.limit × IsWayWithin server.recorders
 HasLimit (Run (Send sender)) = (0 < socket_port sender.connect)
     × ((1 ≤ sender.rounds) × (sender.rounds ≤ most_rounds))
     × IsWithin most_seconds sender.timeout

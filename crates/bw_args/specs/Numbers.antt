@@ -38,6 +38,15 @@ most_rounds = 1000
 abbrev pub default_rounds : ℕ
 default_rounds = 16
 
+-- the most recorders that a server may be asked to serve at once
+abbrev pub most_recorders : ℕ
+most_recorders = 256
+
+-- the seconds after which one of many that sends no whole message is let go, where no number is
+-- given
+abbrev pub default_idle : ℕ
+default_idle = 60
+
 -- the longest time for which a peer may be waited for, in seconds: a day
 abbrev pub most_seconds : ℕ
 most_seconds = 86400

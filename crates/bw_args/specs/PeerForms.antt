@@ -5,8 +5,9 @@ use Rattle.std.specs.declared.net.socket_addr.SocketAddr.{SocketAddr}
 use Rattle.clap.specs.Walk.{Text}
 use Rattle.clap.specs.declared.error.ErrorKind.TheVariants.{MissingRequiredArgument}
 use Rattle.bw_args.specs.Addresses.{IsAddress}
-use Rattle.bw_args.specs.Numbers.{IsCountText, IsLimitText, default_limit, default_rounds}
-use Rattle.bw_args.specs.Numbers.{most_exchanges, most_rounds, most_seconds, number_written}
+use Rattle.bw_args.specs.Numbers.{IsCountText, IsLimitText, default_idle, default_limit}
+use Rattle.bw_args.specs.Numbers.{default_rounds, most_exchanges, most_recorders, most_rounds}
+use Rattle.bw_args.specs.Numbers.{most_seconds, number_written}
 use Rattle.bw_args.specs.Lines.{IsName, Sending, Service, Serving}
 use Rattle.bw_args.specs.Forms.{IsToldAs, RunsFor}
 use Rattle.bw_args.specs.declared.CommandLine.{CommandLine}
@@ -14,8 +15,10 @@ use Rattle.bw_args.specs.declared.CommandLine.TheVariants.{BadValue as Bad}
 use Rattle.bw_args.specs.declared.bad_value.BadValue.{BadValue}
 use Rattle.bw_args.specs.declared.bad_value.BadValue.TheVariants.{Name, Limit, Listen, Folder}
 use Rattle.bw_args.specs.declared.bad_value.BadValue.TheVariants.{Exchanges, Timeout, UntilStopped}
+use Rattle.bw_args.specs.declared.bad_value.BadValue.TheVariants.{Recorders, Idle, Wait}
 use Rattle.bw_args.specs.declared.bad_value.BadValue.TheVariants.{Connect, Rounds}
 use Rattle.bw_args.specs.declared.peers.End.TheVariants as when
+use Rattle.bw_args.specs.declared.peers.Recorders.TheVariants.{InTurn, AtOnce}
 use Rattle.bw_args.specs.declared.peers.Send.{Send as Sender}
 
 -- the server of which only address and folder are said
@@ -25,7 +28,7 @@ plain_server address folder = record {
   folder = folder;
   end = when.Exchanges 1;
   limit = default_limit;
-  timeout = None;
+  recorders = InTurn None;
   log = false;
 }
 
@@ -73,11 +76,26 @@ pub record RunsServer (words : List Text) (line : CommandLine) : Type 0 where
   -- .. `--timeout=SECONDS`
   pub timeout : (seconds : Text) → IsCountText most_seconds seconds
       → ForServer false words ((codes "--timeout=" ++ seconds) ∷ [])
-      (Serves line (λ s. record s { timeout = Some (number_written seconds) }))
+      (Serves line (λ s. record s { recorders = InTurn (Some (number_written seconds)) }))
   -- .. `--timeout SECONDS`
   pub timeout_apart : (seconds : Text) → IsCountText most_seconds seconds
       → ForServer false words (codes "--timeout" ∷ seconds ∷ [])
-      (Serves line (λ s. record s { timeout = Some (number_written seconds) }))
+      (Serves line (λ s. record s { recorders = InTurn (Some (number_written seconds)) }))
+  -- .. `--recorders=N`
+  pub recorders : (count : Text) → IsCountText most_recorders count
+      → ForServer false words ((codes "--recorders=" ++ count) ∷ [])
+      (Serves line (λ s. record s { recorders = AtOnce (number_written count) default_idle }))
+  -- .. `--recorders N`
+  pub recorders_apart : (count : Text) → IsCountText most_recorders count
+      → ForServer false words (codes "--recorders" ∷ count ∷ [])
+      (Serves line (λ s. record s { recorders = AtOnce (number_written count) default_idle }))
+  -- .. `--recorders=N --idle=SECONDS`
+  pub idle : (count seconds : Text) → IsCountText most_recorders count
+      → IsCountText most_seconds seconds → ForServer false words
+      ((codes "--recorders=" ++ count) ∷ (codes "--idle=" ++ seconds) ∷ [])
+      (Serves line (λ s. record s {
+        recorders = AtOnce (number_written count) (number_written seconds);
+      }))
   -- .. `--network`
   pub network : ForServer true words (codes "--network" ∷ []) (Serves line (λ s. s))
   -- .. `--until-stopped`
@@ -160,6 +178,19 @@ pub record RefusesPeers (words : List Text) (line : CommandLine) : Type 0 where
   -- .. with `--timeout=SECONDS`
   pub timeout : (seconds : Text) → ¬ IsCountText most_seconds seconds
       → ForServer false words ((codes "--timeout=" ++ seconds) ∷ []) (TellsBad line Timeout)
+  -- .. with `--recorders=N`
+  pub recorders : (count : Text) → ¬ IsCountText most_recorders count
+      → ForServer false words ((codes "--recorders=" ++ count) ∷ []) (TellsBad line Recorders)
+  -- .. with `--idle=SECONDS`
+  pub idle : (seconds : Text) → ¬ IsCountText most_seconds seconds
+      → ForServer false words ((codes "--idle=" ++ seconds) ∷ []) (TellsBad line Idle)
+  -- .. where that is a time, and no number of recorders is given
+  pub idle_alone : (seconds : Text) → IsCountText most_seconds seconds
+      → ForServer false words ((codes "--idle=" ++ seconds) ∷ []) (TellsBad line Wait)
+  -- .. with `--recorders=N --timeout=SECONDS`
+  pub timeout_beside : (count seconds : Text) → IsCountText most_recorders count
+      → IsCountText most_seconds seconds → ForServer false words
+      ((codes "--recorders=" ++ count) ∷ (codes "--timeout=" ++ seconds) ∷ []) (TellsBad line Wait)
   -- .. with `--exchanges=N --until-stopped`
   pub both : (count : Text) → IsCountText most_exchanges count
       → ForServer false words ((codes "--exchanges=" ++ count) ∷ codes "--until-stopped" ∷ [])

@@ -19,6 +19,12 @@ pub enum BadValue {
     Exchanges,
     /// For how long a peer is waited for.
     Timeout,
+    /// How many recorders a server serves at once.
+    Recorders,
+    /// After how long one of many recorders that sends no whole message is let go.
+    Idle,
+    /// That a silent peer is told by the option of the other way to serve.
+    Wait,
     /// That a server goes on until it is stopped, beside a number of exchanges.
     UntilStopped,
     /// The address of the server to which is sent.
@@ -40,6 +46,9 @@ impl BadValue {
             BadValue::Folder => BAD_FOLDER,
             BadValue::Exchanges => BAD_EXCHANGES,
             BadValue::Timeout => BAD_TIMEOUT,
+            BadValue::Recorders => BAD_RECORDERS,
+            BadValue::Idle => BAD_IDLE,
+            BadValue::Wait => BAD_WAIT,
             BadValue::UntilStopped => BAD_UNTIL_STOPPED,
             BadValue::Connect => BAD_CONNECT,
             BadValue::Rounds => BAD_ROUNDS,
@@ -97,6 +106,30 @@ For more information, try '--help'.
 
 const BAD_TIMEOUT: &str = "\
 error: '--timeout <SECONDS>' takes a number from 1 to 86400, in at most ten digits
+
+Usage: bwingest <COMMAND>
+
+For more information, try '--help'.
+";
+
+const BAD_RECORDERS: &str = "\
+error: '--recorders <N>' takes a number from 1 to 256, in at most ten digits
+
+Usage: bwingest <COMMAND>
+
+For more information, try '--help'.
+";
+
+const BAD_IDLE: &str = "\
+error: '--idle <SECONDS>' takes a number from 1 to 86400, in at most ten digits
+
+Usage: bwingest <COMMAND>
+
+For more information, try '--help'.
+";
+
+const BAD_WAIT: &str = "\
+error: '--idle <SECONDS>' is for '--recorders <N>', and '--timeout <SECONDS>' for a server without it
 
 Usage: bwingest <COMMAND>
 

@@ -19,7 +19,7 @@ pub use bad_value::BadValue;
 use bw_take::Name;
 use clap::Error;
 use clap::error::ErrorKind;
-pub use peers::{End, Send, Serve};
+pub use peers::{End, Recorders, Send, Serve};
 use std::alloc::{AllocError, Global};
 
 /// What a command line asks the program to do.
@@ -34,7 +34,7 @@ pub enum Task {
     Rehearse { name: Name, limit: u64 },
     /// Tell what is in the file of this path.
     Inspect { file: String },
-    /// Serve exchanges over TCP, one after the other.
+    /// Serve exchanges over TCP.
     Serve(Serve),
     /// Send the requests on standard input to a server.
     Send(Send),
@@ -54,8 +54,8 @@ pub enum CommandLine {
 /// Reads a command line, of which the first word is the program's own name.
 ///
 /// Which words run a task, and of what kind an error is, is `clap`'s own account of its walk over
-/// them (`line`). In plain terms the contract says of thirty-one forms that they run (`replay`,
-/// `rehearse`, `inspect`, `serve`, `send`), of eighteen which value is a fault (`values`, `peers`)
+/// them (`line`). In plain terms the contract says of thirty-four forms that they run (`replay`,
+/// `rehearse`, `inspect`, `serve`, `send`), of twenty-two which value is a fault (`values`, `peers`)
 /// and of thirteen what they tell (`help`, `rehearse`, `inspect`, `wanted`). That options may be
 /// given in any of their forms and orders, and that all else but `--` at the end or before a file
 /// is refused, is tested by examples. Nothing is claimed of what the texts say and where they go.

@@ -18,6 +18,13 @@ pub(crate) const MOST_ROUNDS: u32 = 1_000;
 /// The rounds where no number is given.
 pub(crate) const DEFAULT_ROUNDS: u32 = 16;
 
+/// The most recorders that a server may be asked to serve at once.
+pub(crate) const MOST_RECORDERS: u32 = 256;
+
+/// The seconds after which one of many recorders that sends no whole message is let go, where no
+/// number is given.
+pub(crate) const DEFAULT_IDLE: u32 = 60;
+
 /// The longest time for which a peer may be waited for, in seconds: a day.
 pub(crate) const MOST_SECONDS: u32 = 86_400;
 

@@ -11,6 +11,16 @@ pub enum End {
     UntilStopped,
 }
 
+/// How the recorders that come are served.
+#[derive(Clone, Copy, Debug, PartialEq, Eq)]
+pub enum Recorders {
+    /// One after the other; each is waited for so many seconds, 1 to 86,400, or for good.
+    InTurn { timeout: Option<u32> },
+    /// Up to so many at once, 1 to 256; one that sends no whole message for `idle` seconds, 1 to
+    /// 86,400, is let go.
+    AtOnce { most: u32, idle: u32 },
+}
+
 /// A server as it is asked for.
 #[derive(Debug, PartialEq, Eq, Drop)]
 pub struct Serve {
@@ -23,8 +33,8 @@ pub struct Serve {
     pub end: End,
     /// The greatest form size of a RIFF file, in bytes.
     pub limit: u64,
-    /// For how many seconds it waits for a peer, 1 to 86,400; for good, where there is none.
-    pub timeout: Option<u32>,
+    /// How recorders are served.
+    pub recorders: Recorders,
     /// Whether each connection is told in a line on standard error.
     pub log: bool,
 }
@@ -38,6 +48,6 @@ pub struct Send {
     pub name: Name,
     /// How many exchanges are made at most, 1 to 1,000.
     pub rounds: u32,
-    /// As for the server.
+    /// For how many seconds it waits for the server, 1 to 86,400; for good, where there is none.
     pub timeout: Option<u32>,
 }

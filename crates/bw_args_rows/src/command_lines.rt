@@ -1,7 +1,7 @@
 //! What no clause says of command lines: that they are taken or refused, by examples, and what
 //! texts they tell.
 use bw_args::numbers::number;
-use bw_args::{CommandLine, End, Send, Serve, Task, parse};
+use bw_args::{CommandLine, End, Recorders, Send, Serve, Task, parse};
 use bw_take::Name;
 use clap::Error;
 use std::alloc::{AllocError, Global};
@@ -20,10 +20,10 @@ enum Outcome {
     /// Inspects the file that the last word names.
     Inspects,
     /// Serves at the address and in the folder that the rows' first words give: until this end, with
-    /// this limit and timeout.
-    Serves(End, u64, Option<u32>),
+    /// this limit, recorders in this way.
+    Serves(End, u64, Recorders),
     /// The same, and tells each connection.
-    Logs(End, u64, Option<u32>),
+    Logs(End, u64, Recorders),
     /// Serves at another address or in another folder.
     ServesElsewhere,
     /// Sends to the address and under the name that the rows' first words give, in so many rounds at
@@ -75,9 +75,9 @@ fn server_outcome(server: &Serve) -> Outcome {
     if server.listen.port() != 4100 || !server.listen.is_ipv4() || server.folder.as_str() != "-d" {
         Outcome::ServesElsewhere
     } else if server.log {
-        Outcome::Logs(server.end, server.limit, server.timeout)
+        Outcome::Logs(server.end, server.limit, server.recorders)
     } else {
-        Outcome::Serves(server.end, server.limit, server.timeout)
+        Outcome::Serves(server.end, server.limit, server.recorders)
     }
 }
 
@@ -340,18 +340,18 @@ fn a_fuse_is_a_number(rt: HostRuntime) -> Result<(), Fail> {
 }
 
 static SERVERS: [(&[&str], Outcome); 21] = [
-    (&[], Outcome::Serves(End::Exchanges(1), MOST, None)),
+    (&[], Outcome::Serves(End::Exchanges(1), MOST, ONE_BY_ONE)),
     (
         &["--timeout=30", "--limit", "8192", "--exchanges=7"],
-        Outcome::Serves(End::Exchanges(7), 8_192, Some(30)),
+        Outcome::Serves(End::Exchanges(7), 8_192, HALF_A_MINUTE),
     ),
     (
         &["--until-stopped", "--network", "--"],
-        Outcome::Serves(End::UntilStopped, MOST, None),
+        Outcome::Serves(End::UntilStopped, MOST, ONE_BY_ONE),
     ),
     (
         &["--exchanges", "1000000", "--timeout", "86400"],
-        Outcome::Serves(End::Exchanges(1_000_000), MOST, Some(86_400)),
+        Outcome::Serves(End::Exchanges(1_000_000), MOST, A_DAY),
     ),
     (&["--exchanges", "0"], Outcome::Refuses),
     (&["--exchanges", "1000001"], Outcome::Refuses),
@@ -362,10 +362,13 @@ static SERVERS: [(&[&str], Outcome); 21] = [
     (&["--limit", "8191"], Outcome::Refuses),
     (&["--network", "--network"], Outcome::Refuses),
     (&["--network=true"], Outcome::Refuses),
-    (&["--log"], Outcome::Logs(End::Exchanges(1), MOST, None)),
+    (
+        &["--log"],
+        Outcome::Logs(End::Exchanges(1), MOST, ONE_BY_ONE),
+    ),
     (
         &["--log", "--until-stopped", "--timeout=30", "--network"],
-        Outcome::Logs(End::UntilStopped, MOST, Some(30)),
+        Outcome::Logs(End::UntilStopped, MOST, HALF_A_MINUTE),
     ),
     (&["--log", "--log"], Outcome::Refuses),
     (&["--log=true"], Outcome::Refuses),
@@ -377,13 +380,77 @@ static SERVERS: [(&[&str], Outcome); 21] = [
 
 const MOST: u64 = 4_294_967_294;
 
+const ONE_BY_ONE: Recorders = Recorders::InTurn { timeout: None };
+
+const HALF_A_MINUTE: Recorders = Recorders::InTurn { timeout: Some(30) };
+
+const A_DAY: Recorders = Recorders::InTurn {
+    timeout: Some(86_400),
+};
+
+/// What a server comes to with these options.
+fn server_comes_to<R: Abort + AllocGlobal>(
+    rt: &R,
+    options: &[&str],
+    wanted: Outcome,
+) -> Result<(), Fail> {
+    let mut words = vec![in rt.alloc(); "bwingest", "serve", "--listen", "127.0.0.1:4100"]?;
+    words.extend_from_slice(&["--folder", "-d"])?;
+    words.extend_from_slice(options)?;
+    comes_to(rt, words.as_slice(), wanted)
+}
+
 #[test]
 fn a_server_takes_its_options_in_any_order(rt: HostRuntime) -> Result<(), Fail> {
     for (options, wanted) in &SERVERS {
-        let mut words = vec![in rt.alloc(); "bwingest", "serve", "--listen", "127.0.0.1:4100"]?;
-        words.extend_from_slice(&["--folder", "-d"])?;
-        words.extend_from_slice(options)?;
-        comes_to(&rt, words.as_slice(), *wanted)?;
+        server_comes_to(&rt, options, *wanted)?;
+    }
+    Ok(())
+}
+
+static CROWDS: [(&[&str], Outcome); 12] = [
+    (
+        &["--recorders", "16"],
+        Outcome::Serves(
+            End::Exchanges(1),
+            MOST,
+            Recorders::AtOnce { most: 16, idle: 60 },
+        ),
+    ),
+    (
+        &["--idle=86400", "--recorders=256"],
+        Outcome::Serves(
+            End::Exchanges(1),
+            MOST,
+            Recorders::AtOnce {
+                most: 256,
+                idle: 86_400,
+            },
+        ),
+    ),
+    (
+        &["--recorders", "1", "--until-stopped", "--idle", "1"],
+        Outcome::Serves(
+            End::UntilStopped,
+            MOST,
+            Recorders::AtOnce { most: 1, idle: 1 },
+        ),
+    ),
+    (&["--recorders", "0"], Outcome::Refuses),
+    (&["--recorders", "257"], Outcome::Refuses),
+    (&["--recorders", "+1"], Outcome::Refuses),
+    (&["--recorders=2", "--idle", "0"], Outcome::Refuses),
+    (&["--recorders=2", "--idle", "86401"], Outcome::Refuses),
+    (&["--idle", "60"], Outcome::Refuses),
+    (&["--recorders=2", "--timeout", "60"], Outcome::Refuses),
+    (&["--recorders=2", "--recorders=2"], Outcome::Refuses),
+    (&["--recorders"], Outcome::Refuses),
+];
+
+#[test]
+fn a_server_of_many_takes_an_idle_time(rt: HostRuntime) -> Result<(), Fail> {
+    for (options, wanted) in &CROWDS {
+        server_comes_to(&rt, options, *wanted)?;
     }
     Ok(())
 }
@@ -454,7 +521,7 @@ static ADDRESSES: [(&str, Outcome, Outcome); 20] = [
     ("", Outcome::Refuses, Outcome::Refuses),
 ];
 
-const PLAIN: Outcome = Outcome::Serves(End::Exchanges(1), MOST, None);
+const PLAIN: Outcome = Outcome::Serves(End::Exchanges(1), MOST, ONE_BY_ONE);
 
 #[test]
 fn an_address_is_local_without_leave_for_the_network(rt: HostRuntime) -> Result<(), Fail> {
@@ -479,7 +546,7 @@ static TEXTS: [(&[&str], &str); 10] = [
     (&["/tmp/x", "inspect"], "Usage: bwingest inspect <FILE>\n"),
     (
         &["/tmp/x", "serve", "--help"],
-        "Example: bwingest serve --listen 127.0.0.1:4100 --folder takes --timeout 30\n",
+        "Example: bwingest serve --listen 127.0.0.1:4100 --folder takes --recorders 16\n",
     ),
     (
         &["/tmp/x", "serve", "--help"],

@@ -1,14 +1,16 @@
 //! The command `serve`.
-ghost use Rattle.std.specs.Prelude.{◌≡◌, false, codes, Some, IfOk, OnErr, option_map};
+ghost use Rattle.std.specs.Prelude.{◌≡◌, false, codes, Some, IfOk, IfErr, OnErr, option_map};
 ghost use Rattle.clap.specs.Words.{app_of, first_value, found_of, rows_of, rule_of};
 ghost use Rattle.clap.specs.declared.builder.Command.TheViews.{out-Command};
 ghost use Rattle.bw_args.specs.Commands.{exchanges_option, folder_option, listen_option, log_flag};
-ghost use Rattle.bw_args.specs.Commands.{serve_command, serve_how, serve_where, until_stopped_flag};
-ghost use Rattle.bw_args.specs.Lines.{AsksForPath, IsEndGiven, IsFolderGiven, IsLineFor};
+ghost use Rattle.bw_args.specs.Commands.{idle_option, recorders_option, serve_command, serve_how};
+ghost use Rattle.bw_args.specs.Commands.{serve_many, serve_where, until_stopped_flag};
+ghost use Rattle.bw_args.specs.Lines.{AsksForPath, GivesRecorders, IsEndGiven, IsFirstBad};
+ghost use Rattle.bw_args.specs.Lines.{IsFolderGiven, IsLineFor, IsRecordersGiven, looked_at_waiting};
 
 use super::network::{address_given, count_given, flag_given, network_flag, timeout_option};
 use super::{limit_given, limit_option};
-use crate::{BadValue, CommandLine, End, Serve, Task, numbers};
+use crate::{BadValue, CommandLine, End, Recorders, Serve, Task, numbers};
 use clap::{Arg, ArgAction, ArgMatches, Command};
 use std::alloc::{AllocError, Global};
 
@@ -16,9 +18,19 @@ pub(crate) fn serve<'a>(alloc: Global) -> Result<Command<'a>, AllocError>
     ensures shape { IfOk result (λ c. app_of c ≡ serve_command) }
     ensures local { IfOk result (λ c. (out-Command c).has_globals ≡ false) }
 {
-    serve_how(alloc)?
+    serve_many(alloc)?
         .arg(until_stopped_flag(alloc))?
         .arg(log_flag(alloc))
+}
+
+/// The command with these and the options for many recorders at once.
+fn serve_many<'a>(alloc: Global) -> Result<Command<'a>, AllocError>
+    ensures shape { IfOk result (λ c. app_of c ≡ serve_many) }
+    ensures local { IfOk result (λ c. (out-Command c).has_globals ≡ false) }
+{
+    serve_how(alloc)?
+        .arg(recorders_option(alloc))?
+        .arg(idle_option(alloc))
 }
 
 /// The command with these and the options that say how peers are treated.
@@ -38,8 +50,8 @@ fn serve_where<'a>(alloc: Global) -> Result<Command<'a>, AllocError>
     ensures local { IfOk result (λ c. (out-Command c).has_globals ≡ false) }
 {
     Command::new(alloc, "serve")
-        .about("Serves exchanges over TCP, one after the other, and keeps each take's file")
-        .after_help("Example: bwingest serve --listen 127.0.0.1:4100 --folder takes --timeout 30")
+        .about("Serves exchanges over TCP, and keeps each take's file")
+        .after_help("Example: bwingest serve --listen 127.0.0.1:4100 --folder takes --recorders 16")
         .arg(listen_option(alloc))?
         .arg(folder_option(alloc))?
         .arg(exchanges_option(alloc))
@@ -78,6 +90,26 @@ fn exchanges_option<'a>(alloc: Global) -> Arg<'a>
         .help("How many exchanges are served, 1 to 1000000 [default: 1]")
 }
 
+fn recorders_option<'a>(alloc: Global) -> Arg<'a>
+    ensures rule { rule_of result ≡ recorders_option }
+    ensures local { result.global ≡ false }
+{
+    Arg::new(alloc, "recorders")
+        .long("recorders")
+        .value_name("N")
+        .help("Up to how many recorders are served at once, 1 to 256 [default: one by one]")
+}
+
+fn idle_option<'a>(alloc: Global) -> Arg<'a>
+    ensures rule { rule_of result ≡ idle_option }
+    ensures local { result.global ≡ false }
+{
+    Arg::new(alloc, "idle")
+        .long("idle")
+        .value_name("SECONDS")
+        .help("With --recorders: when who sends no whole message is let go [default: 60]")
+}
+
 fn until_stopped_flag<'a>(alloc: Global) -> Arg<'a>
     ensures rule { rule_of result ≡ until_stopped_flag }
     ensures local { result.global ≡ false }
@@ -98,8 +130,8 @@ fn log_flag<'a>(alloc: Global) -> Arg<'a>
         .help("Tells each connection in a line on standard error")
 }
 
-/// Bad values are told in this order: the address, the folder, the exchanges, the limit, the
-/// timeout, and `--until-stopped` beside a number of exchanges.
+/// Bad values are told in this order: the address, the folder, the exchanges, the limit, those of
+/// `recorders_given`, and `--until-stopped` beside a number of exchanges.
 pub(crate) fn serve_line(alloc: Global, options: &ArgMatches<'_>) -> Result<CommandLine, AllocError>
     ensures ok { IfOk result (IsLineFor (Some (codes "serve", rows_of (found_of options.now)))) }
     ensures err { OnErr result
@@ -118,8 +150,9 @@ pub(crate) fn serve_line(alloc: Global, options: &ArgMatches<'_>) -> Result<Comm
     let Some(limit) = limit_given(options) else {
         return Ok(CommandLine::BadValue(BadValue::Limit));
     };
-    let Ok(timeout) = count_given(options, "timeout", numbers::MOST_SECONDS) else {
-        return Ok(CommandLine::BadValue(BadValue::Timeout));
+    let recorders = match recorders_given(options) {
+        Ok(recorders) => recorders,
+        Err(value) => return Ok(CommandLine::BadValue(value)),
     };
     let Some(end) = end_given(count, flag_given(options, "until-stopped")) else {
         return Ok(CommandLine::BadValue(BadValue::UntilStopped));
@@ -131,7 +164,7 @@ pub(crate) fn serve_line(alloc: Global, options: &ArgMatches<'_>) -> Result<Comm
         folder,
         end,
         limit,
-        timeout,
+        recorders,
         log,
     })))
 }
@@ -144,6 +177,46 @@ fn folder_given<'a>(options: &ArgMatches<'a>) -> Option<&'a str>
 {
     let path = options.get_str("folder")?;
     if path.is_empty() { None } else { Some(path) }
+}
+
+/// How the options say that recorders are served.
+///
+/// # Errors
+/// The first of these that is bad: the timeout, the recorders, the idle time, and one of the two
+/// times beside the other way to serve.
+fn recorders_given(options: &ArgMatches<'_>) -> Result<Recorders, BadValue>
+    ensures ok { IfOk result (GivesRecorders (first_value (found_of options.now))) }
+    ensures err { IfErr result (IsFirstBad looked_at_waiting (first_value (found_of options.now))) }
+{
+    let Ok(timeout) = count_given(options, "timeout", numbers::MOST_SECONDS) else {
+        return Err(BadValue::Timeout);
+    };
+    let Ok(most) = count_given(options, "recorders", numbers::MOST_RECORDERS) else {
+        return Err(BadValue::Recorders);
+    };
+    let Ok(idle) = count_given(options, "idle", numbers::MOST_SECONDS) else {
+        return Err(BadValue::Idle);
+    };
+    match served_as(timeout, most, idle) {
+        Some(recorders) => Ok(recorders),
+        None => Err(BadValue::Wait),
+    }
+}
+
+/// How recorders are served; none where a time is given for the other way.
+fn served_as(timeout: Option<u32>, most: Option<u32>, idle: Option<u32>) -> Option<Recorders>
+    ensures { IsRecordersGiven timeout most idle result }
+{
+    match (most, timeout, idle) {
+        (None, timeout, None) => Some(Recorders::InTurn { timeout }),
+        (Some(most), None, None) => Some(Recorders::AtOnce {
+            most,
+            idle: numbers::DEFAULT_IDLE,
+        }),
+        (Some(most), None, Some(idle)) => Some(Recorders::AtOnce { most, idle }),
+        (None, _, Some(_)) => None,
+        (Some(_), Some(_), _) => None,
+    }
 }
 
 /// When the server ends; none where two options say it.

@@ -1,9 +1,10 @@
-use Rattle.std.proofs.Common.{codes, inl, inr, refl, subst, sym}
-use Rattle.clap.specs.Words.{found_of}
-use Rattle.bw_args.specs.Lines.{GivesFolder}
-use Rattle.bw_args.specs.declared.bad_value.BadValue.TheVariants.{Listen, Folder, Exchanges, Limit, Timeout}
+use Rattle.std.proofs.Common.{[], ◌∷◌, codes, inl, inr, refl, subst, sym}
+use Rattle.clap.specs.Words.{first_value, found_of}
+use Rattle.bw_args.specs.Lines.{GivesFolder, looked_at_waiting}
+use Rattle.bw_args.specs.declared.bad_value.BadValue.TheVariants.{Listen, Folder, Exchanges, Limit}
 use Rattle.bw_args.specs.declared.bad_value.BadValue.TheVariants.{UntilStopped}
-use Rattle.bw_args.proofs.Asked.{an_address, an_end, bad_line, no_address, no_end, on_err, server_asked}
+use Rattle.bw_args.proofs.Asked.{an_address, an_end, bad_line, first_then, no_address, no_end, on_err, server_asked}
+use Rattle.bw_args.proofs.Asked.{way_then}
 use Rattle.bw_args.proofs.commands.serving.serve_line.Goals as goal
 
 pub returns-in_default-clause-ok : goal.returns-in_default-clause-ok
@@ -53,8 +54,8 @@ returns-in_default-limit_given-clause-ok c = bad_line (found_of c.args.options.n
   ),
 ))
 
-pub returns-in_default-count_given-2-clause-ok : goal.returns-in_default-count_given-2-clause-ok
-returns-in_default-count_given-2-clause-ok c = bad_line (found_of c.args.options.now) (codes "serve") Timeout (inr (
+pub returns-in-Err-clause-ok : goal.returns-in-Err-clause-ok
+returns-in-Err-clause-ok c = bad_line (found_of c.args.options.now) (codes "serve") c.in-Err.value (inr (
   (
     c.in-Some.listen,
     an_address (found_of c.args.options.now) (codes "listen") _ _
@@ -66,7 +67,8 @@ returns-in_default-count_given-2-clause-ok c = bad_line (found_of c.args.options
       (c.in-Ok.count, c.in-Ok.ensures),
       inr (
         (c.in-Some-limit_given.limit, c.in-Some-limit_given.ensures),
-        inl ((λ good. c.in_default-count_given-2.ensures good.0 good.1), refl),
+        first_then looked_at_waiting (UntilStopped ∷ []) (first_value (found_of c.args.options.now)) c.in-Err.value
+            c.in-Err.ensures.err,
       ),
     ),
   ),
@@ -85,14 +87,12 @@ returns-in_default-end_given-clause-ok c = bad_line (found_of c.args.options.now
       (c.in-Ok.count, c.in-Ok.ensures),
       inr (
         (c.in-Some-limit_given.limit, c.in-Some-limit_given.ensures),
-        inr (
-          (c.in-Ok-count_given.timeout, c.in-Ok-count_given.ensures),
-          inl (
-            no_end (found_of c.args.options.now) _ _
-                c.flag_given.ensures c.in-Ok.ensures c.in_default-end_given.ensures,
-            refl,
-          ),
-        ),
+        way_then (UntilStopped ∷ []) (first_value (found_of c.args.options.now)) UntilStopped
+            c.in-Ok-recorders_given.recorders c.in-Ok-recorders_given.ensures.ok (inl (
+              no_end (found_of c.args.options.now) _ _
+                  c.flag_given.ensures c.in-Ok.ensures c.in_default-end_given.ensures,
+              refl,
+            )),
       ),
     ),
   ),
@@ -105,7 +105,7 @@ returns-in_err-folder-clause-err c = on_err c.from_residual.result (inr (
     folder = c.in-Some-folder_given.path.now;
     end = c.in-Some-end_given.end;
     limit = c.in-Some-limit_given.limit;
-    timeout = c.in-Ok-count_given.timeout;
+    recorders = c.in-Ok-recorders_given.recorders;
     log = c.flag_given-log.result;
   },
   server_asked (found_of c.args.options.now) _ (record {
@@ -114,7 +114,7 @@ returns-in_err-folder-clause-err c = on_err c.from_residual.result (inr (
     keeps = c.in-Some-folder_given.ensures;
     ends = an_end (found_of c.args.options.now) _ _ _ c.flag_given.ensures c.in-Ok.ensures c.in-Some-end_given.ensures;
     limited = c.in-Some-limit_given.ensures;
-    waits = c.in-Ok-count_given.ensures;
+    serves = c.in-Ok-recorders_given.ensures.ok;
     tells = c.flag_given-log.ensures;
   }),
 ))
@@ -126,6 +126,6 @@ returns-clause-ok c = server_asked (found_of c.args.options.now) _ (record {
   keeps = subst (GivesFolder _) (sym c.in_ok-folder.ensures.ok) c.in-Some-folder_given.ensures;
   ends = an_end (found_of c.args.options.now) _ _ _ c.flag_given.ensures c.in-Ok.ensures c.in-Some-end_given.ensures;
   limited = c.in-Some-limit_given.ensures;
-  waits = c.in-Ok-count_given.ensures;
+  serves = c.in-Ok-recorders_given.ensures.ok;
   tells = c.flag_given-log.ensures;
 })
