@@ -1,46 +1,81 @@
 -- What is done for the command lines that use the network.
-use Rattle.std.specs.Prelude.{◌≡◌, ℕ, string_bytes}
+use Rattle.std.specs.Prelude.{◌≡◌, ℕ, ◌*◌, Option, string_bytes}
 use Rattle.bw_stream.specs.declared.sink.Sink.{Ghosts as Writer}
 use Rattle.bw_stream.specs.declared.source.Source.{Ghosts as Reader}
 use Rattle.bw_file.specs.declared.store.TakeStore.{Ghosts as StoreGhosts}
 use Rattle.bw_journal.specs.declared.journal.Journal.{Ghosts as JournalGhosts}
 use Rattle.bw_args.specs.declared.peers.End.{End}
 use Rattle.bw_args.specs.declared.peers.End.TheVariants as when
+use Rattle.bw_args.specs.declared.peers.Recorders.{Recorders}
+use Rattle.bw_args.specs.declared.peers.Recorders.TheVariants as recorders
 use Rattle.bw_args.specs.declared.peers.Send.{Send}
 use Rattle.bw_args.specs.declared.peers.Serve.{Serve}
 use Rattle.bw_commands.specs.Deeds.{Deed, HasWritten}
 use Rattle.bw_commands.specs.Printing.{failures_if}
 use Rattle.bw_commands.specs.declared.exit.Exit.{Exit}
+use Rattle.bw_many.specs.declared.link.Link.{Ghosts as LinkGhosts}
 use Rattle.bw_transfer.specs.Hosted.{Hosts}
 use Rattle.bw_transfer.specs.Sends.{IsSendRun}
 use Rattle.bw_transfer.specs.declared.dial.Dial.{Ghosts as DialGhosts}
 use Rattle.bw_transfer.specs.declared.network.Network.{Ghosts as NetworkGhosts}
 use Rattle.bw_transfer.specs.declared.network.Serving.{Serving}
 use Rattle.bw_transfer.specs.declared.peers.Peers.{Ghosts as PeerGhosts}
+use Rattle.bw_serve.specs.HostedMany.{HostsMany}
+use Rattle.bw_serve.specs.declared.gathering.Gathering.{Ghosts as GatheringGhosts}
+use Rattle.bw_serve.specs.declared.hosting.Hosting.{Hosting}
 
 -- how many exchanges a server makes: without an end the most that can be counted, 2^64 - 1
 abbrev pub exchanges_of : End → ℕ
 exchanges_of (when.Exchanges count) = count
 exchanges_of when.UntilStopped = 18_446_744_073_709_551_615
 
--- the server that a command line asks for
-pub record IsServing (server : Serve) (serving : Serving) : Type 0 where
+-- the server of one recorder after the other that a command line asks for
+pub record IsServing (server : Serve) (timeout : Option ℕ) (serving : Serving) : Type 0 where
   pub listens : serving.address ≡ server.listen
   pub keeps : serving.folder.now ≡ string_bytes server.folder
   pub ends : serving.exchanges ≡ exchanges_of server.end
   pub limited : serving.limit ≡ server.limit
-  pub waits : serving.timeout ≡ server.timeout
+  pub waits : serving.timeout ≡ timeout
   pub logs : serving.log ≡ server.log
 
-module _ {X Y P R W O E N D A B : Type 0} (S : StoreGhosts X) (J : JournalGhosts Y)
-    (peers : PeerGhosts P R W) (reader : Reader R) (writer : Writer W) (out : Writer O)
-    (told : Writer E) (network : NetworkGhosts N X P D R W A B) where
-  -- this server was asked for, and served
-  pub record Serves (server : Serve) (exit : Exit) (n n' : N) (o o' : O) (e e' : E)
-      : Type 0 where
+-- the server of so many recorders at once that a command line asks for: one of them may answer no
+-- whole frame for so many seconds
+pub record IsHosting (server : Serve) (most idle : ℕ) (hosting : Hosting) : Type 0 where
+  pub listens : hosting.address ≡ server.listen
+  pub keeps : hosting.folder.now ≡ string_bytes server.folder
+  pub places : hosting.bounds.places ≡ most
+  pub ends : hosting.bounds.exchanges ≡ exchanges_of server.end
+  pub idles : hosting.bounds.idle ≡ 1_000 * idle
+  pub limited : hosting.limit ≡ server.limit
+  pub logs : hosting.log ≡ server.log
+
+module _ {X Y P R W L K O E N D A B : Type 0} (S : StoreGhosts X) (J : JournalGhosts Y)
+    (peers : PeerGhosts P R W) (reader : Reader R) (writer : Writer W) (link : LinkGhosts K)
+    (out : Writer O) (told : Writer E) (network : NetworkGhosts N X P D R W A B)
+    (gathering : GatheringGhosts N L K) where
+  -- it served one recorder after the other
+  pub record ServesInTurn (server : Serve) (timeout : Option ℕ) (exit : Exit) (n n' : N) (o o' : O)
+      (e e' : E) : Type 0 where
     pub serving : Serving
-    pub asked : IsServing server serving
+    pub asked : IsServing server timeout serving
     pub hosts : Hosts S J peers reader writer out told network serving exit n n' o o' e e'
+
+  -- it served many at once
+  pub record ServesAtOnce (server : Serve) (most idle : ℕ) (exit : Exit) (n n' : N) (o o' : O)
+      (e e' : E) : Type 0 where
+    pub hosting : Hosting
+    pub asked : IsHosting server most idle hosting
+    pub hosts : HostsMany S J link out told network gathering hosting exit n n' o o' e e'
+
+  -- the server was asked for so, and served
+  abbrev pub ServesAs : Recorders → Serve → Exit → N → N → O → O → E → E → Type 0
+  ServesAs (recorders.InTurn timeout) server exit n n' o o' e e' =
+      ServesInTurn server timeout exit n n' o o' e e'
+  ServesAs (recorders.AtOnce most idle) server exit n n' o o' e e' =
+      ServesAtOnce server most idle exit n n' o o' e e'
+
+  abbrev pub Serves : Serve → Exit → N → N → O → O → E → E → Type 0
+  Serves server exit n n' o o' e e' = ServesAs server.recorders server exit n n' o o' e e'
 
 module _ {N X P R W D A B I O E : Type 0} (network : NetworkGhosts N X P D R W A B)
     (dial : DialGhosts D A B) (replies : Reader A) (requests : Writer B) (input : Reader I)

@@ -15,6 +15,7 @@ use bw_commands::replay::{replay, replay_fused};
 use bw_commands::{Exit, Fault, System, inspect_file, rehearse_run, tell_unworded};
 use bw_journal::{Journal, NoJournal};
 use bw_layout::Limit;
+use bw_serve::Gathering;
 use bw_stream::{Sink, Source};
 use bw_transfer::{Network, Watch};
 use clap::Error;
@@ -23,7 +24,7 @@ use std::process::ExitCode;
 
 /// Reads the command line, does what it asks for, and answers the program's status. The watcher
 /// hears how far `send` is.
-pub fn start<S: System, N: Network, R: Source, W: Sink, E: Sink, V: Watch>(
+pub fn start<S: System, N: Network + Gathering, R: Source, W: Sink, E: Sink, V: Watch>(
     alloc: Global,
     system: &mut S,
     network: &mut N,
@@ -38,8 +39,8 @@ pub fn start<S: System, N: Network, R: Source, W: Sink, E: Sink, V: Watch>(
     } in
         (exit : Exit) × (exit_status result ≡ status_of exit)
         × IsProgram N.Store.TakeStore ⟦<NoJournal as Journal>⟧ N.Peers.Peers
-        N.Peers.Reader.Source N.Peers.Writer.Sink N.Network N.Dial.Dial N.Dial.Reader.Source
-        N.Dial.Writer.Sink R.Source W.Sink E.Sink given exit
+        N.Peers.Reader.Source N.Peers.Writer.Sink N.Lobby.Link.Link N.Network N.Gathering
+        N.Dial.Dial N.Dial.Reader.Source N.Dial.Writer.Sink R.Source W.Sink E.Sink given exit
         (S.failures system.old) (S.failures system.new) network.old network.new
         input.old input.new out.old out.new faults.old faults.new }
 {
@@ -47,7 +48,7 @@ pub fn start<S: System, N: Network, R: Source, W: Sink, E: Sink, V: Watch>(
 }
 
 /// Reads the command line, and does what it asks for.
-fn obey<S: System, N: Network, R: Source, W: Sink, E: Sink, V: Watch>(
+fn obey<S: System, N: Network + Gathering, R: Source, W: Sink, E: Sink, V: Watch>(
     alloc: Global,
     system: &mut S,
     network: &mut N,
@@ -61,8 +62,8 @@ fn obey<S: System, N: Network, R: Source, W: Sink, E: Sink, V: Watch>(
       file_at = S.file_at system.old;
     } in
         IsProgram N.Store.TakeStore ⟦<NoJournal as Journal>⟧ N.Peers.Peers
-        N.Peers.Reader.Source N.Peers.Writer.Sink N.Network N.Dial.Dial N.Dial.Reader.Source
-        N.Dial.Writer.Sink R.Source W.Sink E.Sink given result
+        N.Peers.Reader.Source N.Peers.Writer.Sink N.Lobby.Link.Link N.Network N.Gathering
+        N.Dial.Dial N.Dial.Reader.Source N.Dial.Writer.Sink R.Source W.Sink E.Sink given result
         (S.failures system.old) (S.failures system.new) network.old network.new
         input.old input.new out.old out.new faults.old faults.new }
 {
@@ -82,7 +83,7 @@ fn obey<S: System, N: Network, R: Source, W: Sink, E: Sink, V: Watch>(
 }
 
 /// Does what these words ask for.
-fn answer<S: System, N: Network, R: Source, W: Sink, E: Sink, V: Watch>(
+fn answer<S: System, N: Network + Gathering, R: Source, W: Sink, E: Sink, V: Watch>(
     alloc: Global,
     words: &[String],
     system: &mut S,
@@ -97,8 +98,8 @@ fn answer<S: System, N: Network, R: Source, W: Sink, E: Sink, V: Watch>(
       file_at = S.file_at system.old;
     } in
         IsProgram N.Store.TakeStore ⟦<NoJournal as Journal>⟧ N.Peers.Peers
-        N.Peers.Reader.Source N.Peers.Writer.Sink N.Network N.Dial.Dial N.Dial.Reader.Source
-        N.Dial.Writer.Sink R.Source W.Sink E.Sink given result
+        N.Peers.Reader.Source N.Peers.Writer.Sink N.Lobby.Link.Link N.Network N.Gathering
+        N.Dial.Dial N.Dial.Reader.Source N.Dial.Writer.Sink R.Source W.Sink E.Sink given result
         (S.failures system.old) (S.failures system.new) network.old network.new
         input.old input.new out.old out.new faults.old faults.new }
 {
@@ -109,7 +110,7 @@ fn answer<S: System, N: Network, R: Source, W: Sink, E: Sink, V: Watch>(
 }
 
 /// Does what a command line asks for.
-fn perform<S: System, N: Network, R: Source, W: Sink, E: Sink, V: Watch>(
+fn perform<S: System, N: Network + Gathering, R: Source, W: Sink, E: Sink, V: Watch>(
     alloc: Global,
     line: &CommandLine,
     system: &mut S,
@@ -121,8 +122,8 @@ fn perform<S: System, N: Network, R: Source, W: Sink, E: Sink, V: Watch>(
 ) -> Exit
     requires { HasLimit line.now }
     ensures { IsDoneFor N.Store.TakeStore ⟦<NoJournal as Journal>⟧ N.Peers.Peers
-        N.Peers.Reader.Source N.Peers.Writer.Sink N.Network N.Dial.Dial N.Dial.Reader.Source
-        N.Dial.Writer.Sink R.Source W.Sink E.Sink (S.file_at system.old) line.now result
+        N.Peers.Reader.Source N.Peers.Writer.Sink N.Lobby.Link.Link N.Network N.Gathering
+        N.Dial.Dial N.Dial.Reader.Source N.Dial.Writer.Sink R.Source W.Sink E.Sink (S.file_at system.old) line.now result
         (S.failures system.old) (S.failures system.new) network.old network.new
         input.old input.new out.old out.new faults.old faults.new }
 {
@@ -137,7 +138,7 @@ fn perform<S: System, N: Network, R: Source, W: Sink, E: Sink, V: Watch>(
 }
 
 /// Runs a task.
-fn run<S: System, N: Network, R: Source, W: Sink, E: Sink, V: Watch>(
+fn run<S: System, N: Network + Gathering, R: Source, W: Sink, E: Sink, V: Watch>(
     alloc: Global,
     task: &Task,
     system: &mut S,
@@ -149,8 +150,8 @@ fn run<S: System, N: Network, R: Source, W: Sink, E: Sink, V: Watch>(
 ) -> Exit
     requires { HasLimit (CommandLine.Run task.now) }
     ensures { IsDoneFor N.Store.TakeStore ⟦<NoJournal as Journal>⟧ N.Peers.Peers
-        N.Peers.Reader.Source N.Peers.Writer.Sink N.Network N.Dial.Dial N.Dial.Reader.Source
-        N.Dial.Writer.Sink R.Source W.Sink E.Sink (S.file_at system.old) (CommandLine.Run task.now) result
+        N.Peers.Reader.Source N.Peers.Writer.Sink N.Lobby.Link.Link N.Network N.Gathering
+        N.Dial.Dial N.Dial.Reader.Source N.Dial.Writer.Sink R.Source W.Sink E.Sink (S.file_at system.old) (CommandLine.Run task.now) result
         (S.failures system.old) (S.failures system.new) network.old network.new
         input.old input.new out.old out.new faults.old faults.new }
 {

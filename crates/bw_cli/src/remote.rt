@@ -1,18 +1,19 @@
 //! The commands that use the network, as a command line asks for them.
 ghost use Rattle.std.specs.Prelude.{◌≡◌};
 ghost use Rattle.bw_layout.specs.Limits.{IsLimit};
-ghost use Rattle.bw_cli.specs.Remote.{Sends, Serves, exchanges_of};
+ghost use Rattle.bw_cli.specs.Remote.{IsHosting, IsServing, Sends, Serves, exchanges_of};
 
-use bw_args::{End, Send, Serve};
+use bw_args::{End, Recorders, Send, Serve};
 use bw_commands::Exit;
 use bw_journal::{Journal, NoJournal};
 use bw_layout::Limit;
+use bw_serve::{Bounds, Gathering, Hosting, serve_many};
 use bw_stream::{Sink, Source};
 use bw_transfer::{Network, Serving, Watch, send_watched, serve};
 use std::alloc::Global;
 
 /// Serves as it is asked for.
-pub(crate) fn serve_as<N: Network, W: Sink, E: Sink>(
+pub(crate) fn serve_as<N: Network + Gathering, W: Sink, E: Sink>(
     alloc: Global,
     server: &Serve,
     network: &mut N,
@@ -21,21 +22,57 @@ pub(crate) fn serve_as<N: Network, W: Sink, E: Sink>(
 ) -> Exit
     requires { IsLimit server.now.limit }
     ensures { Serves N.Store.TakeStore ⟦<NoJournal as Journal>⟧ N.Peers.Peers
-        N.Peers.Reader.Source N.Peers.Writer.Sink W.Sink E.Sink N.Network server.now result
-        network.old network.new out.old out.new faults.old faults.new }
+        N.Peers.Reader.Source N.Peers.Writer.Sink N.Lobby.Link.Link W.Sink E.Sink
+        N.Network N.Gathering server.now result network.old network.new out.old out.new faults.old
+        faults.new }
 {
     let Some(limit) = Limit::new(server.limit) else {
         unreachable!();
     };
-    let serving = Serving {
+    match server.recorders {
+        Recorders::InTurn { timeout } => {
+            let serving = serving_of(server, limit, timeout);
+            serve(alloc, network, &serving, out, faults)
+        }
+        Recorders::AtOnce { most, idle } => {
+            let hosting = hosting_of(server, limit, most, idle);
+            serve_many(alloc, network, &hosting, out, faults)
+        }
+    }
+}
+
+/// A server of one recorder after the other.
+fn serving_of(server: &Serve, limit: Limit, timeout: Option<u32>) -> Serving<'_>
+    requires { limit ≡ server.now.limit }
+    ensures { IsServing server.now timeout result }
+{
+    Serving {
         address: server.listen,
         folder: server.folder.as_str(),
         exchanges: exchanges(server.end),
         limit,
-        timeout: server.timeout,
+        timeout,
         log: server.log,
+    }
+}
+
+/// A server of so many recorders at once.
+fn hosting_of(server: &Serve, limit: Limit, most: u32, idle: u32) -> Hosting<'_>
+    requires { limit ≡ server.now.limit }
+    ensures { IsHosting server.now most idle result }
+{
+    let bounds = Bounds {
+        places: most as usize,
+        exchanges: exchanges(server.end),
+        idle: 1_000 * u64::from(idle),
     };
-    serve(alloc, network, &serving, out, faults)
+    Hosting {
+        address: server.listen,
+        folder: server.folder.as_str(),
+        bounds,
+        limit,
+        log: server.log,
+    }
 }
 
 /// How many exchanges are served: without an end more than there ever can be.
