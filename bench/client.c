@@ -1,11 +1,14 @@
 /*
- * Sends a take to a server on 127.0.0.1 over one connection: OPEN, so many blocks, CLOSE and BYE, with at most
- * 16 messages in flight. It reads verdicts while it writes. Messages and replies are those of docs/FORMATS.md.
+ * Sends takes to a server on 127.0.0.1, each over a connection of its own and all at once: OPEN, so many blocks, CLOSE
+ * and BYE, with at most 16 messages in flight. It reads verdicts while it writes. Messages and replies are those of
+ * docs/FORMATS.md.
  *
- *     client PORT NAME BLOCKS SIZE
+ *     client PORT NAME BLOCKS SIZE [RECORDERS]
  *
- * The samples are 16 bits wide, so that SIZE is even. Prints how many seconds it took from the first byte to the
- * last verdict. Status 1, and a line, where a verdict isn't Stored or the connection breaks.
+ * The samples are 16 bits wide, so that SIZE is even. With RECORDERS, at most 256, the takes are NAME-0 and so on, and
+ * every connection is there before the first byte goes out. Prints how many seconds it took from the first byte to the
+ * last verdict, and how fast the slowest recorder was, where the mean of all is 1. Status 1, and a line, where a verdict
+ * isn't Stored or a connection breaks.
  */
 #include <arpa/inet.h>
 #include <errno.h>
@@ -20,15 +23,16 @@
 #include <time.h>
 #include <unistd.h>
 
-enum { WINDOW = 16, LONGEST_BLOCK = 32768, LONGEST_NAME = 32, MOST_NUMBERS = 16777216 };
+enum { WINDOW = 16, LONGEST_BLOCK = 32768, LONGEST_NAME = 32, MOST_NUMBERS = 16777216, MOST_RECORDERS = 256 };
 enum { OPEN = 1, BLOCK = 2, CLOSE = 5, BYE = 9, VERDICT = 0x81, STORED = 0, SAMPLE_BYTES = 2 };
 
+static uint8_t samples[LONGEST_BLOCK];
+
 struct take {
-    const char *name;
+    char name[LONGEST_NAME + 1];
     size_t name_length;
     uint32_t blocks;
     size_t size;
-    uint8_t samples[LONGEST_BLOCK];
 };
 
 /* Bytes that wait to be written, from `done` on. */
@@ -39,8 +43,19 @@ struct outgoing {
 };
 
 struct incoming {
-    uint8_t bytes[65536];
+    uint8_t bytes[4096];
     size_t length;
+};
+
+/* A take on its way: how many of its messages were sent, and how many told as stored. */
+struct recorder {
+    struct take take;
+    int peer;
+    uint32_t sent;
+    uint32_t told;
+    struct outgoing out;
+    struct incoming in;
+    double taken;
 };
 
 static void fail(const char *why) {
@@ -73,7 +88,7 @@ static void put_message(struct outgoing *out, const struct take *take, uint32_t 
     } else if (number <= take->blocks) {
         kind = BLOCK;
         length = take->size;
-        memcpy(payload, take->samples, length);
+        memcpy(payload, samples, length);
     } else {
         kind = CLOSE;
         length = 8;
@@ -136,33 +151,65 @@ static uint32_t take_verdicts(struct incoming *in, const struct take *take, uint
     return told;
 }
 
-/* Sends all messages and hears all verdicts, and at last the end. */
-static void send_take(int peer, const struct take *take) {
-    static struct outgoing out;
-    static struct incoming in;
-    uint32_t messages = take->blocks + 2;
-    uint32_t sent = 0;
-    uint32_t told = 0;
-    while (told < messages) {
-        if (!has_more(&out) && sent < messages && sent - told < WINDOW) {
-            put_message(&out, take, sent++);
+static int is_done(const struct recorder *one) {
+    return one->told == one->take.blocks + 2;
+}
+
+/* What there is to wait for: nothing where all is told. */
+static struct pollfd waited_for(struct recorder *one) {
+    uint32_t messages = one->take.blocks + 2;
+    if (!has_more(&one->out) && one->sent < messages && one->sent - one->told < WINDOW) {
+        put_message(&one->out, &one->take, one->sent++);
+    }
+    short events = (short)(POLLIN | (has_more(&one->out) ? POLLOUT : 0));
+    return (struct pollfd){.fd = is_done(one) ? -1 : one->peer, .events = events};
+}
+
+/* Goes on with a recorder whose connection is ready so. Behind the last verdict its end is sent. */
+static void go_on(struct recorder *one, short ready) {
+    if (ready & POLLOUT) {
+        write_some(one->peer, &one->out);
+    }
+    if (ready & (POLLIN | POLLERR | POLLHUP)) {
+        if (!read_some(one->peer, &one->in)) {
+            fail("the server ends too early");
         }
-        struct pollfd ready = {.fd = peer, .events = (short)(POLLIN | (has_more(&out) ? POLLOUT : 0))};
-        if (poll(&ready, 1, -1) < 0) {
+        one->told = take_verdicts(&one->in, &one->take, one->told);
+    }
+    if (is_done(one)) {
+        put_bye(&one->out);
+        write_some(one->peer, &one->out);
+    }
+}
+
+static double seconds(void) {
+    struct timespec now;
+    clock_gettime(CLOCK_MONOTONIC, &now);
+    return (double)now.tv_sec + (double)now.tv_nsec / 1e9;
+}
+
+/* Sends all takes, notes how long each of them took, and answers how long all of them did. */
+static double send_takes(struct recorder *recorders, size_t count) {
+    static struct pollfd ready[MOST_RECORDERS];
+    double start = seconds();
+    for (size_t left = count; left > 0;) {
+        for (size_t i = 0; i < count; i++) {
+            ready[i] = waited_for(&recorders[i]);
+        }
+        if (poll(ready, count, -1) < 0) {
             fail("poll");
         }
-        if (ready.revents & POLLOUT) {
-            write_some(peer, &out);
-        }
-        if (ready.revents & (POLLIN | POLLERR | POLLHUP)) {
-            if (!read_some(peer, &in)) {
-                fail("the server ends too early");
+        for (size_t i = 0; i < count; i++) {
+            if (ready[i].fd >= 0 && ready[i].revents) {
+                go_on(&recorders[i], ready[i].revents);
+                if (is_done(&recorders[i])) {
+                    recorders[i].taken = seconds() - start;
+                    left--;
+                }
             }
-            told = take_verdicts(&in, take, told);
         }
     }
-    put_bye(&out);
-    write_some(peer, &out);
+    return seconds() - start;
 }
 
 static int connect_to(const char *port) {
@@ -179,39 +226,54 @@ static int connect_to(const char *port) {
     return peer;
 }
 
-static void make_samples(struct take *take) {
+static void make_samples(size_t size) {
     uint32_t state = 1;
-    for (size_t i = 0; i < take->size; i++) {
+    for (size_t i = 0; i < size; i++) {
         state = state * 1664525 + 1013904223;
-        take->samples[i] = (uint8_t)(state >> 24);
+        samples[i] = (uint8_t)(state >> 24);
     }
 }
 
-static double seconds(void) {
-    struct timespec now;
-    clock_gettime(CLOCK_MONOTONIC, &now);
-    return (double)now.tv_sec + (double)now.tv_nsec / 1e9;
-}
-
-int main(int count, char **words) {
-    static struct take take;
-    if (count != 5) {
-        fail("usage: client PORT NAME BLOCKS SIZE");
-    }
-    take.name = words[2];
-    take.name_length = strlen(words[2]);
-    unsigned long blocks = strtoul(words[3], NULL, 10);
-    take.size = strtoul(words[4], NULL, 10);
-    if (take.name_length < 1 || take.name_length > LONGEST_NAME || blocks > MOST_NUMBERS - 2 || take.size < 2
+/* The take with this number of so many; one that is alone has the name as it is. */
+static struct take take_of(char **words, size_t number, size_t count) {
+    struct take take = {.blocks = (uint32_t)strtoul(words[3], NULL, 10), .size = strtoul(words[4], NULL, 10)};
+    const char *form = count == 1 ? "%s" : "%s-%zu";
+    int length = snprintf(take.name, sizeof take.name, form, words[2], number);
+    if (length < 1 || length > LONGEST_NAME || strtoul(words[3], NULL, 10) > MOST_NUMBERS - 2 || take.size < 2
         || take.size > LONGEST_BLOCK || take.size % SAMPLE_BYTES != 0) {
         fail("a name, a count or a size that no take has");
     }
-    take.blocks = (uint32_t)blocks;
-    make_samples(&take);
-    int peer = connect_to(words[1]);
-    double start = seconds();
-    send_take(peer, &take);
-    printf("%.6f\n", seconds() - start);
-    close(peer);
+    take.name_length = (size_t)length;
+    return take;
+}
+
+/* How fast the slowest was, where the mean of all is 1. */
+static double slowest(const struct recorder *recorders, size_t count) {
+    double sum = 0;
+    double least = 1 / recorders[0].taken;
+    for (size_t i = 0; i < count; i++) {
+        double speed = 1 / recorders[i].taken;
+        sum += speed;
+        least = speed < least ? speed : least;
+    }
+    return least * (double)count / sum;
+}
+
+int main(int count, char **words) {
+    static struct recorder recorders[MOST_RECORDERS];
+    size_t many = count == 6 ? strtoul(words[5], NULL, 10) : 1;
+    if (count < 5 || count > 6 || many < 1 || many > MOST_RECORDERS) {
+        fail("usage: client PORT NAME BLOCKS SIZE [RECORDERS]");
+    }
+    for (size_t i = 0; i < many; i++) {
+        recorders[i].take = take_of(words, i, many);
+        recorders[i].peer = connect_to(words[1]);
+    }
+    make_samples(recorders[0].take.size);
+    double taken = send_takes(recorders, many);
+    printf("%.6f %.3f\n", taken, slowest(recorders, many));
+    for (size_t i = 0; i < many; i++) {
+        close(recorders[i].peer);
+    }
     return 0;
 }

@@ -1,0 +1,332 @@
+"""What runs of `serve` and `send` have in common: processes, peers, a relay that cuts, what is compared.
+
+The program is the first argument of the script, or the one of this repository.
+"""
+import contextlib
+import ctypes
+import os
+import pathlib
+import random
+import re
+import select
+import signal
+import socket
+import struct
+import subprocess
+import sys
+import tempfile
+import threading
+import time
+
+from takes import LARGEST_LIMIT, Take
+from tally import Tally
+
+LOCAL = "127.0.0.1"
+LONGEST_WAIT = 30  # seconds, for one thing to come
+SYSTEM = ctypes.CDLL(None)
+STARTED = []
+
+WINDOW = 16
+LEAST_LIMIT = 8_192
+UNSETTLED = "not every request has its verdict yet\n"
+
+
+class Fault(Exception):
+    """What was waited for didn't come."""
+
+
+TALLY = Tally()
+
+
+# Processes
+
+
+def prepare_child():
+    """A child ends with this script, even a killed one, and SIGINT ends it whatever it was before."""
+    SYSTEM.prctl(1, signal.SIGKILL)
+    signal.signal(signal.SIGINT, signal.SIG_DFL)
+
+
+def start(*words, **streams):
+    process = subprocess.Popen([PROGRAM, *words], preexec_fn=prepare_child, **streams)
+    STARTED.append(process)
+    return process
+
+
+def finish(process, given=None, name="a command"):
+    """Status, output and faults of a process that ends by itself."""
+    try:
+        out, faults = process.communicate(given, timeout=2 * LONGEST_WAIT)
+    except subprocess.TimeoutExpired:
+        process.kill()
+        raise Fault(f"{name} doesn't end") from None
+    return process.returncode, out.decode(errors="replace"), (faults or b"").decode(errors="replace")
+
+
+def start_with_pipes(*words):
+    pipe = subprocess.PIPE
+    return start(*words, stdin=pipe, stdout=pipe, stderr=pipe)
+
+
+def run(*words, given=b""):
+    return finish(start_with_pipes(*words), given, words[0])
+
+
+def send(port, take, *options):
+    words = ("send", "--connect", f"{LOCAL}:{port}", "--name", take.name, *options)
+    return run(*words, given=take.lines())
+
+
+def free_port():
+    with socket.create_server((LOCAL, 0)) as listener:
+        return listener.getsockname()[1]
+
+
+class Server:
+    """A server in the background, at a port that was free."""
+
+    def __init__(self, folder, *options):
+        for _ in range(5):
+            self.port = free_port()
+            self.faults = tempfile.TemporaryFile()
+            words = ("serve", "--listen", f"{LOCAL}:{self.port}", "--folder", str(folder), *options)
+            self.process = start(*words, stdout=subprocess.PIPE, stderr=self.faults)
+            self.held = b""
+            if self.line() == f"listening {LOCAL}:{self.port}":
+                return
+        raise Fault("no server comes up")
+
+    def line(self):
+        """The next line of its output, or None at the end."""
+        until = time.monotonic() + LONGEST_WAIT
+        while b"\n" not in self.held:
+            if not select.select([self.process.stdout], [], [], max(0, until - time.monotonic()))[0]:
+                raise Fault("the server prints no line")
+            piece = os.read(self.process.stdout.fileno(), 65_536)
+            if not piece:
+                return None
+            self.held += piece
+        line, _, self.held = self.held.partition(b"\n")
+        return line.decode(errors="replace")
+
+    def lines(self, count):
+        return [self.line() for _ in range(count)]
+
+    def end(self):
+        """Its status, the lines that it printed before, and its faults, when it ends by itself."""
+        lines = []
+        while (line := self.line()) is not None:
+            lines.append(line)
+        try:
+            status = self.process.wait(LONGEST_WAIT)
+        except subprocess.TimeoutExpired:
+            raise Fault("the server doesn't end") from None
+        self.faults.seek(0)
+        return status, lines, self.faults.read().decode(errors="replace")
+
+    def stop(self, number=signal.SIGTERM):
+        self.process.send_signal(number)
+        return self.end()
+
+
+def end_all():
+    for process in STARTED:
+        if process.poll() is None:
+            process.kill()
+            process.wait()
+
+
+# Peers of a script's own
+
+
+def connect(port):
+    return socket.create_connection((LOCAL, port), LONGEST_WAIT)
+
+
+def hear(peer, length):
+    """So many bytes of replies."""
+    heard = b""
+    while len(heard) < length:
+        piece = peer.recv(length - len(heard))
+        if not piece:
+            raise Fault(f"the server ends behind {len(heard)} bytes of replies, and not {length}")
+        heard += piece
+    return heard
+
+
+def hear_all(peer):
+    """All replies, to their end."""
+    heard = b""
+    while piece := peer.recv(65_536):
+        heard += piece
+    return heard
+
+
+def close_at_once(peer):
+    """Closes so that the other side is told of a broken connection."""
+    peer.setsockopt(socket.SOL_SOCKET, socket.SO_LINGER, struct.pack("ii", 1, 0))
+    peer.close()
+
+
+class Relay:
+    """Passes connections on to a server, one after another or all at once, and cuts each of them somewhere.
+
+    As many let less than 10 kB through as more than 100 kB; a window of the longest blocks is half a megabyte. Of every
+    fourth the replies are cut.
+    """
+
+    def __init__(self, server_port, seed, at_once=False):
+        self.server_port = server_port
+        self.chance = random.Random(seed)
+        self.at_once = at_once
+        self.listener = socket.create_server((LOCAL, 0), backlog=256)
+        self.port = self.listener.getsockname()[1]
+        self.connections = 0
+        threading.Thread(target=self.pass_all, daemon=True).start()
+
+    def pass_all(self):
+        while True:
+            try:
+                sender, _ = self.listener.accept()
+            except OSError:
+                return
+            self.connections += 1
+            most_replies = self.chance.randint(1, 200) if self.chance.random() < 0.25 else 1 << 30
+            most_requests = int(10 ** self.chance.uniform(3, 6))
+            words = sender, most_requests, most_replies, self.chance.random() < 0.5
+            if self.at_once:
+                threading.Thread(target=self.pass_on, args=words, daemon=True).start()
+            else:
+                self.pass_on(*words)
+
+    def pass_on(self, sender, most_requests, most_replies, is_abrupt):
+        ends = [sender]
+        try:
+            with contextlib.suppress(OSError):
+                ends.append(connect(self.server_port))
+                sender, server = ends
+                pass_both_ways({sender: server, server: sender}, {sender: most_requests, server: most_replies})
+        finally:
+            for end in ends:
+                if is_abrupt:
+                    close_at_once(end)
+                else:
+                    end.close()
+
+    def stop(self):
+        self.listener.close()
+
+
+def pass_both_ways(others, room):
+    """Passes on what comes, until both ends have ended or one has no more room."""
+    open_ends = list(others)
+    while open_ends:
+        ready = select.select(open_ends, [], [], LONGEST_WAIT)[0]
+        if not ready:
+            return
+        for end in ready:
+            piece = end.recv(min(65_536, room[end]))
+            if piece:
+                others[end].sendall(piece)
+                room[end] -= len(piece)
+                if room[end] == 0:
+                    return
+            else:
+                others[end].shutdown(socket.SHUT_WR)
+                open_ends.remove(end)
+
+
+# What is compared again and again
+
+
+def same_settled(name, told, count, stored, status):
+    faults = UNSETTLED if status == 3 else ""
+    TALLY.same(name, told, (status, f"settled {count}\nstored {stored}\n", faults))
+
+
+def same_exchanges(name, lines, ends, first=0):
+    TALLY.same(name, lines, [f"exchange {first + index} {end}" for index, end in enumerate(ends)])
+
+
+def stopped(name, server, number=signal.SIGTERM):
+    """The server is stopped from outside, and says nothing more."""
+    TALLY.same(name, server.stop(number), (-number, [], ""))
+
+
+def same_file(name, folder, take, blocks=None, limit=LARGEST_LIMIT):
+    """The take's file, byte for byte, and what `inspect` tells of its sizes."""
+    path = folder / f"{take.name}.wav"
+    wanted = take.file(blocks, limit)
+    TALLY.same(f"{name}: the file", path.read_bytes(), wanted)
+    data = sum(map(len, take.blocks[:blocks]))
+    form = "RIFF" if wanted.startswith(b"RIFF") else "BW64"
+    status, out, faults = run("inspect", str(path))
+    lines = out.splitlines()
+    TALLY.same(f"{name}: inspect", (status, faults, lines[:1]), (0, "", [f"form {form} {len(wanted) - 8}"]))
+    sizes = f"data at=690 bytes={data} frames={data // take.ALIGN}"
+    TALLY.same(f"{name}: what inspect tells", [line for line in lines if line.startswith("data ")], [sizes])
+
+
+def serves_on(name, server, folder, first):
+    """The server takes a small take from a sender, in its exchange with this number."""
+    take = Take(f"next-{server.port}", 3_000, 5)
+    told = send(server.port, take)
+    same_settled(f"{name}: a later sender", told, len(take.requests()), len(take.requests()), 0)
+    same_exchanges(f"{name}: a later exchange", server.lines(1), ["Bye"], first)
+    same_file(f"{name}: a later take", folder, take)
+
+
+def same_replay(name, take, limit):
+    """The replay of the same messages in one exchange leaves the same file."""
+    line = b"".join(take.messages()).hex().encode()
+    status, out, faults = run("replay", "--limit", str(limit), given=line)
+    wanted = take.file(limit=limit)
+    TALLY.same(f"{name}: replay", (status, faults), (0, ""))
+    head, _, text = out.rpartition(f"file {take.name} {len(wanted)}\n")
+    TALLY.holds(f"{name}: replay", head, "another file than of that name and length")
+    TALLY.same(f"{name}: the replayed file", bytes.fromhex(text), wanted)
+
+
+def reason(number):
+    return f"{os.strerror(number)} (os error {number})"
+
+# Runs of cases, each with a folder of its own
+
+
+def run_case(case):
+    name = case.__name__.removeprefix("case_").replace("_", " ")
+    with tempfile.TemporaryDirectory() as folder:
+        try:
+            case(pathlib.Path(folder))
+        except (Fault, OSError, AttributeError, ValueError) as fault:
+            TALLY.holds(name, False, f"{type(fault).__name__}: {fault}")
+        finally:
+            end_all()
+
+
+def give_up(number, _frame):
+    sys.exit(f"stopped by signal {number}")
+
+
+def run_cases(cases, longest_run):
+    """The status of a script, which has so many seconds. Prints what differs, and at last 'N passed, M failed'."""
+    for number in (signal.SIGALRM, signal.SIGTERM, signal.SIGINT, signal.SIGHUP):
+        signal.signal(number, give_up)
+    signal.alarm(longest_run)
+    for case in cases:
+        run_case(case)
+    print(f"{TALLY.passed} passed, {TALLY.failed} failed")
+    return 1 if TALLY.failed else 0
+
+
+def program():
+    if len(sys.argv) > 1:
+        return str(pathlib.Path(sys.argv[1]).resolve())
+    here = pathlib.Path(__file__).resolve().parent.parent
+    built = here / "crates/bw_cli/out/bw_cli"
+    if not os.access(built, os.X_OK):
+        subprocess.run([here / "bwingest", "--version"], stdout=subprocess.DEVNULL, check=True)
+    return str(built)
+
+
+PROGRAM = program()
