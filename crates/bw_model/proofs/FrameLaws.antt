@@ -15,7 +15,7 @@ use Rattle.bw_model.specs.Replies.{Reply, Judged, Noticed, Refused, verdict_code
 use Rattle.bw_model.specs.Replies.{reply_body, decoded_reply}
 use Rattle.bw_model.specs.Stream.{longest_reply, first_reply, longest_body, framing_faults, before, first_frame}
 use Rattle.bw_model.proofs.ByteNumbers.{are_bytes-parts, wide32, written-number_at, number_at-written}
-use Rattle.bw_model.proofs.ReplyLaws.{reply_read_is_spelled, spelled_reply_is_read}
+use Rattle.bw_model.proofs.ReplyLaws.{reply_read_is_spelled}
 use Rattle.bw_model.proofs.SpellingLaws.{read_is_spelled, spelled_is_read}
 
 -- a payload is no longer than the longest block

@@ -17,12 +17,12 @@ use Rattle.bw_model.proofs.Elements.{Each, each-append, each-map}
 use Rattle.bw_model.proofs.TrueReplies.{IsSound, IsTrueReply, IsFaithfulStep, notice_true, still}
 
 -- replies of another name tell the sender nothing
-abbrev IsOf : List ℕ → Reply → Type 0
+abbrev pub IsOf : List ℕ → Reply → Type 0
 IsOf name (Judged x n v) = x ≡ name
 IsOf name (Noticed x n code next) = x ≡ name
 IsOf name (Refused reason place) = Unit {0}
 
-other_reply : (taken : Bool) (name x : List ℕ) (log : Log) (r : Reply) → bytes_eq x name ≡ false → IsOf x r →
+pub other_reply : (taken : Bool) (name x : List ℕ) (log : Log) (r : Reply) → bytes_eq x name ≡ false → IsOf x r →
     IsTrueReply taken name log r
 other_reply taken name x log (Judged y n v) off is = record { judged = λ k w e. absurd (not_own k w e); welcome = refl }
   where
@@ -68,7 +68,7 @@ own_of taken s done later end m =
     go false false false false true = (refl, tt)
     go false false false false false = (refl, tt)
 
-message_of : (taken known full : Bool) (log : Log) (m : Message) (luck : Luck) →
+pub message_of : (taken known full : Bool) (log : Log) (m : Message) (luck : Luck) →
     Each (IsOf m.name) (turn_by taken known full log m luck).0
 unfolding served turn_by
 message_of taken known full log m luck =

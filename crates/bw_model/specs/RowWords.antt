@@ -1,5 +1,5 @@
 -- The words in which the worked rows are written.
-use Rattle.std.specs.Prelude.{◌≡◌, ℕ, ◌-◌, ◌*◌, ◌+◌, Bool, false, Option, Some, None, List, [], ◌∷◌}
+use Rattle.std.specs.Prelude.{◌≡◌, ℕ, ◌-◌, ◌*◌, ◌+◌, false, Option, Some, None, List, [], ◌∷◌}
 use Rattle.std.specs.Prelude.{◌++◌, codes, fold, map, nat_lt, if◌then◌else◌}
 use Prim.Native.String.{String}
 use Rattle.bw_model.specs.Bytes.{zeros, le32}
