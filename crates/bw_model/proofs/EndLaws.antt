@@ -1,4 +1,4 @@
--- A reading fills its form, and each list of bytes has a reading or a fault.
+-- A reading ends its form, and each list of bytes has a reading or a fault.
 use Rattle.std.proofs.Common.{◌≡◌, ℕ, suc, zero, ◌+◌, ◌<◌, ◌≤◌, Bool, true, false, cond, List, [], ◌∷◌, ◌++◌, length}
 use Rattle.std.proofs.Common.{Option, Some, None, Result, Ok, Err, inl, inr, refl, sym, ◌∙◌, ap, subst, arith}
 use Rattle.std.proofs.Common.{length-append, append_assoc}
@@ -9,7 +9,7 @@ use Rattle.bw_model.specs.Bytes.{first_that_holds, unless}
 use Rattle.bw_model.specs.Reading.{Entry, Form, Fault, FollowEachOther, IsFront, IsReading, IsFault, BytesReadOrFault}
 use Rattle.bw_model.specs.Reading.{outer, next, next_place, head_at, chunk_faults, end_faults, form_end, entry_of, walk}
 use Rattle.bw_model.specs.Reading.{read}
-use Rattle.bw_model.specs.Front.{StandsFirst, FillsForm, count_of, ReadingsFillForms}
+use Rattle.bw_model.specs.Front.{StandsFirst, EndsForm, count_of, ReadingsEndForms}
 use Rattle.bw_model.proofs.ChunkSteps.{none_holds, first-none, steps_to}
 use Rattle.bw_model.proofs.FrontLaws.{none-count, count-none, fronts}
 
@@ -89,10 +89,10 @@ found id es one = go (entry_of id es) refl
     go None q = let none : count_of id es ≡ 0 = count-none id es (ap is_some q) in absurd (omega arith)
     go (Some e) q = refl
 
-pub readings : ReadingsFillForms
+pub readings : ReadingsEndForms
 readings b form entries = (to, from)
   where
-    to : IsReading b form entries → StandsFirst b form entries × FillsForm form entries
+    to : IsReading b form entries → StandsFirst b form entries × EndsForm form entries
     to r =
         let s = (fronts b form entries).0 r.front in
         let e = ends_to b form entries r.ends in (
@@ -104,7 +104,7 @@ readings b form entries = (to, from)
           },
         )
 
-    from : StandsFirst b form entries × FillsForm form entries → IsReading b form entries
+    from : StandsFirst b form entries × EndsForm form entries → IsReading b form entries
     from h = record {
       front = (fronts b form entries).1 h.0;
       ends = ends_from b form entries

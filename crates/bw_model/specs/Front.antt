@@ -74,13 +74,13 @@ abbrev pub FrontsStandFirst : Type 0
 FrontsStandFirst = (b : List ℕ) (form : Form) (entries : List Entry) →
     IsFront b form entries ↔ StandsFirst b form entries
 
--- the chunks fill the form: no further head fits, and both `fmt ` and `data` are there
-pub record FillsForm (form : Form) (entries : List Entry) : Type 0 where
+-- no further head fits before the form's end, and both `fmt ` and `data` are there
+pub record EndsForm (form : Form) (entries : List Entry) : Type 0 where
   pub ends : form_end form < next_place entries + 8
   pub fmt : count_of (codes "fmt ") entries ≡ 1
   pub samples : count_of (codes "data") entries ≡ 1
 
--- a reading is what stands first and fills the form
-abbrev pub ReadingsFillForms : Type 0
-ReadingsFillForms = (b : List ℕ) (form : Form) (entries : List Entry) →
-    IsReading b form entries ↔ (StandsFirst b form entries × FillsForm form entries)
+-- a reading is what stands first and ends the form
+abbrev pub ReadingsEndForms : Type 0
+ReadingsEndForms = (b : List ℕ) (form : Form) (entries : List Entry) →
+    IsReading b form entries ↔ (StandsFirst b form entries × EndsForm form entries)
