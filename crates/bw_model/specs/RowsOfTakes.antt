@@ -10,7 +10,7 @@ use Rattle.bw_model.specs.RowWords.{two_frames}
 
 -- The judgement.
 
--- each rate, channel count and width at its bounds, and one past them
+-- the verdict on an OPEN of this format
 abbrev pub with_format : ℕ → ℕ → ℕ → Verdict
 with_format rate channels bits =
     verdict (take_of []) (Open (record { rate = rate; channels = channels; bits = bits }) [])
@@ -25,7 +25,7 @@ FormatsRow =
     ≡ (Stored ∷ Stored ∷ Stored ∷ [])
     ++ (BadFormat ∷ BadFormat ∷ BadFormat ∷ BadFormat ∷ BadFormat ∷ BadFormat ∷ [])
 
--- a history holds line ends and printable bytes
+-- .. of a history with this byte
 abbrev pub with_byte : ℕ → Verdict
 with_byte c = verdict (take_of []) (Open mono (65 ∷ c ∷ []))
 
@@ -36,7 +36,7 @@ HistoryBytesRow =
     ≡ (Stored ∷ Stored ∷ Stored ∷ Stored ∷ [])
     ++ (BadFormat ∷ BadFormat ∷ BadFormat ∷ BadFormat ∷ [])
 
--- each request before OPEN, and each on a closed take; a second OPEN
+-- one of each request but OPEN
 abbrev pub requests : List Request
 requests = Block two_frames ∷ Mark 7 0 ∷ SetField 1 [] ∷ Close 0 ∷ []
 
@@ -50,7 +50,7 @@ BeforeAndBehindRow =
     ++ (Closed ∷ Closed ∷ Closed ∷ Closed ∷ Closed ∷ [])
     ++ AlreadyOpen ∷ []
 
--- 1,024 markers fit, and no more
+-- an open take with so many markers
 abbrev pub marked : ℕ → Take
 marked count = record (take_of (Open mono [] ∷ [])) { markers = replicate count (0, 0) }
 
