@@ -11,7 +11,7 @@ use Rattle.std.proofs.lemmas.Option.{slice_get_past}
 use Rattle.bw_model.specs.Take.{Request, Verdict}
 use Rattle.bw_model.specs.Wire.{Second, Frame, Bye, is_frame, body, framed}
 use Rattle.bw_model.specs.Stream.{SaidBye, end_at, end_by, is_turn, frames_bytes}
-use Rattle.bw_model.specs.World.{Sender as Told, settled, pending_from}
+use Rattle.bw_model.specs.World.{Sender as Defined, settled, pending_from}
 use Rattle.bw_model.proofs.FrameLaws.{first_frame-framed}
 use Rattle.bw_stream.specs.Moves.{Keeps, Writes, Begins}
 use Rattle.bw_sender.specs.Entries.{Entry, entries, pending_entries}
@@ -61,7 +61,7 @@ begins-behind a b c p q f g xs e =
 -- ---- the messages that are pending
 
 -- the pending requests of a sender
-abbrev pub waiting : Told → List (ℕ × Request)
+abbrev pub waiting : Defined → List (ℕ × Request)
 waiting s = pending_from 0 s.offered s.verdicts
 
 few_entries : (n : ℕ) (es : List Entry) → length (pending_entries n es) ≤ length es
@@ -75,7 +75,7 @@ few_entries n (e ∷ es) = go e.verdict (few_entries (suc n) es)
     go (Some v) few = omega (arith, few)
 
 -- there are at most as many as a window holds
-pub few_pending : (s : Told) (x : Sender) → IsSender s x → length (waiting s) ≤ 16
+pub few_pending : (s : Defined) (x : Sender) → IsSender s x → length (waiting s) ≤ 16
 few_pending s x is =
     let es = entries s.offered s.verdicts in
     let k = settled s in
@@ -86,26 +86,26 @@ few_pending s x is =
     let few = few_entries (0 + k) (drop k es) in
     omega (arith, len, window, few, x.few)
 
-pub none_behind : (s : Told) (x : Sender) (place : ℕ) → IsSender s x → 16 ≤ place →
+pub none_behind : (s : Defined) (x : Sender) (place : ℕ) → IsSender s x → 16 ≤ place →
     slice_get (waiting s) place ≡ None
 none_behind s x place is past =
     slice_get_past (waiting s) place (omega (arith, few_pending s x is, past))
 
 -- the messages from a place on
-abbrev messages_from : Told → ℕ → List Frame
+abbrev messages_from : Defined → ℕ → List Frame
 messages_from s place = messages s.name (drop place (waiting s))
 
 -- the messages before a place were written
-pub record SentTo (place : ℕ) (s : Told) (written written' : Option (List ℕ)) : Type 0 where
+pub record SentTo (place : ℕ) (s : Defined) (written written' : Option (List ℕ)) : Type 0 where
   pub sent : List Frame
   pub all : sent ++ messages_from s place ≡ pending_messages s
   pub front : WritesMessages sent written written'
 
-pub sent-none : (s : Told) (w : Option (List ℕ)) → SentTo 0 s w w
+pub sent-none : (s : Defined) (w : Option (List ℕ)) → SentTo 0 s w w
 sent-none s w = record { sent = []; all = refl; front = record { each = refl; taken = writes-none w } }
 
 -- a message stands before the others
-one_message : (s : Told) (place : ℕ) (p : ℕ × Request) → slice_get (waiting s) place ≡ Some p →
+one_message : (s : Defined) (place : ℕ) (p : ℕ × Request) → slice_get (waiting s) place ≡ Some p →
     messages_from s place ≡ said s.name p.0 p.1 ∷ messages_from s (place + 1)
 one_message s place p e =
     let next : suc place ≡ place + 1 = omega arith in
@@ -129,7 +129,7 @@ messages_more fs f w w' w'' m fits taken = record {
 }
 
 -- one message more
-pub sent-more : (place : ℕ) (s : Told) (name : List ℕ) (w w' w'' : Option (List ℕ)) (p : ℕ × Request) →
+pub sent-more : (place : ℕ) (s : Defined) (name : List ℕ) (w w' w'' : Option (List ℕ)) (p : ℕ × Request) →
     name ≡ s.name → slice_get (waiting s) place ≡ Some p → SentTo place s w w' →
     IsTrue (is_frame Second (said name p.0 p.1)) → Writes w' (framed (body (said name p.0 p.1))) w'' →
     SentTo (place + 1) s w w''
@@ -145,7 +145,7 @@ sent-more place s name w w' w'' p same e f fits taken =
     }
 
 -- a beginning of one more
-sent-part : (place : ℕ) (s : Told) (name : List ℕ) (w w' w'' : Option (List ℕ)) (p : ℕ × Request) →
+sent-part : (place : ℕ) (s : Defined) (name : List ℕ) (w w' w'' : Option (List ℕ)) (p : ℕ × Request) →
     name ≡ s.name → slice_get (waiting s) place ≡ Some p → SentTo place s w w' →
     Begins w' (framed (body (said name p.0 p.1))) w'' → Begins w (frames_bytes (pending_messages s)) w''
 sent-part place s name w w' w'' p same e f begun =
@@ -159,7 +159,7 @@ sent-part place s name w w' w'' p same e f begun =
     (subst (λ (x : List ℕ). Begins w' (framed (body (said x p.0 p.1))) w'') same begun)))
 
 -- of one more nothing, for want of memory
-sent-lacking : (place : ℕ) (s : Told) (w w' w'' : Option (List ℕ)) (p : ℕ × Request) →
+sent-lacking : (place : ℕ) (s : Defined) (w w' w'' : Option (List ℕ)) (p : ℕ × Request) →
     slice_get (waiting s) place ≡ Some p → SentTo place s w w' → Keeps w' w'' → LacksMemoryToSend s w w''
 sent-lacking place s w w' w'' p e f kept =
     let len : length (messages_from s place) ≡ suc (length (messages_from s (place + 1))) =
@@ -176,7 +176,7 @@ sent-lacking place s w w' w'' p e f kept =
     }
 
 -- one more breaks off
-pub sent-cut : (fault : SendFault) (place : ℕ) (s : Told) (name : List ℕ) (w w' w'' : Option (List ℕ))
+pub sent-cut : (fault : SendFault) (place : ℕ) (s : Defined) (name : List ℕ) (w w' w'' : Option (List ℕ))
     (p : ℕ × Request) → name ≡ s.name → slice_get (waiting s) place ≡ Some p → SentTo place s w w' →
     BreaksFrame fault (framed (body (said name p.0 p.1))) w' w'' →
     BreaksBytes fault s (frames_bytes (pending_messages s)) w w''
@@ -187,7 +187,7 @@ sent-cut faults.BadReply place s name w w' w'' p same e f cut = cut
 sent-cut faults.TurnLimit place s name w w' w'' p same e f cut = cut
 
 -- there is no message more
-pub sent-all : (place : ℕ) (s : Told) (w w' : Option (List ℕ)) → slice_get (waiting s) place ≡ None →
+pub sent-all : (place : ℕ) (s : Defined) (w w' : Option (List ℕ)) → slice_get (waiting s) place ≡ None →
     SentTo place s w w' → WritesMessages (pending_messages s) w w'
 sent-all place s w w' e f =
     let none : drop place (waiting s) ≡ [] = drop_none place (waiting s) (past place (waiting s) e) in
@@ -210,7 +210,7 @@ bye_frame = 1 ∷ 0 ∷ 0 ∷ 0 ∷ 9 ∷ []
 bye_framed : framed (body Bye) ≡ bye_frame
 bye_framed = refl
 
-batch_parts : (s : Told) → frames_bytes (pending_messages s) ++ bye_frame ≡ batch_bytes s
+batch_parts : (s : Defined) → frames_bytes (pending_messages s) ++ bye_frame ≡ batch_bytes s
 batch_parts s =
     ap (λ (x : List ℕ). frames_bytes (pending_messages s) ++ x) (sym bye_framed ∙ sym (append-nil (framed (body Bye))))
     ∙ sym (flat_map-append (λ (f : Frame). framed (body f)) (pending_messages s) (Bye ∷ []))
@@ -220,7 +220,7 @@ bye_ends : (place : ℕ) → end_at Second place bye_frame ≡ Some SaidBye
 bye_ends place = ap (end_by place) (first_frame-framed Second Bye [] refl)
 
 -- the messages were written, and the frame behind them
-pub batch_sent : {E : Type 0} (r : Result (Unit {0}) E) (s : Told) (a b c : Option (List ℕ)) →
+pub batch_sent : {E : Type 0} (r : Result (Unit {0}) E) (s : Defined) (a b c : Option (List ℕ)) →
     WritesMessages (pending_messages s) a b → OnOk r (Writes b bye_frame c) → OnOk r (WritesBatch s a c)
 batch_sent (Err e) s a b c f g = tt
 batch_sent (Ok x) s a b c f g = record {
@@ -235,7 +235,7 @@ batch_sent (Ok x) s a b c f g = record {
 }
 
 -- the messages were written, and a beginning of that frame
-pub batch_begun : (r : Result (Unit {0}) SendFault) (s : Told) (a b c : Option (List ℕ)) →
+pub batch_begun : (r : Result (Unit {0}) SendFault) (s : Defined) (a b c : Option (List ℕ)) →
     WritesMessages (pending_messages s) a b → OnErr r (Begins b bye_frame c) →
     IfErr r (λ fault. fault ≡ faults.Write) → IfErr r (λ fault. BreaksBytes fault s (batch_bytes s) a c)
 batch_begun (Ok x) s a b c f g why = tt
@@ -245,7 +245,7 @@ batch_begun (Err fault) s a b c f g why =
     (begins-behind a b c (frames_bytes (pending_messages s)) bye_frame f.taken g))
 
 -- the messages broke off
-pub batch_cut : (fault : SendFault) (s : Told) (a b : Option (List ℕ)) →
+pub batch_cut : (fault : SendFault) (s : Defined) (a b : Option (List ℕ)) →
     BreaksBytes fault s (frames_bytes (pending_messages s)) a b → BreaksBytes fault s (batch_bytes s) a b
 batch_cut faults.Read s a b f = f
 batch_cut faults.Write s a b f =

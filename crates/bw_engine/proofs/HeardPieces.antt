@@ -7,14 +7,14 @@ use Rattle.std.proofs.lemmas.List.{append-nil, length-append, length-take-le}
 use Rattle.bw_model.specs.Wire.{Reason, Cut, are_bytes}
 use Rattle.bw_model.specs.Replies.{Reply}
 use Rattle.bw_model.specs.Stream.{first_reply}
-use Rattle.bw_model.specs.World.{Sender as Told, hear}
+use Rattle.bw_model.specs.World.{Sender as Defined, hear}
 use Rattle.bw_model.proofs.GrowthLaws.{first_reply-bad_grows}
 use Rattle.bw_stream.specs.Moves.{Reads}
 use Rattle.bw_sender.specs.Senders.{IsSender}
 use Rattle.bw_sender.specs.declared.sender.Sender.{Sender}
 use Rattle.bw_wire.specs.Codecs.{reply_codec, spelling_of, Spelled}
 use Rattle.bw_wire.specs.Held.{longest_piece}
-use Rattle.bw_wire.specs.Pending.{Pending, Told as Tells, Nothing, Gives, Fails, fresh, with_piece, next_of, cut_off}
+use Rattle.bw_wire.specs.Pending.{Pending, Told, Nothing, Gives, Fails, fresh, with_piece, next_of, cut_off}
 use Rattle.bw_wire.specs.Pending.{end_fault}
 use Rattle.bw_wire.specs.Replies.{reply_of}
 use Rattle.bw_wire.specs.Runs.{given_by}
@@ -33,13 +33,13 @@ use Rattle.bw_engine.proofs.ReplyRuns.{gave_counted, gave_follows}
 
 -- ---- replies are counted
 
-hear_all-append : (s : Told) (a b : List Reply) → hear_all s (a ++ b) ≡ hear_all (hear_all s a) b
+hear_all-append : (s : Defined) (a b : List Reply) → hear_all s (a ++ b) ≡ hear_all (hear_all s a) b
 hear_all-append s [] b = refl
 hear_all-append s (r ∷ a) b = hear_all-append (hear s r) a b
 
 counts_on : (a b : List Reply) (x y z : Sender) → CountsAll a x y → CountsAll b y z → CountsAll (a ++ b) x z
 counts_on a b x y z f g s is =
-    subst (λ (t : Told). IsSender t z) (sym (hear_all-append s a b)) (g (hear_all s a) (f s is))
+    subst (λ (t : Defined). IsSender t z) (sym (hear_all-append s a b)) (g (hear_all s a) (f s is))
 
 -- nothing is heard
 pub hears-none : (x : Sender) (p : Pending) → HearsMore x x p p
@@ -60,12 +60,12 @@ hears-on x y z p q r f g = record {
 }
 
 -- what an answer tells whose value is known
-pub as_told : {a b : Option Answer} {t : Tells Reply} → a ≡ b → told_as reply_of (Ok a) ≡ t →
+pub as_told : {a b : Option Answer} {t : Told Reply} → a ≡ b → told_as reply_of (Ok a) ≡ t →
     told_as reply_of (Ok b) ≡ t
 as_told same told = ap (λ (o : Option Answer). told_as reply_of (Ok o)) (sym same) ∙ told
 
 -- a framer was asked, and there was no reply
-pub hears-quiet : (x : Sender) (p q : Pending) (t : Tells Reply) → t ≡ (next_of reply_codec p).0 → IsNoReply t →
+pub hears-quiet : (x : Sender) (p q : Pending) (t : Told Reply) → t ≡ (next_of reply_codec p).0 → IsNoReply t →
     q ≡ (next_of reply_codec p).1 → HearsMore x x p q
 hears-quiet x p q t told none same = record {
   heard = [];
@@ -73,14 +73,14 @@ hears-quiet x p q t told none same = record {
   gives = λ fed before d. gave_more fed before [] p q same (ap (given_by reply_codec) (sym told) ∙ no_reply t none) d;
 }
   where
-    no_reply : (t : Tells Reply) → IsNoReply t → given_by reply_codec t ≡ []
+    no_reply : (t : Told Reply) → IsNoReply t → given_by reply_codec t ≡ []
     no_reply Nothing none = refl
     no_reply (Gives r) none = absurd none
     no_reply (Fails reason place) none = refl
 
 -- a reply was there, and is counted
 pub hears-one : (x y : Sender) (p q : Pending) (r : Reply) → Gives r ≡ (next_of reply_codec p).0 →
-    q ≡ (next_of reply_codec p).1 → ((s : Told) → IsSender s x → IsSender (hear s r) y) → HearsMore x y p q
+    q ≡ (next_of reply_codec p).1 → ((s : Defined) → IsSender s x → IsSender (hear s r) y) → HearsMore x y p q
 hears-one x y p q r told same counted = record {
   heard = r ∷ [];
   counted = counted;

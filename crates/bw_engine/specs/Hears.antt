@@ -4,7 +4,7 @@ use Rattle.std.specs.Prelude.{Some, Result, Ok, Err, IsTrue, List, [], ◌∷◌
 use Rattle.bw_model.specs.Wire.{Reason, Cut, are_bytes}
 use Rattle.bw_model.specs.Replies.{Reply}
 use Rattle.bw_model.specs.Stream.{first_reply}
-use Rattle.bw_model.specs.World.{Sender as Told, hear}
+use Rattle.bw_model.specs.World.{Sender as Defined, hear}
 use Rattle.bw_stream.specs.Moves.{one_more, Keeps}
 use Rattle.bw_sender.specs.Senders.{IsSender}
 use Rattle.bw_sender.specs.declared.sender.Sender.{Sender}
@@ -17,13 +17,13 @@ use Rattle.bw_engine.specs.declared.send_fault.SendFault.TheVariants as faults
 use Rattle.bw_engine.specs.Served.{most_reads, HasGiven, HasNoneLeft}
 
 -- a sender after these replies
-abbrev pub hear_all : Told → List Reply → Told
+abbrev pub hear_all : Defined → List Reply → Defined
 hear_all s [] = s
 hear_all s (r ∷ rs) = hear_all (hear s r) rs
 
 -- a sender has counted these replies
 abbrev pub CountsAll : List Reply → Sender → Sender → Type 0
-CountsAll heard x y = (s : Told) → IsSender s x → IsSender (hear_all s heard) y
+CountsAll heard x y = (s : Defined) → IsSender s x → IsSender (hear_all s heard) y
 
 -- the bytes are the frames of these replies, and then some that begin with none, for this reason
 abbrev pub IsHeardUpTo : Reason → List ℕ → List Reply → Type 0

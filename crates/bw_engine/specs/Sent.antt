@@ -1,6 +1,6 @@
 -- A whole exchange of a sender: what is sent, and what is heard behind it.
 use Rattle.std.specs.Prelude.{◌≡◌, ◌⊎◌, ◌+◌, ◌≤◌, Result, Err}
-use Rattle.bw_model.specs.World.{Sender as Told}
+use Rattle.bw_model.specs.World.{Sender as Defined}
 use Rattle.bw_stream.specs.Moves.{one_more}
 use Rattle.bw_stream.specs.declared.sink.Sink.{Ghosts as Writer}
 use Rattle.bw_stream.specs.declared.source.Source.{Ghosts as Reader}
@@ -31,7 +31,7 @@ module _ {R W : Type 0} (reader : Reader R) (writer : Writer W) where
   -- the whole batch was written, and then replies were heard
   pub record SendsAndHears (result : Result (Unit {0}) SendFault) (x y : Sender) (r r' : R)
       (w w' : W) : Type 0 where
-    pub sent : (s : Told) → IsSender s x →
+    pub sent : (s : Defined) → IsSender s x →
         WritesBatch s (writer.written w) (writer.written w')
     pub counted : writer.failures w' ≡ writer.failures w
     pub over : HearsOver result x y r r'
@@ -39,7 +39,7 @@ module _ {R W : Type 0} (reader : Reader R) (writer : Writer W) where
   -- the writer failed behind a beginning of the batch, and what came back of it was heard
   pub record BreaksAndHears (result : Result (Unit {0}) SendFault) (x y : Sender) (r r' : R)
       (w w' : W) : Type 0 where
-    pub cut : (s : Told) → IsSender s x →
+    pub cut : (s : Defined) → IsSender s x →
         BreaksBytes faults.Write s (batch_bytes s) (writer.written w) (writer.written w')
     pub counted : writer.failures w' ≡ one_more (writer.failures w)
     pub hearing : Result (Unit {0}) SendFault
@@ -50,7 +50,7 @@ module _ {R W : Type 0} (reader : Reader R) (writer : Writer W) where
   pub record LacksBatch (result : Result (Unit {0}) SendFault) (x y : Sender) (r r' : R)
       (w w' : W) : Type 0 where
     pub ends : result ≡ Err faults.Memory
-    pub cut : (s : Told) → IsSender s x →
+    pub cut : (s : Defined) → IsSender s x →
         BreaksBytes faults.Memory s (batch_bytes s) (writer.written w) (writer.written w')
     pub counted : writer.failures w' ≡ writer.failures w
     pub unheard : y ≡ x

@@ -2,7 +2,7 @@
 ghost use Rattle.std.specs.Prelude.{◌≡◌, ◌≤◌, IsTrue, IfErr, OnOk, OnErr};
 ghost use Rattle.bw_model.specs.Wire.{Second, last_number, is_frame, body, framed};
 ghost use Rattle.bw_model.specs.Stream.{frames_bytes};
-ghost use Rattle.bw_model.specs.World.{Sender as Told};
+ghost use Rattle.bw_model.specs.World.{Sender as Defined};
 ghost use Rattle.bw_stream.specs.Moves.{Writes, Begins};
 ghost use Rattle.bw_sender.specs.Senders.{IsSender};
 ghost use Rattle.bw_wire.specs.Encoded.{said};
@@ -33,9 +33,9 @@ const BYE: [u8; 5] = [1, 0, 0, 0, 9];
 /// # Errors
 /// `Write`: a beginning of the frames was written. `Memory`: whole frames of the first messages.
 pub fn send_batch<W: Sink>(alloc: Global, sender: &Sender, writer: &mut W) -> Result<(), SendFault>
-    ensures ok { (s : Told) → IsSender s sender.now → OnOk result
+    ensures ok { (s : Defined) → IsSender s sender.now → OnOk result
         (WritesBatch s (W.written writer.old) (W.written writer.new)) }
-    ensures err { (s : Told) → IsSender s sender.now → IfErr result (λ fault.
+    ensures err { (s : Defined) → IsSender s sender.now → IfErr result (λ fault.
         BreaksBytes fault s (batch_bytes s) (W.written writer.old) (W.written writer.new)) }
     ensures why { IfErr result BreaksBatch }
     ensures count { W.failures writer.new ≡ sends_failed result (W.failures writer.old) }
@@ -49,9 +49,9 @@ pub fn send_batch<W: Sink>(alloc: Global, sender: &Sender, writer: &mut W) -> Re
 /// # Errors
 /// `Write`: a beginning of their frames was written. `Memory`: whole frames of the first of them.
 fn send_pending<W: Sink>(alloc: Global, sender: &Sender, writer: &mut W) -> Result<(), SendFault>
-    ensures ok { (s : Told) → IsSender s sender.now → OnOk result
+    ensures ok { (s : Defined) → IsSender s sender.now → OnOk result
         (WritesMessages (pending_messages s) (W.written writer.old) (W.written writer.new)) }
-    ensures err { (s : Told) → IsSender s sender.now → IfErr result (λ fault.
+    ensures err { (s : Defined) → IsSender s sender.now → IfErr result (λ fault.
         BreaksBytes fault s (frames_bytes (pending_messages s)) (W.written writer.old)
         (W.written writer.new)) }
     ensures why { IfErr result BreaksBatch }

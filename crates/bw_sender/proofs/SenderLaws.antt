@@ -13,7 +13,7 @@ use Rattle.bw_model.specs.Take.{Request, Verdict, is_stored}
 use Rattle.bw_model.specs.Wire.{Second, last_number}
 use Rattle.bw_model.specs.Turn.{window}
 use Rattle.bw_model.specs.Replies.{Judged}
-use Rattle.bw_model.specs.World.{Sender as Told, settled, is_some_stored, refused_from, pending_from, has_closed_from}
+use Rattle.bw_model.specs.World.{Sender as Defined, settled, is_some_stored, refused_from, pending_from, has_closed_from}
 use Rattle.bw_model.specs.World.{is_open, is_close, is_counted, hear, heard, Counted, Known, Stranger}
 use Rattle.bw_model.specs.World.{OfferFault, NumbersSpent, BeforeOpen, AfterClose, WindowFull, offer_fault, offer}
 use Rattle.bw_model.proofs.MapLemmas.{take-put, first_free-put, at-first_free}
@@ -26,21 +26,21 @@ use Rattle.bw_sender.proofs.EntryLaws.{stored_more, refused_more, closed_more, c
 use Rattle.bw_sender.proofs.EntryLaws.{judged_at, judged_put, judged_drop, put_within}
 
 -- how many are settled and stand in the window are all
-pub counted : (k : ℕ) (s : Told) (x : Sender) → KeepsFrom k s x → k + length x.window ≡ x.offered
+pub counted : (k : ℕ) (s : Defined) (x : Sender) → KeepsFrom k s x → k + length x.window ≡ x.offered
 counted k s x f =
     let all = length_entries s.offered s.verdicts in
     let left = ap length f.window ∙ length-drop k (entries s.offered s.verdicts) in
     let free = first_free_len s.verdicts in
     omega (arith, all, left, free, f.front, f.within, f.offered)
 
-pub number_is : (k n : ℕ) (s : Told) (x : Sender) → KeepsFrom k s x → n + length x.window ≡ x.offered → n ≡ k
+pub number_is : (k n : ℕ) (s : Defined) (x : Sender) → KeepsFrom k s x → n + length x.window ≡ x.offered → n ≡ k
 number_is k n s x f e = let c = counted k s x f in omega (arith, c, e)
 
-pub refused_told : (s : Told) (x : Sender) → IsSender s x → x.refused.numbers ≡ refused_from 0 s.verdicts
+pub refused_told : (s : Defined) (x : Sender) → IsSender s x → x.refused.numbers ≡ refused_from 0 s.verdicts
 refused_told s x f = f.refused ∙ refused_front 0 s.verdicts
 
 -- the first of the window is let go with its verdict
-pub settles_one : (k : ℕ) (s : Told) (x y : Sender) (r : Request) (v : Verdict) → KeepsFrom k s x →
+pub settles_one : (k : ℕ) (s : Defined) (x y : Sender) (r : Request) (v : Verdict) → KeepsFrom k s x →
     slice_get x.window 0 ≡ Some (record { request = r; verdict = Some v }) →
     y.name ≡ x.name → y.offered ≡ x.offered → y.window ≡ drop 1 x.window →
     y.stored ≡ x.stored + (if is_stored v then 1 else 0) →
@@ -69,7 +69,7 @@ settles_one k s x y r v f front name offered window stored refused closed =
     }
 
 -- the first of the window has no verdict, or none stands there
-pub all_settled : (k : ℕ) (s : Told) (x : Sender) → KeepsFrom k s x → is_judged_at x.window 0 ≡ false → k ≡ settled s
+pub all_settled : (k : ℕ) (s : Defined) (x : Sender) → KeepsFrom k s x → is_judged_at x.window 0 ≡ false → k ≡ settled s
 all_settled k s x f none =
     not_judged s.offered s.verdicts k f.within f.front
     (ap (λ (o : Option Entry). is_some (option_and_then (λ (e : Entry). e.verdict) o))
@@ -78,7 +78,7 @@ all_settled k s x f none =
     ∙ ap (λ (w : List Entry). slice_get w 0) (sym f.window)) ∙ none)
 
 -- .. which is stored
-pub settles_stored : (k : ℕ) (s : Told) (x y : Sender) (r : Request) (v : Verdict) → KeepsFrom k s x →
+pub settles_stored : (k : ℕ) (s : Defined) (x y : Sender) (r : Request) (v : Verdict) → KeepsFrom k s x →
     slice_get x.window 0 ≡ Some (record { request = r; verdict = Some v }) → is_stored v ≡ true →
     y.name ≡ x.name → y.offered ≡ x.offered → y.window ≡ drop 1 x.window → y.stored ≡ x.stored + 1 →
     y.refused.numbers ≡ x.refused.numbers → y.closed ≡ (x.closed || is_close r) → KeepsFrom (suc k) s y
@@ -91,7 +91,7 @@ settles_stored k s x y r v f front is name offered window stored refused closed 
     ∙ ap (λ (b : Bool). is_close r && b) (sym is)))
 
 -- .. which isn't
-pub settles_refused : (k : ℕ) (s : Told) (x y : Sender) (r : Request) (v : Verdict) → KeepsFrom k s x →
+pub settles_refused : (k : ℕ) (s : Defined) (x y : Sender) (r : Request) (v : Verdict) → KeepsFrom k s x →
     slice_get x.window 0 ≡ Some (record { request = r; verdict = Some v }) → is_stored v ≡ false →
     y.name ≡ x.name → y.offered ≡ x.offered → y.window ≡ drop 1 x.window → y.stored ≡ x.stored →
     y.refused.numbers ≡ x.refused.numbers ++ (k, v) ∷ [] →
@@ -107,7 +107,7 @@ settles_refused k s x y r v f front is name offered window stored refused closed
     add_zero n = omega arith
 
 -- what the window has pending is all that is
-pub pending_told : (s : Told) (x : Sender) (n : ℕ) → IsSender s x → n + length x.window ≡ x.offered →
+pub pending_told : (s : Defined) (x : Sender) (n : ℕ) → IsSender s x → n + length x.window ≡ x.offered →
     pending_entries n x.window ≡ pending_from 0 s.offered s.verdicts
 pending_told s x n f all =
     let same = number_is (settled s) n s x f all in
@@ -118,7 +118,7 @@ pending_told s x n f all =
 
 -- Offers.
 
-pub closed_told : (s : Told) (x : Sender) → IsSender s x →
+pub closed_told : (s : Defined) (x : Sender) → IsSender s x →
     has_closed_from s.offered s.verdicts ≡ (x.closed || list_any closes x.window)
 closed_told s x f =
     closed_in s.offered s.verdicts (settled s) (first_free_len s.verdicts) f.within
@@ -126,7 +126,7 @@ closed_told s x f =
     ∙ ap (λ (w : List Entry). x.closed || list_any closes w) (sym f.window)
 
 -- the last cause is what is left where the others don't hold
-pub last_fault : (s : Told) (r : Request) (full : Bool) → nat_lt (last_number Second) (length s.offered) ≡ false →
+pub last_fault : (s : Defined) (r : Request) (full : Bool) → nat_lt (last_number Second) (length s.offered) ≡ false →
     ((length s.offered == 0) && not (is_open r)) ≡ false → has_closed_from s.offered s.verdicts ≡ false →
     nat_le (settled s + window) (length s.offered) ≡ full → offer_fault s r ≡ (if full then Some WindowFull else None)
 last_fault s r full spent early closed at_end =
@@ -142,7 +142,7 @@ last_fault s r full spent early closed at_end =
     ∙ ap (λ (b : Bool). if b then Some WindowFull else None) at_end
 
 -- one more request stands behind the others
-pub offers_one : (s : Told) (x y : Sender) (r : Request) → IsSender s x → offer_fault s r ≡ None →
+pub offers_one : (s : Defined) (x y : Sender) (r : Request) → IsSender s x → offer_fault s r ≡ None →
     y.name ≡ x.name → y.offered ≡ x.offered + 1 → y.window ≡ x.window ++ unjudged r ∷ [] → y.stored ≡ x.stored →
     y.refused.numbers ≡ x.refused.numbers → y.closed ≡ x.closed → IsSender (offer s r) y
 offers_one s x y r f fault name offered window stored refused closed =
@@ -174,7 +174,7 @@ offers_one s x y r f fault name offered window stored refused closed =
 -- Verdicts.
 
 -- an offered number with a verdict is known
-pub known_heard : (s : Told) (name : List ℕ) (n : ℕ) (v : Verdict) →
+pub known_heard : (s : Defined) (name : List ℕ) (n : ℕ) (v : Verdict) →
     (bytes_eq name s.name && nat_lt n (length s.offered)) ≡ true → is_some (at s.verdicts n) ≡ true →
     (heard s (Judged name n v) ≡ Known) × (hear s (Judged name n v) ≡ s)
 known_heard s name n v own some = (
@@ -192,7 +192,7 @@ known_heard s name n v own some = (
     uncounted = ap (λ (b : Bool). b && is_none (at s.verdicts n)) own ∙ not_none (at s.verdicts n) some
 
 -- the first verdict of an offered number is counted
-pub counted_heard : (s : Told) (name : List ℕ) (n : ℕ) (v : Verdict) →
+pub counted_heard : (s : Defined) (name : List ℕ) (n : ℕ) (v : Verdict) →
     (bytes_eq name s.name && nat_lt n (length s.offered)) ≡ true → at s.verdicts n ≡ None →
     (heard s (Judged name n v) ≡ Counted)
     × (hear s (Judged name n v) ≡ record s { verdicts = put s.verdicts n v })
@@ -206,7 +206,7 @@ counted_heard s name n v own none = (
     first = ap (λ (b : Bool). b && is_none (at s.verdicts n)) own ∙ ap is_none none
 
 -- and stands in the window until it is settled
-pub judges_one : (s : Told) (x y : Sender) (n slot : ℕ) (v : Verdict) → IsSender s x → n < length s.offered →
+pub judges_one : (s : Defined) (x y : Sender) (n slot : ℕ) (v : Verdict) → IsSender s x → n < length s.offered →
     settled s + slot ≡ n → at s.verdicts n ≡ None → y.name ≡ x.name → y.offered ≡ x.offered →
     y.window ≡ judged x.window slot v → y.stored ≡ x.stored → y.refused.numbers ≡ x.refused.numbers →
     y.closed ≡ x.closed → KeepsFrom (settled s) (record s { verdicts = put s.verdicts n v }) y
@@ -228,7 +228,7 @@ judges_one s x y n slot v f offered_n place none name offered window stored refu
     same = take-put s.verdicts n (settled s) v (omega (arith, place)) (first_free_len s.verdicts)
 
 -- a slot of the window has its verdict exactly where the number has
-pub slot_judged : (s : Told) (x : Sender) (n slot : ℕ) → IsSender s x → n < length s.offered →
+pub slot_judged : (s : Defined) (x : Sender) (n slot : ℕ) → IsSender s x → n < length s.offered →
     settled s + slot ≡ n → is_judged_at x.window slot ≡ is_some (at s.verdicts n)
 slot_judged s x n slot f offered_n place =
     ap (λ (w : List Entry). is_judged_at w slot) f.window
@@ -242,7 +242,7 @@ and_right true b e = e
 and_right false b e = absurd (cc)
 
 -- the number was offered
-pub own_offered : (s : Told) (x : Sender) (name : List ℕ) (n : ℕ) → IsSender s x →
+pub own_offered : (s : Defined) (x : Sender) (name : List ℕ) (n : ℕ) → IsSender s x →
     (bytes_eq name x.name && nat_lt n x.offered) ≡ true →
     ((bytes_eq name s.name && nat_lt n (length s.offered)) ≡ true) × (n < length s.offered)
 own_offered s x name n f own = (told, ltb-true n (length s.offered) (and_right _ _ told))
@@ -252,7 +252,7 @@ own_offered s x name n f own = (told, ltb-true n (length s.offered) (and_right _
         ∙ ap (λ (m : ℕ). bytes_eq name x.name && nat_lt n m) (sym f.offered) ∙ own
 
 -- a settled number has its verdict
-pub settled_some : (s : Told) (n : ℕ) → n < settled s → is_some (at s.verdicts n) ≡ true
+pub settled_some : (s : Defined) (n : ℕ) → n < settled s → is_some (at s.verdicts n) ≡ true
 settled_some s n below = ap is_some (at-first_free s.verdicts n below).1
 
 pub none_there : {X : Type 0} (o : Option X) → is_some o ≡ false → o ≡ None

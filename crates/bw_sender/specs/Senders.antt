@@ -1,17 +1,17 @@
 -- What a sender keeps of all that was offered and heard.
 use Rattle.std.specs.Prelude.{◌≡◌, ◌<◌, ◌≤◌, ℕ, List, [], length, take, drop, count_by}
 use Rattle.bw_model.specs.Bytes.{first_free}
-use Rattle.bw_model.specs.World.{Sender as Told, settled, refused_from}
+use Rattle.bw_model.specs.World.{Sender as Defined, settled, refused_from}
 use Rattle.bw_model.specs.World.{has_closed_from, is_some_stored}
 use Rattle.bw_sender.specs.Entries.{entries}
 use Rattle.bw_sender.specs.declared.sender.Sender.{Sender}
 
 -- a sender of this name to which nothing was offered
-abbrev pub new_sender : List ℕ → Told
+abbrev pub new_sender : List ℕ → Defined
 new_sender name = record { name = name; offered = []; verdicts = [] }
 
 -- The sender keeps what these definitions say of it, with the first k numbers settled.
-pub record KeepsFrom (k : ℕ) (s : Told) (x : Sender) : Type 0 where
+pub record KeepsFrom (k : ℕ) (s : Defined) (x : Sender) : Type 0 where
   pub name : x.name ≡ s.name
   pub offered : x.offered ≡ length s.offered
   -- only what was offered has a verdict, and the first k all have theirs
@@ -25,7 +25,7 @@ pub record KeepsFrom (k : ℕ) (s : Told) (x : Sender) : Type 0 where
   pub closed : x.closed ≡ has_closed_from (take k s.offered) (take k s.verdicts)
 
 -- The sender is what these definitions say.
-abbrev pub IsSender : Told → Sender → Type 0
+abbrev pub IsSender : Defined → Sender → Type 0
 IsSender s x = KeepsFrom (settled s) s x
 
 -- a refusal of each request that it holds, and of one more, has its room already

@@ -4,7 +4,7 @@ ghost use Rattle.std.specs.Prelude.{nat_lt, ◌==◌, not, IfErr, IsSome};
 ghost use Rattle.std.specs.Str.{bytes_eq};
 ghost use Rattle.bw_model.specs.Wire.{last_number, Second};
 ghost use Rattle.bw_model.specs.Replies.{Judged, Noticed};
-ghost use Rattle.bw_model.specs.World.{Sender as Told, settled as settled_of, hear, heard};
+ghost use Rattle.bw_model.specs.World.{Sender as Defined, settled as settled_of, hear, heard};
 ghost use Rattle.bw_model.specs.World.{offer_fault, has_closed_from, is_open as is_opening_request};
 ghost use Rattle.bw_take.specs.Verdicts.{verdict_meaning};
 ghost use Rattle.bw_wire.specs.Notices.{notice_meaning};
@@ -30,7 +30,7 @@ impl Sender {
     /// # Errors
     /// The first cause that holds.
     pub(crate) fn check_offer(&self, request: &Request) -> Result<(), OfferError>
-        ensures fault { (s : Told) → IsSender s self.now →
+        ensures fault { (s : Defined) → IsSender s self.now →
             checked_fault result ≡ offer_fault s request.now }
         ensures own { IfErr result (λ e. IsSome (fault_of e)) }
         ensures slot { OnOk result (length self.now.window < 16) }
@@ -60,7 +60,7 @@ impl Sender {
 
     /// Whether a CLOSE was offered that has no verdict yet, or is stored.
     fn has_closed(&self) -> bool
-        ensures { (s : Told) → IsSender s self.now →
+        ensures { (s : Defined) → IsSender s self.now →
             result ≡ has_closed_from s.offered s.verdicts }
     {
         self.closed || self.window.has_closed()
@@ -68,9 +68,9 @@ impl Sender {
 
     /// Counts the verdict of a number, if it is the first.
     pub(crate) fn on_verdict(&mut self, name: &Name, number: u32, verdict: Verdict) -> Heard
-        ensures heard { (s : Told) → IsSender s self.old →
+        ensures heard { (s : Defined) → IsSender s self.old →
             heard_of result ≡ heard s (Judged name.now number (verdict_meaning verdict)) }
-        ensures hears { (s : Told) → IsSender s self.old →
+        ensures hears { (s : Defined) → IsSender s self.old →
             IsSender (hear s (Judged name.now number (verdict_meaning verdict))) self.new }
         ensures unchanged { result ≢ Counted → self.new ≡ self.old }
     {
@@ -92,7 +92,7 @@ impl Sender {
 
     /// What a notice is.
     pub(crate) fn on_notice(&self, name: &Name, number: u32, code: Notice) -> Heard
-        ensures heard { (s : Told) → IsSender s self.now → (next : ℕ) →
+        ensures heard { (s : Defined) → IsSender s self.now → (next : ℕ) →
             heard_of result ≡ heard s (Noticed name.now number (notice_meaning code) next) }
         ensures uncounted { result ≢ Counted }
     {
@@ -113,17 +113,17 @@ impl Sender {
 
     /// Lets the first requests go that have their verdicts, and counts them.
     fn settle(&mut self)
-        ensures { (k : ℕ) (s : Told) → KeepsFrom k s self.old → IsSender s self.new }
+        ensures { (k : ℕ) (s : Defined) → KeepsFrom k s self.old → IsSender s self.new }
     {
         while self.settle_one() {}
     }
 
     /// Lets the first request go where it has its verdict, and counts it.
     fn settle_one(&mut self) -> bool
-        ensures one { result ≡ true → (k : ℕ) (s : Told) → KeepsFrom k s self.old →
+        ensures one { result ≡ true → (k : ℕ) (s : Defined) → KeepsFrom k s self.old →
             KeepsFrom (suc k) s self.new }
         ensures shorter { result ≡ true → length self.new.window < length self.old.window }
-        ensures none { result ≡ false → (k : ℕ) (s : Told) → KeepsFrom k s self.old →
+        ensures none { result ≡ false → (k : ℕ) (s : Defined) → KeepsFrom k s self.old →
             k ≡ settled_of s }
         ensures unchanged { result ≡ false → self.new ≡ self.old }
     {

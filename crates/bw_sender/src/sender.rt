@@ -2,7 +2,7 @@
 ghost use Rattle.std.specs.Prelude.{◌≡◌, ◌≢◌, ◌≤◌, ◌<◌, ◌+◌, length, map, IfOk, IfErr, OnOk, OnErr};
 ghost use Rattle.std.specs.Prelude.{None, IfSome, IsSome, option_map};
 ghost use Rattle.bw_model.specs.Wire.{Second, last_number};
-ghost use Rattle.bw_model.specs.World.{Sender as Told, settled as settled_of, stored as stored_of};
+ghost use Rattle.bw_model.specs.World.{Sender as Defined, settled as settled_of, stored as stored_of};
 ghost use Rattle.bw_model.specs.World.{refused as refused_of, pending as pending_of, hear, heard};
 ghost use Rattle.bw_model.specs.World.{offer_fault, offer as offered_to};
 ghost use Rattle.bw_wire.specs.Replies.{reply_of};
@@ -61,7 +61,7 @@ impl Sender {
 
     /// The name of the take.
     pub fn name(&self) -> &Name
-        ensures { (s : Told) → IsSender s self.now → result.now ≡ s.name }
+        ensures { (s : Defined) → IsSender s self.now → result.now ≡ s.name }
     {
         &self.name
     }
@@ -71,10 +71,10 @@ impl Sender {
     /// # Errors
     /// Why it wasn't taken over, with the request: nothing changed.
     pub fn offer(&mut self, request: Request) -> Result<u32, (OfferError, Request)>
-        ensures ok { (s : Told) → IsSender s self.old → IfOk result (λ n.
+        ensures ok { (s : Defined) → IsSender s self.old → IfOk result (λ n.
             (n ≡ length s.offered) × (offer_fault s request ≡ None)
             × IsSender (offered_to s request) self.new) }
-        ensures err { (s : Told) → IsSender s self.old → IfErr result (λ e.
+        ensures err { (s : Defined) → IsSender s self.old → IfErr result (λ e.
             fault_of e.0 ≡ offer_fault s request) }
         ensures back { IfErr result (λ e. e.1 ≡ request) }
         ensures unchanged { OnErr result (self.new ≡ self.old) }
@@ -96,7 +96,7 @@ impl Sender {
     /// The request at a place among those without a verdict, in the order of their numbers, with
     /// its number.
     pub fn pending(&self, place: usize) -> Option<(u32, &Request)>
-        ensures value { (s : Told) → IsSender s self.now →
+        ensures value { (s : Defined) → IsSender s self.now →
             option_map lent_pending result ≡ pending_of s place }
         ensures range { IfSome result (λ p. p.0 ≤ last_number Second) }
     {
@@ -105,9 +105,9 @@ impl Sender {
 
     /// Counts a verdict, if it is the first of an offered request, and tells what the reply is.
     pub fn on_reply(&mut self, reply: &Reply) -> Heard
-        ensures heard { (s : Told) → IsSender s self.old →
+        ensures heard { (s : Defined) → IsSender s self.old →
             heard_of result ≡ heard s (reply_of reply.now) }
-        ensures hears { (s : Told) → IsSender s self.old →
+        ensures hears { (s : Defined) → IsSender s self.old →
             IsSender (hear s (reply_of reply.now)) self.new }
         ensures unchanged { result ≢ Counted → self.new ≡ self.old }
     {
@@ -132,7 +132,7 @@ impl Sender {
 
     /// How many numbers have their verdicts, up to the first that has none.
     pub fn settled(&self) -> u32
-        ensures value { (s : Told) → IsSender s self.now → result ≡ settled_of s }
+        ensures value { (s : Defined) → IsSender s self.now → result ≡ settled_of s }
         ensures rest { result + length self.now.window ≡ self.now.offered }
         ensures range { result ≤ last_number Second + 1 }
     {
@@ -141,14 +141,14 @@ impl Sender {
 
     /// How many of the settled requests are stored.
     pub fn stored(&self) -> u32
-        ensures { (s : Told) → IsSender s self.now → result ≡ stored_of s }
+        ensures { (s : Defined) → IsSender s self.now → result ≡ stored_of s }
     {
         self.stored
     }
 
     /// The other settled numbers with their verdicts, in their order.
     pub fn refused(&self) -> &[(u32, Verdict)]
-        ensures { (s : Told) → IsSender s self.now → map refusal_of result.now ≡ refused_of s }
+        ensures { (s : Defined) → IsSender s self.now → map refusal_of result.now ≡ refused_of s }
     {
         self.refused.as_slice()
     }

@@ -12,7 +12,7 @@ use Rattle.bw_model.specs.Bytes.{at, first_free}
 use Rattle.bw_model.specs.Take.{Request, Verdict, Stored, is_stored, NameTaken, AlreadyOpen, NotOpen, Closed, BadFormat}
 use Rattle.bw_model.specs.Take.{BadBlock, BadMarker, DuplicateMarker, TooManyMarkers, BadField, WrongTotal}
 use Rattle.bw_model.specs.Replies.{Reply}
-use Rattle.bw_model.specs.World.{Sender as Told, OfferFault, offer_fault, is_some_stored, stored}
+use Rattle.bw_model.specs.World.{Sender as Defined, OfferFault, offer_fault, is_some_stored, stored}
 use Rattle.bw_stream.specs.declared.sink.Sink.{Ghosts as Writer}
 use Rattle.bw_stream.specs.declared.source.Source.{Ghosts as Reader}
 use Rattle.bw_transfer.specs.RoundsMade.{AreRounds, MakesRounds}
@@ -33,11 +33,11 @@ rest_is x rest e = ap (drop (length x.sender.offered)) (sym e) ∙ drop-append_s
 next_front : (x : Sending) (r : Request) (rs : List Request) → Front x (r ∷ rs) → offer_fault x.sender r ≡ None →
     Front (offer_next x r) rs
 next_front x r rs e none =
-    ap (λ (s : Told). s.offered ++ rs) (taken x.sender r none) ∙ append_assoc x.sender.offered (r ∷ []) rs ∙ e
+    ap (λ (s : Defined). s.offered ++ rs) (taken x.sender r none) ∙ append_assoc x.sender.offered (r ∷ []) rs ∙ e
 
 stopped_front : (x : Sending) (r : Request) (rest : List Request) (f : OfferFault) → Front x rest →
     offer_fault x.sender r ≡ Some f → Front (offer_next x r) rest
-stopped_front x r rest f e some = ap (λ (s : Told). s.offered ++ rest) (refused x.sender r f some) ∙ e
+stopped_front x r rest f e some = ap (λ (s : Defined). s.offered ++ rest) (refused x.sender r f some) ∙ e
 
 all_front : (x : Sending) (rs : List Request) → Front x rs → (rest : List Request) × Front (offer_all x rs) rest
 unfolding offer_all

@@ -5,7 +5,7 @@ use Rattle.std.specs.Prelude.{is_none}
 use Rattle.std.proofs.lemmas.List.{length-append, drop_more}
 use Rattle.std.proofs.Math.ListN.{drop_of_length-le}
 use Rattle.bw_model.specs.Take.{Request}
-use Rattle.bw_model.specs.World.{Sender as Told, OfferFault, offer, offer_fault}
+use Rattle.bw_model.specs.World.{Sender as Defined, OfferFault, offer, offer_fault}
 use Rattle.bw_sender.specs.Senders.{IsSender}
 use Rattle.bw_sender.specs.declared.sender.Sender.{Sender}
 use Rattle.bw_transfer.specs.SendState.{Sending, IsSending, is_last_offer, offer_next, offer_all, offer_more}
@@ -14,14 +14,14 @@ use Rattle.bw_transfer.specs.declared.dispatch.Dispatch.{Dispatch}
 
 -- The sender.
 
-pub taken : (s : Told) (r : Request) → offer_fault s r ≡ None → offer s r ≡ record s { offered = s.offered ++ r ∷ [] }
+pub taken : (s : Defined) (r : Request) → offer_fault s r ≡ None → offer s r ≡ record s { offered = s.offered ++ r ∷ [] }
 taken s r e = ap (λ (o : Option OfferFault). cond (is_none o) (record s { offered = s.offered ++ r ∷ [] }) s) e
 
-pub refused : (s : Told) (r : Request) (f : OfferFault) → offer_fault s r ≡ Some f → offer s r ≡ s
+pub refused : (s : Defined) (r : Request) (f : OfferFault) → offer_fault s r ≡ Some f → offer s r ≡ s
 refused s r f e = ap (λ (o : Option OfferFault). cond (is_none o) (record s { offered = s.offered ++ r ∷ [] }) s) e
 
-one_offered : (s : Told) (r : Request) → offer_fault s r ≡ None → length (offer s r).offered ≡ length s.offered + 1
-one_offered s r e = ap (λ (t : Told). length t.offered) (taken s r e) ∙ length-append s.offered (r ∷ [])
+one_offered : (s : Defined) (r : Request) → offer_fault s r ≡ None → length (offer s r).offered ≡ length s.offered + 1
+one_offered s r e = ap (λ (t : Defined). length t.offered) (taken s r e) ∙ length-append s.offered (r ∷ [])
 
 -- One offer.
 
@@ -55,9 +55,9 @@ next_refused x r r' p sender last (Some f) same k e some is unchanged =
     subst (λ (q : Request). IsSending (offer_next x q) (dispatched sender p.offered last)
     × (false ≡ is_none (offer_fault x.sender q))) same (
       record {
-        sender = subst (λ (s : Told). IsSender s sender) (sym left)
+        sender = subst (λ (s : Defined). IsSender s sender) (sym left)
             (subst (IsSender x.sender) (sym unchanged) k.sender);
-        offered = k.offered ∙ ap (λ (s : Told). length s.offered) (sym left);
+        offered = k.offered ∙ ap (λ (s : Defined). length s.offered) (sym left);
         stopped = is ∙ ap is_last_offer e;
       },
       ap (λ (o : Option OfferFault). is_none o) e,

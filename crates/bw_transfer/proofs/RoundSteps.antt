@@ -6,7 +6,7 @@ use Rattle.std.specs.Borrow.{Bor}
 use Rattle.bw_model.specs.Take.{Request}
 use Rattle.bw_model.specs.Bytes.{put}
 use Rattle.bw_model.specs.Replies.{Reply, Judged, Noticed, Refused}
-use Rattle.bw_model.specs.World.{Sender as Told, hear, is_counted}
+use Rattle.bw_model.specs.World.{Sender as Defined, hear, is_counted}
 use Rattle.bw_stream.specs.declared.sink.Sink.{Ghosts as Writer}
 use Rattle.bw_stream.specs.declared.source.Source.{Ghosts as Reader}
 use Rattle.bw_sender.specs.Offers.{lent_pending}
@@ -32,14 +32,14 @@ on_ok (Err e) p f = tt
 
 -- what was heard in an exchange is counted
 pub counted : {R W : Type 0} {reader : Reader R} {writer : Writer W} {result : Result (Unit {0}) SendFault}
-    {x y : Sender} {r r' : R} {w w' : W} (e : Exchanges reader writer result x y r r' w w') (s : Told) →
+    {x y : Sender} {r r' : R} {w w' : W} (e : Exchanges reader writer result x y r r' w w') (s : Defined) →
     IsSender s x → IsSender (hear_all s (heard_over e)) y
 counted (inl whole) s is = whole.over.hears.counted s is
 counted (inr (inl broke)) s is = broke.over.hears.counted s is
 counted (inr (inr lacks)) s is = subst (IsSender s) (sym lacks.unheard) is
 
 -- hearing changes no offer
-one_heard : (s : Told) (r : Reply) → (hear s r).offered ≡ s.offered
+one_heard : (s : Defined) (r : Reply) → (hear s r).offered ≡ s.offered
 one_heard s (Judged name n v) = go (is_counted s name n)
   where
     go : (b : Bool) → (cond b (record s { verdicts = put s.verdicts n v }) s).offered ≡ s.offered
@@ -48,7 +48,7 @@ one_heard s (Judged name n v) = go (is_counted s name n)
 one_heard s (Noticed name n code next) = refl
 one_heard s (Refused reason place) = refl
 
-pub all_heard : (s : Told) (rs : List Reply) → (hear_all s rs).offered ≡ s.offered
+pub all_heard : (s : Defined) (rs : List Reply) → (hear_all s rs).offered ≡ s.offered
 all_heard s [] = refl
 all_heard s (r ∷ rs) = all_heard (hear s r) rs ∙ one_heard s r
 

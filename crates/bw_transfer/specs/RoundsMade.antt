@@ -3,7 +3,7 @@ use mathlib.Core.Logic.{inl, inr}
 use Rattle.std.specs.Prelude.{◌≡◌, ◌≢◌, ◌⊎◌, ℕ, ◌<◌, Some, Result, Ok, Err, List, [], ◌∷◌}
 use Rattle.std.specs.Prelude.{length}
 use Rattle.bw_model.specs.Replies.{Reply}
-use Rattle.bw_model.specs.World.{Sender as Told}
+use Rattle.bw_model.specs.World.{Sender as Defined}
 use Rattle.bw_stream.specs.Moves.{one_more}
 use Rattle.bw_stream.specs.declared.sink.Sink.{Ghosts as Writer}
 use Rattle.bw_stream.specs.declared.source.Source.{Ghosts as Reader}
@@ -43,7 +43,7 @@ AreHeardFrom (heard ∷ more) links =
 module _ {D R W : Type 0} (dial : DialGhosts D R W) (reader : Reader R) (writer : Writer W) where
   -- An exchange of the sender over this link: what has no verdict was written, or a beginning of
   -- it, and these replies were heard. Memory was there.
-  pub record IsExchange (s : Told) (heard : List Reply) (link : Link R W) : Type 0 where
+  pub record IsExchange (s : Defined) (heard : List Reply) (link : Link R W) : Type 0 where
     pub result : Result (Unit {0}) SendFault
     pub goes_on : result ≢ Err Memory
     pub before : Sender
@@ -63,7 +63,7 @@ module _ {D R W : Type 0} (dial : DialGhosts D R W) (reader : Reader R) (writer 
     pub none : heard ≡ []
 
   -- the next link was made, for an exchange
-  pub record MakesLink (s : Told) (heard : List Reply) (d d' : D) : Type 0 where
+  pub record MakesLink (s : Defined) (heard : List Reply) (d d' : D) : Type 0 where
     pub link : Link R W
     pub called : dial.dials d (Ok link) d'
     pub counted : dial.failures d' ≡ dial.failures d
@@ -71,7 +71,7 @@ module _ {D R W : Type 0} (dial : DialGhosts D R W) (reader : Reader R) (writer 
     pub exchange : IsExchange s heard link
 
   -- a round of the sender, in which these replies were heard
-  abbrev pub IsRound : Told → List Reply → D → D → Type 0
+  abbrev pub IsRound : Defined → List Reply → D → D → Type 0
   IsRound s heard d d' = MakesNoLink heard d d' ⊎ MakesLink s heard d d'
 
   -- Rounds, in each of which these replies were heard. Before each of them more is offered, as far

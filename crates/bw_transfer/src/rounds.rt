@@ -1,7 +1,7 @@
 //! The rounds of a recorder: an exchange over a new link each.
 ghost use Rattle.std.specs.Prelude.{◌≡◌, ◌≢◌, Err, List, OnOk, OnErr};
 ghost use Rattle.bw_model.specs.Replies.{Reply};
-ghost use Rattle.bw_model.specs.World.{Sender as Told};
+ghost use Rattle.bw_model.specs.World.{Sender as Defined};
 ghost use Rattle.bw_sender.specs.Senders.{IsSender};
 ghost use Rattle.bw_engine.specs.Hears.{hear_all};
 ghost use Rattle.bw_engine.specs.declared.send_fault.SendFault.TheVariants.{Memory};
@@ -52,7 +52,7 @@ pub(crate) fn make_rounds<D: Dial, V: Watch>(
 /// # Errors
 /// `AllocError` where memory was refused.
 fn make_round<D: Dial>(alloc: Global, sender: &mut Sender, dial: &mut D) -> Result<(), AllocError>
-    ensures { (s : Told) → IsSender s sender.old → OnOk result ((heard : List Reply)
+    ensures { (s : Defined) → IsSender s sender.old → OnOk result ((heard : List Reply)
         × IsSender (hear_all s heard) sender.new
         × IsRound D.Dial D.Reader.Source D.Writer.Sink s heard dial.old dial.new) }
 {

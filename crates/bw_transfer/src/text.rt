@@ -1,6 +1,6 @@
 //! The text of what a sender came to.
 ghost use Rattle.std.specs.Prelude.{◌≡◌, ◌++◌, flat_map, map, IfOk, OnOk};
-ghost use Rattle.bw_model.specs.World.{Sender as Told};
+ghost use Rattle.bw_model.specs.World.{Sender as Defined};
 ghost use Rattle.bw_take.specs.Verdicts.{verdict_meaning};
 ghost use Rattle.bw_sender.specs.Refused.{refusal_of};
 ghost use Rattle.bw_sender.specs.Senders.{IsSender};
@@ -13,7 +13,7 @@ use std::alloc::{AllocError, Global};
 
 /// How many numbers are settled and stored, and each refused number with its verdict.
 pub(crate) fn text_of_sender(alloc: Global, sender: &Sender) -> Result<Vec<u8>, AllocError>
-    ensures { IfOk result (λ text. (s : Told) → IsSender s sender.now →
+    ensures { IfOk result (λ text. (s : Defined) → IsSender s sender.now →
         text.items ≡ sender_text s) }
 {
     let mut text = Vec::new(alloc);

@@ -1,6 +1,6 @@
 //! How far a sender is behind each round, for whoever watches it.
 ghost use Rattle.std.specs.Prelude.{◌≡◌, true, IfOk};
-ghost use Rattle.bw_model.specs.World.{Sender as Told, settled as settled_of};
+ghost use Rattle.bw_model.specs.World.{Sender as Defined, settled as settled_of};
 ghost use Rattle.bw_model.specs.World.{stored as stored_of};
 ghost use Rattle.bw_take.specs.States.{samples_in};
 ghost use Rattle.bw_sender.specs.Senders.{IsSender};
@@ -59,14 +59,14 @@ impl<'a> Progress<'a> {
 
     /// How many requests have their verdicts, up to the first that has none.
     pub fn settled(&self) -> u32
-        ensures { (s : Told) → IsSender s self.now.sender.now → result ≡ settled_of s }
+        ensures { (s : Defined) → IsSender s self.now.sender.now → result ≡ settled_of s }
     {
         self.sender.settled()
     }
 
     /// How many of the settled requests are stored.
     pub fn stored(&self) -> u32
-        ensures { (s : Told) → IsSender s self.now.sender.now → result ≡ stored_of s }
+        ensures { (s : Defined) → IsSender s self.now.sender.now → result ≡ stored_of s }
     {
         self.sender.stored()
     }
@@ -74,7 +74,7 @@ impl<'a> Progress<'a> {
     /// The bytes of samples in the settled requests, which are the first of the input; 2^64 - 1
     /// where there are more. They are summed by this call.
     pub fn bytes(&self) -> u64
-        ensures { (s : Told) → IsSender s self.now.sender.now →
+        ensures { (s : Defined) → IsSender s self.now.sender.now →
             result ≡ settled_bytes s self.now.requests.now }
     {
         let settled = (self.settled() as usize).min(self.requests.len());
@@ -83,7 +83,7 @@ impl<'a> Progress<'a> {
 
     /// Tells it in a line. Where memory is refused for the line, it is left out.
     pub fn tell<E: Sink>(&self, alloc: Global, out: &mut E)
-        ensures { (s : Told) → IsSender s self.now.sender.now →
+        ensures { (s : Defined) → IsSender s self.now.sender.now →
             Logs E.Sink true (progress_line self.now.round s self.now.requests.now)
             out.old out.new }
     {
@@ -93,7 +93,7 @@ impl<'a> Progress<'a> {
     }
 
     fn line(&self, alloc: Global) -> Result<Vec<u8>, AllocError>
-        ensures { IfOk result (λ line. (s : Told) → IsSender s self.now.sender.now →
+        ensures { IfOk result (λ line. (s : Defined) → IsSender s self.now.sender.now →
             line.items ≡ progress_line self.now.round s self.now.requests.now) }
     {
         line_of(
