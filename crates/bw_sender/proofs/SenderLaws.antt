@@ -13,7 +13,8 @@ use Rattle.bw_model.specs.Take.{Request, Verdict, is_stored}
 use Rattle.bw_model.specs.Wire.{Second, last_number}
 use Rattle.bw_model.specs.Turn.{window}
 use Rattle.bw_model.specs.Replies.{Judged}
-use Rattle.bw_model.specs.World.{Sender as Defined, settled, is_some_stored, refused_from, pending_from, has_closed_from}
+use Rattle.bw_model.specs.World.{Sender as Defined, settled, is_some_stored, refused_from, pending_from}
+use Rattle.bw_model.specs.World.{has_closed_from}
 use Rattle.bw_model.specs.World.{is_open, is_close, is_counted, hear, heard, Counted, Known, Stranger}
 use Rattle.bw_model.specs.World.{OfferFault, NumbersSpent, BeforeOpen, AfterClose, WindowFull, offer_fault, offer}
 use Rattle.bw_model.proofs.MapLemmas.{take-put, first_free-put, at-first_free}

@@ -2,7 +2,8 @@
 ghost use Rattle.std.specs.Prelude.{◌≡◌, ◌≢◌, ◌≤◌, ◌<◌, ◌+◌, length, map, IfOk, IfErr, OnOk, OnErr};
 ghost use Rattle.std.specs.Prelude.{None, IfSome, IsSome, option_map};
 ghost use Rattle.bw_model.specs.Wire.{Second, last_number};
-ghost use Rattle.bw_model.specs.World.{Sender as Defined, settled as settled_of, stored as stored_of};
+ghost use Rattle.bw_model.specs.World.{Sender as Defined, settled as settled_of};
+ghost use Rattle.bw_model.specs.World.{stored as stored_of};
 ghost use Rattle.bw_model.specs.World.{refused as refused_of, pending as pending_of, hear, heard};
 ghost use Rattle.bw_model.specs.World.{offer_fault, offer as offered_to};
 ghost use Rattle.bw_wire.specs.Replies.{reply_of};

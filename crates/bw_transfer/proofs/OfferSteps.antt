@@ -14,7 +14,8 @@ use Rattle.bw_transfer.specs.declared.dispatch.Dispatch.{Dispatch}
 
 -- The sender.
 
-pub taken : (s : Defined) (r : Request) → offer_fault s r ≡ None → offer s r ≡ record s { offered = s.offered ++ r ∷ [] }
+pub taken : (s : Defined) (r : Request) → offer_fault s r ≡ None →
+    offer s r ≡ record s { offered = s.offered ++ r ∷ [] }
 taken s r e = ap (λ (o : Option OfferFault). cond (is_none o) (record s { offered = s.offered ++ r ∷ [] }) s) e
 
 pub refused : (s : Defined) (r : Request) (f : OfferFault) → offer_fault s r ≡ Some f → offer s r ≡ s

@@ -6,6 +6,7 @@ use Rattle.bw_engine.proofs.sending.send_pending.Given as goal
 
 abbrev pub invariant-loop-place : goal.invariant-loop-place
 invariant-loop-place g l = record {
-  sent : (s : Defined) → IsSender s l.sender → SentTo l.place s (g.W.Sink.written l.fn.writer) (g.W.Sink.written l.writer);
+  sent : (s : Defined) → IsSender s l.sender →
+      SentTo l.place s (g.W.Sink.written l.fn.writer) (g.W.Sink.written l.writer);
   writes : g.W.Sink.failures l.writer ≡ g.W.Sink.failures l.fn.writer;
 }
