@@ -1,5 +1,6 @@
 use Rattle.bw_model.proofs.TurnLaws.{few_replies, replies_tell, delays_counted, quiet_drains}
-use Rattle.bw_model.proofs.VerdictLaws.{admitted_stays, verdicts_stay, verdicts_true_told, repeats_told, one_verdict as one}
+use Rattle.bw_model.proofs.VerdictLaws.{admitted_stays, verdicts_stay, verdicts_true_told, repeats_told}
+use Rattle.bw_model.proofs.VerdictLaws.{one_verdict as one}
 use Rattle.bw_model.proofs.law_turns.Goals as goal
 
 pub returns : goal.returns
