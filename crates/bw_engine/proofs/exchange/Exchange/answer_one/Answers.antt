@@ -98,7 +98,7 @@ returns-in-Answered-clause-answers g c =
         final = λ none fed before gone d. no_end s.end none;
         uses_up = used_up s.framer q (t.frame ∷ []) a.next t.goes_on;
       },
-      refl,
+      search rules,
     )
 
 pub returns-in-Ended-clause-answers : goal.returns-in-Ended-clause-answers
