@@ -13,3 +13,4 @@ pub mod Ingesting
 pub mod Batches
 pub mod Hears
 pub mod Sent
+pub mod SendFaults

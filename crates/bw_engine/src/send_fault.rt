@@ -1,4 +1,6 @@
 //! Why an exchange of a sender breaks off.
+ghost use Rattle.std.specs.Prelude.{◌≡◌, ◌≤◌};
+ghost use Rattle.bw_engine.specs.SendFaults.{send_fault_number};
 
 /// Why a sender's exchange broke off.
 #[derive(Clone, Copy, Debug, PartialEq, Eq)]
@@ -13,4 +15,14 @@ pub enum SendFault {
     BadReply = 4,
     /// 2^32 reads were not enough.
     TurnLimit = 5,
+}
+
+impl SendFault {
+    /// Its number.
+    pub fn code(self) -> u8
+        ensures value { result ≡ send_fault_number self }
+        ensures range { result ≤ 5 }
+    {
+        self as u8
+    }
 }
