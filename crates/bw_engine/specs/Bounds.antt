@@ -2,7 +2,7 @@
 use Rattle.std.specs.Prelude.{ℕ, ◌+◌, ◌*◌, ◌-◌}
 use Rattle.bw_wire.specs.Held.{longest_rest, longest_piece}
 
--- the frame of a reply has at most so many bytes
+-- the room that is kept for a reply's frame, which has at most 47 bytes
 abbrev pub longest_reply_frame : ℕ
 longest_reply_frame = 64
 
