@@ -108,7 +108,7 @@ impl Exchange {
         self.outgoing.as_slice()
     }
 
-    /// Feeds the next piece.
+    /// Feeds the next piece, of at most 65,536 bytes, to an exchange that is hungry.
     ///
     /// # Errors
     /// Why it wasn't fed: nothing changed.
@@ -169,7 +169,7 @@ impl Exchange {
         }
     }
 
-    /// Ends the exchange, whose input has ended.
+    /// Ends the exchange, which is hungry, and whose input has ended.
     pub fn finish(&mut self)
         requires hungry { wants_piece self.old ≡ true }
         ensures done { DoesMore self.old [] [] [] self.new }
