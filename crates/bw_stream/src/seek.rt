@@ -2,7 +2,7 @@
 ghost use Rattle.std.specs.Prelude.{◌≡◌, ◌≤◌, None, length, IfOk, OnOk, OnErr};
 ghost use Rattle.std.specs.Io.Seek.{MovesTo};
 ghost use Rattle.bw_stream.specs.Moves.{one_more, failures_after, moved_after, Keeps, Reads, ReadsOn};
-ghost use Rattle.bw_stream.specs.Moves.{SeeksOver, Skips};
+ghost use Rattle.bw_stream.specs.Moves.{SeeksOver};
 
 use crate::plain::Plain;
 use crate::source::{IoFailed, Source};
@@ -93,8 +93,6 @@ impl<T: Read + Seek> Source for SeekSource<T> {
         ensures count { self.new.plain.failures ≡ failures_after result self.old.plain.failures }
         ensures moved { self.new.place ≡ moved_after result self.old.place }
         ensures within { IfOk result (λ n. n ≤ most) }
-        ensures ok { IfOk result (λ n. Skips None most n None) }
-        ensures err { OnErr result (Keeps None None) }
         ensures seeks { SeeksOver self.old.place self.old.len most
             (T.stream_position self.old.plain.inner) (T.stream_position self.new.plain.inner)
             result }
