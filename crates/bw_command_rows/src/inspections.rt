@@ -79,7 +79,7 @@ fn a_file_is_told_line_by_line(rt: HostRuntime) -> Result<(), Fail> {
     came_to(&rt, &read, Exit::Done, REPORT, b"");
     let sought = run_on(
         rt.alloc(),
-        SeekSource::new(Cursor::new(bytes.as_slice()), 694),
+        SeekSource::new(Cursor::new(bytes.as_slice()), Some(694)),
     );
     came_to(&rt, &sought, Exit::Done, REPORT, b"");
     Ok(())

@@ -1,5 +1,5 @@
 //! The system of the process: three calls of std.
-ghost use Rattle.std.specs.Prelude.{◌≡◌, None};
+ghost use Rattle.std.specs.Prelude.{◌≡◌, Some, None};
 ghost use Rattle.std.specs.Fs.{IsFile, file_type, metadata_len};
 
 use crate::system::System;
@@ -64,15 +64,14 @@ fn open(rt: &HostRuntime, path: &str) -> io::Result<SeekSource<File>> {
     Ok(SeekSource::new(file, len))
 }
 
-/// How long a file is, or 0 where that isn't known: a pipe and a device have no length, and are
-/// read forward.
-fn known_len(metadata: &Metadata) -> u64
-    ensures file { IsFile (file_type metadata.now) → result ≡ metadata_len metadata.now }
-    ensures other { ¬ IsFile (file_type metadata.now) → result ≡ 0 }
+/// How long a file is: a pipe and a device have no length, and are read forward.
+fn known_len(metadata: &Metadata) -> Option<u64>
+    ensures file { IsFile (file_type metadata.now) → result ≡ Some (metadata_len metadata.now) }
+    ensures other { ¬ IsFile (file_type metadata.now) → result ≡ None }
 {
     if metadata.is_file() {
-        metadata.len()
+        Some(metadata.len())
     } else {
-        0
+        None
     }
 }

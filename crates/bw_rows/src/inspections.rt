@@ -56,7 +56,7 @@ fn fault_of_cut(len: usize) -> (InspectKind, u64) {
 /// The fault of a file, if it has one. Where what isn't told is sought over, it is the same.
 fn fault_in(rt: &impl Abort, alloc: Global, file: &[u8]) -> Option<InspectFault> {
     let read = inspect(alloc, &mut MemorySource::new(file)).err();
-    let mut seeking = SeekSource::new(Cursor::new(file), file.len() as u64);
+    let mut seeking = SeekSource::new(Cursor::new(file), Some(file.len() as u64));
     let sought = inspect(alloc, &mut seeking).err();
     same(rt, "sought over", &sought, &read);
     read
@@ -222,7 +222,7 @@ fn the_answer_is_the_same_in_pieces_of_any_size(rt: HostRuntime) -> Result<(), F
             };
             answers(&rt, alloc, Plain::new(pieces), want.as_slice())?;
         }
-        let seeking = SeekSource::new(Cursor::new(bytes), bytes.len() as u64);
+        let seeking = SeekSource::new(Cursor::new(bytes), Some(bytes.len() as u64));
         answers(&rt, alloc, seeking, want.as_slice())?;
     }
     Ok(())

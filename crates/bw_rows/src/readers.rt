@@ -92,7 +92,7 @@ fn a_writer_that_takes_nothing_fails(rt: HostRuntime) {
 
 #[test]
 fn a_skip_seeks_as_far_as_the_length_and_then_reads(rt: HostRuntime) -> Result<(), IoFailed> {
-    let mut source = SeekSource::new(Cursor::new(b"abcdefgh".as_slice()), 6);
+    let mut source = SeekSource::new(Cursor::new(b"abcdefgh".as_slice()), Some(6));
     let mut buf = [0; 2];
     same(&rt, "the first read", &source.read(&mut buf)?, &2);
     same(&rt, "a seek", &source.skip(3)?, &3);

@@ -1,5 +1,5 @@
 //! A file as a `Source` that seeks over what it passes by.
-ghost use Rattle.std.specs.Prelude.{◌≡◌, ◌≤◌, None, length, IfOk, OnOk, OnErr};
+ghost use Rattle.std.specs.Prelude.{◌≡◌, ◌≤◌, None, unwrap_or, length, IfOk, OnOk, OnErr};
 ghost use Rattle.std.specs.Io.Seek.{MovesTo};
 ghost use Rattle.bw_stream.specs.Moves.{one_more, failures_after, moved_after, Keeps, Reads, ReadsOn};
 ghost use Rattle.bw_stream.specs.Moves.{SeeksOver};
@@ -18,6 +18,7 @@ use std::io::{Read, Seek, SeekFrom};
 pub struct SeekSource<T> {
     plain: Plain<T>,
     place: u64,
+    /// 0 where it isn't known.
     len: u64,
     /// What is dropped of a pipe is read into it: a new one for each piece would be cleared each
     /// time.
@@ -25,19 +26,19 @@ pub struct SeekSource<T> {
 }
 
 impl<T: Drop> SeekSource<T> {
-    /// A reader that stands at its start and has `len` bytes, or 0 where that isn't known, as of a
+    /// A reader that stands at its start and has `len` bytes, where that is known, as it isn't of a
     /// pipe.
-    pub fn new(inner: T, len: u64) -> SeekSource<T>
+    pub fn new(inner: T, len: Option<u64>) -> SeekSource<T>
         ensures inner { result.plain.inner ≡ inner }
         ensures calls { result.plain.calls ≡ 0 }
         ensures failures { result.plain.failures ≡ 0 }
         ensures place { result.place ≡ 0 }
-        ensures len { result.len ≡ len }
+        ensures len { result.len ≡ unwrap_or len 0 }
     {
         SeekSource {
             plain: Plain::new(inner),
             place: 0,
-            len,
+            len: len.unwrap_or(0),
             piece: [0; 65_536],
         }
     }
