@@ -9,6 +9,6 @@ mod verdict;
 
 pub use judgement::judge;
 pub use name::Name;
-pub use request::{Request, RequestRef};
+pub use request::{LONGEST_BLOCK, LONGEST_HISTORY, LONGEST_VALUE, Request, RequestRef};
 pub use state::TakeState;
 pub use verdict::{UnknownVerdict, Verdict};

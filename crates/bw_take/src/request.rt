@@ -8,12 +8,14 @@ ghost use Rattle.bw_take.specs.States.{samples_in};
 use std::alloc::{AllocError, Global};
 use std::marker::Model;
 
-/// The longest coding history, block of samples and value of a field that a message carries.
-const LONGEST_HISTORY: usize = 4096;
+/// The longest coding history that a message carries, in bytes.
+pub const LONGEST_HISTORY: usize = 4096;
 
-const LONGEST_BLOCK: usize = 32_768;
+/// The longest block of samples that a message carries, in bytes.
+pub const LONGEST_BLOCK: usize = 32_768;
 
-const LONGEST_VALUE: usize = 256;
+/// The longest value of a field that a message carries, in bytes.
+pub const LONGEST_VALUE: usize = 256;
 
 /// A request that borrows its bytes.
 #[derive(Clone, Copy, Debug, PartialEq, Eq)]

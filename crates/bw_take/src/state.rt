@@ -8,13 +8,10 @@ ghost use Rattle.bw_model.specs.Wire.{is_request};
 ghost use Rattle.bw_take.specs.Requests.{meaning};
 ghost use Rattle.bw_take.specs.States.{FollowsTakes, parts_with, samples_in};
 
-use crate::request::RequestRef;
+use crate::request::{LONGEST_HISTORY, RequestRef};
 use bw_layout::{Bext, CuePoint, Fmt};
 use std::alloc::{AllocError, Global};
 use std::marker::Model;
-
-/// The coding history of a take has at most so many bytes.
-const HISTORY_MAX: usize = 4096;
 
 /// A take without its data, of which it keeps the length, and room for the requests to come.
 #[derive(Debug, Drop)]
@@ -156,7 +153,7 @@ impl TakeState {
             return Ok(());
         }
         if self.format.is_none() {
-            self.history.reserve_exact(HISTORY_MAX)?;
+            self.history.reserve_exact(LONGEST_HISTORY)?;
         }
         self.markers.reserve(requests)?;
         self.room = requests;

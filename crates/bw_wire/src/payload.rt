@@ -4,7 +4,7 @@ ghost use Rattle.bw_model.specs.Wire.{is_payload as is_payload_of, request_of as
 ghost use Rattle.bw_take.specs.Requests.{meaning};
 
 use bw_layout::{read_u16, read_u32, read_u64};
-use bw_take::RequestRef;
+use bw_take::{LONGEST_BLOCK, LONGEST_HISTORY, LONGEST_VALUE, RequestRef};
 
 pub(crate) const OPEN: u8 = 1;
 
@@ -19,13 +19,6 @@ pub(crate) const CLOSE: u8 = 5;
 pub(crate) const ASK: u8 = 6;
 
 pub(crate) const BYE: u8 = 9;
-
-/// The longest coding history, block of samples and value of a field that a message carries.
-const LONGEST_HISTORY: usize = 4096;
-
-const LONGEST_BLOCK: usize = 32_768;
-
-const LONGEST_VALUE: usize = 256;
 
 /// Whether the bytes are as long as a payload of this kind.
 pub(crate) fn is_payload(kind: u8, payload: &[u8]) -> bool
