@@ -12,7 +12,7 @@ use Rattle.bw_inspect.specs.Known.{Facts}
 use Rattle.bw_inspect.specs.Places.{HasGrown}
 use Rattle.bw_inspect.specs.Chunks.{content_faults, counted_faults}
 use Rattle.bw_inspect.specs.Contents.{IsLearned, IsStopped, IsUnlearned, IsFaultless, WantsPoints, faults_in}
-use Rattle.bw_inspect.specs.CueContents.{IsCued, WantsPoint, cue_faults}
+use Rattle.bw_inspect.specs.CueContents.{IsCued, WantsCounted, cue_faults}
 use Rattle.bw_inspect.proofs.Contents.{in_content}
 use Rattle.bw_inspect.proofs.Counted.{stopped_as}
 
@@ -35,7 +35,7 @@ faults_are : (b : List ℕ) (e : reading.Entry) → 4 ≤ e.size → cue_faults 
 faults_are b e h = faults_as (length b) b e h
 
 -- a point that is to be listed, by either word
-points_wanted : (b : List ℕ) (e : reading.Entry) (n : ℕ) → 4 ≤ e.size → WantsPoint b e n → WantsPoints b Cue e n
+points_wanted : (b : List ℕ) (e : reading.Entry) (n : ℕ) → 4 ≤ e.size → WantsCounted b e n → WantsPoints b Cue e n
 points_wanted b e n h w =
     let twelve : e.place + 8 + 4 ≡ e.place + 12 = omega arith in
     record {
@@ -46,9 +46,9 @@ points_wanted b e n h w =
     }
 
 pub cues_unlearned : (b : List ℕ) (e : reading.Entry) (f : InspectFault) (left : Option (List ℕ)) → 4 ≤ e.size →
-    IsStopped b (e.place + 8 + e.size) e.place (WantsPoint b e) (cue_faults b e) f left → IsUnlearned b Cue e f left
+    IsStopped b (e.place + 8 + e.size) e.place (WantsCounted b e) (cue_faults b e) f left → IsUnlearned b Cue e f left
 cues_unlearned b e f left h s =
-    stopped_as b (e.place + 8 + e.size) e.place (WantsPoint b e) (WantsPoints b Cue e) (cue_faults b e)
+    stopped_as b (e.place + 8 + e.size) e.place (WantsCounted b e) (WantsPoints b Cue e) (cue_faults b e)
     (faults_in b Cue e) f left (λ n w. points_wanted b e n h w) (ap first_that_holds (faults_are b e h)) s
 
 cues_whole : (b : List ℕ) (e : reading.Entry) (points : List report.RawCue) (left : Option (List ℕ)) → 4 ≤ e.size →

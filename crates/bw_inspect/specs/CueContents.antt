@@ -14,8 +14,8 @@ cue_faults b e = counted_faults (length b) e 4 most_cues 24 reading.BadCue
     (u32_at (report.content_of b (Some e)) 0)
 
 -- some points were read, and no fault was met
-abbrev pub WantsPoint : List ℕ → reading.Entry → ℕ → Type 0
-WantsPoint b e reached =
+abbrev pub WantsCounted : List ℕ → reading.Entry → ℕ → Type 0
+WantsCounted b e reached =
     WantsRows b e 4 most_cues 24 reading.BadCue (u32_at (report.content_of b (Some e)) 0) reached
 
 -- a point from a place of a content on

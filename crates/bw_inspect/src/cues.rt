@@ -4,7 +4,7 @@ ghost use Rattle.bw_model.specs.Limits.{most_cues};
 ghost use Rattle.bw_inspect.specs.ReaderCalls.{Consumes};
 ghost use Rattle.bw_inspect.specs.Places.{Nowhere};
 ghost use Rattle.bw_inspect.specs.Contents.{InContent, IsStoppedIn};
-ghost use Rattle.bw_inspect.specs.CueContents.{WantsPoint, IsCounted, IsCued, cue_faults};
+ghost use Rattle.bw_inspect.specs.CueContents.{WantsCounted, IsCounted, IsCued, cue_faults};
 
 use crate::content::{pass_rest, read_part};
 use crate::fault::{InspectFault, InspectKind, fault_at};
@@ -33,7 +33,7 @@ pub(crate) fn read_cues<R: Source>(
     ensures ok { IfOk result (λ x. InContent (R.left reader.old) entry 0 (λ b.
         IsCued b entry x (R.left reader.new))) }
     ensures err { IfErr result (λ f. InContent (R.left reader.old) entry 0 (λ b.
-        IsStoppedIn b (WantsPoint b entry) (cue_faults b entry) entry f (R.left reader.new))) }
+        IsStoppedIn b (WantsCounted b entry) (cue_faults b entry) entry f (R.left reader.new))) }
 {
     let count = read_count(reader, entry)?;
     let points = read_rows(alloc, reader, entry, 4, count)?;
