@@ -220,7 +220,7 @@ impl<S: TakeStore> TakeStore for FuseStore<S> {
 }
 
 /// Whether the call of this number is to fail. Its fuse is spent then.
-fn blow(fuses: &mut Vec<u64>, call: u64) -> bool
+pub fn blow(fuses: &mut Vec<u64>, call: u64) -> bool
     ensures told { result ≡ has_fuse fuses.old.items call }
     ensures spent { fuses.new.items ≡ filter (λ f. not (f == call)) fuses.old.items }
 {

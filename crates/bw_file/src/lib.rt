@@ -18,7 +18,7 @@ mod writes;
 
 pub use disk::{Disk, DiskFault};
 pub use folder::FolderStore;
-pub use fuse::FuseStore;
+pub use fuse::{FuseStore, blow};
 pub use growing::GrowingFile;
 pub use laws::rows_of_calls;
 pub use memory::MemoryStore;
