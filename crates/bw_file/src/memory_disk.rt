@@ -26,8 +26,8 @@ pub struct MemoryFile {
     path: String,
 }
 
-/// Files in memory, by path. A call fails where memory is refused, and for a file whose path stands
-/// on another disk alone.
+/// Files in memory, by path. A call fails where memory is refused, and for a file that another disk
+/// made, unless its path stands on this one too.
 ///
 /// It is an honest disk, which shows that the promises of `Disk` can be kept.
 #[derive(Drop)]
