@@ -25,6 +25,7 @@ impl Model for Line {
 }
 
 impl Line {
+    /// An empty line.
     pub fn new() -> Line
         ensures { result ≡ [] }
     {
@@ -34,12 +35,14 @@ impl Line {
         }
     }
 
+    /// Its bytes.
     pub fn as_slice(&self) -> &[u8]
         ensures { result.now ≡ self.now }
     {
         &self.bytes[..self.len]
     }
 
+    /// Puts a text behind what there is: at most 1,152 bytes in all.
     pub fn put(&mut self, text: &[u8])
         requires { length self.old + length text.now ≤ 1152 }
         ensures { self.new ≡ self.old ++ text.now }

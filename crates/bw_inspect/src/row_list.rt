@@ -23,7 +23,7 @@ const WIDEST: usize = 24;
 pub(crate) trait Row: Copy {
     ghost WIDTH: { ℕ };
 
-    // what the bytes of a row tell
+    /// What the bytes of a row tell.
     ghost told: { List ℕ → Self };
 
     /// Its size in bytes.

@@ -115,6 +115,7 @@ impl Model for RawBext {
 #[derive(Clone, Copy, Debug, PartialEq, Eq)]
 pub struct RawCue {
     pub id: u32,
+    /// Its place in the order of play, in frames.
     pub position: u32,
     /// Frames from the data's first one.
     pub offset: u32,

@@ -63,7 +63,9 @@ impl SizeTable {
 /// What stands in a `ds64` chunk before its table.
 #[derive(Clone, Copy, Debug, PartialEq, Eq)]
 pub struct Ds64Fixed {
+    /// The form size, in bytes.
     pub form: u64,
+    /// The size of the data, in bytes.
     pub data_size: u64,
     /// How many entries follow.
     pub table_len: u32,
