@@ -103,6 +103,7 @@ impl GrowingFile {
     }
 
     /// Makes the name, unless an earlier try made it, and writes the header of a take without data.
+    /// The OPEN with this format and history fits and is judged Stored.
     ///
     /// Where the name stood in the store, it answers Exists, and nothing is written.
     ///
@@ -156,7 +157,8 @@ impl GrowingFile {
         Ok(Created::New)
     }
 
-    /// Appends the samples of a block.
+    /// Appends the samples of a block that fits and is judged Stored. The data have at most 2^62
+    /// bytes behind it.
     ///
     /// # Errors
     /// `StoreFault` where a call of the store failed.
@@ -199,7 +201,8 @@ impl GrowingFile {
         Ok(())
     }
 
-    /// Writes the header with these fields of `bext`, one of which was set.
+    /// Writes the header with these fields of `bext`, one of which was set by a request that is
+    /// judged Stored.
     ///
     /// # Errors
     /// `StoreFault` where a call of the store failed.
@@ -243,7 +246,8 @@ impl GrowingFile {
         Ok(())
     }
 
-    /// Puts the cue points of the markers behind the data, and says that the file is complete.
+    /// Puts the cue points of the markers behind the data, and says that the file is complete. The
+    /// CLOSE with the take's own frames is judged Stored.
     ///
     /// # Errors
     /// `StoreFault` where a call of the store failed.

@@ -146,7 +146,7 @@ impl Default for Bext {
     }
 }
 
-/// Appends the content of a `bext` chunk.
+/// Appends the content of a `bext` chunk. The history has at most 4,096 bytes.
 ///
 /// # Errors
 /// Memory was refused.

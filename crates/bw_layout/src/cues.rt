@@ -28,7 +28,8 @@ impl Model for CuePoint {
     ghost inverse = { λ v. record { id = v.0; frame = v.1 } };
 }
 
-/// Appends the `cue ` chunk of these points, in their order; nothing where there are none.
+/// Appends the `cue ` chunk of these points, at most 1,024, in their order; nothing where there are
+/// none.
 ///
 /// # Errors
 /// Memory was refused.
@@ -48,7 +49,7 @@ pub fn put_cue_chunk(_alloc: Global, out: &mut Vec<u8>, cues: &[CuePoint]) -> Re
     Ok(())
 }
 
-/// Appends the content of a `cue ` chunk: points of the data chunk, in their order.
+/// Appends the content of a `cue ` chunk: points of the data chunk, at most 1,024, in their order.
 ///
 /// # Errors
 /// Memory was refused.

@@ -35,7 +35,7 @@ pub struct Heading<'a> {
 impl<'a> Heading<'a> {
     ghost use Rattle.bw_layout.specs.Headings.{header_of, place_of, fits_riff};
 
-    /// A heading that says these.
+    /// A heading that says these. The history has at most 4,096 bytes.
     pub fn new(format: Fmt, bext: &'a Bext, history: &'a [u8], limit: Limit) -> Heading<'a>
         requires { length history.now ≤ longest_history }
         ensures format { result.format ≡ format }
@@ -71,7 +71,7 @@ impl<'a> Heading<'a> {
         690 + len + len % 2
     }
 
-    /// The form size for this much data and so many cue points.
+    /// The form size for this much data, at most 2^62 bytes, and so many cue points, at most 1,024.
     pub fn form_size(&self, data_len: u64, cues: u64) -> u64
         requires samples { data_len ≤ largest }
         requires cues { cues ≤ most_markers }
@@ -81,7 +81,7 @@ impl<'a> Heading<'a> {
         form_size(self.history.len() as u64, data_len, cues)
     }
 
-    /// Whether the file is RIFF then.
+    /// Whether the file is RIFF then, for as much as `form_size` takes.
     pub fn is_riff(&self, data_len: u64, cues: u64) -> bool
         requires samples { data_len ≤ largest }
         requires cues { cues ≤ most_markers }
@@ -90,7 +90,8 @@ impl<'a> Heading<'a> {
         self.form_size(data_len, cues) <= self.limit.bytes()
     }
 
-    /// Appends the header of a file with this much data and so many cue points.
+    /// Appends the header of a file with this much data, at most 2^62 bytes, and so many cue
+    /// points, at most 1,024.
     ///
     /// # Errors
     /// Memory was refused.
@@ -162,7 +163,8 @@ impl<'a> Heading<'a> {
 }
 
 /// The form size of a take's file, by the lengths in bytes of its coding history and its data, and
-/// by its number of cue points.
+/// by its number of cue points. The history has at most 4,096 bytes, the data at most 2^62, and the
+/// cue points are at most 1,024.
 ///
 /// The file is 8 bytes longer.
 pub fn form_size(history_len: u64, data_len: u64, cues: u64) -> u64
@@ -176,7 +178,8 @@ pub fn form_size(history_len: u64, data_len: u64, cues: u64) -> u64
     682 + history_len + history_len % 2 + data_len + data_len % 2 + cue
 }
 
-/// Appends the bytes of a take's file before its data.
+/// Appends the bytes of a take's file before its data. The history has at most 4,096 bytes, the
+/// data at most 2^62, and the cue points are at most 1,024.
 ///
 /// # Errors
 /// Memory was refused.

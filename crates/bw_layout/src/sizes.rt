@@ -83,7 +83,7 @@ impl Model for Ds64Fixed {
         record { form = v.form; data_size = v.data_size; table_len = v.table_len } };
 }
 
-/// Appends the content of a `ds64` chunk.
+/// Appends the content of a `ds64` chunk, with at most 4,096 entries.
 ///
 /// # Errors
 /// Memory was refused.

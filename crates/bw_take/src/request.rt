@@ -72,7 +72,7 @@ impl RequestRef<'_> {
         }
     }
 
-    /// An owned copy.
+    /// An owned copy of a request that fits.
     ///
     /// # Errors
     /// `AllocError` where a growth was refused.

@@ -137,7 +137,7 @@ impl TakeState {
         self.room
     }
 
-    /// Makes room for so many requests to be stored.
+    /// Makes room for so many requests to be stored, at most 16.
     ///
     /// # Errors
     /// `AllocError` where a growth was refused: nothing changed.
@@ -160,7 +160,8 @@ impl TakeState {
         Ok(())
     }
 
-    /// Stores a request, without memory from an allocator.
+    /// Stores a request, without memory from an allocator. It fits and is judged Stored, there is
+    /// room for one, and the data have at most 2^62 bytes behind it.
     pub fn commit(&mut self, request: &RequestRef<'_>)
         requires fits { IsTrue (is_request (meaning request.now)) }
         requires stored { verdict_on self.old.parts (meaning request.now) ≡ Stored }

@@ -11,7 +11,7 @@ use crate::payload::{ASK, BLOCK, CLOSE, MARK, OPEN, SET_FIELD};
 use bw_take::{Name, RequestRef};
 use std::alloc::{AllocError, Global};
 
-/// The frame of a message.
+/// The frame of a message, with a number of at most 16,777,215 and a request that fits.
 ///
 /// # Errors
 /// `AllocError` where memory was refused.
@@ -30,7 +30,7 @@ pub fn encode(
     Ok(out)
 }
 
-/// The frame of an ask. The reply repeats the number.
+/// The frame of an ask, with a number of at most 16,777,215. The reply repeats the number.
 ///
 /// # Errors
 /// `AllocError` where memory was refused.

@@ -57,7 +57,8 @@ impl Framer {
         self.intake.fed
     }
 
-    /// Adds a piece of the stream. After the end of the exchange or a fault the piece is dropped.
+    /// Adds a piece of the stream, which has at most 2^62 bytes in all. After the end of the
+    /// exchange or a fault the piece is dropped.
     ///
     /// # Errors
     /// `AllocError` where memory was refused: nothing changed.

@@ -12,7 +12,8 @@ use crate::reply_decoder::{BAD_FRAME, NOTICE, VERDICT};
 use arrayvec::ArrayVec;
 use bw_take::Name;
 
-/// Puts a reply's whole frame in place of what was there.
+/// Puts a reply's whole frame in place of what was there. Its number is at most 16,777,215, and the
+/// next one that it tells at most 16,777,216.
 pub fn encode_reply(reply: &Reply, out: &mut ArrayVec<u8, 64>)
     requires { HasWireNumbers reply.now }
     ensures frame { out.new.items ≡ framed (reply_body (reply_of reply.now)) }

@@ -54,7 +54,8 @@ impl ReplyFramer {
         self.intake.fed
     }
 
-    /// Adds a piece of the stream. After a fault the piece is dropped.
+    /// Adds a piece of the stream, which has at most 2^62 bytes in all. After a fault the piece is
+    /// dropped.
     ///
     /// # Errors
     /// `AllocError` where memory was refused: nothing changed.
