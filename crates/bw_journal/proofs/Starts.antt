@@ -1,11 +1,11 @@
 -- What begins contents, and what is noted behind them.
 use Rattle.std.proofs.Common.{Result, Ok, Err, OnOk, OnErr, ◌≡◌, ℕ, zero, suc, ◌+◌, ◌≤◌, true, inl, inr, Option, Some}
-use Rattle.std.proofs.Common.{None, List, [], ◌∷◌, ◌++◌, length, take, drop, refl, sym, ap, ◌∙◌, arith}
+use Rattle.std.proofs.Common.{false, None, List, [], ◌∷◌, ◌++◌, length, take, drop, refl, sym, ap, ◌∙◌, arith}
 use Rattle.std.specs.Prelude.{nat_le, nat_lt, option_map}
 use Rattle.std.specs.Str.{bytes_eq}
-use Rattle.std.proofs.lemmas.Bool.{and_parts, ltb-true}
+use Rattle.std.proofs.lemmas.Bool.{and_parts, and_from, ltb-true, le-leb}
 use Rattle.std.proofs.lemmas.List.{take_at, take-append-drop, length-append, length-take-le}
-use Rattle.bw_model.proofs.BookLemmas.{same_name}
+use Rattle.bw_model.proofs.BookLemmas.{same_name, name_refl}
 use Rattle.bw_model.proofs.Elements.{some_inj}
 use Rattle.bw_journal.specs.JournalHeaders.{is_torn}
 use Rattle.bw_journal.specs.Notes.{IsFrontOf, IsShortOf, BeginsWith, has_front, Starts}
@@ -36,6 +36,25 @@ front_begins bytes content e =
           ∙ ap (λ (x : List ℕ). x ++ drop (length bytes) content)
           (same_name (take (length bytes) content) bytes tests.1)),
     )
+
+-- .. and one that they begin passes it
+pub begins_front : (bytes content : List ℕ) → BeginsWith bytes (Some content) → has_front bytes content ≡ true
+begins_front bytes content (rest, is) =
+    let same : content ≡ bytes ++ rest = some_inj is in
+    let long : length content ≡ length bytes + length rest = ap length same ∙ length-append bytes rest in
+    and_from (nat_le (length bytes) (length content)) (bytes_eq (take (length bytes) content) bytes)
+    (le-leb (length bytes) (length content) (omega (arith, long)))
+    (ap (λ (x : List ℕ). bytes_eq (take (length bytes) x) bytes) same
+    ∙ ap (λ (x : List ℕ). bytes_eq x bytes) (take_at bytes rest (length bytes) refl)
+    ∙ name_refl bytes)
+
+-- .. so that none that didn't pass begins so
+pub begins_not : {P : Type 0} (bytes content : List ℕ) → BeginsWith bytes (Some content) →
+    has_front bytes content ≡ false → P
+begins_not bytes content begins fails = no_true (sym fails ∙ begins_front bytes content begins)
+  where
+    no_true : {P : Type 0} → false ≡ true → P
+    no_true e = cc
 
 -- a content that is torn is a front
 pub torn_short : (bytes content : List ℕ) → is_torn content bytes ≡ true → IsShortOf bytes (Some content)

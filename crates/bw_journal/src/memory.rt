@@ -1,6 +1,6 @@
 //! A journal in memory.
 ghost use Rattle.std.specs.Prelude.{◌≡◌, ◌≤◌, ◌++◌, ◌∷◌, [], ℕ, List, Option, Some, None, IsTrue};
-ghost use Rattle.std.specs.Prelude.{OnOk, OnErr, is_err, option_map, length, take, true, false};
+ghost use Rattle.std.specs.Prelude.{OnOk, OnErr, IsOk, is_err, option_map, length, take, true, false};
 ghost use Rattle.std.specs.Option.{option_copied};
 ghost use Rattle.std.specs.Str.{bytes_eq};
 ghost use Rattle.std.specs.List.{list_any};
@@ -9,6 +9,7 @@ ghost use Rattle.bw_file.specs.Memory.{content_under as content_of};
 ghost use Rattle.bw_file.specs.Stores.{KeepsOthers};
 ghost use Rattle.bw_journal.specs.Notes.{BeginsWith, Starts, BeginsNotes, KeepsHeaders, IsShortOf};
 ghost use Rattle.bw_journal.specs.Notes.{NotesOver, has_front};
+ghost use Rattle.bw_journal.specs.JournalHeaders.{header_bytes};
 ghost use Rattle.bw_journal.specs.MemoryHeaders.{header_for};
 
 use crate::header::{JournalHeader, is_torn};
@@ -103,6 +104,8 @@ impl Journal for MemoryJournal {
             (content_of self.old.notes name.now) (content_of self.new.notes name.now)) }
         ensures failed { OnErr result
             (content_of self.new.notes name.now ≡ content_of self.old.notes name.now) }
+        ensures stands { BeginsWith (header_bytes (header_for self.old name.now))
+            (content_of self.old.notes name.now) → IsOk result }
         ensures others { KeepsOthers
             (content_of self.old.notes) (content_of self.new.notes) name.now }
     {
@@ -191,6 +194,7 @@ enum Standing {
 fn compare(found: Option<&[u8]>, header: &[u8]) -> Standing
     ensures whole { result ≡ Standing.Whole → BeginsWith header.now (option_copied found.entry) }
     ensures front { result ≡ Standing.Front → IsShortOf header.now (option_copied found.entry) }
+    ensures stands { BeginsWith header.now (option_copied found.entry) → result ≡ Standing.Whole }
 {
     match found {
         None => Standing::Front,
@@ -225,6 +229,7 @@ fn start(
         (content_of notes.old name.now) (content_of notes.new name.now)) }
     ensures failed { OnErr result
         (content_of notes.new name.now ≡ content_of notes.old name.now) }
+    ensures stands { BeginsWith header.now (content_of notes.old name.now) → IsOk result }
     ensures others { KeepsOthers (content_of notes.old) (content_of notes.new) name.now }
 {
     match compare(content_in(notes, name), header) {
