@@ -58,6 +58,11 @@ abbrev pub is_torn : List ℕ → List ℕ → Bool
 is_torn bytes whole =
     nat_lt (length bytes) (length whole) && bytes_eq bytes (take (length bytes) whole)
 
+-- a header is there, and has this limit
+abbrev pub has_limit : ℕ → Option Header → Bool
+has_limit limit None = false
+has_limit limit (Some h) = h.limit == limit
+
 -- the beginning of a header of this limit, which isn't all of it
 abbrev pub is_torn_header : ℕ → List ℕ → Bool
 is_torn_header limit bytes =

@@ -1,6 +1,6 @@
 //! What a journal tells of a take and of its verdicts.
 ghost use Rattle.std.specs.Prelude.{◌≡◌, ◌+◌, ◌^◌, ◌≤◌, ◌++◌, ◌∷◌, [], None, Ok, IsTrue, IsNone};
-ghost use Rattle.std.specs.Prelude.{IfSome, IfOk, OnOk, IfErr, length, false};
+ghost use Rattle.std.specs.Prelude.{IfSome, IsSome, IfOk, OnOk, IfErr, length, false};
 ghost use Rattle.bw_model.specs.Bytes.{zeros as zero_bytes};
 ghost use Rattle.bw_model.specs.Limits.{longest_block, largest};
 ghost use Rattle.bw_model.specs.Take.{new_take, parts as parts_of_take};
@@ -8,7 +8,8 @@ ghost use Rattle.bw_model.specs.Replies.{verdict_code};
 ghost use Rattle.bw_model.specs.Wire.{is_request};
 ghost use Rattle.bw_take.specs.Requests.{meaning};
 ghost use Rattle.bw_take.specs.Verdicts.{verdict_meaning};
-ghost use Rattle.bw_journal.specs.JournalHeaders.{header_len};
+ghost use Rattle.bw_journal.specs.JournalHeaders.{header_len, has_limit};
+ghost use Rattle.bw_journal.specs.JournalHeaders.{first_header as first_header_in};
 ghost use Rattle.bw_journal.specs.Replays.{OtherVerdict as other_verdict, replay as replay_of};
 ghost use Rattle.bw_journal.specs.Replays.{replayed_entries, tail_fault as tail_fault_of};
 ghost use Rattle.bw_journal.specs.Replays.{is_judged, parts_after, JournalFault};
@@ -52,6 +53,8 @@ pub fn replay(alloc: Global, limit: Limit, bytes: &[u8]) -> Result<Replayed, Rep
     ensures ok { IfOk result (λ r. replay_of limit bytes.now ≡ Ok (story_of r)) }
     ensures torn { IfOk result (λ r. r.used + r.torn ≡ length bytes.now) }
     ensures err { IfErr result (λ e. IsJournalFault e (replay_of limit bytes.now)) }
+    ensures header { has_limit limit (first_header_in bytes.now) ≡ false →
+        IfErr result (λ e. IsSome (fault_meaning e)) }
 {
     let Some((found, stood)) = first_header(bytes) else {
         return Err(if is_torn_header(limit, bytes) {
