@@ -20,7 +20,8 @@ use bw_take::Name;
 use std::alloc::{AllocError, Global};
 use std::collections::BTreeMap;
 
-/// Journals in memory. A call fails where memory is refused, and where other bytes stand.
+/// Journals in memory. A call fails where memory is refused; `begin` where other bytes stand; and
+/// `note` for a name without notes, or with fewer than `offset` bytes of them.
 #[derive(Drop)]
 pub struct MemoryJournal {
     alloc: Global,
@@ -134,12 +135,12 @@ impl Journal for MemoryJournal {
     }
 }
 
-/// Counts a failure, up to the last value of the count.
-pub(crate) fn count(failures: &mut u64, fails: bool)
-    ensures { Counts failures.old failures.new fails }
+/// Counts one more where it happens, up to the last value.
+pub(crate) fn count(counted: &mut u64, happens: bool)
+    ensures { Counts counted.old counted.new happens }
 {
-    if fails {
-        *failures = failures.saturating_add(1);
+    if happens {
+        *counted = counted.saturating_add(1);
     }
 }
 
