@@ -1,7 +1,7 @@
 //! What is kept of the numbers that are done.
 ghost use Rattle.std.specs.Prelude.{◌≡◌, ◌+◌, ◌*◌, ◌^◌, ◌<◌, ◌≤◌, ℕ, List, [], ◌∷◌, ◌++◌, length};
 ghost use Rattle.std.specs.Prelude.{take, drop, vec_len, vec_capacity, slice_index_or, Some, OnOk};
-ghost use Rattle.std.specs.Prelude.{◌⊎◌, IsSome, IsOk, OnErr};
+ghost use Rattle.std.specs.Prelude.{max, ◌⊎◌, IsSome, IsOk, OnErr};
 ghost use Rattle.std.specs.Str.{bytes_eq};
 ghost use Rattle.bw_model.specs.Take.{Verdict as Judgement};
 ghost use Rattle.bw_model.specs.Replies.{verdict_code, verdict_of as verdict_with_code};
@@ -72,6 +72,8 @@ impl Ledger {
         ensures outcomes { self.new.outcomes ≡ self.old.outcomes }
         ensures kept { self.old.room ≤ self.new.room }
         ensures ok { OnOk result (count ≤ self.new.room) }
+        ensures most { self.new.room
+            ≤ max self.old.room (max count (length self.old.outcomes)) }
         ensures err { OnErr result (self.new ≡ self.old) }
         ensures enough { count ≤ self.old.room → IsOk result }
         ensures grows { OnOk result ((self.new ≡ self.old)
