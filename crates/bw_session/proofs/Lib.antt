@@ -20,3 +20,4 @@ pub mod CountForms
 pub mod TellForms
 pub mod JournalForms
 pub mod SettledForms
+pub mod UseForms

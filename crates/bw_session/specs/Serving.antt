@@ -2,6 +2,7 @@
 use Rattle.std.specs.Prelude.{◌≡◌, ℕ, Bool, false, IsTrue, IsFalse, Option, None, is_some}
 use Rattle.std.specs.Prelude.{unwrap_or, List, map, if◌then◌else◌}
 use Rattle.std.specs.Option.{option_map_or}
+use Rattle.std.specs.List.{All}
 use Rattle.bw_model.specs.Counts.{Counts}
 use Rattle.bw_model.specs.Wire.{Message}
 use Rattle.bw_model.specs.Replies.{Reply as ModelReply, NoRoom}
@@ -11,7 +12,11 @@ use Rattle.bw_model.specs.Turn.{Luck, served, turn_by, admitted_after, is_admiss
 use Rattle.bw_model.specs.Turn.{is_turned_away}
 use Rattle.bw_wire.specs.declared.reply.Reply.{Reply}
 use Rattle.bw_wire.specs.Replies.{reply_of}
-use Rattle.bw_session.specs.Sessions.{Part, HoldsLog}
+use Rattle.bw_file.specs.declared.store.TakeStore.{Ghosts as StoreGhosts}
+use Rattle.bw_journal.specs.declared.journal.Journal.{Ghosts as JournalGhosts}
+use Rattle.bw_session.specs.Numbered.{KeepsBoth}
+use Rattle.bw_session.specs.Telling.{IsTimely}
+use Rattle.bw_session.specs.Sessions.{Part, HoldsLog, CallsFew}
 
 -- the log with the message admitted, where it is new in the window, and so many numbers done
 abbrev pub log_after : Log → Message → ℕ → Log
@@ -45,3 +50,13 @@ pub record Answers (known full : Bool) (first : Option (List ℕ)) (log : Log) (
   pub whole : IsFalse
       (option_map_or is_pending (turn_by (is_some first) known full log m luck).1 false) →
       luck.stop ≡ None
+
+-- What a turn asks of store and journal, over any of them, where a call of them failed or none did:
+-- that failure is counted, all else is kept as KeepsBoth says, the store is called a few times for
+-- each number that was done, and no reply tells of a failure that didn't come.
+abbrev pub UsesBoth : {X Y : Type 0} → StoreGhosts X → JournalGhosts Y → List ℕ → X → X → Y → Y →
+    ℕ → ℕ → List Reply → Type 0
+UsesBoth S J name store store' journal journal' done later replies =
+    (failed : Bool) × KeepsBoth S J failed name store store' journal journal'
+    × CallsFew (S.calls store) (S.calls store') done later failed
+    × All (IsTimely failed) replies

@@ -1,6 +1,6 @@
 //! Draining: the next number of a name is done where its message came.
 ghost use Rattle.std.specs.Prelude.{◌≡◌, ◌+◌, ◌*◌, ◌≤◌, ℕ, List, Option, length, IsTrue, is_some};
-ghost use Rattle.std.specs.Prelude.{if◌then◌else◌};
+ghost use Rattle.std.specs.Prelude.{false, if◌then◌else◌};
 ghost use Rattle.std.specs.List.{All};
 ghost use Rattle.bw_model.specs.Book.{Log};
 ghost use Rattle.bw_session.specs.Numbered.{KeepsBoth};
@@ -84,7 +84,7 @@ pub(crate) fn drain_one<S: TakeStore, J: Journal>(
 }
 
 impl Session {
-    ghost use Rattle.bw_session.specs.Telling.{IsServing};
+    ghost use Rattle.bw_session.specs.Telling.{IsServing, IsTimely};
     ghost use Rattle.bw_session.specs.Sessions.{CallsFew, KeepsTake, part_of};
     ghost use Rattle.bw_session.specs.Runs.{with_more_done, HasDrained, EndsDraining};
 
@@ -104,6 +104,7 @@ impl Session {
         ensures take { KeepsTake self.old self.new }
         ensures few { length out.new.items ≤ 16 }
         ensures served { All IsServing out.old.items → All IsServing out.new.items }
+        ensures timely { All (IsTimely false) out.old.items → All (IsTimely false) out.new.items }
         ensures drained { IsTrue (S.honest stores.old.store) →
             (first : Option (List ℕ)) (log : Log) →
             HasDrained first log out.old.items (part_of self.old)

@@ -17,7 +17,7 @@ use bw_wire::{Message, Notice, Reply};
 impl Session {
     ghost use Rattle.bw_session.specs.Sessions.{HoldsLog, part_of};
     ghost use Rattle.bw_session.specs.Runs.{EndsDraining};
-    ghost use Rattle.bw_session.specs.Telling.{IsServing};
+    ghost use Rattle.bw_session.specs.Telling.{IsServing, IsTimely};
 
     /// The reply to a message whose number is in the window or below it, once the numbers from
     /// `done` on were drained: none where its own was among them.
@@ -39,6 +39,7 @@ impl Session {
             (length self.now.progress.ledger.outcomes) (run_end log.admitted done)
             (message_of message.now) }
         ensures served { IfSome result IsServing }
+        ensures timely { IfSome result (IsTimely stopped) }
     {
         let number = message.number() as usize;
         if !self.has_admitted(number, digest) {

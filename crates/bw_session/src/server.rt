@@ -1,15 +1,15 @@
 //! A server: what it keeps of each name, over a store and its journal.
 ghost use Rattle.std.specs.Prelude.{◌≡◌, ◌<◌, ◌≤◌, ◌+◌, ◌*◌, ◌&&◌, ◌||◌, ℕ, List, [], Option, None};
-ghost use Rattle.std.specs.Prelude.{Bool, IsTrue, IfOk, OnOk, IfErr, OnErr, IfSome, IsSome, is_some, nat_le};
+ghost use Rattle.std.specs.Prelude.{IsTrue, IfOk, OnOk, IfErr, OnErr, IfSome, IsSome, is_some, nat_le};
 ghost use Rattle.bw_journal.specs.JournalHeaders.{header_bytes};
 ghost use Rattle.bw_journal.specs.Notes.{IsFrontOf};
-ghost use Rattle.std.specs.Prelude.{length, map, vec_capacity};
+ghost use Rattle.std.specs.Prelude.{false, length, map, vec_capacity};
 ghost use Rattle.std.specs.List.{All};
 ghost use Rattle.std.specs.HashMap.{hash_map_len, spare, IsUnique};
 ghost use Rattle.std.specs.Str.{bytes_eq};
 ghost use Rattle.bw_model.specs.Turn.{most_takes, window, is_turned_away, notice as refusal};
 ghost use Rattle.bw_model.specs.Wire.{Says, Second, last_number};
-ghost use Rattle.bw_model.specs.CountedTurn.{IsTurn, book_told};
+ghost use Rattle.bw_model.specs.CountedTurn.{IsTurn, book_told, is_delay};
 ghost use Rattle.bw_wire.specs.Notices.{notice_meaning};
 ghost use Rattle.bw_model.specs.Book.{Book, log_of, is_known, made};
 ghost use Rattle.bw_model.specs.Take.{parts, frames as frames_of};
@@ -17,9 +17,8 @@ ghost use Rattle.bw_model.specs.Replies.{Noticed, Next};
 ghost use Rattle.bw_journal.specs.Entries.{longest_entry};
 ghost use Rattle.bw_wire.specs.Frames.{message_of};
 ghost use Rattle.bw_wire.specs.Replies.{reply_of, HasWireNumbers};
-ghost use Rattle.bw_session.specs.Numbered.{KeepsBoth};
-ghost use Rattle.bw_session.specs.Sessions.{CallsFew};
-ghost use Rattle.bw_session.specs.Servers.{done_in};
+ghost use Rattle.bw_session.specs.Serving.{UsesBoth};
+ghost use Rattle.bw_session.specs.Servers.{done_in, kept_in};
 ghost use Rattle.bw_session.specs.Tables.{IsTable, session_in};
 ghost use Rattle.bw_session.specs.Telling.{IsServing};
 
@@ -121,17 +120,17 @@ impl<S: TakeStore, J: Journal> Server<S, J> {
         ensures numbers { All HasWireNumbers out.new.items }
         ensures uncalled { IsTrue (is_turned_away (map reply_of out.new.items)) →
             (self.new.stores.store ≡ self.old.stores.store)
-            × (self.new.stores.journal ≡ self.old.stores.journal) }
+            × (self.new.stores.journal ≡ self.old.stores.journal)
+            × ((name : List ℕ) → kept_in self.new.sessions name ≡ kept_in self.old.sessions name) }
         ensures unmet { session_in self.new.sessions (message_of message.now).name ≡ None →
             (self.new.sessions ≡ self.old.sessions)
             × (self.new.stores.store ≡ self.old.stores.store)
             × (self.new.stores.journal ≡ self.old.stores.journal) }
-        ensures both { (stopped : Bool) × KeepsBoth S.TakeStore J.Journal stopped
-            (message_of message.now).name self.old.stores.store self.new.stores.store
+        ensures both { UsesBoth S.TakeStore J.Journal (message_of message.now).name
+            self.old.stores.store self.new.stores.store
             self.old.stores.journal self.new.stores.journal
-            × CallsFew (S.calls self.old.stores.store) (S.calls self.new.stores.store)
             (done_in self.old.sessions (message_of message.now).name)
-            (done_in self.new.sessions (message_of message.now).name) stopped }
+            (done_in self.new.sessions (message_of message.now).name) out.new.items }
         ensures limit { self.new.limit ≡ self.old.limit }
         ensures turned { IsTrue (S.honest self.old.stores.store) →
             (first : List ℕ → Option (List ℕ)) (book : Book) →
@@ -164,17 +163,17 @@ impl<S: TakeStore, J: Journal> Server<S, J> {
         ensures numbers { All HasWireNumbers out.new.items }
         ensures uncalled { IsTrue (is_turned_away (map reply_of out.new.items)) →
             (self.new.stores.store ≡ self.old.stores.store)
-            × (self.new.stores.journal ≡ self.old.stores.journal) }
+            × (self.new.stores.journal ≡ self.old.stores.journal)
+            × (self.new.sessions ≡ self.old.sessions) }
         ensures unmet { session_in self.new.sessions (message_of message.now).name ≡ None →
             (self.new.sessions ≡ self.old.sessions)
             × (self.new.stores.store ≡ self.old.stores.store)
             × (self.new.stores.journal ≡ self.old.stores.journal) }
-        ensures both { (stopped : Bool) × KeepsBoth S.TakeStore J.Journal stopped
-            (message_of message.now).name self.old.stores.store self.new.stores.store
+        ensures both { UsesBoth S.TakeStore J.Journal (message_of message.now).name
+            self.old.stores.store self.new.stores.store
             self.old.stores.journal self.new.stores.journal
-            × CallsFew (S.calls self.old.stores.store) (S.calls self.new.stores.store)
             (done_in self.old.sessions (message_of message.now).name)
-            (done_in self.new.sessions (message_of message.now).name) stopped }
+            (done_in self.new.sessions (message_of message.now).name) out.new.items }
         ensures limit { self.new.limit ≡ self.old.limit }
         ensures turned { IsTrue (S.honest self.old.stores.store) →
             (first : List ℕ → Option (List ℕ)) (book : Book) →
@@ -215,12 +214,11 @@ impl<S: TakeStore, J: Journal> Server<S, J> {
         requires fresh { session_in self.old.sessions name.now ≡ None }
         ensures few { length out.new.items ≤ 17 }
         ensures told { All IsServing out.new.items }
-        ensures both { (stopped : Bool) × KeepsBoth S.TakeStore J.Journal stopped
-            (message_of message.now).name self.old.stores.store self.new.stores.store
+        ensures both { UsesBoth S.TakeStore J.Journal (message_of message.now).name
+            self.old.stores.store self.new.stores.store
             self.old.stores.journal self.new.stores.journal
-            × CallsFew (S.calls self.old.stores.store) (S.calls self.new.stores.store)
             (done_in self.old.sessions (message_of message.now).name)
-            (done_in self.new.sessions (message_of message.now).name) stopped }
+            (done_in self.new.sessions (message_of message.now).name) out.new.items }
         ensures limit { self.new.limit ≡ self.old.limit }
         ensures sessions { OnErr result (self.new.sessions ≡ self.old.sessions) }
         ensures store { OnErr result (self.new.stores.store ≡ self.old.stores.store) }
@@ -240,6 +238,7 @@ impl<S: TakeStore, J: Journal> Server<S, J> {
             OnOk result (NotesBook S.TakeStore J.Journal first self.new (book_told book
             (message_of message.now) (map reply_of out.new.items)
             (done_in self.new.sessions (message_of message.now).name))) }
+        ensures prompt { IfErr result (λ code. is_delay (notice_meaning code) ≡ false) }
         ensures away { IfErr result (λ code. IsTrue
             (is_turned_away (refusal (message_of message.now) (notice_meaning code) 0)
             || nat_le window (message_of message.now).number)) }
@@ -280,11 +279,10 @@ impl<S: TakeStore, J: Journal> Server<S, J> {
         requires near { (message_of message.now).number < window }
         ensures few { length out.new.items ≤ 17 }
         ensures told { All IsServing out.new.items }
-        ensures both { (stopped : Bool) × KeepsBoth S.TakeStore J.Journal stopped name.now
+        ensures both { UsesBoth S.TakeStore J.Journal name.now
             self.old.stores.store self.new.stores.store
             self.old.stores.journal self.new.stores.journal
-            × CallsFew (S.calls self.old.stores.store) (S.calls self.new.stores.store)
-            0 (done_in self.new.sessions name.now) stopped }
+            0 (done_in self.new.sessions name.now) out.new.items }
         ensures limit { self.new.limit ≡ self.old.limit }
         ensures sessions { OnErr result (self.new.sessions ≡ self.old.sessions) }
         ensures store { OnErr result (self.new.stores.store ≡ self.old.stores.store) }

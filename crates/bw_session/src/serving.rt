@@ -1,6 +1,6 @@
 //! A message of a name that a session is kept of: it is admitted, what is held in a row is done,
 //! and its sender is told.
-ghost use Rattle.std.specs.Prelude.{◌≡◌, ◌≤◌, ℕ, List, [], Option, Bool, IsTrue, IfOk, OnOk, OnErr};
+ghost use Rattle.std.specs.Prelude.{◌≡◌, ◌≤◌, ℕ, List, [], Option, IsTrue, IfOk, OnOk, OnErr};
 ghost use Rattle.std.specs.Prelude.{is_some, length, map, true, false};
 ghost use Rattle.std.specs.List.{All};
 ghost use Rattle.sha2.specs.Sha256.{sha256};
@@ -26,8 +26,8 @@ impl Session {
     ghost use Rattle.bw_session.specs.Sessions.{HoldsLog, KeepsProgress, KeepsTake, part_of};
     ghost use Rattle.bw_session.specs.Sessions.{CallsFew};
     ghost use Rattle.bw_session.specs.Runs.{EndsDraining, with_more_done};
-    ghost use Rattle.bw_session.specs.Telling.{IsServing};
-    ghost use Rattle.bw_session.specs.Serving.{Answers, Serves, log_after, log_told};
+    ghost use Rattle.bw_session.specs.Telling.{IsServing, IsTimely};
+    ghost use Rattle.bw_session.specs.Serving.{Answers, Serves, UsesBoth, log_after, log_told};
 
     /// Takes a message of the name, and tells its sender, in `out`, which is empty.
     pub(crate) fn answer<S: TakeStore, J: Journal>(
@@ -38,17 +38,17 @@ impl Session {
     )
         requires name { (message_of message.now).name ≡ self.old.progress.name }
         requires empty { out.old.items ≡ [] }
-        ensures both { (stopped : Bool) × KeepsBoth S.TakeStore J.Journal stopped
-            self.old.progress.name stores.old.store stores.new.store
-            stores.old.journal stores.new.journal
-            × CallsFew (S.calls stores.old.store) (S.calls stores.new.store)
+        ensures both { UsesBoth S.TakeStore J.Journal self.old.progress.name
+            stores.old.store stores.new.store stores.old.journal stores.new.journal
             (length self.old.progress.ledger.outcomes) (length self.new.progress.ledger.outcomes)
-            stopped }
+            out.new.items }
         ensures take { KeepsTake self.old self.new }
         ensures few { length out.new.items ≤ 17 }
         ensures numbers { All HasWireNumbers out.new.items }
         ensures uncalled { IsTrue (is_turned_away (map reply_of out.new.items)) →
-            (stores.new.store ≡ stores.old.store) × (stores.new.journal ≡ stores.old.journal) }
+            (stores.new.store ≡ stores.old.store) × (stores.new.journal ≡ stores.old.journal)
+            × KeepsProgress self.old.progress self.new.progress
+            × (self.new.window ≡ self.old.window) }
         ensures answers { IsTrue (S.honest stores.old.store) →
             (first : Option (List ℕ)) (log : Log) → HoldsLog first log (part_of self.old)
             (S.contents stores.old.store self.old.progress.name) →
@@ -87,12 +87,10 @@ impl Session {
     ) -> Result<(), AllocError>
         requires name { (message_of message.now).name ≡ self.old.progress.name }
         requires empty { out.old.items ≡ [] }
-        ensures both { (stopped : Bool) × KeepsBoth S.TakeStore J.Journal stopped
-            self.old.progress.name stores.old.store stores.new.store
-            stores.old.journal stores.new.journal
-            × CallsFew (S.calls stores.old.store) (S.calls stores.new.store)
+        ensures both { UsesBoth S.TakeStore J.Journal self.old.progress.name
+            stores.old.store stores.new.store stores.old.journal stores.new.journal
             (length self.old.progress.ledger.outcomes) (length self.new.progress.ledger.outcomes)
-            stopped }
+            out.new.items }
         ensures take { KeepsTake self.old self.new }
         ensures few { length out.new.items ≤ 17 }
         ensures told { All IsServing out.new.items }
@@ -163,6 +161,7 @@ impl Session {
         ensures take { KeepsTake self.old self.new }
         ensures few { length out.new.items ≤ 16 }
         ensures told { All IsServing out.new.items }
+        ensures timely { All (IsTimely false) out.new.items }
         ensures store { OnErr result (stores.new.store ≡ stores.old.store) }
         ensures journal { OnErr result (stores.new.journal ≡ stores.old.journal) }
         ensures progress { OnErr result (KeepsProgress self.old.progress self.new.progress) }

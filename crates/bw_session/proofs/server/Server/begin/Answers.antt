@@ -73,6 +73,7 @@ returns-clause-both g c =
           (subst (λ (k : ℕ). CallsFew (g.S.TakeStore.calls c.args.self.now.stores.store)
           (g.S.TakeStore.calls c.serve.new.stores.store) k (length c.serve.new.self.progress.ledger.outcomes) both.0)
           none both.2),
+      both.3,
     )
 
 pub returns-clause-turned : goal.returns-clause-turned

@@ -1,4 +1,4 @@
-use Rattle.std.proofs.Common.{◌≡◌, ℕ, ◌||◌, List, [], ◌∷◌, ◌++◌, map, None, sym, ◌∙◌, ap, subst}
+use Rattle.std.proofs.Common.{◌≡◌, ℕ, ◌||◌, List, [], ◌∷◌, ◌++◌, map, None, refl, sym, ◌∙◌, ap, subst}
 use Rattle.std.specs.Prelude.{nat_le}
 use Rattle.bw_model.specs.Wire.{Message}
 use Rattle.bw_model.specs.Replies as model
@@ -15,10 +15,23 @@ use Rattle.bw_session.specs.Tables.{session_in}
 use Rattle.bw_session.proofs.AnswerForms.{served_here}
 use Rattle.bw_session.proofs.ServerForms.{unknown_here}
 use Rattle.bw_session.proofs.JournalForms.{told_away, away_either}
+use Rattle.bw_session.proofs.UseForms.{timely_push, timely_notice}
 use Rattle.bw_session.proofs.server.Server.meet.Goals as goal
 
 pub returns-in_default-clause-uncalled : goal.returns-in_default-clause-uncalled
 returns-in_default-clause-uncalled g c = λ away. served_here c.try_meet.new.out.items c.in_default.ensures.told away
+
+pub returns-in-Err-clause-both : goal.returns-in-Err-clause-both
+returns-in-Err-clause-both g c =
+    let both = c.try_meet.ensures.both in (
+      both.0,
+      both.1,
+      both.2,
+      timely_push both.0 c.try_meet.new.out.items c.push.new.self.items
+          (Notice c.args.name c.number.result c.in-Err.code 0) c.push.ensures.items both.3
+          (timely_notice both.0 (Notice c.args.name c.number.result c.in-Err.code 0) c.args.name c.number.result
+          (notice_meaning c.in-Err.code) 0 refl c.in-Err.ensures.prompt),
+    )
 
 pub returns-in-Err-clause-noted : goal.returns-in-Err-clause-noted
 returns-in-Err-clause-noted g c = λ honest honest_notes first book h n.

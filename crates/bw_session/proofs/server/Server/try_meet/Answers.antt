@@ -1,4 +1,4 @@
-use Rattle.std.proofs.Common.{rules, ◌≡◌, ◌<◌, ◌≤◌, ℕ, List, None, sym, ◌∙◌, subst, arith}
+use Rattle.std.proofs.Common.{rules, ◌≡◌, ◌<◌, ◌≤◌, ℕ, List, None, refl, sym, ◌∙◌, subst, arith}
 use Rattle.std.specs.Prelude.{is_some}
 use Rattle.std.specs.HashMap.{hash_map_len}
 use Rattle.std.proofs.lemmas.Bool.{le-leb}
@@ -10,7 +10,16 @@ use Rattle.bw_session.specs.Books.{failures_of}
 use Rattle.bw_session.specs.Tables.{session_in}
 use Rattle.bw_session.proofs.ServerForms.{unknown_here, too_far, table_full, no_room}
 use Rattle.bw_session.proofs.CountForms.{counted}
+use Rattle.bw_session.proofs.UseForms.{uses_none}
 use Rattle.bw_session.proofs.server.Server.try_meet.Goals as goal
+
+pub returns-then-number-ge-SLOTS-clause-both : goal.returns-then-number-ge-SLOTS-clause-both
+returns-then-number-ge-SLOTS-clause-both g c =
+    uses_none g.S.TakeStore g.J.Journal _ _ _ _ _ _ _ _ refl refl refl c.requires.empty
+
+pub returns-then-len-eq-NAMES-clause-both : goal.returns-then-len-eq-NAMES-clause-both
+returns-then-len-eq-NAMES-clause-both g c =
+    uses_none g.S.TakeStore g.J.Journal _ _ _ _ _ _ _ _ refl refl refl c.requires.empty
 
 pub returns-then-number-ge-SLOTS-clause-refused : goal.returns-then-number-ge-SLOTS-clause-refused
 returns-then-number-ge-SLOTS-clause-refused g c = λ honest first book h.

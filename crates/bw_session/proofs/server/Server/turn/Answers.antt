@@ -26,6 +26,7 @@ use Rattle.bw_session.proofs.RunForms.{noted_then}
 use Rattle.bw_session.proofs.JournalForms.{notes_after, told_here, told_others}
 use Rattle.bw_session.proofs.ServerForms.{table_set, book_turned, known_here, part_here, put_here}
 use Rattle.bw_session.proofs.AdmitForms.{no_false}
+use Rattle.bw_session.proofs.UseForms.{same_kept, kept_put}
 use Rattle.bw_session.proofs.server.Server.turn.Goals as goal
 
 pub answer-requires-clause-name : goal.answer-requires-clause-name
@@ -83,6 +84,32 @@ returns-in-Some-clause-both g c =
           (subst (λ (k : ℕ). CallsFew (g.S.TakeStore.calls c.args.self.now.stores.store)
           (g.S.TakeStore.calls c.answer.new.stores.store) k (length c.answer.new.self.progress.ledger.outcomes) both.0)
           (sym before) both.2),
+      both.3,
+    )
+
+pub returns-in-Some-clause-uncalled : goal.returns-in-Some-clause-uncalled
+returns-in-Some-clause-uncalled g c = λ away.
+    let s : Session = c.in-Some.session.now in
+    let s' : Session = c.answer.new.self in
+    let m : Message = message_of c.args.message.now in
+    let kept = c.answer.ensures.uncalled away in
+    let found = subst (λ (n : List ℕ). session_in c.args.self.now.sessions n ≡ Some s) c.name-name.ensures
+    (sym c.in-Some.ensures.value) in
+    let sets = subst (λ (k : List ℕ). (n : List ℕ) → session_in (c.get_mut.follows.lender s') n
+    ≡ cond (bytes_eq k n) (Some s') (session_in c.args.self.now.sessions n)) c.name-name.ensures
+    ((c.get_mut.follows.holds s').3 (sym (ap is_some c.in-Some.ensures.value))).0 in (
+      kept.0,
+      kept.1,
+      kept_put (session_in c.args.self.now.sessions) (session_in (c.get_mut.follows.lender s')) m.name s s' found sets
+          (same_kept s s' kept.2 kept.3),
+    )
+
+pub returns-in-None-clause-uncalled : goal.returns-in-None-clause-uncalled
+returns-in-None-clause-uncalled g c = λ away.
+    let kept = c.meet.ensures.uncalled away in (
+      kept.0,
+      kept.1,
+      λ name. ap (λ (t : _). kept_in t name) (kept.2 ∙ c.get_mut.follows.holds-at-none),
     )
 
 pub returns-in-Some-clause-turned : goal.returns-in-Some-clause-turned

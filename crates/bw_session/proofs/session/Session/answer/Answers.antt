@@ -10,12 +10,23 @@ use Rattle.bw_session.specs.Sessions.{part_of}
 use Rattle.bw_session.specs.Noting.{IsNoted}
 use Rattle.bw_session.specs.Serving.{Answers, log_after}
 use Rattle.bw_session.proofs.AnswerForms.{answers_served, answers_refused, same_part, served_here, none_away}
+use Rattle.bw_session.proofs.UseForms.{timely_push, timely_notice}
 use Rattle.bw_session.proofs.session.Session.answer.Goals as goal
 
 pub returns-in_default-clause-answers : goal.returns-in_default-clause-answers
 returns-in_default-clause-answers g c = λ honest first log h.
     answers_served true false first log (message_of c.args.message.now) refl refl _ _ c.serve.new.out.items
     (part_of c.serve.new.self) _ (c.in_default.ensures.served honest first log h)
+
+pub returns-in-Err-clause-both : goal.returns-in-Err-clause-both
+returns-in-Err-clause-both g c =
+    let both = c.serve.ensures.both in (
+      both.0,
+      both.1,
+      both.2,
+      timely_push both.0 c.serve.new.out.items c.push.new.self.items c.notice.result c.push.ensures.items both.3
+          (timely_notice both.0 c.notice.result _ _ _ _ c.notice.ensures.value refl),
+    )
 
 pub returns-in-Err-clause-answers : goal.returns-in-Err-clause-answers
 returns-in-Err-clause-answers g c = λ honest first log h.

@@ -1,10 +1,10 @@
-use Rattle.std.proofs.Common.{rules, ◌≡◌, ◌+◌, ◌≤◌, ℕ, suc, length, sym, ◌∙◌, ap, subst, arith}
+use Rattle.std.proofs.Common.{rules, ◌≡◌, ◌+◌, ◌≤◌, ℕ, suc, false, length, sym, ◌∙◌, ap, subst, arith}
 use Rattle.std.specs.List.{All}
 use Rattle.std.proofs.lemmas.List.{length_push}
-use Rattle.std.proofs.lemmas.List.Elements.{All-append}
+use Rattle.std.proofs.lemmas.List.Elements.{All-append, All-push}
 use Rattle.bw_model.specs.Wire.{Second, last_number}
 use Rattle.bw_file.specs.Growing.{Growing}
-use Rattle.bw_session.specs.Telling.{IsServing}
+use Rattle.bw_session.specs.Telling.{IsServing, IsTimely}
 use Rattle.bw_session.specs.Noting.{IsNoted}
 use Rattle.bw_session.specs.Numbered.{with_done}
 use Rattle.bw_session.specs.Runs.{with_more_done}
@@ -55,6 +55,8 @@ loop-slot-preserved g c =
       few = search rules;
       served = λ all. subst (All IsServing) (sym c.push.ensures.items)
           (All-append IsServing c.loop-slot.out.items _ (c.loop-slot.invariant.served all) (search rules));
+      timely = λ all. subst (All (IsTimely false)) (sym c.push.ensures.items)
+          (All-push (IsTimely false) c.loop-slot.out.items _ (c.loop-slot.invariant.timely all) (λ t. t));
       drained = λ honest first log h.
           let loop = c.loop-slot.invariant in
           let drained = loop.drained honest first log h in

@@ -3,7 +3,7 @@ use Rattle.std.specs.List.{All}
 use Rattle.bw_model.specs.Book.{Log}
 use Rattle.bw_session.specs.Numbered.{KeepsBoth}
 use Rattle.bw_session.specs.Noting.{IsNoted}
-use Rattle.bw_session.specs.Telling.{IsServing}
+use Rattle.bw_session.specs.Telling.{IsServing, IsTimely}
 use Rattle.bw_session.specs.Sessions.{CallsFew, KeepsTake, part_of}
 use Rattle.bw_session.specs.Runs.{with_more_done, HasDrained}
 use Rattle.bw_session.proofs.session.Session.drain.Given as goal
@@ -17,6 +17,7 @@ invariant-loop-slot g l = record {
   take : KeepsTake l.fn.self l.self;
   few : length l.out.items ≡ l._slot;
   served : All IsServing l.fn.out.items → All IsServing l.out.items;
+  timely : All (IsTimely false) l.fn.out.items → All (IsTimely false) l.out.items;
   drained : IsTrue (g.S.TakeStore.honest l.fn.stores.store) → (first : Option (List ℕ)) (log : Log) →
       HasDrained first log l.fn.out.items (part_of l.fn.self) (g.S.TakeStore.contents l.fn.stores.store l.fn.self.progress.name) →
       HasDrained first log l.out.items (part_of l.self) (g.S.TakeStore.contents l.stores.store l.fn.self.progress.name);

@@ -1,4 +1,5 @@
 use Rattle.std.proofs.Common.{rules, ◌≡◌, ◌+◌, ◌<◌, ◌≤◌, ℕ, List, length, true, false, [], ◌∷◌, sym, ◌∙◌, ap, arith}
+use Rattle.std.proofs.Common.{refl}
 use Rattle.std.specs.Prelude.{is_some}
 use Rattle.bw_model.specs.Wire.{Message}
 use Rattle.bw_model.specs.Replies as model
@@ -8,6 +9,7 @@ use Rattle.bw_wire.specs.Frames.{message_of}
 use Rattle.bw_session.specs.Runs.{with_more_done}
 use Rattle.bw_session.specs.Sessions.{part_of}
 use Rattle.bw_session.proofs.ReplyForms.{own_conflict, own_waits, own_done, own_drained, short_at, verdict_kept}
+use Rattle.bw_session.proofs.UseForms.{timely_notice, timely_waits}
 use Rattle.bw_session.proofs.session.Session.reply_to.Goals as goal
 
 pub returns-then-not-has_admitted-clause-value : goal.returns-then-not-has_admitted-clause-value
@@ -19,6 +21,15 @@ returns-then-not-has_admitted-clause-value c = λ first log drained found h same
     ap (λ (r : model.Reply). r ∷ []) c.notice.ensures.value
     ∙ sym (own_conflict (is_some first) log.admitted c.args.done (length c.args.self.now.progress.ledger.outcomes)
     (run_end log.admitted c.args.done) m near repeat)
+
+pub returns-then-not-has_admitted-clause-timely : goal.returns-then-not-has_admitted-clause-timely
+returns-then-not-has_admitted-clause-timely c =
+    timely_notice c.args.stopped c.notice.result _ _ _ _ c.notice.ensures.value refl
+
+pub returns-then-len-number-clause-timely : goal.returns-then-len-number-clause-timely
+returns-then-len-number-clause-timely c =
+    timely_waits c.args.stopped c.notice-then-len-number.result _ _ _ _ c.notice-then-len-number.ensures.value
+    c.waits.ensures
 
 pub returns-then-len-number-clause-value : goal.returns-then-len-number-clause-value
 returns-then-len-number-clause-value c = λ first log drained found h same near.

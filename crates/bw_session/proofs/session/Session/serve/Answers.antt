@@ -1,4 +1,4 @@
-use Rattle.std.proofs.Common.{rules, ◌+◌, ◌≤◌, ℕ, [], ◌∷◌, length, inr, refl, sym, ◌∙◌, ap}
+use Rattle.std.proofs.Common.{rules, ◌+◌, ◌≤◌, ℕ, [], ◌∷◌, false, length, inr, refl, sym, ◌∙◌, ap}
 use Rattle.std.proofs.Common.{subst, arith, append-nil}
 use Rattle.std.specs.Prelude.{is_some}
 use Rattle.bw_model.specs.Wire.{Message}
@@ -11,10 +11,42 @@ use Rattle.bw_session.specs.Admitting.{with_message}
 use Rattle.bw_session.specs.Noting.{IsNoted}
 use Rattle.bw_session.specs.Sessions.{part_of}
 use Rattle.bw_session.specs.Serving.{log_after}
+use Rattle.bw_session.specs.Telling.{IsTimely}
 use Rattle.bw_session.proofs.AdmitForms.{outside_not_new, part_same, notes_same}
 use Rattle.bw_session.proofs.ReplyForms.{own_far}
 use Rattle.bw_session.proofs.ServeForms.{starts, serves, noted_start}
+use Rattle.bw_session.proofs.UseForms.{all_none, timely_any, timely_notice, timely_push}
 use Rattle.bw_session.proofs.session.Session.serve.Goals as goal
+
+pub returns-then-done-len-clause-both : goal.returns-then-done-len-clause-both
+returns-then-done-len-clause-both g c = (
+  c.drain.result,
+  c.drain.ensures.both,
+  c.drain.ensures.calls,
+  timely_push c.drain.result c.drain.new.out.items c.push.new.self.items c.notice.result c.push.ensures.items
+      (timely_any c.drain.result c.drain.new.out.items
+      (c.drain.ensures.timely (all_none (IsTimely false) c.args.out.now.items c.requires.empty)))
+      (timely_notice c.drain.result c.notice.result _ _ _ _ c.notice.ensures.value refl),
+)
+
+pub returns-in-Some-clause-both : goal.returns-in-Some-clause-both
+returns-in-Some-clause-both g c = (
+  c.in_ok-stopped.stopped,
+  c.in_ok-stopped.ensures.both,
+  c.in_ok-stopped.ensures.calls,
+  timely_push c.in_ok-stopped.stopped c.admit_and_drain.new.out.items c.push-in-Some.new.self.items c.in-Some.reply
+      c.push-in-Some.ensures.items
+      (timely_any c.in_ok-stopped.stopped c.admit_and_drain.new.out.items c.in_ok-stopped.ensures.timely)
+      c.in-Some.ensures.timely,
+)
+
+pub returns-in_default-clause-both : goal.returns-in_default-clause-both
+returns-in_default-clause-both g c = (
+  c.in_ok-stopped.stopped,
+  c.in_ok-stopped.ensures.both,
+  c.in_ok-stopped.ensures.calls,
+  timely_any c.in_ok-stopped.stopped c.admit_and_drain.new.out.items c.in_ok-stopped.ensures.timely,
+)
 
 pub returns-then-done-len-clause-served : goal.returns-then-done-len-clause-served
 returns-then-done-len-clause-served g c = λ honest first log h.
