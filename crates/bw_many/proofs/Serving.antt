@@ -1,5 +1,5 @@
 -- What connections come to in bytes.
-use Rattle.std.proofs.Common.{◌≡◌, ◌⊎◌, inl, inr, ℕ, true, false, Option, Some, None, List, [], ◌∷◌, ◌++◌}
+use Rattle.std.proofs.Common.{◌≡◌, ◌≢◌, ◌<◌, ◌⊎◌, inl, inr, ℕ, true, false, Option, Some, None, List, [], ◌∷◌, ◌++◌}
 use Rattle.std.proofs.Common.{refl, sym, ap, subst, ◌∙◌, arith}
 use Rattle.std.specs.Prelude.{IfSome, IsTrue, is_some}
 use Rattle.std.specs.List.{AllByRecursion}
@@ -22,9 +22,10 @@ use Rattle.bw_many.specs.declared.connection.Phase.TheVariants as phases
 use Rattle.bw_many.specs.declared.link.Link.{Ghosts as LinkGhosts}
 use Rattle.bw_many.specs.declared.many.Closed.{Closed}
 use Rattle.bw_many.specs.declared.many.Many.{Many}
-use Rattle.bw_many.specs.Keeping.{HasLeft, Keeps, Tagged, own}
+use Rattle.bw_many.specs.Keeping.{HasLeft, Keeps, StandsAt, Tagged, own}
 use Rattle.bw_many.specs.Lives.{HasEnded, IsInPhase, IsOver, Lives}
 use Rattle.bw_many.specs.Served.{EndsLink, ReachesEnd, ServesEach, ServesLink, TellsEnd}
+use Rattle.bw_many.proofs.Standing.{all_left}
 
 -- What bytes that weren't fed leave of what is known: nothing was, or none could change it.
 record Unchanged (e : Exchange) (answered : List Answered) (fed unread : List ℕ) : Type 0 where
@@ -223,5 +224,9 @@ module _ {L : Type 0} (G : LinkGhosts L) (law : ExchangesFollowStreams) where
     each = k.each;
     stands = λ i c at. serves_so_far c (own c.number trace) (k.lives i c at).1;
     ended = over_each m trace over k.left;
+    begun = all_left (HasLeft G m trace) (λ x. x.number < m.next) over (λ x h. h.before) k.left;
+    once = k.once;
+    away = all_left (HasLeft G m trace) (λ x. (i : ℕ) (c : Connection L) → StandsAt m i c → c.number ≢ x.number) over
+        (λ x h. h.away) k.left;
     none = k.fresh;
   }

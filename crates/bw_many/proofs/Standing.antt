@@ -81,7 +81,7 @@ stood m m' i x s j d h = go (eqb_tells j i)
 
 -- Those that are over.
 
-all_left : {L : Type 0} (P Q : Closed L → Type 0) (xs : List (Closed L)) → ((x : Closed L) → P x → Q x) →
+pub all_left : {L : Type 0} (P Q : Closed L → Type 0) (xs : List (Closed L)) → ((x : Closed L) → P x → Q x) →
     AllByRecursion P xs → AllByRecursion Q xs
 all_left P Q [] f h = tt
 all_left P Q (x ∷ xs) f h = (f x h.0, all_left P Q xs f h.1)

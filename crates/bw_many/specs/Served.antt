@@ -1,5 +1,5 @@
 -- What many connections come to in bytes: those that each link gave and took.
-use Rattle.std.specs.Prelude.{◌≡◌, ◌⊎◌, ℕ, ◌<◌, ◌≤◌, Option, Some, None, IfSome, IsTrue}
+use Rattle.std.specs.Prelude.{◌≡◌, ◌≢◌, ◌⊎◌, ℕ, ◌<◌, ◌≤◌, Option, Some, None, IfSome, IsTrue}
 use Rattle.std.specs.Prelude.{List, [], ◌++◌, length}
 use Rattle.std.specs.List.{AllByRecursion, list_all}
 use Rattle.bw_model.specs.Wire.{Second}
@@ -20,7 +20,7 @@ use Rattle.bw_many.specs.declared.link.Link.{Ghosts as LinkGhosts}
 use Rattle.bw_many.specs.declared.many.Closed.{Closed}
 use Rattle.bw_many.specs.declared.many.Many.{Many}
 use Rattle.bw_many.specs.Lives.{TellsFault}
-use Rattle.bw_many.specs.Keeping.{Tagged, IsAmong, Keeps, Stands, StandsAt, own}
+use Rattle.bw_many.specs.Keeping.{Tagged, AreApart, IsAmong, Keeps, Stands, StandsAt, own}
 
 -- all whole frames that came are answered and their replies sent, and the stream has not ended
 pub record IsUpTo (stream_end : Option End) (answered : List Answered) (input unsent : List ℕ)
@@ -85,6 +85,10 @@ module _ {L : Type 0} (G : LinkGhosts L) where
     pub each : (n : ℕ) → n < m.next → Stands m n ⊎ IsAmong n over
     pub stands : (i : ℕ) (c : Connection L) → StandsAt m i c → ServesLink c.link (own c.number trace)
     pub ended : AllByRecursion (λ x. EndsLink x.end x.link (own x.number trace)) over
+    -- each that is over was begun, is told once, and stands no longer
+    pub begun : AllByRecursion (λ x. x.number < m.next) over
+    pub once : AreApart over
+    pub away : AllByRecursion (λ x. (i : ℕ) (c : Connection L) → StandsAt m i c → c.number ≢ x.number) over
     pub none : (n : ℕ) → m.next ≤ n → own n trace ≡ []
 
   abbrev pub EachIsServed : Type 0
