@@ -133,6 +133,7 @@ impl<L: Link + Drop> Many<L> {
         ensures others { LeavesOthers place self.old self.new }
         ensures err { OnErr result (self.new ≡ self.old) }
         ensures spent { result ≡ Err BeginError.NumbersSpent → 2 ^ 64 ≤ self.old.next + 1 }
+        ensures memory { result ≡ Err BeginError.Memory → self.old.next + 1 < 2 ^ 64 }
     {
         let Some(next) = self.next.checked_add(1) else {
             return Err(BeginError::NumbersSpent);
