@@ -61,7 +61,7 @@ pub struct Many<L> {
 
 impl<L: Link + Drop> Many<L> {
     ghost use Rattle.bw_many.specs.Keeping.{Keeps, Adds, IsFree, those};
-    ghost use Rattle.bw_many.specs.Working.{BeginsAt, EndsIts, LeavesOthers, StaysAt, StoodAt};
+    ghost use Rattle.bw_many.specs.Working.{BeginsAt, EndsIts, IsEmpty, LeavesOthers, StaysAt, StoodAt};
     ghost use Rattle.bw_many.specs.Working.{StoodUnder, WakesAt, WorksAt};
     ghost use Rattle.bw_many.specs.Places.{begun_of, count_of, can_go_on_at, end_told, expired_there};
     ghost use Rattle.bw_many.specs.Places.{first_free};
@@ -197,6 +197,7 @@ impl<L: Link + Drop> Many<L> {
         ensures its { EndsIts L.Link place result self.old }
         ensures others { StaysAt place self.old self.new }
         ensures stands { StoodAt place self.old self.new }
+        ensures left { IfSome result (λ x. IsEmpty place self.new) }
     {
         let Some(connection) = take_at(&mut self.places, place) else {
             return None;

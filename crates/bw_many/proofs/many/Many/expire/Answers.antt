@@ -2,7 +2,7 @@ use Rattle.std.proofs.Common.{◌≡◌, ap, refl, ◌∙◌, subst, sym, List, 
 use Rattle.bw_engine.specs.Answering.{Answered}
 use Rattle.bw_many.specs.Lives.{IsOver, KeepsPeer, Lives}
 use Rattle.bw_many.proofs.Going.{expires, woken}
-use Rattle.bw_many.proofs.Standing.{adds_closed, adds_none, adds_on, keeps_free, sets_again, some_is}
+use Rattle.bw_many.proofs.Standing.{adds_closed, adds_none, adds_on, keeps_free, not_some, sets_again, some_is}
 use Rattle.bw_many.proofs.many.Many.expire.Goals as goal
 
 pub returns-in_default-clause-adds : goal.returns-in_default-clause-adds
@@ -56,3 +56,7 @@ returns-in-Some-expired-clause-its g c = λ d at.
 
 pub returns-in-None-clause-its : goal.returns-in-None-clause-its
 returns-in-None-clause-its g c = λ d at. tt
+
+pub returns-in-Some-expired-clause-left : goal.returns-in-Some-expired-clause-left
+returns-in-Some-expired-clause-left g c = λ d at.
+    absurd (not_some d (some_is None (Some d) (sym c.in-Some.ensures.sets.there ∙ at)))
