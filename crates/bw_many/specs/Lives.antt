@@ -193,3 +193,6 @@ pub record Begins {L : Type 0} (link : L) (number now : ℕ) (c : Connection L) 
   pub serving : c.phase ≡ phases.Serving
   pub goes : can_go_on c ≡ true
   pub since : c.since ≡ now
+  -- there may be bytes, and room
+  pub bytes : c.readable ≡ true
+  pub room : c.writable ≡ true
