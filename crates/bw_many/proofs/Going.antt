@@ -1,10 +1,13 @@
 -- Steps of a connection.
 use Rattle.std.proofs.Common.{◌≡◌, ◌⊎◌, inl, inr, ℕ, ◌+◌, ◌-◌, ◌≤◌, ◌<◌, Bool, true, Option, Some, None, List, [], ◌∷◌, ◌++◌, length}
 use Rattle.std.proofs.Common.{refl, sym, ap, subst, ◌∙◌, append_assoc, Result, Ok, Err, arith, unwrap_or}
-use Rattle.std.specs.Prelude.{IfSome, OnOk, is_some, false, nat_lt, if◌then◌else◌}
-use Rattle.bw_model.specs.Wire.{Frame}
+use Rattle.std.specs.Prelude.{IfErr, IfSome, OnOk, is_some, false, nat_lt, if◌then◌else◌}
+use Rattle.bw_model.specs.Wire.{Cut, Frame, Kind, Length, Name, Number, Payload, Reason}
 use Rattle.bw_model.specs.Replies.{Reply}
 use Rattle.std.proofs.lemmas.List.{append-nil}
+use Rattle.std.proofs.lemmas.Result.{IfErr-weaker}
+use Rattle.bw_wire.specs.declared.fault.WireFault.{WireFault}
+use Rattle.bw_wire.specs.Reasons.{reason_meaning}
 use Rattle.bw_wire.specs.Held.{longest_piece, longest_stream}
 use Rattle.bw_engine.specs.declared.exchange.Exchange.{Exchange}
 use Rattle.bw_engine.specs.declared.serving.ExchangeEnd.TheVariants as ends
@@ -21,8 +24,8 @@ use Rattle.bw_many.specs.declared.connection.ConnectionEnd.TheVariants.{Idle, Ov
 use Rattle.bw_many.specs.declared.connection.Phase.{Phase}
 use Rattle.bw_many.specs.declared.connection.Phase.TheVariants as phases
 use Rattle.bw_many.specs.declared.link.Link.{Ghosts as LinkGhosts}
-use Rattle.bw_many.specs.Feeding.{Feeds}
-use Rattle.bw_many.specs.Lives.{TellsFault}
+use Rattle.bw_many.specs.Feeding.{Feeds, fault_to_drain, unless_cut}
+use Rattle.bw_many.specs.Lives.{EndsDrained, EndsServed, IsNoSilence, TellsFault}
 use Rattle.bw_many.specs.Lives.{EndsAs, Goes, IsInPhase, IsOpen, IsOver, KeepsPeer, Lives, Settles, Steps}
 use Rattle.bw_many.specs.Lives.{AnswersHeld, Begins, expired_at, expired_by, longest_drain, quantum, quiet_since}
 
@@ -218,7 +221,56 @@ not_served c fault is serving = let e = sym is ∙ serving in cc
 pub number_left : {L : Type 0} (now : ℕ) (r : Result (Unit {0}) ConnectionEnd) (c c' : Connection L) →
     Settles now r c c' → c'.number ≡ c.number
 number_left now (Ok x) c c' s = s.0
-number_left now (Err end) c c' s = s
+number_left now (Err end) c c' s = s.0
+
+-- an end of the stream behind which nothing may come
+ended_served : (x : StreamEnd) → fault_to_drain x ≡ None → EndsServed (Over (ended_by x))
+ended_served streams.Bye h = tt
+ended_served streams.EndOfInput h = tt
+ended_served (streams.BadFrame fault) h = only_cut (reason_meaning fault.reason) h
+  where
+    only_cut : (r : Reason) → unless_cut fault r ≡ None → r ≡ Cut
+    only_cut Cut h = refl
+    only_cut Length h = absurd cc
+    only_cut Kind h = absurd cc
+    only_cut Name h = absurd cc
+    only_cut Number h = absurd cc
+    only_cut Payload h = absurd cc
+
+-- with which one that is served is over
+pub settled_served : {L : Type 0} (now : ℕ) (r : Result (Unit {0}) ConnectionEnd) (c c' : Connection L) →
+    Settles now r c c' → IfErr r EndsServed
+settled_served now (Ok x) c c' s = tt
+settled_served now (Err end) c c' s = subst EndsServed (sym s.1.3) (ended_served s.1.0 s.1.2)
+
+-- one that is served, or drained, doesn't end for silence
+pub served_aloud : (end : ConnectionEnd) → EndsServed end → IsNoSilence end
+served_aloud (Over end) h = tt
+served_aloud Idle h = h
+
+pub drained_aloud : {L : Type 0} (G : LinkGhosts L) (fault : WireFault) (link : L) (end : ConnectionEnd) →
+    EndsDrained G fault link end → IsNoSilence end
+drained_aloud G fault link end h = subst IsNoSilence (sym h.0) tt
+
+pub served_no_silence : (r : Result (Unit {0}) ConnectionEnd) → IfErr r EndsServed → IfErr r IsNoSilence
+served_no_silence r h = IfErr-weaker r EndsServed IsNoSilence served_aloud h
+
+pub drained_no_silence : {L : Type 0} (G : LinkGhosts L) (fault : WireFault) (link : L)
+    (r : Result (Unit {0}) ConnectionEnd) → IfErr r (EndsDrained G fault link) → IfErr r IsNoSilence
+drained_no_silence G fault link r h =
+    IfErr-weaker r (EndsDrained G fault link) IsNoSilence (drained_aloud G fault link) h
+
+-- a connection is drained behind one fault
+abbrev fault_in : Phase → WireFault → WireFault
+fault_in phases.Serving other = other
+fault_in (phases.Draining fault) other = fault
+
+pub drained_at : {L : Type 0} (G : LinkGhosts L) (c : Connection L) (link : L) (fault other : WireFault)
+    (r : Result (Unit {0}) ConnectionEnd) → c.phase ≡ phases.Draining fault → c.phase ≡ phases.Draining other →
+    IfErr r (EndsDrained G fault link) → IfErr r (EndsDrained G other link)
+drained_at G c link fault other r is at h =
+    subst (λ (x : WireFault). IfErr r (EndsDrained G x link))
+    (ap (λ (p : Phase). fault_in p fault) (sym is ∙ at)) h
 
 pub open_left : {L : Type 0} (now : ℕ) (r : Result (Unit {0}) ConnectionEnd) (c c' : Connection L) →
     Settles now r c c' → OnOk r (IsOpen c')

@@ -21,12 +21,13 @@ Feeds piece (Err end) e e' = (e' ≡ e) × IsTrue (are_bytes piece)
     × ((end ≡ Over ends.Memory)
     ⊎ ((end ≡ Over ends.TurnLimit) × (longest_stream < (pending_of e).fed + length piece)))
 
+-- a fault, unless the frame was only cut off
+abbrev pub unless_cut : WireFault → Reason → Option WireFault
+unless_cut fault Cut = None
+unless_cut fault reason = Some fault
+
 -- the fault behind which more may come: no frame, whatever follows
 abbrev pub fault_to_drain : StreamEnd → Option WireFault
 fault_to_drain streams.Bye = None
 fault_to_drain streams.EndOfInput = None
 fault_to_drain (streams.BadFrame fault) = unless_cut fault (reason_meaning fault.reason)
-  where
-    unless_cut : WireFault → Reason → Option WireFault
-    unless_cut fault Cut = None
-    unless_cut fault reason = Some fault

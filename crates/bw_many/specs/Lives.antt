@@ -1,11 +1,13 @@
 -- What a connection has done so far, what a call adds to it, and what is left of one that is over.
-use Rattle.std.specs.Prelude.{◌≡◌, ◌⊎◌, ℕ, ◌+◌, ◌-◌, ◌≤◌, ◌<◌, true, Bool, not, ◌||◌, Option, Some, None}
-use Rattle.std.specs.Prelude.{Result, Ok, Err, IfSome, IsTrue, OnOk, List, [], ◌∷◌, ◌++◌, length, nat_lt}
+use Rattle.std.specs.Prelude.{◌≡◌, ◌⊎◌, ℕ, ◌+◌, ◌-◌, ◌≤◌, ◌<◌, true, false, Bool, not, ◌||◌, Option, Some, None}
+use Rattle.std.specs.Prelude.{Result, Ok, Err, IfErr, IfSome, IsTrue, OnOk, List, [], ◌∷◌, ◌++◌, length, nat_lt}
 use Rattle.std.specs.Prelude.{if◌then◌else◌}
 use Rattle.std.specs.declared.net.socket_addr.SocketAddr.{SocketAddr}
-use Rattle.bw_model.specs.Wire.{Frame, are_bytes}
+use Rattle.bw_model.specs.Wire.{Cut, Frame, are_bytes}
 use Rattle.bw_model.specs.Replies.{Reply}
 use Rattle.bw_wire.specs.Held.{longest_piece, longest_stream}
+use Rattle.bw_wire.specs.Reasons.{reason_meaning}
+use Rattle.bw_wire.specs.declared.fault.WireFault.{WireFault}
 use Rattle.bw_engine.specs.declared.exchange.Exchange.{Exchange}
 use Rattle.bw_engine.specs.declared.serving.ExchangeEnd.TheVariants as ends
 use Rattle.bw_engine.specs.declared.step.StreamEnd.{StreamEnd}
@@ -14,12 +16,14 @@ use Rattle.bw_engine.specs.Answering.{Answered, AnswersAll}
 use Rattle.bw_engine.specs.Done.{HasDone, MustWait}
 use Rattle.bw_engine.specs.Ends.{IsFinal, end_so_far, end_meaning}
 use Rattle.bw_engine.specs.Parts.{wants_piece, end_of, waiting_in, pending_of}
+use Rattle.bw_engine.specs.Served.{ended_by}
 use Rattle.bw_many.specs.declared.connection.Connection.{Connection}
 use Rattle.bw_many.specs.declared.connection.ConnectionEnd.{ConnectionEnd}
 use Rattle.bw_many.specs.declared.connection.ConnectionEnd.TheVariants.{Over, Idle}
 use Rattle.bw_many.specs.declared.connection.Phase.{Phase}
 use Rattle.bw_many.specs.declared.connection.Phase.TheVariants as phases
 use Rattle.bw_many.specs.declared.link.Link.{Ghosts as LinkGhosts}
+use Rattle.bw_many.specs.Feeding.{fault_to_drain}
 
 -- at most so many frames are answered in a quantum
 abbrev pub quantum : ℕ
@@ -66,6 +70,17 @@ TellsFault (Over ends.ReadFault) broken = broken
 TellsFault (Over ends.WriteFault) broken = broken
 TellsFault _ broken = Unit {0}
 
+-- it is not told for silence
+abbrev pub IsNoSilence : ConnectionEnd → Type 0
+IsNoSilence Idle = ⊥
+IsNoSilence (Over end) = Unit {0}
+
+-- How a quantum ends a connection that is served: not for silence, and at a bad frame only where it
+-- was cut off, since behind every other one it is drained first.
+abbrev pub EndsServed : ConnectionEnd → Type 0
+EndsServed (Over (ends.BadFrame fault)) = reason_meaning fault.reason ≡ Cut
+EndsServed end = IsNoSilence end
+
 -- what no call but `work` changes
 pub record Stays {L : Type 0} (c c' : Connection L) : Type 0 where
   pub number : c'.number ≡ c.number
@@ -108,13 +123,15 @@ quiet_since now since (phases.Draining was) (phases.Draining fault) answered = s
 abbrev pub IsOpen : {L : Type 0} → Connection L → Type 0
 IsOpen c = c.phase ≡ phases.Serving → waiting_in c.exchange ≡ [] → end_of c.exchange ≡ None
 
--- the stream's end is looked at: where it has come and all replies are out, the connection is over,
--- or drained
+-- the stream's end is looked at: where it has come and all replies are out, the connection is over
+-- with it, where nothing may come behind it, or else drained
 abbrev pub Settles : {L : Type 0} → ℕ → Result (Unit {0}) ConnectionEnd → Connection L →
     Connection L → Type 0
 Settles now (Ok x) c c' = (c'.number ≡ c.number) × (c'.exchange ≡ c.exchange)
     × (c'.since ≡ quiet_since now c.since c.phase c'.phase []) × IsOpen c'
-Settles now (Err end) c c' = c'.number ≡ c.number
+Settles now (Err end) c c' = (c'.number ≡ c.number)
+    × ((x : StreamEnd) × (end_of c.exchange ≡ Some x) × (fault_to_drain x ≡ None)
+    × (end ≡ Over (ended_by x)))
 
 module _ {L : Type 0} (G : LinkGhosts L) where
   -- so far these frames of a connection were answered
@@ -143,6 +160,10 @@ module _ {L : Type 0} (G : LinkGhosts L) where
     pub at_end : IfSome (end_so_far (end_of exchange)) (λ x. IsFinal x ⊎ G.ended link)
     pub by_end : EndsAs end exchange unread
     pub fault : TellsFault end (G.broken link)
+
+  -- how a quantum ends a connection that is drained: at its fault, once nothing more comes
+  abbrev pub EndsDrained : WireFault → L → ConnectionEnd → Type 0
+  EndsDrained fault link end = (end ≡ Over (ends.BadFrame fault)) × (G.ended link ⊎ G.broken link)
 
   -- frames more were answered, and it goes on
   abbrev pub Steps : Connection L → List Answered → Connection L → Type 0
@@ -183,6 +204,11 @@ module _ {L : Type 0} (G : LinkGhosts L) where
         MustWait c'.exchange)
     pub since : OnOk result (c'.since ≡ quiet_since now c.since c.phase c'.phase answered)
     pub unended : OnOk result (IsOpen c')
+    -- where it is over, it ends so
+    pub no_silence : IfErr result IsNoSilence
+    pub served : c.phase ≡ phases.Serving → IfErr result EndsServed
+    pub heard : (fault : WireFault) → c.phase ≡ phases.Draining fault →
+        IfErr result (EndsDrained fault c'.link)
 
 -- a new connection
 pub record Begins {L : Type 0} (link : L) (number now : ℕ) (c : Connection L) : Type 0 where

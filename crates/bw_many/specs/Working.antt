@@ -5,13 +5,15 @@ use Rattle.bw_model.specs.Wire.{Frame}
 use Rattle.bw_model.specs.Replies.{Reply}
 use Rattle.bw_engine.specs.Answering.{Answered, AnswersAll}
 use Rattle.bw_engine.specs.Done.{MustWait}
+use Rattle.bw_wire.specs.declared.fault.WireFault.{WireFault}
 use Rattle.bw_many.specs.declared.connection.Connection.{Connection}
 use Rattle.bw_many.specs.declared.connection.Phase.TheVariants as phases
 use Rattle.bw_many.specs.declared.link.Link.{Ghosts as LinkGhosts}
 use Rattle.bw_many.specs.declared.many.Closed.{Closed}
 use Rattle.bw_many.specs.declared.many.Many.{Many}
 use Rattle.bw_many.specs.Keeping.{Adds, StandsAt, tagged, those}
-use Rattle.bw_many.specs.Lives.{Begins, IsOpen, KeepsPeer, Stays, quantum, quiet_since}
+use Rattle.bw_many.specs.Lives.{Begins, EndsDrained, EndsServed, IsNoSilence, IsOpen, KeepsPeer}
+use Rattle.bw_many.specs.Lives.{Stays, quantum, quiet_since}
 use Rattle.bw_many.specs.Places.{begun_of, count_of}
 
 -- the other places are as they were
@@ -83,3 +85,12 @@ pub record WorksAt {L S : Type 0} (G : LinkGhosts L) (answers : S → Frame → 
   pub unended : (c : Connection L) → StandsAt m' place c → IsOpen c
   pub since : (c c' : Connection L) → StandsAt m place c → StandsAt m' place c' →
       c'.since ≡ quiet_since now c.since c.phase c'.phase answered
+  -- The one that is over stands there no longer. It didn't end for silence; one that was served, at a
+  -- bad frame only where it was cut off, since behind every other one it is drained first; and one
+  -- that was drained, once nothing more came.
+  pub left : IfSome closed (λ x. IsEmpty place m')
+  pub no_silence : IfSome closed (λ x. IsNoSilence x.end)
+  pub served : (c : Connection L) → StandsAt m place c → c.phase ≡ phases.Serving →
+      IfSome closed (λ x. EndsServed x.end)
+  pub heard : (c : Connection L) (fault : WireFault) → StandsAt m place c →
+      c.phase ≡ phases.Draining fault → IfSome closed (λ x. EndsDrained G fault x.link x.end)

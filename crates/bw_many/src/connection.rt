@@ -1,8 +1,9 @@
 //! A connection: a link, and the exchange over it.
-ghost use Rattle.std.specs.Prelude.{◌≡◌, ◌≤◌, ◌||◌, [], List, length, true, IfOk};
+ghost use Rattle.std.specs.Prelude.{◌≡◌, ◌≤◌, ◌||◌, [], List, length, true, false, IfErr, IfOk, OnOk};
 ghost use Rattle.bw_wire.specs.Held.{longest_piece};
 ghost use Rattle.bw_engine.specs.Parts.{wants_piece, waiting_in};
 ghost use Rattle.bw_many.specs.Feeding.{Feeds, fault_to_drain};
+ghost use Rattle.bw_many.specs.Lives.{EndsServed};
 
 use crate::link::{Link, Received, Sent};
 use bw_engine::{Exchange, ExchangeEnd, FeedError, StreamEnd, Turns};
@@ -51,7 +52,8 @@ pub(crate) struct Connection<L> {
 
 impl<L: Link> Connection<L> {
     ghost use Rattle.bw_many.specs.Lives.{Begins, Goes, Stays, AnswersHeld, Settles, Works};
-    ghost use Rattle.bw_many.specs.Lives.{IsUpToDate, KeepsPeer, can_go_on, expired_at};
+    ghost use Rattle.bw_many.specs.Lives.{EndsDrained, IsUpToDate, KeepsPeer, can_go_on};
+    ghost use Rattle.bw_many.specs.Lives.{expired_at};
 
     /// A connection over this link, which has given and taken nothing yet.
     ///
@@ -150,6 +152,7 @@ impl<L: Link> Connection<L> {
         ensures goes { Goes L.Link result self.old [] self.new }
         ensures peer { KeepsPeer L.Link self.old.link self.new.link }
         ensures stays { Stays self.old self.new }
+        ensures served { IfErr result EndsServed }
     {
         let waiting = self.exchange.outgoing();
         if !self.writable || waiting.is_empty() {
@@ -178,6 +181,7 @@ impl<L: Link> Connection<L> {
         ensures goes { Goes L.Link result self.old [] self.new }
         ensures peer { KeepsPeer L.Link self.old.link self.new.link }
         ensures stays { Stays self.old self.new }
+        ensures served { IfErr result EndsServed }
     {
         if !self.readable || !self.is_up_to_date() {
             return Ok(());
@@ -234,6 +238,7 @@ impl<L: Link> Connection<L> {
         ensures goes { Goes L.Link result self.old [] self.new }
         ensures peer { KeepsPeer L.Link self.old.link self.new.link }
         ensures stays { Stays self.old self.new }
+        ensures heard { IfErr result (EndsDrained L.Link fault self.new.link) }
     {
         if !self.readable {
             return Ok(());
@@ -301,7 +306,8 @@ fn fault_to_drain(end: StreamEnd) -> Option<WireFault>
 fn feed_piece(exchange: &mut Exchange, piece: &[u8]) -> Result<(), ConnectionEnd>
     requires hungry { wants_piece exchange.old ≡ true }
     requires short { length piece.now ≤ longest_piece }
-    ensures { Feeds piece.now result exchange.old exchange.new }
+    ensures feeds { Feeds piece.now result exchange.old exchange.new }
+    ensures served { IfErr result EndsServed }
 {
     match exchange.feed(piece) {
         Ok(()) => Ok(()),

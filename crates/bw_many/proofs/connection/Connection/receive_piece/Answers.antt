@@ -10,7 +10,7 @@ returns-in-Bytes-clause-goes g c =
     let up = c.is_up_to_date.ensures (search rules) in
     fed_or_over g.L.Link c.feed_piece.result c.args.self.now _ _ c.requires.serving c.requires.serving up.0 up.1
     (search rules) (search rules)
-    (record { given = r.given; taken = no_more g.L.Link.taken _ _ r.taken; ended = r.ended }) c.feed_piece.ensures
+    (record { given = r.given; taken = no_more g.L.Link.taken _ _ r.taken; ended = r.ended }) c.feed_piece.ensures.feeds
 
 pub returns-in-Failed-clause-goes : goal.returns-in-Failed-clause-goes
 returns-in-Failed-clause-goes g c =

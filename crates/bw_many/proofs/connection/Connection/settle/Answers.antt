@@ -1,4 +1,4 @@
-use Rattle.std.proofs.Common.{rules, refl, sym, subst, [], Err}
+use Rattle.std.proofs.Common.{rules, ap, refl, sym, subst, [], Err}
 use Rattle.bw_engine.specs.Served.{ended_by}
 use Rattle.bw_many.specs.Lives.{Goes}
 use Rattle.bw_many.specs.declared.connection.ConnectionEnd.TheVariants.{Over}
@@ -11,3 +11,7 @@ returns-in_default-fault_to_drain-clause-goes g c =
     (over g.L.Link (Over (ended_by c.in-Some.end)) c.args.self.now c.args.self.now [] c.requires refl
     (still g.L.Link c.args.self.now.link) (ends_as c.in-Some.end c.args.self.now.exchange (search rules) (search rules))
     (ends_well c.in-Some.end (g.L.Link.broken c.args.self.now.link)))
+
+pub returns-in_default-fault_to_drain-clause-settles : goal.returns-in_default-fault_to_drain-clause-settles
+returns-in_default-fault_to_drain-clause-settles g c =
+    (refl, (c.in-Some.end, search rules, search rules, ap (λ x. Over x) c.from.ensures))

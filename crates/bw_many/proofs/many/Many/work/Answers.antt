@@ -2,7 +2,7 @@ use Rattle.std.proofs.Common.{ap, arith, refl, subst, sym, ◌∙◌, List, Some
 use Rattle.bw_engine.specs.Answering.{Answered}
 use Rattle.bw_engine.specs.Done.{MustWait}
 use Rattle.bw_many.specs.declared.connection.Phase.TheVariants as phases
-use Rattle.bw_many.specs.Lives.{IsOpen, IsOver, KeepsPeer, Lives, quantum}
+use Rattle.bw_many.specs.Lives.{EndsDrained, EndsServed, IsNoSilence, IsOpen, IsOver, KeepsPeer, Lives, quantum}
 use Rattle.bw_many.proofs.Going.{quiet_at}
 use Rattle.bw_many.proofs.Standing.{adds_closed, adds_none, adds_on, keeps_free, not_some, sets_again, some_is}
 use Rattle.bw_many.proofs.many.Many.work.Goals as goal
@@ -25,6 +25,10 @@ returns-in_default g c =
       waits = λ d at. absurd (not_some d (some_is None (Some d) (sym t.sets.there ∙ at)));
       unended = λ d at. absurd (not_some d (some_is None (Some d) (sym t.sets.there ∙ at)));
       since = λ d e at there. absurd (not_some d (some_is None (Some d) (sym t.was ∙ at)));
+      left = tt;
+      no_silence = tt;
+      served = λ d at serving. tt;
+      heard = λ d fault at draining. tt;
     }
 
 pub returns-in-Ok : goal.returns-in-Ok
@@ -60,6 +64,10 @@ returns-in-Ok g c =
       since = λ d e at there. quiet_at c.args.now was d new e w.answered
           (some_is was d (some_is (Some was) (Some d) (sym t.was ∙ at)))
           (some_is new e (some_is (Some new) (Some e) (sym sets.there ∙ there))) w.since;
+      left = tt;
+      no_silence = tt;
+      served = λ d at serving. tt;
+      heard = λ d fault at draining. tt;
     }
 
 pub returns-in-Err : goal.returns-in-Err
@@ -90,4 +98,12 @@ returns-in-Err g c =
       waits = λ d at. absurd (not_some d (some_is None (Some d) (sym t.sets.there ∙ at)));
       unended = λ d at. absurd (not_some d (some_is None (Some d) (sym t.sets.there ∙ at)));
       since = λ d e at there. absurd (not_some e (some_is None (Some e) (sym t.sets.there ∙ there)));
+      left = λ d at. absurd (not_some d (some_is None (Some d) (sym t.sets.there ∙ at)));
+      no_silence = subst (λ y. IsNoSilence y.end) (sym is) w.no_silence;
+      served = λ d at serving. subst (λ y. EndsServed y.end) (sym is)
+          (w.served (subst (λ x. x.phase ≡ phases.Serving)
+          (sym (some_is was d (some_is (Some was) (Some d) (sym t.was ∙ at)))) serving));
+      heard = λ d fault at draining. subst (λ y. EndsDrained g.L.Link fault y.link y.end) (sym is)
+          (w.heard fault (subst (λ x. x.phase ≡ phases.Draining fault)
+          (sym (some_is was d (some_is (Some was) (Some d) (sym t.was ∙ at)))) draining));
     }
