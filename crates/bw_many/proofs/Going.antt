@@ -1,10 +1,10 @@
 -- Steps of a connection.
 use Rattle.std.proofs.Common.{◌≡◌, ◌⊎◌, inl, inr, ℕ, ◌+◌, ◌-◌, ◌≤◌, ◌<◌, Bool, true, Option, Some, None, List, [], ◌∷◌, ◌++◌, length}
 use Rattle.std.proofs.Common.{refl, sym, ap, subst, ◌∙◌, append_assoc, Result, Ok, Err, arith, unwrap_or}
-use Rattle.std.specs.Prelude.{IfErr, IfSome, OnOk, is_some, false, nat_lt, if◌then◌else◌}
+use Rattle.std.specs.Prelude.{IfErr, IfSome, drop, OnOk, is_some, false, nat_lt, if◌then◌else◌}
 use Rattle.bw_model.specs.Wire.{Cut, Frame, Kind, Length, Name, Number, Payload, Reason}
 use Rattle.bw_model.specs.Replies.{Reply}
-use Rattle.std.proofs.lemmas.List.{append-nil}
+use Rattle.std.proofs.lemmas.List.{append-nil, length-drop}
 use Rattle.std.proofs.lemmas.Result.{IfErr-weaker}
 use Rattle.bw_wire.specs.declared.fault.WireFault.{WireFault}
 use Rattle.bw_wire.specs.Reasons.{reason_meaning}
@@ -186,6 +186,10 @@ pub goes_at_last : {L : Type 0} (G : LinkGhosts L) (r : Result (Unit {0}) Connec
     (xs : List Answered) → Steps G a xs b → Goes G r b [] c → Goes G r a xs c
 goes_at_last G r a b c xs f g =
     subst (λ (x : List Answered). Goes G r a x c) (append-nil xs) (goes_behind G r a b c xs [] f g)
+
+-- some were let go of
+pub fewer : (xs ys : List ℕ) (n : ℕ) → ys ≡ drop n xs → 1 ≤ n → 1 ≤ length xs → length ys < length xs
+fewer xs ys n e some there = let l = ap length e ∙ length-drop n xs in omega (arith, l, some, there)
 
 -- the time stays, or is that of the answer
 pub quiet_on : {L : Type 0} (now : ℕ) (was : Connection L) (answered : List Answered) → was.phase ≡ phases.Serving →

@@ -50,6 +50,17 @@ HasEnded end e unread =
 abbrev pub IsUpToDate : Exchange → Type 0
 IsUpToDate e = (wants_piece e ≡ true) × (waiting_in e ≡ [])
 
+-- Some of the bytes that wait were taken, where there might be room, or there is none now.
+abbrev pub Sends : {L : Type 0} → Connection L → Connection L → Type 0
+Sends c c' = c.writable ≡ true → 1 ≤ length (waiting_in c.exchange) →
+    (length (waiting_in c'.exchange) < length (waiting_in c.exchange)) ⊎ (c'.writable ≡ false)
+
+-- A piece was asked for, where one was wanted and there might be bytes: then none is wanted until
+-- what came is looked at, or there are no bytes now.
+abbrev pub Reads : {L : Type 0} → Connection L → Connection L → Type 0
+Reads c c' = c.readable ≡ true → IsUpToDate c.exchange →
+    (wants_piece c'.exchange ≡ false) ⊎ (c'.readable ≡ false)
+
 -- how a connection's exchange stands where it ended so, and what it was not fed of what the link
 -- gave
 abbrev pub EndsAs : ConnectionEnd → Exchange → List ℕ → Type 0

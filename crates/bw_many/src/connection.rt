@@ -52,7 +52,7 @@ pub(crate) struct Connection<L> {
 
 impl<L: Link> Connection<L> {
     ghost use Rattle.bw_many.specs.Lives.{Begins, Goes, Stays, AnswersHeld, Settles, Works};
-    ghost use Rattle.bw_many.specs.Lives.{EndsDrained, IsUpToDate, KeepsPeer, can_go_on};
+    ghost use Rattle.bw_many.specs.Lives.{EndsDrained, IsUpToDate, KeepsPeer, Reads, Sends, can_go_on};
     ghost use Rattle.bw_many.specs.Lives.{expired_at};
 
     /// A connection over this link, which has given and taken nothing yet.
@@ -153,6 +153,7 @@ impl<L: Link> Connection<L> {
         ensures peer { KeepsPeer L.Link self.old.link self.new.link }
         ensures stays { Stays self.old self.new }
         ensures served { IfErr result EndsServed }
+        ensures sends { OnOk result (Sends self.old self.new) }
     {
         let waiting = self.exchange.outgoing();
         if !self.writable || waiting.is_empty() {
@@ -182,6 +183,7 @@ impl<L: Link> Connection<L> {
         ensures peer { KeepsPeer L.Link self.old.link self.new.link }
         ensures stays { Stays self.old self.new }
         ensures served { IfErr result EndsServed }
+        ensures reads { OnOk result (Reads self.old self.new) }
     {
         if !self.readable || !self.is_up_to_date() {
             return Ok(());
@@ -210,7 +212,8 @@ impl<L: Link> Connection<L> {
 
     /// Whether all whole frames are answered, and all replies are out.
     fn is_up_to_date(&self) -> bool
-        ensures { result ≡ true → IsUpToDate self.now.exchange }
+        ensures yes { result ≡ true → IsUpToDate self.now.exchange }
+        ensures no { IsUpToDate self.now.exchange → result ≡ true }
     {
         self.exchange.is_hungry() && self.is_all_out()
     }
@@ -307,6 +310,7 @@ fn feed_piece(exchange: &mut Exchange, piece: &[u8]) -> Result<(), ConnectionEnd
     requires hungry { wants_piece exchange.old ≡ true }
     requires short { length piece.now ≤ longest_piece }
     ensures feeds { Feeds piece.now result exchange.old exchange.new }
+    ensures busy { OnOk result (wants_piece exchange.new ≡ false) }
     ensures served { IfErr result EndsServed }
 {
     match exchange.feed(piece) {
