@@ -1,10 +1,10 @@
 -- Steps of a connection.
 use Rattle.std.proofs.Common.{◌≡◌, ◌⊎◌, inl, inr, ℕ, ◌+◌, ◌-◌, ◌≤◌, ◌<◌, Bool, true, Option, Some, None, List, [], ◌∷◌, ◌++◌, length}
 use Rattle.std.proofs.Common.{refl, sym, ap, subst, ◌∙◌, append_assoc, Result, Ok, Err, arith, unwrap_or}
-use Rattle.std.specs.Prelude.{IfErr, IfSome, drop, OnOk, is_some, false, nat_lt, if◌then◌else◌}
+use Rattle.std.specs.Prelude.{IfErr, IfSome, drop, take, min, OnOk, is_some, false, nat_lt, if◌then◌else◌}
 use Rattle.bw_model.specs.Wire.{Cut, Frame, Kind, Length, Name, Number, Payload, Reason}
 use Rattle.bw_model.specs.Replies.{Reply}
-use Rattle.std.proofs.lemmas.List.{append-nil, length-drop}
+use Rattle.std.proofs.lemmas.List.{append-nil, length-take}
 use Rattle.std.proofs.lemmas.Result.{IfErr-weaker}
 use Rattle.bw_wire.specs.declared.fault.WireFault.{WireFault}
 use Rattle.bw_wire.specs.Reasons.{reason_meaning}
@@ -15,6 +15,8 @@ use Rattle.bw_engine.specs.declared.step.StreamEnd.{StreamEnd}
 use Rattle.bw_engine.specs.declared.step.StreamEnd.TheVariants as streams
 use Rattle.bw_engine.specs.Answering.{Answered}
 use Rattle.bw_engine.specs.Done.{AnswersSome, DoesMore, HasDone, MustWait}
+use Rattle.bw_engine.proofs.Going.{does_none, does_on}
+use Rattle.std.proofs.Math.Seq.{drop-nil}
 use Rattle.bw_engine.specs.Ends.{IsFinal, end_so_far}
 use Rattle.bw_engine.specs.Parts.{wants_piece, end_of, waiting_in, pending_of}
 use Rattle.bw_engine.specs.Served.{ended_by}
@@ -25,7 +27,7 @@ use Rattle.bw_many.specs.declared.connection.Phase.{Phase}
 use Rattle.bw_many.specs.declared.connection.Phase.TheVariants as phases
 use Rattle.bw_many.specs.declared.link.Link.{Ghosts as LinkGhosts}
 use Rattle.bw_many.specs.Feeding.{Feeds, fault_to_drain, unless_cut}
-use Rattle.bw_many.specs.Lives.{EndsDrained, EndsServed, IsNoSilence, TellsFault}
+use Rattle.bw_many.specs.Lives.{EndsDrained, EndsServed, IsNoSilence, IsUpToDate, Moved, Reads, Sends, TellsFault}
 use Rattle.bw_many.specs.Lives.{EndsAs, Goes, IsInPhase, IsOpen, IsOver, KeepsPeer, Lives, Settles, Steps}
 use Rattle.bw_many.specs.Lives.{AnswersHeld, Begins, expired_at, expired_by, longest_drain, quantum, quiet_since}
 
@@ -187,9 +189,70 @@ pub goes_at_last : {L : Type 0} (G : LinkGhosts L) (r : Result (Unit {0}) Connec
 goes_at_last G r a b c xs f g =
     subst (λ (x : List Answered). Goes G r a x c) (append-nil xs) (goes_behind G r a b c xs [] f g)
 
--- some were let go of
-pub fewer : (xs ys : List ℕ) (n : ℕ) → ys ≡ drop n xs → 1 ≤ n → 1 ≤ length xs → length ys < length xs
-fewer xs ys n e some there = let l = ap length e ∙ length-drop n xs in omega (arith, l, some, there)
+-- some were taken of some
+pub some_taken : (xs : List ℕ) (n : ℕ) → 1 ≤ n → 1 ≤ length xs → 1 ≤ length (take n xs)
+some_taken xs n some there = let l = length-take n xs in min_some n (length xs) (length (take n xs)) l some there
+  where
+    min_some : (i j k : ℕ) → k ≡ min i j → 1 ≤ i → 1 ≤ j → 1 ≤ k
+    min_some i j k e f g = omega (arith, e, f, g)
+
+-- and none of none
+pub none_left : (xs ys : List ℕ) (n : ℕ) → ys ≡ drop n xs → xs ≡ [] → ys ≡ []
+none_left xs ys n e none = e ∙ (ap (λ (x : List ℕ). drop n x) none ∙ drop-nil n)
+
+-- nothing was sent
+pub none_sent : {L : Type 0} (c c' : Connection L) → c'.exchange ≡ c.exchange → c'.readable ≡ c.readable →
+    (c.writable ≡ true → 1 ≤ length (waiting_in c.exchange) → (1 ≤ 0) ⊎ (c'.writable ≡ false)) → Sends c c'
+none_sent c c' exchange readable some = record {
+  bytes = [];
+  does = subst (DoesMore c.exchange [] [] []) (sym exchange) (does_none c.exchange);
+  some = some;
+  up = λ up. subst IsUpToDate (sym exchange) up;
+  readable = readable;
+}
+
+-- a piece that came was fed
+pub fed_reads : {L : Type 0} (r : Result (Unit {0}) ConnectionEnd) (c c' : Connection L) (piece : List ℕ) →
+    c'.writable ≡ c.writable → 1 ≤ length piece → Feeds piece r c.exchange c'.exchange → OnOk r (Reads c c')
+fed_reads (Ok x) c c' piece writable some f = record {
+  piece = piece;
+  does = f.0;
+  some = λ bytes up. inl some;
+  writable = writable;
+}
+fed_reads (Err end) c c' piece writable some f = tt
+
+-- a quantum sends, reads, answers, and looks at the end
+pub moved_on : {L S : Type 0} (G : LinkGhosts L) (answers : S → Frame → List Reply → S → Type 0) (now : ℕ) (s s' : S)
+    (r : Result (Unit {0}) ConnectionEnd) (a b c d e : Connection L) → Sends a b → Reads b c →
+    (h : AnswersHeld G answers now c d s s') → Settles now r d e → OnOk r (Moved a h.answered e)
+moved_on G answers now s s' (Err end) a b c d e f g h k = tt
+moved_on G answers now s s' (Ok x) a b c d e f g h k = record {
+  piece = g.piece ++ [];
+  bytes = f.bytes ++ [];
+  does = subst (DoesMore a.exchange (g.piece ++ []) h.answered (f.bytes ++ [])) (sym k.1)
+      (does_on a.exchange b.exchange d.exchange [] (g.piece ++ []) [] h.answered f.bytes [] f.does
+      (does_on b.exchange c.exchange d.exchange g.piece [] [] h.answered [] [] g.does h.does));
+  sends = λ room some. sends (f.some room some);
+  reads = λ bytes up. reads (g.some (f.readable ∙ bytes) (f.up up));
+}
+  where
+    sends : (1 ≤ length f.bytes) ⊎ (b.writable ≡ false) → (1 ≤ length (f.bytes ++ [])) ⊎ (e.writable ≡ false)
+    sends (inl n) = inl (subst (λ (x : List ℕ). 1 ≤ length x) (sym (append-nil f.bytes)) n)
+    sends (inr none) = inr (k.5 ∙ (h.writable ∙ (g.writable ∙ none)))
+
+    reads : (1 ≤ length g.piece) ⊎ (is_some (end_of c.exchange) ≡ true) ⊎ (c.readable ≡ false) →
+        (1 ≤ length (g.piece ++ [])) ⊎ (is_some (end_of e.exchange) ≡ true) ⊎ (e.readable ≡ false)
+    reads (inl n) = inl (subst (λ (x : List ℕ). 1 ≤ length x) (sym (append-nil g.piece)) n)
+    reads (inr (inl ended)) = inr (inl (ap (λ (x : Exchange). is_some (end_of x)) k.1 ∙ h.ended ended))
+    reads (inr (inr none)) = inr (inr (k.4 ∙ (h.readable ∙ none)))
+
+-- of the same connections
+pub moved_at : {L : Type 0} (was c new c' : Connection L) (answered : List Answered) → was ≡ c → new ≡ c' →
+    (was.phase ≡ phases.Serving → Moved was answered new) → c.phase ≡ phases.Serving → Moved c answered c'
+moved_at was c new c' answered is to h =
+    subst (λ x. c.phase ≡ phases.Serving → Moved c answered x) to
+    (subst (λ x. x.phase ≡ phases.Serving → Moved x answered new) is h)
 
 -- the time stays, or is that of the answer
 pub quiet_on : {L : Type 0} (now : ℕ) (was : Connection L) (answered : List Answered) → was.phase ≡ phases.Serving →
@@ -315,18 +378,22 @@ new_end G l (Some end) h = inl h
 -- frames were answered of one whose stream had not ended
 pub answers_held : {L S : Type 0} (G : LinkGhosts L) (answers : S → Frame → List Reply → S → Type 0) (now count : ℕ)
     (s s' : S) (c c' : Connection L) → c.phase ≡ phases.Serving → is_some (end_of c.exchange) ≡ false →
-    c'.link ≡ c.link → c'.number ≡ c.number → c'.phase ≡ c.phase →
+    c'.link ≡ c.link → c'.readable ≡ c.readable → c'.writable ≡ c.writable → c'.number ≡ c.number → c'.phase ≡ c.phase →
     (h : AnswersSome answers quantum count s s' c.exchange c'.exchange) →
     c'.since ≡ quiet_since now c.since c.phase c.phase h.0.answered → AnswersHeld G answers now c c' s s'
-answers_held {L} G answers now count s s' c c' serving running link number phase h since = record {
+answers_held {L} G answers now count s s' c c' serving running link readable writable number phase h since = record {
   answered = h.0.answered;
   by_server = h.0.by_server;
   most = h.0.most;
   steps = steps G c c' [] [] h.0.answered serving (phase ∙ serving)
       (subst (λ (l : L). Moves G [] [] c.link l) (sym link) (still G c.link)) h.0.does
       (λ before fed gone d was. new_end G c'.link (end_of c'.exchange) (h.0.final running fed before gone d));
+  does = h.0.does;
+  ended = λ over. (let both = sym running ∙ over in absurd cc);
   waits = h.0.stops;
   link = link;
+  readable = readable;
+  writable = writable;
   number = number;
   phase = phase;
   since = since;
@@ -341,8 +408,12 @@ answers_none G answers now s c serving over = record {
   by_server = refl;
   most = omega arith;
   steps = λ before l. subst (Lives G c) (sym (append-nil before)) l;
+  does = does_none c.exchange;
+  ended = λ over. over;
   waits = λ few. inl (inr over);
   link = refl;
+  readable = refl;
+  writable = refl;
   number = refl;
   phase = refl;
   since = sym (ap (λ (p : Phase). quiet_since now c.since p p []) serving);

@@ -1,7 +1,7 @@
 -- What a connection has done so far, what a call adds to it, and what is left of one that is over.
 use Rattle.std.specs.Prelude.{◌≡◌, ◌⊎◌, ℕ, ◌+◌, ◌-◌, ◌≤◌, ◌<◌, true, false, Bool, not, ◌||◌, Option, Some, None}
 use Rattle.std.specs.Prelude.{Result, Ok, Err, IfErr, IfSome, IsTrue, OnOk, List, [], ◌∷◌, ◌++◌, length, nat_lt}
-use Rattle.std.specs.Prelude.{if◌then◌else◌}
+use Rattle.std.specs.Prelude.{if◌then◌else◌, is_some}
 use Rattle.std.specs.declared.net.socket_addr.SocketAddr.{SocketAddr}
 use Rattle.bw_model.specs.Wire.{Cut, Frame, are_bytes}
 use Rattle.bw_model.specs.Replies.{Reply}
@@ -13,7 +13,7 @@ use Rattle.bw_engine.specs.declared.serving.ExchangeEnd.TheVariants as ends
 use Rattle.bw_engine.specs.declared.step.StreamEnd.{StreamEnd}
 use Rattle.bw_engine.specs.declared.step.StreamEnd.TheVariants as streams
 use Rattle.bw_engine.specs.Answering.{Answered, AnswersAll}
-use Rattle.bw_engine.specs.Done.{HasDone, MustWait}
+use Rattle.bw_engine.specs.Done.{DoesMore, HasDone, MustWait}
 use Rattle.bw_engine.specs.Ends.{IsFinal, end_so_far, end_meaning}
 use Rattle.bw_engine.specs.Parts.{wants_piece, end_of, waiting_in, pending_of}
 use Rattle.bw_engine.specs.Served.{ended_by}
@@ -50,16 +50,35 @@ HasEnded end e unread =
 abbrev pub IsUpToDate : Exchange → Type 0
 IsUpToDate e = (wants_piece e ≡ true) × (waiting_in e ≡ [])
 
--- Some of the bytes that wait were taken, where there might be room, or there is none now.
-abbrev pub Sends : {L : Type 0} → Connection L → Connection L → Type 0
-Sends c c' = c.writable ≡ true → 1 ≤ length (waiting_in c.exchange) →
-    (length (waiting_in c'.exchange) < length (waiting_in c.exchange)) ⊎ (c'.writable ≡ false)
+-- what sending comes to: some of the bytes that wait were taken, where there might be room, or there
+-- is none now
+pub record Sends {L : Type 0} (c c' : Connection L) : Type 0 where
+  pub bytes : List ℕ
+  pub does : DoesMore c.exchange [] [] bytes c'.exchange
+  pub some : c.writable ≡ true → 1 ≤ length (waiting_in c.exchange) →
+      (1 ≤ length bytes) ⊎ (c'.writable ≡ false)
+  pub up : IsUpToDate c.exchange → IsUpToDate c'.exchange
+  pub readable : c'.readable ≡ c.readable
 
--- A piece was asked for, where one was wanted and there might be bytes: then none is wanted until
--- what came is looked at, or there are no bytes now.
-abbrev pub Reads : {L : Type 0} → Connection L → Connection L → Type 0
-Reads c c' = c.readable ≡ true → IsUpToDate c.exchange →
-    (wants_piece c'.exchange ≡ false) ⊎ (c'.readable ≡ false)
+-- what reading comes to: a piece was fed, where one is wanted and there might be bytes, or no more
+-- will come, or there are none now
+pub record Reads {L : Type 0} (c c' : Connection L) : Type 0 where
+  pub piece : List ℕ
+  pub does : DoesMore c.exchange piece [] [] c'.exchange
+  pub some : c.readable ≡ true → IsUpToDate c.exchange →
+      (1 ≤ length piece) ⊎ (is_some (end_of c'.exchange) ≡ true) ⊎ (c'.readable ≡ false)
+  pub writable : c'.writable ≡ c.writable
+
+-- What a quantum of one that is served moved: as sending and reading say, with these frames answered
+-- behind them.
+pub record Moved {L : Type 0} (c : Connection L) (answered : List Answered) (c' : Connection L) : Type 0 where
+  pub piece : List ℕ
+  pub bytes : List ℕ
+  pub does : DoesMore c.exchange piece answered bytes c'.exchange
+  pub sends : c.writable ≡ true → 1 ≤ length (waiting_in c.exchange) →
+      (1 ≤ length bytes) ⊎ (c'.writable ≡ false)
+  pub reads : c.readable ≡ true → IsUpToDate c.exchange →
+      (1 ≤ length piece) ⊎ (is_some (end_of c'.exchange) ≡ true) ⊎ (c'.readable ≡ false)
 
 -- how a connection's exchange stands where it ended so, and what it was not fed of what the link
 -- gave
@@ -140,6 +159,7 @@ abbrev pub Settles : {L : Type 0} → ℕ → Result (Unit {0}) ConnectionEnd �
     Connection L → Type 0
 Settles now (Ok x) c c' = (c'.number ≡ c.number) × (c'.exchange ≡ c.exchange)
     × (c'.since ≡ quiet_since now c.since c.phase c'.phase []) × IsOpen c'
+    × (c'.readable ≡ c.readable) × (c'.writable ≡ c.writable)
 Settles now (Err end) c c' = (c'.number ≡ c.number)
     × ((x : StreamEnd) × (end_of c.exchange ≡ Some x) × (fault_to_drain x ≡ None)
     × (end ≡ Over (ended_by x)))
@@ -195,8 +215,12 @@ module _ {L : Type 0} (G : LinkGhosts L) where
     pub by_server : AnswersAll answers s answered s'
     pub most : length answered ≤ quantum
     pub steps : Steps c answered c'
+    pub does : DoesMore c.exchange [] answered [] c'.exchange
+    pub ended : is_some (end_of c.exchange) ≡ true → is_some (end_of c'.exchange) ≡ true
     pub waits : length answered < quantum → MustWait c'.exchange
     pub link : c'.link ≡ c.link
+    pub readable : c'.readable ≡ c.readable
+    pub writable : c'.writable ≡ c.writable
     pub number : c'.number ≡ c.number
     pub phase : c'.phase ≡ c.phase
     pub since : c'.since ≡ quiet_since now c.since c.phase c.phase answered
@@ -215,6 +239,7 @@ module _ {L : Type 0} (G : LinkGhosts L) where
         MustWait c'.exchange)
     pub since : OnOk result (c'.since ≡ quiet_since now c.since c.phase c'.phase answered)
     pub unended : OnOk result (IsOpen c')
+    pub moved : c.phase ≡ phases.Serving → OnOk result (Moved c answered c')
     -- where it is over, it ends so
     pub no_silence : IfErr result IsNoSilence
     pub served : c.phase ≡ phases.Serving → IfErr result EndsServed

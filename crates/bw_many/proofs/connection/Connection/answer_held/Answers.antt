@@ -10,7 +10,7 @@ returns-then-answer-eq0 g c =
     let old = c.args.self.now in
     let h = c.answer.ensures in
     answers_held g.L.Link g.T.Turns.answers c.args.now c.answer.result c.args.server.now c.answer.new.server old _ c.requires
-    (search rules) refl refl refl h
+    (search rules) refl refl refl refl refl h
     (quiet_where_none c.args.now old h.0.answered c.requires (h.1 ∙ (search rules)))
 
 pub returns : goal.returns
@@ -18,5 +18,5 @@ returns g c =
     let old = c.args.self.now in
     let h = c.answer.ensures in
     answers_held g.L.Link g.T.Turns.answers c.args.now c.answer.result c.args.server.now c.answer.new.server old _ c.requires
-    (search rules) refl refl refl h
+    (search rules) refl refl refl refl refl h
     (quiet_where_some c.args.now old h.0.answered c.requires (λ none. c.if-answer-eq0.false (sym h.1 ∙ none)))

@@ -1,7 +1,8 @@
-use Rattle.std.proofs.Common.{rules, refl, []}
+use Rattle.std.proofs.Common.{rules, refl, inl, inr, []}
 use Rattle.bw_engine.specs.declared.serving.ExchangeEnd.TheVariants as ends
+use Rattle.bw_engine.proofs.Going.{does_none}
 use Rattle.bw_many.specs.declared.connection.ConnectionEnd.TheVariants.{Over}
-use Rattle.bw_many.proofs.Going.{fed_or_over, no_more, over}
+use Rattle.bw_many.proofs.Going.{fed_or_over, fed_reads, no_more, over}
 use Rattle.bw_many.proofs.connection.Connection.receive_piece.Goals as goal
 
 pub returns-in-Bytes-clause-goes : goal.returns-in-Bytes-clause-goes
@@ -19,3 +20,31 @@ returns-in-Failed-clause-goes g c =
     c.requires.serving refl
     (record { given = r.given; taken = no_more g.L.Link.taken _ _ r.taken; ended = r.ended })
     (c.is_up_to_date.ensures.yes (search rules), refl) (r.fault refl)
+
+pub returns-then-not-self-clause-reads : goal.returns-then-not-self-clause-reads
+returns-then-not-self-clause-reads g c = record {
+  piece = [];
+  does = does_none c.args.self.now.exchange;
+  some = search rules;
+  writable = refl;
+}
+
+pub returns-in-Bytes-clause-reads : goal.returns-in-Bytes-clause-reads
+returns-in-Bytes-clause-reads g c =
+    fed_reads c.feed_piece.result c.args.self.now _ _ refl (search rules) c.feed_piece.ensures.feeds
+
+pub returns-in-Ended-clause-reads : goal.returns-in-Ended-clause-reads
+returns-in-Ended-clause-reads g c = record {
+  piece = [];
+  does = c.finish.ensures.done;
+  some = λ bytes up. inr (inl c.finish.ensures.over);
+  writable = refl;
+}
+
+pub returns-in-Nothing-clause-reads : goal.returns-in-Nothing-clause-reads
+returns-in-Nothing-clause-reads g c = record {
+  piece = [];
+  does = does_none c.args.self.now.exchange;
+  some = λ bytes up. inr (inr refl);
+  writable = refl;
+}

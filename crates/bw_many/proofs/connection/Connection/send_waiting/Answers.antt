@@ -1,8 +1,9 @@
-use Rattle.std.proofs.Common.{rules, refl, inl, []}
+use Rattle.std.proofs.Common.{rules, refl, inl, inr, take, ◌∙◌, []}
 use Rattle.bw_engine.specs.declared.serving.ExchangeEnd.TheVariants as ends
 use Rattle.bw_many.specs.declared.connection.ConnectionEnd.TheVariants.{Over}
 use Rattle.bw_engine.specs.Parts.{waiting_in}
-use Rattle.bw_many.proofs.Going.{fewer, no_more, over}
+use Rattle.bw_engine.proofs.Going.{does_none}
+use Rattle.bw_many.proofs.Going.{no_more, none_left, none_sent, over, some_taken}
 use Rattle.bw_many.proofs.connection.Connection.send_waiting.Goals as goal
 
 pub returns-in-Failed-clause-goes : goal.returns-in-Failed-clause-goes
@@ -12,7 +13,30 @@ returns-in-Failed-clause-goes g c =
     c.requires refl (record { given = no_more g.L.Link.given _ _ r.given; taken = r.taken; ended = r.ended })
     (search rules, refl) (r.fault refl)
 
+pub returns-then-not-self-clause-sends : goal.returns-then-not-self-clause-sends
+returns-then-not-self-clause-sends g c =
+    none_sent c.args.self.now c.then-not-self.self (search rules) (search rules) (search rules)
+
 pub returns-in-Bytes-clause-sends : goal.returns-in-Bytes-clause-sends
-returns-in-Bytes-clause-sends g c = λ room some.
-    inl (fewer (waiting_in c.args.self.now.exchange) (waiting_in c.took.new.self) c.in-Bytes.count c.took.ensures.left
-    c.in-Bytes.ensures.within.0 some)
+returns-in-Bytes-clause-sends g c =
+    let within = c.in-Bytes.ensures.within in
+    record {
+      bytes = take c.in-Bytes.count (waiting_in c.args.self.now.exchange);
+      does = c.took.ensures.done;
+      some = λ room some. inl (some_taken (waiting_in c.args.self.now.exchange) c.in-Bytes.count (search rules) some);
+      up = λ up. (
+        c.took.ensures.hungry ∙ up.0,
+        none_left (waiting_in c.args.self.now.exchange) (waiting_in c.took.new.self) c.in-Bytes.count
+            c.took.ensures.left up.1,
+      );
+      readable = refl;
+    }
+
+pub returns-in-Nothing-clause-sends : goal.returns-in-Nothing-clause-sends
+returns-in-Nothing-clause-sends g c = record {
+  bytes = [];
+  does = does_none c.args.self.now.exchange;
+  some = λ room some. inr refl;
+  up = λ up. up;
+  readable = refl;
+}

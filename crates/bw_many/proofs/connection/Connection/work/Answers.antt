@@ -3,7 +3,7 @@ use Rattle.bw_many.specs.declared.connection.Phase.TheVariants as phases
 use Rattle.std.proofs.lemmas.Result.{err_from_is_err_and}
 use Rattle.bw_many.proofs.Going.{goes_at_last, not_served, number_left, quiet_as, quiet_drained, quiet_on, steps_on}
 use Rattle.bw_many.proofs.Going.{drained_on, open_left, peer_same, peer_then, waits_left}
-use Rattle.bw_many.proofs.Going.{drained_at, drained_no_silence, served_aloud, served_no_silence, settled_served}
+use Rattle.bw_many.proofs.Going.{drained_at, drained_no_silence, moved_on, served_aloud, served_no_silence, settled_served}
 use Rattle.bw_many.proofs.connection.Connection.work.Goals as goal
 
 pub returns-in-Draining : goal.returns-in-Draining
@@ -23,6 +23,7 @@ returns-in-Draining g c =
       since = drained_on c.drain.result (quiet_drained c.args.now old c.drain.new.self c.in-Draining.fault is d.stays.phase d.stays.since);
       unended = drained_on c.drain.result (λ serving none.
           absurd (not_served c.drain.new.self c.in-Draining.fault (d.stays.phase ∙ is) serving));
+      moved = λ serving. absurd (not_served old c.in-Draining.fault is serving);
       no_silence = drained_no_silence g.L.Link c.in-Draining.fault c.drain.new.self.link c.drain.result d.heard;
       served = λ serving. absurd (not_served old c.in-Draining.fault is serving);
       heard = λ fault at.
@@ -44,6 +45,7 @@ returns-in_err-send_waiting g c =
       waits = tt;
       since = tt;
       unended = tt;
+      moved = λ at. tt;
       no_silence = served_aloud c.in_err-send_waiting.field-0.0 c.in_err-send_waiting.ensures.served;
       served = λ at. c.in_err-send_waiting.ensures.served;
       heard = λ fault at. absurd (not_served old fault at serving);
@@ -67,6 +69,7 @@ returns-in_err-receive_piece g c =
       waits = tt;
       since = tt;
       unended = tt;
+      moved = λ at. tt;
       no_silence = served_aloud c.in_err-receive_piece.field-0.0 c.in_err-receive_piece.ensures.served;
       served = λ at. c.in_err-receive_piece.ensures.served;
       heard = λ fault at. absurd (not_served old fault at serving);
@@ -102,6 +105,8 @@ returns g c =
           (then.stays.since ∙ first.stays.since)
           (quiet_on c.args.now fed h.answered (phase ∙ serving) held c.settle.new.self c.settle.result h.phase h.since s.settles);
       unended = open_left c.args.now c.settle.result held c.settle.new.self s.settles;
+      moved = λ at. moved_on g.L.Link g.T.Turns.answers c.args.now c.args.server.now c.answer_held.new.server
+          c.settle.result old sent fed held c.settle.new.self first.sends then.reads h s.settles;
       no_silence = served_no_silence c.settle.result
           (settled_served c.args.now c.settle.result held c.settle.new.self s.settles);
       served = λ at. settled_served c.args.now c.settle.result held c.settle.new.self s.settles;
