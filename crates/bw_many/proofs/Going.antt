@@ -27,7 +27,7 @@ use Rattle.bw_many.specs.declared.connection.Phase.{Phase}
 use Rattle.bw_many.specs.declared.connection.Phase.TheVariants as phases
 use Rattle.bw_many.specs.declared.link.Link.{Ghosts as LinkGhosts}
 use Rattle.bw_many.specs.Feeding.{Feeds, fault_to_drain, unless_cut}
-use Rattle.bw_many.specs.Lives.{EndsDrained, EndsServed, IsNoSilence, IsUpToDate, Moved, Reads, Sends, TellsFault}
+use Rattle.bw_many.specs.Lives.{EndsDrained, EndsServed, IsNoSilence, IsUpToDate, LetsGo, Moved, Reads, Sends, TellsFault}
 use Rattle.bw_many.specs.Lives.{EndsAs, Goes, IsInPhase, IsOpen, IsOver, KeepsPeer, Lives, Settles, Steps}
 use Rattle.bw_many.specs.Lives.{AnswersHeld, Begins, expired_at, expired_by, longest_drain, quantum, quiet_since}
 
@@ -246,6 +246,17 @@ moved_on G answers now s s' (Ok x) a b c d e f g h k = record {
     reads (inl n) = inl (subst (λ (x : List ℕ). 1 ≤ length x) (sym (append-nil g.piece)) n)
     reads (inr (inl ended)) = inr (inl (ap (λ (x : Exchange). is_some (end_of x)) k.1 ∙ h.ended ended))
     reads (inr (inr none)) = inr (inr (k.4 ∙ (h.readable ∙ none)))
+
+-- bytes that came were let go
+pub let_go : {L : Type 0} (G : LinkGhosts L) (c c' : Connection L) (piece : List ℕ) → 1 ≤ length piece →
+    ((xs : List ℕ) → G.given c.link xs → G.given c'.link (xs ++ piece)) → LetsGo G c c'
+let_go G c c' piece some given bytes = inl (piece, some, given)
+
+pub let_go_at : {L : Type 0} (G : LinkGhosts L) (fault : WireFault) (was c new c' : Connection L) → was ≡ c → new ≡ c' →
+    (was.phase ≡ phases.Draining fault → LetsGo G was new) → c.phase ≡ phases.Draining fault → LetsGo G c c'
+let_go_at G fault was c new c' is to h =
+    subst (λ x. c.phase ≡ phases.Draining fault → LetsGo G c x) to
+    (subst (λ x. x.phase ≡ phases.Draining fault → LetsGo G x new) is h)
 
 -- of the same connections
 pub moved_at : {L : Type 0} (was c new c' : Connection L) (answered : List Answered) → was ≡ c → new ≡ c' →

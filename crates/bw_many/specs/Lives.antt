@@ -196,6 +196,13 @@ module _ {L : Type 0} (G : LinkGhosts L) where
   abbrev pub EndsDrained : WireFault → L → ConnectionEnd → Type 0
   EndsDrained fault link end = (end ≡ Over (ends.BadFrame fault)) × (G.ended link ⊎ G.broken link)
 
+  -- of what comes to one that is drained some was let go, where there might be bytes, or there are
+  -- none now
+  abbrev pub LetsGo : Connection L → Connection L → Type 0
+  LetsGo c c' = c.readable ≡ true → ((piece : List ℕ) × (1 ≤ length piece)
+      × ((xs : List ℕ) → G.given c.link xs → G.given c'.link (xs ++ piece)))
+      ⊎ (c'.readable ≡ false)
+
   -- frames more were answered, and it goes on
   abbrev pub Steps : Connection L → List Answered → Connection L → Type 0
   Steps c answered c' = (before : List Answered) → Lives c before → Lives c' (before ++ answered)
@@ -240,6 +247,8 @@ module _ {L : Type 0} (G : LinkGhosts L) where
     pub since : OnOk result (c'.since ≡ quiet_since now c.since c.phase c'.phase answered)
     pub unended : OnOk result (IsOpen c')
     pub moved : c.phase ≡ phases.Serving → OnOk result (Moved c answered c')
+    pub lets_go : (fault : WireFault) → c.phase ≡ phases.Draining fault →
+        OnOk result (LetsGo c c')
     -- where it is over, it ends so
     pub no_silence : IfErr result IsNoSilence
     pub served : c.phase ≡ phases.Serving → IfErr result EndsServed

@@ -53,7 +53,7 @@ pub(crate) struct Connection<L> {
 impl<L: Link> Connection<L> {
     ghost use Rattle.bw_many.specs.Lives.{Begins, Goes, Stays, AnswersHeld, Settles, Works};
     ghost use Rattle.bw_many.specs.Lives.{EndsDrained, IsUpToDate, KeepsPeer, Reads, Sends, can_go_on};
-    ghost use Rattle.bw_many.specs.Lives.{expired_at};
+    ghost use Rattle.bw_many.specs.Lives.{LetsGo, expired_at};
 
     /// A connection over this link, which has given and taken nothing yet.
     ///
@@ -242,6 +242,7 @@ impl<L: Link> Connection<L> {
         ensures peer { KeepsPeer L.Link self.old.link self.new.link }
         ensures stays { Stays self.old self.new }
         ensures heard { IfErr result (EndsDrained L.Link fault self.new.link) }
+        ensures lets_go { OnOk result (LetsGo L.Link self.old self.new) }
     {
         if !self.readable {
             return Ok(());

@@ -1,5 +1,5 @@
-use Rattle.std.proofs.Common.{[]}
-use Rattle.bw_many.proofs.Going.{drained, no_more}
+use Rattle.std.proofs.Common.{rules, []}
+use Rattle.bw_many.proofs.Going.{drained, let_go, no_more, some_taken}
 use Rattle.bw_many.proofs.connection.Connection.drain.Goals as goal
 
 pub returns-in-Ended-clause-goes : goal.returns-in-Ended-clause-goes
@@ -13,3 +13,8 @@ returns-in-Failed-clause-goes g c =
     let r = c.in-Failed.ensures in
     drained g.L.Link c.args.fault c.args.self.now (record c.args.self.now { link = c.receive.new.self }) [] c.requires
     (record { given = r.given; taken = no_more g.L.Link.taken _ _ r.taken; ended = r.ended })
+
+pub returns-in-Bytes-clause-lets_go : goal.returns-in-Bytes-clause-lets_go
+returns-in-Bytes-clause-lets_go g c =
+    let_go g.L.Link c.args.self.now (record c.args.self.now { link = c.receive.new.self }) _
+    (some_taken _ _ (search rules) (search rules)) c.in-Bytes.ensures.given

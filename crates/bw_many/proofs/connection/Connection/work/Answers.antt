@@ -24,6 +24,7 @@ returns-in-Draining g c =
       unended = drained_on c.drain.result (λ serving none.
           absurd (not_served c.drain.new.self c.in-Draining.fault (d.stays.phase ∙ is) serving));
       moved = λ serving. absurd (not_served old c.in-Draining.fault is serving);
+      lets_go = λ fault at. d.lets_go;
       no_silence = drained_no_silence g.L.Link c.in-Draining.fault c.drain.new.self.link c.drain.result d.heard;
       served = λ serving. absurd (not_served old c.in-Draining.fault is serving);
       heard = λ fault at.
@@ -46,6 +47,7 @@ returns-in_err-send_waiting g c =
       since = tt;
       unended = tt;
       moved = λ at. tt;
+      lets_go = λ fault at. tt;
       no_silence = served_aloud c.in_err-send_waiting.field-0.0 c.in_err-send_waiting.ensures.served;
       served = λ at. c.in_err-send_waiting.ensures.served;
       heard = λ fault at. absurd (not_served old fault at serving);
@@ -70,6 +72,7 @@ returns-in_err-receive_piece g c =
       since = tt;
       unended = tt;
       moved = λ at. tt;
+      lets_go = λ fault at. tt;
       no_silence = served_aloud c.in_err-receive_piece.field-0.0 c.in_err-receive_piece.ensures.served;
       served = λ at. c.in_err-receive_piece.ensures.served;
       heard = λ fault at. absurd (not_served old fault at serving);
@@ -107,6 +110,7 @@ returns g c =
       unended = open_left c.args.now c.settle.result held c.settle.new.self s.settles;
       moved = λ at. moved_on g.L.Link g.T.Turns.answers c.args.now c.args.server.now c.answer_held.new.server
           c.settle.result old sent fed held c.settle.new.self first.sends then.reads h s.settles;
+      lets_go = λ fault at. absurd (not_served old fault at serving);
       no_silence = served_no_silence c.settle.result
           (settled_served c.args.now c.settle.result held c.settle.new.self s.settles);
       served = λ at. settled_served c.args.now c.settle.result held c.settle.new.self s.settles;
