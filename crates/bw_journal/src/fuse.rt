@@ -10,7 +10,7 @@ ghost use Rattle.bw_journal.specs.Notes.{BeginsNotes, KeepsHeaders, NotesOver, N
 
 use crate::journal::Journal;
 use crate::memory::{MemoryJournal, count};
-use bw_file::StoreFault;
+use bw_file::{StoreFault, blow};
 use bw_take::Name;
 
 /// A journal behind fuses: the calls of chosen numbers, counted from 0, fail, each once.
@@ -136,16 +136,6 @@ impl Journal for FuseJournal {
         count(&mut self.failures, answer.is_err());
         answer
     }
-}
-
-/// Whether the call of this number is to fail. Its fuse is spent then.
-fn blow(fuses: &mut Vec<u64>, call: u64) -> bool
-    ensures told { result ≡ has_fuse fuses.old.items call }
-    ensures spent { fuses.new.items ≡ filter (λ f. not (f == call)) fuses.old.items }
-{
-    let has = fuses.contains(&call);
-    fuses.retain(|fuse| *fuse != call);
-    has
 }
 
 /// Notes the bytes.
