@@ -558,7 +558,7 @@ static TEXTS: [(&[&str], &str); 10] = [
     ),
     (
         &["/tmp/x", "send", "--help"],
-        "without it one stops the program for good",
+        "How long a silent peer is waited for [default: for good]",
     ),
     (
         &["/tmp/x", "send", "--help"],
