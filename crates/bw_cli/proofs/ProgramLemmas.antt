@@ -13,6 +13,7 @@ use Rattle.bw_stream.specs.declared.source.Source.{Ghosts as Reader}
 use Rattle.bw_file.specs.declared.store.TakeStore.{Ghosts as StoreGhosts}
 use Rattle.bw_journal.specs.declared.journal.Journal.{Ghosts as JournalGhosts}
 use Rattle.bw_many.specs.declared.link.Link.{Ghosts as LinkGhosts}
+use Rattle.bw_serve.specs.declared.lobby.Lobby.{Ghosts as LobbyGhosts}
 use Rattle.bw_transfer.specs.declared.dial.Dial.{Ghosts as DialGhosts}
 use Rattle.bw_transfer.specs.declared.network.Network.{Ghosts as NetworkGhosts}
 use Rattle.bw_transfer.specs.declared.peers.Peers.{Ghosts as PeerGhosts}
@@ -52,25 +53,25 @@ told-help texts.DisplayVersion outcome text out told n p t =
 told-help _ outcome text out told n p t = absurd (n ((λ e. cc), (λ e. cc)))
 
 module _ {X Y P R W L K N D A B I O E : Type 0} (S : StoreGhosts X) (J : JournalGhosts Y)
-    (peers : PeerGhosts P R W) (reader : Reader R) (writer : Writer W) (link : LinkGhosts K)
-    (network : NetworkGhosts N X P D R W A B) (gathering : GatheringGhosts N L K) (dial : DialGhosts D A B)
+    (peers : PeerGhosts P R W) (reader : Reader R) (writer : Writer W) (lobby : LobbyGhosts L K)
+    (link : LinkGhosts K) (network : NetworkGhosts N X P D R W A B) (gathering : GatheringGhosts N L K) (dial : DialGhosts D A B)
     (replies : Reader A) (requests : Writer B) (input : Reader I) (out : Writer O) (told : Writer E) where
   -- what is done for the words that were found is done for those that the system tells
   pub told-words : (words : Option (List Text)) (found : List Text) (file_at later : Text → Option (List ℕ))
       (exit : Exit) (s m s' : ℕ) (n n' : N) (i i' : I) (o o' : O) (e e' : E) →
       ((told : List Text) → words ≡ Some told → found ≡ told) → later ≡ file_at → m ≡ s
-      → IsProgram S J peers reader writer link network gathering dial replies requests input out told
+      → IsProgram S J peers reader writer lobby link network gathering dial replies requests input out told
       (record { words = Some found; file_at = later }) exit m s' n n' i i' o o' e e'
-      → IsProgram S J peers reader writer link network gathering dial replies requests input out told
+      → IsProgram S J peers reader writer lobby link network gathering dial replies requests input out told
       (record { words = words; file_at = file_at }) exit s s' n n' i i' o o' e e'
   told-words words found file_at later exit s m s' n n' i i' o o' e e' same files counts (inl a) = inl (record {
     line = a.line;
     comes = λ told e. subst (λ (w : List Text). IsLineOf w a.line) (same told e) (a.comes found refl);
-    done = subst (λ (f : Text → Option (List ℕ)). IsDoneFor S J peers reader writer link network gathering dial
+    done = subst (λ (f : Text → Option (List ℕ)). IsDoneFor S J peers reader writer lobby link network gathering dial
         replies requests input out told f a.line exit s s' n n' i i' o o' e e') files
-        (subst (λ (k : ℕ). IsDoneFor S J peers reader writer link network gathering dial replies requests
+        (subst (λ (k : ℕ). IsDoneFor S J peers reader writer lobby link network gathering dial replies requests
         input out told later a.line exit k s' n n' i i' o o' e e') counts a.done);
   })
   told-words words found file_at later exit s m s' n n' i i' o o' e e' same files counts (inr w) =
-      inr (subst (λ (k : ℕ). DoesAlone S J peers reader writer link network gathering dial replies requests input out
+      inr (subst (λ (k : ℕ). DoesAlone S J peers reader writer lobby link network gathering dial replies requests input out
       told IsUnread exit k s' n n' i i' o o' e e') counts w)

@@ -27,6 +27,7 @@ use Rattle.bw_commands.specs.declared.exit.Exit.{Exit}
 use Rattle.bw_commands.specs.declared.exit.Exit.TheVariants as exits
 use Rattle.bw_commands.specs.declared.fault.Fault.{Fault}
 use Rattle.bw_many.specs.declared.link.Link.{Ghosts as LinkGhosts}
+use Rattle.bw_serve.specs.declared.lobby.Lobby.{Ghosts as LobbyGhosts}
 use Rattle.bw_transfer.specs.declared.dial.Dial.{Ghosts as DialGhosts}
 use Rattle.bw_transfer.specs.declared.network.Network.{Ghosts as NetworkGhosts}
 use Rattle.bw_transfer.specs.declared.peers.Peers.{Ghosts as PeerGhosts}
@@ -96,8 +97,8 @@ IsUnread true did = IsWant did
 IsUnread false did = (kind : ErrorKind) × IsUnworded kind did
 
 module _ {X Y P R W L K N D A B I O E : Type 0} (S : StoreGhosts X) (J : JournalGhosts Y)
-    (peers : PeerGhosts P R W) (reader : Reader R) (writer : Writer W) (link : LinkGhosts K)
-    (network : NetworkGhosts N X P D R W A B) (gathering : GatheringGhosts N L K)
+    (peers : PeerGhosts P R W) (reader : Reader R) (writer : Writer W) (lobby : LobbyGhosts L K)
+    (link : LinkGhosts K) (network : NetworkGhosts N X P D R W A B) (gathering : GatheringGhosts N L K)
     (dial : DialGhosts D A B) (replies : Reader A) (requests : Writer B) (input : Reader I)
     (out : Writer O) (told : Writer E) where
   -- this is done without the network
@@ -110,7 +111,7 @@ module _ {X Y P R W L K N D A B I O E : Type 0} (S : StoreGhosts X) (J : Journal
   abbrev pub IsDoneFor : (Text → Option (List ℕ)) → CommandLine → Exit → ℕ → ℕ → N → N →
       I → I → O → O → E → E → Type 0
   IsDoneFor file_at (Run (Serve server)) exit s s' n n' i i' o o' e e' =
-      Serves S J peers reader writer link out told network gathering server exit n n' o o' e e'
+      Serves S J peers reader writer lobby link out told network gathering server exit n n' o o' e e'
       × (s' ≡ s) × (i' ≡ i)
   IsDoneFor file_at (Run (Send sender)) exit s s' n n' i i' o o' e e' =
       Sends network dial replies requests input out told sender exit n i i' o o' e e'

@@ -14,6 +14,7 @@ use Rattle.bw_commands.specs.Deeds.{Deed, HasWritten}
 use Rattle.bw_commands.specs.Printing.{failures_if}
 use Rattle.bw_commands.specs.declared.exit.Exit.{Exit}
 use Rattle.bw_many.specs.declared.link.Link.{Ghosts as LinkGhosts}
+use Rattle.bw_serve.specs.declared.lobby.Lobby.{Ghosts as LobbyGhosts}
 use Rattle.bw_transfer.specs.Hosted.{Hosts}
 use Rattle.bw_transfer.specs.Sends.{IsSendRun}
 use Rattle.bw_transfer.specs.declared.dial.Dial.{Ghosts as DialGhosts}
@@ -50,8 +51,8 @@ pub record IsHosting (server : Serve) (most idle : ℕ) (hosting : Hosting) : Ty
   pub logs : hosting.log ≡ server.log
 
 module _ {X Y P R W L K O E N D A B : Type 0} (S : StoreGhosts X) (J : JournalGhosts Y)
-    (peers : PeerGhosts P R W) (reader : Reader R) (writer : Writer W) (link : LinkGhosts K)
-    (out : Writer O) (told : Writer E) (network : NetworkGhosts N X P D R W A B)
+    (peers : PeerGhosts P R W) (reader : Reader R) (writer : Writer W) (lobby : LobbyGhosts L K)
+    (link : LinkGhosts K) (out : Writer O) (told : Writer E) (network : NetworkGhosts N X P D R W A B)
     (gathering : GatheringGhosts N L K) where
   -- it served one recorder after the other
   pub record ServesInTurn (server : Serve) (timeout : Option ℕ) (exit : Exit) (n n' : N) (o o' : O)
@@ -65,7 +66,7 @@ module _ {X Y P R W L K O E N D A B : Type 0} (S : StoreGhosts X) (J : JournalGh
       (e e' : E) : Type 0 where
     pub hosting : Hosting
     pub asked : IsHosting server most idle hosting
-    pub hosts : HostsMany S J link out told network gathering hosting exit n n' o o' e e'
+    pub hosts : HostsMany S J lobby link out told network gathering hosting exit n n' o o' e e'
 
   -- the server was asked for so, and served
   abbrev pub ServesAs : Recorders → Serve → Exit → N → N → O → O → E → E → Type 0

@@ -39,10 +39,10 @@ pub fn start<S: System, N: Network + Gathering, R: Source, W: Sink, E: Sink, V: 
     } in
         (exit : Exit) × (exit_status result ≡ status_of exit)
         × IsProgram N.Store.TakeStore ⟦<NoJournal as Journal>⟧ N.Peers.Peers
-        N.Peers.Reader.Source N.Peers.Writer.Sink N.Lobby.Link.Link N.Network N.Gathering
-        N.Dial.Dial N.Dial.Reader.Source N.Dial.Writer.Sink R.Source W.Sink E.Sink given exit
-        (S.failures system.old) (S.failures system.new) network.old network.new
-        input.old input.new out.old out.new faults.old faults.new }
+        N.Peers.Reader.Source N.Peers.Writer.Sink N.Lobby.Lobby N.Lobby.Link.Link N.Network
+        N.Gathering N.Dial.Dial N.Dial.Reader.Source N.Dial.Writer.Sink R.Source W.Sink E.Sink given
+        exit (S.failures system.old) (S.failures system.new) network.old network.new input.old
+        input.new out.old out.new faults.old faults.new }
 {
     ExitCode::from(obey(alloc, system, network, input, out, faults, watch).status())
 }
@@ -62,10 +62,10 @@ fn obey<S: System, N: Network + Gathering, R: Source, W: Sink, E: Sink, V: Watch
       file_at = S.file_at system.old;
     } in
         IsProgram N.Store.TakeStore ⟦<NoJournal as Journal>⟧ N.Peers.Peers
-        N.Peers.Reader.Source N.Peers.Writer.Sink N.Lobby.Link.Link N.Network N.Gathering
-        N.Dial.Dial N.Dial.Reader.Source N.Dial.Writer.Sink R.Source W.Sink E.Sink given result
-        (S.failures system.old) (S.failures system.new) network.old network.new
-        input.old input.new out.old out.new faults.old faults.new }
+        N.Peers.Reader.Source N.Peers.Writer.Sink N.Lobby.Lobby N.Lobby.Link.Link N.Network
+        N.Gathering N.Dial.Dial N.Dial.Reader.Source N.Dial.Writer.Sink R.Source W.Sink E.Sink given
+        result (S.failures system.old) (S.failures system.new) network.old network.new input.old
+        input.new out.old out.new faults.old faults.new }
 {
     match system.words() {
         Ok(words) => answer(
@@ -98,10 +98,10 @@ fn answer<S: System, N: Network + Gathering, R: Source, W: Sink, E: Sink, V: Wat
       file_at = S.file_at system.old;
     } in
         IsProgram N.Store.TakeStore ⟦<NoJournal as Journal>⟧ N.Peers.Peers
-        N.Peers.Reader.Source N.Peers.Writer.Sink N.Lobby.Link.Link N.Network N.Gathering
-        N.Dial.Dial N.Dial.Reader.Source N.Dial.Writer.Sink R.Source W.Sink E.Sink given result
-        (S.failures system.old) (S.failures system.new) network.old network.new
-        input.old input.new out.old out.new faults.old faults.new }
+        N.Peers.Reader.Source N.Peers.Writer.Sink N.Lobby.Lobby N.Lobby.Link.Link N.Network
+        N.Gathering N.Dial.Dial N.Dial.Reader.Source N.Dial.Writer.Sink R.Source W.Sink E.Sink given
+        result (S.failures system.old) (S.failures system.new) network.old network.new input.old
+        input.new out.old out.new faults.old faults.new }
 {
     match parse(alloc, words) {
         Ok(line) => perform(alloc, &line, system, network, input, out, faults, watch),
@@ -122,10 +122,10 @@ fn perform<S: System, N: Network + Gathering, R: Source, W: Sink, E: Sink, V: Wa
 ) -> Exit
     requires { HasLimit line.now }
     ensures { IsDoneFor N.Store.TakeStore ⟦<NoJournal as Journal>⟧ N.Peers.Peers
-        N.Peers.Reader.Source N.Peers.Writer.Sink N.Lobby.Link.Link N.Network N.Gathering
-        N.Dial.Dial N.Dial.Reader.Source N.Dial.Writer.Sink R.Source W.Sink E.Sink (S.file_at system.old) line.now result
-        (S.failures system.old) (S.failures system.new) network.old network.new
-        input.old input.new out.old out.new faults.old faults.new }
+        N.Peers.Reader.Source N.Peers.Writer.Sink N.Lobby.Lobby N.Lobby.Link.Link N.Network
+        N.Gathering N.Dial.Dial N.Dial.Reader.Source N.Dial.Writer.Sink R.Source W.Sink E.Sink
+        (S.file_at system.old) line.now result (S.failures system.old) (S.failures system.new)
+        network.old network.new input.old input.new out.old out.new faults.old faults.new }
 {
     match line {
         CommandLine::Run(task) => run(alloc, task, system, network, input, out, faults, watch),
@@ -150,10 +150,11 @@ fn run<S: System, N: Network + Gathering, R: Source, W: Sink, E: Sink, V: Watch>
 ) -> Exit
     requires { HasLimit (CommandLine.Run task.now) }
     ensures { IsDoneFor N.Store.TakeStore ⟦<NoJournal as Journal>⟧ N.Peers.Peers
-        N.Peers.Reader.Source N.Peers.Writer.Sink N.Lobby.Link.Link N.Network N.Gathering
-        N.Dial.Dial N.Dial.Reader.Source N.Dial.Writer.Sink R.Source W.Sink E.Sink (S.file_at system.old) (CommandLine.Run task.now) result
-        (S.failures system.old) (S.failures system.new) network.old network.new
-        input.old input.new out.old out.new faults.old faults.new }
+        N.Peers.Reader.Source N.Peers.Writer.Sink N.Lobby.Lobby N.Lobby.Link.Link N.Network
+        N.Gathering N.Dial.Dial N.Dial.Reader.Source N.Dial.Writer.Sink R.Source W.Sink E.Sink
+        (S.file_at system.old) (CommandLine.Run task.now) result (S.failures system.old)
+        (S.failures system.new) network.old network.new input.old input.new out.old out.new
+        faults.old faults.new }
 {
     match task {
         Task::Replay { limit, fuse } => match (Limit::new(*limit), fuse) {

@@ -22,7 +22,7 @@ pub(crate) fn serve_as<N: Network + Gathering, W: Sink, E: Sink>(
 ) -> Exit
     requires { IsLimit server.now.limit }
     ensures { Serves N.Store.TakeStore ⟦<NoJournal as Journal>⟧ N.Peers.Peers
-        N.Peers.Reader.Source N.Peers.Writer.Sink N.Lobby.Link.Link W.Sink E.Sink
+        N.Peers.Reader.Source N.Peers.Writer.Sink N.Lobby.Lobby N.Lobby.Link.Link W.Sink E.Sink
         N.Network N.Gathering server.now result network.old network.new out.old out.new faults.old
         faults.new }
 {

@@ -1,5 +1,5 @@
 //! A lobby over sockets whose waits let recorders go on, so that all is in one thread.
-ghost use Rattle.std.specs.Prelude.{[], IfOk};
+ghost use Rattle.std.specs.Prelude.{◌≡◌, [], IfOk};
 
 use crate::recorder::{Act, Recorder, Scene};
 use bw_many::Link;
@@ -31,6 +31,9 @@ pub(crate) struct Stage<'a> {
     address: SocketAddr,
     time: Time,
     waits: u64,
+    failures: u64,
+    /// What was told last for the time.
+    now: u64,
     recorders: Vec<Recorder>,
     /// How many acts each recorder has done.
     done: Vec<usize>,
@@ -67,6 +70,8 @@ impl<'a> Stage<'a> {
             address,
             time,
             waits: 0,
+            failures: 0,
+            now: 0,
             recorders,
             done,
             long,
@@ -111,8 +116,24 @@ impl<'a> Stage<'a> {
         false
     }
 
+    /// Lets each recorder go on, and waits, but not for longer than a test may take.
+    fn wait_in_time(&mut self, most: u64) -> Result<(), WaitFault>
+        ensures failures { self.new.failures ≡ self.old.failures }
+        ensures waits { self.new.waits ≡ self.old.waits }
+    {
+        if self.lobby.now() > LONGEST_RUN {
+            return Err(WaitFault);
+        }
+        self.step();
+        self.note();
+        self.lobby.wait(most.min(SHORT_WAIT))
+    }
+
     /// A step of each recorder.
-    fn step(&mut self) {
+    fn step(&mut self)
+        ensures failures { self.new.failures ≡ self.old.failures }
+        ensures waits { self.new.waits ≡ self.old.waits }
+    {
         for recorder in self.recorders.iter_mut() {
             let scene = Scene {
                 address: self.address,
@@ -124,7 +145,10 @@ impl<'a> Stage<'a> {
     }
 
     /// Notes how many acts each has done.
-    fn note(&mut self) {
+    fn note(&mut self)
+        ensures failures { self.new.failures ≡ self.old.failures }
+        ensures waits { self.new.waits ≡ self.old.waits }
+    {
         for (count, recorder) in self.done.iter_mut().zip(self.recorders.iter()) {
             *count = recorder.done();
         }
@@ -134,14 +158,19 @@ impl<'a> Stage<'a> {
 impl Lobby for Stage<'_> {
     type Link = Socket;
 
+    ghost failures = { λ s. s.failures };
+
+    ghost waits = { λ s. s.waits };
+
+    ghost time = { λ s. s.now };
+
     fn wait(&mut self, most: u64) -> Result<(), WaitFault> {
-        if self.lobby.now() > LONGEST_RUN {
-            return Err(WaitFault);
+        let waited = self.wait_in_time(most);
+        match waited {
+            Ok(()) => self.waits = self.waits.saturating_add(1),
+            Err(WaitFault) => self.failures = self.failures.saturating_add(1),
         }
-        self.waits = self.waits.saturating_add(1);
-        self.step();
-        self.note();
-        self.lobby.wait(most.min(SHORT_WAIT))
+        waited
     }
 
     fn next_ready(&mut self) -> Option<Ready> {
@@ -149,15 +178,24 @@ impl Lobby for Stage<'_> {
     }
 
     fn accept(&mut self, place: usize) -> Result<Guest<Socket>, AcceptFault> {
-        let guest = self.lobby.accept(place)?;
-        let _refused = self.places.push(place);
-        Ok(guest)
+        match self.lobby.accept(place) {
+            Ok(guest) => {
+                let _refused = self.places.push(place);
+                Ok(guest)
+            }
+            Err(AcceptFault::Closed) => {
+                self.failures = self.failures.saturating_add(1);
+                Err(AcceptFault::Closed)
+            }
+            Err(fault) => Err(fault),
+        }
     }
 
     fn now(&mut self) -> u64 {
-        match self.time {
+        self.now = match self.time {
             Time::Real => self.lobby.now(),
             Time::Waits => self.waits,
-        }
+        };
+        self.now
     }
 }

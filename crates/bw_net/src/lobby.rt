@@ -33,6 +33,8 @@ pub struct TcpLobby<'a> {
     start: Instant,
     /// When the time could last be told, in milliseconds since the start.
     now: u64,
+    failures: u64,
+    waits: u64,
 }
 
 impl<'a> TcpLobby<'a> {
@@ -49,6 +51,8 @@ impl<'a> TcpLobby<'a> {
         ensures address { IfOk result (λ lobby. lobby.address ≡ address) }
         ensures folder { IfOk result (λ lobby. lobby.folder ≡ folder) }
         ensures room { IfOk result (λ lobby. room_of lobby.events ≡ places + 1) }
+        ensures failures { IfOk result (λ lobby. lobby.failures ≡ 0) }
+        ensures waits { IfOk result (λ lobby. lobby.waits ≡ 0) }
     {
         let Some(room) = places.checked_add(1) else {
             return Err(io::Error::from(ErrorKind::OutOfMemory));
@@ -68,6 +72,8 @@ impl<'a> TcpLobby<'a> {
             seen: 0,
             start: Instant::now(rt)?,
             now: 0,
+            failures: 0,
+            waits: 0,
         })
     }
 }
@@ -75,16 +81,25 @@ impl<'a> TcpLobby<'a> {
 impl Lobby for TcpLobby<'_> {
     type Link = Socket;
 
+    ghost failures = { λ l. l.failures };
+
+    ghost waits = { λ l. l.waits };
+
+    ghost time = { λ l. l.now };
+
     fn wait(&mut self, most: u64) -> Result<(), WaitFault> {
         self.seen = 0;
-        match self
-            .poll
-            .poll(&mut self.events, Some(Duration::from_millis(most)))
-        {
-            Ok(()) => Ok(()),
+        let longest = Duration::from_millis(most);
+        match self.poll.poll(&mut self.events, Some(longest)) {
             // A signal ends a wait, not the server.
-            Err(error) if error.kind() == ErrorKind::Interrupted => Ok(()),
-            Err(_) => Err(WaitFault),
+            Err(error) if error.kind() != ErrorKind::Interrupted => {
+                self.failures = self.failures.saturating_add(1);
+                Err(WaitFault)
+            }
+            _ => {
+                self.waits = self.waits.saturating_add(1);
+                Ok(())
+            }
         }
     }
 
@@ -105,6 +120,7 @@ impl Lobby for TcpLobby<'_> {
         }
         // One that comes when the folder is gone isn't heard: its requests wait for another server.
         if !has_folder(self.rt, self.folder.as_str()) {
+            self.failures = self.failures.saturating_add(1);
             return Err(AcceptFault::Closed);
         }
         let Ok((stream, address)) = accepted else {

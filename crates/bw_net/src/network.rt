@@ -51,7 +51,8 @@ impl<'a> TcpNetwork<'a> {
     ) -> io::Result<TcpLobby<'a>>
         ensures { IfOk result (λ lobby. (lobby.address ≡ address)
             × (string_bytes lobby.folder ≡ folder.now)
-            × (room_of lobby.events ≡ places + 1)) }
+            × (room_of lobby.events ≡ places + 1) × (lobby.failures ≡ 0)
+            × (lobby.waits ≡ 0)) }
     {
         let folder = String::from_str(self.rt.alloc(), folder)?;
         TcpLobby::listen(self.rt, address, folder, places)
@@ -127,7 +128,7 @@ impl<'a> Gathering for TcpNetwork<'a> {
 
     ghost opens = { λ n address folder places result n'. IfOk result (λ lobby.
         (lobby.address ≡ address) × (string_bytes lobby.folder ≡ folder)
-        × (room_of lobby.events ≡ places + 1)) };
+        × (room_of lobby.events ≡ places + 1) × (lobby.failures ≡ 0) × (lobby.waits ≡ 0)) };
 
     fn lobby(
         &mut self,

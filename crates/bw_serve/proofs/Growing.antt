@@ -12,10 +12,11 @@ use Rattle.bw_many.specs.declared.link.Link.{Ghosts as LinkGhosts}
 use Rattle.bw_many.specs.declared.many.Closed.{Closed}
 use Rattle.bw_many.specs.declared.many.Many.{Many}
 use Rattle.bw_many.specs.Keeping.{Adds, Keeps, Tagged, all_answered, tagged}
-use Rattle.bw_many.specs.Places.{begun_of, can_go_on_at}
+use Rattle.bw_many.specs.Places.{begun_of, can_go_on_at, count_of}
 use Rattle.bw_many.specs.Working.{StaysAt, StoodAt, StoodUnder}
 use Rattle.bw_transfer.specs.Tallies.{up_to_last}
-use Rattle.bw_serve.specs.Crowds.{Advances, Counts, Grows, HasSeats, InTurn, ServesPlace, Stays, can_go_on_below}
+use Rattle.bw_serve.specs.Crowds.{Advances, Counts, Grows, HasSeats, InTurn, IsNew, ServesInRounds, ServesPlace, ServesRound}
+use Rattle.bw_serve.specs.Crowds.{Stays, can_go_on_below}
 use Rattle.bw_serve.specs.Lines.{TellsEnds}
 use Rattle.bw_serve.specs.declared.crowd.Crowd.{Crowd}
 use Rattle.bw_serve.proofs.Counting.{counts_stood, tells_none, tells_then}
@@ -161,9 +162,9 @@ module _ {L S O E : Type 0} (G : LinkGhosts L) (answers : S → Frame → List R
   answered_by n (x ∷ xs) = ap (λ (ys : List Answered). x ∷ ys) (answered_by n xs)
 
   -- what a quantum at a place adds
-  pub place_advances : (place : ℕ) (a b : Crowd L) (s t : S) (o p : O) (e f : E) →
-      ServesPlace G answers out told log place a b s t o p e f → Advances G answers out told log a b s t o p e f
-  place_advances place a b s t o p e f x = record {
+  pub place_advances : (now idle place : ℕ) (a b : Crowd L) (s t : S) (o p : O) (e f : E) →
+      ServesPlace G answers out told log now idle place a b s t o p e f → Advances G answers out told log a b s t o p e f
+  place_advances now idle place a b s t o p e f x = record {
     more = tagged x.number x.answered;
     closed = x.closed;
     by_server = subst (λ (xs : List Answered). AnswersAll answers s xs t) (sym (answered_by x.number x.answered))
@@ -173,35 +174,59 @@ module _ {L S O E : Type 0} (G : LinkGhosts L) (answers : S → Frame → List R
     tells = x.tells;
   }
 
-  pub turn_more : (n : ℕ) (a b c : Crowd L) (s t u : S) (o p q : O) (e f g : E) →
-      InTurn G answers out told log n a b s t o p e f → ServesPlace G answers out told log n b c t u p q f g →
-      InTurn G answers out told log (n + 1) a c s u o q e g
-  turn_more n a b c s t u o p q e f g x y =
+  pub turn_more : (now idle n : ℕ) (a b c : Crowd L) (s t u : S) (o p q : O) (e f g : E) →
+      InTurn G answers out told log now idle n a b s t o p e f → ServesPlace G answers out told log now idle n b c t u p q f g →
+      InTurn G answers out told log now idle (n + 1) a c s u o q e g
+  turn_more now idle n a b c s t u o p q e f g x y =
       let next : suc n ≡ n + 1 = omega arith in
-      subst (λ (k : ℕ). InTurn G answers out told log k a c s u o q e g) next (b, t, p, f, x, y)
+      subst (λ (k : ℕ). InTurn G answers out told log now idle k a c s u o q e g) next (b, t, p, f, x, y)
 
   -- nobody is let in by quanta
-  pub turn_begun : (n : ℕ) (a b : Crowd L) (s t : S) (o p : O) (e f : E) →
-      InTurn G answers out told log n a b s t o p e f → begun_of b.many ≡ begun_of a.many
-  turn_begun zero a b s t o p e f x = ap (λ (c : Crowd L). begun_of c.many) x.0
-  turn_begun (suc n) a b s t o p e f x = x.5.stays.1 ∙ turn_begun n a x.0 s x.1 o x.2 e x.3 x.4
+  pub turn_begun : (now idle n : ℕ) (a b : Crowd L) (s t : S) (o p : O) (e f : E) →
+      InTurn G answers out told log now idle n a b s t o p e f → begun_of b.many ≡ begun_of a.many
+  turn_begun now idle zero a b s t o p e f x = ap (λ (c : Crowd L). begun_of c.many) x.0
+  turn_begun now idle (suc n) a b s t o p e f x = x.5.stays.1 ∙ turn_begun now idle n a x.0 s x.1 o x.2 e x.3 x.4
 
   -- and there are as many seats for as many places
-  pub turn_seats : (n : ℕ) (a b : Crowd L) (s t : S) (o p : O) (e f : E) →
-      InTurn G answers out told log n a b s t o p e f → HasSeats a → HasSeats b
-  turn_seats zero a b s t o p e f x h = subst HasSeats (sym x.0) h
-  turn_seats (suc n) a b s t o p e f x h =
-      x.5.seats_are ∙ (turn_seats n a x.0 s x.1 o x.2 e x.3 x.4 h ∙ sym x.5.stays.0.count)
+  pub turn_seats : (now idle n : ℕ) (a b : Crowd L) (s t : S) (o p : O) (e f : E) →
+      InTurn G answers out told log now idle n a b s t o p e f → HasSeats a → HasSeats b
+  turn_seats now idle zero a b s t o p e f x h = subst HasSeats (sym x.0) h
+  turn_seats now idle (suc n) a b s t o p e f x h =
+      x.5.seats_are ∙ (turn_seats now idle n a x.0 s x.1 o x.2 e x.3 x.4 h ∙ sym x.5.stays.0.count)
 
   -- and what one at each of the first places adds
-  pub turn_advances : (n : ℕ) (a b : Crowd L) (s t : S) (o p : O) (e f : E) →
-      InTurn G answers out told log n a b s t o p e f → Advances G answers out told log a b s t o p e f
-  turn_advances zero a b s t o p e f x =
+  pub turn_advances : (now idle n : ℕ) (a b : Crowd L) (s t : S) (o p : O) (e f : E) →
+      InTurn G answers out told log now idle n a b s t o p e f → Advances G answers out told log a b s t o p e f
+  turn_advances now idle zero a b s t o p e f x =
       subst (λ (c : Crowd L). Advances G answers out told log a c s t o p e f) (sym x.0)
       (subst (λ (u : S). Advances G answers out told log a a s u o p e f) (sym x.1)
       (subst (λ (q : O). Advances G answers out told log a a s s o q e f) (sym x.2)
       (subst (λ (g : E). Advances G answers out told log a a s s o o e g) (sym x.3)
       (advances_none a a s o e (grows_still G a)))))
-  turn_advances (suc n) a b s t o p e f x =
-      advances_then a x.0 b s x.1 t o x.2 p e x.3 f (turn_advances n a x.0 s x.1 o x.2 e x.3 x.4)
-      (place_advances n x.0 b x.1 t x.2 p x.3 f x.5)
+  turn_advances now idle (suc n) a b s t o p e f x =
+      advances_then a x.0 b s x.1 t o x.2 p e x.3 f (turn_advances now idle n a x.0 s x.1 o x.2 e x.3 x.4)
+      (place_advances now idle n x.0 b x.1 t x.2 p x.3 f x.5)
+
+  -- what a round adds
+  pub round_advances : (now idle : ℕ) (a b : Crowd L) (s t : S) (o p : O) (e f : E) →
+      ServesRound G answers out told log now idle a b s t o p e f → Advances G answers out told log a b s t o p e f
+  round_advances now idle a b s t o p e f x =
+      advances_then a x.between b s s t o o p e e f (advances_none a x.between s o e x.grows)
+      (turn_advances now idle (count_of x.between.many) x.between b s t o p e f x.in_turn)
+
+  -- one round more
+  pub rounds_more : (places now idle : ℕ) (a b : Crowd L) (s t u : S) (o p q : O) (e f g : E) →
+      ServesInRounds G answers out told log places idle a s t o p e f →
+      ServesRound G answers out told log now idle a b t u p q f g →
+      ServesInRounds G answers out told log places idle b s u o q e g
+  rounds_more places now idle a b s t u o p q e f g x y = record {
+    empty = x.empty;
+    new = x.new;
+    count = suc x.count;
+    each = (a, t, p, f, now, x.each, y);
+  }
+
+  -- no round yet
+  pub no_rounds : (places idle : ℕ) (c : Crowd L) (s : S) (o : O) (e : E) → IsNew G places c →
+      ServesInRounds G answers out told log places idle c s s o o e e
+  no_rounds places idle c s o e n = record { empty = c; new = n; count = 0; each = (refl, refl, refl, refl) }

@@ -3,3 +3,4 @@ mod Growing
 mod Leaving
 mod Quanta
 mod Running
+mod Silence

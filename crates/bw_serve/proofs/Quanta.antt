@@ -1,5 +1,5 @@
 -- What a quantum at a place leaves counted and told.
-use Rattle.std.proofs.Common.{◌≡◌, ◌≢◌, ◌⊎◌, inl, inr, ℕ, ◌==◌, Bool, true, false, Option, Some, None, List, [], ◌∷◌, ◌++◌}
+use Rattle.std.proofs.Common.{◌≡◌, ◌≢◌, ◌⊎◌, inl, inr, ℕ, ◌-◌, ◌<◌, ◌==◌, Bool, true, false, Option, Some, None, List, [], ◌∷◌, ◌++◌}
 use Rattle.std.proofs.Common.{fold, vec_len, refl, sym, ap, subst, ◌∙◌}
 use Rattle.std.specs.Prelude.{slice_get}
 use Rattle.std.specs.List.{AllByRecursion}
@@ -10,11 +10,12 @@ use Rattle.bw_model.specs.Replies.{Reply}
 use Rattle.bw_stream.specs.declared.sink.Sink.{Ghosts as Writer}
 use Rattle.bw_engine.specs.Answering.{frames_of}
 use Rattle.bw_many.specs.declared.connection.Connection.{Connection}
+use Rattle.bw_many.specs.declared.connection.ConnectionEnd.TheVariants.{Idle}
 use Rattle.bw_many.specs.declared.link.Link.{Ghosts as LinkGhosts}
 use Rattle.bw_many.specs.declared.many.Closed.{Closed}
 use Rattle.bw_many.specs.declared.many.Many.{Many}
 use Rattle.bw_many.specs.Keeping.{Adds, HasLeft, Keeps, StandsAt, Tagged, own, tagged, those}
-use Rattle.bw_many.specs.Lives.{KeepsPeer}
+use Rattle.bw_many.specs.Lives.{KeepsPeer, expired_at}
 use Rattle.bw_many.specs.Places.{end_told, expired_there}
 use Rattle.bw_many.specs.Working.{EndsIts, IsEmpty, StaysAt, StoodAt, StoodUnder}
 use Rattle.bw_many.proofs.Standing.{not_some, own-kept, some_is}
@@ -170,14 +171,18 @@ module _ {L S E : Type 0} (G : LinkGhosts L) (answers : S → Frame → List Rep
 
 -- The quantum at a place, and what became of its connection behind it.
 pub place_served : {L S O E : Type 0} (G : LinkGhosts L) (answers : S → Frame → List Reply → S → Type 0)
-    (out : Writer O) (told : Writer E) (log : Bool) (place now : ℕ) (a mid b : Crowd L) (m : Many L)
+    (out : Writer O) (told : Writer E) (log : Bool) (place now idle : ℕ) (a mid b : Crowd L) (m : Many L)
     (first : Option (Closed L)) (rest : List (Closed L)) (s t : S) (o p : O) (e f : E) →
-    WorksCounted G answers place now first a mid s t → Adds G mid.many [] rest m → StaysAt place mid.many m →
-    StoodAt place mid.many m → b.many ≡ m → b.seats ≡ mid.seats → Counts out a b (those first ++ rest) o p →
+    (counted : WorksCounted G answers place now first a mid s t) → Adds G mid.many [] rest m → StaysAt place mid.many m →
+    StoodAt place mid.many m → b.many ≡ m → b.seats ≡ mid.seats →
+    ((d : Connection L) → StandsAt a.many place d → AllByRecursion (λ x. x.end ≡ Idle →
+    (counted.works.answered ≡ []) × (idle < now - d.since)) (those first ++ rest)) →
+    ((d : Connection L) → StandsAt m place d → expired_at now idle d ≡ None) →
+    Counts out a b (those first ++ rest) o p →
     TellsThose G told log place a.many mid.seats.items (those first ++ rest) e f →
-    ServesPlace G answers out told log place a b s t o p e f
-place_served {L} G answers out told log place now a mid b m first rest s t o p e f counted adds stays stood is seats
-    prints tells =
+    ServesPlace G answers out told log now idle place a b s t o p e f
+place_served {L} G answers out told log place now idle a mid b m first rest s t o p e f counted adds stays stood is seats
+    silent in_time prints tells =
     let w = counted.works in
     let stays' : StaysAt place mid.many b.many = subst (λ x. StaysAt place mid.many x) (sym is) stays in
     let stood' : StoodAt place mid.many b.many = subst (λ x. StoodAt place mid.many x) (sym is) stood in
@@ -201,6 +206,9 @@ place_served {L} G answers out told log place now a mid b m first rest s t o p e
       );
       seats_are = ap (λ v. vec_len v) seats ∙ counted.seats_are;
       waits = λ d at. w.waits d (stood' d at);
+      silent = silent;
+      in_time = subst (λ (x : Many L). (d : Connection L) → StandsAt x place d → expired_at now idle d ≡ None) (sym is)
+          in_time;
       prints = prints;
       tells = λ over trace k own. place_counts G answers told log place now first a mid b s t counted stays' stood' seats
           over trace k own (those first ++ rest) e f tells;

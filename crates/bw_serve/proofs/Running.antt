@@ -1,8 +1,9 @@
 -- A run, so far.
-use Rattle.std.proofs.Common.{◌≡◌, ℕ, ◌≤◌, Bool, List, [], ◌++◌, length, refl, sym, ap, subst, ◌∙◌, arith}
+use Rattle.std.proofs.Common.{◌≡◌, ℕ, ◌+◌, ◌-◌, ◌^◌, ◌<◌, ◌≤◌, Bool, true, false, nat_lt, if◌then◌else◌, ltb-false, List, [], ◌++◌, length, refl, sym, ap, subst, ◌∙◌, arith}
 use Rattle.std.proofs.lemmas.List.{length-append, map-append}
 use Rattle.bw_model.specs.Wire.{Frame}
 use Rattle.bw_model.specs.Replies.{Reply}
+use Rattle.bw_stream.specs.Moves.{one_more}
 use Rattle.bw_stream.specs.declared.sink.Sink.{Ghosts as Writer}
 use Rattle.bw_commands.specs.declared.exit.Exit.{Exit}
 use Rattle.bw_engine.specs.Answering.{Answered, AnswersAll}
@@ -13,13 +14,22 @@ use Rattle.bw_many.specs.Keeping.{Keeps, Tagged, all_answered}
 use Rattle.bw_many.specs.Places.{begun_of}
 use Rattle.bw_many.specs.Served.{EachIsServed}
 use Rattle.bw_transfer.specs.Tallies.{up_to_last}
-use Rattle.bw_serve.specs.Crowds.{Advances, CountsOwn, IsNew}
+use Rattle.bw_serve.specs.Crowds.{Advances, CountsOwn, Grows, IsNew, IsShut, ServesInRounds, ServesRound}
 use Rattle.bw_serve.specs.Lines.{LogsEnds, TellsEnds}
 use Rattle.bw_serve.specs.Serving.{EndsAt, HasServed}
 use Rattle.bw_serve.specs.declared.crowd.Crowd.{Crowd}
+use Rattle.bw_serve.specs.declared.lobby.Lobby.{Ghosts as LobbyGhosts}
 use Rattle.bw_serve.specs.declared.serving.Bounds.{Bounds}
 use Rattle.bw_serve.proofs.Counting.{logs_still, logs_then, logs_unasked}
-use Rattle.bw_serve.proofs.Growing.{ends_then}
+use Rattle.bw_serve.proofs.Growing.{advances_none, ends_then, round_advances}
+
+-- one wait more counts one round more, as far as is counted
+pub waited_more : (round waits : ℕ) → round < 2 ^ 64 - 1 → round ≤ waits → round + 1 ≤ one_more waits
+waited_more round waits below le = go (nat_lt waits (2 ^ 64 - 1)) refl
+  where
+    go : (b : Bool) → nat_lt waits (2 ^ 64 - 1) ≡ b → round + 1 ≤ (if b then waits + 1 else waits)
+    go true e = omega (arith, le)
+    go false e = (let all = ltb-false waits (2 ^ 64 - 1) e in omega (arith, below, all))
 
 module _ {L S O E : Type 0} (G : LinkGhosts L) (answers : S → Frame → List Reply → S → Type 0) (out : Writer O)
     (told : Writer E) (log : Bool) where
@@ -65,19 +75,49 @@ module _ {L S O E : Type 0} (G : LinkGhosts L) (answers : S → Frame → List R
         ended = prints.1 ∙ ap up_to_last (sym (length-append x.over y.closed));
       }
 
+  -- .. behind a round
+  pub round_so_far : (now idle : ℕ) (c d : Crowd L) (s t u : S) (o p q : O) (e f g : E) → SoFar c s t o p e f →
+      ServesRound G answers out told log now idle c d t u p q f g → SoFar d s u o q e g
+  round_so_far now idle c d s t u o p q e f g x y =
+      more_so_far c d s t u o p q e f g x (round_advances G answers out told log now idle c d t u p q f g y)
+
+  -- .. and where no more are let in
+  pub shut_so_far : (c d : Crowd L) (s t u : S) (o p q : O) (e f g : E) → SoFar c s t o p e f →
+      IsShut G c d t u p q f g → SoFar d s u o q e g
+  shut_so_far c d s t u o p q e f g x y =
+      more_so_far c d s t u o p q e f g x (subst (λ (v : S). Advances G answers out told log c d t v p q f g)
+      (sym y.server) (subst (λ (r : O). Advances G answers out told log c d t t p r f g) (sym y.printed)
+      (subst (λ (h : E). Advances G answers out told log c d t t p p f h) (sym y.logged)
+      (advances_none G answers out told log c d t p f y.grows))))
+
+  -- .. nor was anything else done
+  pub shut_rounds : (places idle : ℕ) (c d : Crowd L) (s t u : S) (o p q : O) (e f g : E) →
+      ServesInRounds G answers out told log places idle c s t o p e f → IsShut G c d t u p q f g →
+      ServesInRounds G answers out told log places idle c s u o q e g
+  shut_rounds places idle c d s t u o p q e f g x y =
+      subst (λ (v : S). ServesInRounds G answers out told log places idle c s v o q e g) (sym y.server)
+      (subst (λ (r : O). ServesInRounds G answers out told log places idle c s t o r e g) (sym y.printed)
+      (subst (λ (h : E). ServesInRounds G answers out told log places idle c s t o p e h) (sym y.logged) x))
+
   -- as many have ended as were asked for
   pub all_ended : (exchanges : ℕ) (c : Crowd L) (s s' : S) (o o' : O) (e e' : E) (x : SoFar c s s' o o' e e') →
       exchanges ≤ c.ended → exchanges ≤ length x.over
   all_ended exchanges c s s' o o' e e' x all = let is = x.ended in omega (arith, is, all)
 
   -- it ends so
-  pub has_served : EachIsServed G → (bounds : Bounds) (exit : Exit) (c : Crowd L) (s s' : S) (o o' : O) (e e' : E) →
+  pub has_served : {B : Type 0} (lobby : LobbyGhosts B L) → EachIsServed G → (bounds : Bounds) (exit : Exit)
+      (behind c : Crowd L) (s s' : S) (b b' : B) (o o' : O) (e e' : E) →
+      ServesInRounds G answers out told log bounds.places bounds.idle behind s s' o o' e e' → Grows G behind c →
       (x : SoFar c s s' o o' e e') → begun_of c.many ≤ bounds.exchanges →
-      EndsAt exit bounds.exchanges (length x.over) → HasServed G answers out told log bounds exit s s' o o' e e'
-  has_served law bounds exit c s s' o o' e e' x most ends = record {
+      EndsAt lobby exit bounds.exchanges (length x.over) b b' →
+      HasServed lobby G answers out told log bounds exit s s' b b' o o' e e'
+  has_served lobby law bounds exit behind c s s' b b' o o' e e' rounds last x most ends = record {
     trace = x.trace;
     by_server = x.by_server;
-    many = c.many;
+    behind = behind;
+    in_rounds = rounds;
+    crowd = c;
+    last = last;
     over = x.over;
     each = law c.many x.over x.trace x.keeps;
     most = most;

@@ -25,25 +25,27 @@ use Rattle.bw_transfer.specs.declared.network.Network.{Ghosts as NetworkGhosts}
 use Rattle.bw_serve.specs.Serving.{ServesCrowd}
 use Rattle.bw_serve.specs.declared.gathering.Gathering.{Ghosts as GatheringGhosts}
 use Rattle.bw_serve.specs.declared.hosting.Hosting.{Hosting}
+use Rattle.bw_serve.specs.declared.lobby.Lobby.{Ghosts as LobbyGhosts}
 use Rattle.bw_serve.specs.declared.serving.Bounds.{Bounds}
 
-module _ {L T O E : Type 0} (link : LinkGhosts L) (answers : T → Frame → List Reply → T → Type 0)
-    (out : Writer O) (told : Writer E) (log : Bool) where
+module _ {B L T O E : Type 0} (lobby : LobbyGhosts B L) (link : LinkGhosts L)
+    (answers : T → Frame → List Reply → T → Type 0) (out : Writer O) (told : Writer E)
+    (log : Bool) where
   -- what a server has answered in a run, over all its connections
-  abbrev pub answered_in_crowd : (bounds : Bounds) (exit : Exit) (t t' : T) (o o' : O)
-      (e e' : E) → ServesCrowd link answers out told log bounds exit t t' o o' e e' →
+  abbrev pub answered_in_crowd : (bounds : Bounds) (exit : Exit) (t t' : T) (b b' : B) (o o' : O)
+      (e e' : E) → ServesCrowd lobby link answers out told log bounds exit t t' b b' o o' e e' →
       List Answered
-  answered_in_crowd bounds Done t t' o o' e e' run = all_answered run.trace
-  answered_in_crowd bounds Refused t t' o o' e e' run = all_answered run.trace
-  answered_in_crowd bounds Usage t t' o o' e e' run = all_answered run.trace
-  answered_in_crowd bounds Device t t' o o' e e' run = all_answered run.trace
-  answered_in_crowd bounds Memory t t' o o' e e' run = []
+  answered_in_crowd bounds Done t t' b b' o o' e e' run = all_answered run.trace
+  answered_in_crowd bounds Refused t t' b b' o o' e e' run = all_answered run.trace
+  answered_in_crowd bounds Usage t t' b b' o o' e e' run = all_answered run.trace
+  answered_in_crowd bounds Device t t' b b' o o' e e' run = all_answered run.trace
+  answered_in_crowd bounds Memory t t' b b' o o' e e' run = []
 
-module _ {X Y L O E : Type 0} (S : StoreGhosts X) (J : JournalGhosts Y) (link : LinkGhosts L)
-    (out : Writer O) (told : Writer E) where
+module _ {X Y B L O E : Type 0} (S : StoreGhosts X) (J : JournalGhosts Y) (lobby : LobbyGhosts B L)
+    (link : LinkGhosts L) (out : Writer O) (told : Writer E) where
   -- a new server over this store served its exchanges, behind its first line
-  pub record HostsManyRun (hosting : Hosting) (exit : Exit) (store : X) (o o' : O) (e e' : E)
-      : Type 0 where
+  pub record HostsManyRun (hosting : Hosting) (exit : Exit) (store : X) (b b' : B) (o o' : O)
+      (e e' : E) : Type 0 where
     pub server : Server X Y S J
     pub store_is : server.stores.store ≡ store
     pub limit_is : server.limit ≡ hosting.limit
@@ -53,32 +55,35 @@ module _ {X Y L O E : Type 0} (S : StoreGhosts X) (J : JournalGhosts Y) (link : 
     pub listens : HasPrinted out (listening_line hosting.address) o between
     pub ended : Exit
     pub logged : E
-    pub run : ServesCrowd link (ServerTurn S J) out told hosting.log hosting.bounds ended server
-        behind between o' e logged
+    pub run : ServesCrowd lobby link (ServerTurn S J) out told hosting.log hosting.bounds ended
+        server behind b b' between o' e logged
     -- an honest store has the files of what was answered, each name's from its own messages alone
     pub leaves : IsTrue (S.honest store) → KeepsNamesApart S J hosting.limit store
         behind.stores.store
-        (answered_in_crowd link (ServerTurn S J) out told hosting.log hosting.bounds ended server
-        behind between o' e logged run)
+        (answered_in_crowd lobby link (ServerTurn S J) out told hosting.log hosting.bounds ended
+        server behind b b' between o' e logged run)
     pub tells : TellsEnd told ended exit logged e'
 
   -- memory was refused before the first line
-  pub record WantsBefore (exit : Exit) (o o' : O) (e e' : E) : Type 0 where
+  pub record WantsBefore (exit : Exit) (b b' : B) (o o' : O) (e e' : E) : Type 0 where
+    pub lobby_is : b' ≡ b
     pub printed : o' ≡ o
     pub tells : GivesUp told faults.Memory exit e e'
 
   -- the first line can't be written, and nothing is served
-  pub record CantTell (hosting : Hosting) (exit : Exit) (o o' : O) (e e' : E) : Type 0 where
+  pub record CantTell (hosting : Hosting) (exit : Exit) (b b' : B) (o o' : O) (e e' : E)
+      : Type 0 where
+    pub lobby_is : b' ≡ b
     pub printed : HasStopped out (listening_line hosting.address) o o'
     pub tells : GivesUp told faults.Unwritable exit e e'
 
   -- what comes of a server over this store
-  abbrev pub HostsManyOver : Hosting → Exit → X → O → O → E → E → Type 0
-  HostsManyOver hosting exit store o o' e e' =
-      HostsManyRun hosting exit store o o' e e'
-      ⊎ (WantsBefore exit o o' e e' ⊎ CantTell hosting exit o o' e e')
+  abbrev pub HostsManyOver : Hosting → Exit → X → B → B → O → O → E → E → Type 0
+  HostsManyOver hosting exit store b b' o o' e e' =
+      HostsManyRun hosting exit store b b' o o' e e'
+      ⊎ (WantsBefore exit b b' o o' e e' ⊎ CantTell hosting exit b b' o o' e e')
 
-  module _ {N B P R W D A C : Type 0} (network : NetworkGhosts N X P D R W A C)
+  module _ {N P R W D A C : Type 0} (network : NetworkGhosts N X P D R W A C)
       (gathering : GatheringGhosts N B L) where
     -- the folder can't be used: nothing else is asked for, and nothing is printed
     pub record CantStore (hosting : Hosting) (exit : Exit) (n n' : N) (o o' : O) (e e' : E)
@@ -110,11 +115,12 @@ module _ {X Y L O E : Type 0} (S : StoreGhosts X) (J : JournalGhosts Y) (link : 
       pub between : N
       pub stored : network.stores n hosting.folder.now (Ok store) between
       pub kept : network.failures between ≡ network.failures n
-      pub lobby : B
+      pub begun : B
       pub opened : gathering.opens between hosting.address hosting.folder.now
-          hosting.bounds.places (Ok lobby) n'
+          hosting.bounds.places (Ok begun) n'
       pub counted : gathering.failures n' ≡ gathering.failures between
-      pub hosts : HostsManyOver hosting exit store o o' e e'
+      pub left : B
+      pub hosts : HostsManyOver hosting exit store begun left o o' e e'
 
     -- what the command does
     abbrev pub HostsMany : Hosting → Exit → N → N → O → O → E → E → Type 0

@@ -1,8 +1,9 @@
 //! A crowd: many connections, those that come and those that end.
 ghost use Rattle.std.specs.Prelude.{◌≡◌, ◌+◌, ◌≤◌, ◌<◌, [], ◌∷◌, length, vec_len, IfOk};
 ghost use Rattle.bw_wire.specs.Held.{longest_piece};
+ghost use Rattle.bw_stream.specs.Moves.{failures_after};
 
-use crate::line::tell_end;
+use crate::line::print_end;
 use crate::lobby::{AcceptFault, Guest, Lobby};
 use crate::seat::{Seat, empty_seats, put_at, swap_at, tell_at};
 use bw_engine::Turns;
@@ -20,7 +21,7 @@ pub(crate) struct Shut;
 pub(crate) struct Round {
     /// The time, in milliseconds.
     pub(crate) now: u64,
-    /// For how many milliseconds a connection may answer no whole frame.
+    /// Behind how many milliseconds without an answered frame a connection is ended.
     pub(crate) idle: u64,
     /// Whether each that is over is a line on `faults` too.
     pub(crate) log: bool,
@@ -79,6 +80,8 @@ impl<L: Link + Drop> Crowd<L> {
     /// Notes which links can go on.
     pub(crate) fn notice<B: Lobby>(&mut self, lobby: &mut B)
         ensures stays { Stays L.Link self.old self.new }
+        ensures failures { B.failures lobby.new ≡ B.failures lobby.old }
+        ensures waits { B.waits lobby.new ≡ B.waits lobby.old }
     {
         for _place in 0..=self.many.places() {
             let Some(ready) = lobby.next_ready() else {
@@ -103,6 +106,9 @@ impl<L: Link + Drop> Crowd<L> {
         requires seats { HasSeats self.old }
         ensures grows { Grows L.Link self.old self.new }
         ensures most { begun_of self.new.many ≤ exchanges }
+        ensures count { B.failures lobby.new ≡ failures_after result (B.failures lobby.old) }
+        ensures waits { B.waits lobby.new ≡ B.waits lobby.old }
+        ensures time { B.time lobby.new ≡ B.time lobby.old }
     {
         for _peer in 0..self.many.places() {
             if self.many.begun() >= exchanges {
@@ -150,9 +156,9 @@ impl<L: Link + Drop> Crowd<L> {
     )
         requires buffer { length buffer.old ≤ longest_piece }
         requires seats { HasSeats self.old }
-        ensures in_turn { InTurn L.Link T.answers O.Sink E.Sink round.log (count_of self.old.many)
-            self.old self.new server.old.server server.new.server out.old out.new faults.old
-            faults.new }
+        ensures in_turn { InTurn L.Link T.answers O.Sink E.Sink round.log round.now round.idle
+            (count_of self.old.many) self.old self.new server.old.server server.new.server out.old
+            out.new faults.old faults.new }
     {
         for place in 0..self.many.places() {
             self.serve_place(alloc, place, server, buffer, round, out, faults);
@@ -173,8 +179,9 @@ impl<L: Link + Drop> Crowd<L> {
         requires place { place < count_of self.old.many }
         requires seats { HasSeats self.old }
         requires buffer { length buffer.old ≤ longest_piece }
-        ensures { ServesPlace L.Link T.answers O.Sink E.Sink round.log place self.old self.new
-            server.old.server server.new.server out.old out.new faults.old faults.new }
+        ensures { ServesPlace L.Link T.answers O.Sink E.Sink round.log round.now round.idle place
+            self.old self.new server.old.server server.new.server out.old out.new faults.old
+            faults.new }
     {
         if let Some(closed) = self.work(place, server, buffer, round.now) {
             self.end(alloc, place, closed, round.log, out, faults);
@@ -224,7 +231,7 @@ impl<L: Link + Drop> Crowd<L> {
         ensures logs { LogsAt E.Sink log place closed.end self.old.seats.items faults.old
             faults.new }
     {
-        tell_end(self.ended, closed.end, out);
+        print_end(self.ended, closed.end, out);
         self.ended = self.ended.saturating_add(1);
         tell_at(alloc, &self.seats, place, closed.end, log, faults);
     }

@@ -39,6 +39,10 @@ pub struct Hosting<'a> {
 /// and a line for each exchange are, as `serve_crowd` says; where the first can't be, nothing is
 /// served. Where a log is asked for, each connection is a line on `faults`, as it says too. Why the
 /// system doesn't let a folder or an address be used, the contract doesn't say.
+///
+/// `Done` behind the last exchange; `Device` where folder or address can't be used, the first line
+/// can't be written or no more are let in; `Memory` where memory was refused before the first
+/// connection, or to a fault's line.
 pub fn serve_many<N: Network + Gathering, O: Sink, E: Sink>(
     alloc: Global,
     network: &mut N,
@@ -46,8 +50,8 @@ pub fn serve_many<N: Network + Gathering, O: Sink, E: Sink>(
     out: &mut O,
     faults: &mut E,
 ) -> Exit
-    ensures { HostsMany N.Store.TakeStore ⟦<NoJournal as Journal>⟧ N.Lobby.Link.Link O.Sink E.Sink
-        N.Network N.Gathering hosting.now result network.old network.new out.old out.new faults.old
+    ensures { HostsMany N.Store.TakeStore ⟦<NoJournal as Journal>⟧ N.Lobby.Lobby N.Lobby.Link.Link
+        O.Sink E.Sink N.Network N.Gathering hosting.now result network.old network.new out.old out.new faults.old
         faults.new }
 {
     let store = match network.store(hosting.folder) {
@@ -69,8 +73,8 @@ fn serve_over<S: TakeStore, B: Lobby, O: Sink, E: Sink>(
     out: &mut O,
     faults: &mut E,
 ) -> Exit
-    ensures { HostsManyOver S.TakeStore ⟦<NoJournal as Journal>⟧ B.Link.Link O.Sink E.Sink hosting.now
-        result store out.old out.new faults.old faults.new }
+    ensures { HostsManyOver S.TakeStore ⟦<NoJournal as Journal>⟧ B.Lobby B.Link.Link O.Sink E.Sink
+        hosting.now result store lobby.old lobby.new out.old out.new faults.old faults.new }
 {
     let Ok(server) = Server::new(alloc, store, hosting.limit) else {
         return give_up(faults, &Fault::Memory);

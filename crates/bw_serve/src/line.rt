@@ -12,7 +12,7 @@ use itoa::Buffer;
 
 /// Prints the line of the connection that ended as the one with this number. That it can't be
 /// written changes nothing.
-pub(crate) fn tell_end<O: Sink>(index: u64, end: ConnectionEnd, out: &mut O)
+pub(crate) fn print_end<O: Sink>(index: u64, end: ConnectionEnd, out: &mut O)
     ensures { (print : Print) × IsOf (connection_line index end) print
         × IsPrint O.Sink print out.old out.new }
 {

@@ -1,5 +1,7 @@
 //! Where many peers come, and what tells which of their links can go on.
-ghost use Rattle.std.specs.Prelude.{IfOk, []};
+ghost use Rattle.std.specs.Prelude.{◌≡◌, ℕ, IfOk, OnOk, []};
+ghost use Rattle.bw_stream.specs.Moves.{failures_after, one_more};
+ghost use Rattle.bw_serve.specs.Lobbies.{closes_after};
 
 use bw_many::Link;
 use std::net::SocketAddr;
@@ -36,7 +38,7 @@ pub enum AcceptFault {
     /// Nobody waits.
     #[error("nobody waits")]
     Nobody,
-    /// A peer went away before it was let in; others may come.
+    /// A peer went away, or couldn't be let in, for want of files say; others may come.
     #[error("a connection can't be accepted")]
     Gone,
     /// No more peers are let in: what the server keeps can't be reached any longer.
@@ -49,14 +51,28 @@ pub trait Lobby {
     /// A link to a peer.
     type Link: Link + Drop;
 
+    /// How often it could go no further: nothing could be waited for, or no more peers were let in.
+    /// The count stays at 2^64 - 1.
+    ghost failures: { Self → ℕ };
+
+    /// How often it was waited; the count stays at 2^64 - 1.
+    ghost waits: { Self → ℕ };
+
+    /// The time that was told last, in milliseconds.
+    ghost time: { Self → ℕ };
+
     /// Waits until a peer comes or a link can go on, no longer than so many milliseconds.
     ///
     /// # Errors
     /// `WaitFault` where that isn't possible any longer.
-    fn wait(&mut self, most: u64) -> Result<(), WaitFault>;
+    fn wait(&mut self, most: u64) -> Result<(), WaitFault>
+        ensures count { failures self.new ≡ failures_after result (failures self.old) }
+        ensures waits { OnOk result (waits self.new ≡ one_more (waits self.old)) };
 
     /// The next of the links that could go on when it was last waited, if there is one.
-    fn next_ready(&mut self) -> Option<Ready>;
+    fn next_ready(&mut self) -> Option<Ready>
+        ensures failures { failures self.new ≡ failures self.old }
+        ensures waits { waits self.new ≡ waits self.old };
 
     /// Lets in the next peer, under a place by which its link is named from now on.
     ///
@@ -65,8 +81,14 @@ pub trait Lobby {
     fn accept(&mut self, place: usize) -> Result<Guest<Self::Link>, AcceptFault>
         ensures given { IfOk result (λ guest. Self.Link.given guest.link []) }
         ensures taken { IfOk result (λ guest. Self.Link.taken guest.link []) }
-        ensures peer { IfOk result (λ guest. Self.Link.calls_from guest.link guest.address) };
+        ensures peer { IfOk result (λ guest. Self.Link.calls_from guest.link guest.address) }
+        ensures count { failures self.new ≡ closes_after result (failures self.old) }
+        ensures waits { waits self.new ≡ waits self.old }
+        ensures time { time self.new ≡ time self.old };
 
     /// The time, in milliseconds since some start. Where it can't be told, the last one.
-    fn now(&mut self) -> u64;
+    fn now(&mut self) -> u64
+        ensures time { result ≡ time self.new }
+        ensures failures { failures self.new ≡ failures self.old }
+        ensures waits { waits self.new ≡ waits self.old };
 }

@@ -1,8 +1,9 @@
 //! A run of many exchanges at once.
-ghost use Rattle.std.specs.Prelude.{◌≡◌, ◌≤◌, vec_len};
+ghost use Rattle.std.specs.Prelude.{◌≡◌, ◌≤◌, OnOk, OnErr, vec_len};
+ghost use Rattle.bw_stream.specs.Moves.{failures_after, one_more};
 ghost use Rattle.bw_wire.specs.Held.{longest_piece};
 ghost use Rattle.bw_many.specs.Places.{begun_of};
-ghost use Rattle.bw_serve.specs.Crowds.{Advances, HasSeats};
+ghost use Rattle.bw_serve.specs.Crowds.{HasSeats, IsShut, ServesRound};
 ghost use Rattle.bw_serve.specs.Serving.{ServesCrowd};
 
 use crate::crowd::{Crowd, Round, Shut};
@@ -22,11 +23,11 @@ const LONGEST_WAIT: u64 = 250;
 /// How many are served.
 #[derive(Clone, Copy, Debug, PartialEq, Eq)]
 pub struct Bounds {
-    /// How many at once.
+    /// How many at once; with none, nobody is ever let in.
     pub places: usize,
     /// How many in all.
     pub exchanges: u64,
-    /// For how many milliseconds a connection may answer no whole frame.
+    /// A connection of which no frame was answered for longer than so many milliseconds is ended.
     pub idle: u64,
 }
 
@@ -35,7 +36,7 @@ pub struct Bounds {
 ///
 /// Where there is no free place nobody is let in; a connection that sends no whole frame for too
 /// long is ended. `Done` behind the last one; `Memory` where memory was refused before the first;
-/// `Device` where no more peers are let in, or nothing can be waited for.
+/// `Device` where no more peers are let in, or nothing can be waited for, or behind 2^64 - 1 rounds.
 ///
 /// With `log` each that is over is a line on `faults` too: `peer ADDRESS names NAME.. end END
 /// messages N bytes N`, with the first eight names of its messages. Where memory is refused for the
@@ -49,8 +50,9 @@ pub fn serve_crowd<B: Lobby, T: Turns, O: Sink, E: Sink>(
     out: &mut O,
     faults: &mut E,
 ) -> Exit
-    ensures { ServesCrowd B.Link.Link T.answers O.Sink E.Sink log bounds.now result
-        server.old.server server.new.server out.old out.new faults.old faults.new }
+    ensures { ServesCrowd B.Lobby B.Link.Link T.answers O.Sink E.Sink log bounds.now result
+        server.old.server server.new.server lobby.old lobby.new out.old out.new faults.old
+        faults.new }
 {
     let Ok(mut crowd) = Crowd::new(alloc, bounds.places) else {
         return Exit::Memory;
@@ -63,7 +65,7 @@ pub fn serve_crowd<B: Lobby, T: Turns, O: Sink, E: Sink>(
         if crowd.ended() >= bounds.exchanges {
             return Exit::Done;
         }
-        let served = serve_round(
+        let Ok(()) = serve_round(
             alloc,
             &mut crowd,
             server,
@@ -73,10 +75,9 @@ pub fn serve_crowd<B: Lobby, T: Turns, O: Sink, E: Sink>(
             &mut buffer,
             out,
             faults,
-        );
-        if served.is_err() {
+        ) else {
             return Exit::Device;
-        }
+        };
     }
     Exit::Device
 }
@@ -99,9 +100,14 @@ fn serve_round<B: Lobby, T: Turns, O: Sink, E: Sink>(
     requires buffer { vec_len buffer.old ≤ longest_piece }
     requires begun { begun_of crowd.old.many ≤ bounds.now.exchanges }
     requires seats { HasSeats crowd.old }
-    ensures advances { Advances B.Link.Link T.answers O.Sink E.Sink log crowd.old crowd.new
-        server.old.server server.new.server out.old out.new faults.old faults.new }
+    ensures round { OnOk result (ServesRound B.Link.Link T.answers O.Sink E.Sink log
+        (B.time lobby.new) bounds.now.idle crowd.old crowd.new server.old.server server.new.server
+        out.old out.new faults.old faults.new) }
+    ensures shut { OnErr result (IsShut B.Link.Link crowd.old crowd.new server.old.server
+        server.new.server out.old out.new faults.old faults.new) }
     ensures begun { begun_of crowd.new.many ≤ bounds.now.exchanges }
+    ensures count { B.failures lobby.new ≡ failures_after result (B.failures lobby.old) }
+    ensures waits { OnOk result (B.waits lobby.new ≡ one_more (B.waits lobby.old)) }
     ensures seats { HasSeats crowd.new }
     ensures buffer { vec_len buffer.new ≡ vec_len buffer.old }
 {

@@ -4,7 +4,7 @@ use Rattle.bw_cli.proofs.ProgramLemmas.{told-words}
 use Rattle.bw_cli.proofs.program.obey.Goals as goal
 
 pub returns-in-Ok : goal.returns-in-Ok
-returns-in-Ok g c = told-words _ _ _ _ _ _ _ _ _ _ _ _ _ _ _ _ _ _ _ _ _ _ _ _ _ _ _ _ _ _
+returns-in-Ok g c = told-words _ _ _ _ _ _ _ _ _ _ _ _ _ _ _ _ _ _ _ _ _ _ _ _ _ _ _ _ _ _ _
     (λ told e. ap (map string_bytes) c.as_slice.ensures.value ∙ c.in-Ok.ensures.ok told e)
     c.in-Ok.ensures.files c.in-Ok.ensures.count c.answer.ensures
 

@@ -19,8 +19,8 @@ returns g c =
       ended = c.serve_crowd-exit.result;
       logged = _;
       run = run;
-      leaves = crowd_leaves g.S.TakeStore _ g.B.Link.Link g.O.Sink g.E.Sink c.args.hosting.now.log c.law_names.ensures
+      leaves = crowd_leaves g.S.TakeStore _ g.B.Lobby g.B.Link.Link g.O.Sink g.E.Sink c.args.hosting.now.log c.law_names.ensures
           c.args.hosting.now.limit c.args.store c.in-Ok.server _ c.args.hosting.now.bounds c.serve_crowd-exit.result _ _
-          _ _ c.in-Ok.ensures.store c.in-Ok.ensures.limit c.in-Ok.ensures.book run;
+          _ _ _ _ c.in-Ok.ensures.store c.in-Ok.ensures.limit c.in-Ok.ensures.book run;
       tells = c.tell_end.ensures;
     })

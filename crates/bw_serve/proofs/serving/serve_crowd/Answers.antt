@@ -1,13 +1,15 @@
-use Rattle.std.proofs.Common.{rules, arith, refl, sym, ◌∙◌}
+use Rattle.std.proofs.Common.{ℕ, ◌+◌, ◌≤◌, rules, arith, refl, sym, subst, inl, inr, ◌∙◌, ap}
+use Rattle.bw_stream.specs.Moves.{one_more}
 use Rattle.bw_commands.specs.declared.exit.Exit.TheVariants as exits
-use Rattle.bw_serve.proofs.Running.{all_ended, has_served, more_so_far, none_so_far}
+use Rattle.bw_serve.proofs.Growing.{grows_still, no_rounds, rounds_more}
+use Rattle.bw_serve.proofs.Running.{all_ended, has_served, none_so_far, round_so_far, shut_rounds, shut_so_far, waited_more}
 use Rattle.bw_serve.proofs.serving.serve_crowd.Goals as goal
 
 pub returns-in_default : goal.returns-in_default
-returns-in_default g c = (refl, refl, refl)
+returns-in_default g c = (refl, refl, refl, refl)
 
 pub returns-in_default-from_elem : goal.returns-in_default-from_elem
-returns-in_default-from_elem g c = (refl, refl, refl)
+returns-in_default-from_elem g c = (refl, refl, refl, refl)
 
 pub loop-round-init : goal.loop-round-init
 loop-round-init g c =
@@ -16,57 +18,79 @@ loop-round-init g c =
     record {
       served = none_so_far g.B.Link.Link g.T.Turns.answers g.O.Sink g.E.Sink c.args.log c.args.bounds.now.places
           c.in-Ok.crowd c.args.server.now.server c.args.out.now c.args.faults.now n;
+      rounds = no_rounds g.B.Link.Link g.T.Turns.answers g.O.Sink g.E.Sink c.args.log c.args.bounds.now.places
+          c.args.bounds.now.idle c.in-Ok.crowd c.args.server.now.server c.args.out.now c.args.faults.now n;
       begun = omega (arith, begun);
       seats = n.seats_are ∙ sym n.places_are;
       buffer = search rules;
+      failures = refl;
+      waits = omega arith;
     }
 
 pub loop-round-preserved : goal.loop-round-preserved
 loop-round-preserved g c =
     let l = c.loop-round in
-    let r = c.serve_round-served in
+    let r = c.serve_round in
+    let ok = c.in-Ok-serve_round.ensures in
     record {
-      served = more_so_far g.B.Link.Link g.T.Turns.answers g.O.Sink g.E.Sink c.args.log l.crowd r.new.crowd
-          c.args.server.now.server l.server.server r.new.server.server c.args.out.now l.out r.new.out c.args.faults.now
-          l.faults r.new.faults l.invariant.served r.ensures.advances;
+      served = round_so_far g.B.Link.Link g.T.Turns.answers g.O.Sink g.E.Sink c.args.log (g.B.Lobby.time r.new.lobby)
+          c.args.bounds.now.idle l.crowd r.new.crowd c.args.server.now.server l.server.server r.new.server.server
+          c.args.out.now l.out r.new.out c.args.faults.now l.faults r.new.faults l.invariant.served ok.round;
+      rounds = rounds_more g.B.Link.Link g.T.Turns.answers g.O.Sink g.E.Sink c.args.log c.args.bounds.now.places
+          (g.B.Lobby.time r.new.lobby) c.args.bounds.now.idle l.crowd r.new.crowd c.args.server.now.server
+          l.server.server r.new.server.server c.args.out.now l.out r.new.out c.args.faults.now l.faults r.new.faults
+          l.invariant.rounds ok.round;
       begun = r.ensures.begun;
       seats = r.ensures.seats;
       buffer = (let same = r.ensures.buffer in let was = l.invariant.buffer in omega (arith, same, was));
+      failures = ok.count ∙ l.invariant.failures;
+      waits = subst (λ (n : ℕ). l._round + 1 ≤ n) (sym ok.waits)
+          (waited_more l._round (g.B.Lobby.waits l.lobby) (search rules) l.invariant.waits);
     }
 
-pub serve_round-served-requires-clause-buffer : goal.serve_round-served-requires-clause-buffer
-serve_round-served-requires-clause-buffer g c = c.loop-round.invariant.buffer
+pub serve_round-requires-clause-buffer : goal.serve_round-requires-clause-buffer
+serve_round-requires-clause-buffer g c = c.loop-round.invariant.buffer
 
-pub serve_round-served-requires-clause-begun : goal.serve_round-served-requires-clause-begun
-serve_round-served-requires-clause-begun g c = c.loop-round.invariant.begun
+pub serve_round-requires-clause-begun : goal.serve_round-requires-clause-begun
+serve_round-requires-clause-begun g c = c.loop-round.invariant.begun
 
-pub serve_round-served-requires-clause-seats : goal.serve_round-served-requires-clause-seats
-serve_round-served-requires-clause-seats g c = c.loop-round.invariant.seats
+pub serve_round-requires-clause-seats : goal.serve_round-requires-clause-seats
+serve_round-requires-clause-seats g c = c.loop-round.invariant.seats
 
 pub returns-then-ended-bounds : goal.returns-then-ended-bounds
 returns-then-ended-bounds g c =
     let l = c.loop-round in
-    has_served g.B.Link.Link g.T.Turns.answers g.O.Sink g.E.Sink c.args.log c.law_many.ensures c.args.bounds.now
-    exits.Done l.crowd c.args.server.now.server l.server.server c.args.out.now l.out c.args.faults.now l.faults
-    l.invariant.served l.invariant.begun
-    (all_ended g.B.Link.Link g.T.Turns.answers g.O.Sink g.E.Sink c.args.log c.args.bounds.now.exchanges l.crowd
-    c.args.server.now.server l.server.server c.args.out.now l.out c.args.faults.now l.faults l.invariant.served
-    (search rules))
+    has_served g.B.Link.Link g.T.Turns.answers g.O.Sink g.E.Sink c.args.log g.B.Lobby c.law_many.ensures
+    c.args.bounds.now exits.Done l.crowd l.crowd c.args.server.now.server l.server.server c.args.lobby.now l.lobby
+    c.args.out.now l.out c.args.faults.now l.faults l.invariant.rounds (grows_still g.B.Link.Link l.crowd)
+    l.invariant.served l.invariant.begun (
+      all_ended g.B.Link.Link g.T.Turns.answers g.O.Sink g.E.Sink c.args.log c.args.bounds.now.exchanges l.crowd
+          c.args.server.now.server l.server.server c.args.out.now l.out c.args.faults.now l.faults l.invariant.served
+          (search rules),
+      l.invariant.failures,
+    )
 
-pub returns-then-is_err : goal.returns-then-is_err
-returns-then-is_err g c =
+pub returns-in_default-serve_round : goal.returns-in_default-serve_round
+returns-in_default-serve_round g c =
     let l = c.loop-round in
-    let r = c.serve_round-served in
-    has_served g.B.Link.Link g.T.Turns.answers g.O.Sink g.E.Sink c.args.log c.law_many.ensures c.args.bounds.now
-    exits.Device r.new.crowd c.args.server.now.server r.new.server.server c.args.out.now r.new.out c.args.faults.now
-    r.new.faults
-    (more_so_far g.B.Link.Link g.T.Turns.answers g.O.Sink g.E.Sink c.args.log l.crowd r.new.crowd
+    let r = c.serve_round in
+    let shut = c.in_default-serve_round.ensures in
+    has_served g.B.Link.Link g.T.Turns.answers g.O.Sink g.E.Sink c.args.log g.B.Lobby c.law_many.ensures
+    c.args.bounds.now exits.Device l.crowd r.new.crowd c.args.server.now.server r.new.server.server c.args.lobby.now
+    r.new.lobby c.args.out.now r.new.out c.args.faults.now r.new.faults
+    (shut_rounds g.B.Link.Link g.T.Turns.answers g.O.Sink g.E.Sink c.args.log c.args.bounds.now.places
+    c.args.bounds.now.idle l.crowd r.new.crowd c.args.server.now.server l.server.server r.new.server.server
+    c.args.out.now l.out r.new.out c.args.faults.now l.faults r.new.faults l.invariant.rounds shut.shut)
+    shut.shut.grows
+    (shut_so_far g.B.Link.Link g.T.Turns.answers g.O.Sink g.E.Sink c.args.log l.crowd r.new.crowd
     c.args.server.now.server l.server.server r.new.server.server c.args.out.now l.out r.new.out c.args.faults.now
-    l.faults r.new.faults l.invariant.served r.ensures.advances) r.ensures.begun tt
+    l.faults r.new.faults l.invariant.served shut.shut)
+    r.ensures.begun (inl (shut.count ∙ ap one_more l.invariant.failures))
 
 pub returns : goal.returns
 returns g c =
     let l = c.loop-round in
-    has_served g.B.Link.Link g.T.Turns.answers g.O.Sink g.E.Sink c.args.log c.law_many.ensures c.args.bounds.now
-    exits.Device l.crowd c.args.server.now.server l.server.server c.args.out.now l.out c.args.faults.now l.faults
-    l.invariant.served l.invariant.begun tt
+    has_served g.B.Link.Link g.T.Turns.answers g.O.Sink g.E.Sink c.args.log g.B.Lobby c.law_many.ensures
+    c.args.bounds.now exits.Device l.crowd l.crowd c.args.server.now.server l.server.server c.args.lobby.now l.lobby
+    c.args.out.now l.out c.args.faults.now l.faults l.invariant.rounds (grows_still g.B.Link.Link l.crowd)
+    l.invariant.served l.invariant.begun (inr (search rules))

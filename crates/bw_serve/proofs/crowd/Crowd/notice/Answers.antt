@@ -1,4 +1,4 @@
-use Rattle.std.proofs.Common.{refl}
+use Rattle.std.proofs.Common.{refl, ◌∙◌}
 use Rattle.bw_serve.proofs.Growing.{stays_then, stays_woken}
 use Rattle.bw_serve.proofs.crowd.Crowd.notice.Goals as goal
 
@@ -6,18 +6,26 @@ pub loop-place-preserved : goal.loop-place-preserved
 loop-place-preserved g c =
     let l = c.loop-place.self in
     let w = c.wake.ensures in
-    stays_then g.L.Link c.args.self.now l (record { many = c.wake.new.self; seats = l.seats; ended = l.ended })
-    c.loop-place.invariant
-    (stays_woken g.L.Link c.in-Some.ready.place l (record { many = c.wake.new.self; seats = l.seats; ended = l.ended })
-    w.adds w.stood w.others refl refl)
+    let n = c.next_ready.ensures in
+    record {
+      stays = stays_then g.L.Link c.args.self.now l
+          (record { many = c.wake.new.self; seats = l.seats; ended = l.ended }) c.loop-place.invariant.stays
+          (stays_woken g.L.Link c.in-Some.ready.place l
+          (record { many = c.wake.new.self; seats = l.seats; ended = l.ended }) w.adds w.stood w.others refl refl);
+      failures = n.failures ∙ c.loop-place.invariant.failures;
+      waits = n.waits ∙ c.loop-place.invariant.waits;
+    }
 
 pub returns-in-Some : goal.returns-in-Some
 returns-in-Some g c =
     let l = c.loop-place.self in
     let w = c.wake.ensures in
+    let n = c.next_ready.ensures in
     record {
       stays = stays_then g.L.Link c.args.self.now l
-          (record { many = c.wake.new.self; seats = l.seats; ended = l.ended }) c.loop-place.invariant
+          (record { many = c.wake.new.self; seats = l.seats; ended = l.ended }) c.loop-place.invariant.stays
           (stays_woken g.L.Link c.in-Some.ready.place l
           (record { many = c.wake.new.self; seats = l.seats; ended = l.ended }) w.adds w.stood w.others refl refl);
+      failures = n.failures ∙ c.loop-place.invariant.failures;
+      waits = n.waits ∙ c.loop-place.invariant.waits;
     }

@@ -7,6 +7,6 @@ abbrev pub invariant-loop-place : goal.invariant-loop-place
 invariant-loop-place g l = record {
   places_are : count_of l.self.many ≡ count_of l.fn.self.many;
   seats : HasSeats l.self;
-  in_turn : InTurn g.L.Link g.T.Turns.answers g.O.Sink g.E.Sink l.fn.round.log l.place l.fn.self l.self
+  in_turn : InTurn g.L.Link g.T.Turns.answers g.O.Sink g.E.Sink l.fn.round.log l.fn.round.now l.fn.round.idle l.place l.fn.self l.self
       l.fn.server.server l.server.server l.fn.out l.out l.fn.faults l.faults;
 }

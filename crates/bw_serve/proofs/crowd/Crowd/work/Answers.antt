@@ -29,6 +29,12 @@ returns g c =
         waits = w.waits;
         unended = w.unended;
         since = w.since;
+        moved = w.moved;
+        lets_go = w.lets_go;
+        left = w.left;
+        no_silence = w.no_silence;
+        served = w.served;
+        heard = w.heard;
       };
       seat = before.seat;
       was = before.was;

@@ -1,0 +1,72 @@
+-- Who is ended for its silence, and who isn't.
+use Rattle.std.proofs.Common.{◌≡◌, ℕ, ◌-◌, ◌<◌, Bool, true, false, Option, Some, None, List, [], ◌∷◌}
+use Rattle.std.proofs.Common.{refl, sym, ap, subst, ◌∙◌, arith, nat_lt, if◌then◌else◌}
+use Rattle.std.proofs.lemmas.Bool.{ltb-true}
+use Rattle.bw_engine.specs.Answering.{Answered}
+use Rattle.bw_engine.specs.declared.serving.ExchangeEnd.{ExchangeEnd}
+use Rattle.bw_engine.specs.declared.serving.ExchangeEnd.TheVariants as ends
+use Rattle.bw_many.specs.declared.connection.Connection.{Connection}
+use Rattle.bw_many.specs.declared.connection.ConnectionEnd.{ConnectionEnd}
+use Rattle.bw_many.specs.declared.connection.ConnectionEnd.TheVariants.{Idle, Over}
+use Rattle.bw_many.specs.declared.connection.Phase.{Phase}
+use Rattle.bw_many.specs.declared.connection.Phase.TheVariants as phases
+use Rattle.bw_many.specs.declared.many.Closed.{Closed}
+use Rattle.bw_many.specs.declared.many.Many.{Many}
+use Rattle.bw_many.specs.Keeping.{StandsAt}
+use Rattle.bw_many.specs.Lives.{IsNoSilence, expired_at, expired_by, longest_drain, quiet_since}
+use Rattle.bw_many.specs.Places.{end_told, expired_there}
+use Rattle.bw_many.proofs.Standing.{not_some}
+use Rattle.bw_serve.proofs.Quanta.{expired_stands}
+
+-- what is looked at is the connection that stands there
+expired_is : {L : Type 0} (now idle place : ℕ) (m : Many L) (d : Connection L) → StandsAt m place d →
+    expired_there now idle m place ≡ expired_at now idle d
+expired_is now idle place m d at = rw at refl
+
+-- one that stands behind it isn't quiet for too long
+pub not_expired : {L : Type 0} (now idle place : ℕ) (m : Many L) → end_told {L = L} None ≡ expired_there now idle m place →
+    (d : Connection L) → StandsAt m place d → expired_at now idle d ≡ None
+not_expired now idle place m is d at = sym (is ∙ expired_is now idle place m d at)
+
+not_over : (end : ExchangeEnd) → Some Idle ≡ Some (Over end) → ⊥
+not_over end e = cc
+
+-- only one that is served ends for its silence, and only behind so long
+idle_by : (p : Phase) (idle quiet : ℕ) → Some Idle ≡ expired_by p idle quiet → (p ≡ phases.Serving) × (idle < quiet)
+idle_by phases.Serving idle quiet is = go (nat_lt idle quiet) refl
+  where
+    go : (b : Bool) → nat_lt idle quiet ≡ b → (phases.Serving ≡ phases.Serving) × (idle < quiet)
+    go true e = (refl, ltb-true idle quiet e)
+    go false e = absurd (not_some Idle (sym (is ∙ ap (λ (b : Bool). if b then Some Idle else None) e)))
+idle_by (phases.Draining fault) idle quiet is = go (nat_lt longest_drain quiet) refl
+  where
+    end : Bool → Option ConnectionEnd
+    end b = if b then Some (Over (ends.BadFrame fault)) else None
+
+    go : (b : Bool) → nat_lt longest_drain quiet ≡ b → (phases.Draining fault ≡ phases.Serving) × (idle < quiet)
+    go true e = absurd (not_over (ends.BadFrame fault) (is ∙ ap end e))
+    go false e = absurd (not_some Idle (sym (is ∙ ap end e)))
+
+-- it answered nothing, for so long
+quiet_for : (now since idle : ℕ) (p : Phase) (answered : List Answered) →
+    idle < now - quiet_since now since p phases.Serving answered → (answered ≡ []) × (idle < now - since)
+quiet_for now since idle p [] long = (refl, long)
+quiet_for now since idle p (x ∷ xs) long = absurd (omega (arith, long))
+
+pub silent_long : {L : Type 0} (now idle place : ℕ) (a mid : Many L) (y : Closed L) (answered : List Answered) →
+    ((d c : Connection L) → StandsAt a place d → StandsAt mid place c →
+    c.since ≡ quiet_since now d.since d.phase c.phase answered) →
+    end_told (Some y) ≡ expired_there now idle mid place → y.end ≡ Idle →
+    (d : Connection L) → StandsAt a place d → (answered ≡ []) × (idle < now - d.since)
+silent_long {L} now idle place a mid y answered since is idles d at =
+    let x = expired_stands now idle place mid y is in
+    let by = idle_by x.0.phase idle (now - x.0.since)
+    (ap (λ (e : ConnectionEnd). Some e) (sym idles) ∙ (is ∙ expired_is now idle place mid x.0 x.1)) in
+    let long : idle < now - quiet_since now d.since d.phase phases.Serving answered =
+    subst (λ (p : Phase). idle < now - quiet_since now d.since d.phase p answered) by.0
+    (subst (λ (n : ℕ). idle < now - n) (since d x.0 at x.1) by.1) in
+    quiet_for now d.since idle d.phase answered long
+
+-- no quantum ends one for its silence
+pub spoken_not_idle : (end : ConnectionEnd) → end ≡ Idle → IsNoSilence end → ⊥
+spoken_not_idle end idles spoken = subst IsNoSilence idles spoken
