@@ -1,6 +1,6 @@
 //! How connections end, and the run.
 use crate::compare::same;
-use crate::hall::{Comes, Plan, Visit};
+use crate::hall::{Comes, Plan, Tells, Visit};
 use crate::play::{ALL, OTHER, OTHERS_FIRST, QUICK, VERDICTS, is_over, is_told, serve};
 use crate::scripted::{Give, Script, Take};
 use bw_commands::Exit;
@@ -54,6 +54,7 @@ fn each_end_has_its_line_in_order(rt: HostRuntime) -> Result<(), Fail> {
         visits: FOUR_ENDS,
         tick: 10,
         rounds: 100,
+        tells: Tells::Both,
     };
     let came = serve(rt.alloc(), &FOUR, plan)?;
     is_over(&rt, &came, Exit::Done, FOUR_LINES);
@@ -98,12 +99,15 @@ fn ends_so(
         visits,
         tick: 10,
         rounds: 6,
+        tells: Tells::Both,
     };
     let came = serve(alloc, &bounds, plan)?;
     is_over(rt, &came, exit, b"exchange 0 EndOfInput\n");
     is_told(rt, &came, 0, VERDICTS);
     same(rt, "how many came", &came.hall.let_in(), &1);
     same(rt, "the time", &came.hall.time(), &time);
+    let failed = u64::from(exit == Exit::Device);
+    same(rt, "its failures", &came.hall.failures(), &failed);
     Ok(())
 }
 

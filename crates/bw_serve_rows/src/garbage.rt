@@ -1,6 +1,6 @@
 //! What follows a bad frame.
 use crate::compare::same;
-use crate::hall::{Comes, Plan, Visit};
+use crate::hall::{Comes, Plan, Tells, Visit};
 use crate::play::{ALL, Came, is_over, is_told, serve};
 use crate::scripted::{Give, Script};
 use bw_commands::Exit;
@@ -70,6 +70,7 @@ fn is_bad(
         visits,
         tick: 100,
         rounds: 1_000,
+        tells: Tells::Both,
     };
     let came = serve(alloc, &ONE, plan)?;
     is_over(rt, &came, Exit::Done, b"exchange 0 BadFrame\n");

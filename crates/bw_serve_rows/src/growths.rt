@@ -1,8 +1,9 @@
 //! Memory that is refused to a crowd.
-use crate::hall::{Plan, Visit};
-use crate::play::{QUICK, QUICK_OTHER, try_serve};
-use bw_commands::Exit;
+use crate::hall::{Plan, Tells, Visit};
+use crate::play::{Came, OTHERS, QUICK, QUICK_OTHER, VERDICTS, try_serve, two_frames};
 use bw_serve::Bounds;
+use bw_take::Name;
+use std::alloc::Global;
 use std::process::Abort;
 use std::test::Fail;
 
@@ -16,22 +17,31 @@ const TWO: Bounds = Bounds {
 
 /// Run once more with each growth refused, by `tools/refuse_calls --tests`.
 #[test]
-fn a_run_ends_where_a_growth_is_refused(rt: HostRuntime) -> Result<(), Fail> {
+fn what_was_told_stands_where_a_growth_is_refused(rt: HostRuntime) -> Result<(), Fail> {
     let plan = Plan {
         visits: BOTH,
         tick: 10,
         rounds: 100,
+        tells: Tells::Both,
     };
     if let Some(came) = try_serve(rt.alloc(), &TWO, true, plan) {
-        assert!(&rt; is_end(came.exit), "no end of a run");
+        assert!(&rt;
+            stands(rt.alloc(), &came, b"a1", VERDICTS),
+            "another file a1"
+        );
+        assert!(&rt; stands(rt.alloc(), &came, b"b2", OTHERS), "another file b2");
     }
     Ok(())
 }
 
-/// Whether a run may end so: the last of these where one was not let in for want of memory.
-fn is_end(exit: Exit) -> bool {
-    match exit {
-        Exit::Done | Exit::Memory | Exit::Device => true,
-        _ => false,
+/// Whether the file of two frames stands under a name, if someone was told that all of it is stored.
+fn stands(alloc: Global, came: &Came, name: &[u8], verdicts: &[u8]) -> bool {
+    if !came.hall.has_taken(0, verdicts) && !came.hall.has_taken(1, verdicts) {
+        return true;
     }
+    // where its growth is the refused one the run met none
+    let (Some(name), Ok(file)) = (Name::new(name), two_frames(alloc)) else {
+        return true;
+    };
+    came.server.server().store().content(&name) == Some(file.as_slice())
 }

@@ -1,5 +1,6 @@
 //! A lobby to which peers come by a plan, with a clock that each wait puts on.
-ghost use Rattle.std.specs.Prelude.{[], IfOk};
+ghost use Rattle.std.specs.Prelude.{◌≡◌, [], IfOk};
+ghost use Rattle.bw_serve.specs.Lobbies.{closes_after};
 
 use crate::scripted::{Record, Script, Scripted, new_record};
 use bw_many::Link;
@@ -24,6 +25,15 @@ pub(crate) struct Visit {
     pub(crate) comes: Comes,
 }
 
+/// What is told of each link behind each wait.
+#[derive(Clone, Copy, PartialEq, Eq)]
+pub(crate) enum Tells {
+    Both,
+    Bytes,
+    Room,
+    Nothing,
+}
+
 /// How a lobby behaves.
 #[derive(Clone, Copy)]
 pub(crate) struct Plan {
@@ -32,6 +42,7 @@ pub(crate) struct Plan {
     pub(crate) tick: u64,
     /// How many rounds there are before a wait fails.
     pub(crate) rounds: u64,
+    pub(crate) tells: Tells,
 }
 
 /// A lobby in memory, which keeps a record of each link.
@@ -47,6 +58,8 @@ pub(crate) struct Hall {
     told: usize,
     /// From where the next one calls: each from the port behind that of the one before.
     port: u16,
+    failures: u64,
+    waits: u64,
     records: Vec<Rc<RefCell<Record>>>,
 }
 
@@ -63,6 +76,8 @@ impl Hall {
             met: 0,
             told: 0,
             port: 4100,
+            failures: 0,
+            waits: 0,
             records: Vec::new(alloc),
         }
     }
@@ -70,6 +85,11 @@ impl Hall {
     /// The time, in milliseconds.
     pub(crate) fn time(&self) -> u64 {
         self.now
+    }
+
+    /// How often it could go no further.
+    pub(crate) fn failures(&self) -> u64 {
+        self.failures
     }
 
     /// How many were let in.
@@ -105,6 +125,9 @@ impl Hall {
     fn admit(&mut self, script: Script, place: usize) -> Result<Guest<Scripted>, AcceptFault>
         ensures given { IfOk result (λ guest. ⟦<Scripted as Link>⟧.given guest.link []) }
         ensures taken { IfOk result (λ guest. ⟦<Scripted as Link>⟧.taken guest.link []) }
+        ensures count { self.new.failures ≡ closes_after result self.old.failures }
+        ensures waits { self.new.waits ≡ self.old.waits }
+        ensures time { self.new.now ≡ self.old.now }
     {
         let Ok(link) = self.meet(script, place) else {
             return Err(AcceptFault::Gone);
@@ -118,6 +141,9 @@ impl Hall {
     fn meet(&mut self, script: Script, place: usize) -> Result<Scripted, AllocError>
         ensures given { IfOk result (λ link. ⟦<Scripted as Link>⟧.given link []) }
         ensures taken { IfOk result (λ link. ⟦<Scripted as Link>⟧.taken link []) }
+        ensures failures { self.new.failures ≡ self.old.failures }
+        ensures waits { self.new.waits ≡ self.old.waits }
+        ensures time { self.new.now ≡ self.old.now }
     {
         let record = new_record(self.alloc, self.round, place)?;
         self.records.push(record.clone()?)?;
@@ -149,10 +175,18 @@ fn round_and_place(record: &RefCell<Record>) -> (u64, usize) {
 impl Lobby for Hall {
     type Link = Scripted;
 
+    ghost failures = { λ h. h.failures };
+
+    ghost waits = { λ h. h.waits };
+
+    ghost time = { λ h. h.now };
+
     fn wait(&mut self, _most: u64) -> Result<(), WaitFault> {
         if self.round >= self.plan.rounds {
+            self.failures = self.failures.saturating_add(1);
             return Err(WaitFault);
         }
+        self.waits = self.waits.saturating_add(1);
         self.round += 1;
         self.now = self.now.saturating_add(self.plan.tick);
         self.told = 0;
@@ -160,15 +194,16 @@ impl Lobby for Hall {
     }
 
     fn next_ready(&mut self) -> Option<Ready> {
-        if self.told >= MOST_PLACES {
+        let tells = self.plan.tells;
+        if self.told >= MOST_PLACES || tells == Tells::Nothing {
             return None;
         }
         let place = self.told;
         self.told += 1;
         Some(Ready {
             place,
-            readable: true,
-            writable: true,
+            readable: tells != Tells::Room,
+            writable: tells != Tells::Bytes,
         })
     }
 
@@ -182,7 +217,10 @@ impl Lobby for Hall {
         self.met = self.met.saturating_add(1);
         match visit.comes {
             Comes::Gone => Err(AcceptFault::Gone),
-            Comes::Closed => Err(AcceptFault::Closed),
+            Comes::Closed => {
+                self.failures = self.failures.saturating_add(1);
+                Err(AcceptFault::Closed)
+            }
             Comes::Peer(script) => self.admit(script, place),
         }
     }

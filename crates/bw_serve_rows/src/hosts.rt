@@ -1,6 +1,6 @@
 //! The whole command: its first line, its lines, and what it tells where something can't be used.
 use crate::compare::same;
-use crate::hall::{Plan, Visit};
+use crate::hall::{Plan, Tells, Visit};
 use crate::play::{QUICK, QUICK_OTHER};
 use crate::town::{FOLDER, PORT, Town};
 use bw_commands::Exit;
@@ -18,6 +18,7 @@ const PLAN: Plan = Plan {
     visits: TWO_VISITS,
     tick: 10,
     rounds: 100,
+    tells: Tells::Both,
 };
 
 const TWO: Bounds = Bounds {

@@ -27,4 +27,6 @@ mod silent;
 #[cfg(test)]
 mod together;
 #[cfg(test)]
+mod told;
+#[cfg(test)]
 mod town;

@@ -1,5 +1,5 @@
 //! The log lines of recorders that are served at once.
-use crate::hall::{Comes, Plan, Visit};
+use crate::hall::{Comes, Plan, Tells, Visit};
 use crate::play::{ALL, OTHER, QUICK, QUICK_OTHER, is_logged, is_over, serve, serve_logged};
 use crate::scripted::{Give, Script, Take};
 use bw_commands::Exit;
@@ -54,6 +54,7 @@ const SLOWLY: Plan = Plan {
     // the third is ended in round 52; no frame takes more than 29 rounds
     tick: 40,
     rounds: 1_000,
+    tells: Tells::Both,
 };
 
 #[test]
@@ -96,6 +97,7 @@ fn the_next_at_a_place_is_counted_anew(rt: HostRuntime) -> Result<(), Fail> {
         visits: AFTER_EACH_OTHER,
         tick: 10,
         rounds: 100,
+        tells: Tells::Both,
     };
     let came = serve_logged(rt.alloc(), &ONE_PLACE, plan)?;
     is_logged(

@@ -1,6 +1,6 @@
 //! More recorders than places, or than are wanted.
 use crate::compare::same;
-use crate::hall::{Plan, Visit};
+use crate::hall::{Plan, Tells, Visit};
 use crate::play::{OTHERS, QUICK, QUICK_OTHER, VERDICTS, is_over, is_told, serve};
 use bw_commands::Exit;
 use bw_serve::Bounds;
@@ -12,6 +12,7 @@ const PLAN: Plan = Plan {
     visits: THREE_VISITS,
     tick: 10,
     rounds: 100,
+    tells: Tells::Both,
 };
 
 const ONE_PLACE: Bounds = Bounds {

@@ -148,7 +148,7 @@ pub(crate) fn has_file(
 }
 
 /// The RIFF file of two frames at 48,000 Hz, one channel, 16 bits: 694 bytes.
-fn two_frames(alloc: Global) -> Result<Vec<u8>, AllocError> {
+pub(crate) fn two_frames(alloc: Global) -> Result<Vec<u8>, AllocError> {
     let mut file = Vec::with_capacity(alloc, 694)?;
     file.extend_from_slice(b"RIFF\xae\x02\0\0WAVEJUNK\x1c\0\0\0")?;
     file.resize(48, 0)?;

@@ -1,7 +1,7 @@
 //! Recorders that send no whole frame, or take no reply, beside another.
 use crate::compare::same;
-use crate::hall::{Comes, Plan, Visit};
-use crate::play::{ALL, FIRST, OTHERS, QUICK_OTHER, TAKE, is_over, is_told, serve};
+use crate::hall::{Comes, Plan, Tells, Visit};
+use crate::play::{ALL, FIRST, OTHERS, QUICK_OTHER, TAKE, VERDICTS, is_over, is_told, serve};
 use crate::scripted::{Give, Script, Take};
 use bw_commands::Exit;
 use bw_serve::Bounds;
@@ -53,6 +53,26 @@ const TWO: Bounds = Bounds {
 
 const LINES: &[u8] = b"exchange 0 Bye\nexchange 1 Idle\n";
 
+/// One who comes after two seconds, and says nothing at first.
+const LATE: &[Visit] = &[Visit {
+    round: 20,
+    comes: Comes::Peer(Script {
+        input: TAKE,
+        gives: &[Give::Nothing, Give::Bytes(58)],
+        takes: ALL,
+    }),
+}];
+
+/// A frame a round.
+const STEADY: &[Visit] = &[Visit {
+    round: 1,
+    comes: Comes::Peer(Script {
+        input: TAKE,
+        gives: &[Give::Bytes(22), Give::Bytes(16), Give::Bytes(20)],
+        takes: ALL,
+    }),
+}];
+
 /// Compares a run of one of these beside `QUICK_OTHER`: its replies, how many bytes it gave, and
 /// when it was ended.
 fn is_idle(
@@ -66,6 +86,7 @@ fn is_idle(
         visits,
         tick: 100,
         rounds: 1_000,
+        tells: Tells::Both,
     };
     let came = serve(alloc, &TWO, plan)?;
     is_over(rt, &came, Exit::Done, LINES);
@@ -91,4 +112,40 @@ fn who_sends_no_whole_frame_is_ended(rt: HostRuntime) -> Result<(), Fail> {
 #[test]
 fn who_takes_no_replies_is_not_read(rt: HostRuntime) -> Result<(), Fail> {
     is_idle(&rt, rt.alloc(), BESIDE_DEAF, b"", 22)
+}
+
+/// Compares a run of one of these, which comes to its end.
+fn is_served(
+    rt: &impl Abort,
+    alloc: Global,
+    visits: &'static [Visit],
+    tick: u64,
+    idle: u64,
+) -> Result<(), Fail> {
+    let plan = Plan {
+        visits,
+        tick,
+        rounds: 100,
+        tells: Tells::Both,
+    };
+    let bounds = Bounds {
+        places: 1,
+        exchanges: 1,
+        idle,
+    };
+    let came = serve(alloc, &bounds, plan)?;
+    is_over(rt, &came, Exit::Done, b"exchange 0 EndOfInput\n");
+    is_told(rt, &came, 0, VERDICTS);
+    Ok(())
+}
+
+#[test]
+fn who_comes_late_is_quiet_since_then(rt: HostRuntime) -> Result<(), Fail> {
+    is_served(&rt, rt.alloc(), LATE, 100, 1_000)
+}
+
+#[test]
+fn what_comes_is_answered_before_silence_is_looked_for(rt: HostRuntime) -> Result<(), Fail> {
+    // each round comes later than the idle time behind the one before
+    is_served(&rt, rt.alloc(), STEADY, 300, 250)
 }

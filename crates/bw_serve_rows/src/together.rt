@@ -1,5 +1,5 @@
 //! Recorders that are served at once.
-use crate::hall::{Comes, Plan, Visit};
+use crate::hall::{Comes, Plan, Tells, Visit};
 use crate::play::{ALL, OTHER, OTHERS, TAKE, VERDICTS, has_file, is_over, is_told, serve};
 use crate::scripted::{Give, Script, Take};
 use bw_commands::Exit;
@@ -38,6 +38,7 @@ fn two_are_served_byte_by_byte(rt: HostRuntime) -> Result<(), Fail> {
         visits: IN_BYTES,
         tick: 10,
         rounds: 1_000,
+        tells: Tells::Both,
     };
     let came = serve(rt.alloc(), &TWO, plan)?;
     is_over(
