@@ -83,16 +83,60 @@ seconds() {
 }
 
 # The MB/s of openssl's SHA-256 over bodies of $1 bytes, each by itself: the most of three times.
-digests() {
+openssl_digests() {
     for _ in 1 2 3; do
         openssl speed -seconds 1 -bytes "$1" -mr -evp sha256 2>/dev/null
     done | awk -F: '/^\+F/ && $4 / 1e6 > most { most = $4 / 1e6 } END { print most }'
 }
 
+# A small program that takes bodies through the server's own SHA-256, each by itself, three times: a line has their
+# length, how many they are, and the microseconds. `rt run` proves and runs it.
+build_digests() {
+    crate=$work/digest/crates/bench_digest
+    mkdir -p "$crate/src" "$crate/specs" "$crate/proofs" && : >"$crate/specs/Lib.antt" && : >"$crate/proofs/Lib.antt" &&
+        cp "$here/../HANDLES" "$work/digest" && echo 'bench_digest: sha2 anyhow' >"$work/digest/crates.txt" || exit
+    cat >"$crate/src/main.rt" <<'END'
+//! Tells how fast SHA-256 is alone.
+#![tactic(auto)]
+
+use anyhow::Result;
+use sha2::{Digest, Sha256};
+use std::time::Instant;
+
+fn main(rt: HostRuntime) -> Result<()> {
+    for (count, len) in [(8192u32, 32_778usize), (131_072, 1034)] {
+        let mut body = Vec::new(rt.alloc());
+        body.resize(len, 7)?;
+        let mut sum = 0u8;
+        for _time in 0..3 {
+            let start = Instant::now(&rt)?;
+            for _body in 0..count {
+                sum ^= Sha256::digest(body.as_slice())[0];
+            }
+            println!(rt; "{len} {count} {} {sum}", start.elapsed(&rt)?.as_micros())?;
+        }
+    }
+    Ok(())
+}
+END
+    (cd "$crate" && rt run) >"$work/log" 2>&1 || {
+        cat "$work/log" >&2
+        exit 1
+    }
+}
+
+# Its MB/s over bodies of $1 bytes: the most of three times.
+own_digests() {
+    awk -v wanted="$1" '$1 == wanted && $1 * $2 / $3 > most { most = $1 * $2 / $3 } END { print most }' "$work/digests"
+}
+
 # The bodies of blocks of a name of four bytes: kind, length, name and number take ten bytes.
 tell_digests() {
-    long_bodies=$(digests 32778)
-    short_bodies=$(digests 1034)
-    printf 'openssl SHA-256 alone: %.1f MB/s over bodies of 32,778 bytes, %.1f of 1,034\n' \
+    build_digests
+    "$crate/out/bench_digest" >"$work/digests" || exit
+    long_bodies=$(own_digests 32778)
+    short_bodies=$(own_digests 1034)
+    printf "the server's own SHA-256 alone: %.1f MB/s over bodies of 32,778 bytes, %.1f of 1,034\n" \
         "$long_bodies" "$short_bodies"
+    printf 'openssl SHA-256 alone: %.1f and %.1f\n' "$(openssl_digests 32778)" "$(openssl_digests 1034)"
 }

@@ -1,11 +1,11 @@
 #!/bin/sh
 # How fast `serve --recorders` takes takes from 1, 16 and 200 recorders at once, over loopback into a folder on the disk
 # of TMPDIR: blocks of 32 KiB and of 1 KiB from bench/client.c, which keeps 16 messages of each take in flight. A line
-# has MB/s of all together, the ratio to SHA-256 alone over bodies of that length (openssl's, which isn't the server's
-# own, in the same run), and how fast the slowest recorder was, where the mean of all is 1. At last the same into a
-# folder whose every write takes 5 ms more, and how long one who only asks waits for an answer meanwhile, and where
-# nobody else is there. The program is the first argument, or the one of this repository. Needs cc, awk, openssl, python3,
-# and GNU time for the rest.
+# has MB/s of all together, the ratio to SHA-256 alone over bodies of that length (the server's own, in the same run),
+# and how fast the slowest recorder was, where the mean of all is 1. At last the same into a folder whose every write
+# takes 5 ms more, and how long one who only asks waits for an answer meanwhile, and where nobody else is there. The
+# program is the first argument, or the one of this repository. Needs cc, awk, openssl, python3, and GNU time for the
+# rest.
 
 here=$(dirname -- "$(readlink -f -- "$0")") || exit
 . "$here/common.sh"

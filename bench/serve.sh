@@ -1,10 +1,11 @@
 #!/bin/sh
 # How fast `serve` takes takes over loopback into a folder on the disk of TMPDIR: 1 GiB in blocks of 32 KiB and 64 MiB
 # in blocks of 1 KiB from bench/client.c, which keeps 16 messages in flight, and takes of 7 MB from `send`. Beside it,
-# in the same run: SHA-256 alone over bodies of the same lengths, by openssl and sha256sum, which aren't the server's
-# own; the disk's own speed; and, where they are installed, socat and mosquitto with QoS 2, each to a file. A line has
-# MB/s (a MB is 1,000,000 bytes), the ratio to SHA-256 alone, and of a server its processor time and most memory.
-# The program is the first argument, or the one of this repository. Needs cc, awk, openssl, and GNU time for the rest.
+# in the same run: SHA-256 alone over bodies of the same lengths, the server's own (to which the ratios are), openssl's
+# and sha256sum's; the disk's own speed; and, where they are installed, socat and mosquitto with QoS 2, each to a file.
+# A line has MB/s (a MB is 1,000,000 bytes), the ratio to SHA-256 alone, and of a server its processor time and most
+# memory. The program is the first argument, or the one of this repository. Needs cc, awk, openssl, and GNU time for the
+# rest.
 
 here=$(dirname -- "$(readlink -f -- "$0")") || exit
 . "$here/common.sh"
