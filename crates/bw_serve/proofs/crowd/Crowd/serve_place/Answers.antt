@@ -12,7 +12,8 @@ returns-in-Some g c =
     let m = mid.many in
     let end = c.end.ensures in
     place_served g.L.Link g.T.Turns.answers g.O.Sink g.E.Sink c.args.round.log c.args.place c.args.round.now
-    c.args.round.idle c.args.self.now mid c.end.new.self m (Some c.in-Some.closed) [] c.args.server.now.server c.work.new.server.server
+    c.args.round.idle c.args.self.now mid c.end.new.self m (Some c.in-Some.closed) [] c.args.server.now.server
+    c.work.new.server.server
     c.args.out.now c.end.new.out c.args.faults.now c.end.new.faults w (adds_still g.L.Link m)
     (stays_still c.args.place m) (stood_still c.args.place m) end.many end.seats
     (λ d at. ((λ idles. absurd (spoken_not_idle c.in-Some.closed.end idles w.works.no_silence)), tt))
@@ -27,7 +28,8 @@ returns-in_default-expire g c =
     let mid = c.work.new.self in
     let w = c.in_default.ensures in
     place_served g.L.Link g.T.Turns.answers g.O.Sink g.E.Sink c.args.round.log c.args.place c.args.round.now
-    c.args.round.idle c.args.self.now mid (record { many = c.expire.new.self; seats = mid.seats; ended = mid.ended }) c.expire.new.self None [] c.args.server.now.server c.work.new.server.server c.args.out.now
+    c.args.round.idle c.args.self.now mid (record { many = c.expire.new.self; seats = mid.seats; ended = mid.ended })
+    c.expire.new.self None [] c.args.server.now.server c.work.new.server.server c.args.out.now
     c.args.out.now c.args.faults.now c.args.faults.now w e.adds e.others e.stands refl refl
     (λ d at. tt) (λ d at. not_expired c.args.round.now c.args.round.idle c.args.place mid.many e.end d (e.stands d at))
     (counts_none g.O.Sink c.args.self.now (record { many = c.expire.new.self; seats = mid.seats; ended = mid.ended })
@@ -40,8 +42,8 @@ returns g c =
     let w = c.in_default.ensures in
     let y = c.in-Some-expire.closed in
     let end = c.end-2.ensures in
-    let ends = silence_ends g.L.Link c.args.round.now c.args.round.idle c.args.place c.args.self.now.many mid.many y w.works.stood
-    e.its e.end in
+    let ends = silence_ends g.L.Link c.args.round.now c.args.round.idle c.args.place c.args.self.now.many mid.many y
+    w.works.stood e.its e.end in
     place_served g.L.Link g.T.Turns.answers g.O.Sink g.E.Sink c.args.round.log c.args.place c.args.round.now
     c.args.round.idle c.args.self.now mid c.end-2.new.self c.expire.new.self None (y ∷ []) c.args.server.now.server
     c.work.new.server.server c.args.out.now c.end-2.new.out c.args.faults.now c.end-2.new.faults w e.adds e.others
