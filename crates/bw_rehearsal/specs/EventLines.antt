@@ -1,5 +1,5 @@
 -- Lines as the events of a rehearsal.
-use Rattle.std.specs.Prelude.{◌≡◌, ℕ, ◌^◌, ◌<◌, ◌≤◌, List, ◌++◌, length, Ok, codes}
+use Rattle.std.specs.Prelude.{◌≡◌, ℕ, ◌%◌, ◌^◌, ◌<◌, ◌≤◌, List, ◌++◌, length, Ok, codes}
 use Rattle.std.specs.Str.Parse.{IsNumeral, digits_value}
 use Rattle.hex.specs.Hex.{decode_of}
 use Rattle.bw_model.specs.Wire.{decoded_request}
@@ -24,9 +24,13 @@ pub record IsRequestText (text : List ℕ) (r : Request) : Type 0 where
   pub hex : decode_of text ≡ Ok bytes
   pub request : decoded_request bytes ≡ Ok r
 
--- the line begins as one that says an offer
-abbrev pub BeginsOffer : List ℕ → Type 0
-BeginsOffer line = (text : List ℕ) × (line ≡ codes "offer " ++ text)
+-- an even number
+abbrev pub IsEven : ℕ → Type 0
+IsEven n = n % 2 ≡ 0
+
+-- the line begins as one that says an offer, and has an even number of digits behind it
+abbrev pub MayOffer : List ℕ → Type 0
+MayOffer line = (text : List ℕ) × (line ≡ codes "offer " ++ text) × IsEven (length text)
 
 -- the line says this event
 abbrev pub SaysEvent : List ℕ → Event → Type 0

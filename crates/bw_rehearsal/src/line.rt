@@ -1,13 +1,13 @@
 //! Lines as the events of a rehearsal.
 ghost use Rattle.std.specs.Prelude.{◌≡◌, ◌≢◌, ◌++◌, ℕ, List, Ok, IfOk, OnErr};
-ghost use Rattle.std.specs.Prelude.{MatchOption};
+ghost use Rattle.std.specs.Prelude.{MatchOption, length};
 ghost use Rattle.std.specs.Option.{SomeIff};
 ghost use Rattle.bw_model.specs.Take.{Request as Requested};
 ghost use Rattle.bw_model.specs.Wire.{decoded_request};
 ghost use Rattle.bw_model.specs.World.{Event as ToldEvent};
 ghost use Rattle.bw_rehearsal.specs.Rehearsing.{event_meaning};
 ghost use Rattle.bw_rehearsal.specs.EventLines.{SaysEvent, IsIndexText, index_written};
-ghost use Rattle.bw_rehearsal.specs.EventLines.{IsRequestText, BeginsOffer};
+ghost use Rattle.bw_rehearsal.specs.EventLines.{IsRequestText, IsEven, MayOffer};
 
 use crate::event::Event;
 use bw_take::Request;
@@ -19,11 +19,12 @@ use std::alloc::{AllocError, Global};
 /// request, `send I`, `deliver K`, `bring K` or `ask`.
 ///
 /// # Errors
-/// `AllocError` where memory was refused: only a line that begins with `offer ` takes some.
+/// `AllocError` where memory was refused: only a line of `offer ` and an even number of digits takes
+/// some.
 pub fn event_in(alloc: Global, line: &[u8]) -> Result<Option<Event>, AllocError>
     ensures ok { IfOk result (λ found. MatchOption found ((e : ToldEvent) → ¬ SaysEvent line.now e)
         (λ event. SaysEvent line.now (event_meaning event))) }
-    ensures err { OnErr result (BeginsOffer line.now) }
+    ensures err { OnErr result (MayOffer line.now) }
 {
     if line == b"ask".as_slice() {
         return Ok(Some(Event::Ask));
@@ -66,10 +67,11 @@ fn behind<'a>(word: &[u8], line: &'a [u8]) -> Option<&'a [u8]>
 /// The request whose kind byte and payload a text spells in hex, if it spells one.
 ///
 /// # Errors
-/// `AllocError` where memory was refused.
+/// `AllocError` where memory was refused: only a text of an even length takes some.
 pub fn request_from_hex(alloc: Global, text: &[u8]) -> Result<Option<Request>, AllocError>
-    ensures { IfOk result (λ found. MatchOption found
+    ensures ok { IfOk result (λ found. MatchOption found
         ((r : Requested) → ¬ IsRequestText text.now r) (λ r. IsRequestText text.now r)) }
+    ensures err { OnErr result (IsEven (length text.now)) }
 {
     match hex::decode(alloc, text) {
         Ok(bytes) => request_in(alloc, bytes.as_slice()),
@@ -83,11 +85,12 @@ pub fn request_from_hex(alloc: Global, text: &[u8]) -> Result<Option<Request>, A
 /// The request that a kind byte and a payload spell, if they spell one.
 ///
 /// # Errors
-/// `AllocError` where memory was refused.
+/// `AllocError` where memory was refused: only a request takes some.
 fn request_in(alloc: Global, bytes: &[u8]) -> Result<Option<Request>, AllocError>
-    ensures { IfOk result (λ found. MatchOption found
+    ensures ok { IfOk result (λ found. MatchOption found
         ((r : Requested) → decoded_request bytes.now ≢ Ok r)
         (λ r. decoded_request bytes.now ≡ Ok r)) }
+    ensures err { OnErr result ((r : Requested) × (decoded_request bytes.now ≡ Ok r)) }
 {
     match decode_request(bytes) {
         Ok(request) => Ok(Some(request.to_request(alloc)?)),

@@ -14,7 +14,7 @@ loop-rest-preserved c = record {
       SaidSoFar (lines_of c.args.input.now) (lines_of c.first_line.result.1.now) rs (c.loop-rest.number + 1))
       (sym c.in-Ok.ensures.items) (one_said _ _ _ _ _ c.first_line.result.0.now _ c.loop-rest.invariant.said
       c.first_line.ensures.lines (read_some c.first_line.result.0.now c.in_ok-request.field-0 c.in-Some.request
-      c.in-Some.is c.in_ok-request.ensures));
+      c.in-Some.is c.in_ok-request.ensures.ok));
 }
 
 pub returns-clause-ok : goal.returns-clause-ok
@@ -26,4 +26,4 @@ returns-clause-ok c =
 pub returns-in_default-clause-err : goal.returns-in_default-clause-err
 returns-in_default-clause-err c =
     stops_at _ _ _ _ _ c.first_line.result.0.now c.loop-rest.invariant.said c.first_line.ensures.lines
-    (read_none c.first_line.result.0.now c.in_ok-request.field-0 c.in_default.is c.in_ok-request.ensures)
+    (read_none c.first_line.result.0.now c.in_ok-request.field-0 c.in_default.is c.in_ok-request.ensures.ok)
