@@ -10,7 +10,7 @@ use Rattle.clap.specs.declared.parser.matches.Found.{Found}
 use Rattle.clap.proofs.WalkLemmas.{first_value-rows}
 use Rattle.bw_args.specs.Lines.{AsksNothing, GivesAddress, GivesCount, GivesEnd, GivesFuse, GivesLimit, GivesName}
 use Rattle.bw_args.specs.Lines.{GivesNoFuse, IsAddressGiven, IsEndGiven, is_set}
-use Rattle.bw_args.specs.Lines.{GivesRecorders, GivesSender, GivesServer, HasLimit, IsEnd, IsEndWithin, IsFirstBad}
+use Rattle.bw_args.specs.Lines.{GivesRecorders, GivesSender, GivesServer, HasNumbersInRange, IsEnd, IsEndWithin, IsFirstBad}
 use Rattle.bw_args.specs.Lines.{IsGood, IsLimitGiven, IsRecorders, IsRecordersGiven, IsWayWithin, looked_at_waiting}
 use Rattle.bw_args.specs.Lines.{IsNameGiven, IsLineFor, IsWishOf, IsWithin, Service, Wish, given_by, looked_at}
 use Rattle.bw_args.specs.Lines.{Replaying, Rehearsing, Inspecting, Sending, Serving}
@@ -267,7 +267,7 @@ given_rounds None rounds within is = rw is (omega arith, omega arith)
 given_rounds (Some count) rounds within is = rw is within
 
 -- the numbers of a task that is asked for are in their ranges
-pub line_limit : (command : Option (Text × List Row)) (line : CommandLine) → IsLineFor command line → HasLimit line
+pub line_limit : (command : Option (Text × List Row)) (line : CommandLine) → IsLineFor command line → HasNumbersInRange line
 line_limit (Some command) (Run (Replay limit fuse)) asked =
     given_limit (first_of (codes "limit") command.1) limit asked.1
 line_limit (Some command) (Run (Rehearse name limit)) asked =

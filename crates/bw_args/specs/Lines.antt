@@ -332,14 +332,14 @@ IsWayWithin (AtOnce most idle) = ((1 ≤ most) × (most ≤ most_recorders))
     × ((1 ≤ idle) × (idle ≤ most_seconds))
 
 -- where a task runs, its numbers are such as may be asked for
-abbrev pub HasLimit : CommandLine → Type 0
-HasLimit (Run (Replay limit fuse)) = IsLimit limit
-HasLimit (Run (Rehearse name limit)) = IsLimit limit
-HasLimit (Run (Inspect file)) = ⊤
-HasLimit (Run (Serve server)) = (0 < socket_port server.listen) × IsEndWithin server.end
+abbrev pub HasNumbersInRange : CommandLine → Type 0
+HasNumbersInRange (Run (Replay limit fuse)) = IsLimit limit
+HasNumbersInRange (Run (Rehearse name limit)) = IsLimit limit
+HasNumbersInRange (Run (Inspect file)) = ⊤
+HasNumbersInRange (Run (Serve server)) = (0 < socket_port server.listen) × IsEndWithin server.end
     × IsLimit server.limit × IsWayWithin server.recorders
-HasLimit (Run (Send sender)) = (0 < socket_port sender.connect)
+HasNumbersInRange (Run (Send sender)) = (0 < socket_port sender.connect)
     × ((1 ≤ sender.rounds) × (sender.rounds ≤ most_rounds))
     × IsWithin most_seconds sender.timeout
-HasLimit (Bad value) = ⊤
-HasLimit (Tell error) = ⊤
+HasNumbersInRange (Bad value) = ⊤
+HasNumbersInRange (Tell error) = ⊤

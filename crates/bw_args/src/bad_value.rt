@@ -23,7 +23,7 @@ pub enum BadValue {
     Recorders,
     /// After how long one of many recorders that sends no whole message is let go.
     Idle,
-    /// That a silent peer is told by the option of the other way to serve.
+    /// `--idle` without `--recorders`, or `--timeout` beside it.
     Wait,
     /// That a server goes on until it is stopped, beside a number of exchanges.
     UntilStopped,

@@ -91,7 +91,7 @@ fn limit_option<'a>(alloc: Global) -> Arg<'a>
     ensures local { result.global ≡ false }
 {
     Arg::new(alloc, "limit").long("limit").value_name("N").help(
-        "The greatest form size of a RIFF file, in bytes [default: 4294967294]",
+        "The greatest form size of a RIFF file, in bytes, even, from 8192 [default: 4294967294]",
     )
 }
 

@@ -3,7 +3,7 @@
 
 ghost use Rattle.std.specs.Prelude.{◌≡◌, ◌↔◌, map, IfOk, IsErr, string_bytes};
 ghost use Rattle.clap.specs.Words.{kind_of};
-ghost use Rattle.bw_args.specs.Lines.{HasLimit, IsLineOf};
+ghost use Rattle.bw_args.specs.Lines.{HasNumbersInRange, IsLineOf};
 ghost use Rattle.bw_args.specs.Forms.{RefusesValues, RunsInspect, RunsRehearsal, RunsReplay};
 ghost use Rattle.bw_args.specs.Forms.{TellsHelp};
 ghost use Rattle.bw_args.specs.PeerForms.{RefusesPeers, RunsSender, RunsServer, WantsPeers};
@@ -64,7 +64,7 @@ pub enum CommandLine {
 /// `AllocError` where memory was refused.
 pub fn parse(alloc: Global, words: &[String]) -> Result<CommandLine, AllocError>
     ensures line { IfOk result (IsLineOf (map string_bytes words.now)) }
-    ensures limit { IfOk result HasLimit }
+    ensures ranges { IfOk result HasNumbersInRange }
     ensures replay { IfOk result (RunsReplay (map string_bytes words.now)) }
     ensures rehearse { IfOk result (RunsRehearsal (map string_bytes words.now)) }
     ensures values { IfOk result (RefusesValues (map string_bytes words.now)) }

@@ -558,7 +558,7 @@ static TEXTS: [(&[&str], &str); 10] = [
     ),
     (
         &["/tmp/x", "send", "--help"],
-        "How long a silent peer is waited for [default: for good]",
+        "How long a silent peer is waited for, 1 to 86400 [default: for good]",
     ),
     (
         &["/tmp/x", "send", "--help"],

@@ -2,7 +2,7 @@
 ghost use Rattle.std.specs.Prelude.{◌≡◌, true, Some, map, string_bytes};
 ghost use Rattle.std.specs.Process.{exit_status};
 ghost use Rattle.clap.specs.Values.{kind_of};
-ghost use Rattle.bw_args.specs.Lines.{HasLimit};
+ghost use Rattle.bw_args.specs.Lines.{HasNumbersInRange};
 ghost use Rattle.bw_commands.specs.Deeds.{Deed, HasWritten};
 ghost use Rattle.bw_commands.specs.declared.exit.Exit.{Exit};
 ghost use Rattle.bw_commands.specs.Exits.{status_of};
@@ -120,7 +120,7 @@ fn perform<S: System, N: Network + Gathering, R: Source, W: Sink, E: Sink, V: Wa
     faults: &mut E,
     watch: &mut V,
 ) -> Exit
-    requires { HasLimit line.now }
+    requires { HasNumbersInRange line.now }
     ensures { IsDoneFor N.Store.TakeStore ⟦<NoJournal as Journal>⟧ N.Peers.Peers
         N.Peers.Reader.Source N.Peers.Writer.Sink N.Lobby.Lobby N.Lobby.Link.Link N.Network
         N.Gathering N.Dial.Dial N.Dial.Reader.Source N.Dial.Writer.Sink R.Source W.Sink E.Sink
@@ -148,7 +148,7 @@ fn run<S: System, N: Network + Gathering, R: Source, W: Sink, E: Sink, V: Watch>
     faults: &mut E,
     watch: &mut V,
 ) -> Exit
-    requires { HasLimit (CommandLine.Run task.now) }
+    requires { HasNumbersInRange (CommandLine.Run task.now) }
     ensures { IsDoneFor N.Store.TakeStore ⟦<NoJournal as Journal>⟧ N.Peers.Peers
         N.Peers.Reader.Source N.Peers.Writer.Sink N.Lobby.Lobby N.Lobby.Link.Link N.Network
         N.Gathering N.Dial.Dial N.Dial.Reader.Source N.Dial.Writer.Sink R.Source W.Sink E.Sink

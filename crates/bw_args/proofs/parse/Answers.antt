@@ -26,8 +26,8 @@ returns-clause-line c =
     (told_result c.told.result _ c.in-Err.error c.told.ensures.told c.told.ensures.out_of_memory.1
     (told_line _ _ c.in-Err.error c.in_ok-command.ensures c.in-Err.ensures.kinds))
 
-pub returns-in-Ok-clause-limit : goal.returns-in-Ok-clause-limit
-returns-in-Ok-clause-limit c = IfOk-weaker c.line.result _ _ (line_limit _) c.line.ensures.ok
+pub returns-in-Ok-clause-ranges : goal.returns-in-Ok-clause-ranges
+returns-in-Ok-clause-ranges c = IfOk-weaker c.line.result _ _ (line_limit _) c.line.ensures.ok
 
 pub returns-in-Ok-clause-replay : goal.returns-in-Ok-clause-replay
 returns-in-Ok-clause-replay c = IfOk-weaker c.line.result _ _ (runs_replay _) (returns-in-Ok-clause-line c)

@@ -18,7 +18,7 @@ pub(crate) fn timeout_option<'a>(alloc: Global) -> Arg<'a>
     Arg::new(alloc, "timeout")
         .long("timeout")
         .value_name("SECONDS")
-        .help("How long a silent peer is waited for [default: for good]")
+        .help("How long a silent peer is waited for, 1 to 86400 [default: for good]")
 }
 
 pub(crate) fn network_flag<'a>(alloc: Global) -> Arg<'a>

@@ -51,7 +51,7 @@ fn rounds_option<'a>(alloc: Global) -> Arg<'a>
     Arg::new(alloc, "rounds")
         .long("rounds")
         .value_name("N")
-        .help("How many exchanges are made at most, 1 to 1000 [default: 16]")
+        .help("How many exchanges of at most 16 requests are made, 1 to 1000 [default: 16]")
 }
 
 /// Bad values are told in this order: the address, the name, the rounds, the timeout.

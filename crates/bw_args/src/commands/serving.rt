@@ -107,7 +107,9 @@ fn idle_option<'a>(alloc: Global) -> Arg<'a>
     Arg::new(alloc, "idle")
         .long("idle")
         .value_name("SECONDS")
-        .help("With --recorders: when who sends no whole message is let go [default: 60]")
+        .help(
+            "With --recorders: when who sends no whole message is let go, 1 to 86400 [default: 60]",
+        )
 }
 
 fn until_stopped_flag<'a>(alloc: Global) -> Arg<'a>
