@@ -6,7 +6,7 @@ use std::io::{self, ErrorKind};
 /// The file by which a folder is tried: no take's name has a dot.
 const PROBE: &str = ".bwingest";
 
-/// Whether a folder stands at a path.
+/// Whether a folder stands at a path. No clause says it.
 pub fn has_folder<R: Files>(rt: &R, folder: &str) -> bool {
     match fs::metadata(rt, folder) {
         Ok(found) => found.is_dir(),
@@ -15,7 +15,7 @@ pub fn has_folder<R: Files>(rt: &R, folder: &str) -> bool {
 }
 
 /// Tries a folder: a file is made in it, and removed. Where something stands under that file's name,
-/// a link too, it is left alone, and the folder untried.
+/// a link too, it is left alone, and the folder untried. No clause says it.
 ///
 /// # Errors
 /// Why no file can be made: the folder is missing, none, or closed to this process.

@@ -74,8 +74,9 @@ fn serve_over<S: TakeStore, P: Peers, O: Sink, E: Sink>(
     out: &mut O,
     faults: &mut E,
 ) -> Exit
-    ensures { HostsOver S.TakeStore ⟦<NoJournal as Journal>⟧ P.Peers P.Reader.Source
-        P.Writer.Sink O.Sink E.Sink serving.now result store peers.old peers.new out.old out.new faults.old faults.new }
+    ensures { HostsOver S.TakeStore ⟦<NoJournal as Journal>⟧ P.Peers P.Reader.Source P.Writer.Sink
+        O.Sink E.Sink serving.now result store peers.old peers.new out.old out.new faults.old
+        faults.new }
 {
     let Ok(server) = Server::new(alloc, store, serving.limit) else {
         return give_up(faults, &Fault::Memory);
@@ -99,7 +100,7 @@ pub fn format_listening(alloc: Global, address: SocketAddr) -> Result<String, Al
     format!(in alloc; "listening {address}\n")
 }
 
-/// Tells why a run ended before its last exchange.
+/// Tells why a run ended, where that wasn't behind its last exchange.
 pub fn tell_end<E: Sink>(exit: Exit, faults: &mut E) -> Exit
     ensures { TellsEnd E.Sink exit result faults.old faults.new }
 {
