@@ -37,7 +37,7 @@ abbrev pub writes_failed : ExchangeEnd → ℕ → ℕ
 writes_failed ends.WriteFault n = one_more n
 writes_failed end n = n
 
--- the limit of turns is told only where a reader has counted so many bytes more, and so many calls
+-- the limit of reads is told only where a reader has counted so many bytes more, and so many calls
 -- more, or as many as it can count
 abbrev pub IsLimited : ExchangeEnd → ℕ → ℕ → ℕ → ℕ → Type 0
 IsLimited ends.TurnLimit moved moved' calls calls' =

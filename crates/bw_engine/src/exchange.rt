@@ -17,8 +17,8 @@ use std::alloc::{AllocError, Global};
 /// The most bytes of replies that wait.
 const MOST_WAITING: usize = 65_600;
 
-/// The most bytes that wait where a frame is still answered: its 17 replies of 64 bytes have room
-/// behind them, and that to a bad frame.
+/// The most bytes that wait where a frame is still answered: its 17 replies have room behind them,
+/// and that to a bad frame. For each 64 bytes are kept; a frame of a reply has at most 47.
 const MOST_BEFORE_ANSWER: usize = 64_448;
 
 /// The most bytes of a stream.

@@ -10,14 +10,11 @@ ghost use Rattle.bw_journal.specs.Refs.{entry_found, entry_said};
 
 use crate::seal::opened;
 use bw_layout::read_u32;
-use bw_take::{RequestRef, Verdict};
+use bw_take::{LONGEST_BLOCK, RequestRef, Verdict};
 use bw_wire::decode_request;
 
 /// The kind byte of a block.
 pub(crate) const BLOCK: u8 = 2;
-
-/// A block has at most so many bytes of samples.
-pub(crate) const LONGEST_BLOCK: usize = 32_768;
 
 /// A done number as a journal tells it: a block has zeros in place of its samples.
 #[derive(Clone, Copy, Debug)]

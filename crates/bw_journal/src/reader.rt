@@ -17,12 +17,12 @@ ghost use Rattle.bw_journal.specs.Refs.{entry_said};
 ghost use Rattle.bw_journal.specs.Stories.{story_of};
 ghost use Rattle.bw_journal.specs.Faults.{IsJournalFault, fault_meaning};
 
-use crate::entry::{EntryRef, LONGEST_BLOCK, first_entry};
+use crate::entry::{EntryRef, first_entry};
 use crate::fault::ReplayFault;
 use crate::header::{JournalHeader, first_header, is_torn_header};
 use crate::seal::opened;
 use bw_layout::Limit;
-use bw_take::{TakeState, judge};
+use bw_take::{LONGEST_BLOCK, TakeState, judge};
 use std::alloc::{AllocError, Global};
 
 /// A sealed entry has at most so many bytes.

@@ -54,8 +54,8 @@ pub record Answers (known full : Bool) (first : Option (List ℕ)) (log : Log) (
 -- What a turn asks of store and journal, over any of them, where a call of them failed or none did:
 -- that failure is counted, all else is kept as KeepsBoth says, the store is called a few times for
 -- each number that was done, and no reply tells of a failure that didn't come.
-abbrev pub UsesBoth : {X Y : Type 0} → StoreGhosts X → JournalGhosts Y → List ℕ → X → X → Y → Y →
-    ℕ → ℕ → List Reply → Type 0
+abbrev pub UsesBoth : {X Y : Type 0} → StoreGhosts X → JournalGhosts Y → List ℕ → X → X →
+    Y → Y → ℕ → ℕ → List Reply → Type 0
 UsesBoth S J name store store' journal journal' done later replies =
     (failed : Bool) × KeepsBoth S J failed name store store' journal journal'
     × CallsFew (S.calls store) (S.calls store') done later failed

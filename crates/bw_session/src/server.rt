@@ -115,6 +115,10 @@ impl<S: TakeStore, J: Journal> Server<S, J> {
     ///
     /// A message that is held is done when those before it have come; after a failure of the store
     /// or the journal, when the next message of its name comes.
+    ///
+    /// Over a store that isn't honest no clause says which replies come, but for their number, their
+    /// range and DelayedStore, nor what the server then holds: so what `ask`, `done`, `frames`,
+    /// `is_closed`, `held` and `kept_bytes` answer behind it isn't told either.
     pub fn turn(&mut self, message: &Message<'_>, out: &mut ArrayVec<Reply, 17>)
         ensures few { length out.new.items ≤ 17 }
         ensures numbers { All HasWireNumbers out.new.items }
@@ -364,7 +368,7 @@ impl<S: TakeStore, J: Journal> Server<S, J> {
         }
     }
 
-    /// How many messages of a name wait for those before them; None where the name isn't known.
+    /// How many admitted messages of a name have no verdict yet; None where the name isn't known.
     pub fn held(&self, name: &Name) -> Option<usize>
         ensures value { (first : List ℕ → Option (List ℕ)) (book : Book) →
             HoldsBook S.TakeStore J.Journal first self.now book →
