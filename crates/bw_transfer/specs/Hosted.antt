@@ -34,7 +34,7 @@ listening_line address = as_line (codes "listening " ++ socket_text address)
 
 -- what is told where no more peers are let in
 abbrev pub gone_line : List ℕ
-gone_line = as_line (codes "the folder is gone")
+gone_line = as_line (codes "the server can't go on: its folder is gone, or nothing can be waited for")
 
 -- this fault's line is told, and the command ends so
 pub record GivesUp {E : Type 0} (told : Writer E) (fault : Fault) (exit : Exit) (e e' : E)

@@ -20,7 +20,7 @@ use std::io;
 use std::net::SocketAddr;
 
 /// What is told where no more peers are let in.
-const GONE: &str = "the folder is gone\n";
+const GONE: &str = "the server can't go on: its folder is gone, or nothing can be waited for\n";
 
 /// Serves so many exchanges over a new server and the folder's store.
 ///
