@@ -30,12 +30,14 @@ use Rattle.bw_many.specs.Feeding.{Feeds, fault_to_drain, unless_cut}
 use Rattle.bw_many.specs.Lives.{EndsDrained, EndsServed, IsNoSilence, IsUpToDate, LetsGo, Moved, Reads, Sends, TellsFault}
 use Rattle.bw_many.specs.Lives.{EndsAs, Goes, IsInPhase, IsOpen, IsOver, KeepsPeer, Lives, Settles, Steps}
 use Rattle.bw_many.specs.Lives.{AnswersHeld, Begins, expired_at, expired_by, longest_drain, quantum, quiet_since}
+use Rattle.bw_many.specs.Lives.{IsDry, IsFinished, IsFull, Learns, StillTold, TellsFinish, WhereDrained}
 
--- what a link did: it gave these bytes more, took these more, and stayed at its end
+-- what a link did: it gave these bytes more, took these more, and stayed at its end, and finished
 pub record Moves {L : Type 0} (G : LinkGhosts L) (in_bytes out_bytes : List ℕ) (l l' : L) : Type 0 where
   pub given : (xs : List ℕ) → G.given l xs → G.given l' (xs ++ in_bytes)
   pub taken : (ys : List ℕ) → G.taken l ys → G.taken l' (ys ++ out_bytes)
   pub ended : G.ended l → G.ended l'
+  pub finished : G.finished l → G.finished l'
 
 -- nothing moved
 pub no_more : {L : Type 0} (P : L → List ℕ → Type 0) (l l' : L) → ((xs : List ℕ) → P l xs → P l' xs) → (xs : List ℕ) →
@@ -51,7 +53,12 @@ nothing_more e fed gone xs d =
 
 -- a link that nothing was asked of
 pub still : {L : Type 0} (G : LinkGhosts L) (l : L) → Moves G [] [] l l
-still G l = record { given = no_more G.given l l (λ xs p. p); taken = no_more G.taken l l (λ ys p. p); ended = λ p. p }
+still G l = record {
+  given = no_more G.given l l (λ xs p. p);
+  taken = no_more G.taken l l (λ ys p. p);
+  ended = λ p. p;
+  finished = λ p. p;
+}
 
 -- an end that was told stays as it was
 kept_end : {L : Type 0} (G : LinkGhosts L) (l l' : L) (e : Option StreamEnd) → (G.ended l → G.ended l') →
@@ -65,11 +72,26 @@ none_unread : {L : Type 0} (c : Connection L) (unread : List ℕ) → c.phase �
     IsInPhase c.phase c.exchange unread → unread ≡ []
 none_unread c unread serving p = subst (λ x. IsInPhase x c.exchange unread) serving p
 
+-- one that is served is no drained one
+pub served_finished : {L : Type 0} (G : LinkGhosts L) (c : Connection L) → c.phase ≡ phases.Serving → IsFinished G c
+served_finished G c serving = subst (λ (p : Phase). WhereDrained p (G.finished c.link)) (sym serving) tt
+
+-- nor does it end as one
+served_unfinished : (end : ConnectionEnd) (finished : Type 0) → EndsServed end → TellsFinish end finished
+served_unfinished (Over ends.Bye) finished h = tt
+served_unfinished (Over ends.EndOfInput) finished h = tt
+served_unfinished (Over (ends.BadFrame fault)) finished h = inl h
+served_unfinished (Over ends.ReadFault) finished h = tt
+served_unfinished (Over ends.WriteFault) finished h = tt
+served_unfinished (Over ends.TurnLimit) finished h = tt
+served_unfinished (Over ends.Memory) finished h = tt
+served_unfinished Idle finished h = tt
+
 -- a connection that was served is over, and these bytes came last
 pub over : {L : Type 0} (G : LinkGhosts L) (end : ConnectionEnd) (c c' : Connection L) (last : List ℕ) →
     c.phase ≡ phases.Serving → c'.exchange ≡ c.exchange → Moves G last [] c.link c'.link →
-    EndsAs end c.exchange last → TellsFault end (G.broken c'.link) → Goes G (Err end) c [] c'
-over G end c c' last serving exchange m e fault before l =
+    EndsAs end c.exchange last → TellsFault end (G.broken c'.link) → EndsServed end → Goes G (Err end) c [] c'
+over G end c c' last serving exchange m e fault served before l =
     let none = none_unread c l.unread serving l.by_phase in
     record {
       exchange = c.exchange;
@@ -83,6 +105,7 @@ over G end c c' last serving exchange m e fault before l =
       at_end = kept_end G c.link c'.link (end_of c.exchange) m.ended l.at_end;
       by_end = e;
       fault = fault;
+      finished = served_unfinished end (G.finished c'.link) served;
     }
 
 -- one that was drained is over
@@ -102,6 +125,7 @@ drained G fault c c' last phase m before l =
       at_end = kept_end G c.link c'.link (end_of c.exchange) m.ended l.at_end;
       by_end = (in_phase.0, in_phase.2, inr in_phase.1);
       fault = tt;
+      finished = inr (m.finished (subst (λ x. WhereDrained x (G.finished c.link)) phase l.finished));
     }
 
 -- a connection that goes on being served: its exchange did more, and its link gave what was fed and
@@ -126,6 +150,7 @@ steps G c c' piece bytes answered serving still m d end before l =
       done = d l.fed before l.gone l.done;
       at_end = end before l.fed l.gone l.done l.at_end;
       by_phase = subst (λ x. IsInPhase x c'.exchange []) (sym still) refl;
+      finished = served_finished G c' still;
     }
 
 -- where the end stays
@@ -159,16 +184,16 @@ fed_or_over G (Ok x) c c' piece serving still hungry none some short m f =
 fed_or_over G (Err end) c c' piece serving still hungry none some short m f = go f.2
   where
     ends_so : (x : ConnectionEnd) → end ≡ x → EndsAs x c.exchange piece → TellsFault x (G.broken c'.link) →
-        Goes G (Err end) c [] c'
-    ends_so x e k t =
+        EndsServed x → Goes G (Err end) c [] c'
+    ends_so x e k t served =
         over G end c c' piece serving f.0 m (subst (λ y. EndsAs y c.exchange piece) (sym e) k)
-        (subst (λ y. TellsFault y (G.broken c'.link)) (sym e) t)
+        (subst (λ y. TellsFault y (G.broken c'.link)) (sym e) t) (subst EndsServed (sym e) served)
 
     go : (end ≡ Over ends.Memory)
         ⊎ ((end ≡ Over ends.TurnLimit) × (longest_stream < (pending_of c.exchange).fed + length piece)) →
         Goes G (Err end) c [] c'
-    go (inl e) = ends_so (Over ends.Memory) e ((hungry, none), f.1, some, short) tt
-    go (inr e) = ends_so (Over ends.TurnLimit) e.0 ((hungry, none), f.1, e.1) tt
+    go (inl e) = ends_so (Over ends.Memory) e ((hungry, none), f.1, some, short) tt tt
+    go (inr e) = ends_so (Over ends.TurnLimit) e.0 ((hungry, none), f.1, e.1) tt tt
 
 -- an end of the stream is no fault of the link
 pub ends_well : (end : StreamEnd) (broken : Type 0) → TellsFault (Over (ended_by end)) broken
@@ -201,33 +226,66 @@ pub none_left : (xs ys : List ℕ) (n : ℕ) → ys ≡ drop n xs → xs ≡ [] 
 none_left xs ys n e none = e ∙ (ap (λ (x : List ℕ). drop n x) none ∙ drop-nil n)
 
 -- nothing was sent
-pub none_sent : {L : Type 0} (c c' : Connection L) → c'.exchange ≡ c.exchange → c'.readable ≡ c.readable →
-    (c.writable ≡ true → 1 ≤ length (waiting_in c.exchange) → (1 ≤ 0) ⊎ (c'.writable ≡ false)) → Sends c c'
-none_sent c c' exchange readable some = record {
+pub none_sent : {L : Type 0} (G : LinkGhosts L) (c c' : Connection L) → c'.exchange ≡ c.exchange →
+    c'.readable ≡ c.readable → c'.writable ≡ c.writable →
+    (c.writable ≡ true → 1 ≤ length (waiting_in c.exchange) → ⊥) → Sends G c c'
+none_sent G c c' exchange readable writable none = record {
   bytes = [];
   does = subst (DoesMore c.exchange [] [] []) (sym exchange) (does_none c.exchange);
-  some = some;
+  some = λ room some. absurd (none room some);
   up = λ up. subst IsUpToDate (sym exchange) up;
+  room = inl writable;
   readable = readable;
 }
 
+-- nothing was read
+pub none_read : {L : Type 0} (G : LinkGhosts L) (c : Connection L) →
+    (c.readable ≡ true → IsUpToDate c.exchange → ⊥) → Reads G c c
+none_read G c none = record {
+  piece = [];
+  does = does_none c.exchange;
+  some = λ bytes up. absurd (none bytes up);
+  told = inl refl;
+  writable = refl;
+  full = λ full. full;
+}
+
 -- a piece that came was fed
-pub fed_reads : {L : Type 0} (r : Result (Unit {0}) ConnectionEnd) (c c' : Connection L) (piece : List ℕ) →
-    c'.writable ≡ c.writable → 1 ≤ length piece → Feeds piece r c.exchange c'.exchange → OnOk r (Reads c c')
-fed_reads (Ok x) c c' piece writable some f = record {
+pub fed_reads : {L : Type 0} (G : LinkGhosts L) (r : Result (Unit {0}) ConnectionEnd) (c c' : Connection L)
+    (piece : List ℕ) → c'.writable ≡ c.writable → c'.readable ≡ c.readable → (G.full c.link → G.full c'.link) →
+    1 ≤ length piece → Feeds piece r c.exchange c'.exchange → OnOk r (Reads G c c')
+fed_reads G (Ok x) c c' piece writable readable full some f = record {
   piece = piece;
   does = f.0;
   some = λ bytes up. inl some;
+  told = inl readable;
   writable = writable;
+  full = full;
 }
-fed_reads (Err end) c c' piece writable some f = tt
+fed_reads G (Err end) c c' piece writable readable full some f = tt
+
+-- What was told of room before a quantum reads, and of bytes before it answers, stands at its end.
+full_still : {L S : Type 0} (G : LinkGhosts L) (answers : S → Frame → List Reply → S → Type 0) (now : ℕ) (s s' : S)
+    (b c d e : Connection L) → Reads G b c → AnswersHeld G answers now c d s s' → e.writable ≡ d.writable →
+    StillTold G d.link e.link → IsFull G b → IsFull G e
+full_still G answers now s s' b c d e g h room told none = (
+  room ∙ (h.writable ∙ (g.writable ∙ none.0)),
+  told.full (subst (λ l. G.full l) (sym h.link) (g.full none.1)),
+)
+
+dry_still : {L S : Type 0} (G : LinkGhosts L) (answers : S → Frame → List Reply → S → Type 0) (now : ℕ) (s s' : S)
+    (c d e : Connection L) → AnswersHeld G answers now c d s s' → e.readable ≡ d.readable →
+    StillTold G d.link e.link → IsDry G c → IsDry G e
+dry_still G answers now s s' c d e h bytes told none =
+    (bytes ∙ (h.readable ∙ none.0), told.dry (subst (λ l. G.dry l) (sym h.link) none.1))
 
 -- a quantum sends, reads, answers, and looks at the end
 pub moved_on : {L S : Type 0} (G : LinkGhosts L) (answers : S → Frame → List Reply → S → Type 0) (now : ℕ) (s s' : S)
-    (r : Result (Unit {0}) ConnectionEnd) (a b c d e : Connection L) → Sends a b → Reads b c →
-    (h : AnswersHeld G answers now c d s s') → Settles now r d e → OnOk r (Moved a h.answered e)
-moved_on G answers now s s' (Err end) a b c d e f g h k = tt
-moved_on G answers now s s' (Ok x) a b c d e f g h k = record {
+    (r : Result (Unit {0}) ConnectionEnd) (a b c d e : Connection L) → Sends G a b → Reads G b c →
+    (h : AnswersHeld G answers now c d s s') → Settles now r d e → StillTold G d.link e.link →
+    OnOk r (Moved G a h.answered e)
+moved_on G answers now s s' (Err end) a b c d e f g h k told = tt
+moved_on G answers now s s' (Ok x) a b c d e f g h k told = record {
   piece = g.piece ++ [];
   bytes = f.bytes ++ [];
   does = subst (DoesMore a.exchange (g.piece ++ []) h.answered (f.bytes ++ [])) (sym k.1)
@@ -237,15 +295,50 @@ moved_on G answers now s s' (Ok x) a b c d e f g h k = record {
   reads = λ bytes up. reads (g.some (f.readable ∙ bytes) (f.up up));
 }
   where
-    sends : (1 ≤ length f.bytes) ⊎ (b.writable ≡ false) → (1 ≤ length (f.bytes ++ [])) ⊎ (e.writable ≡ false)
+    sends : (1 ≤ length f.bytes) ⊎ IsFull G b → (1 ≤ length (f.bytes ++ [])) ⊎ IsFull G e
     sends (inl n) = inl (subst (λ (x : List ℕ). 1 ≤ length x) (sym (append-nil f.bytes)) n)
-    sends (inr none) = inr (k.5 ∙ (h.writable ∙ (g.writable ∙ none)))
+    sends (inr none) = inr (full_still G answers now s s' b c d e g h k.5 told none)
 
-    reads : (1 ≤ length g.piece) ⊎ (is_some (end_of c.exchange) ≡ true) ⊎ (c.readable ≡ false) →
-        (1 ≤ length (g.piece ++ [])) ⊎ (is_some (end_of e.exchange) ≡ true) ⊎ (e.readable ≡ false)
+    reads : (1 ≤ length g.piece) ⊎ (is_some (end_of c.exchange) ≡ true) ⊎ IsDry G c →
+        (1 ≤ length (g.piece ++ [])) ⊎ (is_some (end_of e.exchange) ≡ true) ⊎ IsDry G e
     reads (inl n) = inl (subst (λ (x : List ℕ). 1 ≤ length x) (sym (append-nil g.piece)) n)
     reads (inr (inl ended)) = inr (inl (ap (λ (x : Exchange). is_some (end_of x)) k.1 ∙ h.ended ended))
-    reads (inr (inr none)) = inr (inr (k.4 ∙ (h.readable ∙ none)))
+    reads (inr (inr none)) = inr (inr (dry_still G answers now s s' c d e h k.4 told none))
+
+-- what it learns of bytes and room
+pub learns_on : {L S : Type 0} (G : LinkGhosts L) (answers : S → Frame → List Reply → S → Type 0) (now : ℕ) (s s' : S)
+    (r : Result (Unit {0}) ConnectionEnd) (a b c d e : Connection L) → Sends G a b → Reads G b c →
+    AnswersHeld G answers now c d s s' → Settles now r d e → StillTold G d.link e.link → OnOk r (Learns G a e)
+learns_on G answers now s s' (Err end) a b c d e f g h k told = tt
+learns_on G answers now s s' (Ok x) a b c d e f g h k told = record { bytes = bytes g.told; room = room f.room }
+  where
+    bytes : (c.readable ≡ b.readable) ⊎ IsDry G c → (e.readable ≡ a.readable) ⊎ IsDry G e
+    bytes (inl same) = inl (k.4 ∙ (h.readable ∙ (same ∙ f.readable)))
+    bytes (inr none) = inr (dry_still G answers now s s' c d e h k.4 told none)
+
+    room : (b.writable ≡ a.writable) ⊎ IsFull G b → (e.writable ≡ a.writable) ⊎ IsFull G e
+    room (inl same) = inl (k.5 ∙ (h.writable ∙ (g.writable ∙ same)))
+    room (inr none) = inr (full_still G answers now s s' b c d e g h k.5 told none)
+
+-- of the same connections
+pub learns_at : {L : Type 0} (G : LinkGhosts L) (was c new c' : Connection L) → was ≡ c → new ≡ c' → Learns G was new →
+    Learns G c c'
+learns_at G was c new c' is to h = subst (λ x. Learns G c x) to (subst (λ x. Learns G x new) is h)
+
+pub finished_at : {L : Type 0} (G : LinkGhosts L) (was c new c' : Connection L) → was ≡ c → new ≡ c' →
+    (IsFinished G was → IsFinished G new) → IsFinished G c → IsFinished G c'
+finished_at G was c new c' is to h =
+    subst (λ x. IsFinished G c → IsFinished G x) to (subst (λ x. IsFinished G x → IsFinished G new) is h)
+
+-- one that stays drained stays finished
+pub finished_still : {L : Type 0} (G : LinkGhosts L) (c c' : Connection L) → c'.phase ≡ c.phase →
+    (G.finished c.link → G.finished c'.link) → IsFinished G c → IsFinished G c'
+finished_still G c c' same keeps h =
+    subst (λ (p : Phase). WhereDrained p (G.finished c'.link)) (sym same) (go c.phase h)
+  where
+    go : (p : Phase) → WhereDrained p (G.finished c.link) → WhereDrained p (G.finished c'.link)
+    go phases.Serving h = tt
+    go (phases.Draining fault) h = keeps h
 
 -- bytes that came were let go
 pub let_go : {L : Type 0} (G : LinkGhosts L) (c c' : Connection L) (piece : List ℕ) → 1 ≤ length piece →
@@ -259,11 +352,12 @@ let_go_at G fault was c new c' is to h =
     (subst (λ x. x.phase ≡ phases.Draining fault → LetsGo G x new) is h)
 
 -- of the same connections
-pub moved_at : {L : Type 0} (was c new c' : Connection L) (answered : List Answered) → was ≡ c → new ≡ c' →
-    (was.phase ≡ phases.Serving → Moved was answered new) → c.phase ≡ phases.Serving → Moved c answered c'
-moved_at was c new c' answered is to h =
-    subst (λ x. c.phase ≡ phases.Serving → Moved c answered x) to
-    (subst (λ x. x.phase ≡ phases.Serving → Moved x answered new) is h)
+pub moved_at : {L : Type 0} (G : LinkGhosts L) (was c new c' : Connection L) (answered : List Answered) → was ≡ c →
+    new ≡ c' → (was.phase ≡ phases.Serving → Moved G was answered new) → c.phase ≡ phases.Serving →
+    Moved G c answered c'
+moved_at G was c new c' answered is to h =
+    subst (λ x. c.phase ≡ phases.Serving → Moved G c answered x) to
+    (subst (λ x. x.phase ≡ phases.Serving → Moved G x answered new) is h)
 
 -- the time stays, or is that of the answer
 pub quiet_on : {L : Type 0} (now : ℕ) (was : Connection L) (answered : List Answered) → was.phase ≡ phases.Serving →
@@ -302,7 +396,7 @@ number_left now (Ok x) c c' s = s.0
 number_left now (Err end) c c' s = s.0
 
 -- an end of the stream behind which nothing may come
-ended_served : (x : StreamEnd) → fault_to_drain x ≡ None → EndsServed (Over (ended_by x))
+pub ended_served : (x : StreamEnd) → fault_to_drain x ≡ None → EndsServed (Over (ended_by x))
 ended_served streams.Bye h = tt
 ended_served streams.EndOfInput h = tt
 ended_served (streams.BadFrame fault) h = only_cut (reason_meaning fault.reason) h
@@ -464,6 +558,7 @@ woken G c c' link exchange phase before l = record {
       (subst (λ y. IfSome (end_so_far (end_of c.exchange)) (λ x. IsFinal x ⊎ G.ended y)) (sym link) l.at_end);
   by_phase = subst (λ (e : Exchange). IsInPhase c'.phase e l.unread) (sym exchange)
       (subst (λ (p : Phase). IsInPhase p c.exchange l.unread) (sym phase) l.by_phase);
+  finished = finished_still G c c' phase (λ h. subst (λ x. G.finished x) (sym link) h) l.finished;
 }
 
 -- a connection at its start
@@ -478,6 +573,7 @@ begun G link number now c given taken b = record {
   done = b.fresh;
   at_end = subst (λ (x : Option StreamEnd). IfSome (end_so_far x) (λ y. IsFinal y ⊎ G.ended c.link)) (sym b.unended) tt;
   by_phase = subst (λ (p : Phase). IsInPhase p c.exchange []) (sym b.serving) refl;
+  finished = served_finished G c b.serving;
 }
 
 some_if : {X : Type 0} (b : Bool) (x y : X) → (if b then Some x else None) ≡ Some y → x ≡ y
@@ -499,6 +595,14 @@ expired_well phases.Serving idle quiet end broken is =
 expired_well (phases.Draining fault) idle quiet end broken is =
     subst (λ x. TellsFault x broken) (some_if (nat_lt longest_drain quiet) (Over (ends.BadFrame fault)) end is) tt
 
+expired_finished : (p : Phase) (idle quiet : ℕ) (end : ConnectionEnd) (finished : Type 0) →
+    expired_by p idle quiet ≡ Some end → WhereDrained p finished → TellsFinish end finished
+expired_finished phases.Serving idle quiet end finished is h =
+    subst (λ x. TellsFinish x finished) (some_if (nat_lt idle quiet) Idle end is) tt
+expired_finished (phases.Draining fault) idle quiet end finished is h =
+    subst (λ x. TellsFinish x finished) (some_if (nat_lt longest_drain quiet) (Over (ends.BadFrame fault)) end is)
+    (inr h)
+
 -- a connection whose time is up is over
 pub expires : {L : Type 0} (G : LinkGhosts L) (now idle : ℕ) (c : Connection L) (end : ConnectionEnd) →
     expired_at now idle c ≡ Some end → (before : List Answered) → Lives G c before → IsOver G end c.link (before ++ [])
@@ -513,4 +617,5 @@ expires G now idle c end is before l = record {
   at_end = l.at_end;
   by_end = expired_as c.phase idle (now - c.since) end c.exchange l.unread is l.by_phase;
   fault = expired_well c.phase idle (now - c.since) end (G.broken c.link) is;
+  finished = expired_finished c.phase idle (now - c.since) end (G.finished c.link) is l.finished;
 }

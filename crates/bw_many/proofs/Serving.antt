@@ -117,6 +117,7 @@ module _ {L : Type 0} (G : LinkGhosts L) (law : ExchangesFollowStreams) where
         };
         tells = tells;
         fault = o.fault;
+        finished = o.finished;
       }
 
   -- a connection that stands

@@ -50,35 +50,58 @@ HasEnded end e unread =
 abbrev pub IsUpToDate : Exchange → Type 0
 IsUpToDate e = (wants_piece e ≡ true) × (waiting_in e ≡ [])
 
--- what sending comes to: some of the bytes that wait were taken, where there might be room, or there
--- is none now
-pub record Sends {L : Type 0} (c c' : Connection L) : Type 0 where
+-- there are no bytes now: its link told so
+abbrev pub IsDry : {L : Type 0} → LinkGhosts L → Connection L → Type 0
+IsDry G c = (c.readable ≡ false) × G.dry c.link
+
+-- there is no room now: its link told so
+abbrev pub IsFull : {L : Type 0} → LinkGhosts L → Connection L → Type 0
+IsFull G c = (c.writable ≡ false) × G.full c.link
+
+-- whether there may be bytes, and room, is as before, but where the link told that there are none,
+-- or none
+pub record Learns {L : Type 0} (G : LinkGhosts L) (c c' : Connection L) : Type 0 where
+  pub bytes : (c'.readable ≡ c.readable) ⊎ IsDry G c'
+  pub room : (c'.writable ≡ c.writable) ⊎ IsFull G c'
+
+-- what a link told of bytes and room stands still
+pub record StillTold {L : Type 0} (G : LinkGhosts L) (l l' : L) : Type 0 where
+  pub dry : G.dry l → G.dry l'
+  pub full : G.full l → G.full l'
+
+-- what sending comes to: some of the bytes that wait were taken, where there might be room, or the
+-- link told that there is none now
+pub record Sends {L : Type 0} (G : LinkGhosts L) (c c' : Connection L) : Type 0 where
   pub bytes : List ℕ
   pub does : DoesMore c.exchange [] [] bytes c'.exchange
   pub some : c.writable ≡ true → 1 ≤ length (waiting_in c.exchange) →
-      (1 ≤ length bytes) ⊎ (c'.writable ≡ false)
+      (1 ≤ length bytes) ⊎ IsFull G c'
   pub up : IsUpToDate c.exchange → IsUpToDate c'.exchange
+  pub room : (c'.writable ≡ c.writable) ⊎ IsFull G c'
   pub readable : c'.readable ≡ c.readable
 
 -- what reading comes to: a piece was fed, where one is wanted and there might be bytes, or no more
--- will come, or there are none now
-pub record Reads {L : Type 0} (c c' : Connection L) : Type 0 where
+-- will come, or the link told that there are none now
+pub record Reads {L : Type 0} (G : LinkGhosts L) (c c' : Connection L) : Type 0 where
   pub piece : List ℕ
   pub does : DoesMore c.exchange piece [] [] c'.exchange
   pub some : c.readable ≡ true → IsUpToDate c.exchange →
-      (1 ≤ length piece) ⊎ (is_some (end_of c'.exchange) ≡ true) ⊎ (c'.readable ≡ false)
+      (1 ≤ length piece) ⊎ (is_some (end_of c'.exchange) ≡ true) ⊎ IsDry G c'
+  pub told : (c'.readable ≡ c.readable) ⊎ IsDry G c'
   pub writable : c'.writable ≡ c.writable
+  pub full : G.full c.link → G.full c'.link
 
--- What a quantum of one that is served moved: as sending and reading say, with these frames answered
--- behind them.
-pub record Moved {L : Type 0} (c : Connection L) (answered : List Answered) (c' : Connection L) : Type 0 where
+-- What a quantum of one that is served moved: as sending and reading say, with these frames
+-- answered behind them.
+pub record Moved {L : Type 0} (G : LinkGhosts L) (c : Connection L) (answered : List Answered)
+    (c' : Connection L) : Type 0 where
   pub piece : List ℕ
   pub bytes : List ℕ
   pub does : DoesMore c.exchange piece answered bytes c'.exchange
   pub sends : c.writable ≡ true → 1 ≤ length (waiting_in c.exchange) →
-      (1 ≤ length bytes) ⊎ (c'.writable ≡ false)
+      (1 ≤ length bytes) ⊎ IsFull G c'
   pub reads : c.readable ≡ true → IsUpToDate c.exchange →
-      (1 ≤ length piece) ⊎ (is_some (end_of c'.exchange) ≡ true) ⊎ (c'.readable ≡ false)
+      (1 ≤ length piece) ⊎ (is_some (end_of c'.exchange) ≡ true) ⊎ IsDry G c'
 
 -- how a connection's exchange stands where it ended so, and what it was not fed of what the link
 -- gave
@@ -93,6 +116,20 @@ EndsAs (Over ends.TurnLimit) e unread = IsUpToDate e × IsTrue (are_bytes unread
 EndsAs (Over ends.Memory) e unread = IsUpToDate e × IsTrue (are_bytes unread)
     × (1 ≤ length unread) × (length unread ≤ longest_piece)
 EndsAs Idle e unread = unread ≡ []
+
+-- it holds of a connection that is drained
+abbrev pub WhereDrained : Phase → Type 0 → Type 0
+WhereDrained phases.Serving holds = Unit {0}
+WhereDrained (phases.Draining fault) holds = holds
+
+-- where it is drained its peer was told that no more bytes will be sent
+abbrev pub IsFinished : {L : Type 0} → LinkGhosts L → Connection L → Type 0
+IsFinished G c = WhereDrained c.phase (G.finished c.link)
+
+-- and at a bad frame that was more than cut off
+abbrev pub TellsFinish : ConnectionEnd → Type 0 → Type 0
+TellsFinish (Over (ends.BadFrame fault)) finished = (reason_meaning fault.reason ≡ Cut) ⊎ finished
+TellsFinish _ finished = Unit {0}
 
 -- a fault is told only of a link that failed
 abbrev pub TellsFault : ConnectionEnd → Type 0 → Type 0
@@ -178,6 +215,7 @@ module _ {L : Type 0} (G : LinkGhosts L) where
     -- an end that more bytes could change is told only where there are no more
     pub at_end : IfSome (end_so_far (end_of c.exchange)) (λ x. IsFinal x ⊎ G.ended c.link)
     pub by_phase : IsInPhase c.phase c.exchange unread
+    pub finished : IsFinished G c
 
   -- a connection over this link ended so, and these are all of its frames that were answered
   pub record IsOver (end : ConnectionEnd) (link : L) (answered : List Answered) : Type 0 where
@@ -191,17 +229,18 @@ module _ {L : Type 0} (G : LinkGhosts L) where
     pub at_end : IfSome (end_so_far (end_of exchange)) (λ x. IsFinal x ⊎ G.ended link)
     pub by_end : EndsAs end exchange unread
     pub fault : TellsFault end (G.broken link)
+    pub finished : TellsFinish end (G.finished link)
 
   -- how a quantum ends a connection that is drained: at its fault, once nothing more comes
   abbrev pub EndsDrained : WireFault → L → ConnectionEnd → Type 0
   EndsDrained fault link end = (end ≡ Over (ends.BadFrame fault)) × (G.ended link ⊎ G.broken link)
 
-  -- of what comes to one that is drained some was let go, where there might be bytes, or there are
-  -- none now
+  -- of what comes to one that is drained some was let go, where there might be bytes, or the link
+  -- told that there are none now
   abbrev pub LetsGo : Connection L → Connection L → Type 0
   LetsGo c c' = c.readable ≡ true → ((piece : List ℕ) × (1 ≤ length piece)
       × ((xs : List ℕ) → G.given c.link xs → G.given c'.link (xs ++ piece)))
-      ⊎ (c'.readable ≡ false)
+      ⊎ IsDry G c'
 
   -- frames more were answered, and it goes on
   abbrev pub Steps : Connection L → List Answered → Connection L → Type 0
@@ -246,9 +285,12 @@ module _ {L : Type 0} (G : LinkGhosts L) where
         MustWait c'.exchange)
     pub since : OnOk result (c'.since ≡ quiet_since now c.since c.phase c'.phase answered)
     pub unended : OnOk result (IsOpen c')
-    pub moved : c.phase ≡ phases.Serving → OnOk result (Moved c answered c')
+    pub moved : c.phase ≡ phases.Serving → OnOk result (Moved G c answered c')
     pub lets_go : (fault : WireFault) → c.phase ≡ phases.Draining fault →
         OnOk result (LetsGo c c')
+    pub learns : OnOk result (Learns G c c')
+    -- where it is drained behind it the peer was told so, now or before
+    pub finished : IsFinished G c → OnOk result (IsFinished G c')
     -- where it is over, it ends so
     pub no_silence : IfErr result IsNoSilence
     pub served : c.phase ≡ phases.Serving → IfErr result EndsServed

@@ -19,7 +19,7 @@ use Rattle.bw_many.specs.declared.connection.ConnectionEnd.TheVariants.{Over, Id
 use Rattle.bw_many.specs.declared.link.Link.{Ghosts as LinkGhosts}
 use Rattle.bw_many.specs.declared.many.Closed.{Closed}
 use Rattle.bw_many.specs.declared.many.Many.{Many}
-use Rattle.bw_many.specs.Lives.{TellsFault}
+use Rattle.bw_many.specs.Lives.{TellsFault, TellsFinish}
 use Rattle.bw_many.specs.Keeping.{Tagged, AreApart, IsAmong, Keeps, Stands, StandsAt, own}
 
 -- all whole frames that came are answered and their replies sent, and the stream has not ended
@@ -78,6 +78,8 @@ module _ {L : Type 0} (G : LinkGhosts L) where
     pub serves : ServesLink link answered
     pub tells : TellsEnd end link serves.stream_end answered serves.input serves.unsent
     pub fault : TellsFault end (G.broken link)
+    -- at a bad frame that was more than cut off the peer was told that no more will be sent
+    pub finished : TellsFinish end (G.finished link)
 
   -- Whatever came between them, the frames of each connection are those of its own link, and what
   -- that took is exactly their replies.

@@ -13,7 +13,7 @@ use Rattle.bw_many.specs.declared.many.Closed.{Closed}
 use Rattle.bw_many.specs.declared.many.Many.{Many}
 use Rattle.bw_many.specs.Keeping.{Adds, StandsAt, tagged, those}
 use Rattle.bw_many.specs.Lives.{Begins, EndsDrained, EndsServed, IsNoSilence, IsOpen, KeepsPeer}
-use Rattle.bw_many.specs.Lives.{LetsGo, Moved, Stays, quantum, quiet_since}
+use Rattle.bw_many.specs.Lives.{IsFinished, Learns, LetsGo, Moved, Stays, quantum, quiet_since}
 use Rattle.bw_many.specs.Places.{begun_of, count_of}
 
 -- the other places are as they were
@@ -87,9 +87,14 @@ pub record WorksAt {L S : Type 0} (G : LinkGhosts L) (answers : S → Frame → 
       c'.since ≡ quiet_since now c.since c.phase c'.phase answered
   -- one that goes on was sent to and read from where that was possible
   pub moved : (c c' : Connection L) → StandsAt m place c → StandsAt m' place c' →
-      c.phase ≡ phases.Serving → Moved c answered c'
+      c.phase ≡ phases.Serving → Moved G c answered c'
   pub lets_go : (c c' : Connection L) (fault : WireFault) → StandsAt m place c →
       StandsAt m' place c' → c.phase ≡ phases.Draining fault → LetsGo G c c'
+  -- that there are no bytes, or no room, is known from its link alone
+  pub learns : (c c' : Connection L) → StandsAt m place c → StandsAt m' place c' → Learns G c c'
+  -- and where it is drained behind it, the peer was told that no more will be sent
+  pub finished : (c c' : Connection L) → StandsAt m place c → StandsAt m' place c' →
+      IsFinished G c → IsFinished G c'
   -- The one that is over stands there no longer. It didn't end for silence; one that was served, at a
   -- bad frame only where it was cut off, since behind every other one it is drained first; and one
   -- that was drained, once nothing more came.

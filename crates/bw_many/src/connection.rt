@@ -53,7 +53,7 @@ pub(crate) struct Connection<L> {
 impl<L: Link> Connection<L> {
     ghost use Rattle.bw_many.specs.Lives.{Begins, Goes, Stays, AnswersHeld, Settles, Works};
     ghost use Rattle.bw_many.specs.Lives.{EndsDrained, IsUpToDate, KeepsPeer, Reads, Sends, can_go_on};
-    ghost use Rattle.bw_many.specs.Lives.{LetsGo, expired_at};
+    ghost use Rattle.bw_many.specs.Lives.{IsFinished, Learns, LetsGo, StillTold, expired_at};
 
     /// A connection over this link, which has given and taken nothing yet.
     ///
@@ -153,7 +153,7 @@ impl<L: Link> Connection<L> {
         ensures peer { KeepsPeer L.Link self.old.link self.new.link }
         ensures stays { Stays self.old self.new }
         ensures served { IfErr result EndsServed }
-        ensures sends { OnOk result (Sends self.old self.new) }
+        ensures sends { OnOk result (Sends L.Link self.old self.new) }
     {
         let waiting = self.exchange.outgoing();
         if !self.writable || waiting.is_empty() {
@@ -183,7 +183,7 @@ impl<L: Link> Connection<L> {
         ensures peer { KeepsPeer L.Link self.old.link self.new.link }
         ensures stays { Stays self.old self.new }
         ensures served { IfErr result EndsServed }
-        ensures reads { OnOk result (Reads self.old self.new) }
+        ensures reads { OnOk result (Reads L.Link self.old self.new) }
     {
         if !self.readable || !self.is_up_to_date() {
             return Ok(());
@@ -243,6 +243,8 @@ impl<L: Link> Connection<L> {
         ensures stays { Stays self.old self.new }
         ensures heard { IfErr result (EndsDrained L.Link fault self.new.link) }
         ensures lets_go { OnOk result (LetsGo L.Link self.old self.new) }
+        ensures learns { OnOk result (Learns L.Link self.old self.new) }
+        ensures finished { L.finished self.old.link → L.finished self.new.link }
     {
         if !self.readable {
             return Ok(());
@@ -268,6 +270,8 @@ impl<L: Link> Connection<L> {
         ensures goes { Goes L.Link result self.old [] self.new }
         ensures peer { KeepsPeer L.Link self.old.link self.new.link }
         ensures settles { Settles now result self.old self.new }
+        ensures told { StillTold L.Link self.old.link self.new.link }
+        ensures finished { OnOk result (IsFinished L.Link self.new) }
     {
         if !self.is_all_out() {
             return Ok(());

@@ -44,6 +44,15 @@ pub trait Link {
     /// It may have failed.
     ghost broken: { Self → Type 0 };
 
+    /// There may be no bytes to give now.
+    ghost dry: { Self → Type 0 };
+
+    /// There may be no room now.
+    ghost full: { Self → Type 0 };
+
+    /// The peer may have been told that no more bytes will be sent.
+    ghost finished: { Self → Type 0 };
+
     /// It may be a link to the one who calls from this address.
     ghost calls_from: { Self → SocketAddr → Type 0 };
 
@@ -55,7 +64,10 @@ pub trait Link {
         ensures taken { (ys : List ℕ) → taken self.old ys → taken self.new ys }
         ensures end { result ≡ Received.Ended → ended self.new }
         ensures fault { result ≡ Received.Failed → broken self.new }
+        ensures nothing { result ≡ Received.Nothing → dry self.new }
         ensures ended { ended self.old → ended self.new }
+        ensures full { full self.old → full self.new }
+        ensures finished { finished self.old → finished self.new }
         ensures peer { (p : SocketAddr) → calls_from self.old p → calls_from self.new p };
 
     /// Takes bytes at the front of these, which are some.
@@ -65,7 +77,9 @@ pub trait Link {
         ensures taken { (ys : List ℕ) → taken self.old ys →
             taken self.new (ys ++ sent result bytes.now) }
         ensures fault { result ≡ Sent.Failed → broken self.new }
+        ensures nothing { result ≡ Sent.Nothing → full self.new }
         ensures ended { ended self.old → ended self.new }
+        ensures finished { finished self.old → finished self.new }
         ensures peer { (p : SocketAddr) → calls_from self.old p → calls_from self.new p };
 
     /// Tells the peer that no more bytes will be sent.
@@ -73,5 +87,8 @@ pub trait Link {
         ensures given { (xs : List ℕ) → given self.old xs → given self.new xs }
         ensures taken { (ys : List ℕ) → taken self.old ys → taken self.new ys }
         ensures ended { ended self.old → ended self.new }
+        ensures dry { dry self.old → dry self.new }
+        ensures full { full self.old → full self.new }
+        ensures finished { finished self.new }
         ensures peer { (p : SocketAddr) → calls_from self.old p → calls_from self.new p };
 }

@@ -32,6 +32,12 @@ impl Link for Socket {
 
     ghost broken = { λ _. ⊤ };
 
+    ghost dry = { λ _. ⊤ };
+
+    ghost full = { λ _. ⊤ };
+
+    ghost finished = { λ _. ⊤ };
+
     ghost calls_from = { λ _ _. ⊤ };
 
     fn receive(&mut self, buffer: &mut [u8]) -> Received {

@@ -56,6 +56,11 @@ pub(crate) struct Scripted {
     sends: usize,
     is_ended: bool,
     is_broken: bool,
+    /// Whether it had no bytes at the last call for some.
+    is_dry: bool,
+    /// Whether it had no room at the last call that offered bytes.
+    is_full: bool,
+    is_finished: bool,
     given: Vec<u8>,
     taken: Vec<u8>,
     record: Rc<RefCell<Record>>,
@@ -74,6 +79,9 @@ impl Scripted {
             sends: 0,
             is_ended: false,
             is_broken: false,
+            is_dry: false,
+            is_full: false,
+            is_finished: false,
             given: Vec::new(alloc),
             taken: Vec::new(alloc),
             record,
@@ -90,17 +98,27 @@ impl Link for Scripted {
 
     ghost broken = { λ l. l.is_broken ≡ true };
 
+    ghost dry = { λ l. l.is_dry ≡ true };
+
+    ghost full = { λ l. l.is_full ≡ true };
+
+    ghost finished = { λ l. l.is_finished ≡ true };
+
     ghost calls_from = { λ _ _. ⊤ };
 
     fn receive(&mut self, buffer: &mut [u8]) -> Received {
         if self.is_ended {
             return Received::Ended;
         }
+        self.is_dry = false;
         let step = step_at(self.script.gives, self.receives);
         self.receives = self.receives.saturating_add(1);
         let most = match step {
             Some(Give::Bytes(most)) => most,
-            Some(Give::Nothing) => return Received::Nothing,
+            Some(Give::Nothing) => {
+                self.is_dry = true;
+                return Received::Nothing;
+            }
             Some(Give::Failed) => {
                 self.is_broken = true;
                 return Received::Failed;
@@ -124,11 +142,15 @@ impl Link for Scripted {
     }
 
     fn send(&mut self, bytes: &[u8]) -> Sent {
+        self.is_full = false;
         let step = step_at(self.script.takes, self.sends);
         self.sends = self.sends.saturating_add(1);
         let most = match step {
             Some(Take::Bytes(most)) => most,
-            Some(Take::Nothing) => return Sent::Nothing,
+            Some(Take::Nothing) => {
+                self.is_full = true;
+                return Sent::Nothing;
+            }
             Some(Take::Failed) => {
                 self.is_broken = true;
                 return Sent::Failed;
@@ -137,6 +159,7 @@ impl Link for Scripted {
         };
         let count = most.min(bytes.len());
         if count == 0 {
+            self.is_full = true;
             return Sent::Nothing;
         }
         let Ok(()) = self.taken.extend_from_slice(&bytes[..count]) else {
@@ -148,6 +171,7 @@ impl Link for Scripted {
     }
 
     fn shut(&mut self) {
+        self.is_finished = true;
         note_shut(&self.record);
     }
 }

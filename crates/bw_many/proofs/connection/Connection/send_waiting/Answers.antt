@@ -10,12 +10,13 @@ pub returns-in-Failed-clause-goes : goal.returns-in-Failed-clause-goes
 returns-in-Failed-clause-goes g c =
     let r = c.in-Failed.ensures in
     over g.L.Link (Over ends.WriteFault) c.args.self.now (record c.args.self.now { link = c.send.new.self }) []
-    c.requires refl (record { given = no_more g.L.Link.given _ _ r.given; taken = r.taken; ended = r.ended })
-    (search rules, refl) (r.fault refl)
+    c.requires refl
+    (record { given = no_more g.L.Link.given _ _ r.given; taken = r.taken; ended = r.ended; finished = r.finished })
+    (search rules, refl) (r.fault refl) tt
 
 pub returns-then-not-self-clause-sends : goal.returns-then-not-self-clause-sends
 returns-then-not-self-clause-sends g c =
-    none_sent c.args.self.now c.then-not-self.self (search rules) (search rules) (search rules)
+    none_sent g.L.Link c.args.self.now c.then-not-self.self (search rules) (search rules) (search rules) (search rules)
 
 pub returns-in-Bytes-clause-sends : goal.returns-in-Bytes-clause-sends
 returns-in-Bytes-clause-sends g c =
@@ -29,6 +30,7 @@ returns-in-Bytes-clause-sends g c =
         none_left (waiting_in c.args.self.now.exchange) (waiting_in c.took.new.self) c.in-Bytes.count
             c.took.ensures.left up.1,
       );
+      room = inl refl;
       readable = refl;
     }
 
@@ -36,7 +38,8 @@ pub returns-in-Nothing-clause-sends : goal.returns-in-Nothing-clause-sends
 returns-in-Nothing-clause-sends g c = record {
   bytes = [];
   does = does_none c.args.self.now.exchange;
-  some = λ room some. inr refl;
+  some = λ room some. inr (refl, c.in-Nothing.ensures.nothing refl);
   up = λ up. up;
+  room = inr (refl, c.in-Nothing.ensures.nothing refl);
   readable = refl;
 }

@@ -2,8 +2,9 @@ use Rattle.std.proofs.Common.{rules, ◌≡◌, ◌∙◌, refl, [], arith, Err}
 use Rattle.bw_many.specs.declared.connection.Phase.TheVariants as phases
 use Rattle.std.proofs.lemmas.Result.{err_from_is_err_and}
 use Rattle.bw_many.proofs.Going.{goes_at_last, not_served, number_left, quiet_as, quiet_drained, quiet_on, steps_on}
-use Rattle.bw_many.proofs.Going.{drained_on, open_left, peer_same, peer_then, waits_left}
-use Rattle.bw_many.proofs.Going.{drained_at, drained_no_silence, moved_on, served_aloud, served_no_silence, settled_served}
+use Rattle.bw_many.proofs.Going.{drained_on, finished_still, learns_on, open_left, peer_same, peer_then, waits_left}
+use Rattle.bw_many.proofs.Going.{drained_at, drained_no_silence, moved_on, served_aloud, served_no_silence}
+use Rattle.bw_many.proofs.Going.{settled_served}
 use Rattle.bw_many.proofs.connection.Connection.work.Goals as goal
 
 pub returns-in-Draining : goal.returns-in-Draining
@@ -25,6 +26,9 @@ returns-in-Draining g c =
           absurd (not_served c.drain.new.self c.in-Draining.fault (d.stays.phase ∙ is) serving));
       moved = λ serving. absurd (not_served old c.in-Draining.fault is serving);
       lets_go = λ fault at. d.lets_go;
+      learns = d.learns;
+      finished = λ was. drained_on c.drain.result
+          (finished_still g.L.Link old c.drain.new.self d.stays.phase d.finished was);
       no_silence = drained_no_silence g.L.Link c.in-Draining.fault c.drain.new.self.link c.drain.result d.heard;
       served = λ serving. absurd (not_served old c.in-Draining.fault is serving);
       heard = λ fault at.
@@ -48,6 +52,8 @@ returns-in_err-send_waiting g c =
       unended = tt;
       moved = λ at. tt;
       lets_go = λ fault at. tt;
+      learns = tt;
+      finished = λ was. tt;
       no_silence = served_aloud c.in_err-send_waiting.field-0.0 c.in_err-send_waiting.ensures.served;
       served = λ at. c.in_err-send_waiting.ensures.served;
       heard = λ fault at. absurd (not_served old fault at serving);
@@ -73,6 +79,8 @@ returns-in_err-receive_piece g c =
       unended = tt;
       moved = λ at. tt;
       lets_go = λ fault at. tt;
+      learns = tt;
+      finished = λ was. tt;
       no_silence = served_aloud c.in_err-receive_piece.field-0.0 c.in_err-receive_piece.ensures.served;
       served = λ at. c.in_err-receive_piece.ensures.served;
       heard = λ fault at. absurd (not_served old fault at serving);
@@ -109,8 +117,11 @@ returns g c =
           (quiet_on c.args.now fed h.answered (phase ∙ serving) held c.settle.new.self c.settle.result h.phase h.since s.settles);
       unended = open_left c.args.now c.settle.result held c.settle.new.self s.settles;
       moved = λ at. moved_on g.L.Link g.T.Turns.answers c.args.now c.args.server.now c.answer_held.new.server
-          c.settle.result old sent fed held c.settle.new.self first.sends then.reads h s.settles;
+          c.settle.result old sent fed held c.settle.new.self first.sends then.reads h s.settles s.told;
       lets_go = λ fault at. absurd (not_served old fault at serving);
+      learns = learns_on g.L.Link g.T.Turns.answers c.args.now c.args.server.now c.answer_held.new.server
+          c.settle.result old sent fed held c.settle.new.self first.sends then.reads h s.settles s.told;
+      finished = λ was. s.finished;
       no_silence = served_no_silence c.settle.result
           (settled_served c.args.now c.settle.result held c.settle.new.self s.settles);
       served = λ at. settled_served c.args.now c.settle.result held c.settle.new.self s.settles;

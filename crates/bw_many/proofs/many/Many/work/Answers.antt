@@ -3,7 +3,7 @@ use Rattle.bw_engine.specs.Answering.{Answered}
 use Rattle.bw_engine.specs.Done.{MustWait}
 use Rattle.bw_many.specs.declared.connection.Phase.TheVariants as phases
 use Rattle.bw_many.specs.Lives.{EndsDrained, EndsServed, IsNoSilence, IsOpen, IsOver, KeepsPeer, Lives, quantum}
-use Rattle.bw_many.proofs.Going.{let_go_at, moved_at, quiet_at}
+use Rattle.bw_many.proofs.Going.{finished_at, learns_at, let_go_at, moved_at, quiet_at}
 use Rattle.bw_many.proofs.Standing.{adds_closed, adds_none, adds_on, keeps_free, not_some, sets_again, some_is}
 use Rattle.bw_many.proofs.many.Many.work.Goals as goal
 
@@ -27,6 +27,8 @@ returns-in_default g c =
       since = λ d e at there. absurd (not_some d (some_is None (Some d) (sym t.was ∙ at)));
       moved = λ d e at. absurd (not_some d (some_is None (Some d) (sym t.was ∙ at)));
       lets_go = λ d e fault at. absurd (not_some d (some_is None (Some d) (sym t.was ∙ at)));
+      learns = λ d e at. absurd (not_some d (some_is None (Some d) (sym t.was ∙ at)));
+      finished = λ d e at. absurd (not_some d (some_is None (Some d) (sym t.was ∙ at)));
       left = tt;
       no_silence = tt;
       served = λ d at serving. tt;
@@ -66,12 +68,18 @@ returns-in-Ok g c =
       since = λ d e at there. quiet_at c.args.now was d new e w.answered
           (some_is was d (some_is (Some was) (Some d) (sym t.was ∙ at)))
           (some_is new e (some_is (Some new) (Some e) (sym sets.there ∙ there))) w.since;
-      moved = λ d e at there. moved_at was d new e w.answered
+      moved = λ d e at there. moved_at g.L.Link was d new e w.answered
           (some_is was d (some_is (Some was) (Some d) (sym t.was ∙ at)))
           (some_is new e (some_is (Some new) (Some e) (sym sets.there ∙ there))) w.moved;
       lets_go = λ d e fault at there. let_go_at g.L.Link fault was d new e
           (some_is was d (some_is (Some was) (Some d) (sym t.was ∙ at)))
           (some_is new e (some_is (Some new) (Some e) (sym sets.there ∙ there))) (w.lets_go fault);
+      learns = λ d e at there. learns_at g.L.Link was d new e
+          (some_is was d (some_is (Some was) (Some d) (sym t.was ∙ at)))
+          (some_is new e (some_is (Some new) (Some e) (sym sets.there ∙ there))) w.learns;
+      finished = λ d e at there. finished_at g.L.Link was d new e
+          (some_is was d (some_is (Some was) (Some d) (sym t.was ∙ at)))
+          (some_is new e (some_is (Some new) (Some e) (sym sets.there ∙ there))) w.finished;
       left = tt;
       no_silence = tt;
       served = λ d at serving. tt;
@@ -108,6 +116,8 @@ returns-in-Err g c =
       since = λ d e at there. absurd (not_some e (some_is None (Some e) (sym t.sets.there ∙ there)));
       moved = λ d e at there. absurd (not_some e (some_is None (Some e) (sym t.sets.there ∙ there)));
       lets_go = λ d e fault at there. absurd (not_some e (some_is None (Some e) (sym t.sets.there ∙ there)));
+      learns = λ d e at there. absurd (not_some e (some_is None (Some e) (sym t.sets.there ∙ there)));
+      finished = λ d e at there. absurd (not_some e (some_is None (Some e) (sym t.sets.there ∙ there)));
       left = λ d at. absurd (not_some d (some_is None (Some d) (sym t.sets.there ∙ at)));
       no_silence = subst (λ y. IsNoSilence y.end) (sym is) w.no_silence;
       served = λ d at serving. subst (λ y. EndsServed y.end) (sym is)
