@@ -1,5 +1,5 @@
 //! A lobby over sockets whose waits let recorders go on, so that all is in one thread.
-ghost use Rattle.std.specs.Prelude.{◌≡◌, [], IfOk};
+ghost use Rattle.std.specs.Prelude.{◌≡◌, [], IfOk, ⊤};
 
 use crate::recorder::{Act, Recorder, Scene};
 use bw_many::Link;
@@ -32,6 +32,8 @@ pub(crate) struct Stage<'a> {
     time: Time,
     waits: u64,
     failures: u64,
+    /// For how many milliseconds it was to wait at most the last time.
+    patience: u64,
     /// What was told last for the time.
     now: u64,
     recorders: Vec<Recorder>,
@@ -71,6 +73,7 @@ impl<'a> Stage<'a> {
             time,
             waits: 0,
             failures: 0,
+            patience: 0,
             now: 0,
             recorders,
             done,
@@ -120,6 +123,7 @@ impl<'a> Stage<'a> {
     fn wait_in_time(&mut self, most: u64) -> Result<(), WaitFault>
         ensures failures { self.new.failures ≡ self.old.failures }
         ensures waits { self.new.waits ≡ self.old.waits }
+        ensures patience { self.new.patience ≡ self.old.patience }
     {
         if self.lobby.now() > LONGEST_RUN {
             return Err(WaitFault);
@@ -133,6 +137,7 @@ impl<'a> Stage<'a> {
     fn step(&mut self)
         ensures failures { self.new.failures ≡ self.old.failures }
         ensures waits { self.new.waits ≡ self.old.waits }
+        ensures patience { self.new.patience ≡ self.old.patience }
     {
         for recorder in self.recorders.iter_mut() {
             let scene = Scene {
@@ -148,6 +153,7 @@ impl<'a> Stage<'a> {
     fn note(&mut self)
         ensures failures { self.new.failures ≡ self.old.failures }
         ensures waits { self.new.waits ≡ self.old.waits }
+        ensures patience { self.new.patience ≡ self.old.patience }
     {
         for (count, recorder) in self.done.iter_mut().zip(self.recorders.iter()) {
             *count = recorder.done();
@@ -164,7 +170,12 @@ impl Lobby for Stage<'_> {
 
     ghost time = { λ s. s.now };
 
+    ghost patience = { λ s. s.patience };
+
+    ghost told = { λ _ _. ⊤ };
+
     fn wait(&mut self, most: u64) -> Result<(), WaitFault> {
+        self.patience = most;
         let waited = self.wait_in_time(most);
         match waited {
             Ok(()) => self.waits = self.waits.saturating_add(1),

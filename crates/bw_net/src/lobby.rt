@@ -1,5 +1,5 @@
 //! Where many recorders come over TCP, and what tells which of their sockets can go on.
-ghost use Rattle.std.specs.Prelude.{◌≡◌, ◌||◌, ◌+◌, IfOk};
+ghost use Rattle.std.specs.Prelude.{◌≡◌, ◌||◌, ◌+◌, IfOk, ⊤};
 ghost use Rattle.mio.specs.Event.{event_token, is_error, is_readable, is_read_closed};
 ghost use Rattle.mio.specs.Event.{is_writable, is_write_closed};
 ghost use Rattle.mio.specs.Events.{capacity as room_of};
@@ -33,6 +33,8 @@ pub struct TcpLobby<'a> {
     start: Instant,
     /// When the time could last be told, in milliseconds since the start.
     now: u64,
+    /// For how many milliseconds it was to wait at most the last time.
+    patience: u64,
     failures: u64,
     waits: u64,
 }
@@ -72,6 +74,7 @@ impl<'a> TcpLobby<'a> {
             seen: 0,
             start: Instant::now(rt)?,
             now: 0,
+            patience: 0,
             failures: 0,
             waits: 0,
         })
@@ -87,8 +90,13 @@ impl Lobby for TcpLobby<'_> {
 
     ghost time = { λ l. l.now };
 
+    ghost patience = { λ l. l.patience };
+
+    ghost told = { λ _ _. ⊤ };
+
     fn wait(&mut self, most: u64) -> Result<(), WaitFault> {
         self.seen = 0;
+        self.patience = most;
         let longest = Duration::from_millis(most);
         match self.poll.poll(&mut self.events, Some(longest)) {
             // A signal ends a wait, not the server.

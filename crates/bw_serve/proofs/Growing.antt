@@ -12,11 +12,10 @@ use Rattle.bw_many.specs.declared.link.Link.{Ghosts as LinkGhosts}
 use Rattle.bw_many.specs.declared.many.Closed.{Closed}
 use Rattle.bw_many.specs.declared.many.Many.{Many}
 use Rattle.bw_many.specs.Keeping.{Adds, Keeps, Tagged, all_answered, tagged}
-use Rattle.bw_many.specs.Places.{begun_of, can_go_on_at, count_of}
+use Rattle.bw_many.specs.Places.{begun_of, can_go_on_at}
 use Rattle.bw_many.specs.Working.{StaysAt, StoodAt, StoodUnder}
 use Rattle.bw_transfer.specs.Tallies.{up_to_last}
-use Rattle.bw_serve.specs.Crowds.{Advances, Counts, Grows, HasSeats, InTurn, IsNew, ServesInRounds, ServesPlace, ServesRound}
-use Rattle.bw_serve.specs.Crowds.{Stays, can_go_on_below}
+use Rattle.bw_serve.specs.Crowds.{Advances, Counts, Grows, HasSeats, InTurn, ServesPlace, Stays, can_go_on_below}
 use Rattle.bw_serve.specs.Lines.{TellsEnds}
 use Rattle.bw_serve.specs.declared.crowd.Crowd.{Crowd}
 use Rattle.bw_serve.proofs.Counting.{counts_stood, tells_none, tells_then}
@@ -165,10 +164,10 @@ module _ {L S O E : Type 0} (G : LinkGhosts L) (answers : S → Frame → List R
   pub place_advances : (now idle place : ℕ) (a b : Crowd L) (s t : S) (o p : O) (e f : E) →
       ServesPlace G answers out told log now idle place a b s t o p e f → Advances G answers out told log a b s t o p e f
   place_advances now idle place a b s t o p e f x = record {
-    more = tagged x.number x.answered;
+    more = tagged x.works.number x.works.answered;
     closed = x.closed;
-    by_server = subst (λ (xs : List Answered). AnswersAll answers s xs t) (sym (answered_by x.number x.answered))
-        x.by_server;
+    by_server = subst (λ (xs : List Answered). AnswersAll answers s xs t) (sym (answered_by x.works.number x.works.answered))
+        x.works.by_server;
     adds = x.adds;
     prints = x.prints;
     tells = x.tells;
@@ -206,27 +205,3 @@ module _ {L S O E : Type 0} (G : LinkGhosts L) (answers : S → Frame → List R
   turn_advances now idle (suc n) a b s t o p e f x =
       advances_then a x.0 b s x.1 t o x.2 p e x.3 f (turn_advances now idle n a x.0 s x.1 o x.2 e x.3 x.4)
       (place_advances now idle n x.0 b x.1 t x.2 p x.3 f x.5)
-
-  -- what a round adds
-  pub round_advances : (now idle : ℕ) (a b : Crowd L) (s t : S) (o p : O) (e f : E) →
-      ServesRound G answers out told log now idle a b s t o p e f → Advances G answers out told log a b s t o p e f
-  round_advances now idle a b s t o p e f x =
-      advances_then a x.between b s s t o o p e e f (advances_none a x.between s o e x.grows)
-      (turn_advances now idle (count_of x.between.many) x.between b s t o p e f x.in_turn)
-
-  -- one round more
-  pub rounds_more : (places now idle : ℕ) (a b : Crowd L) (s t u : S) (o p q : O) (e f g : E) →
-      ServesInRounds G answers out told log places idle a s t o p e f →
-      ServesRound G answers out told log now idle a b t u p q f g →
-      ServesInRounds G answers out told log places idle b s u o q e g
-  rounds_more places now idle a b s t u o p q e f g x y = record {
-    empty = x.empty;
-    new = x.new;
-    count = suc x.count;
-    each = (a, t, p, f, now, x.each, y);
-  }
-
-  -- no round yet
-  pub no_rounds : (places idle : ℕ) (c : Crowd L) (s : S) (o : O) (e : E) → IsNew G places c →
-      ServesInRounds G answers out told log places idle c s s o o e e
-  no_rounds places idle c s o e n = record { empty = c; new = n; count = 0; each = (refl, refl, refl, refl) }

@@ -1,5 +1,7 @@
 mod Counting
 mod Growing
+mod Noticing
+mod Rounds
 mod Leaving
 mod Quanta
 mod Running

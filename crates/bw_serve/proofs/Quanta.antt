@@ -20,7 +20,7 @@ use Rattle.bw_many.specs.Places.{end_told, expired_there}
 use Rattle.bw_many.specs.Working.{EndsIts, IsEmpty, StaysAt, StoodAt, StoodUnder}
 use Rattle.bw_many.proofs.Standing.{not_some, own-kept, some_is}
 use Rattle.bw_transfer.specs.Tallies.{with_frame}
-use Rattle.bw_serve.specs.Crowds.{AreSilent, Counts, CountsOwn, SeatOf, ServesPlace, WorksCounted}
+use Rattle.bw_serve.specs.Crowds.{AreSilent, Counts, CountsOwn, LooksBehind, SeatOf, ServesPlace, WorksCounted}
 use Rattle.bw_serve.specs.Lines.{LogsEnds, counted_of}
 use Rattle.bw_serve.specs.Seats.{LogsAt}
 use Rattle.bw_serve.specs.declared.crowd.Crowd.{Crowd}
@@ -180,19 +180,19 @@ pub place_served : {L S O E : Type 0} (G : LinkGhosts L) (answers : S → Frame 
     ((d : Connection L) → StandsAt m place d → expired_at now idle d ≡ None) →
     Counts out a b (those first ++ rest) o p →
     TellsThose G told log place a.many mid.seats.items (those first ++ rest) e f →
+    LooksBehind now idle place first mid.many (those first ++ rest) m →
     ServesPlace G answers out told log now idle place a b s t o p e f
 place_served {L} G answers out told log place now idle a mid b m first rest s t o p e f counted adds stays stood is seats
-    silent in_time prints tells =
+    silent in_time prints tells behind =
     let w = counted.works in
     let stays' : StaysAt place mid.many b.many = subst (λ x. StaysAt place mid.many x) (sym is) stays in
     let stood' : StoodAt place mid.many b.many = subst (λ x. StoodAt place mid.many x) (sym is) stood in
     record {
-      number = w.number;
-      answered = w.answered;
+      first = first;
+      between = mid.many;
+      works = w;
       closed = those first ++ rest;
-      by_server = w.by_server;
-      most = w.most;
-      is_its = w.is_its;
+      behind = subst (λ x. LooksBehind now idle place first mid.many (those first ++ rest) x) (sym is) behind;
       adds = subst (λ x. Adds G a.many (tagged w.number w.answered) (those first ++ rest) x) (sym is)
           (subst (λ (xs : List Tagged). Adds G a.many xs (those first ++ rest) m)
           (append-nil (tagged w.number w.answered))
@@ -205,7 +205,6 @@ place_served {L} G answers out told log place now idle a mid b m first rest s t 
         stays'.1 ∙ w.others.1,
       );
       seats_are = ap (λ v. vec_len v) seats ∙ counted.seats_are;
-      waits = λ d at. w.waits d (stood' d at);
       silent = silent;
       in_time = subst (λ (x : Many L). (d : Connection L) → StandsAt x place d → expired_at now idle d ≡ None) (sym is)
           in_time;

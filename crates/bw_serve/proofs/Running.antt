@@ -14,14 +14,16 @@ use Rattle.bw_many.specs.Keeping.{Keeps, Tagged, all_answered}
 use Rattle.bw_many.specs.Places.{begun_of}
 use Rattle.bw_many.specs.Served.{EachIsServed}
 use Rattle.bw_transfer.specs.Tallies.{up_to_last}
-use Rattle.bw_serve.specs.Crowds.{Advances, CountsOwn, Grows, IsNew, IsShut, ServesInRounds, ServesRound}
+use Rattle.bw_serve.specs.Crowds.{Advances, CountsOwn, Grows, IsNew, IsShut}
+use Rattle.bw_serve.specs.Rounds.{ServesInRounds, ServesRound}
 use Rattle.bw_serve.specs.Lines.{LogsEnds, TellsEnds}
 use Rattle.bw_serve.specs.Serving.{EndsAt, HasServed}
 use Rattle.bw_serve.specs.declared.crowd.Crowd.{Crowd}
 use Rattle.bw_serve.specs.declared.lobby.Lobby.{Ghosts as LobbyGhosts}
 use Rattle.bw_serve.specs.declared.serving.Bounds.{Bounds}
 use Rattle.bw_serve.proofs.Counting.{logs_still, logs_then, logs_unasked}
-use Rattle.bw_serve.proofs.Growing.{advances_none, ends_then, round_advances}
+use Rattle.bw_serve.proofs.Growing.{advances_none, ends_then}
+use Rattle.bw_serve.proofs.Rounds.{round_advances}
 
 -- one wait more counts one round more, as far as is counted
 pub waited_more : (round waits : ℕ) → round < 2 ^ 64 - 1 → round ≤ waits → round + 1 ≤ one_more waits
@@ -76,10 +78,11 @@ module _ {L S O E : Type 0} (G : LinkGhosts L) (answers : S → Frame → List R
       }
 
   -- .. behind a round
-  pub round_so_far : (now idle : ℕ) (c d : Crowd L) (s t u : S) (o p q : O) (e f g : E) → SoFar c s t o p e f →
-      ServesRound G answers out told log now idle c d t u p q f g → SoFar d s u o q e g
-  round_so_far now idle c d s t u o p q e f g x y =
-      more_so_far c d s t u o p q e f g x (round_advances G answers out told log now idle c d t u p q f g y)
+  pub round_so_far : {B : Type 0} (lobby : LobbyGhosts B L) (idle : ℕ) (c d : Crowd L) (s t u : S) (b b' : B)
+      (o p q : O) (e f g : E) → SoFar c s t o p e f →
+      ServesRound lobby G answers out told log idle c d t u b b' p q f g → SoFar d s u o q e g
+  round_so_far lobby idle c d s t u b b' o p q e f g x y =
+      more_so_far c d s t u o p q e f g x (round_advances lobby G answers out told log idle c d t u b b' p q f g y)
 
   -- .. and where no more are let in
   pub shut_so_far : (c d : Crowd L) (s t u : S) (o p q : O) (e f g : E) → SoFar c s t o p e f →
@@ -91,13 +94,15 @@ module _ {L S O E : Type 0} (G : LinkGhosts L) (answers : S → Frame → List R
       (advances_none G answers out told log c d t p f y.grows))))
 
   -- .. nor was anything else done
-  pub shut_rounds : (places idle : ℕ) (c d : Crowd L) (s t u : S) (o p q : O) (e f g : E) →
-      ServesInRounds G answers out told log places idle c s t o p e f → IsShut G c d t u p q f g →
-      ServesInRounds G answers out told log places idle c s u o q e g
-  shut_rounds places idle c d s t u o p q e f g x y =
-      subst (λ (v : S). ServesInRounds G answers out told log places idle c s v o q e g) (sym y.server)
-      (subst (λ (r : O). ServesInRounds G answers out told log places idle c s t o r e g) (sym y.printed)
-      (subst (λ (h : E). ServesInRounds G answers out told log places idle c s t o p e h) (sym y.logged) x))
+  pub shut_rounds : {B : Type 0} (lobby : LobbyGhosts B L) (places idle exchanges : ℕ) (c d : Crowd L) (s t u : S)
+      (b b' : B) (o p q : O) (e f g : E) →
+      ServesInRounds lobby G answers out told log places idle exchanges c s t b b' o p e f → IsShut G c d t u p q f g →
+      ServesInRounds lobby G answers out told log places idle exchanges c s u b b' o q e g
+  shut_rounds lobby places idle n c d s t u b b' o p q e f g x y =
+      subst (λ (v : S). ServesInRounds lobby G answers out told log places idle n c s v b b' o q e g) (sym y.server)
+      (subst (λ (r : O). ServesInRounds lobby G answers out told log places idle n c s t b b' o r e g) (sym y.printed)
+      (subst (λ (h : E). ServesInRounds lobby G answers out told log places idle n c s t b b' o p e h)
+      (sym y.logged) x))
 
   -- as many have ended as were asked for
   pub all_ended : (exchanges : ℕ) (c : Crowd L) (s s' : S) (o o' : O) (e e' : E) (x : SoFar c s s' o o' e e') →
@@ -106,15 +111,17 @@ module _ {L S O E : Type 0} (G : LinkGhosts L) (answers : S → Frame → List R
 
   -- it ends so
   pub has_served : {B : Type 0} (lobby : LobbyGhosts B L) → EachIsServed G → (bounds : Bounds) (exit : Exit)
-      (behind c : Crowd L) (s s' : S) (b b' : B) (o o' : O) (e e' : E) →
-      ServesInRounds G answers out told log bounds.places bounds.idle behind s s' o o' e e' → Grows G behind c →
+      (behind c : Crowd L) (s s' : S) (b lobby_behind b' : B) (o o' : O) (e e' : E) →
+      ServesInRounds lobby G answers out told log bounds.places bounds.idle bounds.exchanges behind s s' b lobby_behind
+      o o' e e' → Grows G behind c →
       (x : SoFar c s s' o o' e e') → begun_of c.many ≤ bounds.exchanges →
       EndsAt lobby exit bounds.exchanges (length x.over) b b' →
       HasServed lobby G answers out told log bounds exit s s' b b' o o' e e'
-  has_served lobby law bounds exit behind c s s' b b' o o' e e' rounds last x most ends = record {
+  has_served lobby law bounds exit behind c s s' b lobby_behind b' o o' e e' rounds last x most ends = record {
     trace = x.trace;
     by_server = x.by_server;
     behind = behind;
+    lobby_behind = lobby_behind;
     in_rounds = rounds;
     crowd = c;
     last = last;

@@ -1,22 +1,22 @@
 -- What a crowd's calls come to.
-use Rattle.std.specs.Prelude.{◌≡◌, ℕ, zero, suc, ◌+◌, ◌-◌, ◌≤◌, ◌<◌, Bool, false, ◌||◌}
-use Rattle.std.specs.Prelude.{Option, Some, None, List, [], ◌++◌, fold, length, slice_get, vec_len}
+use Rattle.std.specs.Prelude.{◌≡◌, ◌⊎◌, ℕ, zero, suc, ◌+◌, ◌-◌, ◌<◌, Bool, false, ◌||◌, IfSome}
+use Rattle.std.specs.Prelude.{Option, Some, None, List, [], ◌∷◌, ◌++◌, fold, length, slice_get}
+use Rattle.std.specs.Prelude.{vec_len}
 use Rattle.std.specs.List.{AllByRecursion}
 use Rattle.bw_model.specs.Wire.{Frame}
 use Rattle.bw_model.specs.Replies.{Reply}
 use Rattle.bw_stream.specs.declared.sink.Sink.{Ghosts as Writer}
-use Rattle.bw_engine.specs.Answering.{Answered, AnswersAll, frames_of}
-use Rattle.bw_engine.specs.Done.{MustWait}
+use Rattle.bw_engine.specs.Answering.{AnswersAll, frames_of}
 use Rattle.bw_many.specs.declared.connection.Connection.{Connection}
 use Rattle.bw_many.specs.declared.connection.ConnectionEnd.TheVariants as ends
-use Rattle.bw_many.specs.declared.connection.Phase.TheVariants as phases
 use Rattle.bw_many.specs.declared.link.Link.{Ghosts as LinkGhosts}
 use Rattle.bw_many.specs.declared.many.Closed.{Closed}
+use Rattle.bw_many.specs.declared.many.Many.{Many}
 use Rattle.bw_many.specs.Keeping.{Adds, Keeps, Sets, StandsAt, Tagged}
-use Rattle.bw_many.specs.Keeping.{all_answered, own, tagged}
-use Rattle.bw_many.specs.Lives.{expired_at, quantum}
-use Rattle.bw_many.specs.Places.{begun_of, can_go_on_at, count_of}
-use Rattle.bw_many.specs.Working.{StaysAt, WorksAt}
+use Rattle.bw_many.specs.Keeping.{all_answered, own, tagged, those}
+use Rattle.bw_many.specs.Lives.{Begins, expired_at}
+use Rattle.bw_many.specs.Places.{begun_of, can_go_on_at, count_of, end_told, expired_there}
+use Rattle.bw_many.specs.Working.{IsEmpty, StaysAt, StoodAt, WorksAt}
 use Rattle.bw_transfer.specs.Tallies.{up_to_last, with_frame}
 use Rattle.bw_serve.specs.Lines.{LogsEnds, TellsEnds, counted_of}
 use Rattle.bw_serve.specs.declared.crowd.Crowd.{Crowd}
@@ -73,6 +73,24 @@ pub record Stays {L : Type 0} (G : LinkGhosts L) (c c' : Crowd L) : Type 0 where
   pub grows : Grows G c c'
   pub begun : begun_of c'.many ≡ begun_of c.many
 
+-- A connection that begins at this time, over some link and under some number.
+abbrev pub Comes : {L : Type 0} → ℕ → Connection L → Type 0
+Comes {L} now d = (link : L) × (number : ℕ) × Begins link number now d
+
+-- who stood at a place stands there, as it is, and each other who stands comes at this time
+pub record LetsIn {L : Type 0} (now : ℕ) (c c' : Crowd L) : Type 0 where
+  pub stands : (i : ℕ) (d : Connection L) → StandsAt c.many i d → StandsAt c'.many i d
+  pub came : (i : ℕ) (d : Connection L) → StandsAt c'.many i d → StandsAt c.many i d ⊎ Comes now d
+
+-- What is done behind the quantum at a place: nothing where its connection is over by it; else that
+-- is ended where it was quiet, or drained, for too long, as it stands behind its quantum.
+abbrev pub LooksBehind : {L : Type 0} → ℕ → ℕ → ℕ → Option (Closed L) → Many L →
+    List (Closed L) → Many L → Type 0
+LooksBehind now idle place (Some x) m closed m' = (closed ≡ x ∷ []) × (m' ≡ m)
+LooksBehind {L} now idle place None m closed m' = (last : Option (Closed L)) × (closed ≡ those last)
+    × (end_told last ≡ expired_there now idle m place) × StaysAt place m m' × StoodAt place m m'
+    × IfSome last (λ x. IsEmpty place m')
+
 -- some were perhaps let in, and nothing else was done
 pub record IsShut {L S O E : Type 0} (G : LinkGhosts L) (c c' : Crowd L) (s s' : S) (o o' : O)
     (e e' : E) : Type 0 where
@@ -112,28 +130,25 @@ module _ {L S : Type 0} (G : LinkGhosts L) (answers : S → Frame → List Reply
 
 module _ {L S O E : Type 0} (G : LinkGhosts L) (answers : S → Frame → List Reply → S → Type 0)
     (out : Writer O) (told : Writer E) (log : Bool) where
-  -- At this time the connection at a place had its quantum: it answered no more frames, and fewer
-  -- only where its exchange must wait; or it is over, and its line is printed, and told of.
+  -- At this time the connection at a place had its quantum, and only behind that its silence was
+  -- looked at. Of one that is over the line is printed, and it is told of.
   pub record ServesPlace (now idle place : ℕ) (c c' : Crowd L) (s s' : S) (o o' : O) (e e' : E)
       : Type 0 where
-    pub number : ℕ
-    pub answered : List Answered
+    pub first : Option (Closed L)
+    pub between : Many L
+    pub works : WorksAt G answers place now first c.many between s s'
     pub closed : List (Closed L)
-    pub by_server : AnswersAll answers s answered s'
-    pub most : length answered ≤ quantum
-    pub is_its : (d : Connection L) → StandsAt c.many place d → d.number ≡ number
-    pub adds : Adds G c.many (tagged number answered) closed c'.many
+    pub behind : LooksBehind now idle place first between closed c'.many
+    pub adds : Adds G c.many (tagged works.number works.answered) closed c'.many
     pub stays : StaysAt place c.many c'.many
     pub seats_are : vec_len c'.seats ≡ vec_len c.seats
-    pub waits : (d : Connection L) → StandsAt c'.many place d → d.phase ≡ phases.Serving →
-        length answered < quantum → MustWait d.exchange
     -- it ended for its silence only where it answered nothing, for longer than so many milliseconds
     pub silent : (d : Connection L) → StandsAt c.many place d → AllByRecursion
-        (λ x. x.end ≡ ends.Idle → (answered ≡ []) × (idle < now - d.since)) closed
+        (λ x. x.end ≡ ends.Idle → (works.answered ≡ []) × (idle < now - d.since)) closed
     -- and goes on only where it was not quiet, or drained, for too long
     pub in_time : (d : Connection L) → StandsAt c'.many place d → expired_at now idle d ≡ None
     pub prints : Counts out c c' closed o o'
-    pub tells : Tells G told log c (tagged number answered) closed c' e e'
+    pub tells : Tells G told log c (tagged works.number works.answered) closed c' e e'
 
   -- the connections at the first places had a quantum each, one after another
   abbrev pub InTurn : ℕ → ℕ → ℕ → Crowd L → Crowd L → S → S → O → O → E → E → Type 0
@@ -141,28 +156,6 @@ module _ {L S O E : Type 0} (G : LinkGhosts L) (answers : S → Frame → List R
   InTurn now idle (suc place) c c' s s' o o' e e' = (d : Crowd L) × (t : S) × (p : O) × (f : E)
       × InTurn now idle place c d s t o p e f
       × ServesPlace now idle place d c' t s' p o' f e'
-
-  -- a round at this time: those who came were let in, and then each place had its quantum
-  pub record ServesRound (now idle : ℕ) (c c' : Crowd L) (s s' : S) (o o' : O) (e e' : E)
-      : Type 0 where
-    pub between : Crowd L
-    pub grows : Grows G c between
-    pub in_turn : InTurn now idle (count_of between.many) between c' s s' o o' e e'
-
-  -- so many rounds, one behind another, each at some time
-  abbrev pub ServesRounds : ℕ → ℕ → Crowd L → Crowd L → S → S → O → O → E → E → Type 0
-  ServesRounds idle zero c c' s s' o o' e e' = (c' ≡ c) × (s' ≡ s) × (o' ≡ o) × (e' ≡ e)
-  ServesRounds idle (suc n) c c' s s' o o' e e' = (d : Crowd L) × (t : S) × (p : O) × (f : E)
-      × (now : ℕ) × ServesRounds idle n c d s t o p e f
-      × ServesRound now idle d c' t s' p o' f e'
-
-  -- rounds from an empty crowd on, in which a silent connection is ended behind so many milliseconds
-  pub record ServesInRounds (places idle : ℕ) (c : Crowd L) (s s' : S) (o o' : O) (e e' : E)
-      : Type 0 where
-    pub empty : Crowd L
-    pub new : IsNew G places empty
-    pub count : ℕ
-    pub each : ServesRounds idle count empty c s s' o o' e e'
 
   -- frames more were answered, and the lines of those that are over printed, and told of
   pub record Advances (c c' : Crowd L) (s s' : S) (o o' : O) (e e' : E) : Type 0 where

@@ -2,5 +2,6 @@ pub mod Lobbies
 pub mod Lines
 pub mod Seats
 pub mod Crowds
+pub mod Rounds
 pub mod Serving
 pub mod HostedMany

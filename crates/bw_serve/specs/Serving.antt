@@ -14,7 +14,8 @@ use Rattle.bw_many.specs.Places.{begun_of}
 use Rattle.bw_many.specs.Served.{ServesEach}
 use Rattle.bw_serve.specs.declared.crowd.Crowd.{Crowd}
 use Rattle.bw_serve.specs.declared.serving.Bounds.{Bounds}
-use Rattle.bw_serve.specs.Crowds.{Grows, ServesInRounds}
+use Rattle.bw_serve.specs.Crowds.{Grows}
+use Rattle.bw_serve.specs.Rounds.{ServesInRounds}
 use Rattle.bw_serve.specs.Lines.{LogsEnds, TellsEnds}
 use Rattle.bw_serve.specs.declared.lobby.Lobby.{Ghosts as LobbyGhosts}
 
@@ -44,8 +45,9 @@ module _ {B L S O E : Type 0} (lobby : LobbyGhosts B L) (G : LinkGhosts L)
     pub by_server : AnswersAll answers s (all_answered trace) s'
     -- in rounds, behind the last of which some were perhaps let in still
     pub behind : Crowd L
-    pub in_rounds : ServesInRounds G answers out told log bounds.places bounds.idle behind s s' o o'
-        e e'
+    pub lobby_behind : B
+    pub in_rounds : ServesInRounds lobby G answers out told log bounds.places bounds.idle
+        bounds.exchanges behind s s' b lobby_behind o o' e e'
     pub crowd : Crowd L
     pub last : Grows G behind crowd
     pub over : List (Closed L)

@@ -1,5 +1,5 @@
 //! A crowd: many connections, those that come and those that end.
-ghost use Rattle.std.specs.Prelude.{◌≡◌, ◌+◌, ◌≤◌, ◌<◌, [], ◌∷◌, length, vec_len, IfOk};
+ghost use Rattle.std.specs.Prelude.{◌≡◌, ◌+◌, ◌≤◌, ◌<◌, List, [], ◌∷◌, length, vec_len, IfOk};
 ghost use Rattle.bw_wire.specs.Held.{longest_piece};
 ghost use Rattle.bw_stream.specs.Moves.{failures_after};
 
@@ -40,9 +40,11 @@ pub(crate) struct Crowd<L> {
 impl<L: Link + Drop> Crowd<L> {
     ghost use Rattle.bw_many.specs.Keeping.{IsFree};
     ghost use Rattle.bw_many.specs.Places.{begun_of, count_of};
-    ghost use Rattle.bw_serve.specs.Crowds.{Counts, Grows, HasSeats, IsNew, InTurn, ServesPlace};
+    ghost use Rattle.bw_serve.specs.Crowds.{Counts, Grows, HasSeats, IsNew, InTurn, LetsIn, ServesPlace};
     ghost use Rattle.bw_serve.specs.Crowds.{Stays, WorksCounted, can_go_on_in};
+    ghost use Rattle.bw_serve.specs.Rounds.{Notices};
     ghost use Rattle.bw_serve.specs.Seats.{LogsAt};
+    ghost use Rattle.bw_serve.specs.declared.lobby.Ready.{Ready};
 
     /// Nobody, and so many places.
     ///
@@ -82,6 +84,8 @@ impl<L: Link + Drop> Crowd<L> {
         ensures stays { Stays L.Link self.old self.new }
         ensures failures { B.failures lobby.new ≡ B.failures lobby.old }
         ensures waits { B.waits lobby.new ≡ B.waits lobby.old }
+        ensures patience { B.patience lobby.new ≡ B.patience lobby.old }
+        ensures notices { Notices B.Lobby lobby.old lobby.new self.old self.new }
     {
         for _place in 0..=self.many.places() {
             let Some(ready) = lobby.next_ready() else {
@@ -105,10 +109,13 @@ impl<L: Link + Drop> Crowd<L> {
         requires begun { begun_of self.old.many ≤ exchanges }
         requires seats { HasSeats self.old }
         ensures grows { Grows L.Link self.old self.new }
+        ensures lets_in { LetsIn now self.old self.new }
         ensures most { begun_of self.new.many ≤ exchanges }
         ensures count { B.failures lobby.new ≡ failures_after result (B.failures lobby.old) }
         ensures waits { B.waits lobby.new ≡ B.waits lobby.old }
         ensures time { B.time lobby.new ≡ B.time lobby.old }
+        ensures patience { B.patience lobby.new ≡ B.patience lobby.old }
+        ensures told { (rs : List Ready) → B.told lobby.old rs → B.told lobby.new rs }
     {
         for _peer in 0..self.many.places() {
             if self.many.begun() >= exchanges {
@@ -136,6 +143,7 @@ impl<L: Link + Drop> Crowd<L> {
         requires taken { L.taken guest.link [] }
         requires peer { L.calls_from guest.link guest.address }
         ensures grows { Grows L.Link self.old self.new }
+        ensures lets_in { LetsIn now self.old self.new }
         ensures most { begun_of self.new.many ≤ begun_of self.old.many + 1 }
     {
         let Guest { address, link } = guest;

@@ -1,7 +1,9 @@
 //! Where many peers come, and what tells which of their links can go on.
-ghost use Rattle.std.specs.Prelude.{◌≡◌, ℕ, IfOk, OnOk, []};
+ghost use Rattle.std.specs.Prelude.{◌≡◌, ◌++◌, ℕ, List, IfOk, OnOk, []};
 ghost use Rattle.bw_stream.specs.Moves.{failures_after, one_more};
+ghost use Rattle.bw_many.specs.Keeping.{those};
 ghost use Rattle.bw_serve.specs.Lobbies.{closes_after};
+ghost use Rattle.bw_serve.specs.declared.lobby.Ready.{Ready};
 
 use bw_many::Link;
 use std::net::SocketAddr;
@@ -61,18 +63,28 @@ pub trait Lobby {
     /// The time that was told last, in milliseconds.
     ghost time: { Self → ℕ };
 
+    /// For how many milliseconds it was to wait at most the last time.
+    ghost patience: { Self → ℕ };
+
+    /// These may be all links that it told of since it was last waited.
+    ghost told: { Self → List Ready → Type 0 };
+
     /// Waits until a peer comes or a link can go on, no longer than so many milliseconds.
     ///
     /// # Errors
     /// `WaitFault` where that isn't possible any longer.
     fn wait(&mut self, most: u64) -> Result<(), WaitFault>
         ensures count { failures self.new ≡ failures_after result (failures self.old) }
-        ensures waits { OnOk result (waits self.new ≡ one_more (waits self.old)) };
+        ensures waits { OnOk result (waits self.new ≡ one_more (waits self.old)) }
+        ensures patience { patience self.new ≡ most }
+        ensures told { OnOk result (told self.new []) };
 
     /// The next of the links that could go on when it was last waited, if there is one.
     fn next_ready(&mut self) -> Option<Ready>
         ensures failures { failures self.new ≡ failures self.old }
-        ensures waits { waits self.new ≡ waits self.old };
+        ensures waits { waits self.new ≡ waits self.old }
+        ensures patience { patience self.new ≡ patience self.old }
+        ensures told { (rs : List Ready) → told self.old rs → told self.new (rs ++ those result) };
 
     /// Lets in the next peer, under a place by which its link is named from now on.
     ///
@@ -84,11 +96,15 @@ pub trait Lobby {
         ensures peer { IfOk result (λ guest. Self.Link.calls_from guest.link guest.address) }
         ensures count { failures self.new ≡ closes_after result (failures self.old) }
         ensures waits { waits self.new ≡ waits self.old }
-        ensures time { time self.new ≡ time self.old };
+        ensures time { time self.new ≡ time self.old }
+        ensures patience { patience self.new ≡ patience self.old }
+        ensures told { (rs : List Ready) → told self.old rs → told self.new rs };
 
     /// The time, in milliseconds since some start. Where it can't be told, the last one.
     fn now(&mut self) -> u64
         ensures time { result ≡ time self.new }
         ensures failures { failures self.new ≡ failures self.old }
-        ensures waits { waits self.new ≡ waits self.old };
+        ensures waits { waits self.new ≡ waits self.old }
+        ensures patience { patience self.new ≡ patience self.old }
+        ensures told { (rs : List Ready) → told self.old rs → told self.new rs };
 }

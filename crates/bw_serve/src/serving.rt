@@ -3,7 +3,8 @@ ghost use Rattle.std.specs.Prelude.{◌≡◌, ◌≤◌, OnOk, OnErr, vec_len};
 ghost use Rattle.bw_stream.specs.Moves.{failures_after, one_more};
 ghost use Rattle.bw_wire.specs.Held.{longest_piece};
 ghost use Rattle.bw_many.specs.Places.{begun_of};
-ghost use Rattle.bw_serve.specs.Crowds.{HasSeats, IsShut, ServesRound};
+ghost use Rattle.bw_serve.specs.Crowds.{HasSeats, IsShut};
+ghost use Rattle.bw_serve.specs.Rounds.{ServesRound, patience_of};
 ghost use Rattle.bw_serve.specs.Serving.{ServesCrowd};
 
 use crate::crowd::{Crowd, Round, Shut};
@@ -82,6 +83,13 @@ pub fn serve_crowd<B: Lobby, T: Turns, O: Sink, E: Sink>(
     Exit::Device
 }
 
+/// For how many milliseconds is waited at most, if one can go on or not.
+fn patience(can_go_on: bool) -> u64
+    ensures { result ≡ patience_of can_go_on }
+{
+    if can_go_on { 0 } else { LONGEST_WAIT }
+}
+
 /// Waits until someone comes or a connection can go on, and gives each a quantum.
 ///
 /// # Errors
@@ -100,8 +108,8 @@ fn serve_round<B: Lobby, T: Turns, O: Sink, E: Sink>(
     requires buffer { vec_len buffer.old ≤ longest_piece }
     requires begun { begun_of crowd.old.many ≤ bounds.now.exchanges }
     requires seats { HasSeats crowd.old }
-    ensures round { OnOk result (ServesRound B.Link.Link T.answers O.Sink E.Sink log
-        (B.time lobby.new) bounds.now.idle crowd.old crowd.new server.old.server server.new.server
+    ensures round { OnOk result (ServesRound B.Lobby B.Link.Link T.answers O.Sink E.Sink log
+        bounds.now.idle crowd.old crowd.new server.old.server server.new.server lobby.old lobby.new
         out.old out.new faults.old faults.new) }
     ensures shut { OnErr result (IsShut B.Link.Link crowd.old crowd.new server.old.server
         server.new.server out.old out.new faults.old faults.new) }
@@ -111,8 +119,7 @@ fn serve_round<B: Lobby, T: Turns, O: Sink, E: Sink>(
     ensures seats { HasSeats crowd.new }
     ensures buffer { vec_len buffer.new ≡ vec_len buffer.old }
 {
-    let most = if crowd.can_go_on() { 0 } else { LONGEST_WAIT };
-    let Ok(()) = lobby.wait(most) else {
+    let Ok(()) = lobby.wait(patience(crowd.can_go_on())) else {
         return Err(Shut);
     };
     crowd.notice(lobby);

@@ -1,5 +1,5 @@
 //! A lobby to which peers come by a plan, with a clock that each wait puts on.
-ghost use Rattle.std.specs.Prelude.{◌≡◌, [], IfOk};
+ghost use Rattle.std.specs.Prelude.{◌≡◌, [], IfOk, ⊤};
 ghost use Rattle.bw_serve.specs.Lobbies.{closes_after};
 
 use crate::scripted::{Record, Script, Scripted, new_record};
@@ -58,6 +58,8 @@ pub(crate) struct Hall {
     told: usize,
     /// From where the next one calls: each from the port behind that of the one before.
     port: u16,
+    /// For how many milliseconds it was to wait at most the last time.
+    patience: u64,
     failures: u64,
     waits: u64,
     records: Vec<Rc<RefCell<Record>>>,
@@ -76,6 +78,7 @@ impl Hall {
             met: 0,
             told: 0,
             port: 4100,
+            patience: 0,
             failures: 0,
             waits: 0,
             records: Vec::new(alloc),
@@ -128,6 +131,7 @@ impl Hall {
         ensures count { self.new.failures ≡ closes_after result self.old.failures }
         ensures waits { self.new.waits ≡ self.old.waits }
         ensures time { self.new.now ≡ self.old.now }
+        ensures patience { self.new.patience ≡ self.old.patience }
     {
         let Ok(link) = self.meet(script, place) else {
             return Err(AcceptFault::Gone);
@@ -144,6 +148,7 @@ impl Hall {
         ensures failures { self.new.failures ≡ self.old.failures }
         ensures waits { self.new.waits ≡ self.old.waits }
         ensures time { self.new.now ≡ self.old.now }
+        ensures patience { self.new.patience ≡ self.old.patience }
     {
         let record = new_record(self.alloc, self.round, place)?;
         self.records.push(record.clone()?)?;
@@ -181,7 +186,12 @@ impl Lobby for Hall {
 
     ghost time = { λ h. h.now };
 
-    fn wait(&mut self, _most: u64) -> Result<(), WaitFault> {
+    ghost patience = { λ h. h.patience };
+
+    ghost told = { λ _ _. ⊤ };
+
+    fn wait(&mut self, most: u64) -> Result<(), WaitFault> {
+        self.patience = most;
         if self.round >= self.plan.rounds {
             self.failures = self.failures.saturating_add(1);
             return Err(WaitFault);

@@ -1,7 +1,8 @@
 use Rattle.std.proofs.Common.{ℕ, ◌+◌, ◌≤◌, rules, arith, refl, sym, subst, inl, inr, ◌∙◌, ap}
 use Rattle.bw_stream.specs.Moves.{one_more}
 use Rattle.bw_commands.specs.declared.exit.Exit.TheVariants as exits
-use Rattle.bw_serve.proofs.Growing.{grows_still, no_rounds, rounds_more}
+use Rattle.bw_serve.proofs.Growing.{grows_still}
+use Rattle.bw_serve.proofs.Rounds.{no_rounds, rounds_more}
 use Rattle.bw_serve.proofs.Running.{all_ended, has_served, none_so_far, round_so_far, shut_rounds, shut_so_far, waited_more}
 use Rattle.bw_serve.proofs.serving.serve_crowd.Goals as goal
 
@@ -18,8 +19,9 @@ loop-round-init g c =
     record {
       served = none_so_far g.B.Link.Link g.T.Turns.answers g.O.Sink g.E.Sink c.args.log c.args.bounds.now.places
           c.in-Ok.crowd c.args.server.now.server c.args.out.now c.args.faults.now n;
-      rounds = no_rounds g.B.Link.Link g.T.Turns.answers g.O.Sink g.E.Sink c.args.log c.args.bounds.now.places
-          c.args.bounds.now.idle c.in-Ok.crowd c.args.server.now.server c.args.out.now c.args.faults.now n;
+      rounds = no_rounds g.B.Lobby g.B.Link.Link g.T.Turns.answers g.O.Sink g.E.Sink c.args.log
+          c.args.bounds.now.places c.args.bounds.now.idle c.args.bounds.now.exchanges c.in-Ok.crowd
+          c.args.server.now.server c.args.lobby.now c.args.out.now c.args.faults.now n;
       begun = omega (arith, begun);
       seats = n.seats_are ∙ sym n.places_are;
       buffer = search rules;
@@ -33,13 +35,15 @@ loop-round-preserved g c =
     let r = c.serve_round in
     let ok = c.in-Ok-serve_round.ensures in
     record {
-      served = round_so_far g.B.Link.Link g.T.Turns.answers g.O.Sink g.E.Sink c.args.log (g.B.Lobby.time r.new.lobby)
+      served = round_so_far g.B.Link.Link g.T.Turns.answers g.O.Sink g.E.Sink c.args.log g.B.Lobby
           c.args.bounds.now.idle l.crowd r.new.crowd c.args.server.now.server l.server.server r.new.server.server
-          c.args.out.now l.out r.new.out c.args.faults.now l.faults r.new.faults l.invariant.served ok.round;
-      rounds = rounds_more g.B.Link.Link g.T.Turns.answers g.O.Sink g.E.Sink c.args.log c.args.bounds.now.places
-          (g.B.Lobby.time r.new.lobby) c.args.bounds.now.idle l.crowd r.new.crowd c.args.server.now.server
-          l.server.server r.new.server.server c.args.out.now l.out r.new.out c.args.faults.now l.faults r.new.faults
-          l.invariant.rounds ok.round;
+          l.lobby r.new.lobby c.args.out.now l.out r.new.out c.args.faults.now l.faults r.new.faults l.invariant.served
+          ok.round;
+      rounds = rounds_more g.B.Lobby g.B.Link.Link g.T.Turns.answers g.O.Sink g.E.Sink c.args.log
+          c.args.bounds.now.places c.args.bounds.now.idle c.args.bounds.now.exchanges l.crowd r.new.crowd
+          c.args.server.now.server l.server.server r.new.server.server c.args.lobby.now l.lobby r.new.lobby
+          c.args.out.now l.out r.new.out c.args.faults.now l.faults r.new.faults l.invariant.rounds (search rules)
+          ok.round;
       begun = r.ensures.begun;
       seats = r.ensures.seats;
       buffer = (let same = r.ensures.buffer in let was = l.invariant.buffer in omega (arith, same, was));
@@ -62,7 +66,7 @@ returns-then-ended-bounds g c =
     let l = c.loop-round in
     has_served g.B.Link.Link g.T.Turns.answers g.O.Sink g.E.Sink c.args.log g.B.Lobby c.law_many.ensures
     c.args.bounds.now exits.Done l.crowd l.crowd c.args.server.now.server l.server.server c.args.lobby.now l.lobby
-    c.args.out.now l.out c.args.faults.now l.faults l.invariant.rounds (grows_still g.B.Link.Link l.crowd)
+    l.lobby c.args.out.now l.out c.args.faults.now l.faults l.invariant.rounds (grows_still g.B.Link.Link l.crowd)
     l.invariant.served l.invariant.begun (
       all_ended g.B.Link.Link g.T.Turns.answers g.O.Sink g.E.Sink c.args.log c.args.bounds.now.exchanges l.crowd
           c.args.server.now.server l.server.server c.args.out.now l.out c.args.faults.now l.faults l.invariant.served
@@ -77,10 +81,10 @@ returns-in_default-serve_round g c =
     let shut = c.in_default-serve_round.ensures in
     has_served g.B.Link.Link g.T.Turns.answers g.O.Sink g.E.Sink c.args.log g.B.Lobby c.law_many.ensures
     c.args.bounds.now exits.Device l.crowd r.new.crowd c.args.server.now.server r.new.server.server c.args.lobby.now
-    r.new.lobby c.args.out.now r.new.out c.args.faults.now r.new.faults
-    (shut_rounds g.B.Link.Link g.T.Turns.answers g.O.Sink g.E.Sink c.args.log c.args.bounds.now.places
-    c.args.bounds.now.idle l.crowd r.new.crowd c.args.server.now.server l.server.server r.new.server.server
-    c.args.out.now l.out r.new.out c.args.faults.now l.faults r.new.faults l.invariant.rounds shut.shut)
+    l.lobby r.new.lobby c.args.out.now r.new.out c.args.faults.now r.new.faults
+    (shut_rounds g.B.Link.Link g.T.Turns.answers g.O.Sink g.E.Sink c.args.log g.B.Lobby c.args.bounds.now.places
+    c.args.bounds.now.idle c.args.bounds.now.exchanges l.crowd r.new.crowd c.args.server.now.server l.server.server
+    r.new.server.server c.args.lobby.now l.lobby c.args.out.now l.out r.new.out c.args.faults.now l.faults r.new.faults l.invariant.rounds shut.shut)
     shut.shut.grows
     (shut_so_far g.B.Link.Link g.T.Turns.answers g.O.Sink g.E.Sink c.args.log l.crowd r.new.crowd
     c.args.server.now.server l.server.server r.new.server.server c.args.out.now l.out r.new.out c.args.faults.now
@@ -92,5 +96,5 @@ returns g c =
     let l = c.loop-round in
     has_served g.B.Link.Link g.T.Turns.answers g.O.Sink g.E.Sink c.args.log g.B.Lobby c.law_many.ensures
     c.args.bounds.now exits.Device l.crowd l.crowd c.args.server.now.server l.server.server c.args.lobby.now l.lobby
-    c.args.out.now l.out c.args.faults.now l.faults l.invariant.rounds (grows_still g.B.Link.Link l.crowd)
+    l.lobby c.args.out.now l.out c.args.faults.now l.faults l.invariant.rounds (grows_still g.B.Link.Link l.crowd)
     l.invariant.served l.invariant.begun (inr (search rules))

@@ -1,8 +1,9 @@
-use Rattle.std.proofs.Common.{◌≤◌, ℕ, refl, sym, subst, ◌∙◌}
+use Rattle.std.proofs.Common.{◌≡◌, ◌≤◌, ℕ, [], ap, refl, sym, subst, ◌∙◌}
 use Rattle.bw_many.specs.Places.{count_of}
 use Rattle.bw_serve.proofs.Growing.{grown_seats, grows_still, grows_then, turn_begun, turn_seats}
 use Rattle.bw_layout.proofs.Exits.{on_err}
-use Rattle.bw_serve.specs.Crowds.{IsShut, ServesRound}
+use Rattle.bw_serve.specs.Crowds.{InTurn, IsShut, LetsIn}
+use Rattle.bw_serve.specs.Rounds.{patience_of}
 use Rattle.bw_serve.proofs.serving.serve_round.Goals as goal
 
 pub returns-in_default-clause-shut : goal.returns-in_default-clause-shut
@@ -28,17 +29,25 @@ returns-in_err-welcome-clause-shut g c =
 pub returns-clause-round : goal.returns-clause-round
 returns-clause-round g c =
     let e = c.serve_each in
-    let round : ServesRound g.B.Link.Link g.T.Turns.answers g.O.Sink g.E.Sink c.args.log c.now-now.result
-    c.args.bounds.now.idle c.args.crowd.now e.new.self c.args.server.now.server e.new.server.server c.args.out.now
-    e.new.out c.args.faults.now e.new.faults = record {
+    let at : c.now-now.result ≡ g.B.Lobby.time c.welcome.new.lobby =
+    c.now-now.ensures.time ∙ sym c.welcome.ensures.time in
+    record {
+      waited = c.welcome.ensures.waits ∙ (c.now-now.ensures.waits ∙ (c.notice.ensures.waits ∙ c.in-Ok.ensures.waits));
+      patience = c.welcome.ensures.patience ∙ (c.now-now.ensures.patience ∙ (c.notice.ensures.patience
+          ∙ (c.in-Ok.ensures.patience ∙ (c.patience.ensures ∙ ap patience_of c.can_go_on.ensures))));
+      noticed = c.notice.new.self;
+      notices = c.notice.ensures.stays;
+      links = c.notice.ensures.notices.told;
+      were_told = c.welcome.ensures.told _ (c.now-now.ensures.told _ (c.notice.ensures.notices.more [] c.in-Ok.ensures.told));
+      wakes = c.notice.ensures.notices.each;
       between = c.welcome.new.self;
-      grows = grows_then g.B.Link.Link c.args.crowd.now c.notice.new.self c.welcome.new.self
-          c.notice.ensures.stays.grows c.welcome.ensures.grows;
-      in_turn = e.ensures.in_turn;
-    } in
-    subst (λ (now : ℕ). ServesRound g.B.Link.Link g.T.Turns.answers g.O.Sink g.E.Sink c.args.log now
-    c.args.bounds.now.idle c.args.crowd.now e.new.self c.args.server.now.server e.new.server.server c.args.out.now
-    e.new.out c.args.faults.now e.new.faults) (c.now-now.ensures.time ∙ sym c.welcome.ensures.time) round
+      grows = c.welcome.ensures.grows;
+      lets_in = subst (λ (now : ℕ). LetsIn now c.notice.new.self c.welcome.new.self) at c.welcome.ensures.lets_in;
+      in_turn = subst (λ (now : ℕ). InTurn g.B.Link.Link g.T.Turns.answers g.O.Sink g.E.Sink c.args.log now
+          c.args.bounds.now.idle (count_of c.welcome.new.self.many) c.welcome.new.self e.new.self
+          c.args.server.now.server e.new.server.server c.args.out.now e.new.out c.args.faults.now e.new.faults) at
+          e.ensures.in_turn;
+    }
 
 pub returns-clause-begun : goal.returns-clause-begun
 returns-clause-begun g c =

@@ -1,6 +1,16 @@
 use Rattle.std.proofs.Common.{refl, ◌∙◌}
-use Rattle.bw_serve.proofs.Growing.{stays_then, stays_woken}
+use Rattle.bw_serve.proofs.Growing.{grows_still, stays_then, stays_woken}
+use Rattle.bw_serve.proofs.Noticing.{notices_more, notices_none}
 use Rattle.bw_serve.proofs.crowd.Crowd.notice.Goals as goal
+
+pub loop-place-init : goal.loop-place-init
+loop-place-init g c = record {
+  stays = record { grows = grows_still g.L.Link c.args.self.now; begun = refl };
+  failures = refl;
+  waits = refl;
+  patience = refl;
+  notices = notices_none g.B.Lobby c.args.lobby.now c.args.self.now;
+}
 
 pub loop-place-preserved : goal.loop-place-preserved
 loop-place-preserved g c =
@@ -14,6 +24,10 @@ loop-place-preserved g c =
           (record { many = c.wake.new.self; seats = l.seats; ended = l.ended }) w.adds w.stood w.others refl refl);
       failures = n.failures ∙ c.loop-place.invariant.failures;
       waits = n.waits ∙ c.loop-place.invariant.waits;
+      patience = n.patience ∙ c.loop-place.invariant.patience;
+      notices = notices_more g.B.Lobby c.args.lobby.now c.loop-place.lobby c.next_ready.new.self c.in-Some.ready
+          c.args.self.now l (record { many = c.wake.new.self; seats = l.seats; ended = l.ended })
+          c.loop-place.invariant.notices (λ rs was. c.in-Some.ensures.told rs was) w.wakes w.others.0;
     }
 
 pub returns-in-Some : goal.returns-in-Some
@@ -28,4 +42,8 @@ returns-in-Some g c =
           (record { many = c.wake.new.self; seats = l.seats; ended = l.ended }) w.adds w.stood w.others refl refl);
       failures = n.failures ∙ c.loop-place.invariant.failures;
       waits = n.waits ∙ c.loop-place.invariant.waits;
+      patience = n.patience ∙ c.loop-place.invariant.patience;
+      notices = notices_more g.B.Lobby c.args.lobby.now c.loop-place.lobby c.next_ready.new.self c.in-Some.ready
+          c.args.self.now l (record { many = c.wake.new.self; seats = l.seats; ended = l.ended })
+          c.loop-place.invariant.notices (λ rs was. c.in-Some.ensures.told rs was) w.wakes w.others.0;
     }

@@ -1,5 +1,6 @@
 use Rattle.std.proofs.Common.{refl, subst, sym}
 use Rattle.bw_serve.proofs.Counting.{counts_seated}
+use Rattle.bw_serve.proofs.Rounds.{seated}
 use Rattle.bw_serve.proofs.crowd.Crowd.seat.Goals as goal
 
 pub returns-clause-grows : goal.returns-clause-grows
@@ -16,3 +17,10 @@ returns-clause-grows g c =
           b.others;
       ended = refl;
     }
+
+pub returns-clause-lets_in : goal.returns-clause-lets_in
+returns-clause-lets_in g c =
+    let b = c.begin-refused.ensures in
+    seated c.args.place c.args.now c.args.guest.link c.args.self.now
+    (record { many = c.begin-refused.new.self; seats = c.put_at.new.seats; ended = c.args.self.now.ended })
+    c.begin-refused.result c.requires.free b.begins b.err b.others

@@ -21,6 +21,7 @@ returns-in-Some g c =
     (counts_on g.O.Sink c.args.self.now mid c.end.new.self (c.in-Some.closed ∷ []) c.args.out.now c.end.new.out w.ended
     end.counts)
     (w.works.ends_its, (λ empty. not_some c.in-Some.closed (sym (w.works.nobody empty).1)), end.logs)
+    (refl, refl)
 
 pub returns-in_default-expire : goal.returns-in_default-expire
 returns-in_default-expire g c =
@@ -33,7 +34,7 @@ returns-in_default-expire g c =
     c.args.out.now c.args.faults.now c.args.faults.now w e.adds e.others e.stands refl refl
     (λ d at. tt) (λ d at. not_expired c.args.round.now c.args.round.idle c.args.place mid.many e.end d (e.stands d at))
     (counts_none g.O.Sink c.args.self.now (record { many = c.expire.new.self; seats = mid.seats; ended = mid.ended })
-    c.args.out.now w.ended) refl
+    c.args.out.now w.ended) refl (None, refl, e.end, e.others, e.stands, tt)
 
 pub returns : goal.returns
 returns g c =
@@ -54,4 +55,4 @@ returns g c =
       tt,
     )) (λ d at. absurd (e.left d at))
     (counts_on g.O.Sink c.args.self.now mid c.end-2.new.self (y ∷ []) c.args.out.now c.end-2.new.out w.ended end.counts)
-    (ends.0, ends.1, end.logs)
+    (ends.0, ends.1, end.logs) (Some y, refl, e.end, e.others, e.stands, e.left)

@@ -1,0 +1,79 @@
+-- Rounds of a crowd, one behind another.
+use Rattle.std.specs.Prelude.{◌≡◌, ℕ, zero, suc, ◌<◌, ◌==◌, Bool, true, false, ◌&&◌, List, ◌++◌}
+use Rattle.std.specs.List.{list_any}
+use Rattle.bw_model.specs.Wire.{Frame}
+use Rattle.bw_model.specs.Replies.{Reply}
+use Rattle.bw_stream.specs.Moves.{one_more}
+use Rattle.bw_stream.specs.declared.sink.Sink.{Ghosts as Writer}
+use Rattle.bw_many.specs.declared.connection.Connection.{Connection}
+use Rattle.bw_many.specs.declared.link.Link.{Ghosts as LinkGhosts}
+use Rattle.bw_many.specs.Keeping.{StandsAt}
+use Rattle.bw_many.specs.Places.{count_of}
+use Rattle.bw_many.specs.Working.{Wakes}
+use Rattle.bw_serve.specs.Crowds.{Grows, InTurn, IsNew, LetsIn, Stays, can_go_on_in}
+use Rattle.bw_serve.specs.declared.crowd.Crowd.{Crowd}
+use Rattle.bw_serve.specs.declared.lobby.Lobby.{Ghosts as LobbyGhosts}
+use Rattle.bw_serve.specs.declared.lobby.Ready.{Ready}
+
+-- for how many milliseconds is waited at most: for none where one can go on
+abbrev pub patience_of : Bool → ℕ
+patience_of true = 0
+patience_of false = 250
+
+-- whether one of these tells of bytes at a place
+abbrev pub tells_bytes : ℕ → List Ready → Bool
+tells_bytes place told = list_any (λ r. (r.place == place) && r.readable) told
+
+-- or of room
+abbrev pub tells_room : ℕ → List Ready → Bool
+tells_room place told = list_any (λ r. (r.place == place) && r.writable) told
+
+-- each that stands at a place stands there still, and may have bytes, or room, where one of these
+-- tells of that place so
+abbrev pub WakesEach : {L : Type 0} → List Ready → Crowd L → Crowd L → Type 0
+WakesEach {L} told c c' = (i : ℕ) (d : Connection L) → StandsAt c.many i d →
+    (d' : Connection L) × StandsAt c'.many i d' × Wakes (tells_bytes i told) (tells_room i told) d d'
+
+-- so it is with those that a lobby has told of more
+pub record Notices {B K L : Type 0} (lobby : LobbyGhosts B K) (b b' : B) (c c' : Crowd L) : Type 0 where
+  pub told : List Ready
+  pub more : (rs : List Ready) → lobby.told b rs → lobby.told b' (rs ++ told)
+  pub each : WakesEach told c c'
+
+module _ {B L S O E : Type 0} (lobby : LobbyGhosts B L) (G : LinkGhosts L)
+    (answers : S → Frame → List Reply → S → Type 0) (out : Writer O) (told : Writer E)
+    (log : Bool) where
+  -- A round: it was waited, and not where one could go on; who could go on behind that was noticed;
+  -- those who came were let in, at the time that the lobby told; then each place had its quantum.
+  pub record ServesRound (idle : ℕ) (c c' : Crowd L) (s s' : S) (b b' : B) (o o' : O) (e e' : E)
+      : Type 0 where
+    pub waited : lobby.waits b' ≡ one_more (lobby.waits b)
+    pub patience : lobby.patience b' ≡ patience_of (can_go_on_in c)
+    pub noticed : Crowd L
+    pub notices : Stays G c noticed
+    -- of these links the lobby told behind the wait
+    pub links : List Ready
+    pub were_told : lobby.told b' links
+    pub wakes : WakesEach links c noticed
+    pub between : Crowd L
+    pub grows : Grows G noticed between
+    pub lets_in : LetsIn (lobby.time b') noticed between
+    pub in_turn : InTurn G answers out told log (lobby.time b') idle (count_of between.many) between
+        c' s s' o o' e e'
+
+  -- so many rounds, one behind another, each begun where fewer were over than are asked for
+  abbrev pub ServesRounds : ℕ → ℕ → ℕ → Crowd L → Crowd L → S → S → B → B → O → O → E → E → Type 0
+  ServesRounds idle exchanges zero c c' s s' b b' o o' e e' =
+      (c' ≡ c) × (s' ≡ s) × (b' ≡ b) × (o' ≡ o) × (e' ≡ e)
+  ServesRounds idle exchanges (suc n) c c' s s' b b' o o' e e' =
+      (d : Crowd L) × (t : S) × (x : B) × (p : O) × (f : E)
+      × ServesRounds idle exchanges n c d s t b x o p e f × (d.ended < exchanges)
+      × ServesRound idle d c' t s' x b' p o' f e'
+
+  -- rounds from an empty crowd on, in which a silent connection is ended behind so many milliseconds
+  pub record ServesInRounds (places idle exchanges : ℕ) (c : Crowd L) (s s' : S) (b b' : B)
+      (o o' : O) (e e' : E) : Type 0 where
+    pub empty : Crowd L
+    pub new : IsNew G places empty
+    pub count : ℕ
+    pub each : ServesRounds idle exchanges count empty c s s' b b' o o' e e'
