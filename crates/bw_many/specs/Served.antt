@@ -49,7 +49,8 @@ module _ {L : Type 0} (G : LinkGhosts L) where
       (stream_end ≡ Some end) × (unsent ≡ []) × (IsFinal end ⊎ G.ended link)
 
   -- what an end of a connection tells
-  abbrev pub TellsEnd : ConnectionEnd → L → Option End → List Answered → List ℕ → List ℕ → Type 0
+  abbrev pub TellsEnd : ConnectionEnd → L → Option End → List Answered → List ℕ → List ℕ →
+      Type 0
   TellsEnd (Over ends.Bye) link stream_end answered input unsent =
       ReachesEnd link stream_end unsent SaidBye
   TellsEnd (Over ends.EndOfInput) link stream_end answered input unsent =
@@ -90,7 +91,8 @@ module _ {L : Type 0} (G : LinkGhosts L) where
     -- each that is over was begun, is told once, and stands no longer
     pub begun : AllByRecursion (λ x. x.number < m.next) over
     pub once : AreApart over
-    pub away : AllByRecursion (λ x. (i : ℕ) (c : Connection L) → StandsAt m i c → c.number ≢ x.number) over
+    pub away : AllByRecursion
+        (λ x. (i : ℕ) (c : Connection L) → StandsAt m i c → c.number ≢ x.number) over
     pub none : (n : ℕ) → m.next ≤ n → own n trace ≡ []
 
   abbrev pub EachIsServed : Type 0

@@ -83,7 +83,8 @@ module _ {L E : Type 0} (G : LinkGhosts L) (told : Writer E) (log : Bool) where
 
   -- those that one seat tells of, whose number it has
   pub logs_own : (n : ℕ) (trace : List Tagged) (x : Seat) → x.tally ≡ counted_of n trace → (y : Closed L) (e f : E) →
-      y.number ≡ n → G.calls_from y.link x.address → Logs told log (peer_line x.address (name_of_connection_end y.end) x.tally) e f →
+      y.number ≡ n → G.calls_from y.link x.address →
+      Logs told log (peer_line x.address (name_of_connection_end y.end) x.tally) e f →
       LogsEnds G told log trace (y ∷ []) e f
   logs_own n trace x counted y e f is from h = (
     f,

@@ -151,7 +151,8 @@ module _ {L S O E : Type 0} (G : LinkGhosts L) (answers : S → Frame → List R
     pub tells : Tells G told log c (tagged works.number works.answered) closed c' e e'
 
   -- the connections at the first places had a quantum each, one after another
-  abbrev pub InTurn : ℕ → ℕ → ℕ → Crowd L → Crowd L → S → S → O → O → E → E → Type 0
+  abbrev pub InTurn : ℕ → ℕ → ℕ → Crowd L → Crowd L → S → S → O → O → E → E →
+      Type 0
   InTurn now idle zero c c' s s' o o' e e' = (c' ≡ c) × (s' ≡ s) × (o' ≡ o) × (e' ≡ e)
   InTurn now idle (suc place) c c' s s' o o' e e' = (d : Crowd L) × (t : S) × (p : O) × (f : E)
       × InTurn now idle place c d s t o p e f

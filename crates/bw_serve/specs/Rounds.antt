@@ -62,7 +62,8 @@ module _ {B L S O E : Type 0} (lobby : LobbyGhosts B L) (G : LinkGhosts L)
         c' s s' o o' e e'
 
   -- so many rounds, one behind another, each begun where fewer were over than are asked for
-  abbrev pub ServesRounds : ℕ → ℕ → ℕ → Crowd L → Crowd L → S → S → B → B → O → O → E → E → Type 0
+  abbrev pub ServesRounds : ℕ → ℕ → ℕ → Crowd L → Crowd L → S → S → B → B →
+      O → O → E → E → Type 0
   ServesRounds idle exchanges zero c c' s s' b b' o o' e e' =
       (c' ≡ c) × (s' ≡ s) × (b' ≡ b) × (o' ≡ o) × (e' ≡ e)
   ServesRounds idle exchanges (suc n) c c' s s' b b' o o' e e' =

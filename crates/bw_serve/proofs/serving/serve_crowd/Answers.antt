@@ -84,7 +84,8 @@ returns-in_default-serve_round g c =
     l.lobby r.new.lobby c.args.out.now r.new.out c.args.faults.now r.new.faults
     (shut_rounds g.B.Link.Link g.T.Turns.answers g.O.Sink g.E.Sink c.args.log g.B.Lobby c.args.bounds.now.places
     c.args.bounds.now.idle c.args.bounds.now.exchanges l.crowd r.new.crowd c.args.server.now.server l.server.server
-    r.new.server.server c.args.lobby.now l.lobby c.args.out.now l.out r.new.out c.args.faults.now l.faults r.new.faults l.invariant.rounds shut.shut)
+    r.new.server.server c.args.lobby.now l.lobby c.args.out.now l.out r.new.out c.args.faults.now l.faults r.new.faults
+    l.invariant.rounds shut.shut)
     shut.shut.grows
     (shut_so_far g.B.Link.Link g.T.Turns.answers g.O.Sink g.E.Sink c.args.log l.crowd r.new.crowd
     c.args.server.now.server l.server.server r.new.server.server c.args.out.now l.out r.new.out c.args.faults.now

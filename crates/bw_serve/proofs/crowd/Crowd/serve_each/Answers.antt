@@ -10,6 +10,7 @@ loop-place-preserved g c =
       places_are = s.ensures.stays.0.count ∙ l.invariant.places_are;
       seats = s.ensures.seats_are ∙ (l.invariant.seats ∙ sym s.ensures.stays.0.count);
       in_turn = turn_more g.L.Link g.T.Turns.answers g.O.Sink g.E.Sink c.args.round.log c.args.round.now
-          c.args.round.idle l.place c.args.self.now l.self s.new.self c.args.server.now.server l.server.server s.new.server.server c.args.out.now l.out s.new.out
+          c.args.round.idle l.place c.args.self.now l.self s.new.self c.args.server.now.server l.server.server s.new.server.server
+          c.args.out.now l.out s.new.out
           c.args.faults.now l.faults s.new.faults l.invariant.in_turn s.ensures;
     }
