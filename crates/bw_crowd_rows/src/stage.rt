@@ -174,6 +174,8 @@ impl Lobby for Stage<'_> {
 
     ghost told = { λ _ _. ⊤ };
 
+    ghost all_told = { λ _. ⊤ };
+
     fn wait(&mut self, most: u64) -> Result<(), WaitFault> {
         self.patience = most;
         let waited = self.wait_in_time(most);

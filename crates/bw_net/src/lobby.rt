@@ -94,6 +94,8 @@ impl Lobby for TcpLobby<'_> {
 
     ghost told = { λ _ _. ⊤ };
 
+    ghost all_told = { λ _. ⊤ };
+
     fn wait(&mut self, most: u64) -> Result<(), WaitFault> {
         self.seen = 0;
         self.patience = most;

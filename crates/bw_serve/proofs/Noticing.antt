@@ -1,14 +1,15 @@
 -- Who may have bytes again, or room.
 use Rattle.std.proofs.Common.{◌≡◌, ◌≢◌, ◌⊎◌, inl, inr, ℕ, ◌==◌, Bool, true, false, ◌||◌, List, [], ◌∷◌, ◌++◌}
-use Rattle.std.proofs.Common.{refl, sym, ap, subst, ◌∙◌, append_assoc}
+use Rattle.std.proofs.Common.{refl, sym, ap, subst, ◌∙◌, append_assoc, length, suc, ◌+◌}
 use Rattle.std.specs.Prelude.{◌&&◌}
 use Rattle.std.proofs.lemmas.Bool.Decides.{eqb_tells}
-use Rattle.std.proofs.lemmas.List.{append-nil}
+use Rattle.std.proofs.lemmas.List.{append-nil, length-append}
 use Rattle.std.proofs.lemmas.List.Folds.{list_any-append}
 use Rattle.bw_many.specs.declared.connection.Connection.{Connection}
 use Rattle.bw_many.specs.Keeping.{StandsAt}
+use Rattle.bw_many.specs.Places.{count_of}
 use Rattle.bw_many.specs.Working.{LeavesOthers, Wakes, WakesAt}
-use Rattle.bw_serve.specs.Rounds.{Notices, WakesEach, tells_bytes, tells_room}
+use Rattle.bw_serve.specs.Rounds.{IsAll, Notices, NoticesAll, WakesEach, tells_bytes, tells_room}
 use Rattle.bw_serve.specs.declared.crowd.Crowd.{Crowd}
 use Rattle.bw_serve.specs.declared.lobby.Lobby.{Ghosts as LobbyGhosts}
 use Rattle.bw_serve.specs.declared.lobby.Ready.{Ready}
@@ -24,7 +25,7 @@ or_then false false true = refl
 or_then false false false = refl
 
 -- nobody was told of
-pub notices_none : {B K L : Type 0} (lobby : LobbyGhosts B K) (b : B) (c : Crowd L) → Notices lobby b b c c
+notices_none : {B K L : Type 0} (lobby : LobbyGhosts B K) (b : B) (c : Crowd L) → Notices lobby b b c c
 notices_none lobby b c = record {
   told = [];
   more = λ rs was. subst (lobby.told b) (sym (append-nil rs)) was;
@@ -67,7 +68,7 @@ wakes_then i told r d e f v w = record {
 }
 
 -- one more was told of
-pub notices_more : {B K L : Type 0} (lobby : LobbyGhosts B K) (b x y : B) (r : Ready) (c d e : Crowd L) →
+notices_more : {B K L : Type 0} (lobby : LobbyGhosts B K) (b x y : B) (r : Ready) (c d e : Crowd L) →
     Notices lobby b x c d → ((rs : List Ready) → lobby.told x rs → lobby.told y (rs ++ r ∷ [])) →
     WakesAt r.place r.readable r.writable d.many e.many → LeavesOthers r.place d.many e.many → Notices lobby b y c e
 notices_more {B} {K} {L} lobby b x y r c d e n next wakes others = record {
@@ -104,3 +105,31 @@ notices_more {B} {K} {L} lobby b x y r c d e n next wakes others = record {
                 stays = record { number = refl; phase = refl; since = refl };
               })),
         )
+
+-- .. and so many were
+abbrev pub Noticed : {B K L : Type 0} → LobbyGhosts B K → ℕ → B → B → Crowd L → Crowd L → Type 0
+Noticed lobby count b x c d = (n : Notices lobby b x c d) × (length n.told ≡ count)
+
+pub noticed_none : {B K L : Type 0} (lobby : LobbyGhosts B K) (b : B) (c : Crowd L) → Noticed lobby 0 b b c c
+unfolding notices_none
+noticed_none lobby b c = (notices_none lobby b c, refl)
+
+pub noticed_more : {B K L : Type 0} (lobby : LobbyGhosts B K) (count : ℕ) (b x y : B) (r : Ready) (c d e : Crowd L) →
+    Noticed lobby count b x c d → ((rs : List Ready) → lobby.told x rs → lobby.told y (rs ++ r ∷ [])) →
+    WakesAt r.place r.readable r.writable d.many e.many → LeavesOthers r.place d.many e.many →
+    Noticed lobby (count + 1) b y c e
+unfolding notices_more
+noticed_more lobby count b x y r c d e n next wakes others = (
+  notices_more lobby b x y r c d e n.0 next wakes others,
+  length-append n.0.told (r ∷ []) ∙ ap (λ (k : ℕ). k + 1) n.1,
+)
+
+-- one more was than there are places
+pub noticed_most : {B K L : Type 0} (lobby : LobbyGhosts B K) (count : ℕ) (b x : B) (c d : Crowd L) →
+    Noticed lobby count b x c d → count ≡ suc (count_of c.many) → NoticesAll lobby b x c d
+noticed_most lobby count b x c d n is = (n.0, inr (n.1 ∙ is))
+
+-- what a lobby has told of is all still
+pub all_still : {L P Q : Type 0} (c : Crowd L) (links : List Ready) → (P → Q) → IsAll c links P → IsAll c links Q
+all_still c links keep (inl all) = inl (keep all)
+all_still c links keep (inr as_many) = inr as_many

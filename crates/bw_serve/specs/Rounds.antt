@@ -1,5 +1,6 @@
 -- Rounds of a crowd, one behind another.
-use Rattle.std.specs.Prelude.{◌≡◌, ℕ, zero, suc, ◌<◌, ◌==◌, Bool, true, false, ◌&&◌, List, ◌++◌}
+use Rattle.std.specs.Prelude.{◌≡◌, ◌⊎◌, ℕ, zero, suc, ◌<◌, ◌==◌, Bool, true, false, ◌&&◌, List}
+use Rattle.std.specs.Prelude.{◌++◌, length}
 use Rattle.std.specs.List.{list_any}
 use Rattle.bw_model.specs.Wire.{Frame}
 use Rattle.bw_model.specs.Replies.{Reply}
@@ -40,6 +41,15 @@ pub record Notices {B K L : Type 0} (lobby : LobbyGhosts B K) (b b' : B) (c c' :
   pub more : (rs : List Ready) → lobby.told b rs → lobby.told b' (rs ++ told)
   pub each : WakesEach told c c'
 
+-- it has told of each link that could go on, or of one more than there are places
+abbrev pub IsAll : {L : Type 0} → Crowd L → List Ready → Type 0 → Type 0
+IsAll c told all_told = all_told ⊎ (length told ≡ suc (count_of c.many))
+
+-- .. and with no fewer than that
+abbrev pub NoticesAll : {B K L : Type 0} → LobbyGhosts B K → B → B → Crowd L → Crowd L → Type 0
+NoticesAll lobby b b' c c' =
+    (n : Notices lobby b b' c c') × IsAll c n.told (lobby.all_told b')
+
 module _ {B L S O E : Type 0} (lobby : LobbyGhosts B L) (G : LinkGhosts L)
     (answers : S → Frame → List Reply → S → Type 0) (out : Writer O) (told : Writer E)
     (log : Bool) where
@@ -54,6 +64,7 @@ module _ {B L S O E : Type 0} (lobby : LobbyGhosts B L) (G : LinkGhosts L)
     -- of these links the lobby told behind the wait
     pub links : List Ready
     pub were_told : lobby.told b' links
+    pub all : IsAll c links (lobby.all_told b')
     pub wakes : WakesEach links c noticed
     pub between : Crowd L
     pub grows : Grows G noticed between

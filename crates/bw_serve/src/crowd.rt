@@ -42,7 +42,7 @@ impl<L: Link + Drop> Crowd<L> {
     ghost use Rattle.bw_many.specs.Places.{begun_of, count_of};
     ghost use Rattle.bw_serve.specs.Crowds.{Counts, Grows, HasSeats, IsNew, InTurn, LetsIn, ServesPlace};
     ghost use Rattle.bw_serve.specs.Crowds.{Stays, WorksCounted, can_go_on_in};
-    ghost use Rattle.bw_serve.specs.Rounds.{Notices};
+    ghost use Rattle.bw_serve.specs.Rounds.{NoticesAll};
     ghost use Rattle.bw_serve.specs.Seats.{LogsAt};
     ghost use Rattle.bw_serve.specs.declared.lobby.Ready.{Ready};
 
@@ -85,7 +85,7 @@ impl<L: Link + Drop> Crowd<L> {
         ensures failures { B.failures lobby.new ≡ B.failures lobby.old }
         ensures waits { B.waits lobby.new ≡ B.waits lobby.old }
         ensures patience { B.patience lobby.new ≡ B.patience lobby.old }
-        ensures notices { Notices B.Lobby lobby.old lobby.new self.old self.new }
+        ensures notices { NoticesAll B.Lobby lobby.old lobby.new self.old self.new }
     {
         for _place in 0..=self.many.places() {
             let Some(ready) = lobby.next_ready() else {
@@ -116,6 +116,7 @@ impl<L: Link + Drop> Crowd<L> {
         ensures time { B.time lobby.new ≡ B.time lobby.old }
         ensures patience { B.patience lobby.new ≡ B.patience lobby.old }
         ensures told { (rs : List Ready) → B.told lobby.old rs → B.told lobby.new rs }
+        ensures all_told { B.all_told lobby.old → B.all_told lobby.new }
     {
         for _peer in 0..self.many.places() {
             if self.many.begun() >= exchanges {

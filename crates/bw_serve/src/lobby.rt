@@ -1,5 +1,5 @@
 //! Where many peers come, and what tells which of their links can go on.
-ghost use Rattle.std.specs.Prelude.{◌≡◌, ◌++◌, ℕ, List, IfOk, OnOk, []};
+ghost use Rattle.std.specs.Prelude.{◌≡◌, ◌++◌, ℕ, List, IfOk, OnOk, None, []};
 ghost use Rattle.bw_stream.specs.Moves.{failures_after, one_more};
 ghost use Rattle.bw_many.specs.Keeping.{those};
 ghost use Rattle.bw_serve.specs.Lobbies.{closes_after};
@@ -69,6 +69,9 @@ pub trait Lobby {
     /// These may be all links that it told of since it was last waited.
     ghost told: { Self → List Ready → Type 0 };
 
+    /// It may have told of each link that could go on when it was last waited.
+    ghost all_told: { Self → Type 0 };
+
     /// Waits until a peer comes or a link can go on, no longer than so many milliseconds.
     ///
     /// # Errors
@@ -84,7 +87,8 @@ pub trait Lobby {
         ensures failures { failures self.new ≡ failures self.old }
         ensures waits { waits self.new ≡ waits self.old }
         ensures patience { patience self.new ≡ patience self.old }
-        ensures told { (rs : List Ready) → told self.old rs → told self.new (rs ++ those result) };
+        ensures told { (rs : List Ready) → told self.old rs → told self.new (rs ++ those result) }
+        ensures none { result ≡ None → all_told self.new };
 
     /// Lets in the next peer, under a place by which its link is named from now on.
     ///
@@ -98,7 +102,8 @@ pub trait Lobby {
         ensures waits { waits self.new ≡ waits self.old }
         ensures time { time self.new ≡ time self.old }
         ensures patience { patience self.new ≡ patience self.old }
-        ensures told { (rs : List Ready) → told self.old rs → told self.new rs };
+        ensures told { (rs : List Ready) → told self.old rs → told self.new rs }
+        ensures all_told { all_told self.old → all_told self.new };
 
     /// The time, in milliseconds since some start. Where it can't be told, the last one.
     fn now(&mut self) -> u64
@@ -106,5 +111,6 @@ pub trait Lobby {
         ensures failures { failures self.new ≡ failures self.old }
         ensures waits { waits self.new ≡ waits self.old }
         ensures patience { patience self.new ≡ patience self.old }
-        ensures told { (rs : List Ready) → told self.old rs → told self.new rs };
+        ensures told { (rs : List Ready) → told self.old rs → told self.new rs }
+        ensures all_told { all_told self.old → all_told self.new };
 }

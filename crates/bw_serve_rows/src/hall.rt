@@ -190,6 +190,8 @@ impl Lobby for Hall {
 
     ghost told = { λ _ _. ⊤ };
 
+    ghost all_told = { λ _. ⊤ };
+
     fn wait(&mut self, most: u64) -> Result<(), WaitFault> {
         self.patience = most;
         if self.round >= self.plan.rounds {

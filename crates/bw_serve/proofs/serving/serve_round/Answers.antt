@@ -4,6 +4,7 @@ use Rattle.bw_serve.proofs.Growing.{grown_seats, grows_still, grows_then, turn_b
 use Rattle.bw_layout.proofs.Exits.{on_err}
 use Rattle.bw_serve.specs.Crowds.{InTurn, IsShut, LetsIn}
 use Rattle.bw_serve.specs.Rounds.{patience_of}
+use Rattle.bw_serve.proofs.Noticing.{all_still}
 use Rattle.bw_serve.proofs.serving.serve_round.Goals as goal
 
 pub returns-in_default-clause-shut : goal.returns-in_default-clause-shut
@@ -37,9 +38,12 @@ returns-clause-round g c =
           ∙ (c.in-Ok.ensures.patience ∙ (c.patience.ensures ∙ ap patience_of c.can_go_on.ensures))));
       noticed = c.notice.new.self;
       notices = c.notice.ensures.stays;
-      links = c.notice.ensures.notices.told;
-      were_told = c.welcome.ensures.told _ (c.now-now.ensures.told _ (c.notice.ensures.notices.more [] c.in-Ok.ensures.told));
-      wakes = c.notice.ensures.notices.each;
+      links = c.notice.ensures.notices.0.told;
+      were_told = c.welcome.ensures.told _ (c.now-now.ensures.told _ (c.notice.ensures.notices.0.more []
+          c.in-Ok.ensures.told));
+      all = all_still c.args.crowd.now c.notice.ensures.notices.0.told
+          (λ all. c.welcome.ensures.all_told (c.now-now.ensures.all_told all)) c.notice.ensures.notices.1;
+      wakes = c.notice.ensures.notices.0.each;
       between = c.welcome.new.self;
       grows = c.welcome.ensures.grows;
       lets_in = subst (λ (now : ℕ). LetsIn now c.notice.new.self c.welcome.new.self) at c.welcome.ensures.lets_in;

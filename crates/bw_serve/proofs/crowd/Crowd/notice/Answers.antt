@@ -1,6 +1,6 @@
-use Rattle.std.proofs.Common.{refl, ◌∙◌}
+use Rattle.std.proofs.Common.{refl, ◌∙◌, ◌+◌, arith}
 use Rattle.bw_serve.proofs.Growing.{grows_still, stays_then, stays_woken}
-use Rattle.bw_serve.proofs.Noticing.{notices_more, notices_none}
+use Rattle.bw_serve.proofs.Noticing.{noticed_more, noticed_most, noticed_none}
 use Rattle.bw_serve.proofs.crowd.Crowd.notice.Goals as goal
 
 pub loop-place-init : goal.loop-place-init
@@ -9,7 +9,7 @@ loop-place-init g c = record {
   failures = refl;
   waits = refl;
   patience = refl;
-  notices = notices_none g.B.Lobby c.args.lobby.now c.args.self.now;
+  notices = noticed_none g.B.Lobby c.args.lobby.now c.args.self.now;
 }
 
 pub loop-place-preserved : goal.loop-place-preserved
@@ -25,8 +25,8 @@ loop-place-preserved g c =
       failures = n.failures ∙ c.loop-place.invariant.failures;
       waits = n.waits ∙ c.loop-place.invariant.waits;
       patience = n.patience ∙ c.loop-place.invariant.patience;
-      notices = notices_more g.B.Lobby c.args.lobby.now c.loop-place.lobby c.next_ready.new.self c.in-Some.ready
-          c.args.self.now l (record { many = c.wake.new.self; seats = l.seats; ended = l.ended })
+      notices = noticed_more g.B.Lobby c.loop-place._place c.args.lobby.now c.loop-place.lobby c.next_ready.new.self
+          c.in-Some.ready c.args.self.now l (record { many = c.wake.new.self; seats = l.seats; ended = l.ended })
           c.loop-place.invariant.notices (λ rs was. c.in-Some.ensures.told rs was) w.wakes w.others.0;
     }
 
@@ -43,7 +43,10 @@ returns-in-Some g c =
       failures = n.failures ∙ c.loop-place.invariant.failures;
       waits = n.waits ∙ c.loop-place.invariant.waits;
       patience = n.patience ∙ c.loop-place.invariant.patience;
-      notices = notices_more g.B.Lobby c.args.lobby.now c.loop-place.lobby c.next_ready.new.self c.in-Some.ready
-          c.args.self.now l (record { many = c.wake.new.self; seats = l.seats; ended = l.ended })
-          c.loop-place.invariant.notices (λ rs was. c.in-Some.ensures.told rs was) w.wakes w.others.0;
+      notices = noticed_most g.B.Lobby (c.loop-place._place + 1) c.args.lobby.now c.next_ready.new.self c.args.self.now
+          (record { many = c.wake.new.self; seats = l.seats; ended = l.ended })
+          (noticed_more g.B.Lobby c.loop-place._place c.args.lobby.now c.loop-place.lobby c.next_ready.new.self
+          c.in-Some.ready c.args.self.now l (record { many = c.wake.new.self; seats = l.seats; ended = l.ended })
+          c.loop-place.invariant.notices (λ rs was. c.in-Some.ensures.told rs was) w.wakes w.others.0)
+          (let end = c.places-place-end.ensures in omega arith);
     }

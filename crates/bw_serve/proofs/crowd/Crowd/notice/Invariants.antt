@@ -1,6 +1,6 @@
 use Rattle.std.proofs.Common.{◌≡◌}
 use Rattle.bw_serve.specs.Crowds.{Stays}
-use Rattle.bw_serve.specs.Rounds.{Notices}
+use Rattle.bw_serve.proofs.Noticing.{Noticed}
 use Rattle.bw_serve.proofs.crowd.Crowd.notice.Given as goal
 
 abbrev pub invariant-loop-place : goal.invariant-loop-place
@@ -9,5 +9,5 @@ invariant-loop-place g l = record {
   failures : g.B.Lobby.failures l.lobby ≡ g.B.Lobby.failures l.fn.lobby;
   waits : g.B.Lobby.waits l.lobby ≡ g.B.Lobby.waits l.fn.lobby;
   patience : g.B.Lobby.patience l.lobby ≡ g.B.Lobby.patience l.fn.lobby;
-  notices : Notices g.B.Lobby l.fn.lobby l.lobby l.fn.self l.self;
+  notices : Noticed g.B.Lobby l._place l.fn.lobby l.lobby l.fn.self l.self;
 }

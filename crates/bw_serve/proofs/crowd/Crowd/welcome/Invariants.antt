@@ -14,4 +14,5 @@ invariant-loop-peer g l = record {
   time : g.B.Lobby.time l.lobby ≡ g.B.Lobby.time l.fn.lobby;
   patience : g.B.Lobby.patience l.lobby ≡ g.B.Lobby.patience l.fn.lobby;
   told : (rs : List Ready) → g.B.Lobby.told l.fn.lobby rs → g.B.Lobby.told l.lobby rs;
+  all_told : g.B.Lobby.all_told l.fn.lobby → g.B.Lobby.all_told l.lobby;
 }
