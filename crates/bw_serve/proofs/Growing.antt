@@ -166,8 +166,8 @@ module _ {L S O E : Type 0} (G : LinkGhosts L) (answers : S → Frame → List R
   place_advances now idle place a b s t o p e f x = record {
     more = tagged x.works.number x.works.answered;
     closed = x.closed;
-    by_server = subst (λ (xs : List Answered). AnswersAll answers s xs t) (sym (answered_by x.works.number x.works.answered))
-        x.works.by_server;
+    by_server = subst (λ (xs : List Answered). AnswersAll answers s xs t)
+        (sym (answered_by x.works.number x.works.answered)) x.works.by_server;
     adds = x.adds;
     prints = x.prints;
     tells = x.tells;

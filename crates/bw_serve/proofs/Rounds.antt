@@ -64,11 +64,14 @@ module _ {B L S O E : Type 0} (lobby : LobbyGhosts B L) (G : LinkGhosts L)
     (answers : S → Frame → List Reply → S → Type 0) (out : Writer O) (told : Writer E) (log : Bool) where
   -- what a round adds
   pub round_advances : (idle : ℕ) (a b : Crowd L) (s t : S) (x y : B) (o p : O) (e f : E) →
-      ServesRound lobby G answers out told log idle a b s t x y o p e f → Advances G answers out told log a b s t o p e f
+      ServesRound lobby G answers out told log idle a b s t x y o p e f →
+      Advances G answers out told log a b s t o p e f
   round_advances idle a b s t x y o p e f r =
       advances_then G answers out told log a r.between b s s t o o p e e f
-      (advances_none G answers out told log a r.between s o e (grows_then G a r.noticed r.between r.notices.grows r.grows))
-      (turn_advances G answers out told log (lobby.time y) idle (count_of r.between.many) r.between b s t o p e f r.in_turn)
+      (advances_none G answers out told log a r.between s o e
+      (grows_then G a r.noticed r.between r.notices.grows r.grows))
+      (turn_advances G answers out told log (lobby.time y) idle (count_of r.between.many) r.between b s t o p e f
+      r.in_turn)
 
   -- one round more
   pub rounds_more : (places idle exchanges : ℕ) (a b : Crowd L) (s t u : S) (x y z : B) (o p q : O) (e f g : E) →

@@ -33,10 +33,12 @@ tells_room place told = list_any (λ r. (r.place == place) && r.writable) told
 -- tells of that place so
 abbrev pub WakesEach : {L : Type 0} → List Ready → Crowd L → Crowd L → Type 0
 WakesEach {L} told c c' = (i : ℕ) (d : Connection L) → StandsAt c.many i d →
-    (d' : Connection L) × StandsAt c'.many i d' × Wakes (tells_bytes i told) (tells_room i told) d d'
+    (d' : Connection L) × StandsAt c'.many i d'
+    × Wakes (tells_bytes i told) (tells_room i told) d d'
 
 -- so it is with those that a lobby has told of more
-pub record Notices {B K L : Type 0} (lobby : LobbyGhosts B K) (b b' : B) (c c' : Crowd L) : Type 0 where
+pub record Notices {B K L : Type 0} (lobby : LobbyGhosts B K) (b b' : B) (c c' : Crowd L)
+    : Type 0 where
   pub told : List Ready
   pub more : (rs : List Ready) → lobby.told b rs → lobby.told b' (rs ++ told)
   pub each : WakesEach told c c'
@@ -82,7 +84,7 @@ module _ {B L S O E : Type 0} (lobby : LobbyGhosts B L) (G : LinkGhosts L)
       × ServesRounds idle exchanges n c d s t b x o p e f × (d.ended < exchanges)
       × ServesRound idle d c' t s' x b' p o' f e'
 
-  -- rounds from an empty crowd on, in which a silent connection is ended behind so many milliseconds
+  -- rounds from an empty crowd on, in which a silent one is ended behind so many milliseconds
   pub record ServesInRounds (places idle exchanges : ℕ) (c : Crowd L) (s s' : S) (b b' : B)
       (o o' : O) (e e' : E) : Type 0 where
     pub empty : Crowd L

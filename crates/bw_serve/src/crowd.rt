@@ -40,8 +40,8 @@ pub(crate) struct Crowd<L> {
 impl<L: Link + Drop> Crowd<L> {
     ghost use Rattle.bw_many.specs.Keeping.{IsFree};
     ghost use Rattle.bw_many.specs.Places.{begun_of, count_of};
-    ghost use Rattle.bw_serve.specs.Crowds.{Counts, Grows, HasSeats, IsNew, InTurn, LetsIn, ServesPlace};
-    ghost use Rattle.bw_serve.specs.Crowds.{Stays, WorksCounted, can_go_on_in};
+    ghost use Rattle.bw_serve.specs.Crowds.{Counts, Grows, HasSeats, IsNew, InTurn, LetsIn};
+    ghost use Rattle.bw_serve.specs.Crowds.{ServesPlace, Stays, WorksCounted, can_go_on_in};
     ghost use Rattle.bw_serve.specs.Rounds.{NoticesAll};
     ghost use Rattle.bw_serve.specs.Seats.{LogsAt};
     ghost use Rattle.bw_serve.specs.declared.lobby.Ready.{Ready};
