@@ -1,14 +1,12 @@
 //! The terminal that a sender's progress is told to.
 use bw_stream::Plain;
 use bw_transfer::{Progress, Watch};
-use std::alloc::Global;
 use std::io::{IsTerminal, Stderr};
 
 /// Standard error where it is a terminal, for the progress of a sender. What a terminal shows, no
 /// clause says.
 #[derive(Drop)]
 pub struct Terminal {
-    alloc: Global,
     screen: Option<Plain<Stderr>>,
 }
 
@@ -21,17 +19,14 @@ impl Terminal {
         } else {
             None
         };
-        Terminal {
-            alloc: rt.alloc(),
-            screen,
-        }
+        Terminal { screen }
     }
 }
 
 impl Watch for Terminal {
     fn round(&mut self, progress: &Progress<'_>) {
         if let Some(screen) = &mut self.screen {
-            progress.tell(self.alloc, screen);
+            progress.tell(screen);
         }
     }
 }

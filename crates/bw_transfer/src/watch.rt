@@ -1,18 +1,19 @@
 //! How far a sender is behind each round, for whoever watches it.
-ghost use Rattle.std.specs.Prelude.{◌≡◌, true, IfOk};
+ghost use Rattle.std.specs.Prelude.{◌≡◌, ◌≤◌, ◌+◌, ◌++◌, decimal, length};
 ghost use Rattle.bw_model.specs.World.{Sender as Defined, settled as settled_of};
 ghost use Rattle.bw_model.specs.World.{stored as stored_of};
 ghost use Rattle.bw_take.specs.States.{samples_in};
 ghost use Rattle.bw_sender.specs.Senders.{IsSender};
-ghost use Rattle.bw_transfer.specs.Tallies.{Logs};
+ghost use Rattle.bw_commands.specs.Printing.{IsOf, IsPrint, Print};
 ghost use Rattle.bw_transfer.specs.Watched.{bytes_in, counts_line, progress_line};
 ghost use Rattle.bw_transfer.specs.Watched.{settled_bytes};
 
+use arrayvec::ArrayString;
 use bw_commands::print::tell;
 use bw_sender::Sender;
 use bw_stream::Sink;
 use bw_take::{Request, RequestRef};
-use std::alloc::{AllocError, Global};
+use itoa::Buffer;
 
 /// Whoever watches a sender. What it does with what it hears, no clause says: it changes nothing of
 /// what is sent.
@@ -81,46 +82,43 @@ impl<'a> Progress<'a> {
         bytes_in(&self.requests[..settled])
     }
 
-    /// Tells it in a line. Where memory is refused for the line, it is left out.
-    pub fn tell<E: Sink>(&self, alloc: Global, out: &mut E)
-        ensures { (s : Defined) → IsSender s self.now.sender.now →
-            Logs E.Sink true (progress_line self.now.round s self.now.requests.now)
-            out.old out.new }
+    /// Tells it in a line. It takes no memory.
+    pub fn tell<E: Sink>(&self, out: &mut E)
+        ensures { (s : Defined) → IsSender s self.now.sender.now → (print : Print)
+            × IsOf (progress_line self.now.round s self.now.requests.now) print
+            × IsPrint E.Sink print out.old out.new }
     {
-        if let Ok(line) = self.line(alloc) {
-            tell(out, &line);
-        }
+        tell(out, self.line().as_str().as_bytes());
     }
 
-    fn line(&self, alloc: Global) -> Result<Vec<u8>, AllocError>
-        ensures { IfOk result (λ line. (s : Defined) → IsSender s self.now.sender.now →
-            line.items ≡ progress_line self.now.round s self.now.requests.now) }
+    fn line(&self) -> ArrayString<128>
+        ensures { (s : Defined) → IsSender s self.now.sender.now →
+            result.bytes ≡ progress_line self.now.round s self.now.requests.now }
     {
-        line_of(
-            alloc,
-            self.round,
-            self.settled(),
-            self.stored(),
-            self.bytes(),
-        )
+        line_of(self.round, self.settled(), self.stored(), self.bytes())
     }
 }
 
-fn line_of(
-    alloc: Global,
-    round: u32,
-    settled: u32,
-    stored: u32,
-    bytes: u64,
-) -> Result<Vec<u8>, AllocError>
-    ensures { IfOk result (λ line. line.items ≡ counts_line round settled stored bytes) }
+fn line_of(round: u32, settled: u32, stored: u32, bytes: u64) -> ArrayString<128>
+    ensures { result.bytes ≡ counts_line round settled stored bytes }
 {
-    let text = format!(in alloc;
-        "round {round} settled {settled} stored {stored} bytes {bytes}\n"
-    )?;
-    let mut line = Vec::new(alloc);
-    line.extend_from_slice(text.as_bytes())?;
-    Ok(line)
+    let mut line = ArrayString::new();
+    put_count(&mut line, "round ", u64::from(round));
+    put_count(&mut line, " settled ", u64::from(settled));
+    put_count(&mut line, " stored ", u64::from(stored));
+    put_count(&mut line, " bytes ", bytes);
+    line.push_str("\n");
+    line
+}
+
+/// Adds a count behind what it is called.
+fn put_count(line: &mut ArrayString<128>, name: &str, count: u64)
+    requires { length line.old.bytes + length name.now ≤ 100 }
+    ensures text { line.new.bytes ≡ line.old.bytes ++ name.now ++ decimal count }
+    ensures short { length line.new.bytes ≤ length line.old.bytes + length name.now + 20 }
+{
+    line.push_str(name);
+    line.push_str(Buffer::new().format(count));
 }
 
 /// The bytes of samples in these requests; 2^64 - 1 where there are more.
