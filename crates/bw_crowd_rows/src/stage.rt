@@ -176,6 +176,10 @@ impl Lobby for Stage<'_> {
 
     ghost all_told = { λ _. ⊤ };
 
+    ghost tried = { λ _ _. ⊤ };
+
+    ghost nobody = { λ _. ⊤ };
+
     fn wait(&mut self, most: u64) -> Result<(), WaitFault> {
         self.patience = most;
         let waited = self.wait_in_time(most);

@@ -96,6 +96,10 @@ impl Lobby for TcpLobby<'_> {
 
     ghost all_told = { λ _. ⊤ };
 
+    ghost tried = { λ _ _. ⊤ };
+
+    ghost nobody = { λ _. ⊤ };
+
     fn wait(&mut self, most: u64) -> Result<(), WaitFault> {
         self.seen = 0;
         self.patience = most;

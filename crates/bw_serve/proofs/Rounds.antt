@@ -63,10 +63,10 @@ seated {L} place now link a b r free begins refused others = record {
 module _ {B L S O E : Type 0} (lobby : LobbyGhosts B L) (G : LinkGhosts L)
     (answers : S → Frame → List Reply → S → Type 0) (out : Writer O) (told : Writer E) (log : Bool) where
   -- what a round adds
-  pub round_advances : (idle : ℕ) (a b : Crowd L) (s t : S) (x y : B) (o p : O) (e f : E) →
-      ServesRound lobby G answers out told log idle a b s t x y o p e f →
+  pub round_advances : (idle exchanges : ℕ) (a b : Crowd L) (s t : S) (x y : B) (o p : O) (e f : E) →
+      ServesRound lobby G answers out told log idle exchanges a b s t x y o p e f →
       Advances G answers out told log a b s t o p e f
-  round_advances idle a b s t x y o p e f r =
+  round_advances idle exchanges a b s t x y o p e f r =
       advances_then G answers out told log a r.between b s s t o o p e e f
       (advances_none G answers out told log a r.between s o e
       (grows_then G a r.noticed r.between r.notices.grows r.grows))
@@ -76,7 +76,7 @@ module _ {B L S O E : Type 0} (lobby : LobbyGhosts B L) (G : LinkGhosts L)
   -- one round more
   pub rounds_more : (places idle exchanges : ℕ) (a b : Crowd L) (s t u : S) (x y z : B) (o p q : O) (e f g : E) →
       ServesInRounds lobby G answers out told log places idle exchanges a s t x y o p e f → a.ended < exchanges →
-      ServesRound lobby G answers out told log idle a b t u y z p q f g →
+      ServesRound lobby G answers out told log idle exchanges a b t u y z p q f g →
       ServesInRounds lobby G answers out told log places idle exchanges b s u x z o q e g
   rounds_more places idle exchanges a b s t u x y z o p q e f g r few w = record {
     empty = r.empty;

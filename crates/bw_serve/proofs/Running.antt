@@ -78,11 +78,12 @@ module _ {L S O E : Type 0} (G : LinkGhosts L) (answers : S → Frame → List R
       }
 
   -- .. behind a round
-  pub round_so_far : {B : Type 0} (lobby : LobbyGhosts B L) (idle : ℕ) (c d : Crowd L) (s t u : S) (b b' : B)
-      (o p q : O) (e f g : E) → SoFar c s t o p e f →
-      ServesRound lobby G answers out told log idle c d t u b b' p q f g → SoFar d s u o q e g
-  round_so_far lobby idle c d s t u b b' o p q e f g x y =
-      more_so_far c d s t u o p q e f g x (round_advances lobby G answers out told log idle c d t u b b' p q f g y)
+  pub round_so_far : {B : Type 0} (lobby : LobbyGhosts B L) (idle exchanges : ℕ) (c d : Crowd L) (s t u : S)
+      (b b' : B) (o p q : O) (e f g : E) → SoFar c s t o p e f →
+      ServesRound lobby G answers out told log idle exchanges c d t u b b' p q f g → SoFar d s u o q e g
+  round_so_far lobby idle exchanges c d s t u b b' o p q e f g x y =
+      more_so_far c d s t u o p q e f g x
+      (round_advances lobby G answers out told log idle exchanges c d t u b b' p q f g y)
 
   -- .. and where no more are let in
   pub shut_so_far : (c d : Crowd L) (s t u : S) (o p q : O) (e f g : E) → SoFar c s t o p e f →

@@ -1,6 +1,6 @@
 -- Rounds of a crowd, one behind another.
 use Rattle.std.specs.Prelude.{◌≡◌, ◌⊎◌, ℕ, zero, suc, ◌<◌, ◌==◌, Bool, true, false, ◌&&◌, List}
-use Rattle.std.specs.Prelude.{◌++◌, length}
+use Rattle.std.specs.Prelude.{◌≤◌, ◌++◌, None, length}
 use Rattle.std.specs.List.{list_any}
 use Rattle.bw_model.specs.Wire.{Frame}
 use Rattle.bw_model.specs.Replies.{Reply}
@@ -9,7 +9,7 @@ use Rattle.bw_stream.specs.declared.sink.Sink.{Ghosts as Writer}
 use Rattle.bw_many.specs.declared.connection.Connection.{Connection}
 use Rattle.bw_many.specs.declared.link.Link.{Ghosts as LinkGhosts}
 use Rattle.bw_many.specs.Keeping.{StandsAt}
-use Rattle.bw_many.specs.Places.{count_of}
+use Rattle.bw_many.specs.Places.{begun_of, count_of, first_free}
 use Rattle.bw_many.specs.Working.{Wakes}
 use Rattle.bw_serve.specs.Crowds.{Grows, InTurn, IsNew, LetsIn, Stays, can_go_on_in}
 use Rattle.bw_serve.specs.declared.crowd.Crowd.{Crowd}
@@ -52,13 +52,19 @@ abbrev pub NoticesAll : {B K L : Type 0} → LobbyGhosts B K → B → B → Cro
 NoticesAll lobby b b' c c' =
     (n : Notices lobby b b' c c') × IsAll c n.told (lobby.all_told b')
 
+-- as many were begun as may be, or no place is free, or nobody waits to be let in, or it was asked as
+-- often as there are places
+abbrev pub AsksIn : {B K L : Type 0} → LobbyGhosts B K → ℕ → B → Crowd L → Type 0
+AsksIn lobby exchanges b c = (exchanges ≤ begun_of c.many) ⊎ (first_free c.many ≡ None)
+    ⊎ lobby.nobody b ⊎ lobby.tried b (count_of c.many)
+
 module _ {B L S O E : Type 0} (lobby : LobbyGhosts B L) (G : LinkGhosts L)
     (answers : S → Frame → List Reply → S → Type 0) (out : Writer O) (told : Writer E)
     (log : Bool) where
   -- A round: it was waited, and not where one could go on; who could go on behind that was noticed;
-  -- those who came were let in, at the time that the lobby told; then each place had its quantum.
-  pub record ServesRound (idle : ℕ) (c c' : Crowd L) (s s' : S) (b b' : B) (o o' : O) (e e' : E)
-      : Type 0 where
+  -- some were perhaps let in, at the time that the lobby told; then each place had its quantum.
+  pub record ServesRound (idle exchanges : ℕ) (c c' : Crowd L) (s s' : S) (b b' : B) (o o' : O)
+      (e e' : E) : Type 0 where
     pub waited : lobby.waits b' ≡ one_more (lobby.waits b)
     pub patience : lobby.patience b' ≡ patience_of (can_go_on_in c)
     pub noticed : Crowd L
@@ -71,6 +77,7 @@ module _ {B L S O E : Type 0} (lobby : LobbyGhosts B L) (G : LinkGhosts L)
     pub between : Crowd L
     pub grows : Grows G noticed between
     pub lets_in : LetsIn (lobby.time b') noticed between
+    pub asks : AsksIn lobby exchanges b' between
     pub in_turn : InTurn G answers out told log (lobby.time b') idle (count_of between.many) between
         c' s s' o o' e e'
 
@@ -82,7 +89,7 @@ module _ {B L S O E : Type 0} (lobby : LobbyGhosts B L) (G : LinkGhosts L)
   ServesRounds idle exchanges (suc n) c c' s s' b b' o o' e e' =
       (d : Crowd L) × (t : S) × (x : B) × (p : O) × (f : E)
       × ServesRounds idle exchanges n c d s t b x o p e f × (d.ended < exchanges)
-      × ServesRound idle d c' t s' x b' p o' f e'
+      × ServesRound idle exchanges d c' t s' x b' p o' f e'
 
   -- rounds from an empty crowd on, in which a silent one is ended behind so many milliseconds
   pub record ServesInRounds (places idle exchanges : ℕ) (c : Crowd L) (s s' : S) (b b' : B)

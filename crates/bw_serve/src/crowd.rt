@@ -1,5 +1,6 @@
 //! A crowd: many connections, those that come and those that end.
-ghost use Rattle.std.specs.Prelude.{◌≡◌, ◌+◌, ◌≤◌, ◌<◌, List, [], ◌∷◌, length, vec_len, IfOk};
+ghost use Rattle.std.specs.Prelude.{◌≡◌, ◌+◌, ◌≤◌, ◌<◌, ℕ, List, [], ◌∷◌, length, vec_len, IfOk};
+ghost use Rattle.std.specs.Prelude.{OnOk};
 ghost use Rattle.bw_wire.specs.Held.{longest_piece};
 ghost use Rattle.bw_stream.specs.Moves.{failures_after};
 
@@ -42,7 +43,7 @@ impl<L: Link + Drop> Crowd<L> {
     ghost use Rattle.bw_many.specs.Places.{begun_of, count_of};
     ghost use Rattle.bw_serve.specs.Crowds.{Counts, Grows, HasSeats, IsNew, InTurn, LetsIn};
     ghost use Rattle.bw_serve.specs.Crowds.{ServesPlace, Stays, WorksCounted, can_go_on_in};
-    ghost use Rattle.bw_serve.specs.Rounds.{NoticesAll};
+    ghost use Rattle.bw_serve.specs.Rounds.{AsksIn, NoticesAll};
     ghost use Rattle.bw_serve.specs.Seats.{LogsAt};
     ghost use Rattle.bw_serve.specs.declared.lobby.Ready.{Ready};
 
@@ -86,6 +87,7 @@ impl<L: Link + Drop> Crowd<L> {
         ensures waits { B.waits lobby.new ≡ B.waits lobby.old }
         ensures patience { B.patience lobby.new ≡ B.patience lobby.old }
         ensures notices { NoticesAll B.Lobby lobby.old lobby.new self.old self.new }
+        ensures tried { (n : ℕ) → B.tried lobby.old n → B.tried lobby.new n }
     {
         for _place in 0..=self.many.places() {
             let Some(ready) = lobby.next_ready() else {
@@ -117,6 +119,8 @@ impl<L: Link + Drop> Crowd<L> {
         ensures patience { B.patience lobby.new ≡ B.patience lobby.old }
         ensures told { (rs : List Ready) → B.told lobby.old rs → B.told lobby.new rs }
         ensures all_told { B.all_told lobby.old → B.all_told lobby.new }
+        ensures asks { OnOk result
+            (B.tried lobby.old 0 → AsksIn B.Lobby exchanges lobby.new self.new) }
     {
         for _peer in 0..self.many.places() {
             if self.many.begun() >= exchanges {

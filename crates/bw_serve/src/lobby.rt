@@ -1,5 +1,5 @@
 //! Where many peers come, and what tells which of their links can go on.
-ghost use Rattle.std.specs.Prelude.{◌≡◌, ◌++◌, ℕ, List, IfOk, OnOk, None, []};
+ghost use Rattle.std.specs.Prelude.{◌≡◌, ◌++◌, ◌+◌, ℕ, List, IfOk, OnOk, None, Err, []};
 ghost use Rattle.bw_stream.specs.Moves.{failures_after, one_more};
 ghost use Rattle.bw_many.specs.Keeping.{those};
 ghost use Rattle.bw_serve.specs.Lobbies.{closes_after};
@@ -72,6 +72,12 @@ pub trait Lobby {
     /// It may have told of each link that could go on when it was last waited.
     ghost all_told: { Self → Type 0 };
 
+    /// It may have been asked so often to let someone in since it was last waited.
+    ghost tried: { Self → ℕ → Type 0 };
+
+    /// Nobody may wait to be let in.
+    ghost nobody: { Self → Type 0 };
+
     /// Waits until a peer comes or a link can go on, no longer than so many milliseconds.
     ///
     /// # Errors
@@ -80,7 +86,8 @@ pub trait Lobby {
         ensures count { failures self.new ≡ failures_after result (failures self.old) }
         ensures waits { OnOk result (waits self.new ≡ one_more (waits self.old)) }
         ensures patience { patience self.new ≡ most }
-        ensures told { OnOk result (told self.new []) };
+        ensures told { OnOk result (told self.new []) }
+        ensures tried { OnOk result (tried self.new 0) };
 
     /// The next of the links that could go on when it was last waited, if there is one.
     fn next_ready(&mut self) -> Option<Ready>
@@ -88,7 +95,8 @@ pub trait Lobby {
         ensures waits { waits self.new ≡ waits self.old }
         ensures patience { patience self.new ≡ patience self.old }
         ensures told { (rs : List Ready) → told self.old rs → told self.new (rs ++ those result) }
-        ensures none { result ≡ None → all_told self.new };
+        ensures none { result ≡ None → all_told self.new }
+        ensures tried { (n : ℕ) → tried self.old n → tried self.new n };
 
     /// Lets in the next peer, under a place by which its link is named from now on.
     ///
@@ -103,7 +111,9 @@ pub trait Lobby {
         ensures time { time self.new ≡ time self.old }
         ensures patience { patience self.new ≡ patience self.old }
         ensures told { (rs : List Ready) → told self.old rs → told self.new rs }
-        ensures all_told { all_told self.old → all_told self.new };
+        ensures all_told { all_told self.old → all_told self.new }
+        ensures tried { (n : ℕ) → tried self.old n → tried self.new (n + 1) }
+        ensures nobody { result ≡ Err AcceptFault.Nobody → nobody self.new };
 
     /// The time, in milliseconds since some start. Where it can't be told, the last one.
     fn now(&mut self) -> u64
@@ -112,5 +122,6 @@ pub trait Lobby {
         ensures waits { waits self.new ≡ waits self.old }
         ensures patience { patience self.new ≡ patience self.old }
         ensures told { (rs : List Ready) → told self.old rs → told self.new rs }
-        ensures all_told { all_told self.old → all_told self.new };
+        ensures all_told { all_told self.old → all_told self.new }
+        ensures tried { (n : ℕ) → tried self.old n → tried self.new n };
 }

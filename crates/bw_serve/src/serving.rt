@@ -109,8 +109,8 @@ fn serve_round<B: Lobby, T: Turns, O: Sink, E: Sink>(
     requires begun { begun_of crowd.old.many ≤ bounds.now.exchanges }
     requires seats { HasSeats crowd.old }
     ensures round { OnOk result (ServesRound B.Lobby B.Link.Link T.answers O.Sink E.Sink log
-        bounds.now.idle crowd.old crowd.new server.old.server server.new.server lobby.old lobby.new
-        out.old out.new faults.old faults.new) }
+        bounds.now.idle bounds.now.exchanges crowd.old crowd.new server.old.server
+        server.new.server lobby.old lobby.new out.old out.new faults.old faults.new) }
     ensures shut { OnErr result (IsShut B.Link.Link crowd.old crowd.new server.old.server
         server.new.server out.old out.new faults.old faults.new) }
     ensures begun { begun_of crowd.new.many ≤ bounds.now.exchanges }

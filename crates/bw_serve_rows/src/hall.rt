@@ -192,6 +192,10 @@ impl Lobby for Hall {
 
     ghost all_told = { λ _. ⊤ };
 
+    ghost tried = { λ _ _. ⊤ };
+
+    ghost nobody = { λ _. ⊤ };
+
     fn wait(&mut self, most: u64) -> Result<(), WaitFault> {
         self.patience = most;
         if self.round >= self.plan.rounds {

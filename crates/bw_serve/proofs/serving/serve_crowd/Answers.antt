@@ -36,9 +36,9 @@ loop-round-preserved g c =
     let ok = c.in-Ok-serve_round.ensures in
     record {
       served = round_so_far g.B.Link.Link g.T.Turns.answers g.O.Sink g.E.Sink c.args.log g.B.Lobby
-          c.args.bounds.now.idle l.crowd r.new.crowd c.args.server.now.server l.server.server r.new.server.server
-          l.lobby r.new.lobby c.args.out.now l.out r.new.out c.args.faults.now l.faults r.new.faults l.invariant.served
-          ok.round;
+          c.args.bounds.now.idle c.args.bounds.now.exchanges l.crowd r.new.crowd c.args.server.now.server
+          l.server.server r.new.server.server l.lobby r.new.lobby c.args.out.now l.out r.new.out c.args.faults.now
+          l.faults r.new.faults l.invariant.served ok.round;
       rounds = rounds_more g.B.Lobby g.B.Link.Link g.T.Turns.answers g.O.Sink g.E.Sink c.args.log
           c.args.bounds.now.places c.args.bounds.now.idle c.args.bounds.now.exchanges l.crowd r.new.crowd
           c.args.server.now.server l.server.server r.new.server.server c.args.lobby.now l.lobby r.new.lobby

@@ -47,6 +47,7 @@ returns-clause-round g c =
       between = c.welcome.new.self;
       grows = c.welcome.ensures.grows;
       lets_in = subst (λ (now : ℕ). LetsIn now c.notice.new.self c.welcome.new.self) at c.welcome.ensures.lets_in;
+      asks = c.in_ok-welcome.ensures.asks (c.now-now.ensures.tried 0 (c.notice.ensures.tried 0 c.in-Ok.ensures.tried));
       in_turn = subst (λ (now : ℕ). InTurn g.B.Link.Link g.T.Turns.answers g.O.Sink g.E.Sink c.args.log now
           c.args.bounds.now.idle (count_of c.welcome.new.self.many) c.welcome.new.self e.new.self
           c.args.server.now.server e.new.server.server c.args.out.now e.new.out c.args.faults.now e.new.faults) at

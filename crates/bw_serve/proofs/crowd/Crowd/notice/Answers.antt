@@ -9,6 +9,7 @@ loop-place-init g c = record {
   failures = refl;
   waits = refl;
   patience = refl;
+  tried = λ n was. was;
   notices = noticed_none g.B.Lobby c.args.lobby.now c.args.self.now;
 }
 
@@ -25,6 +26,7 @@ loop-place-preserved g c =
       failures = n.failures ∙ c.loop-place.invariant.failures;
       waits = n.waits ∙ c.loop-place.invariant.waits;
       patience = n.patience ∙ c.loop-place.invariant.patience;
+      tried = λ k was. n.tried k (c.loop-place.invariant.tried k was);
       notices = noticed_more g.B.Lobby c.loop-place._place c.args.lobby.now c.loop-place.lobby c.next_ready.new.self
           c.in-Some.ready c.args.self.now l (record { many = c.wake.new.self; seats = l.seats; ended = l.ended })
           c.loop-place.invariant.notices (λ rs was. c.in-Some.ensures.told rs was) w.wakes w.others.0;
@@ -43,6 +45,7 @@ returns-in-Some g c =
       failures = n.failures ∙ c.loop-place.invariant.failures;
       waits = n.waits ∙ c.loop-place.invariant.waits;
       patience = n.patience ∙ c.loop-place.invariant.patience;
+      tried = λ k was. n.tried k (c.loop-place.invariant.tried k was);
       notices = noticed_most g.B.Lobby (c.loop-place._place + 1) c.args.lobby.now c.next_ready.new.self c.args.self.now
           (record { many = c.wake.new.self; seats = l.seats; ended = l.ended })
           (noticed_more g.B.Lobby c.loop-place._place c.args.lobby.now c.loop-place.lobby c.next_ready.new.self

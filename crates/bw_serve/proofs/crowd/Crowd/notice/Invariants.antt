@@ -1,4 +1,4 @@
-use Rattle.std.proofs.Common.{◌≡◌}
+use Rattle.std.proofs.Common.{◌≡◌, ℕ}
 use Rattle.bw_serve.specs.Crowds.{Stays}
 use Rattle.bw_serve.proofs.Noticing.{Noticed}
 use Rattle.bw_serve.proofs.crowd.Crowd.notice.Given as goal
@@ -9,5 +9,6 @@ invariant-loop-place g l = record {
   failures : g.B.Lobby.failures l.lobby ≡ g.B.Lobby.failures l.fn.lobby;
   waits : g.B.Lobby.waits l.lobby ≡ g.B.Lobby.waits l.fn.lobby;
   patience : g.B.Lobby.patience l.lobby ≡ g.B.Lobby.patience l.fn.lobby;
+  tried : (n : ℕ) → g.B.Lobby.tried l.fn.lobby n → g.B.Lobby.tried l.lobby n;
   notices : Noticed g.B.Lobby l._place l.fn.lobby l.lobby l.fn.self l.self;
 }

@@ -15,4 +15,5 @@ invariant-loop-peer g l = record {
   patience : g.B.Lobby.patience l.lobby ≡ g.B.Lobby.patience l.fn.lobby;
   told : (rs : List Ready) → g.B.Lobby.told l.fn.lobby rs → g.B.Lobby.told l.lobby rs;
   all_told : g.B.Lobby.all_told l.fn.lobby → g.B.Lobby.all_told l.lobby;
+  tried : g.B.Lobby.tried l.fn.lobby 0 → g.B.Lobby.tried l.lobby l._peer;
 }
