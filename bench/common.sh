@@ -4,8 +4,7 @@
 if [ $# -gt 0 ]; then
     program=$(readlink -f -- "$1") || exit
 else
-    program=$here/../crates/bw_cli/out/bw_cli # without the look for newer sources
-    "$here/../bwingest" --version >/dev/null || exit
+    program=$("$here/../tools/program") || exit
 fi
 work=$(mktemp -d) || exit
 trap 'end_started; rm -rf "$work"' EXIT

@@ -4,8 +4,7 @@
 # of half its length, to show that the time grows as the input does. Needs awk, and GNU time for the memory.
 
 here=$(dirname -- "$(readlink -f -- "$0")") || exit
-"$here/../bwingest" --version >/dev/null || exit
-program=$here/../crates/bw_cli/out/bw_cli # without the look for newer sources
+program=$("$here/../tools/program") || exit
 work=$(mktemp -d) || exit
 trap 'rm -rf "$work"' EXIT
 

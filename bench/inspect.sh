@@ -4,8 +4,7 @@
 # held in memory, and one of 1 GiB of noise that is read from the disk each time.
 
 here=$(dirname -- "$(readlink -f -- "$0")") || exit
-"$here/../bwingest" --version >/dev/null || exit
-program=$here/../crates/bw_cli/out/bw_cli # without the look for newer sources
+program=$("$here/../tools/program") || exit
 folder=$(mktemp -d) || exit
 trap 'rm -rf "$folder"' EXIT
 trap 'exit 1' HUP INT TERM
