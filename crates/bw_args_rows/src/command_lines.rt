@@ -1,110 +1,12 @@
 //! What no clause says of command lines: that they are taken or refused, by examples, and what
 //! texts they tell.
+use crate::outcomes::{Line, Outcome, comes_to, lines_come_to, parse_words, value_comes_to};
 use bw_args::numbers::number;
-use bw_args::{CommandLine, End, Recorders, Send, Serve, Task, parse};
-use bw_take::Name;
-use clap::Error;
+use bw_args::{CommandLine, End, Recorders};
 use std::alloc::{AllocError, Global};
 use std::process::Abort;
-use std::test::Fail;
 
-/// What a command line is to come to.
-#[derive(Clone, Copy, Debug, PartialEq, Eq)]
-enum Outcome {
-    /// Replays with this limit, and without a fuse.
-    Replays(u64),
-    /// Replays with this limit and this fuse.
-    Fuses(u64, u32),
-    /// Rehearses with this limit, under the name that the last word ends with.
-    Rehearses(u64),
-    /// Inspects the file that the last word names.
-    Inspects,
-    /// Serves at the address and in the folder that the rows' first words give: until this end, with
-    /// this limit, recorders in this way.
-    Serves(End, u64, Recorders),
-    /// The same, and tells each connection.
-    Logs(End, u64, Recorders),
-    /// Serves at another address or in another folder.
-    ServesElsewhere,
-    /// Sends to the address and under the name that the rows' first words give, in so many rounds at
-    /// most, with this timeout.
-    Sends(u32, Option<u32>),
-    /// Sends to another address.
-    SendsElsewhere,
-    /// Text on standard output, status 0.
-    Shows,
-    /// Text on standard error, status 2.
-    Refuses,
-    /// A stream and a status that don't belong together.
-    Confuses,
-}
-
-fn parse_words(alloc: Global, words: &[&str]) -> Result<CommandLine, AllocError> {
-    let mut line = Vec::new(alloc);
-    for word in words {
-        line.push(String::from_str(alloc, word)?)?;
-    }
-    parse(alloc, line.as_slice())
-}
-
-fn outcome_of(alloc: Global, words: &[&str]) -> Result<Outcome, AllocError> {
-    Ok(match parse_words(alloc, words)? {
-        CommandLine::Run(task) => run_outcome(&task, words),
-        CommandLine::BadValue(_) => Outcome::Refuses,
-        CommandLine::Tell(error) => told_outcome(&error),
-    })
-}
-
-fn run_outcome(task: &Task, words: &[&str]) -> Outcome {
-    match task {
-        Task::Replay { limit, fuse: None } => Outcome::Replays(*limit),
-        Task::Replay {
-            limit,
-            fuse: Some(number),
-        } => Outcome::Fuses(*limit, *number),
-        Task::Rehearse { name, limit } if ends_with(words, name) => Outcome::Rehearses(*limit),
-        Task::Rehearse { .. } => Outcome::Confuses,
-        Task::Inspect { file } if words.last() == Some(&file.as_str()) => Outcome::Inspects,
-        Task::Inspect { .. } => Outcome::Confuses,
-        Task::Serve(server) => server_outcome(server),
-        Task::Send(sender) => sender_outcome(sender),
-    }
-}
-
-fn server_outcome(server: &Serve) -> Outcome {
-    if server.listen.port() != 4100 || !server.listen.is_ipv4() || server.folder.as_str() != "-d" {
-        Outcome::ServesElsewhere
-    } else if server.log {
-        Outcome::Logs(server.end, server.limit, server.recorders)
-    } else {
-        Outcome::Serves(server.end, server.limit, server.recorders)
-    }
-}
-
-fn sender_outcome(sender: &Send) -> Outcome {
-    if sender.connect.port() == 4100 && sender.name.as_bytes() == b"-a".as_slice() {
-        Outcome::Sends(sender.rounds, sender.timeout)
-    } else {
-        Outcome::SendsElsewhere
-    }
-}
-
-fn ends_with(words: &[&str], name: &Name) -> bool {
-    match words.last() {
-        Some(word) => word.as_bytes().ends_with(name.as_bytes()),
-        None => false,
-    }
-}
-
-fn told_outcome(error: &Error) -> Outcome {
-    match (error.use_stderr(), error.exit_code()) {
-        (false, 0) => Outcome::Shows,
-        (true, 2) => Outcome::Refuses,
-        _ => Outcome::Confuses,
-    }
-}
-
-static REHEARSALS: [(&[&str], Outcome); 10] = [
+static REHEARSALS: [Line; 10] = [
     (&["--name", "a1"], Outcome::Rehearses(4_294_967_294)),
     (&["--name=a1"], Outcome::Rehearses(4_294_967_294)),
     (&["--name", "-a"], Outcome::Rehearses(4_294_967_294)),
@@ -121,16 +23,11 @@ static REHEARSALS: [(&[&str], Outcome); 10] = [
 ];
 
 #[test]
-fn a_rehearsal_has_a_name(rt: HostRuntime) -> Result<(), Fail> {
-    for (options, wanted) in &REHEARSALS {
-        let mut words = vec![in rt.alloc(); "bwingest", "rehearse"]?;
-        words.extend_from_slice(options)?;
-        comes_to(&rt, words.as_slice(), *wanted)?;
-    }
-    Ok(())
+fn a_rehearsal_has_a_name(rt: HostRuntime) -> Result<(), AllocError> {
+    lines_come_to(&rt, rt.alloc(), &["bwingest", "rehearse"], &REHEARSALS)
 }
 
-static LINES: [(&[&str], Outcome); 46] = [
+static LINES: [Line; 46] = [
     (&[], Outcome::Refuses),
     (&["bwingest"], Outcome::Refuses),
     (&["bwingest", "help"], Outcome::Shows),
@@ -206,18 +103,9 @@ static LINES: [(&[&str], Outcome); 46] = [
     ),
 ];
 
-/// Ends the test where a line comes to something else.
-fn comes_to<R: Abort + AllocGlobal>(rt: &R, words: &[&str], wanted: Outcome) -> Result<(), Fail> {
-    assert_eq!(rt; outcome_of(rt.alloc(), words)?, wanted, "{words:?}");
-    Ok(())
-}
-
 #[test]
-fn each_line_runs_or_tells(rt: HostRuntime) -> Result<(), Fail> {
-    for (words, wanted) in &LINES {
-        comes_to(&rt, words, *wanted)?;
-    }
-    Ok(())
+fn each_line_runs_or_tells(rt: HostRuntime) -> Result<(), AllocError> {
+    lines_come_to(&rt, rt.alloc(), &[], &LINES)
 }
 
 static VALUES: [(&str, Outcome); 28] = [
@@ -252,16 +140,14 @@ static VALUES: [(&str, Outcome); 28] = [
 ];
 
 #[test]
-fn a_limit_is_even_and_in_range(rt: HostRuntime) -> Result<(), Fail> {
+fn a_limit_is_even_and_in_range(rt: HostRuntime) -> Result<(), AllocError> {
     for (value, wanted) in &VALUES {
-        comes_to(&rt, &["bwingest", "replay", "--limit", value], *wanted)?;
-        let word = format!(in rt.alloc(); "--limit={value}")?;
-        comes_to(&rt, &["bwingest", "replay", word.as_str()], *wanted)?;
+        value_comes_to(&rt, rt.alloc(), "--limit", value, *wanted)?;
     }
     Ok(())
 }
 
-static OPTIONS: [(&[&str], Outcome); 21] = [
+static OPTIONS: [Line; 21] = [
     (&["--fuse", "0"], Outcome::Fuses(4_294_967_294, 0)),
     (&["--fuse=3"], Outcome::Fuses(4_294_967_294, 3)),
     (
@@ -295,13 +181,8 @@ static OPTIONS: [(&[&str], Outcome); 21] = [
 ];
 
 #[test]
-fn a_fuse_stands_beside_a_limit(rt: HostRuntime) -> Result<(), Fail> {
-    for (options, wanted) in &OPTIONS {
-        let mut words = vec![in rt.alloc(); "bwingest", "replay"]?;
-        words.extend_from_slice(options)?;
-        comes_to(&rt, words.as_slice(), *wanted)?;
-    }
-    Ok(())
+fn a_fuse_stands_beside_a_limit(rt: HostRuntime) -> Result<(), AllocError> {
+    lines_come_to(&rt, rt.alloc(), &["bwingest", "replay"], &OPTIONS)
 }
 
 static BAD_FUSES: [&str; 14] = [
@@ -322,24 +203,14 @@ static BAD_FUSES: [&str; 14] = [
 ];
 
 #[test]
-fn a_fuse_is_a_number(rt: HostRuntime) -> Result<(), Fail> {
+fn a_fuse_is_a_number(rt: HostRuntime) -> Result<(), AllocError> {
     for value in &BAD_FUSES {
-        comes_to(
-            &rt,
-            &["bwingest", "replay", "--fuse", value],
-            Outcome::Refuses,
-        )?;
-        let word = format!(in rt.alloc(); "--fuse={value}")?;
-        comes_to(
-            &rt,
-            &["bwingest", "replay", word.as_str()],
-            Outcome::Refuses,
-        )?;
+        value_comes_to(&rt, rt.alloc(), "--fuse", value, Outcome::Refuses)?;
     }
     Ok(())
 }
 
-static SERVERS: [(&[&str], Outcome); 21] = [
+static SERVERS: [Line; 21] = [
     (&[], Outcome::Serves(End::Exchanges(1), MOST, ONE_BY_ONE)),
     (
         &["--timeout=30", "--limit", "8192", "--exchanges=7"],
@@ -388,27 +259,22 @@ const A_DAY: Recorders = Recorders::InTurn {
     timeout: Some(86_400),
 };
 
-/// What a server comes to with these options.
-fn server_comes_to<R: Abort + AllocGlobal>(
-    rt: &R,
-    options: &[&str],
-    wanted: Outcome,
-) -> Result<(), Fail> {
-    let mut words = vec![in rt.alloc(); "bwingest", "serve", "--listen", "127.0.0.1:4100"]?;
-    words.extend_from_slice(&["--folder", "-d"])?;
-    words.extend_from_slice(options)?;
-    comes_to(rt, words.as_slice(), wanted)
-}
+/// The words that the lines of a server begin with.
+static SERVE: [&str; 6] = [
+    "bwingest",
+    "serve",
+    "--listen",
+    "127.0.0.1:4100",
+    "--folder",
+    "-d",
+];
 
 #[test]
-fn a_server_takes_its_options_in_any_order(rt: HostRuntime) -> Result<(), Fail> {
-    for (options, wanted) in &SERVERS {
-        server_comes_to(&rt, options, *wanted)?;
-    }
-    Ok(())
+fn a_server_takes_its_options_in_any_order(rt: HostRuntime) -> Result<(), AllocError> {
+    lines_come_to(&rt, rt.alloc(), &SERVE, &SERVERS)
 }
 
-static CROWDS: [(&[&str], Outcome); 12] = [
+static CROWDS: [Line; 12] = [
     (
         &["--recorders", "16"],
         Outcome::Serves(
@@ -448,14 +314,11 @@ static CROWDS: [(&[&str], Outcome); 12] = [
 ];
 
 #[test]
-fn a_server_of_many_takes_an_idle_time(rt: HostRuntime) -> Result<(), Fail> {
-    for (options, wanted) in &CROWDS {
-        server_comes_to(&rt, options, *wanted)?;
-    }
-    Ok(())
+fn a_server_of_many_takes_an_idle_time(rt: HostRuntime) -> Result<(), AllocError> {
+    lines_come_to(&rt, rt.alloc(), &SERVE, &CROWDS)
 }
 
-static SENDERS: [(&[&str], Outcome); 10] = [
+static SENDERS: [Line; 10] = [
     (&[], Outcome::Sends(16, None)),
     (
         &["--timeout", "1", "--rounds=1000"],
@@ -474,15 +337,18 @@ static SENDERS: [(&[&str], Outcome); 10] = [
     (&["--log"], Outcome::Refuses),
 ];
 
+/// The words that the lines of a sender begin with.
+static SEND: [&str; 5] = [
+    "bwingest",
+    "send",
+    "--connect=127.0.0.1:4100",
+    "--name",
+    "-a",
+];
+
 #[test]
-fn a_sender_takes_its_options_in_any_order(rt: HostRuntime) -> Result<(), Fail> {
-    for (options, wanted) in &SENDERS {
-        let mut words = vec![in rt.alloc(); "bwingest", "send", "--connect=127.0.0.1:4100"]?;
-        words.extend_from_slice(&["--name", "-a"])?;
-        words.extend_from_slice(options)?;
-        comes_to(&rt, words.as_slice(), *wanted)?;
-    }
-    Ok(())
+fn a_sender_takes_its_options_in_any_order(rt: HostRuntime) -> Result<(), AllocError> {
+    lines_come_to(&rt, rt.alloc(), &SEND, &SENDERS)
 }
 
 /// Addresses, with what they come to without leave for the network and with it.
@@ -523,14 +389,30 @@ static ADDRESSES: [(&str, Outcome, Outcome); 20] = [
 
 const PLAIN: Outcome = Outcome::Serves(End::Exchanges(1), MOST, ONE_BY_ONE);
 
+/// Ends the test where a server at an address comes to something else.
+fn address_comes_to(
+    rt: &impl Abort,
+    alloc: Global,
+    address: &str,
+    near: Outcome,
+    far: Outcome,
+) -> Result<(), AllocError> {
+    let listen = format!(in alloc; "--listen={address}")?;
+    let words = [
+        "bwingest",
+        "serve",
+        listen.as_str(),
+        "--folder=-d",
+        "--network",
+    ];
+    comes_to(rt, alloc, &words[..4], near)?;
+    comes_to(rt, alloc, &words, far)
+}
+
 #[test]
-fn an_address_is_local_without_leave_for_the_network(rt: HostRuntime) -> Result<(), Fail> {
+fn an_address_is_local_without_leave_for_the_network(rt: HostRuntime) -> Result<(), AllocError> {
     for (address, near, far) in &ADDRESSES {
-        let listen = format!(in rt.alloc(); "--listen={address}")?;
-        let mut words = vec![in rt.alloc(); "bwingest", "serve", listen.as_str(), "--folder=-d"]?;
-        comes_to(&rt, words.as_slice(), *near)?;
-        words.push("--network")?;
-        comes_to(&rt, words.as_slice(), *far)?;
+        address_comes_to(&rt, rt.alloc(), address, *near, *far)?;
     }
     Ok(())
 }
@@ -566,17 +448,27 @@ static TEXTS: [(&[&str], &str); 10] = [
     ),
 ];
 
+/// The text of a line that tells one.
+fn text_of(alloc: Global, words: &[&str]) -> Result<Option<String>, AllocError> {
+    match parse_words(alloc, words)? {
+        CommandLine::Run(_) => Ok(None),
+        CommandLine::BadValue(_) => Ok(None),
+        CommandLine::Tell(error) => Ok(Some(format!(in alloc; "{error}")?)),
+    }
+}
+
+/// Ends the test where a line tells no text, or one without this part.
+fn tells(rt: &impl Abort, alloc: Global, words: &[&str], part: &str) -> Result<(), AllocError> {
+    let text = text_of(alloc, words)?;
+    let found = text.as_deref().unwrap_or("no text");
+    assert!(rt; found.contains(part), "{words:?}: {found}");
+    Ok(())
+}
+
 #[test]
-fn texts_name_the_program(rt: HostRuntime) -> Result<(), Fail> {
+fn texts_name_the_program(rt: HostRuntime) -> Result<(), AllocError> {
     for (words, part) in &TEXTS {
-        match parse_words(rt.alloc(), words)? {
-            CommandLine::Run(task) => assert!(rt; false, "{words:?} runs {task:?}"),
-            CommandLine::BadValue(value) => assert!(rt; false, "{words:?} has a bad {value:?}"),
-            CommandLine::Tell(error) => {
-                let text = format!(in rt.alloc(); "{error}")?;
-                assert!(rt; text.as_str().contains(part), "{words:?}: {text}");
-            }
-        }
+        tells(&rt, rt.alloc(), words, part)?;
     }
     Ok(())
 }

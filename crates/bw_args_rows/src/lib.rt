@@ -3,3 +3,5 @@
 
 #[cfg(test)]
 mod command_lines;
+#[cfg(test)]
+mod outcomes;
