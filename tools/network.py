@@ -322,11 +322,8 @@ def run_cases(cases, longest_run):
 def program():
     if len(sys.argv) > 1:
         return str(pathlib.Path(sys.argv[1]).resolve())
-    here = pathlib.Path(__file__).resolve().parent.parent
-    built = here / "crates/bw_cli/out/bw_cli"
-    if not os.access(built, os.X_OK):
-        subprocess.run([here / "bwingest", "--version"], stdout=subprocess.DEVNULL, check=True)
-    return str(built)
+    here = pathlib.Path(__file__).resolve().parent
+    return subprocess.run([here / "program"], stdout=subprocess.PIPE, text=True, check=True).stdout.strip()
 
 
 PROGRAM = program()

@@ -55,13 +55,18 @@ pub enum CommandLine {
 ///
 /// Which words run a task, and of what kind an error is, is `clap`'s own account of its walk over
 /// them (`line`). In plain terms the contract says of thirty-four forms that they run (`replay`,
-/// `rehearse`, `inspect`, `serve`, `send`), of twenty-two which value is a fault (`values`, `peers`)
-/// and of thirteen what they tell (`help`, `rehearse`, `inspect`, `wanted`). That options may be
-/// given in any of their forms and orders, and that all else but `--` at the end or before a file
-/// is refused, is tested by examples. Nothing is claimed of what the texts say and where they go.
+/// `rehearse`, `inspect`, `serve`, `send`), of twenty-two which value is a fault (`values`,
+/// `peers`) and of thirteen what they tell (`help`, `rehearse`, `inspect`, `wanted`). That options
+/// may be given in any of their forms and orders, and that all else but `--` at the end or before a
+/// file is refused, is tested by examples.
 ///
 /// # Errors
 /// `AllocError` where memory was refused.
+///
+/// # Not specified
+/// - When memory is refused.
+/// - Most combinations of options in plain terms: of them `line` alone speaks.
+/// - What the texts of help, version and usage errors say, and where they go.
 pub fn parse(alloc: Global, words: &[String]) -> Result<CommandLine, AllocError>
     ensures line { IfOk result (IsLineOf (map string_bytes words.now)) }
     ensures ranges { IfOk result HasNumbersInRange }

@@ -28,7 +28,8 @@ pub(crate) const DEFAULT_IDLE: u32 = 60;
 /// The longest time for which a peer may be waited for, in seconds: a day.
 pub(crate) const MOST_SECONDS: u32 = 86_400;
 
-/// The number that a text of one to ten decimal digits writes: no sign, no blank, below 2^32.
+/// The number that a text of one to ten decimal digits writes: no sign, no blank, below 2^32. None
+/// for any other text.
 pub fn number(text: &str) -> Option<u32>
     ensures { SomeIff result (IsNumber text.now) (number_written text.now) }
 {
@@ -40,7 +41,7 @@ pub fn number(text: &str) -> Option<u32>
 }
 
 /// The limit on a RIFF file's form size that a text writes: a number of bytes, even, from 8,192 to
-/// 4,294,967,294.
+/// 4,294,967,294. None for any other text.
 pub fn limit(text: &str) -> Option<u64>
     ensures { SomeIff result (IsLimitText text.now) (number_written text.now) }
 {
@@ -52,7 +53,8 @@ pub fn limit(text: &str) -> Option<u64>
     }
 }
 
-/// The number from 1 to the most that a text of one to ten decimal digits writes.
+/// The number from 1 to the most that a text of one to ten decimal digits writes. None for any
+/// other text.
 pub fn count(text: &str, most: u32) -> Option<u32>
     ensures { SomeIff result (IsCountText most text.now) (number_written text.now) }
 {

@@ -22,8 +22,13 @@ use clap::Error;
 use std::alloc::Global;
 use std::process::ExitCode;
 
-/// Reads the command line, does what it asks for, and answers the program's status. The watcher
-/// hears how far `send` is.
+/// Reads the command line, does what it asks for, and answers the program's status, 0 to 4. The
+/// watcher hears how far `send` is.
+///
+/// # Not specified
+/// - When the status 4 is returned.
+/// - Which command line is obeyed where the system reports no words, as `Host` doesn't.
+/// - The texts of help, version and usage errors.
 pub fn start<S: System, N: Network + Gathering, R: Source, W: Sink, E: Sink, V: Watch>(
     alloc: Global,
     system: &mut S,

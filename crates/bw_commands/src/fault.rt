@@ -29,6 +29,9 @@ pub enum Fault {
 
 impl Fault {
     /// How the command ends on this fault.
+    ///
+    /// `Device` of `Unreadable` and `Unwritable`, `Memory` of `Memory`, and `Refused` of the
+    /// others.
     pub fn exit(&self) -> Exit
         ensures { result ≡ exit_on self.now }
     {
@@ -43,8 +46,8 @@ impl Fault {
         }
     }
 
-    /// The line that tells it, with the byte 10 at its end. It takes no memory, which may be what
-    /// is wanting.
+    /// The line that tells it, at most 64 bytes, with the byte 10 at its end. It takes no memory,
+    /// which may be what is wanting.
     pub fn line(&self) -> ArrayString<64>
         ensures { result.bytes ≡ as_line (input_fault_text self.now) }
     {
@@ -90,6 +93,7 @@ impl From<AllocError> for Fault {
 
     ghost from_gives = { λ _ fault. fault ≡ Memory };
 
+    /// `Memory`.
     fn from(_: AllocError) -> Fault {
         Fault::Memory
     }
@@ -100,6 +104,7 @@ impl<T: Drop> From<AllocFailed<T>> for Fault {
 
     ghost from_gives = { λ _ fault. fault ≡ Memory };
 
+    /// `Memory`.
     fn from(_: AllocFailed<T>) -> Fault {
         Fault::Memory
     }

@@ -17,6 +17,9 @@ pub struct Host<'a> {
 
 impl<'a> Host<'a> {
     /// The system of this runtime, which has not failed yet.
+    ///
+    /// # Not specified
+    /// What the words and files are: no clause of std says it.
     pub fn new(rt: &'a HostRuntime) -> Host<'a>
         ensures { result.failures ≡ 0 }
     {

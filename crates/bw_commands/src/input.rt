@@ -38,7 +38,13 @@ pub fn exchanges<R: Source>(alloc: Global, input: &mut R) -> Result<Vec<Vec<u8>>
 /// All bytes of an input.
 ///
 /// # Errors
-/// `TooLong`, `Unreadable` or `Memory`. At most 16,777,217 bytes were read.
+/// `TooLong` where there are more than 16,777,216; `Unreadable` where the reader failed; `Memory`
+/// where memory was refused. At most 16,777,217 bytes were read.
+///
+/// # Not specified
+/// - When memory is refused.
+/// - Of a reader that doesn't report its bytes: that the answer is what it gave, that `TooLong` is
+///   true, and that `NotHex`, `NotEvent` and `NotRequest` don't come.
 pub fn all_bytes<R: Source>(alloc: Global, input: &mut R) -> Result<Vec<u8>, Fault>
     ensures reads { Of (R.left input.old) (λ xs. IsReadAhead xs (R.left input.new)) }
     ensures most { R.moved input.new ≤ R.moved input.old + (longest_input + 1) }
@@ -104,7 +110,7 @@ fn line_fault(error: FromHexError, number: u64) -> Fault
     }
 }
 
-/// The first line of bytes, and what follows it.
+/// The first line of bytes, of which there is at least one, and what follows it.
 pub fn first_line(bytes: &[u8]) -> (&[u8], &[u8])
     requires { 0 < length bytes.now }
     ensures lines { lines_of bytes.now ≡ result.0.now ∷ lines_of result.1.now }

@@ -18,8 +18,14 @@ use std::alloc::Global;
 /// Reads a file, and writes its report, or the line of its first fault to `faults`.
 ///
 /// A line that can't be written to `faults` changes nothing. The report is made whole in memory
-/// before its first byte is written; the contract doesn't say that an answered want of memory was a
-/// real one.
+/// before its first byte is written.
+///
+/// `Refused` for a fault of the file; `Device` where a read or a write failed; `Memory` where
+/// memory was refused. Nothing is printed then, or a beginning where the writer failed.
+///
+/// # Not specified
+/// - When memory is refused.
+/// - How much of the file is read or passed over.
 pub fn inspect_run<R: Source, W: Sink, E: Sink>(
     alloc: Global,
     file: &mut R,

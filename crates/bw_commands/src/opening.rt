@@ -17,7 +17,16 @@ use std::io::{self, ErrorKind};
 /// Tells what is in the file of a path.
 ///
 /// A line that can't be written to `faults` changes nothing. A file that can't be opened is a line
-/// on `faults`, with the system's own reason, of which the contract doesn't say what it is.
+/// on `faults`, with the system's own reason.
+///
+/// It ends as `inspect_run` does; where the file can't be opened, as `Memory` where memory was
+/// refused, else as `Device`.
+///
+/// # Not specified
+/// - When memory is refused, and how much of the file is read or passed over.
+/// - When a file isn't opened, and the reason in its line.
+/// - Over `Host`, which bytes the report is of.
+/// - Whether the reader, which is dropped, counted a failed read.
 pub fn inspect_file<S: System, W: Sink, E: Sink>(
     alloc: Global,
     system: &mut S,
@@ -37,7 +46,12 @@ pub fn inspect_file<S: System, W: Sink, E: Sink>(
     }
 }
 
-/// Tells why what is named so can't be opened.
+/// Tells why what is named so can't be opened: `NAME can't be opened: REASON`. Answers `Memory`
+/// where memory was refused, also for this line, which is `out of memory` then; else `Device`.
+///
+/// # Not specified
+/// - The reason in the line.
+/// - When memory is refused for it.
 pub fn tell_unopened<E: Sink>(alloc: Global, path: &str, error: &io::Error, faults: &mut E) -> Exit
     ensures { (did : Deed) × (did.exit ≡ result)
         × (IsUnopened path.now (error_kind error.now) did ⊎ IsWant did)

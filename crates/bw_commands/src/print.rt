@@ -13,6 +13,9 @@ use bw_stream::{IoFailed, Sink, write_all};
 /// # Errors
 /// `IoFailed` where the writer failed: it has a beginning of the text, which may be all of it where
 /// passing it on failed.
+///
+/// # Not specified
+/// After an error, how many bytes were written, where the writer doesn't report them.
 pub fn print<W: Sink>(out: &mut W, text: &[u8]) -> Result<(), IoFailed>
     ensures ok { OnOk result (HasPrinted W.Sink text.now out.old out.new) }
     ensures err { OnErr result (HasStopped W.Sink text.now out.old out.new) }
@@ -22,6 +25,9 @@ pub fn print<W: Sink>(out: &mut W, text: &[u8]) -> Result<(), IoFailed>
 }
 
 /// Writes the text of a fault. That it can't be written changes nothing.
+///
+/// # Not specified
+/// Whether the text was written: only the writer's count of failures shows it.
 pub fn tell<E: Sink>(faults: &mut E, text: &[u8])
     ensures { (print : Print) × IsOf text.now print × IsPrint E.Sink print faults.old faults.new }
 {
@@ -29,6 +35,9 @@ pub fn tell<E: Sink>(faults: &mut E, text: &[u8])
 }
 
 /// Writes the line of a fault, and answers how the program ends on it.
+///
+/// # Not specified
+/// By the answer, whether the text was written: only the writer's count of failures shows it.
 pub fn give_up<E: Sink>(faults: &mut E, fault: &Fault) -> Exit
     ensures exit { result ≡ exit_on fault.now }
     ensures line { (print : Print) × IsOf (as_line (input_fault_text fault.now)) print

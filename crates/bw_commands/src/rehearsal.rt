@@ -28,8 +28,15 @@ use std::alloc::{AllocError, Global};
 /// an empty store in memory, and writes what came of them as text.
 ///
 /// A fault's line goes to `faults`; one that can't be written changes nothing. Of the input at most
-/// 16,777,217 bytes are read. The contract doesn't say that an answered want of memory was a real
-/// one.
+/// 16,777,217 bytes are read.
+///
+/// `Refused` where the input has more than 16,777,216 bytes, or at its first line that is no event;
+/// `Device` where a read or a write failed; `Memory` where memory was refused. Nothing is printed
+/// then, or a beginning where the writer failed.
+///
+/// # Not specified
+/// - When memory is refused.
+/// - Of a reader that doesn't report its bytes: what is refused, and what the text is of.
 pub fn rehearse_run<R: Source, W: Sink, E: Sink>(
     alloc: Global,
     name: Name,

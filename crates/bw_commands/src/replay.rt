@@ -24,7 +24,15 @@ use std::alloc::{AllocError, Global};
 ///
 /// A fault's line goes to `faults`; one that can't be written changes nothing. A file whose RIFF
 /// form would be longer than `limit` bytes is written as BW64. Of the input at most 16,777,217
-/// bytes are read. The contract doesn't say that an answered want of memory was a real one.
+/// bytes are read.
+///
+/// `Refused` where the input has more than 16,777,216 bytes, or at its first line that isn't hex;
+/// `Device` where a read or a write failed; `Memory` where memory was refused. Nothing is printed
+/// then, or a beginning where the writer failed.
+///
+/// # Not specified
+/// - When memory is refused.
+/// - Of a reader that doesn't report its bytes: what is refused, and what the text is of.
 pub fn replay<R: Source, W: Sink, E: Sink>(
     alloc: Global,
     limit: Limit,
@@ -43,7 +51,11 @@ pub fn replay<R: Source, W: Sink, E: Sink>(
 
 /// `replay` over a store of which the call number `fuse`, counted from 0, fails.
 ///
-/// That it is this call that fails, the contract doesn't say.
+/// # Not specified
+/// - That the call number `fuse` is the one that fails, and that none fails without it: the
+///   contract is that of `replay`.
+/// - When memory is refused.
+/// - Of a reader that doesn't report its bytes: what is refused, and what the text is of.
 pub fn replay_fused<R: Source, W: Sink, E: Sink>(
     alloc: Global,
     limit: Limit,

@@ -23,7 +23,11 @@ pub trait System {
     /// The words of the command line, the program's own name first.
     ///
     /// # Errors
-    /// Where the system failed: `InvalidData` where a word is no text.
+    /// Where the system failed: `InvalidData` where a word is no text. Files are as they were.
+    ///
+    /// # Not specified
+    /// - When it fails, and the kind of the error.
+    /// - What the words are after a call.
     fn words(&mut self) -> io::Result<Vec<String>>
         ensures count { failures self.new ≡ failures_after result (failures self.old) }
         ensures files { file_at self.new ≡ file_at self.old }
@@ -34,6 +38,10 @@ pub trait System {
     ///
     /// # Errors
     /// Where the system failed.
+    ///
+    /// # Not specified
+    /// - When it fails, and the kind of the error.
+    /// - That the words and other files stay as they were.
     fn open(&mut self, path: &str) -> io::Result<Self::File>
         ensures count { failures self.new ≡ failures_after result (failures self.old) }
         ensures ok { IfOk result (λ file.

@@ -72,7 +72,7 @@ fn put_exchange_line(
     Ok(())
 }
 
-/// The name of an exchange's end.
+/// The name of an exchange's end, at most 10 bytes.
 pub fn end_name(end: ExchangeEnd) -> &'static str
     ensures value { result.now ≡ name_of_end end }
     ensures short { length result.now ≤ 10 }

@@ -11,7 +11,8 @@ use bw_stream::Sink;
 use std::io::{self, ErrorKind};
 
 /// Tells that the words of the command line can't be read, for this error of the system. Answers
-/// how the program ends: `Usage` where a word is no text.
+/// how the program ends: `Usage` where a word is no text, `Memory` where memory was refused, else
+/// `Device`.
 pub fn tell_unworded<E: Sink>(error: &io::Error, faults: &mut E) -> Exit
     ensures { (did : Deed) × (did.exit ≡ result) × IsUnworded (error_kind error.now) did
         × IsPrint E.Sink did.faults faults.old faults.new }

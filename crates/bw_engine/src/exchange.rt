@@ -62,6 +62,9 @@ impl Exchange {
     ///
     /// # Errors
     /// `AllocError` where memory was refused.
+    ///
+    /// # Not specified
+    /// When memory is refused.
     pub fn new(alloc: Global) -> Result<Exchange, AllocError>
         ensures fresh { IfOk result (λ e. HasDone [] [] [] e) }
         ensures hungry { IfOk result (λ e. wants_piece e ≡ true) }
@@ -100,7 +103,7 @@ impl Exchange {
         self.end
     }
 
-    /// The bytes of replies that wait.
+    /// The bytes of replies that wait, at most 65,600.
     pub fn outgoing(&self) -> &[u8]
         ensures value { result.now ≡ waiting_in self.now }
         ensures len { length result.now ≤ most_waiting }
@@ -111,7 +114,11 @@ impl Exchange {
     /// Feeds the next piece, of at most 65,536 bytes, to an exchange that is hungry.
     ///
     /// # Errors
-    /// Why it wasn't fed: nothing changed.
+    /// `TooLong` where more than 2^62 bytes would have been fed; `Memory` where memory was refused,
+    /// never where there is room. Nothing changed.
+    ///
+    /// # Not specified
+    /// When a growth is refused.
     pub fn feed(&mut self, piece: &[u8]) -> Result<(), FeedError>
         requires hungry { wants_piece self.old ≡ true }
         requires short { length piece.now ≤ longest_piece }
@@ -134,6 +141,9 @@ impl Exchange {
 
     /// Has whole frames answered: at most so many, and as long as there is room for replies. How
     /// many were.
+    ///
+    /// Fewer than asked for only where the exchange is hungry or over, or more than 64,448 bytes
+    /// wait.
     pub fn answer<T: Turns>(&mut self, server: &mut T, turns: usize) -> usize
         ensures { AnswersSome T.answers turns result server.old server.new self.old self.new }
     {

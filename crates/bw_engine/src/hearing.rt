@@ -21,7 +21,14 @@ use std::alloc::{AllocError, Global};
 /// Reads replies to the input's end, and has each counted before the next is taken.
 ///
 /// # Errors
-/// Why the end wasn't reached. The replies that were heard before count.
+/// `Read` where the reader failed; `BadReply` where bytes are no reply's frame, or the input ended
+/// inside one; `TurnLimit` after 2^32 reads, of 2^32 bytes or more; `Memory` where memory was
+/// refused. The replies that were heard before count.
+///
+/// # Not specified
+/// - When memory is refused.
+/// - Where the bad reply stands in the stream, and its reason.
+/// - How many bytes the reader counted, but at `TurnLimit`.
 pub fn hear_replies<R: Source>(
     alloc: Global,
     sender: &mut Sender,

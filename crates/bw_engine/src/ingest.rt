@@ -25,6 +25,8 @@ pub struct Run<S: TakeStore> {
 }
 
 /// Why a run stopped.
+///
+/// No clause says what its text is.
 #[derive(Clone, Copy, Debug, PartialEq, Eq, Hash, Error)]
 pub enum RunFault {
     /// Memory was refused.
@@ -44,6 +46,7 @@ impl RunFault {
 impl From<AllocError> for RunFault {
     ghost from_gives = { λ _ _. Unit {0} };
 
+    /// `Memory`, the only one.
     fn from(_: AllocError) -> RunFault {
         RunFault::Memory
     }
@@ -52,6 +55,7 @@ impl From<AllocError> for RunFault {
 impl<T: Drop> From<AllocFailed<T>> for RunFault {
     ghost from_gives = { λ _ _. Unit {0} };
 
+    /// `Memory`, the only one.
     fn from(_: AllocFailed<T>) -> RunFault {
         RunFault::Memory
     }
@@ -68,7 +72,11 @@ struct Told {
 ///
 /// # Errors
 /// `Memory`, with the store, where memory was refused: the inputs before were served, and first
-/// frames of the next.
+/// frames of the next. Their replies are lost.
+///
+/// # Not specified
+/// - When memory is refused, and at which input.
+/// - What a store that isn't honest has afterwards.
 pub fn ingest_run<S: TakeStore>(
     alloc: Global,
     store: S,

@@ -32,6 +32,10 @@ const BYE: [u8; 5] = [1, 0, 0, 0, 9];
 ///
 /// # Errors
 /// `Write`: a beginning of the frames was written. `Memory`: whole frames of the first messages.
+///
+/// # Not specified
+/// - When memory is refused, and after how many messages.
+/// - That what was written reaches anyone: the caller must flush the writer.
 pub fn send_batch<W: Sink>(alloc: Global, sender: &Sender, writer: &mut W) -> Result<(), SendFault>
     ensures ok { (s : Defined) → IsSender s sender.now → OnOk result
         (WritesBatch s (W.written writer.old) (W.written writer.new)) }
@@ -117,6 +121,12 @@ fn write_frame<W: Sink>(writer: &mut W, frame: &[u8]) -> Result<(), SendFault>
 /// # Errors
 /// Why it broke off. What was heard is counted. `Memory` goes before `Write`; where the batch wants
 /// it, nothing is read.
+///
+/// # Not specified
+/// - When memory is refused.
+/// - By the answer, whether anything was sent or heard before: only reader and sender show it.
+/// - Whether `Write` hides how the hearing ended: `BadReply`, `Read` and `TurnLimit` after a failed
+///   write are returned as `Write`.
 pub fn send_exchange<R: Source, W: Sink>(
     alloc: Global,
     sender: &mut Sender,

@@ -47,6 +47,7 @@ impl From<StreamEnd> for ExchangeEnd {
 
     ghost from_gives = { λ end result. result ≡ ended_by end };
 
+    /// The end of the same name.
     fn from(end: StreamEnd) -> ExchangeEnd {
         match end {
             StreamEnd::Bye => ExchangeEnd::Bye,
@@ -60,6 +61,17 @@ impl From<StreamEnd> for ExchangeEnd {
 ///
 /// Each frame is answered by itself, and its replies are written before the next is taken. Bytes
 /// behind `Bye` or a bad frame are ignored.
+///
+/// `TurnLimit` comes only after 2^32 reads, of 2^32 bytes or more.
+///
+/// At `ReadFault` and `TurnLimit` all whole frames that were read are answered, and their replies
+/// written; at `Memory` those before the last piece; at `WriteFault` all but the last frame that
+/// was answered have their replies written.
+///
+/// # Not specified
+/// - When memory is refused.
+/// - Whether the writer was flushed.
+/// - How many bytes the reader counted, but at `TurnLimit`.
 pub fn serve_exchange<R: Source, W: Sink, T: Turns>(
     alloc: Global,
     server: &mut T,

@@ -15,12 +15,19 @@ pub trait Turns {
     ghost answers: { Self → Frame → List ModelReply → Self → Type 0 };
 
     /// Takes a message, and tells its sender, in `replies`, which is emptied first.
+    ///
+    /// # Not specified
+    /// What the server is afterwards, and that at least one reply comes: each implementation says
+    /// it.
     fn turn(&mut self, message: &Message<'_>, replies: &mut ArrayVec<Reply, 17>)
         ensures answered { answers self.old (Says (message_of message.now))
             (map reply_of replies.new.items) self.new }
         ensures numbers { All HasWireNumbers replies.new.items };
 
     /// Answers an ask.
+    ///
+    /// # Not specified
+    /// What the server is afterwards: each implementation says it.
     fn ask(&mut self, ask: &Ask<'_>) -> Reply
         ensures answered { answers self.old (Asks (asked_name ask.now) (asked_number ask.now))
             (reply_of result ∷ []) self.new }

@@ -7,6 +7,8 @@ ghost use Rattle.bw_file.specs.Disks.{Makes, IsOneCall, Syncs};
 use thiserror::Error;
 
 /// A call of the disk failed.
+///
+/// It has no number, and no clause says what its text is.
 #[derive(Debug, Drop, Error)]
 #[error("the disk failed")]
 pub struct DiskFault;
@@ -42,6 +44,9 @@ pub trait Disk: Drop {
     ///
     /// # Errors
     /// `DiskFault` where the disk failed: nothing was made then.
+    ///
+    /// # Not specified
+    /// When the disk fails, and why: out of memory isn't told apart.
     fn create_new(&mut self, path: &str) -> Result<Option<Self::File>, DiskFault>
         ensures call { IsOneCall calls failures self.old self.new (is_err result) }
         ensures honest { honest self.new ≡ honest self.old }
@@ -61,6 +66,10 @@ pub trait Disk: Drop {
     ///
     /// # Errors
     /// `DiskFault` where the disk failed: any bytes may stand in the range then.
+    ///
+    /// # Not specified
+    /// - When the disk fails, and why: out of memory isn't told apart.
+    /// - What the file is good for after an error.
     fn write_at(
         &mut self,
         file: &mut Self::File,
@@ -84,7 +93,11 @@ pub trait Disk: Drop {
     /// Asks that what stands in a file outlasts a loss of power.
     ///
     /// # Errors
-    /// `DiskFault` where the disk failed.
+    /// `DiskFault` where the disk failed. Nothing more is synced then.
+    ///
+    /// # Not specified
+    /// - When the disk fails, and why: out of memory isn't told apart.
+    /// - What the file is good for after an error.
     fn sync(&mut self, file: &Self::File) -> Result<(), DiskFault>
         ensures call { IsOneCall calls failures self.old self.new (is_err result) }
         ensures honest { honest self.new ≡ honest self.old }

@@ -41,7 +41,11 @@ impl<R: Files + Drop> FolderStore<SystemDisk<R>> {
     /// The store of a folder of the system, which need not be there yet.
     ///
     /// # Errors
-    /// `AllocError` where memory was refused.
+    /// `AllocError` where memory was refused. The runtime isn't given back.
+    ///
+    /// # Not specified
+    /// - When memory is refused.
+    /// - What the folder holds: by contract this store isn't honest.
     pub fn new(rt: R, alloc: Global, folder: &str) -> Result<FolderStore<SystemDisk<R>>, AllocError>
         ensures rt { IfOk result (λ s. s.disk.rt ≡ rt) }
         ensures folder { IfOk result (λ s. string_bytes s.folder ≡ folder.now) }
@@ -57,7 +61,10 @@ impl<D: Disk> FolderStore<D> {
     /// The store of a folder of a disk.
     ///
     /// # Errors
-    /// `AllocError` where memory was refused.
+    /// `AllocError` where memory was refused. The disk isn't given back.
+    ///
+    /// # Not specified
+    /// When memory is refused.
     pub fn over(disk: D, alloc: Global, folder: &str) -> Result<FolderStore<D>, AllocError>
         ensures disk { IfOk result (λ s. s.disk ≡ disk) }
         ensures folder { IfOk result (λ s. string_bytes s.folder ≡ folder.now) }
@@ -138,6 +145,14 @@ impl<D: Disk> TakeStore for FolderStore<D> {
 
     ghost honest = { λ s. D.honest s.disk };
 
+    /// Makes the file FOLDER/NAME.wav, by one call of the disk.
+    ///
+    /// # Errors
+    /// `StoreFault` where that call failed, or where memory was refused before it: no file was
+    /// made.
+    ///
+    /// # Not specified
+    /// When memory is refused: an error without a call of the disk has no other cause given.
     fn create(&mut self, name: &Name) -> Result<Created, StoreFault>
         ensures failures { Counts self.old.tally.failures self.new.tally.failures (is_err result) }
         ensures calls { Counts self.old.tally.calls self.new.tally.calls true }
@@ -163,6 +178,11 @@ impl<D: Disk> TakeStore for FolderStore<D> {
         answer
     }
 
+    /// Writes to a file that this store made, by one call of the disk.
+    ///
+    /// # Errors
+    /// `StoreFault` where that call failed, and for a name that this store didn't make: the disk
+    /// isn't called then.
     #[tactic(auto, using(crate::proofs::TakePaths::take_path_injective))]
     fn write_at(&mut self, name: &Name, offset: u64, bytes: &[u8]) -> Result<(), StoreFault>
         ensures failures { Counts self.old.tally.failures self.new.tally.failures (is_err result) }
@@ -201,6 +221,11 @@ impl<D: Disk> TakeStore for FolderStore<D> {
         answer
     }
 
+    /// Asks for the sync of a file that this store made, by one call of the disk.
+    ///
+    /// # Errors
+    /// `StoreFault` where that call failed, and for a name that this store didn't make: the disk
+    /// isn't called then.
     #[tactic(auto, using(crate::proofs::TakePaths::take_path_injective))]
     fn finish(&mut self, name: &Name) -> Result<(), StoreFault>
         ensures failures { Counts self.old.tally.failures self.new.tally.failures (is_err result) }

@@ -99,6 +99,15 @@ impl<S: TakeStore> TakeStore for FuseStore<S> {
 
     ghost honest = { λ s. S.honest s.inner };
 
+    /// Makes the name in the inner store, unless a fuse has the call's number.
+    ///
+    /// # Errors
+    /// `StoreFault` at a fuse, which is spent, without a call of the inner store; else where the
+    /// inner call failed.
+    ///
+    /// # Not specified
+    /// Whether a call without a fuse fails as the inner one does, once the inner store's count of
+    /// failures stands at 2^64 - 1.
     fn create(&mut self, name: &Name) -> Result<Created, StoreFault>
         ensures failures { Counts self.old.tally.failures self.new.tally.failures (is_err result) }
         ensures calls { Counts self.old.tally.calls self.new.tally.calls true }
@@ -136,6 +145,16 @@ impl<S: TakeStore> TakeStore for FuseStore<S> {
         answer
     }
 
+    /// Writes to the inner store, unless a fuse has the call's number: then only the first half of
+    /// the bytes, rounded down.
+    ///
+    /// # Errors
+    /// `StoreFault` at a fuse, which is spent; else where the inner call failed.
+    ///
+    /// # Not specified
+    /// - Whether a call without a fuse fails as the inner one does, once the inner store's count of
+    ///   failures stands at 2^64 - 1.
+    /// - At a fuse, whether the inner store took the half: only its count of failures shows it.
     fn write_at(&mut self, name: &Name, offset: u64, bytes: &[u8]) -> Result<(), StoreFault>
         ensures failures { Counts self.old.tally.failures self.new.tally.failures (is_err result) }
         ensures calls { Counts self.old.tally.calls self.new.tally.calls true }
@@ -185,6 +204,15 @@ impl<S: TakeStore> TakeStore for FuseStore<S> {
         answer
     }
 
+    /// Finishes the name in the inner store, unless a fuse has the call's number.
+    ///
+    /// # Errors
+    /// `StoreFault` at a fuse, which is spent, without a call of the inner store; else where the
+    /// inner call failed.
+    ///
+    /// # Not specified
+    /// Whether a call without a fuse fails as the inner one does, once the inner store's count of
+    /// failures stands at 2^64 - 1.
     fn finish(&mut self, name: &Name) -> Result<(), StoreFault>
         ensures failures { Counts self.old.tally.failures self.new.tally.failures (is_err result) }
         ensures calls { Counts self.old.tally.calls self.new.tally.calls true }

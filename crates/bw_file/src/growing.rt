@@ -54,6 +54,9 @@ impl GrowingFile {
     ///
     /// # Errors
     /// `AllocError` where memory was refused.
+    ///
+    /// # Not specified
+    /// When memory is refused.
     pub fn new(alloc: Global, name: Name, limit: Limit) -> Result<GrowingFile, AllocError>
         ensures { IfOk result
             (λ f. f ≡ record { name = name; limit = limit; made = false; dirty = false }) }
@@ -72,6 +75,9 @@ impl GrowingFile {
     ///
     /// # Errors
     /// `AllocError` where memory was refused.
+    ///
+    /// # Not specified
+    /// When memory is refused.
     pub fn resume(alloc: Global, name: Name, limit: Limit) -> Result<GrowingFile, AllocError>
         ensures { IfOk result
             (λ f. f ≡ record { name = name; limit = limit; made = true; dirty = false }) }
@@ -108,7 +114,12 @@ impl GrowingFile {
     /// Where the name stood in the store, it answers Exists, and nothing is written.
     ///
     /// # Errors
-    /// `StoreFault` where a call of the store failed.
+    /// `StoreFault` where a call of the store failed. The file is dirty then, and the same call may
+    /// be tried again.
+    ///
+    /// # Not specified
+    /// - Which of its calls failed.
+    /// - Over a store that isn't honest: what the file holds, and that New and Exists are true.
     pub fn begin<S: TakeStore>(
         &mut self,
         store: &mut S,
@@ -161,7 +172,12 @@ impl GrowingFile {
     /// bytes behind it.
     ///
     /// # Errors
-    /// `StoreFault` where a call of the store failed.
+    /// `StoreFault` where a call of the store failed. The file is dirty then, and the same call may
+    /// be tried again.
+    ///
+    /// # Not specified
+    /// - Which of its calls failed.
+    /// - Over a store that isn't honest, what the file holds.
     pub fn append<S: TakeStore>(
         &mut self,
         store: &mut S,
@@ -205,7 +221,12 @@ impl GrowingFile {
     /// judged Stored.
     ///
     /// # Errors
-    /// `StoreFault` where a call of the store failed.
+    /// `StoreFault` where a call of the store failed. The file is dirty then, and the same call may
+    /// be tried again.
+    ///
+    /// # Not specified
+    /// - Which of its calls failed.
+    /// - Over a store that isn't honest, what the file holds.
     pub fn retouch<S: TakeStore>(
         &mut self,
         store: &mut S,
@@ -250,7 +271,12 @@ impl GrowingFile {
     /// CLOSE with the take's own frames is judged Stored.
     ///
     /// # Errors
-    /// `StoreFault` where a call of the store failed.
+    /// `StoreFault` where a call of the store failed. The file is dirty then, and the same call may
+    /// be tried again.
+    ///
+    /// # Not specified
+    /// - Which of its calls failed.
+    /// - Over a store that isn't honest, what the file holds.
     pub fn close<S: TakeStore>(
         &mut self,
         store: &mut S,

@@ -41,6 +41,9 @@ impl MemoryStore {
     ///
     /// # Errors
     /// `AllocError` where memory was refused: nothing changed then.
+    ///
+    /// # Not specified
+    /// When memory is refused.
     pub fn plant(&mut self, name: &Name, bytes: &[u8]) -> Result<(), AllocError>
         ensures ok { OnOk result (content_under self.new.files name.now ≡ Some bytes.now) }
         ensures err { OnErr result
@@ -56,7 +59,7 @@ impl MemoryStore {
         }
     }
 
-    /// What stands under a name.
+    /// What stands under a name; None where it doesn't stand.
     pub fn content(&self, name: &Name) -> Option<&[u8]>
         ensures { option_copied result ≡ ⟦<MemoryStore as TakeStore>⟧.contents self.now name.now }
     {
@@ -74,7 +77,7 @@ impl MemoryStore {
         self.files.keys().len()
     }
 
-    /// The names that stand, by place from 0 on, in the order of their bytes.
+    /// The names that stand, by place from 0 on, in the order of their bytes; None after the last.
     pub fn name_at(&self, place: usize) -> Option<&Name>
         ensures name { option_copied result ≡ slice_get (names_of self.now) place }
         ensures names { AreNames (names_of self.now) (content_under self.now.files) }
@@ -92,6 +95,14 @@ impl TakeStore for MemoryStore {
 
     ghost honest = { λ s. true };
 
+    /// Makes the name, unless it stands.
+    ///
+    /// # Errors
+    /// `StoreFault` where memory was refused, never where the name stands: contents are as they
+    /// were.
+    ///
+    /// # Not specified
+    /// When memory is refused.
     fn create(&mut self, name: &Name) -> Result<Created, StoreFault>
         ensures failures { Counts self.old.tally.failures self.new.tally.failures (is_err result) }
         ensures calls { Counts self.old.tally.calls self.new.tally.calls true }
@@ -109,6 +120,14 @@ impl TakeStore for MemoryStore {
         answer
     }
 
+    /// Puts the bytes into the contents of a name that stands.
+    ///
+    /// # Errors
+    /// `StoreFault` where the name doesn't stand, or memory was refused, never where the bytes go
+    /// over what stands: contents are as they were, not torn.
+    ///
+    /// # Not specified
+    /// When memory is refused.
     fn write_at(&mut self, name: &Name, offset: u64, bytes: &[u8]) -> Result<(), StoreFault>
         ensures failures { Counts self.old.tally.failures self.new.tally.failures (is_err result) }
         ensures calls { Counts self.old.tally.calls self.new.tally.calls true }
@@ -126,6 +145,10 @@ impl TakeStore for MemoryStore {
         answer
     }
 
+    /// Counts the call, and changes no contents.
+    ///
+    /// # Errors
+    /// `StoreFault` where the name doesn't stand.
     fn finish(&mut self, name: &Name) -> Result<(), StoreFault>
         ensures failures { Counts self.old.tally.failures self.new.tally.failures (is_err result) }
         ensures calls { Counts self.old.tally.calls self.new.tally.calls true }

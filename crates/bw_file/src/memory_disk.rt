@@ -53,7 +53,7 @@ impl MemoryDisk {
         }
     }
 
-    /// What stands at a path.
+    /// What stands at a path; None where nothing does.
     pub fn content(&self, path: &str) -> Option<&[u8]>
         ensures { option_copied result ≡ ⟦<MemoryDisk as Disk>⟧.contents self.now path.now }
     {
@@ -79,6 +79,14 @@ impl Disk for MemoryDisk {
 
     ghost honest = { λ d. true };
 
+    /// Makes an empty file, unless something stands at the path.
+    ///
+    /// # Errors
+    /// `DiskFault` where memory was refused, never where something stands there: all files are as
+    /// they were.
+    ///
+    /// # Not specified
+    /// When memory is refused.
     fn create_new(&mut self, path: &str) -> Result<Option<MemoryFile>, DiskFault>
         ensures failures { Counts self.old.tally.failures self.new.tally.failures (is_err result) }
         ensures calls { Counts self.old.tally.calls self.new.tally.calls true }
@@ -99,6 +107,14 @@ impl Disk for MemoryDisk {
         answer
     }
 
+    /// Puts the bytes into what stands at the file's path.
+    ///
+    /// # Errors
+    /// `DiskFault` where nothing stands there, or memory was refused, never where the bytes go over
+    /// what stands: all files are as they were, not torn.
+    ///
+    /// # Not specified
+    /// When memory is refused.
     fn write_at(
         &mut self,
         file: &mut MemoryFile,
@@ -126,6 +142,13 @@ impl Disk for MemoryDisk {
         answer
     }
 
+    /// Notes that what stands at the file's path is synced.
+    ///
+    /// # Errors
+    /// `DiskFault` where nothing stands there, or memory was refused.
+    ///
+    /// # Not specified
+    /// That it succeeds where the file stands and there is memory.
     fn sync(&mut self, file: &MemoryFile) -> Result<(), DiskFault>
         ensures failures { Counts self.old.tally.failures self.new.tally.failures (is_err result) }
         ensures calls { Counts self.old.tally.calls self.new.tally.calls true }

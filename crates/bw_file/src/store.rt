@@ -17,6 +17,8 @@ pub enum Created {
 }
 
 /// A call of the store failed.
+///
+/// It has no number, and no clause says what its text is.
 #[derive(Debug, Drop, Error)]
 #[error("the store failed")]
 pub struct StoreFault;
@@ -45,6 +47,9 @@ pub trait TakeStore: Drop {
     ///
     /// # Errors
     /// `StoreFault` where the store failed: nothing was made then.
+    ///
+    /// # Not specified
+    /// When the store fails, and why: out of memory, the name and the device aren't told apart.
     fn create(&mut self, name: &Name) -> Result<Created, StoreFault>
         ensures failures { Counts (failures self.old) (failures self.new) (is_err result) }
         ensures calls { Counts (calls self.old) (calls self.new) true }
@@ -60,7 +65,11 @@ pub trait TakeStore: Drop {
     /// Puts bytes over what stands from an offset on, and past its end; a gap reads as zeros.
     ///
     /// # Errors
-    /// `StoreFault` where the store failed: any bytes may stand in the range then.
+    /// `StoreFault` where the store failed: any bytes may stand in the range then. No name is made
+    /// then.
+    ///
+    /// # Not specified
+    /// When the store fails, and why: out of memory, the name and the device aren't told apart.
     fn write_at(&mut self, name: &Name, offset: u64, bytes: &[u8]) -> Result<(), StoreFault>
         ensures failures { Counts (failures self.old) (failures self.new) (is_err result) }
         ensures calls { Counts (calls self.old) (calls self.new) true }
@@ -77,7 +86,11 @@ pub trait TakeStore: Drop {
     /// Says that the content of a name is complete.
     ///
     /// # Errors
-    /// `StoreFault` where the store failed.
+    /// `StoreFault` where the store failed. Contents are as they were then.
+    ///
+    /// # Not specified
+    /// - When the store fails, and why: out of memory, the name and the device aren't told apart.
+    /// - What success guarantees: no clause says what a complete file means to the store.
     fn finish(&mut self, name: &Name) -> Result<(), StoreFault>
         ensures failures { Counts (failures self.old) (failures self.new) (is_err result) }
         ensures calls { Counts (calls self.old) (calls self.new) true }

@@ -18,6 +18,10 @@ pub struct SystemDisk<R> {
 
 impl<R> SystemDisk<R> {
     /// The disk that a runtime gives.
+    ///
+    /// # Not specified
+    /// That the disk is honest: that is a premise. Of its `create_new`, `write_at` and `sync` only
+    /// the counts are proved.
     pub fn new(rt: R) -> SystemDisk<R>
         ensures rt { result.rt ≡ rt }
         ensures failures { result.tally.failures ≡ 0 }

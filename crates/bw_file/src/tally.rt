@@ -20,14 +20,14 @@ impl Tally {
         }
     }
 
-    /// How many calls came.
+    /// How many calls came; the count stays at 2^64 - 1.
     pub fn calls(&self) -> u64
         ensures { result ≡ self.now.calls }
     {
         self.calls
     }
 
-    /// Counts a call, and its failure.
+    /// Counts a call, and its failure; both counts stay at 2^64 - 1.
     pub fn count(&mut self, fails: bool)
         ensures calls { Counts self.old.calls self.new.calls true }
         ensures failures { Counts self.old.failures self.new.failures fails }

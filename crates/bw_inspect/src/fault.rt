@@ -49,7 +49,7 @@ impl InspectKind {
         self as u8
     }
 
-    /// Its name, as it is printed.
+    /// Its name, as it is printed, at most 9 bytes.
     pub fn name(self) -> &'static str
         ensures value { result.now ≡ name_of self }
         ensures short { length result.now ≤ 9 }
@@ -77,6 +77,7 @@ impl InspectKind {
 impl fmt::Display for InspectKind {
     ghost output = { λ k. Some (name_of k) };
 
+    /// Writes the kind's name.
     fn fmt<W: fmt::Write>(&self, f: &mut fmt::Formatter<W>) -> fmt::Result {
         f.write_str(self.name())
     }
@@ -94,6 +95,7 @@ pub struct InspectFault {
 impl fmt::Display for InspectFault {
     ghost output = { λ f. Some (inspect_fault_text f) };
 
+    /// Writes `KIND at OFFSET`.
     fn fmt<W: fmt::Write>(&self, f: &mut fmt::Formatter<W>) -> fmt::Result {
         write!(f, "{} at {}", self.kind, self.offset)
     }

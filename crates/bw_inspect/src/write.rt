@@ -23,6 +23,7 @@ pub struct WriteFailed;
 impl fmt::Display for WriteFailed {
     ghost output = { λ _. Some (codes "the report can't be written") };
 
+    /// Writes `the report can't be written`.
     fn fmt<W: fmt::Write>(&self, f: &mut fmt::Formatter<W>) -> fmt::Result {
         f.write_str("the report can't be written")
     }
@@ -31,6 +32,7 @@ impl fmt::Display for WriteFailed {
 impl Error for WriteFailed {}
 
 impl From<IoFailed> for WriteFailed {
+    /// The only value.
     fn from(_: IoFailed) -> WriteFailed {
         WriteFailed
     }
@@ -40,6 +42,9 @@ impl From<IoFailed> for WriteFailed {
 ///
 /// # Errors
 /// `WriteFailed` where the writer failed: a beginning of the text was written.
+///
+/// # Not specified
+/// Whether the writer holds bytes back.
 pub fn write_report<W: Sink>(report: &Report, writer: &mut W) -> Result<(), WriteFailed>
     ensures count { W.failures writer.new ≡ failures_after result (W.failures writer.old) }
     ensures ok { OnOk result

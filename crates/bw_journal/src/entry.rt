@@ -29,7 +29,8 @@ pub struct EntryRef<'a> {
 
 /// The entry at the front of the bytes, and how many bytes it takes.
 ///
-/// None where the front is torn, or is no entry. `zeros` are lent to it in place of samples.
+/// None where the front is torn, or is no entry. `zeros` are 32,768 zero bytes, lent to it in place
+/// of samples.
 #[tactic(auto, unfolding(crate::specs::Entries::first_entry))]
 pub fn first_entry<'a>(bytes: &'a [u8], zeros: &'a [u8]) -> Option<(EntryRef<'a>, usize)>
     requires { zeros.now ≡ zero_bytes longest_block }

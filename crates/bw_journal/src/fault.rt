@@ -6,6 +6,8 @@ use std::alloc::{AllocError, AllocFailed};
 use thiserror::Error;
 
 /// Why a journal tells nothing: the first that holds.
+///
+/// No clause says what its text is.
 #[derive(Clone, Copy, Debug, PartialEq, Eq, Hash, Error)]
 pub enum ReplayFault {
     /// A beginning of its header is all that stands: the journal is to be begun again.
@@ -46,6 +48,7 @@ impl From<AllocError> for ReplayFault {
 
     ghost from_gives = { λ _ fault. fault ≡ Memory };
 
+    /// `Memory`.
     fn from(_: AllocError) -> ReplayFault {
         ReplayFault::Memory
     }
@@ -56,6 +59,7 @@ impl<T: Drop> From<AllocFailed<T>> for ReplayFault {
 
     ghost from_gives = { λ _ fault. fault ≡ Memory };
 
+    /// `Memory`.
     fn from(_: AllocFailed<T>) -> ReplayFault {
         ReplayFault::Memory
     }

@@ -77,6 +77,16 @@ impl Journal for FuseJournal {
 
     ghost honest = { λ _. true };
 
+    /// Begins the inner journal, unless a fuse has the call's number.
+    ///
+    /// # Errors
+    /// `StoreFault` at a fuse, which is spent; else where the inner journal counted a failure: the
+    /// notes are as they were.
+    ///
+    /// # Not specified
+    /// - Which calls fail once the inner journal's count of failures stands at 2^64 - 1.
+    /// - That a call at a fuse leaves that count as it was.
+    /// - Without a fuse, that the failure that the inner journal counted is one of its `begin`.
     fn begin(&mut self, name: &Name) -> Result<(), StoreFault>
         ensures failures { Counts self.old.failures self.new.failures (is_err result) }
         ensures calls { Counts self.old.calls self.new.calls true }
@@ -103,6 +113,16 @@ impl Journal for FuseJournal {
         answer
     }
 
+    /// Notes the bytes in the inner journal, unless a fuse has the call's number: then only their
+    /// first half, rounded down.
+    ///
+    /// # Errors
+    /// `StoreFault` at a fuse, which is spent; else where the inner call failed.
+    ///
+    /// # Not specified
+    /// - Which calls fail once the inner journal's count of failures stands at 2^64 - 1.
+    /// - What an error leaves where other bytes followed the first `offset` ones.
+    /// - At a fuse, whether the inner journal took the half: only its count of failures shows it.
     fn note(&mut self, name: &Name, offset: u64, bytes: &[u8]) -> Result<(), StoreFault>
         ensures failures { Counts self.old.failures self.new.failures (is_err result) }
         ensures calls { Counts self.old.calls self.new.calls true }

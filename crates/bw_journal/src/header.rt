@@ -25,7 +25,7 @@ impl JournalHeader {
     /// How many bytes a header has.
     pub const LEN: usize = 19;
 
-    /// The header's bytes.
+    /// The header's 19 bytes.
     #[tactic(auto, unfolding(crate::specs::Seals::sealed, crate::specs::JournalHeaders::header_content))]
     pub fn to_bytes(&self) -> [u8; 19]
         ensures { result ≡ header_bytes (header_said self.now) }

@@ -30,9 +30,16 @@ pub trait Journal: Drop {
 
     /// Writes the header of a name's journal, unless it stands there whole.
     ///
+    /// Bytes that are no front of the header are never written over.
+    ///
     /// # Errors
     /// `StoreFault` where the journal failed: a front of the header may stand there then, and the
     /// same call may be tried again.
+    ///
+    /// # Not specified
+    /// - When the journal fails.
+    /// - Whether it succeeds where other bytes stand: in an honest journal it can't, and the error
+    ///   isn't told apart from a failure.
     fn begin(&mut self, name: &Name) -> Result<(), StoreFault>
         ensures failures { Counts (failures self.old) (failures self.new) (is_err result) }
         ensures honest { honest self.new ≡ honest self.old }
@@ -51,6 +58,11 @@ pub trait Journal: Drop {
     /// # Errors
     /// `StoreFault` where the journal failed: a front of the bytes may stand there then, and the
     /// same call may be tried again.
+    ///
+    /// # Not specified
+    /// - When the journal fails.
+    /// - What stands afterwards where the first `offset` bytes weren't there, or other bytes
+    ///   followed them.
     fn note(&mut self, name: &Name, offset: u64, bytes: &[u8]) -> Result<(), StoreFault>
         ensures failures { Counts (failures self.old) (failures self.new) (is_err result) }
         ensures honest { honest self.new ≡ honest self.old }
@@ -77,6 +89,7 @@ impl Journal for NoJournal {
 
     ghost honest = { λ _. false };
 
+    /// Does nothing.
     fn begin(&mut self, _name: &Name) -> Result<(), StoreFault>
         ensures ok { IsOk result }
         ensures unchanged { self.new ≡ self.old }
@@ -84,6 +97,7 @@ impl Journal for NoJournal {
         Ok(())
     }
 
+    /// Does nothing.
     fn note(&mut self, _name: &Name, _offset: u64, _bytes: &[u8]) -> Result<(), StoreFault>
         ensures ok { IsOk result }
         ensures unchanged { self.new ≡ self.old }

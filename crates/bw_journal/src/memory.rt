@@ -52,7 +52,10 @@ impl MemoryJournal {
     /// Notes that a file of a name stood. That is no call of the journal.
     ///
     /// # Errors
-    /// `AllocError` where memory was refused.
+    /// `AllocError` where memory was refused. Nothing changed then.
+    ///
+    /// # Not specified
+    /// When memory is refused.
     pub fn set_stood(&mut self, name: &Name) -> Result<(), AllocError>
         ensures ok { OnOk result (self.new.stood.items ≡ self.old.stood.items ++ name.now ∷ []) }
         ensures err { OnErr result (self.new.stood.items ≡ self.old.stood.items) }
@@ -69,6 +72,9 @@ impl MemoryJournal {
     ///
     /// # Errors
     /// `AllocError` where memory was refused: nothing changed then.
+    ///
+    /// # Not specified
+    /// When memory is refused.
     pub fn plant(&mut self, name: &Name, bytes: &[u8]) -> Result<(), AllocError>
         ensures ok { OnOk result (content_of self.new.notes name.now ≡ Some bytes.now) }
         ensures err { OnErr result
@@ -81,7 +87,7 @@ impl MemoryJournal {
         put(&mut self.notes, self.alloc, name, bytes)
     }
 
-    /// What is noted under a name.
+    /// What is noted under a name; None where nothing is.
     pub fn content(&self, name: &Name) -> Option<&[u8]>
         ensures { option_copied result ≡ ⟦<MemoryJournal as Journal>⟧.notes self.now name.now }
     {
@@ -98,6 +104,14 @@ impl Journal for MemoryJournal {
 
     ghost honest = { λ _. true };
 
+    /// Puts the header where no more than a front of it stands.
+    ///
+    /// # Errors
+    /// `StoreFault` where bytes stand that neither begin with the header nor are a front of it, or
+    /// memory was refused, never where the header stands: the notes are as they were.
+    ///
+    /// # Not specified
+    /// When memory is refused.
     fn begin(&mut self, name: &Name) -> Result<(), StoreFault>
         ensures failures { Counts self.old.failures self.new.failures (is_err result) }
         ensures headers { KeepsHeaders (header_for self.old) (header_for self.new) }
@@ -119,6 +133,14 @@ impl Journal for MemoryJournal {
         answer
     }
 
+    /// Puts the bytes after the first `offset` ones, in place of whatever followed these.
+    ///
+    /// # Errors
+    /// `StoreFault` where fewer than `offset` bytes are noted, or memory was refused: the notes are
+    /// cut to `offset` bytes.
+    ///
+    /// # Not specified
+    /// When memory is refused.
     fn note(&mut self, name: &Name, offset: u64, bytes: &[u8]) -> Result<(), StoreFault>
         ensures failures { Counts self.old.failures self.new.failures (is_err result) }
         ensures headers { KeepsHeaders (header_for self.old) (header_for self.new) }

@@ -45,8 +45,14 @@ pub struct Replayed {
 ///
 /// An entry that is torn at the end is passed over, and told by its length.
 ///
+/// The journal has at most 2^40 bytes.
+///
 /// # Errors
-/// The first reason why it tells nothing; `Memory` where a growth was refused.
+/// The first reason why it tells nothing; `Memory` where memory was refused, never where no header
+/// of this limit stands.
+///
+/// # Not specified
+/// When memory is refused.
 #[tactic(auto, unfolding(crate::specs::Replays::replay))]
 pub fn replay(alloc: Global, limit: Limit, bytes: &[u8]) -> Result<Replayed, ReplayFault>
     requires { length bytes.now ≤ 2 ^ 40 }

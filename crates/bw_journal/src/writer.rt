@@ -15,8 +15,13 @@ use std::alloc::{AllocError, Global};
 
 /// Appends the entry of a done number: of a block its length, and not its samples.
 ///
+/// The request fits, and the entry has at most 4,150 bytes.
+///
 /// # Errors
-/// `AllocError` where memory was refused.
+/// `AllocError` where memory was refused, never where there is room: the bytes are as they were.
+///
+/// # Not specified
+/// When a growth is refused, and how much room is made beyond what is needed.
 #[tactic(auto, using(crate::proofs::Lengths::entry_length), unfolding(crate::specs::Seals::sealed))]
 pub fn put_entry(
     _alloc: Global,

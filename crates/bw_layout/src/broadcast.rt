@@ -92,7 +92,8 @@ impl Bext {
     /// the time reference.
     ///
     /// # Errors
-    /// The first of Tag, Length and Text that holds.
+    /// The first that holds of `Tag` (the tag is none of 1 to 12), `Length` (the field takes no
+    /// value of this length) and `Text` (a byte isn't allowed at its place): nothing changed.
     pub fn set(&mut self, tag: u8, value: &[u8]) -> Result<(), FieldError>
         ensures told { result ≡ answer_of (field_fault tag value.now) }
         ensures ok { OnOk result (self.new ≡ with_field self.old tag value.now) }
@@ -141,15 +142,19 @@ impl Bext {
 impl Default for Bext {
     ghost is_default = { λ b. b ≡ no_fields };
 
+    /// No field set.
     fn default() -> Self {
         Self::new()
     }
 }
 
-/// Appends the content of a `bext` chunk. The history has at most 4,096 bytes.
+/// Appends the content of a `bext` chunk: 602 bytes and the history, which has at most 4,096 bytes.
 ///
 /// # Errors
-/// Memory was refused.
+/// `AllocError` where memory was refused, never where there is room: the bytes are as they were.
+///
+/// # Not specified
+/// When a growth is refused, and how much room is made beyond what is needed.
 pub fn put_bext(
     _alloc: Global,
     out: &mut Vec<u8>,

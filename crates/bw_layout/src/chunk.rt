@@ -50,6 +50,7 @@ impl Short {
 impl fmt::Display for Short {
     ghost output = { λ _. Some (codes "too few bytes") };
 
+    /// Writes `too few bytes`.
     fn fmt<W: fmt::Write>(&self, f: &mut fmt::Formatter<W>) -> fmt::Result {
         f.write_str("too few bytes")
     }
@@ -57,10 +58,13 @@ impl fmt::Display for Short {
 
 impl Error for Short {}
 
-/// Appends a chunk's head.
+/// Appends a chunk's head of 8 bytes.
 ///
 /// # Errors
-/// Memory was refused.
+/// `AllocError` where memory was refused, never where there is room: the bytes are as they were.
+///
+/// # Not specified
+/// When a growth is refused, and how much room is made beyond what is needed.
 pub fn put_head(_alloc: Global, out: &mut Vec<u8>, head: ChunkHead) -> Result<(), AllocError>
     ensures { Appends (head_bytes head.id head.size32) 8 result out.old out.new }
 {

@@ -32,7 +32,10 @@ impl Model for CuePoint {
 /// none.
 ///
 /// # Errors
-/// Memory was refused.
+/// `AllocError` where memory was refused, never where there is room: the bytes are as they were.
+///
+/// # Not specified
+/// When a growth is refused, and how much room is made beyond what is needed.
 #[tactic(auto, using(std::proofs::lemmas::List::append_assoc, crate::proofs::CueChunkBytes::cue_chunk_is, crate::proofs::CueChunkBytes::length_of_some))]
 pub fn put_cue_chunk(_alloc: Global, out: &mut Vec<u8>, cues: &[CuePoint]) -> Result<(), AllocError>
     requires { length cues.now ≤ most_markers }
@@ -50,9 +53,13 @@ pub fn put_cue_chunk(_alloc: Global, out: &mut Vec<u8>, cues: &[CuePoint]) -> Re
 }
 
 /// Appends the content of a `cue ` chunk: points of the data chunk, at most 1,024, in their order.
+/// It has 4 bytes, and 24 for each point.
 ///
 /// # Errors
-/// Memory was refused.
+/// `AllocError` where memory was refused, never where there is room: the bytes are as they were.
+///
+/// # Not specified
+/// When a growth is refused, and how much room is made beyond what is needed.
 pub fn put_cues(_alloc: Global, out: &mut Vec<u8>, cues: &[CuePoint]) -> Result<(), AllocError>
     requires { length cues.now ≤ most_markers }
     ensures { Appends (cue_content cues.now) (4 + 24 * length cues.now) result out.old out.new }

@@ -33,6 +33,7 @@ impl FieldError {
 impl fmt::Display for FieldError {
     ghost output = { λ error. Some (error_text error) };
 
+    /// Writes the reason in a few words, such as `no field has this tag`.
     fn fmt<W: fmt::Write>(&self, f: &mut fmt::Formatter<W>) -> fmt::Result {
         f.write_str(match self {
             FieldError::Tag => "no field has this tag",

@@ -36,6 +36,8 @@ impl Model for Fmt {
 
 impl Fmt {
     /// The format, or None where a take may not have it.
+    ///
+    /// A take has 1 to 768,000 frames a second, 1 to 64 channels, and 16, 24 or 32 bits a sample.
     pub fn new(rate: u32, channels: u16, bits: u16) -> Option<Fmt>
         ensures { let f = format_of rate channels bits in SomeIff result (IsTrue (is_format f)) f }
     {
@@ -97,10 +99,13 @@ impl Fmt {
     }
 }
 
-/// Appends the content of a `fmt ` chunk.
+/// Appends the content of a `fmt ` chunk, 16 bytes.
 ///
 /// # Errors
-/// Memory was refused.
+/// `AllocError` where memory was refused, never where there is room: the bytes are as they were.
+///
+/// # Not specified
+/// When a growth is refused, and how much room is made beyond what is needed.
 pub fn put_fmt(_alloc: Global, out: &mut Vec<u8>, fmt: &Fmt) -> Result<(), AllocError>
     ensures { Appends (fmt_content fmt.now) 16 result out.old out.new }
 {

@@ -61,7 +61,8 @@ impl<'a> Heading<'a> {
         Heading::new(self.format, bext, self.history, self.limit)
     }
 
-    /// Where the data begin: how many bytes the header has.
+    /// Where the data begin: how many bytes the header has. They are 690, and those of the history
+    /// with its pad byte.
     pub fn data_place(&self) -> u64
         ensures value { result ≡ place_of self.now }
         ensures low { 690 ≤ result }
@@ -94,7 +95,11 @@ impl<'a> Heading<'a> {
     /// points, at most 1,024.
     ///
     /// # Errors
-    /// Memory was refused.
+    /// `AllocError` where memory was refused, never where there is room: the bytes are as they
+    /// were.
+    ///
+    /// # Not specified
+    /// When a growth is refused, and how much room is made beyond what is needed.
     #[tactic(auto, using(crate::proofs::HeaderKinds::header_riff, crate::proofs::HeaderKinds::header_bw64))]
     pub fn put(
         &self,
@@ -182,7 +187,10 @@ pub fn form_size(history_len: u64, data_len: u64, cues: u64) -> u64
 /// data at most 2^62, and the cue points are at most 1,024.
 ///
 /// # Errors
-/// Memory was refused.
+/// `AllocError` where memory was refused, never where there is room: the bytes are as they were.
+///
+/// # Not specified
+/// When a growth is refused, and how much room is made beyond what is needed.
 pub fn header(
     alloc: Global,
     out: &mut Vec<u8>,

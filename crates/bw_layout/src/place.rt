@@ -4,6 +4,7 @@ ghost use Rattle.bw_model.specs.Take.{shape_of};
 ghost use Rattle.bw_layout.specs.Places.{StandsAt, range_of};
 
 /// The place in a file of the bytes that a field of `bext` has a say in, and how many they are.
+/// None where the tag isn't one of 1 to 12.
 ///
 /// For the loudness they are those from Version on, since Version tells whether one is given.
 pub fn field_place(tag: u8) -> Option<(u64, u64)>

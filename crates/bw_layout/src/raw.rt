@@ -175,7 +175,7 @@ pub fn read_bext(bytes: &[u8]) -> Result<RawBext, Short>
     })
 }
 
-/// Reads a cue point.
+/// Reads a cue point: its identifier at 0, its position at 4, its offset at 20.
 ///
 /// # Errors
 /// Short where there are fewer than 24 bytes.

@@ -83,10 +83,14 @@ impl Model for Ds64Fixed {
         record { form = v.form; data_size = v.data_size; table_len = v.table_len } };
 }
 
-/// Appends the content of a `ds64` chunk, with at most 4,096 entries.
+/// Appends the content of a `ds64` chunk, with at most 4,096 entries: 28 bytes, and 12 for each
+/// entry.
 ///
 /// # Errors
-/// Memory was refused.
+/// `AllocError` where memory was refused, never where there is room: the bytes are as they were.
+///
+/// # Not specified
+/// When a growth is refused, and how much room is made beyond what is needed.
 #[tactic(auto, using(std::proofs::lemmas::List::append_assoc), unfolding(crate::specs::Tables::ds64_with_table))]
 pub fn put_ds64(_alloc: Global, out: &mut Vec<u8>, sizes: &Ds64) -> Result<(), AllocError>
     requires { length sizes.now.table ≤ most_entries }

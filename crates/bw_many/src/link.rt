@@ -57,6 +57,9 @@ pub trait Link {
     ghost calls_from: { Self → SocketAddr → Type 0 };
 
     /// Puts the next bytes at the front of the buffer.
+    ///
+    /// # Not specified
+    /// When which answer comes.
     fn receive(&mut self, buffer: &mut [u8]) -> Received
         ensures within { IsReceived result (length buffer.old) }
         ensures given { (xs : List ℕ) → given self.old xs →
@@ -71,6 +74,9 @@ pub trait Link {
         ensures peer { (p : SocketAddr) → calls_from self.old p → calls_from self.new p };
 
     /// Takes bytes at the front of these, which are some.
+    ///
+    /// # Not specified
+    /// When which answer comes.
     fn send(&mut self, bytes: &[u8]) -> Sent
         ensures within { IsSent result (length bytes.now) }
         ensures given { (xs : List ℕ) → given self.old xs → given self.new xs }
@@ -83,6 +89,9 @@ pub trait Link {
         ensures peer { (p : SocketAddr) → calls_from self.old p → calls_from self.new p };
 
     /// Tells the peer that no more bytes will be sent.
+    ///
+    /// # Not specified
+    /// That the peer hears of it.
     fn shut(&mut self)
         ensures given { (xs : List ℕ) → given self.old xs → given self.new xs }
         ensures taken { (ys : List ℕ) → taken self.old ys → taken self.new ys }

@@ -11,6 +11,8 @@ use std::alloc::{AllocError, Global};
 use thiserror::Error;
 
 /// Why a connection can't be begun.
+///
+/// It has no number, and no clause says what its text is.
 #[derive(Clone, Copy, Debug, PartialEq, Eq, Error)]
 pub enum BeginError {
     /// Memory was refused.
@@ -70,6 +72,9 @@ impl<L: Link + Drop> Many<L> {
     ///
     /// # Errors
     /// `AllocError` where memory was refused.
+    ///
+    /// # Not specified
+    /// When memory is refused.
     pub fn new(alloc: Global, count: usize) -> Result<Many<L>, AllocError>
         ensures keeps { IfOk result (λ m. Keeps L.Link m [] []) }
         ensures count { IfOk result (λ m. count_of m ≡ count) }
@@ -117,7 +122,11 @@ impl<L: Link + Drop> Many<L> {
     /// Begins a connection at a free place, at a time in milliseconds.
     ///
     /// # Errors
-    /// Why it can't be begun: nothing changed, and the link is closed.
+    /// `NumbersSpent` after 2^64 - 1 connections; else `Memory`, where memory was refused. Nothing
+    /// changed, and the link is closed.
+    ///
+    /// # Not specified
+    /// When memory is refused.
     pub fn begin(
         &mut self,
         alloc: Global,
@@ -165,6 +174,13 @@ impl<L: Link + Drop> Many<L> {
 
     /// One quantum of the connection at a place, at a time in milliseconds. The connection, where it
     /// is over.
+    ///
+    /// At most 64 frames are answered. `buffer` has at most 65,536 bytes.
+    ///
+    /// # Not specified
+    /// - How much of what a link has is read, and how much of what waits is offered to it: only
+    ///   that a call is made where the last one didn't report that there is nothing, or no room.
+    /// - That the peer hears of the end of its replies after a bad frame.
     pub fn work<T: Turns>(
         &mut self,
         place: usize,
@@ -189,7 +205,7 @@ impl<L: Link + Drop> Many<L> {
     }
 
     /// Ends the connection at a place where it was quiet for longer than `idle` milliseconds, or
-    /// drained for long enough.
+    /// drained for longer than 2,000.
     pub fn expire(&mut self, place: usize, now: u64, idle: u64) -> Option<Closed<L>>
         requires place { place < count_of self.old }
         ensures adds { Adds L.Link self.old [] (those result) self.new }

@@ -43,7 +43,14 @@ impl<'a> TcpLobby<'a> {
     /// Listens at an address for those who come to a server over this folder, at so many places.
     ///
     /// # Errors
-    /// Why the system doesn't let it; `OutOfMemory` where memory was refused.
+    /// Why the system doesn't let it; `OutOfMemory` where memory was refused. The folder's text
+    /// isn't given back.
+    ///
+    /// # Not specified
+    /// - When it fails, and the kind of the error.
+    /// - That its runtime is the one that was given.
+    /// - When a wait ends, who is let in, when `Gone`, `Nobody` and `Closed` are returned, and what
+    ///   time it is.
     pub fn listen(
         rt: &'a HostRuntime,
         address: SocketAddr,

@@ -23,6 +23,11 @@ pub struct TcpNetwork<'a> {
 
 impl<'a> TcpNetwork<'a> {
     /// The network of this runtime, which has not failed yet.
+    ///
+    /// # Not specified
+    /// - That its runtime is the one that was given.
+    /// - That a folder is tried before its store is given, that it listens and calls at the
+    ///   address, and when an error is returned.
     pub fn new(rt: &'a HostRuntime) -> TcpNetwork<'a>
         ensures { result.failures ≡ 0 }
     {

@@ -11,6 +11,9 @@ use std::net::Shutdown;
 const MOST_TRIES: u32 = 16;
 
 /// The link over a recorder's stream. No clause says which bytes it gives and takes.
+///
+/// Proved is only that it reports no more bytes than there is room for, no more than it was given,
+/// and never none as some.
 #[derive(Drop)]
 pub struct Socket {
     stream: TcpStream,

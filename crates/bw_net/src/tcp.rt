@@ -23,6 +23,10 @@ pub struct TcpDial<'a, R> {
 
 impl<'a, R> TcpDial<'a, R> {
     /// What opens links to this address, and has not failed yet.
+    ///
+    /// # Not specified
+    /// - That its runtime is the one that was given.
+    /// - That its links go to the address, and what they give.
     pub fn new(rt: &'a R, address: SocketAddr, timeout: Option<Duration>) -> TcpDial<'a, R>
         ensures failures { result.failures ≡ 0 }
         ensures address { result.address ≡ address }
@@ -100,7 +104,12 @@ impl<'a, R: Net> TcpPeers<'a, R, R::Listener> {
     /// Listens at an address for those who come to a server over this folder.
     ///
     /// # Errors
-    /// Why the system doesn't let it.
+    /// Why the system doesn't let it. The folder's text isn't given back.
+    ///
+    /// # Not specified
+    /// - When it fails, and the kind of the error.
+    /// - That its runtime is the one that was given.
+    /// - Of `accept`, when `Gone` and when `Closed` is returned.
     pub fn listen(
         rt: &'a R,
         address: SocketAddr,

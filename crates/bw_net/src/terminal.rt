@@ -12,6 +12,9 @@ pub struct Terminal {
 
 impl Terminal {
     /// The terminal of this runtime's process: none where its standard error leads elsewhere.
+    ///
+    /// # Not specified
+    /// Anything: it has no contract. What a terminal shows is run, on a pseudo terminal.
     pub fn new(rt: &HostRuntime) -> Terminal {
         let faults = rt.stderr();
         let screen = if faults.is_terminal() {

@@ -21,6 +21,10 @@ use std::alloc::{AllocError, Global};
 /// # Errors
 /// `AllocError` where memory was refused: only a line of `offer ` and an even number of digits takes
 /// some.
+///
+/// # Not specified
+/// Of an even number of digits, when memory is refused, and that only those that spell a request
+/// are.
 pub fn event_in(alloc: Global, line: &[u8]) -> Result<Option<Event>, AllocError>
     ensures ok { IfOk result (λ found. MatchOption found ((e : ToldEvent) → ¬ SaysEvent line.now e)
         (λ event. SaysEvent line.now (event_meaning event))) }
@@ -68,6 +72,10 @@ fn behind<'a>(word: &[u8], line: &'a [u8]) -> Option<&'a [u8]>
 ///
 /// # Errors
 /// `AllocError` where memory was refused: only a text of an even length takes some.
+///
+/// # Not specified
+/// Of an even number of digits, when memory is refused, and that only those that spell a request
+/// are.
 pub fn request_from_hex(alloc: Global, text: &[u8]) -> Result<Option<Request>, AllocError>
     ensures ok { IfOk result (λ found. MatchOption found
         ((r : Requested) → ¬ IsRequestText text.now r) (λ r. IsRequestText text.now r)) }

@@ -32,7 +32,11 @@ pub struct World {
 /// the rehearsal: a reply says so, or the store's count of failures.
 ///
 /// # Errors
-/// `AllocError` where memory was refused to the sender, or for what is said between them.
+/// `AllocError` where memory was refused to the sender, or for what is said between them. The name
+/// isn't given back.
+///
+/// # Not specified
+/// When memory is refused, and which events were played before.
 pub fn rehearse(
     alloc: Global,
     name: Name,

@@ -46,7 +46,10 @@ impl Sender {
     /// A sender of a name, to which nothing was offered.
     ///
     /// # Errors
-    /// `AllocError` where memory was refused.
+    /// `AllocError` where memory was refused. The name isn't given back.
+    ///
+    /// # Not specified
+    /// When memory is refused.
     pub fn new(alloc: Global, name: Name) -> Result<Sender, AllocError>
         ensures { IfOk result (λ x. IsSender (new_sender name) x) }
     {
@@ -67,10 +70,14 @@ impl Sender {
         &self.name
     }
 
-    /// Takes over a request, and gives its number.
+    /// Takes over a request, and gives its number, the next one from 0 on.
     ///
     /// # Errors
-    /// Why it wasn't taken over, with the request: nothing changed.
+    /// Why it wasn't taken over, with the request: the first of `NumbersSpent`, `BeforeOpen`,
+    /// `AfterClose`, `WindowFull` and `Memory` that holds. Nothing changed.
+    ///
+    /// # Not specified
+    /// When memory is refused, where there is no room for the refusals.
     pub fn offer(&mut self, request: Request) -> Result<u32, (OfferError, Request)>
         ensures ok { (s : Defined) → IsSender s self.old → IfOk result (λ n.
             (n ≡ length s.offered) × (offer_fault s request ≡ None)
@@ -95,7 +102,7 @@ impl Sender {
     }
 
     /// The request at a place among those without a verdict, in the order of their numbers, with
-    /// its number.
+    /// its number; None after the last.
     pub fn pending(&self, place: usize) -> Option<(u32, &Request)>
         ensures value { (s : Defined) → IsSender s self.now →
             option_map lent_pending result ≡ pending_of s place }
@@ -105,6 +112,9 @@ impl Sender {
     }
 
     /// Counts a verdict, if it is the first of an offered request, and tells what the reply is.
+    ///
+    /// Every other reply changes nothing: also Conflict and TooFar, which are final, are `Noted`,
+    /// as Held is.
     pub fn on_reply(&mut self, reply: &Reply) -> Heard
         ensures heard { (s : Defined) → IsSender s self.old →
             heard_of result ≡ heard s (reply_of reply.now) }
@@ -131,7 +141,7 @@ impl Sender {
         }
     }
 
-    /// How many numbers have their verdicts, up to the first that has none.
+    /// How many numbers have their verdicts, up to the first that has none; at most 16,777,216.
     pub fn settled(&self) -> u32
         ensures value { (s : Defined) → IsSender s self.now → result ≡ settled_of s }
         ensures rest { result + length self.now.window ≡ self.now.offered }

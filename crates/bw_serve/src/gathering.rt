@@ -24,6 +24,10 @@ pub trait Gathering {
     ///
     /// # Errors
     /// Why nobody can come.
+    ///
+    /// # Not specified
+    /// - When it fails, and the kind of the error.
+    /// - What the gathering is afterwards, but for its count of failures.
     fn lobby(&mut self, address: SocketAddr, folder: &str, places: usize) -> io::Result<Self::Lobby>
         ensures came { opens self.old address folder.now places result self.new }
         ensures count { failures self.new ≡ failures_after result (failures self.old) };

@@ -37,12 +37,18 @@ pub struct Hosting<'a> {
 ///
 /// What can't be used is a line on `faults` before anything is printed. Then `listening ADDRESS`
 /// and a line for each exchange are, as `serve_crowd` says; where the first can't be, nothing is
-/// served. Where a log is asked for, each connection is a line on `faults`, as it says too. Why the
-/// system doesn't let a folder or an address be used, the contract doesn't say.
+/// served. Where a log is asked for, each connection is a line on `faults`, as it says too.
 ///
 /// `Done` behind the last exchange; `Device` where folder or address can't be used, the first line
 /// can't be written or no more are let in; `Memory` where memory was refused before the first
 /// connection, or to a fault's line.
+///
+/// # Not specified
+/// - When memory is refused before the first line.
+/// - The reason in the line of a folder or an address that can't be used.
+/// - The state of the lobby after the run, which is dropped.
+/// - What a store that isn't honest has then.
+/// - What `serve_crowd` leaves open.
 pub fn serve_many<N: Network + Gathering, O: Sink, E: Sink>(
     alloc: Global,
     network: &mut N,

@@ -30,11 +30,15 @@ pub struct Guest<L> {
 }
 
 /// Nothing can be waited for any longer.
+///
+/// It has no number, and no clause says what its text is.
 #[derive(Clone, Copy, Debug, PartialEq, Eq, Drop, Error)]
 #[error("the server can't wait")]
 pub struct WaitFault;
 
 /// Why no peer was let in.
+///
+/// It has no number, and no clause says what its text is.
 #[derive(Clone, Copy, Debug, PartialEq, Eq, Error)]
 pub enum AcceptFault {
     /// Nobody waits.
@@ -82,6 +86,9 @@ pub trait Lobby {
     ///
     /// # Errors
     /// `WaitFault` where that isn't possible any longer.
+    ///
+    /// # Not specified
+    /// When a wait ends or fails, whether someone came, and whether a link can go on.
     fn wait(&mut self, most: u64) -> Result<(), WaitFault>
         ensures count { failures self.new ≡ failures_after result (failures self.old) }
         ensures waits { OnOk result (waits self.new ≡ one_more (waits self.old)) }
@@ -90,6 +97,9 @@ pub trait Lobby {
         ensures tried { OnOk result (tried self.new 0) };
 
     /// The next of the links that could go on when it was last waited, if there is one.
+    ///
+    /// # Not specified
+    /// Which link can go on.
     fn next_ready(&mut self) -> Option<Ready>
         ensures failures { failures self.new ≡ failures self.old }
         ensures waits { waits self.new ≡ waits self.old }
@@ -102,6 +112,11 @@ pub trait Lobby {
     ///
     /// # Errors
     /// Why there is none.
+    ///
+    /// # Not specified
+    /// - Who comes, and when: only that a new link gave and took nothing, and that the address is
+    ///   one that the link reports.
+    /// - When which error is returned.
     fn accept(&mut self, place: usize) -> Result<Guest<Self::Link>, AcceptFault>
         ensures given { IfOk result (λ guest. Self.Link.given guest.link []) }
         ensures taken { IfOk result (λ guest. Self.Link.taken guest.link []) }
@@ -116,6 +131,9 @@ pub trait Lobby {
         ensures nobody { result ≡ Err AcceptFault.Nobody → nobody self.new };
 
     /// The time, in milliseconds since some start. Where it can't be told, the last one.
+    ///
+    /// # Not specified
+    /// What time it is.
     fn now(&mut self) -> u64
         ensures time { result ≡ time self.new }
         ensures failures { failures self.new ≡ failures self.old }

@@ -42,6 +42,13 @@ pub struct Bounds {
 /// With `log` each that is over is a line on `faults` too: `peer ADDRESS names NAME.. end END
 /// messages N bytes N`, with the first eight names of its messages. Where memory is refused for the
 /// line, it is left out.
+///
+/// # Not specified
+/// - That each was told of under its own place.
+/// - Who of those whom the lobby gave was let in: that a link is let go only where memory is
+///   refused.
+/// - When memory is refused.
+/// - With `log`, when a line is missing.
 pub fn serve_crowd<B: Lobby, T: Turns, O: Sink, E: Sink>(
     alloc: Global,
     server: &mut Tallied<T>,

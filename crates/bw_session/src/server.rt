@@ -38,6 +38,8 @@ use std::collections::HashMap;
 const NAMES: usize = 256;
 
 /// A server over a store, and over a journal where there is one.
+///
+/// No call lends its journal or gives it back.
 #[derive(Drop)]
 pub struct Server<S: TakeStore, J: Journal = NoJournal> {
     sessions: HashMap<Name, Session>,
@@ -53,6 +55,9 @@ impl<S: TakeStore> Server<S> {
     ///
     /// # Errors
     /// `AllocError`, with the store, where memory was refused.
+    ///
+    /// # Not specified
+    /// When memory is refused.
     pub fn new(alloc: Global, store: S, limit: Limit) -> Result<Server<S>, (AllocError, S)>
         ensures store { IfOk result (λ s. s.stores.store ≡ store) }
         ensures limit { IfOk result (λ s. s.limit ≡ limit) }
@@ -73,8 +78,14 @@ impl<S: TakeStore, J: Journal> Server<S, J> {
 
     /// A server that knows no name, over a store and a journal.
     ///
+    /// The journal notes the empty book where it has no more than fronts of headers that say which
+    /// names stood.
+    ///
     /// # Errors
     /// `AllocError`, with the store and the journal, where memory was refused.
+    ///
+    /// # Not specified
+    /// When memory is refused.
     pub fn with_journal(
         alloc: Global,
         store: S,
@@ -116,9 +127,13 @@ impl<S: TakeStore, J: Journal> Server<S, J> {
     /// A message that is held is done when those before it have come; after a failure of the store
     /// or the journal, when the next message of its name comes.
     ///
-    /// Over a store that isn't honest no clause says which replies come, but for their number, their
-    /// range and DelayedStore, nor what the server then holds: so what `ask`, `done`, `frames`,
-    /// `is_closed`, `held` and `kept_bytes` answer behind it isn't told either.
+    /// # Not specified
+    /// - When a growth is refused, as NoRoom reports it.
+    /// - Over a store that isn't honest, as by contract the system's disk: which replies come, but
+    ///   for their number, their range and DelayedStore; that `out` was emptied; and what the
+    ///   server then holds, so also what `ask`, `done`, `frames`, `is_closed`, `held` and
+    ///   `kept_bytes` return after it.
+    /// - Whether store or journal failed, and which of both DelayedStore reports.
     pub fn turn(&mut self, message: &Message<'_>, out: &mut ArrayVec<Reply, 17>)
         ensures few { length out.new.items ≤ 17 }
         ensures numbers { All HasWireNumbers out.new.items }
@@ -318,6 +333,9 @@ impl<S: TakeStore, J: Journal> Server<S, J> {
 
     /// The answer to an ask: how many numbers of the name have their verdicts, 0 of one that isn't
     /// known. The number that was asked with is repeated.
+    ///
+    /// # Not specified
+    /// Anything after a turn over a store that isn't honest.
     pub fn ask(&self, name: &Name, number: u32) -> Reply
         ensures value { (first : List ℕ → Option (List ℕ)) (book : Book) →
             HoldsBook S.TakeStore J.Journal first self.now book →
@@ -332,7 +350,11 @@ impl<S: TakeStore, J: Journal> Server<S, J> {
         }
     }
 
-    /// How many numbers of a name have their verdicts; None where it isn't known.
+    /// How many numbers of a name have their verdicts, at most 16,777,216; None where it isn't
+    /// known.
+    ///
+    /// # Not specified
+    /// Anything after a turn over a store that isn't honest.
     pub fn done(&self, name: &Name) -> Option<u32>
         ensures value { (first : List ℕ → Option (List ℕ)) (book : Book) →
             HoldsBook S.TakeStore J.Journal first self.now book →
@@ -345,6 +367,9 @@ impl<S: TakeStore, J: Journal> Server<S, J> {
 
     /// How many whole frames a name's take has, none without a format; None where the name isn't
     /// known.
+    ///
+    /// # Not specified
+    /// Anything after a turn over a store that isn't honest.
     pub fn frames(&self, name: &Name) -> Option<u64>
         ensures { (first : List ℕ → Option (List ℕ)) (book : Book) →
             HoldsBook S.TakeStore J.Journal first self.now book →
@@ -355,7 +380,10 @@ impl<S: TakeStore, J: Journal> Server<S, J> {
         Some(session.progress.state.frames())
     }
 
-    /// Whether a name's take is closed; false of a name that isn't known.
+    /// Whether a name's take is closed; false too of a name that isn't known.
+    ///
+    /// # Not specified
+    /// Anything after a turn over a store that isn't honest.
     pub fn is_closed(&self, name: &Name) -> bool
         ensures { (first : List ℕ → Option (List ℕ)) (book : Book) →
             HoldsBook S.TakeStore J.Journal first self.now book →
@@ -368,7 +396,11 @@ impl<S: TakeStore, J: Journal> Server<S, J> {
         }
     }
 
-    /// How many admitted messages of a name have no verdict yet; None where the name isn't known.
+    /// How many admitted messages of a name have no verdict yet, at most 16; None where the name
+    /// isn't known.
+    ///
+    /// # Not specified
+    /// Anything after a turn over a store that isn't honest.
     pub fn held(&self, name: &Name) -> Option<usize>
         ensures value { (first : List ℕ → Option (List ℕ)) (book : Book) →
             HoldsBook S.TakeStore J.Journal first self.now book →
@@ -381,6 +413,9 @@ impl<S: TakeStore, J: Journal> Server<S, J> {
 
     /// How many bytes are kept of the done numbers of a name: 33 for each; None where the name
     /// isn't known.
+    ///
+    /// # Not specified
+    /// Anything after a turn over a store that isn't honest.
     pub fn kept_bytes(&self, name: &Name) -> Option<u64>
         ensures { (first : List ℕ → Option (List ℕ)) (book : Book) →
             HoldsBook S.TakeStore J.Journal first self.now book →

@@ -88,6 +88,14 @@ impl Sink for MemorySink {
 
     ghost is_flushed = { λ s. true };
 
+    /// Appends all the bytes, or none.
+    ///
+    /// # Errors
+    /// `IoFailed` where the growth was refused, never where there is room: the bytes are as they
+    /// were.
+    ///
+    /// # Not specified
+    /// When a growth is refused.
     fn write(&mut self, bytes: &[u8]) -> Result<usize, IoFailed>
         ensures count { self.new.failures ≡ failures_after result self.old.failures }
         ensures all { IfOk result (λ n. n ≡ length bytes.now) }
@@ -103,6 +111,7 @@ impl Sink for MemorySink {
         Ok(bytes.len())
     }
 
+    /// Does nothing: no byte is held back.
     fn flush(&mut self) -> Result<(), IoFailed>
         ensures ok { IsOk result }
         ensures same { self.new ≡ self.old }

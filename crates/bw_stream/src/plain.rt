@@ -112,6 +112,14 @@ impl<T: Write> Sink for Plain<T> {
 
     ghost is_flushed = { λ s. s.is_flushed };
 
+    /// Writes with one call of std's writer, which may hold bytes back after it, also after an
+    /// error.
+    ///
+    /// # Errors
+    /// `IoFailed` where that call failed, or wrote none of some bytes.
+    ///
+    /// # Not specified
+    /// What std's writer holds after an error, where it doesn't report its contents.
     fn write(&mut self, bytes: &[u8]) -> Result<usize, IoFailed>
         ensures count { self.new.failures ≡ failures_after result self.old.failures }
         ensures within { IfOk result (λ n. n ≤ length bytes.now) }

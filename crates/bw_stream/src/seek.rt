@@ -28,6 +28,10 @@ pub struct SeekSource<T> {
 impl<T: Drop> SeekSource<T> {
     /// A reader that stands at its start and has `len` bytes, where that is known, as it isn't of a
     /// pipe.
+    ///
+    /// # Not specified
+    /// Which bytes it has: it reports none, so nothing that is proved of a file's bytes covers one
+    /// that is read through it.
     pub fn new(inner: T, len: Option<u64>) -> SeekSource<T>
         ensures inner { result.plain.inner ≡ inner }
         ensures calls { result.plain.calls ≡ 0 }
@@ -73,6 +77,14 @@ impl<T: Read + Seek> Source for SeekSource<T> {
 
     ghost failures = { λ s. s.plain.failures };
 
+    /// Reads the next bytes of its reader, and moves the place by as many.
+    ///
+    /// # Errors
+    /// `IoFailed` where the reader failed: the place stays.
+    ///
+    /// # Not specified
+    /// - When the reader fails.
+    /// - What `buf` holds after an error, and after the bytes that were read.
     fn read(&mut self, buf: &mut [u8]) -> Result<usize, IoFailed>
         ensures calls { self.new.plain.calls ≡ one_more self.old.plain.calls }
         ensures count { self.new.plain.failures ≡ failures_after result self.old.plain.failures }
@@ -89,6 +101,14 @@ impl<T: Read + Seek> Source for SeekSource<T> {
         Ok(count)
     }
 
+    /// Seeks over what is left of the known length, at most `most` bytes, and reads on after it.
+    ///
+    /// # Errors
+    /// `IoFailed` where the reader failed: the place stays.
+    ///
+    /// # Not specified
+    /// - When the reader fails, and where it stands after a read.
+    /// - That 0 is returned only at the end.
     fn skip(&mut self, most: u64) -> Result<u64, IoFailed>
         ensures calls { self.new.plain.calls ≡ one_more self.old.plain.calls }
         ensures count { self.new.plain.failures ≡ failures_after result self.old.plain.failures }

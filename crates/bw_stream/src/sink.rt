@@ -21,6 +21,9 @@ pub trait Sink {
     ///
     /// # Errors
     /// `IoFailed` where the writer failed: no byte was written.
+    ///
+    /// # Not specified
+    /// When the writer fails, and whether it holds bytes back then.
     fn write(&mut self, bytes: &[u8]) -> Result<usize, IoFailed>
         ensures count { failures self.new ≡ failures_after result (failures self.old) }
         ensures within { IfOk result (λ n. n ≤ length bytes.now) }
@@ -33,6 +36,10 @@ pub trait Sink {
     ///
     /// # Errors
     /// `IoFailed` where the writer failed: some bytes may still be held back.
+    ///
+    /// # Not specified
+    /// - When the writer fails, and what it holds back then.
+    /// - That a writer that holds nothing back stays so.
     fn flush(&mut self) -> Result<(), IoFailed>
         ensures count { failures self.new ≡ failures_after result (failures self.old) }
         ensures kept { Keeps (written self.old) (written self.new) }
@@ -43,6 +50,10 @@ pub trait Sink {
 ///
 /// # Errors
 /// `IoFailed` where the writer failed: a beginning of the bytes was written.
+///
+/// # Not specified
+/// - That it succeeds where there are no bytes to write.
+/// - After an error, how many bytes were written, where the writer doesn't report them.
 pub fn write_all<W: Sink>(writer: &mut W, bytes: &[u8]) -> Result<(), IoFailed>
     ensures count { W.failures writer.new ≡ failures_after result (W.failures writer.old) }
     ensures ok { OnOk result (Writes (W.written writer.old) bytes.now (W.written writer.new)) }

@@ -3,6 +3,9 @@ ghost use Rattle.std.specs.Prelude.{◌≡◌, ℕ, ◌≤◌, List, length, Opt
 ghost use Rattle.bw_stream.specs.Moves.{one_more, failures_after, moved_after, Keeps, Reads, Skips};
 
 /// A reader or a writer failed.
+///
+/// It has no number and no text. How often a reader or a writer failed stands in contracts alone:
+/// no call returns it.
 #[derive(Clone, Copy, PartialEq, Eq, Debug, Drop)]
 pub struct IoFailed;
 
@@ -26,6 +29,10 @@ pub trait Source {
     ///
     /// # Errors
     /// `IoFailed` where the reader failed: no byte was used up.
+    ///
+    /// # Not specified
+    /// - When the reader fails.
+    /// - What `buf` holds after an error, and after the bytes that were read.
     fn read(&mut self, buf: &mut [u8]) -> Result<usize, IoFailed>
         ensures calls { calls self.new ≡ one_more (calls self.old) }
         ensures count { failures self.new ≡ failures_after result (failures self.old) }
@@ -40,6 +47,10 @@ pub trait Source {
     ///
     /// # Errors
     /// `IoFailed` where the reader failed: no byte was used up.
+    ///
+    /// # Not specified
+    /// - When the reader fails.
+    /// - Of a reader that doesn't report its bytes: that 0 is returned only at their end.
     fn skip(&mut self, most: u64) -> Result<u64, IoFailed>
         ensures calls { calls self.new ≡ one_more (calls self.old) }
         ensures count { failures self.new ≡ failures_after result (failures self.old) }

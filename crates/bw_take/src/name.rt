@@ -30,7 +30,7 @@ impl Model for Name {
 }
 
 impl Name {
-    /// The name of these bytes, or None where they are none.
+    /// The name of these bytes, 1 to 32 of `a-z`, `0-9`, `-` and `_`; None where they are none.
     pub fn new(bytes: &[u8]) -> Option<Name>
         ensures { SomeIff result (IsTrue (is_name bytes.now)) bytes.now }
     {

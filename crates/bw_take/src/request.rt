@@ -75,7 +75,10 @@ impl RequestRef<'_> {
     /// An owned copy of a request that fits.
     ///
     /// # Errors
-    /// `AllocError` where a growth was refused.
+    /// `AllocError` where memory was refused, never of a request that carries no bytes.
+    ///
+    /// # Not specified
+    /// When memory is refused.
     pub fn to_request(&self, alloc: Global) -> Result<Request, AllocError>
         requires { IsTrue (is_request (meaning self.now)) }
         ensures ok { IfOk result (λ r. r ≡ meaning self.now) }

@@ -80,7 +80,7 @@ impl TakeState {
         &self.bext
     }
 
-    /// The coding history.
+    /// The coding history, at most 4,096 bytes.
     pub fn history(&self) -> &[u8]
         ensures value { result.now ≡ self.now.parts.history }
         ensures range { length result.now ≤ longest_history }
@@ -88,7 +88,7 @@ impl TakeState {
         self.history.as_slice()
     }
 
-    /// How many bytes of data the take has.
+    /// How many bytes of data the take has: at most 2^62, and none without a format.
     pub fn data_len(&self) -> u64
         ensures value { result ≡ self.now.parts.samples_len }
         ensures range { result ≤ largest }
@@ -107,7 +107,7 @@ impl TakeState {
         }
     }
 
-    /// The cue points, in the order in which they came.
+    /// The cue points, at most 1,024, in the order in which they came.
     pub fn markers(&self) -> &[CuePoint]
         ensures value { result.now ≡ self.now.parts.markers }
         ensures range { length result.now ≤ most_markers }
@@ -140,7 +140,11 @@ impl TakeState {
     /// Makes room for so many requests to be stored, at most 16.
     ///
     /// # Errors
-    /// `AllocError` where a growth was refused: nothing changed.
+    /// `AllocError` where a growth was refused: nothing changed. It is never so where there is
+    /// room.
+    ///
+    /// # Not specified
+    /// When a growth is refused, and how much room is made beyond what was asked for.
     pub fn reserve_for(&mut self, requests: usize) -> Result<(), AllocError>
         requires { requests ≤ window }
         ensures parts { self.new.parts ≡ self.old.parts }

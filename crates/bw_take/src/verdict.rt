@@ -57,6 +57,7 @@ impl Verdict {
 impl From<Verdict> for u8 {
     ghost from_gives = { λ verdict code. code ≡ verdict_code (verdict_meaning verdict) };
 
+    /// The verdict's code.
     fn from(verdict: Verdict) -> u8 {
         verdict.code()
     }
@@ -71,6 +72,10 @@ impl TryFrom<u8> for Verdict {
 
     ghost try_from_gives = { DecodesVerdict };
 
+    /// The verdict that has this code.
+    ///
+    /// # Errors
+    /// `UnknownVerdict`, with the code, from 12 on.
     fn try_from(code: u8) -> Result<Verdict, UnknownVerdict> {
         match code {
             0 => Ok(Verdict::Stored),
@@ -93,6 +98,7 @@ impl TryFrom<u8> for Verdict {
 impl fmt::Display for UnknownVerdict {
     ghost output = { λ unknown. Some (unknown_text unknown) };
 
+    /// Writes `no verdict has code N`.
     fn fmt<W: fmt::Write>(&self, f: &mut fmt::Formatter<W>) -> fmt::Result {
         write!(f, "no verdict has code {}", self.0)
     }

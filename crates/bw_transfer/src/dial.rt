@@ -9,6 +9,8 @@ use bw_stream::{Sink, Source};
 use thiserror::Error;
 
 /// No link could be made.
+///
+/// It has no number, and no clause says what its text is.
 #[derive(Debug, Drop, Error)]
 #[error("the connection can't be made")]
 pub struct DialFault;
@@ -47,6 +49,9 @@ pub trait Dial {
     ///
     /// # Errors
     /// `DialFault` where none could be made: it is still the next one.
+    ///
+    /// # Not specified
+    /// When no link can be made, and why.
     fn dial(&mut self) -> Result<Link<Self::Reader, Self::Writer>, DialFault>
         ensures came { dials self.old result self.new }
         ensures count { failures self.new ≡ failures_after result (failures self.old) }

@@ -26,8 +26,13 @@ const GONE: &str = "the server can't go on: its folder is gone, or nothing can b
 ///
 /// What can't be used is a line on `faults` before anything is printed. Then `listening ADDRESS`
 /// and a line for each exchange are; where the first can't be, nothing is served. Where a log is
-/// asked for, each link is a line on `faults`, as `serve_run` says. Why the system
-/// doesn't let a folder or an address be used, the contract doesn't say.
+/// asked for, each link is a line on `faults`, as `serve_run` says.
+///
+/// # Not specified
+/// - When memory is refused before the first line.
+/// - The reason in the line of a folder or an address that can't be used.
+/// - The state of the peers after the run, which are dropped.
+/// - What a store that isn't honest has then.
 pub fn serve<N: Network, O: Sink, E: Sink>(
     alloc: Global,
     network: &mut N,
@@ -50,6 +55,10 @@ pub fn serve<N: Network, O: Sink, E: Sink>(
 }
 
 /// Tells why nobody can come to an address.
+///
+/// # Not specified
+/// - The reason in the line.
+/// - When memory is refused for it.
 pub fn tell_unbound<E: Sink>(
     alloc: Global,
     address: SocketAddr,
@@ -94,6 +103,12 @@ fn serve_over<S: TakeStore, P: Peers, O: Sink, E: Sink>(
 }
 
 /// The first line of a server at an address.
+///
+/// # Errors
+/// `AllocError` where memory was refused.
+///
+/// # Not specified
+/// When memory is refused.
 pub fn format_listening(alloc: Global, address: SocketAddr) -> Result<String, AllocError>
     ensures { IfOk result (λ line. string_bytes line ≡ listening_line address) }
 {
@@ -101,6 +116,9 @@ pub fn format_listening(alloc: Global, address: SocketAddr) -> Result<String, Al
 }
 
 /// Tells why a run ended, where that wasn't behind its last exchange.
+///
+/// Nothing is told of `Done`; of `Memory` it is `out of memory`; else the folder is gone, or
+/// nothing can be waited for, and the answer is `Device`.
 pub fn tell_end<E: Sink>(exit: Exit, faults: &mut E) -> Exit
     ensures { TellsEnd E.Sink exit result faults.old faults.new }
 {

@@ -56,6 +56,10 @@ pub trait Network {
     ///
     /// # Errors
     /// Why the folder can't be used.
+    ///
+    /// # Not specified
+    /// - When it fails, and the kind of the error.
+    /// - What the network is afterwards, but for its count of failures.
     fn store(&mut self, folder: &str) -> io::Result<Self::Store>
         ensures came { stores self.old folder.now result self.new }
         ensures count { failures self.new ≡ failures_after result (failures self.old) };
@@ -65,6 +69,10 @@ pub trait Network {
     ///
     /// # Errors
     /// Why nobody can come.
+    ///
+    /// # Not specified
+    /// - When it fails, and the kind of the error.
+    /// - What the network is afterwards, but for its count of failures.
     fn listen(
         &mut self,
         address: SocketAddr,
@@ -75,6 +83,9 @@ pub trait Network {
         ensures count { failures self.new ≡ failures_after result (failures self.old) };
 
     /// What makes links to the server at this address, and waits no longer than so many seconds.
+    ///
+    /// # Not specified
+    /// Anything beyond what each network says of itself.
     fn dial(&self, address: SocketAddr, timeout: Option<u32>) -> Self::Dial
         ensures came { calls self.now address timeout result };
 }

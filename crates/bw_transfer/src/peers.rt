@@ -10,6 +10,8 @@ use std::net::SocketAddr;
 use thiserror::Error;
 
 /// No link was made.
+///
+/// It has no number, and no clause says what its text is.
 #[derive(Clone, Copy, Debug, PartialEq, Eq, Error)]
 pub enum AcceptFault {
     /// A peer went away before it was let in; others may come.
@@ -48,6 +50,10 @@ pub trait Peers {
     ///
     /// # Errors
     /// Why there is none.
+    ///
+    /// # Not specified
+    /// - When `Gone` and when `Closed` is returned.
+    /// - What the peers are afterwards, but for their count of failures.
     fn accept(&mut self) -> Result<Peer<Self::Reader, Self::Writer>, AcceptFault>
         ensures came { accepts self.old result self.new }
         ensures count { failures self.new ≡ failures_after result (failures self.old) };

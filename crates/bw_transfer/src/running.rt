@@ -21,6 +21,10 @@ use std::alloc::Global;
 ///
 /// With `log` each link is a line on `faults` too: `peer ADDRESS names NAME.. end END messages N
 /// bytes N`, with the first eight names of its messages.
+///
+/// # Not specified
+/// - When an `accept` fails.
+/// - With `log`, when the line of a link is missing: for want of memory, or for no cause.
 pub fn serve_run<P: Peers, T: Turns, O: Sink, E: Sink>(
     alloc: Global,
     server: &mut Tallied<T>,

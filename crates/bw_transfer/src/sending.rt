@@ -31,8 +31,15 @@ const UNSETTLED: &str = "not every request has its verdict yet\n";
 ///
 /// All lines are read before the first link is made. `Done` where each line's request is settled
 /// and stored; `Refused` where one is refused, or the input is. A fault's line goes to `faults`;
-/// one that can't be written changes nothing. Of the input at most 16,777,217 bytes are read. The
-/// contract doesn't say that an answered want of memory was a real one.
+/// one that can't be written changes nothing. Of the input at most 16,777,217 bytes are read.
+///
+/// `Device` where not all is settled in its rounds, or where a read of the input or a write of the
+/// text failed. Where the text can't be written all rounds were made; where memory was refused
+/// nothing is printed.
+///
+/// # Not specified
+/// - When memory is refused, and what was sent and settled before it: nothing is printed of that.
+/// - Which round found no link.
 pub fn send_run<D: Dial, R: Source, W: Sink, E: Sink>(
     alloc: Global,
     name: Name,
@@ -54,6 +61,10 @@ pub fn send_run<D: Dial, R: Source, W: Sink, E: Sink>(
 }
 
 /// Sends as `send_run` does, and lets a watcher hear how far it is behind each round.
+///
+/// # Not specified
+/// - What `send_run` leaves open.
+/// - That the watcher hears of each round, with its number.
 pub fn send_watched<D: Dial, R: Source, W: Sink, E: Sink, V: Watch>(
     alloc: Global,
     name: Name,

@@ -16,6 +16,11 @@ use std::alloc::Global;
 /// `Done` where it came to the end of its stream, a bad frame among these; `Device` where it broke
 /// off, or the line can't be written; `Memory` where memory was refused, whatever becomes of the
 /// line. The line itself takes no memory.
+///
+/// # Not specified
+/// - When memory is refused.
+/// - Whether the writer was flushed, and how many bytes the reader counted, as `serve_exchange`
+///   says.
 pub fn serve_one<R: Source, W: Sink, T: Turns, O: Sink>(
     alloc: Global,
     server: &mut T,

@@ -11,6 +11,9 @@ use std::net::SocketAddr;
 
 /// Tells in a line who came, what the end of its exchange is called and what was counted of it,
 /// where lines are asked for. Where memory is refused for the line, it is left out.
+///
+/// # Not specified
+/// When the line is left out: only a refused growth should do it.
 pub fn tell_link<E: Sink>(
     alloc: Global,
     log: bool,

@@ -19,6 +19,9 @@ use itoa::Buffer;
 /// what is sent.
 pub trait Watch {
     /// Hears how far the sender is behind a round.
+    ///
+    /// # Not specified
+    /// What it does.
     fn round(&mut self, progress: &Progress<'_>);
 }
 

@@ -15,7 +15,7 @@ use bw_take::RequestRef;
 /// The frame that a body spells. It borrows its bytes from the body.
 ///
 /// # Errors
-/// The first reason why the body spells none.
+/// The first reason that holds of `Kind`, `Name`, `Number` and `Payload`.
 pub fn decode(body: &[u8]) -> Result<Frame<'_>, Reason>
     ensures exact { frame_read result ≡ decoded Second body.now }
     ensures borrows { IfOk result (λ f. Borrows f body.now) }

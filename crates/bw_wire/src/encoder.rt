@@ -15,6 +15,10 @@ use std::alloc::{AllocError, Global};
 ///
 /// # Errors
 /// `AllocError` where memory was refused.
+///
+/// # Not specified
+/// - When memory is refused.
+/// - How much room the frame's block has beyond its bytes.
 pub fn encode(
     alloc: Global,
     name: &Name,
@@ -34,6 +38,10 @@ pub fn encode(
 ///
 /// # Errors
 /// `AllocError` where memory was refused.
+///
+/// # Not specified
+/// - When memory is refused.
+/// - How much room the frame's block has beyond its bytes.
 pub fn encode_ask(alloc: Global, name: &Name, number: u32) -> Result<Vec<u8>, AllocError>
     requires { number ≤ last_number Second }
     ensures { IfOk result (λ v. IsFrameOf (Asks name.now number) v.items) }

@@ -16,6 +16,7 @@ pub struct WireFault {
 impl fmt::Display for WireFault {
     ghost output = { λ fault. Some (fault_text fault) };
 
+    /// Writes `at OFFSET: REASON`.
     fn fmt<W: fmt::Write>(&self, f: &mut fmt::Formatter<W>) -> fmt::Result {
         write!(f, "at {}: {}", self.offset, self.reason)
     }

@@ -49,7 +49,7 @@ impl Framer {
         }
     }
 
-    /// How many bytes were fed.
+    /// How many bytes were fed, at most 2^62.
     pub fn fed(&self) -> u64
         ensures value { result ≡ self.now.fed }
         ensures range { result ≤ longest_stream }
@@ -60,8 +60,15 @@ impl Framer {
     /// Adds a piece of the stream, which has at most 2^62 bytes in all. After the end of the
     /// exchange or a fault the piece is dropped.
     ///
+    /// Where at most 32,809 bytes are held, as between two pieces, a piece of at most 65,536 bytes
+    /// makes no block larger than 262,144.
+    ///
     /// # Errors
-    /// `AllocError` where memory was refused: nothing changed.
+    /// `AllocError` where memory was refused: nothing changed. It is never so where there is room,
+    /// the piece is empty, or the stream is over.
+    ///
+    /// # Not specified
+    /// When a growth is refused.
     pub fn feed(&mut self, piece: &[u8]) -> Result<(), AllocError>
         requires { self.old.fed + length piece.now ≤ longest_stream }
         ensures ok { OnOk result (self.new ≡ with_piece self.old piece.now) }
@@ -77,8 +84,12 @@ impl Framer {
 
     /// The first frame of the bytes that are left, which is used up; None where it isn't whole yet.
     ///
+    /// Between two pieces at most 32,809 bytes are held, in a block of at most 262,144.
+    ///
     /// # Errors
-    /// Why the bytes are no frame. From then on it is this fault, as after `Bye` it is `Bye`.
+    /// `WireFault` where the bytes are no frame: the first reason that holds of `Length`, `Kind`,
+    /// `Name`, `Number` and `Payload`, and the frame's offset. Nothing is held then, and the same
+    /// fault is returned from then on, as `Bye` is after `Bye`.
     pub fn next_frame(&mut self) -> Result<Option<Frame<'_>>, WireFault>
         ensures* left { sem 𝓛 (Rests the_row self.entry (λ new. new ≡ (next_of message_codec self.old).1)) }
         ensures told { told_as frame_of result ≡ (next_of message_codec self.old).0 }
@@ -121,7 +132,8 @@ impl Framer {
     /// Whether the input may end here.
     ///
     /// # Errors
-    /// The fault that was told, or `Cut` where bytes are left.
+    /// The fault that was told, or `Cut` where bytes are left. Its offset is where they begin,
+    /// whole frames too.
     pub fn end(&self) -> Result<(), WireFault>
         ensures { end_told result ≡ end_fault self.now }
     {

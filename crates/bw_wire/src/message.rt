@@ -26,7 +26,7 @@ impl<'a> Message<'a> {
         name(behind_kind(self.body))
     }
 
-    /// The number of the message among those of its name.
+    /// The number of the message among those of its name, at most 16,777,215.
     pub fn number(&self) -> u32
         ensures value { result ≡ (message_of self.now).number }
         ensures range { result ≤ last_number Second }
@@ -42,7 +42,7 @@ impl<'a> Message<'a> {
         request_of(self.body[0], payload(behind_kind(self.body)))
     }
 
-    /// The whole body, from its kind on.
+    /// The whole body, from its kind on, at most 32,806 bytes.
     pub fn body(&self) -> &'a [u8]
         ensures spelled { Spells Second result.now (Says (message_of self.now)) }
         ensures length { length result.now ≤ longest_body }
@@ -69,7 +69,7 @@ impl Ask<'_> {
         name(behind_kind(self.body))
     }
 
-    /// The number that the reply repeats.
+    /// The number that the reply repeats, at most 16,777,215.
     pub fn number(&self) -> u32
         ensures value { result ≡ asked_number self.now }
         ensures range { result ≤ last_number Second }

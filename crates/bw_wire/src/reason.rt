@@ -42,6 +42,7 @@ impl fmt::Display for UnknownCode {
 
     ghost output = { λ unknown. Some (unknown_code_text unknown) };
 
+    /// Writes `N is no code`.
     fn fmt<W: fmt::Write>(&self, f: &mut fmt::Formatter<W>) -> fmt::Result {
         write!(f, "{} is no code", self.0)
     }
@@ -54,6 +55,10 @@ impl TryFrom<u8> for Reason {
 
     ghost try_from_gives = { DecodesReason };
 
+    /// The reason that has this code.
+    ///
+    /// # Errors
+    /// `UnknownCode`, with the code, where none has it.
     fn try_from(code: u8) -> Result<Reason, UnknownCode> {
         match code {
             1 => Ok(Reason::Length),
@@ -72,6 +77,7 @@ impl fmt::Display for Reason {
 
     ghost output = { λ reason. Some (reason_text reason) };
 
+    /// Writes the reason in a few words, such as `cut off`.
     fn fmt<W: fmt::Write>(&self, f: &mut fmt::Formatter<W>) -> fmt::Result {
         f.write_str(match self {
             Reason::Length => "a length that no frame has",

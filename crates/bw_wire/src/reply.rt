@@ -40,6 +40,10 @@ impl TryFrom<u8> for Notice {
 
     ghost try_from_gives = { DecodesNotice };
 
+    /// The notice that has this code.
+    ///
+    /// # Errors
+    /// `UnknownCode`, with the code, where none has it.
     fn try_from(code: u8) -> Result<Notice, UnknownCode> {
         match code {
             32 => Ok(Notice::Held),
@@ -87,6 +91,7 @@ impl Default for Reply {
 
     ghost is_default = { λ r. reply_of r ≡ Refused Cut 0 };
 
+    /// A bad frame, cut off at the offset 0.
     fn default() -> Self {
         Reply::BadFrame {
             reason: Reason::Cut,

@@ -46,7 +46,7 @@ impl ReplyFramer {
         }
     }
 
-    /// How many bytes were fed.
+    /// How many bytes were fed, at most 2^62.
     pub fn fed(&self) -> u64
         ensures value { result ≡ self.now.fed }
         ensures range { result ≤ longest_stream }
@@ -57,8 +57,15 @@ impl ReplyFramer {
     /// Adds a piece of the stream, which has at most 2^62 bytes in all. After a fault the piece is
     /// dropped.
     ///
+    /// Where at most 46 bytes are held, as between two pieces, a piece of at most 65,536 bytes
+    /// makes no block larger than 262,144.
+    ///
     /// # Errors
-    /// `AllocError` where memory was refused: nothing changed.
+    /// `AllocError` where memory was refused: nothing changed. It is never so where there is room,
+    /// the piece is empty, or the stream is over.
+    ///
+    /// # Not specified
+    /// When a growth is refused.
     pub fn feed(&mut self, piece: &[u8]) -> Result<(), AllocError>
         requires { self.old.fed + length piece.now ≤ longest_stream }
         ensures ok { OnOk result (self.new ≡ with_piece self.old piece.now) }
@@ -74,8 +81,11 @@ impl ReplyFramer {
 
     /// The first reply of the bytes that are left, which is used up; None where it isn't whole yet.
     ///
+    /// Between two pieces at most 46 bytes are held, in a block of at most 262,144.
+    ///
     /// # Errors
-    /// Why the bytes are no reply's frame. From then on it is this fault.
+    /// `WireFault` where the bytes are no reply's frame: the first reason that holds, and the
+    /// frame's offset. Nothing is held then, and the same fault is returned from then on.
     pub fn next_frame(&mut self) -> Result<Option<Reply>, WireFault>
         ensures left { self.new ≡ (next_of reply_codec self.old).1 }
         ensures told { told_as reply_of result ≡ (next_of reply_codec self.old).0 }
@@ -106,7 +116,8 @@ impl ReplyFramer {
     /// Whether the input may end here.
     ///
     /// # Errors
-    /// The fault that was told, or `Cut` where bytes are left.
+    /// The fault that was told, or `Cut` where bytes are left. Its offset is where they begin,
+    /// whole frames too.
     pub fn end(&self) -> Result<(), WireFault>
         ensures { end_told result ≡ end_fault self.now }
     {
