@@ -2,8 +2,6 @@
 #![tactic(auto)]
 
 pub mod program;
-#[cfg(test)]
-mod program_tests;
 mod remote;
 
 use bw_commands::Host;
