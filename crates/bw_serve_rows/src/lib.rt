@@ -1,5 +1,5 @@
 //! Worked runs of `serve_crowd` and `serve_many`, byte by byte, over links, a lobby and a network in
-//! memory.
+//! memory; calls of stores in memory.
 #![tactic(auto)]
 
 #[cfg(test)]
@@ -21,9 +21,13 @@ mod places;
 #[cfg(test)]
 mod play;
 #[cfg(test)]
+mod recorder;
+#[cfg(test)]
 mod scripted;
 #[cfg(test)]
 mod silent;
+#[cfg(test)]
+mod stores;
 #[cfg(test)]
 mod together;
 #[cfg(test)]
