@@ -1,14 +1,10 @@
-//! Worked rows of layouts, requests, messages and inspections, with bytes from outside, and each
-//! call once: what no clause says. The crates below have no tests of their own, since a crate with
-//! tests is proved twice.
+//! Worked rows of layouts, requests and messages, with bytes from outside, and each call once: what
+//! no clause says. The crates below have no tests of their own, since a crate with tests is proved
+//! twice.
 #![tactic(auto)]
 
 #[cfg(test)]
 mod compare;
-#[cfg(test)]
-mod files;
-#[cfg(test)]
-mod inspections;
 #[cfg(test)]
 mod layouts;
 #[cfg(test)]
@@ -17,7 +13,5 @@ mod messages;
 mod readers;
 #[cfg(test)]
 mod replies;
-#[cfg(test)]
-mod reports;
 #[cfg(test)]
 mod takes;
