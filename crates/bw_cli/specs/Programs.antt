@@ -74,7 +74,7 @@ pub record Given : Type 0 where
 abbrev pub IsTaskDone : (Text → Option (List ℕ)) → Option (List ℕ) → Task → Bool →
     Deed → Type 0
 IsTaskDone file_at input (Replay limit fuse) gives_all did =
-    IsReplay limit input did × (gives_all ≡ true)
+    IsReplay limit fuse input did × (gives_all ≡ true)
 IsTaskDone file_at input (Inspect file) gives_all did =
     IsLook (file_at (string_bytes file)) (string_bytes file) gives_all did
 IsTaskDone file_at input (Rehearse name limit) gives_all did =

@@ -103,13 +103,13 @@ refuses_prints name limit input faults.Unreadable h own = record { is = refl; ri
 refuses_prints name limit input faults.Unwritable h own = absurd (own refl)
 refuses_prints name limit input faults.Memory h own = record { is = refl; right = h }
 
-pub refuses_run : (limit : ℕ) (input : Option (List ℕ)) (fault : Fault) →
+pub refuses_run : (limit : ℕ) (fuse : Option ℕ) (input : Option (List ℕ)) (fault : Fault) →
     ((xs : List ℕ) → input ≡ Some xs → RefusesInput fault (asked_by xs)) → fault ≢ faults.Unwritable →
-    IsPrintOf limit input (Err fault) Nothing
-refuses_run limit input faults.TooLong h own = record { is = refl; right = h }
-refuses_run limit input (faults.NotHex n) h own = record { is = refl; right = h }
-refuses_run limit input (faults.NotEvent n) h own = record { is = refl; right = h }
-refuses_run limit input (faults.NotRequest n) h own = record { is = refl; right = h }
-refuses_run limit input faults.Unreadable h own = record { is = refl; right = h }
-refuses_run limit input faults.Unwritable h own = absurd (own refl)
-refuses_run limit input faults.Memory h own = record { is = refl; right = h }
+    IsPrintOf limit fuse input (Err fault) Nothing
+refuses_run limit fuse input faults.TooLong h own = record { is = refl; right = h }
+refuses_run limit fuse input (faults.NotHex n) h own = record { is = refl; right = h }
+refuses_run limit fuse input (faults.NotEvent n) h own = record { is = refl; right = h }
+refuses_run limit fuse input (faults.NotRequest n) h own = record { is = refl; right = h }
+refuses_run limit fuse input faults.Unreadable h own = record { is = refl; right = h }
+refuses_run limit fuse input faults.Unwritable h own = absurd (own refl)
+refuses_run limit fuse input faults.Memory h own = record { is = refl; right = h }

@@ -3,6 +3,8 @@ pub mod InputLemmas
 pub mod PrintLemmas
 pub mod InspectionLemmas
 pub mod OpeningLemmas
+pub mod CallLemmas
+pub mod QuietLemmas
 pub mod ReplayLemmas
 pub mod TextLemmas
 pub mod EventLemmas

@@ -1,6 +1,6 @@
 -- What a replay tells of its run.
 use Rattle.std.proofs.Common.{◌≡◌, ◌∙◌, ℕ, ◌≤◌, Bool, List, [], ◌∷◌, ◌++◌, length, map, Option, Some, None, refl}
-use Rattle.std.proofs.Common.{sym, ap, subst, arith, true, false, ◌⊎◌, inl, ◌||◌}
+use Rattle.std.proofs.Common.{sym, ap, subst, arith, true, false, ◌⊎◌, inl, ◌||◌, ◌<◌, nat_lt, cond}
 use Rattle.std.proofs.Math.Path.{fun_ext}
 use Rattle.std.specs.Prelude.{flat_map, is_some, IsTrue, Vec, All}
 use Rattle.std.specs.List.{AllByRecursion, list_any}
@@ -12,9 +12,11 @@ use Rattle.std.proofs.lemmas.List.Elements.{All-head, All-tail}
 use Rattle.std.proofs.lemmas.Grind.{flat_map-append}
 use Rattle.bw_model.specs.Wire.{Second, Frame}
 use Rattle.bw_model.specs.Replies.{Reply}
-use Rattle.bw_model.specs.Stream.{End, stream_of}
+use Rattle.bw_model.specs.Stream.{End, EndOfInput, SaidBye, BadFrame, stream_of}
 use Rattle.bw_model.specs.Book.{Book, log_of}
-use Rattle.bw_model.specs.CountedTurn.{is_pending}
+use Rattle.bw_model.specs.Counts.{last_count}
+use Rattle.bw_model.specs.CountedTurn.{is_pending, is_delayed}
+use Rattle.bw_model.proofs.TurnLaws.{delays_counted}
 use Rattle.bw_model.specs.Holds.{Holds}
 use Rattle.bw_model.specs.Turn.{run, book_after}
 use Rattle.bw_model.specs.NumberOrder.{AreInOrder, tells_want}
@@ -27,6 +29,7 @@ use Rattle.bw_file.specs.declared.store.TakeStore.{Ghosts as StoreGhosts}
 use Rattle.bw_session.specs.Numbered.{failed_calls}
 use Rattle.bw_commands.specs.Input.{longest_input}
 use Rattle.bw_commands.specs.Runs.{ToldExchange, told_of, replies_told, TellsInput, TellInputs, TellsExchange, AllTell}
+use Rattle.bw_commands.specs.OneFuse.{failures_under, SufficeForAll}
 use Rattle.bw_commands.specs.Replays.{IsRunText}
 use Rattle.bw_commands.specs.Runs.{IsRun, AreExchangesOf, no_contents}
 use Rattle.bw_commands.specs.Text.{exchanges_text, files_text}
@@ -36,6 +39,7 @@ use Rattle.bw_engine.specs.Ingesting.{ServedInput, WasServed, IsServedTo, Ingest
 use Rattle.bw_engine.specs.Ingesting.{frames_in}
 use Rattle.bw_engine.specs.declared.ingest.Run.{Run}
 use Rattle.bw_engine.specs.declared.serving.ExchangeEnd.{ExchangeEnd}
+use Rattle.bw_commands.proofs.QuietLemmas.{never_falls, run_rises, quiet_run}
 use Rattle.bw_engine.proofs.GoodRuns.{GoesWell, good_run, in_order_well, turns_are_runs}
 use Rattle.bw_engine.proofs.GoodExchanges.{behind, well_parts, replies_well}
 
@@ -130,6 +134,65 @@ none_told (i ∷ inputs) (a ∷ answered) (t ∷ told) tells none =
     ∙ (ap (λ (b : Bool). b || list_any tells_want (replies_of (joined answered))) here.0
     ∙ none_told inputs answered told tells.1 parts.1))
 
+-- Runs in which no store call failed.
+
+-- the answers of such a run report no failed store
+none_delayed : (stood : List ℕ → Bool) (before after : ℕ) (book : Book) (answered : List Answered) (later : Book) →
+    IsRun' stood before after book answered later → after ≡ 0 → list_any is_delayed (replies_of answered) ≡ false
+none_delayed stood before after book [] later h none = refl
+none_delayed stood before after book (a ∷ rest) later h none =
+    let one = never_falls before h.0 _ h.2.count in
+    let more = run_rises stood h.0 after h.1 rest later h.3 in
+    list_any-append is_delayed a.replies (replies_of rest)
+    ∙ (ap (λ (b : Bool). b || list_any is_delayed (replies_of rest))
+    (here (list_any is_delayed a.replies) refl one more)
+    ∙ none_delayed stood h.0 after h.1 rest later h.3 none)
+  where
+    here : (b : Bool) → list_any is_delayed a.replies ≡ b → before ≤ h.0 → h.0 ≤ after → b ≡ false
+    here false e one more = refl
+    here true e one more =
+        let below : before < last_count = omega (arith, one, more, none) in
+        let rose = delays_counted stood before h.0 book a.frame a.replies h.1 h.2 below e in
+        absurd (omega (arith, rose, more, none))
+
+last_not_delayed : (end : End) → list_any is_delayed (last_reply end) ≡ false
+last_not_delayed EndOfInput = refl
+last_not_delayed SaidBye = refl
+last_not_delayed (BadFrame reason place) = refl
+
+-- where none was answered, none is told
+delays_told : (inputs : List (List ℕ)) (answered : List (List Answered)) (told : List ToldExchange) →
+    TellInputs inputs answered told → list_any is_delayed (replies_of (joined answered)) ≡ false →
+    list_any is_delayed (replies_told told) ≡ false
+delays_told [] [] [] tells none = refl
+delays_told [] [] (t ∷ told) tells none = absurd tells
+delays_told [] (a ∷ answered) told tells none = absurd tells
+delays_told (i ∷ inputs) [] told tells none = absurd tells
+delays_told (i ∷ inputs) (a ∷ answered) [] tells none = absurd tells
+delays_told (i ∷ inputs) (a ∷ answered) (t ∷ told) tells none =
+    let parts = or_parts (list_any is_delayed (replies_of a)) (list_any is_delayed (replies_of (joined answered)))
+    (sym (ap (list_any is_delayed) (flat_map-append (λ (x : Answered). x.replies) a (joined answered))
+    ∙ list_any-append is_delayed (replies_of a) (replies_of (joined answered))) ∙ none) in
+    list_any-append is_delayed t.replies (replies_told told)
+    ∙ (ap (λ (b : Bool). b || list_any is_delayed (replies_told told))
+    (ap (list_any is_delayed) tells.0.replies
+    ∙ (list_any-append is_delayed (replies_of a) (last_reply t.end)
+    ∙ (ap (λ (b : Bool). b || list_any is_delayed (last_reply t.end)) parts.0
+    ∙ last_not_delayed t.end)))
+    ∙ delays_told inputs answered told tells.1 parts.1)
+
+-- a count of one failure at most
+small_count : (n : ℕ) → n ≤ 1 → failed_calls n 0 ≡ n
+small_count n few = omega (arith, few)
+
+pub one_at_most : (fuse : Option ℕ) (calls : ℕ) → failures_under fuse calls ≤ 1
+one_at_most None calls = omega arith
+one_at_most (Some k) calls = go (nat_lt k calls)
+  where
+    go : (b : Bool) → cond b 1 0 ≤ 1
+    go true = omega arith
+    go false = omega arith
+
 -- where the run goes well, they are told as the definitions' exchanges
 told_well : (book : Book) (inputs : List (List ℕ)) (answered : List (List Answered)) (told : List ToldExchange)
     (later : Book) → TellInputs inputs answered told → GoesWell nothing_stands book (joined answered) later →
@@ -167,16 +230,17 @@ short_each (x ∷ inputs) short = (
 )
 
 -- a run over a store that was empty and honest, and what it tells
-pub record Replayed (limit : ℕ) (inputs : List (List ℕ)) (rs : List (Vec ℕ Global)) (es : List ExchangeEnd)
-    (contents : List ℕ → Option (List ℕ)) : Type 0 where
+pub record Replayed (limit : ℕ) (inputs : List (List ℕ)) (failures : ℕ) (rs : List (Vec ℕ Global))
+    (es : List ExchangeEnd) (contents : List ℕ → Option (List ℕ)) : Type 0 where
   pub told : List ToldExchange
-  pub run : IsRun limit inputs told contents
+  pub run : IsRun limit inputs failures told contents
   pub kept : AllTell rs es told
 
 module _ {X : Type 0} (S : StoreGhosts X) (limit : ℕ) (before : X) (inputs : List (Vec ℕ Global)) (ran : Run X)
     (honest : IsTrue (S.honest before)) (still : S.honest ran.store ≡ S.honest before)
     (empty : (name : List ℕ) → S.contents before name ≡ None)
     (short : All (λ x. length x.items ≤ longest_input) inputs)
+    (failures : ℕ) (few : failures ≤ 1) (started : S.failures before ≡ 0) (failed : S.failures ran.store ≡ failures)
     (h : Ingests S limit before (map (λ x. x.items) inputs) ran) where
   leaves : LeavesRun S limit before (answered_in h.went) ran.store
   leaves = h.leaves honest
@@ -210,6 +274,16 @@ module _ {X : Type 0} (S : StoreGhosts X) (limit : ℕ) (before : X) (inputs : L
       (subst (λ (f : List ℕ → Option (List ℕ)). IsRun' (λ name. is_some (f name)) (failed_calls (S.failures before) 0)
       (failed_calls (S.failures ran.store) 0) [] (answered_in h.went) leaves.book) none_first leaves.run)
 
+  from_none : IsRun' nothing_stands 0 failures [] (joined lists) leaves.book
+  from_none =
+      subst (λ (n : ℕ). IsRun' nothing_stands 0 n [] (joined lists) leaves.book)
+      (ap (λ (n : ℕ). failed_calls n 0) failed ∙ small_count failures few)
+      (subst (λ (n : ℕ). IsRun' nothing_stands n (failed_calls (S.failures ran.store) 0) [] (joined lists) leaves.book)
+      (ap (λ (n : ℕ). failed_calls n 0) started) counted)
+
+  at_most : failures ≡ 0 → failures ≤ 0
+  at_most none = omega (arith, none)
+
   contents_are : (name : List ℕ) → (is_pending (log_of leaves.book name) ≡ false)
       ⊎ ((take_in false leaves.book name).closed ≡ true) →
       S.contents ran.store name ≡ content_in no_contents limit leaves.book name
@@ -241,7 +315,7 @@ module _ {X : Type 0} (S : StoreGhosts X) (limit : ℕ) (before : X) (inputs : L
             ∙ ap (λ (b : Book). content_in no_contents limit b name) left;
       }
 
-  pub replayed : Replayed limit (map (λ x. x.items) inputs) ran.replies.items ran.ends.items (S.contents ran.store)
+  pub replayed : Replayed limit (map (λ x. x.items) inputs) failures ran.replies.items ran.ends.items (S.contents ran.store)
   replayed = record {
     told = tell.told;
     run = record {
@@ -249,9 +323,14 @@ module _ {X : Type 0} (S : StoreGhosts X) (limit : ℕ) (before : X) (inputs : L
       tells = tells;
       book = leaves.book;
       run = turns_are_runs nothing_stands _ _ [] leaves.book (joined lists) counted;
+      counted = from_none;
+      delays = λ none. delays_told (map (λ x. x.items) inputs) lists tell.told tells
+          (none_delayed nothing_stands 0 failures [] (joined lists) leaves.book from_none none);
       kept_of = leaves.kept_of;
       held = holds;
       files = contents_are;
+      whole = λ none name. contents_are name (inl (quiet_run nothing_stands 0 failures [] (joined lists) leaves.book
+          from_none (at_most none) (λ n. refl) name));
       in_order = in_order;
     };
     kept = tell.kept;
@@ -264,17 +343,24 @@ with_ok (Ok x) P Q N f p n = f x n p
 with_ok (Err e) P Q N f p n = tt
 
 -- the text of such a run, over these files of a store in memory
-pub text_replayed : (limit : ℕ) (inputs : List (List ℕ)) (rs : List (Vec ℕ Global)) (es : List ExchangeEnd)
-    (store told_from : MemoryStore) (text : List ℕ) → Replayed limit inputs rs es (content_under store.files) →
+pub text_replayed : (limit : ℕ) (fuse : Option ℕ) (calls : ℕ) (inputs : List (List ℕ)) (rs : List (Vec ℕ Global))
+    (es : List ExchangeEnd) (store told_from : MemoryStore) (text : List ℕ) →
+    Replayed limit inputs (failures_under fuse calls) rs es (content_under store.files) →
+    SufficeForAll (content_under store.files) calls →
     told_from ≡ store → AreNames (names_of told_from) (content_under told_from.files) →
     ((told : List ToldExchange) → AllTell rs es told →
     text ≡ exchanges_text 0 told ++ files_text (content_under told_from.files) (names_of told_from)) →
-    IsRunText limit inputs text
-text_replayed limit inputs rs es store told_from text h same names is = record {
+    IsRunText limit fuse inputs text
+text_replayed limit fuse calls inputs rs es store told_from text h took same names is = record {
   told = h.told;
   contents = content_under told_from.files;
-  run = subst (λ (s : MemoryStore). IsRun limit inputs h.told (content_under s.files)) (sym same) h.run;
+  calls = calls;
+  failures = failures_under fuse calls;
+  failed = refl;
+  run = subst (λ (s : MemoryStore). IsRun limit inputs (failures_under fuse calls) h.told (content_under s.files)) (sym same) h.run;
   names = names_of told_from;
   ordered = names;
+  took = subst (λ (s : MemoryStore). SufficeForAll (content_under s.files) calls) (sym same) took
+      (names_of told_from) names.ordered;
   is = is h.told h.kept;
 }

@@ -1,6 +1,6 @@
 -- The text of what a rehearsal came to.
 use Rattle.std.proofs.Common.{◌≡◌, ℕ, Bool, true, false, List, ◌++◌, Result, Ok, Err, OnOk, Option, Some, None, refl, sym}
-use Rattle.std.proofs.Common.{◌∙◌, ap, [], ◌∷◌, map, subst}
+use Rattle.std.proofs.Common.{◌∙◌, ap, [], ◌∷◌, ◌≤◌, map, subst, inl, arith}
 use Rattle.std.specs.Prelude.{unwrap_or, is_none, slice_get, if◌then◌else◌}
 use Rattle.bw_model.specs.Bytes.{put}
 use Rattle.bw_model.specs.Take.{Request}
@@ -13,15 +13,18 @@ use Rattle.bw_model.specs.World.{bring, comes, hear, is_counted, offer_fault, pe
 use Rattle.bw_model.specs.World.{settled, stored}
 use Rattle.bw_model.specs.Book.{Book, Log, log_of, is_known}
 use Rattle.bw_model.proofs.BookLemmas.{unknown_log}
+use Rattle.bw_model.specs.Holds.{Holds}
 use Rattle.bw_session.specs.Books.{of_known, failures_of}
+use Rattle.bw_session.specs.Servers.{kept_in}
 use Rattle.bw_file.specs.Memory.{content_under}
 use Rattle.bw_file.specs.MemoryNames.{names_of, AreNames}
 use Rattle.bw_file.specs.declared.memory.MemoryStore.{MemoryStore}
 use Rattle.bw_rehearsal.specs.Lucks.{AreLucksOf}
-use Rattle.bw_rehearsal.specs.Rehearsing.{event_meaning}
+use Rattle.bw_rehearsal.specs.Rehearsing.{event_meaning, no_contents}
 use Rattle.bw_rehearsal.specs.Worlds.{WasRehearsed}
 use Rattle.bw_rehearsal.specs.declared.event.Event.{Event as Read}
 use Rattle.bw_rehearsal.specs.declared.rehearsal.World.{World}
+use Rattle.bw_commands.proofs.QuietLemmas.{NonePends, quiet_world}
 use Rattle.bw_commands.specs.Text.{files_text}
 use Rattle.bw_commands.specs.Rehearsals.{counts_line, progress_line, world_lines, HasWorld, IsWorldText}
 
@@ -125,7 +128,14 @@ rehearsed_text name copy limit events x text same r put names = record {
   failures = failures_of _ _ x.server;
   lucks = subst (λ (n : List ℕ). AreLucksOf 0 (failures_of _ _ x.server) (new_world n) r.led.schedule) same r.led.lucks;
   contents = content_under x.server.stores.store.files;
+  kept_of = kept_in x.server.sessions;
+  held = subst (λ (n : ℕ). Holds n (record {
+    contents = content_under x.server.stores.store.files;
+    first = no_contents;
+    honest = true;
+  }) (kept_in x.server.sessions) r.world.book) r.limited r.held;
   files = r.files;
+  whole = λ none name. r.files name (inl (none_pends none name));
   names = names_of x.server.stores.store;
   ordered = names;
   is = put r.world (record {
@@ -137,3 +147,9 @@ rehearsed_text name copy limit events x text same r put names = record {
   }) (ap (λ (w : Told). w.sender.name) (sym r.led.reached)
       ∙ name_stays nothing_stands (new_world copy) r.led.schedule ∙ same);
 }
+  where
+    none_pends : failures_of _ _ x.server ≡ 0 → NonePends r.world.book
+    none_pends none =
+        let zero : failures_of _ _ x.server ≤ 0 = omega (arith, none) in
+        subst (λ (w : Told). NonePends w.book) r.led.reached
+        (quiet_world 0 (failures_of _ _ x.server) (new_world copy) r.led.schedule r.led.lucks zero (λ n. refl))

@@ -38,12 +38,14 @@ pub record Does {R W E : Type 0} (reader : Reader R) (out : Writer W) (faults : 
   pub reads : reader.failures r' ≡ failures_if did.reads_all (reader.failures r)
   pub writes : HasWritten out faults did w w' e e'
 
--- a replay of this input did this
-pub record IsReplay (limit : ℕ) (input : Option (List ℕ)) (did : Deed) : Type 0 where
+-- a replay of this input did this, over a store of which the call of the fuse's number fails, if
+-- there is a fuse
+pub record IsReplay (limit : ℕ) (fuse : Option ℕ) (input : Option (List ℕ)) (did : Deed) :
+    Type 0 where
   pub outcome : Result (Unit {0}) Fault
   pub exit_is : did.exit ≡ exit_of outcome
   pub reads : did.reads_all ≡ is_read outcome
-  pub prints : IsPrintOf limit input outcome did.out
+  pub prints : IsPrintOf limit fuse input outcome did.out
   pub tells : IsToldBy outcome did.faults
 
 -- want of memory ended the program before it printed anything, and the line says so

@@ -6,6 +6,7 @@ pub mod Runs
 pub mod Text
 pub mod EventLines
 pub mod Printing
+pub mod OneFuse
 pub mod Replays
 pub mod Deeds
 pub mod Rehearsals

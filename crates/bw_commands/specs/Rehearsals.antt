@@ -5,6 +5,7 @@ use Rattle.bw_model.specs.Book.{log_of}
 use Rattle.bw_model.specs.CountedTurn.{is_pending}
 use Rattle.bw_model.specs.Turn.{Luck}
 use Rattle.bw_model.specs.Exchange.{nothing_stands, take_in, content_in}
+use Rattle.bw_model.specs.Holds.{Kept, Holds}
 use Rattle.bw_model.specs.World as model
 use Rattle.bw_file.specs.MemoryNames.{AreNames}
 use Rattle.bw_inspect.specs.Places.{Of}
@@ -51,8 +52,7 @@ pub record HasWorld (world : model.World) (w : World) : Type 0 where
   pub held : HoldsBook _ _ no_contents w.server world.book
 
 -- The text of a world that just these events lead to, under some luck at each, which is told where
--- so many calls of the store failed: its two lines, and the files in the order of their names; each
--- name that is closed, or of which nothing waits, has its take's file.
+-- so many calls of the store failed: its two lines, and the files in the order of their names.
 pub record IsWorldText (name : List ℕ) (limit : ℕ) (events : List model.Event) (text : List ℕ)
     : Type 0 where
   pub schedule : List (model.Event × Luck)
@@ -61,9 +61,17 @@ pub record IsWorldText (name : List ℕ) (limit : ℕ) (events : List model.Even
   pub reached : model.world_after nothing_stands (model.new_world name) schedule ≡ world
   pub failures : ℕ
   pub lucks : AreLucksOf 0 failures (model.new_world name) schedule
+  -- the files are those of a server that holds the world's book
   pub contents : List ℕ → Option (List ℕ)
+  pub kept_of : List ℕ → Option Kept
+  pub held : Holds limit (record { contents = contents; first = no_contents; honest = true })
+      kept_of world.book
+  -- .. so each name that is closed, or of which nothing waits, has its take's file
   pub files : (name : List ℕ) → (is_pending (log_of world.book name) ≡ false)
       ⊎ ((take_in false world.book name).closed ≡ true) →
+      contents name ≡ content_in no_contents limit world.book name
+  -- .. and each name does where no store call failed
+  pub whole : failures ≡ 0 → (name : List ℕ) →
       contents name ≡ content_in no_contents limit world.book name
   pub names : List (List ℕ)
   pub ordered : AreNames names contents

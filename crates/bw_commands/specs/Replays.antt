@@ -1,11 +1,12 @@
 -- What a replay reads and writes, and how it ends.
-use Rattle.std.specs.Prelude.{◌≡◌, ◌+◌, ◌≤◌, ℕ, Option, Some, None}
-use Rattle.std.specs.Prelude.{List, [], ◌∷◌, ◌++◌, drop, length}
+use Rattle.std.specs.Prelude.{◌≡◌, ◌+◌, ◌≤◌, ℕ, Option, Some}
+use Rattle.std.specs.Prelude.{List, ◌++◌, drop, length}
 use Rattle.std.specs.Prelude.{Result, Ok, Err}
 use Rattle.bw_file.specs.MemoryNames.{AreNames}
 use Rattle.bw_inspect.specs.Places.{Of}
 use Rattle.bw_commands.specs.Faults.{RefusesInput}
 use Rattle.bw_commands.specs.Input.{Asked, asked_by, longest_input, TooLong, NotHex, Exchanges}
+use Rattle.bw_commands.specs.OneFuse.{failures_under, SufficeFor}
 use Rattle.bw_commands.specs.Printing.{Print, Nothing, Whole, Part}
 use Rattle.bw_commands.specs.Runs.{ToldExchange, IsRun}
 use Rattle.bw_commands.specs.Text.{exchanges_text, files_text}
@@ -19,32 +20,35 @@ pub record IsReadAhead (input : List ℕ) (left : Option (List ℕ)) : Type 0 wh
   pub inside : reached ≤ length input
   pub rest : left ≡ Some (drop reached input)
 
--- the calls that fail
-abbrev pub fuses_of : Option ℕ → List ℕ
-fuses_of None = []
-fuses_of (Some fuse) = fuse ∷ []
-
--- The text of a run of these inputs: its exchanges, and then the files in the order of their names.
-pub record IsRunText (limit : ℕ) (inputs : List (List ℕ)) (text : List ℕ) : Type 0 where
+-- The text of a run of these inputs over a store of which the call of the fuse's number fails, if
+-- there is a fuse: its exchanges, and then the files in the order of their names.
+pub record IsRunText (limit : ℕ) (fuse : Option ℕ) (inputs : List (List ℕ)) (text : List ℕ) :
+    Type 0 where
   pub told : List ToldExchange
   pub contents : List ℕ → Option (List ℕ)
-  pub run : IsRun limit inputs told contents
+  -- one store call failed if the run made more than `fuse`, else none; none without a fuse
+  pub calls : ℕ
+  pub failures : ℕ
+  pub failed : failures ≡ failures_under fuse calls
+  pub run : IsRun limit inputs failures told contents
   pub names : List (List ℕ)
   pub ordered : AreNames names contents
+  -- .. each file took the calls that made it and wrote it
+  pub took : SufficeFor contents names calls
   pub is : text ≡ exchanges_text 0 told ++ files_text contents names
 
 -- the input asks for exchanges, and this is the text of a run of them
-abbrev pub IsTextFor : ℕ → Asked → List ℕ → Type 0
-IsTextFor limit (Exchanges inputs) text = IsRunText limit inputs text
-IsTextFor limit TooLong text = ⊥
-IsTextFor limit (NotHex n) text = ⊥
+abbrev pub IsTextFor : ℕ → Option ℕ → Asked → List ℕ → Type 0
+IsTextFor limit fuse (Exchanges inputs) text = IsRunText limit fuse inputs text
+IsTextFor limit fuse TooLong text = ⊥
+IsTextFor limit fuse (NotHex n) text = ⊥
 
 -- the text of a run that an input asks for was to be printed
-pub record PrintsRun (limit : ℕ) (input : Option (List ℕ)) (printed : List ℕ → Print)
-    (print : Print) : Type 0 where
+pub record PrintsRun (limit : ℕ) (fuse : Option ℕ) (input : Option (List ℕ))
+    (printed : List ℕ → Print) (print : Print) : Type 0 where
   pub text : List ℕ
   pub is : print ≡ printed text
-  pub right : Of input (λ xs. IsTextFor limit (asked_by xs) text)
+  pub right : Of input (λ xs. IsTextFor limit fuse (asked_by xs) text)
 
 -- nothing is printed, and a fault that refuses is the one that the input has
 pub record PrintsNothing (input : Option (List ℕ)) (fault : Fault) (print : Print) : Type 0 where
@@ -52,14 +56,17 @@ pub record PrintsNothing (input : Option (List ℕ)) (fault : Fault) (print : Pr
   pub right : Of input (λ xs. RefusesInput fault (asked_by xs))
 
 -- what is printed of a replay that comes to this
-abbrev pub IsPrintOf : ℕ → Option (List ℕ) → Result (Unit {0}) Fault → Print → Type 0
-IsPrintOf limit input (Ok x) print = PrintsRun limit input Whole print
-IsPrintOf limit input (Err faults.Unwritable) print = PrintsRun limit input Part print
-IsPrintOf limit input (Err faults.TooLong) print = PrintsNothing input faults.TooLong print
-IsPrintOf limit input (Err (faults.NotHex n)) print = PrintsNothing input (faults.NotHex n) print
-IsPrintOf limit input (Err (faults.NotEvent n)) print =
+abbrev pub IsPrintOf : ℕ → Option ℕ → Option (List ℕ) → Result (Unit {0}) Fault → Print →
+    Type 0
+IsPrintOf limit fuse input (Ok x) print = PrintsRun limit fuse input Whole print
+IsPrintOf limit fuse input (Err faults.Unwritable) print = PrintsRun limit fuse input Part print
+IsPrintOf limit fuse input (Err faults.TooLong) print = PrintsNothing input faults.TooLong print
+IsPrintOf limit fuse input (Err (faults.NotHex n)) print =
+    PrintsNothing input (faults.NotHex n) print
+IsPrintOf limit fuse input (Err (faults.NotEvent n)) print =
     PrintsNothing input (faults.NotEvent n) print
-IsPrintOf limit input (Err (faults.NotRequest n)) print =
+IsPrintOf limit fuse input (Err (faults.NotRequest n)) print =
     PrintsNothing input (faults.NotRequest n) print
-IsPrintOf limit input (Err faults.Unreadable) print = PrintsNothing input faults.Unreadable print
-IsPrintOf limit input (Err faults.Memory) print = PrintsNothing input faults.Memory print
+IsPrintOf limit fuse input (Err faults.Unreadable) print =
+    PrintsNothing input faults.Unreadable print
+IsPrintOf limit fuse input (Err faults.Memory) print = PrintsNothing input faults.Memory print

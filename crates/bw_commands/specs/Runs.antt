@@ -8,14 +8,14 @@ use Rattle.bw_model.specs.Replies.{Reply, is_reply}
 use Rattle.bw_model.specs.Stream.{End, stream_of}
 use Rattle.bw_model.specs.Book.{Book, log_of}
 use Rattle.bw_model.specs.Turn.{book_after}
-use Rattle.bw_model.specs.CountedTurn.{is_pending}
+use Rattle.bw_model.specs.CountedTurn.{is_pending, is_delayed}
 use Rattle.bw_model.specs.NumberOrder.{AreInOrder, tells_want}
 use Rattle.bw_model.specs.Exchange.{Exchange, exchanges, nothing_stands, replies_bytes, last_reply}
 use Rattle.bw_model.specs.Exchange.{take_in, content_in}
 use Rattle.bw_model.specs.Holds.{Kept, Holds}
 use Rattle.bw_engine.specs.Answering.{Answered, frames_of, replies_of}
 use Rattle.bw_engine.specs.Ingesting.{end_in, frames_in}
-use Rattle.bw_engine.specs.ServerRuns.{IsRunOf, with_good_luck}
+use Rattle.bw_engine.specs.ServerRuns.{IsRun as IsCountedRun, IsRunOf, with_good_luck}
 use Rattle.bw_engine.specs.declared.serving.ExchangeEnd.{ExchangeEnd}
 
 -- what an exchange tells: its replies and its end
@@ -60,15 +60,19 @@ pub record AreExchangesOf (limit : ℕ) (inputs : List (List ℕ)) (told : List 
   pub files : (name : List ℕ) → contents name ≡ content_in no_contents limit
       (book_after nothing_stands [] (with_good_luck (frames_in inputs))) name
 
--- The inputs are answered so, one exchange after another, by a new server over an empty store,
--- which then has these contents.
-pub record IsRun (limit : ℕ) (inputs : List (List ℕ)) (told : List ToldExchange)
+-- The inputs are answered so, one exchange after another, by a new server over an empty store, of
+-- which so many calls failed, and which then has these contents.
+pub record IsRun (limit : ℕ) (inputs : List (List ℕ)) (failures : ℕ) (told : List ToldExchange)
     (contents : List ℕ → Option (List ℕ)) : Type 0 where
   pub answered : List (List Answered)
   pub tells : TellInputs inputs answered told
   -- all turns are a run of the definitions, under some luck at each
   pub book : Book
   pub run : IsRunOf nothing_stands [] (flat_map (λ a. a) answered) book
+  -- .. of which one stops short for each store call that failed, and no other
+  pub counted : IsCountedRun nothing_stands 0 failures [] (flat_map (λ a. a) answered) book
+  -- a reply says that a store call failed only where one did
+  pub delays : failures ≡ 0 → IsFalse (list_any is_delayed (replies_told told))
   -- the contents are those of a server that holds the book behind them
   pub kept_of : List ℕ → Option Kept
   pub held : Holds limit (record { contents = contents; first = no_contents; honest = true })
@@ -76,6 +80,9 @@ pub record IsRun (limit : ℕ) (inputs : List (List ℕ)) (told : List ToldExcha
   -- .. so each name that is closed, or of which nothing waits, has its take's file
   pub files : (name : List ℕ) →
       (is_pending (log_of book name) ≡ false) ⊎ ((take_in false book name).closed ≡ true) →
+      contents name ≡ content_in no_contents limit book name
+  -- .. and each name does where no store call failed
+  pub whole : failures ≡ 0 → (name : List ℕ) →
       contents name ≡ content_in no_contents limit book name
   pub in_order : AreInOrder [] (frames_in inputs) →
       IsFalse (list_any tells_want (replies_told told)) →

@@ -12,6 +12,7 @@ mod opening;
 pub mod print;
 mod rehearsal;
 pub mod replay;
+mod replay_store;
 mod system;
 mod text;
 mod unworded;

@@ -35,7 +35,8 @@ use std::alloc::{AllocError, Global};
 /// then, or a beginning where the writer failed.
 ///
 /// # Not specified
-/// - When memory is refused.
+/// - When memory is refused, and whether the server's store fails a call for that: then a number
+///   may wait, and its file is between two takes.
 /// - Of a reader that doesn't report its bytes: what is refused, and what the text is of.
 pub fn rehearse_run<R: Source, W: Sink, E: Sink>(
     alloc: Global,

@@ -1,20 +1,19 @@
 //! The command `replay`: runs from standard input.
-ghost use Rattle.std.specs.Prelude.{◌≡◌, ℕ, ◌+◌, ◌≤◌, List, None, All, length, map, IfOk, OnOk};
-ghost use Rattle.bw_file.specs.Memory.{content_under};
+ghost use Rattle.std.specs.Prelude.{◌≡◌, ◌+◌, ◌≤◌, Some, None, All, length, map, IfOk};
 ghost use Rattle.bw_inspect.specs.Places.{Of};
 ghost use Rattle.bw_commands.specs.Deeds.{Deed, HasWritten, IsReplay};
 ghost use Rattle.bw_commands.specs.Faults.{is_read};
 ghost use Rattle.bw_commands.specs.Input.{longest_input};
 ghost use Rattle.bw_commands.specs.Printing.{IsPrint, Print, failures_if};
-ghost use Rattle.bw_commands.specs.Replays.{IsPrintOf, IsReadAhead, IsRunText, fuses_of};
+ghost use Rattle.bw_commands.specs.Replays.{IsPrintOf, IsReadAhead, IsRunText};
 
 use crate::exit::Exit;
 use crate::fault::Fault;
 use crate::input::exchanges;
 use crate::print::{give_up, print};
+use crate::replay_store::ReplayStore;
 use crate::text::text_of_run;
 use bw_engine::ingest_run;
-use bw_file::{FuseStore, MemoryStore};
 use bw_layout::Limit;
 use bw_stream::{Sink, Source};
 use std::alloc::{AllocError, Global};
@@ -22,13 +21,16 @@ use std::alloc::{AllocError, Global};
 /// Runs each line of the input as an exchange, over an empty store in memory, and writes replies
 /// and files as text.
 ///
+/// In a run that is printed no store call failed, so that no reply says so, and each file is that
+/// of its take.
+///
 /// A fault's line goes to `faults`; one that can't be written changes nothing. A file whose RIFF
 /// form would be longer than `limit` bytes is written as BW64. Of the input at most 16,777,217
 /// bytes are read.
 ///
 /// `Refused` where the input has more than 16,777,216 bytes, or at its first line that isn't hex;
-/// `Device` where a read or a write failed; `Memory` where memory was refused. Nothing is printed
-/// then, or a beginning where the writer failed.
+/// `Device` where a read or a write failed; `Memory` where memory was refused, in the store too.
+/// Nothing is printed then, or a beginning where the writer failed.
 ///
 /// # Not specified
 /// - When memory is refused.
@@ -42,7 +44,7 @@ pub fn replay<R: Source, W: Sink, E: Sink>(
 ) -> Exit
     ensures within { Of (R.left input.old) (λ xs. IsReadAhead xs (R.left input.new)) }
     ensures most { R.moved input.new ≤ R.moved input.old + (longest_input + 1) }
-    ensures did { (did : Deed) × (did.exit ≡ result) × IsReplay limit (R.left input.old) did
+    ensures did { (did : Deed) × (did.exit ≡ result) × IsReplay limit None (R.left input.old) did
         × (R.failures input.new ≡ failures_if did.reads_all (R.failures input.old))
         × HasWritten W.Sink E.Sink did out.old out.new faults.old faults.new }
 {
@@ -51,9 +53,12 @@ pub fn replay<R: Source, W: Sink, E: Sink>(
 
 /// `replay` over a store of which the call number `fuse`, counted from 0, fails.
 ///
+/// In a run that is printed one store call failed if more than `fuse` came, else none. A reply says
+/// that one failed only where it did.
+///
 /// # Not specified
-/// - That the call number `fuse` is the one that fails, and that none fails without it: the
-///   contract is that of `replay`.
+/// - How many store calls a run makes, but for those that its files took: so which reply reports
+///   the failed call.
 /// - When memory is refused.
 /// - Of a reader that doesn't report its bytes: what is refused, and what the text is of.
 pub fn replay_fused<R: Source, W: Sink, E: Sink>(
@@ -66,7 +71,8 @@ pub fn replay_fused<R: Source, W: Sink, E: Sink>(
 ) -> Exit
     ensures within { Of (R.left input.old) (λ xs. IsReadAhead xs (R.left input.new)) }
     ensures most { R.moved input.new ≤ R.moved input.old + (longest_input + 1) }
-    ensures did { (did : Deed) × (did.exit ≡ result) × IsReplay limit (R.left input.old) did
+    ensures did { (did : Deed) × (did.exit ≡ result)
+        × IsReplay limit (Some fuse) (R.left input.old) did
         × (R.failures input.new ≡ failures_if did.reads_all (R.failures input.old))
         × HasWritten W.Sink E.Sink did out.old out.new faults.old faults.new }
 {
@@ -84,7 +90,7 @@ fn replay_over<R: Source, W: Sink, E: Sink>(
 ) -> Exit
     ensures within { Of (R.left input.old) (λ xs. IsReadAhead xs (R.left input.new)) }
     ensures most { R.moved input.new ≤ R.moved input.old + (longest_input + 1) }
-    ensures did { (did : Deed) × (did.exit ≡ result) × IsReplay limit (R.left input.old) did
+    ensures did { (did : Deed) × (did.exit ≡ result) × IsReplay limit fuse (R.left input.old) did
         × (R.failures input.new ≡ failures_if did.reads_all (R.failures input.old))
         × HasWritten W.Sink E.Sink did out.old out.new faults.old faults.new }
 {
@@ -106,7 +112,7 @@ fn play<R: Source, W: Sink>(
     ensures within { Of (R.left input.old) (λ xs. IsReadAhead xs (R.left input.new)) }
     ensures most { R.moved input.new ≤ R.moved input.old + (longest_input + 1) }
     ensures count { R.failures input.new ≡ failures_if (is_read result) (R.failures input.old) }
-    ensures prints { (print : Print) × IsPrintOf limit (R.left input.old) result print
+    ensures prints { (print : Print) × IsPrintOf limit fuse (R.left input.old) result print
         × IsPrint W.Sink print out.old out.new }
 {
     let inputs = exchanges(alloc, input)?;
@@ -117,7 +123,8 @@ fn play<R: Source, W: Sink>(
     }
 }
 
-/// The text of the inputs' run over an empty store of which the call of this number fails.
+/// The text of the inputs' run over an empty store of which the call of this number fails, if there
+/// is one, and no other.
 fn run_text(
     alloc: Global,
     limit: Limit,
@@ -126,25 +133,16 @@ fn run_text(
 ) -> Result<Vec<u8>, AllocError>
     requires { All (λ x. length x.items ≤ longest_input) inputs.now }
     ensures { IfOk result (λ text.
-        IsRunText limit (map (λ x. x.items) inputs.now) text.items) }
+        IsRunText limit fuse (map (λ x. x.items) inputs.now) text.items) }
 {
-    let store = fused(alloc, fuse)?;
+    let store = ReplayStore::new(alloc, fuse)?;
     let Ok(run) = ingest_run(alloc, store, limit, inputs) else {
         return Err(AllocError);
     };
-    let (replies, ends) = (run.replies.as_slice(), run.ends.as_slice());
-    text_of_run(alloc, replies, ends, run.store.inner())
-}
-
-/// An empty store in memory of which the call of this number fails, if there is one.
-fn fused(alloc: Global, fuse: Option<u32>) -> Result<FuseStore<MemoryStore>, AllocError>
-    ensures fuses { IfOk result (λ s. s.fuses.items ≡ fuses_of fuse) }
-    ensures empty { IfOk result (λ s. (name : List ℕ) →
-        content_under s.inner.files name ≡ None) }
-{
-    let mut fuses = Vec::new(alloc);
-    if let Some(fuse) = fuse {
-        fuses.push(u64::from(fuse))?;
+    // That this is the store that was passed in is no clause of `ingest_run`.
+    if !run.store.kept_to(fuse) {
+        return Err(AllocError);
     }
-    Ok(FuseStore::new(MemoryStore::new(alloc), fuses))
+    let (replies, ends) = (run.replies.as_slice(), run.ends.as_slice());
+    text_of_run(alloc, replies, ends, run.store.files())
 }

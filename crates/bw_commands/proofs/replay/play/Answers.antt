@@ -12,9 +12,9 @@ returns-in-Ok-clause-prints g c = (
   record {
     text = c.as_slice-2.result.now;
     is = refl;
-    right = λ xs told. subst (λ (a : Asked). IsTextFor c.args.limit a c.as_slice-2.result.now)
+    right = λ xs told. subst (λ (a : Asked). IsTextFor c.args.limit c.args.fuse a c.as_slice-2.result.now)
         (sym (c.in_ok-inputs.ensures.ok xs told))
-        (subst (IsRunText c.args.limit (map (λ x. x.items) c.in_ok-inputs.inputs.items)) (sym c.as_slice-2.ensures.value)
+        (subst (IsRunText c.args.limit c.args.fuse (map (λ x. x.items) c.in_ok-inputs.inputs.items)) (sym c.as_slice-2.ensures.value)
         (rw c.as_slice.ensures.value at c.in_ok-text.ensures));
   },
   c.in-Ok.ensures.ok,
@@ -26,9 +26,9 @@ returns-clause-prints g c = (
   record {
     text = c.as_slice-2.result.now;
     is = refl;
-    right = λ xs told. subst (λ (a : Asked). IsTextFor c.args.limit a c.as_slice-2.result.now)
+    right = λ xs told. subst (λ (a : Asked). IsTextFor c.args.limit c.args.fuse a c.as_slice-2.result.now)
         (sym (c.in_ok-inputs.ensures.ok xs told))
-        (subst (IsRunText c.args.limit (map (λ x. x.items) c.in_ok-inputs.inputs.items)) (sym c.as_slice-2.ensures.value)
+        (subst (IsRunText c.args.limit c.args.fuse (map (λ x. x.items) c.in_ok-inputs.inputs.items)) (sym c.as_slice-2.ensures.value)
         (rw c.as_slice.ensures.value at c.in_ok-text.ensures));
   },
   c.in-Err.ensures.err,
@@ -38,7 +38,7 @@ pub returns-in_err-inputs-clause-prints : goal.returns-in_err-inputs-clause-prin
 returns-in_err-inputs-clause-prints g c =
     let answer = err_from_is_err_and c.from_residual.result c.from_residual.ensures.1 in (
       Nothing,
-      rw (answer.1, answer.2) (refuses_run c.args.limit _ c.in_err-inputs.field-0.0
+      rw (answer.1, answer.2) (refuses_run c.args.limit c.args.fuse _ c.in_err-inputs.field-0.0
           c.in_err-inputs.ensures.err c.in_err-inputs.ensures.own),
       refl,
     )

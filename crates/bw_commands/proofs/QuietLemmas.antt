@@ -1,0 +1,146 @@
+-- Runs and rehearsals in which no store call failed leave nothing pending.
+use Rattle.std.proofs.Common.{◌≡◌, ◌∙◌, ℕ, ◌<◌, ◌≤◌, Bool, true, false, List, [], ◌∷◌, Option, Some, None, refl}
+use Rattle.std.proofs.Common.{sym, ap, subst, arith, nat_lt}
+use Rattle.std.specs.Prelude.{slice_get}
+use Rattle.std.specs.Option.{option_map_or}
+use Rattle.std.specs.Str.{bytes_eq}
+use Rattle.std.proofs.lemmas.Bool.{ltb-true, ltb-false}
+use Rattle.bw_model.specs.Counts.{Counts, last_count}
+use Rattle.bw_model.specs.Take.{Request}
+use Rattle.bw_model.specs.Wire.{Message, Frame, Says, Asks, Bye}
+use Rattle.bw_model.specs.Replies.{Reply}
+use Rattle.bw_model.specs.Book.{Log, Book, log_of, with_log}
+use Rattle.bw_model.specs.CountedTurn.{is_pending, stops_short, log_behind}
+use Rattle.bw_model.specs.Turn.{Luck, turn, with_change}
+use Rattle.bw_model.specs.Exchange.{nothing_stands}
+use Rattle.bw_model.specs.World.{World, Event, Offer, Send, Deliver, Bring, Ask, Foreign, send, deliver}
+use Rattle.bw_model.specs.World.{bring, pending, happens, world_after}
+use Rattle.bw_model.proofs.BookLemmas.{same_name, log-with_log_same, log-with_log_other}
+use Rattle.bw_rehearsal.specs.Lucks.{IsLuckOf, IsLuckOfDelivery, AreLucksOf}
+use Rattle.bw_engine.specs.Answering.{Answered}
+use Rattle.bw_engine.specs.ServerRuns.{IsRun}
+
+-- Counts.
+
+-- a count never falls
+pub never_falls : (a b : ℕ) (x : Bool) → Counts a b x → a ≤ b
+never_falls a b false h = let same = h.quiet refl in omega (arith, same)
+never_falls a b true h = go (nat_lt a last_count) refl
+  where
+    go : (below : Bool) → nat_lt a last_count ≡ below → a ≤ b
+    go true e = let more = h.rises refl (ltb-true a last_count e) in omega (arith, more)
+    go false e = let same = h.stays (ltb-false a last_count e) in omega (arith, same)
+
+-- at 0 nothing was counted
+not_counted : (a b : ℕ) (x : Bool) → Counts a b x → a ≤ 0 → b ≤ 0 → x ≡ false
+not_counted a b false h zero_a zero_b = refl
+not_counted a b true h zero_a zero_b =
+    let below : a < last_count = omega (arith, zero_a) in
+    let more = h.rises refl below in
+    absurd (omega (arith, more, zero_b))
+
+pub run_rises : (stood : List ℕ → Bool) (before after : ℕ) (book : Book) (answered : List Answered) (later : Book) →
+    IsRun stood before after book answered later → before ≤ after
+run_rises stood before after book [] later h = let same = h.0 in omega (arith, same)
+run_rises stood before after book (a ∷ rest) later h =
+    let one = never_falls before h.0 _ h.2.count in
+    let more = run_rises stood h.0 after h.1 rest later h.3 in
+    omega (arith, one, more)
+
+delivered_rises : (before after : ℕ) (w : World) (o : Option Message) (luck : Luck) →
+    IsLuckOfDelivery before after w.book o luck → before ≤ after
+delivered_rises before after w None luck h = let e = h.count in omega (arith, e)
+delivered_rises before after w (Some m) luck h = never_falls before after _ h.count
+
+event_rises : (before after : ℕ) (w : World) (e : Event) (luck : Luck) → IsLuckOf before after w e luck → before ≤ after
+event_rises before after w (Offer r) luck h = let e = h.count in omega (arith, e)
+event_rises before after w (Send i) luck h = let e = h.count in omega (arith, e)
+event_rises before after w (Deliver k) luck h = delivered_rises before after w (slice_get w.sent k) luck h
+event_rises before after w (Bring k) luck h = let e = h.count in omega (arith, e)
+event_rises before after w Ask luck h = let e = h.count in omega (arith, e)
+event_rises before after w (Foreign f) luck h = absurd h
+
+lucks_rise : (before after : ℕ) (w : World) (es : List (Event × Luck)) → AreLucksOf before after w es → before ≤ after
+lucks_rise before after w [] h = omega (arith, h)
+lucks_rise before after w (e ∷ es) h =
+    let one = event_rises before h.0 w e.0 e.1 h.1 in
+    let more = lucks_rise h.0 after (happens nothing_stands w e.0 e.1) es h.2 in
+    omega (arith, one, more)
+
+-- Books.
+
+-- no name has a number that waits for its verdict
+abbrev pub NonePends : Book → Type 0
+NonePends book = (name : List ℕ) → is_pending (log_of book name) ≡ false
+
+-- a turn that doesn't stop short leaves none
+quiet_turn : (stood : List ℕ → Bool) (book : Book) (f : Frame) (luck : Luck) → NonePends book →
+    stops_short stood book f luck ≡ false → NonePends (turn stood book f luck).1
+unfolding turn
+quiet_turn stood book (Says m) luck none quiet name = go (log_behind stood book (Says m) luck) quiet
+  where
+    go : (o : Option Log) → option_map_or is_pending o false ≡ false →
+        is_pending (log_of (with_change book m.name o) name) ≡ false
+    go None q = none name
+    go (Some log) q = at_name (bytes_eq m.name name) refl
+      where
+        at_name : (b : Bool) → bytes_eq m.name name ≡ b →
+            is_pending (log_of (with_log book m.name log) name) ≡ false
+        at_name true e =
+            ap (λ (x : List ℕ). is_pending (log_of (with_log book m.name log) x)) (sym (same_name m.name name e))
+            ∙ (ap is_pending (log-with_log_same book m.name log) ∙ q)
+        at_name false e = ap is_pending (log-with_log_other book m.name name log e) ∙ none name
+quiet_turn stood book (Asks x n) luck none quiet name = none name
+quiet_turn stood book Bye luck none quiet name = none name
+
+pub quiet_run : (stood : List ℕ → Bool) (before after : ℕ) (book : Book) (answered : List Answered) (later : Book) →
+    IsRun stood before after book answered later → after ≤ 0 → NonePends book → NonePends later
+quiet_run stood before after book [] later h zero none = subst NonePends (sym h.1) none
+quiet_run stood before after book (a ∷ rest) later h zero none =
+    let one = never_falls before h.0 _ h.2.count in
+    let more = run_rises stood h.0 after h.1 rest later h.3 in
+    let mid : h.0 ≤ 0 = omega (arith, more, zero) in
+    let first : before ≤ 0 = omega (arith, one, mid) in
+    quiet_run stood h.0 after h.1 rest later h.3 zero
+    (subst NonePends h.2.left (quiet_turn stood book a.frame h.2.luck none
+    (not_counted before h.0 _ h.2.count first mid)))
+
+sent_book : (w : World) (p : Option (ℕ × Request)) → (send w p).book ≡ w.book
+sent_book w None = refl
+sent_book w (Some p) = refl
+
+brought_book : (w : World) (r : Option Reply) → (bring w r).book ≡ w.book
+brought_book w None = refl
+brought_book w (Some r) = refl
+
+quiet_delivery : (before after : ℕ) (w : World) (o : Option Message) (luck : Luck) →
+    IsLuckOfDelivery before after w.book o luck → before ≤ 0 → after ≤ 0 → NonePends w.book →
+    NonePends (deliver nothing_stands w o luck).book
+quiet_delivery before after w None luck h first last none = none
+quiet_delivery before after w (Some m) luck h first last none =
+    quiet_turn nothing_stands w.book (Says m) luck none (not_counted before after _ h.count first last)
+
+quiet_event : (before after : ℕ) (w : World) (e : Event) (luck : Luck) → IsLuckOf before after w e luck →
+    before ≤ 0 → after ≤ 0 → NonePends w.book → NonePends (happens nothing_stands w e luck).book
+unfolding happens
+quiet_event before after w (Offer r) luck h first last none = none
+quiet_event before after w (Send i) luck h first last none =
+    subst NonePends (sym (sent_book w (pending w.sender i))) none
+quiet_event before after w (Deliver k) luck h first last none =
+    quiet_delivery before after w (slice_get w.sent k) luck h first last none
+quiet_event before after w (Bring k) luck h first last none =
+    subst NonePends (sym (brought_book w (slice_get w.replies k))) none
+quiet_event before after w Ask luck h first last none =
+    quiet_turn nothing_stands w.book (Asks w.sender.name 0) luck none refl
+quiet_event before after w (Foreign f) luck h first last none = absurd h
+
+pub quiet_world : (before after : ℕ) (w : World) (es : List (Event × Luck)) → AreLucksOf before after w es →
+    after ≤ 0 → NonePends w.book → NonePends (world_after nothing_stands w es).book
+quiet_world before after w [] h zero none = none
+quiet_world before after w (e ∷ es) h zero none =
+    let one = event_rises before h.0 w e.0 e.1 h.1 in
+    let more = lucks_rise h.0 after (happens nothing_stands w e.0 e.1) es h.2 in
+    let mid : h.0 ≤ 0 = omega (arith, more, zero) in
+    let first : before ≤ 0 = omega (arith, one, mid) in
+    quiet_world h.0 after (happens nothing_stands w e.0 e.1) es h.2 zero
+    (quiet_event before h.0 w e.0 e.1 h.1 first mid none)

@@ -1,0 +1,98 @@
+//! The store of a replay: in memory, where one chosen call fails, or none.
+ghost use Rattle.std.specs.Prelude.{◌≡◌, ℕ, List, None, IsTrue, IfOk, true};
+ghost use Rattle.bw_file.specs.Memory.{content_under};
+ghost use Rattle.bw_commands.specs.OneFuse.{failures_under, is_at, KeepsFuse, SufficeForAll};
+
+use bw_file::{Created, FuseStore, MemoryStore, StoreFault, TakeStore};
+use bw_take::Name;
+use std::alloc::{AllocError, Global};
+
+/// A store in memory of which the call number `fuse`, counted from 0, fails, if there is a fuse.
+///
+/// Another call fails where memory is refused, or for a name that was never made; the store notes
+/// that.
+#[derive(Drop)]
+pub(crate) struct ReplayStore {
+    store: FuseStore<MemoryStore>,
+    fuse: Option<u32>,
+    /// A call failed that is not the fuse's.
+    failed: bool,
+    ghost counts: { KeepsFuse fuse failed store.fuses.items
+        store.tally.calls store.tally.failures },
+    ghost took: { SufficeForAll (content_under store.inner.files) store.tally.calls },
+}
+
+impl ReplayStore {
+    /// An empty store, of which no call came.
+    pub(crate) fn new(alloc: Global, fuse: Option<u32>) -> Result<ReplayStore, AllocError>
+        ensures failures { IfOk result (λ s. s.store.tally.failures ≡ 0) }
+        ensures empty { IfOk result (λ s. (name : List ℕ) →
+            content_under s.store.inner.files name ≡ None) }
+    {
+        let mut fuses = Vec::new(alloc);
+        if let Some(fuse) = fuse {
+            fuses.push(u64::from(fuse))?;
+        }
+        Ok(ReplayStore {
+            store: FuseStore::new(MemoryStore::new(alloc), fuses),
+            fuse,
+            failed: false,
+        })
+    }
+
+    /// The files in memory.
+    pub(crate) fn files(&self) -> &MemoryStore
+        ensures { result.now ≡ self.now.store.inner }
+    {
+        self.store.inner()
+    }
+
+    /// Whether the store has this fuse, and no call failed but the fuse's.
+    pub(crate) fn kept_to(&self, fuse: Option<u32>) -> bool
+        ensures { IsTrue result → self.now.store.tally.failures
+            ≡ failures_under fuse self.now.store.tally.calls }
+    {
+        self.fuse == fuse && !self.failed
+    }
+
+    /// Whether the next call is the fuse's.
+    fn is_at_fuse(&self) -> bool
+        ensures { result ≡ is_at self.now.fuse self.now.store.tally.calls }
+    {
+        match self.fuse {
+            Some(fuse) => u64::from(fuse) == self.store.calls(),
+            None => false,
+        }
+    }
+}
+
+impl TakeStore for ReplayStore {
+    ghost contents = { λ s name. content_under s.store.inner.files name };
+
+    ghost failures = { λ s. s.store.tally.failures };
+
+    ghost calls = { λ s. s.store.tally.calls };
+
+    ghost honest = { λ s. true };
+
+    fn create(&mut self, name: &Name) -> Result<Created, StoreFault> {
+        let fused = self.is_at_fuse();
+        let answer = self.store.create(name);
+        self.failed = self.failed || answer.is_err() && !fused;
+        answer
+    }
+
+    fn write_at(&mut self, name: &Name, offset: u64, bytes: &[u8]) -> Result<(), StoreFault> {
+        let fused = self.is_at_fuse();
+        let answer = self.store.write_at(name, offset, bytes);
+        self.failed = self.failed || answer.is_err() && !fused;
+        answer
+    }
+
+    fn finish(&mut self, name: &Name) -> Result<(), StoreFault> {
+        let fused = self.is_at_fuse();
+        let answer = self.store.finish(name);
+        self.failed = self.failed || answer.is_err() && !fused;
+        answer
+    }
+}
