@@ -20,6 +20,7 @@ import time
 
 from takes import LARGEST_LIMIT, Take
 from tally import Tally
+from tracer import Traced
 
 LOCAL = "127.0.0.1"
 LONGEST_WAIT = 30  # seconds, for one thing to come
@@ -47,8 +48,12 @@ def prepare_child():
     signal.signal(signal.SIGINT, signal.SIG_DFL)
 
 
-def start(*words, **streams):
-    process = subprocess.Popen([PROGRAM, *words], preexec_fn=prepare_child, **streams)
+def start(*words, observer=None, **streams):
+    """A process of the program, of which an observer is given each call of the system where there is one."""
+    if observer:
+        process = Traced([PROGRAM, *words], observer, **streams)
+    else:
+        process = subprocess.Popen([PROGRAM, *words], preexec_fn=prepare_child, **streams)
     STARTED.append(process)
     return process
 
@@ -85,12 +90,12 @@ def free_port():
 class Server:
     """A server in the background, at a port that was free."""
 
-    def __init__(self, folder, *options):
+    def __init__(self, folder, *options, observer=None):
         for _ in range(5):
             self.port = free_port()
             self.faults = tempfile.TemporaryFile()
             words = ("serve", "--listen", f"{LOCAL}:{self.port}", "--folder", str(folder), *options)
-            self.process = start(*words, stdout=subprocess.PIPE, stderr=self.faults)
+            self.process = start(*words, observer=observer, stdout=subprocess.PIPE, stderr=self.faults)
             self.held = b""
             if self.line() == f"listening {LOCAL}:{self.port}":
                 return

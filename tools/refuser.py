@@ -1,34 +1,18 @@
-"""Runs a program of which one call is refused, by ptrace: nothing is built, and nothing is loaded into the program.
+"""Runs a program of which one call is refused, by ptrace.
 
-Of system calls, those count that the program makes itself, from its first instruction on: its loader's don't. The
-refused one isn't made, and fails with EIO. Of growths of memory, each malloc and realloc counts that the program
-calls. The refused one is asked for more bytes than there can be, so that the C library refuses it.
+Of system calls, those count that the program makes itself (tracer.py). The refused one isn't made, and fails with EIO.
+Of growths of memory, each malloc and realloc counts that the program calls. The refused one is asked for more bytes
+than there can be, so that the C library refuses it.
 
-Needs x86-64 Linux, and leave to trace a child. The program has one thread, and takes malloc from a shared C library.
+Needs what tracer.py needs. The program takes malloc from a shared C library.
 """
-import concurrent.futures
-import ctypes
-import errno
 import functools
 import os
 import pathlib
 import signal
 import struct
-import subprocess
 
-SYSTEM = ctypes.CDLL(None, use_errno=True)
-SYSTEM.ptrace.argtypes = [ctypes.c_long, ctypes.c_long, ctypes.c_ulong, ctypes.c_ulong]
-SYSTEM.ptrace.restype = ctypes.c_long
-
-# ptrace(2): its requests, and what it stops at.
-TRACEME, PEEKDATA, PEEKUSER, POKEDATA, POKEUSER, CONT, SYSCALL, SETOPTIONS = 0, 2, 3, 5, 6, 7, 24, 0x4200
-O_TRACESYSGOOD, O_EXITKILL = 0x1, 0x100000
-AT_SYSCALL = signal.SIGTRAP | 0x80
-AT_ENTRY = 9  # in the vector of getauxval(3)
-BREAKPOINT = 0xCC  # int3
-
-# Where `struct user` keeps registers.
-RAX, RSI, RDI, ORIG_RAX, RIP = (8 * place for place in (10, 13, 14, 15, 16))
+from tracer import CONT, PEEKDATA, PEEKUSER, POKEDATA, ptrace, RDI, RIP, RSI, Traced
 
 # The system calls of each kind, by their numbers on x86-64.
 CALLS = {
@@ -43,16 +27,6 @@ CALLS = {
 }
 GROWTHS = {"malloc": RDI, "realloc": RSI}  # and the register of the size
 NOWHERE = 0x100  # an address in the first page, in which Linux keeps nothing
-
-TRACER = concurrent.futures.ThreadPoolExecutor(1)  # ptrace serves only the thread that began
-
-
-def ptrace(request, process=0, place=0, word=0):
-    given = SYSTEM.ptrace(request, process, place, word)
-    fault = ctypes.get_errno()
-    if given == -1 and fault:
-        raise OSError(fault, f"ptrace: {os.strerror(fault)}")
-    return given
 
 
 class File:
@@ -95,105 +69,36 @@ def entry_and_growths(path):
     return file.entry, [(GROWTHS[name], slot) for name, slot in file.slots() if name in GROWTHS]
 
 
-class Refused(subprocess.Popen):
+class Refused(Traced):
     """A running program of which the call of a kind with this number, from 1, is refused, and none where it is 0.
 
-    One runs at a time. `seen` is the number of its calls of the kind, once it has ended.
+    `seen` is the number of its calls of the kind, once it has ended.
     """
 
     def __init__(self, words, kind, number, **pipes):
-        self.kind, self.number, self.seen, self.status = kind, number, 0, None
+        self.kind, self.number, self.seen = kind, number, 0
         # The loader fills all slots at the start, and so none anew later.
-        options = {"preexec_fn": lambda: ptrace(TRACEME), "env": {**os.environ, "LD_BIND_NOW": "1"}, **pipes}
-        try:
-            TRACER.submit(super().__init__, words, **options).result()
-        except subprocess.SubprocessError:
-            raise SystemExit("no program may be traced here (ptrace)") from None
-        self.followed = TRACER.submit(self.follow)
-
-    def wait(self, timeout=None):
-        """The status. Only the tracer may ask the system for it: who asks may be given a stop instead."""
-        try:
-            self.returncode = self.followed.result(timeout)
-        except concurrent.futures.TimeoutError:
-            raise subprocess.TimeoutExpired(self.args, timeout) from None
-        return self.returncode
-
-    def poll(self):
-        return self.wait() if self.followed.done() else None
-
-    def __exit__(self, fault, *more):
-        if fault and not self.followed.done():
-            os.kill(self.pid, signal.SIGKILL)  # it may wait for what nobody does any more
-        super().__exit__(fault, *more)
+        super().__init__(words, self, env={**os.environ, "LD_BIND_NOW": "1"}, **pipes)
 
     # What follows is the tracer's.
-
-    def follow(self):
-        """Stops it at each call of the kind until it ends; its status."""
-        try:
-            self.stop()
-            ptrace(SETOPTIONS, self.pid, 0, O_TRACESYSGOOD | O_EXITKILL)
-            entry, growths = entry_and_growths(self.args[0])
-            offset = self.enter(entry)
-            if self.kind == "growth":
-                self.follow_growths(self.hooked(growths, offset))
-            else:
-                self.follow_calls(CALLS[self.kind])
-        except ProcessLookupError:
-            pass  # it has ended, or was killed at a stop
-        finally:
-            if self.status is None:
-                os.kill(self.pid, signal.SIGKILL)
-                _, self.status = os.waitpid(self.pid, 0)
-        return os.waitstatus_to_exitcode(self.status)
-
-    def stop(self):
-        """The signal of its next stop."""
-        _, status = os.waitpid(self.pid, 0)
-        if not os.WIFSTOPPED(status):
-            self.status = status
-            raise ProcessLookupError
-        return os.WSTOPSIG(status)
-
-    def resume(self, request, number=0):
-        """Lets it run on, with the signal of this number; the signal of its next stop."""
-        ptrace(request, self.pid, 0, number)
-        return self.stop()
-
-    def enter(self, entry):
-        """Runs its loader, up to its own first instruction; how far from its addresses in the file it is loaded."""
-        words = pathlib.Path(f"/proc/{self.pid}/auxv").read_bytes()
-        place = dict(struct.iter_unpack("<QQ", words))[AT_ENTRY]
-        word = ptrace(PEEKDATA, self.pid, place)
-        ptrace(POKEDATA, self.pid, place, word & ~0xFF | BREAKPOINT)
-        if self.resume(CONT) != signal.SIGTRAP:
-            raise SystemExit(f"{self.args[0]} isn't entered")
-        ptrace(POKEDATA, self.pid, place, word)
-        ptrace(POKEUSER, self.pid, RIP, place)
-        return place - entry
 
     def is_refused(self):
         """Counts a call of the kind."""
         self.seen += 1
         return self.seen == self.number
 
-    def follow_calls(self, numbers):
-        stop = self.resume(SYSCALL)
-        while True:
-            if stop == AT_SYSCALL:
-                self.make_call(numbers)
-                stop = 0
-            stop = self.resume(SYSCALL, stop)
+    def before(self, call):
+        if call.number in CALLS[self.kind] and self.is_refused():
+            call.refuse()
 
-    def make_call(self, numbers):
-        """From the stop before a call to the one after it. Linux makes no call whose number is -1."""
-        is_refused = ptrace(PEEKUSER, self.pid, ORIG_RAX) in numbers and self.is_refused()
-        if is_refused:
-            ptrace(POKEUSER, self.pid, ORIG_RAX, -1)
-        self.resume(SYSCALL)
-        if is_refused:
-            ptrace(POKEUSER, self.pid, RAX, -errno.EIO)
+    def after(self, call):
+        pass
+
+    def follow_from(self, entry):
+        if self.kind != "growth":
+            return super().follow_from(entry)
+        entry_in_file, growths = entry_and_growths(self.args[0])
+        return self.follow_growths(self.hooked(growths, entry - entry_in_file))
 
     def hooked(self, growths, offset):
         """Has each growth jump to an address of its own where nothing is.
@@ -211,11 +116,11 @@ class Refused(subprocess.Popen):
     def follow_growths(self, wanted):
         stop = self.resume(CONT)
         while True:
-            place = ptrace(PEEKUSER, self.pid, RIP)
+            place = ptrace(PEEKUSER, self.pid, 8 * RIP)
             if stop == signal.SIGSEGV and place in wanted:
                 function, register = wanted[place]
                 if self.is_refused():
-                    ptrace(POKEUSER, self.pid, register, -1)
-                ptrace(POKEUSER, self.pid, RIP, function)
+                    self.put(register, -1)
+                self.put(RIP, function)
                 stop = 0
             stop = self.resume(CONT, stop)
