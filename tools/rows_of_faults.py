@@ -76,6 +76,13 @@ RETRIES = [
         [EXCHANGE, delayed(0), *stored(0)],
         [EMPTY_FILE],
     ),
+    fused(
+        0,
+        "OPEN alone, and the take in the next exchange",
+        OPEN + "\n" + OPEN + BLOCK + CLOSE,
+        [EXCHANGE, delayed(0), EXCHANGE_1, *stored(0, 1, 2)],
+        [SMALL_FILE],
+    ),
 ]
 
 # Two frames: the form's size counts them, that of the data doesn't.
