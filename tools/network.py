@@ -68,9 +68,9 @@ def finish(process, given=None, name="a command"):
     return process.returncode, out.decode(errors="replace"), (faults or b"").decode(errors="replace")
 
 
-def start_with_pipes(*words):
+def start_with_pipes(*words, observer=None):
     pipe = subprocess.PIPE
-    return start(*words, stdin=pipe, stdout=pipe, stderr=pipe)
+    return start(*words, observer=observer, stdin=pipe, stdout=pipe, stderr=pipe)
 
 
 def run(*words, given=b""):

@@ -11,5 +11,6 @@ pub mod Plans
 pub mod OneField
 pub mod RowsOfCalls
 pub mod Disks
+pub mod FileWrites
 pub mod Folders
 pub mod StoreSteps

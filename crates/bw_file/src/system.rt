@@ -1,5 +1,7 @@
 //! The disk of the system.
-ghost use Rattle.std.specs.Prelude.{◌≡◌, [], None, false};
+ghost use Rattle.std.specs.Prelude.{◌≡◌, [], None, false, is_err};
+ghost use Rattle.bw_file.specs.Disks.{IsOneCall};
+ghost use Rattle.bw_file.specs.FileWrites.{PutsFrom};
 
 use crate::disk::{Disk, DiskFault};
 use crate::tally::Tally;
@@ -7,9 +9,13 @@ use std::fs::{File, Files, OpenFile};
 use std::io;
 use std::io::{ErrorKind, Seek, SeekFrom, Write};
 
-/// The files of the system, by the calls of std. No clause can say what they hold, so `honest` is
-/// false here, and what is proved of honest disks says nothing of this one: that its calls do what
-/// is asked of an honest disk is a premise.
+/// The files of the system, by the calls of std.
+///
+/// Of a write it is proved that the file is sought at its offset, and that then exactly its bytes
+/// are written, once; where the seek fails, nothing is written. No clause of std says what a file of
+/// the system then holds, nor anything of `create_new` and `sync_all`, so `honest` is false here,
+/// and what is proved of honest disks says nothing of this one: that its calls do what is asked of
+/// an honest disk is a premise.
 #[derive(Drop)]
 pub struct SystemDisk<R> {
     rt: R,
@@ -20,8 +26,8 @@ impl<R> SystemDisk<R> {
     /// The disk that a runtime gives.
     ///
     /// # Not specified
-    /// That the disk is honest: that is a premise. Of its `create_new`, `write_at` and `sync` only
-    /// the counts are proved.
+    /// That the disk is honest: that is a premise. Of its `create_new` and `sync` only the counts
+    /// are proved: no clause says that they call std, so runs show it.
     pub fn new(rt: R) -> SystemDisk<R>
         ensures rt { result.rt ≡ rt }
         ensures failures { result.tally.failures ≡ 0 }
@@ -59,7 +65,15 @@ impl<R: Files + Drop> Disk for SystemDisk<R> {
         answer
     }
 
-    fn write_at(&mut self, file: &mut R::File, offset: u64, bytes: &[u8]) -> Result<(), DiskFault> {
+    /// Seeks to the offset, and then writes exactly these bytes, once.
+    ///
+    /// # Errors
+    /// `DiskFault` where the seek or the write failed: after a failed seek nothing is written.
+    fn write_at(&mut self, file: &mut R::File, offset: u64, bytes: &[u8]) -> Result<(), DiskFault>
+        ensures call { IsOneCall (λ d. d.tally.calls) (λ d. d.tally.failures) self.old self.new
+            (is_err result) }
+        ensures puts { PutsFrom R.File.Seek R.File.Write offset bytes.now file.old file.new result }
+    {
         let answer = put(file, offset, bytes).map_err(|_| DiskFault);
         self.tally.count(answer.is_err());
         answer
@@ -73,7 +87,13 @@ impl<R: Files + Drop> Disk for SystemDisk<R> {
 }
 
 /// Writes bytes into a file from an offset on.
-fn put<F: Seek + Write>(file: &mut F, offset: u64, bytes: &[u8]) -> io::Result<()> {
+///
+/// # Errors
+/// The seek failed: nothing was written. Or the write failed: any part of the bytes may have been
+/// written then.
+fn put<F: Seek + Write>(file: &mut F, offset: u64, bytes: &[u8]) -> io::Result<()>
+    ensures puts { PutsFrom F.Seek F.Write offset bytes.now file.old file.new result }
+{
     file.seek(SeekFrom::Start(offset))?;
     file.write_all(bytes)
 }

@@ -1,10 +1,12 @@
 -- Steps of a connection.
 use Rattle.std.proofs.Common.{◌≡◌, ◌⊎◌, inl, inr, ℕ, ◌+◌, ◌-◌, ◌≤◌, ◌<◌, Bool, true, Option, Some, None, List, [], ◌∷◌, ◌++◌, length}
 use Rattle.std.proofs.Common.{refl, sym, ap, subst, ◌∙◌, append_assoc, Result, Ok, Err, arith, unwrap_or}
-use Rattle.std.specs.Prelude.{IfErr, IfSome, drop, take, min, OnOk, is_some, false, nat_lt, if◌then◌else◌}
-use Rattle.bw_model.specs.Wire.{Cut, Frame, Kind, Length, Name, Number, Payload, Reason}
-use Rattle.bw_model.specs.Replies.{Reply}
-use Rattle.std.proofs.lemmas.List.{append-nil, length-take}
+use Rattle.std.specs.Prelude.{IfErr, IfSome, take, min, OnOk, is_some, false, nat_lt, if◌then◌else◌}
+use Rattle.bw_model.specs.Wire.{framed, Cut, Frame, Kind, Length, Name, Number, Payload, Reason}
+use Rattle.bw_model.specs.Replies.{Reply, reply_body}
+use Rattle.bw_model.specs.Exchange.{replies_bytes}
+use Rattle.std.proofs.lemmas.Grind.{flat_map-append}
+use Rattle.std.proofs.lemmas.List.{append-nil, length-append, length-take}
 use Rattle.std.proofs.lemmas.Result.{IfErr-weaker}
 use Rattle.bw_wire.specs.declared.fault.WireFault.{WireFault}
 use Rattle.bw_wire.specs.Reasons.{reason_meaning}
@@ -13,10 +15,10 @@ use Rattle.bw_engine.specs.declared.exchange.Exchange.{Exchange}
 use Rattle.bw_engine.specs.declared.serving.ExchangeEnd.TheVariants as ends
 use Rattle.bw_engine.specs.declared.step.StreamEnd.{StreamEnd}
 use Rattle.bw_engine.specs.declared.step.StreamEnd.TheVariants as streams
-use Rattle.bw_engine.specs.Answering.{Answered}
-use Rattle.bw_engine.specs.Done.{AnswersSome, DoesMore, HasDone, MustWait}
+use Rattle.bw_engine.specs.Answering.{Answered, replies_of}
+use Rattle.bw_engine.specs.Bounds.{most_before_answer}
+use Rattle.bw_engine.specs.Done.{AnswersSome, DoesMore, HasDone, MustWait, last_of}
 use Rattle.bw_engine.proofs.Going.{does_none, does_on}
-use Rattle.std.proofs.Math.Seq.{drop-nil}
 use Rattle.bw_engine.specs.Ends.{IsFinal, end_so_far}
 use Rattle.bw_engine.specs.Parts.{wants_piece, end_of, waiting_in, pending_of}
 use Rattle.bw_engine.specs.Served.{ended_by}
@@ -30,7 +32,7 @@ use Rattle.bw_many.specs.Feeding.{Feeds, fault_to_drain, unless_cut}
 use Rattle.bw_many.specs.Lives.{EndsDrained, EndsServed, IsNoSilence, IsUpToDate, LetsGo, Moved, Reads, Sends, TellsFault}
 use Rattle.bw_many.specs.Lives.{EndsAs, Goes, IsInPhase, IsOpen, IsOver, KeepsPeer, Lives, Settles, Steps}
 use Rattle.bw_many.specs.Lives.{AnswersHeld, Begins, expired_at, expired_by, longest_drain, quantum, quiet_since}
-use Rattle.bw_many.specs.Lives.{IsDry, IsFinished, IsFull, Learns, StillTold, TellsFinish, WhereDrained}
+use Rattle.bw_many.specs.Lives.{HadToWait, IsDry, IsFinished, IsFull, Learns, StillTold, TellsFinish, WhereDrained}
 
 -- what a link did: it gave these bytes more, took these more, and stayed at its end, and finished
 pub record Moves {L : Type 0} (G : LinkGhosts L) (in_bytes out_bytes : List ℕ) (l l' : L) : Type 0 where
@@ -221,21 +223,20 @@ some_taken xs n some there = let l = length-take n xs in min_some n (length xs) 
     min_some : (i j k : ℕ) → k ≡ min i j → 1 ≤ i → 1 ≤ j → 1 ≤ k
     min_some i j k e f g = omega (arith, e, f, g)
 
--- and none of none
-pub none_left : (xs ys : List ℕ) (n : ℕ) → ys ≡ drop n xs → xs ≡ [] → ys ≡ []
-none_left xs ys n e none = e ∙ (ap (λ (x : List ℕ). drop n x) none ∙ drop-nil n)
-
 -- nothing was sent
 pub none_sent : {L : Type 0} (G : LinkGhosts L) (c c' : Connection L) → c'.exchange ≡ c.exchange →
     c'.readable ≡ c.readable → c'.writable ≡ c.writable →
-    (c.writable ≡ true → 1 ≤ length (waiting_in c.exchange) → ⊥) → Sends G c c'
-none_sent G c c' exchange readable writable none = record {
+    c'.link ≡ c.link → (c.writable ≡ true → 1 ≤ length (waiting_in c.exchange) → ⊥) → Sends G c c'
+none_sent G c c' exchange readable writable link none = record {
   bytes = [];
   does = subst (DoesMore c.exchange [] [] []) (sym exchange) (does_none c.exchange);
+  left = ap (λ (e : Exchange). waiting_in e) (sym exchange);
   some = λ room some. absurd (none room some);
-  up = λ up. subst IsUpToDate (sym exchange) up;
+  hungry = ap (λ (e : Exchange). wants_piece e) exchange;
+  ended = ap (λ (e : Exchange). end_of e) exchange;
   room = inl writable;
   readable = readable;
+  dry = λ dry. subst (λ l. G.dry l) (sym link) dry;
 }
 
 -- nothing was read
@@ -243,82 +244,166 @@ pub none_read : {L : Type 0} (G : LinkGhosts L) (c : Connection L) →
     (c.readable ≡ true → IsUpToDate c.exchange → ⊥) → Reads G c c
 none_read G c none = record {
   piece = [];
+  most = omega arith;
   does = does_none c.exchange;
   some = λ bytes up. absurd (none bytes up);
   told = inl refl;
+  held = λ waits. (refl, refl);
   writable = refl;
   full = λ full. full;
 }
 
+-- nothing is to be shown of replies that wait where none do
+pub none_held : {P : Type 0} (waiting : List ℕ) → waiting ≡ [] → 1 ≤ length waiting → P
+none_held waiting none some = absurd (omega (arith, ap (λ (x : List ℕ). length x) none, some))
+
 -- a piece that came was fed
 pub fed_reads : {L : Type 0} (G : LinkGhosts L) (r : Result (Unit {0}) ConnectionEnd) (c c' : Connection L)
     (piece : List ℕ) → c'.writable ≡ c.writable → c'.readable ≡ c.readable → (G.full c.link → G.full c'.link) →
-    1 ≤ length piece → Feeds piece r c.exchange c'.exchange → OnOk r (Reads G c c')
-fed_reads G (Ok x) c c' piece writable readable full some f = record {
+    waiting_in c.exchange ≡ [] → 1 ≤ length piece → length piece ≤ longest_piece →
+    Feeds piece r c.exchange c'.exchange → OnOk r (Reads G c c')
+fed_reads G (Ok x) c c' piece writable readable full none some most f = record {
   piece = piece;
+  most = most;
   does = f.0;
   some = λ bytes up. inl some;
   told = inl readable;
+  held = none_held (waiting_in c.exchange) none;
   writable = writable;
   full = full;
 }
-fed_reads G (Err end) c c' piece writable readable full some f = tt
+fed_reads G (Err end) c c' piece writable readable full none some most f = tt
 
--- What was told of room before a quantum reads, and of bytes before it answers, stands at its end.
-full_still : {L S : Type 0} (G : LinkGhosts L) (answers : S → Frame → List Reply → S → Type 0) (now : ℕ) (s s' : S)
-    (b c d e : Connection L) → Reads G b c → AnswersHeld G answers now c d s s' → e.writable ≡ d.writable →
-    StillTold G d.link e.link → IsFull G b → IsFull G e
-full_still G answers now s s' b c d e g h room told none = (
-  room ∙ (h.writable ∙ (g.writable ∙ none.0)),
-  told.full (subst (λ l. G.full l) (sym h.link) (g.full none.1)),
-)
+-- What was told of room as a quantum sends, and of bytes before it answers, stands at its end.
+full_still : {L : Type 0} (G : LinkGhosts L) (d e : Connection L) → e.writable ≡ d.writable →
+    StillTold G d.link e.link → IsFull G d → IsFull G e
+full_still G d e room told none = (room ∙ none.0, told.full none.1)
 
 dry_still : {L S : Type 0} (G : LinkGhosts L) (answers : S → Frame → List Reply → S → Type 0) (now : ℕ) (s s' : S)
-    (c d e : Connection L) → AnswersHeld G answers now c d s s' → e.readable ≡ d.readable →
-    StillTold G d.link e.link → IsDry G c → IsDry G e
-dry_still G answers now s s' c d e h bytes told none =
-    (bytes ∙ (h.readable ∙ none.0), told.dry (subst (λ l. G.dry l) (sym h.link) none.1))
+    (b c d e : Connection L) → AnswersHeld G answers now b c s s' → Sends G c d → e.readable ≡ d.readable →
+    StillTold G d.link e.link → IsDry G b → IsDry G e
+dry_still G answers now s s' b c d e h f bytes told none = (
+  bytes ∙ (f.readable ∙ (h.readable ∙ none.0)),
+  told.dry (f.dry (subst (λ l. G.dry l) (sym h.link) none.1)),
+)
 
--- a quantum sends, reads, answers, and looks at the end
+-- a piece was fed, then frames were answered, then bytes were taken
+does_in_turn : (a b c d : Exchange) (piece bytes : List ℕ) (answered : List Answered) → DoesMore a piece [] [] b →
+    DoesMore b [] answered [] c → DoesMore c [] [] bytes d → DoesMore a piece answered bytes d
+does_in_turn a b c d piece bytes answered f g h =
+    subst (λ (x : List ℕ). DoesMore a x answered bytes d) (append-nil piece)
+    (subst (λ (xs : List Answered). DoesMore a (piece ++ []) xs bytes d) (append-nil answered)
+    (does_on a b d piece [] [] (answered ++ []) [] bytes f (does_on b c d [] [] answered [] [] bytes g h)))
+
+-- one that had to wait before it sent
+had_to_wait : {L : Type 0} (G : LinkGhosts L) (c d : Connection L) (f : Sends G c d) → MustWait c.exchange →
+    HadToWait f.bytes d.exchange
+had_to_wait G c d f (inl (inl wants)) = inl (inl (f.hungry ∙ wants))
+had_to_wait G c d f (inl (inr over)) = inl (inr (ap (λ (x : Option StreamEnd). is_some x) f.ended ∙ over))
+had_to_wait G c d f (inr many) = inr (subst (λ (x : List ℕ). most_before_answer < length x) f.left many)
+
+-- some of what waited went, or nothing waits
+sent_or_none : (waiting bytes left : List ℕ) (Full Room : Type 0) → waiting ≡ bytes ++ left → Room →
+    (Room → 1 ≤ length waiting → (1 ≤ length bytes) ⊎ Full) → (left ≡ []) ⊎ (1 ≤ length bytes) ⊎ Full
+sent_or_none waiting [] [] Full Room is room some = inl refl
+sent_or_none waiting [] (x ∷ left) Full Room is room some =
+    inr (some room (omega (arith, ap (λ (x : List ℕ). length x) is)))
+sent_or_none waiting (x ∷ bytes) left Full Room is room some = inr (inl (omega arith))
+
+-- replies that wait go on waiting while frames are answered
+more_wait : (a b : Exchange) (answered : List Answered) (fed gone : List ℕ) (before : List Answered) →
+    HasDone fed before gone a → (is_some (end_of a) ≡ true → b ≡ a) → DoesMore a [] answered [] b →
+    length (waiting_in a) ≤ length (waiting_in b)
+more_wait a b answered fed gone before d over does = go (end_of a) refl
+  where
+    grown : (more : List Reply) (x y z : List ℕ) → gone ++ x ≡ replies_bytes (replies_of before ++ []) →
+        (gone ++ []) ++ y ≡ replies_bytes (replies_of (before ++ answered) ++ more) → length x ≤ length y
+    grown more x y z e f =
+        let n = ap (λ (v : List ℕ). length v) e in
+        let m = ap (λ (v : List ℕ). length v) f in
+        let one = ap (λ (v : List Reply). length (replies_bytes v)) (append-nil (replies_of before)) in
+        let two = ap (λ (v : List Reply). length (replies_bytes (v ++ more)))
+        (flat_map-append (λ (v : Answered). v.replies) before answered) in
+        let three = ap (λ (v : List Reply). length (replies_bytes v))
+        (append_assoc (replies_of before) (replies_of answered) more) in
+        let four = ap (λ (v : List ℕ). length v)
+        (flat_map-append (λ (r : Reply). framed (reply_body r)) (replies_of before) (replies_of answered ++ more)) in
+        let five = length-append gone x in
+        let six = length-append (gone ++ []) y in
+        let seven = ap (λ (v : List ℕ). length v) (append-nil gone) in
+        let eight = length-append (replies_bytes (replies_of before)) (replies_bytes (replies_of answered ++ more)) in
+        omega (arith, n, m, one, two, three, four, five, six, seven, eight)
+
+    go : (e : Option StreamEnd) → end_of a ≡ e → length (waiting_in a) ≤ length (waiting_in b)
+    go (Some end) is =
+        subst (λ (x : Exchange). length (waiting_in a) ≤ length (waiting_in x))
+        (sym (over (ap (λ (x : Option StreamEnd). is_some x) is))) (omega arith)
+    go None is =
+        grown (last_of (end_so_far (end_of b))) (waiting_in a) (waiting_in b) []
+        (d.written ∙ ap (λ (x : Option StreamEnd). replies_bytes (replies_of before ++ last_of (end_so_far x))) is)
+        (does fed before gone d).written
+
+-- a quantum reads, answers, sends, and looks at the end
 pub moved_on : {L S : Type 0} (G : LinkGhosts L) (answers : S → Frame → List Reply → S → Type 0) (now : ℕ) (s s' : S)
-    (r : Result (Unit {0}) ConnectionEnd) (a b c d e : Connection L) → Sends G a b → Reads G b c →
-    (h : AnswersHeld G answers now c d s s') → Settles now r d e → StillTold G d.link e.link →
+    (r : Result (Unit {0}) ConnectionEnd) (a b c d e : Connection L) → Reads G a b →
+    (h : AnswersHeld G answers now b c s s') → Sends G c d → Settles now r d e → StillTold G d.link e.link →
     OnOk r (Moved G a h.answered e)
-moved_on G answers now s s' (Err end) a b c d e f g h k told = tt
-moved_on G answers now s s' (Ok x) a b c d e f g h k told = record {
-  piece = g.piece ++ [];
-  bytes = f.bytes ++ [];
-  does = subst (DoesMore a.exchange (g.piece ++ []) h.answered (f.bytes ++ [])) (sym k.1)
-      (does_on a.exchange b.exchange d.exchange [] (g.piece ++ []) [] h.answered f.bytes [] f.does
-      (does_on b.exchange c.exchange d.exchange g.piece [] [] h.answered [] [] g.does h.does));
-  sends = λ room some. sends (f.some room some);
-  reads = λ bytes up. reads (g.some (f.readable ∙ bytes) (f.up up));
+moved_on G answers now s s' (Err end) a b c d e g h f k told = tt
+moved_on G answers now s s' (Ok x) a b c d e g h f k told = record {
+  piece = g.piece;
+  bytes = f.bytes;
+  most = g.most;
+  does = subst (DoesMore a.exchange g.piece h.answered f.bytes) (sym k.1)
+      (does_in_turn a.exchange b.exchange c.exchange d.exchange g.piece f.bytes h.answered g.does h.does f.does);
+  reads = λ bytes up. reads (g.some bytes up);
+  held = λ some. (g.held some).0;
+  waits = λ few. subst (HadToWait f.bytes) (sym k.1) (had_to_wait G c d f (h.waits few));
+  sends = λ room. subst (λ (x : Exchange). (waiting_in x ≡ []) ⊎ (1 ≤ length f.bytes) ⊎ IsFull G e) (sym k.1)
+      (sent_or_none (waiting_in c.exchange) f.bytes (waiting_in d.exchange) (IsFull G e) (a.writable ≡ true) f.left room
+      some_sent);
+  sends_waiting = λ fed gone before done room some. some_sent room (waits_on fed gone before done some);
 }
   where
-    sends : (1 ≤ length f.bytes) ⊎ IsFull G b → (1 ≤ length (f.bytes ++ [])) ⊎ IsFull G e
-    sends (inl n) = inl (subst (λ (x : List ℕ). 1 ≤ length x) (sym (append-nil f.bytes)) n)
-    sends (inr none) = inr (full_still G answers now s s' b c d e g h k.5 told none)
+    reads : (1 ≤ length g.piece) ⊎ (is_some (end_of b.exchange) ≡ true) ⊎ IsDry G b →
+        (1 ≤ length g.piece) ⊎ (is_some (end_of e.exchange) ≡ true) ⊎ IsDry G e
+    reads (inl n) = inl n
+    reads (inr (inl ended)) =
+        let still = ap (λ (x : Exchange). is_some (end_of x)) (h.over ended) in
+        let left = ap (λ (x : Option StreamEnd). is_some x) f.ended in
+        inr (inl (ap (λ (x : Exchange). is_some (end_of x)) k.1 ∙ (left ∙ (still ∙ ended))))
+    reads (inr (inr none)) = inr (inr (dry_still G answers now s s' b c d e h f k.4 told none))
 
-    reads : (1 ≤ length g.piece) ⊎ (is_some (end_of c.exchange) ≡ true) ⊎ IsDry G c →
-        (1 ≤ length (g.piece ++ [])) ⊎ (is_some (end_of e.exchange) ≡ true) ⊎ IsDry G e
-    reads (inl n) = inl (subst (λ (x : List ℕ). 1 ≤ length x) (sym (append-nil g.piece)) n)
-    reads (inr (inl ended)) = inr (inl (ap (λ (x : Exchange). is_some (end_of x)) k.1 ∙ h.ended ended))
-    reads (inr (inr none)) = inr (inr (dry_still G answers now s s' c d e h k.4 told none))
+    stands : (1 ≤ length f.bytes) ⊎ IsFull G d → (1 ≤ length f.bytes) ⊎ IsFull G e
+    stands (inl n) = inl n
+    stands (inr none) = inr (full_still G d e k.5 told none)
+
+    some_sent : a.writable ≡ true → 1 ≤ length (waiting_in c.exchange) → (1 ≤ length f.bytes) ⊎ IsFull G e
+    some_sent room some = stands (f.some (h.writable ∙ (g.writable ∙ room)) some)
+
+    waits_on : (fed gone : List ℕ) (before : List Answered) → HasDone fed before gone a.exchange →
+        1 ≤ length (waiting_in a.exchange) → 1 ≤ length (waiting_in c.exchange)
+    waits_on fed gone before done some =
+        let same = (g.held some).1 in
+        let more = more_wait b.exchange c.exchange h.answered fed gone before
+        (subst (HasDone fed before gone) (sym same) done) h.over h.does in
+        let first = ap (λ (x : Exchange). length (waiting_in x)) same in
+        omega (arith, more, first, some)
 
 -- what it learns of bytes and room
 pub learns_on : {L S : Type 0} (G : LinkGhosts L) (answers : S → Frame → List Reply → S → Type 0) (now : ℕ) (s s' : S)
-    (r : Result (Unit {0}) ConnectionEnd) (a b c d e : Connection L) → Sends G a b → Reads G b c →
-    AnswersHeld G answers now c d s s' → Settles now r d e → StillTold G d.link e.link → OnOk r (Learns G a e)
-learns_on G answers now s s' (Err end) a b c d e f g h k told = tt
-learns_on G answers now s s' (Ok x) a b c d e f g h k told = record { bytes = bytes g.told; room = room f.room }
+    (r : Result (Unit {0}) ConnectionEnd) (a b c d e : Connection L) → Reads G a b →
+    AnswersHeld G answers now b c s s' → Sends G c d → Settles now r d e → StillTold G d.link e.link →
+    OnOk r (Learns G a e)
+learns_on G answers now s s' (Err end) a b c d e g h f k told = tt
+learns_on G answers now s s' (Ok x) a b c d e g h f k told = record { bytes = bytes g.told; room = room f.room }
   where
-    bytes : (c.readable ≡ b.readable) ⊎ IsDry G c → (e.readable ≡ a.readable) ⊎ IsDry G e
-    bytes (inl same) = inl (k.4 ∙ (h.readable ∙ (same ∙ f.readable)))
-    bytes (inr none) = inr (dry_still G answers now s s' c d e h k.4 told none)
+    bytes : (b.readable ≡ a.readable) ⊎ IsDry G b → (e.readable ≡ a.readable) ⊎ IsDry G e
+    bytes (inl same) = inl (k.4 ∙ (f.readable ∙ (h.readable ∙ same)))
+    bytes (inr none) = inr (dry_still G answers now s s' b c d e h f k.4 told none)
 
-    room : (b.writable ≡ a.writable) ⊎ IsFull G b → (e.writable ≡ a.writable) ⊎ IsFull G e
-    room (inl same) = inl (k.5 ∙ (h.writable ∙ (g.writable ∙ same)))
-    room (inr none) = inr (full_still G answers now s s' b c d e g h k.5 told none)
+    room : (d.writable ≡ c.writable) ⊎ IsFull G d → (e.writable ≡ a.writable) ⊎ IsFull G e
+    room (inl same) = inl (k.5 ∙ (same ∙ (h.writable ∙ g.writable)))
+    room (inr none) = inr (full_still G d e k.5 told none)
 
 -- of the same connections
 pub learns_at : {L : Type 0} (G : LinkGhosts L) (was c new c' : Connection L) → was ≡ c → new ≡ c' → Learns G was new →
@@ -449,11 +534,6 @@ pub open_left : {L : Type 0} (now : ℕ) (r : Result (Unit {0}) ConnectionEnd) (
 open_left now (Ok x) c c' s = s.3
 open_left now (Err end) c c' s = tt
 
-pub waits_left : {L : Type 0} (now : ℕ) (r : Result (Unit {0}) ConnectionEnd) (c c' : Connection L) (P : Type 0) →
-    Settles now r c c' → (P → MustWait c.exchange) → OnOk r (c'.phase ≡ phases.Serving → P → MustWait c'.exchange)
-waits_left now (Ok x) c c' P s w = λ serving p. subst MustWait (sym s.1) (w p)
-waits_left now (Err end) c c' P s w = tt
-
 -- the time is told of one that had the same
 pub quiet_as : {L : Type 0} (now later : ℕ) (p : Phase) (answered : List Answered) (c d : Connection L)
     (r : Result (Unit {0}) ConnectionEnd) → c.phase ≡ d.phase → c.since ≡ d.since →
@@ -494,7 +574,7 @@ answers_held {L} G answers now count s s' c c' serving running link readable wri
       (subst (λ (l : L). Moves G [] [] c.link l) (sym link) (still G c.link)) h.0.does
       (λ before fed gone d was. new_end G c'.link (end_of c'.exchange) (h.0.final running fed before gone d));
   does = h.0.does;
-  ended = λ over. (let both = sym running ∙ over in absurd cc);
+  over = λ over. (let both = sym running ∙ over in absurd cc);
   waits = h.0.stops;
   link = link;
   readable = readable;
@@ -514,7 +594,7 @@ answers_none G answers now s c serving over = record {
   most = omega arith;
   steps = λ before l. subst (Lives G c) (sym (append-nil before)) l;
   does = does_none c.exchange;
-  ended = λ over. over;
+  over = λ over. refl;
   waits = λ few. inl (inr over);
   link = refl;
   readable = refl;

@@ -13,7 +13,8 @@ use Rattle.bw_engine.specs.declared.serving.ExchangeEnd.TheVariants as ends
 use Rattle.bw_engine.specs.declared.step.StreamEnd.{StreamEnd}
 use Rattle.bw_engine.specs.declared.step.StreamEnd.TheVariants as streams
 use Rattle.bw_engine.specs.Answering.{Answered, AnswersAll}
-use Rattle.bw_engine.specs.Done.{DoesMore, HasDone, MustWait}
+use Rattle.bw_engine.specs.Bounds.{most_before_answer}
+use Rattle.bw_engine.specs.Done.{DoesMore, HasDone, IsIdle, MustWait}
 use Rattle.bw_engine.specs.Ends.{IsFinal, end_so_far, end_meaning}
 use Rattle.bw_engine.specs.Parts.{wants_piece, end_of, waiting_in, pending_of}
 use Rattle.bw_engine.specs.Served.{ended_by}
@@ -74,34 +75,56 @@ pub record StillTold {L : Type 0} (G : LinkGhosts L) (l l' : L) : Type 0 where
 pub record Sends {L : Type 0} (G : LinkGhosts L) (c c' : Connection L) : Type 0 where
   pub bytes : List ℕ
   pub does : DoesMore c.exchange [] [] bytes c'.exchange
+  -- just these are gone, from the front of those that waited
+  pub left : waiting_in c.exchange ≡ bytes ++ waiting_in c'.exchange
   pub some : c.writable ≡ true → 1 ≤ length (waiting_in c.exchange) →
       (1 ≤ length bytes) ⊎ IsFull G c'
-  pub up : IsUpToDate c.exchange → IsUpToDate c'.exchange
+  pub hungry : wants_piece c'.exchange ≡ wants_piece c.exchange
+  pub ended : end_of c'.exchange ≡ end_of c.exchange
   pub room : (c'.writable ≡ c.writable) ⊎ IsFull G c'
   pub readable : c'.readable ≡ c.readable
+  pub dry : G.dry c.link → G.dry c'.link
 
 -- what reading comes to: a piece was fed, where one is wanted and there might be bytes, or no more
 -- will come, or the link told that there are none now
 pub record Reads {L : Type 0} (G : LinkGhosts L) (c c' : Connection L) : Type 0 where
   pub piece : List ℕ
+  pub most : length piece ≤ longest_piece
   pub does : DoesMore c.exchange piece [] [] c'.exchange
   pub some : c.readable ≡ true → IsUpToDate c.exchange →
       (1 ≤ length piece) ⊎ (is_some (end_of c'.exchange) ≡ true) ⊎ IsDry G c'
   pub told : (c'.readable ≡ c.readable) ⊎ IsDry G c'
+  -- while replies wait nothing is fed, and the exchange stays as it is
+  pub held : 1 ≤ length (waiting_in c.exchange) → (piece ≡ []) × (c'.exchange ≡ c.exchange)
   pub writable : c'.writable ≡ c.writable
   pub full : G.full c.link → G.full c'.link
 
--- What a quantum of one that is served moved: as sending and reading say, with these frames
--- answered behind them.
+-- before these bytes were taken nothing more could be answered until a piece was fed or bytes were
+-- taken, or ever
+abbrev pub HadToWait : List ℕ → Exchange → Type 0
+HadToWait bytes e = IsIdle e ⊎ (most_before_answer < length (bytes ++ waiting_in e))
+
+-- What a quantum of one that is served moved: it read, then these frames were answered, then it sent.
 pub record Moved {L : Type 0} (G : LinkGhosts L) (c : Connection L) (answered : List Answered)
     (c' : Connection L) : Type 0 where
   pub piece : List ℕ
   pub bytes : List ℕ
+  pub most : length piece ≤ longest_piece
   pub does : DoesMore c.exchange piece answered bytes c'.exchange
-  pub sends : c.writable ≡ true → 1 ≤ length (waiting_in c.exchange) →
-      (1 ≤ length bytes) ⊎ IsFull G c'
   pub reads : c.readable ≡ true → IsUpToDate c.exchange →
       (1 ≤ length piece) ⊎ (is_some (end_of c'.exchange) ≡ true) ⊎ IsDry G c'
+  -- while replies wait nothing is read
+  pub held : 1 ≤ length (waiting_in c.exchange) → piece ≡ []
+  -- fewer frames than a quantum were answered only where the exchange had to wait
+  pub waits : length answered < quantum → HadToWait bytes c'.exchange
+  -- where there might be room, no replies wait any longer, also none to these frames; or some bytes
+  -- of replies went, or there is no room now
+  pub sends : c.writable ≡ true →
+      (waiting_in c'.exchange ≡ []) ⊎ (1 ≤ length bytes) ⊎ IsFull G c'
+  -- some went where replies waited before, whatever was done before
+  pub sends_waiting : (fed gone : List ℕ) (before : List Answered) →
+      HasDone fed before gone c.exchange → c.writable ≡ true →
+      1 ≤ length (waiting_in c.exchange) → (1 ≤ length bytes) ⊎ IsFull G c'
 
 -- how a connection's exchange stands where it ended so, and what it was not fed of what the link
 -- gave
@@ -262,7 +285,8 @@ module _ {L : Type 0} (G : LinkGhosts L) where
     pub most : length answered ≤ quantum
     pub steps : Steps c answered c'
     pub does : DoesMore c.exchange [] answered [] c'.exchange
-    pub ended : is_some (end_of c.exchange) ≡ true → is_some (end_of c'.exchange) ≡ true
+    -- where its stream has ended nothing is answered
+    pub over : is_some (end_of c.exchange) ≡ true → c'.exchange ≡ c.exchange
     pub waits : length answered < quantum → MustWait c'.exchange
     pub link : c'.link ≡ c.link
     pub readable : c'.readable ≡ c.readable
@@ -271,8 +295,7 @@ module _ {L : Type 0} (G : LinkGhosts L) where
     pub phase : c'.phase ≡ c.phase
     pub since : c'.since ≡ quiet_since now c.since c.phase c.phase answered
 
-  -- A quantum of a connection, at this time: the server answered so many frames of it, and, where
-  -- it goes on being served, fewer than a quantum only where the exchange must wait.
+  -- A quantum of a connection, at this time: the server answered so many frames of it.
   pub record Works {S : Type 0} (answers : S → Frame → List Reply → S → Type 0) (now : ℕ)
       (result : Result (Unit {0}) ConnectionEnd) (c c' : Connection L) (s s' : S) : Type 0 where
     pub answered : List Answered
@@ -281,8 +304,6 @@ module _ {L : Type 0} (G : LinkGhosts L) where
     pub goes : Goes result c answered c'
     pub peer : KeepsPeer G c.link c'.link
     pub number : c'.number ≡ c.number
-    pub waits : OnOk result (c'.phase ≡ phases.Serving → length answered < quantum →
-        MustWait c'.exchange)
     pub since : OnOk result (c'.since ≡ quiet_since now c.since c.phase c'.phase answered)
     pub unended : OnOk result (IsOpen c')
     pub moved : c.phase ≡ phases.Serving → OnOk result (Moved G c answered c')

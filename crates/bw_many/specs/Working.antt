@@ -1,10 +1,9 @@
 -- A quantum of the connection at a place.
-use Rattle.std.specs.Prelude.{◌≡◌, ◌≢◌, ℕ, ◌+◌, ◌≤◌, ◌<◌, Bool, ◌||◌, Option, None, IfSome}
+use Rattle.std.specs.Prelude.{◌≡◌, ◌≢◌, ℕ, ◌+◌, ◌≤◌, Bool, ◌||◌, Option, None, IfSome}
 use Rattle.std.specs.Prelude.{List, [], length, slice_get}
 use Rattle.bw_model.specs.Wire.{Frame}
 use Rattle.bw_model.specs.Replies.{Reply}
 use Rattle.bw_engine.specs.Answering.{Answered, AnswersAll}
-use Rattle.bw_engine.specs.Done.{MustWait}
 use Rattle.bw_wire.specs.declared.fault.WireFault.{WireFault}
 use Rattle.bw_many.specs.declared.connection.Connection.{Connection}
 use Rattle.bw_many.specs.declared.connection.Phase.TheVariants as phases
@@ -65,8 +64,7 @@ WakesAt {L} place bytes room m m' = (c : Connection L) → StandsAt m place c �
     (c' : Connection L) × StandsAt m' place c' × Wakes bytes room c c'
 
 -- At this time the server answered so many frames of the connection at this place, which may be
--- over behind them; and, where it goes on being served, fewer than a quantum only where its exchange
--- must wait. It is over, or drained, once its stream has ended and all replies are out.
+-- over behind them. It is over, or drained, once its stream has ended and all replies are out.
 pub record WorksAt {L S : Type 0} (G : LinkGhosts L) (answers : S → Frame → List Reply → S → Type 0)
     (place now : ℕ) (closed : Option (Closed L)) (m m' : Many L) (s s' : S) : Type 0 where
   pub number : ℕ
@@ -80,12 +78,11 @@ pub record WorksAt {L S : Type 0} (G : LinkGhosts L) (answers : S → Frame → 
   pub nobody : IsEmpty place m → (answered ≡ []) × (closed ≡ None)
   pub adds : Adds G m (tagged number answered) (those closed) m'
   pub others : StaysAt place m m'
-  pub waits : (c : Connection L) → StandsAt m' place c → c.phase ≡ phases.Serving →
-      length answered < quantum → MustWait c.exchange
   pub unended : (c : Connection L) → StandsAt m' place c → IsOpen c
   pub since : (c c' : Connection L) → StandsAt m place c → StandsAt m' place c' →
       c'.since ≡ quiet_since now c.since c.phase c'.phase answered
-  -- one that goes on was sent to and read from where that was possible
+  -- one that goes on was read from and sent to where that was possible, and fewer frames than a
+  -- quantum were answered only where its exchange had to wait
   pub moved : (c c' : Connection L) → StandsAt m place c → StandsAt m' place c' →
       c.phase ≡ phases.Serving → Moved G c answered c'
   pub lets_go : (c c' : Connection L) (fault : WireFault) → StandsAt m place c →

@@ -119,9 +119,9 @@ impl<L: Link> Connection<L> {
         }
     }
 
-    /// One quantum: some of the bytes that wait go out, a piece comes in where one is wanted, and
-    /// frames are answered. No piece comes in before all replies are out: from one who doesn't read
-    /// its replies nothing more is read.
+    /// One quantum: a piece comes in where one is wanted, frames are answered, and some of the bytes
+    /// that wait go out, so that a reply leaves in the quantum in which it is made. No piece comes in
+    /// before all replies are out: from one who doesn't read its replies nothing more is read.
     ///
     /// # Errors
     /// How the connection ended.
@@ -137,9 +137,9 @@ impl<L: Link> Connection<L> {
         if let Phase::Draining(fault) = self.phase {
             return self.drain(fault, buffer);
         }
-        self.send_waiting()?;
         self.receive_piece(buffer)?;
         self.answer_held(server, now);
+        self.send_waiting()?;
         self.settle(now)
     }
 

@@ -85,6 +85,7 @@ pub trait Link {
         ensures fault { result ≡ Sent.Failed → broken self.new }
         ensures nothing { result ≡ Sent.Nothing → full self.new }
         ensures ended { ended self.old → ended self.new }
+        ensures dry { dry self.old → dry self.new }
         ensures finished { finished self.old → finished self.new }
         ensures peer { (p : SocketAddr) → calls_from self.old p → calls_from self.new p };
 

@@ -172,8 +172,8 @@ impl<L: Link + Drop> Many<L> {
         put_at(&mut self.places, place, connection);
     }
 
-    /// One quantum of the connection at a place, at a time in milliseconds. The connection, where it
-    /// is over.
+    /// One quantum of the connection at a place, at a time in milliseconds: it reads, then answers,
+    /// then sends. The connection, where it is over.
     ///
     /// At most 64 frames are answered. `buffer` has at most 65,536 bytes.
     ///

@@ -39,8 +39,8 @@ const BYE: Visit = Visit {
 const FOUR_ENDS: &[Visit] = &[BROKEN_WRITE, BROKEN_READ, QUICK, BYE];
 
 /// In the order in which they end.
-const FOUR_LINES: &[u8] = b"exchange 0 Bye\nexchange 1 ReadFault\n\
-    exchange 2 EndOfInput\nexchange 3 WriteFault\n";
+const FOUR_LINES: &[u8] = b"exchange 0 Bye\nexchange 1 WriteFault\n\
+    exchange 2 ReadFault\nexchange 3 EndOfInput\n";
 
 const FOUR: Bounds = Bounds {
     places: 4,

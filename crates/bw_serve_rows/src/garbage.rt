@@ -95,17 +95,17 @@ fn has_no_file(rt: &impl Abort, came: &Came) {
 
 #[test]
 fn what_follows_a_bad_frame_is_let_go(rt: HostRuntime) -> Result<(), Fail> {
-    // the frame, the reply, three pieces and a pause, the end
-    is_bad(&rt, rt.alloc(), IN_PIECES, 62, 700)
+    // the frame and its reply, three pieces and a pause, the end
+    is_bad(&rt, rt.alloc(), IN_PIECES, 62, 600)
 }
 
 #[test]
 fn who_sends_on_behind_a_bad_frame_is_ended(rt: HostRuntime) -> Result<(), Fail> {
-    // shut after 200 milliseconds, ended more than 2,000 later, a byte in each of the rounds 3 to 23
-    is_bad(&rt, rt.alloc(), WITHOUT_END, 25, 2_300)
+    // shut after 100 milliseconds, ended more than 2,000 later, a byte in each of the rounds 2 to 22
+    is_bad(&rt, rt.alloc(), WITHOUT_END, 25, 2_200)
 }
 
 #[test]
 fn a_link_that_breaks_behind_a_bad_frame_is_no_other_end(rt: HostRuntime) -> Result<(), Fail> {
-    is_bad(&rt, rt.alloc(), BROKEN, 10, 300)
+    is_bad(&rt, rt.alloc(), BROKEN, 10, 200)
 }

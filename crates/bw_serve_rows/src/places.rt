@@ -40,9 +40,9 @@ fn the_next_is_let_in_where_a_place_is_free(rt: HostRuntime) -> Result<(), Fail>
     is_over(&rt, &came, Exit::Done, lines);
     is_told(&rt, &came, 1, OTHERS);
     is_told(&rt, &came, 2, VERDICTS);
-    // each is over in its second round
+    // the first is over in its second round, at its end; the second in its first one, at its Bye
     same(&rt, "the second", &came.hall.round_and_place(1), &(3, 0));
-    same(&rt, "the third", &came.hall.round_and_place(2), &(5, 0));
+    same(&rt, "the third", &came.hall.round_and_place(2), &(4, 0));
     Ok(())
 }
 
@@ -53,7 +53,7 @@ fn no_more_are_let_in_than_are_wanted(rt: HostRuntime) -> Result<(), Fail> {
         &rt,
         &came,
         Exit::Done,
-        b"exchange 0 EndOfInput\nexchange 1 Bye\n",
+        b"exchange 0 Bye\nexchange 1 EndOfInput\n",
     );
     same(&rt, "how many came", &came.hall.let_in(), &2);
     same(&rt, "the second", &came.hall.round_and_place(1), &(1, 1));

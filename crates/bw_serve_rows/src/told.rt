@@ -73,7 +73,7 @@ fn replies_are_sent_once_room_is_told(rt: HostRuntime) -> Result<(), Fail> {
 #[test]
 fn bytes_and_end_are_read_without_being_told_again(rt: HostRuntime) -> Result<(), Fail> {
     let came = serve(rt.alloc(), &bounds(2), plan(BOTH, Tells::Nothing))?;
-    let lines = b"exchange 0 EndOfInput\nexchange 1 Bye\n";
+    let lines = b"exchange 0 Bye\nexchange 1 EndOfInput\n";
     is_over(&rt, &came, Exit::Done, lines);
     is_told(&rt, &came, 0, VERDICTS);
     is_told(&rt, &came, 1, OTHERS);

@@ -21,3 +21,4 @@ pub mod TellForms
 pub mod JournalForms
 pub mod SettledForms
 pub mod UseForms
+pub mod AskForms

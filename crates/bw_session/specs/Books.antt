@@ -11,7 +11,8 @@ use Rattle.bw_wire.specs.declared.reply.Reply.{Reply}
 use Rattle.bw_wire.specs.Replies.{reply_of}
 use Rattle.bw_session.specs.Numbered.{failed_calls}
 use Rattle.bw_session.specs.Tables.{session_in}
-use Rattle.bw_session.specs.Servers.{kept_in, store_since}
+use Rattle.bw_session.specs.Asking.{AsksInTurn}
+use Rattle.bw_session.specs.Servers.{kept_in, part_in, store_since}
 use Rattle.bw_session.specs.Journaled.{NotesNames}
 use Rattle.bw_session.specs.declared.server.Server.{Server}
 
@@ -39,6 +40,12 @@ module _ {X Y : Type 0} (S : StoreGhosts X) (J : JournalGhosts Y) where
     pub turned : IsTurn (λ name. is_some (first name)) (failures_of old) (failures_of new) book
         (Says m) (map reply_of replies) later
     pub held : HoldsBook first new later
+
+  -- What the store was asked for each number of the message's name that was done in its turn.
+  abbrev pub AsksTurn : Server X Y S J → Server X Y S J → Message → Type 0
+  AsksTurn old new m =
+      AsksInTurn S m (part_in old.sessions old.limit m.name) old.stores.store
+      (part_in new.sessions old.limit m.name) new.stores.store
 
 -- what a known name's log tells
 abbrev pub of_known : {A : Type 0} → Book → List ℕ → (Log → A) → Option A

@@ -18,3 +18,6 @@ pub mod Servers
 pub mod Journaled
 pub mod Books
 pub mod Settled
+pub mod KeptParts
+pub mod Judging
+pub mod Asking

@@ -5,6 +5,9 @@ use Rattle.bw_model.specs.Holds.{Store, Kept}
 use Rattle.bw_file.specs.declared.store.TakeStore.{Ghosts as StoreGhosts}
 use Rattle.bw_session.specs.Draining.{kept_as}
 use Rattle.bw_session.specs.Tables.{Table, session_in}
+use Rattle.bw_session.specs.KeptParts.{Part}
+use Rattle.bw_session.specs.Sessions.{part_of}
+use Rattle.bw_session.specs.Asking.{new_part}
 use Rattle.bw_session.specs.declared.session.Session.{Session}
 
 -- what a session keeps of its name
@@ -27,3 +30,8 @@ store_since S first store = record {
 abbrev pub done_in : {H : Type 0} → Table H → List ℕ → ℕ
 done_in sessions name =
     option_map_or (λ s. length s.progress.ledger.outcomes) (session_in sessions name) 0
+
+-- what a server with this limit keeps and holds of a name
+abbrev pub part_in : {H : Type 0} → Table H → ℕ → List ℕ → Part
+part_in sessions limit name =
+    option_map_or part_of (session_in sessions name) (new_part name limit)

@@ -1,18 +1,10 @@
 -- What a session has to do with its name's log.
 use Rattle.std.specs.Prelude.{◌≡◌, ◌≤◌, ◌+◌, ◌*◌, ℕ, Bool, Option, List, if◌then◌else◌}
-use Rattle.bw_model.specs.Take.{Parts, Verdict}
 use Rattle.bw_model.specs.Book.{Log}
-use Rattle.bw_file.specs.Growing.{Growing}
 use Rattle.bw_session.specs.Draining.{HoldsPart}
+pub use Rattle.bw_session.specs.KeptParts.{Part}
 use Rattle.bw_session.specs.declared.numbering.Progress.{Progress}
 use Rattle.bw_session.specs.declared.session.Session.{Session}
-
--- what is kept and held of a name
-pub record Part : Type 0 where
-  pub parts : Parts
-  pub outcomes : List (List ℕ × Verdict)
-  pub window : List (Option (List ℕ))
-  pub growing : Growing
 
 -- a session's part
 abbrev pub part_of : Session → Part

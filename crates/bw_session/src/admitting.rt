@@ -11,6 +11,7 @@ ghost use Rattle.bw_journal.specs.JournalHeaders.{Header};
 ghost use Rattle.bw_session.specs.Windows.{count_held};
 ghost use Rattle.bw_session.specs.Noting.{IsNoted};
 ghost use Rattle.bw_session.specs.Admitting.{with_message};
+ghost use Rattle.bw_session.specs.Asking.{window_with};
 
 use crate::body::HeldBody;
 use crate::session::Session;
@@ -65,6 +66,8 @@ impl Session {
         requires digest { digest ≡ sha256 (message_body (message_of message.now)) }
         ensures progress { KeepsProgress self.old.progress self.new.progress }
         ensures err { OnErr result (self.new.window ≡ self.old.window) }
+        ensures held { OnOk result (self.new.window ≡ window_with self.old.window
+            (length self.old.progress.ledger.outcomes) (message_of message.now)) }
         ensures ok { OnOk result ((first : Option (List ℕ)) (log : Log)
             (found : Option (List ℕ)) → HoldsLog first log (part_of self.old) found →
             HoldsLog first (with_message log (message_of message.now)) (part_of self.new) found) }

@@ -11,6 +11,7 @@ ghost use Rattle.bw_session.specs.Numbered.{KeepsBoth};
 ghost use Rattle.bw_session.specs.Noting.{IsNoted};
 ghost use Rattle.bw_session.specs.Draining.{DrainsNext, drained_by, drained_log, drained_count};
 ghost use Rattle.bw_session.specs.Admitting.{with_message};
+ghost use Rattle.bw_session.specs.Asking.{AsksNext, holding};
 
 use crate::body::HeldBody;
 use crate::numbering::Stores;
@@ -50,6 +51,9 @@ impl Session {
         ensures calls { S.calls stores.new.store ≤ S.calls stores.old.store + 4 }
         ensures done { IfOk result (λ answer. length self.new.progress.ledger.outcomes
             ≡ length self.old.progress.ledger.outcomes + drained_count (drained_by answer)) }
+        ensures asked { IfOk result (λ answer. AsksNext S.TakeStore (drained_by answer)
+            (holding (part_of self.old) (message_of message.now)) stores.old.store
+            (part_of self.new) stores.new.store) }
         ensures take { KeepsTake self.old self.new }
         ensures progress { OnErr result (KeepsProgress self.old.progress self.new.progress) }
         ensures window { OnErr result (self.new.window ≡ self.old.window) }

@@ -7,6 +7,8 @@ ghost use Rattle.bw_session.specs.Numbered.{KeepsBoth};
 ghost use Rattle.bw_session.specs.Noting.{IsNoted};
 ghost use Rattle.bw_session.specs.Draining.{Fits, HoldsPart, DrainsNext, is_stopped, drained_log};
 ghost use Rattle.bw_session.specs.Draining.{call_bound, drained_count, IsTried};
+ghost use Rattle.bw_session.specs.KeptParts.{part};
+ghost use Rattle.bw_session.specs.Asking.{AsksNext, DoesRun};
 
 use crate::numbering::{Progress, Stores};
 use crate::session::Session;
@@ -47,6 +49,11 @@ pub(crate) fn drain_one<S: TakeStore, J: Journal>(
         ≡ length progress.old.ledger.outcomes + drained_count result }
     ensures number { IsTried result (length progress.old.ledger.outcomes) }
     ensures slots { length window.old ≡ 16 }
+    ensures asked { AsksNext S.TakeStore result
+        (part progress.old.state.parts progress.old.ledger.outcomes window.old progress.old.growing)
+        stores.old.store
+        (part progress.new.state.parts progress.new.ledger.outcomes window.new progress.new.growing)
+        stores.new.store }
     ensures name { progress.new.name ≡ progress.old.name }
     ensures known { progress.new.growing ≡ record progress.old.growing {
       made = progress.new.growing.made;
@@ -101,6 +108,8 @@ impl Session {
         ensures calls { CallsFew (S.calls stores.old.store) (S.calls stores.new.store)
             (length self.old.progress.ledger.outcomes) (length self.new.progress.ledger.outcomes)
             result }
+        ensures asked { DoesRun S.TakeStore result (part_of self.old) stores.old.store
+            (part_of self.new) stores.new.store }
         ensures take { KeepsTake self.old self.new }
         ensures few { length out.new.items ≤ 16 }
         ensures served { All IsServing out.old.items → All IsServing out.new.items }

@@ -1,7 +1,7 @@
 //! Doing the next number of a name: in the file, then in the journal, then in what is kept.
 ghost use Rattle.std.specs.Prelude.{◌≡◌, ◌≢◌, ◌+◌, ◌≤◌, ◌||◌, ◌++◌, [], ◌∷◌, ℕ, List, Option};
 ghost use Rattle.std.specs.Prelude.{vec_capacity, length, IsTrue, IfOk, OnOk, OnErr, is_err};
-ghost use Rattle.std.specs.Prelude.{is_some, false};
+ghost use Rattle.std.specs.Prelude.{is_some, false, Bool};
 ghost use Rattle.bw_model.specs.Wire.{is_request, Second, last_number};
 ghost use Rattle.bw_model.specs.Take.{judge as verdict_on, is_stored};
 ghost use Rattle.bw_model.specs.Book.{Log};
@@ -9,9 +9,10 @@ ghost use Rattle.bw_take.specs.Requests.{meaning};
 ghost use Rattle.bw_take.specs.Verdicts.{verdict_meaning};
 ghost use Rattle.bw_journal.specs.Entries.{longest_entry};
 ghost use Rattle.bw_journal.specs.Notes.{BeginsNotes, BeginsInPart, Notes, NotesInPart};
-ghost use Rattle.bw_file.specs.StoreSteps.{WasAsked};
+ghost use Rattle.bw_file.specs.StoreSteps.{WasAsked, WasAskedFirst};
 ghost use Rattle.bw_session.specs.Carrying.{Touches, judged_plan};
 ghost use Rattle.bw_session.specs.Fronts.{HoldsFront};
+ghost use Rattle.bw_session.specs.Judging.{judged_by, KeepsJudged};
 ghost use Rattle.bw_session.specs.Noting.{IsNoted, OnlyBegins, log_left};
 ghost use Rattle.bw_session.specs.Numbered.{KeepsJournal, KeepsBoth, IsMeasured, IsNext, DoesNext};
 ghost use Rattle.bw_session.specs.Numbered.{is_written as was_written, noted_of};
@@ -154,6 +155,13 @@ impl Progress {
         ensures order { OnOk result (WasAsked S.TakeStore (judged_plan self.old.growing
             self.old.state.parts (meaning request.now) self.new.growing.made)
             stores.old.store stores.new.store) }
+        ensures begun { OnErr result ((made : Bool) × WasAskedFirst S.TakeStore (judged_plan
+            self.old.growing self.old.state.parts (meaning request.now) made)
+            stores.old.store stores.new.store) }
+        ensures kept { OnOk result (KeepsJudged self.old.state.parts (meaning request.now)
+            self.new.state.parts) }
+        ensures verdict { IfOk result (λ v. verdict_meaning v ≡ judged_by self.old.state.parts
+            (meaning request.now) self.new.state.parts.taken) }
         ensures name { self.new.name ≡ self.old.name }
         ensures known { self.new.growing ≡ record self.old.growing {
           made = self.new.growing.made;

@@ -74,6 +74,7 @@ impl<S: TakeStore> Server<S> {
 
 impl<S: TakeStore, J: Journal> Server<S, J> {
     ghost use Rattle.bw_session.specs.Books.{failures_of, HoldsBook, NotesBook, TurnsBook};
+    ghost use Rattle.bw_session.specs.Books.{AsksTurn};
     ghost use Rattle.bw_session.specs.Books.{of_known, count_waiting};
 
     /// A server that knows no name, over a store and a journal.
@@ -150,6 +151,7 @@ impl<S: TakeStore, J: Journal> Server<S, J> {
             self.old.stores.journal self.new.stores.journal
             (done_in self.old.sessions (message_of message.now).name)
             (done_in self.new.sessions (message_of message.now).name) out.new.items }
+        ensures asked { AsksTurn S.TakeStore J.Journal self.old self.new (message_of message.now) }
         ensures limit { self.new.limit ≡ self.old.limit }
         ensures turned { IsTrue (S.honest self.old.stores.store) →
             (first : List ℕ → Option (List ℕ)) (book : Book) →
@@ -193,6 +195,7 @@ impl<S: TakeStore, J: Journal> Server<S, J> {
             self.old.stores.journal self.new.stores.journal
             (done_in self.old.sessions (message_of message.now).name)
             (done_in self.new.sessions (message_of message.now).name) out.new.items }
+        ensures asked { AsksTurn S.TakeStore J.Journal self.old self.new (message_of message.now) }
         ensures limit { self.new.limit ≡ self.old.limit }
         ensures turned { IsTrue (S.honest self.old.stores.store) →
             (first : List ℕ → Option (List ℕ)) (book : Book) →
@@ -238,6 +241,8 @@ impl<S: TakeStore, J: Journal> Server<S, J> {
             self.old.stores.journal self.new.stores.journal
             (done_in self.old.sessions (message_of message.now).name)
             (done_in self.new.sessions (message_of message.now).name) out.new.items }
+        ensures asked { OnOk result (AsksTurn S.TakeStore J.Journal self.old self.new
+            (message_of message.now)) }
         ensures limit { self.new.limit ≡ self.old.limit }
         ensures sessions { OnErr result (self.new.sessions ≡ self.old.sessions) }
         ensures store { OnErr result (self.new.stores.store ≡ self.old.stores.store) }
@@ -302,6 +307,8 @@ impl<S: TakeStore, J: Journal> Server<S, J> {
             self.old.stores.store self.new.stores.store
             self.old.stores.journal self.new.stores.journal
             0 (done_in self.new.sessions name.now) out.new.items }
+        ensures asked { OnOk result (AsksTurn S.TakeStore J.Journal self.old self.new
+            (message_of message.now)) }
         ensures limit { self.new.limit ≡ self.old.limit }
         ensures sessions { OnErr result (self.new.sessions ≡ self.old.sessions) }
         ensures store { OnErr result (self.new.stores.store ≡ self.old.stores.store) }

@@ -12,6 +12,7 @@ ghost use Rattle.bw_wire.specs.Replies.{HasWireNumbers, reply_of};
 ghost use Rattle.bw_session.specs.Numbered.{KeepsBoth, failed_calls};
 ghost use Rattle.bw_session.specs.Noting.{IsNoted};
 ghost use Rattle.bw_session.specs.Admitting.{with_message};
+ghost use Rattle.bw_session.specs.Asking.{holding, AsksInTurn, DoesRun};
 
 use crate::numbering::Stores;
 use crate::session::Session;
@@ -42,6 +43,8 @@ impl Session {
             stores.old.store stores.new.store stores.old.journal stores.new.journal
             (length self.old.progress.ledger.outcomes) (length self.new.progress.ledger.outcomes)
             out.new.items }
+        ensures asked { AsksInTurn S.TakeStore (message_of message.now) (part_of self.old)
+            stores.old.store (part_of self.new) stores.new.store }
         ensures take { KeepsTake self.old self.new }
         ensures few { length out.new.items ≤ 17 }
         ensures numbers { All HasWireNumbers out.new.items }
@@ -91,6 +94,8 @@ impl Session {
             stores.old.store stores.new.store stores.old.journal stores.new.journal
             (length self.old.progress.ledger.outcomes) (length self.new.progress.ledger.outcomes)
             out.new.items }
+        ensures asked { AsksInTurn S.TakeStore (message_of message.now) (part_of self.old)
+            stores.old.store (part_of self.new) stores.new.store }
         ensures take { KeepsTake self.old self.new }
         ensures few { length out.new.items ≤ 17 }
         ensures told { All IsServing out.new.items }
@@ -158,6 +163,9 @@ impl Session {
             (S.calls stores.old.store) (S.calls stores.new.store)
             (length self.old.progress.ledger.outcomes) (length self.new.progress.ledger.outcomes)
             stopped) }
+        ensures asked { IfOk result (λ stopped. DoesRun S.TakeStore stopped
+            (holding (part_of self.old) (message_of message.now)) stores.old.store
+            (part_of self.new) stores.new.store) }
         ensures take { KeepsTake self.old self.new }
         ensures few { length out.new.items ≤ 16 }
         ensures told { All IsServing out.new.items }

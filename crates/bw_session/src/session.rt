@@ -27,6 +27,10 @@ pub(crate) struct Session {
 }
 
 impl Session {
+    ghost use Rattle.std.specs.Prelude.{None, replicate};
+    ghost use Rattle.bw_session.specs.Sessions.{part_of};
+    ghost use Rattle.bw_session.specs.Asking.{new_part};
+
     /// A name of which nothing came yet.
     ///
     /// # Errors
@@ -35,6 +39,7 @@ impl Session {
         ensures name { IfOk result (λ s. s.progress.name ≡ name) }
         ensures growing { IfOk result (λ s. s.progress.growing ≡
             record { name = name; limit = limit; made = false; dirty = false }) }
+        ensures part { IfOk result (λ s. part_of s ≡ new_part name limit) }
         ensures holds { IfOk result (λ s. (first : Option (List ℕ)) →
             HoldsPart first no_log s.progress.state.parts s.progress.ledger.outcomes s.window
             s.progress.growing first) }
@@ -58,6 +63,7 @@ impl Session {
     pub(crate) fn resume(alloc: Global, progress: Progress) -> Result<Session, AllocError>
         requires { progress.growing.dirty ≡ false }
         ensures progress { IfOk result (λ s. s.progress ≡ progress) }
+        ensures window { IfOk result (λ s. s.window ≡ replicate 16 None) }
         ensures holds { IfOk result (λ s. (first : Option (List ℕ)) (log : Log)
             (found : Option (List ℕ)) → IsAllDone log →
             KeepsDone (is_some first) progress.name log progress.state.parts

@@ -12,6 +12,7 @@ ghost use Rattle.bw_take.specs.Requests.{meaning};
 ghost use Rattle.bw_take.specs.States.{samples_in};
 ghost use Rattle.bw_take.specs.Verdicts.{verdict_meaning};
 ghost use Rattle.bw_session.specs.Keeping.{KeepsDone};
+ghost use Rattle.bw_session.specs.Judging.{parts_under};
 
 use crate::ledger::Ledger;
 use bw_take::{RequestRef, TakeState, Verdict};
@@ -38,6 +39,8 @@ pub(crate) fn settle(
     ensures room { state.old.room ≤ state.new.room + 1 }
     ensures samples { state.new.parts.samples_len
         ≤ state.old.parts.samples_len + samples_in (meaning request.now) }
+    ensures parts { state.new.parts ≡ parts_under (verdict_meaning verdict) state.old.parts
+        (meaning request.now) }
     ensures keeps { (stood : Bool) (name : List ℕ) (log : Log) →
         KeepsDone stood name log state.old.parts ledger.old.outcomes →
         at log.admitted log.done ≡ Some (meaning request.now) →

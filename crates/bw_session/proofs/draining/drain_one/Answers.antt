@@ -1,4 +1,4 @@
-use Rattle.std.proofs.Common.{rules, ◌≡◌, ℕ, ◌+◌, List, length, sym, ◌∙◌, ap, arith}
+use Rattle.std.proofs.Common.{rules, ◌≡◌, ℕ, ◌+◌, List, length, refl, sym, ◌∙◌, ap, arith}
 use Rattle.std.specs.Prelude.{is_some}
 use Rattle.std.proofs.lemmas.List.{length_push}
 use Rattle.bw_model.specs.Take.{Request, Verdict}
@@ -7,6 +7,8 @@ use Rattle.bw_take.specs.Verdicts.{verdict_meaning}
 use Rattle.bw_file.specs.Growing.{Growing}
 use Rattle.bw_wire.specs.Frames.{message_of}
 use Rattle.bw_session.proofs.DrainForms.{count_front, fits_done, held_front, part_waits, part_done}
+use Rattle.bw_session.specs.KeptParts.{part}
+use Rattle.bw_session.proofs.AskForms.{does_first, tries_first}
 use Rattle.bw_session.proofs.draining.drain_one.Goals as goal
 
 pub number_done-requires-clause-room : goal.number_done-requires-clause-room
@@ -89,3 +91,28 @@ returns-in-Err-clause-noted g c = λ honest honest_notes first log h stood noted
     c.args.progress.now.same_name (sym c.in-Some.ensures.value) c.message-message.ensures.spelled
     c.request-request.ensures.value c.request-request.ensures.fits c.digest.ensures in
     c.in-Err.ensures.noted honest honest_notes first log front.0 front.1 stood noted
+
+pub returns-in-Ok-clause-asked : goal.returns-in-Ok-clause-asked
+returns-in-Ok-clause-asked g c =
+    does_first g.S.TakeStore
+    (part c.args.progress.now.state.parts c.args.progress.now.ledger.outcomes c.args.window.now
+    c.args.progress.now.growing)
+    (part c.number_done.new.self.state.parts c.number_done.new.self.ledger.outcomes c.advance.new.self
+    c.number_done.new.self.growing)
+    c.args.stores.now.store c.number_done.new.stores.store c.in-Some.body.now c.digest.result.now
+    (meaning c.request-request.result) (verdict_meaning c.in-Ok.verdict) (sym c.in-Some.ensures.value)
+    (c.request-request.ensures.value ∙ ap (λ m. m.request) c.message-message.ensures.value) c.digest.ensures
+    c.in-Ok.ensures.order c.in-Ok.ensures.known c.in-Ok.ensures.clean c.in-Ok.ensures.kept c.in-Ok.ensures.verdict
+    c.in-Ok.ensures.outcomes c.advance.ensures
+
+pub returns-in-Err-clause-asked : goal.returns-in-Err-clause-asked
+returns-in-Err-clause-asked g c =
+    tries_first g.S.TakeStore
+    (part c.args.progress.now.state.parts c.args.progress.now.ledger.outcomes c.args.window.now
+    c.args.progress.now.growing)
+    (part c.number_done.new.self.state.parts c.number_done.new.self.ledger.outcomes c.args.window.now
+    c.number_done.new.self.growing)
+    c.args.stores.now.store c.number_done.new.stores.store c.in-Some.body.now
+    (meaning c.request-request.result) (sym c.in-Some.ensures.value)
+    (c.request-request.ensures.value ∙ ap (λ m. m.request) c.message-message.ensures.value)
+    c.in-Err.ensures.begun (ap (λ l. l.outcomes) c.in-Err.ensures.stopped.0) refl

@@ -1,8 +1,9 @@
-use Rattle.std.proofs.Common.{rules, refl, inl, inr, []}
+use Rattle.std.proofs.Common.{rules, arith, refl, inl, inr, []}
 use Rattle.bw_engine.specs.declared.serving.ExchangeEnd.TheVariants as ends
+use Rattle.bw_engine.specs.Parts.{waiting_in}
 use Rattle.bw_engine.proofs.Going.{does_none}
 use Rattle.bw_many.specs.declared.connection.ConnectionEnd.TheVariants.{Over}
-use Rattle.bw_many.proofs.Going.{fed_or_over, fed_reads, no_more, none_read, over}
+use Rattle.bw_many.proofs.Going.{fed_or_over, fed_reads, no_more, none_held, none_read, over}
 use Rattle.bw_many.proofs.connection.Connection.receive_piece.Goals as goal
 
 pub returns-in-Bytes-clause-goes : goal.returns-in-Bytes-clause-goes
@@ -27,15 +28,17 @@ returns-then-not-self-clause-reads g c = none_read g.L.Link c.args.self.now (sea
 
 pub returns-in-Bytes-clause-reads : goal.returns-in-Bytes-clause-reads
 returns-in-Bytes-clause-reads g c =
-    fed_reads g.L.Link c.feed_piece.result c.args.self.now _ _ refl refl c.in-Bytes.ensures.full (search rules)
-    c.feed_piece.ensures.feeds
+    fed_reads g.L.Link c.feed_piece.result c.args.self.now _ _ refl refl c.in-Bytes.ensures.full
+    (c.is_up_to_date.ensures.yes (search rules)).1 (search rules) (search rules) c.feed_piece.ensures.feeds
 
 pub returns-in-Ended-clause-reads : goal.returns-in-Ended-clause-reads
 returns-in-Ended-clause-reads g c = record {
   piece = [];
+  most = omega arith;
   does = c.finish.ensures.done;
   some = λ bytes up. inr (inl c.finish.ensures.over);
   told = inl refl;
+  held = none_held (waiting_in c.args.self.now.exchange) (c.is_up_to_date.ensures.yes (search rules)).1;
   writable = refl;
   full = c.in-Ended.ensures.full;
 }
@@ -43,9 +46,11 @@ returns-in-Ended-clause-reads g c = record {
 pub returns-in-Nothing-clause-reads : goal.returns-in-Nothing-clause-reads
 returns-in-Nothing-clause-reads g c = record {
   piece = [];
+  most = omega arith;
   does = does_none c.args.self.now.exchange;
   some = λ bytes up. inr (inr (refl, c.in-Nothing.ensures.nothing refl));
   told = inr (refl, c.in-Nothing.ensures.nothing refl);
+  held = λ some. (refl, refl);
   writable = refl;
   full = c.in-Nothing.ensures.full;
 }

@@ -1,9 +1,10 @@
-use Rattle.std.proofs.Common.{rules, refl, inl, inr, take, ◌∙◌, []}
+use Rattle.std.proofs.Common.{rules, ap, refl, sym, inl, inr, take, ◌∙◌, ◌++◌, [], List, ℕ}
+use Rattle.std.proofs.lemmas.List.{take-append-drop}
 use Rattle.bw_engine.specs.declared.serving.ExchangeEnd.TheVariants as ends
 use Rattle.bw_many.specs.declared.connection.ConnectionEnd.TheVariants.{Over}
 use Rattle.bw_engine.specs.Parts.{waiting_in}
 use Rattle.bw_engine.proofs.Going.{does_none}
-use Rattle.bw_many.proofs.Going.{no_more, none_left, none_sent, over, some_taken}
+use Rattle.bw_many.proofs.Going.{no_more, none_sent, over, some_taken}
 use Rattle.bw_many.proofs.connection.Connection.send_waiting.Goals as goal
 
 pub returns-in-Failed-clause-goes : goal.returns-in-Failed-clause-goes
@@ -17,6 +18,7 @@ returns-in-Failed-clause-goes g c =
 pub returns-then-not-self-clause-sends : goal.returns-then-not-self-clause-sends
 returns-then-not-self-clause-sends g c =
     none_sent g.L.Link c.args.self.now c.then-not-self.self (search rules) (search rules) (search rules) (search rules)
+    (search rules)
 
 pub returns-in-Bytes-clause-sends : goal.returns-in-Bytes-clause-sends
 returns-in-Bytes-clause-sends g c =
@@ -24,22 +26,26 @@ returns-in-Bytes-clause-sends g c =
     record {
       bytes = take c.in-Bytes.count (waiting_in c.args.self.now.exchange);
       does = c.took.ensures.done;
+      left = sym (take-append-drop c.in-Bytes.count (waiting_in c.args.self.now.exchange))
+          ∙ ap (λ (x : List ℕ). take c.in-Bytes.count (waiting_in c.args.self.now.exchange) ++ x)
+          (sym c.took.ensures.left);
       some = λ room some. inl (some_taken (waiting_in c.args.self.now.exchange) c.in-Bytes.count (search rules) some);
-      up = λ up. (
-        c.took.ensures.hungry ∙ up.0,
-        none_left (waiting_in c.args.self.now.exchange) (waiting_in c.took.new.self) c.in-Bytes.count
-            c.took.ensures.left up.1,
-      );
+      hungry = c.took.ensures.hungry;
+      ended = c.took.ensures.end;
       room = inl refl;
       readable = refl;
+      dry = c.in-Bytes.ensures.dry;
     }
 
 pub returns-in-Nothing-clause-sends : goal.returns-in-Nothing-clause-sends
 returns-in-Nothing-clause-sends g c = record {
   bytes = [];
   does = does_none c.args.self.now.exchange;
+  left = refl;
   some = λ room some. inr (refl, c.in-Nothing.ensures.nothing refl);
-  up = λ up. up;
+  hungry = refl;
+  ended = refl;
   room = inr (refl, c.in-Nothing.ensures.nothing refl);
   readable = refl;
+  dry = c.in-Nothing.ensures.dry;
 }

@@ -1,8 +1,8 @@
-use Rattle.std.proofs.Common.{rules, ◌≡◌, ◌∙◌, refl, [], arith, Err}
+use Rattle.std.proofs.Common.{rules, ◌≡◌, ◌∙◌, refl, [], arith, Err, Ok}
 use Rattle.bw_many.specs.declared.connection.Phase.TheVariants as phases
 use Rattle.std.proofs.lemmas.Result.{err_from_is_err_and}
 use Rattle.bw_many.proofs.Going.{goes_at_last, not_served, number_left, quiet_as, quiet_drained, quiet_on, steps_on}
-use Rattle.bw_many.proofs.Going.{drained_on, finished_still, learns_on, open_left, peer_same, peer_then, waits_left}
+use Rattle.bw_many.proofs.Going.{drained_on, finished_still, learns_on, open_left, peer_same, peer_then}
 use Rattle.bw_many.proofs.Going.{drained_at, drained_no_silence, moved_on, served_aloud, served_no_silence}
 use Rattle.bw_many.proofs.Going.{settled_served}
 use Rattle.bw_many.proofs.connection.Connection.work.Goals as goal
@@ -19,8 +19,6 @@ returns-in-Draining g c =
       goes = d.goes;
       peer = d.peer;
       number = d.stays.number;
-      waits = drained_on c.drain.result (λ serving few.
-          absurd (not_served c.drain.new.self c.in-Draining.fault (d.stays.phase ∙ is) serving));
       since = drained_on c.drain.result (quiet_drained c.args.now old c.drain.new.self c.in-Draining.fault is d.stays.phase d.stays.since);
       unended = drained_on c.drain.result (λ serving none.
           absurd (not_served c.drain.new.self c.in-Draining.fault (d.stays.phase ∙ is) serving));
@@ -35,8 +33,8 @@ returns-in-Draining g c =
           drained_at g.L.Link old c.drain.new.self.link c.in-Draining.fault fault c.drain.result is at d.heard;
     }
 
-pub returns-in_err-send_waiting : goal.returns-in_err-send_waiting
-returns-in_err-send_waiting g c =
+pub returns-in_err-receive_piece : goal.returns-in_err-receive_piece
+returns-in_err-receive_piece g c =
     let a = err_from_is_err_and c.from_residual.result c.from_residual.ensures.1 in
     let old = c.args.self.now in
     let serving : old.phase ≡ phases.Serving = search rules in
@@ -44,37 +42,9 @@ returns-in_err-send_waiting g c =
       answered = [];
       by_server = refl;
       most = omega arith;
-      goes = c.in_err-send_waiting.ensures.goes;
-      peer = c.in_err-send_waiting.ensures.peer;
-      number = c.in_err-send_waiting.ensures.stays.number;
-      waits = tt;
-      since = tt;
-      unended = tt;
-      moved = λ at. tt;
-      lets_go = λ fault at. tt;
-      learns = tt;
-      finished = λ was. tt;
-      no_silence = served_aloud c.in_err-send_waiting.field-0.0 c.in_err-send_waiting.ensures.served;
-      served = λ at. c.in_err-send_waiting.ensures.served;
-      heard = λ fault at. absurd (not_served old fault at serving);
-    }
-
-pub returns-in_err-receive_piece : goal.returns-in_err-receive_piece
-returns-in_err-receive_piece g c =
-    let a = err_from_is_err_and c.from_residual-in_err-receive_piece.result c.from_residual-in_err-receive_piece.ensures.1 in
-    let old = c.args.self.now in
-    let sent = c.send_waiting.new.self in
-    let serving : old.phase ≡ phases.Serving = search rules in
-    rw (a.1, a.2) record {
-      answered = [];
-      by_server = refl;
-      most = omega arith;
-      goes = goes_at_last g.L.Link (Err c.in_err-receive_piece.field-0.0) old sent c.receive_piece.new.self []
-          c.in_ok-send_waiting.ensures.goes c.in_err-receive_piece.ensures.goes;
-      peer = peer_then g.L.Link old.link sent.link c.receive_piece.new.self.link c.in_ok-send_waiting.ensures.peer
-          c.in_err-receive_piece.ensures.peer;
-      number = c.in_err-receive_piece.ensures.stays.number ∙ c.in_ok-send_waiting.ensures.stays.number;
-      waits = tt;
+      goes = c.in_err-receive_piece.ensures.goes;
+      peer = c.in_err-receive_piece.ensures.peer;
+      number = c.in_err-receive_piece.ensures.stays.number;
       since = tt;
       unended = tt;
       moved = λ at. tt;
@@ -86,44 +56,74 @@ returns-in_err-receive_piece g c =
       heard = λ fault at. absurd (not_served old fault at serving);
     }
 
+pub returns-in_err-send_waiting : goal.returns-in_err-send_waiting
+returns-in_err-send_waiting g c =
+    let a = err_from_is_err_and c.from_residual-in_err-send_waiting.result c.from_residual-in_err-send_waiting.ensures.1 in
+    let h = c.answer_held.ensures in
+    let old = c.args.self.now in
+    let fed = c.receive_piece.new.self in
+    let held = c.answer_held.new.self in
+    let first = c.in_ok-receive_piece.ensures in
+    let last = c.in_err-send_waiting.ensures in
+    let serving : old.phase ≡ phases.Serving = search rules in
+    rw (a.1, a.2) record {
+      answered = h.answered;
+      by_server = h.by_server;
+      most = h.most;
+      goes = goes_at_last g.L.Link (Err c.in_err-send_waiting.field-0.0) old held c.send_waiting.new.self h.answered
+          (steps_on g.L.Link old fed held [] h.answered first.goes h.steps) last.goes;
+      peer = peer_then g.L.Link old.link held.link c.send_waiting.new.self.link
+          (peer_then g.L.Link old.link fed.link held.link first.peer (peer_same g.L.Link fed.link held.link h.link))
+          last.peer;
+      number = last.stays.number ∙ (h.number ∙ first.stays.number);
+      since = tt;
+      unended = tt;
+      moved = λ at. tt;
+      lets_go = λ fault at. tt;
+      learns = tt;
+      finished = λ was. tt;
+      no_silence = served_aloud c.in_err-send_waiting.field-0.0 last.served;
+      served = λ at. last.served;
+      heard = λ fault at. absurd (not_served old fault at serving);
+    }
+
 pub returns : goal.returns
 returns g c =
     let h = c.answer_held.ensures in
     let s = c.settle.ensures in
     let old = c.args.self.now in
-    let sent = c.send_waiting.new.self in
     let fed = c.receive_piece.new.self in
     let held = c.answer_held.new.self in
-    let first = c.in_ok-send_waiting.ensures in
-    let then = c.in_ok-receive_piece.ensures in
-    let phase = then.stays.phase ∙ first.stays.phase in
+    let sent = c.send_waiting.new.self in
+    let first = c.in_ok-receive_piece.ensures in
+    let last = c.in_ok-send_waiting.ensures in
     let serving : old.phase ≡ phases.Serving = search rules in
     record {
       answered = h.answered;
       by_server = h.by_server;
       most = h.most;
-      goes = goes_at_last g.L.Link c.settle.result old held c.settle.new.self h.answered
-          (steps_on g.L.Link old fed held [] h.answered (steps_on g.L.Link old sent fed [] [] first.goes then.goes) h.steps)
-          s.goes;
-      peer = peer_then g.L.Link old.link held.link c.settle.new.self.link
-          (peer_then g.L.Link old.link fed.link held.link
-          (peer_then g.L.Link old.link sent.link fed.link first.peer then.peer)
-          (peer_same g.L.Link fed.link held.link h.link)) s.peer;
-      number = number_left c.args.now c.settle.result held c.settle.new.self s.settles
-          ∙ (h.number ∙ (then.stays.number ∙ first.stays.number));
-      waits = waits_left c.args.now c.settle.result held c.settle.new.self _ s.settles h.waits;
-      since = quiet_as c.args.now c.settle.new.self.since c.settle.new.self.phase h.answered fed old c.settle.result phase
-          (then.stays.since ∙ first.stays.since)
-          (quiet_on c.args.now fed h.answered (phase ∙ serving) held c.settle.new.self c.settle.result h.phase h.since s.settles);
-      unended = open_left c.args.now c.settle.result held c.settle.new.self s.settles;
+      goes = goes_at_last g.L.Link c.settle.result old sent c.settle.new.self h.answered
+          (goes_at_last g.L.Link (Ok tt) old held sent h.answered
+          (steps_on g.L.Link old fed held [] h.answered first.goes h.steps) last.goes) s.goes;
+      peer = peer_then g.L.Link old.link sent.link c.settle.new.self.link
+          (peer_then g.L.Link old.link held.link sent.link
+          (peer_then g.L.Link old.link fed.link held.link first.peer (peer_same g.L.Link fed.link held.link h.link))
+          last.peer) s.peer;
+      number = number_left c.args.now c.settle.result sent c.settle.new.self s.settles
+          ∙ (last.stays.number ∙ (h.number ∙ first.stays.number));
+      since = quiet_as c.args.now c.settle.new.self.since c.settle.new.self.phase h.answered fed old c.settle.result
+          first.stays.phase first.stays.since
+          (quiet_on c.args.now fed h.answered (first.stays.phase ∙ serving) sent c.settle.new.self c.settle.result
+          (last.stays.phase ∙ h.phase) (last.stays.since ∙ h.since) s.settles);
+      unended = open_left c.args.now c.settle.result sent c.settle.new.self s.settles;
       moved = λ at. moved_on g.L.Link g.T.Turns.answers c.args.now c.args.server.now c.answer_held.new.server
-          c.settle.result old sent fed held c.settle.new.self first.sends then.reads h s.settles s.told;
+          c.settle.result old fed held sent c.settle.new.self first.reads h last.sends s.settles s.told;
       lets_go = λ fault at. absurd (not_served old fault at serving);
       learns = learns_on g.L.Link g.T.Turns.answers c.args.now c.args.server.now c.answer_held.new.server
-          c.settle.result old sent fed held c.settle.new.self first.sends then.reads h s.settles s.told;
+          c.settle.result old fed held sent c.settle.new.self first.reads h last.sends s.settles s.told;
       finished = λ was. s.finished;
       no_silence = served_no_silence c.settle.result
-          (settled_served c.args.now c.settle.result held c.settle.new.self s.settles);
-      served = λ at. settled_served c.args.now c.settle.result held c.settle.new.self s.settles;
+          (settled_served c.args.now c.settle.result sent c.settle.new.self s.settles);
+      served = λ at. settled_served c.args.now c.settle.result sent c.settle.new.self s.settles;
       heard = λ fault at. absurd (not_served old fault at serving);
     }

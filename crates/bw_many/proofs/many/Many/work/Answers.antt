@@ -1,8 +1,7 @@
-use Rattle.std.proofs.Common.{ap, arith, refl, subst, sym, ◌∙◌, List, Some, None, [], ◌++◌, length, ◌<◌, ◌≡◌}
+use Rattle.std.proofs.Common.{ap, arith, refl, subst, sym, ◌∙◌, List, Some, None, [], ◌++◌, ◌≡◌}
 use Rattle.bw_engine.specs.Answering.{Answered}
-use Rattle.bw_engine.specs.Done.{MustWait}
 use Rattle.bw_many.specs.declared.connection.Phase.TheVariants as phases
-use Rattle.bw_many.specs.Lives.{EndsDrained, EndsServed, IsNoSilence, IsOpen, IsOver, KeepsPeer, Lives, quantum}
+use Rattle.bw_many.specs.Lives.{EndsDrained, EndsServed, IsNoSilence, IsOpen, IsOver, KeepsPeer, Lives}
 use Rattle.bw_many.proofs.Going.{finished_at, learns_at, let_go_at, moved_at, quiet_at}
 use Rattle.bw_many.proofs.Standing.{adds_closed, adds_none, adds_on, keeps_free, not_some, sets_again, some_is}
 use Rattle.bw_many.proofs.many.Many.work.Goals as goal
@@ -22,7 +21,6 @@ returns-in_default g c =
       adds = adds_none g.L.Link c.args.self.now _ (λ over trace.
           keeps_free g.L.Link c.args.self.now _ c.args.place over trace refl t.was t.sets);
       others = (record { others = t.sets.elsewhere; count = t.count }, refl);
-      waits = λ d at. absurd (not_some d (some_is None (Some d) (sym t.sets.there ∙ at)));
       unended = λ d at. absurd (not_some d (some_is None (Some d) (sym t.sets.there ∙ at)));
       since = λ d e at there. absurd (not_some d (some_is None (Some d) (sym t.was ∙ at)));
       moved = λ d e at. absurd (not_some d (some_is None (Some d) (sym t.was ∙ at)));
@@ -62,8 +60,6 @@ returns-in-Ok g c =
       adds = adds_on g.L.Link c.args.self.now _ c.args.place was new was.number w.answered refl refl t.was sets w.number
           w.goes;
       others = (record { others = sets.elsewhere; count = c.put_at.ensures.count ∙ t.count }, refl);
-      waits = λ d at. subst (λ x. x.phase ≡ phases.Serving → length w.answered < quantum → MustWait x.exchange)
-          (some_is new d (some_is (Some new) (Some d) (sym sets.there ∙ at))) w.waits;
       unended = λ d at. subst IsOpen (some_is new d (some_is (Some new) (Some d) (sym sets.there ∙ at))) w.unended;
       since = λ d e at there. quiet_at c.args.now was d new e w.answered
           (some_is was d (some_is (Some was) (Some d) (sym t.was ∙ at)))
@@ -111,7 +107,6 @@ returns-in-Err g c =
           (subst (λ y. (before : List Answered) → Lives g.L.Link was before →
           IsOver g.L.Link y.end y.link (before ++ w.answered)) (sym is) w.goes);
       others = (record { others = t.sets.elsewhere; count = t.count }, refl);
-      waits = λ d at. absurd (not_some d (some_is None (Some d) (sym t.sets.there ∙ at)));
       unended = λ d at. absurd (not_some d (some_is None (Some d) (sym t.sets.there ∙ at)));
       since = λ d e at there. absurd (not_some e (some_is None (Some e) (sym t.sets.there ∙ there)));
       moved = λ d e at there. absurd (not_some e (some_is None (Some e) (sym t.sets.there ∙ there)));

@@ -26,7 +26,6 @@ returns g c =
         nobody = w.nobody;
         adds = w.adds;
         others = w.others;
-        waits = w.waits;
         unended = w.unended;
         since = w.since;
         moved = w.moved;

@@ -8,6 +8,10 @@ use Rattle.bw_session.specs.Fronts.{HoldsFront}
 use Rattle.bw_session.specs.Numbered.{IsNext, IsDone, noted_of}
 use Rattle.bw_journal.specs.Notes.{NotesInPart}
 use Rattle.bw_session.proofs.NumberForms.{done_again, done_next}
+use Rattle.bw_file.proofs.Asked.{gets_all}
+use Rattle.bw_session.specs.Carrying.{judged_plan}
+use Rattle.bw_file.specs.StoreSteps.{WasAskedFirst}
+use Rattle.bw_session.proofs.AskForms.{verdict_by, keeps_judged}
 use Rattle.bw_session.proofs.numbering.Progress.number_done.Goals as goal
 
 pub returns-in_default-clause-done : goal.returns-in_default-clause-done
@@ -110,3 +114,23 @@ returns-clause-noted g c = λ honest honest_notes first log n h stood noted.
     c.carry_out.new.state.parts finished r c.carry_out.new.growing _ c.args.self.now.name c.args.digest.now stood later
     carried n c.args.self.now.noted c.in-Ok.len _ _ noted.offset_is entries c.in-Ok.ensures.value
     (c.in-Ok.ensures.noted (c.begin_notes.ensures.journal.honest ∙ honest_notes))
+
+pub returns-in_default-clause-begun : goal.returns-in_default-clause-begun
+returns-in_default-clause-begun g c = (
+  c.carry_out.new.growing.made,
+  subst (λ s. WasAskedFirst g.S.TakeStore (judged_plan c.args.self.now.growing c.args.self.now.state.parts
+      (meaning c.args.request.now) c.carry_out.new.growing.made) c.args.stores.now.store s) (sym c.note.ensures.store)
+      (gets_all c.in_ok-verdict.ensures.order),
+)
+
+pub returns-clause-kept : goal.returns-clause-kept
+returns-clause-kept g c =
+    keeps_judged c.args.self.now.state.parts c.carry_out.new.state.parts c.settle.new.state.parts
+    (meaning c.args.request.now) (verdict_meaning c.in_ok-verdict.verdict) (search rules)
+    c.in_ok-verdict.ensures.verdict c.settle.ensures.parts
+
+pub returns-clause-verdict : goal.returns-clause-verdict
+returns-clause-verdict g c =
+    verdict_by c.args.self.now.state.parts c.carry_out.new.state.parts c.settle.new.state.parts
+    (meaning c.args.request.now) (verdict_meaning c.in_ok-verdict.verdict) (search rules)
+    c.in_ok-verdict.ensures.verdict c.settle.ensures.parts

@@ -28,6 +28,8 @@ use Rattle.bw_session.proofs.AnswerForms.{answers_served, answers_known, none_aw
 use Rattle.bw_session.proofs.RunForms.{noted_then}
 use Rattle.bw_session.proofs.JournalForms.{notes_after, told_here, told_others}
 use Rattle.bw_session.proofs.CountForms.{counted}
+use Rattle.bw_session.specs.Asking.{new_part}
+use Rattle.bw_session.proofs.AskForms.{asks_at}
 use Rattle.bw_session.proofs.server.Server.begin.Goals as goal
 
 pub invariant_of-self-2 : goal.invariant_of-self-2
@@ -178,3 +180,22 @@ returns-clause-met g c =
     (subst (λ (k : List ℕ). (n : List ℕ) → session_in c.insert.new.self n
     ≡ cond (bytes_eq k n) (Some c.serve.new.self) (session_in c.args.self.now.sessions n)) c.copy-2.ensures
     c.in-Ok.ensures.updates.0))
+
+pub returns-clause-asked : goal.returns-clause-asked
+returns-clause-asked g c =
+    let m : Message = message_of c.args.message.now in
+    let s : Session = c.in_ok-session.session in
+    let s' : Session = c.serve.new.self in
+    let limit : ℕ = c.args.self.now.limit in
+    let fresh = subst (λ (n : List ℕ). session_in c.args.self.now.sessions n ≡ None) (sym c.requires.name)
+    c.requires.fresh in
+    let here = put_here (session_in c.args.self.now.sessions) (session_in c.insert.new.self) m.name s'
+    (subst (λ (k : List ℕ). (n : List ℕ) → session_in c.insert.new.self n
+    ≡ cond (bytes_eq k n) (Some s') (session_in c.args.self.now.sessions n)) (c.copy-2.ensures ∙ sym c.requires.name)
+    c.in-Ok.ensures.updates.0) in
+    asks_at g.S.TakeStore m limit (part_of s) (part_of s') (session_in c.args.self.now.sessions m.name)
+    (session_in c.insert.new.self m.name) c.args.self.now.stores.store c.serve.new.stores.store
+    (c.in_ok-session.ensures.part ∙ ap (λ (n : List ℕ). new_part n limit) (c.copy.ensures ∙ sym c.requires.name)
+    ∙ sym (ap (λ (o : Option Session). option_map_or part_of o (new_part m.name limit)) fresh))
+    (sym (ap (λ (o : Option Session). option_map_or part_of o (new_part m.name limit)) here))
+    c.in_ok-serve.ensures.asked

@@ -16,6 +16,8 @@ use Rattle.bw_session.proofs.AnswerForms.{served_here}
 use Rattle.bw_session.proofs.ServerForms.{unknown_here}
 use Rattle.bw_session.proofs.JournalForms.{told_away, away_either}
 use Rattle.bw_session.proofs.UseForms.{timely_push, timely_notice}
+use Rattle.std.proofs.Common.{inr}
+use Rattle.bw_session.specs.Servers.{part_in}
 use Rattle.bw_session.proofs.server.Server.meet.Goals as goal
 
 pub returns-in_default-clause-uncalled : goal.returns-in_default-clause-uncalled
@@ -55,3 +57,9 @@ returns-in-Err-clause-noted g c = λ honest honest_notes first book h n.
     (session_in c.try_meet.new.self.sessions) book) (sym e.journal)
     (subst (λ (t : _). NotesNames (g.J.Journal.header c.args.self.now.stores.journal)
     (g.J.Journal.notes c.args.self.now.stores.journal) first (session_in t) book) (sym e.sessions) n))
+
+pub returns-in-Err-clause-asked : goal.returns-in-Err-clause-asked
+returns-in-Err-clause-asked g c =
+    let m : Message = message_of c.args.message.now in
+    let e = c.in-Err.ensures in
+    inr (e.store, ap (λ (t : _). (part_in t c.args.self.now.limit m.name).outcomes) e.sessions)

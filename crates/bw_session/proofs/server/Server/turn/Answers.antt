@@ -27,6 +27,9 @@ use Rattle.bw_session.proofs.JournalForms.{notes_after, told_here, told_others}
 use Rattle.bw_session.proofs.ServerForms.{table_set, book_turned, known_here, part_here, put_here}
 use Rattle.bw_session.proofs.AdmitForms.{no_false}
 use Rattle.bw_session.proofs.UseForms.{same_kept, kept_put}
+use Rattle.bw_session.specs.Asking.{AsksInTurn, new_part}
+use Rattle.bw_session.specs.Servers.{part_in}
+use Rattle.bw_session.proofs.AskForms.{asks_at}
 use Rattle.bw_session.proofs.server.Server.turn.Goals as goal
 
 pub answer-requires-clause-name : goal.answer-requires-clause-name
@@ -223,3 +226,30 @@ answer-requires-clause-empty g c = search rules
 
 pub meet-requires-clause-empty : goal.meet-requires-clause-empty
 meet-requires-clause-empty g c = search rules
+
+pub returns-in-Some-clause-asked : goal.returns-in-Some-clause-asked
+returns-in-Some-clause-asked g c =
+    let s : Session = c.in-Some.session.now in
+    let s' : Session = c.answer.new.self in
+    let m : Message = message_of c.args.message.now in
+    let limit : ℕ = c.args.self.now.limit in
+    let found = subst (λ (n : List ℕ). session_in c.args.self.now.sessions n ≡ Some s) c.name-name.ensures
+    (sym c.in-Some.ensures.value) in
+    let sets = subst (λ (k : List ℕ). (n : List ℕ) → session_in (c.get_mut.follows.lender s') n
+    ≡ cond (bytes_eq k n) (Some s') (session_in c.args.self.now.sessions n)) c.name-name.ensures
+    ((c.get_mut.follows.holds s').3 (sym (ap is_some c.in-Some.ensures.value))).0 in
+    let here = put_here (session_in c.args.self.now.sessions) (session_in (c.get_mut.follows.lender s')) m.name s'
+    sets in
+    asks_at g.S.TakeStore m limit (part_of s) (part_of s') (session_in c.args.self.now.sessions m.name)
+    (session_in (c.get_mut.follows.lender s') m.name) c.args.self.now.stores.store c.answer.new.stores.store
+    (sym (ap (λ (o : Option Session). option_map_or part_of o (new_part m.name limit)) found))
+    (sym (ap (λ (o : Option Session). option_map_or part_of o (new_part m.name limit)) here))
+    c.answer.ensures.asked
+
+pub returns-in-None-clause-asked : goal.returns-in-None-clause-asked
+returns-in-None-clause-asked g c =
+    let m : Message = message_of c.args.message.now in
+    let limit : ℕ = c.args.self.now.limit in
+    subst (λ (t : _). AsksInTurn g.S.TakeStore m (part_in t limit m.name) c.args.self.now.stores.store
+    (part_in c.meet.new.self.sessions limit m.name) c.meet.new.self.stores.store) c.get_mut.follows.holds-at-none
+    c.meet.ensures.asked

@@ -11,6 +11,10 @@ use Rattle.bw_session.specs.Sessions.{part_of}
 use Rattle.bw_session.specs.Runs.{with_more_done}
 use Rattle.bw_session.proofs.RunForms.{noted_then}
 use Rattle.bw_session.proofs.ServeForms.{starts, starts_done, stops_at_once, ends_under, noted_start, noted_one}
+use Rattle.std.proofs.Common.{List, Option, ℕ}
+use Rattle.bw_session.specs.KeptParts.{Part}
+use Rattle.bw_session.specs.Asking.{AsksNext, DoesRun, holding}
+use Rattle.bw_session.proofs.AskForms.{run_after, run_tried, part_kept}
 use Rattle.bw_session.proofs.session.Session.admit_and_drain.Goals as goal
 
 pub returns-then-is_held-clause-drained : goal.returns-then-is_held-clause-drained
@@ -120,3 +124,31 @@ returns-in-Err-clause-noted g c = λ honest honest_notes first log h stood noted
 
 pub do_next-requires-clause-free : goal.do_next-requires-clause-free
 do_next-requires-clause-free g c = search rules
+
+pub returns-then-is_held-clause-asked : goal.returns-then-is_held-clause-asked
+returns-then-is_held-clause-asked g c =
+    let m : Message = message_of c.args.message.now in
+    subst (λ (a : Part). DoesRun g.S.TakeStore c.drain.result a c.args.stores.now.store (part_of c.drain.new.self)
+    c.drain.new.stores.store)
+    (part_kept c.args.self.now c.admit.new.self c.in_ok-admit.ensures.progress
+    ∙ ap (λ (w : List (Option (List ℕ))). record (part_of c.args.self.now) { window = w }) c.in_ok-admit.ensures.held)
+    c.drain.ensures.asked
+
+pub returns-in-Ok-clause-asked : goal.returns-in-Ok-clause-asked
+returns-in-Ok-clause-asked g c =
+    let m : Message = message_of c.args.message.now in
+    let first = subst (λ (a : Result Verdict StoreFault). AsksNext g.S.TakeStore (drained_by a)
+    (holding (part_of c.args.self.now) m) c.args.stores.now.store (part_of c.do_next.new.self)
+    c.do_next.new.stores.store) c.in-Ok.is c.in_ok-verdict.ensures.asked in
+    run_after g.S.TakeStore c.drain-in-Ok.result (holding (part_of c.args.self.now) m) (part_of c.do_next.new.self)
+    (part_of c.drain-in-Ok.new.self) c.args.stores.now.store c.do_next.new.stores.store
+    c.drain-in-Ok.new.stores.store first c.drain-in-Ok.ensures.asked
+
+pub returns-in-Err-clause-asked : goal.returns-in-Err-clause-asked
+returns-in-Err-clause-asked g c =
+    let m : Message = message_of c.args.message.now in
+    run_tried g.S.TakeStore (holding (part_of c.args.self.now) m) (part_of c.do_next.new.self)
+    c.args.stores.now.store c.do_next.new.stores.store
+    (subst (λ (a : Result Verdict StoreFault). AsksNext g.S.TakeStore (drained_by a)
+    (holding (part_of c.args.self.now) m) c.args.stores.now.store (part_of c.do_next.new.self)
+    c.do_next.new.stores.store) c.in-Err.is c.in_ok-verdict.ensures.asked)

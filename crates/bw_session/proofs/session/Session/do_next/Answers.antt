@@ -12,7 +12,9 @@ use Rattle.bw_wire.specs.Frames.{message_of}
 use Rattle.bw_wire.proofs.BodyLaws.{message_spelled}
 use Rattle.bw_session.specs.Windows.{count_held}
 use Rattle.bw_session.specs.Ledgers.{Entries}
-use Rattle.bw_session.specs.Carrying.{Touches}
+use Rattle.bw_session.specs.Carrying.{Touches, judged_plan}
+use Rattle.bw_session.specs.Judging.{judged_by, KeepsJudged}
+use Rattle.bw_file.specs.StoreSteps.{WasAsked, WasAskedFirst}
 use Rattle.bw_session.specs.Noting.{IsNoted}
 use Rattle.bw_session.specs.Admitting.{with_message}
 use Rattle.bw_session.specs.Draining.{HoldsPart}
@@ -21,6 +23,10 @@ use Rattle.bw_session.proofs.AdmitForms.{at-set_same, count_room, said_number, s
 use Rattle.bw_session.proofs.DrainForms.{held_front, part_waits, part_done}
 use Rattle.bw_session.proofs.NextForms.{fits_passed, fits_waiting, passed_slot, held_at, next_held}
 use Rattle.bw_session.proofs.RunForms.{noted_then}
+use Rattle.bw_session.specs.Sessions.{part_of}
+use Rattle.bw_session.specs.KeptParts.{Part}
+use Rattle.bw_session.specs.Asking.{DoesFirst, TriesFirst}
+use Rattle.bw_session.proofs.AskForms.{does_first, tries_first, window_next}
 use Rattle.bw_session.proofs.session.Session.do_next.Goals as goal
 
 pub make_room-requires : goal.make_room-requires
@@ -232,3 +238,78 @@ returns-in-Err-clause-noted g c = λ honest honest_notes first log h stood noted
     (notes_put first log c.args.self.now.progress.state.parts c.args.self.now.progress.ledger.outcomes w
     c.args.self.now.progress.growing _ h m 0 _ c.args.self.now.progress.name c.args.self.now.progress.noted _
     (omega (arith, next)) (omega arith) c.requires.free noted))
+
+pub returns-in-Ok-clause-asked : goal.returns-in-Ok-clause-asked
+returns-in-Ok-clause-asked g c =
+    let m : Message = message_of c.args.message.now in
+    let w : List (Option (List ℕ)) = c.args.self.now.window in
+    let kept = c.in_ok-room.ensures.progress in
+    let slots = c.requires.slots in
+    let there : 0 < length w = omega (arith, slots) in
+    let said = message_spelled c.args.message.now.body.now c.args.message.now.spells in
+    let a : Part = record (part_of c.args.self.now) { window = slice_set w 0 (Some (message_body m)) } in
+    let b : Part = record {
+      parts = c.number_done.new.self.state.parts;
+      outcomes = c.number_done.new.self.ledger.outcomes;
+      window = c.advance.new.self;
+      growing = c.number_done.new.self.growing;
+    } in
+    subst (λ (x : List (Option (List ℕ))). DoesFirst g.S.TakeStore (record (part_of c.args.self.now) { window = x })
+    c.args.stores.now.store b c.number_done.new.stores.store)
+    (sym (window_next w (length c.args.self.now.progress.ledger.outcomes) m c.requires.next c.requires.free))
+    (does_first g.S.TakeStore a b c.args.stores.now.store c.number_done.new.stores.store (message_body m) c.args.digest
+    (meaning c.request-request.result) (verdict_meaning c.in-Ok.verdict) (at-set_same w 0 (Some (message_body m)) there)
+    (c.request-request.ensures.value ∙ ap (λ (x : List ℕ). (message_in x).request) said.spelled) c.requires.digest
+    (subst (λ (p : _). WasAsked g.S.TakeStore (judged_plan c.args.self.now.progress.growing p
+    (meaning c.request-request.result) c.number_done.new.self.growing.made)
+    c.args.stores.now.store c.number_done.new.stores.store) kept.parts
+    (subst (λ (x : Growing). WasAsked g.S.TakeStore (judged_plan x c.make_room.new.self.progress.state.parts
+    (meaning c.request-request.result) c.number_done.new.self.growing.made)
+    c.args.stores.now.store c.number_done.new.stores.store) kept.growing c.in-Ok.ensures.order))
+    (c.in-Ok.ensures.known ∙ ap (λ (x : Growing). record x {
+      made = c.number_done.new.self.growing.made;
+      dirty = c.number_done.new.self.growing.dirty;
+    }) kept.growing)
+    c.in-Ok.ensures.clean
+    (subst (λ (p : _). KeepsJudged p (meaning c.request-request.result) c.number_done.new.self.state.parts) kept.parts
+    c.in-Ok.ensures.kept)
+    (c.in-Ok.ensures.verdict ∙ ap (λ (p : _). judged_by p (meaning c.request-request.result)
+    c.number_done.new.self.state.parts.taken) kept.parts)
+    (c.in-Ok.ensures.outcomes ∙ ap (λ (x : List (List ℕ × Verdict)).
+    x ++ (c.args.digest, verdict_meaning c.in-Ok.verdict) ∷ []) kept.outcomes)
+    (c.advance.ensures ∙ ap (λ (x : List (Option (List ℕ))). drop 1 x ++ None ∷ []) c.in_ok-room.ensures.window
+    ∙ ap (λ (x : List (Option (List ℕ))). x ++ None ∷ []) (sym (passed_slot w (message_body m)))))
+
+pub returns-in-Err-clause-asked : goal.returns-in-Err-clause-asked
+returns-in-Err-clause-asked g c =
+    let m : Message = message_of c.args.message.now in
+    let w : List (Option (List ℕ)) = c.args.self.now.window in
+    let kept = c.in_ok-room.ensures.progress in
+    let slots = c.requires.slots in
+    let there : 0 < length w = omega (arith, slots) in
+    let said = message_spelled c.args.message.now.body.now c.args.message.now.spells in
+    let a : Part = record (part_of c.args.self.now) { window = slice_set w 0 (Some (message_body m)) } in
+    let b : Part = record {
+      parts = c.number_done.new.self.state.parts;
+      outcomes = c.number_done.new.self.ledger.outcomes;
+      window = c.put.new.self;
+      growing = c.number_done.new.self.growing;
+    } in
+    subst (λ (x : List (Option (List ℕ))). TriesFirst g.S.TakeStore (record (part_of c.args.self.now) { window = x })
+    c.args.stores.now.store b c.number_done.new.stores.store)
+    (sym (window_next w (length c.args.self.now.progress.ledger.outcomes) m c.requires.next c.requires.free))
+    (tries_first g.S.TakeStore a b c.args.stores.now.store c.number_done.new.stores.store (message_body m)
+    (meaning c.request-request.result) (at-set_same w 0 (Some (message_body m)) there)
+    (c.request-request.ensures.value ∙ ap (λ (x : List ℕ). (message_in x).request) said.spelled) (
+      c.in-Err.ensures.begun.0,
+      subst (λ (p : _). WasAskedFirst g.S.TakeStore (judged_plan c.args.self.now.progress.growing p
+          (meaning c.request-request.result) c.in-Err.ensures.begun.0)
+          c.args.stores.now.store c.number_done.new.stores.store) kept.parts
+          (subst (λ (x : Growing). WasAskedFirst g.S.TakeStore (judged_plan x c.make_room.new.self.progress.state.parts
+          (meaning c.request-request.result) c.in-Err.ensures.begun.0)
+          c.args.stores.now.store c.number_done.new.stores.store) kept.growing c.in-Err.ensures.begun.1),
+    )
+    (ap (λ (l : Entries). l.outcomes) c.in-Err.ensures.stopped.0 ∙ kept.outcomes)
+    (c.put.ensures
+    ∙ ap (λ (x : List (Option (List ℕ))). slice_set x 0 (Some c.copy_to.result)) c.in_ok-room.ensures.window
+    ∙ ap (λ (b : List ℕ). slice_set w 0 (Some b)) c.copy_to.ensures))

@@ -1,4 +1,4 @@
-use Rattle.std.proofs.Common.{rules, ◌≡◌, ◌+◌, ◌≤◌, ℕ, suc, false, length, sym, ◌∙◌, ap, subst, arith}
+use Rattle.std.proofs.Common.{rules, ◌≡◌, ◌+◌, ◌≤◌, ℕ, suc, false, length, refl, sym, ◌∙◌, ap, subst, arith}
 use Rattle.std.specs.List.{All}
 use Rattle.std.proofs.lemmas.List.{length_push}
 use Rattle.std.proofs.lemmas.List.Elements.{All-append, All-push}
@@ -7,6 +7,7 @@ use Rattle.bw_file.specs.Growing.{Growing}
 use Rattle.bw_session.specs.Telling.{IsServing, IsTimely}
 use Rattle.bw_session.specs.Noting.{IsNoted}
 use Rattle.bw_session.specs.Numbered.{with_done}
+use Rattle.bw_session.specs.Sessions.{part_of}
 use Rattle.bw_session.specs.Runs.{with_more_done}
 use Rattle.bw_session.proofs.RunForms.{both_then, holds_under, noted_then, drained_push}
 use Rattle.bw_session.proofs.session.Session.drain.Goals as goal
@@ -51,6 +52,10 @@ loop-slot-preserved g c =
           let now = c.in-Done.ensures.calls in
           let done = c.in-Done.ensures.done in
           omega (arith, done, before, now);
+      asked = (
+        suc c.loop-slot.invariant.asked.0,
+        (part_of c.loop-slot.self, c.loop-slot.stores.store, c.loop-slot.invariant.asked.1, c.in-Done.ensures.asked),
+      );
       take = search rules;
       few = search rules;
       served = λ all. subst (All IsServing) (sym c.push.ensures.items)
@@ -92,3 +97,30 @@ loop-slot-preserved g c =
           drained.left))
           stood (loop.noted honest honest_notes first log h stood noted));
     }
+
+pub returns-in-Idle-clause-asked : goal.returns-in-Idle-clause-asked
+returns-in-Idle-clause-asked g c = record {
+  count = c.loop-slot.invariant.asked.0;
+  last = part_of c.loop-slot.self;
+  reached = c.loop-slot.stores.store;
+  done = c.loop-slot.invariant.asked.1;
+  end = c.in-Idle.ensures.asked;
+}
+
+pub returns-in-Stopped-clause-asked : goal.returns-in-Stopped-clause-asked
+returns-in-Stopped-clause-asked g c = record {
+  count = c.loop-slot.invariant.asked.0;
+  last = part_of c.loop-slot.self;
+  reached = c.loop-slot.stores.store;
+  done = c.loop-slot.invariant.asked.1;
+  end = c.in-Stopped.ensures.asked;
+}
+
+pub returns-clause-asked : goal.returns-clause-asked
+returns-clause-asked g c = record {
+  count = c.loop-slot.invariant.asked.0;
+  last = part_of c.loop-slot.self;
+  reached = c.loop-slot.stores.store;
+  done = c.loop-slot.invariant.asked.1;
+  end = (refl, refl);
+}

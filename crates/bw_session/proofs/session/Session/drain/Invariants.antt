@@ -2,6 +2,7 @@ use Rattle.std.proofs.Common.{◌≡◌, ℕ, List, Option, length, IsTrue, is_s
 use Rattle.std.specs.List.{All}
 use Rattle.bw_model.specs.Book.{Log}
 use Rattle.bw_session.specs.Numbered.{KeepsBoth}
+use Rattle.bw_session.specs.Asking.{DoesInRow}
 use Rattle.bw_session.specs.Noting.{IsNoted}
 use Rattle.bw_session.specs.Telling.{IsServing, IsTimely}
 use Rattle.bw_session.specs.Sessions.{CallsFew, KeepsTake, part_of}
@@ -14,6 +15,7 @@ invariant-loop-slot g l = record {
       l.fn.stores.journal l.stores.journal;
   calls : CallsFew (g.S.TakeStore.calls l.fn.stores.store) (g.S.TakeStore.calls l.stores.store)
       (length l.fn.self.progress.ledger.outcomes) (length l.self.progress.ledger.outcomes) false;
+  asked : (n : ℕ) × DoesInRow g.S.TakeStore n (part_of l.fn.self) l.fn.stores.store (part_of l.self) l.stores.store;
   take : KeepsTake l.fn.self l.self;
   few : length l.out.items ≡ l._slot;
   served : All IsServing l.fn.out.items → All IsServing l.out.items;

@@ -16,6 +16,10 @@ use Rattle.bw_session.proofs.AdmitForms.{outside_not_new, part_same, notes_same}
 use Rattle.bw_session.proofs.ReplyForms.{own_far}
 use Rattle.bw_session.proofs.ServeForms.{starts, serves, noted_start}
 use Rattle.bw_session.proofs.UseForms.{all_none, timely_any, timely_notice, timely_push}
+use Rattle.std.proofs.Common.{inl}
+use Rattle.bw_session.specs.KeptParts.{Part}
+use Rattle.bw_session.specs.Asking.{DoesRun}
+use Rattle.bw_session.proofs.AskForms.{holding_far}
 use Rattle.bw_session.proofs.session.Session.serve.Goals as goal
 
 pub returns-then-done-len-clause-both : goal.returns-then-done-len-clause-both
@@ -141,3 +145,22 @@ returns-in_default-clause-noted g c = λ honest honest_notes first log h stood n
     (g.J.Journal.notes c.admit_and_drain.new.stores.journal c.args.self.now.progress.name))
     (sym ended.drained.left.memory.done)
     (c.in_ok-stopped.ensures.noted honest honest_notes first log h stood noted)
+
+pub returns-then-done-len-clause-asked : goal.returns-then-done-len-clause-asked
+returns-then-done-len-clause-asked g c =
+    let m : Message = message_of c.args.message.now in
+    let long = c.len-done.ensures.value in
+    let slots = c.len.ensures.value in
+    let number = c.number.ensures.value in
+    let past : length c.args.self.now.progress.ledger.outcomes + 16 ≤ m.number = search rules in
+    inl (
+      c.drain.result,
+      subst (λ (a : Part). DoesRun g.S.TakeStore c.drain.result a c.args.stores.now.store (part_of c.drain.new.self)
+          c.drain.new.stores.store) (sym (holding_far (part_of c.args.self.now) m past)) c.drain.ensures.asked,
+    )
+
+pub returns-in-Some-clause-asked : goal.returns-in-Some-clause-asked
+returns-in-Some-clause-asked g c = inl (c.in_ok-stopped.stopped, c.in_ok-stopped.ensures.asked)
+
+pub returns-in_default-clause-asked : goal.returns-in_default-clause-asked
+returns-in_default-clause-asked g c = inl (c.in_ok-stopped.stopped, c.in_ok-stopped.ensures.asked)
