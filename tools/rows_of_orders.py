@@ -102,27 +102,6 @@ CUTS = [
     ),
 ]
 
-# How many bytes of a take came, of its messages of 22, 16 and 20 bytes: how many are whole, and the reply to the rest.
-FRONTS = [
-    (0, 0, []),
-    *((count, 0, [broken(6)]) for count in range(1, 22)),
-    (22, 1, []),
-    *((count, 1, [broken(6, 22)]) for count in range(23, 38)),
-    (38, 2, []),
-    *((count, 2, [broken(6, 38)]) for count in range(39, 58)),
-    (58, 3, []),
-]
-FILES = [[], [EMPTY_FILE], [SMALL_FILE], [SMALL_FILE]]
-CUT_MESSAGES = [
-    Row(
-        f"after {count} bytes",
-        (OPEN + BLOCK + CLOSE)[: 2 * count] + "\n",
-        [BAD_EXCHANGE if rest else EXCHANGE, *stored(*range(whole)), *rest],
-        FILES[whole],
-    )
-    for count, whole, rest in FRONTS
-]
-
 ASKS = [
     Row("an empty server", ASK, [EXCHANGE, asked(0)]),
     Row("two numbers done", OPEN + BLOCK + ASK, [EXCHANGE, *stored(0, 1), asked(2)], [SMALL_FILE]),
@@ -191,7 +170,6 @@ ROWS = {
     "what comes again is stored once": REPEATS,
     "the first body of a number stays": CONFLICTS,
     "a file doesn't depend on where exchanges end": CUTS,
-    "an exchange may be cut off at each byte": CUT_MESSAGES,
     "the answer to an ask is what comes next": ASKS,
     "an ask has a number and no more": BAD_ASKS,
     "each line is an exchange": LINES,
