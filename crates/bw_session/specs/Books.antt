@@ -1,5 +1,5 @@
 -- What a server has to do with the book that it was told.
-use Rattle.std.specs.Prelude.{ℕ, Option, Some, None, is_some, List, map, drop, count_by}
+use Rattle.std.specs.Prelude.{◌≡◌, ℕ, Option, Some, None, is_some, List, map, drop, count_by}
 use Rattle.std.specs.Prelude.{if◌then◌else◌}
 use Rattle.bw_model.specs.Wire.{Message, Says}
 use Rattle.bw_model.specs.Book.{Log, Book, log_of, is_known}
@@ -40,6 +40,11 @@ module _ {X Y : Type 0} (S : StoreGhosts X) (J : JournalGhosts Y) where
     pub turned : IsTurn (λ name. is_some (first name)) (failures_of old) (failures_of new) book
         (Says m) (map reply_of replies) later
     pub held : HoldsBook first new later
+
+  -- store and journal are as they were
+  abbrev pub SameStores : Server X Y S J → Server X Y S J → Type 0
+  SameStores old new =
+      (new.stores.store ≡ old.stores.store) × (new.stores.journal ≡ old.stores.journal)
 
   -- What the store was asked for each number of the message's name that was done in its turn.
   abbrev pub AsksTurn : Server X Y S J → Server X Y S J → Message → Type 0

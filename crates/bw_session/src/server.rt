@@ -74,7 +74,7 @@ impl<S: TakeStore> Server<S> {
 
 impl<S: TakeStore, J: Journal> Server<S, J> {
     ghost use Rattle.bw_session.specs.Books.{failures_of, HoldsBook, NotesBook, TurnsBook};
-    ghost use Rattle.bw_session.specs.Books.{AsksTurn};
+    ghost use Rattle.bw_session.specs.Books.{AsksTurn, SameStores};
     ghost use Rattle.bw_session.specs.Books.{of_known, count_waiting};
 
     /// A server that knows no name, over a store and a journal.
@@ -125,6 +125,9 @@ impl<S: TakeStore, J: Journal> Server<S, J> {
     /// numbers of its name that are done by it, in their order, at most sixteen, and behind them
     /// what is said of the message itself, where its verdict isn't among these.
     ///
+    /// Whatever store it is, for each number that is done it is asked all that its judged request
+    /// asks, in that order, and for one whose store call failed the first of these.
+    ///
     /// A message that is held is done when those before it have come; after a failure of the store
     /// or the journal, when the next message of its name comes.
     ///
@@ -144,8 +147,7 @@ impl<S: TakeStore, J: Journal> Server<S, J> {
             × ((name : List ℕ) → kept_in self.new.sessions name ≡ kept_in self.old.sessions name) }
         ensures unmet { session_in self.new.sessions (message_of message.now).name ≡ None →
             (self.new.sessions ≡ self.old.sessions)
-            × (self.new.stores.store ≡ self.old.stores.store)
-            × (self.new.stores.journal ≡ self.old.stores.journal) }
+            × SameStores S.TakeStore J.Journal self.old self.new }
         ensures both { UsesBoth S.TakeStore J.Journal (message_of message.now).name
             self.old.stores.store self.new.stores.store
             self.old.stores.journal self.new.stores.journal
