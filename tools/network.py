@@ -88,14 +88,15 @@ def free_port():
 
 
 class Server:
-    """A server in the background, at a port that was free."""
+    """A server in the background, at a port that was free. Where `watch` makes an observer, it is given each call."""
 
-    def __init__(self, folder, *options, observer=None):
+    def __init__(self, folder, *options, watch=None):
         for _ in range(5):
+            self.observer = watch() if watch else None
             self.port = free_port()
             self.faults = tempfile.TemporaryFile()
             words = ("serve", "--listen", f"{LOCAL}:{self.port}", "--folder", str(folder), *options)
-            self.process = start(*words, observer=observer, stdout=subprocess.PIPE, stderr=self.faults)
+            self.process = start(*words, observer=self.observer, stdout=subprocess.PIPE, stderr=self.faults)
             self.held = b""
             if self.line() == f"listening {LOCAL}:{self.port}":
                 return

@@ -43,10 +43,6 @@ def ptrace(request, process=0, place=0, word=0):
     return given
 
 
-def signed(word):
-    return word - (1 << 64) if word >> 63 else word
-
-
 class Call:
     """A call of the system: its number on x86-64, its six words, and once it was made its result, which an observer
     may change. Where it failed the result is the negative number of the fault.
@@ -63,12 +59,22 @@ class Call:
     def bytes_at(self, address, length):
         return os.pread(self.memory, length, address)
 
+    def write_at(self, address, content):
+        """Changes the program's memory, for good."""
+        os.pwrite(self.memory, content, address)
+
     def text_at(self, address):
         return self.bytes_at(address, LONGEST_PATH).split(b"\0")[0].decode(errors="replace")
 
     def change(self, place, word):
         """It is made with this word in the place, counted from 0."""
+        self.words[place] = word
         self.changed[WORDS[place]] = word
+
+    def become(self, number):
+        """It is another call, with the same words."""
+        self.number = number
+        self.changed[ORIG_RAX] = number
 
     def answer(self, result):
         """It isn't made, and comes to this result."""
@@ -170,7 +176,7 @@ class Traced(subprocess.Popen):
             stop = self.resume(SYSCALL, stop)
 
     def make_call(self):
-        """From the stop before a call to the one after it. A changed register is as it was behind the call."""
+        """From the stop before a call to the one after it. A register that was changed for it gets its word back."""
         registers = (ctypes.c_uint64 * REGISTERS)()
         ptrace(GETREGS, self.pid, 0, ctypes.addressof(registers))
         call = Call(self.memory, registers)
@@ -178,7 +184,7 @@ class Traced(subprocess.Popen):
         for register, word in call.changed.items():
             self.put(register, word)
         self.resume(SYSCALL)
-        result = signed(ptrace(PEEKUSER, self.pid, 8 * RAX)) if call.answered is None else None
+        result = ptrace(PEEKUSER, self.pid, 8 * RAX) if call.answered is None else None
         call.result = result if call.answered is None else call.answered
         self.observer.after(call)
         for register in call.changed:
