@@ -1,4 +1,5 @@
 """Runs of `replay --fuse K`: the call number K of the store fails, and the request it was for is tried again."""
+from rows_of_takes import block, OPEN_B2
 from worked import asked, BLOCK, CLOSE, conflict, delayed, EMPTY, EMPTY_FILE, EXCHANGE, EXCHANGE_1, FORM_682, FORM_686
 from worked import FORM_722, held, JUNK, MARKER, MONO, NO_BEXT, NO_DATA, OPEN, OTHER_BLOCK, RAIN, Row, SMALL_FILE
 from worked import stored, too_far, TWO_FRAMES
@@ -83,6 +84,31 @@ RETRIES = [
         [EXCHANGE, delayed(0), EXCHANGE_1, *stored(0, 1, 2)],
         [SMALL_FILE],
     ),
+    # the call 2 makes the name b2
+    fused(
+        2,
+        "OPEN of another take, and a block of the first meanwhile",
+        OPEN + OPEN_B2 + BLOCK + "080000000602623200000000" + OPEN_B2,
+        [
+            *(EXCHANGE, *stored(0), delayed(0, "b2"), *stored(1)),
+            *(asked(0, name="b2"), *stored(0, name="b2")),
+        ],
+        [SMALL_FILE, "file b2 690\n" + EMPTY],
+    ),
+    # number 16 is too far while 0 is to come, whatever its turn stores: sixteen verdicts and a notice
+    fused(
+        0,
+        "a full window, and a number too far, twice",
+        "".join(block(number) for number in range(1, 16)) + OPEN + 2 * block(16),
+        [
+            *(EXCHANGE, *(held(number, 0) for number in range(1, 16)), delayed(0)),
+            *(*stored(*range(16)), too_far(16, 16), *stored(16)),
+        ],
+        [
+            "file a1 754\n52494646ea020000574156454a554e4b1c000000"
+            + (JUNK + MONO + NO_BEXT + "6461746140000000" + 16 * "01000200")
+        ],
+    ),
 ]
 
 # Two frames: the form's size counts them, that of the data doesn't.
@@ -107,7 +133,7 @@ TORN = [
     fused(
         3,
         "half of the form size, and another take",
-        OPEN + BLOCK + "12000000010262320000000080bb0000010010000000",
+        OPEN + BLOCK + OPEN_B2,
         [EXCHANGE, *stored(0), delayed(1), *stored(0, name="b2")],
         [TORN_FILE, "file b2 690\n" + EMPTY],
     ),

@@ -67,6 +67,14 @@ REFUSED = [
         [EXCHANGE, judged(0, 5), *stored(1, 2), judged(3, 4)],
         ["file a1 690\n" + FORM_682 + JUNK + FASTEST + NO_BEXT + NO_DATA],
     ),
+    Row(
+        "a rate of 0, the right one, and another OPEN",
+        "12000000010261310000000000000000010010000000"
+        + "12000000010261310100000080bb0000010010000000"
+        + "12000000010261310200000080bb0000010010000000",
+        [EXCHANGE, judged(0, 5), *stored(1), judged(2, 2)],
+        [EMPTY_FILE],
+    ),
     Row("a take that isn't opened", "0c000000020261310000000001000200", [EXCHANGE, judged(0, 3)]),
 ]
 
@@ -201,26 +209,58 @@ FULL_WINDOW = [
             + (JUNK + MONO + NO_BEXT + "6461746140000000" + 16 * "01000200")
         ],
     ),
+    Row(
+        "1 to 15 first, then 16, OPEN, 17, and 16 again",
+        "".join(block(number) for number in range(1, 17)) + OPEN + block(17) + block(16),
+        [
+            *(EXCHANGE, *(held(number, 0) for number in range(1, 16)), too_far(16, 0)),
+            *(*stored(*range(16)), held(17, 16), *stored(16, 17)),
+        ],
+        [
+            "file a1 758\n52494646ee020000574156454a554e4b1c000000"
+            + (JUNK + MONO + NO_BEXT + "6461746144000000" + 17 * "01000200")
+        ],
+    ),
 ]
 
 LETTERS = "abcdefghijklmnop"
 NAMES = [first + second for first in LETTERS for second in LETTERS]
+WAITING = "".join(f"0c0000000202{name.encode().hex()}0100000001000200" for name in NAMES)
+TURNED_AWAY = BLOCK_B2 + "0c000000020262321000000001000200" + "080000000602623200000000"
+AWAY = [turned_away(1, "b2"), too_far(16, 0, "b2"), asked(0, name="b2")]
 MANY_NAMES = [
     Row(
         "a waiting block under each of 256 names; then OPEN, two blocks and an ask of another, and OPEN of the first",
-        "".join(f"0c0000000202{name.encode().hex()}0100000001000200" for name in NAMES)
+        WAITING
         + OPEN_B2
-        + "0c000000020262320100000001000200"
-        + "0c000000020262321000000001000200"
-        + "080000000602623200000000"
+        + TURNED_AWAY
         + "12000000010261610000000080bb0000010010000000",
         [
             EXCHANGE,
             *(held(1, 0, name) for name in NAMES),
-            *(turned_away(0, "b2"), turned_away(1, "b2"), too_far(16, 0, "b2"), asked(0, name="b2")),
+            *(turned_away(0, "b2"), *AWAY),
             *stored(0, 1, name="aa"),
         ],
         ["file aa 694\n" + SMALL],
+    ),
+    Row(
+        "a waiting block under each of 256 names, OPEN of each, and another name before and after",
+        WAITING
+        + TURNED_AWAY
+        + "".join(f"120000000102{name.encode().hex()}0000000080bb0000010010000000" for name in NAMES)
+        + TURNED_AWAY,
+        [
+            *(EXCHANGE, *(held(1, 0, name) for name in NAMES), *AWAY),
+            *(line for name in NAMES for line in stored(0, 1, name=name)),
+            *AWAY,
+        ],
+        [f"file {name} 694\n{SMALL}" for name in NAMES],
+    ),
+    Row(
+        "a number too far under each of 256 names, and a take of another",
+        "".join(f"0c0000000202{name.encode().hex()}1000000001000200" for name in NAMES) + OPEN_B2 + BLOCK_B2 + CLOSE_B2,
+        [EXCHANGE, *(too_far(16, 0, name) for name in NAMES), *stored(0, 1, 2, name="b2")],
+        [FILE_B2],
     ),
 ]
 

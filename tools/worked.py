@@ -6,7 +6,7 @@ from typing import NamedTuple
 
 from takes import bad_frame, CONFLICT, DELAYED_STORE, NEXT, notice, STORED, verdict
 
-HELD, TOO_FAR, TABLE_FULL = 32, 33, 35
+HELD, TOO_FAR, TABLE_FULL, NO_ROOM = 32, 33, 35, 36
 
 EXCHANGE = "exchange 0 EndOfInput"
 BAD_EXCHANGE = "exchange 0 BadFrame"
@@ -86,9 +86,14 @@ def conflict(number, following):
     return reply(notice("a1", number, CONFLICT, following))
 
 
-def delayed(number):
+def delayed(number, name="a1"):
     """The store failed under this number, which comes next."""
-    return reply(notice("a1", number, DELAYED_STORE, number))
+    return reply(notice(name, number, DELAYED_STORE, number))
+
+
+def no_room(number, following):
+    """Memory was refused, and nothing changed."""
+    return reply(notice("a1", number, NO_ROOM, following))
 
 
 def asked(following, number=0, name="a1"):

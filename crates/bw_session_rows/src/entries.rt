@@ -5,11 +5,10 @@ ghost use Rattle.bw_take.specs.Requests.{meaning};
 
 use crate::play::a1;
 use bw_journal::{
-    FuseJournal, Journal, JournalHeader, MemoryJournal, NoJournal, ReplayFault, Replayed,
-    put_entry, replay,
+    FuseJournal, Journal, JournalHeader, MemoryJournal, ReplayFault, Replayed, put_entry, replay,
 };
 use bw_layout::Limit;
-use bw_take::{Name, RequestRef, Verdict};
+use bw_take::{RequestRef, Verdict};
 use sha2::{Digest, Sha256};
 use std::alloc::{AllocError, Global};
 use std::process::Abort;
@@ -131,7 +130,11 @@ static BODIES: [Noted; 6] = [
         verdict: Verdict::BadBlock,
         request: RequestRef::Block { bytes: &[1] },
     },
-    MARK,
+    Noted {
+        body: b"\x03\x02a1\x03\0\0\0\x07\0\0\0\x02\0\0\0",
+        verdict: Verdict::Stored,
+        request: RequestRef::Mark { id: 7, frame: 2 },
+    },
     Noted {
         body: b"\x04\x02a1\x04\0\0\0\x02bw",
         verdict: Verdict::Stored,
@@ -146,12 +149,6 @@ static BODIES: [Noted; 6] = [
         request: RequestRef::CloseTake { frames: 2 },
     },
 ];
-
-const MARK: Noted = Noted {
-    body: b"\x03\x02a1\x03\0\0\0\x07\0\0\0\x02\0\0\0",
-    verdict: Verdict::Stored,
-    request: RequestRef::Mark { id: 7, frame: 2 },
-};
 
 /// Appends the entry of a body.
 fn note(alloc: Global, out: &mut Vec<u8>, noted: &Noted) -> Result<(), AllocError>
@@ -236,32 +233,6 @@ fn what_is_no_journal_of_this_server_is_refused(rt: HostRuntime) -> Result<(), F
     Ok(())
 }
 
-/// Run once more with each growth refused, by `tools/refuse_calls --tests`.
-#[test]
-fn a_refused_growth_is_told_and_changes_nothing(rt: HostRuntime) -> Result<(), Fail> {
-    let alloc = rt.alloc();
-    let mut found = told(replay(alloc, Limit::default(), &JOURNAL));
-    if found == Err(ReplayFault::Memory.code()) {
-        found = told(replay(alloc, Limit::default(), &JOURNAL));
-    }
-    assert!(&rt; found == Ok((325, 0, 198)), "another story");
-    let mut out = Vec::new(alloc);
-    for entries in 0..4usize {
-        if note(alloc, &mut out, &MARK).is_err() {
-            assert!(&rt; out.len() == 52 * entries, "a part of a refused entry");
-            note(alloc, &mut out, &MARK)?;
-        }
-    }
-    assert!(&rt; out.len() == 208, "another length");
-    for entry in 0..4usize {
-        assert!(&rt;
-            &out[52 * entry..52 * entry + 52] == &JOURNAL[174..226],
-            "other bytes"
-        );
-    }
-    Ok(())
-}
-
 /// A memory in which the journal of `a1` has these bytes.
 fn planted(alloc: Global, bytes: &[u8]) -> Result<MemoryJournal, Fail> {
     let mut memory = MemoryJournal::new(alloc, Limit::default());
@@ -277,7 +248,9 @@ fn has(rt: &impl Abort, memory: &MemoryJournal, bytes: &[u8]) -> Result<(), Fail
 }
 
 #[test]
-fn a_fault_leaves_the_beginning_of_an_entry(rt: HostRuntime) -> Result<(), Fail> {
+fn a_fault_leaves_the_beginning_of_an_entry_and_the_rest_follows(
+    rt: HostRuntime,
+) -> Result<(), Fail> {
     let name = a1()?;
     let fuses = [0u64, 2].to_vec(rt.alloc())?;
     let mut journal = FuseJournal::new(planted(rt.alloc(), &JOURNAL[..7])?, fuses);
@@ -285,27 +258,12 @@ fn a_fault_leaves_the_beginning_of_an_entry(rt: HostRuntime) -> Result<(), Fail>
     journal.begin(&name)?;
     let noted = journal.note(&name, 19, &JOURNAL[19..78]);
     assert!(&rt; noted.is_err(), "a fuse is left");
-    has(&rt, journal.inner(), &JOURNAL[..48])
-}
-
-#[test]
-fn a_journal_grows_behind_what_it_has_whole(rt: HostRuntime) -> Result<(), Fail> {
-    let name = a1()?;
-    let memory = planted(rt.alloc(), &JOURNAL[..48])?;
-    let mut journal = FuseJournal::new(memory, Vec::new(rt.alloc()));
+    has(&rt, journal.inner(), &JOURNAL[..48])?;
     journal.note(&name, 19, &JOURNAL[19..78])?;
     journal.note(&name, 78, &JOURNAL[78..])?;
     journal.begin(&name)?;
-    assert!(&rt; journal.calls() == 3, "other calls");
+    assert!(&rt; journal.calls() == 6, "other calls");
     has(&rt, journal.inner(), &JOURNAL)
-}
-
-#[test]
-fn a_journal_that_was_never_begun_takes_no_note(rt: HostRuntime) -> Result<(), Fail> {
-    let mut journal = planted(rt.alloc(), &JOURNAL)?;
-    let other = Name::new(b"b2").ok_or("a name")?;
-    assert!(&rt; journal.note(&other, 0, b"x").is_err(), "a note");
-    has(&rt, &journal, &JOURNAL)
 }
 
 #[test]
@@ -316,11 +274,4 @@ fn a_journal_knows_which_files_stood(rt: HostRuntime) -> Result<(), Fail> {
     journal.set_stood(&name)?;
     journal.begin(&name)?;
     has(&rt, &journal, b"\x09\0BWJ1\0\x20\0\0\x01V\xb6*B\xccH3\x9a")
-}
-
-#[test]
-fn no_journal_takes_every_note(_rt: HostRuntime) -> Result<(), Fail> {
-    NoJournal.begin(&a1()?)?;
-    NoJournal.note(&a1()?, 7, b"x")?;
-    Ok(())
 }

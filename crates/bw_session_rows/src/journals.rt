@@ -2,23 +2,21 @@
 //! store.
 ghost use Rattle.std.specs.Prelude.{None, false};
 
-use crate::compare::same;
 use crate::entries::JOURNAL;
-use crate::orders::BACKWARDS;
 use crate::play::Told::{Judged, Noticed};
-use crate::play::{Told, Turn, a1, has_file, knows, send, send_all, server_with};
-use crate::takes::{
-    ALL_DONE, APPENDED, BLOCK, DELAYS_BLOCK, DELAYS_OPEN, OPENS, OTHER_BLOCK, TWO_FRAMES,
-};
-use bw_file::{MemoryStore, StoreFault, Tally};
+use crate::play::{Told, Turn, a1, has_file, noting_server, send};
+use bw_file::{StoreFault, Tally};
 use bw_journal::{FuseJournal, Journal, MemoryJournal};
 use bw_layout::Limit;
-use bw_session::Server;
 use bw_take::Name;
 use bw_take::Verdict::{BadBlock, Stored};
-use bw_wire::Notice::Conflict;
-use std::alloc::Global;
+use bw_wire::Notice::{Conflict, DelayedStore, Held};
 use std::test::Fail;
+
+/// OPEN 0 of `a1`: 48,000 Hz, one channel, 16 bits; BLOCK 1 with two frames.
+const OPEN: &[u8] = b"\x01\x02a1\0\0\0\0\x80\xbb\0\0\x01\0\x10\0\0\0";
+
+const BLOCK: &[u8] = b"\x02\x02a1\x01\0\0\0\x01\0\x02\0";
 
 /// The messages of `JOURNAL`, with their verdicts.
 static MESSAGES: [(&[u8], Told); 6] = [
@@ -77,11 +75,6 @@ impl Journal for Expecting {
     }
 }
 
-/// A new server over a store in memory and a journal.
-fn noting_server<J: Journal>(alloc: Global, journal: J) -> Result<Server<MemoryStore, J>, Fail> {
-    server_with(alloc, MemoryStore::new(alloc), journal, Limit::default())
-}
-
 #[test]
 fn each_done_number_is_noted_byte_for_byte(rt: HostRuntime) -> Result<(), Fail> {
     let journal = Expecting {
@@ -96,36 +89,51 @@ fn each_done_number_is_noted_byte_for_byte(rt: HostRuntime) -> Result<(), Fail> 
     Ok(())
 }
 
-#[test]
-fn a_server_over_a_journal_in_memory_does_the_same(rt: HostRuntime) -> Result<(), Fail> {
-    let of = "a journal in memory";
-    let name = a1()?;
-    let journal = MemoryJournal::new(rt.alloc(), Limit::default());
-    let mut server = noting_server(rt.alloc(), journal)?;
-    send_all(&rt, of, &mut server, BACKWARDS.turns)?;
-    same(&rt, of, &knows(&server, &name), &Some(ALL_DONE));
-    has_file(&rt, rt.alloc(), of, server.store(), &name, &TWO_FRAMES)
-}
+const DELAYS_OPEN: Turn = Turn {
+    body: OPEN,
+    told: &[Noticed(0, DelayedStore, 0)],
+};
 
-/// The journal's calls: its beginning fails, then the note of OPEN behind another beginning, then
-/// the note of BLOCK.
-static DELAYED: [Turn; 5] = [
+/// The journal's calls: its beginning fails, then the note of OPEN after another beginning, then
+/// the note of BLOCK, in place of which another comes. After them `b2` comes backwards.
+static TURNS: [Turn; 8] = [
     DELAYS_OPEN,
     DELAYS_OPEN,
-    OPENS,
-    DELAYS_BLOCK,
     Turn {
-        body: OTHER_BLOCK,
-        told: &[APPENDED, Noticed(1, Conflict, 2)],
+        body: OPEN,
+        told: &[Judged(0, Stored)],
+    },
+    Turn {
+        body: BLOCK,
+        told: &[Noticed(1, DelayedStore, 1)],
+    },
+    Turn {
+        body: b"\x02\x02a1\x01\0\0\0\x01\0\x03\0",
+        told: &[Judged(1, Stored), Noticed(1, Conflict, 2)],
+    },
+    Turn {
+        body: b"\x05\x02b2\x02\0\0\0\x02\0\0\0\0\0\0\0",
+        told: &[Noticed(2, Held, 0)],
+    },
+    Turn {
+        body: b"\x02\x02b2\x01\0\0\0\x01\0\x02\0",
+        told: &[Noticed(1, Held, 0)],
+    },
+    Turn {
+        body: b"\x01\x02b2\0\0\0\0\x80\xbb\0\0\x01\0\x10\0\0\0",
+        told: &[Judged(0, Stored), Judged(1, Stored), Judged(2, Stored)],
     },
 ];
 
 #[test]
 fn a_fault_of_the_journal_delays_a_number(rt: HostRuntime) -> Result<(), Fail> {
-    let of = "a journal behind fuses";
     let inner = MemoryJournal::new(rt.alloc(), Limit::default());
     let journal = FuseJournal::new(inner, [0u64, 2, 5].to_vec(rt.alloc())?);
     let mut server = noting_server(rt.alloc(), journal)?;
-    send_all(&rt, of, &mut server, &DELAYED)?;
-    has_file(&rt, rt.alloc(), of, server.store(), &a1()?, &TWO_FRAMES)
+    for turn in &TURNS {
+        send(&rt, "a turn", &mut server, turn.body, turn.told)?;
+    }
+    let b2 = Name::new(b"b2").ok_or("a name")?;
+    has_file(&rt, rt.alloc(), server.store(), &a1()?)?;
+    has_file(&rt, rt.alloc(), server.store(), &b2)
 }
