@@ -1,4 +1,4 @@
-"""Requests, messages, bad frames and files that are made up, right and wrong, and what docs/FORMATS.md says of them."""
+"""Makes up requests, messages, bad frames and files, right and wrong, with what docs/FORMATS.md says of them."""
 import struct
 from collections import namedtuple
 
@@ -16,7 +16,7 @@ LENGTH, KIND, NAME, NUMBER, PAYLOAD, CUT = range(1, 7)
 NAME_BYTES = b"abcdefghijklmnopqrstuvwxyz0123456789-_"
 
 Message = namedtuple("Message", "name number request")
-Due = namedtuple("Due", "name number")  # a verdict that is to come
+Due = namedtuple("Due", "name number")  # a verdict that is still unknown
 Exchange = namedtuple("Exchange", "data replies end")
 
 
@@ -110,11 +110,11 @@ def right_value(chance, tag):
     return chance.choice((b"", b"\xff\x7f", b"\x00\x00", chance.randbytes(2)))
 
 
-# Messages as a bad network brings them, and the replies to them
+# Messages as a bad network delivers them, and the replies to them
 
 
 class Log:
-    """What came under a name, and how many numbers are done."""
+    """The requests admitted under a name, and how many numbers are done."""
 
     def __init__(self):
         self.admitted = {}
@@ -124,9 +124,9 @@ class Log:
         return [self.admitted[number] for number in range(self.done)]
 
 
-def turn(book, came):
-    """What is answered, with a Due for each verdict."""
-    name, number, request = came
+def turn(book, received):
+    """The replies to a message, with a Due for each verdict."""
+    name, number, request = received
     log = book.get(name)
     if request[0] == ASK:
         return [notice(name, number, NEXT, log.done if log else 0)]
@@ -140,11 +140,11 @@ def turn(book, came):
         log.admitted.setdefault(number, request)
     while log.done in log.admitted:
         log.done += 1
-    return [Due(name, done) for done in range(first, log.done)] + own_reply(log, first, came)
+    return [Due(name, done) for done in range(first, log.done)] + own_reply(log, first, received)
 
 
-def own_reply(log, first, came):
-    name, number, request = came
+def own_reply(log, first, received):
+    name, number, request = received
     if number >= first + WINDOW:
         return [notice(name, number, TOO_FAR, log.done)]
     if log.admitted[number] != request:
@@ -159,25 +159,25 @@ def arrival(chance, name, requests):
     waiting = list(range(len(requests)))
     if waiting and chance.random() < 0.1:
         waiting.remove(chance.choice(waiting))
-    came = []
+    arrived = []
     while waiting:
         number = waiting[0] if chance.random() < 0.6 else chance.choice(waiting[:WINDOW])
         if number < waiting[0] + WINDOW:
             waiting.remove(number)
-            came.append(Message(name, number, requests[number]))
+            arrived.append(Message(name, number, requests[number]))
         if chance.random() < 0.4:
-            came.append(extra(chance, name, requests, came))
-    return came
+            arrived.append(extra(chance, name, requests, arrived))
+    return arrived
 
 
-def extra(chance, name, requests, came):
+def extra(chance, name, requests, arrived):
     """A message that changes nothing in the file."""
-    luck = chance.random()
-    if came and luck < 0.6:
-        return chance.choice(came)
-    if came and luck < 0.75:
-        return Message(name, chance.choice(came).number, Recording(chance).block(True))
-    if luck < 0.88:
+    kind = chance.random()
+    if arrived and kind < 0.6:
+        return chance.choice(arrived)
+    if arrived and kind < 0.75:
+        return Message(name, chance.choice(arrived).number, Recording(chance).block(True))
+    if kind < 0.88:
         return Message(name, chance.randint(0, LARGEST_NUMBER), bytes([ASK]))
     far = chance.choice((len(requests) + WINDOW, LARGEST_NUMBER, chance.randint(len(requests) + WINDOW, 1 << 20)))
     return Message(name, far, chance.choice(requests) if requests else bytes([CLOSE]) + bytes(8))
@@ -197,25 +197,25 @@ def exchanges_of(chance, kind, messages, book):
     while place < len(messages) or not made:
         part = messages[place : place + chance.randint(0, 12)]
         place += len(part)
-        data = b"".join(message(*came) for came in part)
-        replies = [reply for came in part for reply in turn(book, came)]
+        data = b"".join(message(*it) for it in part)
+        replies = [reply for it in part for reply in turn(book, it)]
         more, last, end = ending(chance, kind, messages[place : place + 2] or messages[-1:], len(data))
         made.append(Exchange(data + more, replies + last, end))
     return made
 
 
 def ending(chance, kind, following, place):
-    """The bytes behind an exchange's messages, the reply to them and the exchange's end."""
-    behind = b"".join(message(*came) for came in following)
-    if kind == "cut" and behind and chance.random() < 0.7:
+    """The bytes after an exchange's messages, the reply to them and the exchange's end."""
+    more = b"".join(message(*it) for it in following)
+    if kind == "cut" and more and chance.random() < 0.7:
         first = message(*following[0])
         return first[: chance.randrange(1, len(first))], [bad_frame(CUT, place)], "BadFrame"
     if kind == "garbage" and chance.random() < 0.7:
         reason, data = garbage(chance)
         is_last = reason in (CUT, None)
-        return data if is_last else data + behind, [bad_frame(reason or 0, place)], "BadFrame"
+        return data if is_last else data + more, [bad_frame(reason or 0, place)], "BadFrame"
     if chance.random() < 0.2:
-        return BYE_FRAME + chance.choice((b"", behind, chance.randbytes(9))), [], "Bye"
+        return BYE_FRAME + chance.choice((b"", more, chance.randbytes(9))), [], "Bye"
     return b"", [], "EndOfInput"
 
 
@@ -386,7 +386,7 @@ def past_the_form(chance, form, parts):
 
 
 def no_size(chance, form, parts):
-    """A size that `ds64` should tell, and doesn't."""
+    """A size that `ds64` should have, and doesn't."""
     if form == b"RIFF" and chance.random() < 0.3:
         data = put_together(form, parts)
         return data[:4] + b"\xff" * 4 + data[8:], "NoSize", 4
