@@ -6,9 +6,9 @@
  *     client PORT NAME BLOCKS SIZE [RECORDERS]
  *
  * The samples are 16 bits wide, so that SIZE is even. With RECORDERS, at most 256, the takes are NAME-0 and so on, and
- * every connection is there before the first byte goes out. Prints how many seconds it took from the first byte to the
- * last verdict, and how fast the slowest recorder was, where the mean of all is 1. Status 1, and a line, where a verdict
- * isn't Stored or a connection breaks.
+ * every connection is made before the first byte is sent. Prints how many seconds it took from the first byte to the
+ * last verdict, and how fast the slowest recorder was, where the mean of all is 1. Where a verdict isn't Stored or a
+ * connection breaks, it prints a line and has status 1.
  */
 #include <arpa/inet.h>
 #include <errno.h>
@@ -47,12 +47,12 @@ struct incoming {
     size_t length;
 };
 
-/* A take on its way: how many of its messages were sent, and how many told as stored. */
+/* A take on its way: how many of its messages were sent, and how many reported as stored. */
 struct recorder {
     struct take take;
     int peer;
     uint32_t sent;
-    uint32_t told;
+    uint32_t stored;
     struct outgoing out;
     struct incoming in;
     double taken;
@@ -125,7 +125,7 @@ static void write_some(int peer, struct outgoing *out) {
     }
 }
 
-/* Reads what is there. Nothing more comes where the server has ended. */
+/* Reads what is there. Returns 0 where the server has ended. */
 static int read_some(int peer, struct incoming *in) {
     ssize_t count = recv(peer, in->bytes + in->length, sizeof in->bytes - in->length, 0);
     if (count < 0 && errno != EAGAIN) {
@@ -136,36 +136,36 @@ static int read_some(int peer, struct incoming *in) {
 }
 
 /* Takes out the whole replies, each of which must be the verdict Stored of the next number. */
-static uint32_t take_verdicts(struct incoming *in, const struct take *take, uint32_t told) {
+static uint32_t take_verdicts(struct incoming *in, const struct take *take, uint32_t stored) {
     size_t frame = 4 + 2 + take->name_length + 5;
     size_t place = 0;
-    for (; in->length - place >= frame; place += frame, told++) {
+    for (; in->length - place >= frame; place += frame, stored++) {
         const uint8_t *reply = in->bytes + place;
-        if (number_at(reply) != frame - 4 || reply[4] != VERDICT || number_at(reply + 6 + take->name_length) != told
+        if (number_at(reply) != frame - 4 || reply[4] != VERDICT || number_at(reply + 6 + take->name_length) != stored
             || reply[frame - 1] != STORED) {
             fail("a reply isn't the verdict Stored of the next number");
         }
     }
     memmove(in->bytes, in->bytes + place, in->length - place);
     in->length -= place;
-    return told;
+    return stored;
 }
 
 static int is_done(const struct recorder *one) {
-    return one->told == one->take.blocks + 2;
+    return one->stored == one->take.blocks + 2;
 }
 
-/* What there is to wait for: nothing where all is told. */
+/* What there is to wait for: nothing where all is stored. */
 static struct pollfd waited_for(struct recorder *one) {
     uint32_t messages = one->take.blocks + 2;
-    if (!has_more(&one->out) && one->sent < messages && one->sent - one->told < WINDOW) {
+    if (!has_more(&one->out) && one->sent < messages && one->sent - one->stored < WINDOW) {
         put_message(&one->out, &one->take, one->sent++);
     }
     short events = (short)(POLLIN | (has_more(&one->out) ? POLLOUT : 0));
     return (struct pollfd){.fd = is_done(one) ? -1 : one->peer, .events = events};
 }
 
-/* Goes on with a recorder whose connection is ready so. Behind the last verdict its end is sent. */
+/* Goes on with a recorder whose connection is ready so. After the last verdict BYE is sent. */
 static void go_on(struct recorder *one, short ready) {
     if (ready & POLLOUT) {
         write_some(one->peer, &one->out);
@@ -174,7 +174,7 @@ static void go_on(struct recorder *one, short ready) {
         if (!read_some(one->peer, &one->in)) {
             fail("the server ends too early");
         }
-        one->told = take_verdicts(&one->in, &one->take, one->told);
+        one->stored = take_verdicts(&one->in, &one->take, one->stored);
     }
     if (is_done(one)) {
         put_bye(&one->out);
@@ -188,7 +188,7 @@ static double seconds(void) {
     return (double)now.tv_sec + (double)now.tv_nsec / 1e9;
 }
 
-/* Sends all takes, notes how long each of them took, and answers how long all of them did. */
+/* Sends all takes, notes how long each of them took, and returns how long all of them took. */
 static double send_takes(struct recorder *recorders, size_t count) {
     static struct pollfd ready[MOST_RECORDERS];
     double start = seconds();

@@ -1,5 +1,5 @@
-# What the benches of servers have in common; read by them, not run. `here` is this folder, `program` the program that
-# is measured, `work` a folder that goes away at the end, with the client in it.
+# What the benches of servers share; they read this file, and nobody runs it. `here` is this folder, `program` the
+# program that is measured, `work` a folder that is removed at the end, with the client in it.
 
 if [ $# -gt 0 ]; then
     program=$(readlink -f -- "$1") || exit
@@ -21,7 +21,7 @@ end_started() {
     done
 }
 
-# Runs the words behind $1 with their process id in the file $1.pid, and their use of the machine in $1.used.
+# Runs the words after $1 with their process id in the file $1.pid, and their use of the machine in $1.used.
 noted() {
     name=$1
     shift
@@ -46,7 +46,7 @@ next_port() {
     port=$((20000 + ($$ + 977 * tries) % 12000))
 }
 
-# Starts a server over an empty folder for $1 exchanges, with the options behind that, and the library `slow`, if there
+# Starts a server over an empty folder for $1 exchanges, with the options after that, and the library `slow`, if there
 # is one, before its own. Its address is in `port`.
 serve() {
     exchanges=$1
@@ -61,11 +61,11 @@ serve() {
         while [ ! -s "$work/lines" ] && kill -0 $server 2>/dev/null; do sleep 0.05; done
         if [ -s "$work/lines" ]; then return; fi
     done
-    echo 'no server comes up' >&2
+    echo 'no server starts' >&2
     exit 1
 }
 
-# A line: what was measured, bytes, seconds, SHA-256's MB/s at that length, and more to tell.
+# A line: what was measured, bytes, seconds, SHA-256's MB/s at that length, and more.
 report() {
     awk -v what="$1" -v bytes="$2" -v seconds="$3" -v alone="$4" -v more="$5" 'BEGIN {
         speed = bytes / seconds / 1e6
@@ -95,7 +95,7 @@ build_digests() {
     mkdir -p "$crate/src" "$crate/specs" "$crate/proofs" && : >"$crate/specs/Lib.antt" && : >"$crate/proofs/Lib.antt" &&
         cp "$here/../HANDLES" "$work/digest" && echo 'bench_digest: sha2 anyhow' >"$work/digest/crates.txt" || exit
     cat >"$crate/src/main.rt" <<'END'
-//! Tells how fast SHA-256 is alone.
+//! Measures how fast SHA-256 is alone.
 #![tactic(auto)]
 
 use anyhow::Result;
@@ -130,7 +130,7 @@ own_digests() {
 }
 
 # The bodies of blocks of a name of four bytes: kind, length, name and number take ten bytes.
-tell_digests() {
+report_digests() {
     build_digests
     "$crate/out/bench_digest" >"$work/digests" || exit
     long_bodies=$(own_digests 32778)

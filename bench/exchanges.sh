@@ -15,18 +15,18 @@ lines() {
             return sprintf("%02x%02x%02x00", n % 256, int(n / 256) % 256, int(n / 65536))
         }
         # a frame of a take, up to its payload of so many bytes
-        function front(kind, take, number, len) {
+        function prefix(kind, take, number, len) {
             return bytes(9 + len) kind "03" sprintf("6e%02x%02x", 97 + int(take / 16), 97 + take % 16) bytes(number)
         }
         BEGIN {
             samples = "7f"
             while (length(samples) < 2 * size) samples = samples samples
             samples = substr(samples, 1, 2 * size)
-            for (take = 0; take < takes; take++) print front("01", take, 0, 10) "80bb0000010010000000"
+            for (take = 0; take < takes; take++) print prefix("01", take, 0, 10) "80bb0000010010000000"
             for (group = 0; group < groups; group++)
                 for (take = 0; take < takes; take++)
                     for (time = 0; time < times; time++) {
-                        for (slot = 8; slot > 0; slot--) printf "%s", front("02", take, 8 * group + slot, size) samples
+                        for (slot = 8; slot > 0; slot--) printf "%s", prefix("02", take, 8 * group + slot, size) samples
                         print ""
                     }
         }'
@@ -35,8 +35,8 @@ lines() {
 # Replays the lines in `input`, under the name $1.
 replay() {
     printf '%s: %s bytes of lines, ' "$1" "$(wc -c <"$work/input")"
-    command time -f '%e s, %M KiB' -o "$work/told" "$program" replay <"$work/input" >"$work/text" || exit
-    printf '%s, %s exchanges, %s files\n' "$(cat "$work/told")" "$(grep -c '^exchange' "$work/text")" \
+    command time -f '%e s, %M KiB' -o "$work/used" "$program" replay <"$work/input" >"$work/text" || exit
+    printf '%s, %s exchanges, %s files\n' "$(cat "$work/used")" "$(grep -c '^exchange' "$work/text")" \
         "$(grep -c '^file' "$work/text")"
 }
 

@@ -19,7 +19,7 @@ header() {
     printf 'data\377\377\377\377'
 }
 
-# How many milliseconds a command takes, behind another that isn't timed.
+# How many milliseconds a command takes, after another that isn't timed.
 milliseconds() {
     sh -c "$1" >/dev/null 2>&1
     start=$(date +%s%N)

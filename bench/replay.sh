@@ -54,10 +54,10 @@ fn main(rt: HostRuntime) -> Result<()> {
             return Ok(());
         }
         let start = Instant::now(&rt)?;
-        let told = replay(alloc, Limit::default(), journal.as_slice())?;
+        let replayed = replay(alloc, Limit::default(), journal.as_slice())?;
         let elapsed = start.elapsed(&rt)?;
         println!(rt; "{entries} entries: {} ms", elapsed.as_millis())?;
-        println!(rt; "  {} bytes read, {} kept", told.used, told.table.len())?;
+        println!(rt; "  {} bytes read, {} kept", replayed.used, replayed.table.len())?;
     }
     Ok(())
 }

@@ -71,7 +71,7 @@ with_mosquitto() {
         "$long_bodies" "$(used broker)"
 }
 
-tell_digests
+report_digests
 
 client_take 32768 32768 "$long_bodies"
 file=$work/takes/take.wav

@@ -53,7 +53,7 @@ fn frames(alloc: Global, name: &Name, count: u32, block: &[u8]) -> Result<Vec<Ve
     Ok(frames)
 }
 
-/// What a frame has behind its length.
+/// What a frame has after its length.
 fn body(frame: &[u8]) -> &[u8] {
     if frame.len() < 4 {
         return frame;
@@ -88,7 +88,8 @@ fn main(rt: HostRuntime) -> Result<()> {
         }
         let turns = start.elapsed(&rt)?;
         println!(rt; "{len} bytes a block: SHA-256 {} ms, turns {} ms ({sum})", alone.as_millis(), turns.as_millis())?;
-        println!(rt; "  {} done, {} bytes kept", server.done(&name).unwrap_or(0), server.kept_bytes(&name).unwrap_or(0))?;
+        let done = server.done(&name).unwrap_or(0);
+        println!(rt; "  {done} done, {} bytes kept", server.kept_bytes(&name).unwrap_or(0))?;
     }
     Ok(())
 }

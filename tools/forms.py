@@ -1,14 +1,14 @@
-"""Files of any chunks, and of takes, with their reports, worked out from docs/FORMATS.md."""
+"""Files of any chunks, and of takes, with their reports, as docs/FORMATS.md lays them out."""
 import struct
 
 from takes import BEXT, BLOCK, CLOSE, MARK, OPEN, chunk, little
 
-# Where a field of `bext` stands, and its width, by its tag.
+# The place and the width of each field of `bext`, by its tag.
 FIELD_PLACES = {1: (0, 256), 2: (256, 32), 3: (288, 32), 4: (320, 10), 5: (330, 8), 6: (338, 8), 7: (348, 64)}
 
 
 def put_together(form, parts, table=()):
-    """The file of these chunks, each an id and its content; the first of an id in the table has its size there."""
+    """The file of these chunks, each an id and its content. The table of `ds64` has the size of the first of an id."""
     length = sum(8 + len(content) + len(content) % 2 for _, content in parts)
     if form == b"RIFF":
         return form + little(4 + length, 4) + b"WAVE" + b"".join(chunk(*part) for part in parts)
@@ -17,15 +17,15 @@ def put_together(form, parts, table=()):
     size = 4 + 36 + len(entries) + length
     sizes = little(size, 8) + little(len(data), 8) + bytes(8) + little(len(table), 4) + entries
     made = [form + b"\xff" * 4 + b"WAVE" + chunk(b"ds64", sizes)]
-    told = {name for name, _ in table} | {b"data"}
+    sized = {name for name, _ in table} | {b"data"}
     for name, content in parts:
-        made.append(chunk(name, content, 0xFFFFFFFF if name in told else None))
-        told.discard(name)
+        made.append(chunk(name, content, 0xFFFFFFFF if name in sized else None))
+        sized.discard(name)
     return b"".join(made)
 
 
 def places_of(form, parts, table=()):
-    """Where each chunk stands, and the form's end."""
+    """The place of each chunk, and the end of the form."""
     places = [12 if form == b"RIFF" else 48 + 12 * len(table)]
     for _, content in parts:
         places.append(places[-1] + 8 + len(content) + len(content) % 2)
@@ -33,7 +33,7 @@ def places_of(form, parts, table=()):
 
 
 def report_of(form, parts, table=()):
-    """What `inspect` tells of the file that is put together."""
+    """What `inspect` reports of the file that put_together makes."""
     places = places_of(form, parts, table)
     lines = [f"form {form.decode()} {places[-1] - 8}"]
     lines += [] if form == b"RIFF" else [f"chunk ds64 12 {28 + 12 * len(table)}"]
@@ -70,7 +70,7 @@ def lines_of_bext(content):
 
 
 def parts_of(stored):
-    """The chunks that stored requests make behind the first one, or nothing where no OPEN was stored."""
+    """The chunks that stored requests make after the first one, or None where no OPEN was stored."""
     opening = next((request for request in stored if request[0] == OPEN), None)
     if opening is None:
         return None

@@ -1,8 +1,7 @@
-"""Requests, messages, bad frames and files that are made up, right and wrong, and what docs/FORMATS.md says of them."""
+"""Makes up requests, messages and bad frames, right and wrong, with what docs/FORMATS.md says of them."""
 import struct
 from collections import namedtuple
 
-from forms import places_of, put_together
 from takes import ASK, BEXT, BLOCK, BYE_FRAME, CLOSE, LONGEST_BLOCK, MARK, NEXT, OPEN
 from takes import bad_frame, little, message, notice
 
@@ -16,7 +15,7 @@ LENGTH, KIND, NAME, NUMBER, PAYLOAD, CUT = range(1, 7)
 NAME_BYTES = b"abcdefghijklmnopqrstuvwxyz0123456789-_"
 
 Message = namedtuple("Message", "name number request")
-Due = namedtuple("Due", "name number")  # a verdict that is to come
+Due = namedtuple("Due", "name number")  # a verdict that is still unknown
 Exchange = namedtuple("Exchange", "data replies end")
 
 
@@ -110,11 +109,11 @@ def right_value(chance, tag):
     return chance.choice((b"", b"\xff\x7f", b"\x00\x00", chance.randbytes(2)))
 
 
-# Messages as a bad network brings them, and the replies to them
+# Messages as a bad network delivers them, and the replies to them
 
 
 class Log:
-    """What came under a name, and how many numbers are done."""
+    """The requests admitted under a name, and how many numbers are done."""
 
     def __init__(self):
         self.admitted = {}
@@ -124,9 +123,9 @@ class Log:
         return [self.admitted[number] for number in range(self.done)]
 
 
-def turn(book, came):
-    """What is answered, with a Due for each verdict."""
-    name, number, request = came
+def turn(book, received):
+    """The replies to a message, with a Due for each verdict."""
+    name, number, request = received
     log = book.get(name)
     if request[0] == ASK:
         return [notice(name, number, NEXT, log.done if log else 0)]
@@ -140,11 +139,11 @@ def turn(book, came):
         log.admitted.setdefault(number, request)
     while log.done in log.admitted:
         log.done += 1
-    return [Due(name, done) for done in range(first, log.done)] + own_reply(log, first, came)
+    return [Due(name, done) for done in range(first, log.done)] + own_reply(log, first, received)
 
 
-def own_reply(log, first, came):
-    name, number, request = came
+def own_reply(log, first, received):
+    name, number, request = received
     if number >= first + WINDOW:
         return [notice(name, number, TOO_FAR, log.done)]
     if log.admitted[number] != request:
@@ -159,25 +158,25 @@ def arrival(chance, name, requests):
     waiting = list(range(len(requests)))
     if waiting and chance.random() < 0.1:
         waiting.remove(chance.choice(waiting))
-    came = []
+    arrived = []
     while waiting:
         number = waiting[0] if chance.random() < 0.6 else chance.choice(waiting[:WINDOW])
         if number < waiting[0] + WINDOW:
             waiting.remove(number)
-            came.append(Message(name, number, requests[number]))
+            arrived.append(Message(name, number, requests[number]))
         if chance.random() < 0.4:
-            came.append(extra(chance, name, requests, came))
-    return came
+            arrived.append(extra(chance, name, requests, arrived))
+    return arrived
 
 
-def extra(chance, name, requests, came):
+def extra(chance, name, requests, arrived):
     """A message that changes nothing in the file."""
-    luck = chance.random()
-    if came and luck < 0.6:
-        return chance.choice(came)
-    if came and luck < 0.75:
-        return Message(name, chance.choice(came).number, Recording(chance).block(True))
-    if luck < 0.88:
+    kind = chance.random()
+    if arrived and kind < 0.6:
+        return chance.choice(arrived)
+    if arrived and kind < 0.75:
+        return Message(name, chance.choice(arrived).number, Recording(chance).block(True))
+    if kind < 0.88:
         return Message(name, chance.randint(0, LARGEST_NUMBER), bytes([ASK]))
     far = chance.choice((len(requests) + WINDOW, LARGEST_NUMBER, chance.randint(len(requests) + WINDOW, 1 << 20)))
     return Message(name, far, chance.choice(requests) if requests else bytes([CLOSE]) + bytes(8))
@@ -197,25 +196,25 @@ def exchanges_of(chance, kind, messages, book):
     while place < len(messages) or not made:
         part = messages[place : place + chance.randint(0, 12)]
         place += len(part)
-        data = b"".join(message(*came) for came in part)
-        replies = [reply for came in part for reply in turn(book, came)]
+        data = b"".join(message(*it) for it in part)
+        replies = [reply for it in part for reply in turn(book, it)]
         more, last, end = ending(chance, kind, messages[place : place + 2] or messages[-1:], len(data))
         made.append(Exchange(data + more, replies + last, end))
     return made
 
 
 def ending(chance, kind, following, place):
-    """The bytes behind an exchange's messages, the reply to them and the exchange's end."""
-    behind = b"".join(message(*came) for came in following)
-    if kind == "cut" and behind and chance.random() < 0.7:
+    """The bytes after an exchange's messages, the reply to them and the exchange's end."""
+    more = b"".join(message(*it) for it in following)
+    if kind == "cut" and more and chance.random() < 0.7:
         first = message(*following[0])
         return first[: chance.randrange(1, len(first))], [bad_frame(CUT, place)], "BadFrame"
     if kind == "garbage" and chance.random() < 0.7:
         reason, data = garbage(chance)
         is_last = reason in (CUT, None)
-        return data if is_last else data + behind, [bad_frame(reason or 0, place)], "BadFrame"
+        return data if is_last else data + more, [bad_frame(reason or 0, place)], "BadFrame"
     if chance.random() < 0.2:
-        return BYE_FRAME + chance.choice((b"", behind, chance.randbytes(9))), [], "Bye"
+        return BYE_FRAME + chance.choice((b"", more, chance.randbytes(9))), [], "Bye"
     return b"", [], "EndOfInput"
 
 
@@ -300,126 +299,3 @@ def bad_payload(chance):
 
 def any_bytes(chance):
     return None, chance.randbytes(chance.randint(1, 60))
-
-
-# Files of any chunks
-
-
-def random_chunks(chance):
-    """Each chunk as its id and its content; `fmt ` and `data` are among them once."""
-    made = [(b"fmt ", chance.randbytes(chance.choice((16, 17, 18, 40))))]
-    made.append((b"data", chance.randbytes(chance.randint(0, 50))))
-    if chance.random() < 0.5:
-        bext = bytearray(chance.randbytes(602 + chance.choice((0, 0, 1, 9))))
-        bext[346:348] = little(chance.choice((0, 1, 2, 3, 65_535)), 2)
-        bext[412:414] = chance.choice((b"\xff\x7f", b"\x00\x80", b"\x01\x00"))
-        made.append((b"bext", bytes(bext)))
-    if chance.random() < 0.5:
-        points = chance.randint(0, 4)
-        made.append((b"cue ", little(points, 4) + chance.randbytes(24 * points + chance.choice((0, 0, 5)))))
-    for _ in range(chance.randint(0, 4)):
-        name = chance.choice((b"LIST", b"JUNK", b"FMT ", b"\0\xff a", b"note"))
-        made.append((name, chance.randbytes(chance.choice((0, 1, 2, 31)))))
-    chance.shuffle(made)
-    return made
-
-
-def random_table(chance, form, parts):
-    """Entries of `ds64` for some of the chunks; of two with one id the first counts."""
-    if form == b"RIFF":
-        return []
-    first = {name: len(content) for name, content in reversed(parts) if name != b"data"}
-    table = [entry for entry in first.items() if chance.random() < 0.4]
-    return table + [(name, chance.getrandbits(64)) for name, _ in table if chance.random() < 0.3]
-
-
-def wrong_file(chance, form, parts):
-    """What is wrong, a file that has it, its fault and where this is."""
-    wrongs = (twice, without, too_short, past_the_form, no_wave, too_many_points, no_size, too_many_chunks)
-    wrong = chance.choice(wrongs if form == b"RIFF" else (*wrongs, *[wrong_sizes] * 4))
-    return (wrong.__name__, *wrong(chance, form, parts))
-
-
-def twice(chance, form, parts):
-    known = [part for part in parts if part[0] in (b"fmt ", b"data", b"bext", b"cue ")]
-    more = [*parts, chance.choice(known)]
-    return put_together(form, more), "Twice", places_of(form, more)[-2]
-
-
-def without(chance, form, parts):
-    gone, fault = chance.choice(((b"fmt ", "NoFmt"), (b"data", "NoData")))
-    data = put_together(form, [part for part in parts if part[0] != gone])
-    return data, fault, len(data)
-
-
-def with_other(chance, form, parts, name, content):
-    """The file with this chunk somewhere, in place of what it has under that id, and the chunk's place."""
-    left = [part for part in parts if part[0] != name]
-    at = chance.randint(0, len(left))
-    left.insert(at, (name, content))
-    return put_together(form, left), places_of(form, left)[at]
-
-
-def too_short(chance, form, parts):
-    name, least, fault = chance.choice(((b"fmt ", 16, "BadFmt"), (b"bext", 602, "BadBext"), (b"cue ", 4, "BadCue")))
-    length = chance.choice((0, least - 1, chance.randrange(least)))
-    data, place = with_other(chance, form, parts, name, bytes(length))
-    return data, fault, place
-
-
-def too_many_points(chance, form, parts):
-    points = chance.choice((1, 65_536, 65_537, 0xFFFFFFFF))
-    data, place = with_other(chance, form, parts, b"cue ", little(points, 4) + bytes(23))
-    return data, "BadCue" if points <= 65_536 else "TooMany", place
-
-
-def with_size(form, parts, size):
-    """The file with one chunk more, of ten bytes, that has this size; and the chunk's place."""
-    more = [*parts, (b"more", bytes(10))]
-    data, place = put_together(form, more), places_of(form, more)[-2]
-    return data[: place + 4] + little(size, 4) + data[place + 8 :], place
-
-
-def past_the_form(chance, form, parts):
-    data, place = with_size(form, parts, chance.choice((11, 200, 0xFFFFFFFE)))
-    return data, "Truncated", place
-
-
-def no_size(chance, form, parts):
-    """A size that `ds64` should tell, and doesn't."""
-    if form == b"RIFF" and chance.random() < 0.3:
-        data = put_together(form, parts)
-        return data[:4] + b"\xff" * 4 + data[8:], "NoSize", 4
-    data, place = with_size(form, parts, 0xFFFFFFFF)
-    return data, "NoSize", place
-
-
-def no_wave(chance, form, parts):
-    data = bytearray(put_together(form, parts))
-    place = chance.choice((0, 1, 2, 3, 8, 9, 10, 11))
-    data[place] ^= 1 << chance.choice((0, 5, 7))
-    return bytes(data), "NotWave", 0 if place < 4 else 8
-
-
-def too_many_chunks(chance, form, parts):
-    """The form's end is looked at before the count: 4,096 chunks are read, and one more is too many."""
-    more = parts + [(b"note", b"")] * (4_096 - len(parts) - (form != b"RIFF")) + [(b"last", b"")]
-    return put_together(form, more), "TooMany", places_of(form, more)[-2]
-
-
-def wrong_sizes(chance, form, parts):
-    """A `ds64` that can't be."""
-    data = put_together(form, parts)
-    return chance.choice(
-        (
-            (data[:12] + chance.choice((b"junk", b"DS64", b"ds6\0")) + data[16:], "NoDs64", 12),
-            (data[:16] + little(chance.choice((0, 27, 0xFFFFFFFF)), 4) + data[20:], "BadDs64", 12),
-            (data[:44] + little(chance.choice((1, 4_096)), 4) + data[48:], "BadDs64", 12),
-            (data[:44] + little(chance.choice((4_097, 0xFFFFFFFF)), 4) + data[48:], "TooMany", 12),
-            (data[:20] + little((1 << 62) + 1, 8) + data[28:], "TooLarge", 4),
-            (data[:20] + little(chance.randrange(4), 8) + data[28:], "NotWave", 4),
-            (data[:20] + little(chance.randint(4, 39), 8) + data[28:], "Truncated", 12),
-            (data[: chance.randint(20, 47)], "Truncated", 12),
-            (data[: chance.randint(12, 19)], "NoDs64", 12),
-        )
-    )

@@ -1,4 +1,4 @@
-"""What runs of `serve` and `send` have in common: processes, peers, a relay that cuts, what is compared.
+"""What the scripts that run `serve` and `send` share: processes, peers, a relay that cuts connections, comparisons.
 
 The program is the first argument of the script, or the one of this repository.
 """
@@ -7,7 +7,6 @@ import ctypes
 import os
 import pathlib
 import random
-import re
 import select
 import signal
 import socket
@@ -23,17 +22,18 @@ from tally import Tally
 from tracer import Traced
 
 LOCAL = "127.0.0.1"
-LONGEST_WAIT = 30  # seconds, for one thing to come
+LONGEST_WAIT = 30  # seconds, for any single event
 SYSTEM = ctypes.CDLL(None)
 STARTED = []
 
 WINDOW = 16
 LEAST_LIMIT = 8_192
+CANT_GO_ON = "the server can't go on: its folder is gone, or nothing can be waited for\n"
 UNSETTLED = "not every request has its verdict yet\n"
 
 
 class Fault(Exception):
-    """What was waited for didn't come."""
+    """Something that was waited for didn't happen."""
 
 
 TALLY = Tally()
@@ -43,13 +43,13 @@ TALLY = Tally()
 
 
 def prepare_child():
-    """A child ends with this script, even a killed one, and SIGINT ends it whatever it was before."""
+    """A child is killed when this script ends, however it ends; SIGINT ends it even where the script ignores SIGINT."""
     SYSTEM.prctl(1, signal.SIGKILL)
     signal.signal(signal.SIGINT, signal.SIG_DFL)
 
 
 def start(*words, observer=None, **streams):
-    """A process of the program, of which an observer is given each call of the system where there is one."""
+    """Starts the program; an observer, if there is one, is given each of its system calls."""
     if observer:
         process = Traced([PROGRAM, *words], observer, **streams)
     else:
@@ -59,7 +59,7 @@ def start(*words, observer=None, **streams):
 
 
 def finish(process, given=None, name="a command"):
-    """Status, output and faults of a process that ends by itself."""
+    """Waits until a process ends by itself; its status, standard output and standard error."""
     try:
         out, faults = process.communicate(given, timeout=2 * LONGEST_WAIT)
     except subprocess.TimeoutExpired:
@@ -88,7 +88,7 @@ def free_port():
 
 
 class Server:
-    """A server in the background, at a port that was free. Where `watch` makes an observer, it is given each call."""
+    """A server in the background, on a port that was free. `watch` may make an observer of its system calls."""
 
     def __init__(self, folder, *options, watch=None):
         for _ in range(5):
@@ -100,7 +100,7 @@ class Server:
             self.held = b""
             if self.line() == f"listening {LOCAL}:{self.port}":
                 return
-        raise Fault("no server comes up")
+        raise Fault("no server starts")
 
     def line(self):
         """The next line of its output, or None at the end."""
@@ -119,7 +119,7 @@ class Server:
         return [self.line() for _ in range(count)]
 
     def end(self):
-        """Its status, the lines that it printed before, and its faults, when it ends by itself."""
+        """Waits until it ends by itself; its status, the lines that it still printed, and its standard error."""
         lines = []
         while (line := self.line()) is not None:
             lines.append(line)
@@ -142,7 +142,7 @@ def end_all():
             process.wait()
 
 
-# Peers of a script's own
+# Peers that the script plays itself
 
 
 def connect(port):
@@ -150,18 +150,18 @@ def connect(port):
 
 
 def hear(peer, length):
-    """So many bytes of replies."""
+    """Receives exactly so many bytes of replies."""
     heard = b""
     while len(heard) < length:
         piece = peer.recv(length - len(heard))
         if not piece:
-            raise Fault(f"the server ends behind {len(heard)} bytes of replies, and not {length}")
+            raise Fault(f"the server ends after {len(heard)} bytes of replies, not {length}")
         heard += piece
     return heard
 
 
 def hear_all(peer):
-    """All replies, to their end."""
+    """Receives all replies, up to the end of the connection."""
     heard = b""
     while piece := peer.recv(65_536):
         heard += piece
@@ -169,16 +169,16 @@ def hear_all(peer):
 
 
 def close_at_once(peer):
-    """Closes so that the other side is told of a broken connection."""
+    """Closes with a reset, so that the other side sees a broken connection."""
     peer.setsockopt(socket.SOL_SOCKET, socket.SO_LINGER, struct.pack("ii", 1, 0))
     peer.close()
 
 
 class Relay:
-    """Passes connections on to a server, one after another or all at once, and cuts each of them somewhere.
+    """Passes connections on to a server, one after another or all at once, and cuts each of them at a random byte.
 
-    As many let less than 10 kB through as more than 100 kB; a window of the longest blocks is half a megabyte. Of every
-    fourth the replies are cut.
+    A third pass less than 10 kB and a third more than 100 kB; a window of the longest blocks is half a megabyte. On a
+    quarter of the connections the replies are cut.
     """
 
     def __init__(self, server_port, seed, at_once=False):
@@ -224,7 +224,7 @@ class Relay:
 
 
 def pass_both_ways(others, room):
-    """Passes on what comes, until both ends have ended or one has no more room."""
+    """Passes bytes on until both ends have closed, or one has passed as many as it may."""
     open_ends = list(others)
     while open_ends:
         ready = select.select(open_ends, [], [], LONGEST_WAIT)[0]
@@ -242,12 +242,12 @@ def pass_both_ways(others, room):
                 open_ends.remove(end)
 
 
-# What is compared again and again
+# Comparisons that several scripts make
 
 
-def same_settled(name, told, count, stored, status):
+def same_settled(name, output, count, stored, status):
     faults = UNSETTLED if status == 3 else ""
-    TALLY.same(name, told, (status, f"settled {count}\nstored {stored}\n", faults))
+    TALLY.same(name, output, (status, f"settled {count}\nstored {stored}\n", faults))
 
 
 def same_exchanges(name, lines, ends, first=0):
@@ -255,12 +255,12 @@ def same_exchanges(name, lines, ends, first=0):
 
 
 def stopped(name, server, number=signal.SIGTERM):
-    """The server is stopped from outside, and says nothing more."""
+    """Stops the server by a signal; it prints nothing more."""
     TALLY.same(name, server.stop(number), (-number, [], ""))
 
 
 def same_file(name, folder, take, blocks=None, limit=LARGEST_LIMIT):
-    """The take's file, byte for byte, and what `inspect` tells of its sizes."""
+    """Compares the take's file byte for byte, and the sizes that `inspect` reports."""
     path = folder / f"{take.name}.wav"
     wanted = take.file(blocks, limit)
     TALLY.same(f"{name}: the file", path.read_bytes(), wanted)
@@ -270,33 +270,35 @@ def same_file(name, folder, take, blocks=None, limit=LARGEST_LIMIT):
     lines = out.splitlines()
     TALLY.same(f"{name}: inspect", (status, faults, lines[:1]), (0, "", [f"form {form} {len(wanted) - 8}"]))
     sizes = f"data at=690 bytes={data} frames={data // take.ALIGN}"
-    TALLY.same(f"{name}: what inspect tells", [line for line in lines if line.startswith("data ")], [sizes])
+    TALLY.same(f"{name}: the sizes by inspect", [line for line in lines if line.startswith("data ")], [sizes])
 
 
 def serves_on(name, server, folder, first):
-    """The server takes a small take from a sender, in its exchange with this number."""
+    """The server receives a small take from a sender, in the exchange with this number."""
     take = Take(f"next-{server.port}", 3_000, 5)
-    told = send(server.port, take)
-    same_settled(f"{name}: a later sender", told, len(take.requests()), len(take.requests()), 0)
+    count = len(take.requests())
+    same_settled(f"{name}: a later sender", send(server.port, take), count, count, 0)
     same_exchanges(f"{name}: a later exchange", server.lines(1), ["Bye"], first)
     same_file(f"{name}: a later take", folder, take)
 
 
 def same_replay(name, take, limit):
-    """The replay of the same messages in one exchange leaves the same file."""
+    """A replay of the same messages in one exchange makes the same file."""
     line = b"".join(take.messages()).hex().encode()
     status, out, faults = run("replay", "--limit", str(limit), given=line)
     wanted = take.file(limit=limit)
     TALLY.same(f"{name}: replay", (status, faults), (0, ""))
     head, _, text = out.rpartition(f"file {take.name} {len(wanted)}\n")
-    TALLY.holds(f"{name}: replay", head, "another file than of that name and length")
+    TALLY.holds(f"{name}: replay", head, "no file of that name and length")
     TALLY.same(f"{name}: the replayed file", bytes.fromhex(text), wanted)
 
 
 def reason(number):
+    """The reason as the program prints it."""
     return f"{os.strerror(number)} (os error {number})"
 
-# Runs of cases, each with a folder of its own
+
+# Cases, each run in a folder of its own
 
 
 def run_case(case):
@@ -315,7 +317,7 @@ def give_up(number, _frame):
 
 
 def run_cases(cases, longest_run):
-    """The status of a script, which has so many seconds. Prints what differs, and at last 'N passed, M failed'."""
+    """Runs the cases of a script within so many seconds; its status. Prints what differs, last 'N passed, M failed'."""
     for number in (signal.SIGALRM, signal.SIGTERM, signal.SIGINT, signal.SIGHUP):
         signal.signal(number, give_up)
     signal.alarm(longest_run)

@@ -1,10 +1,10 @@
-"""Runs a program of which one call is refused, by ptrace.
+"""Runs a program and refuses one of its calls, by ptrace.
 
-Of system calls, those count that the program makes itself (tracer.py). The refused one isn't made, and fails with EIO.
-Of growths of memory, each malloc and realloc counts that the program calls. The refused one is asked for more bytes
-than there can be, so that the C library refuses it.
+System calls count if the program makes them itself (tracer.py); the refused one isn't made, and fails with EIO. Growths
+of memory are the program's calls of malloc and realloc; the refused one asks for more bytes than there can be, so that
+the C library refuses it.
 
-Needs what tracer.py needs. The program takes malloc from a shared C library.
+Needs what tracer.py needs, and a program that takes malloc from a shared C library.
 """
 import functools
 import os
@@ -48,11 +48,11 @@ class File:
     def part(self, place, length):
         """So many bytes at an address, which counts from where the program is loaded."""
         loaded = ((it[2], it[3], it[5]) for it in self.segments if it[0] == self.LOAD)
-        front = next(front + place - start for front, start, size in loaded if start <= place < start + size)
-        return self.bytes[front : front + length]
+        at = next(offset + place - start for offset, start, size in loaded if start <= place < start + size)
+        return self.bytes[at : at + length]
 
     def slots(self):
-        """Where the loader puts the addresses of functions of libraries: each function's name, and a place of it."""
+        """The names of functions of libraries, each with a slot in which the loader puts its address."""
         dynamic = next((it for it in self.segments if it[0] == self.DYNAMIC), None)
         tags = dict(struct.iter_unpack("<QQ", self.part(dynamic[3], dynamic[5]))) if dynamic else {}
         tables = [self.part(tags[table], tags[size]) for table, size in self.TABLES if table in tags]
@@ -70,17 +70,17 @@ def entry_and_growths(path):
 
 
 class Refused(Traced):
-    """A running program of which the call of a kind with this number, from 1, is refused, and none where it is 0.
+    """A running program of which the call of a kind with this number, from 1 on, is refused, or none where it is 0.
 
     `seen` is the number of its calls of the kind, once it has ended.
     """
 
     def __init__(self, words, kind, number, **pipes):
         self.kind, self.number, self.seen = kind, number, 0
-        # The loader fills all slots at the start, and so none anew later.
+        # The loader fills all slots at the start, so that it doesn't overwrite one later.
         super().__init__(words, self, env={**os.environ, "LD_BIND_NOW": "1"}, **pipes)
 
-    # What follows is the tracer's.
+    # The methods below run in the tracer's thread.
 
     def is_refused(self):
         """Counts a call of the kind."""
@@ -101,9 +101,9 @@ class Refused(Traced):
         return self.follow_growths(self.hooked(growths, entry - entry_in_file))
 
     def hooked(self, growths, offset):
-        """Has each growth jump to an address of its own where nothing is.
+        """Makes each growth jump to an unmapped address of its own.
 
-        By that address the one where it wanted to jump, and the register of its size.
+        By that address, the result has the address of the real function and the register of the size.
         """
         if not growths:
             raise SystemExit(f"{self.args[0]} takes no memory from a shared C library")

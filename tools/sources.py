@@ -1,4 +1,4 @@
-"""The sources of the crates: public items with their comments, signatures and clauses, names, and tests.
+"""Reads the sources of the crates: public items with their comments, signatures and clauses, names, and tests.
 
 They are read line by line, as `rt fmt` lays them out: an item begins at its indentation, a clause on a line of its own.
 """
@@ -29,7 +29,7 @@ class Item:
 
 @dataclass
 class Test:
-    """A test or a worked row, with the comment that it has, if any."""
+    """A test or a worked example, with its comment, if any."""
 
     module: str
     name: str
@@ -37,7 +37,7 @@ class Test:
 
 
 def crates():
-    """The crates that others use, or that are the program, in the order of crates.txt: those of tests are left out."""
+    """The crates in the order of crates.txt, without those of tests."""
     lines = [it for it in (ROOT / "crates.txt").read_text().splitlines() if not it.startswith("#")]
     return [it for it in (line.split(":")[0] for line in lines) if not holds_tests(it)]
 
@@ -73,7 +73,7 @@ def names_of_all():
 
 
 def root_of(crate):
-    """What tells what of a crate is seen from outside: lib.rt, or of a program, which no crate can call, main.rt."""
+    """The file that says what of a crate is public: lib.rt, or main.rt of a program."""
     return next(it for it in (ROOT / f"crates/{crate}/src/{name}.rt" for name in ("lib", "main")) if it.exists())
 
 
@@ -266,8 +266,8 @@ def tests_of(crate):
                 doc, is_test = [], False
 
 
-def worked_rows_of(crate):
-    """The worked rows of the definitions, which are proved by computation, file by file."""
+def worked_examples_of(crate):
+    """The worked examples of the definitions, which are proved by computation, file by file."""
     for path in sorted((ROOT / f"crates/{crate}/specs").glob("RowsOf*.antt")):
         doc = []
         for line in path.read_text().splitlines():

@@ -1,4 +1,4 @@
-"""Takes with their requests, messages and files, worked out from docs/FORMATS.md."""
+"""Takes with their requests, messages and files, as docs/FORMATS.md lays them out."""
 import random
 import struct
 
@@ -22,7 +22,7 @@ class Take:
     """A take of one channel with 24 bits a sample, with a description, a loudness and markers."""
 
     RATE, ALIGN = 48_000, 3
-    FIRST_BLOCK = 3  # its number: the opening and two fields come before
+    FIRST_BLOCK = 3  # its number: the opening and two fields precede it
 
     def __init__(self, name, length, seed, block=LONGEST_BLOCK, markers=()):
         self.name = name
@@ -60,24 +60,24 @@ class Take:
         return bytes(content)
 
     def file(self, blocks=None, limit=LARGEST_LIMIT):
-        """Its file with its first blocks, or closed with all of it."""
+        """Its file with so many of its blocks, still open, or with all of it, closed."""
         data = self.samples if blocks is None else b"".join(self.blocks[:blocks])
         points = self.markers if blocks is None else []
         cue = b"".join(
             little(number, 4) + little(frame, 4) + b"data" + bytes(8) + little(frame, 4) for number, frame in points
         )
-        behind = chunk(b"cue ", little(len(points), 4) + cue) if points else b""
-        form = 682 + len(data) + len(data) % 2 + len(behind)
+        cues = chunk(b"cue ", little(len(points), 4) + cue) if points else b""
+        form = 682 + len(data) + len(data) % 2 + len(cues)
         second = self.RATE * self.ALIGN
         numbers = struct.pack("<HHIIHH", 1, 1, self.RATE, second, self.ALIGN, 8 * self.ALIGN)
         if form <= limit:
-            front = b"RIFF" + little(form, 4) + b"WAVE" + chunk(b"JUNK", bytes(28))
+            head = b"RIFF" + little(form, 4) + b"WAVE" + chunk(b"JUNK", bytes(28))
             size = len(data)
         else:
-            front = b"BW64" + b"\xff" * 4 + b"WAVE"
-            front += chunk(b"ds64", little(form, 8) + little(len(data), 8) + bytes(12))
+            head = b"BW64" + b"\xff" * 4 + b"WAVE"
+            head += chunk(b"ds64", little(form, 8) + little(len(data), 8) + bytes(12))
             size = 0xFFFFFFFF
-        return front + chunk(b"fmt ", numbers) + chunk(b"bext", self.bext()) + chunk(b"data", data, size) + behind
+        return head + chunk(b"fmt ", numbers) + chunk(b"bext", self.bext()) + chunk(b"data", data, size) + cues
 
 
 def message(name, number, request):

@@ -1,8 +1,8 @@
-"""What was compared."""
+"""Counts comparisons, and prints those that fail."""
 
 
 class Tally:
-    """Counts what was compared, and tells what differs."""
+    """Counts what was compared, and prints what differs."""
 
     def __init__(self):
         self.passed = 0
@@ -23,5 +23,5 @@ class Tally:
 def difference(found, wanted):
     if isinstance(wanted, bytes) and isinstance(found, bytes) and max(len(found), len(wanted)) > 64:
         place = next((i for i, (a, b) in enumerate(zip(found, wanted)) if a != b), min(len(found), len(wanted)))
-        return f"{len(found)} bytes, and not {len(wanted)}; the first that differs stands at {place}"
-    return f"{found!r}, and not {wanted!r}"
+        return f"{len(found)} bytes, not {len(wanted)}; the first difference is at {place}"
+    return f"{found!r}, not {wanted!r}"

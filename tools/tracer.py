@@ -1,10 +1,10 @@
-"""Follows a running program's calls of the system by ptrace: nothing is built, and nothing is loaded into the program.
+"""Follows the system calls of a running program by ptrace: nothing is built, and nothing is loaded into the program.
 
-Followed are the calls that the program makes itself, from its first instruction on: its loader's aren't. An observer is
-given each of them before it is made, and may change it or answer in its place, and again with its result. Several
-programs may be followed at once, each by a thread of its own.
+Only the calls that the program makes itself are followed, from its first instruction on, and not those of its loader.
+An observer is given each call before it is made, when it may change it or answer in its place, and again with its
+result. Several programs may be followed at once, each by a thread of its own.
 
-Needs x86-64 Linux, and leave to trace a child. The program has one thread.
+Needs x86-64 Linux, permission to trace a child, and a program of one thread.
 """
 import concurrent.futures
 import ctypes
@@ -44,8 +44,8 @@ def ptrace(request, process=0, place=0, word=0):
 
 
 class Call:
-    """A call of the system: its number on x86-64, its six words, and once it was made its result, which an observer
-    may change. Where it failed the result is the negative number of the fault.
+    """A system call: its number on x86-64, its six arguments, and once it was made its result, which an observer may
+    change. The result of a failed call is the negative number of the fault.
     """
 
     def __init__(self, memory, registers):
@@ -67,22 +67,22 @@ class Call:
         return self.bytes_at(address, LONGEST_PATH).split(b"\0")[0].decode(errors="replace")
 
     def change(self, place, word):
-        """It is made with this word in the place, counted from 0."""
+        """It is made with this argument at a place, counted from 0."""
         self.words[place] = word
         self.changed[WORDS[place]] = word
 
     def become(self, number):
-        """It is another call, with the same words."""
+        """Another call is made instead, with the same arguments."""
         self.number = number
         self.changed[ORIG_RAX] = number
 
     def answer(self, result):
-        """It isn't made, and comes to this result."""
+        """It isn't made, and has this result."""
         self.changed[ORIG_RAX] = NO_CALL
         self.answered = result
 
     def refuse(self, fault=errno.EIO):
-        """It isn't made, and fails so."""
+        """It isn't made, and fails with this number."""
         self.answer(-fault)
 
 
@@ -91,7 +91,7 @@ class Traced(subprocess.Popen):
 
     def __init__(self, words, observer, **pipes):
         self.observer, self.status, self.memory = observer, None, None
-        tracer = concurrent.futures.ThreadPoolExecutor(1)  # ptrace serves only the thread that began
+        tracer = concurrent.futures.ThreadPoolExecutor(1)  # ptrace serves only the thread that began the tracing
         options = {"preexec_fn": lambda: ptrace(TRACEME), **pipes}
         try:
             tracer.submit(super().__init__, words, **options).result()
@@ -101,7 +101,7 @@ class Traced(subprocess.Popen):
         tracer.shutdown(wait=False)
 
     def wait(self, timeout=None):
-        """The status. Only the tracer may ask the system for it: who asks may be given a stop instead."""
+        """The status. Only the tracer may call waitpid(2), which may report a stop instead."""
         try:
             self.returncode = self.followed.result(timeout)
         except concurrent.futures.TimeoutError:
@@ -113,10 +113,10 @@ class Traced(subprocess.Popen):
 
     def __exit__(self, fault, *more):
         if fault and not self.followed.done():
-            os.kill(self.pid, signal.SIGKILL)  # it may wait for what nobody does any more
+            os.kill(self.pid, signal.SIGKILL)  # it may wait for something that no longer happens
         super().__exit__(fault, *more)
 
-    # What follows is the tracer's.
+    # The methods below run in the tracer's thread.
 
     def follow(self):
         """Follows it until it ends; its status."""
@@ -147,7 +147,7 @@ class Traced(subprocess.Popen):
         return os.WSTOPSIG(status)
 
     def resume(self, request, number=0):
-        """Lets it run on, with the signal of this number; the signal of its next stop."""
+        """Continues it, with the signal of this number; the signal of its next stop."""
         ptrace(request, self.pid, 0, number)
         return self.stop()
 

@@ -1,4 +1,4 @@
-"""Servers whose calls of the system are written down, and the calls that they are to make.
+"""Servers whose system calls are recorded, and the calls that they should make.
 
 Bytes are worked out by hand from docs/FORMATS.md.
 """
@@ -21,7 +21,7 @@ def written(name, place, content):
     return [f"seek {name}.wav {place}", f"write {name}.wav {content}"]
 
 
-# Requests of takes with one channel of 16 bits, and the calls that they are to make on the take's file.
+# Requests of takes with one channel of 16 bits, and the calls that the server should make on the take's file.
 OPEN = "0180bb0000010010000000", lambda name: [
     f"open FOLDER/{name}.wav to-read-and-write create new",
     *written(name, 0, EMPTY),
@@ -36,7 +36,7 @@ CLOSE_MARKED = CLOSE[0], lambda name: [*written(name, 694, MARKER), *written(nam
 
 
 def accepted_in_turn(seconds):
-    """The calls for a peer of one after another."""
+    """The calls that accept a peer where exchanges are served one after another."""
     return lambda peer: [
         f"accept {peer}",
         "stat FOLDER",
@@ -48,7 +48,7 @@ def accepted_in_turn(seconds):
 
 
 def accepted_at(place):
-    """The calls for a peer of many that has this place."""
+    """The calls that accept a peer into this place where many are served at once."""
     return lambda peer: [
         f"accept {peer}",
         "stat FOLDER",
@@ -58,7 +58,7 @@ def accepted_at(place):
 
 
 class Watched:
-    """A server over a folder of its own whose calls are written down, and the calls that it is to make."""
+    """A server over a folder of its own whose calls are recorded, and the calls that it should make."""
 
     def __init__(self, folder, *options, faults=()):
         self.folder = folder / "takes"
@@ -78,14 +78,14 @@ class Watched:
         ]
 
     def comes(self, accepted):
-        """A peer, of which the server is to make these calls; its number."""
+        """Connects a peer that the server should accept by these calls; its number."""
         peer = len(self.peers)
         self.peers.append(connect(self.server.port))
         self.wanted += accepted(f"peer-{peer}")
         return peer
 
     def says(self, peer, said, calls, reply):
-        """The peer says this and hears this, and the server is to make these calls between."""
+        """The peer sends this and receives this reply, and between them the server should make these calls."""
         self.peers[peer].sendall(said)
         TALLY.same("a reply", hear(self.peers[peer], len(reply)), reply)
         self.wanted += [f"receive peer-{peer} {said.hex()}", *calls, f"send peer-{peer} {reply.hex()}"]
@@ -97,14 +97,14 @@ class Watched:
         self.says(peer, said, request[1](name), verdict(name, number, 0))
 
     def goes(self, peer, index):
-        """The peer says BYE and hears the end, and its exchange has this number."""
+        """The peer sends BYE and sees the end of the connection; its exchange has this number."""
         self.peers[peer].sendall(BYE_FRAME)
         TALLY.same("a reply after BYE", hear_all(self.peers[peer]), b"")
         line = f"exchange {index} Bye\n".encode().hex()
         self.wanted += [f"receive peer-{peer} {BYE_FRAME.hex()}", f"write out {line}"]
 
     def small_exchange(self, peer, index):
-        """A peer asks under which number a name goes on, and goes."""
+        """A peer asks which number of a name comes next, and leaves."""
         self.says(peer, message("c3", 5, b"\x06"), [], notice("c3", 5, NEXT, 0))
         self.goes(peer, index)
 
@@ -112,7 +112,7 @@ class Watched:
         return [line.replace(str(self.folder), "FOLDER") for line in self.server.observer.lines]
 
     def ends(self, name, exchanges):
-        """The server has ended by itself after the calls that it was to make."""
+        """The server has ended by itself, and made just the calls that it should; the waits among them."""
         wanted = 0, [f"exchange {index} Bye" for index in exchanges], ""
         TALLY.same(f"{name}: the server", self.server.end(), wanted)
         lines = self.lines()
@@ -120,12 +120,12 @@ class Watched:
         return [line for line in lines if line.startswith("wait ")]
 
     def ended(self, name, wanted):
-        """The server has ended so; of its calls nothing is asked here."""
+        """The server has ended like this; its calls aren't compared."""
         TALLY.same(name, self.server.end(), wanted)
 
 
 def is_waiting(line):
-    """A wait of a server of many, or a call that finds nothing yet."""
+    """Whether a call only waits: a wait of a server of many, or a call that finds nothing yet."""
     finds_nothing = line.endswith(f" fails {errno.EAGAIN}")
     return line.startswith("wait ") or finds_nothing and line.startswith(("receive ", "accept "))
 
@@ -133,4 +133,4 @@ def is_waiting(line):
 def same_calls(name, found, wanted):
     both = zip([*found, "no call"], [*wanted, "no call"])
     at, pair = next(((at, pair) for at, pair in enumerate(both) if pair[0] != pair[1]), (0, ("", "")))
-    TALLY.holds(f"{name}: the calls", found == wanted, f"call {at}: {pair[0][:160]}, and not {pair[1][:160]}")
+    TALLY.holds(f"{name}: the calls", found == wanted, f"call {at}: {pair[0][:160]}, not {pair[1][:160]}")

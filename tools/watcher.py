@@ -1,8 +1,8 @@
-"""Writes down what a program asks of the system, a line for each call: an observer of tracer.py.
+"""Records a program's system calls, a line for each: an observer of tracer.py.
 
-A line names the call, the file, socket or stream that it is for, and what goes with it: bytes in hex, a place, a path,
-an address, an option's value, a token. A call that failed ends with `fails` and the fault's number. Left out are calls
-of memory and modes (LEFT_OUT), and closings.
+A line names the call, the file, socket or stream that it is for, and other arguments: bytes in hex, a place, a path, an
+address, an option's value, a token. The line of a failed call ends with `fails` and the fault's number. Calls that
+only concern memory and modes (LEFT_OUT) are left out, and so are closings.
 """
 import collections
 import errno
@@ -25,7 +25,7 @@ COPY = 1030  # of fcntl
 
 @dataclass
 class Fault:
-    """So many calls whose lines begin so aren't made, and fail with this number."""
+    """The first `left` calls whose lines begin like this aren't made, and fail with this number."""
 
     line: str
     number: int = errno.EIO
@@ -77,7 +77,7 @@ class Watcher:
             self.lines.append(call.line)
 
     def know(self, call, kind, name):
-        """Learns what a descriptor is for."""
+        """Keeps what each descriptor is for."""
         if kind == "open":
             self.names[call.result] = name.split()[0].rpartition("/")[2]
         elif kind in ("socket", "accept", "copy", "poll"):
@@ -95,7 +95,7 @@ class Watcher:
         return form(self, call) if form else f"call {call.number} {self.name(call)}"
 
 
-# The line of each kind of call, before it is made.
+# The line of each kind of call, before it is made
 
 
 def of_stream(kind):
@@ -116,7 +116,7 @@ def of_opening(place):
 
 
 def of_path(kind, place):
-    """Of a call that takes a descriptor where the path is empty."""
+    """The line of a call that is for a descriptor where its path is empty."""
 
     def line(watcher, call):
         return f"{kind} {call.text_at(call.words[place]) or watcher.name(call)}"

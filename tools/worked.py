@@ -1,6 +1,6 @@
-"""Worked messages, replies and files of small takes, in hex, and what a row of `replay` has.
+"""Worked messages, replies and files of small takes, in hex, and the cases of `replay`.
 
-Messages and files are worked out by hand from docs/FORMATS.md; the replies are framed by takes.py.
+Messages and files are worked out by hand from docs/FORMATS.md; takes.py frames the replies.
 """
 from typing import NamedTuple
 
@@ -13,8 +13,8 @@ BAD_EXCHANGE = "exchange 0 BadFrame"
 EXCHANGE_1 = "exchange 1 EndOfInput"
 
 
-class Row(NamedTuple):
-    """An input and the options of its run, and what is printed: lines, and then files."""
+class Case(NamedTuple):
+    """An input, the lines and then the files that its run prints, and the options of the run."""
 
     of: str
     given: str
@@ -26,15 +26,15 @@ class Row(NamedTuple):
         return "".join(line + "\n" for line in (*self.lines, *self.files)).encode()
 
 
-# Messages: the take `a1` has 48,000 Hz, one channel and 16 bits.
+# Messages of the take `a1`: 48,000 Hz, one channel, 16 bits.
 OPEN = "12000000010261310000000080bb0000010010000000"
 BLOCK = "0c000000020261310100000001000200"  # two frames under number 1
-OTHER_BLOCK = "0c000000020261310100000001000300"  # other two frames under number 1
+OTHER_BLOCK = "0c000000020261310100000001000300"  # two other frames under number 1
 CLOSE = "1000000005026131020000000200000000000000"  # number 2: two frames in all
 ASK = "080000000602613100000000"  # asks under number 0
 BYE = "0100000009"
 
-# Parts of files, in their order.
+# Parts of files, in the order in which they stand there.
 FORM_682 = "52494646aa020000574156454a554e4b1c000000"
 FORM_686 = "52494646ae020000574156454a554e4b1c000000"
 FORM_722 = "52494646d2020000574156454a554e4b1c000000"
@@ -48,7 +48,7 @@ NO_BEXT = BEXT + NO_FIELDS + VERSION + RESERVED
 RAIN = BEXT + "5261696e" + "00" * 342 + VERSION + RESERVED  # the description `Rain`
 NO_DATA = "6461746100000000"
 TWO_FRAMES = "646174610400000001000200"
-# a marker 7 after the second frame
+# A marker 7 after the second frame.
 MARKER = "637565201c00000001000000070000000200000064617461000000000000000002000000"
 
 # The files of a take that is only opened, of one with two frames, and of one with the marker too.
@@ -102,10 +102,10 @@ def asked(following, number=0, name="a1"):
 
 
 def turned_away(number, name):
-    """The server knows no more names."""
+    """The server takes no more names."""
     return reply(notice(name, number, TABLE_FULL, 0))
 
 
 def broken(reason, offset=0):
-    """The bytes from this offset on are no frame."""
+    """From this offset on the bytes are no frame."""
     return reply(bad_frame(reason, offset))

@@ -1,7 +1,7 @@
-"""Wrong bodies of the functions that no clause covers, each as the calls of the system that it would make.
+"""Wrong bodies of the functions that no clause covers, each given as the system calls that it would make.
 
-The program stays as it is: the tracer changes its calls, leaves them out, or changes what they come to. Each body names
-the case of run_calls that must fail with it.
+The program stays as it is: the tracer changes its calls, leaves them out, or changes their results. Each body names the
+case of run_calls that must fail with it.
 """
 import contextlib
 import io
@@ -28,14 +28,14 @@ def nothing(call):
 
 
 class Body:
-    """A wrong body: what it does before a call is made, to its result, and to the words of the command line."""
+    """A wrong body: what it does to a call before it is made, to its result, and to the command line."""
 
     def __init__(self, what, case, before=nothing, after=nothing, words=lambda words: words):
         self.what, self.case, self.before, self.after, self.words = what, case, before, after, words
 
 
 def when(number, change, holds=lambda call: True):
-    """Does this to the calls of a number."""
+    """Changes the calls of this number."""
 
     def do(call):
         if call.number == number and holds(call):
@@ -45,7 +45,7 @@ def when(number, change, holds=lambda call: True):
 
 
 def with_word(number, place, word, holds=lambda call: True):
-    """Calls of this number have another word."""
+    """Changes an argument of the calls of this number."""
     return when(number, lambda call: call.change(place, word(call.words[place])), holds)
 
 
@@ -55,7 +55,7 @@ def left_out(number, holds=lambda call: True):
 
 
 def overwritten(number, place, at, content):
-    """What a word of these calls points to has other bytes at a place."""
+    """Changes bytes to which an argument of these calls points."""
     return when(number, lambda call: call.write_at(call.words[place] + at, content))
 
 
@@ -68,7 +68,7 @@ def is_file(call):
 
 
 def with_token(change):
-    """Registers another token, but for the listener's."""
+    """Changes each token that is registered, except the listener's."""
 
     def do(call):
         address = call.words[3] + TOKEN_AT
@@ -102,7 +102,7 @@ def seem_done(call):
 
 
 def with_mode(mode, holds):
-    """What the system says of a file seems to be of this mode."""
+    """Changes the mode that the system reports for a file."""
 
     def do(call):
         call.result = 0
@@ -112,7 +112,7 @@ def with_mode(mode, holds):
 
 
 def taken_for(one, other):
-    """A fault of this number is taken for another one."""
+    """Takes a fault for another one."""
 
     def do(call):
         if call.result == -one:
@@ -122,7 +122,7 @@ def taken_for(one, other):
 
 
 class FirstSynced:
-    """Each sync is of the file that was synced first."""
+    """Syncs the file that was synced first, whichever is asked for."""
 
     def __init__(self):
         self.first = None
@@ -152,7 +152,7 @@ BODIES = [
     Body("no sync", "in_turn", left_out(SYNC)),
     Body("no sync, of many", "many", left_out(SYNC)),
     Body("a sync of another file", "in_turn", with_word(SYNC, 0, FirstSynced())),
-    Body("a file that stands is opened, and cut", "in_turn", with_word(OPEN, 2, opened_over)),
+    Body("an existing file is opened, and cut", "in_turn", with_word(OPEN, 2, opened_over)),
     Body("a file is cut where it is written", "in_turn", when(SEEK, cut_in_place_of_seek, is_file)),
     Body("the probe of a folder is left", "in_turn", left_out(REMOVE)),
     Body("a folder that is gone counts", "at_an_end", after=with_mode(FOLDER_MODE, lambda call: call.result < 0)),
@@ -192,7 +192,7 @@ BODIES = [
 
 
 def fails(case):
-    """Whether a case compares something that differs; what it prints is left out."""
+    """Whether a comparison of a case fails; what it prints is left out."""
     failed = TALLY.failed
     with contextlib.redirect_stdout(io.StringIO()):
         run_case(case)
@@ -200,7 +200,7 @@ def fails(case):
 
 
 def is_refused(body, case):
-    """A wrong body makes its case fail, which passes without it."""
+    """Whether a wrong body makes its case fail, which passes without it."""
     if fails(case):
         print(f"{body.case}: it fails without a wrong body", flush=True)
         return False
@@ -216,7 +216,7 @@ def is_refused(body, case):
 
 
 def try_all(cases):
-    """The status. Some of the bodies leave a peer without a reply."""
+    """Tries each wrong body; the status. The waits are short, as some of the bodies leave a peer without a reply."""
     network.LONGEST_WAIT = 5  # seconds
     by_name = {case.__name__.removeprefix("case_"): case for case in cases}
     refused = sum(is_refused(body, by_name[body.case]) for body in BODIES)

@@ -1,17 +1,17 @@
-"""Takes of which two calls of the store fail: each turn's replies, the calls that it makes, and what comes next then.
+"""Takes for which one or two calls of the store fail, with the replies, calls and next number of each turn.
 
-Bytes and plans are worked out by hand from docs/FORMATS.md and docs/DECISIONS.md. A turn in which a delayed request is
-tried again writes the samples anew, and then the whole header.
+They are worked out by hand from docs/FORMATS.md and docs/DECISIONS.md. A turn that tries a delayed request again writes
+the samples again, and then the whole header.
 """
 from typing import NamedTuple
 
-from rows_of_files import BLOCK, CLOSE, HEADER, OPEN
+from cases_of_files import BLOCK, CLOSE, HEADER, OPEN
 from takes import CONFLICT, DELAYED_STORE, NEXT, notice, STORED, verdict
 from worked import HELD, SMALL, TOO_FAR
 
 
 class Turn(NamedTuple):
-    """A request under a number: codes with their numbers, what comes next after it, and its calls of the store."""
+    """A request under a number: its replies, the number that comes next then, and its calls of the store."""
 
     number: int
     request: str
@@ -23,68 +23,70 @@ class Turn(NamedTuple):
         return [reply(name, *words) for words in self.replies]
 
 
-class Row(NamedTuple):
+class Case(NamedTuple):
+    """A take, the calls that fail, counted from 0, its turns and its file."""
+
     of: str
-    faults: tuple  # which calls fail, counted from 0
+    faults: tuple
     turns: list
     file: str = SMALL
 
 
 def reply(name, number, code, following=None):
-    """A verdict, or a notice where it says what comes next."""
+    """A verdict, or a notice where the number that comes next is given."""
     return verdict(name, number, code) if following is None else notice(name, number, code, following)
 
 
 OTHER_BLOCK = "0201000300"  # under the number of BLOCK
 SAMPLES = "write 690 4"
-MENDED = [SAMPLES, HEADER]  # what the second try of BLOCK writes, or the third
+AGAIN = [SAMPLES, HEADER]  # what a later try of BLOCK writes
 
 OPENS = Turn(0, OPEN.request, [(0, STORED)], 1, OPEN.first)
 DELAYS_BLOCK = Turn(1, BLOCK.request, [(1, DELAYED_STORE, 1)], 1, [SAMPLES])
-APPENDS = Turn(1, BLOCK.request, [(1, STORED)], 2, MENDED)
-CLOSES_BOTH = Turn(1, BLOCK.request, [(1, STORED), (2, STORED)], 3, [*MENDED, "sync"])
+APPENDS = Turn(1, BLOCK.request, [(1, STORED)], 2, AGAIN)
+CLOSES_BOTH = Turn(1, BLOCK.request, [(1, STORED), (2, STORED)], 3, [*AGAIN, "sync"])
 
 BOTH = (2, 3)  # the samples, and the samples at the second try
-ROWS = [
-    Row(
+CASES = [
+    Case(
         "a block after two faults, and another under its number",
         BOTH,
         [OPENS, DELAYS_BLOCK, DELAYS_BLOCK, APPENDS, Turn(1, OTHER_BLOCK, [(1, CONFLICT, 2)], 2)],
     ),
-    Row(
+    Case(
         "a repeat of the OPEN that is done",
         BOTH,
         [
             *(OPENS, DELAYS_BLOCK, OPENS._replace(calls=[SAMPLES])),
-            Turn(0, OPEN.request, [(1, STORED), (0, STORED)], 2, MENDED),
+            Turn(0, OPEN.request, [(1, STORED), (0, STORED)], 2, AGAIN),
         ],
     ),
-    Row(
+    Case(
         "a close that waits for the block",
         BOTH,
         [OPENS, DELAYS_BLOCK, Turn(2, CLOSE.request, [(2, DELAYED_STORE, 1)], 1, [SAMPLES]), CLOSES_BOTH],
     ),
-    Row(
+    Case(
         "another block under the number that is tried",
         BOTH,
         [OPENS, DELAYS_BLOCK, Turn(1, OTHER_BLOCK, [(1, CONFLICT, 1)], 1, [SAMPLES]), APPENDS],
     ),
-    Row(
+    Case(
         "a number too far, then too far when its turn begins, then one that waits",
         BOTH,
         [
             *(OPENS, DELAYS_BLOCK),
             Turn(17, BLOCK.request, [(17, TOO_FAR, 1)], 1, [SAMPLES]),
-            Turn(17, BLOCK.request, [(1, STORED), (17, TOO_FAR, 2)], 2, MENDED),
+            Turn(17, BLOCK.request, [(1, STORED), (17, TOO_FAR, 2)], 2, AGAIN),
             Turn(17, BLOCK.request, [(17, HELD, 2)], 2),
         ],
     ),
-    Row(
+    Case(
         "asks after one fault, which try nothing",
         (2,),
         [
             *(OPENS, DELAYS_BLOCK, Turn(1, "06", [(1, NEXT, 1)], 1)),
-            Turn(2, CLOSE.request, [(1, STORED), (2, STORED)], 3, [*MENDED, "sync"]),
+            Turn(2, CLOSE.request, [(1, STORED), (2, STORED)], 3, [*AGAIN, "sync"]),
         ],
     ),
 ]

@@ -2,8 +2,8 @@
 # How fast `serve --recorders` takes takes from 1, 16 and 200 recorders at once, over loopback into a folder on the disk
 # of TMPDIR: blocks of 32 KiB and of 1 KiB from bench/client.c, which keeps 16 messages of each take in flight. A line
 # has MB/s of all together, the ratio to SHA-256 alone over bodies of that length (the server's own, in the same run),
-# and how fast the slowest recorder was, where the mean of all is 1. At last the same into a folder whose every write
-# takes 5 ms more, and how long one who only asks waits for an answer meanwhile, and where nobody else is there. The
+# and how fast the slowest recorder was, where the mean of all is 1. Last the same into a folder whose every write
+# takes 5 ms more, and how long a peer that only asks waits for an answer, meanwhile and alone. The
 # program is the first argument, or the one of this repository. Needs cc, awk, openssl, python3, and GNU time for the
 # rest.
 
@@ -11,7 +11,7 @@ here=$(dirname -- "$(readlink -f -- "$0")") || exit
 . "$here/common.sh"
 
 # $1 recorders at once with $2 blocks each of $3 bytes, beside SHA-256's MB/s $4.
-crowd() {
+many() {
     serve "$1" --recorders 256
     taken=$("$work/client" $port take "$2" "$3" "$1") || exit
     wait $server || exit
@@ -36,7 +36,7 @@ END
     cc -shared -fPIC -O1 -o "$work/slow.so" "$work/slow.c" && slow=$work/slow.so
 }
 
-# How long one who asks waits for its answer, a hundred times.
+# How long a peer that asks waits for its answer, over a hundred asks.
 ask() {
     python3 - $port <<'END'
 import socket, sys, time
@@ -56,7 +56,7 @@ print(f"an answer takes {waited[50]:.1f} ms, at most {waited[-1]:.1f} ms")
 END
 }
 
-# 16 recorders at once into a slow folder, beside one who asks.
+# 16 recorders at once into a slow folder, and a peer that asks.
 slow_folder() {
     slow_writes || exit
     serve 18 --recorders 256
@@ -72,11 +72,11 @@ slow_folder() {
         ", slowest $slowest$(used server)"
 }
 
-tell_digests
-crowd 1 16384 32768 "$long_bodies"
-crowd 16 1024 32768 "$long_bodies"
-crowd 200 82 32768 "$long_bodies"
-crowd 1 65536 1024 "$short_bodies"
-crowd 16 4096 1024 "$short_bodies"
-crowd 200 320 1024 "$short_bodies"
+report_digests
+many 1 16384 32768 "$long_bodies"
+many 16 1024 32768 "$long_bodies"
+many 200 82 32768 "$long_bodies"
+many 1 65536 1024 "$short_bodies"
+many 16 4096 1024 "$short_bodies"
+many 200 320 1024 "$short_bodies"
 slow_folder

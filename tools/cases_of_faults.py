@@ -1,7 +1,7 @@
-"""Runs of `replay --fuse K`: the call number K of the store fails, and the request it was for is tried again."""
-from rows_of_takes import block, OPEN_B2
+"""Runs of `replay --fuse K`: call K of the store fails, and its request is tried again."""
+from cases_of_takes import block, OPEN_B2
 from worked import asked, BLOCK, CLOSE, conflict, delayed, EMPTY, EMPTY_FILE, EXCHANGE, EXCHANGE_1, FORM_682, FORM_686
-from worked import FORM_722, held, JUNK, MARKER, MONO, NO_BEXT, NO_DATA, OPEN, OTHER_BLOCK, RAIN, Row, SMALL_FILE
+from worked import FORM_722, held, JUNK, MARKER, MONO, NO_BEXT, NO_DATA, OPEN, OTHER_BLOCK, RAIN, Case, SMALL_FILE
 from worked import stored, too_far, TWO_FRAMES
 
 # Numbers 2 to 4: the description `Rain`, a marker 7 after the second frame, and two frames in all.
@@ -24,11 +24,11 @@ LINES_AT = [AT_OPEN, AT_OPEN, AT_BLOCK, AT_BLOCK, AT_BLOCK, AT_FIELD, AT_CLOSE, 
 
 
 def fused(fuse, of, given, lines, files):
-    return Row(of, given, lines, files, ("--fuse", str(fuse)))
+    return Case(of, given, lines, files, ("--fuse", str(fuse)))
 
 
 EACH_CALL = [
-    Row("no call", FIVE + "\n" + FIVE, NO_DELAY, [FILE_OF_FIVE]),
+    Case("no call", FIVE + "\n" + FIVE, NO_DELAY, [FILE_OF_FIVE]),
     *(fused(at, f"call {at}", FIVE + "\n" + FIVE, lines, [FILE_OF_FIVE]) for at, lines in enumerate(LINES_AT)),
     fused(4_294_967_295, "the greatest call", FIVE + "\n" + FIVE, NO_DELAY, [FILE_OF_FIVE]),
 ]
@@ -147,7 +147,7 @@ TORN = [
     fused(8, "a file that isn't finished", FIVE, BEFORE_CLOSE, [FILE_OF_FIVE]),
 ]
 
-ROWS = {
+CASES = {
     "a fault at each call delays one number": EACH_CALL,
     "what a fault delayed is stored in the next turn": RETRIES,
     "a failed write leaves half of its bytes": TORN,

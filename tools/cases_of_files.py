@@ -1,10 +1,10 @@
-"""Takes with the calls that their files take of a store, request by request, and the files that are left.
+"""Takes with the calls on the store that each request makes, and the files that they leave.
 
 Bytes are worked out by hand from docs/FORMATS.md. A call is `create`, `write PLACE LENGTH` or `sync`.
 """
 from typing import NamedTuple
 
-from rows_of_takes import FIRST_FRAME, HISTORY, WIDE
+from cases_of_takes import FIRST_FRAME, HISTORY, WIDE
 from worked import BEXT, EMPTY, FORM_682, FORM_686, FORM_722, JUNK, MARKER, MONO, NO_BEXT, NO_DATA, NO_FIELDS, RAIN
 from worked import SMALL, TWO_FRAMES
 
@@ -13,7 +13,7 @@ HEADER = "write 0 690"
 
 
 class Step(NamedTuple):
-    """A request, in hex, and its verdict; the calls for it at the first try, and those of a try after a fault."""
+    """A request in hex, its calls at the first try and at a try after a fault, and its verdict."""
 
     request: str
     first: list = []
@@ -21,8 +21,8 @@ class Step(NamedTuple):
     code: int = 0
 
 
-class Row(NamedTuple):
-    """A take and its file, in hex; how many calls there are without a fault, and how many bytes they write."""
+class Case(NamedTuple):
+    """A take, the number of its calls and of the bytes that they write where nothing fails, and its file in hex."""
 
     of: str
     steps: list
@@ -60,21 +60,21 @@ OPEN_WITH_HISTORY = Step("0180bb0000010010000300413d50", ["create", "write 0 694
 # Of one loudness the file has version 2, and the value for none in place of the others.
 LOUD_BEXT = BEXT + NO_FIELDS + "0200" + 64 * "00" + "04f7" + 4 * "ff7f" + 180 * "00"
 
-CLOSED = Row("two frames", [OPEN, BLOCK, CLOSE], 6, 702, SMALL)
+CLOSED = Case("two frames", [OPEN, BLOCK, CLOSE], 6, 702, SMALL)
 
 SHORT = [
-    Row("an opened take", [OPEN], 2, 690, EMPTY),
+    Case("an opened take", [OPEN], 2, 690, EMPTY),
     CLOSED,
-    Row("a closed take without data", [OPEN, CLOSE_EMPTY], 3, 690, EMPTY),
-    Row(
+    Case("a closed take without data", [OPEN, CLOSE_EMPTY], 3, 690, EMPTY),
+    Case(
         "a frame of three bytes",
         [OPEN_WIDE, ODD_BLOCK],
         6,
         702,
         FORM_686 + JUNK + WIDE + NO_BEXT + "646174610300000007080900",
     ),
-    Row("a history of three bytes", [OPEN_WITH_HISTORY], 2, 694, FORM_686 + JUNK + MONO + HISTORY + NO_DATA),
-    Row(
+    Case("a history of three bytes", [OPEN_WITH_HISTORY], 2, 694, FORM_686 + JUNK + MONO + HISTORY + NO_DATA),
+    Case(
         "one marker stored and two refused",
         [
             *(OPEN, BLOCK, MARK),
@@ -86,15 +86,15 @@ SHORT = [
         742,
         FORM_722 + JUNK + MONO + NO_BEXT + TWO_FRAMES + MARKER,
     ),
-    Row(
+    Case(
         "a description, and a date of another form",
         [OPEN, DESCRIBE, refused("0404323032342d352d31", BAD_FIELD)],
         3,
         946,
         FORM_682 + JUNK + MONO + RAIN + NO_DATA,
     ),
-    Row("a loudness", [OPEN, LOUD], 3, 766, FORM_682 + JUNK + MONO + LOUD_BEXT + NO_DATA),
-    Row(
+    Case("a loudness", [OPEN, LOUD], 3, 766, FORM_682 + JUNK + MONO + LOUD_BEXT + NO_DATA),
+    Case(
         "a loudness that is taken back, a tag of no field, half a value, and the value for none",
         [OPEN, LOUD, NOT_LOUD, refused("040d", BAD_FIELD), refused("040c00", BAD_FIELD), STILL_NOT_LOUD],
         4,
@@ -110,14 +110,14 @@ DS64 = "42573634ffffffff57415645647336341c000000"
 UNSIZED = "64617461ffffffff"
 
 # Takes for faults. The last two are RIFF first, and then BW64.
-FIVE = Row(
+FIVE = Case(
     "two frames, a description and a marker",
     [OPEN, BLOCK, DESCRIBE, MARK, CLOSE_MARKED],
     9,
     998,
     FORM_722 + JUNK + MONO + RAIN + TWO_FRAMES + MARKER,
 )
-BW64_AT_CLOSE = Row(
+BW64_AT_CLOSE = Case(
     "BW64 from the close on",
     [
         *(OPEN, LONG_BLOCK, EARLY_MARK),
@@ -127,7 +127,7 @@ BW64_AT_CLOSE = Row(
     8_934,
     DS64 + "2420000000000000" + "561d000000000000" + 12 * "00" + MONO + NO_BEXT + UNSIZED + 7_510 * "11" + FIRST_FRAME,
 )
-BW64_AT_BLOCK = Row(
+BW64_AT_BLOCK = Case(
     "BW64 from a block on",
     [
         *(OPEN, LONG_BLOCK),
@@ -150,14 +150,14 @@ LONG_ODD_BLOCK = Step(
     ["write 690 7509", "write 8199 1", HEADER],
 )
 EDGES = [
-    Row(
+    Case(
         "odd data and a pad byte up to the limit",
         [OPEN_WIDE, LONG_ODD_BLOCK],
         6,
         8_208,
         "5249464600200000574156454a554e4b1c000000" + JUNK + WIDE + NO_BEXT + "64617461551d0000" + 7_509 * "11" + "00",
     ),
-    Row(
+    Case(
         "a frame past the limit",
         [OPEN_WIDE, LONG_ODD_BLOCK, Step("02222222", ["write 8199 3", HEADER], ["write 8199 3", HEADER])],
         8,
@@ -196,7 +196,7 @@ ALL_FIELDS = "".join(
         "0200" + 64 * "02" + "04f70100020003000400" + 180 * "00",
     )
 )
-FIELDS = Row(
+FIELDS = Case(
     "each field, twice",
     [OPEN, *SET_TWICE],
     14,
@@ -204,7 +204,7 @@ FIELDS = Row(
     FORM_682 + JUNK + MONO + BEXT + ALL_FIELDS + NO_DATA,
 )
 
-# What fails, as run_files names it, and what stands under the name then.
+# What fails, as run_files names it, and the file that there is then.
 FAULTS = [
     ("the opening", "0", None),
     ("a seek", "1s", ""),

@@ -1,6 +1,6 @@
-"""Runs of `send`: its lines, what it says over each link and what is answered, and what it prints at last.
+"""Runs of `send`: the lines of its input, what it says over each link, the replies, and what it prints.
 
-The take is that of worked.py, and so are its messages and replies, in hex.
+The take and its messages are those of worked.py, in hex.
 """
 from typing import NamedTuple
 
@@ -12,9 +12,8 @@ REFUSED, UNSETTLED = 1, 3  # statuses of the program
 
 
 class Sending(NamedTuple):
-    """The lines of an input, the options of its run, and its links: what is sent over each, and what is answered.
-
-    Then the status, and what is printed on each stream.
+    """The lines of an input, the links of the run with what is said and replied over each, the text and the status that
+    it ends with, and its options.
     """
 
     of: str
@@ -139,7 +138,7 @@ UNSENT = [
 # A write fails after 22 and 8 bytes.
 BROKEN = unsettled("a link that breaks after 30 bytes", [((OPEN + BLOCK)[:60], FIRST)], 1)
 
-ROWS = {
+CASES = {
     "a round sends what has no verdict": ROUNDS,
     "a refused number is printed": REFUSALS,
     "no reply but a first verdict counts": UNCOUNTED,

@@ -1,7 +1,7 @@
 """Runs of `replay` over takes: verdicts and files, fields, names, and what is at a limit or past it."""
 from worked import asked, BAD_EXCHANGE, BEXT, BLOCK, broken, CLOSE, EMPTY, EMPTY_FILE, EXCHANGE, EXCHANGE_1, FORM_682
 from worked import FORM_686, held, judged, JUNK, MARKED_FILE, MONO, NO_BEXT, NO_DATA, NO_FIELDS, OPEN, RAIN, RESERVED
-from worked import Row, SMALL, SMALL_FILE, stored, too_far, turned_away, VERSION
+from worked import Case, SMALL, SMALL_FILE, stored, too_far, turned_away, VERSION
 
 # What a take of another format has in place of MONO.
 WIDE = "666d7420100000000100010080bb00008032020003001800"  # 24 bits
@@ -9,20 +9,20 @@ FASTEST = "666d7420100000000100010000b80b000070170002001000"  # 768,000 Hz
 HISTORY = "626578745d020000" + NO_FIELDS + VERSION + RESERVED + "413d5000"  # three bytes, and a pad byte
 
 FORMATS = [
-    Row("an opened take", OPEN, [EXCHANGE, *stored(0)], [EMPTY_FILE]),
-    Row(
+    Case("an opened take", OPEN, [EXCHANGE, *stored(0)], [EMPTY_FILE]),
+    Case(
         "a closed take without a frame",
         OPEN + "1000000005026131010000000000000000000000",
         [EXCHANGE, *stored(0, 1)],
         [EMPTY_FILE],
     ),
-    Row(
+    Case(
         "three bytes of data and their pad byte",
         "12000000010261310000000080bb0000010018000000" + "0b0000000202613101000000010203",
         [EXCHANGE, *stored(0, 1)],
         ["file a1 694\n" + FORM_686 + JUNK + WIDE + NO_BEXT + "646174610300000001020300"],
     ),
-    Row(
+    Case(
         "three bytes of history and their pad byte",
         "15000000010261310000000080bb0000010010000300413d50",
         [EXCHANGE, *stored(0)],
@@ -31,7 +31,7 @@ FORMATS = [
 ]
 
 REFUSED = [
-    Row(
+    Case(
         "a wrong total, the right one, and a block after it",
         OPEN
         + BLOCK
@@ -41,7 +41,7 @@ REFUSED = [
         [EXCHANGE, *stored(0, 1), judged(2, 11), *stored(3), judged(4, 4)],
         [SMALL_FILE],
     ),
-    Row(
+    Case(
         "a marker, its identifier again, and one after the last frame",
         OPEN
         + BLOCK
@@ -52,13 +52,13 @@ REFUSED = [
         [EXCHANGE, *stored(0, 1, 2), judged(3, 8), judged(4, 7), *stored(5)],
         [MARKED_FILE],
     ),
-    Row(
+    Case(
         "a block of one frame and a half, twice, and a whole one",
         OPEN + 2 * "0b0000000202613101000000010002" + "0c000000020261310200000001000200",
         [EXCHANGE, *stored(0), judged(1, 6), judged(1, 6), *stored(2)],
         [SMALL_FILE],
     ),
-    Row(
+    Case(
         "a rate too great, the greatest, and OPEN after the end",
         "12000000010261310000000001b80b00010010000000"
         + "12000000010261310100000000b80b00010010000000"
@@ -67,7 +67,7 @@ REFUSED = [
         [EXCHANGE, judged(0, 5), *stored(1, 2), judged(3, 4)],
         ["file a1 690\n" + FORM_682 + JUNK + FASTEST + NO_BEXT + NO_DATA],
     ),
-    Row(
+    Case(
         "a rate of 0, the right one, and another OPEN",
         "12000000010261310000000000000000010010000000"
         + "12000000010261310100000080bb0000010010000000"
@@ -75,7 +75,7 @@ REFUSED = [
         [EXCHANGE, judged(0, 5), *stored(1), judged(2, 2)],
         [EMPTY_FILE],
     ),
-    Row("a take that isn't opened", "0c000000020261310000000001000200", [EXCHANGE, judged(0, 3)]),
+    Case("a take that isn't opened", "0c000000020261310000000001000200", [EXCHANGE, judged(0, 3)]),
 ]
 
 LOUDNESS = "0b00000004026131010000000804f7"  # -23.00, under number 1
@@ -88,19 +88,19 @@ def with_levels(levels):
 
 
 FIELDS = [
-    Row(
+    Case(
         "a description, and a date of another form",
         OPEN + "0d0000000402613101000000015261696e" + "11000000040261310200000004323032342d352d31",
         [EXCHANGE, *stored(0, 1), judged(2, 10)],
         ["file a1 690\n" + FORM_682 + JUNK + MONO + RAIN + NO_DATA],
     ),
-    Row(
+    Case(
         "one loudness, which makes version 2",
         OPEN + LOUDNESS,
         [EXCHANGE, *stored(0, 1)],
         [with_levels("04f7ff7fff7fff7fff7f")],
     ),
-    Row(
+    Case(
         "a loudness that is taken back, a tag of no field, and half a value",
         OPEN
         + LOUDNESS
@@ -110,13 +110,13 @@ FIELDS = [
         [EXCHANGE, *stored(0, 1, 2), judged(3, 10), judged(4, 10)],
         [EMPTY_FILE],
     ),
-    Row(
+    Case(
         "the value that stands for none",
         OPEN + "0b000000040261310100000008ff7f",
         [EXCHANGE, *stored(0, 1)],
         [EMPTY_FILE],
     ),
-    Row(
+    Case(
         "all five values",
         OPEN
         + LOUDNESS
@@ -136,7 +136,7 @@ CLOSE_B2 = "1000000005026232020000000200000000000000"
 FILE_B2 = "file b2 694\n" + FORM_686 + JUNK + MONO + NO_BEXT + "646174610400000001000300"
 
 ORDERED_NAMES = [
-    Row(
+    Case(
         "names of all kinds of bytes",
         "1200000001027a7a0000000080bb0000010010000000"
         + OPEN
@@ -147,7 +147,7 @@ ORDERED_NAMES = [
         [EXCHANGE, *(stored(0, name=name)[0] for name in ("zz", "a1", "_", "9", "-", "a"))],
         [f"file {name} 690\n{EMPTY}" for name in ("-", "9", "_", "a", "a1", "zz")],
     ),
-    Row(
+    Case(
         "a name of 32 bytes",
         "300000000120" + 32 * "7a" + "0000000080bb0000010010000000",
         [EXCHANGE, *stored(0, name=32 * "z")],
@@ -156,13 +156,13 @@ ORDERED_NAMES = [
 ]
 
 MIXED_TAKES = [
-    Row(
+    Case(
         "two takes, message by message",
         CLOSE_B2 + OPEN + BLOCK + OPEN_B2 + CLOSE + BLOCK_B2,
         [EXCHANGE, held(2, 0, "b2"), *stored(0, 1), *stored(0, name="b2"), *stored(2), *stored(1, 2, name="b2")],
         [SMALL_FILE, FILE_B2],
     ),
-    Row(
+    Case(
         "two takes in three exchanges, the later name first",
         OPEN_B2 + OPEN + "\n" + BLOCK + BLOCK_B2 + "\n" + CLOSE_B2 + CLOSE,
         [
@@ -172,7 +172,7 @@ MIXED_TAKES = [
         ],
         [SMALL_FILE, FILE_B2],
     ),
-    Row(
+    Case(
         "a take of which a block alone has come",
         OPEN + BLOCK_B2,
         [EXCHANGE, *stored(0), held(1, 0, "b2")],
@@ -181,17 +181,17 @@ MIXED_TAKES = [
 ]
 
 FAR_NUMBERS = [
-    Row(
+    Case(
         "the last number of the window, and the one after it",
         "0c000000020262320f00000001000200" + "0c000000020262321000000001000200",
         [EXCHANGE, held(15, 0, "b2"), too_far(16, 0, "b2")],
     ),
-    Row(
+    Case(
         "numbers far off",
         "0c000000020262320000100001000200" + "0c00000002026232ffffff0001000200",
         [EXCHANGE, too_far(0x10_00_00, 0, "b2"), too_far(0xFF_FF_FF, 0, "b2")],
     ),
-    Row("a number that is none", "0c000000020262320000000101000200", [BAD_EXCHANGE, broken(4)]),
+    Case("a number that is none", "0c000000020262320000000101000200", [BAD_EXCHANGE, broken(4)]),
 ]
 
 
@@ -200,7 +200,7 @@ def block(number):
 
 
 FULL_WINDOW = [
-    Row(
+    Case(
         "16 first, then 15 to 1, OPEN, and 16 again",
         block(16) + "".join(block(number) for number in range(15, 0, -1)) + OPEN + block(16),
         [EXCHANGE, too_far(16, 0), *(held(number, 0) for number in range(15, 0, -1)), *stored(*range(17))],
@@ -209,7 +209,7 @@ FULL_WINDOW = [
             + (JUNK + MONO + NO_BEXT + "6461746140000000" + 16 * "01000200")
         ],
     ),
-    Row(
+    Case(
         "1 to 15 first, then 16, OPEN, 17, and 16 again",
         "".join(block(number) for number in range(1, 17)) + OPEN + block(17) + block(16),
         [
@@ -229,7 +229,7 @@ WAITING = "".join(f"0c0000000202{name.encode().hex()}0100000001000200" for name 
 TURNED_AWAY = BLOCK_B2 + "0c000000020262321000000001000200" + "080000000602623200000000"
 AWAY = [turned_away(1, "b2"), too_far(16, 0, "b2"), asked(0, name="b2")]
 MANY_NAMES = [
-    Row(
+    Case(
         "a waiting block under each of 256 names; then OPEN, two blocks and an ask of another, and OPEN of the first",
         WAITING
         + OPEN_B2
@@ -243,7 +243,7 @@ MANY_NAMES = [
         ],
         ["file aa 694\n" + SMALL],
     ),
-    Row(
+    Case(
         "a waiting block under each of 256 names, OPEN of each, and another name before and after",
         WAITING
         + TURNED_AWAY
@@ -256,7 +256,7 @@ MANY_NAMES = [
         ],
         [f"file {name} 694\n{SMALL}" for name in NAMES],
     ),
-    Row(
+    Case(
         "a number too far under each of 256 names, and a take of another",
         "".join(f"0c0000000202{name.encode().hex()}1000000001000200" for name in NAMES) + OPEN_B2 + BLOCK_B2 + CLOSE_B2,
         [EXCHANGE, *(too_far(16, 0, name) for name in NAMES), *stored(0, 1, 2, name="b2")],
@@ -271,14 +271,14 @@ LONG_DATA = "64617461561d0000" + 7_510 * "11"
 FIRST_FRAME = "637565201c00000001000000070000000000000064617461000000000000000000000000"
 LEAST_LIMIT = ("--limit", "8192")
 LIMITS = [
-    Row(
+    Case(
         "a limit that is reached",
         OPEN + LONG_BLOCK,
         [EXCHANGE, *stored(0, 1)],
         ["file a1 8200\n5249464600200000574156454a554e4b1c000000" + JUNK + MONO + NO_BEXT + LONG_DATA],
         LEAST_LIMIT,
     ),
-    Row(
+    Case(
         "a limit that is passed",
         OPEN + LONG_BLOCK + MARK_AND_CLOSE,
         [EXCHANGE, *stored(0, 1, 2, 3)],
@@ -288,7 +288,7 @@ LIMITS = [
         ],
         LEAST_LIMIT,
     ),
-    Row(
+    Case(
         "the greatest limit",
         OPEN + LONG_BLOCK + MARK_AND_CLOSE,
         [EXCHANGE, *stored(0, 1, 2, 3)],
@@ -300,7 +300,7 @@ LIMITS = [
 ]
 
 LONGEST_BLOCKS = [
-    Row(
+    Case(
         "32,768 bytes",
         OPEN + "088000000202613101000000" + 32_768 * "11",
         [EXCHANGE, *stored(0, 1)],
@@ -309,7 +309,7 @@ LONGEST_BLOCKS = [
             + (JUNK + MONO + NO_BEXT + "6461746100800000" + 32_768 * "11")
         ],
     ),
-    Row(
+    Case(
         "a byte more",
         OPEN + "098000000202613101000000" + 32_769 * "11",
         [BAD_EXCHANGE, *stored(0), broken(5, 22)],
@@ -317,7 +317,7 @@ LONGEST_BLOCKS = [
     ),
 ]
 
-ROWS = {
+CASES = {
     "a take leaves its file": FORMATS,
     "a request that isn't stored changes no file": REFUSED,
     "a field stands in its place": FIELDS,

@@ -1,5 +1,5 @@
 """Runs of `replay` over frames: an input that ends at each byte of a take, bytes that are no frame, and the longest."""
-from worked import BLOCK, broken, CLOSE, EMPTY_FILE, OPEN, Row, SMALL_FILE, stored, too_far
+from worked import BLOCK, broken, CLOSE, EMPTY_FILE, OPEN, Case, SMALL_FILE, stored, too_far
 
 TAKE = bytes.fromhex(OPEN + BLOCK + CLOSE)  # frames of 22, 16 and 20 bytes
 
@@ -14,8 +14,8 @@ def cut(count):
 
 
 CUTS = [
-    Row(
-        "each front of a take",
+    Case(
+        "each prefix of a take",
         "\n".join(TAKE[:count].hex() for count in range(59)),
         [line for count in range(59) for line in cut(count)],
         [SMALL_FILE],
@@ -47,7 +47,7 @@ NO_FRAMES = [
 
 # What comes after bytes that are no frame isn't read.
 FAULTS = [
-    Row(
+    Case(
         "17 kinds of bytes, between two messages",
         "\n".join(OPEN + bad + OPEN for bad, _ in NO_FRAMES),
         [
@@ -57,7 +57,7 @@ FAULTS = [
         ],
         [EMPTY_FILE],
     ),
-    Row(
+    Case(
         "a kind that no frame has, of which the body isn't whole",
         "1200000007",
         ["exchange 0 BadFrame", broken(CUT)],
@@ -68,11 +68,11 @@ FAULTS = [
 LONG_NAME = "abcdefghijklmnopqrstuvwxyz-0_9_z"
 LONGEST = "268000000220" + LONG_NAME.encode().hex() + "ffffff00" + 32_768 * "07"
 LONGEST_FRAMES = [
-    Row("the longest frame", LONGEST, ["exchange 0 EndOfInput", too_far(0xFF_FF_FF, 0, LONG_NAME)]),
-    Row("a byte more", "2780" + LONGEST[4:] + "07", ["exchange 0 BadFrame", broken(LENGTH)]),
+    Case("the longest frame", LONGEST, ["exchange 0 EndOfInput", too_far(0xFF_FF_FF, 0, LONG_NAME)]),
+    Case("a byte more", "2780" + LONGEST[4:] + "07", ["exchange 0 BadFrame", broken(LENGTH)]),
 ]
 
-ROWS = {
+CASES = {
     "an input that ends in a frame is cut where it begins": CUTS,
     "what is no frame has the first reason": FAULTS,
     "a frame has at most 32,806 bytes": LONGEST_FRAMES,

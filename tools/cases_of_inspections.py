@@ -1,6 +1,6 @@
 """Files with what `inspect` prints of them, worked out by hand from docs/FORMATS.md, BS.2088 and Tech 3306.
 
-A changed file has the bytes of a worked one, but for some at a place, and the fault that they make.
+The files with faults are worked ones in which some bytes are changed.
 """
 from typing import NamedTuple
 
@@ -74,7 +74,7 @@ chunk fmt. 48 16
 chunk bext 72 602
 """
 FORMAT = "fmt tag=1 channels=1 rate=48000 bytes=96000 align=2 bits=16\n"
-FRONT = f"form RIFF 686\n{SMALL_CHUNKS}chunk data 682 4\n{FORMAT}data at=690 bytes=4 frames=2\n"
+RIFF_TEXT = f"form RIFF 686\n{SMALL_CHUNKS}chunk data 682 4\n{FORMAT}data at=690 bytes=4 frames=2\n"
 NO_TEXTS = f"originator=\nreference=\ndate=\nclock=\numid={128 * '0'}\n"
 BEXT = f"bext version=1 time=0 history=0\ndescription=\n{NO_TEXTS}"
 LOUDNESS = "loudness value=-2300 range=unset peak=unset momentary=unset short=unset\n"
@@ -91,7 +91,7 @@ class Report(NamedTuple):
 REPORTS = [
     Report("RF64", RF64, RF64_TEXT),
     Report("BW64 with a table", TABLED, TABLED_TEXT),
-    Report("RIFF", SMALL_FILE, FRONT + BEXT),
+    Report("RIFF", SMALL_FILE, RIFF_TEXT + BEXT),
     Report(
         "RIFF with a marker",
         MARKED,
@@ -101,12 +101,13 @@ REPORTS = [
     Report(
         "a loudness",
         LOUD,
-        f"{FRONT}bext version=2 time=0 history=0\ndescription=\n{NO_TEXTS}{LOUDNESS}",
+        f"{RIFF_TEXT}bext version=2 time=0 history=0\ndescription=\n{NO_TEXTS}{LOUDNESS}",
     ),
     Report(
         "a text of all kinds of bytes",
         ODD_TEXT,
-        FRONT + r"bext version=1 time=0 history=0" + "\n" + r"description=A ~\x5c\x0a\x7f\xff\x1f" + "\n" + NO_TEXTS,
+        RIFF_TEXT
+        + r"bext version=1 time=0 history=0" + "\n" + r"description=A ~\x5c\x0a\x7f\xff\x1f" + "\n" + NO_TEXTS,
     ),
     Report(
         "no pad byte at the end",
