@@ -351,7 +351,7 @@ fn a_sender_takes_its_options_in_any_order(rt: HostRuntime) -> Result<(), AllocE
     lines_come_to(&rt, rt.alloc(), &SEND, &SENDERS)
 }
 
-/// Addresses, with what they come to without leave for the network and with it.
+/// Addresses, with the outcome without `--network` and with it.
 static ADDRESSES: [(&str, Outcome, Outcome); 20] = [
     ("127.0.0.1:4100", PLAIN, PLAIN),
     (
@@ -448,7 +448,7 @@ static TEXTS: [(&[&str], &str); 10] = [
     ),
 ];
 
-/// The text of a line that tells one.
+/// The text of a line that prints one.
 fn text_of(alloc: Global, words: &[&str]) -> Result<Option<String>, AllocError> {
     match parse_words(alloc, words)? {
         CommandLine::Run(_) => Ok(None),
@@ -457,7 +457,7 @@ fn text_of(alloc: Global, words: &[&str]) -> Result<Option<String>, AllocError> 
     }
 }
 
-/// Ends the test where a line tells no text, or one without this part.
+/// Ends the test where a line prints no text, or one without this part.
 fn tells(rt: &impl Abort, alloc: Global, words: &[&str], part: &str) -> Result<(), AllocError> {
     let text = text_of(alloc, words)?;
     let found = text.as_deref().unwrap_or("no text");

@@ -5,7 +5,7 @@ use clap::Error;
 use std::alloc::{AllocError, Global};
 use std::process::Abort;
 
-/// What a command line is to come to.
+/// The outcome of a command line.
 #[derive(Clone, Copy, Debug, PartialEq, Eq)]
 pub(crate) enum Outcome {
     /// Replays with this limit, and without a fuse.
@@ -19,7 +19,7 @@ pub(crate) enum Outcome {
     /// Serves at the address and in the folder that the rows' first words give: until this end, with
     /// this limit, recorders in this way.
     Serves(End, u64, Recorders),
-    /// The same, and tells each connection.
+    /// The same, and logs each connection.
     Logs(End, u64, Recorders),
     /// Serves at another address or in another folder.
     ServesElsewhere,
