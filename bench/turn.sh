@@ -10,10 +10,10 @@ trap 'exit 1' HUP INT TERM
 
 crate=$folder/crates/bench_turn
 mkdir -p "$crate/src" "$crate/specs" "$crate/proofs" || exit
-for name in bw_model bw_layout bw_take bw_wire bw_file bw_journal bw_session; do
+for name in bw_model bw_bytes bw_request bw_wire bw_layout bw_take bw_store bw_file bw_journal bw_session; do
     cp -r "$here/../crates/$name" "$folder/crates" && grep "^$name:" "$here/../crates.txt" || exit
 done >"$folder/crates.txt"
-echo 'bench_turn: bw_layout bw_take bw_file bw_wire bw_session arrayvec sha2 anyhow' >>"$folder/crates.txt"
+echo 'bench_turn: bw_request bw_wire bw_layout bw_store bw_session arrayvec sha2 anyhow' >>"$folder/crates.txt"
 cp "$here/../HANDLES" "$folder" || exit
 : >"$crate/specs/Lib.antt"
 : >"$crate/proofs/Lib.antt"
@@ -24,10 +24,10 @@ cat >"$crate/src/main.rt" <<'END'
 
 use anyhow::Result;
 use arrayvec::ArrayVec;
-use bw_file::MemoryStore;
 use bw_layout::Limit;
+use bw_request::{Name, RequestRef};
 use bw_session::Server;
-use bw_take::{Name, RequestRef};
+use bw_store::MemoryStore;
 use bw_wire::{Frame, Reply, decode, encode};
 use sha2::{Digest, Sha256};
 use std::alloc::Global;

@@ -95,6 +95,12 @@ def seen_of(root):
     return seen, open_modules
 
 
+def passed_on(crate):
+    """The names of other crates that are seen from outside this one too, by crate."""
+    found = re.findall(r"^pub use (bw_\w+)::([^;]*);", root_of(crate).read_text(), re.M)
+    return {other: re.findall(r"\w+", names) for other, names in found}
+
+
 def items_of(crate):
     """The public items of a crate, file by file.
 

@@ -14,7 +14,7 @@ mod sending;
 mod serving;
 
 use crate::{BadValue, CommandLine, Task, numbers};
-use bw_take::Name;
+use bw_request::Name;
 use clap::{Arg, ArgMatches, Command};
 use std::alloc::{AllocError, Global};
 

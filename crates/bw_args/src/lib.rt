@@ -16,7 +16,7 @@ mod peers;
 mod read_words;
 
 pub use bad_value::BadValue;
-use bw_take::Name;
+use bw_request::Name;
 use clap::Error;
 use clap::error::ErrorKind;
 pub use peers::{End, Recorders, Send, Serve};

@@ -1,6 +1,6 @@
 //! What a command line comes to, in small values, and how tests compare it.
 use bw_args::{CommandLine, End, Recorders, Send, Serve, Task, parse};
-use bw_take::Name;
+use bw_request::Name;
 use clap::Error;
 use std::alloc::{AllocError, Global};
 use std::process::Abort;

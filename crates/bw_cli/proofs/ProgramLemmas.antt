@@ -10,7 +10,7 @@ use Rattle.bw_commands.specs.Inspections.{IsPrintOfText}
 use Rattle.bw_commands.specs.Printing.{IsOf, Nothing, Print}
 use Rattle.bw_stream.specs.declared.sink.Sink.{Ghosts as Writer}
 use Rattle.bw_stream.specs.declared.source.Source.{Ghosts as Reader}
-use Rattle.bw_file.specs.declared.store.TakeStore.{Ghosts as StoreGhosts}
+use Rattle.bw_store.specs.declared.store.TakeStore.{Ghosts as StoreGhosts}
 use Rattle.bw_journal.specs.declared.journal.Journal.{Ghosts as JournalGhosts}
 use Rattle.bw_many.specs.declared.link.Link.{Ghosts as LinkGhosts}
 use Rattle.bw_serve.specs.declared.lobby.Lobby.{Ghosts as LobbyGhosts}

@@ -14,7 +14,7 @@ use Rattle.bw_args.specs.declared.Task.{Task}
 use Rattle.bw_args.specs.declared.Task.TheVariants.{Replay, Inspect, Rehearse, Serve, Send}
 use Rattle.bw_stream.specs.declared.sink.Sink.{Ghosts as Writer}
 use Rattle.bw_stream.specs.declared.source.Source.{Ghosts as Reader}
-use Rattle.bw_file.specs.declared.store.TakeStore.{Ghosts as StoreGhosts}
+use Rattle.bw_store.specs.declared.store.TakeStore.{Ghosts as StoreGhosts}
 use Rattle.bw_journal.specs.declared.journal.Journal.{Ghosts as JournalGhosts}
 use Rattle.bw_commands.specs.Deeds.{Deed, Does, IsReplay, IsWant}
 use Rattle.bw_commands.specs.Faults.{IsToldBy, exit_of}

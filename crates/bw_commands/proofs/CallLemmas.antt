@@ -11,10 +11,10 @@ use Rattle.std.proofs.lemmas.List.Sums.{sum_by-cons}
 use Rattle.std.proofs.lemmas.Map.Keys.{IsDistinct-from_sorted}
 use Rattle.std.proofs.lemmas.Map.Text.{is_eq-slice_cmp}
 use Rattle.bw_model.proofs.BookLemmas.{same_name, name_refl}
-use Rattle.bw_file.specs.Stores.{Counts, Creates, Written, MayTear, KeepsOthers, last_count}
-use Rattle.bw_file.specs.declared.store.Created.{Created}
-use Rattle.bw_file.specs.declared.store.Created.TheVariants.{New, Exists}
-use Rattle.bw_file.specs.declared.store.StoreFault.{StoreFault}
+use Rattle.bw_store.specs.Stores.{Counts, Creates, Written, MayTear, KeepsOthers, last_count}
+use Rattle.bw_store.specs.declared.store.Created.{Created}
+use Rattle.bw_store.specs.declared.store.Created.TheVariants.{New, Exists}
+use Rattle.bw_store.specs.declared.store.StoreFault.{StoreFault}
 use Rattle.bw_commands.specs.OneFuse.{least_calls, SufficeForAll}
 
 abbrev same : List ℕ → List ℕ → Bool

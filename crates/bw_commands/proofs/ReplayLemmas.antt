@@ -22,10 +22,10 @@ use Rattle.bw_model.specs.Turn.{run, book_after}
 use Rattle.bw_model.specs.NumberOrder.{AreInOrder, tells_want}
 use Rattle.bw_model.specs.Exchange.{exchange, exchanges, last_reply, nothing_stands, take_in, content_in}
 use Rattle.std.proofs.Common.{Result, Ok, Err, IfOk, OnOk}
-use Rattle.bw_file.specs.Memory.{content_under}
-use Rattle.bw_file.specs.MemoryNames.{AreNames, names_of}
-use Rattle.bw_file.specs.declared.memory.MemoryStore.{MemoryStore}
-use Rattle.bw_file.specs.declared.store.TakeStore.{Ghosts as StoreGhosts}
+use Rattle.bw_store.specs.Memory.{content_under}
+use Rattle.bw_store.specs.MemoryNames.{AreNames, names_of}
+use Rattle.bw_store.specs.declared.memory.MemoryStore.{MemoryStore}
+use Rattle.bw_store.specs.declared.store.TakeStore.{Ghosts as StoreGhosts}
 use Rattle.bw_session.specs.Numbered.{failed_calls}
 use Rattle.bw_commands.specs.Input.{longest_input}
 use Rattle.bw_commands.specs.Runs.{ToldExchange, told_of, replies_told, TellsInput, TellInputs, TellsExchange, AllTell}

@@ -16,9 +16,9 @@ use Rattle.bw_model.proofs.BookLemmas.{unknown_log}
 use Rattle.bw_model.specs.Holds.{Holds}
 use Rattle.bw_session.specs.Books.{of_known, failures_of}
 use Rattle.bw_session.specs.Servers.{kept_in}
-use Rattle.bw_file.specs.Memory.{content_under}
-use Rattle.bw_file.specs.MemoryNames.{names_of, AreNames}
-use Rattle.bw_file.specs.declared.memory.MemoryStore.{MemoryStore}
+use Rattle.bw_store.specs.Memory.{content_under}
+use Rattle.bw_store.specs.MemoryNames.{names_of, AreNames}
+use Rattle.bw_store.specs.declared.memory.MemoryStore.{MemoryStore}
 use Rattle.bw_rehearsal.specs.Lucks.{AreLucksOf}
 use Rattle.bw_rehearsal.specs.Rehearsing.{event_meaning, no_contents}
 use Rattle.bw_rehearsal.specs.Worlds.{WasRehearsed}

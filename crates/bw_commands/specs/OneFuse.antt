@@ -5,7 +5,7 @@ use Rattle.std.specs.Prelude.{if◌then◌else◌, nat_lt}
 use Rattle.std.specs.Ordering.{nat_cmp}
 use Rattle.std.specs.Cmp.Lexicographic.{slice_cmp}
 use Rattle.std.specs.List.Sorted.{IsStrictlySortedBy}
-use Rattle.bw_file.specs.Stores.{last_count}
+use Rattle.bw_store.specs.Stores.{last_count}
 
 -- the calls that fail
 abbrev pub fuses_of : Option ℕ → List ℕ

@@ -7,7 +7,7 @@ use Rattle.bw_model.specs.Turn.{Luck}
 use Rattle.bw_model.specs.Exchange.{nothing_stands, take_in, content_in}
 use Rattle.bw_model.specs.Holds.{Kept, Holds}
 use Rattle.bw_model.specs.World as model
-use Rattle.bw_file.specs.MemoryNames.{AreNames}
+use Rattle.bw_store.specs.MemoryNames.{AreNames}
 use Rattle.bw_inspect.specs.Places.{Of}
 use Rattle.bw_session.specs.Books.{HoldsBook}
 use Rattle.bw_sender.specs.Senders.{IsSender}

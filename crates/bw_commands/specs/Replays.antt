@@ -2,7 +2,7 @@
 use Rattle.std.specs.Prelude.{◌≡◌, ◌+◌, ◌≤◌, ℕ, Option, Some}
 use Rattle.std.specs.Prelude.{List, ◌++◌, drop, length}
 use Rattle.std.specs.Prelude.{Result, Ok, Err}
-use Rattle.bw_file.specs.MemoryNames.{AreNames}
+use Rattle.bw_store.specs.MemoryNames.{AreNames}
 use Rattle.bw_inspect.specs.Places.{Of}
 use Rattle.bw_commands.specs.Faults.{RefusesInput}
 use Rattle.bw_commands.specs.Input.{Asked, asked_by, longest_input, TooLong, NotHex, Exchanges}

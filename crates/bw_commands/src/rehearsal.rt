@@ -20,8 +20,8 @@ use crate::print::{give_up, print};
 use crate::world_text::text_of_world;
 use bw_layout::Limit;
 use bw_rehearsal::{Event, rehearse};
+use bw_request::Name;
 use bw_stream::{Sink, Source};
-use bw_take::Name;
 use std::alloc::{AllocError, Global};
 
 /// Plays the events that the lines of the input say, with a sender of this name and a server over

@@ -1,10 +1,10 @@
 //! The store of a replay: in memory, where one chosen call fails, or none.
 ghost use Rattle.std.specs.Prelude.{◌≡◌, ℕ, List, None, IsTrue, IfOk, true};
-ghost use Rattle.bw_file.specs.Memory.{content_under};
+ghost use Rattle.bw_store.specs.Memory.{content_under};
 ghost use Rattle.bw_commands.specs.OneFuse.{failures_under, is_at, KeepsFuse, SufficeForAll};
 
-use bw_file::{Created, FuseStore, MemoryStore, StoreFault, TakeStore};
-use bw_take::Name;
+use bw_request::Name;
+use bw_store::{Created, FuseStore, MemoryStore, StoreFault, TakeStore};
 use std::alloc::{AllocError, Global};
 
 /// A store in memory of which the call number `fuse`, counted from 0, fails, if there is a fuse.

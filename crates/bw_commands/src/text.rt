@@ -6,15 +6,15 @@ ghost use Rattle.hex.specs.Hex.{encode_lower};
 ghost use Rattle.bw_model.specs.Wire.{framed};
 ghost use Rattle.bw_model.specs.Replies.{Reply, is_reply};
 ghost use Rattle.bw_model.specs.Exchange.{replies_bytes};
-ghost use Rattle.bw_file.specs.Memory.{content_under};
-ghost use Rattle.bw_file.specs.MemoryNames.{names_of, AreNames};
+ghost use Rattle.bw_store.specs.Memory.{content_under};
+ghost use Rattle.bw_store.specs.MemoryNames.{names_of, AreNames};
 ghost use Rattle.bw_commands.specs.Runs.{ToldExchange, AllTell};
 ghost use Rattle.bw_commands.specs.Text.{as_line, reply_line, name_of_end};
 ghost use Rattle.bw_commands.specs.Text.{exchanges_text, file_text, file_text_if, files_text};
 
 use bw_engine::ExchangeEnd;
-use bw_file::MemoryStore;
-use bw_take::Name;
+use bw_request::Name;
+use bw_store::MemoryStore;
 use std::alloc::{AllocError, Global};
 
 /// The exchanges with their replies, and then the store's files in the order of their names.

@@ -2,14 +2,14 @@
 ghost use Rattle.std.specs.Prelude.{◌≡◌, ◌++◌, length, IfOk, OnOk};
 ghost use Rattle.bw_model.specs.Book.{log_of};
 ghost use Rattle.bw_model.specs.World.{World as ToldWorld, settled, stored};
-ghost use Rattle.bw_file.specs.Memory.{content_under};
-ghost use Rattle.bw_file.specs.MemoryNames.{names_of, AreNames};
+ghost use Rattle.bw_store.specs.Memory.{content_under};
+ghost use Rattle.bw_store.specs.MemoryNames.{names_of, AreNames};
 ghost use Rattle.bw_commands.specs.Rehearsals.{counts_line, progress_line, world_lines, HasWorld};
 ghost use Rattle.bw_commands.specs.Text.{files_text};
 
 use crate::text::put_files;
 use bw_rehearsal::World;
-use bw_take::Name;
+use bw_request::Name;
 use std::alloc::{AllocError, Global};
 
 /// What the world came to, in two lines, and then the store's files in the order of their names.

@@ -10,7 +10,7 @@ use Rattle.bw_model.specs.Turn.{book_after}
 use Rattle.bw_model.specs.NumberOrder.{AreInOrder}
 use Rattle.bw_model.proofs.BookLaws.{empty_book}
 use Rattle.bw_model.proofs.HeldFiles.{held_files}
-use Rattle.bw_file.specs.declared.store.TakeStore.{Ghosts as StoreGhosts}
+use Rattle.bw_store.specs.declared.store.TakeStore.{Ghosts as StoreGhosts}
 use Rattle.bw_journal.specs.declared.journal.Journal.{Ghosts as JournalGhosts}
 use Rattle.bw_session.specs.Books.{failures_of, HoldsBook}
 use Rattle.bw_session.specs.Numbered.{failed_calls}

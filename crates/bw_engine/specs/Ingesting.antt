@@ -13,7 +13,7 @@ use Rattle.bw_model.specs.NumberOrder.{AreInOrder, tells_want}
 use Rattle.bw_model.specs.Exchange.{replies_bytes, last_reply, exchanges, take_in, content_in}
 use Rattle.bw_model.specs.Holds.{Kept, Holds}
 use Rattle.bw_wire.specs.Reasons.{reason_meaning}
-use Rattle.bw_file.specs.declared.store.TakeStore.{Ghosts as StoreGhosts}
+use Rattle.bw_store.specs.declared.store.TakeStore.{Ghosts as StoreGhosts}
 use Rattle.bw_session.specs.Numbered.{failed_calls}
 use Rattle.bw_session.specs.Servers.{store_since}
 use Rattle.bw_engine.specs.Answering.{Answered, frames_of, replies_of, AnswersAll}

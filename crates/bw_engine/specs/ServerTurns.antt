@@ -4,7 +4,7 @@ use Rattle.bw_model.specs.Wire.{Frame}
 use Rattle.bw_model.specs.Replies.{Reply}
 use Rattle.bw_model.specs.Book.{Book}
 use Rattle.bw_model.specs.CountedTurn.{IsTurn}
-use Rattle.bw_file.specs.declared.store.TakeStore.{Ghosts as StoreGhosts}
+use Rattle.bw_store.specs.declared.store.TakeStore.{Ghosts as StoreGhosts}
 use Rattle.bw_journal.specs.declared.journal.Journal.{Ghosts as JournalGhosts}
 use Rattle.bw_session.specs.Books.{failures_of, HoldsBook, NotesBook}
 use Rattle.bw_session.specs.declared.server.Server.{Server}

@@ -6,9 +6,9 @@ ghost use Rattle.bw_engine.specs.Ingesting.{bytes_in};
 
 use crate::serving::{ExchangeEnd, serve_exchange};
 use crate::turns::Turns;
-use bw_file::TakeStore;
 use bw_layout::Limit;
 use bw_session::Server;
+use bw_store::TakeStore;
 use bw_stream::{MemorySink, MemorySource};
 use std::alloc::{AllocError, AllocFailed, Global};
 use thiserror::Error;

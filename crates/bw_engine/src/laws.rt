@@ -2,8 +2,8 @@
 ghost use Rattle.bw_engine.specs.Done.{ExchangesFollowStreams};
 ghost use Rattle.bw_engine.specs.ServerRuns.{OrderNeedsNoLuck, ServersAnswerInRuns, TurnsAreRuns};
 
-use bw_file::TakeStore;
 use bw_journal::Journal;
+use bw_store::TakeStore;
 
 /// Whatever was fed and taken so far, the answered frames are the first of the stream of the bytes
 /// fed, and all of them where the exchange is hungry or over; the bytes that were taken and those

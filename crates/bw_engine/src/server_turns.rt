@@ -1,9 +1,9 @@
 //! A server answers messages and asks.
 use crate::turns::Turns;
 use arrayvec::ArrayVec;
-use bw_file::TakeStore;
 use bw_journal::Journal;
 use bw_session::Server;
+use bw_store::TakeStore;
 use bw_wire::{Ask, Message, Reply};
 
 impl<S: TakeStore, J: Journal> Turns for Server<S, J> {

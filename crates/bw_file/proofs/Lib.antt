@@ -1,9 +1,4 @@
-pub mod Names
-pub mod Asked
 pub mod PlanForms
-pub mod Bytes
-pub mod Torn
-pub mod Tears
 pub mod Puts
 pub mod RepairableContents
 pub mod WrittenSizes

@@ -4,7 +4,7 @@ use Rattle.std.proofs.Common.{length, refl, ◌∙◌, ap, arith}
 use Rattle.std.specs.Prelude.{nat_le}
 use Rattle.std.proofs.lemmas.Bool.{eq-eqb, ne_eqb}
 use Rattle.bw_model.specs.Take.{Parts}
-use Rattle.bw_file.specs.Calls.{WriteAt, Finish}
+use Rattle.bw_store.specs.Calls.{WriteAt, Finish}
 use Rattle.bw_file.specs.Plans.{samples_plan, cues_plan, sizes_plan, form_plan, grown_plan, closed_plan, append_plan}
 use Rattle.bw_file.specs.Plans.{close_plan}
 use Rattle.bw_file.specs.Growing.{Growing}

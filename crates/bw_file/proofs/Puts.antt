@@ -3,8 +3,8 @@ use Rattle.std.proofs.Common.{◌≡◌, ℕ, ◌+◌, ◌-◌, List, [], ◌∷
 use Rattle.std.proofs.Common.{ap, arith, append_assoc, length-append}
 use Rattle.std.proofs.lemmas.List.{append-nil, drop_at, take_at}
 use Rattle.std.proofs.Math.Seq.{drop-append-add}
-use Rattle.bw_file.specs.Stores.{overwritten, Written}
-use Rattle.bw_file.proofs.Tears.{written_is}
+use Rattle.bw_store.specs.Stores.{overwritten, Written}
+use Rattle.bw_store.proofs.Tears.{written_is}
 
 -- bytes put where others end
 overwritten-append : (base rest bytes : List ℕ) (place : ℕ) → length base ≡ place →

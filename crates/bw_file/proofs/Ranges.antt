@@ -6,7 +6,7 @@ use Rattle.std.proofs.lemmas.Bool.{cases_order}
 use Rattle.std.proofs.lemmas.Slice.Eq.{bytes_eq-Decides}
 use Rattle.bw_layout.specs.Places.{range_of}
 use Rattle.bw_layout.proofs.FieldRanges.{range_tags}
-use Rattle.bw_file.specs.Calls.{WriteAt}
+use Rattle.bw_store.specs.Calls.{WriteAt}
 use Rattle.bw_file.specs.Plans.{field_plan, range_plan}
 use Rattle.bw_file.specs.OneField.{DiffersInField, IsSameIn}
 use Rattle.bw_file.proofs.Parts.{parts_at}

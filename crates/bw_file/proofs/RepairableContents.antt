@@ -4,7 +4,7 @@ use Rattle.std.proofs.Common.{sym, ◌∙◌, ap, arith, length-append, length-d
 use Rattle.std.specs.Prelude.{slice_range}
 use Rattle.std.proofs.lemmas.List.{places, same_lists, take_at, drop_at, length-take-le, get_or-take, get_or-drop}
 use Rattle.bw_model.specs.File.{Repairable}
-use Rattle.bw_file.specs.Stores.{Torn}
+use Rattle.bw_store.specs.Stores.{Torn}
 
 -- a range of bytes that a torn write doesn't touch
 range_stays : (found torn : List ℕ) (from to place n : ℕ) → to ≤ length found → Torn found place n torn →

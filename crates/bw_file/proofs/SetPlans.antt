@@ -6,13 +6,13 @@ use Rattle.std.proofs.lemmas.Bool.Decides.{same_from_decides, Decides-like}
 use Rattle.std.proofs.lemmas.Slice.Eq.{bytes_eq-Decides}
 use Rattle.bw_model.specs.Take.{Parts, shape_of, with_field}
 use Rattle.bw_layout.specs.Places.{field_part, range_of}
-use Rattle.bw_file.specs.Calls.{StoreCall, Gets, GetsFirst}
+use Rattle.bw_store.specs.Calls.{StoreCall, Gets, GetsFirst}
 use Rattle.bw_file.specs.Plans.{set_plan, range_plan, retouch_plan}
 use Rattle.bw_file.specs.Growing.{Growing}
 use Rattle.bw_file.specs.OneField.{DiffersInField}
 use Rattle.bw_layout.specs.Headings.{header_of, place_of}
 use Rattle.bw_layout.specs.declared.heading.Heading.{Heading}
-use Rattle.bw_file.proofs.Asked.{gets_at_most, first_at_most}
+use Rattle.bw_store.proofs.Asked.{gets_at_most, first_at_most}
 use Rattle.bw_file.proofs.SetFields.{differs_in_field, sets_none, same_header, same_bytes}
 
 -- bytes that are the same where others are ask the same

@@ -6,7 +6,7 @@ use Rattle.std.specs.Bool.{MatchBool}
 use Rattle.bw_model.specs.Take.{Take, Format, Request, Open, Block, Mark, SetField, Close, with_request}
 use Rattle.bw_model.specs.File.{file_with, file_of, Repairable, kept_from, kept_to}
 use Rattle.bw_model.specs.Holds.{IsBetween}
-use Rattle.bw_file.specs.Stores.{MayTear}
+use Rattle.bw_store.specs.Stores.{MayTear}
 use Rattle.bw_file.proofs.RepairableContents.{repairable_torn, repairable_old}
 
 -- bytes that are between these files

@@ -7,7 +7,7 @@ use Rattle.bw_model.specs.Take.{Format, AreFields}
 use Rattle.bw_model.specs.File.{header, form_size, data_place}
 use Rattle.bw_layout.specs.Headers.{riff_middle, bw64_front, bw64_rear}
 use Rattle.bw_layout.proofs.SizePlaces.{riff_sizes_stand, bw64_sizes_stand}
-use Rattle.bw_file.specs.Stores.{Written}
+use Rattle.bw_store.specs.Stores.{Written}
 use Rattle.bw_file.proofs.Puts.{put_over}
 
 -- longer data have no smaller form size

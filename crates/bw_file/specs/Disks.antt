@@ -1,8 +1,8 @@
 -- What the calls of a disk leave.
 use Rattle.std.specs.Prelude.{◌≡◌, ◌⊎◌, ℕ, List, Option, Some, None, Bool, true, false, Result}
 use Rattle.std.specs.Prelude.{MatchResult}
-use Rattle.bw_file.specs.Stores.{Counts, Creates, KeepsOthers}
-use Rattle.bw_file.specs.declared.store.Created.TheVariants.{New, Exists}
+use Rattle.bw_store.specs.Stores.{Counts, Creates, KeepsOthers}
+use Rattle.bw_store.specs.declared.store.Created.TheVariants.{New, Exists}
 
 -- what a path has before and after a `create_new` that succeeds: it answers the file that it made
 abbrev pub Makes : {F : Type 0} → Option F → Option (List ℕ) → Option (List ℕ) → Type 0

@@ -1,7 +1,7 @@
 -- Where the takes of a folder stand on a disk.
 use Rattle.std.specs.Prelude.{ℕ, List, [], ◌∷◌, ◌++◌, codes, map, Option, Result, Ok, Err}
-use Rattle.bw_file.specs.declared.store.Created.{Created}
-use Rattle.bw_file.specs.declared.store.Created.TheVariants.{New, Exists}
+use Rattle.bw_store.specs.declared.store.Created.{Created}
+use Rattle.bw_store.specs.declared.store.Created.TheVariants.{New, Exists}
 use Rattle.bw_file.specs.declared.folder.OpenTake.{OpenTake}
 
 -- the path of a take's file in a folder

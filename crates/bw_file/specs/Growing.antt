@@ -6,8 +6,8 @@ use Rattle.bw_model.specs.Take.{Take, Parts, Request, SetField, Stored, judge, w
 use Rattle.bw_model.specs.Take.{with_field}
 use Rattle.bw_model.specs.File.{file_of}
 use Rattle.bw_model.specs.Holds.{IsBetween}
-use Rattle.bw_file.specs.declared.store.Created.{Created}
-use Rattle.bw_file.specs.declared.store.Created.TheVariants.{New, Exists}
+use Rattle.bw_store.specs.declared.store.Created.{Created}
+use Rattle.bw_store.specs.declared.store.Created.TheVariants.{New, Exists}
 
 -- what is known of the file of a take that grows
 pub record Growing : Type 0 where

@@ -1,10 +1,11 @@
-pub mod Stores
-pub mod Calls
+pub use Rattle.bw_store.specs.Stores
+pub use Rattle.bw_store.specs.Calls
+pub use Rattle.bw_store.specs.StoreSteps
+pub use Rattle.bw_store.specs.Fuses
+pub use Rattle.bw_store.specs.Memory
+pub use Rattle.bw_store.specs.MemoryNames
 pub mod Conditions
-pub mod Memory
-pub mod MemoryNames
 pub mod MemoryDisks
-pub mod Fuses
 pub mod Growing
 pub mod Headers
 pub mod Plans
@@ -13,4 +14,3 @@ pub mod RowsOfCalls
 pub mod Disks
 pub mod FileWrites
 pub mod Folders
-pub mod StoreSteps

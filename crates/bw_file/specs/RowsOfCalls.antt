@@ -1,7 +1,7 @@
 -- Worked takes: the calls that their files take, from the opening to the close.
 use Rattle.std.specs.Prelude.{◌≡◌, ℕ, Bool, true, false, List, [], ◌∷◌, ◌++◌, Some, codes}
 use Rattle.bw_model.specs.Take.{Parts, no_fields}
-use Rattle.bw_file.specs.Calls.{StoreCall, Create, WriteAt, Finish}
+use Rattle.bw_store.specs.Calls.{StoreCall, Create, WriteAt, Finish}
 use Rattle.bw_file.specs.Growing.{Growing}
 use Rattle.bw_file.specs.Plans.{begin_plan, append_plan, close_plan}
 

@@ -1,7 +1,7 @@
 //! What a store asks of the system: files by path.
 ghost use Rattle.std.specs.Prelude.{◌≡◌, ℕ, List, Bool, Option, IsTrue, IfOk, IfSome, OnOk, OnErr};
 ghost use Rattle.std.specs.Prelude.{is_err, length};
-ghost use Rattle.bw_file.specs.Stores.{Written, MayTear, KeepsOthers};
+ghost use Rattle.bw_store.specs.Stores.{Written, MayTear, KeepsOthers};
 ghost use Rattle.bw_file.specs.Disks.{Makes, IsOneCall, Syncs};
 
 use thiserror::Error;

@@ -2,15 +2,14 @@
 ghost use Rattle.std.specs.Prelude.{◌≡◌, ◌<◌, ℕ, List, [], true, IsTrue, IsErr, IfOk, OnOk, OnErr};
 ghost use Rattle.std.specs.Prelude.{IsSome, IfSome, ◌↔◌, is_err, string_bytes, length};
 ghost use Rattle.std.specs.List.{All, Contains, HoldsAt};
-ghost use Rattle.bw_file.specs.Stores.{Counts, Creates, Written, MayTear, KeepsOthers};
+ghost use Rattle.bw_store.specs.Stores.{Counts, Creates, Written, MayTear, KeepsOthers};
 ghost use Rattle.bw_file.specs.Disks.{IsOneCall, AsksOnce, Syncs};
 ghost use Rattle.bw_file.specs.Folders.{take_path, take_content, open_names, opened_by};
 
 use crate::disk::Disk;
-use crate::store::{Created, StoreFault, TakeStore};
 use crate::system::SystemDisk;
-use crate::tally::Tally;
-use bw_take::Name;
+use bw_request::Name;
+use bw_store::{Created, StoreFault, TakeStore, Tally};
 use std::alloc::{AllocError, Global};
 use std::fs::Files;
 

@@ -5,19 +5,20 @@ ghost use Rattle.bw_model.specs.Limits.{largest};
 ghost use Rattle.bw_model.specs.Take.{Take, Stored, Open, Block, SetField, Close, judge, parts};
 ghost use Rattle.bw_model.specs.Take.{frames, with_field};
 ghost use Rattle.bw_model.specs.Wire.{is_request};
-ghost use Rattle.bw_file.specs.StoreSteps.{Shared, WasAsked, WasAskedFirst};
+ghost use Rattle.bw_store.specs.StoreSteps.{Shared, WasAsked, WasAskedFirst};
 ghost use Rattle.bw_file.specs.Plans.{name_plan, begin_plan, append_plan, retouch_plan, close_plan};
 ghost use Rattle.bw_file.specs.Growing.{Growing, Stores, Sets, BeginsFile, AsksForName, IsFresh};
 ghost use Rattle.bw_file.specs.Growing.{is_new};
 
 use crate::buffer::Buffer;
 use crate::condition::Condition;
-use crate::store::{Created, StoreFault, TakeStore};
 use crate::writes::{
     put_closed_header, put_cues, put_grown_header, put_header, put_retouched_header, put_samples,
 };
 use bw_layout::{Bext, Fmt, Heading, Limit};
-use bw_take::{Name, TakeState};
+use bw_request::Name;
+use bw_store::{Created, StoreFault, TakeStore};
+use bw_take::TakeState;
 use std::alloc::{AllocError, Global};
 use std::marker::Model;
 

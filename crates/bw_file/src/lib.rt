@@ -1,4 +1,4 @@
-//! Stores of takes, and the growing file of a take.
+//! The growing file of a take, and the store of takes in a folder.
 #![tactic(auto)]
 
 mod buffer;
@@ -6,23 +6,16 @@ mod change;
 mod condition;
 mod disk;
 mod folder;
-mod fuse;
 mod growing;
 mod laws;
-mod memory;
 mod memory_disk;
-mod store;
 mod system;
-mod tally;
 mod writes;
 
+pub use bw_store::{Created, FuseStore, MemoryStore, StoreFault, TakeStore};
 pub use disk::{Disk, DiskFault};
 pub use folder::FolderStore;
-pub use fuse::{FuseStore, blow};
 pub use growing::GrowingFile;
 pub use laws::rows_of_calls;
-pub use memory::MemoryStore;
 pub use memory_disk::{MemoryDisk, MemoryFile};
-pub use store::{Created, StoreFault, TakeStore};
 pub use system::SystemDisk;
-pub use tally::Tally;

@@ -3,13 +3,12 @@ ghost use Rattle.std.specs.Prelude.{◌≡◌, ◌≤◌, ◌+◌, ℕ, List, No
 ghost use Rattle.std.specs.Prelude.{IfSome, OnOk, OnErr, is_err, string_bytes, length};
 ghost use Rattle.std.specs.Option.{option_copied};
 ghost use Rattle.std.specs.List.{position};
-ghost use Rattle.bw_file.specs.Stores.{Counts, Written, MayTear, KeepsOthers};
+ghost use Rattle.bw_store.specs.Stores.{Counts, Written, MayTear, KeepsOthers};
 ghost use Rattle.bw_file.specs.Disks.{Makes, Syncs};
 ghost use Rattle.bw_file.specs.MemoryDisks.{stands_at, content_at, synced_at};
 
 use crate::disk::{Disk, DiskFault};
-use crate::memory::overwrite;
-use crate::tally::Tally;
+use bw_store::{Tally, overwrite};
 use std::alloc::Global;
 
 /// What stands at a path, and what stood there when the file was last synced.

@@ -4,7 +4,7 @@ ghost use Rattle.bw_file.specs.Disks.{IsOneCall};
 ghost use Rattle.bw_file.specs.FileWrites.{PutsFrom};
 
 use crate::disk::{Disk, DiskFault};
-use crate::tally::Tally;
+use bw_store::Tally;
 use std::fs::{File, Files, OpenFile};
 use std::io;
 use std::io::{ErrorKind, Seek, SeekFrom, Write};

@@ -5,8 +5,8 @@ ghost use Rattle.bw_model.specs.Limits.{largest, most_markers};
 ghost use Rattle.bw_model.specs.Layout.{chunk, pad};
 ghost use Rattle.bw_model.specs.File.{cue_chunks};
 ghost use Rattle.bw_file.specs.Conditions.{is_clean};
-ghost use Rattle.bw_file.specs.Stores.{MayTear};
-ghost use Rattle.bw_file.specs.StoreSteps.{Shared, WasAsked, WasAskedFirst};
+ghost use Rattle.bw_store.specs.Stores.{MayTear};
+ghost use Rattle.bw_store.specs.StoreSteps.{Shared, WasAsked, WasAskedFirst};
 ghost use Rattle.bw_file.specs.Plans.{samples_plan, cues_plan, header_plan, sizes_plan, form_plan};
 ghost use Rattle.bw_file.specs.Plans.{grown_plan, closed_plan, field_plan, set_plan};
 ghost use Rattle.bw_file.specs.Headers.{PutsLast, PutsHeader, PutsOver, Updates};
@@ -16,9 +16,9 @@ ghost use Rattle.bw_layout.specs.Headings.{header_of, place_of, fits_riff};
 use crate::buffer::Buffer;
 use crate::change::changed_range;
 use crate::condition::Condition;
-use crate::store::{StoreFault, TakeStore};
 use bw_layout::{CuePoint, Heading, patch_sizes};
-use bw_take::Name;
+use bw_request::Name;
+use bw_store::{StoreFault, TakeStore};
 
 /// Puts samples where the data end, and a pad byte where the file's length would be odd.
 pub(crate) fn put_samples<S: TakeStore>(

@@ -16,7 +16,8 @@ use crate::ds64::{read_ds64, read_ds64_head};
 use crate::fault::{InspectFault, InspectKind, fault_at};
 use crate::places::read_at;
 use crate::walk::{Form, Walk, begin, list_chunk};
-use bw_layout::{ChunkHead, ChunkId, read_id, read_u32};
+use bw_bytes::{read_id, read_u32};
+use bw_layout::{ChunkHead, ChunkId};
 use bw_stream::Source;
 use std::alloc::Global;
 

@@ -1,7 +1,7 @@
 -- Entries as the code has them.
 use Rattle.std.specs.Prelude.{ℕ, Option, Some, None}
-use Rattle.bw_take.specs.Requests.{meaning}
-use Rattle.bw_take.specs.Verdicts.{verdict_meaning}
+use Rattle.bw_request.specs.Requests.{meaning}
+use Rattle.bw_request.specs.Verdicts.{verdict_meaning}
 use Rattle.bw_journal.specs.Entries.{JournalEntry}
 use Rattle.bw_journal.specs.declared.entry.EntryRef.{EntryRef}
 

@@ -3,14 +3,14 @@ ghost use Rattle.std.specs.Prelude.{◌≡◌, ◌+◌, ◌≤◌, IsTrue, IfSom
 ghost use Rattle.bw_model.specs.Bytes.{zeros as zero_bytes};
 ghost use Rattle.bw_model.specs.Limits.{longest_block};
 ghost use Rattle.bw_model.specs.Wire.{is_request};
-ghost use Rattle.bw_take.specs.Requests.{meaning};
+ghost use Rattle.bw_request.specs.Requests.{meaning};
 ghost use Rattle.bw_journal.specs.Entries.{block_noted, request_in, entry_in};
 ghost use Rattle.bw_journal.specs.Entries.{first_entry as first_entry_in};
 ghost use Rattle.bw_journal.specs.Refs.{entry_found, entry_said};
 
 use crate::seal::opened;
-use bw_layout::read_u32;
-use bw_take::{LONGEST_BLOCK, RequestRef, Verdict};
+use bw_bytes::read_u32;
+use bw_request::{LONGEST_BLOCK, RequestRef, Verdict};
 use bw_wire::decode_request;
 
 /// The kind byte of a block.

@@ -2,16 +2,16 @@
 ghost use Rattle.std.specs.Prelude.{◌≡◌, ◌<◌, ◌==◌, List, not, true, IsTrue, OnOk, OnErr, is_err};
 ghost use Rattle.std.specs.Prelude.{filter};
 ghost use Rattle.bw_model.specs.Counts.{Counts, last_count};
-ghost use Rattle.bw_file.specs.Fuses.{has_fuse, Blows, first_half};
-ghost use Rattle.bw_file.specs.Memory.{content_under as content_of};
-ghost use Rattle.bw_file.specs.Stores.{KeepsOthers};
+ghost use Rattle.bw_store.specs.Fuses.{has_fuse, Blows, first_half};
+ghost use Rattle.bw_store.specs.Memory.{content_under as content_of};
+ghost use Rattle.bw_store.specs.Stores.{KeepsOthers};
 ghost use Rattle.bw_journal.specs.MemoryHeaders.{header_for};
 ghost use Rattle.bw_journal.specs.Notes.{BeginsNotes, KeepsHeaders, NotesOver, NotesInPart};
 
 use crate::journal::Journal;
 use crate::memory::{MemoryJournal, count};
-use bw_file::{StoreFault, blow};
-use bw_take::Name;
+use bw_request::Name;
+use bw_store::{StoreFault, blow};
 
 /// A journal behind fuses: the calls of chosen numbers, counted from 0, fail, each once.
 ///

@@ -7,7 +7,8 @@ ghost use Rattle.bw_journal.specs.JournalHeaders.{is_torn as is_torn_of};
 ghost use Rattle.bw_journal.specs.HeaderRefs.{header_said, header_found};
 
 use crate::seal::{check, opened};
-use bw_layout::{Limit, read_u32};
+use bw_bytes::read_u32;
+use bw_layout::Limit;
 
 /// The first four bytes of a header's content.
 const MAGIC: [u8; 4] = *b"BWJ1";

@@ -2,13 +2,13 @@
 ghost use Rattle.std.specs.Prelude.{◌≡◌, ℕ, List, Bool, Option, None, false, IsOk, IsTrue, OnOk};
 ghost use Rattle.std.specs.Prelude.{OnErr, is_err};
 ghost use Rattle.bw_model.specs.Counts.{Counts};
-ghost use Rattle.bw_file.specs.Stores.{KeepsOthers};
+ghost use Rattle.bw_store.specs.Stores.{KeepsOthers};
 ghost use Rattle.bw_journal.specs.JournalHeaders.{Header};
 ghost use Rattle.bw_journal.specs.Notes.{BeginsNotes, BeginsInPart, Notes, NotesInPart};
 ghost use Rattle.bw_journal.specs.Notes.{KeepsHeaders};
 
-use bw_file::StoreFault;
-use bw_take::Name;
+use bw_request::Name;
+use bw_store::StoreFault;
 
 /// Bytes by name that begin with a header and grow at their end.
 ///

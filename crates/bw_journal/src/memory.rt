@@ -5,8 +5,8 @@ ghost use Rattle.std.specs.Option.{option_copied};
 ghost use Rattle.std.specs.Str.{bytes_eq};
 ghost use Rattle.std.specs.List.{list_any};
 ghost use Rattle.bw_model.specs.Counts.{Counts};
-ghost use Rattle.bw_file.specs.Memory.{content_under as content_of};
-ghost use Rattle.bw_file.specs.Stores.{KeepsOthers};
+ghost use Rattle.bw_store.specs.Memory.{content_under as content_of};
+ghost use Rattle.bw_store.specs.Stores.{KeepsOthers};
 ghost use Rattle.bw_journal.specs.Notes.{BeginsWith, Starts, BeginsNotes, KeepsHeaders, IsShortOf};
 ghost use Rattle.bw_journal.specs.Notes.{NotesOver, has_front};
 ghost use Rattle.bw_journal.specs.JournalHeaders.{header_bytes};
@@ -14,9 +14,9 @@ ghost use Rattle.bw_journal.specs.MemoryHeaders.{header_for};
 
 use crate::header::{JournalHeader, is_torn};
 use crate::journal::Journal;
-use bw_file::StoreFault;
 use bw_layout::Limit;
-use bw_take::Name;
+use bw_request::Name;
+use bw_store::StoreFault;
 use std::alloc::{AllocError, Global};
 use std::collections::BTreeMap;
 

@@ -6,8 +6,8 @@ ghost use Rattle.bw_model.specs.Limits.{longest_block, largest};
 ghost use Rattle.bw_model.specs.Take.{new_take, parts as parts_of_take};
 ghost use Rattle.bw_model.specs.Replies.{verdict_code};
 ghost use Rattle.bw_model.specs.Wire.{is_request};
-ghost use Rattle.bw_take.specs.Requests.{meaning};
-ghost use Rattle.bw_take.specs.Verdicts.{verdict_meaning};
+ghost use Rattle.bw_request.specs.Requests.{meaning};
+ghost use Rattle.bw_request.specs.Verdicts.{verdict_meaning};
 ghost use Rattle.bw_journal.specs.JournalHeaders.{header_len, has_limit};
 ghost use Rattle.bw_journal.specs.JournalHeaders.{first_header as first_header_in};
 ghost use Rattle.bw_journal.specs.Replays.{OtherVerdict as other_verdict, replay as replay_of};
@@ -22,7 +22,8 @@ use crate::fault::ReplayFault;
 use crate::header::{JournalHeader, first_header, is_torn_header};
 use crate::seal::opened;
 use bw_layout::Limit;
-use bw_take::{LONGEST_BLOCK, TakeState, judge};
+use bw_request::LONGEST_BLOCK;
+use bw_take::{TakeState, judge};
 use std::alloc::{AllocError, Global};
 
 /// A sealed entry has at most so many bytes.

@@ -5,7 +5,7 @@ ghost use Rattle.std.specs.Str.{bytes_eq};
 ghost use Rattle.bw_layout.specs.Appending.{Gains};
 ghost use Rattle.bw_journal.specs.Seals.{opened as opened_in, check as check_of};
 
-use bw_layout::read_u16;
+use bw_bytes::read_u16;
 use sha2::{Digest, Sha256};
 
 /// The bytes that are sealed at the front.

@@ -3,14 +3,14 @@ ghost use Rattle.std.specs.Prelude.{◌≡◌, ◌+◌, ◌≤◌, IsTrue, lengt
 ghost use Rattle.bw_model.specs.Limits.{longest_history};
 ghost use Rattle.bw_model.specs.Wire.{is_request, kind as kind_of};
 ghost use Rattle.bw_layout.specs.Appending.{Appends, Gains};
-ghost use Rattle.bw_take.specs.Requests.{meaning};
-ghost use Rattle.bw_take.specs.Verdicts.{verdict_meaning};
+ghost use Rattle.bw_request.specs.Requests.{meaning};
+ghost use Rattle.bw_request.specs.Verdicts.{verdict_meaning};
 ghost use Rattle.bw_journal.specs.Entries.{JournalEntry, noted as noted_of, noted_payload};
 ghost use Rattle.bw_journal.specs.Entries.{content as content_of, sealed_entry, longest_entry};
 
 use crate::entry::BLOCK;
 use crate::seal::{check, push};
-use bw_take::{RequestRef, Verdict};
+use bw_request::{RequestRef, Verdict};
 use std::alloc::{AllocError, Global};
 
 /// Appends the entry of a done number: of a block its length, and not its samples.

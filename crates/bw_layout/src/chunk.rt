@@ -5,8 +5,8 @@ ghost use Rattle.bw_model.specs.Layout.{head as head_bytes};
 ghost use Rattle.bw_layout.specs.Appending.{Gains, Appends};
 ghost use Rattle.bw_layout.specs.Heads.{chunk_head};
 
-use crate::number::{read_id, read_u32};
 use crate::push::{push_bytes, push_u32};
+use bw_bytes::{read_id, read_u32};
 use std::alloc::{AllocError, Global};
 use std::error::Error;
 use std::fmt;

@@ -3,8 +3,8 @@ ghost use Rattle.bw_many.specs.Names.{NamesStandApart};
 ghost use Rattle.bw_many.specs.Served.{EachIsServed};
 
 use crate::link::Link;
-use bw_file::TakeStore;
 use bw_journal::{Journal, NoJournal};
+use bw_store::TakeStore;
 
 /// Whatever came between its turns, each connection's frames are the first of the bytes that its own
 /// link gave, and what that took is exactly their replies; of one that is over its end tells how far.

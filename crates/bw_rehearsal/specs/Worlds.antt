@@ -4,7 +4,7 @@ use Rattle.bw_model.specs.Book.{log_of}
 use Rattle.bw_model.specs.CountedTurn.{is_pending}
 use Rattle.bw_model.specs.Exchange.{take_in, content_in}
 use Rattle.bw_model.specs.World as model
-use Rattle.bw_file.specs.Memory.{content_under}
+use Rattle.bw_store.specs.Memory.{content_under}
 use Rattle.bw_session.specs.Books.{HoldsBook, failures_of}
 use Rattle.bw_sender.specs.Senders.{IsSender}
 use Rattle.bw_rehearsal.specs.Rehearsing.{LeadsTo, no_contents}

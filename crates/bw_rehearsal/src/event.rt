@@ -1,5 +1,5 @@
 //! What may happen in a rehearsal.
-use bw_take::Request;
+use bw_request::Request;
 
 /// What may happen in a rehearsal. Places count from 0 on; one that isn't there changes nothing.
 #[derive(Debug, Drop)]

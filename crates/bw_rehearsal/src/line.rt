@@ -10,7 +10,7 @@ ghost use Rattle.bw_rehearsal.specs.EventLines.{SaysEvent, IsIndexText, index_wr
 ghost use Rattle.bw_rehearsal.specs.EventLines.{IsRequestText, IsEven, MayOffer};
 
 use crate::event::Event;
-use bw_take::Request;
+use bw_request::Request;
 use bw_wire::decode_request;
 use hex::FromHexError;
 use std::alloc::{AllocError, Global};

@@ -4,11 +4,11 @@ ghost use Rattle.bw_rehearsal.specs.Worlds.{WasRehearsed};
 
 use crate::event::Event;
 use crate::stage::Stage;
-use bw_file::MemoryStore;
 use bw_layout::Limit;
+use bw_request::Name;
 use bw_sender::Sender;
 use bw_session::Server;
-use bw_take::Name;
+use bw_store::MemoryStore;
 use std::alloc::{AllocError, Global};
 
 /// What a rehearsal came to.

@@ -13,11 +13,11 @@ ghost use Rattle.bw_rehearsal.specs.Staged.{failures_on};
 
 use crate::event::Event;
 use arrayvec::ArrayVec;
-use bw_file::MemoryStore;
 use bw_layout::Limit;
+use bw_request::{Name, Request};
 use bw_sender::{OfferError, Sender};
 use bw_session::Server;
-use bw_take::{Name, Request};
+use bw_store::MemoryStore;
 use bw_wire::{Frame, Message, Reply, decode, encode};
 use std::alloc::{AllocError, Global};
 

@@ -15,7 +15,7 @@ use crate::heard::Heard;
 use crate::offer::OfferError;
 use crate::refusals::Refusals;
 use crate::window::Window;
-use bw_take::{Name, Request, Verdict};
+use bw_request::{Name, Request, Verdict};
 use bw_wire::Reply;
 use std::alloc::{AllocError, Global};
 

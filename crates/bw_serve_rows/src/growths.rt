@@ -1,8 +1,8 @@
 //! Memory that is refused to a crowd.
 use crate::hall::{Plan, Tells, Visit};
 use crate::play::{Came, OTHERS, QUICK, QUICK_OTHER, VERDICTS, try_serve, two_frames};
+use bw_request::Name;
 use bw_serve::Bounds;
-use bw_take::Name;
 use std::alloc::Global;
 use std::process::Abort;
 use std::test::Fail;

@@ -1,12 +1,12 @@
 //! A store that notes which calls come: the one that shows that the clauses `asked` can be kept.
 ghost use Rattle.std.specs.Prelude.{◌≡◌, IsTrue, Some, None, [], ◌∷◌, ◌++◌, map, if◌then◌else◌};
-ghost use Rattle.bw_file.specs.Calls.{Create, WriteAt, Finish};
+ghost use Rattle.bw_store.specs.Calls.{Create, WriteAt, Finish};
 ghost use Rattle.bw_serve_rows.specs.declared.recorder.Call.TheVariants.{Create as create};
 ghost use Rattle.bw_serve_rows.specs.declared.recorder.Call.TheVariants.{Write as write};
 ghost use Rattle.bw_serve_rows.specs.declared.recorder.Call.TheVariants.{Finish as finish};
 
-use bw_file::{Created, StoreFault, TakeStore};
-use bw_take::Name;
+use bw_request::Name;
+use bw_store::{Created, StoreFault, TakeStore};
 use std::alloc::Global;
 
 /// A call of a store; of a write its offset and its length.

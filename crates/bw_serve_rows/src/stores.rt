@@ -2,7 +2,7 @@
 //! they succeed.
 use crate::recorder::{Call, Recorder};
 use bw_file::{FolderStore, MemoryDisk, MemoryStore, TakeStore};
-use bw_take::Name;
+use bw_request::Name;
 use std::test::Fail;
 
 fn a1() -> Result<Name, Fail> {

@@ -3,8 +3,8 @@ ghost use Rattle.std.specs.Prelude.{◌≡◌, None};
 ghost use Rattle.bw_stream.specs.Moves.{failures_after};
 
 use crate::hall::{Hall, Plan};
-use bw_file::MemoryStore;
 use bw_serve::Gathering;
+use bw_store::MemoryStore;
 use bw_stream::{MemorySink, MemorySource};
 use bw_transfer::{AcceptFault, Dial, DialFault, Link, Network, Peer, Peers};
 use std::alloc::Global;

@@ -4,13 +4,13 @@ use Rattle.std.proofs.Common.{sym, ◌∙◌, ap, subst, arith, Ok, Err, Result}
 use Rattle.std.specs.Prelude.{OnErr, IfOk}
 use Rattle.bw_model.specs.Take.{Parts, Request, Open, Block, Mark, SetField, Close, Verdict, judge, is_stored}
 use Rattle.bw_take.specs.States.{parts_with}
-use Rattle.bw_file.specs.Calls.{StoreCall, GetsFirst}
-use Rattle.bw_file.proofs.Asked.{gets_none}
+use Rattle.bw_store.specs.Calls.{StoreCall, GetsFirst}
+use Rattle.bw_store.proofs.Asked.{gets_none}
 use Rattle.sha2.specs.Sha256.{sha256}
 use Rattle.std.specs.Prelude.{drop}
 use Rattle.bw_model.specs.Bytes.{at}
-use Rattle.bw_file.specs.StoreSteps.{WasAsked, WasAskedFirst}
-use Rattle.bw_file.specs.declared.store.TakeStore.{Ghosts as StoreGhosts}
+use Rattle.bw_store.specs.StoreSteps.{WasAsked, WasAskedFirst}
+use Rattle.bw_store.specs.declared.store.TakeStore.{Ghosts as StoreGhosts}
 use Rattle.bw_wire.specs.Bodies.{message_in}
 use Rattle.bw_session.specs.Carrying.{judged_plan}
 use Rattle.bw_session.specs.KeptParts.{Part}

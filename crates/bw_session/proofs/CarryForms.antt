@@ -9,11 +9,11 @@ use Rattle.bw_model.specs.Take.{BadFormat, NameTaken, parts, judge, judge_open, 
 use Rattle.bw_model.specs.Take.{is_stored, with_request, after}
 use Rattle.bw_model.specs.File.{file_of}
 use Rattle.bw_model.specs.Holds.{IsInTheMiddle}
-use Rattle.bw_take.specs.Verdicts.{verdict_meaning}
-use Rattle.bw_take.specs.declared.verdict.Verdict.{Verdict}
+use Rattle.bw_request.specs.Verdicts.{verdict_meaning}
+use Rattle.bw_request.specs.declared.verdict.Verdict.{Verdict}
 use Rattle.bw_file.specs.Growing.{Growing}
-use Rattle.bw_file.specs.declared.store.Created.TheVariants.{New, Exists}
-use Rattle.bw_file.specs.declared.store.StoreFault.{StoreFault}
+use Rattle.bw_store.specs.declared.store.Created.TheVariants.{New, Exists}
+use Rattle.bw_store.specs.declared.store.StoreFault.{StoreFault}
 use Rattle.bw_session.specs.Writing.{WritesRequest, HasWholeFile}
 use Rattle.bw_session.specs.Carrying.{Touches, Carries}
 

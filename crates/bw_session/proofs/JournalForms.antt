@@ -9,7 +9,7 @@ use Rattle.bw_model.specs.Book.{Log, Book, log_of, is_known, with_log}
 use Rattle.bw_model.specs.Turn.{is_turned_away, window}
 use Rattle.bw_model.specs.CountedTurn.{book_told}
 use Rattle.bw_model.proofs.BookLemmas.{same_name, log-with_log_same, log-with_log_other}
-use Rattle.bw_file.specs.Stores.{KeepsOthers}
+use Rattle.bw_store.specs.Stores.{KeepsOthers}
 use Rattle.bw_journal.specs.JournalHeaders.{Header, header_bytes}
 use Rattle.bw_journal.specs.Notes.{IsFrontOf, KeepsHeaders}
 use Rattle.bw_session.specs.Noting.{IsNoted}

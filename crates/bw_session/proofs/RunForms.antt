@@ -9,12 +9,12 @@ use Rattle.bw_model.specs.Take.{Request}
 use Rattle.bw_model.specs.Replies.{Reply as ModelReply, Judged}
 use Rattle.bw_model.specs.Book.{Log, verdict_at}
 use Rattle.bw_model.specs.Turn.{verdicts_from, window}
-use Rattle.bw_take.specs.Verdicts.{verdict_meaning}
-use Rattle.bw_take.specs.declared.verdict.Verdict.{Verdict as Judgement}
+use Rattle.bw_request.specs.Verdicts.{verdict_meaning}
+use Rattle.bw_request.specs.declared.verdict.Verdict.{Verdict as Judgement}
 use Rattle.bw_wire.specs.declared.reply.Reply.{Reply}
 use Rattle.bw_wire.specs.declared.reply.Reply.TheVariants.{Verdict}
 use Rattle.bw_wire.specs.Replies.{reply_of}
-use Rattle.bw_file.specs.declared.store.TakeStore.{Ghosts as StoreGhosts}
+use Rattle.bw_store.specs.declared.store.TakeStore.{Ghosts as StoreGhosts}
 use Rattle.bw_journal.specs.JournalHeaders.{Header}
 use Rattle.bw_journal.specs.declared.journal.Journal.{Ghosts as JournalGhosts}
 use Rattle.bw_session.specs.Numbered.{with_done, KeepsBoth}

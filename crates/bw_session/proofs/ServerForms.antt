@@ -20,7 +20,7 @@ use Rattle.bw_model.proofs.BookLaws.{turns_keep_books}
 use Rattle.bw_model.specs.Holds.{Store, Kept, Holds, HoldsName, HasFile}
 use Rattle.bw_model.proofs.BookLemmas.{same_name, name_refl, log-with_log_same, log-with_log_other}
 use Rattle.bw_model.proofs.BookLemmas.{known-with_log_same, known-with_log_other, unknown_log}
-use Rattle.bw_file.specs.Stores.{KeepsOthers}
+use Rattle.bw_store.specs.Stores.{KeepsOthers}
 use Rattle.bw_session.specs.Draining.{NameStands}
 use Rattle.bw_session.specs.Sessions.{HoldsLog, part_of}
 use Rattle.bw_wire.specs.declared.reply.Reply.{Reply}

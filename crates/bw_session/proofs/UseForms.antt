@@ -11,7 +11,7 @@ use Rattle.bw_model.specs.Replies.{Notice, Noticed, DelayedStore, Held}
 use Rattle.bw_model.specs.CountedTurn.{is_delay, is_delayed}
 use Rattle.bw_model.proofs.BookLemmas.{same_name}
 use Rattle.bw_file.specs.Growing.{Growing}
-use Rattle.bw_file.specs.declared.store.TakeStore.{Ghosts as StoreGhosts}
+use Rattle.bw_store.specs.declared.store.TakeStore.{Ghosts as StoreGhosts}
 use Rattle.bw_journal.specs.declared.journal.Journal.{Ghosts as JournalGhosts}
 use Rattle.bw_wire.specs.declared.reply.Reply.{Reply}
 use Rattle.bw_wire.specs.Replies.{reply_of}

@@ -10,9 +10,9 @@ use Rattle.bw_model.specs.File.{file_of}
 use Rattle.bw_model.specs.Holds.{IsBetween, IsInTheMiddle}
 use Rattle.bw_take.proofs.StoredLemmas.{opened_once}
 use Rattle.bw_file.specs.Growing.{Growing, IsReady, BeginsFile, AsksForName, is_new}
-use Rattle.bw_file.specs.declared.store.Created.{Created}
-use Rattle.bw_file.specs.declared.store.Created.TheVariants.{New, Exists}
-use Rattle.bw_file.specs.declared.store.StoreFault.{StoreFault}
+use Rattle.bw_store.specs.declared.store.Created.{Created}
+use Rattle.bw_store.specs.declared.store.Created.TheVariants.{New, Exists}
+use Rattle.bw_store.specs.declared.store.StoreFault.{StoreFault}
 use Rattle.bw_file.proofs.Judged.{IsOpen, open_for}
 use Rattle.bw_session.specs.Writing.{WritesRequest}
 use Rattle.bw_session.proofs.OwnFiles.{ready, whole_behind, own_behind, begun, opened_new, never_stood, opened_err}

@@ -8,8 +8,8 @@ use Rattle.bw_model.specs.Bytes.{at}
 use Rattle.bw_model.specs.Limits.{window as slots}
 use Rattle.bw_model.specs.Take.{new_take, parts as parts_of}
 use Rattle.bw_model.specs.Wire.{Message, message_body}
-use Rattle.bw_file.specs.StoreSteps.{WasAsked, WasAskedFirst}
-use Rattle.bw_file.specs.declared.store.TakeStore.{Ghosts as StoreGhosts}
+use Rattle.bw_store.specs.StoreSteps.{WasAsked, WasAskedFirst}
+use Rattle.bw_store.specs.declared.store.TakeStore.{Ghosts as StoreGhosts}
 use Rattle.bw_wire.specs.Bodies.{message_in}
 use Rattle.bw_session.specs.Carrying.{judged_plan}
 use Rattle.bw_session.specs.Judging.{judged_by, KeepsJudged}

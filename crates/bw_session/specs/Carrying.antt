@@ -2,11 +2,11 @@
 use Rattle.std.specs.Prelude.{◌≡◌, Bool, true, false, Option, None, IsSome, List, [], ℕ, Result}
 use Rattle.std.specs.Prelude.{MatchResult, IfOk, if◌then◌else◌}
 use Rattle.bw_model.specs.Take.{Take, Parts, Request, Stored, is_stored, judge, parts, after}
-use Rattle.bw_take.specs.Verdicts.{verdict_meaning}
-use Rattle.bw_take.specs.declared.verdict.Verdict.{Verdict}
-use Rattle.bw_file.specs.Calls.{StoreCall}
+use Rattle.bw_request.specs.Verdicts.{verdict_meaning}
+use Rattle.bw_request.specs.declared.verdict.Verdict.{Verdict}
+use Rattle.bw_store.specs.Calls.{StoreCall}
 use Rattle.bw_file.specs.Growing.{Growing}
-use Rattle.bw_file.specs.declared.store.StoreFault.{StoreFault}
+use Rattle.bw_store.specs.declared.store.StoreFault.{StoreFault}
 use Rattle.bw_session.specs.Writing.{is_mark, request_plan, HasOwnFile, HasWholeFile}
 
 -- The request is to be stored, by a call of the file.

@@ -8,10 +8,10 @@ use Rattle.bw_model.specs.Wire.{Second, last_number}
 use Rattle.bw_model.specs.ReadBack.{is_admitted}
 use Rattle.bw_model.specs.Book.{Log, made, verdict_at}
 use Rattle.bw_model.specs.Holds.{Kept, HoldsName, HasFile}
-use Rattle.bw_take.specs.Verdicts.{verdict_meaning}
-use Rattle.bw_take.specs.declared.verdict.Verdict.{Verdict as Judgement}
+use Rattle.bw_request.specs.Verdicts.{verdict_meaning}
+use Rattle.bw_request.specs.declared.verdict.Verdict.{Verdict as Judgement}
 use Rattle.bw_file.specs.Growing.{Growing}
-use Rattle.bw_file.specs.declared.store.StoreFault.{StoreFault}
+use Rattle.bw_store.specs.declared.store.StoreFault.{StoreFault}
 use Rattle.bw_wire.specs.Bodies.{message_in}
 use Rattle.bw_session.specs.Windows.{count_held}
 use Rattle.bw_session.specs.Carrying.{Touches}

@@ -2,10 +2,10 @@
 use Rattle.std.specs.Prelude.{◌≡◌, ℕ, false, Option, Some, None, is_some, List, Result, MatchResult}
 use Rattle.bw_model.specs.Take.{Take, Parts, Request, Verdict, verdict, after}
 use Rattle.bw_model.specs.Book.{Log, made}
-use Rattle.bw_take.specs.Verdicts.{verdict_meaning}
-use Rattle.bw_take.specs.declared.verdict.Verdict.{Verdict as Judgement}
+use Rattle.bw_request.specs.Verdicts.{verdict_meaning}
+use Rattle.bw_request.specs.declared.verdict.Verdict.{Verdict as Judgement}
 use Rattle.bw_file.specs.Growing.{Growing}
-use Rattle.bw_file.specs.declared.store.StoreFault.{StoreFault}
+use Rattle.bw_store.specs.declared.store.StoreFault.{StoreFault}
 use Rattle.bw_session.specs.Writing.{HasOwnFile, HasWholeFile}
 use Rattle.bw_session.specs.Keeping.{KeepsDone}
 

@@ -9,12 +9,12 @@ use Rattle.bw_model.specs.Take.{Parts, Request, Verdict, is_stored}
 use Rattle.bw_model.specs.Wire.{Second, last_number}
 use Rattle.bw_model.specs.Book.{Log, verdict_at}
 use Rattle.bw_model.specs.Holds.{body_of}
-use Rattle.bw_take.specs.Verdicts.{verdict_meaning}
-use Rattle.bw_take.specs.declared.verdict.Verdict.{Verdict as Judgement}
+use Rattle.bw_request.specs.Verdicts.{verdict_meaning}
+use Rattle.bw_request.specs.declared.verdict.Verdict.{Verdict as Judgement}
 use Rattle.bw_file.specs.Growing.{Growing}
-use Rattle.bw_file.specs.Stores.{KeepsOthers}
-use Rattle.bw_file.specs.declared.store.StoreFault.{StoreFault}
-use Rattle.bw_file.specs.declared.store.TakeStore.{Ghosts as StoreGhosts}
+use Rattle.bw_store.specs.Stores.{KeepsOthers}
+use Rattle.bw_store.specs.declared.store.StoreFault.{StoreFault}
+use Rattle.bw_store.specs.declared.store.TakeStore.{Ghosts as StoreGhosts}
 use Rattle.bw_journal.specs.Entries.{sealed_entry, longest_entry}
 use Rattle.bw_journal.specs.JournalHeaders.{header_len}
 use Rattle.bw_journal.specs.Notes.{KeepsHeaders}

@@ -2,7 +2,7 @@
 use Rattle.std.specs.Prelude.{ℕ, Option, List, length, option_map}
 use Rattle.std.specs.Option.{option_map_or}
 use Rattle.bw_model.specs.Holds.{Store, Kept}
-use Rattle.bw_file.specs.declared.store.TakeStore.{Ghosts as StoreGhosts}
+use Rattle.bw_store.specs.declared.store.TakeStore.{Ghosts as StoreGhosts}
 use Rattle.bw_session.specs.Draining.{kept_as}
 use Rattle.bw_session.specs.Tables.{Table, session_in}
 use Rattle.bw_session.specs.KeptParts.{Part}

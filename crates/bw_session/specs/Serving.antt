@@ -12,7 +12,7 @@ use Rattle.bw_model.specs.Turn.{Luck, served, turn_by, admitted_after, is_admiss
 use Rattle.bw_model.specs.Turn.{is_turned_away}
 use Rattle.bw_wire.specs.declared.reply.Reply.{Reply}
 use Rattle.bw_wire.specs.Replies.{reply_of}
-use Rattle.bw_file.specs.declared.store.TakeStore.{Ghosts as StoreGhosts}
+use Rattle.bw_store.specs.declared.store.TakeStore.{Ghosts as StoreGhosts}
 use Rattle.bw_journal.specs.declared.journal.Journal.{Ghosts as JournalGhosts}
 use Rattle.bw_session.specs.Numbered.{KeepsBoth}
 use Rattle.bw_session.specs.Telling.{IsTimely}

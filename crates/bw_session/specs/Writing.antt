@@ -8,10 +8,10 @@ use Rattle.bw_model.specs.Take.{with_request, with_field}
 use Rattle.bw_model.specs.File.{file_of}
 use Rattle.bw_model.specs.Holds.{IsInTheMiddle}
 use Rattle.bw_file.specs.Growing.{Growing, is_new}
-use Rattle.bw_file.specs.Calls.{StoreCall}
+use Rattle.bw_store.specs.Calls.{StoreCall}
 use Rattle.bw_file.specs.Plans.{begin_plan, append_plan, retouch_plan, close_plan}
-use Rattle.bw_file.specs.declared.store.Created.{Created}
-use Rattle.bw_file.specs.declared.store.StoreFault.{StoreFault}
+use Rattle.bw_store.specs.declared.store.Created.{Created}
+use Rattle.bw_store.specs.declared.store.StoreFault.{StoreFault}
 
 -- a marker changes nothing in the file of an open take
 abbrev pub is_mark : Request → Bool

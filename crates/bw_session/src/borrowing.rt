@@ -16,9 +16,9 @@ ghost use Rattle.bw_session.specs.Asking.{AsksNext, holding};
 use crate::body::HeldBody;
 use crate::numbering::Stores;
 use crate::session::Session;
-use bw_file::{StoreFault, TakeStore};
 use bw_journal::Journal;
-use bw_take::Verdict;
+use bw_request::Verdict;
+use bw_store::{StoreFault, TakeStore};
 use bw_wire::Message;
 use std::alloc::AllocError;
 

@@ -5,17 +5,19 @@ ghost use Rattle.bw_model.specs.Take.{Verdict as Judgement, judge as verdict_on,
 ghost use Rattle.bw_model.specs.Book.{Log};
 ghost use Rattle.bw_model.specs.Limits.{largest};
 ghost use Rattle.bw_model.specs.Wire.{is_request};
-ghost use Rattle.bw_take.specs.Requests.{meaning};
-ghost use Rattle.bw_take.specs.States.{samples_in};
-ghost use Rattle.bw_take.specs.Verdicts.{verdict_meaning};
-ghost use Rattle.bw_file.specs.Stores.{Counts, KeepsOthers};
-ghost use Rattle.bw_file.specs.StoreSteps.{WasAsked, WasAskedFirst};
+ghost use Rattle.bw_request.specs.Requests.{meaning};
+ghost use Rattle.bw_request.specs.Requests.{samples_in};
+ghost use Rattle.bw_request.specs.Verdicts.{verdict_meaning};
+ghost use Rattle.bw_store.specs.Stores.{Counts, KeepsOthers};
+ghost use Rattle.bw_store.specs.StoreSteps.{WasAsked, WasAskedFirst};
 ghost use Rattle.bw_session.specs.Carrying.{Touches, Carries, judged_plan};
 ghost use Rattle.bw_session.specs.Fronts.{HoldsFront, CarriesFront};
 
 use crate::writing::write_request;
-use bw_file::{Created, GrowingFile, StoreFault, TakeStore};
-use bw_take::{RequestRef, TakeState, Verdict, judge};
+use bw_file::GrowingFile;
+use bw_request::{RequestRef, Verdict};
+use bw_store::{Created, StoreFault, TakeStore};
+use bw_take::{TakeState, judge};
 
 /// Judges a request, and writes it to the file where it is to be stored; the state is as it was.
 ///

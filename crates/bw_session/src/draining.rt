@@ -14,9 +14,9 @@ use crate::numbering::{Progress, Stores};
 use crate::session::Session;
 use crate::window::{SLOTS, Window};
 use arrayvec::ArrayVec;
-use bw_file::TakeStore;
 use bw_journal::Journal;
-use bw_take::Verdict;
+use bw_request::Verdict;
+use bw_store::TakeStore;
 use bw_wire::Reply;
 
 /// What draining one number came to.

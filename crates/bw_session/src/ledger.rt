@@ -5,9 +5,9 @@ ghost use Rattle.std.specs.Prelude.{max, ◌⊎◌, IsSome, IsOk, OnErr};
 ghost use Rattle.std.specs.Str.{bytes_eq};
 ghost use Rattle.bw_model.specs.Take.{Verdict as Judgement};
 ghost use Rattle.bw_model.specs.Replies.{verdict_code, verdict_of as verdict_with_code};
-ghost use Rattle.bw_take.specs.Verdicts.{verdict_meaning};
+ghost use Rattle.bw_request.specs.Verdicts.{verdict_meaning};
 
-use bw_take::Verdict;
+use bw_request::Verdict;
 use std::alloc::{AllocError, Global};
 use std::marker::Model;
 

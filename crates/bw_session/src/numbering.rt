@@ -5,11 +5,11 @@ ghost use Rattle.std.specs.Prelude.{is_some, false, Bool};
 ghost use Rattle.bw_model.specs.Wire.{is_request, Second, last_number};
 ghost use Rattle.bw_model.specs.Take.{judge as verdict_on, is_stored};
 ghost use Rattle.bw_model.specs.Book.{Log};
-ghost use Rattle.bw_take.specs.Requests.{meaning};
-ghost use Rattle.bw_take.specs.Verdicts.{verdict_meaning};
+ghost use Rattle.bw_request.specs.Requests.{meaning};
+ghost use Rattle.bw_request.specs.Verdicts.{verdict_meaning};
 ghost use Rattle.bw_journal.specs.Entries.{longest_entry};
 ghost use Rattle.bw_journal.specs.Notes.{BeginsNotes, BeginsInPart, Notes, NotesInPart};
-ghost use Rattle.bw_file.specs.StoreSteps.{WasAsked, WasAskedFirst};
+ghost use Rattle.bw_store.specs.StoreSteps.{WasAsked, WasAskedFirst};
 ghost use Rattle.bw_session.specs.Carrying.{Touches, judged_plan};
 ghost use Rattle.bw_session.specs.Fronts.{HoldsFront};
 ghost use Rattle.bw_session.specs.Judging.{judged_by, KeepsJudged};
@@ -20,9 +20,11 @@ ghost use Rattle.bw_session.specs.Numbered.{is_written as was_written, noted_of}
 use crate::carrying::carry_out;
 use crate::ledger::Ledger;
 use crate::settling::settle;
-use bw_file::{GrowingFile, StoreFault, TakeStore};
+use bw_file::GrowingFile;
 use bw_journal::{Journal, put_entry};
-use bw_take::{Name, RequestRef, TakeState, Verdict};
+use bw_request::{Name, RequestRef, Verdict};
+use bw_store::{StoreFault, TakeStore};
+use bw_take::TakeState;
 use std::alloc::Global;
 
 /// What a server keeps of the numbers that are done under a name.

@@ -14,7 +14,8 @@ use crate::window::Window;
 use bw_file::GrowingFile;
 use bw_journal::JournalHeader;
 use bw_layout::Limit;
-use bw_take::{Name, TakeState};
+use bw_request::Name;
+use bw_take::TakeState;
 use std::alloc::{AllocError, Global};
 
 /// What a server keeps of a name: of its done numbers, and of the messages that wait.

@@ -3,15 +3,17 @@ ghost use Rattle.std.specs.Prelude.{◌≡◌, ◌+◌, ◌≤◌, IsTrue, true,
 ghost use Rattle.bw_model.specs.Take.{Stored, judge};
 ghost use Rattle.bw_model.specs.Limits.{largest};
 ghost use Rattle.bw_model.specs.Wire.{is_request};
-ghost use Rattle.bw_take.specs.Requests.{meaning};
-ghost use Rattle.bw_take.specs.States.{samples_in};
-ghost use Rattle.bw_file.specs.Stores.{Counts, KeepsOthers};
-ghost use Rattle.bw_file.specs.StoreSteps.{WasAsked, WasAskedFirst};
+ghost use Rattle.bw_request.specs.Requests.{meaning};
+ghost use Rattle.bw_request.specs.Requests.{samples_in};
+ghost use Rattle.bw_store.specs.Stores.{Counts, KeepsOthers};
+ghost use Rattle.bw_store.specs.StoreSteps.{WasAsked, WasAskedFirst};
 ghost use Rattle.bw_session.specs.Writing.{is_mark, request_plan, Knows, WritesRequest};
 
-use bw_file::{Created, GrowingFile, StoreFault, TakeStore};
+use bw_file::GrowingFile;
 use bw_layout::Fmt;
-use bw_take::{RequestRef, TakeState};
+use bw_request::RequestRef;
+use bw_store::{Created, StoreFault, TakeStore};
+use bw_take::TakeState;
 
 /// Writes a request that is to be stored to the file: `Exists` where it would open a take whose
 /// name stood in the store. A marker waits in memory for the take's end.

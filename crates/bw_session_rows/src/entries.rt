@@ -1,14 +1,14 @@
 //! Worked journals, byte by byte; that their calls succeed; what a damaged journal tells.
 ghost use Rattle.std.specs.Prelude.{IsTrue};
 ghost use Rattle.bw_model.specs.Wire.{is_request};
-ghost use Rattle.bw_take.specs.Requests.{meaning};
+ghost use Rattle.bw_request.specs.Requests.{meaning};
 
 use crate::play::a1;
 use bw_journal::{
     FuseJournal, Journal, JournalHeader, MemoryJournal, ReplayFault, Replayed, put_entry, replay,
 };
 use bw_layout::Limit;
-use bw_take::{RequestRef, Verdict};
+use bw_request::{RequestRef, Verdict};
 use sha2::{Digest, Sha256};
 use std::alloc::{AllocError, Global};
 use std::process::Abort;

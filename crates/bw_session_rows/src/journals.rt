@@ -5,11 +5,11 @@ ghost use Rattle.std.specs.Prelude.{None, false};
 use crate::entries::JOURNAL;
 use crate::play::Told::{Judged, Noticed};
 use crate::play::{Told, Turn, a1, has_file, noting_server, send};
-use bw_file::{StoreFault, Tally};
 use bw_journal::{FuseJournal, Journal, MemoryJournal};
 use bw_layout::Limit;
-use bw_take::Name;
-use bw_take::Verdict::{BadBlock, Stored};
+use bw_request::Name;
+use bw_request::Verdict::{BadBlock, Stored};
+use bw_store::{StoreFault, Tally};
 use bw_wire::Notice::{Conflict, DelayedStore, Held};
 use std::test::Fail;
 

@@ -1,11 +1,11 @@
 //! The messages of a take and their replies, and the file that they leave.
 use crate::compare::same;
 use arrayvec::ArrayVec;
-use bw_file::MemoryStore;
 use bw_journal::Journal;
 use bw_layout::Limit;
+use bw_request::{Name, Verdict};
 use bw_session::Server;
-use bw_take::{Name, Verdict};
+use bw_store::MemoryStore;
 use bw_wire::{Frame, Notice, Reply, decode};
 use std::alloc::{AllocError, Global};
 use std::process::Abort;

@@ -8,7 +8,8 @@ use Rattle.bw_model.specs.Take.{Parts, Format, Request, Open, Block, Mark, SetFi
 use Rattle.bw_model.specs.Take.{BadFormat, BadField, BadMarker, DuplicateMarker, TooManyMarkers, judge, judge_open}
 use Rattle.bw_model.specs.Take.{is_format, field_fault, is_stored, parts, Take, with_request, AreFields, FieldFault}
 use Rattle.bw_model.specs.Wire.{is_request}
-use Rattle.bw_take.specs.States.{IsSound, parts_with, samples_in, FollowsTakes}
+use Rattle.bw_request.specs.Requests.{samples_in}
+use Rattle.bw_take.specs.States.{IsSound, parts_with, FollowsTakes}
 
 -- a request is stored only where the take isn't closed
 not_closed : (closed : Bool) (v : Verdict) → (if closed then Closed else v) ≡ Stored → v ≡ Stored

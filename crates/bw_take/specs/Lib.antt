@@ -1,5 +1,4 @@
+pub use Rattle.bw_request.specs.Requests
+pub use Rattle.bw_request.specs.Verdicts
 pub mod Kept
-pub mod Owned
-pub mod Requests
 pub mod States
-pub mod Verdicts

@@ -21,11 +21,6 @@ pub record IsSound (p : Parts) : Type 0 where
   pub markers : length p.markers ≤ most_markers
   pub unopened : p.format ≡ None → p ≡ parts (new_take p.taken)
 
--- how many bytes of data a request adds
-abbrev pub samples_in : Request → ℕ
-samples_in (Block bytes) = length bytes
-samples_in _ = 0
-
 -- the parts with what the request says
 abbrev pub parts_with : Parts → Request → Parts
 parts_with p (Open f history) = record p { format = Some f; history = history }

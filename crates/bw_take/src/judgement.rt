@@ -4,13 +4,12 @@ ghost use Rattle.std.specs.List.{list_all, list_any};
 ghost use Rattle.bw_model.specs.Take.{judge as verdict_on, judge_open as judged};
 ghost use Rattle.bw_model.specs.Take.{is_history_byte as is_byte_of_history};
 ghost use Rattle.bw_model.specs.Take.{block_align as block_align_of, field_fault, Format, Mark};
-ghost use Rattle.bw_take.specs.Requests.{meaning};
-ghost use Rattle.bw_take.specs.Verdicts.{verdict_meaning};
+ghost use Rattle.bw_request.specs.Requests.{meaning};
+ghost use Rattle.bw_request.specs.Verdicts.{verdict_meaning};
 
-use crate::request::RequestRef;
 use crate::state::TakeState;
-use crate::verdict::Verdict;
 use bw_layout::{CuePoint, Fmt};
+use bw_request::{RequestRef, Verdict};
 
 /// A take has at most so many markers.
 const MARKERS_MAX: usize = 1024;

@@ -1,14 +1,12 @@
-//! Takes: names, requests, verdicts, and what is kept of a take in memory.
+//! Takes: what is kept of a take in memory, and the judgement of a request on it.
 #![tactic(auto)]
 
 mod judgement;
-mod name;
-mod request;
 mod state;
-mod verdict;
 
+pub use bw_request::{
+    LONGEST_BLOCK, LONGEST_HISTORY, LONGEST_VALUE, Name, Request, RequestRef, UnknownVerdict,
+    Verdict,
+};
 pub use judgement::judge;
-pub use name::Name;
-pub use request::{LONGEST_BLOCK, LONGEST_HISTORY, LONGEST_VALUE, Request, RequestRef};
 pub use state::TakeState;
-pub use verdict::{UnknownVerdict, Verdict};

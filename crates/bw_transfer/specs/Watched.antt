@@ -2,7 +2,7 @@
 use Rattle.std.specs.Prelude.{ℕ, List, ◌++◌, take, sum_by, codes, decimal}
 use Rattle.bw_model.specs.Take.{Request}
 use Rattle.bw_model.specs.World.{Sender, settled, stored}
-use Rattle.bw_take.specs.States.{samples_in}
+use Rattle.bw_request.specs.Requests.{samples_in}
 use Rattle.bw_commands.specs.Text.{as_line}
 use Rattle.bw_transfer.specs.Tallies.{up_to_last}
 

@@ -6,8 +6,8 @@ ghost use Rattle.bw_stream.specs.Moves.{failures_after};
 
 use crate::dial::Dial;
 use crate::peers::Peers;
-use bw_file::TakeStore;
 use bw_layout::Limit;
+use bw_store::TakeStore;
 use std::io;
 use std::net::SocketAddr;
 

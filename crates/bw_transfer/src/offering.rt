@@ -7,8 +7,8 @@ ghost use Rattle.bw_transfer.specs.SendState.{Sending, IsSending, is_last_offer,
 ghost use Rattle.bw_transfer.specs.SendState.{offer_next as offered_next};
 
 use crate::dispatch::Dispatch;
+use bw_request::Request;
 use bw_sender::OfferError;
-use bw_take::Request;
 use std::alloc::{AllocError, Global};
 
 /// Offers copies of the requests that weren't offered yet, up to the first that is refused.

@@ -11,8 +11,8 @@ ghost use Rattle.bw_transfer.specs.RequestLines.{SayRequests};
 
 use bw_commands::{Fault, all_bytes, first_line};
 use bw_rehearsal::request_from_hex;
+use bw_request::Request;
 use bw_stream::Source;
-use bw_take::Request;
 use std::alloc::Global;
 
 /// The requests that the lines of the input say, each in hex.

@@ -13,8 +13,8 @@ use crate::dispatch::Dispatch;
 use crate::offering::offer_more_of;
 use crate::watch::{Progress, Watch};
 use bw_engine::{SendFault, send_exchange};
+use bw_request::Request;
 use bw_sender::Sender;
-use bw_take::Request;
 use std::alloc::{AllocError, Global};
 
 /// Offers requests and makes exchanges, one a round and at most so many, until all that was offered

@@ -18,9 +18,9 @@ use crate::text::text_of_sender;
 use crate::watch::{NoWatch, Watch};
 use bw_commands::print::{give_up, print, tell};
 use bw_commands::{Exit, Fault};
+use bw_request::{Name, Request};
 use bw_sender::Sender;
 use bw_stream::{Sink, Source};
-use bw_take::{Name, Request};
 use std::alloc::{AllocError, Global};
 
 /// What is told of a sender that isn't done.

@@ -8,7 +8,7 @@ ghost use Rattle.bw_transfer.specs.Tallies.{none_counted, with_frame};
 
 use arrayvec::ArrayVec;
 use bw_engine::Turns;
-use bw_take::Name;
+use bw_request::Name;
 use bw_wire::{Ask, Message, Reply};
 use std::marker::Model;
 use std::mem;

@@ -1,14 +1,14 @@
 //! The text of what a sender came to.
 ghost use Rattle.std.specs.Prelude.{◌≡◌, ◌++◌, flat_map, map, IfOk, OnOk};
 ghost use Rattle.bw_model.specs.World.{Sender as Defined};
-ghost use Rattle.bw_take.specs.Verdicts.{verdict_meaning};
+ghost use Rattle.bw_request.specs.Verdicts.{verdict_meaning};
 ghost use Rattle.bw_sender.specs.Refused.{refusal_of};
 ghost use Rattle.bw_sender.specs.Senders.{IsSender};
 ghost use Rattle.bw_transfer.specs.SenderText.{counts_lines, name_of_verdict, refused_line};
 ghost use Rattle.bw_transfer.specs.SenderText.{sender_text};
 
+use bw_request::Verdict;
 use bw_sender::Sender;
-use bw_take::Verdict;
 use std::alloc::{AllocError, Global};
 
 /// How many numbers are settled and stored, and each refused number with its verdict.

@@ -2,7 +2,7 @@
 ghost use Rattle.std.specs.Prelude.{◌≡◌, ◌≤◌, ◌+◌, ◌++◌, decimal, length};
 ghost use Rattle.bw_model.specs.World.{Sender as Defined, settled as settled_of};
 ghost use Rattle.bw_model.specs.World.{stored as stored_of};
-ghost use Rattle.bw_take.specs.States.{samples_in};
+ghost use Rattle.bw_request.specs.Requests.{samples_in};
 ghost use Rattle.bw_sender.specs.Senders.{IsSender};
 ghost use Rattle.bw_commands.specs.Printing.{IsOf, IsPrint, Print};
 ghost use Rattle.bw_transfer.specs.Watched.{bytes_in, counts_line, progress_line};
@@ -10,9 +10,9 @@ ghost use Rattle.bw_transfer.specs.Watched.{settled_bytes};
 
 use arrayvec::ArrayString;
 use bw_commands::print::tell;
+use bw_request::{Request, RequestRef};
 use bw_sender::Sender;
 use bw_stream::Sink;
-use bw_take::{Request, RequestRef};
 use itoa::Buffer;
 
 /// Whoever watches a sender. What it does with what it hears, no clause says: it changes nothing of

@@ -4,7 +4,7 @@ ghost use Rattle.bw_wire.specs.Bodies.{is_message_body, is_ask_body};
 
 use crate::address::{behind_kind, name, number, payload};
 use crate::payload::request_of;
-use bw_take::{Name, RequestRef};
+use bw_request::{Name, RequestRef};
 
 /// A message: a name, a number, and a request on the take of that name. It borrows its body.
 #[derive(Clone, Copy, Debug)]
@@ -16,7 +16,7 @@ pub struct Message<'a> {
 impl<'a> Message<'a> {
     ghost use Rattle.bw_model.specs.Wire.{Second, last_number, Says, Spells, is_request};
     ghost use Rattle.bw_model.specs.Stream.{longest_body};
-    ghost use Rattle.bw_take.specs.Requests.{meaning};
+    ghost use Rattle.bw_request.specs.Requests.{meaning};
     ghost use Rattle.bw_wire.specs.Frames.{message_of};
 
     /// The name of the take.

@@ -9,8 +9,8 @@ ghost use Rattle.bw_wire.specs.Replies.{reply_read};
 use crate::address::{LAST_NUMBER, has_name, has_number, name, number, payload};
 use crate::reason::Reason;
 use crate::reply::{Notice, Reply};
-use bw_layout::{read_u32, read_u64};
-use bw_take::Verdict;
+use bw_bytes::{read_u32, read_u64};
+use bw_request::Verdict;
 
 pub(crate) const VERDICT: u8 = 0x81;
 

@@ -1,6 +1,6 @@
 use Rattle.std.proofs.Common.{◌≡◌, ◌++◌, drop}
-use Rattle.bw_file.specs.Memory.{content_under}
-use Rattle.bw_file.specs.MemoryNames.{names_of}
+use Rattle.bw_store.specs.Memory.{content_under}
+use Rattle.bw_store.specs.MemoryNames.{names_of}
 use Rattle.bw_commands.specs.Text.{files_text}
 use Rattle.bw_commands.proofs.text.put_files.Given as goal
 

@@ -1,8 +1,8 @@
 use Rattle.std.proofs.Common.{◌≡◌, ◌≤◌, ◌<◌, length, refl, arith}
 use Rattle.bw_model.specs.File.{form_size}
 use Rattle.bw_file.proofs.WrittenSizes.{form_cues, both_above, riff_form, bw64_form}
-use Rattle.bw_file.proofs.Tears.{written_tears, tears_wider}
-use Rattle.bw_file.proofs.Asked.{first_as, gets_all, gets_one}
+use Rattle.bw_store.proofs.Tears.{written_tears, tears_wider}
+use Rattle.bw_store.proofs.Asked.{first_as, gets_all, gets_one}
 use Rattle.bw_layout.proofs.Exits.{on_err}
 use Rattle.bw_file.proofs.PlanForms.{form_of, is_within, is_above}
 use Rattle.bw_file.proofs.writes.put_closed_size.Goals as goal

@@ -1,7 +1,7 @@
 use Rattle.std.proofs.Common.{◌∙◌, ap, length, List, ℕ, ◌<◌, arith}
 use Rattle.bw_layout.proofs.CueChunkBytes.{length-cue_chunk}
-use Rattle.bw_file.proofs.Tears.{written_tears}
-use Rattle.bw_file.proofs.Asked.{first_as, gets_all, gets_as, gets_one}
+use Rattle.bw_store.proofs.Tears.{written_tears}
+use Rattle.bw_store.proofs.Asked.{first_as, gets_all, gets_as, gets_one}
 use Rattle.bw_layout.proofs.Exits.{on_err}
 use Rattle.bw_file.proofs.PlanForms.{some_cues}
 use Rattle.bw_file.proofs.writes.put_cues.Goals as goal

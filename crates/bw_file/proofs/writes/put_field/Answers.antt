@@ -1,11 +1,11 @@
 use Rattle.std.proofs.Common.{◌∙◌, ◌++◌, ◌+◌, sym, ap, length, List, ℕ, Some, arith, length-append}
 use Rattle.std.specs.Prelude.{slice_range}
 use Rattle.bw_file.specs.OneField.{DiffersInField}
-use Rattle.bw_file.proofs.Asked.{gets_none, gets_one, gets_all, gets_as, first_as}
+use Rattle.bw_store.proofs.Asked.{gets_none, gets_one, gets_all, gets_as, first_as}
 use Rattle.bw_file.proofs.Parts.{length-range_at}
 use Rattle.bw_layout.proofs.Exits.{on_err}
 use Rattle.bw_file.proofs.Ranges.{alike_at, set_same, set_other}
-use Rattle.bw_file.proofs.Tears.{written_tears, tears_wider}
+use Rattle.bw_store.proofs.Tears.{written_tears, tears_wider}
 use Rattle.bw_file.proofs.Retouches.{two_headers, length-heading, part_put}
 use Rattle.bw_file.proofs.writes.put_field.Goals as goal
 

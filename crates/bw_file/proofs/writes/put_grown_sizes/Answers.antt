@@ -1,8 +1,8 @@
 use Rattle.std.proofs.Common.{◌≡◌, ◌≤◌, ◌<◌, length, ◌∙◌, refl, arith}
 use Rattle.bw_model.specs.File.{form_size}
 use Rattle.bw_file.proofs.WrittenSizes.{form_grows, both_above, riff_sizes, bw64_sizes}
-use Rattle.bw_file.proofs.Tears.{written_tears, tears_wider, tears_twice}
-use Rattle.bw_file.proofs.Asked.{first_as, gets_all, gets_as, gets_before, gets_one, gets_then}
+use Rattle.bw_store.proofs.Tears.{written_tears, tears_wider, tears_twice}
+use Rattle.bw_store.proofs.Asked.{first_as, gets_all, gets_as, gets_before, gets_one, gets_then}
 use Rattle.bw_layout.proofs.Exits.{on_err}
 use Rattle.bw_file.proofs.PlanForms.{sizes_of, is_within, is_above}
 use Rattle.bw_file.proofs.writes.put_grown_sizes.Goals as goal

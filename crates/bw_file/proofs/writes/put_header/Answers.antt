@@ -1,5 +1,5 @@
 use Rattle.std.proofs.Common.{◌∙◌, ap, length, List, ℕ, arith}
-use Rattle.bw_file.proofs.Tears.{written_tears, tears_wider}
+use Rattle.bw_store.proofs.Tears.{written_tears, tears_wider}
 use Rattle.bw_file.proofs.writes.put_header.Goals as goal
 
 pub returns-in_err-write_at-clause-torn : goal.returns-in_err-write_at-clause-torn

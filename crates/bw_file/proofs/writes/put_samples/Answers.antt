@@ -1,7 +1,7 @@
 use Rattle.std.proofs.lemmas.Grind.{common_steps}
 use Rattle.std.proofs.Common.{◌∙◌, ◌∷◌, [], arith}
-use Rattle.bw_file.proofs.Tears.{written_tears, tears_wider, tears_twice}
-use Rattle.bw_file.proofs.Asked.{first_as, gets_all, gets_as, gets_before, gets_one, gets_then}
+use Rattle.bw_store.proofs.Tears.{written_tears, tears_wider, tears_twice}
+use Rattle.bw_store.proofs.Asked.{first_as, gets_all, gets_as, gets_before, gets_one, gets_then}
 use Rattle.bw_layout.proofs.Exits.{on_err}
 use Rattle.bw_file.proofs.PlanForms.{padded}
 use Rattle.bw_file.proofs.writes.put_samples.Goals as goal

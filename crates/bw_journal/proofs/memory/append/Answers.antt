@@ -1,5 +1,5 @@
 use Rattle.std.proofs.Common.{rules}
-use Rattle.bw_file.proofs.Names.{updates_others}
+use Rattle.bw_store.proofs.Names.{updates_others}
 use Rattle.bw_journal.proofs.memory.append.Goals as goal
 
 pub returns-in-Some-clause-others : goal.returns-in-Some-clause-others

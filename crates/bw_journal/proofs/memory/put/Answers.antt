@@ -1,4 +1,4 @@
-use Rattle.bw_file.proofs.Names.{updates_others}
+use Rattle.bw_store.proofs.Names.{updates_others}
 use Rattle.bw_journal.proofs.memory.put.Goals as goal
 
 pub returns-in-Ok-clause-others : goal.returns-in-Ok-clause-others

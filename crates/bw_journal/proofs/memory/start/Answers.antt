@@ -1,6 +1,6 @@
 use Rattle.std.proofs.Common.{rules, ◌≡◌, Some, arith}
 use Rattle.std.proofs.lemmas.Grind.{common_steps}
-use Rattle.bw_file.specs.Memory.{content_under as content_of}
+use Rattle.bw_store.specs.Memory.{content_under as content_of}
 use Rattle.bw_journal.specs.Notes.{IsShortOf, Starts}
 use Rattle.bw_journal.proofs.Starts.{starts_short}
 use Rattle.bw_journal.proofs.memory.start.Goals as goal

@@ -3,7 +3,7 @@ use Rattle.std.proofs.lemmas.List.{take_all}
 use Rattle.bw_model.specs.Exchange.{content_in}
 use Rattle.bw_model.proofs.HeldFiles.{held_files}
 use Rattle.bw_session.specs.Servers.{kept_in}
-use Rattle.bw_file.specs.Memory.{content_under}
+use Rattle.bw_store.specs.Memory.{content_under}
 use Rattle.bw_rehearsal.specs.Rehearsing.{LeadsTo, no_contents}
 use Rattle.bw_rehearsal.specs.Staged.{failures_on}
 use Rattle.bw_rehearsal.specs.declared.event.Event.{Event}

@@ -1,7 +1,7 @@
 use Rattle.std.proofs.Common.{◌≡◌, true, Ok, Err, refl, sym, ◌∙◌, ap}
 use Rattle.std.proofs.lemmas.Result.{err_from_is_err_and}
 use Rattle.bw_model.specs.Take.{Parts, Request}
-use Rattle.bw_take.specs.Requests.{meaning}
+use Rattle.bw_request.specs.Requests.{meaning}
 use Rattle.bw_file.specs.Growing.{Growing}
 use Rattle.bw_session.proofs.CarryForms.{carries_refused, carries_new, carries_exists, carries_err}
 use Rattle.bw_session.proofs.FrontForms.{carries_front}

@@ -2,8 +2,8 @@ use Rattle.std.proofs.Common.{rules, ◌≡◌, ℕ, ◌+◌, List, length, refl
 use Rattle.std.specs.Prelude.{is_some}
 use Rattle.std.proofs.lemmas.List.{length_push}
 use Rattle.bw_model.specs.Take.{Request, Verdict}
-use Rattle.bw_take.specs.Requests.{meaning}
-use Rattle.bw_take.specs.Verdicts.{verdict_meaning}
+use Rattle.bw_request.specs.Requests.{meaning}
+use Rattle.bw_request.specs.Verdicts.{verdict_meaning}
 use Rattle.bw_file.specs.Growing.{Growing}
 use Rattle.bw_wire.specs.Frames.{message_of}
 use Rattle.bw_session.proofs.DrainForms.{count_front, fits_done, held_front, part_waits, part_done}

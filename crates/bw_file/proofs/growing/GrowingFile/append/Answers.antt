@@ -5,7 +5,7 @@ use Rattle.bw_file.specs.contracts.growing.GrowingFile.{the_view}
 use Rattle.bw_file.proofs.Judged.{open_for_block, is_some_open, some_in_block}
 use Rattle.bw_file.proofs.TakeHeadings.{is_heading}
 use Rattle.bw_file.proofs.Appends.{samples_fail, header_fails, appended}
-use Rattle.bw_file.proofs.Asked.{first_as, gets_as, gets_before, gets_then, gets_then_first}
+use Rattle.bw_store.proofs.Asked.{first_as, gets_as, gets_before, gets_then, gets_then_first}
 use Rattle.bw_layout.proofs.Exits.{on_err}
 use Rattle.bw_file.proofs.PlanForms.{append_as}
 use Rattle.bw_file.proofs.growing.GrowingFile.append.Goals as goal

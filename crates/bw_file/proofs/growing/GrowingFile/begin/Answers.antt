@@ -3,7 +3,7 @@ use Rattle.std.proofs.lemmas.Result.{err_from_is_err_and}
 use Rattle.bw_model.specs.Take.{Parts, AreFields}
 use Rattle.bw_file.proofs.Judged.{unopened_for_open}
 use Rattle.bw_file.proofs.Begins.{fresh_begun, begun_torn, begun_whole, begun_between}
-use Rattle.bw_file.proofs.Asked.{gets_before, gets_then, gets_then_first}
+use Rattle.bw_store.proofs.Asked.{gets_before, gets_then, gets_then_first}
 use Rattle.bw_layout.proofs.Exits.{on_err}
 use Rattle.bw_file.proofs.growing.GrowingFile.begin.Goals as goal
 

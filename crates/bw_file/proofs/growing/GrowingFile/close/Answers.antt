@@ -6,7 +6,7 @@ use Rattle.bw_file.proofs.Judged.{open_for_close, is_some_open}
 use Rattle.bw_file.proofs.TakeHeadings.{is_heading}
 use Rattle.bw_file.proofs.Closes.{cues_fail, header_fails, closed}
 use Rattle.std.proofs.Common.{ℕ, List, length}
-use Rattle.bw_file.proofs.Asked.{first_as, gets_all, gets_as, gets_before, gets_one, gets_then, gets_then_first}
+use Rattle.bw_store.proofs.Asked.{first_as, gets_all, gets_as, gets_before, gets_one, gets_then, gets_then_first}
 use Rattle.bw_layout.proofs.Exits.{on_err}
 use Rattle.bw_file.proofs.PlanForms.{close_as}
 use Rattle.bw_file.proofs.growing.GrowingFile.close.Goals as goal

@@ -1,7 +1,7 @@
 use Rattle.std.proofs.Common.{◌≡◌, ℕ, Bool, List, OnOk, ap, subst, ◌∙◌}
 use Rattle.std.specs.Str.{bytes_eq}
 use Rattle.std.specs.List.{list_any}
-use Rattle.bw_file.specs.Memory.{content_under as content_of}
+use Rattle.bw_store.specs.Memory.{content_under as content_of}
 use Rattle.bw_journal.specs.JournalHeaders.{header_bytes}
 use Rattle.bw_journal.specs.MemoryHeaders.{header_for}
 use Rattle.bw_journal.specs.Notes.{Starts}

@@ -2,15 +2,15 @@ use Rattle.std.proofs.lemmas.Result.{err_from_is_err_and}
 use Rattle.bw_session.proofs.NoteForms.{begun_in_part, begun_notes, carried_noted, carried_in_part}
 use Rattle.std.proofs.Common.{ap, ◌∙◌, ◌≤◌, inr, rules, ◌≡◌, ℕ, List, sym, subst}
 use Rattle.bw_model.specs.Take.{Parts, Request, Verdict, AreFields}
-use Rattle.bw_take.specs.Requests.{meaning}
-use Rattle.bw_take.specs.Verdicts.{verdict_meaning}
+use Rattle.bw_request.specs.Requests.{meaning}
+use Rattle.bw_request.specs.Verdicts.{verdict_meaning}
 use Rattle.bw_session.specs.Fronts.{HoldsFront}
 use Rattle.bw_session.specs.Numbered.{IsNext, IsDone, noted_of}
 use Rattle.bw_journal.specs.Notes.{NotesInPart}
 use Rattle.bw_session.proofs.NumberForms.{done_again, done_next}
-use Rattle.bw_file.proofs.Asked.{gets_all}
+use Rattle.bw_store.proofs.Asked.{gets_all}
 use Rattle.bw_session.specs.Carrying.{judged_plan}
-use Rattle.bw_file.specs.StoreSteps.{WasAskedFirst}
+use Rattle.bw_store.specs.StoreSteps.{WasAskedFirst}
 use Rattle.bw_session.proofs.AskForms.{verdict_by, keeps_judged}
 use Rattle.bw_session.proofs.numbering.Progress.number_done.Goals as goal
 

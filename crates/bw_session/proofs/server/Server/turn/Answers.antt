@@ -10,7 +10,7 @@ use Rattle.bw_model.specs.Turn.{is_full, most_takes, window}
 use Rattle.bw_model.specs.Holds.{Holds}
 use Rattle.bw_model.specs.CountedTurn.{book_told}
 use Rattle.bw_file.specs.Growing.{Growing}
-use Rattle.bw_file.specs.Stores.{KeepsOthers}
+use Rattle.bw_store.specs.Stores.{KeepsOthers}
 use Rattle.bw_wire.specs.Frames.{message_of}
 use Rattle.bw_wire.proofs.BodyLaws.{message_spelled}
 use Rattle.bw_session.specs.Numbered.{KeepsBoth, failed_calls}

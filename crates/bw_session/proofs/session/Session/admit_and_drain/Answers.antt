@@ -1,8 +1,8 @@
 use Rattle.std.proofs.Common.{rules, Result, length, refl, sym, ◌∙◌, ap, subst}
 use Rattle.bw_model.specs.Wire.{Message}
-use Rattle.bw_take.specs.declared.verdict.Verdict.{Verdict}
+use Rattle.bw_request.specs.declared.verdict.Verdict.{Verdict}
 use Rattle.bw_file.specs.Growing.{Growing}
-use Rattle.bw_file.specs.declared.store.StoreFault.{StoreFault}
+use Rattle.bw_store.specs.declared.store.StoreFault.{StoreFault}
 use Rattle.bw_wire.specs.Frames.{message_of}
 use Rattle.bw_session.specs.Admitting.{with_message}
 use Rattle.bw_session.specs.Draining.{DrainsNext, drained_by, drained_log}

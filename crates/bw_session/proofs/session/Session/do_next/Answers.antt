@@ -4,8 +4,8 @@ use Rattle.std.specs.Prelude.{is_some, slice_set}
 use Rattle.std.proofs.lemmas.List.{length_push}
 use Rattle.bw_model.specs.Take.{Verdict}
 use Rattle.bw_model.specs.Wire.{Message, message_body}
-use Rattle.bw_take.specs.Requests.{meaning}
-use Rattle.bw_take.specs.Verdicts.{verdict_meaning}
+use Rattle.bw_request.specs.Requests.{meaning}
+use Rattle.bw_request.specs.Verdicts.{verdict_meaning}
 use Rattle.bw_file.specs.Growing.{Growing}
 use Rattle.bw_wire.specs.Bodies.{message_in}
 use Rattle.bw_wire.specs.Frames.{message_of}
@@ -14,7 +14,7 @@ use Rattle.bw_session.specs.Windows.{count_held}
 use Rattle.bw_session.specs.Ledgers.{Entries}
 use Rattle.bw_session.specs.Carrying.{Touches, judged_plan}
 use Rattle.bw_session.specs.Judging.{judged_by, KeepsJudged}
-use Rattle.bw_file.specs.StoreSteps.{WasAsked, WasAskedFirst}
+use Rattle.bw_store.specs.StoreSteps.{WasAsked, WasAskedFirst}
 use Rattle.bw_session.specs.Noting.{IsNoted}
 use Rattle.bw_session.specs.Admitting.{with_message}
 use Rattle.bw_session.specs.Draining.{HoldsPart}

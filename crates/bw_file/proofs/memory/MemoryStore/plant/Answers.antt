@@ -1,7 +1,0 @@
-use Rattle.bw_file.proofs.Names.{updates_others}
-use Rattle.bw_file.proofs.memory.MemoryStore.plant.Goals as goal
-
-pub returns-in-Ok-clause-others : goal.returns-in-Ok-clause-others
-returns-in-Ok-clause-others c =
-    rw c.copy.ensures at (updates_others c.args.self.now.files c.insert.new.self c.copy.result _
-    c.in-Ok.ensures.updates)

@@ -1,0 +1,5 @@
+pub mod Names
+pub mod Asked
+pub mod Bytes
+pub mod Torn
+pub mod Tears

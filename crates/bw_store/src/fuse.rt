@@ -1,0 +1,275 @@
+//! A store that fails chosen calls.
+ghost use Rattle.std.specs.Prelude.{◌≡◌, ◌<◌, ◌==◌, ◌||◌, ◌∷◌, [], ℕ, List, Option, true, false};
+ghost use Rattle.std.specs.Prelude.{not, IsTrue, IfOk, OnOk, OnErr, is_err, is_ok, length, filter};
+ghost use Rattle.std.specs.Prelude.{if◌then◌else◌};
+ghost use Rattle.bw_store.specs.Stores.{Counts, Creates, Written, MayTear, KeepsOthers, last_count};
+ghost use Rattle.bw_store.specs.Stores.{raised};
+ghost use Rattle.bw_store.specs.Calls.{Create, WriteAt, Finish, Asks};
+ghost use Rattle.bw_store.specs.StoreSteps.{WasAsked};
+ghost use Rattle.bw_store.specs.Fuses.{has_fuse, Blows, passed_on, unless_fused, let_through};
+ghost use Rattle.bw_store.specs.Fuses.{first_half};
+
+use crate::store::{Created, StoreFault, TakeStore};
+use crate::tally::Tally;
+use bw_request::Name;
+
+/// A store behind fuses: the calls of chosen numbers, counted from 0, fail, each once.
+///
+/// A `write_at` that fails so writes the first half of its bytes, rounded down.
+#[derive(Drop)]
+pub struct FuseStore<S: TakeStore> {
+    inner: S,
+    fuses: Vec<u64>,
+    /// A fuse has blown, so that the inner store didn't get all calls.
+    blown: bool,
+    written: u64,
+    tally: Tally,
+}
+
+impl<S: TakeStore> FuseStore<S> {
+    /// A store whose calls of these numbers fail.
+    pub fn new(inner: S, fuses: Vec<u64>) -> FuseStore<S>
+        ensures inner { result.inner ≡ inner }
+        ensures fuses { result.fuses.items ≡ fuses.items }
+        ensures blown { result.blown ≡ false }
+        ensures calls { result.tally.calls ≡ 0 }
+        ensures failures { result.tally.failures ≡ 0 }
+        ensures written { result.written ≡ 0 }
+    {
+        FuseStore {
+            inner,
+            fuses,
+            blown: false,
+            written: 0,
+            tally: Tally::new(),
+        }
+    }
+
+    /// How many calls came, those that failed among them.
+    pub fn calls(&self) -> u64
+        ensures { result ≡ self.now.tally.calls }
+    {
+        self.tally.calls()
+    }
+
+    /// How many bytes were written by the calls of `write_at` that succeeded.
+    pub fn written(&self) -> u64
+        ensures { result ≡ self.now.written }
+    {
+        self.written
+    }
+
+    /// Whether a fuse has blown.
+    pub fn has_blown(&self) -> bool
+        ensures { result ≡ self.now.blown }
+    {
+        self.blown
+    }
+
+    /// The store behind the fuses.
+    pub fn inner(&self) -> &S
+        ensures { result.now ≡ self.now.inner }
+    {
+        &self.inner
+    }
+
+    /// The store behind the fuses, without them.
+    pub fn into_inner(self) -> S
+        ensures { result ≡ self.inner }
+    {
+        let FuseStore {
+            inner,
+            fuses: _,
+            blown: _,
+            written: _,
+            tally: _,
+        } = self;
+        inner
+    }
+}
+
+impl<S: TakeStore> TakeStore for FuseStore<S> {
+    ghost contents = { λ s name. S.contents s.inner name };
+
+    ghost failures = { λ s. s.tally.failures };
+
+    ghost calls = { λ s. s.tally.calls };
+
+    ghost asked = { λ s. passed_on s.blown (S.asked s.inner) };
+
+    ghost honest = { λ s. S.honest s.inner };
+
+    /// Makes the name in the inner store, unless a fuse has the call's number.
+    ///
+    /// # Errors
+    /// `StoreFault` at a fuse, which is spent, without a call of the inner store; else where the
+    /// inner call failed.
+    ///
+    /// # Not specified
+    /// Whether a call without a fuse fails as the inner one does, once the inner store's count of
+    /// failures stands at 2^64 - 1.
+    fn create(&mut self, name: &Name) -> Result<Created, StoreFault>
+        ensures failures { Counts self.old.tally.failures self.new.tally.failures (is_err result) }
+        ensures calls { Counts self.old.tally.calls self.new.tally.calls true }
+        ensures asked { Asks (Create name.now ∷ [])
+            (passed_on self.old.blown (S.asked self.old.inner))
+            (passed_on self.new.blown (S.asked self.new.inner)) }
+        ensures honest { S.honest self.new.inner ≡ S.honest self.old.inner }
+        ensures created { IsTrue (S.honest self.old.inner) → IfOk result (λ c.
+            Creates c (S.contents self.old.inner name.now) (S.contents self.new.inner name.now)) }
+        ensures failed { IsTrue (S.honest self.old.inner) → OnErr result
+            (S.contents self.new.inner name.now ≡ S.contents self.old.inner name.now) }
+        ensures others { IsTrue (S.honest self.old.inner) →
+            KeepsOthers (S.contents self.old.inner) (S.contents self.new.inner) name.now }
+        ensures blows { Blows (has_fuse self.old.fuses.items self.old.tally.calls) (is_err result)
+            (S.failures self.old.inner) (S.failures self.new.inner) }
+        ensures untouched { IsTrue (has_fuse self.old.fuses.items self.old.tally.calls) →
+            self.new.inner ≡ self.old.inner }
+        ensures inner { WasAsked S.TakeStore
+            (unless_fused (has_fuse self.old.fuses.items self.old.tally.calls)
+            (Create name.now ∷ []))
+            self.old.inner self.new.inner }
+        ensures blown { self.new.blown ≡ (self.old.blown
+            || has_fuse self.old.fuses.items self.old.tally.calls) }
+        ensures spent { self.new.fuses.items
+            ≡ filter (λ f. not (f == self.old.tally.calls)) self.old.fuses.items }
+        ensures written { self.new.written ≡ self.old.written }
+    {
+        let answer = if blow(&mut self.fuses, self.tally.calls()) {
+            self.blown = true;
+            Err(StoreFault)
+        } else {
+            self.inner.create(name)
+        };
+        self.tally.count(answer.is_err());
+        answer
+    }
+
+    /// Writes to the inner store, unless a fuse has the call's number: then only the first half of
+    /// the bytes, rounded down.
+    ///
+    /// # Errors
+    /// `StoreFault` at a fuse, which is spent; else where the inner call failed.
+    ///
+    /// # Not specified
+    /// - Whether a call without a fuse fails as the inner one does, once the inner store's count of
+    ///   failures stands at 2^64 - 1.
+    /// - At a fuse, whether the inner store took the half: only its count of failures shows it.
+    fn write_at(&mut self, name: &Name, offset: u64, bytes: &[u8]) -> Result<(), StoreFault>
+        ensures failures { Counts self.old.tally.failures self.new.tally.failures (is_err result) }
+        ensures calls { Counts self.old.tally.calls self.new.tally.calls true }
+        ensures asked { Asks (WriteAt name.now offset (length bytes.now) ∷ [])
+            (passed_on self.old.blown (S.asked self.old.inner))
+            (passed_on self.new.blown (S.asked self.new.inner)) }
+        ensures honest { S.honest self.new.inner ≡ S.honest self.old.inner }
+        ensures all { IsTrue (S.honest self.old.inner) → OnOk result (Written
+            (S.contents self.old.inner name.now) offset bytes.now
+            (S.contents self.new.inner name.now)) }
+        ensures failed { IsTrue (S.honest self.old.inner) → OnErr result (MayTear
+            (S.contents self.old.inner name.now) offset (length bytes.now)
+            (S.contents self.new.inner name.now)) }
+        ensures others { IsTrue (S.honest self.old.inner) →
+            KeepsOthers (S.contents self.old.inner) (S.contents self.new.inner) name.now }
+        ensures blows { Blows (has_fuse self.old.fuses.items self.old.tally.calls) (is_err result)
+            (S.failures self.old.inner) (S.failures self.new.inner) }
+        ensures half { IsTrue (has_fuse self.old.fuses.items self.old.tally.calls) →
+            IsTrue (S.honest self.old.inner) →
+            S.failures self.old.inner < last_count →
+            S.failures self.new.inner ≡ S.failures self.old.inner →
+            Written (S.contents self.old.inner name.now) offset (first_half bytes.now)
+            (S.contents self.new.inner name.now) }
+        ensures inner { WasAsked S.TakeStore
+            (WriteAt name.now offset (length (let_through
+            (has_fuse self.old.fuses.items self.old.tally.calls) bytes.now)) ∷ [])
+            self.old.inner self.new.inner }
+        ensures blown { self.new.blown ≡ (self.old.blown
+            || has_fuse self.old.fuses.items self.old.tally.calls) }
+        ensures spent { self.new.fuses.items
+            ≡ filter (λ f. not (f == self.old.tally.calls)) self.old.fuses.items }
+        ensures written { self.new.written ≡ (if is_ok result
+            then raised self.old.written (length bytes.now)
+            else self.old.written) }
+    {
+        let answer = if blow(&mut self.fuses, self.tally.calls()) {
+            self.blown = true;
+            write_half(&mut self.inner, name, offset, bytes);
+            Err(StoreFault)
+        } else {
+            self.inner.write_at(name, offset, bytes)
+        };
+        if answer.is_ok() {
+            self.written = self.written.saturating_add(bytes.len() as u64);
+        }
+        self.tally.count(answer.is_err());
+        answer
+    }
+
+    /// Finishes the name in the inner store, unless a fuse has the call's number.
+    ///
+    /// # Errors
+    /// `StoreFault` at a fuse, which is spent, without a call of the inner store; else where the
+    /// inner call failed.
+    ///
+    /// # Not specified
+    /// Whether a call without a fuse fails as the inner one does, once the inner store's count of
+    /// failures stands at 2^64 - 1.
+    fn finish(&mut self, name: &Name) -> Result<(), StoreFault>
+        ensures failures { Counts self.old.tally.failures self.new.tally.failures (is_err result) }
+        ensures calls { Counts self.old.tally.calls self.new.tally.calls true }
+        ensures asked { Asks (Finish name.now ∷ [])
+            (passed_on self.old.blown (S.asked self.old.inner))
+            (passed_on self.new.blown (S.asked self.new.inner)) }
+        ensures honest { S.honest self.new.inner ≡ S.honest self.old.inner }
+        ensures unchanged { IsTrue (S.honest self.old.inner) → (other : List ℕ) →
+            S.contents self.new.inner other ≡ S.contents self.old.inner other }
+        ensures blows { Blows (has_fuse self.old.fuses.items self.old.tally.calls) (is_err result)
+            (S.failures self.old.inner) (S.failures self.new.inner) }
+        ensures untouched { IsTrue (has_fuse self.old.fuses.items self.old.tally.calls) →
+            self.new.inner ≡ self.old.inner }
+        ensures inner { WasAsked S.TakeStore
+            (unless_fused (has_fuse self.old.fuses.items self.old.tally.calls)
+            (Finish name.now ∷ []))
+            self.old.inner self.new.inner }
+        ensures blown { self.new.blown ≡ (self.old.blown
+            || has_fuse self.old.fuses.items self.old.tally.calls) }
+        ensures spent { self.new.fuses.items
+            ≡ filter (λ f. not (f == self.old.tally.calls)) self.old.fuses.items }
+        ensures written { self.new.written ≡ self.old.written }
+    {
+        let answer = if blow(&mut self.fuses, self.tally.calls()) {
+            self.blown = true;
+            Err(StoreFault)
+        } else {
+            self.inner.finish(name)
+        };
+        self.tally.count(answer.is_err());
+        answer
+    }
+}
+
+/// Whether the call of this number is to fail. Its fuse is spent then.
+pub fn blow(fuses: &mut Vec<u64>, call: u64) -> bool
+    ensures told { result ≡ has_fuse fuses.old.items call }
+    ensures spent { fuses.new.items ≡ filter (λ f. not (f == call)) fuses.old.items }
+{
+    let has = fuses.contains(&call);
+    fuses.retain(|fuse| *fuse != call);
+    has
+}
+
+/// Writes the first half of the bytes, whether or not the store takes it.
+fn write_half<S: TakeStore>(store: &mut S, name: &Name, offset: u64, bytes: &[u8])
+    ensures asked { WasAsked S.TakeStore
+        (WriteAt name.now offset (length (first_half bytes.now)) ∷ []) store.old store.new }
+    ensures honest { S.honest store.new ≡ S.honest store.old }
+    ensures torn { IsTrue (S.honest store.old) → MayTear
+        (S.contents store.old name.now) offset (length bytes.now) (S.contents store.new name.now) }
+    ensures half { IsTrue (S.honest store.old) → S.failures store.old < last_count →
+        S.failures store.new ≡ S.failures store.old →
+        Written (S.contents store.old name.now) offset (first_half bytes.now)
+        (S.contents store.new name.now) }
+    ensures others { IsTrue (S.honest store.old) →
+        KeepsOthers (S.contents store.old) (S.contents store.new) name.now }
+{
+    let _ = store.write_at(name, offset, &bytes[..bytes.len() / 2]);
+}

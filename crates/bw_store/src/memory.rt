@@ -1,0 +1,248 @@
+//! A store in memory.
+ghost use Rattle.std.specs.Prelude.{◌≡◌, ◌≤◌, ◌<◌, ◌+◌, ◌^◌, ◌↔◌, ℕ, List, Some, None, IsSome};
+ghost use Rattle.std.specs.Prelude.{IfSome, IsTrue, IsOk, IfOk, OnOk, OnErr, is_err, length};
+ghost use Rattle.std.specs.Prelude.{slice_get, true};
+ghost use Rattle.std.specs.Option.{option_copied};
+ghost use Rattle.bw_store.specs.Stores.{Counts, Creates, Written, MayTear, KeepsOthers, overwritten};
+ghost use Rattle.bw_store.specs.Memory.{content_under};
+
+use crate::store::{Created, StoreFault, TakeStore};
+use crate::tally::Tally;
+use bw_request::Name;
+use std::alloc::{AllocError, Global};
+use std::collections::BTreeMap;
+
+/// Takes in memory. A call fails where memory is refused, and for a name that was never made.
+#[derive(Drop)]
+pub struct MemoryStore {
+    alloc: Global,
+    files: BTreeMap<Name, Vec<u8>>,
+    tally: Tally,
+}
+
+impl MemoryStore {
+    ghost use Rattle.bw_store.specs.MemoryNames.{names_of, AreNames};
+
+    /// An empty store.
+    pub fn new(alloc: Global) -> MemoryStore
+        ensures honest { IsTrue (⟦<MemoryStore as TakeStore>⟧.honest result) }
+        ensures empty { (name : List ℕ) → ⟦<MemoryStore as TakeStore>⟧.contents result name ≡ None }
+        ensures failures { ⟦<MemoryStore as TakeStore>⟧.failures result ≡ 0 }
+        ensures calls { ⟦<MemoryStore as TakeStore>⟧.calls result ≡ 0 }
+    {
+        MemoryStore {
+            alloc,
+            files: BTreeMap::new(alloc),
+            tally: Tally::new(),
+        }
+    }
+
+    /// Puts a name with contents, in place of what stood there. That is no call of the store.
+    ///
+    /// # Errors
+    /// `AllocError` where memory was refused: nothing changed then.
+    ///
+    /// # Not specified
+    /// When memory is refused.
+    pub fn plant(&mut self, name: &Name, bytes: &[u8]) -> Result<(), AllocError>
+        ensures ok { OnOk result (content_under self.new.files name.now ≡ Some bytes.now) }
+        ensures err { OnErr result
+            (content_under self.new.files name.now ≡ content_under self.old.files name.now) }
+        ensures others { KeepsOthers
+            (content_under self.old.files) (content_under self.new.files) name.now }
+        ensures tally { self.new.tally ≡ self.old.tally }
+    {
+        let content = bytes.to_vec(self.alloc)?;
+        match self.files.insert(name.copy(), content) {
+            Ok(_) => Ok(()),
+            Err(_) => Err(AllocError),
+        }
+    }
+
+    /// What stands under a name; None where it doesn't stand.
+    pub fn content(&self, name: &Name) -> Option<&[u8]>
+        ensures { option_copied result ≡ ⟦<MemoryStore as TakeStore>⟧.contents self.now name.now }
+    {
+        match self.files.get(name) {
+            Some(content) => Some(content.as_slice()),
+            None => None,
+        }
+    }
+
+    /// How many names stand.
+    pub fn name_count(&self) -> usize
+        ensures count { result ≡ length (names_of self.now) }
+        ensures names { AreNames (names_of self.now) (content_under self.now.files) }
+    {
+        self.files.keys().len()
+    }
+
+    /// The names that stand, by place from 0 on, in the order of their bytes; None after the last.
+    pub fn name_at(&self, place: usize) -> Option<&Name>
+        ensures name { option_copied result ≡ slice_get (names_of self.now) place }
+        ensures names { AreNames (names_of self.now) (content_under self.now.files) }
+    {
+        self.files.keys().nth(place)
+    }
+}
+
+impl TakeStore for MemoryStore {
+    ghost contents = { λ s name. content_under s.files name };
+
+    ghost failures = { λ s. s.tally.failures };
+
+    ghost calls = { λ s. s.tally.calls };
+
+    ghost honest = { λ s. true };
+
+    /// Makes the name, unless it stands.
+    ///
+    /// # Errors
+    /// `StoreFault` where memory was refused, never where the name stands: contents are as they
+    /// were.
+    ///
+    /// # Not specified
+    /// When memory is refused.
+    fn create(&mut self, name: &Name) -> Result<Created, StoreFault>
+        ensures failures { Counts self.old.tally.failures self.new.tally.failures (is_err result) }
+        ensures calls { Counts self.old.tally.calls self.new.tally.calls true }
+        ensures created { IfOk result (λ c.
+            Creates c (content_under self.old.files name.now)
+            (content_under self.new.files name.now)) }
+        ensures failed { OnErr result
+            (content_under self.new.files name.now ≡ content_under self.old.files name.now) }
+        ensures others { KeepsOthers
+            (content_under self.old.files) (content_under self.new.files) name.now }
+        ensures stands { IsSome (content_under self.old.files name.now) → IsOk result }
+    {
+        let answer = make(&mut self.files, self.alloc, name);
+        self.tally.count(answer.is_err());
+        answer
+    }
+
+    /// Puts the bytes into the contents of a name that stands.
+    ///
+    /// # Errors
+    /// `StoreFault` where the name doesn't stand, or memory was refused, never where the bytes go
+    /// over what stands: contents are as they were, not torn.
+    ///
+    /// # Not specified
+    /// When memory is refused.
+    fn write_at(&mut self, name: &Name, offset: u64, bytes: &[u8]) -> Result<(), StoreFault>
+        ensures failures { Counts self.old.tally.failures self.new.tally.failures (is_err result) }
+        ensures calls { Counts self.old.tally.calls self.new.tally.calls true }
+        ensures written { OnOk result (Written (content_under self.old.files name.now)
+            offset bytes.now (content_under self.new.files name.now)) }
+        ensures failed { OnErr result
+            (content_under self.new.files name.now ≡ content_under self.old.files name.now) }
+        ensures others { KeepsOthers
+            (content_under self.old.files) (content_under self.new.files) name.now }
+        ensures over { IfSome (content_under self.old.files name.now) (λ old.
+            offset + length bytes.now ≤ length old → IsOk result) }
+    {
+        let answer = write(&mut self.files, name, offset, bytes);
+        self.tally.count(answer.is_err());
+        answer
+    }
+
+    /// Counts the call, and changes no contents.
+    ///
+    /// # Errors
+    /// `StoreFault` where the name doesn't stand.
+    fn finish(&mut self, name: &Name) -> Result<(), StoreFault>
+        ensures failures { Counts self.old.tally.failures self.new.tally.failures (is_err result) }
+        ensures calls { Counts self.old.tally.calls self.new.tally.calls true }
+        ensures unchanged { self.new.files ≡ self.old.files }
+        ensures stands { IsOk result ↔ IsSome (content_under self.old.files name.now) }
+    {
+        let stands = self.files.contains_key(name);
+        self.tally.count(!stands);
+        if stands { Ok(()) } else { Err(StoreFault) }
+    }
+}
+
+/// Puts bytes over what stands from an offset on, and past its end; a gap reads as zeros. The bytes
+/// must end below 2^64.
+///
+/// # Errors
+/// `AllocError` where memory was refused, never where the bytes go over what stands. Nothing changed
+/// then.
+///
+/// # Not specified
+/// When memory is refused.
+#[tactic(auto, using(crate::proofs::Bytes::overwritten_past))]
+pub fn overwrite(content: &mut Vec<u8>, offset: u64, bytes: &[u8]) -> Result<(), AllocError>
+    requires { offset + length bytes.now < 2 ^ 64 }
+    ensures ok { OnOk result (content.new.items ≡ overwritten content.old.items offset bytes.now) }
+    ensures err { OnErr result (content.new.items ≡ content.old.items) }
+    ensures over { offset + length bytes.now ≤ length content.old.items → IsOk result }
+{
+    if bytes.is_empty() {
+        return Ok(());
+    }
+    let start = offset as usize;
+    let end = start + bytes.len();
+    if end <= content.len() {
+        copy_in(content, start, bytes);
+        return Ok(());
+    }
+    content.reserve(end - content.len())?;
+    content.resize(start, 0)?;
+    content.extend_from_slice(bytes)?;
+    Ok(())
+}
+
+/// Makes a file, unless it stands.
+fn make(
+    files: &mut BTreeMap<Name, Vec<u8>>,
+    alloc: Global,
+    name: &Name,
+) -> Result<Created, StoreFault>
+    ensures created { IfOk result
+        (λ c. Creates c (content_under files.old name.now) (content_under files.new name.now)) }
+    ensures failed { OnErr result
+        (content_under files.new name.now ≡ content_under files.old name.now) }
+    ensures others { KeepsOthers (content_under files.old) (content_under files.new) name.now }
+    ensures stands { IsSome (content_under files.old name.now) → IsOk result }
+{
+    if files.contains_key(name) {
+        return Ok(Created::Exists);
+    }
+    match files.insert(name.copy(), Vec::new(alloc)) {
+        Ok(_) => Ok(Created::New),
+        Err(_) => Err(StoreFault),
+    }
+}
+
+/// Writes into a file, if it stands.
+fn write(
+    files: &mut BTreeMap<Name, Vec<u8>>,
+    name: &Name,
+    offset: u64,
+    bytes: &[u8],
+) -> Result<(), StoreFault>
+    ensures written { OnOk result
+        (Written (content_under files.old name.now) offset bytes.now
+        (content_under files.new name.now)) }
+    ensures failed { OnErr result
+        (content_under files.new name.now ≡ content_under files.old name.now) }
+    ensures others { KeepsOthers (content_under files.old) (content_under files.new) name.now }
+    ensures over { IfSome (content_under files.old name.now) (λ old.
+        offset + length bytes.now ≤ length old → IsOk result) }
+{
+    if offset > u64::MAX - bytes.len() as u64 {
+        return Err(StoreFault);
+    }
+    match files.get_mut(name) {
+        Some(content) => overwrite(content, offset, bytes).map_err(|_| StoreFault),
+        None => Err(StoreFault),
+    }
+}
+
+/// Puts bytes over as many that stand there.
+fn copy_in(content: &mut [u8], start: usize, bytes: &[u8])
+    requires { start + length bytes.now ≤ length content.old }
+    ensures { content.new ≡ overwritten content.old start bytes.now }
+{
+    content[start..start + bytes.len()].copy_from_slice(bytes);
+}
