@@ -17,8 +17,8 @@ use Rattle.bw_model.specs.World.{World, Event, Offer, Send, Deliver, Bring, Ask,
 use Rattle.bw_model.specs.World.{bring, pending, happens, world_after}
 use Rattle.bw_model.proofs.BookLemmas.{same_name, log-with_log_same, log-with_log_other}
 use Rattle.bw_rehearsal.specs.Lucks.{IsLuckOf, IsLuckOfDelivery, AreLucksOf}
-use Rattle.bw_engine.specs.Answering.{Answered}
-use Rattle.bw_engine.specs.ServerRuns.{IsRun}
+use Rattle.bw_exchange.specs.Answering.{Answered}
+use Rattle.bw_exchange.specs.TurnRuns.{IsRun}
 
 -- Counts.
 

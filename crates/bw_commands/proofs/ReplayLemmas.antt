@@ -33,14 +33,14 @@ use Rattle.bw_commands.specs.OneFuse.{failures_under, SufficeForAll}
 use Rattle.bw_commands.specs.Replays.{IsRunText}
 use Rattle.bw_commands.specs.Runs.{IsRun, AreExchangesOf, no_contents}
 use Rattle.bw_commands.specs.Text.{exchanges_text, files_text}
-use Rattle.bw_engine.specs.Answering.{Answered, frames_of, replies_of}
-use Rattle.bw_engine.specs.ServerRuns.{IsRun as IsRun', with_good_luck}
+use Rattle.bw_exchange.specs.Answering.{Answered, frames_of, replies_of}
+use Rattle.bw_exchange.specs.TurnRuns.{IsRun as IsRun', with_good_luck}
 use Rattle.bw_engine.specs.Ingesting.{ServedInput, WasServed, IsServedTo, Ingests, LeavesRun, answered_in, end_in}
 use Rattle.bw_engine.specs.Ingesting.{frames_in}
 use Rattle.bw_engine.specs.declared.ingest.Run.{Run}
-use Rattle.bw_engine.specs.declared.serving.ExchangeEnd.{ExchangeEnd}
+use Rattle.bw_exchange.specs.declared.serving.ExchangeEnd.{ExchangeEnd}
 use Rattle.bw_commands.proofs.QuietLemmas.{never_falls, run_rises, quiet_run}
-use Rattle.bw_engine.proofs.GoodRuns.{GoesWell, good_run, in_order_well, turns_are_runs}
+use Rattle.bw_exchange.proofs.GoodRuns.{GoesWell, good_run, in_order_well, turns_are_runs}
 use Rattle.bw_engine.proofs.GoodExchanges.{behind, well_parts, replies_well}
 
 same_head : {X : Type 0} {x y : X} {xs ys : List X} → x ∷ xs ≡ y ∷ ys → x ≡ y

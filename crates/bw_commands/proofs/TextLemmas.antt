@@ -15,14 +15,15 @@ use Rattle.bw_model.specs.Wire.{framed, is_name, is_name_byte}
 use Rattle.bw_model.specs.Replies.{Reply, Judged, Noticed, Refused, is_reply, reply_body}
 use Rattle.bw_model.specs.Exchange.{replies_bytes}
 use Rattle.bw_commands.specs.Runs.{ToldExchange, AllTell}
-use Rattle.bw_commands.specs.Text.{as_line, end_name, name_of_end, reply_line, exchange_line, exchanges_text}
+use Rattle.bw_exchange.specs.EndNames.{end_name, name_of_end}
+use Rattle.bw_commands.specs.Text.{as_line, reply_line, exchange_line, exchanges_text}
 use Rattle.bw_commands.specs.Text.{file_text_if, files_text}
 use Rattle.std.specs.Prelude.{slice_get, get_or, drop}
 use Rattle.std.proofs.lemmas.Option.{slice_get-get_or}
 use Rattle.std.proofs.lemmas.List.{drop_more}
 use Rattle.std.proofs.Math.ListN.{drop_of_length-le}
-use Rattle.bw_engine.specs.declared.serving.ExchangeEnd.{ExchangeEnd}
-use Rattle.bw_engine.specs.declared.serving.ExchangeEnd.TheVariants as ends
+use Rattle.bw_exchange.specs.declared.serving.ExchangeEnd.{ExchangeEnd}
+use Rattle.bw_exchange.specs.declared.serving.ExchangeEnd.TheVariants as ends
 
 and_left : (a b : Bool) → a && b ≡ true → a ≡ true
 and_left true b e = refl

@@ -13,10 +13,10 @@ use Rattle.bw_model.specs.NumberOrder.{AreInOrder, tells_want}
 use Rattle.bw_model.specs.Exchange.{Exchange, exchanges, nothing_stands, replies_bytes, last_reply}
 use Rattle.bw_model.specs.Exchange.{take_in, content_in}
 use Rattle.bw_model.specs.Holds.{Kept, Holds}
-use Rattle.bw_engine.specs.Answering.{Answered, frames_of, replies_of}
+use Rattle.bw_exchange.specs.Answering.{Answered, frames_of, replies_of}
 use Rattle.bw_engine.specs.Ingesting.{end_in, frames_in}
-use Rattle.bw_engine.specs.ServerRuns.{IsRun as IsCountedRun, IsRunOf, with_good_luck}
-use Rattle.bw_engine.specs.declared.serving.ExchangeEnd.{ExchangeEnd}
+use Rattle.bw_exchange.specs.TurnRuns.{IsRun as IsCountedRun, IsRunOf, with_good_luck}
+use Rattle.bw_exchange.specs.declared.serving.ExchangeEnd.{ExchangeEnd}
 
 -- what an exchange tells: its replies and its end
 pub record ToldExchange : Type 0 where

@@ -4,9 +4,8 @@ use Rattle.std.specs.Prelude.{codes, decimal}
 use Rattle.hex.specs.Hex.{encode_lower}
 use Rattle.bw_model.specs.Wire.{framed}
 use Rattle.bw_model.specs.Replies.{Reply, reply_body}
-use Rattle.bw_model.specs.Stream.{End, EndOfInput, SaidBye, BadFrame}
-use Rattle.bw_engine.specs.declared.serving.ExchangeEnd.{ExchangeEnd}
-use Rattle.bw_engine.specs.declared.serving.ExchangeEnd.TheVariants as ends
+use Rattle.bw_model.specs.Stream.{End}
+use Rattle.bw_exchange.specs.EndNames.{end_name}
 use Rattle.bw_commands.specs.Runs.{ToldExchange}
 
 -- a text and the byte that ends its line
@@ -16,22 +15,6 @@ as_line text = text ++ 10 ∷ []
 -- the line of a reply: its frame in hex
 abbrev pub reply_line : Reply → List ℕ
 reply_line r = as_line (codes "reply " ++ encode_lower (framed (reply_body r)))
-
--- the name of an exchange's end
-abbrev pub end_name : End → List ℕ
-end_name EndOfInput = codes "EndOfInput"
-end_name SaidBye = codes "Bye"
-end_name (BadFrame reason place) = codes "BadFrame"
-
--- the name of an end, one that breaks the exchange off too
-abbrev pub name_of_end : ExchangeEnd → List ℕ
-name_of_end ends.Bye = codes "Bye"
-name_of_end ends.EndOfInput = codes "EndOfInput"
-name_of_end (ends.BadFrame fault) = codes "BadFrame"
-name_of_end ends.ReadFault = codes "ReadFault"
-name_of_end ends.WriteFault = codes "WriteFault"
-name_of_end ends.TurnLimit = codes "TurnLimit"
-name_of_end ends.Memory = codes "Memory"
 
 -- the line of the exchange with this number
 abbrev pub exchange_line : ℕ → End → List ℕ

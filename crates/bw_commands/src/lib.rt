@@ -26,5 +26,4 @@ pub use inspection::inspect_run;
 pub use opening::{inspect_file, tell_unopened};
 pub use rehearsal::rehearse_run;
 pub use system::System;
-pub use text::end_name;
 pub use unworded::tell_unworded;

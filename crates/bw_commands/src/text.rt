@@ -9,12 +9,13 @@ ghost use Rattle.bw_model.specs.Exchange.{replies_bytes};
 ghost use Rattle.bw_store.specs.Memory.{content_under};
 ghost use Rattle.bw_store.specs.MemoryNames.{names_of, AreNames};
 ghost use Rattle.bw_commands.specs.Runs.{ToldExchange, AllTell};
-ghost use Rattle.bw_commands.specs.Text.{as_line, reply_line, name_of_end};
+ghost use Rattle.bw_exchange.specs.EndNames.{name_of_end};
+ghost use Rattle.bw_commands.specs.Text.{as_line, reply_line};
 ghost use Rattle.bw_commands.specs.Text.{exchanges_text, file_text, file_text_if, files_text};
 
-use bw_engine::ExchangeEnd;
 use bw_request::Name;
 use bw_store::MemoryStore;
+use bw_exchange::{ExchangeEnd, end_name};
 use std::alloc::{AllocError, Global};
 
 /// The exchanges with their replies, and then the store's files in the order of their names.
@@ -70,22 +71,6 @@ fn put_exchange_line(
     let text = format!(in alloc; "exchange {index} {name}\n")?;
     out.extend_from_slice(text.as_bytes())?;
     Ok(())
-}
-
-/// The name of an exchange's end, at most 10 bytes.
-pub fn end_name(end: ExchangeEnd) -> &'static str
-    ensures value { result.now ≡ name_of_end end }
-    ensures short { length result.now ≤ 10 }
-{
-    match end {
-        ExchangeEnd::Bye => "Bye",
-        ExchangeEnd::EndOfInput => "EndOfInput",
-        ExchangeEnd::BadFrame(_) => "BadFrame",
-        ExchangeEnd::ReadFault => "ReadFault",
-        ExchangeEnd::WriteFault => "WriteFault",
-        ExchangeEnd::TurnLimit => "TurnLimit",
-        ExchangeEnd::Memory => "Memory",
-    }
 }
 
 /// Adds a line for each reply whose frame these bytes have.

@@ -23,7 +23,7 @@ use Rattle.bw_engine.specs.declared.send_fault.SendFault.{SendFault}
 use Rattle.bw_engine.specs.declared.send_fault.SendFault.TheVariants as faults
 use Rattle.bw_engine.specs.Batches.{messages, pending_messages, batch_bytes, WritesMessages, WritesBatch}
 use Rattle.bw_engine.specs.Batches.{LacksMemoryToSend, BreaksBytes, BreaksFrame}
-use Rattle.bw_engine.proofs.Reading.{writes-none, writes-on}
+use Rattle.bw_exchange.proofs.Reading.{writes-none, writes-on}
 
 -- ---- beginnings
 

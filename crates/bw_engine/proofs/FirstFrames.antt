@@ -10,7 +10,7 @@ use Rattle.bw_model.specs.Wire.{Second, Frame, body, framed, is_below, are_bytes
 use Rattle.bw_model.specs.Stream.{End, end_at, is_turn, frames_bytes, stream_from, stream_of}
 use Rattle.bw_model.proofs.ByteNumbers.{are_bytes-tail}
 use Rattle.bw_model.proofs.StreamLaws.{StreamAt, given, found}
-use Rattle.bw_engine.specs.Done.{AreFirstOf}
+use Rattle.bw_exchange.specs.Done.{AreFirstOf}
 
 -- a stream, and then that of the bytes that no frame of it has, with more behind them
 two_streams : (bytes more rest : List ℕ) (fs gs : List Frame) (end : End) → list_all (is_turn Second) fs ≡ true →

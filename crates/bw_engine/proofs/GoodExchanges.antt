@@ -14,11 +14,11 @@ use Rattle.bw_model.specs.Book.{Book}
 use Rattle.bw_model.specs.Turn.{Turn, good, turn, run, book_after}
 use Rattle.bw_model.specs.NumberOrder.{tells_want}
 use Rattle.bw_model.specs.Exchange.{replies_bytes, last_reply, exchange, exchanges}
-use Rattle.bw_engine.specs.Answering.{Answered, frames_of, replies_of}
-use Rattle.bw_engine.specs.ServerRuns.{with_good_luck}
+use Rattle.bw_exchange.specs.Answering.{Answered, frames_of, replies_of}
+use Rattle.bw_exchange.specs.TurnRuns.{with_good_luck}
 use Rattle.bw_engine.specs.Ingesting.{ServedInput, WasServed, IsServedTo, IsServedWhole, answered_in, end_in, frames_in}
 use Rattle.bw_engine.specs.Ingesting.{IsShort, TellsNoWant}
-use Rattle.bw_engine.proofs.GoodRuns.{GoesWell, good_run}
+use Rattle.bw_exchange.proofs.GoodRuns.{GoesWell, good_run}
 
 -- a short input that was served, with its end
 record ToItsEnd (x : ServedInput) : Type 0 where

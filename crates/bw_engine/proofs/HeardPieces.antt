@@ -22,12 +22,12 @@ use Rattle.bw_wire.specs.Telling.{told_as}
 use Rattle.bw_wire.specs.declared.reply.Reply.{Reply as Answer}
 use Rattle.bw_engine.specs.declared.send_fault.SendFault.{SendFault}
 use Rattle.bw_engine.specs.declared.send_fault.SendFault.TheVariants as faults
-use Rattle.bw_engine.specs.Served.{most_reads, HasGiven, HasNoneLeft}
+use Rattle.bw_exchange.specs.Served.{most_reads, HasGiven, HasNoneLeft}
 use Rattle.bw_engine.specs.Hears.{hear_all, CountsAll, IsHeardUpTo, IsAllHeard, IsHeardWhole}
 use Rattle.bw_engine.specs.Hears.{HearsBy, HearsNoFurther, Hears, GaveReplies, HearsMore, TellsFault}
 use Rattle.bw_engine.specs.Hears.{hears_failed, IsHearingLimited, FeedsReplies, EndsReplies, ReadsReplies}
 use Rattle.bw_engine.specs.Hears.{StopsHearing}
-use Rattle.bw_engine.proofs.Reading.{has_given-none, has_given-on, has_given-piece}
+use Rattle.bw_exchange.proofs.Reading.{has_given-none, has_given-on, has_given-piece}
 use Rattle.bw_engine.proofs.ReplyRuns.{IsNoReply, fresh_quiet, no_bytes_cut, gave_none, gave_fed, gave_more}
 use Rattle.bw_engine.proofs.ReplyRuns.{gave_counted, gave_follows}
 

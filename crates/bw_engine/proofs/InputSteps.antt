@@ -7,12 +7,12 @@ use Rattle.std.proofs.lemmas.List.{map-append, append-nil, append_assoc, take_mo
 use Rattle.std.proofs.lemmas.Grind.{flat_map-append}
 use Rattle.bw_model.specs.Wire.{Frame}
 use Rattle.bw_model.specs.Replies.{Reply}
-use Rattle.bw_engine.specs.Answering.{Answered, AnswersAll}
+use Rattle.bw_exchange.specs.Answering.{Answered, AnswersAll}
 use Rattle.bw_engine.specs.Ingesting.{ServedInput, WasServed, AreServed, AreFirstIn, answered_in}
 use Rattle.bw_engine.specs.Ingesting.{bytes_in, ServesInput, ServesFirst, ServesInputs, ServesInPart}
 use Rattle.bw_engine.specs.declared.ingest.Told.{Told}
-use Rattle.bw_engine.proofs.Going.{answers_append}
-use Rattle.bw_engine.specs.declared.serving.ExchangeEnd.{ExchangeEnd}
+use Rattle.bw_exchange.proofs.Going.{answers_append}
+use Rattle.bw_exchange.specs.declared.serving.ExchangeEnd.{ExchangeEnd}
 
 each-append : {X : Type 0} (P : X → Type 0) (xs ys : List X) → AllByRecursion P xs → AllByRecursion P ys →
     AllByRecursion P (xs ++ ys)

@@ -19,8 +19,8 @@ use Rattle.bw_wire.proofs.FramerLaws.{next_of-left, next_of-failed, next_of-part
 use Rattle.bw_wire.proofs.FramerLaws.{cut_or_not}
 use Rattle.bw_wire.proofs.StreamRuns.{reply_runs_follow_replies}
 use Rattle.bw_engine.specs.Hears.{GaveReplies}
-use Rattle.bw_engine.proofs.Doing.{run_more, fed_in-more}
-use Rattle.bw_engine.proofs.Lawful.{with_piece-fed}
+use Rattle.bw_exchange.proofs.Doing.{run_more, fed_in-more}
+use Rattle.bw_exchange.proofs.Lawful.{with_piece-fed}
 
 -- what a framer tells, and what it then keeps
 abbrev Answer : Type 0

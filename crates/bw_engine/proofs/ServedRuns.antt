@@ -4,8 +4,8 @@ use Rattle.bw_store.specs.declared.store.TakeStore.{Ghosts as StoreGhosts}
 use Rattle.bw_journal.specs.declared.journal.Journal.{Ghosts as JournalGhosts}
 use Rattle.bw_session.specs.Books.{failures_of}
 use Rattle.bw_session.specs.declared.server.Server.{Server}
-use Rattle.bw_engine.specs.Answering.{Answered}
-use Rattle.bw_engine.specs.ServerTurns.{ServerTurn}
+use Rattle.bw_exchange.specs.Answering.{Answered}
+use Rattle.bw_session.specs.ServerTurns.{ServerTurn}
 use Rattle.bw_engine.specs.ServerRuns.{ServerRun, ServersAnswerInRuns}
 
 module _ {X Y : Type 0} (S : StoreGhosts X) (J : JournalGhosts Y) where

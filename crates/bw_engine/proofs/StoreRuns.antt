@@ -16,16 +16,16 @@ use Rattle.bw_session.specs.Books.{failures_of, HoldsBook}
 use Rattle.bw_session.specs.Numbered.{failed_calls}
 use Rattle.bw_session.specs.Servers.{kept_in, store_since}
 use Rattle.bw_session.specs.declared.server.Server.{Server}
-use Rattle.bw_engine.specs.Answering.{Answered, AnswersAll}
-use Rattle.bw_engine.specs.ServerTurns.{ServerTurn}
-use Rattle.bw_engine.specs.ServerRuns.{IsRun, with_good_luck}
+use Rattle.bw_exchange.specs.Answering.{Answered, AnswersAll}
+use Rattle.bw_session.specs.ServerTurns.{ServerTurn}
+use Rattle.bw_exchange.specs.TurnRuns.{IsRun, with_good_luck}
 use Rattle.bw_engine.specs.Ingesting.{answered_in, LeavesRun, Ingests, IngestsInPart, bytes_in}
 use Rattle.bw_engine.specs.Ingesting.{GoWell, RunsAsDefined, end_in, frames_in, IsShort, TellsNoWant}
 use Rattle.bw_engine.specs.declared.ingest.Run.{Run}
 use Rattle.std.specs.List.{AllByRecursion}
 use Rattle.bw_engine.proofs.InputSteps.{none_first}
 use Rattle.bw_engine.proofs.ServedRuns.{servers_run}
-use Rattle.bw_engine.proofs.GoodRuns.{in_order_well, good_run}
+use Rattle.bw_exchange.proofs.GoodRuns.{in_order_well, good_run}
 use Rattle.bw_engine.proofs.GoodExchanges.{frames_answered, none_wanted, exchanges_well}
 
 module _ {X : Type 0} (S : StoreGhosts X) where

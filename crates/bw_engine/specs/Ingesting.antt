@@ -16,14 +16,14 @@ use Rattle.bw_wire.specs.Reasons.{reason_meaning}
 use Rattle.bw_store.specs.declared.store.TakeStore.{Ghosts as StoreGhosts}
 use Rattle.bw_session.specs.Numbered.{failed_calls}
 use Rattle.bw_session.specs.Servers.{store_since}
-use Rattle.bw_engine.specs.Answering.{Answered, frames_of, replies_of, AnswersAll}
-use Rattle.bw_engine.specs.Done.{AreFirstOf}
-use Rattle.bw_engine.specs.Served.{most_reads}
-use Rattle.bw_engine.specs.ServerRuns.{IsRun, with_good_luck}
+use Rattle.bw_exchange.specs.Answering.{Answered, frames_of, replies_of, AnswersAll}
+use Rattle.bw_exchange.specs.Done.{AreFirstOf}
+use Rattle.bw_exchange.specs.Served.{most_reads}
+use Rattle.bw_exchange.specs.TurnRuns.{IsRun, with_good_luck}
 use Rattle.bw_engine.specs.declared.ingest.Run.{Run}
 use Rattle.bw_engine.specs.declared.ingest.Told.{Told}
-use Rattle.bw_engine.specs.declared.serving.ExchangeEnd.{ExchangeEnd}
-use Rattle.bw_engine.specs.declared.serving.ExchangeEnd.TheVariants as ends
+use Rattle.bw_exchange.specs.declared.serving.ExchangeEnd.{ExchangeEnd}
+use Rattle.bw_exchange.specs.declared.serving.ExchangeEnd.TheVariants as ends
 
 -- an exchange's end in the definitions' words, where its bytes tell it
 abbrev pub end_in : ExchangeEnd → Option End

@@ -1,13 +1,3 @@
-pub mod Answering
-pub mod Bounds
-pub mod Ends
-pub mod Feeding
-pub mod Steps
-pub mod Parts
-pub mod Done
-pub mod Served
-pub mod Pieces
-pub mod ServerTurns
 pub mod ServerRuns
 pub mod Ingesting
 pub mod Batches

@@ -9,10 +9,10 @@ ghost use Rattle.bw_wire.specs.Pending.{Nothing, next_of, with_piece, end_fault}
 ghost use Rattle.bw_engine.specs.declared.send_fault.SendFault.TheVariants.{BadReply};
 ghost use Rattle.bw_engine.specs.Hears.{Hears, hears_failed, IsHearingLimited, HearsMore};
 ghost use Rattle.bw_engine.specs.Hears.{TellsFault, ReadsReplies, StopsHearing};
-ghost use Rattle.bw_engine.specs.Served.{most_reads};
+ghost use Rattle.bw_exchange.specs.Served.{most_reads};
 
 use crate::send_fault::SendFault;
-use crate::serving::{MOST_READS, PIECE};
+use bw_exchange::{MOST_READS, PIECE};
 use bw_sender::Sender;
 use bw_stream::Source;
 use bw_wire::ReplyFramer;

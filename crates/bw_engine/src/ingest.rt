@@ -4,8 +4,7 @@ ghost use Rattle.bw_engine.specs.Ingesting.{ServesInput, ServesFirst, ServesInpu
 ghost use Rattle.bw_engine.specs.Ingesting.{Ingests, IngestsInPart, GoWell, RunsAsDefined};
 ghost use Rattle.bw_engine.specs.Ingesting.{bytes_in};
 
-use crate::serving::{ExchangeEnd, serve_exchange};
-use crate::turns::Turns;
+use bw_exchange::{ExchangeEnd, Turns, serve_exchange};
 use bw_layout::Limit;
 use bw_session::Server;
 use bw_store::TakeStore;

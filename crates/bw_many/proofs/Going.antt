@@ -11,17 +11,17 @@ use Rattle.std.proofs.lemmas.Result.{IfErr-weaker}
 use Rattle.bw_wire.specs.declared.fault.WireFault.{WireFault}
 use Rattle.bw_wire.specs.Reasons.{reason_meaning}
 use Rattle.bw_wire.specs.Held.{longest_piece, longest_stream}
-use Rattle.bw_engine.specs.declared.exchange.Exchange.{Exchange}
-use Rattle.bw_engine.specs.declared.serving.ExchangeEnd.TheVariants as ends
-use Rattle.bw_engine.specs.declared.step.StreamEnd.{StreamEnd}
-use Rattle.bw_engine.specs.declared.step.StreamEnd.TheVariants as streams
-use Rattle.bw_engine.specs.Answering.{Answered, replies_of}
-use Rattle.bw_engine.specs.Bounds.{most_before_answer}
-use Rattle.bw_engine.specs.Done.{AnswersSome, DoesMore, HasDone, MustWait, last_of}
-use Rattle.bw_engine.proofs.Going.{does_none, does_on}
-use Rattle.bw_engine.specs.Ends.{IsFinal, end_so_far}
-use Rattle.bw_engine.specs.Parts.{wants_piece, end_of, waiting_in, pending_of}
-use Rattle.bw_engine.specs.Served.{ended_by}
+use Rattle.bw_exchange.specs.declared.exchange.Exchange.{Exchange}
+use Rattle.bw_exchange.specs.declared.serving.ExchangeEnd.TheVariants as ends
+use Rattle.bw_exchange.specs.declared.step.StreamEnd.{StreamEnd}
+use Rattle.bw_exchange.specs.declared.step.StreamEnd.TheVariants as streams
+use Rattle.bw_exchange.specs.Answering.{Answered, replies_of}
+use Rattle.bw_exchange.specs.Bounds.{most_before_answer}
+use Rattle.bw_exchange.specs.Done.{AnswersSome, DoesMore, HasDone, MustWait, last_of}
+use Rattle.bw_exchange.proofs.Going.{does_none, does_on}
+use Rattle.bw_exchange.specs.Ends.{IsFinal, end_so_far}
+use Rattle.bw_exchange.specs.Parts.{wants_piece, end_of, waiting_in, pending_of}
+use Rattle.bw_exchange.specs.Served.{ended_by}
 use Rattle.bw_many.specs.declared.connection.Connection.{Connection}
 use Rattle.bw_many.specs.declared.connection.ConnectionEnd.{ConnectionEnd}
 use Rattle.bw_many.specs.declared.connection.ConnectionEnd.TheVariants.{Idle, Over}

@@ -6,14 +6,14 @@ use Rattle.std.specs.List.{AllByRecursion}
 use Rattle.std.proofs.lemmas.List.{append-nil, length-append}
 use Rattle.bw_model.specs.Wire.{Second, are_bytes}
 use Rattle.bw_model.specs.Stream.{End, stream_of}
-use Rattle.bw_engine.specs.declared.exchange.Exchange.{Exchange}
-use Rattle.bw_engine.specs.declared.serving.ExchangeEnd.TheVariants as ends
-use Rattle.bw_engine.specs.declared.step.StreamEnd.{StreamEnd}
-use Rattle.bw_engine.specs.declared.step.StreamEnd.TheVariants as streams
-use Rattle.bw_engine.specs.Answering.{Answered, frames_of}
-use Rattle.bw_engine.specs.Done.{AreFirstOf, ExchangesFollowStreams, IsExchangeOf}
-use Rattle.bw_engine.specs.Ends.{IsFinal, end_meaning, end_so_far}
-use Rattle.bw_engine.specs.Parts.{end_of, wants_piece, waiting_in}
+use Rattle.bw_exchange.specs.declared.exchange.Exchange.{Exchange}
+use Rattle.bw_exchange.specs.declared.serving.ExchangeEnd.TheVariants as ends
+use Rattle.bw_exchange.specs.declared.step.StreamEnd.{StreamEnd}
+use Rattle.bw_exchange.specs.declared.step.StreamEnd.TheVariants as streams
+use Rattle.bw_exchange.specs.Answering.{Answered, frames_of}
+use Rattle.bw_exchange.specs.Done.{AreFirstOf, ExchangesFollowStreams, IsExchangeOf}
+use Rattle.bw_exchange.specs.Ends.{IsFinal, end_meaning, end_so_far}
+use Rattle.bw_exchange.specs.Parts.{end_of, wants_piece, waiting_in}
 use Rattle.bw_many.specs.declared.connection.Connection.{Connection}
 use Rattle.bw_many.specs.declared.connection.ConnectionEnd.{ConnectionEnd}
 use Rattle.bw_many.specs.declared.connection.ConnectionEnd.TheVariants.{Idle, Over}

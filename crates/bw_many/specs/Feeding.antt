@@ -5,12 +5,12 @@ use Rattle.bw_model.specs.Wire.{Reason, Cut, are_bytes}
 use Rattle.bw_wire.specs.Held.{longest_stream}
 use Rattle.bw_wire.specs.Reasons.{reason_meaning}
 use Rattle.bw_wire.specs.declared.fault.WireFault.{WireFault}
-use Rattle.bw_engine.specs.declared.exchange.Exchange.{Exchange}
-use Rattle.bw_engine.specs.declared.serving.ExchangeEnd.TheVariants as ends
-use Rattle.bw_engine.specs.declared.step.StreamEnd.{StreamEnd}
-use Rattle.bw_engine.specs.declared.step.StreamEnd.TheVariants as streams
-use Rattle.bw_engine.specs.Done.{DoesMore}
-use Rattle.bw_engine.specs.Parts.{end_of, pending_of}
+use Rattle.bw_exchange.specs.declared.exchange.Exchange.{Exchange}
+use Rattle.bw_exchange.specs.declared.serving.ExchangeEnd.TheVariants as ends
+use Rattle.bw_exchange.specs.declared.step.StreamEnd.{StreamEnd}
+use Rattle.bw_exchange.specs.declared.step.StreamEnd.TheVariants as streams
+use Rattle.bw_exchange.specs.Done.{DoesMore}
+use Rattle.bw_exchange.specs.Parts.{end_of, pending_of}
 use Rattle.bw_many.specs.declared.connection.ConnectionEnd.{ConnectionEnd}
 use Rattle.bw_many.specs.declared.connection.ConnectionEnd.TheVariants.{Over}
 

@@ -5,4 +5,3 @@ pub mod Keeping
 pub mod Places
 pub mod Working
 pub mod Served
-pub mod Names

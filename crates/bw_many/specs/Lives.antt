@@ -8,16 +8,16 @@ use Rattle.bw_model.specs.Replies.{Reply}
 use Rattle.bw_wire.specs.Held.{longest_piece, longest_stream}
 use Rattle.bw_wire.specs.Reasons.{reason_meaning}
 use Rattle.bw_wire.specs.declared.fault.WireFault.{WireFault}
-use Rattle.bw_engine.specs.declared.exchange.Exchange.{Exchange}
-use Rattle.bw_engine.specs.declared.serving.ExchangeEnd.TheVariants as ends
-use Rattle.bw_engine.specs.declared.step.StreamEnd.{StreamEnd}
-use Rattle.bw_engine.specs.declared.step.StreamEnd.TheVariants as streams
-use Rattle.bw_engine.specs.Answering.{Answered, AnswersAll}
-use Rattle.bw_engine.specs.Bounds.{most_before_answer}
-use Rattle.bw_engine.specs.Done.{DoesMore, HasDone, IsIdle, MustWait}
-use Rattle.bw_engine.specs.Ends.{IsFinal, end_so_far, end_meaning}
-use Rattle.bw_engine.specs.Parts.{wants_piece, end_of, waiting_in, pending_of}
-use Rattle.bw_engine.specs.Served.{ended_by}
+use Rattle.bw_exchange.specs.declared.exchange.Exchange.{Exchange}
+use Rattle.bw_exchange.specs.declared.serving.ExchangeEnd.TheVariants as ends
+use Rattle.bw_exchange.specs.declared.step.StreamEnd.{StreamEnd}
+use Rattle.bw_exchange.specs.declared.step.StreamEnd.TheVariants as streams
+use Rattle.bw_exchange.specs.Answering.{Answered, AnswersAll}
+use Rattle.bw_exchange.specs.Bounds.{most_before_answer}
+use Rattle.bw_exchange.specs.Done.{DoesMore, HasDone, IsIdle, MustWait}
+use Rattle.bw_exchange.specs.Ends.{IsFinal, end_so_far, end_meaning}
+use Rattle.bw_exchange.specs.Parts.{wants_piece, end_of, waiting_in, pending_of}
+use Rattle.bw_exchange.specs.Served.{ended_by}
 use Rattle.bw_many.specs.declared.connection.Connection.{Connection}
 use Rattle.bw_many.specs.declared.connection.ConnectionEnd.{ConnectionEnd}
 use Rattle.bw_many.specs.declared.connection.ConnectionEnd.TheVariants.{Over, Idle}

@@ -8,11 +8,11 @@ use Rattle.bw_model.specs.Stream.{End, EndOfInput, SaidBye, BadFrame, stream_of}
 use Rattle.bw_model.specs.Exchange.{replies_bytes}
 use Rattle.bw_wire.specs.Held.{longest_stream}
 use Rattle.bw_wire.specs.Reasons.{reason_meaning}
-use Rattle.bw_engine.specs.declared.serving.ExchangeEnd.TheVariants as ends
-use Rattle.bw_engine.specs.Answering.{Answered, frames_of, replies_of}
-use Rattle.bw_engine.specs.Done.{AreFirstOf, last_of}
-use Rattle.bw_engine.specs.Ends.{IsFinal}
-use Rattle.bw_engine.specs.Served.{LacksMemory}
+use Rattle.bw_exchange.specs.declared.serving.ExchangeEnd.TheVariants as ends
+use Rattle.bw_exchange.specs.Answering.{Answered, frames_of, replies_of}
+use Rattle.bw_exchange.specs.Done.{AreFirstOf, last_of}
+use Rattle.bw_exchange.specs.Ends.{IsFinal}
+use Rattle.bw_exchange.specs.Served.{LacksMemory}
 use Rattle.bw_many.specs.declared.connection.Connection.{Connection}
 use Rattle.bw_many.specs.declared.connection.ConnectionEnd.{ConnectionEnd}
 use Rattle.bw_many.specs.declared.connection.ConnectionEnd.TheVariants.{Over, Idle}

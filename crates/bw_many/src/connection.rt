@@ -1,12 +1,12 @@
 //! A connection: a link, and the exchange over it.
 ghost use Rattle.std.specs.Prelude.{◌≡◌, ◌≤◌, ◌||◌, [], List, length, true, IfErr, IfOk, OnOk};
 ghost use Rattle.bw_wire.specs.Held.{longest_piece};
-ghost use Rattle.bw_engine.specs.Parts.{wants_piece, waiting_in};
+ghost use Rattle.bw_exchange.specs.Parts.{wants_piece, waiting_in};
 ghost use Rattle.bw_many.specs.Feeding.{Feeds, fault_to_drain};
 ghost use Rattle.bw_many.specs.Lives.{EndsServed};
 
 use crate::link::{Link, Received, Sent};
-use bw_engine::{Exchange, ExchangeEnd, FeedError, StreamEnd, Turns};
+use bw_exchange::{Exchange, ExchangeEnd, FeedError, StreamEnd, Turns};
 use bw_wire::{Reason, WireFault};
 use std::alloc::{AllocError, Global};
 

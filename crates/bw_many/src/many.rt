@@ -6,7 +6,7 @@ ghost use Rattle.bw_many.specs.Keeping.{Sets};
 
 use crate::connection::{Connection, ConnectionEnd};
 use crate::link::Link;
-use bw_engine::Turns;
+use bw_exchange::Turns;
 use std::alloc::{AllocError, Global};
 use thiserror::Error;
 

@@ -6,15 +6,15 @@ use Rattle.std.proofs.lemmas.List.{append-nil, length-append, map-append}
 use Rattle.bw_model.specs.Wire.{Frame}
 use Rattle.bw_model.specs.Replies.{Reply}
 use Rattle.bw_stream.specs.declared.sink.Sink.{Ghosts as Writer}
-use Rattle.bw_engine.specs.Answering.{Answered, AnswersAll}
-use Rattle.bw_engine.proofs.Going.{answers_append}
+use Rattle.bw_exchange.specs.Answering.{Answered, AnswersAll}
+use Rattle.bw_exchange.proofs.Going.{answers_append}
 use Rattle.bw_many.specs.declared.link.Link.{Ghosts as LinkGhosts}
 use Rattle.bw_many.specs.declared.many.Closed.{Closed}
 use Rattle.bw_many.specs.declared.many.Many.{Many}
 use Rattle.bw_many.specs.Keeping.{Adds, Keeps, Tagged, all_answered, tagged}
 use Rattle.bw_many.specs.Places.{begun_of, can_go_on_at}
 use Rattle.bw_many.specs.Working.{StaysAt, StoodAt, StoodUnder}
-use Rattle.bw_transfer.specs.Tallies.{up_to_last}
+use Rattle.bw_exchange.specs.LinkCounts.{up_to_last}
 use Rattle.bw_serve.specs.Crowds.{Advances, Counts, Grows, HasSeats, InTurn, ServesPlace, Stays, can_go_on_below}
 use Rattle.bw_serve.specs.Lines.{TellsEnds}
 use Rattle.bw_serve.specs.declared.crowd.Crowd.{Crowd}

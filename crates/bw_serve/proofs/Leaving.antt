@@ -8,8 +8,8 @@ use Rattle.bw_session.specs.Books.{HoldsBook}
 use Rattle.bw_session.specs.declared.server.Server.{Server}
 use Rattle.bw_commands.specs.declared.exit.Exit.{Exit}
 use Rattle.bw_commands.specs.declared.exit.Exit.TheVariants.{Done, Refused, Usage, Device, Memory}
-use Rattle.bw_engine.specs.ServerTurns.{ServerTurn}
-use Rattle.bw_many.specs.Names.{KeepsNamesApart, NamesStandApart}
+use Rattle.bw_session.specs.ServerTurns.{ServerTurn}
+use Rattle.bw_serve.specs.Names.{KeepsNamesApart, NamesStandApart}
 use Rattle.bw_many.specs.declared.link.Link.{Ghosts as LinkGhosts}
 use Rattle.bw_serve.specs.HostedMany.{answered_in_crowd}
 use Rattle.bw_serve.specs.Serving.{ServesCrowd}

@@ -8,7 +8,7 @@ use Rattle.std.proofs.lemmas.List.{append-nil}
 use Rattle.bw_model.specs.Wire.{Frame}
 use Rattle.bw_model.specs.Replies.{Reply}
 use Rattle.bw_stream.specs.declared.sink.Sink.{Ghosts as Writer}
-use Rattle.bw_engine.specs.Answering.{frames_of}
+use Rattle.bw_exchange.specs.Answering.{frames_of}
 use Rattle.bw_many.specs.declared.connection.Connection.{Connection}
 use Rattle.bw_many.specs.declared.connection.ConnectionEnd.TheVariants.{Idle}
 use Rattle.bw_many.specs.declared.link.Link.{Ghosts as LinkGhosts}
@@ -19,7 +19,7 @@ use Rattle.bw_many.specs.Lives.{KeepsPeer, expired_at}
 use Rattle.bw_many.specs.Places.{end_told, expired_there}
 use Rattle.bw_many.specs.Working.{EndsIts, IsEmpty, StaysAt, StoodAt, StoodUnder}
 use Rattle.bw_many.proofs.Standing.{not_some, own-kept, some_is}
-use Rattle.bw_transfer.specs.Tallies.{with_frame}
+use Rattle.bw_exchange.specs.LinkCounts.{with_frame}
 use Rattle.bw_serve.specs.Crowds.{AreSilent, Counts, CountsOwn, LooksBehind, SeatOf, ServesPlace, WorksCounted}
 use Rattle.bw_serve.specs.Lines.{LogsEnds, counted_of}
 use Rattle.bw_serve.specs.Seats.{LogsAt}

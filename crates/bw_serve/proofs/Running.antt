@@ -6,14 +6,14 @@ use Rattle.bw_model.specs.Replies.{Reply}
 use Rattle.bw_stream.specs.Moves.{one_more}
 use Rattle.bw_stream.specs.declared.sink.Sink.{Ghosts as Writer}
 use Rattle.bw_commands.specs.declared.exit.Exit.{Exit}
-use Rattle.bw_engine.specs.Answering.{Answered, AnswersAll}
-use Rattle.bw_engine.proofs.Going.{answers_append}
+use Rattle.bw_exchange.specs.Answering.{Answered, AnswersAll}
+use Rattle.bw_exchange.proofs.Going.{answers_append}
 use Rattle.bw_many.specs.declared.link.Link.{Ghosts as LinkGhosts}
 use Rattle.bw_many.specs.declared.many.Closed.{Closed}
 use Rattle.bw_many.specs.Keeping.{Keeps, Tagged, all_answered}
 use Rattle.bw_many.specs.Places.{begun_of}
 use Rattle.bw_many.specs.Served.{EachIsServed}
-use Rattle.bw_transfer.specs.Tallies.{up_to_last}
+use Rattle.bw_exchange.specs.LinkCounts.{up_to_last}
 use Rattle.bw_serve.specs.Crowds.{Advances, CountsOwn, Grows, IsNew, IsShut}
 use Rattle.bw_serve.specs.Rounds.{ServesInRounds, ServesRound}
 use Rattle.bw_serve.specs.Lines.{LogsEnds, TellsEnds}

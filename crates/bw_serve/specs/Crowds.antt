@@ -6,7 +6,7 @@ use Rattle.std.specs.List.{AllByRecursion}
 use Rattle.bw_model.specs.Wire.{Frame}
 use Rattle.bw_model.specs.Replies.{Reply}
 use Rattle.bw_stream.specs.declared.sink.Sink.{Ghosts as Writer}
-use Rattle.bw_engine.specs.Answering.{AnswersAll, frames_of}
+use Rattle.bw_exchange.specs.Answering.{AnswersAll, frames_of}
 use Rattle.bw_many.specs.declared.connection.Connection.{Connection}
 use Rattle.bw_many.specs.declared.connection.ConnectionEnd.TheVariants as ends
 use Rattle.bw_many.specs.declared.link.Link.{Ghosts as LinkGhosts}
@@ -17,7 +17,7 @@ use Rattle.bw_many.specs.Keeping.{all_answered, own, tagged, those}
 use Rattle.bw_many.specs.Lives.{Begins, expired_at}
 use Rattle.bw_many.specs.Places.{begun_of, can_go_on_at, count_of, end_told, expired_there}
 use Rattle.bw_many.specs.Working.{IsEmpty, StaysAt, StoodAt, WorksAt}
-use Rattle.bw_transfer.specs.Tallies.{up_to_last, with_frame}
+use Rattle.bw_exchange.specs.LinkCounts.{up_to_last, with_frame}
 use Rattle.bw_serve.specs.Lines.{LogsEnds, TellsEnds, counted_of}
 use Rattle.bw_serve.specs.declared.crowd.Crowd.{Crowd}
 use Rattle.bw_serve.specs.declared.seat.Seat.{Seat}

@@ -15,11 +15,11 @@ use Rattle.bw_commands.specs.Printing.{HasPrinted, HasStopped}
 use Rattle.bw_commands.specs.declared.exit.Exit.{Exit}
 use Rattle.bw_commands.specs.declared.exit.Exit.TheVariants.{Done, Refused, Usage, Device, Memory}
 use Rattle.bw_commands.specs.declared.fault.Fault.TheVariants as faults
-use Rattle.bw_engine.specs.Answering.{Answered}
-use Rattle.bw_engine.specs.ServerTurns.{ServerTurn}
+use Rattle.bw_exchange.specs.Answering.{Answered}
+use Rattle.bw_session.specs.ServerTurns.{ServerTurn}
 use Rattle.bw_many.specs.declared.link.Link.{Ghosts as LinkGhosts}
 use Rattle.bw_many.specs.Keeping.{all_answered}
-use Rattle.bw_many.specs.Names.{KeepsNamesApart}
+use Rattle.bw_serve.specs.Names.{KeepsNamesApart}
 use Rattle.bw_transfer.specs.Hosted.{GivesUp, TellsEnd, TellsUnopened, listening_line}
 use Rattle.bw_transfer.specs.declared.network.Network.{Ghosts as NetworkGhosts}
 use Rattle.bw_serve.specs.Serving.{ServesCrowd}

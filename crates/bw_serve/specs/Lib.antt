@@ -4,4 +4,5 @@ pub mod Seats
 pub mod Crowds
 pub mod Rounds
 pub mod Serving
+pub mod Names
 pub mod HostedMany

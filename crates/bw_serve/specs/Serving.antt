@@ -6,7 +6,7 @@ use Rattle.bw_stream.specs.Moves.{one_more}
 use Rattle.bw_stream.specs.declared.sink.Sink.{Ghosts as Writer}
 use Rattle.bw_commands.specs.declared.exit.Exit.{Exit}
 use Rattle.bw_commands.specs.declared.exit.Exit.TheVariants as exits
-use Rattle.bw_engine.specs.Answering.{AnswersAll}
+use Rattle.bw_exchange.specs.Answering.{AnswersAll}
 use Rattle.bw_many.specs.declared.link.Link.{Ghosts as LinkGhosts}
 use Rattle.bw_many.specs.declared.many.Closed.{Closed}
 use Rattle.bw_many.specs.Keeping.{Tagged, all_answered}

@@ -7,10 +7,9 @@ ghost use Rattle.bw_stream.specs.Moves.{failures_after};
 use crate::line::print_end;
 use crate::lobby::{AcceptFault, Guest, Lobby};
 use crate::seat::{Seat, empty_seats, put_at, swap_at, tell_at};
-use bw_engine::Turns;
+use bw_exchange::{Tallied, Turns};
 use bw_many::{Closed, Link, Many};
 use bw_stream::Sink;
-use bw_transfer::Tallied;
 use std::alloc::{AllocError, Global};
 
 /// No more peers are let in.

@@ -4,17 +4,19 @@ ghost use Rattle.std.specs.Prelude.{◌≡◌};
 ghost use Rattle.bw_serve.specs.HostedMany.{HostsMany, HostsManyOver};
 
 use crate::gathering::Gathering;
+use crate::laws::law_names;
 use crate::lobby::Lobby;
 use crate::serving::{Bounds, serve_crowd};
 use bw_commands::print::{give_up, print};
 use bw_commands::{Exit, Fault, tell_unopened};
+use bw_exchange::Tallied;
 use bw_journal::{Journal, NoJournal};
 use bw_layout::Limit;
 use bw_session::Server;
 use bw_store::TakeStore;
 use bw_stream::Sink;
+use bw_transfer::Network;
 use bw_transfer::hosting::{format_listening, tell_end, tell_unbound};
-use bw_transfer::{Network, Tallied};
 use std::alloc::Global;
 use std::net::SocketAddr;
 
@@ -91,7 +93,7 @@ fn serve_over<S: TakeStore, B: Lobby, O: Sink, E: Sink>(
     let Ok(()) = print(out, line.as_str().as_bytes()) else {
         return give_up(faults, &Fault::Unwritable);
     };
-    bw_many::laws::law_names::<S>();
+    law_names::<S>();
     let mut server = Tallied::new(server);
     let (bounds, log) = (&hosting.bounds, hosting.log);
     let exit = serve_crowd(alloc, &mut server, lobby, bounds, log, out, faults);

@@ -5,6 +5,7 @@
 mod crowd;
 mod gathering;
 mod hosting;
+pub mod laws;
 mod line;
 mod lobby;
 mod seat;

@@ -10,9 +10,8 @@ ghost use Rattle.bw_serve.specs.Serving.{ServesCrowd};
 use crate::crowd::{Crowd, Round, Shut};
 use crate::lobby::Lobby;
 use bw_commands::Exit;
-use bw_engine::Turns;
+use bw_exchange::{Tallied, Turns};
 use bw_stream::Sink;
-use bw_transfer::Tallied;
 use std::alloc::Global;
 
 /// The longest piece that is read.

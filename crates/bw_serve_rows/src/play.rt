@@ -3,13 +3,14 @@ use crate::compare::same;
 use crate::hall::{Comes, Hall, Plan, Visit};
 use crate::scripted::{Give, Script, Take};
 use bw_commands::Exit;
+use bw_exchange::Tallied;
 use bw_layout::Limit;
 use bw_request::Name;
 use bw_serve::{Bounds, serve_crowd};
 use bw_session::Server;
 use bw_store::MemoryStore;
 use bw_stream::MemorySink;
-use bw_transfer::Tallied;
+
 use std::alloc::{AllocError, Global};
 use std::process::Abort;
 use std::test::Fail;

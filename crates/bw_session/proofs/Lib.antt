@@ -22,3 +22,4 @@ pub mod JournalForms
 pub mod SettledForms
 pub mod UseForms
 pub mod AskForms
+mod ServerAnswers

@@ -17,6 +17,7 @@ pub mod Tables
 pub mod Servers
 pub mod Journaled
 pub mod Books
+pub mod ServerTurns
 pub mod Settled
 pub mod KeptParts
 pub mod Judging

@@ -11,6 +11,7 @@ mod ledger;
 mod numbering;
 mod replying;
 mod server;
+mod server_turns;
 mod serving;
 mod session;
 mod settling;

@@ -11,10 +11,10 @@ use Rattle.bw_session.specs.Books.{HoldsBook}
 use Rattle.bw_session.specs.declared.server.Server.{Server}
 use Rattle.bw_commands.specs.declared.exit.Exit.{Exit}
 use Rattle.bw_commands.specs.declared.exit.Exit.TheVariants.{Done, Refused, Usage, Device, Memory}
-use Rattle.bw_engine.specs.Answering.{AnswersAll}
+use Rattle.bw_exchange.specs.Answering.{AnswersAll}
 use Rattle.bw_engine.specs.Ingesting.{LeavesRun}
-use Rattle.bw_engine.specs.ServerTurns.{ServerTurn}
-use Rattle.bw_engine.proofs.Going.{answers_append}
+use Rattle.bw_session.specs.ServerTurns.{ServerTurn}
+use Rattle.bw_exchange.proofs.Going.{answers_append}
 use Rattle.bw_engine.proofs.StoreRuns.{leaves_run}
 use Rattle.bw_transfer.specs.ServedAll.{Outcome, Served, Gone, Closed, ServesNext, ServesEach, EndsEarly, ServesRun}
 use Rattle.bw_transfer.specs.ServedAll.{answered_next, answered_each, answered_early, answered_in_run}

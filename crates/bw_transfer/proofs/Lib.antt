@@ -4,6 +4,5 @@ pub mod RefusedLines
 pub mod RoundSteps
 pub mod RunSteps
 pub mod AnsweredRuns
-pub mod TallyLemmas
 pub mod InOrder
 pub mod ToldLinks

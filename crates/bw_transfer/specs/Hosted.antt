@@ -13,7 +13,7 @@ use Rattle.bw_journal.specs.declared.journal.Journal.{Ghosts as JournalGhosts}
 use Rattle.bw_session.specs.Books.{HoldsBook}
 use Rattle.bw_session.specs.declared.server.Server.{Server}
 use Rattle.bw_engine.specs.Ingesting.{LeavesRun}
-use Rattle.bw_engine.specs.ServerTurns.{ServerTurn}
+use Rattle.bw_session.specs.ServerTurns.{ServerTurn}
 use Rattle.bw_commands.specs.Deeds.{Deed, IsWant}
 use Rattle.bw_commands.specs.Faults.{exit_on, input_fault_text}
 use Rattle.bw_commands.specs.Openings.{IsUnopened}

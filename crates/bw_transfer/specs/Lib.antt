@@ -1,7 +1,6 @@
 pub mod Links
 pub mod ServedOne
 pub mod Tallies
-pub mod Tallied
 pub mod ServedAll
 pub mod Hosted
 pub mod RequestLines

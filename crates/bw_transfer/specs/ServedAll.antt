@@ -8,10 +8,11 @@ use Rattle.bw_stream.specs.declared.sink.Sink.{Ghosts as Writer}
 use Rattle.bw_stream.specs.declared.source.Source.{Ghosts as Reader}
 use Rattle.bw_commands.specs.declared.exit.Exit.{Exit}
 use Rattle.bw_commands.specs.declared.exit.Exit.TheVariants.{Done, Refused, Usage, Device, Memory}
-use Rattle.bw_engine.specs.Answering.{Answered, frames_of}
-use Rattle.bw_engine.specs.declared.serving.ExchangeEnd.{ExchangeEnd}
+use Rattle.bw_exchange.specs.Answering.{Answered, frames_of}
+use Rattle.bw_exchange.specs.declared.serving.ExchangeEnd.{ExchangeEnd}
 use Rattle.bw_transfer.specs.ServedOne.{ServesTo}
-use Rattle.bw_transfer.specs.Tallies.{Logs, count_of, link_line}
+use Rattle.bw_exchange.specs.LinkCounts.{count_of}
+use Rattle.bw_transfer.specs.Tallies.{Logs, link_line}
 use Rattle.bw_transfer.specs.declared.peers.AcceptFault.{AcceptFault}
 use Rattle.bw_transfer.specs.declared.peers.AcceptFault.TheVariants as accepting
 use Rattle.bw_transfer.specs.declared.peers.Peer.{Peer}

@@ -1,53 +1,14 @@
 -- What came over a link, as its line tells it.
-use Rattle.std.specs.Prelude.{◌≡◌, ◌⊎◌, ℕ, ◌+◌, ◌-◌, ◌^◌, Bool, true, false, ◌||◌, if◌then◌else◌, nat_le}
-use Rattle.std.specs.Prelude.{List, [], ◌∷◌, ◌++◌, length, min, fold, flat_map, codes, decimal}
-use Rattle.std.specs.List.{list_any}
-use Rattle.std.specs.Str.{bytes_eq}
+use Rattle.std.specs.Prelude.{◌≡◌, ◌⊎◌, ℕ, Bool, true, false}
+use Rattle.std.specs.Prelude.{List, ◌++◌, flat_map, codes, decimal}
 use Rattle.std.specs.Net.Text.{socket_text}
 use Rattle.std.specs.declared.net.socket_addr.SocketAddr.{SocketAddr}
-use Rattle.bw_model.specs.Wire.{Frame, Says, Asks, Bye, message_body}
 use Rattle.bw_stream.specs.declared.sink.Sink.{Ghosts as Writer}
-use Rattle.bw_engine.specs.declared.serving.ExchangeEnd.{ExchangeEnd}
+use Rattle.bw_exchange.specs.EndNames.{name_of_end}
+use Rattle.bw_exchange.specs.LinkCounts.{Counted}
+use Rattle.bw_exchange.specs.declared.serving.ExchangeEnd.{ExchangeEnd}
 use Rattle.bw_commands.specs.Printing.{Print, IsOf, IsPrint}
-use Rattle.bw_commands.specs.Text.{as_line, name_of_end}
-
--- the messages among frames: how many, the bytes of their bodies, and their first names, each once
-pub record Counted : Type 0 where
-  pub messages : ℕ
-  pub bytes : ℕ
-  pub names : List (List ℕ)
-
--- so many names are told
-abbrev pub most_names : ℕ
-most_names = 8
-
--- a count stays at the last one
-abbrev pub up_to_last : ℕ → ℕ
-up_to_last n = min n (2 ^ 64 - 1)
-
--- a name behind those before it, where it is none of them and there is room
-abbrev pub with_name : List (List ℕ) → List ℕ → List (List ℕ)
-with_name names name =
-    if list_any (λ n. bytes_eq n name) names || nat_le most_names (length names) then names
-    else names ++ name ∷ []
-
--- one frame more
-abbrev pub with_frame : Counted → Frame → Counted
-with_frame c (Says m) = record {
-  messages = up_to_last (c.messages + 1);
-  bytes = up_to_last (c.bytes + length (message_body m));
-  names = with_name c.names m.name;
-}
-with_frame c (Asks name number) = c
-with_frame c Bye = c
-
--- no frame
-abbrev pub none_counted : Counted
-none_counted = record { messages = 0; bytes = 0; names = [] }
-
--- all frames of a link
-abbrev pub count_of : List Frame → Counted
-count_of frames = fold with_frame none_counted frames
+use Rattle.bw_commands.specs.Text.{as_line}
 
 -- a name behind a blank
 abbrev pub name_behind : List ℕ → List ℕ

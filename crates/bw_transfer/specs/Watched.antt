@@ -4,7 +4,7 @@ use Rattle.bw_model.specs.Take.{Request}
 use Rattle.bw_model.specs.World.{Sender, settled, stored}
 use Rattle.bw_request.specs.Requests.{samples_in}
 use Rattle.bw_commands.specs.Text.{as_line}
-use Rattle.bw_transfer.specs.Tallies.{up_to_last}
+use Rattle.bw_exchange.specs.LinkCounts.{up_to_last}
 
 -- the bytes of samples in these requests
 abbrev pub bytes_in : List Request → ℕ

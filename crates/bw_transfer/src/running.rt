@@ -5,10 +5,9 @@ ghost use Rattle.bw_transfer.specs.ServedAll.{exit_now};
 
 use crate::peers::{AcceptFault, Peer, Peers};
 use crate::serving::serve_link;
-use crate::tally::Tallied;
 use crate::telling::tell_link;
-use bw_commands::{Exit, end_name};
-use bw_engine::Turns;
+use bw_commands::Exit;
+use bw_exchange::{Tallied, Turns, end_name};
 use bw_stream::{Sink, Source};
 use std::alloc::Global;
 

@@ -4,9 +4,9 @@ ghost use Rattle.bw_transfer.specs.ServedOne.{ServesOne, ServesTo, exchange_end_
 ghost use Rattle.bw_transfer.specs.ServedOne.{exit_untold};
 
 use arrayvec::ArrayString;
+use bw_commands::Exit;
 use bw_commands::print::print;
-use bw_commands::{Exit, end_name};
-use bw_engine::{ExchangeEnd, Turns, serve_exchange};
+use bw_exchange::{ExchangeEnd, Turns, end_name, serve_exchange};
 use bw_stream::{Sink, Source};
 use itoa::Buffer;
 use std::alloc::Global;

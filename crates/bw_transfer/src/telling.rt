@@ -3,8 +3,8 @@ ghost use Rattle.std.specs.Prelude.{◌≡◌, ◌++◌, [], flat_map, IfOk, OnO
 ghost use Rattle.bw_transfer.specs.Tallies.{Logs, counts_text, name_behind, peer_line};
 ghost use Rattle.bw_transfer.specs.Tallies.{peer_text};
 
-use crate::tally::{KnownName, Tally};
 use bw_commands::print::tell;
+use bw_exchange::{KnownName, Tally};
 use bw_stream::Sink;
 use std::alloc::{AllocError, Global};
 use std::net::SocketAddr;
@@ -42,8 +42,8 @@ fn line_of_link(
 {
     let mut line = Vec::new(alloc);
     put_peer(alloc, &mut line, peer)?;
-    put_names(&mut line, &tally.names)?;
-    put_counts(alloc, &mut line, end, tally.messages, tally.bytes)?;
+    put_names(&mut line, tally.names())?;
+    put_counts(alloc, &mut line, end, tally.messages(), tally.bytes())?;
     Ok(line)
 }
 

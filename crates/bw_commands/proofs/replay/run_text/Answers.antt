@@ -2,7 +2,7 @@ use Rattle.std.proofs.Common.{ℕ, List, map, refl, subst, sym}
 use Rattle.std.specs.Prelude.{Vec}
 use Rattle.std.specs.declared.alloc.Global.{Global}
 use Rattle.bw_store.specs.Memory.{content_under}
-use Rattle.bw_engine.specs.declared.serving.ExchangeEnd.{ExchangeEnd}
+use Rattle.bw_exchange.specs.declared.serving.ExchangeEnd.{ExchangeEnd}
 use Rattle.bw_commands.specs.OneFuse.{failures_under}
 use Rattle.bw_commands.proofs.ReplayLemmas.{Replayed, replayed, with_ok, text_replayed, one_at_most}
 use Rattle.bw_commands.proofs.replay.run_text.Goals as goal

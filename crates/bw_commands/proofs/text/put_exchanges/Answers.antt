@@ -4,7 +4,7 @@ use Rattle.std.specs.declared.alloc.Global.{Global}
 use Rattle.std.proofs.lemmas.List.{drop_more}
 use Rattle.std.proofs.lemmas.Bool.{ltb-true}
 use Rattle.bw_commands.specs.Runs.{AllTell}
-use Rattle.bw_engine.specs.declared.serving.ExchangeEnd.{ExchangeEnd}
+use Rattle.bw_exchange.specs.declared.serving.ExchangeEnd.{ExchangeEnd}
 use Rattle.std.proofs.Math.ListN.{drop_of_length-le}
 use Rattle.bw_commands.proofs.TextLemmas.{exchange_step, no_exchange_left}
 use Rattle.bw_commands.proofs.text.put_exchanges.Goals as goal

@@ -2,7 +2,7 @@ use Rattle.std.proofs.Common.{refl, ◌∙◌, arith}
 use Rattle.std.proofs.lemmas.Result.{err_from_is_err_and}
 use Rattle.bw_engine.proofs.HeardPieces.{heard-none, fed_so_far, heard-more, no_memory, no_more_heard, limit_reached}
 use Rattle.bw_engine.proofs.HeardPieces.{bad_reply, input_ended, has_fed, has_ended, unlimited, ended_counts}
-use Rattle.bw_engine.proofs.Whole.{moved_on, called_on, called_once}
+use Rattle.bw_exchange.proofs.Whole.{moved_on, called_on, called_once}
 use Rattle.bw_engine.proofs.hearing.hear_replies.Goals as goal
 
 pub returns-in_default-clause-hears : goal.returns-in_default-clause-hears

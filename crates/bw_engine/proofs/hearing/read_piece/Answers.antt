@@ -1,6 +1,6 @@
 use Rattle.std.proofs.Common.{rules, arith}
 use Rattle.bw_engine.proofs.HeardPieces.{feeds_replies, no_room}
-use Rattle.bw_engine.proofs.Reading.{has_given-nothing, has_none_left}
+use Rattle.bw_exchange.proofs.Reading.{has_given-nothing, has_none_left}
 use Rattle.bw_engine.proofs.hearing.read_piece.Goals as goal
 
 pub returns-then-count-eq0-clause-reads : goal.returns-then-count-eq0-clause-reads

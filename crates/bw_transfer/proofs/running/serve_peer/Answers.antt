@@ -1,7 +1,8 @@
 use Rattle.std.proofs.Common.{◌∙◌, ℕ, List, ap, fold, subst}
-use Rattle.bw_engine.specs.Answering.{AnswersAll, frames_of}
-use Rattle.bw_transfer.specs.Tallies.{Counted, Logs, count_of, peer_line, with_frame}
-use Rattle.bw_transfer.proofs.TallyLemmas.{all_by_server, all_counted}
+use Rattle.bw_exchange.specs.Answering.{AnswersAll, frames_of}
+use Rattle.bw_exchange.specs.LinkCounts.{Counted, count_of, with_frame}
+use Rattle.bw_transfer.specs.Tallies.{Logs, peer_line}
+use Rattle.bw_exchange.proofs.TallyLemmas.{all_by_server, all_counted}
 use Rattle.bw_transfer.proofs.running.serve_peer.Goals as goal
 
 pub returns : goal.returns

@@ -1,7 +1,7 @@
 use Rattle.std.proofs.Common.{◌≡◌, ◌+◌, ◌<◌, ◌^◌, drop}
 use Rattle.std.specs.Prelude.{sum_by}
 use Rattle.bw_request.specs.Requests.{samples_in}
-use Rattle.bw_transfer.specs.Tallies.{up_to_last}
+use Rattle.bw_exchange.specs.LinkCounts.{up_to_last}
 use Rattle.bw_transfer.specs.Watched.{bytes_in}
 use Rattle.bw_transfer.proofs.watch.bytes_in.Given as goal
 

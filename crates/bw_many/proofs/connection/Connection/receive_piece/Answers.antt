@@ -1,7 +1,7 @@
 use Rattle.std.proofs.Common.{rules, arith, refl, inl, inr, []}
-use Rattle.bw_engine.specs.declared.serving.ExchangeEnd.TheVariants as ends
-use Rattle.bw_engine.specs.Parts.{waiting_in}
-use Rattle.bw_engine.proofs.Going.{does_none}
+use Rattle.bw_exchange.specs.declared.serving.ExchangeEnd.TheVariants as ends
+use Rattle.bw_exchange.specs.Parts.{waiting_in}
+use Rattle.bw_exchange.proofs.Going.{does_none}
 use Rattle.bw_many.specs.declared.connection.ConnectionEnd.TheVariants.{Over}
 use Rattle.bw_many.proofs.Going.{fed_or_over, fed_reads, no_more, none_held, none_read, over}
 use Rattle.bw_many.proofs.connection.Connection.receive_piece.Goals as goal

@@ -1,9 +1,9 @@
 use Rattle.std.proofs.Common.{rules, ap, refl, sym, inl, inr, take, ◌∙◌, ◌++◌, [], List, ℕ}
 use Rattle.std.proofs.lemmas.List.{take-append-drop}
-use Rattle.bw_engine.specs.declared.serving.ExchangeEnd.TheVariants as ends
+use Rattle.bw_exchange.specs.declared.serving.ExchangeEnd.TheVariants as ends
 use Rattle.bw_many.specs.declared.connection.ConnectionEnd.TheVariants.{Over}
-use Rattle.bw_engine.specs.Parts.{waiting_in}
-use Rattle.bw_engine.proofs.Going.{does_none}
+use Rattle.bw_exchange.specs.Parts.{waiting_in}
+use Rattle.bw_exchange.proofs.Going.{does_none}
 use Rattle.bw_many.proofs.Going.{no_more, none_sent, over, some_taken}
 use Rattle.bw_many.proofs.connection.Connection.send_waiting.Goals as goal
 

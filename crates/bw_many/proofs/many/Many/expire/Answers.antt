@@ -1,5 +1,5 @@
 use Rattle.std.proofs.Common.{◌≡◌, ap, refl, ◌∙◌, subst, sym, List, Some, None, [], ◌++◌}
-use Rattle.bw_engine.specs.Answering.{Answered}
+use Rattle.bw_exchange.specs.Answering.{Answered}
 use Rattle.bw_many.specs.Lives.{IsOver, KeepsPeer, Lives}
 use Rattle.bw_many.proofs.Going.{expires, woken}
 use Rattle.bw_many.proofs.Standing.{adds_closed, adds_none, adds_on, keeps_free, not_some, sets_again, some_is}

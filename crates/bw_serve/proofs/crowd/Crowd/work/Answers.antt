@@ -1,8 +1,8 @@
 use Rattle.std.proofs.Common.{◌∙◌, ap, fold, refl, subst, sym}
-use Rattle.bw_engine.specs.Answering.{AnswersAll, frames_of}
+use Rattle.bw_exchange.specs.Answering.{AnswersAll, frames_of}
 use Rattle.bw_many.proofs.Standing.{sets_again, some_is}
-use Rattle.bw_transfer.specs.Tallies.{with_frame}
-use Rattle.bw_transfer.proofs.TallyLemmas.{all_by_server, all_counted}
+use Rattle.bw_exchange.specs.LinkCounts.{with_frame}
+use Rattle.bw_exchange.proofs.TallyLemmas.{all_by_server, all_counted}
 use Rattle.bw_serve.proofs.crowd.Crowd.work.Goals as goal
 
 pub returns : goal.returns

@@ -1,0 +1,169 @@
+-- Frames are answered one by one, and their replies written, until all are or a write fails.
+use Rattle.std.proofs.Common.{◌≡◌, ℕ, ◌≤◌, Bool, true, false, ◌||◌, if◌then◌else◌, List, [], ◌++◌, length, Option}
+use Rattle.std.proofs.Common.{refl, sym, ap, subst, ◌∙◌, append_assoc, arith}
+use Rattle.std.specs.Prelude.{Result, Ok, Err, OnErr, is_some, IfSome, IsTrue}
+use Rattle.std.specs.List.{list_all}
+use Rattle.std.proofs.lemmas.Bool.{and_parts}
+use Rattle.std.proofs.lemmas.List.Folds.{list_all-append}
+use Rattle.std.proofs.lemmas.List.{append-nil}
+use Rattle.bw_model.specs.Wire.{Frame}
+use Rattle.bw_model.specs.Replies.{Reply, is_reply}
+use Rattle.bw_model.specs.Stream.{End}
+use Rattle.bw_model.specs.Exchange.{replies_bytes}
+use Rattle.bw_stream.specs.Moves.{Writes, Begins}
+use Rattle.bw_wire.proofs.StreamRuns.{runs_follow_streams}
+use Rattle.bw_exchange.specs.declared.exchange.Exchange.{Exchange}
+use Rattle.bw_exchange.specs.declared.step.StreamEnd.{StreamEnd}
+use Rattle.bw_exchange.specs.Answering.{Answered, frames_of, replies_of}
+use Rattle.bw_exchange.specs.Ends.{end_so_far, IsFinal}
+use Rattle.bw_exchange.specs.Done.{last_of, HasDone, DoesMore, AnswersUpTo, AreFirstOf}
+use Rattle.bw_exchange.specs.Served.{IsBrokenOff}
+use Rattle.bw_exchange.specs.Pieces.{WritesAnswers, StopsWriting}
+use Rattle.bw_exchange.proofs.Doing.{same_done}
+use Rattle.bw_exchange.proofs.Going.{none_so_far, answers_append, does_on}
+use Rattle.bw_exchange.proofs.Lawful.{is_exchange}
+use Rattle.bw_exchange.proofs.Reading.{writes-on, writes-part}
+use Rattle.bw_exchange.proofs.Turning.{no_end}
+
+-- ---- all that waits was written
+
+true_false : (b : Bool) → b ≡ true → b ≡ false → ⊥
+true_false b is isnt = cc
+
+-- where nothing waits, the bytes that are gone are all replies
+pub all_gone : (fed : List ℕ) (xs : List Answered) (gone : List ℕ) (e : Exchange) → HasDone fed xs gone e →
+    e.outgoing.items ≡ [] → is_some e.end ≡ false → gone ≡ replies_bytes (replies_of xs)
+all_gone fed xs gone e d none running =
+    sym (append-nil gone)
+    ∙ ap (λ (x : List ℕ). gone ++ x) (sym none)
+    ∙ d.written
+    ∙ ap (λ (x : Option End). replies_bytes (replies_of xs ++ last_of x)) (none_so_far e.end running)
+    ∙ ap replies_bytes (append-nil (replies_of xs))
+
+-- what waits is written
+pub writes_first : {S : Type 0} (answers : S → Frame → List Reply → S → Type 0) (s : S) (w w' : Option (List ℕ))
+    (e e' : Exchange) → DoesMore e [] [] e.outgoing.items e' → e'.outgoing.items ≡ [] → e'.end ≡ e.end →
+    Writes w e.outgoing.items w' → WritesAnswers answers s s w w' e e'
+writes_first answers s w w' e e' does none same taken = record {
+  answered = [];
+  by_server = refl;
+  bytes = e.outgoing.items;
+  taken = taken;
+  does = does;
+  none_wait = none;
+  stays = λ over. same;
+  final = λ running fed before gone d.
+      subst (λ (x : Option StreamEnd). IfSome (end_so_far x) IsFinal) (sym same) (no_end e.end running);
+}
+
+-- one frame more is answered, and what waits is written
+pub writes_more : {S : Type 0} (answers : S → Frame → List Reply → S → Type 0) (s mid later : S)
+    (w w' w'' : Option (List ℕ)) (a b c e : Exchange) → WritesAnswers answers s mid w w' a b →
+    is_some b.end ≡ false → AnswersUpTo answers 1 mid later b c → DoesMore c [] [] c.outgoing.items e →
+    e.outgoing.items ≡ [] → e.end ≡ c.end → Writes w' c.outgoing.items w'' → WritesAnswers answers s later w w'' a e
+writes_more answers s mid later w w' w'' a b c e f running g does none same taken = record {
+  answered = f.answered ++ g.answered;
+  by_server = answers_append answers f.answered g.answered s mid later f.by_server g.by_server;
+  bytes = f.bytes ++ c.outgoing.items;
+  taken = writes-on w w' w'' f.bytes c.outgoing.items f.taken taken;
+  does = subst (λ (xs : List Answered). DoesMore a [] xs (f.bytes ++ c.outgoing.items) e)
+      (append-nil (f.answered ++ g.answered))
+      (subst (λ (x : List ℕ). DoesMore a [] ((f.answered ++ g.answered) ++ []) (x ++ c.outgoing.items) e)
+      (append-nil f.bytes)
+      (does_on a c e [] [] (f.answered ++ g.answered) [] (f.bytes ++ []) c.outgoing.items
+      (does_on a b c [] [] f.answered g.answered f.bytes [] f.does g.does) does));
+  none_wait = none;
+  stays = λ over. absurd (true_false (is_some b.end) (ap is_some (f.stays over) ∙ over) running);
+  final = λ _ fed before gone d.
+      subst (λ (x : Option StreamEnd). IfSome (end_so_far x) IsFinal) (sym same)
+      (g.final running (fed ++ []) (before ++ f.answered) (gone ++ f.bytes) (f.does fed before gone d));
+}
+
+-- ---- a write failed
+
+-- what holds anyway holds behind an error
+pub on_err : {X Y P : Type 0} (r : Result X Y) → P → OnErr r P
+on_err (Ok x) p = tt
+on_err (Err e) p = p
+
+-- replies with spellings, in two parts
+pub spelled_parts : (rs more : List Reply) → IsTrue (list_all is_reply (rs ++ more)) →
+    IsTrue (list_all is_reply rs) × IsTrue (list_all is_reply more)
+spelled_parts rs more all =
+    and_parts (list_all is_reply rs) (list_all is_reply more) (sym (list_all-append is_reply rs more) ∙ all)
+
+-- what is written then, where all replies to the earlier frames were
+broken_off : (fed : List ℕ) (earlier last : List Answered) (gone part rest : List ℕ) (e : Exchange) →
+    HasDone fed (earlier ++ last) gone e → gone ≡ replies_bytes (replies_of earlier) → length last ≤ 1 →
+    part ++ rest ≡ e.outgoing.items
+    → AreFirstOf (frames_of (earlier ++ last)) fed × IsBrokenOff (earlier ++ last) fed (gone ++ part)
+    × IsTrue (list_all is_reply (replies_of (earlier ++ last)))
+broken_off fed earlier last gone part rest e d all few whole =
+    let x = is_exchange runs_follow_streams fed (earlier ++ last) gone e d in (
+      subst (AreFirstOf (frames_of (earlier ++ last))) (append-nil fed) (x.front [] refl),
+      record {
+        end = end_so_far e.end;
+        is_end = x.whole;
+        unwritten = rest;
+        begins = append_assoc gone part rest ∙ ap (λ (y : List ℕ). gone ++ y) whole ∙ d.written;
+        earlier = earlier;
+        last = last;
+        all = refl;
+        few = few;
+        more = part;
+        has_earlier = ap (λ (y : List ℕ). y ++ part) all;
+      },
+      (spelled_parts (replies_of (earlier ++ last)) (last_of (end_so_far e.end)) d.spelled).0,
+    )
+
+-- the first write failed
+pub stops_first : {S : Type 0} (answers : S → Frame → List Reply → S → Type 0) (s : S) (w w' : Option (List ℕ))
+    (e : Exchange) → Begins w e.outgoing.items w' → StopsWriting answers s s w w' e
+stops_first answers s w w' e begins =
+    let x = writes-part w w' e.outgoing.items begins in
+    record {
+      answered = [];
+      by_server = refl;
+      bytes = x.part;
+      taken = x.taken;
+      tells = λ fed before gone d all.
+          broken_off fed before [] gone x.part x.rest e
+          (same_done fed fed before (before ++ []) gone gone e.framer e.outgoing.items (end_so_far e.end) refl
+          (sym (append-nil before)) refl d) all (omega arith) x.whole;
+    }
+
+-- a later write failed
+pub stops_more : {S : Type 0} (answers : S → Frame → List Reply → S → Type 0) (s mid later : S)
+    (w w' w'' : Option (List ℕ)) (a b c : Exchange) → WritesAnswers answers s mid w w' a b →
+    is_some b.end ≡ false → AnswersUpTo answers 1 mid later b c → Begins w' c.outgoing.items w'' →
+    StopsWriting answers s later w w'' a
+stops_more answers s mid later w w' w'' a b c f running g begins =
+    let x = writes-part w' w'' c.outgoing.items begins in
+    record {
+      answered = f.answered ++ g.answered;
+      by_server = answers_append answers f.answered g.answered s mid later f.by_server g.by_server;
+      bytes = f.bytes ++ x.part;
+      taken = writes-on w w' w'' f.bytes x.part f.taken x.taken;
+      tells = λ fed before gone d all.
+          let earlier = before ++ f.answered in
+          let out = gone ++ f.bytes in
+          let here = f.does fed before gone d in
+          let later_done : HasDone fed (earlier ++ g.answered) out c =
+          same_done ((fed ++ []) ++ []) fed (earlier ++ g.answered) (earlier ++ g.answered) (out ++ []) out c.framer
+          c.outgoing.items (end_so_far c.end) (append-nil (fed ++ []) ∙ append-nil fed) refl (append-nil out)
+          (g.does (fed ++ []) earlier out here) in
+          let told = broken_off fed earlier g.answered out x.part x.rest c later_done
+          (all_gone (fed ++ []) earlier out b here f.none_wait running) g.most x.whole in
+          subst (λ (xs : List Answered). AreFirstOf (frames_of xs) fed
+          × IsBrokenOff xs fed (gone ++ (f.bytes ++ x.part)) × IsTrue (list_all is_reply (replies_of xs)))
+          (append_assoc before f.answered g.answered)
+          (subst (λ (y : List ℕ). AreFirstOf (frames_of (earlier ++ g.answered)) fed
+          × IsBrokenOff (earlier ++ g.answered) fed y × IsTrue (list_all is_reply (replies_of (earlier ++ g.answered))))
+          (append_assoc gone f.bytes x.part) told);
+    }
+
+-- ---- it ends
+
+-- 1 as long as more may be answered
+abbrev pub is_busy : Exchange → ℕ
+is_busy e = if e.hungry || is_some e.end then 0 else 1

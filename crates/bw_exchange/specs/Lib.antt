@@ -1,0 +1,13 @@
+pub mod Answering
+pub mod Bounds
+pub mod Ends
+pub mod Feeding
+pub mod Steps
+pub mod Parts
+pub mod Done
+pub mod Served
+pub mod Pieces
+pub mod TurnRuns
+pub mod LinkCounts
+pub mod Tallied
+pub mod EndNames

@@ -1,0 +1,21 @@
+-- What its users know of an exchange.
+use Rattle.std.specs.Prelude.{ℕ, Bool, Option, List}
+use Rattle.bw_wire.specs.Pending.{Pending}
+use Rattle.bw_exchange.specs.declared.exchange.Exchange.{Exchange}
+use Rattle.bw_exchange.specs.declared.step.StreamEnd.{StreamEnd}
+
+-- whether a piece may be fed: all whole frames were answered, and more may come
+abbrev pub wants_piece : Exchange → Bool
+wants_piece e = e.hungry
+
+-- how it ended, where it is over
+abbrev pub end_of : Exchange → Option StreamEnd
+end_of e = e.end
+
+-- the bytes of replies that wait to be taken
+abbrev pub waiting_in : Exchange → List ℕ
+waiting_in e = e.outgoing.items
+
+-- what its framer keeps
+abbrev pub pending_of : Exchange → Pending
+pending_of e = e.framer

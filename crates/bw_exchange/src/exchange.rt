@@ -1,0 +1,210 @@
+//! An exchange as a machine: bytes go in, frames are answered, bytes come out. No input or output.
+ghost use Rattle.std.specs.Prelude.{◌≡◌, ◌+◌, ◌≤◌, [], length, take, drop, true, false, IfOk, OnOk};
+ghost use Rattle.std.specs.Prelude.{OnErr, None, vec_len, vec_capacity, is_some, if◌then◌else◌};
+ghost use Rattle.bw_wire.specs.Codecs.{message_codec};
+ghost use Rattle.bw_wire.specs.Held.{longest_rest, longest_piece};
+ghost use Rattle.bw_wire.specs.Pending.{Nothing, next_of, KeepsAtMost, HasSmallBlock};
+ghost use Rattle.bw_exchange.specs.Bounds.{longest_reply_frame, longest_answer, most_waiting};
+ghost use Rattle.bw_exchange.specs.Bounds.{most_held, most_before_answer};
+ghost use Rattle.bw_exchange.specs.Feeding.{IsFeeding};
+
+use crate::outgoing::{drop_front, put_bad_frame};
+use crate::step::{Step, StreamEnd, take_next};
+use crate::turns::Turns;
+use bw_wire::Framer;
+use std::alloc::{AllocError, Global};
+
+/// The most bytes of replies that wait.
+const MOST_WAITING: usize = 65_600;
+
+/// The most bytes that wait where a frame is still answered: its 17 replies have room behind them,
+/// and that to a bad frame. For each 64 bytes are kept; a frame of a reply has at most 47.
+const MOST_BEFORE_ANSWER: usize = 64_448;
+
+/// The most bytes of a stream.
+const LONGEST_STREAM: u64 = 1 << 62;
+
+/// Why a piece was not fed.
+#[derive(Clone, Copy, Debug, PartialEq, Eq)]
+pub enum FeedError {
+    /// Memory was refused.
+    Memory,
+    /// More than 2^62 bytes would have been fed.
+    TooLong,
+}
+
+/// One exchange with a recorder, between the pieces of its bytes.
+///
+/// It holds at most 98,345 bytes of frames, in a block of at most 262,144, and at most 65,600 bytes
+/// of replies. From one who doesn't take his replies no more frames are answered, and so no more
+/// bytes are wanted.
+#[derive(Drop)]
+pub struct Exchange {
+    framer: Framer,
+    outgoing: Vec<u8>,
+    end: Option<StreamEnd>,
+    hungry: bool,
+    ghost capacity: { most_waiting ≤ vec_capacity outgoing },
+    ghost waiting: { vec_len outgoing ≤ most_waiting },
+    ghost room: { is_some end ≡ false → vec_len outgoing + longest_reply_frame ≤ most_waiting },
+    ghost open: { hungry ≡ true → is_some end ≡ false },
+    ghost quiet: { hungry ≡ true →
+        ((next_of message_codec framer).0 ≡ Nothing) × KeepsAtMost longest_rest framer },
+    ghost held: { framer.held ≤ most_held },
+    ghost block: { HasSmallBlock framer },
+}
+
+impl Exchange {
+    ghost use Rattle.bw_exchange.specs.Parts.{wants_piece, end_of, waiting_in, pending_of};
+    ghost use Rattle.bw_exchange.specs.Done.{HasDone, DoesMore, AnswersSome, IsIdle};
+
+    /// An exchange at its start.
+    ///
+    /// # Errors
+    /// `AllocError` where memory was refused.
+    ///
+    /// # Not specified
+    /// When memory is refused.
+    pub fn new(alloc: Global) -> Result<Exchange, AllocError>
+        ensures fresh { IfOk result (λ e. HasDone [] [] [] e) }
+        ensures hungry { IfOk result (λ e. wants_piece e ≡ true) }
+        ensures waiting { IfOk result (λ e. waiting_in e ≡ []) }
+        ensures small { IfOk result (λ e. vec_capacity e.outgoing ≡ most_waiting) }
+    {
+        Ok(Exchange {
+            framer: Framer::new(alloc),
+            outgoing: Vec::with_capacity(alloc, MOST_WAITING)?,
+            end: None,
+            hungry: true,
+        })
+    }
+
+    /// Whether a piece may be fed: every whole frame was answered, and the exchange isn't over.
+    pub fn is_hungry(&self) -> bool
+        ensures value { result ≡ wants_piece self.now }
+        ensures open { result ≡ true → end_of self.now ≡ None }
+    {
+        self.hungry
+    }
+
+    /// Whether nothing can be answered, with whatever room: until a piece is fed, or ever.
+    pub(crate) fn is_idle(&self) -> bool
+        ensures idle { result ≡ true → IsIdle self.now }
+        ensures fed { result ≡ false → self.now.hungry ≡ false }
+        ensures open { result ≡ false → is_some self.now.end ≡ false }
+    {
+        self.hungry || self.end.is_some()
+    }
+
+    /// How it ended, where it is over.
+    pub fn end(&self) -> Option<StreamEnd>
+        ensures { result ≡ end_of self.now }
+    {
+        self.end
+    }
+
+    /// The bytes of replies that wait, at most 65,600.
+    pub fn outgoing(&self) -> &[u8]
+        ensures value { result.now ≡ waiting_in self.now }
+        ensures len { length result.now ≤ most_waiting }
+    {
+        self.outgoing.as_slice()
+    }
+
+    /// Feeds the next piece, of at most 65,536 bytes, to an exchange that is hungry.
+    ///
+    /// # Errors
+    /// `TooLong` where more than 2^62 bytes would have been fed; `Memory` where memory was refused,
+    /// never where there is room. Nothing changed.
+    ///
+    /// # Not specified
+    /// When a growth is refused.
+    pub fn feed(&mut self, piece: &[u8]) -> Result<(), FeedError>
+        requires hungry { wants_piece self.old ≡ true }
+        requires short { length piece.now ≤ longest_piece }
+        ensures fed { OnOk result (DoesMore self.old piece.now [] [] self.new) }
+        ensures busy { OnOk result (wants_piece self.new ≡ false) }
+        ensures end { OnOk result (end_of self.new ≡ end_of self.old) }
+        ensures waiting { OnOk result (waiting_in self.new ≡ waiting_in self.old) }
+        ensures unchanged { OnErr result (self.new ≡ self.old) }
+        ensures why { IsFeeding (pending_of self.old) piece.now result }
+    {
+        if piece.len() as u64 > LONGEST_STREAM - self.framer.fed() {
+            return Err(FeedError::TooLong);
+        }
+        let Ok(()) = self.framer.feed(piece) else {
+            return Err(FeedError::Memory);
+        };
+        self.hungry = false;
+        Ok(())
+    }
+
+    /// Has whole frames answered: at most so many, and as long as there is room for replies. How
+    /// many were.
+    ///
+    /// Fewer than asked for only where the exchange is hungry or over, or more than 64,448 bytes
+    /// wait.
+    pub fn answer<T: Turns>(&mut self, server: &mut T, turns: usize) -> usize
+        ensures { AnswersSome T.answers turns result server.old server.new self.old self.new }
+    {
+        for turn in 0..turns {
+            if self.is_idle() || self.outgoing.len() > MOST_BEFORE_ANSWER {
+                return turn;
+            }
+            if !self.answer_one(server) {
+                return turn;
+            }
+        }
+        turns
+    }
+
+    /// Has the next frame answered, if it is whole. Whether one was.
+    pub(crate) fn answer_one<T: Turns>(&mut self, server: &mut T) -> bool
+        requires room { vec_len self.old.outgoing ≤ most_before_answer }
+        requires open { is_some self.old.end ≡ false }
+        ensures answers { AnswersSome T.answers 1 (if result then 1 else 0) server.old server.new
+            self.old self.new }
+        ensures waiting { vec_len self.new.outgoing ≤ vec_len self.old.outgoing + longest_answer }
+    {
+        match take_next(server, &mut self.framer, &mut self.outgoing) {
+            Step::Hungry => {
+                self.hungry = true;
+                false
+            }
+            Step::Answered => true,
+            Step::Ended(end) => {
+                self.end = Some(end);
+                false
+            }
+        }
+    }
+
+    /// Ends the exchange, which is hungry, and whose input has ended.
+    pub fn finish(&mut self)
+        requires hungry { wants_piece self.old ≡ true }
+        ensures done { DoesMore self.old [] [] [] self.new }
+        ensures over { is_some (end_of self.new) ≡ true }
+        ensures idle { wants_piece self.new ≡ false }
+    {
+        self.hungry = false;
+        match self.framer.end() {
+            Ok(()) => self.end = Some(StreamEnd::EndOfInput),
+            Err(fault) => {
+                put_bad_frame(&mut self.outgoing, fault);
+                self.end = Some(StreamEnd::BadFrame(fault));
+            }
+        }
+    }
+
+    /// Lets go of so many bytes at the front of those that wait, which were taken.
+    pub fn took(&mut self, count: usize)
+        requires { count ≤ length (waiting_in self.old) }
+        ensures done { DoesMore self.old [] [] (take count (waiting_in self.old)) self.new }
+        ensures left { waiting_in self.new ≡ drop count (waiting_in self.old) }
+        ensures end { end_of self.new ≡ end_of self.old }
+        ensures hungry { wants_piece self.new ≡ wants_piece self.old }
+        ensures kept { pending_of self.new ≡ pending_of self.old }
+    {
+        drop_front(&mut self.outgoing, count);
+    }
+}

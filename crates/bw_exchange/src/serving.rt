@@ -1,0 +1,209 @@
+//! One exchange over a reader and a writer, to its end.
+ghost use Rattle.std.specs.Prelude.{◌≡◌, ◌+◌, ◌≤◌, [], length, true, false, IfErr, OnOk, OnErr};
+ghost use Rattle.std.specs.Prelude.{is_some, IsTrue};
+ghost use Rattle.bw_model.specs.Wire.{are_bytes};
+ghost use Rattle.bw_stream.specs.Moves.{one_more, failures_after, Writes, Begins};
+ghost use Rattle.bw_wire.specs.Held.{longest_piece, longest_stream};
+ghost use Rattle.bw_exchange.specs.declared.serving.ExchangeEnd.TheVariants.{Memory};
+ghost use Rattle.bw_exchange.specs.Parts.{wants_piece, end_of, waiting_in, pending_of};
+ghost use Rattle.bw_exchange.specs.Done.{DoesMore, IsIdle};
+ghost use Rattle.bw_exchange.specs.Served.{most_reads, reads_failed, writes_failed, IsLimited, Serves};
+ghost use Rattle.bw_exchange.specs.Pieces.{FeedsNext, StopsReading, WritesAnswers, StopsWriting};
+
+use crate::exchange::{Exchange, FeedError};
+use crate::step::StreamEnd;
+use crate::turns::Turns;
+use bw_stream::{IoFailed, Sink, Source, write_all};
+use bw_wire::WireFault;
+use std::alloc::Global;
+
+/// The longest piece that is read, in bytes.
+pub const PIECE: usize = 65_536;
+
+/// The most reads of an exchange.
+pub const MOST_READS: u64 = 1 << 32;
+
+/// How an exchange ended.
+#[derive(Clone, Copy, Debug, PartialEq, Eq)]
+pub enum ExchangeEnd {
+    /// The recorder said that it ends.
+    Bye,
+    /// The input ended behind a frame.
+    EndOfInput,
+    /// A frame was bad, or was cut off by the input's end.
+    BadFrame(WireFault),
+    /// The reader failed.
+    ReadFault,
+    /// The writer failed.
+    WriteFault,
+    /// 2^32 reads were not enough.
+    TurnLimit,
+    /// Memory was refused.
+    Memory,
+}
+
+impl From<StreamEnd> for ExchangeEnd {
+    ghost use Rattle.bw_exchange.specs.Served.{ended_by};
+
+    ghost from_gives = { λ end result. result ≡ ended_by end };
+
+    /// The end of the same name.
+    fn from(end: StreamEnd) -> ExchangeEnd {
+        match end {
+            StreamEnd::Bye => ExchangeEnd::Bye,
+            StreamEnd::EndOfInput => ExchangeEnd::EndOfInput,
+            StreamEnd::BadFrame(fault) => ExchangeEnd::BadFrame(fault),
+        }
+    }
+}
+
+/// Serves one exchange to its end.
+///
+/// Each frame is answered by itself, and its replies are written before the next is taken. Bytes
+/// behind `Bye` or a bad frame are ignored.
+///
+/// `TurnLimit` comes only after 2^32 reads, of 2^32 bytes or more.
+///
+/// At `ReadFault` and `TurnLimit` all whole frames that were read are answered, and their replies
+/// written; at `Memory` those before the last piece; at `WriteFault` all but the last frame that
+/// was answered have their replies written.
+///
+/// # Not specified
+/// - When memory is refused.
+/// - Whether the writer was flushed.
+/// - How many bytes the reader counted, but at `TurnLimit`.
+pub fn serve_exchange<R: Source, W: Sink, T: Turns>(
+    alloc: Global,
+    server: &mut T,
+    reader: &mut R,
+    writer: &mut W,
+) -> ExchangeEnd
+    ensures served { Serves T.answers result server.old server.new
+        (R.left reader.old) (R.left reader.new) (W.written writer.old) (W.written writer.new) }
+    ensures reads { R.failures reader.new ≡ reads_failed result (R.failures reader.old) }
+    ensures writes { W.failures writer.new ≡ writes_failed result (W.failures writer.old) }
+    ensures calls { R.calls reader.new ≤ R.calls reader.old + most_reads }
+    ensures limit { IsLimited result (R.moved reader.old) (R.moved reader.new)
+        (R.calls reader.old) (R.calls reader.new) }
+{
+    let Ok(mut exchange) = Exchange::new(alloc) else {
+        return ExchangeEnd::Memory;
+    };
+    let Ok(mut buffer) = Vec::from_elem(alloc, 0u8, PIECE) else {
+        return ExchangeEnd::Memory;
+    };
+    for _read in 0..MOST_READS {
+        if let Err(end) = read_piece(&mut exchange, reader, buffer.as_mut_slice()) {
+            return end;
+        }
+        if let Err(_failed) = answer_held(&mut exchange, server, writer) {
+            return ExchangeEnd::WriteFault;
+        }
+        if let Some(end) = exchange.end() {
+            return ExchangeEnd::from(end);
+        }
+    }
+    ExchangeEnd::TurnLimit
+}
+
+/// Reads the next piece and feeds it, or ends the exchange where the input has ended.
+///
+/// # Errors
+/// `ReadFault` and `Memory`: the exchange is as it was.
+fn read_piece<R: Source>(
+    exchange: &mut Exchange,
+    reader: &mut R,
+    buffer: &mut [u8],
+) -> Result<(), ExchangeEnd>
+    requires hungry { wants_piece exchange.old ≡ true }
+    requires buffer { length buffer.old ≡ longest_piece }
+    requires room { (pending_of exchange.old).fed + longest_piece ≤ longest_stream }
+    ensures fed { OnOk result (FeedsNext (R.left reader.old) (R.left reader.new)
+        (R.moved reader.old) (R.moved reader.new) exchange.old exchange.new) }
+    ensures calls { R.calls reader.new ≡ one_more (R.calls reader.old) }
+    ensures count { OnOk result (R.failures reader.new ≡ R.failures reader.old) }
+    ensures stops { IfErr result (λ end.
+        StopsReading end (R.left reader.old) (R.left reader.new)) }
+    ensures failed { IfErr result (λ end.
+        R.failures reader.new ≡ reads_failed end (R.failures reader.old)) }
+    ensures unchanged { OnErr result (exchange.new ≡ exchange.old) }
+{
+    let Ok(count) = reader.read(buffer) else {
+        return Err(ExchangeEnd::ReadFault);
+    };
+    if count == 0 {
+        exchange.finish();
+        return Ok(());
+    }
+    feed_piece(exchange, &buffer[..count])
+}
+
+/// Feeds a piece that isn't too long.
+///
+/// # Errors
+/// `Memory`: the exchange is as it was.
+fn feed_piece(exchange: &mut Exchange, piece: &[u8]) -> Result<(), ExchangeEnd>
+    requires hungry { wants_piece exchange.old ≡ true }
+    requires short { length piece.now ≤ longest_piece }
+    requires room { (pending_of exchange.old).fed + longest_piece ≤ longest_stream }
+    ensures bytes { IsTrue (are_bytes piece.now) }
+    ensures fed { OnOk result (DoesMore exchange.old piece.now [] [] exchange.new) }
+    ensures end { OnOk result (end_of exchange.new ≡ end_of exchange.old) }
+    ensures memory { IfErr result (λ end. end ≡ Memory) }
+    ensures unchanged { OnErr result (exchange.new ≡ exchange.old) }
+{
+    match exchange.feed(piece) {
+        Ok(()) => Ok(()),
+        Err(FeedError::Memory) => Err(ExchangeEnd::Memory),
+        // So many reads of so many bytes are never that long.
+        Err(FeedError::TooLong) => unreachable!(),
+    }
+}
+
+/// Has all whole frames answered, one by one, and writes the replies to each before the next.
+///
+/// # Errors
+/// `IoFailed` where the writer failed: only a beginning of what waited was written.
+fn answer_held<T: Turns, W: Sink>(
+    exchange: &mut Exchange,
+    server: &mut T,
+    writer: &mut W,
+) -> Result<(), IoFailed>
+    ensures answers { OnOk result (WritesAnswers T.answers server.old server.new
+        (W.written writer.old) (W.written writer.new) exchange.old exchange.new) }
+    ensures idle { OnOk result (IsIdle exchange.new) }
+    ensures stops { OnErr result (StopsWriting T.answers server.old server.new
+        (W.written writer.old) (W.written writer.new) exchange.old) }
+    ensures count { W.failures writer.new ≡ failures_after result (W.failures writer.old) }
+{
+    // Where the input ended inside a frame, the reply to it waits.
+    write_waiting(exchange, writer)?;
+    while !exchange.is_idle() {
+        exchange.answer_one(server);
+        write_waiting(exchange, writer)?;
+    }
+    Ok(())
+}
+
+/// Writes all that waits.
+///
+/// # Errors
+/// `IoFailed` where the writer failed: a beginning of what waits was written.
+fn write_waiting<W: Sink>(exchange: &mut Exchange, writer: &mut W) -> Result<(), IoFailed>
+    ensures done { OnOk result (DoesMore exchange.old [] [] (waiting_in exchange.old)
+        exchange.new) }
+    ensures none { OnOk result (waiting_in exchange.new ≡ []) }
+    ensures end { end_of exchange.new ≡ end_of exchange.old }
+    ensures hungry { wants_piece exchange.new ≡ wants_piece exchange.old }
+    ensures framer { pending_of exchange.new ≡ pending_of exchange.old }
+    ensures ok { OnOk result (Writes (W.written writer.old) (waiting_in exchange.old)
+        (W.written writer.new)) }
+    ensures err { OnErr result (Begins (W.written writer.old) (waiting_in exchange.old)
+        (W.written writer.new)) }
+    ensures count { W.failures writer.new ≡ failures_after result (W.failures writer.old) }
+{
+    let count = exchange.outgoing().len();
+    write_all(writer, exchange.outgoing())?;
+    exchange.took(count);
+    Ok(())
+}

@@ -1,0 +1,34 @@
+-- What many connections come to in takes: each name's own are not changed by the others.
+use Rattle.std.specs.Prelude.{◌≡◌, ℕ, is_some, IsTrue, List, []}
+use Rattle.bw_model.specs.Wire.{Frame}
+use Rattle.bw_model.specs.Turn.{IsolatesNames, Luck, book_after, run}
+use Rattle.bw_store.specs.declared.store.TakeStore.{Ghosts as StoreGhosts}
+use Rattle.bw_journal.specs.declared.journal.Journal.{Ghosts as JournalGhosts}
+use Rattle.bw_session.specs.Books.{HoldsBook}
+use Rattle.bw_session.specs.declared.server.Server.{Server}
+use Rattle.bw_exchange.specs.Answering.{Answered, AnswersAll}
+use Rattle.bw_engine.specs.Ingesting.{LeavesRun}
+use Rattle.bw_exchange.specs.TurnRuns.{answers_in}
+use Rattle.bw_session.specs.ServerTurns.{ServerTurn}
+use Rattle.bw_many.specs.Keeping.{Tagged, all_answered}
+
+module _ {X Y : Type 0} (S : StoreGhosts X) (J : JournalGhosts Y) where
+  -- These frames were answered over a store that was before so and is now so: it has the files of
+  -- what was answered, and each name's replies and log follow from its own messages alone.
+  pub record KeepsNamesApart (limit : ℕ) (before after : X) (answered : List Answered) : Type 0 where
+    pub leaves : LeavesRun S limit before answered after
+    -- under some luck at each frame they are a run of the definitions
+    pub came : List (Frame × Luck)
+    pub answers : answers_in (run (λ name. is_some (S.contents before name)) [] came) ≡ answered
+    pub left : book_after (λ name. is_some (S.contents before name)) [] came ≡ leaves.book
+    -- of which each name's turns are a run of their own
+    pub each : (name : List ℕ) → IsolatesNames (λ n. is_some (S.contents before n)) name came
+
+  -- So it is for a new server over an honest store, in whatever order the turns of its connections
+  -- came.
+  abbrev pub NamesStandApart : Type 0
+  NamesStandApart = (limit : ℕ) (before : X) (old new : Server X Y S J) (trace : List Tagged) →
+      IsTrue (S.honest before) → old.stores.store ≡ before → old.limit ≡ limit →
+      HoldsBook S J (S.contents before) old [] →
+      AnswersAll (ServerTurn S J) old (all_answered trace) new →
+      KeepsNamesApart limit before new.stores.store (all_answered trace)

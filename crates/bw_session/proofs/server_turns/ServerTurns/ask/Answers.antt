@@ -1,0 +1,27 @@
+use Rattle.std.proofs.Common.{List, ℕ, refl, ◌∙◌, ap}
+use Rattle.std.specs.Prelude.{is_some}
+use Rattle.bw_model.specs.Replies.{Noticed, Next}
+use Rattle.bw_model.specs.Book.{log_of}
+use Rattle.bw_wire.specs.Frames.{asked_name, asked_number}
+use Rattle.bw_wire.specs.Replies.{reply_of}
+use Rattle.bw_session.specs.Books.{failures_of}
+use Rattle.bw_session.proofs.ServerAnswers.{asked_turn}
+use Rattle.bw_session.proofs.server_turns.ServerTurns.ask.Goals as goal
+
+pub returns-clause-answered : goal.returns-clause-answered
+returns-clause-answered g c = record {
+  limit = refl;
+  honest = refl;
+  honest_notes = refl;
+  turned = λ honest first book h. record {
+    later = book;
+    turned = asked_turn (λ n. is_some (first n)) (failures_of g.S.TakeStore g.J.Journal c.args.self.now) book
+        (asked_name c.args.ask.now) (asked_number c.args.ask.now) (reply_of c.ask.result)
+        (c.ask.ensures.value first book h
+        ∙ ap (λ (name : List ℕ). Noticed name c.number.result Next (log_of book name).done) c.name.ensures
+        ∙ ap (λ (n : ℕ). Noticed (asked_name c.args.ask.now) n Next (log_of book (asked_name c.args.ask.now)).done)
+        c.number.ensures.value);
+    held = h;
+    noted = λ honest_notes notes. notes;
+  };
+}

@@ -1,0 +1,35 @@
+use Rattle.std.proofs.Common.{subst, map}
+use Rattle.std.specs.Prelude.{is_some}
+use Rattle.bw_model.specs.Book.{Book}
+use Rattle.bw_wire.specs.Frames.{message_of}
+use Rattle.bw_wire.specs.Replies.{reply_of}
+use Rattle.bw_session.specs.Books.{failures_of, NotesBook}
+use Rattle.bw_session.specs.Servers.{store_since, done_in}
+use Rattle.bw_session.specs.Tables.{session_in}
+use Rattle.bw_session.proofs.ServerAnswers.{done_is, later_told}
+use Rattle.bw_session.proofs.server_turns.ServerTurns.turn.Goals as goal
+
+pub returns-clause-answered : goal.returns-clause-answered
+returns-clause-answered g c =
+    let both = c.turn.ensures.both.1 in
+    record {
+      limit = c.turn.ensures.limit;
+      honest = both.honest;
+      honest_notes = both.honest_notes;
+      turned = λ honest first book h.
+          let t = c.turn.ensures.turned honest first book h in
+          let m = message_of c.args.message.now in
+          let done = done_is c.turn.new.self.limit (store_since g.S.TakeStore first c.turn.new.self.stores.store)
+          (session_in c.turn.new.self.sessions) t.later t.held m.name in
+          record {
+            later = t.later;
+            turned = t.turned;
+            held = t.held;
+            noted = λ honest_notes notes.
+                subst (λ (b : Book). NotesBook g.S.TakeStore g.J.Journal first c.turn.new.self b)
+                (later_told (λ n. is_some (first n)) (failures_of g.S.TakeStore g.J.Journal c.args.self.now)
+                (failures_of g.S.TakeStore g.J.Journal c.turn.new.self) book m
+                (map reply_of c.turn.new.out.items) t.later (done_in c.turn.new.self.sessions m.name) t.turned done)
+                (c.turn.ensures.noted honest honest_notes first book h notes);
+          };
+    }
