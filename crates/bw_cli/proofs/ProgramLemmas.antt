@@ -5,24 +5,24 @@ use Rattle.clap.specs.Walk.{Text}
 use Rattle.clap.specs.declared.error.ErrorKind.{ErrorKind as TextKind}
 use Rattle.clap.specs.declared.error.ErrorKind.TheVariants as texts
 use Rattle.bw_args.specs.Lines.{IsLineOf}
-use Rattle.bw_commands.specs.Faults.{IsToldBy, exit_of}
+use Rattle.bw_console.specs.Faults.{IsToldBy, exit_of}
 use Rattle.bw_commands.specs.Inspections.{IsPrintOfText}
-use Rattle.bw_commands.specs.Printing.{IsOf, Nothing, Print}
+use Rattle.bw_console.specs.Printing.{IsOf, Nothing, Print}
 use Rattle.bw_stream.specs.declared.sink.Sink.{Ghosts as Writer}
 use Rattle.bw_stream.specs.declared.source.Source.{Ghosts as Reader}
 use Rattle.bw_store.specs.declared.store.TakeStore.{Ghosts as StoreGhosts}
 use Rattle.bw_journal.specs.declared.journal.Journal.{Ghosts as JournalGhosts}
-use Rattle.bw_many.specs.declared.link.Link.{Ghosts as LinkGhosts}
-use Rattle.bw_serve.specs.declared.lobby.Lobby.{Ghosts as LobbyGhosts}
-use Rattle.bw_transfer.specs.declared.dial.Dial.{Ghosts as DialGhosts}
-use Rattle.bw_transfer.specs.declared.network.Network.{Ghosts as NetworkGhosts}
-use Rattle.bw_transfer.specs.declared.peers.Peers.{Ghosts as PeerGhosts}
-use Rattle.bw_serve.specs.declared.gathering.Gathering.{Ghosts as GatheringGhosts}
+use Rattle.bw_ports.specs.declared.link.Link.{Ghosts as LinkGhosts}
+use Rattle.bw_ports.specs.declared.lobby.Lobby.{Ghosts as LobbyGhosts}
+use Rattle.bw_ports.specs.declared.dial.Dial.{Ghosts as DialGhosts}
+use Rattle.bw_ports.specs.declared.network.Network.{Ghosts as NetworkGhosts}
+use Rattle.bw_ports.specs.declared.peers.Peers.{Ghosts as PeerGhosts}
+use Rattle.bw_ports.specs.declared.gathering.Gathering.{Ghosts as GatheringGhosts}
 use Rattle.bw_cli.specs.Programs.{DoesAlone, IsDoneFor, IsProgram, IsTelling, IsUnread}
-use Rattle.bw_commands.specs.declared.exit.Exit.{Exit}
-use Rattle.bw_commands.specs.declared.exit.Exit.TheVariants as exits
-use Rattle.bw_commands.specs.declared.fault.Fault.{Fault}
-use Rattle.bw_commands.specs.declared.fault.Fault.TheVariants as faults
+use Rattle.bw_console.specs.declared.exit.Exit.{Exit}
+use Rattle.bw_console.specs.declared.exit.Exit.TheVariants as exits
+use Rattle.bw_console.specs.declared.fault.Fault.{Fault}
+use Rattle.bw_console.specs.declared.fault.Fault.TheVariants as faults
 
 -- want of memory ends the telling of any text
 pub told-want : (kind : TextKind) (told : Print) → IsToldBy (Err faults.Memory) told

@@ -16,22 +16,23 @@ use Rattle.bw_stream.specs.declared.sink.Sink.{Ghosts as Writer}
 use Rattle.bw_stream.specs.declared.source.Source.{Ghosts as Reader}
 use Rattle.bw_store.specs.declared.store.TakeStore.{Ghosts as StoreGhosts}
 use Rattle.bw_journal.specs.declared.journal.Journal.{Ghosts as JournalGhosts}
-use Rattle.bw_commands.specs.Deeds.{Deed, Does, IsReplay, IsWant}
-use Rattle.bw_commands.specs.Faults.{IsToldBy, exit_of}
+use Rattle.bw_console.specs.Deeds.{Deed, Does, IsWant}
+use Rattle.bw_commands.specs.Replays.{IsReplay}
+use Rattle.bw_console.specs.Faults.{IsToldBy, exit_of}
 use Rattle.bw_commands.specs.Inspections.{IsPrintOfText}
-use Rattle.bw_commands.specs.Openings.{IsLook}
-use Rattle.bw_commands.specs.Printing.{Nothing, IsOf}
+use Rattle.bw_commands.specs.Looks.{IsLook}
+use Rattle.bw_console.specs.Printing.{Nothing, IsOf}
 use Rattle.bw_commands.specs.Rehearsals.{IsRehearsal}
-use Rattle.bw_commands.specs.Unworded.{IsUnworded}
-use Rattle.bw_commands.specs.declared.exit.Exit.{Exit}
-use Rattle.bw_commands.specs.declared.exit.Exit.TheVariants as exits
-use Rattle.bw_commands.specs.declared.fault.Fault.{Fault}
-use Rattle.bw_many.specs.declared.link.Link.{Ghosts as LinkGhosts}
-use Rattle.bw_serve.specs.declared.lobby.Lobby.{Ghosts as LobbyGhosts}
-use Rattle.bw_transfer.specs.declared.dial.Dial.{Ghosts as DialGhosts}
-use Rattle.bw_transfer.specs.declared.network.Network.{Ghosts as NetworkGhosts}
-use Rattle.bw_transfer.specs.declared.peers.Peers.{Ghosts as PeerGhosts}
-use Rattle.bw_serve.specs.declared.gathering.Gathering.{Ghosts as GatheringGhosts}
+use Rattle.bw_console.specs.Unworded.{IsUnworded}
+use Rattle.bw_console.specs.declared.exit.Exit.{Exit}
+use Rattle.bw_console.specs.declared.exit.Exit.TheVariants as exits
+use Rattle.bw_console.specs.declared.fault.Fault.{Fault}
+use Rattle.bw_ports.specs.declared.link.Link.{Ghosts as LinkGhosts}
+use Rattle.bw_ports.specs.declared.lobby.Lobby.{Ghosts as LobbyGhosts}
+use Rattle.bw_ports.specs.declared.dial.Dial.{Ghosts as DialGhosts}
+use Rattle.bw_ports.specs.declared.network.Network.{Ghosts as NetworkGhosts}
+use Rattle.bw_ports.specs.declared.peers.Peers.{Ghosts as PeerGhosts}
+use Rattle.bw_ports.specs.declared.gathering.Gathering.{Ghosts as GatheringGhosts}
 use Rattle.bw_cli.specs.Remote.{Sends, Serves}
 
 -- help or the version is printed

@@ -10,19 +10,19 @@ use Rattle.bw_args.specs.declared.peers.Recorders.{Recorders}
 use Rattle.bw_args.specs.declared.peers.Recorders.TheVariants as recorders
 use Rattle.bw_args.specs.declared.peers.Send.{Send}
 use Rattle.bw_args.specs.declared.peers.Serve.{Serve}
-use Rattle.bw_commands.specs.Deeds.{Deed, HasWritten}
-use Rattle.bw_commands.specs.Printing.{failures_if}
-use Rattle.bw_commands.specs.declared.exit.Exit.{Exit}
-use Rattle.bw_many.specs.declared.link.Link.{Ghosts as LinkGhosts}
-use Rattle.bw_serve.specs.declared.lobby.Lobby.{Ghosts as LobbyGhosts}
-use Rattle.bw_transfer.specs.Hosted.{Hosts}
-use Rattle.bw_transfer.specs.Sends.{IsSendRun}
-use Rattle.bw_transfer.specs.declared.dial.Dial.{Ghosts as DialGhosts}
-use Rattle.bw_transfer.specs.declared.network.Network.{Ghosts as NetworkGhosts}
-use Rattle.bw_transfer.specs.declared.network.Serving.{Serving}
-use Rattle.bw_transfer.specs.declared.peers.Peers.{Ghosts as PeerGhosts}
+use Rattle.bw_console.specs.Deeds.{Deed, HasWritten}
+use Rattle.bw_console.specs.Printing.{failures_if}
+use Rattle.bw_console.specs.declared.exit.Exit.{Exit}
+use Rattle.bw_ports.specs.declared.link.Link.{Ghosts as LinkGhosts}
+use Rattle.bw_ports.specs.declared.lobby.Lobby.{Ghosts as LobbyGhosts}
+use Rattle.bw_serve.specs.Hosted.{Hosts}
+use Rattle.bw_send.specs.Sends.{IsSendRun}
+use Rattle.bw_ports.specs.declared.dial.Dial.{Ghosts as DialGhosts}
+use Rattle.bw_ports.specs.declared.network.Network.{Ghosts as NetworkGhosts}
+use Rattle.bw_serve.specs.declared.hosting_in_turn.Serving.{Serving}
+use Rattle.bw_ports.specs.declared.peers.Peers.{Ghosts as PeerGhosts}
 use Rattle.bw_serve.specs.HostedMany.{HostsMany}
-use Rattle.bw_serve.specs.declared.gathering.Gathering.{Ghosts as GatheringGhosts}
+use Rattle.bw_ports.specs.declared.gathering.Gathering.{Ghosts as GatheringGhosts}
 use Rattle.bw_serve.specs.declared.hosting.Hosting.{Hosting}
 
 -- how many exchanges a server makes: without an end the most that can be counted, 2^64 - 1

@@ -4,8 +4,7 @@
 pub mod program;
 mod remote;
 
-use bw_commands::Host;
-use bw_net::{TcpNetwork, Terminal};
+use bw_net::{Host, TcpNetwork, Terminal};
 use bw_stream::Plain;
 use program::start;
 use std::process::ExitCode;

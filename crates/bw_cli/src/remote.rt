@@ -4,12 +4,13 @@ ghost use Rattle.bw_layout.specs.Limits.{IsLimit};
 ghost use Rattle.bw_cli.specs.Remote.{IsHosting, IsServing, Sends, Serves, exchanges_of};
 
 use bw_args::{End, Recorders, Send, Serve};
-use bw_commands::Exit;
+use bw_console::Exit;
 use bw_journal::{Journal, NoJournal};
 use bw_layout::Limit;
-use bw_serve::{Bounds, Gathering, Hosting, serve_many};
+use bw_ports::{Gathering, Network, Watch};
+use bw_send::send_watched;
+use bw_serve::{Bounds, Hosting, Serving, serve, serve_many};
 use bw_stream::{Sink, Source};
-use bw_transfer::{Network, Serving, Watch, send_watched, serve};
 use std::alloc::Global;
 
 /// Serves as it is asked for.

@@ -6,13 +6,13 @@ use Rattle.std.proofs.Common.{Option, Some, None}
 use Rattle.std.specs.Prelude.{MatchOption}
 use Rattle.bw_model.specs.World.{Event}
 use Rattle.std.proofs.Common.{Err, ◌≢◌}
-use Rattle.bw_commands.specs.Input.{asked_by}
-use Rattle.bw_commands.specs.Faults.{RefusesInput, RefusesLength}
-use Rattle.bw_commands.specs.Printing.{Nothing}
+use Rattle.bw_console.specs.Input.{asked_by}
+use Rattle.bw_console.specs.Faults.{RefusesInput, RefusesLength}
+use Rattle.bw_console.specs.Printing.{Nothing}
 use Rattle.bw_commands.specs.Replays.{IsPrintOf}
 use Rattle.bw_commands.specs.Rehearsals.{RefusesEvents, IsPrintOfWorld}
-use Rattle.bw_commands.specs.declared.fault.Fault.{Fault}
-use Rattle.bw_commands.specs.declared.fault.Fault.TheVariants as faults
+use Rattle.bw_console.specs.declared.fault.Fault.{Fault}
+use Rattle.bw_console.specs.declared.fault.Fault.TheVariants as faults
 use Rattle.bw_rehearsal.specs.Rehearsing.{event_meaning}
 use Rattle.bw_rehearsal.specs.declared.event.Event.{Event as Read}
 use Rattle.bw_rehearsal.specs.EventLines.{SaysEvent}

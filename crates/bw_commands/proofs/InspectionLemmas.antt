@@ -3,17 +3,17 @@ use Rattle.std.proofs.Common.{◌≡◌, ◌∙◌, ℕ, List, [], ◌++◌, Boo
 use Rattle.std.proofs.Common.{ap, if◌then◌else◌}
 use Rattle.bw_stream.specs.Moves.{Keeps, Writes, one_more}
 use Rattle.bw_model.specs.Report.{report_text}
-use Rattle.bw_inspect.specs.Places.{Of}
+use Rattle.bw_stream.specs.Readers.{Of}
 use Rattle.bw_inspect.specs.Readings.{Refuses, Tells}
 use Rattle.bw_inspect.specs.Reports.{told_by}
 use Rattle.bw_inspect.specs.Faults.{is_failed_read}
 use Rattle.bw_inspect.specs.declared.fault.InspectFault.{InspectFault}
 use Rattle.bw_inspect.specs.declared.report.Report.{Report}
-use Rattle.bw_commands.specs.Deeds.{Deed}
-use Rattle.bw_commands.specs.Faults.{IsToldBy, exit_of}
+use Rattle.bw_console.specs.Deeds.{Deed}
+use Rattle.bw_console.specs.Faults.{IsToldBy, exit_of}
 use Rattle.bw_commands.specs.Inspections.{IsInspection, IsPrintOfText, exit_for, fault_line}
-use Rattle.bw_commands.specs.Printing.{IsOf, Nothing, Print, failures_if}
-use Rattle.bw_commands.specs.declared.fault.Fault.{Fault}
+use Rattle.bw_console.specs.Printing.{IsOf, Nothing, Print, failures_if}
+use Rattle.bw_console.specs.declared.fault.Fault.{Fault}
 
 -- an inspection that came to a report
 pub report-told : (file : Option (List ℕ)) (r : Report) (left : Option (List ℕ)) (outcome : Result (Unit {0}) Fault)

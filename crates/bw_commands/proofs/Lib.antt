@@ -1,8 +1,4 @@
-pub mod LineLemmas
-pub mod InputLemmas
-pub mod PrintLemmas
 pub mod InspectionLemmas
-pub mod OpeningLemmas
 pub mod CallLemmas
 pub mod QuietLemmas
 pub mod ReplayLemmas

@@ -27,7 +27,7 @@ use Rattle.bw_store.specs.MemoryNames.{AreNames, names_of}
 use Rattle.bw_store.specs.declared.memory.MemoryStore.{MemoryStore}
 use Rattle.bw_store.specs.declared.store.TakeStore.{Ghosts as StoreGhosts}
 use Rattle.bw_session.specs.Numbered.{failed_calls}
-use Rattle.bw_commands.specs.Input.{longest_input}
+use Rattle.bw_console.specs.Input.{longest_input}
 use Rattle.bw_commands.specs.Runs.{ToldExchange, told_of, replies_told, TellsInput, TellInputs, TellsExchange, AllTell}
 use Rattle.bw_commands.specs.OneFuse.{failures_under, SufficeForAll}
 use Rattle.bw_commands.specs.Replays.{IsRunText}

@@ -16,7 +16,8 @@ use Rattle.bw_model.specs.Replies.{Reply, Judged, Noticed, Refused, is_reply, re
 use Rattle.bw_model.specs.Exchange.{replies_bytes}
 use Rattle.bw_commands.specs.Runs.{ToldExchange, AllTell}
 use Rattle.bw_exchange.specs.EndNames.{end_name, name_of_end}
-use Rattle.bw_commands.specs.Text.{as_line, reply_line, exchange_line, exchanges_text}
+use Rattle.bw_commands.specs.Text.{reply_line, exchange_line, exchanges_text}
+use Rattle.bw_console.specs.Text.{as_line}
 use Rattle.bw_commands.specs.Text.{file_text_if, files_text}
 use Rattle.std.specs.Prelude.{slice_get, get_or, drop}
 use Rattle.std.proofs.lemmas.Option.{slice_get-get_or}

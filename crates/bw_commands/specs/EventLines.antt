@@ -2,10 +2,10 @@
 use Rattle.std.specs.Prelude.{◌≡◌, ◌⊎◌, ℕ, ◌+◌, List, [], ◌∷◌}
 use Rattle.bw_model.specs.World.{Event}
 use Rattle.bw_rehearsal.specs.EventLines.{SaysEvent}
-use Rattle.bw_commands.specs.declared.fault.Fault.{Fault}
-use Rattle.bw_commands.specs.declared.fault.Fault.TheVariants.{TooLong, NotHex, NotEvent}
-use Rattle.bw_commands.specs.declared.fault.Fault.TheVariants.{NotRequest}
-use Rattle.bw_commands.specs.declared.fault.Fault.TheVariants.{Unreadable, Unwritable, Memory}
+use Rattle.bw_console.specs.declared.fault.Fault.{Fault}
+use Rattle.bw_console.specs.declared.fault.Fault.TheVariants.{TooLong, NotHex, NotEvent}
+use Rattle.bw_console.specs.declared.fault.Fault.TheVariants.{NotRequest}
+use Rattle.bw_console.specs.declared.fault.Fault.TheVariants.{Unreadable, Unwritable, Memory}
 
 -- each line says its event
 abbrev pub SayEvents : List (List ℕ) → List Event → Type 0

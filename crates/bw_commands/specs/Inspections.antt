@@ -4,7 +4,7 @@ use Rattle.std.specs.Prelude.{true, codes}
 use Rattle.bw_model.specs.Reading.{Fault, IsFault}
 use Rattle.bw_model.specs.Report.{report_of, report_text}
 use Rattle.bw_inspect.specs.Faults.{bytes_fault, inspect_fault_text, is_failed_read}
-use Rattle.bw_inspect.specs.Places.{Of}
+use Rattle.bw_stream.specs.Readers.{Of}
 use Rattle.bw_inspect.specs.Readings.{HasReading}
 use Rattle.bw_inspect.specs.declared.fault.InspectFault.{InspectFault}
 use Rattle.bw_inspect.specs.declared.fault.InspectKind.{InspectKind}
@@ -12,13 +12,13 @@ use Rattle.bw_inspect.specs.declared.fault.InspectKind.TheVariants.{NotWave, Tru
 use Rattle.bw_inspect.specs.declared.fault.InspectKind.TheVariants.{BadDs64, NoSize, Twice, NoFmt}
 use Rattle.bw_inspect.specs.declared.fault.InspectKind.TheVariants.{NoData, BadFmt, BadBext, BadCue}
 use Rattle.bw_inspect.specs.declared.fault.InspectKind.TheVariants.{TooMany, TooLarge, Read, Memory}
-use Rattle.bw_commands.specs.Deeds.{Deed}
-use Rattle.bw_commands.specs.Faults.{IsToldBy, exit_of}
-use Rattle.bw_commands.specs.Printing.{Print, Nothing, Whole, Part, IsOf}
-use Rattle.bw_commands.specs.declared.exit.Exit.{Exit}
-use Rattle.bw_commands.specs.declared.exit.Exit.TheVariants.{Refused, Device, Memory as OutOfMemory}
-use Rattle.bw_commands.specs.declared.fault.Fault.{Fault as Failure}
-use Rattle.bw_commands.specs.declared.fault.Fault.TheVariants as failures
+use Rattle.bw_console.specs.Deeds.{Deed}
+use Rattle.bw_console.specs.Faults.{IsToldBy, exit_of}
+use Rattle.bw_console.specs.Printing.{Print, Nothing, Whole, Part, IsOf}
+use Rattle.bw_console.specs.declared.exit.Exit.{Exit}
+use Rattle.bw_console.specs.declared.exit.Exit.TheVariants.{Refused, Device, Memory as OutOfMemory}
+use Rattle.bw_console.specs.declared.fault.Fault.{Fault as Failure}
+use Rattle.bw_console.specs.declared.fault.Fault.TheVariants as failures
 
 -- the line of a fault
 abbrev pub fault_line : InspectFault → List ℕ

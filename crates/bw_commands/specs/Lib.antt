@@ -1,15 +1,8 @@
-pub mod Lines
-pub mod Input
-pub mod Faults
-pub mod Exits
 pub mod Runs
 pub mod Text
 pub mod EventLines
-pub mod Printing
 pub mod OneFuse
 pub mod Replays
-pub mod Deeds
 pub mod Rehearsals
 pub mod Inspections
-pub mod Unworded
-pub mod Openings
+pub mod Looks

@@ -8,21 +8,22 @@ use Rattle.bw_model.specs.Exchange.{nothing_stands, take_in, content_in}
 use Rattle.bw_model.specs.Holds.{Kept, Holds}
 use Rattle.bw_model.specs.World as model
 use Rattle.bw_store.specs.MemoryNames.{AreNames}
-use Rattle.bw_inspect.specs.Places.{Of}
+use Rattle.bw_stream.specs.Readers.{Of}
 use Rattle.bw_session.specs.Books.{HoldsBook}
 use Rattle.bw_sender.specs.Senders.{IsSender}
 use Rattle.bw_rehearsal.specs.Lucks.{AreLucksOf}
 use Rattle.bw_rehearsal.specs.Rehearsing.{no_contents}
 use Rattle.bw_rehearsal.specs.declared.rehearsal.World.{World}
 use Rattle.bw_commands.specs.EventLines.{SayEvents, FirstOther}
-use Rattle.bw_commands.specs.Input.{longest_input}
-use Rattle.bw_commands.specs.Lines.{lines_of}
-use Rattle.bw_commands.specs.Printing.{Print, Nothing, Whole, Part}
-use Rattle.bw_commands.specs.Faults.{IsToldBy, exit_of, is_read}
-use Rattle.bw_commands.specs.Deeds.{Deed}
-use Rattle.bw_commands.specs.Text.{as_line, files_text}
-use Rattle.bw_commands.specs.declared.fault.Fault.{Fault}
-use Rattle.bw_commands.specs.declared.fault.Fault.TheVariants as faults
+use Rattle.bw_console.specs.Input.{longest_input}
+use Rattle.bw_console.specs.Lines.{lines_of}
+use Rattle.bw_console.specs.Printing.{Print, Nothing, Whole, Part}
+use Rattle.bw_console.specs.Faults.{IsToldBy, exit_of, is_read}
+use Rattle.bw_console.specs.Deeds.{Deed}
+use Rattle.bw_console.specs.Text.{as_line}
+use Rattle.bw_commands.specs.Text.{files_text}
+use Rattle.bw_console.specs.declared.fault.Fault.{Fault}
+use Rattle.bw_console.specs.declared.fault.Fault.TheVariants as faults
 
 -- how many requests were offered, messages sent and replies written
 abbrev pub counts_line : ℕ → ℕ → ℕ → List ℕ

@@ -1,24 +1,16 @@
 -- What a replay reads and writes, and how it ends.
-use Rattle.std.specs.Prelude.{◌≡◌, ◌+◌, ◌≤◌, ℕ, Option, Some}
-use Rattle.std.specs.Prelude.{List, ◌++◌, drop, length}
-use Rattle.std.specs.Prelude.{Result, Ok, Err}
+use Rattle.std.specs.Prelude.{◌≡◌, ℕ, Option, List, ◌++◌, Result, Ok, Err}
 use Rattle.bw_store.specs.MemoryNames.{AreNames}
-use Rattle.bw_inspect.specs.Places.{Of}
-use Rattle.bw_commands.specs.Faults.{RefusesInput}
-use Rattle.bw_commands.specs.Input.{Asked, asked_by, longest_input, TooLong, NotHex, Exchanges}
+use Rattle.bw_stream.specs.Readers.{Of}
+use Rattle.bw_console.specs.Deeds.{Deed}
+use Rattle.bw_console.specs.Faults.{IsToldBy, RefusesInput, exit_of, is_read}
+use Rattle.bw_console.specs.Input.{Asked, asked_by, TooLong, NotHex, Exchanges}
 use Rattle.bw_commands.specs.OneFuse.{failures_under, SufficeFor}
-use Rattle.bw_commands.specs.Printing.{Print, Nothing, Whole, Part}
+use Rattle.bw_console.specs.Printing.{Print, Nothing, Whole, Part}
 use Rattle.bw_commands.specs.Runs.{ToldExchange, IsRun}
 use Rattle.bw_commands.specs.Text.{exchanges_text, files_text}
-use Rattle.bw_commands.specs.declared.fault.Fault.{Fault}
-use Rattle.bw_commands.specs.declared.fault.Fault.TheVariants as faults
-
--- at most one byte more than the longest input was read
-pub record IsReadAhead (input : List ℕ) (left : Option (List ℕ)) : Type 0 where
-  pub reached : ℕ
-  pub within : reached ≤ longest_input + 1
-  pub inside : reached ≤ length input
-  pub rest : left ≡ Some (drop reached input)
+use Rattle.bw_console.specs.declared.fault.Fault.{Fault}
+use Rattle.bw_console.specs.declared.fault.Fault.TheVariants as faults
 
 -- The text of a run of these inputs over a store of which the call of the fuse's number fails, if
 -- there is a fuse: its exchanges, and then the files in the order of their names.
@@ -70,3 +62,13 @@ IsPrintOf limit fuse input (Err (faults.NotRequest n)) print =
 IsPrintOf limit fuse input (Err faults.Unreadable) print =
     PrintsNothing input faults.Unreadable print
 IsPrintOf limit fuse input (Err faults.Memory) print = PrintsNothing input faults.Memory print
+
+-- a replay of this input did this, over a store of which the call of the fuse's number fails, if
+-- there is a fuse
+pub record IsReplay (limit : ℕ) (fuse : Option ℕ) (input : Option (List ℕ)) (did : Deed) :
+    Type 0 where
+  pub outcome : Result (Unit {0}) Fault
+  pub exit_is : did.exit ≡ exit_of outcome
+  pub reads : did.reads_all ≡ is_read outcome
+  pub prints : IsPrintOf limit fuse input outcome did.out
+  pub tells : IsToldBy outcome did.faults

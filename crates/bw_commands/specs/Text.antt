@@ -7,10 +7,7 @@ use Rattle.bw_model.specs.Replies.{Reply, reply_body}
 use Rattle.bw_model.specs.Stream.{End}
 use Rattle.bw_exchange.specs.EndNames.{end_name}
 use Rattle.bw_commands.specs.Runs.{ToldExchange}
-
--- a text and the byte that ends its line
-abbrev pub as_line : List ℕ → List ℕ
-as_line text = text ++ 10 ∷ []
+use Rattle.bw_console.specs.Text.{as_line}
 
 -- the line of a reply: its frame in hex
 abbrev pub reply_line : Reply → List ℕ

@@ -1,12 +1,11 @@
 //! The lines of an input as the events of a rehearsal.
 ghost use Rattle.std.specs.Prelude.{◌≤◌, length, map, IfOk, IfErr};
 ghost use Rattle.bw_rehearsal.specs.Rehearsing.{event_meaning};
-ghost use Rattle.bw_commands.specs.Lines.{lines_of};
-ghost use Rattle.bw_commands.specs.Input.{longest_input};
+ghost use Rattle.bw_console.specs.Lines.{lines_of};
+ghost use Rattle.bw_console.specs.Input.{longest_input};
 ghost use Rattle.bw_commands.specs.EventLines.{SayEvents, IsEventFault};
 
-use crate::fault::Fault;
-use crate::input::first_line;
+use bw_console::{Fault, first_line};
 use bw_rehearsal::{Event, event_in};
 use std::alloc::Global;
 

@@ -1,16 +1,17 @@
-//! The command `inspect`: what is in a file.
-ghost use Rattle.std.specs.Prelude.{◌≡◌};
+//! The command `inspect`: what is in a file, also in that of a path.
+ghost use Rattle.std.specs.Prelude.{◌≡◌, true};
 ghost use Rattle.bw_model.specs.Report.{report_text};
 ghost use Rattle.bw_inspect.specs.Reports.{told_by};
-ghost use Rattle.bw_commands.specs.Deeds.{Deed, HasWritten};
+ghost use Rattle.bw_console.specs.Deeds.{Deed, HasWritten};
+ghost use Rattle.bw_commands.specs.Looks.{IsLook};
 ghost use Rattle.bw_commands.specs.Inspections.{IsInspection, IsPrintOfText, exit_for, fault_line};
-ghost use Rattle.bw_commands.specs.Printing.{IsPrint, Print, failures_if};
+ghost use Rattle.bw_console.specs.Printing.{IsPrint, Print, failures_if};
 
-use crate::exit::Exit;
-use crate::fault::Fault;
-use crate::print::{give_up, print, tell};
 use arrayvec::ArrayString;
+use bw_console::print::{give_up, print, tell};
+use bw_console::{Exit, Fault, tell_unopened};
 use bw_inspect::{InspectFault, InspectKind, Report, inspect, write_report};
+use bw_ports::System;
 use bw_stream::{MemorySink, Sink, Source};
 use itoa::Buffer;
 use std::alloc::Global;
@@ -45,6 +46,38 @@ pub fn inspect_run<R: Source, W: Sink, E: Sink>(
             tell(faults, line_of(&fault).as_str().as_bytes());
             exit_on(fault.kind)
         }
+    }
+}
+
+/// Tells what is in the file of a path.
+///
+/// A line that can't be written to `faults` changes nothing. A file that can't be opened is a line
+/// on `faults`, with the system's own reason.
+///
+/// It ends as `inspect_run` does; where the file can't be opened, as `Memory` where memory was
+/// refused, else as `Device`.
+///
+/// # Not specified
+/// - When memory is refused, and how much of the file is read or passed over.
+/// - When a file isn't opened, and the reason in its line.
+/// - Over `Host`, which bytes the report is of.
+/// - Whether the reader, which is dropped, counted a failed read.
+pub fn inspect_file<S: System, W: Sink, E: Sink>(
+    alloc: Global,
+    system: &mut S,
+    path: &str,
+    out: &mut W,
+    faults: &mut E,
+) -> Exit
+    ensures { (did : Deed) × (did.exit ≡ result) × (gives_all : Bool)
+        × IsLook (S.file_at system.old path.now) path.now gives_all did
+        × (did.reads_all ≡ true)
+        × (S.failures system.new ≡ failures_if gives_all (S.failures system.old))
+        × HasWritten W.Sink E.Sink did out.old out.new faults.old faults.new }
+{
+    match system.open(path) {
+        Ok(mut file) => inspect_run(alloc, &mut file, out, faults),
+        Err(error) => tell_unopened(alloc, path, &error, faults),
     }
 }
 

@@ -1,23 +1,21 @@
 //! The command `rehearse`: a sender and a server, played by hand from standard input.
 ghost use Rattle.std.specs.Prelude.{◌≡◌, ℕ, ◌+◌, ◌≤◌, List, length, map, IfOk, IfErr, OnOk, ◌≢◌};
-ghost use Rattle.bw_inspect.specs.Places.{Of};
+ghost use Rattle.bw_stream.specs.Readers.{Of};
 ghost use Rattle.bw_rehearsal.specs.Rehearsing.{event_meaning};
-ghost use Rattle.bw_commands.specs.Deeds.{Deed, HasWritten};
+ghost use Rattle.bw_console.specs.Deeds.{Deed, HasWritten};
 ghost use Rattle.bw_commands.specs.EventLines.{SayEvents};
-ghost use Rattle.bw_commands.specs.Faults.{is_read};
-ghost use Rattle.bw_commands.specs.Input.{longest_input};
-ghost use Rattle.bw_commands.specs.Lines.{lines_of};
-ghost use Rattle.bw_commands.specs.Printing.{IsPrint, Print, failures_if};
+ghost use Rattle.bw_console.specs.Faults.{is_read};
+ghost use Rattle.bw_console.specs.Input.{longest_input};
+ghost use Rattle.bw_console.specs.Lines.{lines_of};
+ghost use Rattle.bw_console.specs.Printing.{IsPrint, Print, failures_if};
 ghost use Rattle.bw_commands.specs.Rehearsals.{IsPrintOfWorld, IsRehearsal, IsWorldText};
 ghost use Rattle.bw_commands.specs.Rehearsals.{RefusesEvents};
-ghost use Rattle.bw_commands.specs.Replays.{IsReadAhead};
+ghost use Rattle.bw_console.specs.Input.{IsReadAhead};
 
 use crate::events::events;
-use crate::exit::Exit;
-use crate::fault::Fault;
-use crate::input::all_bytes;
-use crate::print::{give_up, print};
 use crate::world_text::text_of_world;
+use bw_console::print::{give_up, print};
+use bw_console::{Exit, Fault, all_bytes};
 use bw_layout::Limit;
 use bw_rehearsal::{Event, rehearse};
 use bw_request::Name;

@@ -1,18 +1,18 @@
 //! The command `replay`: runs from standard input.
 ghost use Rattle.std.specs.Prelude.{◌≡◌, ◌+◌, ◌≤◌, Some, None, All, length, map, IfOk};
-ghost use Rattle.bw_inspect.specs.Places.{Of};
-ghost use Rattle.bw_commands.specs.Deeds.{Deed, HasWritten, IsReplay};
-ghost use Rattle.bw_commands.specs.Faults.{is_read};
-ghost use Rattle.bw_commands.specs.Input.{longest_input};
-ghost use Rattle.bw_commands.specs.Printing.{IsPrint, Print, failures_if};
-ghost use Rattle.bw_commands.specs.Replays.{IsPrintOf, IsReadAhead, IsRunText};
+ghost use Rattle.bw_stream.specs.Readers.{Of};
+ghost use Rattle.bw_console.specs.Deeds.{Deed, HasWritten};
+ghost use Rattle.bw_commands.specs.Replays.{IsReplay};
+ghost use Rattle.bw_console.specs.Faults.{is_read};
+ghost use Rattle.bw_console.specs.Input.{longest_input};
+ghost use Rattle.bw_console.specs.Printing.{IsPrint, Print, failures_if};
+ghost use Rattle.bw_commands.specs.Replays.{IsPrintOf, IsRunText};
+ghost use Rattle.bw_console.specs.Input.{IsReadAhead};
 
-use crate::exit::Exit;
-use crate::fault::Fault;
-use crate::input::exchanges;
-use crate::print::{give_up, print};
 use crate::replay_store::ReplayStore;
 use crate::text::text_of_run;
+use bw_console::print::{give_up, print};
+use bw_console::{Exit, Fault, exchanges};
 use bw_engine::ingest_run;
 use bw_layout::Limit;
 use bw_stream::{Sink, Source};

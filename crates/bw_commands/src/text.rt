@@ -10,7 +10,8 @@ ghost use Rattle.bw_store.specs.Memory.{content_under};
 ghost use Rattle.bw_store.specs.MemoryNames.{names_of, AreNames};
 ghost use Rattle.bw_commands.specs.Runs.{ToldExchange, AllTell};
 ghost use Rattle.bw_exchange.specs.EndNames.{name_of_end};
-ghost use Rattle.bw_commands.specs.Text.{as_line, reply_line};
+ghost use Rattle.bw_commands.specs.Text.{reply_line};
+ghost use Rattle.bw_console.specs.Text.{as_line};
 ghost use Rattle.bw_commands.specs.Text.{exchanges_text, file_text, file_text_if, files_text};
 
 use bw_request::Name;

@@ -4,10 +4,6 @@ use Rattle.std.specs.Prelude.{slice_range, Option, Some}
 use Rattle.bw_inspect.specs.declared.fault.InspectFault.{InspectFault}
 use Rattle.bw_inspect.specs.Faults.{is_failed_read, is_memory}
 
--- so it is of all the bytes, where the reader tells them and stands at their start
-abbrev pub Of : Option (List ℕ) → (List ℕ → Type 0) → Type 0
-Of left holds = (b : List ℕ) → left ≡ Some b → holds b
-
 -- so it is of all the bytes b, where the reader tells those from a place on
 abbrev pub AtPlace : Option (List ℕ) → ℕ → (List ℕ → Type 0) → Type 0
 AtPlace left place holds = (b : List ℕ) → left ≡ Some (drop place b) → holds b

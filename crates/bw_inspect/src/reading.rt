@@ -5,7 +5,7 @@ ghost use Rattle.bw_model.specs.Bytes.{first_that_holds};
 ghost use Rattle.bw_model.specs.Reading.{end_faults};
 ghost use Rattle.bw_inspect.specs.ReaderCalls.{Consumes, longest_end};
 ghost use Rattle.bw_inspect.specs.Faults.{bytes_fault, is_of_bytes};
-ghost use Rattle.bw_inspect.specs.Places.{Of};
+ghost use Rattle.bw_stream.specs.Readers.{Of};
 ghost use Rattle.bw_inspect.specs.Known.{facts_of, facts_in};
 ghost use Rattle.bw_inspect.specs.Walks.{IsSmall, form_by, seen_by};
 ghost use Rattle.bw_inspect.specs.Readings.{HasReading, IsBounded, IsReported, OnFacts, Refuses};

@@ -10,7 +10,7 @@ use Rattle.std.proofs.lemmas.Bool.{eq-eqb}
 use Rattle.std.proofs.lemmas.Bool.Decides.{eqb_tells}
 use Rattle.bw_exchange.specs.Answering.{Answered}
 use Rattle.bw_many.specs.declared.connection.Connection.{Connection}
-use Rattle.bw_many.specs.declared.link.Link.{Ghosts as LinkGhosts}
+use Rattle.bw_ports.specs.declared.link.Link.{Ghosts as LinkGhosts}
 use Rattle.bw_many.specs.declared.many.Closed.{Closed}
 use Rattle.bw_many.specs.declared.many.Many.{Many}
 use Rattle.bw_many.specs.Keeping.{Tagged, tagged, all_answered, own, Sets, StandsAt, IsFree, Stands, IsAmong, AreApart}

@@ -1,14 +1,15 @@
 -- Many connections over one server: the frames of all of them that were answered are one list, and
 -- each one's own are a part of it.
-use Rattle.std.specs.Prelude.{◌≡◌, ◌≢◌, ◌⊎◌, ℕ, ◌<◌, ◌≤◌, ◌==◌, Option, Some, None, List, [], ◌∷◌, ◌++◌}
+use Rattle.std.specs.Prelude.{◌≡◌, ◌≢◌, ◌⊎◌, ℕ, ◌<◌, ◌≤◌, ◌==◌, Some, None, List, [], ◌∷◌, ◌++◌}
 use Rattle.std.specs.Prelude.{map, filter, slice_get}
 use Rattle.std.specs.List.{AllByRecursion}
 use Rattle.bw_exchange.specs.Answering.{Answered}
 use Rattle.bw_many.specs.declared.connection.Connection.{Connection}
-use Rattle.bw_many.specs.declared.link.Link.{Ghosts as LinkGhosts}
+use Rattle.bw_ports.specs.declared.link.Link.{Ghosts as LinkGhosts}
 use Rattle.bw_many.specs.declared.many.Closed.{Closed}
 use Rattle.bw_many.specs.declared.many.Many.{Many}
 use Rattle.bw_many.specs.Lives.{Lives, IsOver}
+pub use Rattle.bw_ports.specs.Lobbies.{those}
 
 -- a frame that was answered, behind the number of the connection that it came over
 abbrev pub Tagged : Type 0
@@ -52,11 +53,6 @@ IsAmong n (x ∷ xs) = (x.number ≡ n) ⊎ IsAmong n xs
 abbrev pub AreApart : {L : Type 0} → List (Closed L) → Type 0
 AreApart [] = Unit {0}
 AreApart (x ∷ xs) = AllByRecursion (λ y. y.number ≢ x.number) xs × AreApart xs
-
--- the list of what is there
-abbrev pub those : {X : Type 0} → Option X → List X
-those None = []
-those (Some x) = x ∷ []
 
 module _ {L : Type 0} (G : LinkGhosts L) where
   -- a connection is over, and stands no longer: it ended so, with its own part of these frames

@@ -1,4 +1,3 @@
-pub mod Links
 pub mod Feeding
 pub mod Lives
 pub mod Keeping

@@ -7,7 +7,7 @@ use Rattle.bw_exchange.specs.Answering.{Answered, AnswersAll}
 use Rattle.bw_wire.specs.declared.fault.WireFault.{WireFault}
 use Rattle.bw_many.specs.declared.connection.Connection.{Connection}
 use Rattle.bw_many.specs.declared.connection.Phase.TheVariants as phases
-use Rattle.bw_many.specs.declared.link.Link.{Ghosts as LinkGhosts}
+use Rattle.bw_ports.specs.declared.link.Link.{Ghosts as LinkGhosts}
 use Rattle.bw_many.specs.declared.many.Closed.{Closed}
 use Rattle.bw_many.specs.declared.many.Many.{Many}
 use Rattle.bw_many.specs.Keeping.{Adds, StandsAt, tagged, those}

@@ -5,8 +5,8 @@ ghost use Rattle.bw_exchange.specs.Parts.{wants_piece, waiting_in};
 ghost use Rattle.bw_many.specs.Feeding.{Feeds, fault_to_drain};
 ghost use Rattle.bw_many.specs.Lives.{EndsServed};
 
-use crate::link::{Link, Received, Sent};
 use bw_exchange::{Exchange, ExchangeEnd, FeedError, StreamEnd, Turns};
+use bw_ports::{Link, Received, Sent};
 use bw_wire::{Reason, WireFault};
 use std::alloc::{AllocError, Global};
 

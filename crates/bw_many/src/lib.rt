@@ -4,9 +4,7 @@
 
 mod connection;
 pub mod laws;
-mod link;
 mod many;
 
 pub use connection::ConnectionEnd;
-pub use link::{Link, Received, Sent};
 pub use many::{BeginError, Closed, Many};

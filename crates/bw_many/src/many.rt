@@ -5,8 +5,8 @@ ghost use Rattle.bw_wire.specs.Held.{longest_piece};
 ghost use Rattle.bw_many.specs.Keeping.{Sets};
 
 use crate::connection::{Connection, ConnectionEnd};
-use crate::link::Link;
 use bw_exchange::Turns;
+use bw_ports::Link;
 use std::alloc::{AllocError, Global};
 use thiserror::Error;
 

@@ -1,7 +1,9 @@
-//! What `serve` and `send` ask of the system: links over TCP, the server's folder, and a terminal.
+//! What the program asks of the system: links over TCP, the server's folder, a terminal, files and
+//! words.
 #![tactic(auto)]
 
 mod folder;
+mod host;
 mod lobby;
 mod network;
 mod socket;
@@ -9,6 +11,7 @@ mod tcp;
 mod terminal;
 
 pub use folder::{check_folder, has_folder};
+pub use host::Host;
 pub use lobby::TcpLobby;
 pub use network::TcpNetwork;
 pub use socket::Socket;

@@ -6,7 +6,7 @@ ghost use Rattle.mio.specs.Events.{capacity as room_of};
 
 use crate::folder::has_folder;
 use crate::socket::Socket;
-use bw_serve::{AcceptFault, Guest, Lobby, Ready, WaitFault};
+use bw_ports::{Guest, Lobby, Ready, TryAcceptFault, WaitFault};
 use mio::event::Event;
 use mio::net::{TcpListener, TcpStream};
 use mio::{Events, Interest, Poll, Token};
@@ -134,21 +134,21 @@ impl Lobby for TcpLobby<'_> {
         None
     }
 
-    fn accept(&mut self, place: usize) -> Result<Guest<Socket>, AcceptFault> {
+    fn accept(&mut self, place: usize) -> Result<Guest<Socket>, TryAcceptFault> {
         let accepted = self.listener.accept();
         if is_nobody(&accepted) {
-            return Err(AcceptFault::Nobody);
+            return Err(TryAcceptFault::Nobody);
         }
         // One that comes when the folder is gone isn't heard: its requests wait for another server.
         if !has_folder(self.rt, self.folder.as_str()) {
             self.failures = self.failures.saturating_add(1);
-            return Err(AcceptFault::Closed);
+            return Err(TryAcceptFault::Closed);
         }
         let Ok((stream, address)) = accepted else {
-            return Err(AcceptFault::Gone);
+            return Err(TryAcceptFault::Gone);
         };
         let Ok(link) = self.link_at(place, stream) else {
-            return Err(AcceptFault::Gone);
+            return Err(TryAcceptFault::Gone);
         };
         Ok(Guest { address, link })
     }

@@ -1,7 +1,7 @@
 //! A link over a socket, of which no call waits.
 ghost use Rattle.std.specs.Prelude.{⊤};
 
-use bw_many::{Link, Received, Sent};
+use bw_ports::{Link, Received, Sent};
 use mio::net::TcpStream;
 use std::io::{ErrorKind, Read, Write};
 use std::net::Shutdown;

@@ -2,8 +2,8 @@
 ghost use Rattle.std.specs.Prelude.{◌≡◌, IfOk, None};
 
 use crate::folder::has_folder;
+use bw_ports::{AcceptFault, Dial, DialFault, Duplex, Peer, Peers};
 use bw_stream::Plain;
-use bw_transfer::{AcceptFault, Dial, DialFault, Link, Peer, Peers};
 use std::fs::Files;
 use std::io;
 use std::io::{Read, Write};
@@ -52,7 +52,7 @@ impl<R: Net> Dial for TcpDial<'_, R> {
 
     ghost dials = { λ d result d'. (d'.address ≡ d.address) × (d'.timeout ≡ d.timeout) };
 
-    fn dial(&mut self) -> Result<Link<Plain<R::Stream>, Plain<R::Stream>>, DialFault> {
+    fn dial(&mut self) -> Result<Duplex<Plain<R::Stream>, Plain<R::Stream>>, DialFault> {
         match connect(self.rt, self.address, self.timeout) {
             Ok(link) => Ok(link),
             Err(_) => {
@@ -67,7 +67,7 @@ fn connect<R: Net>(
     rt: &R,
     address: SocketAddr,
     timeout: Option<Duration>,
-) -> io::Result<Link<Plain<R::Stream>, Plain<R::Stream>>> {
+) -> io::Result<Duplex<Plain<R::Stream>, Plain<R::Stream>>> {
     let stream = match timeout {
         Some(most) => TcpStream::connect_timeout(rt, &address, most)?,
         None => TcpStream::connect(rt, address)?,
@@ -79,13 +79,13 @@ fn connect<R: Net>(
 fn link_over<S: Read + Write + OpenStream + Drop>(
     stream: S,
     timeout: Option<Duration>,
-) -> io::Result<Link<Plain<S>, Plain<S>>> {
+) -> io::Result<Duplex<Plain<S>, Plain<S>>> {
     stream.set_nodelay(true)?;
     stream.set_read_timeout(timeout)?;
     stream.set_write_timeout(timeout)?;
     let reader = Plain::new(stream.try_clone()?);
     let writer = Plain::new(stream);
-    Ok(Link { reader, writer })
+    Ok(Duplex { reader, writer })
 }
 
 /// The peers that knock at an address, while the server's folder stands.

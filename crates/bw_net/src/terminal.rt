@@ -1,6 +1,6 @@
 //! The terminal that a sender's progress is told to.
+use bw_ports::{ProgressReport, Watch};
 use bw_stream::Plain;
-use bw_transfer::{Progress, Watch};
 use std::io::{IsTerminal, Stderr};
 
 /// Standard error where it is a terminal, for the progress of a sender. What a terminal shows, no
@@ -27,7 +27,7 @@ impl Terminal {
 }
 
 impl Watch for Terminal {
-    fn round(&mut self, progress: &Progress<'_>) {
+    fn round<P: ProgressReport>(&mut self, progress: &P) {
         if let Some(screen) = &mut self.screen {
             progress.tell(screen);
         }

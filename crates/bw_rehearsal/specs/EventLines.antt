@@ -1,10 +1,8 @@
 -- Lines as the events of a rehearsal.
-use Rattle.std.specs.Prelude.{◌≡◌, ℕ, ◌%◌, ◌^◌, ◌<◌, ◌≤◌, List, ◌++◌, length, Ok, codes}
+use Rattle.std.specs.Prelude.{◌≡◌, ℕ, ◌^◌, ◌<◌, ◌≤◌, List, ◌++◌, length, codes}
 use Rattle.std.specs.Str.Parse.{IsNumeral, digits_value}
-use Rattle.hex.specs.Hex.{decode_of}
-use Rattle.bw_model.specs.Wire.{decoded_request}
-use Rattle.bw_model.specs.Take.{Request}
 use Rattle.bw_model.specs.World.{Event, Offer, Send, Deliver, Bring, Ask, Foreign}
+use Rattle.bw_wire.specs.RequestTexts.{IsRequestText, IsEven}
 
 -- one to ten decimal digits of a number of 32 bits
 abbrev pub IsIndexText : List ℕ → Type 0
@@ -17,16 +15,6 @@ index_written text = digits_value 10 text
 -- a text of this index
 abbrev pub IsIndex : List ℕ → ℕ → Type 0
 IsIndex text index = IsIndexText text × (index ≡ index_written text)
-
--- the hex of a request: its kind byte and its payload
-pub record IsRequestText (text : List ℕ) (r : Request) : Type 0 where
-  pub bytes : List ℕ
-  pub hex : decode_of text ≡ Ok bytes
-  pub request : decoded_request bytes ≡ Ok r
-
--- an even number
-abbrev pub IsEven : ℕ → Type 0
-IsEven n = n % 2 ≡ 0
 
 -- the line begins as one that says an offer, and has an even number of digits behind it
 abbrev pub MayOffer : List ℕ → Type 0

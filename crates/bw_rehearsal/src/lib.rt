@@ -8,5 +8,5 @@ mod rehearsal;
 mod stage;
 
 pub use event::Event;
-pub use line::{event_in, request_from_hex};
+pub use line::event_in;
 pub use rehearsal::{World, rehearse};

@@ -1,18 +1,13 @@
 //! Lines as the events of a rehearsal.
-ghost use Rattle.std.specs.Prelude.{◌≡◌, ◌≢◌, ◌++◌, ℕ, List, Ok, IfOk, OnErr};
-ghost use Rattle.std.specs.Prelude.{MatchOption, length};
+ghost use Rattle.std.specs.Prelude.{◌≡◌, ◌≢◌, ◌++◌, ℕ, List, IfOk, OnErr, MatchOption};
 ghost use Rattle.std.specs.Option.{SomeIff};
-ghost use Rattle.bw_model.specs.Take.{Request as Requested};
-ghost use Rattle.bw_model.specs.Wire.{decoded_request};
 ghost use Rattle.bw_model.specs.World.{Event as ToldEvent};
 ghost use Rattle.bw_rehearsal.specs.Rehearsing.{event_meaning};
-ghost use Rattle.bw_rehearsal.specs.EventLines.{SaysEvent, IsIndexText, index_written};
-ghost use Rattle.bw_rehearsal.specs.EventLines.{IsRequestText, IsEven, MayOffer};
+ghost use Rattle.bw_rehearsal.specs.EventLines.{SaysEvent, IsIndexText, MayOffer, index_written};
 
 use crate::event::Event;
 use bw_request::Request;
-use bw_wire::decode_request;
-use hex::FromHexError;
+use bw_wire::request_from_hex;
 use std::alloc::{AllocError, Global};
 
 /// The event that a line says, if it says one: `offer HEX`, with the kind byte and the payload of a
@@ -66,44 +61,6 @@ fn behind<'a>(word: &[u8], line: &'a [u8]) -> Option<&'a [u8]>
         (λ rest. line.now ≡ word.now ++ rest.now) }
 {
     line.strip_prefix(word)
-}
-
-/// The request whose kind byte and payload a text spells in hex, if it spells one.
-///
-/// # Errors
-/// `AllocError` where memory was refused: only a text of an even length takes some.
-///
-/// # Not specified
-/// Of an even number of digits, when memory is refused, and that only those that spell a request
-/// are.
-pub fn request_from_hex(alloc: Global, text: &[u8]) -> Result<Option<Request>, AllocError>
-    ensures ok { IfOk result (λ found. MatchOption found
-        ((r : Requested) → ¬ IsRequestText text.now r) (λ r. IsRequestText text.now r)) }
-    ensures err { OnErr result (IsEven (length text.now)) }
-{
-    match hex::decode(alloc, text) {
-        Ok(bytes) => request_in(alloc, bytes.as_slice()),
-        Err(FromHexError::OutOfMemory) => Err(AllocError),
-        Err(FromHexError::InvalidHexCharacter { .. }) => Ok(None),
-        Err(FromHexError::OddLength) => Ok(None),
-        Err(FromHexError::InvalidStringLength) => Ok(None),
-    }
-}
-
-/// The request that a kind byte and a payload spell, if they spell one.
-///
-/// # Errors
-/// `AllocError` where memory was refused: only a request takes some.
-fn request_in(alloc: Global, bytes: &[u8]) -> Result<Option<Request>, AllocError>
-    ensures ok { IfOk result (λ found. MatchOption found
-        ((r : Requested) → decoded_request bytes.now ≢ Ok r)
-        (λ r. decoded_request bytes.now ≡ Ok r)) }
-    ensures err { OnErr result ((r : Requested) × (decoded_request bytes.now ≡ Ok r)) }
-{
-    match decode_request(bytes) {
-        Ok(request) => Ok(Some(request.to_request(alloc)?)),
-        Err(_) => Ok(None),
-    }
 }
 
 /// The number that one to ten decimal digits write, below 2^32.

@@ -8,7 +8,7 @@ use Rattle.std.proofs.lemmas.List.Sums.{fold-append}
 use Rattle.bw_stream.specs.declared.sink.Sink.{Ghosts as Writer}
 use Rattle.bw_exchange.specs.Answering.{Answered, frames_of}
 use Rattle.bw_many.specs.declared.connection.Connection.{Connection}
-use Rattle.bw_many.specs.declared.link.Link.{Ghosts as LinkGhosts}
+use Rattle.bw_ports.specs.declared.link.Link.{Ghosts as LinkGhosts}
 use Rattle.bw_many.specs.declared.many.BeginError.{BeginError}
 use Rattle.bw_many.specs.declared.many.Closed.{Closed}
 use Rattle.bw_many.specs.declared.many.Many.{Many}
@@ -17,7 +17,7 @@ use Rattle.bw_many.specs.Lives.{KeepsPeer}
 use Rattle.bw_many.specs.Working.{BeginsAt, IsEmpty, LeavesOthers, StoodUnder}
 use Rattle.bw_many.proofs.Standing.{not_some, own-append, own-more, some_is}
 use Rattle.bw_exchange.specs.LinkCounts.{Counted, none_counted, with_frame}
-use Rattle.bw_transfer.specs.Tallies.{Logs, peer_line}
+use Rattle.bw_serve.specs.LinkLines.{Logs, peer_line}
 use Rattle.bw_serve.specs.Crowds.{AreSilent, CountsOwn, Grows, SeatOf, Tells}
 use Rattle.bw_serve.specs.Lines.{LogsEnds, counted_of, name_of_connection_end}
 use Rattle.bw_serve.specs.declared.crowd.Crowd.{Crowd}

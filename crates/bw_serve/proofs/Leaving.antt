@@ -6,14 +6,14 @@ use Rattle.bw_store.specs.declared.store.TakeStore.{Ghosts as StoreGhosts}
 use Rattle.bw_journal.specs.declared.journal.Journal.{Ghosts as JournalGhosts}
 use Rattle.bw_session.specs.Books.{HoldsBook}
 use Rattle.bw_session.specs.declared.server.Server.{Server}
-use Rattle.bw_commands.specs.declared.exit.Exit.{Exit}
-use Rattle.bw_commands.specs.declared.exit.Exit.TheVariants.{Done, Refused, Usage, Device, Memory}
 use Rattle.bw_session.specs.ServerTurns.{ServerTurn}
 use Rattle.bw_serve.specs.Names.{KeepsNamesApart, NamesStandApart}
-use Rattle.bw_many.specs.declared.link.Link.{Ghosts as LinkGhosts}
+use Rattle.bw_console.specs.declared.exit.Exit.{Exit}
+use Rattle.bw_console.specs.declared.exit.Exit.TheVariants.{Done, Refused, Usage, Device, Memory}
+use Rattle.bw_ports.specs.declared.link.Link.{Ghosts as LinkGhosts}
 use Rattle.bw_serve.specs.HostedMany.{answered_in_crowd}
 use Rattle.bw_serve.specs.Serving.{ServesCrowd}
-use Rattle.bw_serve.specs.declared.lobby.Lobby.{Ghosts as LobbyGhosts}
+use Rattle.bw_ports.specs.declared.lobby.Lobby.{Ghosts as LobbyGhosts}
 use Rattle.bw_serve.specs.declared.serving.Bounds.{Bounds}
 
 module _ {X Y B L O E : Type 0} (S : StoreGhosts X) (J : JournalGhosts Y) (lobby : LobbyGhosts B L) (link : LinkGhosts L)

@@ -6,3 +6,5 @@ mod Leaving
 mod Quanta
 mod Running
 mod Silence
+pub mod RunSteps
+pub mod AnsweredRuns

@@ -11,8 +11,8 @@ use Rattle.bw_many.specs.Places.{count_of}
 use Rattle.bw_many.specs.Working.{LeavesOthers, Wakes, WakesAt}
 use Rattle.bw_serve.specs.Rounds.{IsAll, Notices, NoticesAll, WakesEach, tells_bytes, tells_room}
 use Rattle.bw_serve.specs.declared.crowd.Crowd.{Crowd}
-use Rattle.bw_serve.specs.declared.lobby.Lobby.{Ghosts as LobbyGhosts}
-use Rattle.bw_serve.specs.declared.lobby.Ready.{Ready}
+use Rattle.bw_ports.specs.declared.lobby.Lobby.{Ghosts as LobbyGhosts}
+use Rattle.bw_ports.specs.declared.lobby.Ready.{Ready}
 
 or_false : (x : Bool) → x ≡ x || false
 or_false true = refl

@@ -7,7 +7,7 @@ use Rattle.bw_model.specs.Wire.{Frame}
 use Rattle.bw_model.specs.Replies.{Reply}
 use Rattle.bw_stream.specs.declared.sink.Sink.{Ghosts as Writer}
 use Rattle.bw_many.specs.declared.connection.Connection.{Connection}
-use Rattle.bw_many.specs.declared.link.Link.{Ghosts as LinkGhosts}
+use Rattle.bw_ports.specs.declared.link.Link.{Ghosts as LinkGhosts}
 use Rattle.bw_many.specs.declared.many.BeginError.{BeginError}
 use Rattle.bw_many.specs.Keeping.{IsFree, StandsAt}
 use Rattle.bw_many.specs.Lives.{Begins}
@@ -17,7 +17,7 @@ use Rattle.bw_many.proofs.Standing.{not_some, some_is}
 use Rattle.bw_serve.specs.Crowds.{Advances, Comes, IsNew, LetsIn}
 use Rattle.bw_serve.specs.Rounds.{ServesInRounds, ServesRound}
 use Rattle.bw_serve.specs.declared.crowd.Crowd.{Crowd}
-use Rattle.bw_serve.specs.declared.lobby.Lobby.{Ghosts as LobbyGhosts}
+use Rattle.bw_ports.specs.declared.lobby.Lobby.{Ghosts as LobbyGhosts}
 use Rattle.bw_serve.proofs.Growing.{advances_none, advances_then, grows_then, turn_advances}
 
 -- nobody comes

@@ -5,10 +5,10 @@ use Rattle.bw_model.specs.Wire.{Frame}
 use Rattle.bw_model.specs.Replies.{Reply}
 use Rattle.bw_stream.specs.Moves.{one_more}
 use Rattle.bw_stream.specs.declared.sink.Sink.{Ghosts as Writer}
-use Rattle.bw_commands.specs.declared.exit.Exit.{Exit}
 use Rattle.bw_exchange.specs.Answering.{Answered, AnswersAll}
 use Rattle.bw_exchange.proofs.Going.{answers_append}
-use Rattle.bw_many.specs.declared.link.Link.{Ghosts as LinkGhosts}
+use Rattle.bw_console.specs.declared.exit.Exit.{Exit}
+use Rattle.bw_ports.specs.declared.link.Link.{Ghosts as LinkGhosts}
 use Rattle.bw_many.specs.declared.many.Closed.{Closed}
 use Rattle.bw_many.specs.Keeping.{Keeps, Tagged, all_answered}
 use Rattle.bw_many.specs.Places.{begun_of}
@@ -19,7 +19,7 @@ use Rattle.bw_serve.specs.Rounds.{ServesInRounds, ServesRound}
 use Rattle.bw_serve.specs.Lines.{LogsEnds, TellsEnds}
 use Rattle.bw_serve.specs.Serving.{EndsAt, HasServed}
 use Rattle.bw_serve.specs.declared.crowd.Crowd.{Crowd}
-use Rattle.bw_serve.specs.declared.lobby.Lobby.{Ghosts as LobbyGhosts}
+use Rattle.bw_ports.specs.declared.lobby.Lobby.{Ghosts as LobbyGhosts}
 use Rattle.bw_serve.specs.declared.serving.Bounds.{Bounds}
 use Rattle.bw_serve.proofs.Counting.{logs_still, logs_then, logs_unasked}
 use Rattle.bw_serve.proofs.Growing.{advances_none, ends_then}

@@ -11,21 +11,21 @@ use Rattle.bw_store.specs.declared.store.TakeStore.{Ghosts as StoreGhosts}
 use Rattle.bw_journal.specs.declared.journal.Journal.{Ghosts as JournalGhosts}
 use Rattle.bw_session.specs.Books.{HoldsBook}
 use Rattle.bw_session.specs.declared.server.Server.{Server}
-use Rattle.bw_commands.specs.Printing.{HasPrinted, HasStopped}
-use Rattle.bw_commands.specs.declared.exit.Exit.{Exit}
-use Rattle.bw_commands.specs.declared.exit.Exit.TheVariants.{Done, Refused, Usage, Device, Memory}
-use Rattle.bw_commands.specs.declared.fault.Fault.TheVariants as faults
 use Rattle.bw_exchange.specs.Answering.{Answered}
 use Rattle.bw_session.specs.ServerTurns.{ServerTurn}
-use Rattle.bw_many.specs.declared.link.Link.{Ghosts as LinkGhosts}
+use Rattle.bw_console.specs.Printing.{HasPrinted, HasStopped}
+use Rattle.bw_console.specs.declared.exit.Exit.{Exit}
+use Rattle.bw_console.specs.declared.exit.Exit.TheVariants.{Done, Refused, Usage, Device, Memory}
+use Rattle.bw_console.specs.declared.fault.Fault.TheVariants as faults
+use Rattle.bw_ports.specs.declared.link.Link.{Ghosts as LinkGhosts}
 use Rattle.bw_many.specs.Keeping.{all_answered}
 use Rattle.bw_serve.specs.Names.{KeepsNamesApart}
-use Rattle.bw_transfer.specs.Hosted.{GivesUp, TellsEnd, TellsUnopened, listening_line}
-use Rattle.bw_transfer.specs.declared.network.Network.{Ghosts as NetworkGhosts}
+use Rattle.bw_serve.specs.Hosted.{GivesUp, TellsEnd, TellsUnopened, listening_line}
+use Rattle.bw_ports.specs.declared.network.Network.{Ghosts as NetworkGhosts}
 use Rattle.bw_serve.specs.Serving.{ServesCrowd}
-use Rattle.bw_serve.specs.declared.gathering.Gathering.{Ghosts as GatheringGhosts}
+use Rattle.bw_ports.specs.declared.gathering.Gathering.{Ghosts as GatheringGhosts}
 use Rattle.bw_serve.specs.declared.hosting.Hosting.{Hosting}
-use Rattle.bw_serve.specs.declared.lobby.Lobby.{Ghosts as LobbyGhosts}
+use Rattle.bw_ports.specs.declared.lobby.Lobby.{Ghosts as LobbyGhosts}
 use Rattle.bw_serve.specs.declared.serving.Bounds.{Bounds}
 
 module _ {B L T O E : Type 0} (lobby : LobbyGhosts B L) (link : LinkGhosts L)

@@ -1,4 +1,3 @@
-pub mod Lobbies
 pub mod Lines
 pub mod Seats
 pub mod Crowds
@@ -6,3 +5,7 @@ pub mod Rounds
 pub mod Serving
 pub mod Names
 pub mod HostedMany
+pub mod LinkLines
+pub mod ServedOne
+pub mod ServedAll
+pub mod Hosted

@@ -2,17 +2,17 @@
 use Rattle.std.specs.Prelude.{◌≡◌, ℕ, suc, Bool, List, [], ◌∷◌, ◌++◌, codes, decimal}
 use Rattle.std.specs.declared.net.socket_addr.SocketAddr.{SocketAddr}
 use Rattle.bw_stream.specs.declared.sink.Sink.{Ghosts as Writer}
-use Rattle.bw_commands.specs.Printing.{Print, IsOf, IsPrint}
 use Rattle.bw_exchange.specs.EndNames.{name_of_end}
-use Rattle.bw_commands.specs.Text.{as_line}
 use Rattle.bw_exchange.specs.Answering.{frames_of}
+use Rattle.bw_console.specs.Printing.{Print, IsOf, IsPrint}
+use Rattle.bw_console.specs.Text.{as_line}
 use Rattle.bw_many.specs.declared.connection.ConnectionEnd.{ConnectionEnd}
 use Rattle.bw_many.specs.declared.connection.ConnectionEnd.TheVariants.{Over, Idle}
-use Rattle.bw_many.specs.declared.link.Link.{Ghosts as LinkGhosts}
+use Rattle.bw_ports.specs.declared.link.Link.{Ghosts as LinkGhosts}
 use Rattle.bw_many.specs.declared.many.Closed.{Closed}
 use Rattle.bw_many.specs.Keeping.{Tagged, own}
 use Rattle.bw_exchange.specs.LinkCounts.{Counted, count_of, up_to_last}
-use Rattle.bw_transfer.specs.Tallies.{Logs, peer_line}
+use Rattle.bw_serve.specs.LinkLines.{Logs, peer_line}
 
 -- what an end is called
 abbrev pub name_of_connection_end : ConnectionEnd → List ℕ

@@ -7,14 +7,14 @@ use Rattle.bw_model.specs.Replies.{Reply}
 use Rattle.bw_stream.specs.Moves.{one_more}
 use Rattle.bw_stream.specs.declared.sink.Sink.{Ghosts as Writer}
 use Rattle.bw_many.specs.declared.connection.Connection.{Connection}
-use Rattle.bw_many.specs.declared.link.Link.{Ghosts as LinkGhosts}
+use Rattle.bw_ports.specs.declared.link.Link.{Ghosts as LinkGhosts}
 use Rattle.bw_many.specs.Keeping.{StandsAt}
 use Rattle.bw_many.specs.Places.{begun_of, count_of, first_free}
 use Rattle.bw_many.specs.Working.{Wakes}
 use Rattle.bw_serve.specs.Crowds.{Grows, InTurn, IsNew, LetsIn, Stays, can_go_on_in}
 use Rattle.bw_serve.specs.declared.crowd.Crowd.{Crowd}
-use Rattle.bw_serve.specs.declared.lobby.Lobby.{Ghosts as LobbyGhosts}
-use Rattle.bw_serve.specs.declared.lobby.Ready.{Ready}
+use Rattle.bw_ports.specs.declared.lobby.Lobby.{Ghosts as LobbyGhosts}
+use Rattle.bw_ports.specs.declared.lobby.Ready.{Ready}
 
 -- for how many milliseconds is waited at most: for none where one can go on
 abbrev pub patience_of : Bool → ℕ

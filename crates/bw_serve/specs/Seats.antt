@@ -3,8 +3,8 @@ use Rattle.std.specs.Prelude.{◌≡◌, ℕ, Bool, Some, List, slice_get}
 use Rattle.bw_stream.specs.declared.sink.Sink.{Ghosts as Writer}
 use Rattle.bw_many.specs.declared.connection.ConnectionEnd.{ConnectionEnd}
 use Rattle.bw_many.specs.Keeping.{Sets}
-use Rattle.bw_transfer.specs.Tallies.{Logs, peer_line}
 use Rattle.bw_exchange.specs.declared.tally.Tallied.{Tallied}
+use Rattle.bw_serve.specs.LinkLines.{Logs, peer_line}
 use Rattle.bw_serve.specs.Lines.{name_of_connection_end}
 use Rattle.bw_serve.specs.declared.seat.Seat.{Seat}
 

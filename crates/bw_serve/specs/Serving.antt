@@ -4,10 +4,10 @@ use Rattle.bw_model.specs.Wire.{Frame}
 use Rattle.bw_model.specs.Replies.{Reply}
 use Rattle.bw_stream.specs.Moves.{one_more}
 use Rattle.bw_stream.specs.declared.sink.Sink.{Ghosts as Writer}
-use Rattle.bw_commands.specs.declared.exit.Exit.{Exit}
-use Rattle.bw_commands.specs.declared.exit.Exit.TheVariants as exits
 use Rattle.bw_exchange.specs.Answering.{AnswersAll}
-use Rattle.bw_many.specs.declared.link.Link.{Ghosts as LinkGhosts}
+use Rattle.bw_console.specs.declared.exit.Exit.{Exit}
+use Rattle.bw_console.specs.declared.exit.Exit.TheVariants as exits
+use Rattle.bw_ports.specs.declared.link.Link.{Ghosts as LinkGhosts}
 use Rattle.bw_many.specs.declared.many.Closed.{Closed}
 use Rattle.bw_many.specs.Keeping.{Tagged, all_answered}
 use Rattle.bw_many.specs.Places.{begun_of}
@@ -17,7 +17,7 @@ use Rattle.bw_serve.specs.declared.serving.Bounds.{Bounds}
 use Rattle.bw_serve.specs.Crowds.{Grows}
 use Rattle.bw_serve.specs.Rounds.{ServesInRounds}
 use Rattle.bw_serve.specs.Lines.{LogsEnds, TellsEnds}
-use Rattle.bw_serve.specs.declared.lobby.Lobby.{Ghosts as LobbyGhosts}
+use Rattle.bw_ports.specs.declared.lobby.Lobby.{Ghosts as LobbyGhosts}
 
 -- the lobby could not go on once, or was waited as often as it counts
 abbrev pub GoesNoFurther : {B L : Type 0} → LobbyGhosts B L → B → B → Type 0

@@ -5,10 +5,10 @@ ghost use Rattle.bw_wire.specs.Held.{longest_piece};
 ghost use Rattle.bw_stream.specs.Moves.{failures_after};
 
 use crate::line::print_end;
-use crate::lobby::{AcceptFault, Guest, Lobby};
 use crate::seat::{Seat, empty_seats, put_at, swap_at, tell_at};
 use bw_exchange::{Tallied, Turns};
-use bw_many::{Closed, Link, Many};
+use bw_many::{Closed, Many};
+use bw_ports::{Guest, Link, Lobby, TryAcceptFault};
 use bw_stream::Sink;
 use std::alloc::{AllocError, Global};
 
@@ -44,7 +44,7 @@ impl<L: Link + Drop> Crowd<L> {
     ghost use Rattle.bw_serve.specs.Crowds.{ServesPlace, Stays, WorksCounted, can_go_on_in};
     ghost use Rattle.bw_serve.specs.Rounds.{AsksIn, NoticesAll};
     ghost use Rattle.bw_serve.specs.Seats.{LogsAt};
-    ghost use Rattle.bw_serve.specs.declared.lobby.Ready.{Ready};
+    ghost use Rattle.bw_ports.specs.declared.lobby.Ready.{Ready};
 
     /// Nobody, and so many places.
     ///
@@ -130,9 +130,9 @@ impl<L: Link + Drop> Crowd<L> {
             };
             match lobby.accept(place) {
                 Ok(guest) => self.seat(alloc, place, guest, now),
-                Err(AcceptFault::Nobody) => return Ok(()),
-                Err(AcceptFault::Gone) => {}
-                Err(AcceptFault::Closed) => return Err(Shut),
+                Err(TryAcceptFault::Nobody) => return Ok(()),
+                Err(TryAcceptFault::Gone) => {}
+                Err(TryAcceptFault::Closed) => return Err(Shut),
             }
         }
         Ok(())

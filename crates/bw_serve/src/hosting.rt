@@ -3,20 +3,18 @@
 ghost use Rattle.std.specs.Prelude.{◌≡◌};
 ghost use Rattle.bw_serve.specs.HostedMany.{HostsMany, HostsManyOver};
 
-use crate::gathering::Gathering;
 use crate::laws::law_names;
-use crate::lobby::Lobby;
+use crate::hosting_in_turn::{format_listening, tell_end, tell_unbound};
 use crate::serving::{Bounds, serve_crowd};
-use bw_commands::print::{give_up, print};
-use bw_commands::{Exit, Fault, tell_unopened};
 use bw_exchange::Tallied;
+use bw_console::print::{give_up, print};
+use bw_console::{Exit, Fault, tell_unopened};
 use bw_journal::{Journal, NoJournal};
 use bw_layout::Limit;
+use bw_ports::{Gathering, Lobby, Network};
 use bw_session::Server;
 use bw_store::TakeStore;
 use bw_stream::Sink;
-use bw_transfer::Network;
-use bw_transfer::hosting::{format_listening, tell_end, tell_unbound};
 use std::alloc::Global;
 use std::net::SocketAddr;
 

@@ -1,11 +1,11 @@
 //! The line of a connection that ended.
 ghost use Rattle.std.specs.Prelude.{◌≡◌, ◌≤◌, codes, length};
-ghost use Rattle.bw_commands.specs.Printing.{IsOf, IsPrint, Print};
+ghost use Rattle.bw_console.specs.Printing.{IsOf, IsPrint, Print};
 ghost use Rattle.bw_serve.specs.Lines.{connection_line, name_of_connection_end};
 
 use arrayvec::ArrayString;
-use bw_commands::print::tell;
 use bw_exchange::end_name;
+use bw_console::print::tell;
 use bw_many::ConnectionEnd;
 use bw_stream::Sink;
 use itoa::Buffer;

@@ -2,15 +2,15 @@
 ghost use Rattle.std.specs.Prelude.{◌≡◌, ◌<◌, length, vec_len, IfOk};
 ghost use Rattle.bw_many.specs.Keeping.{Sets};
 ghost use Rattle.bw_exchange.specs.LinkCounts.{none_counted};
-ghost use Rattle.bw_transfer.specs.Tallies.{Logs, peer_line};
+ghost use Rattle.bw_serve.specs.LinkLines.{Logs, peer_line};
 ghost use Rattle.bw_serve.specs.Lines.{name_of_connection_end};
 ghost use Rattle.bw_serve.specs.Seats.{LogsAt, SwapsAt};
 
 use crate::line::name_of;
 use bw_exchange::{Tallied, Tally};
+use crate::telling::tell_link;
 use bw_many::ConnectionEnd;
 use bw_stream::Sink;
-use bw_transfer::tell_link;
 use std::alloc::{AllocError, Global};
 use std::net::{Ipv4Addr, SocketAddr};
 

@@ -8,9 +8,9 @@ ghost use Rattle.bw_serve.specs.Rounds.{ServesRound, patience_of};
 ghost use Rattle.bw_serve.specs.Serving.{ServesCrowd};
 
 use crate::crowd::{Crowd, Round, Shut};
-use crate::lobby::Lobby;
-use bw_commands::Exit;
 use bw_exchange::{Tallied, Turns};
+use bw_console::Exit;
+use bw_ports::Lobby;
 use bw_stream::Sink;
 use std::alloc::Global;
 

@@ -1,10 +1,9 @@
 //! A lobby to which peers come by a plan, with a clock that each wait puts on.
 ghost use Rattle.std.specs.Prelude.{◌≡◌, [], IfOk, ⊤};
-ghost use Rattle.bw_serve.specs.Lobbies.{closes_after};
+ghost use Rattle.bw_ports.specs.Lobbies.{closes_after};
 
 use crate::scripted::{Record, Script, Scripted, new_record};
-use bw_many::Link;
-use bw_serve::{AcceptFault, Guest, Lobby, Ready, WaitFault};
+use bw_ports::{Guest, Link, Lobby, Ready, TryAcceptFault, WaitFault};
 use std::alloc::{AllocError, Global};
 use std::cell::RefCell;
 use std::net::{Ipv4Addr, SocketAddr};
@@ -125,7 +124,7 @@ impl Hall {
     }
 
     /// Lets in the next one.
-    fn admit(&mut self, script: Script, place: usize) -> Result<Guest<Scripted>, AcceptFault>
+    fn admit(&mut self, script: Script, place: usize) -> Result<Guest<Scripted>, TryAcceptFault>
         ensures given { IfOk result (λ guest. ⟦<Scripted as Link>⟧.given guest.link []) }
         ensures taken { IfOk result (λ guest. ⟦<Scripted as Link>⟧.taken guest.link []) }
         ensures count { self.new.failures ≡ closes_after result self.old.failures }
@@ -134,7 +133,7 @@ impl Hall {
         ensures patience { self.new.patience ≡ self.old.patience }
     {
         let Ok(link) = self.meet(script, place) else {
-            return Err(AcceptFault::Gone);
+            return Err(TryAcceptFault::Gone);
         };
         let address = SocketAddr::from((Ipv4Addr::LOCALHOST, self.port));
         self.port = self.port.saturating_add(1);
@@ -223,19 +222,19 @@ impl Lobby for Hall {
         })
     }
 
-    fn accept(&mut self, place: usize) -> Result<Guest<Scripted>, AcceptFault> {
+    fn accept(&mut self, place: usize) -> Result<Guest<Scripted>, TryAcceptFault> {
         let Some(visit) = self.plan.visits.get(self.met).copied() else {
-            return Err(AcceptFault::Nobody);
+            return Err(TryAcceptFault::Nobody);
         };
         if visit.round > self.round {
-            return Err(AcceptFault::Nobody);
+            return Err(TryAcceptFault::Nobody);
         }
         self.met = self.met.saturating_add(1);
         match visit.comes {
-            Comes::Gone => Err(AcceptFault::Gone),
+            Comes::Gone => Err(TryAcceptFault::Gone),
             Comes::Closed => {
                 self.failures = self.failures.saturating_add(1);
-                Err(AcceptFault::Closed)
+                Err(TryAcceptFault::Closed)
             }
             Comes::Peer(script) => self.admit(script, place),
         }

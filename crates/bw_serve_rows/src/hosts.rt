@@ -3,7 +3,7 @@ use crate::compare::same;
 use crate::hall::{Plan, Tells, Visit};
 use crate::play::{QUICK, QUICK_OTHER};
 use crate::town::{FOLDER, PORT, Town};
-use bw_commands::Exit;
+use bw_console::Exit;
 use bw_layout::Limit;
 use bw_serve::{Bounds, Hosting, serve_many};
 use bw_stream::MemorySink;

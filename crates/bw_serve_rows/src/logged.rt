@@ -2,7 +2,7 @@
 use crate::hall::{Comes, Plan, Tells, Visit};
 use crate::play::{ALL, OTHER, QUICK, QUICK_OTHER, is_logged, is_over, serve, serve_logged};
 use crate::scripted::{Give, Script, Take};
-use bw_commands::Exit;
+use bw_console::Exit;
 use bw_serve::Bounds;
 use std::test::Fail;
 

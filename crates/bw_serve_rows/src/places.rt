@@ -2,7 +2,7 @@
 use crate::compare::same;
 use crate::hall::{Plan, Tells, Visit};
 use crate::play::{OTHERS, QUICK, QUICK_OTHER, VERDICTS, is_over, is_told, serve};
-use bw_commands::Exit;
+use bw_console::Exit;
 use bw_serve::Bounds;
 use std::test::Fail;
 

@@ -2,8 +2,8 @@
 use crate::compare::same;
 use crate::hall::{Comes, Hall, Plan, Visit};
 use crate::scripted::{Give, Script, Take};
-use bw_commands::Exit;
 use bw_exchange::Tallied;
+use bw_console::Exit;
 use bw_layout::Limit;
 use bw_request::Name;
 use bw_serve::{Bounds, serve_crowd};

@@ -1,7 +1,7 @@
 //! Links that follow a script.
 ghost use Rattle.std.specs.Prelude.{◌≡◌, [], true, ⊤};
 
-use bw_many::{Link, Received, Sent};
+use bw_ports::{Link, Received, Sent};
 use std::alloc::{AllocError, Global};
 use std::cell::RefCell;
 use std::rc::Rc;

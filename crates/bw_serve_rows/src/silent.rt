@@ -3,7 +3,7 @@ use crate::compare::same;
 use crate::hall::{Comes, Plan, Tells, Visit};
 use crate::play::{ALL, FIRST, OTHERS, QUICK_OTHER, TAKE, VERDICTS, is_over, is_told, serve};
 use crate::scripted::{Give, Script, Take};
-use bw_commands::Exit;
+use bw_console::Exit;
 use bw_serve::Bounds;
 use std::alloc::Global;
 use std::process::Abort;

@@ -2,7 +2,7 @@
 use crate::hall::{Comes, Plan, Tells, Visit};
 use crate::play::{ALL, OTHERS, QUICK, QUICK_OTHER, TAKE, VERDICTS, is_over, is_told, serve};
 use crate::scripted::{Give, Script, Take};
-use bw_commands::Exit;
+use bw_console::Exit;
 use bw_serve::Bounds;
 use std::alloc::Global;
 use std::process::Abort;

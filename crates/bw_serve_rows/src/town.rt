@@ -3,10 +3,9 @@ ghost use Rattle.std.specs.Prelude.{◌≡◌, None};
 ghost use Rattle.bw_stream.specs.Moves.{failures_after};
 
 use crate::hall::{Hall, Plan};
-use bw_serve::Gathering;
 use bw_store::MemoryStore;
+use bw_ports::{AcceptFault, Dial, DialFault, Duplex, Gathering, Network, Peer, Peers};
 use bw_stream::{MemorySink, MemorySource};
-use bw_transfer::{AcceptFault, Dial, DialFault, Link, Network, Peer, Peers};
 use std::alloc::Global;
 use std::io::{self, ErrorKind};
 use std::net::SocketAddr;
@@ -133,7 +132,7 @@ impl Dial for Nowhere {
 
     ghost dials = { λ d result d'. d'.failures ≡ failures_after result d.failures };
 
-    fn dial(&mut self) -> Result<Link<MemorySource<'static>, MemorySink>, DialFault> {
+    fn dial(&mut self) -> Result<Duplex<MemorySource<'static>, MemorySink>, DialFault> {
         self.failures = self.failures.saturating_add(1);
         Err(DialFault)
     }

@@ -9,3 +9,4 @@ pub mod FramerSteps
 pub mod ReplyFronts
 pub mod RunLaws
 pub mod StreamRuns
+pub mod RequestTexts

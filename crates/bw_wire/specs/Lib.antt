@@ -12,6 +12,7 @@ pub mod ReplyFronts
 pub mod Held
 pub mod Blocks
 pub mod Codecs
+pub mod RequestTexts
 pub mod Pending
 pub mod Intakes
 pub mod Telling

@@ -19,6 +19,7 @@ mod reply_decoder;
 mod reply_encoder;
 mod reply_framer;
 mod reply_front;
+mod request_text;
 
 pub use decoder::{decode, decode_request};
 pub use encoder::{encode, encode_ask};
@@ -30,3 +31,4 @@ pub use reply::{Notice, Reply};
 pub use reply_decoder::decode_reply;
 pub use reply_encoder::encode_reply;
 pub use reply_framer::ReplyFramer;
+pub use request_text::request_from_hex;

@@ -1,6 +1,6 @@
 use Rattle.std.proofs.Common.{inr, true, refl, sym}
-use Rattle.bw_commands.specs.Printing.{Nothing}
-use Rattle.bw_commands.specs.declared.exit.Exit.TheVariants.{Memory}
+use Rattle.bw_console.specs.Printing.{Nothing}
+use Rattle.bw_console.specs.declared.exit.Exit.TheVariants.{Memory}
 use Rattle.bw_cli.proofs.program.answer.Goals as goal
 
 pub returns-in-Err : goal.returns-in-Err

@@ -1,5 +1,5 @@
 use Rattle.std.proofs.Common.{◌∙◌, inr, ap, map, string_bytes, false, refl}
-use Rattle.bw_commands.specs.Printing.{Nothing}
+use Rattle.bw_console.specs.Printing.{Nothing}
 use Rattle.bw_cli.proofs.ProgramLemmas.{told-words}
 use Rattle.bw_cli.proofs.program.obey.Goals as goal
 

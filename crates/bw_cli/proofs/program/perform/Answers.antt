@@ -1,6 +1,6 @@
 use Rattle.std.proofs.Common.{true, refl}
-use Rattle.bw_commands.specs.Printing.{IsOf, Nothing}
-use Rattle.bw_commands.specs.declared.exit.Exit.TheVariants.{Usage}
+use Rattle.bw_console.specs.Printing.{IsOf, Nothing}
+use Rattle.bw_console.specs.declared.exit.Exit.TheVariants.{Usage}
 use Rattle.bw_args.specs.BadValues.{text_of}
 use Rattle.bw_cli.proofs.program.perform.Goals as goal
 

@@ -1,7 +1,7 @@
 use Rattle.std.proofs.Common.{Ok, Err, true, refl, sym}
-use Rattle.bw_commands.specs.Printing.{Nothing, Whole, Part}
-use Rattle.bw_commands.specs.declared.exit.Exit.TheVariants.{Done, Device, Memory, Usage}
-use Rattle.bw_commands.specs.declared.fault.Fault.TheVariants as faults
+use Rattle.bw_console.specs.Printing.{Nothing, Whole, Part}
+use Rattle.bw_console.specs.declared.exit.Exit.TheVariants.{Done, Device, Memory, Usage}
+use Rattle.bw_console.specs.declared.fault.Fault.TheVariants as faults
 use Rattle.bw_cli.proofs.ProgramLemmas.{told-help, told-usage, told-want}
 use Rattle.bw_cli.proofs.program.show.Goals as goal
 

@@ -1,6 +1,6 @@
 use Rattle.std.proofs.Common.{◌+◌, ◌≤◌, length, map}
 use Rattle.bw_rehearsal.specs.Rehearsing.{event_meaning}
-use Rattle.bw_commands.specs.Lines.{lines_of}
+use Rattle.bw_console.specs.Lines.{lines_of}
 use Rattle.bw_commands.proofs.EventLemmas.{SaidSoFar}
 use Rattle.bw_commands.proofs.events.events.Given as goal
 

@@ -1,9 +1,9 @@
 use Rattle.std.proofs.Common.{◌≡◌, ◌∙◌, Ok, Err, not, true, refl, sym}
 use Rattle.bw_inspect.specs.Faults.{is_failed_read}
-use Rattle.bw_commands.specs.Faults.{exit_on}
+use Rattle.bw_console.specs.Faults.{exit_on}
 use Rattle.bw_commands.specs.Inspections.{exit_for, fault_line}
-use Rattle.bw_commands.specs.Printing.{IsOf, Nothing}
-use Rattle.bw_commands.specs.declared.exit.Exit.TheVariants.{Done}
+use Rattle.bw_console.specs.Printing.{IsOf, Nothing}
+use Rattle.bw_console.specs.declared.exit.Exit.TheVariants.{Done}
 use Rattle.bw_commands.proofs.InspectionLemmas.{failures-not, fault-told, report-told}
 use Rattle.bw_commands.proofs.inspection.inspect_run.Goals as goal
 

@@ -1,7 +1,7 @@
 use Rattle.std.proofs.Common.{map, refl, sym, subst}
 use Rattle.std.proofs.lemmas.Result.{err_from_is_err_and}
-use Rattle.bw_commands.specs.Printing.{Nothing, Whole, Part}
-use Rattle.bw_commands.specs.Input.{Asked}
+use Rattle.bw_console.specs.Printing.{Nothing, Whole, Part}
+use Rattle.bw_console.specs.Input.{Asked}
 use Rattle.bw_commands.specs.Replays.{IsTextFor, IsRunText}
 use Rattle.bw_commands.proofs.EventLemmas.{refuses_run}
 use Rattle.bw_commands.proofs.replay.play.Goals as goal

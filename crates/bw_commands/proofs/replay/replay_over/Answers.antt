@@ -1,7 +1,7 @@
 use Rattle.std.proofs.Common.{Ok, Err, true, refl, sym}
-use Rattle.bw_commands.specs.Faults.{exit_on, is_readable}
-use Rattle.bw_commands.specs.Printing.{Nothing}
-use Rattle.bw_commands.specs.declared.exit.Exit.TheVariants.{Done}
+use Rattle.bw_console.specs.Faults.{exit_on, is_readable}
+use Rattle.bw_console.specs.Printing.{Nothing}
+use Rattle.bw_console.specs.declared.exit.Exit.TheVariants.{Done}
 use Rattle.bw_commands.proofs.replay.replay_over.Goals as goal
 
 pub returns-in-Ok-clause-did : goal.returns-in-Ok-clause-did

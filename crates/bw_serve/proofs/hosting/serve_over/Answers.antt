@@ -1,5 +1,5 @@
 use Rattle.std.proofs.Common.{◌≡◌, ◌∙◌, inl}
-use Rattle.bw_transfer.specs.Hosted.{listening_line}
+use Rattle.bw_serve.specs.Hosted.{listening_line}
 use Rattle.bw_serve.proofs.Leaving.{crowd_leaves}
 use Rattle.bw_serve.proofs.hosting.serve_over.Goals as goal
 

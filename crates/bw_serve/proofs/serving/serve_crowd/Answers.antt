@@ -1,6 +1,6 @@
 use Rattle.std.proofs.Common.{ℕ, ◌+◌, ◌≤◌, rules, arith, refl, sym, subst, inl, inr, ◌∙◌, ap}
 use Rattle.bw_stream.specs.Moves.{one_more}
-use Rattle.bw_commands.specs.declared.exit.Exit.TheVariants as exits
+use Rattle.bw_console.specs.declared.exit.Exit.TheVariants as exits
 use Rattle.bw_serve.proofs.Growing.{grows_still}
 use Rattle.bw_serve.proofs.Rounds.{no_rounds, rounds_more}
 use Rattle.bw_serve.proofs.Running.{all_ended, has_served, none_so_far, round_so_far, shut_rounds, shut_so_far, waited_more}

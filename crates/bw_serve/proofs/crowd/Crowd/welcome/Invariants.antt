@@ -1,7 +1,7 @@
 use Rattle.std.proofs.Common.{◌≡◌, ◌≤◌, List}
 use Rattle.bw_many.specs.Places.{begun_of}
 use Rattle.bw_serve.specs.Crowds.{Grows, LetsIn}
-use Rattle.bw_serve.specs.declared.lobby.Ready.{Ready}
+use Rattle.bw_ports.specs.declared.lobby.Ready.{Ready}
 use Rattle.bw_serve.proofs.crowd.Crowd.welcome.Given as goal
 
 abbrev pub invariant-loop-peer : goal.invariant-loop-peer

@@ -1,5 +1,0 @@
-use Rattle.std.proofs.Common.{rules}
-use Rattle.bw_commands.proofs.exit.Exit.status.Goals as goal
-
-pub returns-in-Device : goal.returns-in-Device
-returns-in-Device c = search rules

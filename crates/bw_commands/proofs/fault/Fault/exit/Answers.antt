@@ -1,5 +1,0 @@
-use Rattle.std.proofs.Common.{rules}
-use Rattle.bw_commands.proofs.fault.Fault.exit.Goals as goal
-
-pub returns-in-Unwritable : goal.returns-in-Unwritable
-returns-in-Unwritable c = search rules

@@ -1,7 +1,0 @@
-use Rattle.std.proofs.Common.{string_bytes}
-use Rattle.bw_commands.specs.Openings.{unopened_text}
-use Rattle.bw_commands.proofs.OpeningLemmas.{reasoned}
-use Rattle.bw_commands.proofs.opening.unopened_line.Goals as goal
-
-pub returns : goal.returns
-returns c = reasoned c.line_with.result string_bytes (unopened_text c.args.path.now) _ c.line_with.ensures

@@ -1,0 +1,4 @@
+pub mod LineLemmas
+pub mod InputLemmas
+pub mod PrintLemmas
+pub mod OpeningLemmas

@@ -1,0 +1,47 @@
+use Rattle.std.proofs.Common.{arith, ◌∙◌, rules}
+use Rattle.std.proofs.lemmas.Grind.{common_steps}
+use Rattle.bw_console.proofs.InputLemmas.{front-is-all, more-front, read-ahead}
+use Rattle.bw_console.proofs.input.all_bytes.Goals as goal
+
+pub returns-then-count-eq0-clause-reads : goal.returns-then-count-eq0-clause-reads
+returns-then-count-eq0-clause-reads g c b e =
+    let front = c.loop-piece.invariant.front b e in
+    let within = c.loop-piece.invariant.within in
+    let none = c.if-count-eq0.true in
+    read-ahead b _ _ _ _ _ _ front (c.in-Ok.ensures.ok _ front.rest) (omega arith)
+
+pub returns-then-count-eq0-clause-ok : goal.returns-then-count-eq0-clause-ok
+returns-then-count-eq0-clause-ok g c b e =
+    let front = c.loop-piece.invariant.front b e in
+    front-is-all b _ _ _ _ _ _ front (c.in-Ok.ensures.ok _ front.rest) c.if-count-eq0.true (grind (arith, common_steps))
+
+pub loop-piece-preserved : goal.loop-piece-preserved
+loop-piece-preserved g c = record {
+  within = grind (arith, common_steps, c.in-Ok.ensures.within, c.in_ok-extend_from_slice.ensures.items);
+  count = c.in-Ok.ensures.count ∙ c.loop-piece.invariant.count;
+  moved = grind (
+    arith,
+    common_steps,
+    c.in-Ok.ensures.moved,
+    c.loop-piece.invariant.moved,
+    c.in_ok-extend_from_slice.ensures.items,
+    c.in-Ok.ensures.within,
+  );
+  front = λ b e.
+      let front = c.loop-piece.invariant.front b e in
+      rw c.in_ok-extend_from_slice.ensures.items
+      (more-front b _ _ _ _ _ _ _ front (c.in-Ok.ensures.ok _ front.rest)
+      (grind (arith, common_steps, c.in-Ok.ensures.within)));
+}
+
+pub returns-in_err-extend_from_slice-clause-reads : goal.returns-in_err-extend_from_slice-clause-reads
+returns-in_err-extend_from_slice-clause-reads g c b e =
+    let front = c.loop-piece.invariant.front b e in
+    read-ahead b _ _ _ _ _ _ front (c.in-Ok.ensures.ok _ front.rest)
+    (grind (arith, common_steps, c.in-Ok.ensures.within))
+
+pub returns-in_default-clause-count : goal.returns-in_default-clause-count
+returns-in_default-clause-count g c = search rules
+
+pub returns-in_default-clause-ok : goal.returns-in_default-clause-ok
+returns-in_default-clause-ok g c = search rules

@@ -1,0 +1,7 @@
+use Rattle.std.proofs.Common.{string_bytes}
+use Rattle.bw_console.specs.Openings.{unopened_text}
+use Rattle.bw_console.proofs.OpeningLemmas.{reasoned}
+use Rattle.bw_console.proofs.opening.unopened_line.Goals as goal
+
+pub returns : goal.returns
+returns c = reasoned c.line_with.result string_bytes (unopened_text c.args.path.now) _ c.line_with.ensures

@@ -1,0 +1,9 @@
+pub mod Lines
+pub mod Input
+pub mod Exits
+pub mod Text
+pub mod Printing
+pub mod Faults
+pub mod Deeds
+pub mod Unworded
+pub mod Openings

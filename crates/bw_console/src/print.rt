@@ -1,0 +1,48 @@
+//! Texts to a writer.
+ghost use Rattle.std.specs.Prelude.{◌≡◌, OnOk, OnErr};
+ghost use Rattle.bw_console.specs.Faults.{exit_on, input_fault_text};
+ghost use Rattle.bw_console.specs.Printing.{HasPrinted, HasStopped, IsOf, IsPrint, Print};
+ghost use Rattle.bw_console.specs.Text.{as_line};
+
+use crate::exit::Exit;
+use crate::fault::Fault;
+use bw_stream::{IoFailed, Sink, write_all};
+
+/// Writes the whole text, and passes on what the writer held back of it.
+///
+/// # Errors
+/// `IoFailed` where the writer failed: it has a beginning of the text, which may be all of it where
+/// passing it on failed.
+///
+/// # Not specified
+/// After an error, how many bytes were written, where the writer doesn't report them.
+pub fn print<W: Sink>(out: &mut W, text: &[u8]) -> Result<(), IoFailed>
+    ensures ok { OnOk result (HasPrinted W.Sink text.now out.old out.new) }
+    ensures err { OnErr result (HasStopped W.Sink text.now out.old out.new) }
+{
+    write_all(out, text)?;
+    out.flush()
+}
+
+/// Writes the text of a fault. That it can't be written changes nothing.
+///
+/// # Not specified
+/// Whether the text was written: only the writer's count of failures shows it.
+pub fn tell<E: Sink>(faults: &mut E, text: &[u8])
+    ensures { (print : Print) × IsOf text.now print × IsPrint E.Sink print faults.old faults.new }
+{
+    let _ = print(faults, text);
+}
+
+/// Writes the line of a fault, and answers how the program ends on it.
+///
+/// # Not specified
+/// By the answer, whether the text was written: only the writer's count of failures shows it.
+pub fn give_up<E: Sink>(faults: &mut E, fault: &Fault) -> Exit
+    ensures exit { result ≡ exit_on fault.now }
+    ensures line { (print : Print) × IsOf (as_line (input_fault_text fault.now)) print
+        × IsPrint E.Sink print faults.old faults.new }
+{
+    tell(faults, fault.line().as_str().as_bytes());
+    fault.exit()
+}

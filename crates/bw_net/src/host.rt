@@ -1,0 +1,80 @@
+//! The system of the process: three calls of std.
+ghost use Rattle.std.specs.Prelude.{◌≡◌, Some, None};
+ghost use Rattle.std.specs.Fs.{IsFile, file_type, metadata_len};
+
+use bw_ports::System;
+use bw_stream::SeekSource;
+use std::fs::{File, Metadata};
+use std::{env, io};
+
+/// The system that the process runs on, by the calls of std. It tells neither words nor files: no
+/// clause of std says what they are.
+#[derive(Drop)]
+pub struct Host<'a> {
+    rt: &'a HostRuntime,
+    failures: u64,
+}
+
+impl<'a> Host<'a> {
+    /// The system of this runtime, which has not failed yet.
+    ///
+    /// # Not specified
+    /// What the words and files are: no clause of std says it.
+    pub fn new(rt: &'a HostRuntime) -> Host<'a>
+        ensures { result.failures ≡ 0 }
+    {
+        Host { rt, failures: 0 }
+    }
+}
+
+impl System for Host<'_> {
+    type File = SeekSource<File>;
+
+    ghost words = { λ s. None };
+
+    ghost file_at = { λ s path. None };
+
+    ghost failures = { λ s. s.failures };
+
+    fn words(&mut self) -> io::Result<Vec<String>> {
+        let found = words(self.rt);
+        if found.is_err() {
+            self.failures = self.failures.saturating_add(1);
+        }
+        found
+    }
+
+    fn open(&mut self, path: &str) -> io::Result<SeekSource<File>> {
+        let opened = open(self.rt, path);
+        if opened.is_err() {
+            self.failures = self.failures.saturating_add(1);
+        }
+        opened
+    }
+}
+
+fn words(rt: &HostRuntime) -> io::Result<Vec<String>> {
+    let mut words = Vec::new(rt.alloc());
+    for word in env::args(rt)? {
+        words.push(word)?;
+    }
+    Ok(words)
+}
+
+fn open(rt: &HostRuntime, path: &str) -> io::Result<SeekSource<File>> {
+    let file = File::open(rt, path)?;
+    let len = known_len(&file.metadata()?);
+    Ok(SeekSource::new(file, len))
+}
+
+/// How long a file is: a pipe and a device have no length, and are read forward.
+fn known_len(metadata: &Metadata) -> Option<u64>
+    ensures file { IsFile (file_type metadata.now) → result ≡ Some (metadata_len metadata.now) }
+    ensures other { ¬ IsFile (file_type metadata.now) → result ≡ None }
+{
+    if metadata.is_file() {
+        Some(metadata.len())
+    } else {
+        None
+    }
+}

@@ -1,0 +1,73 @@
+//! What `serve` and `send` ask of the system: a folder's store, peers, and links to a server.
+ghost use Rattle.std.specs.Prelude.{◌≡◌, ℕ, List, Result, Option};
+ghost use Rattle.std.specs.declared.io.Error.{Error as IoError};
+ghost use Rattle.std.specs.declared.net.socket_addr.SocketAddr.{SocketAddr};
+ghost use Rattle.bw_stream.specs.Moves.{failures_after};
+
+use crate::dial::Dial;
+use crate::peers::Peers;
+use bw_store::TakeStore;
+use std::io;
+use std::net::SocketAddr;
+
+/// Where a server stands and a recorder calls, and how often that failed.
+pub trait Network {
+    /// Keeps the files of a folder.
+    type Store: TakeStore;
+
+    /// Lets in those who come to an address.
+    type Peers: Peers + Drop;
+
+    /// Makes links to a server.
+    type Dial: Dial + Drop;
+
+    /// How many calls failed; the count stays at 2^64 - 1.
+    ghost failures: { Self → ℕ };
+
+    /// What a call of `store` for this folder may come to, and what it leaves.
+    ghost stores: { Self → List ℕ → Result Self.Store IoError → Self → Type 0 };
+
+    /// What a call of `listen` for this address, folder and timeout may come to, and what it leaves.
+    ghost listens: { Self → SocketAddr → List ℕ → Option ℕ → Result Self.Peers IoError → Self
+        → Type 0 };
+
+    /// What a call of `dial` for this address and timeout gives.
+    ghost calls: { Self → SocketAddr → Option ℕ → Self.Dial → Type 0 };
+
+    /// The store of the folder's files.
+    ///
+    /// # Errors
+    /// Why the folder can't be used.
+    ///
+    /// # Not specified
+    /// - When it fails, and the kind of the error.
+    /// - What the network is afterwards, but for its count of failures.
+    fn store(&mut self, folder: &str) -> io::Result<Self::Store>
+        ensures came { stores self.old folder.now result self.new }
+        ensures count { failures self.new ≡ failures_after result (failures self.old) };
+
+    /// Those who come to this address from now on, to a server over the folder, which waits for each
+    /// of their bytes no longer than so many seconds.
+    ///
+    /// # Errors
+    /// Why nobody can come.
+    ///
+    /// # Not specified
+    /// - When it fails, and the kind of the error.
+    /// - What the network is afterwards, but for its count of failures.
+    fn listen(
+        &mut self,
+        address: SocketAddr,
+        folder: &str,
+        timeout: Option<u32>,
+    ) -> io::Result<Self::Peers>
+        ensures came { listens self.old address folder.now timeout result self.new }
+        ensures count { failures self.new ≡ failures_after result (failures self.old) };
+
+    /// What makes links to the server at this address, and waits no longer than so many seconds.
+    ///
+    /// # Not specified
+    /// Anything beyond what each network says of itself.
+    fn dial(&self, address: SocketAddr, timeout: Option<u32>) -> Self::Dial
+        ensures came { calls self.now address timeout result };
+}

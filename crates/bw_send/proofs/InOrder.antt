@@ -1,0 +1,200 @@
+-- The requests that were offered are the first of the input, and what it says that all are stored.
+use Rattle.std.proofs.Common.{◌≡◌, ℕ, suc, zero, ◌+◌, ◌<◌, ◌≤◌, ◌⊎◌, Bool, true, false, cond, List}
+use Rattle.std.proofs.Common.{[], ◌∷◌, ◌++◌, length}
+use Rattle.std.proofs.Common.{take, drop, Option, Some, None, refl, sym, ◌∙◌, ap, subst, arith, inl, inr}
+use Rattle.std.proofs.Common.{append_assoc, append-nil, length-append}
+use Rattle.std.proofs.Math.Seq.{drop-append_seam}
+use Rattle.std.specs.Prelude.{count_by, ◌==◌, if◌then◌else◌}
+use Rattle.std.proofs.lemmas.Bool.{false≢true, eqb-true}
+use Rattle.std.proofs.lemmas.List.{length-take}
+use Rattle.std.proofs.lemmas.List.Sums.{count_by-le-length, sum_by-cons}
+use Rattle.bw_model.specs.Bytes.{at, first_free}
+use Rattle.bw_model.specs.Take.{Request, Verdict, Stored, is_stored, NameTaken, AlreadyOpen, NotOpen, Closed, BadFormat}
+use Rattle.bw_model.specs.Take.{BadBlock, BadMarker, DuplicateMarker, TooManyMarkers, BadField, WrongTotal}
+use Rattle.bw_model.specs.Replies.{Reply}
+use Rattle.bw_model.specs.World.{Sender as Defined, OfferFault, offer_fault, is_some_stored, stored}
+use Rattle.bw_stream.specs.declared.sink.Sink.{Ghosts as Writer}
+use Rattle.bw_stream.specs.declared.source.Source.{Ghosts as Reader}
+use Rattle.bw_send.specs.RoundsMade.{AreRounds, MakesRounds}
+use Rattle.bw_send.specs.SendState.{Sending, IsSettled, hear_in, new_sending, offer_all, offer_more, offer_next}
+use Rattle.bw_console.specs.declared.exit.Exit.TheVariants.{Done, Refused, Device}
+use Rattle.bw_send.specs.SendState.{unoffered, OffersInOrder, EachIsStored, exit_for, has_refused}
+use Rattle.bw_send.proofs.OfferSteps.{taken, refused, all_taken, all_refused}
+use Rattle.bw_send.proofs.RoundSteps.{all_heard}
+use Rattle.bw_ports.specs.declared.dial.Dial.{Ghosts as DialGhosts}
+
+-- what was offered, and then these, are the requests of the input
+abbrev pub Front : Sending → List Request → Type 0
+Front x rest = x.sender.offered ++ rest ≡ x.requests
+
+pub rest_is : (x : Sending) (rest : List Request) → Front x rest → unoffered x ≡ rest
+rest_is x rest e = ap (drop (length x.sender.offered)) (sym e) ∙ drop-append_seam x.sender.offered rest
+
+next_front : (x : Sending) (r : Request) (rs : List Request) → Front x (r ∷ rs) → offer_fault x.sender r ≡ None →
+    Front (offer_next x r) rs
+next_front x r rs e none =
+    ap (λ (s : Defined). s.offered ++ rs) (taken x.sender r none) ∙ append_assoc x.sender.offered (r ∷ []) rs ∙ e
+
+stopped_front : (x : Sending) (r : Request) (rest : List Request) (f : OfferFault) → Front x rest →
+    offer_fault x.sender r ≡ Some f → Front (offer_next x r) rest
+stopped_front x r rest f e some = ap (λ (s : Defined). s.offered ++ rest) (refused x.sender r f some) ∙ e
+
+all_front : (x : Sending) (rs : List Request) → Front x rs → (rest : List Request) × Front (offer_all x rs) rest
+unfolding offer_all
+all_front x [] e = ([], e)
+all_front x (r ∷ rs) e = go (offer_fault x.sender r) refl (all_front (offer_next x r) rs)
+  where
+    go : (o : Option OfferFault) → offer_fault x.sender r ≡ o →
+        (Front (offer_next x r) rs → (rest : List Request) × Front (offer_all (offer_next x r) rs) rest) →
+        (rest : List Request) × Front (offer_all x (r ∷ rs)) rest
+    go None is rec =
+        let more = rec (next_front x r rs e is) in
+        (more.0, subst (λ (y : Sending). Front y more.0) (sym (all_taken x r rs is)) more.1)
+    go (Some f) is rec = (
+      r ∷ rs,
+      subst (λ (y : Sending). Front y (r ∷ rs)) (sym (all_refused x r rs f is))
+          (stopped_front x r (r ∷ rs) f e is),
+    )
+
+more_front : (x : Sending) (rest : List Request) → Front x rest → (rest : List Request) × Front (offer_more x) rest
+unfolding offer_more
+more_front x rest e = go x.is_stopped
+  where
+    go : (b : Bool) → (rest : List Request) × Front (cond b x (offer_all x (unoffered x))) rest
+    go true = (rest, e)
+    go false = all_front x (unoffered x) (ap (λ (rs : List Request). x.sender.offered ++ rs) (rest_is x rest e) ∙ e)
+
+hear_front : (x : Sending) (heard : List Reply) (rest : List Request) → Front x rest → Front (hear_in x heard) rest
+hear_front x heard rest e = ap (λ (rs : List Request). rs ++ rest) (all_heard x.sender heard) ∙ e
+
+module _ {D R W : Type 0} (dial : DialGhosts D R W) (reader : Reader R) (writer : Writer W) where
+  went_front : (x : Sending) (heard : List (List Reply)) (y : Sending) (d e : D) →
+      AreRounds dial reader writer x heard y d e → (rest : List Request) → Front x rest →
+      (rest : List Request) × Front y rest
+  went_front x [] y d e went rest f = (rest, subst (λ (z : Sending). Front z rest) (sym went.0) f)
+  went_front x (h ∷ hs) y d e went rest f =
+      let more = more_front x rest f in
+      went_front (hear_in (offer_more x) h) hs y went.0 e went.3 more.0 (hear_front (offer_more x) h more.0 more.1)
+
+  -- behind rounds what was offered is the front of the requests
+  pub made_front : (name : List ℕ) (requests : List Request) (rounds : ℕ) (y : Sending) (d e : D) →
+      MakesRounds dial reader writer rounds (new_sending name requests) y d e →
+      y.sender.offered ++ unoffered y ≡ y.requests
+  made_front name requests rounds y d e made = go made.ends
+    where
+      behind : (rest : List Request) × Front made.behind rest
+      behind = went_front (new_sending name requests) made.heard made.behind d e made.went requests refl
+
+      whole : (z : Sending) (rest : List Request) → Front z rest → y ≡ z → y.sender.offered ++ unoffered y ≡ y.requests
+      whole z rest f is =
+          let g : Front y rest = subst (λ (z : Sending). Front z rest) (sym is) f in
+          ap (λ (rs : List Request). y.sender.offered ++ rs) (rest_is y rest g) ∙ g
+
+      go : ((length made.heard ≡ rounds) × (y ≡ made.behind))
+          ⊎ ((length made.heard < rounds) × (y ≡ offer_more made.behind) × IsSettled y) →
+          y.sender.offered ++ unoffered y ≡ y.requests
+      go (inl all) = whole made.behind behind.0 behind.1 all.1
+      go (inr few) =
+          let more = more_front made.behind behind.0 behind.1 in
+          whole (offer_more made.behind) more.0 more.1 few.1
+
+-- As many stored as there are requests.
+
+first_free-le : (vs : List (Option Verdict)) → first_free vs ≤ length vs
+first_free-le [] = omega arith
+first_free-le (None ∷ vs) = omega arith
+first_free-le (Some v ∷ vs) = let h : first_free vs ≤ length vs = first_free-le vs in omega arith
+
+stored_is : (v : Verdict) → is_stored v ≡ true → v ≡ Stored
+stored_is Stored e = refl
+stored_is NameTaken e = absurd (false≢true e)
+stored_is AlreadyOpen e = absurd (false≢true e)
+stored_is NotOpen e = absurd (false≢true e)
+stored_is Closed e = absurd (false≢true e)
+stored_is BadFormat e = absurd (false≢true e)
+stored_is BadBlock e = absurd (false≢true e)
+stored_is BadMarker e = absurd (false≢true e)
+stored_is DuplicateMarker e = absurd (false≢true e)
+stored_is TooManyMarkers e = absurd (false≢true e)
+stored_is BadField e = absurd (false≢true e)
+stored_is WrongTotal e = absurd (false≢true e)
+
+-- how many of the first k are stored
+abbrev count : ℕ → List (Option Verdict) → ℕ
+count k vs = count_by is_some_stored (take k vs)
+
+abbrev one_if : Bool → ℕ
+one_if b = if b then 1 else 0
+
+count_cons : (v : Verdict) (k : ℕ) (vs : List (Option Verdict)) →
+    count (suc k) (Some v ∷ vs) ≡ one_if (is_stored v) + count k vs
+count_cons v k vs = sum_by-cons (λ o. one_if (is_some_stored o)) (Some v) (take k vs)
+
+count-le : (k : ℕ) (vs : List (Option Verdict)) → count k vs ≤ k
+count-le k vs =
+    let a : count k vs ≤ length (take k vs) = count_by-le-length is_some_stored (take k vs) in
+    let b = length-take k vs in
+    omega (arith, a, b)
+
+-- where as many of the settled numbers are stored as there are settled, each of them is
+each_stored : (vs : List (Option Verdict)) (m : ℕ) → count (first_free vs) vs ≡ m → first_free vs ≤ m → (n : ℕ) →
+    n < m → at vs n ≡ Some Stored
+each_stored [] m e le n lt = let c : count 0 [] ≤ 0 = count-le 0 [] in absurd (omega (arith, c, e, lt))
+each_stored (None ∷ vs) m e le n lt =
+    let c : count 0 (None ∷ vs) ≤ 0 = count-le 0 (None ∷ vs) in absurd (omega (arith, c, e, lt))
+each_stored (Some v ∷ vs) m e le n lt = go (is_stored v) refl n lt (each_stored vs)
+  where
+    k : ℕ
+    k = first_free vs
+
+    c : count k vs ≤ k
+    c = count-le k vs
+
+    go : (b : Bool) → is_stored v ≡ b → (n : ℕ) → n < m →
+        ((m : ℕ) → count k vs ≡ m → k ≤ m → (n : ℕ) → n < m → at vs n ≡ Some Stored) →
+        at (Some v ∷ vs) n ≡ Some Stored
+    go false is n lt rec =
+        let split : count (suc k) (Some v ∷ vs) ≡ one_if false + count k vs =
+        count_cons v k vs ∙ ap (λ (b : Bool). one_if b + count k vs) is in
+        let less : suc k ≤ m = le in
+        absurd (omega (arith, split, c, e, less))
+    go true is zero lt rec = ap Some (stored_is v is)
+    go true is (suc n) lt rec =
+        let split : count (suc k) (Some v ∷ vs) ≡ one_if true + count k vs =
+        count_cons v k vs ∙ ap (λ (b : Bool). one_if b + count k vs) is in
+        let less : suc k ≤ m = le in
+        rec (count k vs) refl (omega (arith, split, e, less)) n (omega (arith, split, e, lt))
+
+-- Done says that each request is stored
+exit_done : (x : Sending) → exit_for x ≡ Done → stored x.sender ≡ length x.requests
+exit_done x e = go (has_refused x) e
+  where
+    last : (b : Bool) → (stored x.sender == length x.requests) ≡ b → cond b Done Device ≡ Done →
+        stored x.sender ≡ length x.requests
+    last true is e = eqb-true (stored x.sender) (length x.requests) is
+    last false is e = absurd (cc)
+
+    go : (b : Bool) → cond b Refused (cond (stored x.sender == length x.requests) Done Device) ≡ Done →
+        stored x.sender ≡ length x.requests
+    go true e = absurd (cc)
+    go false e = last (stored x.sender == length x.requests) refl e
+
+pub done_stored : (x : Sending) → OffersInOrder x → exit_for x ≡ Done → EachIsStored x
+done_stored x o e =
+    let count_is : count (first_free x.sender.verdicts) x.sender.verdicts ≡ length x.requests = exit_done x e in
+    let c : count (first_free x.sender.verdicts) x.sender.verdicts ≤ first_free x.sender.verdicts =
+    count-le (first_free x.sender.verdicts) x.sender.verdicts in
+    let f : first_free x.sender.verdicts ≤ length x.sender.verdicts = first_free-le x.sender.verdicts in
+    let w = o.within in
+    let parts : length x.sender.offered + length (unoffered x) ≡ length x.requests =
+    sym (length-append x.sender.offered (unoffered x)) ∙ ap length o.front in
+    let none : length (unoffered x) ≡ 0 = omega (arith, count_is, c, f, w, parts) in
+    record {
+      all = sym (append-nil x.sender.offered)
+          ∙ ap (λ (rs : List Request). x.sender.offered ++ rs) (sym (empty (unoffered x) none)) ∙ o.front;
+      stored = each_stored x.sender.verdicts (length x.requests) count_is (omega (arith, f, w, parts));
+    }
+  where
+    empty : (rs : List Request) → length rs ≡ 0 → rs ≡ []
+    empty [] e = refl
+    empty (r ∷ rs) e = absurd (omega (arith, e))

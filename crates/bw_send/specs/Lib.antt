@@ -1,0 +1,6 @@
+pub mod RequestLines
+pub mod SendState
+pub mod RoundsMade
+pub mod SenderText
+pub mod Sends
+pub mod Watched

@@ -1,0 +1,14 @@
+//! The command `send`: requests of an input, sent in rounds until all are settled. Sockets stand
+//! above, behind `Dial`.
+#![tactic(auto)]
+
+mod dispatch;
+mod offering;
+mod requests;
+mod rounds;
+mod sending;
+mod text;
+mod watch;
+
+pub use sending::{send_run, send_watched};
+pub use watch::Progress;

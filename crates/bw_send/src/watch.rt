@@ -1,0 +1,151 @@
+//! How far a sender is behind each round, for whoever watches it.
+ghost use Rattle.std.specs.Prelude.{◌≡◌, ◌≤◌, ◌+◌, ◌++◌, decimal, length};
+ghost use Rattle.bw_model.specs.World.{Sender as Defined, settled as settled_of};
+ghost use Rattle.bw_model.specs.World.{stored as stored_of};
+ghost use Rattle.bw_request.specs.Requests.{samples_in};
+ghost use Rattle.bw_sender.specs.Senders.{IsSender};
+ghost use Rattle.bw_console.specs.Printing.{IsOf, IsPrint, Print};
+ghost use Rattle.bw_send.specs.Watched.{bytes_in, counts_line, progress_line};
+ghost use Rattle.bw_send.specs.Watched.{settled_bytes};
+
+use arrayvec::ArrayString;
+use bw_request::{Request, RequestRef};
+use bw_console::print::tell;
+use bw_ports::ProgressReport;
+use bw_sender::Sender;
+use bw_stream::Sink;
+use itoa::Buffer;
+
+/// How far a sender is with the requests of an input, behind a round.
+#[derive(Clone, Copy)]
+pub struct Progress<'a> {
+    round: u32,
+    sender: &'a Sender,
+    requests: &'a [Request],
+}
+
+impl<'a> Progress<'a> {
+    pub(crate) fn new(round: u32, sender: &'a Sender, requests: &'a [Request]) -> Progress<'a>
+        ensures round { result.round ≡ round }
+        ensures sender { result.sender.now ≡ sender.now }
+        ensures requests { result.requests.now ≡ requests.now }
+    {
+        Progress {
+            round,
+            sender,
+            requests,
+        }
+    }
+
+    /// The round's number, counted from 1.
+    pub fn round(&self) -> u32
+        ensures { result ≡ self.now.round }
+    {
+        self.round
+    }
+
+    /// How many requests have their verdicts, up to the first that has none.
+    pub fn settled(&self) -> u32
+        ensures { (s : Defined) → IsSender s self.now.sender.now → result ≡ settled_of s }
+    {
+        self.sender.settled()
+    }
+
+    /// How many of the settled requests are stored.
+    pub fn stored(&self) -> u32
+        ensures { (s : Defined) → IsSender s self.now.sender.now → result ≡ stored_of s }
+    {
+        self.sender.stored()
+    }
+
+    /// The bytes of samples in the settled requests, which are the first of the input; 2^64 - 1
+    /// where there are more. They are summed by this call.
+    pub fn bytes(&self) -> u64
+        ensures { (s : Defined) → IsSender s self.now.sender.now →
+            result ≡ settled_bytes s self.now.requests.now }
+    {
+        let settled = (self.settled() as usize).min(self.requests.len());
+        bytes_in(&self.requests[..settled])
+    }
+
+    /// Tells it in a line. It takes no memory.
+    pub fn tell<E: Sink>(&self, out: &mut E)
+        ensures { (s : Defined) → IsSender s self.now.sender.now → (print : Print)
+            × IsOf (progress_line self.now.round s self.now.requests.now) print
+            × IsPrint E.Sink print out.old out.new }
+    {
+        tell(out, self.line().as_str().as_bytes());
+    }
+
+    fn line(&self) -> ArrayString<128>
+        ensures { (s : Defined) → IsSender s self.now.sender.now →
+            result.bytes ≡ progress_line self.now.round s self.now.requests.now }
+    {
+        line_of(self.round, self.settled(), self.stored(), self.bytes())
+    }
+}
+
+impl ProgressReport for Progress<'_> {
+    fn round(&self) -> u32 {
+        Progress::round(self)
+    }
+
+    fn settled(&self) -> u32 {
+        Progress::settled(self)
+    }
+
+    fn stored(&self) -> u32 {
+        Progress::stored(self)
+    }
+
+    fn bytes(&self) -> u64 {
+        Progress::bytes(self)
+    }
+
+    fn tell<E: Sink>(&self, out: &mut E) {
+        Progress::tell(self, out);
+    }
+}
+
+fn line_of(round: u32, settled: u32, stored: u32, bytes: u64) -> ArrayString<128>
+    ensures { result.bytes ≡ counts_line round settled stored bytes }
+{
+    let mut line = ArrayString::new();
+    put_count(&mut line, "round ", u64::from(round));
+    put_count(&mut line, " settled ", u64::from(settled));
+    put_count(&mut line, " stored ", u64::from(stored));
+    put_count(&mut line, " bytes ", bytes);
+    line.push_str("\n");
+    line
+}
+
+/// Adds a count behind what it is called.
+fn put_count(line: &mut ArrayString<128>, name: &str, count: u64)
+    requires { length line.old.bytes + length name.now ≤ 100 }
+    ensures text { line.new.bytes ≡ line.old.bytes ++ name.now ++ decimal count }
+    ensures short { length line.new.bytes ≤ length line.old.bytes + length name.now + 20 }
+{
+    line.push_str(name);
+    line.push_str(Buffer::new().format(count));
+}
+
+/// The bytes of samples in these requests; 2^64 - 1 where there are more.
+fn bytes_in(requests: &[Request]) -> u64
+    ensures { result ≡ bytes_in requests.now }
+{
+    let mut bytes: u64 = 0;
+    for request in requests {
+        bytes = bytes.saturating_add(samples_len(request));
+    }
+    bytes
+}
+
+/// How many bytes of samples a request brings.
+fn samples_len(request: &Request) -> u64
+    ensures { result ≡ samples_in request.now }
+{
+    match request.as_ref() {
+        RequestRef::Block { bytes } => bytes.len() as u64,
+        _ => 0,
+    }
+}

@@ -1,0 +1,47 @@
+use Rattle.std.proofs.Common.{◌∙◌, ℕ, List, ap, fold, subst}
+use Rattle.bw_exchange.specs.Answering.{AnswersAll, frames_of}
+use Rattle.bw_exchange.specs.LinkCounts.{Counted, count_of, with_frame}
+use Rattle.bw_exchange.proofs.TallyLemmas.{all_by_server, all_counted}
+use Rattle.bw_serve.specs.LinkLines.{Logs, peer_line}
+use Rattle.bw_serve.proofs.serving_in_turn.serve_peer.Goals as goal
+
+pub returns : goal.returns
+returns g c =
+    let to = c.serve_link-ended.ensures in
+    let all = to.serves.by_server in
+    let counted = c.tally.ensures
+    ∙ all_counted g.T.Turns.answers c.start.new.self to.serves.answered c.serve_link-ended.new.server all
+    ∙ ap (λ x. fold with_frame x (frames_of to.serves.answered)) c.start.ensures.tally in
+    record {
+      end = c.serve_link-ended.result.end;
+      r' = _;
+      w' = _;
+      served = record {
+        serves = record {
+          answered = to.serves.answered;
+          by_server = subst (λ s. AnswersAll g.T.Turns.answers s to.serves.answered
+              c.serve_link-ended.new.server.server) c.start.ensures.server (all_by_server g.T.Turns.answers
+              c.start.new.self to.serves.answered c.serve_link-ended.new.server all);
+          input = to.serves.input;
+          given = to.serves.given;
+          no_further = to.serves.no_further;
+          output = to.serves.output;
+          taken = to.serves.taken;
+          front = to.serves.front;
+          spelled = to.serves.spelled;
+          by_end = to.serves.by_end;
+        };
+        reads = to.reads;
+        writes = to.writes;
+        calls = to.calls;
+        limit = to.limit;
+        print = to.print;
+        line = to.line;
+        printed = to.printed;
+        exit_is = to.exit_is;
+      };
+      logs = subst (λ (n : List ℕ). Logs g.E.Sink c.args.log (peer_line c.args.peer.address n
+          (count_of (frames_of to.serves.answered))) c.args.faults.now c.tell_link.new.faults) c.end_name.ensures.value
+          (subst (λ (x : Counted). Logs g.E.Sink c.args.log (peer_line c.args.peer.address c.end_name.result.now x)
+          c.args.faults.now c.tell_link.new.faults) counted c.tell_link.ensures);
+    }

@@ -1,0 +1,62 @@
+-- What serving one exchange comes to.
+use Rattle.std.specs.Prelude.{◌≡◌, ℕ, ◌+◌, ◌≤◌, ◌++◌, List, codes, decimal}
+use Rattle.bw_model.specs.Wire.{Frame}
+use Rattle.bw_model.specs.Replies.{Reply}
+use Rattle.bw_stream.specs.declared.sink.Sink.{Ghosts as Writer}
+use Rattle.bw_stream.specs.declared.source.Source.{Ghosts as Reader}
+use Rattle.bw_exchange.specs.Served.{Serves, most_reads, reads_failed, writes_failed, IsLimited}
+use Rattle.bw_exchange.specs.declared.serving.ExchangeEnd.{ExchangeEnd}
+use Rattle.bw_exchange.specs.declared.serving.ExchangeEnd.TheVariants as ends
+use Rattle.bw_exchange.specs.EndNames.{name_of_end}
+use Rattle.bw_console.specs.Printing.{Print, Nothing, Whole, Part, IsOf, IsPrint}
+use Rattle.bw_console.specs.Text.{as_line}
+use Rattle.bw_console.specs.declared.exit.Exit.{Exit}
+use Rattle.bw_console.specs.declared.exit.Exit.TheVariants.{Done, Device, Memory}
+
+-- the line of the exchange with this number
+abbrev pub exchange_end_line : ℕ → ExchangeEnd → List ℕ
+exchange_end_line index end =
+    as_line (codes "exchange " ++ decimal index ++ codes " " ++ name_of_end end)
+
+-- how the call ends on this end of the exchange
+abbrev pub exit_of_end : ExchangeEnd → Exit
+exit_of_end ends.Bye = Done
+exit_of_end ends.EndOfInput = Done
+exit_of_end (ends.BadFrame fault) = Done
+exit_of_end ends.ReadFault = Device
+exit_of_end ends.WriteFault = Device
+exit_of_end ends.TurnLimit = Device
+exit_of_end ends.Memory = Memory
+
+-- how it ends where the line can't be written: want of memory goes before
+abbrev pub exit_untold : ExchangeEnd → Exit
+exit_untold ends.Memory = Memory
+exit_untold _ = Device
+
+-- how it ends behind what was printed of the line
+abbrev pub exit_behind : ExchangeEnd → Print → Exit
+exit_behind end (Whole text) = exit_of_end end
+exit_behind end (Part text) = exit_untold end
+exit_behind end Nothing = exit_untold end
+
+module _ {S R W O : Type 0} (answers : S → Frame → List Reply → S → Type 0) (reader : Reader R)
+    (writer : Writer W) (out : Writer O) where
+  -- An exchange was served to this end: what the server answered, what was read and what was
+  -- written is that of such an exchange. Its line and no other was printed, and the call ends so.
+  pub record ServesTo (index : ℕ) (end : ExchangeEnd) (exit : Exit) (s s' : S) (r r' : R)
+      (w w' : W) (o o' : O) : Type 0 where
+    pub serves : Serves answers end s s' (reader.left r) (reader.left r') (writer.written w)
+        (writer.written w')
+    pub reads : reader.failures r' ≡ reads_failed end (reader.failures r)
+    pub writes : writer.failures w' ≡ writes_failed end (writer.failures w)
+    pub calls : reader.calls r' ≤ reader.calls r + most_reads
+    pub limit : IsLimited end (reader.moved r) (reader.moved r') (reader.calls r) (reader.calls r')
+    pub print : Print
+    pub line : IsOf (exchange_end_line index end) print
+    pub printed : IsPrint out print o o'
+    pub exit_is : exit ≡ exit_behind end print
+
+  -- to any end
+  abbrev pub ServesOne : ℕ → Exit → S → S → R → R → W → W → O → O → Type 0
+  ServesOne index exit s s' r r' w w' o o' =
+      (end : ExchangeEnd) × ServesTo index end exit s s' r r' w w' o o'

@@ -1,0 +1,150 @@
+//! The command `serve`: a server over a folder, from its first line to its end.
+ghost use Rattle.std.specs.Prelude.{◌≡◌, string_bytes, IfOk};
+ghost use Rattle.std.specs.IoError.{error_kind};
+ghost use Rattle.std.specs.Net.Text.{socket_text};
+ghost use Rattle.bw_serve.specs.Hosted.{Hosts, HostsOver, TellsEnd, TellsUnopened};
+ghost use Rattle.bw_serve.specs.Hosted.{listening_line};
+
+use bw_exchange::Tallied;
+use crate::serving_in_turn::serve_run;
+use bw_console::print::{give_up, print, tell};
+use bw_console::{Exit, Fault, tell_unopened};
+use bw_journal::{Journal, NoJournal};
+use bw_layout::Limit;
+use bw_ports::{Network, Peers};
+use bw_session::Server;
+use bw_store::TakeStore;
+use bw_stream::Sink;
+use std::alloc::{AllocError, Global};
+use std::io;
+use std::net::SocketAddr;
+
+/// What a server is asked for.
+#[derive(Clone, Copy)]
+pub struct Serving<'a> {
+    /// Where peers come.
+    pub address: SocketAddr,
+    /// The folder of its files, as it was given.
+    pub folder: &'a str,
+    /// How many exchanges it serves.
+    pub exchanges: u64,
+    /// The greatest form size of a RIFF file.
+    pub limit: Limit,
+    /// For how many seconds it waits for a peer; for good, where there is none.
+    pub timeout: Option<u32>,
+    /// Whether each link is told in a line.
+    pub log: bool,
+}
+
+/// What is told where no more peers are let in.
+const GONE: &str = "the server can't go on: its folder is gone, or nothing can be waited for\n";
+
+/// Serves so many exchanges over a new server and the folder's store.
+///
+/// What can't be used is a line on `faults` before anything is printed. Then `listening ADDRESS`
+/// and a line for each exchange are; where the first can't be, nothing is served. Where a log is
+/// asked for, each link is a line on `faults`, as `serve_run` says.
+///
+/// # Not specified
+/// - When memory is refused before the first line.
+/// - The reason in the line of a folder or an address that can't be used.
+/// - The state of the peers after the run, which are dropped.
+/// - What a store that isn't honest has then.
+pub fn serve<N: Network, O: Sink, E: Sink>(
+    alloc: Global,
+    network: &mut N,
+    serving: &Serving<'_>,
+    out: &mut O,
+    faults: &mut E,
+) -> Exit
+    ensures { Hosts N.Store.TakeStore ⟦<NoJournal as Journal>⟧ N.Peers.Peers
+        N.Peers.Reader.Source N.Peers.Writer.Sink O.Sink E.Sink N.Network
+        serving.now result network.old network.new out.old out.new faults.old faults.new }
+{
+    let store = match network.store(serving.folder) {
+        Ok(store) => store,
+        Err(error) => return tell_unopened(alloc, serving.folder, &error, faults),
+    };
+    match network.listen(serving.address, serving.folder, serving.timeout) {
+        Ok(mut peers) => serve_over(alloc, store, &mut peers, serving, out, faults),
+        Err(error) => tell_unbound(alloc, serving.address, &error, faults),
+    }
+}
+
+/// Tells why nobody can come to an address.
+///
+/// # Not specified
+/// - The reason in the line.
+/// - When memory is refused for it.
+pub fn tell_unbound<E: Sink>(
+    alloc: Global,
+    address: SocketAddr,
+    error: &io::Error,
+    faults: &mut E,
+) -> Exit
+    ensures { TellsUnopened E.Sink (socket_text address) (error_kind error.now) result
+        faults.old faults.new }
+{
+    let Ok(text) = format!(in alloc; "{address}") else {
+        return give_up(faults, &Fault::Memory);
+    };
+    tell_unopened(alloc, text.as_str(), error, faults)
+}
+
+/// Serves so many exchanges over a new server and this store.
+fn serve_over<S: TakeStore, P: Peers, O: Sink, E: Sink>(
+    alloc: Global,
+    store: S,
+    peers: &mut P,
+    serving: &Serving<'_>,
+    out: &mut O,
+    faults: &mut E,
+) -> Exit
+    ensures { HostsOver S.TakeStore ⟦<NoJournal as Journal>⟧ P.Peers P.Reader.Source P.Writer.Sink
+        O.Sink E.Sink serving.now result store peers.old peers.new out.old out.new faults.old
+        faults.new }
+{
+    let Ok(server) = Server::new(alloc, store, serving.limit) else {
+        return give_up(faults, &Fault::Memory);
+    };
+    let Ok(line) = format_listening(alloc, serving.address) else {
+        return give_up(faults, &Fault::Memory);
+    };
+    let Ok(()) = print(out, line.as_str().as_bytes()) else {
+        return give_up(faults, &Fault::Unwritable);
+    };
+    let mut server = Tallied::new(server);
+    let (exchanges, log) = (serving.exchanges, serving.log);
+    let exit = serve_run(alloc, &mut server, peers, exchanges, log, out, faults);
+    tell_end(exit, faults)
+}
+
+/// The first line of a server at an address.
+///
+/// # Errors
+/// `AllocError` where memory was refused.
+///
+/// # Not specified
+/// When memory is refused.
+pub fn format_listening(alloc: Global, address: SocketAddr) -> Result<String, AllocError>
+    ensures { IfOk result (λ line. string_bytes line ≡ listening_line address) }
+{
+    format!(in alloc; "listening {address}\n")
+}
+
+/// Tells why a run ended, where that wasn't behind its last exchange.
+///
+/// Nothing is told of `Done`; of `Memory` it is `out of memory`; else the folder is gone, or
+/// nothing can be waited for, and the answer is `Device`.
+pub fn tell_end<E: Sink>(exit: Exit, faults: &mut E) -> Exit
+    ensures { TellsEnd E.Sink exit result faults.old faults.new }
+{
+    match exit {
+        Exit::Done => Exit::Done,
+        Exit::Memory => give_up(faults, &Fault::Memory),
+        Exit::Refused | Exit::Usage | Exit::Device => {
+            tell(faults, GONE.as_bytes());
+            Exit::Device
+        }
+    }
+}

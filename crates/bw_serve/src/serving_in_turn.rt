@@ -1,0 +1,115 @@
+//! The exchanges of the command `serve`, one after another.
+ghost use Rattle.std.specs.Prelude.{◌≡◌};
+ghost use Rattle.bw_serve.specs.ServedAll.{Outcome, Served, ServesNext, ServesPeer, ServesRun};
+ghost use Rattle.bw_serve.specs.ServedAll.{exit_now};
+
+use crate::serving_one::serve_link;
+use crate::telling::tell_link;
+use bw_exchange::{Tallied, Turns, end_name};
+use bw_console::Exit;
+use bw_ports::{AcceptFault, Peer, Peers};
+use bw_stream::{Sink, Source};
+use std::alloc::Global;
+
+/// Serves so many exchanges, one after another, each over a link of its own, and tells how each
+/// ended in a line.
+///
+/// An exchange that breaks off, whose line can't be written or whose peer goes away before it is
+/// let in, is the end of that exchange alone, and counts. `Done` behind the last one; `Memory` where
+/// memory was refused to one; `Device` where no more peers are let in.
+///
+/// With `log` each link is a line on `faults` too: `peer ADDRESS names NAME.. end END messages N
+/// bytes N`, with the first eight names of its messages.
+///
+/// # Not specified
+/// - When an `accept` fails.
+/// - With `log`, when the line of a link is missing: for want of memory, or for no cause.
+pub fn serve_run<P: Peers, T: Turns, O: Sink, E: Sink>(
+    alloc: Global,
+    server: &mut Tallied<T>,
+    peers: &mut P,
+    exchanges: u64,
+    log: bool,
+    out: &mut O,
+    faults: &mut E,
+) -> Exit
+    ensures { ServesRun T.answers P.Peers P.Reader.Source P.Writer.Sink O.Sink E.Sink log exchanges
+        result server.old.server server.new.server peers.old peers.new out.old out.new faults.old
+        faults.new }
+{
+    for index in 0..exchanges {
+        if let Some(exit) = serve_next(alloc, server, peers, index, log, out, faults) {
+            return exit;
+        }
+    }
+    Exit::Done
+}
+
+/// Serves the exchange of the next peer. How the run ends, where it ends behind it.
+fn serve_next<P: Peers, T: Turns, O: Sink, E: Sink>(
+    alloc: Global,
+    server: &mut Tallied<T>,
+    peers: &mut P,
+    index: u64,
+    log: bool,
+    out: &mut O,
+    faults: &mut E,
+) -> Option<Exit>
+    ensures { (outcome : Outcome) × (result ≡ exit_now outcome)
+        × ServesNext T.answers P.Peers P.Reader.Source P.Writer.Sink O.Sink E.Sink log index outcome
+        server.old.server server.new.server peers.old peers.new out.old out.new faults.old
+        faults.new }
+{
+    let peer = match peers.accept() {
+        Ok(peer) => peer,
+        Err(AcceptFault::Gone) => return None,
+        Err(AcceptFault::Closed) => return Some(Exit::Device),
+    };
+    let exit = serve_peer(alloc, server, peer, index, log, out, faults);
+    end_behind(exit)
+}
+
+/// Serves the exchange of a peer, and tells of it where lines are asked for.
+fn serve_peer<R: Source + Drop, W: Sink + Drop, T: Turns, O: Sink, E: Sink>(
+    alloc: Global,
+    server: &mut Tallied<T>,
+    peer: Peer<R, W>,
+    index: u64,
+    log: bool,
+    out: &mut O,
+    faults: &mut E,
+) -> Exit
+    ensures { ServesPeer T.answers R.Source W.Sink O.Sink E.Sink log index result peer
+        server.old.server server.new.server out.old out.new faults.old faults.new }
+{
+    let Peer { address, mut link } = peer;
+    server.start();
+    let ended = serve_link(
+        alloc,
+        server,
+        &mut link.reader,
+        &mut link.writer,
+        index,
+        out,
+    );
+    tell_link(
+        alloc,
+        log,
+        address,
+        end_name(ended.end),
+        server.tally(),
+        faults,
+    );
+    ended.exit
+}
+
+/// How the run ends behind an exchange that ended so, where it ends there: want of memory would end
+/// the next one too.
+fn end_behind(exit: Exit) -> Option<Exit>
+    ensures { result ≡ exit_now (Served exit) }
+{
+    match exit {
+        Exit::Memory => Some(Exit::Memory),
+        Exit::Done | Exit::Refused | Exit::Usage | Exit::Device => None,
+    }
+}

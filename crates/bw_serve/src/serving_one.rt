@@ -1,0 +1,102 @@
+//! One exchange of the command `serve`, and its line.
+ghost use Rattle.std.specs.Prelude.{◌≡◌};
+ghost use Rattle.bw_serve.specs.ServedOne.{ServesOne, ServesTo, exchange_end_line, exit_of_end};
+ghost use Rattle.bw_serve.specs.ServedOne.{exit_untold};
+
+use arrayvec::ArrayString;
+use bw_exchange::{ExchangeEnd, Turns, end_name, serve_exchange};
+use bw_console::Exit;
+use bw_console::print::print;
+use bw_stream::{Sink, Source};
+use itoa::Buffer;
+use std::alloc::Global;
+
+/// Serves one exchange, and tells how it ended in a line: `exchange INDEX END`.
+///
+/// `Done` where it came to the end of its stream, a bad frame among these; `Device` where it broke
+/// off, or the line can't be written; `Memory` where memory was refused, whatever becomes of the
+/// line. The line itself takes no memory.
+///
+/// # Not specified
+/// - When memory is refused.
+/// - Whether the writer was flushed, and how many bytes the reader counted, as `serve_exchange`
+///   says.
+pub fn serve_one<R: Source, W: Sink, T: Turns, O: Sink>(
+    alloc: Global,
+    server: &mut T,
+    reader: &mut R,
+    writer: &mut W,
+    index: u64,
+    out: &mut O,
+) -> Exit
+    ensures { ServesOne T.answers R.Source W.Sink O.Sink index result server.old server.new
+        reader.old reader.new writer.old writer.new out.old out.new }
+{
+    serve_link(alloc, server, reader, writer, index, out).exit
+}
+
+/// How an exchange ended, and how the call that served it ends.
+#[derive(Clone, Copy)]
+pub(crate) struct Ended {
+    pub(crate) end: ExchangeEnd,
+    pub(crate) exit: Exit,
+}
+
+/// Serves one exchange as `serve_one` does.
+pub(crate) fn serve_link<R: Source, W: Sink, T: Turns, O: Sink>(
+    alloc: Global,
+    server: &mut T,
+    reader: &mut R,
+    writer: &mut W,
+    index: u64,
+    out: &mut O,
+) -> Ended
+    ensures { ServesTo T.answers R.Source W.Sink O.Sink index result.end result.exit server.old
+        server.new reader.old reader.new writer.old writer.new out.old out.new }
+{
+    let end = serve_exchange(alloc, server, reader, writer);
+    let exit = match print(out, end_line(index, end).as_str().as_bytes()) {
+        Ok(()) => exit_told(end),
+        Err(_failed) => exit_unwritten(end),
+    };
+    Ended { end, exit }
+}
+
+/// The line of an exchange that ended so.
+fn end_line(index: u64, end: ExchangeEnd) -> ArrayString<64>
+    ensures { result.bytes ≡ exchange_end_line index end }
+{
+    let mut digits = Buffer::new();
+    let mut line = ArrayString::new();
+    line.push_str("exchange ");
+    line.push_str(digits.format(index));
+    line.push_str(" ");
+    line.push_str(end_name(end));
+    line.push_str("\n");
+    line
+}
+
+/// How the call ends where the line is written.
+fn exit_told(end: ExchangeEnd) -> Exit
+    ensures { result ≡ exit_of_end end }
+{
+    match end {
+        ExchangeEnd::Bye => Exit::Done,
+        ExchangeEnd::EndOfInput => Exit::Done,
+        ExchangeEnd::BadFrame(_) => Exit::Done,
+        ExchangeEnd::ReadFault => Exit::Device,
+        ExchangeEnd::WriteFault => Exit::Device,
+        ExchangeEnd::TurnLimit => Exit::Device,
+        ExchangeEnd::Memory => Exit::Memory,
+    }
+}
+
+/// How the call ends where the line can't be written.
+fn exit_unwritten(end: ExchangeEnd) -> Exit
+    ensures { result ≡ exit_untold end }
+{
+    match exit_told(end) {
+        Exit::Memory => Exit::Memory,
+        _ => Exit::Device,
+    }
+}

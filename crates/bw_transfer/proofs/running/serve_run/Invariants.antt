@@ -1,6 +1,0 @@
-use Rattle.bw_transfer.specs.ServedAll.{ServesAll}
-use Rattle.bw_transfer.proofs.running.serve_run.Given as goal
-
-abbrev pub invariant-loop-index : goal.invariant-loop-index
-invariant-loop-index g l = ServesAll g.T.Turns.answers g.P.Peers g.P.Reader.Source g.P.Writer.Sink g.O.Sink g.E.Sink
-    l.fn.log l.index l.fn.server.server l.server.server l.fn.peers l.peers l.fn.out l.out l.fn.faults l.faults
