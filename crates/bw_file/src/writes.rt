@@ -1,5 +1,5 @@
 //! The writes of a growing file: each leaves what its caller can still repair.
-ghost use Rattle.std.specs.Prelude.{◌≡◌, ◌≤◌, ◌<◌, ◌+◌, ◌*◌, ◌%◌, ◌^◌, ◌++◌, ℕ, IsTrue, OnOk};
+ghost use Rattle.std.specs.Prelude.{◌≡◌, ◌≤◌, ◌<◌, ◌+◌, ◌*◌, ◌%◌, ◌^◌, ◌++◌, ℕ, OnOk};
 ghost use Rattle.std.specs.Prelude.{OnErr, length, is_err, flat_map, not};
 ghost use Rattle.bw_model.specs.Limits.{largest, most_markers};
 ghost use Rattle.bw_model.specs.Layout.{chunk, pad};
@@ -7,6 +7,7 @@ ghost use Rattle.bw_model.specs.File.{cue_chunks};
 ghost use Rattle.bw_file.specs.Conditions.{is_clean};
 ghost use Rattle.bw_store.specs.Stores.{MayTear};
 ghost use Rattle.bw_store.specs.StoreSteps.{Shared, WasAsked, WasAskedFirst};
+ghost use Rattle.bw_file.specs.StoreSteps.{TearsIn, PutsIn};
 ghost use Rattle.bw_file.specs.Plans.{samples_plan, cues_plan, header_plan, sizes_plan, form_plan};
 ghost use Rattle.bw_file.specs.Plans.{grown_plan, closed_plan, field_plan, set_plan};
 ghost use Rattle.bw_file.specs.Headers.{PutsLast, PutsHeader, PutsOver, Updates};
@@ -33,11 +34,10 @@ pub(crate) fn put_samples<S: TakeStore>(
         (samples_plan name.now place (length samples.now)) store.old store.new) }
     ensures begun { OnErr result (WasAskedFirst S.TakeStore
         (samples_plan name.now place (length samples.now)) store.old store.new) }
-    ensures torn { IsTrue (S.honest store.old) → MayTear (S.contents store.old name.now) place
-        (length samples.now + (place + length samples.now) % 2) (S.contents store.new name.now) }
-    ensures put { IsTrue (S.honest store.old) → OnOk result
-        (PutsLast place (samples.now ++ pad (place + length samples.now))
-        (S.contents store.old name.now) (S.contents store.new name.now)) }
+    ensures torn { TearsIn S.TakeStore name.now place
+        (length samples.now + (place + length samples.now) % 2) store.old store.new }
+    ensures put { PutsIn S.TakeStore result name.now
+        (PutsLast place (samples.now ++ pad (place + length samples.now))) store.old store.new }
 {
     store.write_at(name, place, samples)?;
     let end = place + samples.len() as u64;
@@ -62,11 +62,10 @@ pub(crate) fn put_cues<S: TakeStore>(
         (cues_plan name.now place (length markers.now)) store.old store.new) }
     ensures begun { OnErr result (WasAskedFirst S.TakeStore
         (cues_plan name.now place (length markers.now)) store.old store.new) }
-    ensures torn { IsTrue (S.honest store.old) → MayTear (S.contents store.old name.now) place
-        (length (flat_map chunk (cue_chunks markers.now))) (S.contents store.new name.now) }
-    ensures put { IsTrue (S.honest store.old) → OnOk result
-        (PutsLast place (flat_map chunk (cue_chunks markers.now))
-        (S.contents store.old name.now) (S.contents store.new name.now)) }
+    ensures torn { TearsIn S.TakeStore name.now place
+        (length (flat_map chunk (cue_chunks markers.now))) store.old store.new }
+    ensures put { PutsIn S.TakeStore result name.now
+        (PutsLast place (flat_map chunk (cue_chunks markers.now))) store.old store.new }
 {
     if markers.is_empty() {
         return Ok(());
@@ -92,14 +91,11 @@ pub(crate) fn put_header<S: TakeStore>(
         (header_plan name.now (place_of heading.now)) store.old store.new) }
     ensures begun { OnErr result (WasAskedFirst S.TakeStore
         (header_plan name.now (place_of heading.now)) store.old store.new) }
-    ensures torn { IsTrue (S.honest store.old) → MayTear (S.contents store.old name.now) 0
-        (place_of heading.now) (S.contents store.new name.now) }
-    ensures put { IsTrue (S.honest store.old) → OnOk result
-        (PutsHeader (header_of heading.now data_len cues)
-        (S.contents store.old name.now) (S.contents store.new name.now)) }
-    ensures first { IsTrue (S.honest store.old) → OnOk result
-        (PutsLast 0 (header_of heading.now data_len cues)
-        (S.contents store.old name.now) (S.contents store.new name.now)) }
+    ensures torn { TearsIn S.TakeStore name.now 0 (place_of heading.now) store.old store.new }
+    ensures put { PutsIn S.TakeStore result name.now
+        (PutsHeader (header_of heading.now data_len cues)) store.old store.new }
+    ensures first { PutsIn S.TakeStore result name.now
+        (PutsLast 0 (header_of heading.now data_len cues)) store.old store.new }
 {
     buffer.build_header(heading, data_len, cues);
     store.write_at(name, 0, buffer.bytes())?;
@@ -127,12 +123,10 @@ pub(crate) fn put_grown_header<S: TakeStore>(
     ensures begun { OnErr result (WasAskedFirst S.TakeStore
         (grown_plan (is_clean condition) name.now (place_of heading.now)
         (fits_riff heading.now before 0) (fits_riff heading.now after 0)) store.old store.new) }
-    ensures torn { IsTrue (S.honest store.old) → MayTear (S.contents store.old name.now) 0
-        (place_of heading.now) (S.contents store.new name.now) }
-    ensures put { IsTrue (S.honest store.old) → OnOk result
-        (PutsOver (is_clean condition)
-        (header_of heading.now before 0) (header_of heading.now after 0)
-        (S.contents store.old name.now) (S.contents store.new name.now)) }
+    ensures torn { TearsIn S.TakeStore name.now 0 (place_of heading.now) store.old store.new }
+    ensures put { PutsIn S.TakeStore result name.now
+        (PutsOver (is_clean condition) (header_of heading.now before 0)
+        (header_of heading.now after 0)) store.old store.new }
 {
     if condition.is_clean() && heading.is_riff(before, 0) == heading.is_riff(after, 0) {
         put_grown_sizes(store, name, heading, before, after)?;
@@ -165,12 +159,10 @@ pub(crate) fn put_closed_header<S: TakeStore>(
         (closed_plan (is_clean condition) name.now (place_of heading.now)
         (fits_riff heading.now data_len 0) (fits_riff heading.now data_len cues) cues)
         store.old store.new) }
-    ensures torn { IsTrue (S.honest store.old) → MayTear (S.contents store.old name.now) 0
-        (place_of heading.now) (S.contents store.new name.now) }
-    ensures put { IsTrue (S.honest store.old) → OnOk result
-        (PutsOver (is_clean condition)
-        (header_of heading.now data_len 0) (header_of heading.now data_len cues)
-        (S.contents store.old name.now) (S.contents store.new name.now)) }
+    ensures torn { TearsIn S.TakeStore name.now 0 (place_of heading.now) store.old store.new }
+    ensures put { PutsIn S.TakeStore result name.now
+        (PutsOver (is_clean condition) (header_of heading.now data_len 0)
+        (header_of heading.now data_len cues)) store.old store.new }
 {
     if condition.is_clean() && heading.is_riff(data_len, 0) == heading.is_riff(data_len, cues) {
         put_closed_size(store, name, heading, data_len, cues)?;
@@ -209,12 +201,10 @@ pub(crate) fn put_retouched_header<S: TakeStore>(
         (set_plan (is_clean condition) name.now (place_of heading.now) tag
         (header_of heading.now data_len 0) (header_of retouched.now data_len 0))
         store.old store.new) }
-    ensures torn { IsTrue (S.honest store.old) → MayTear (S.contents store.old name.now) 0
-        (place_of heading.now) (S.contents store.new name.now) }
-    ensures put { IsTrue (S.honest store.old) → OnOk result
-        (PutsOver (is_clean condition)
-        (header_of heading.now data_len 0) (header_of retouched.now data_len 0)
-        (S.contents store.old name.now) (S.contents store.new name.now)) }
+    ensures torn { TearsIn S.TakeStore name.now 0 (place_of heading.now) store.old store.new }
+    ensures put { PutsIn S.TakeStore result name.now
+        (PutsOver (is_clean condition) (header_of heading.now data_len 0)
+        (header_of retouched.now data_len 0)) store.old store.new }
 {
     if condition.is_clean() {
         put_field(store, name, buffer, heading, retouched, data_len)?;
@@ -242,11 +232,10 @@ fn put_grown_sizes<S: TakeStore>(
     ensures begun { OnErr result (WasAskedFirst S.TakeStore
         (sizes_plan name.now (place_of heading.now) (fits_riff heading.now after 0))
         store.old store.new) }
-    ensures torn { IsTrue (S.honest store.old) → MayTear (S.contents store.old name.now) 0
-        (place_of heading.now) (S.contents store.new name.now) }
-    ensures put { IsTrue (S.honest store.old) → OnOk result
-        (Updates (header_of heading.now before 0) (header_of heading.now after 0)
-        (S.contents store.old name.now) (S.contents store.new name.now)) }
+    ensures torn { TearsIn S.TakeStore name.now 0 (place_of heading.now) store.old store.new }
+    ensures put { PutsIn S.TakeStore result name.now
+        (Updates (header_of heading.now before 0) (header_of heading.now after 0))
+        store.old store.new }
 {
     let form = heading.form_size(after, 0);
     if form <= heading.limit.bytes() {
@@ -278,11 +267,10 @@ fn put_closed_size<S: TakeStore>(
         (form_plan name.now cues (fits_riff heading.now data_len cues)) store.old store.new) }
     ensures begun { OnErr result (WasAskedFirst S.TakeStore
         (form_plan name.now cues (fits_riff heading.now data_len cues)) store.old store.new) }
-    ensures torn { IsTrue (S.honest store.old) → MayTear (S.contents store.old name.now) 0
-        (place_of heading.now) (S.contents store.new name.now) }
-    ensures put { IsTrue (S.honest store.old) → OnOk result
-        (Updates (header_of heading.now data_len 0) (header_of heading.now data_len cues)
-        (S.contents store.old name.now) (S.contents store.new name.now)) }
+    ensures torn { TearsIn S.TakeStore name.now 0 (place_of heading.now) store.old store.new }
+    ensures put { PutsIn S.TakeStore result name.now
+        (Updates (header_of heading.now data_len 0) (header_of heading.now data_len cues))
+        store.old store.new }
 {
     if cues == 0 {
         return Ok(());
@@ -322,11 +310,10 @@ fn put_field<S: TakeStore>(
         (field_plan name.now tag
         (header_of heading.now data_len 0) (header_of retouched.now data_len 0))
         store.old store.new) }
-    ensures torn { IsTrue (S.honest store.old) → MayTear (S.contents store.old name.now) 0
-        (place_of heading.now) (S.contents store.new name.now) }
-    ensures put { IsTrue (S.honest store.old) → OnOk result
-        (Updates (header_of heading.now data_len 0) (header_of retouched.now data_len 0)
-        (S.contents store.old name.now) (S.contents store.new name.now)) }
+    ensures torn { TearsIn S.TakeStore name.now 0 (place_of heading.now) store.old store.new }
+    ensures put { PutsIn S.TakeStore result name.now
+        (Updates (header_of heading.now data_len 0) (header_of retouched.now data_len 0))
+        store.old store.new }
 {
     buffer.build_headers(heading, retouched, data_len);
     let (before, after) = buffer.bytes().split_at(heading.data_place() as usize);

@@ -23,3 +23,4 @@ pub mod SettledForms
 pub mod UseForms
 pub mod AskForms
 mod ServerAnswers
+pub mod PromiseForms

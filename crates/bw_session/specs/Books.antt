@@ -1,18 +1,20 @@
 -- What a server has to do with the book that it was told.
-use Rattle.std.specs.Prelude.{◌≡◌, ℕ, Option, Some, None, is_some, List, map, drop, count_by}
+use Rattle.std.specs.Prelude.{◌≡◌, ℕ, Option, Some, None, is_some, IsTrue, List, map, drop, count_by}
 use Rattle.std.specs.Prelude.{if◌then◌else◌}
 use Rattle.bw_model.specs.Wire.{Message, Says}
 use Rattle.bw_model.specs.Book.{Log, Book, log_of, is_known}
-use Rattle.bw_model.specs.CountedTurn.{IsTurn}
+use Rattle.bw_model.specs.CountedTurn.{IsTurn, book_told}
 use Rattle.bw_model.specs.Holds.{Holds}
 use Rattle.bw_store.specs.declared.store.TakeStore.{Ghosts as StoreGhosts}
+use Rattle.bw_model.specs.Replies.{Reply as ModelReply}
 use Rattle.bw_journal.specs.declared.journal.Journal.{Ghosts as JournalGhosts}
 use Rattle.bw_wire.specs.declared.reply.Reply.{Reply}
 use Rattle.bw_wire.specs.Replies.{reply_of}
 use Rattle.bw_session.specs.Numbered.{failed_calls}
 use Rattle.bw_session.specs.Tables.{session_in}
 use Rattle.bw_session.specs.Asking.{AsksInTurn}
-use Rattle.bw_session.specs.Servers.{kept_in, part_in, store_since}
+use Rattle.bw_session.specs.Serving.{UsesBoth}
+use Rattle.bw_session.specs.Servers.{kept_in, done_in, part_in, store_since}
 use Rattle.bw_session.specs.Journaled.{NotesNames}
 use Rattle.bw_session.specs.declared.server.Server.{Server}
 
@@ -40,6 +42,42 @@ module _ {X Y : Type 0} (S : StoreGhosts X) (J : JournalGhosts Y) where
     pub turned : IsTurn (λ name. is_some (first name)) (failures_of old) (failures_of new) book
         (Says m) (map reply_of replies) later
     pub held : HoldsBook first new later
+
+  -- Over an honest store each book that the server holds is turned.
+  abbrev pub TurnsBooks : Server X Y S J → Server X Y S J → Message → List Reply → Type 0
+  TurnsBooks old new m replies = IsTrue (S.honest old.stores.store) →
+      (first : List ℕ → Option (List ℕ)) (book : Book) → HoldsBook first old book →
+      TurnsBook first old new book m replies
+
+  -- An honest journal that has of each name what such a book says has then what the later one says.
+  abbrev pub NotesBooks : Server X Y S J → Server X Y S J → Message → List Reply → Type 0
+  NotesBooks old new m replies = IsTrue (S.honest old.stores.store) →
+      IsTrue (J.honest old.stores.journal) →
+      (first : List ℕ → Option (List ℕ)) (book : Book) → HoldsBook first old book →
+      NotesBook first old book →
+      NotesBook first new (book_told book m (map reply_of replies) (done_in new.sessions m.name))
+
+  -- With these replies each book that the server holds over an honest store is as it was.
+  abbrev pub KeepsBooks : Server X Y S J → Message → List ModelReply → Type 0
+  KeepsBooks s m replies = IsTrue (S.honest s.stores.store) →
+      (first : List ℕ → Option (List ℕ)) (book : Book) → HoldsBook first s book →
+      IsTurn (λ name. is_some (first name)) (failures_of s) (failures_of s) book (Says m) replies
+      book
+
+  -- what a turn asks of store and journal
+  abbrev pub UsesInTurn : Server X Y S J → Server X Y S J → Message → List Reply → Type 0
+  UsesInTurn old new m replies =
+      UsesBoth S J m.name old.stores.store new.stores.store old.stores.journal new.stores.journal
+      (done_in old.sessions m.name) (done_in new.sessions m.name) replies
+
+  -- Nothing is kept of the name, and nothing was asked.
+  pub record LeavesServer (old new : Server X Y S J) : Type 0 where
+    -- what is kept of each name is the same
+    pub sessions : new.sessions ≡ old.sessions
+    -- the store is as it was
+    pub store : new.stores.store ≡ old.stores.store
+    -- and so is the journal
+    pub journal : new.stores.journal ≡ old.stores.journal
 
   -- store and journal are as they were
   abbrev pub SameStores : Server X Y S J → Server X Y S J → Type 0

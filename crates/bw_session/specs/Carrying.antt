@@ -1,12 +1,14 @@
 -- What judging a request, and writing it where it is to be stored, leaves.
 use Rattle.std.specs.Prelude.{◌≡◌, Bool, true, false, Option, None, IsSome, List, [], ℕ, Result}
-use Rattle.std.specs.Prelude.{MatchResult, IfOk, if◌then◌else◌}
+use Rattle.std.specs.Prelude.{MatchResult, IfOk, OnOk, OnErr, if◌then◌else◌}
 use Rattle.bw_model.specs.Take.{Take, Parts, Request, Stored, is_stored, judge, parts, after}
 use Rattle.bw_request.specs.Verdicts.{verdict_meaning}
 use Rattle.bw_request.specs.declared.verdict.Verdict.{Verdict}
 use Rattle.bw_store.specs.Calls.{StoreCall}
 use Rattle.bw_file.specs.Growing.{Growing}
 use Rattle.bw_store.specs.declared.store.StoreFault.{StoreFault}
+use Rattle.bw_file.specs.StoreSteps.{WasAsked, WasAskedFirst}
+use Rattle.bw_file.specs.declared.store.TakeStore.{Ghosts as StoreGhosts}
 use Rattle.bw_session.specs.Writing.{is_mark, request_plan, HasOwnFile, HasWholeFile}
 
 -- The request is to be stored, by a call of the file.
@@ -17,6 +19,16 @@ pub record Touches (p : Parts) (r : Request) : Type 0 where
 -- what the store is asked for a request that is judged first: nothing, where it is refused
 abbrev pub judged_plan : Growing → Parts → Request → Bool → List StoreCall
 judged_plan g p r is_made = if is_stored (judge p r) then request_plan g p r is_made else []
+
+-- What a store was asked for a request that is judged first.
+pub record AsksJudged {X : Type 0} (S : StoreGhosts X) (answer : Result Verdict StoreFault)
+    (g : Growing) (p : Parts) (r : Request) (made tried : Bool) (old new : X) : Type 0 where
+  -- nothing, where it is refused
+  pub refused : is_stored (judge p r) ≡ false → new ≡ old
+  -- after a success all that the judged request asks
+  pub order : OnOk answer (WasAsked S (judged_plan g p r made) old new)
+  -- after a fault the first of it
+  pub begun : OnErr answer (WasAskedFirst S (judged_plan g p r tried) old new)
 
 -- What stands after a request was judged and written. The name of an unopened take that stood is
 -- left as it was, and tells the verdict.

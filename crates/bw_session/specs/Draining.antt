@@ -15,6 +15,7 @@ use Rattle.bw_store.specs.declared.store.StoreFault.{StoreFault}
 use Rattle.bw_wire.specs.Bodies.{message_in}
 use Rattle.bw_session.specs.Windows.{count_held}
 use Rattle.bw_session.specs.Carrying.{Touches}
+use Rattle.bw_session.specs.KeptParts.{Part}
 use Rattle.bw_session.specs.Numbered.{with_done}
 use Rattle.bw_session.specs.declared.draining.Drained.{Drained}
 use Rattle.bw_session.specs.declared.draining.Drained.TheVariants.{Idle, Done, Stopped}
@@ -110,3 +111,8 @@ pub record DrainsNext (answer : Drained) (first : Option (List ℕ)) (log : Log)
     (found : Option (List ℕ)) : Type 0 where
   pub told : TellsNext answer (is_some first) log
   pub left : HoldsPart first (drained_log answer log) p finished window g found
+
+-- .. of what is kept and held
+abbrev pub DrainsPart : Drained → Option (List ℕ) → Log → Part → Option (List ℕ) → Type 0
+DrainsPart answer first log p found =
+    DrainsNext answer first log p.parts p.outcomes p.window p.growing found

@@ -46,3 +46,11 @@ CarriesFront answer first log p finished r g found =
     MatchResult answer
     (λ v. Carried first log (verdict_meaning v) p finished r g found)
     (λ _. HoldsFront first log p finished r g found)
+
+-- For each log whose next number the request is, it is carried out, or waits on.
+abbrev pub CarriesNext : Result Judgement StoreFault → Request → Parts → Parts → Growing →
+    Growing → Option (List ℕ) → Option (List ℕ) → Type 0
+CarriesNext answer r p q g g' before found =
+    (first : Option (List ℕ)) (log : Log) (finished : List (List ℕ × Verdict)) →
+    HoldsFront first log p finished r g before →
+    CarriesFront answer first log q finished r g' found

@@ -22,3 +22,5 @@ pub mod Settled
 pub mod KeptParts
 pub mod Judging
 pub mod Asking
+pub mod Numbering
+pub mod Promises

@@ -1,6 +1,6 @@
 -- What an honest journal has of a name.
 use Rattle.std.specs.Prelude.{◌≡◌, ◌⊎◌, ℕ, Bool, Option, Some, None, List, [], ◌++◌, length, take}
-use Rattle.std.specs.Prelude.{◌≤◌, Result, Ok, Err}
+use Rattle.std.specs.Prelude.{◌≤◌, Result, Ok, Err, is_some}
 use Rattle.bw_model.specs.Bytes.{at}
 use Rattle.bw_model.specs.Take.{Request}
 use Rattle.bw_model.specs.Book.{Log}
@@ -9,6 +9,7 @@ use Rattle.bw_request.specs.declared.verdict.Verdict.{Verdict}
 use Rattle.bw_journal.specs.JournalHeaders.{Header, header_bytes}
 use Rattle.bw_journal.specs.Entries.{sealed_entry}
 use Rattle.bw_journal.specs.Notes.{IsFrontOf, BeginsNotes}
+use Rattle.bw_journal.specs.declared.journal.Journal.{Ghosts as JournalGhosts}
 use Rattle.bw_journal.specs.Noted.{done_entry, journal_of}
 use Rattle.bw_session.specs.Numbered.{with_done}
 
@@ -32,6 +33,15 @@ pub record IsNoted (h : Header) (name : List ℕ) (log : Log) (offset : ℕ)
     (found : Option (List ℕ)) : Type 0 where
   pub offset_is : offset ≡ length (journal_of h name log)
   pub stands : ((log.done ≡ 0) × IsFrontOf (header_bytes h) found) ⊎ HasEntries h name log found
+
+-- A journal that has of the name what one log says, and whose header says whether the name stood,
+-- has then what the other log says.
+abbrev pub NotesOn : {Y : Type 0} → JournalGhosts Y → List ℕ → Option (List ℕ) → Y → Log → ℕ →
+    Y → Log → ℕ → Type 0
+NotesOn J name first old log noted new log' noted' =
+    (J.header old name).stood ≡ is_some first →
+    IsNoted (J.header old name) name log noted (J.notes old name) →
+    IsNoted (J.header old name) name log' noted' (J.notes new name)
 
 -- Nothing is noted of a number: before number 0 the header is put where it doesn't stand, and later
 -- nothing is written.

@@ -1,10 +1,25 @@
 -- What a session has to do with its name's log.
-use Rattle.std.specs.Prelude.{◌≡◌, ◌≤◌, ◌+◌, ◌*◌, ℕ, Bool, Option, List, if◌then◌else◌}
+use Rattle.std.specs.Prelude.{◌≡◌, ◌≤◌, ◌+◌, ◌*◌, ℕ, Bool, Option, List, length, if◌then◌else◌}
 use Rattle.bw_model.specs.Book.{Log}
-use Rattle.bw_session.specs.Draining.{HoldsPart}
+use Rattle.bw_session.specs.Writing.{IsSameFile}
+use Rattle.bw_session.specs.Draining.{Fits, HoldsPart}
 pub use Rattle.bw_session.specs.KeptParts.{Part}
 use Rattle.bw_session.specs.declared.numbering.Progress.{Progress}
 use Rattle.bw_session.specs.declared.session.Session.{Session}
+
+-- what is kept and held of a name, with this window
+abbrev pub kept_with : Progress → List (Option (List ℕ)) → Part
+kept_with p window = record {
+  parts = p.state.parts;
+  outcomes = p.ledger.outcomes;
+  window = window;
+  growing = p.growing;
+}
+
+-- these parts of a name fit one another
+abbrev pub FitsWith : Progress → List (Option (List ℕ)) → Type 0
+FitsWith p window =
+    Fits p.growing p.state.parts (length p.ledger.outcomes) p.state.room p.ledger.room window
 
 -- a session's part
 abbrev pub part_of : Session → Part
@@ -22,10 +37,7 @@ HoldsLog first log p found = HoldsPart first log p.parts p.outcomes p.window p.g
 -- It is a session of the same take, in a file with the same limit.
 pub record KeepsTake (old new : Session) : Type 0 where
   pub name : new.progress.name ≡ old.progress.name
-  pub growing : new.progress.growing ≡ record old.progress.growing {
-    made = new.progress.growing.made;
-    dirty = new.progress.growing.dirty;
-  }
+  pub growing : IsSameFile old.progress.growing new.progress.growing
 
 -- What is kept of the done numbers is the same, but for the room that there is for more.
 pub record KeepsProgress (old new : Progress) : Type 0 where

@@ -44,10 +44,14 @@ pub record HasWholeFile (t : Take) (g : Growing) (found : Option (List ℕ)) : T
   pub whole : found ≡ file_of t g.limit
   pub made_here : g.made ≡ is_some found
 
+-- the same file, which may be made or dirty now
+abbrev pub IsSameFile : Growing → Growing → Type 0
+IsSameFile old new = new ≡ record old { made = new.made; dirty = new.dirty }
+
 -- What the growing file knows after a request was written: it is clean, or after a fault dirty.
 pub record Knows (answer : Result Created StoreFault) (r : Request) (old new : Growing) :
     Type 0 where
-  pub same : new ≡ record old { made = new.made; dirty = new.dirty }
+  pub same : IsSameFile old new
   pub clean : OnOk answer (new.dirty ≡ false)
   pub dirty : OnErr answer ((new.dirty ≡ true) × (is_mark r ≡ false))
 

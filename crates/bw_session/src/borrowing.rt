@@ -1,15 +1,11 @@
 //! The message of the next number: it is done from its borrowed body.
-ghost use Rattle.std.specs.Prelude.{◌≡◌, ◌+◌, ◌≤◌, ℕ, List, Option, None, Result, IsTrue, IfOk};
-ghost use Rattle.std.specs.Prelude.{OnErr, is_err, is_some, length};
+ghost use Rattle.std.specs.Prelude.{◌≡◌, ◌+◌, ◌≤◌, None, Result, IfOk};
+ghost use Rattle.std.specs.Prelude.{OnErr, is_err, length};
 ghost use Rattle.sha2.specs.Sha256.{sha256};
 ghost use Rattle.bw_model.specs.Bytes.{at};
 ghost use Rattle.bw_model.specs.Wire.{message_body};
-ghost use Rattle.bw_model.specs.Book.{Log};
-ghost use Rattle.bw_model.specs.Turn.{is_admissible};
 ghost use Rattle.bw_wire.specs.Frames.{message_of};
-ghost use Rattle.bw_session.specs.Numbered.{KeepsBoth};
-ghost use Rattle.bw_session.specs.Noting.{IsNoted};
-ghost use Rattle.bw_session.specs.Draining.{DrainsNext, drained_by, drained_log, drained_count};
+ghost use Rattle.bw_session.specs.Draining.{DrainsPart, drained_by, drained_log, drained_count};
 ghost use Rattle.bw_session.specs.Admitting.{with_message};
 ghost use Rattle.bw_session.specs.Asking.{AsksNext, holding};
 
@@ -23,7 +19,9 @@ use bw_wire::Message;
 use std::alloc::AllocError;
 
 impl Session {
-    ghost use Rattle.bw_session.specs.Sessions.{HoldsLog, KeepsProgress, KeepsTake, part_of};
+    ghost use Rattle.bw_session.specs.Sessions.{KeepsTake, part_of};
+    ghost use Rattle.bw_session.specs.Promises.{KeepsStores, RefusesMessage};
+    ghost use Rattle.bw_session.specs.Promises.{ForSessionLogs, KeepsSessionNotes};
 
     /// Does the number of a message that is the next and isn't held. Its body is copied, to room
     /// that was had before, only where a call failed.
@@ -43,11 +41,8 @@ impl Session {
             ≡ length self.old.progress.ledger.outcomes }
         requires free { at self.old.window 0 ≡ None }
         requires slots { length self.old.window ≡ 16 }
-        ensures both { IfOk result (λ answer. KeepsBoth S.TakeStore J.Journal (is_err answer)
-            self.old.progress.name stores.old.store stores.new.store
-            stores.old.journal stores.new.journal) }
-        ensures store { OnErr result (stores.new.store ≡ stores.old.store) }
-        ensures journal { OnErr result (stores.new.journal ≡ stores.old.journal) }
+        ensures both { IfOk result (λ answer. KeepsStores S.TakeStore J.Journal (is_err answer)
+            self.old.progress.name stores.old stores.new) }
         ensures calls { S.calls stores.new.store ≤ S.calls stores.old.store + 4 }
         ensures done { IfOk result (λ answer. length self.new.progress.ledger.outcomes
             ≡ length self.old.progress.ledger.outcomes + drained_count (drained_by answer)) }
@@ -55,30 +50,15 @@ impl Session {
             (holding (part_of self.old) (message_of message.now)) stores.old.store
             (part_of self.new) stores.new.store) }
         ensures take { KeepsTake self.old self.new }
-        ensures progress { OnErr result (KeepsProgress self.old.progress self.new.progress) }
-        ensures window { OnErr result (self.new.window ≡ self.old.window) }
-        ensures refused { OnErr result ((first : Option (List ℕ)) (log : Log)
-            (found : Option (List ℕ)) → HoldsLog first log (part_of self.old) found →
-            IsTrue (is_admissible log (message_of message.now).number)) }
-        ensures drained { IsTrue (S.honest stores.old.store) →
-            (first : Option (List ℕ)) (log : Log) →
-            HoldsLog first log (part_of self.old)
-            (S.contents stores.old.store self.old.progress.name) →
-            IfOk result (λ answer. DrainsNext (drained_by answer) first
-            (with_message log (message_of message.now)) self.new.progress.state.parts
-            self.new.progress.ledger.outcomes self.new.window self.new.progress.growing
-            (S.contents stores.new.store self.old.progress.name)) }
-        ensures noted { IsTrue (S.honest stores.old.store) →
-            IsTrue (J.honest stores.old.journal) → (first : Option (List ℕ)) (log : Log) →
-            HoldsLog first log (part_of self.old)
-            (S.contents stores.old.store self.old.progress.name) →
-            (J.header stores.old.journal self.old.progress.name).stood ≡ is_some first →
-            IsNoted (J.header stores.old.journal self.old.progress.name) self.old.progress.name
-            log self.old.progress.noted (J.notes stores.old.journal self.old.progress.name) →
-            IfOk result (λ answer. IsNoted (J.header stores.old.journal self.old.progress.name)
-            self.old.progress.name
-            (drained_log (drained_by answer) (with_message log (message_of message.now)))
-            self.new.progress.noted (J.notes stores.new.journal self.old.progress.name)) }
+        ensures refused { OnErr result (RefusesMessage S.TakeStore J.Journal
+            (message_of message.now) self.old stores.old self.new stores.new) }
+        ensures drained { IfOk result (λ answer. ForSessionLogs S.TakeStore J.Journal
+            self.old stores.old (λ first log. DrainsPart (drained_by answer) first
+            (with_message log (message_of message.now)) (part_of self.new)
+            (S.contents stores.new.store self.old.progress.name))) }
+        ensures noted { IfOk result (λ answer. KeepsSessionNotes S.TakeStore J.Journal
+            self.old stores.old self.new stores.new
+            (λ log. drained_log (drained_by answer) (with_message log (message_of message.now)))) }
     {
         let room = self.make_room(stores.alloc, message)?;
         let request = message.request();

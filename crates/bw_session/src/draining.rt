@@ -1,14 +1,15 @@
 //! Draining: the next number of a name is done where its message came.
-ghost use Rattle.std.specs.Prelude.{◌≡◌, ◌+◌, ◌*◌, ◌≤◌, ℕ, List, Option, length, IsTrue, is_some};
-ghost use Rattle.std.specs.Prelude.{false, if◌then◌else◌};
+ghost use Rattle.std.specs.Prelude.{◌≡◌, ◌+◌, ◌≤◌, ℕ, List, Option, length, IsTrue};
+ghost use Rattle.std.specs.Prelude.{false};
 ghost use Rattle.std.specs.List.{All};
 ghost use Rattle.bw_model.specs.Book.{Log};
-ghost use Rattle.bw_session.specs.Numbered.{KeepsBoth};
-ghost use Rattle.bw_session.specs.Noting.{IsNoted};
-ghost use Rattle.bw_session.specs.Draining.{Fits, HoldsPart, DrainsNext, is_stopped, drained_log};
+ghost use Rattle.bw_session.specs.Writing.{IsSameFile};
+ghost use Rattle.bw_session.specs.Noting.{NotesOn};
+ghost use Rattle.bw_session.specs.Draining.{DrainsPart, is_stopped, drained_log};
 ghost use Rattle.bw_session.specs.Draining.{call_bound, drained_count, IsTried};
-ghost use Rattle.bw_session.specs.KeptParts.{part};
-ghost use Rattle.bw_session.specs.Asking.{AsksNext, DoesRun};
+ghost use Rattle.bw_session.specs.Asking.{AsksNext};
+ghost use Rattle.bw_session.specs.Sessions.{kept_with, FitsWith};
+ghost use Rattle.bw_session.specs.Promises.{KeepsStores, ForLogs, KeepsNotes};
 
 use crate::numbering::{Progress, Stores};
 use crate::session::Session;
@@ -36,45 +37,25 @@ pub(crate) fn drain_one<S: TakeStore, J: Journal>(
     window: &mut Window,
     stores: &mut Stores<S, J>,
 ) -> Drained
-    requires fits { Fits progress.old.growing progress.old.state.parts
-        (length progress.old.ledger.outcomes) progress.old.state.room progress.old.ledger.room
-        window.old }
-    ensures fits { Fits progress.new.growing progress.new.state.parts
-        (length progress.new.ledger.outcomes) progress.new.state.room progress.new.ledger.room
-        window.new }
-    ensures both { KeepsBoth S.TakeStore J.Journal (is_stopped result) progress.old.name
-        stores.old.store stores.new.store stores.old.journal stores.new.journal }
+    requires fits { FitsWith progress.old window.old }
+    ensures fits { FitsWith progress.new window.new }
+    ensures both { KeepsStores S.TakeStore J.Journal (is_stopped result) progress.old.name
+        stores.old stores.new }
     ensures calls { S.calls stores.new.store ≤ S.calls stores.old.store + call_bound result }
     ensures done { length progress.new.ledger.outcomes
         ≡ length progress.old.ledger.outcomes + drained_count result }
     ensures number { IsTried result (length progress.old.ledger.outcomes) }
     ensures slots { length window.old ≡ 16 }
-    ensures asked { AsksNext S.TakeStore result
-        (part progress.old.state.parts progress.old.ledger.outcomes window.old progress.old.growing)
-        stores.old.store
-        (part progress.new.state.parts progress.new.ledger.outcomes window.new progress.new.growing)
-        stores.new.store }
+    ensures asked { AsksNext S.TakeStore result (kept_with progress.old window.old)
+        stores.old.store (kept_with progress.new window.new) stores.new.store }
     ensures name { progress.new.name ≡ progress.old.name }
-    ensures known { progress.new.growing ≡ record progress.old.growing {
-      made = progress.new.growing.made;
-      dirty = progress.new.growing.dirty;
-    } }
-    ensures drained { IsTrue (S.honest stores.old.store) →
-        (first : Option (List ℕ)) (log : Log) →
-        HoldsPart first log progress.old.state.parts progress.old.ledger.outcomes window.old
-        progress.old.growing (S.contents stores.old.store progress.old.name) →
-        DrainsNext result first log progress.new.state.parts progress.new.ledger.outcomes
-        window.new progress.new.growing (S.contents stores.new.store progress.old.name) }
-    ensures noted { IsTrue (S.honest stores.old.store) →
-        IsTrue (J.honest stores.old.journal) → (first : Option (List ℕ)) (log : Log) →
-        HoldsPart first log progress.old.state.parts progress.old.ledger.outcomes window.old
-        progress.old.growing (S.contents stores.old.store progress.old.name) →
-        (J.header stores.old.journal progress.old.name).stood ≡ is_some first →
-        IsNoted (J.header stores.old.journal progress.old.name) progress.old.name log
-        progress.old.noted (J.notes stores.old.journal progress.old.name) →
-        IsNoted (J.header stores.old.journal progress.old.name) progress.old.name
-        (drained_log result log) progress.new.noted
-        (J.notes stores.new.journal progress.old.name) }
+    ensures known { IsSameFile progress.old.growing progress.new.growing }
+    ensures drained { ForLogs S.TakeStore J.Journal progress.old.name
+        (kept_with progress.old window.old) stores.old (λ first log. DrainsPart result first log
+        (kept_with progress.new window.new) (S.contents stores.new.store progress.old.name)) }
+    ensures noted { KeepsNotes S.TakeStore J.Journal progress.old.name
+        (kept_with progress.old window.old) progress.old.noted stores.old progress.new.noted
+        stores.new (drained_log result) }
 {
     let Some(body) = window.get(0) else {
         return Drained::Idle;
@@ -92,7 +73,8 @@ pub(crate) fn drain_one<S: TakeStore, J: Journal>(
 
 impl Session {
     ghost use Rattle.bw_session.specs.Telling.{IsServing, IsTimely};
-    ghost use Rattle.bw_session.specs.Sessions.{CallsFew, KeepsTake, part_of};
+    ghost use Rattle.bw_session.specs.Sessions.{KeepsTake, part_of};
+    ghost use Rattle.bw_session.specs.Promises.{RunsNumbers};
     ghost use Rattle.bw_session.specs.Runs.{with_more_done, HasDrained, EndsDraining};
 
     /// Drains the numbers whose messages are held in a row, sixteen at most with those of which
@@ -103,13 +85,8 @@ impl Session {
         out: &mut ArrayVec<Reply, 17>,
     ) -> bool
         requires few { length out.old.items ≤ 16 }
-        ensures both { KeepsBoth S.TakeStore J.Journal result self.old.progress.name
-            stores.old.store stores.new.store stores.old.journal stores.new.journal }
-        ensures calls { CallsFew (S.calls stores.old.store) (S.calls stores.new.store)
-            (length self.old.progress.ledger.outcomes) (length self.new.progress.ledger.outcomes)
-            result }
-        ensures asked { DoesRun S.TakeStore result (part_of self.old) stores.old.store
-            (part_of self.new) stores.new.store }
+        ensures run { RunsNumbers S.TakeStore J.Journal result (part_of self.old)
+            self.old stores.old self.new stores.new }
         ensures take { KeepsTake self.old self.new }
         ensures few { length out.new.items ≤ 16 }
         ensures served { All IsServing out.old.items → All IsServing out.new.items }
@@ -124,13 +101,9 @@ impl Session {
             IsTrue (J.honest stores.old.journal) → (first : Option (List ℕ)) (log : Log) →
             HasDrained first log out.old.items (part_of self.old)
             (S.contents stores.old.store self.old.progress.name) →
-            (J.header stores.old.journal self.old.progress.name).stood ≡ is_some first →
-            IsNoted (J.header stores.old.journal self.old.progress.name) self.old.progress.name
-            (with_more_done log (length out.old.items)) self.old.progress.noted
-            (J.notes stores.old.journal self.old.progress.name) →
-            IsNoted (J.header stores.old.journal self.old.progress.name) self.old.progress.name
-            (with_more_done log (length out.new.items)) self.new.progress.noted
-            (J.notes stores.new.journal self.old.progress.name) }
+            NotesOn J.Journal self.old.progress.name first stores.old.journal
+            (with_more_done log (length out.old.items)) self.old.progress.noted stores.new.journal
+            (with_more_done log (length out.new.items)) self.new.progress.noted }
     {
         for _slot in out.len()..SLOTS {
             let number = self.progress.ledger.len();

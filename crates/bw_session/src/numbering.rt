@@ -1,20 +1,15 @@
 //! Doing the next number of a name: in the file, then in the journal, then in what is kept.
-ghost use Rattle.std.specs.Prelude.{◌≡◌, ◌≢◌, ◌+◌, ◌≤◌, ◌||◌, ◌++◌, [], ◌∷◌, ℕ, List, Option};
+ghost use Rattle.std.specs.Prelude.{◌≡◌, ◌+◌, ◌≤◌, ◌||◌};
 ghost use Rattle.std.specs.Prelude.{vec_capacity, length, IsTrue, IfOk, OnOk, OnErr, is_err};
-ghost use Rattle.std.specs.Prelude.{is_some, false, Bool};
+ghost use Rattle.std.specs.Prelude.{false, Bool};
 ghost use Rattle.bw_model.specs.Wire.{is_request, Second, last_number};
-ghost use Rattle.bw_model.specs.Take.{judge as verdict_on, is_stored};
-ghost use Rattle.bw_model.specs.Book.{Log};
 ghost use Rattle.bw_request.specs.Requests.{meaning};
 ghost use Rattle.bw_request.specs.Verdicts.{verdict_meaning};
 ghost use Rattle.bw_journal.specs.Entries.{longest_entry};
 ghost use Rattle.bw_journal.specs.Notes.{BeginsNotes, BeginsInPart, Notes, NotesInPart};
 ghost use Rattle.bw_store.specs.StoreSteps.{WasAsked, WasAskedFirst};
-ghost use Rattle.bw_session.specs.Carrying.{Touches, judged_plan};
-ghost use Rattle.bw_session.specs.Fronts.{HoldsFront};
-ghost use Rattle.bw_session.specs.Judging.{judged_by, KeepsJudged};
-ghost use Rattle.bw_session.specs.Noting.{IsNoted, OnlyBegins, log_left};
-ghost use Rattle.bw_session.specs.Numbered.{KeepsJournal, KeepsBoth, IsMeasured, IsNext, DoesNext};
+ghost use Rattle.bw_session.specs.Numbered.{KeepsJournal, IsMeasured, DoesNext};
+ghost use Rattle.bw_session.specs.Carrying.{AsksJudged};
 ghost use Rattle.bw_session.specs.Numbered.{is_written as was_written, noted_of};
 
 use crate::carrying::carry_out;
@@ -131,6 +126,10 @@ fn mark_written(growing: &mut GrowingFile, verdict: Verdict, request: &RequestRe
 }
 
 impl Progress {
+    ghost use Rattle.bw_session.specs.Promises.{KeepsStores};
+    ghost use Rattle.bw_session.specs.Numbering.{MayTry, KeepsPlaces, KeepsNumber, LeavesNumber};
+    ghost use Rattle.bw_session.specs.Numbering.{ForNext, NotesNext};
+
     /// Does the next number: its request is carried out in the file, then noted in the journal,
     /// and then kept.
     ///
@@ -147,65 +146,24 @@ impl Progress {
         requires number { length self.old.ledger.outcomes ≤ last_number Second }
         requires room { 1 ≤ self.old.state.room }
         requires place { 1 ≤ self.old.ledger.room }
-        requires dirty { IsTrue self.old.growing.dirty →
-            Touches self.old.state.parts (meaning request.now) }
-        ensures both { KeepsBoth S.TakeStore J.Journal (is_err result) self.old.name
-            stores.old.store stores.new.store stores.old.journal stores.new.journal }
+        requires dirty { MayTry self.old (meaning request.now) }
+        ensures both { KeepsStores S.TakeStore J.Journal (is_err result) self.old.name
+            stores.old stores.new }
         ensures calls { S.calls stores.new.store ≤ S.calls stores.old.store + 4 }
-        ensures refused { is_stored (verdict_on self.old.state.parts (meaning request.now))
-            ≡ false → stores.new.store ≡ stores.old.store }
-        ensures order { OnOk result (WasAsked S.TakeStore (judged_plan self.old.growing
-            self.old.state.parts (meaning request.now) self.new.growing.made)
-            stores.old.store stores.new.store) }
-        ensures begun { OnErr result ((made : Bool) × WasAskedFirst S.TakeStore (judged_plan
-            self.old.growing self.old.state.parts (meaning request.now) made)
-            stores.old.store stores.new.store) }
-        ensures kept { OnOk result (KeepsJudged self.old.state.parts (meaning request.now)
-            self.new.state.parts) }
-        ensures verdict { IfOk result (λ v. verdict_meaning v ≡ judged_by self.old.state.parts
-            (meaning request.now) self.new.state.parts.taken) }
-        ensures name { self.new.name ≡ self.old.name }
-        ensures known { self.new.growing ≡ record self.old.growing {
-          made = self.new.growing.made;
-          dirty = self.new.growing.dirty;
-        } }
-        ensures outcomes { IfOk result (λ v. self.new.ledger.outcomes ≡
-            self.old.ledger.outcomes ++ (digest.now, verdict_meaning v) ∷ []) }
-        ensures room { self.old.state.room ≤ self.new.state.room + 1 }
-        ensures places { self.old.ledger.room ≤ self.new.ledger.room + 1 }
-        ensures clean { OnOk result (self.new.growing.dirty ≡ false) }
-        ensures stopped { OnErr result ((self.new.ledger ≡ self.old.ledger)
-            × (self.new.noted ≡ self.old.noted) × (self.new.state.room ≡ self.old.state.room)
-            × (self.new.state.parts ≡
-            record self.old.state.parts { taken = self.new.state.parts.taken })) }
-        ensures again { OnErr result (IsTrue self.new.growing.dirty →
-            Touches self.new.state.parts (meaning request.now)) }
-        ensures done { IsTrue (S.honest stores.old.store) →
-            (first : Option (List ℕ)) (log : Log) →
-            IsNext self.old.name log (meaning request.now) digest.now →
-            HoldsFront first log self.old.state.parts self.old.ledger.outcomes
-            (meaning request.now) self.old.growing
-            (S.contents stores.old.store self.old.name) →
-            DoesNext result first log self.new.state.parts self.new.ledger.outcomes
-            (meaning request.now) self.new.growing
-            (S.contents stores.new.store self.old.name) }
-        ensures noted { IsTrue (S.honest stores.old.store) →
-            IsTrue (J.honest stores.old.journal) → (first : Option (List ℕ)) (log : Log) →
-            IsNext self.old.name log (meaning request.now) digest.now →
-            HoldsFront first log self.old.state.parts self.old.ledger.outcomes
-            (meaning request.now) self.old.growing
-            (S.contents stores.old.store self.old.name) →
-            (J.header stores.old.journal self.old.name).stood ≡ is_some first →
-            IsNoted (J.header stores.old.journal self.old.name) self.old.name log self.old.noted
-            (J.notes stores.old.journal self.old.name) →
-            IsNoted (J.header stores.old.journal self.old.name) self.old.name
-            (log_left result log) self.new.noted
-            (J.notes stores.new.journal self.old.name) }
-        ensures unnoted { IsTrue (J.honest stores.old.journal) →
-            S.failures stores.new.store ≢ S.failures stores.old.store →
-            OnErr result (OnlyBegins (J.header stores.old.journal self.old.name)
-            (length self.old.ledger.outcomes) (J.notes stores.old.journal self.old.name)
-            (J.notes stores.new.journal self.old.name)) }
+        ensures asked { (tried : Bool) × AsksJudged S.TakeStore result self.old.growing
+            self.old.state.parts (meaning request.now) self.new.growing.made tried
+            stores.old.store stores.new.store }
+        ensures places { KeepsPlaces self.old self.new }
+        ensures kept { IfOk result (λ v. KeepsNumber self.old (meaning request.now) digest.now
+            (verdict_meaning v) self.new) }
+        ensures left { OnErr result (LeavesNumber S.TakeStore J.Journal
+            self.old stores.old (meaning request.now) self.new stores.new) }
+        ensures done { ForNext S.TakeStore J.Journal self.old (meaning request.now) digest.now
+            stores.old (λ first log. DoesNext result first log self.new.state.parts
+            self.new.ledger.outcomes (meaning request.now) self.new.growing
+            (S.contents stores.new.store self.old.name)) }
+        ensures noted { NotesNext S.TakeStore J.Journal result
+            self.old stores.old (meaning request.now) digest.now self.new stores.new }
     {
         begin_notes(&mut stores.journal, &self.name, self.ledger.len())?;
         let verdict = carry_out(

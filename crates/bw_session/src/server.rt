@@ -8,8 +8,8 @@ ghost use Rattle.std.specs.List.{All};
 ghost use Rattle.std.specs.HashMap.{hash_map_len, spare, IsUnique};
 ghost use Rattle.std.specs.Str.{bytes_eq};
 ghost use Rattle.bw_model.specs.Turn.{most_takes, window, is_turned_away, notice as refusal};
-ghost use Rattle.bw_model.specs.Wire.{Says, Second, last_number};
-ghost use Rattle.bw_model.specs.CountedTurn.{IsTurn, book_told, is_delay};
+ghost use Rattle.bw_model.specs.Wire.{Second, last_number};
+ghost use Rattle.bw_model.specs.CountedTurn.{is_delay};
 ghost use Rattle.bw_wire.specs.Notices.{notice_meaning};
 ghost use Rattle.bw_model.specs.Book.{Book, log_of, is_known, made};
 ghost use Rattle.bw_model.specs.Take.{parts, frames as frames_of};
@@ -73,8 +73,9 @@ impl<S: TakeStore> Server<S> {
 }
 
 impl<S: TakeStore, J: Journal> Server<S, J> {
-    ghost use Rattle.bw_session.specs.Books.{failures_of, HoldsBook, NotesBook, TurnsBook};
-    ghost use Rattle.bw_session.specs.Books.{AsksTurn, SameStores};
+    ghost use Rattle.bw_session.specs.Books.{HoldsBook, NotesBook, TurnsBooks, NotesBooks};
+    ghost use Rattle.bw_session.specs.Books.{KeepsBooks, LeavesServer, UsesInTurn, AsksTurn};
+    ghost use Rattle.bw_session.specs.Books.{SameStores};
     ghost use Rattle.bw_session.specs.Books.{of_known, count_waiting};
 
     /// A server that knows no name, over a store and a journal.
@@ -148,26 +149,14 @@ impl<S: TakeStore, J: Journal> Server<S, J> {
         ensures unmet { session_in self.new.sessions (message_of message.now).name ≡ None →
             (self.new.sessions ≡ self.old.sessions)
             × SameStores S.TakeStore J.Journal self.old self.new }
-        ensures both { UsesBoth S.TakeStore J.Journal (message_of message.now).name
-            self.old.stores.store self.new.stores.store
-            self.old.stores.journal self.new.stores.journal
-            (done_in self.old.sessions (message_of message.now).name)
-            (done_in self.new.sessions (message_of message.now).name) out.new.items }
+        ensures both { UsesInTurn S.TakeStore J.Journal self.old self.new (message_of message.now)
+            out.new.items }
         ensures asked { AsksTurn S.TakeStore J.Journal self.old self.new (message_of message.now) }
         ensures limit { self.new.limit ≡ self.old.limit }
-        ensures turned { IsTrue (S.honest self.old.stores.store) →
-            (first : List ℕ → Option (List ℕ)) (book : Book) →
-            HoldsBook S.TakeStore J.Journal first self.old book →
-            TurnsBook S.TakeStore J.Journal first self.old self.new book
-            (message_of message.now) out.new.items }
-        ensures noted { IsTrue (S.honest self.old.stores.store) →
-            IsTrue (J.honest self.old.stores.journal) →
-            (first : List ℕ → Option (List ℕ)) (book : Book) →
-            HoldsBook S.TakeStore J.Journal first self.old book →
-            NotesBook S.TakeStore J.Journal first self.old book →
-            NotesBook S.TakeStore J.Journal first self.new (book_told book
-            (message_of message.now) (map reply_of out.new.items)
-            (done_in self.new.sessions (message_of message.now).name)) }
+        ensures turned { TurnsBooks S.TakeStore J.Journal self.old self.new (message_of message.now)
+            out.new.items }
+        ensures noted { NotesBooks S.TakeStore J.Journal self.old self.new (message_of message.now)
+            out.new.items }
     {
         out.clear();
         let name = message.name();
@@ -190,28 +179,15 @@ impl<S: TakeStore, J: Journal> Server<S, J> {
             × (self.new.sessions ≡ self.old.sessions) }
         ensures unmet { session_in self.new.sessions (message_of message.now).name ≡ None →
             (self.new.sessions ≡ self.old.sessions)
-            × (self.new.stores.store ≡ self.old.stores.store)
-            × (self.new.stores.journal ≡ self.old.stores.journal) }
-        ensures both { UsesBoth S.TakeStore J.Journal (message_of message.now).name
-            self.old.stores.store self.new.stores.store
-            self.old.stores.journal self.new.stores.journal
-            (done_in self.old.sessions (message_of message.now).name)
-            (done_in self.new.sessions (message_of message.now).name) out.new.items }
+            × SameStores S.TakeStore J.Journal self.old self.new }
+        ensures both { UsesInTurn S.TakeStore J.Journal self.old self.new (message_of message.now)
+            out.new.items }
         ensures asked { AsksTurn S.TakeStore J.Journal self.old self.new (message_of message.now) }
         ensures limit { self.new.limit ≡ self.old.limit }
-        ensures turned { IsTrue (S.honest self.old.stores.store) →
-            (first : List ℕ → Option (List ℕ)) (book : Book) →
-            HoldsBook S.TakeStore J.Journal first self.old book →
-            TurnsBook S.TakeStore J.Journal first self.old self.new book
-            (message_of message.now) out.new.items }
-        ensures noted { IsTrue (S.honest self.old.stores.store) →
-            IsTrue (J.honest self.old.stores.journal) →
-            (first : List ℕ → Option (List ℕ)) (book : Book) →
-            HoldsBook S.TakeStore J.Journal first self.old book →
-            NotesBook S.TakeStore J.Journal first self.old book →
-            NotesBook S.TakeStore J.Journal first self.new (book_told book
-            (message_of message.now) (map reply_of out.new.items)
-            (done_in self.new.sessions (message_of message.now).name)) }
+        ensures turned { TurnsBooks S.TakeStore J.Journal self.old self.new (message_of message.now)
+            out.new.items }
+        ensures noted { NotesBooks S.TakeStore J.Journal self.old self.new (message_of message.now)
+            out.new.items }
     {
         if let Err(code) = self.try_meet(&name, message, out) {
             out.push(Reply::Notice {
@@ -238,42 +214,24 @@ impl<S: TakeStore, J: Journal> Server<S, J> {
         requires fresh { session_in self.old.sessions name.now ≡ None }
         ensures few { length out.new.items ≤ 17 }
         ensures told { All IsServing out.new.items }
-        ensures both { UsesBoth S.TakeStore J.Journal (message_of message.now).name
-            self.old.stores.store self.new.stores.store
-            self.old.stores.journal self.new.stores.journal
-            (done_in self.old.sessions (message_of message.now).name)
-            (done_in self.new.sessions (message_of message.now).name) out.new.items }
+        ensures both { UsesInTurn S.TakeStore J.Journal self.old self.new (message_of message.now)
+            out.new.items }
         ensures asked { OnOk result (AsksTurn S.TakeStore J.Journal self.old self.new
             (message_of message.now)) }
         ensures limit { self.new.limit ≡ self.old.limit }
-        ensures sessions { OnErr result (self.new.sessions ≡ self.old.sessions) }
-        ensures store { OnErr result (self.new.stores.store ≡ self.old.stores.store) }
-        ensures journal { OnErr result (self.new.stores.journal ≡ self.old.stores.journal) }
+        ensures left { OnErr result (LeavesServer S.TakeStore J.Journal self.old self.new) }
         ensures untold { OnErr result (out.new.items ≡ []) }
         ensures met { OnOk result (IsSome (session_in self.new.sessions name.now)) }
-        ensures turned { IsTrue (S.honest self.old.stores.store) →
-            (first : List ℕ → Option (List ℕ)) (book : Book) →
-            HoldsBook S.TakeStore J.Journal first self.old book →
-            OnOk result (TurnsBook S.TakeStore J.Journal first self.old self.new book
+        ensures turned { OnOk result (TurnsBooks S.TakeStore J.Journal self.old self.new
             (message_of message.now) out.new.items) }
-        ensures noted { IsTrue (S.honest self.old.stores.store) →
-            IsTrue (J.honest self.old.stores.journal) →
-            (first : List ℕ → Option (List ℕ)) (book : Book) →
-            HoldsBook S.TakeStore J.Journal first self.old book →
-            NotesBook S.TakeStore J.Journal first self.old book →
-            OnOk result (NotesBook S.TakeStore J.Journal first self.new (book_told book
-            (message_of message.now) (map reply_of out.new.items)
-            (done_in self.new.sessions (message_of message.now).name))) }
+        ensures noted { OnOk result (NotesBooks S.TakeStore J.Journal self.old self.new
+            (message_of message.now) out.new.items) }
         ensures prompt { IfErr result (λ code. is_delay (notice_meaning code) ≡ false) }
         ensures away { IfErr result (λ code. IsTrue
             (is_turned_away (refusal (message_of message.now) (notice_meaning code) 0)
             || nat_le window (message_of message.now).number)) }
-        ensures refused { IfErr result (λ code. IsTrue (S.honest self.old.stores.store) →
-            (first : List ℕ → Option (List ℕ)) (book : Book) →
-            HoldsBook S.TakeStore J.Journal first self.old book →
-            IsTurn (λ n. is_some (first n)) (failures_of S.TakeStore J.Journal self.old)
-            (failures_of S.TakeStore J.Journal self.old) book (Says (message_of message.now))
-            (refusal (message_of message.now) (notice_meaning code) 0) book) }
+        ensures refused { IfErr result (λ code. KeepsBooks S.TakeStore J.Journal self.old
+            (message_of message.now) (refusal (message_of message.now) (notice_meaning code) 0)) }
     {
         if SLOTS <= message.number() as usize {
             return Err(Notice::TooFar);
@@ -312,24 +270,13 @@ impl<S: TakeStore, J: Journal> Server<S, J> {
         ensures asked { OnOk result (AsksTurn S.TakeStore J.Journal self.old self.new
             (message_of message.now)) }
         ensures limit { self.new.limit ≡ self.old.limit }
-        ensures sessions { OnErr result (self.new.sessions ≡ self.old.sessions) }
-        ensures store { OnErr result (self.new.stores.store ≡ self.old.stores.store) }
-        ensures journal { OnErr result (self.new.stores.journal ≡ self.old.stores.journal) }
+        ensures left { OnErr result (LeavesServer S.TakeStore J.Journal self.old self.new) }
         ensures untold { OnErr result (out.new.items ≡ []) }
         ensures met { OnOk result (IsSome (session_in self.new.sessions name.now)) }
-        ensures turned { IsTrue (S.honest self.old.stores.store) →
-            (first : List ℕ → Option (List ℕ)) (book : Book) →
-            HoldsBook S.TakeStore J.Journal first self.old book →
-            OnOk result (TurnsBook S.TakeStore J.Journal first self.old self.new book
+        ensures turned { OnOk result (TurnsBooks S.TakeStore J.Journal self.old self.new
             (message_of message.now) out.new.items) }
-        ensures noted { IsTrue (S.honest self.old.stores.store) →
-            IsTrue (J.honest self.old.stores.journal) →
-            (first : List ℕ → Option (List ℕ)) (book : Book) →
-            HoldsBook S.TakeStore J.Journal first self.old book →
-            NotesBook S.TakeStore J.Journal first self.old book →
-            OnOk result (NotesBook S.TakeStore J.Journal first self.new (book_told book
-            (message_of message.now) (map reply_of out.new.items)
-            (done_in self.new.sessions (message_of message.now).name))) }
+        ensures noted { OnOk result (NotesBooks S.TakeStore J.Journal self.old self.new
+            (message_of message.now) out.new.items) }
     {
         let mut session = Session::new(self.stores.alloc, name.copy(), self.limit)?;
         session.serve(&mut self.stores, message, out)?;

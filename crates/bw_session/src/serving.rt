@@ -1,18 +1,15 @@
 //! A message of a name that a session is kept of: it is admitted, what is held in a row is done,
 //! and its sender is told.
-ghost use Rattle.std.specs.Prelude.{◌≡◌, ◌≤◌, ℕ, List, [], Option, IsTrue, IfOk, OnOk, OnErr};
+ghost use Rattle.std.specs.Prelude.{◌≡◌, ◌≤◌, [], IsTrue, IfOk, OnOk, OnErr};
 ghost use Rattle.std.specs.Prelude.{is_some, length, map, true, false};
 ghost use Rattle.std.specs.List.{All};
 ghost use Rattle.sha2.specs.Sha256.{sha256};
 ghost use Rattle.bw_model.specs.Wire.{message_body};
-ghost use Rattle.bw_model.specs.Book.{Log};
-ghost use Rattle.bw_model.specs.Turn.{is_admissible, is_turned_away};
+ghost use Rattle.bw_model.specs.Turn.{is_turned_away};
 ghost use Rattle.bw_wire.specs.Frames.{message_of};
 ghost use Rattle.bw_wire.specs.Replies.{HasWireNumbers, reply_of};
-ghost use Rattle.bw_session.specs.Numbered.{KeepsBoth, failed_calls};
-ghost use Rattle.bw_session.specs.Noting.{IsNoted};
 ghost use Rattle.bw_session.specs.Admitting.{with_message};
-ghost use Rattle.bw_session.specs.Asking.{holding, AsksInTurn, DoesRun};
+ghost use Rattle.bw_session.specs.Asking.{holding, AsksInTurn};
 
 use crate::numbering::Stores;
 use crate::session::Session;
@@ -24,11 +21,13 @@ use sha2::{Digest, Sha256};
 use std::alloc::AllocError;
 
 impl Session {
-    ghost use Rattle.bw_session.specs.Sessions.{HoldsLog, KeepsProgress, KeepsTake, part_of};
-    ghost use Rattle.bw_session.specs.Sessions.{CallsFew};
+    ghost use Rattle.bw_session.specs.Sessions.{KeepsTake, part_of};
+    ghost use Rattle.bw_session.specs.Promises.{UsesStores, LeavesSession, RefusesMessage};
+    ghost use Rattle.bw_session.specs.Promises.{RunsNumbers, ForSessionLogs, KeepsSessionNotes};
+    ghost use Rattle.bw_session.specs.Promises.{failures_in};
     ghost use Rattle.bw_session.specs.Runs.{EndsDraining, with_more_done};
     ghost use Rattle.bw_session.specs.Telling.{IsServing, IsTimely};
-    ghost use Rattle.bw_session.specs.Serving.{Answers, Serves, UsesBoth, log_after, log_told};
+    ghost use Rattle.bw_session.specs.Serving.{Answers, Serves, log_after, log_told};
 
     /// Takes a message of the name, and tells its sender, in `out`, which is empty.
     pub(crate) fn answer<S: TakeStore, J: Journal>(
@@ -39,9 +38,7 @@ impl Session {
     )
         requires name { (message_of message.now).name ≡ self.old.progress.name }
         requires empty { out.old.items ≡ [] }
-        ensures both { UsesBoth S.TakeStore J.Journal self.old.progress.name
-            stores.old.store stores.new.store stores.old.journal stores.new.journal
-            (length self.old.progress.ledger.outcomes) (length self.new.progress.ledger.outcomes)
+        ensures both { UsesStores S.TakeStore J.Journal self.old stores.old self.new stores.new
             out.new.items }
         ensures asked { AsksInTurn S.TakeStore (message_of message.now) (part_of self.old)
             stores.old.store (part_of self.new) stores.new.store }
@@ -49,28 +46,15 @@ impl Session {
         ensures few { length out.new.items ≤ 17 }
         ensures numbers { All HasWireNumbers out.new.items }
         ensures uncalled { IsTrue (is_turned_away (map reply_of out.new.items)) →
-            (stores.new.store ≡ stores.old.store) × (stores.new.journal ≡ stores.old.journal)
-            × KeepsProgress self.old.progress self.new.progress
-            × (self.new.window ≡ self.old.window) }
-        ensures answers { IsTrue (S.honest stores.old.store) →
-            (first : Option (List ℕ)) (log : Log) → HoldsLog first log (part_of self.old)
-            (S.contents stores.old.store self.old.progress.name) →
-            Answers true false first log (message_of message.now)
-            (failed_calls (S.failures stores.old.store) (J.failures stores.old.journal))
-            (failed_calls (S.failures stores.new.store) (J.failures stores.new.journal))
-            out.new.items (part_of self.new)
-            (S.contents stores.new.store self.old.progress.name) }
-        ensures noted { IsTrue (S.honest stores.old.store) →
-            IsTrue (J.honest stores.old.journal) → (first : Option (List ℕ)) (log : Log) →
-            HoldsLog first log (part_of self.old)
-            (S.contents stores.old.store self.old.progress.name) →
-            (J.header stores.old.journal self.old.progress.name).stood ≡ is_some first →
-            IsNoted (J.header stores.old.journal self.old.progress.name) self.old.progress.name
-            log self.old.progress.noted (J.notes stores.old.journal self.old.progress.name) →
-            IsNoted (J.header stores.old.journal self.old.progress.name) self.old.progress.name
-            (log_told log (message_of message.now) (map reply_of out.new.items)
-            (length self.new.progress.ledger.outcomes)) self.new.progress.noted
-            (J.notes stores.new.journal self.old.progress.name) }
+            LeavesSession S.TakeStore J.Journal self.old stores.old self.new stores.new }
+        ensures answers { ForSessionLogs S.TakeStore J.Journal self.old stores.old
+            (λ first log. Answers true false first log (message_of message.now)
+            (failures_in S.TakeStore J.Journal stores.old)
+            (failures_in S.TakeStore J.Journal stores.new) out.new.items (part_of self.new)
+            (S.contents stores.new.store self.old.progress.name)) }
+        ensures noted { KeepsSessionNotes S.TakeStore J.Journal
+            self.old stores.old self.new stores.new (λ log. log_told log (message_of message.now)
+            (map reply_of out.new.items) (length self.new.progress.ledger.outcomes)) }
     {
         if let Err(_refused) = self.serve(stores, message, out) {
             out.push(self.notice(message, Notice::NoRoom));
@@ -90,42 +74,25 @@ impl Session {
     ) -> Result<(), AllocError>
         requires name { (message_of message.now).name ≡ self.old.progress.name }
         requires empty { out.old.items ≡ [] }
-        ensures both { UsesBoth S.TakeStore J.Journal self.old.progress.name
-            stores.old.store stores.new.store stores.old.journal stores.new.journal
-            (length self.old.progress.ledger.outcomes) (length self.new.progress.ledger.outcomes)
+        ensures both { UsesStores S.TakeStore J.Journal self.old stores.old self.new stores.new
             out.new.items }
         ensures asked { AsksInTurn S.TakeStore (message_of message.now) (part_of self.old)
             stores.old.store (part_of self.new) stores.new.store }
         ensures take { KeepsTake self.old self.new }
         ensures few { length out.new.items ≤ 17 }
         ensures told { All IsServing out.new.items }
-        ensures store { OnErr result (stores.new.store ≡ stores.old.store) }
-        ensures journal { OnErr result (stores.new.journal ≡ stores.old.journal) }
-        ensures progress { OnErr result (KeepsProgress self.old.progress self.new.progress) }
-        ensures window { OnErr result (self.new.window ≡ self.old.window) }
+        ensures refused { OnErr result (RefusesMessage S.TakeStore J.Journal
+            (message_of message.now) self.old stores.old self.new stores.new) }
         ensures untold { OnErr result (out.new.items ≡ []) }
-        ensures refused { OnErr result ((first : Option (List ℕ)) (log : Log)
-            (found : Option (List ℕ)) → HoldsLog first log (part_of self.old) found →
-            IsTrue (is_admissible log (message_of message.now).number)) }
-        ensures served { IsTrue (S.honest stores.old.store) →
-            (first : Option (List ℕ)) (log : Log) → HoldsLog first log (part_of self.old)
-            (S.contents stores.old.store self.old.progress.name) →
-            OnOk result (Serves first log (message_of message.now)
-            (failed_calls (S.failures stores.old.store) (J.failures stores.old.journal))
-            (failed_calls (S.failures stores.new.store) (J.failures stores.new.journal))
-            out.new.items (part_of self.new)
-            (S.contents stores.new.store self.old.progress.name)) }
-        ensures noted { IsTrue (S.honest stores.old.store) →
-            IsTrue (J.honest stores.old.journal) → (first : Option (List ℕ)) (log : Log) →
-            HoldsLog first log (part_of self.old)
-            (S.contents stores.old.store self.old.progress.name) →
-            (J.header stores.old.journal self.old.progress.name).stood ≡ is_some first →
-            IsNoted (J.header stores.old.journal self.old.progress.name) self.old.progress.name
-            log self.old.progress.noted (J.notes stores.old.journal self.old.progress.name) →
-            OnOk result (IsNoted (J.header stores.old.journal self.old.progress.name)
-            self.old.progress.name (log_after log (message_of message.now)
-            (length self.new.progress.ledger.outcomes)) self.new.progress.noted
-            (J.notes stores.new.journal self.old.progress.name)) }
+        ensures served { OnOk result (ForSessionLogs S.TakeStore J.Journal
+            self.old stores.old (λ first log. Serves first log (message_of message.now)
+            (failures_in S.TakeStore J.Journal stores.old)
+            (failures_in S.TakeStore J.Journal stores.new) out.new.items (part_of self.new)
+            (S.contents stores.new.store self.old.progress.name))) }
+        ensures noted { OnOk result (KeepsSessionNotes S.TakeStore J.Journal
+            self.old stores.old self.new stores.new
+            (λ log. log_after log (message_of message.now)
+            (length self.new.progress.ledger.outcomes))) }
     {
         let done = self.progress.ledger.len();
         if done + self.window.len() <= message.number() as usize {
@@ -156,45 +123,24 @@ impl Session {
         requires name { (message_of message.now).name ≡ self.old.progress.name }
         requires digest { digest ≡ sha256 (message_body (message_of message.now)) }
         requires empty { out.old.items ≡ [] }
-        ensures both { IfOk result (λ stopped. KeepsBoth S.TakeStore J.Journal stopped
-            self.old.progress.name stores.old.store stores.new.store
-            stores.old.journal stores.new.journal) }
-        ensures calls { IfOk result (λ stopped. CallsFew
-            (S.calls stores.old.store) (S.calls stores.new.store)
-            (length self.old.progress.ledger.outcomes) (length self.new.progress.ledger.outcomes)
-            stopped) }
-        ensures asked { IfOk result (λ stopped. DoesRun S.TakeStore stopped
-            (holding (part_of self.old) (message_of message.now)) stores.old.store
-            (part_of self.new) stores.new.store) }
+        ensures run { IfOk result (λ stopped. RunsNumbers S.TakeStore J.Journal stopped
+            (holding (part_of self.old) (message_of message.now))
+            self.old stores.old self.new stores.new) }
         ensures take { KeepsTake self.old self.new }
         ensures few { length out.new.items ≤ 16 }
         ensures told { All IsServing out.new.items }
         ensures timely { All (IsTimely false) out.new.items }
-        ensures store { OnErr result (stores.new.store ≡ stores.old.store) }
-        ensures journal { OnErr result (stores.new.journal ≡ stores.old.journal) }
-        ensures progress { OnErr result (KeepsProgress self.old.progress self.new.progress) }
-        ensures window { OnErr result (self.new.window ≡ self.old.window) }
+        ensures refused { OnErr result (RefusesMessage S.TakeStore J.Journal
+            (message_of message.now) self.old stores.old self.new stores.new) }
         ensures untold { OnErr result (out.new.items ≡ []) }
-        ensures refused { OnErr result ((first : Option (List ℕ)) (log : Log)
-            (found : Option (List ℕ)) → HoldsLog first log (part_of self.old) found →
-            IsTrue (is_admissible log (message_of message.now).number)) }
-        ensures drained { IsTrue (S.honest stores.old.store) →
-            (first : Option (List ℕ)) (log : Log) → HoldsLog first log (part_of self.old)
-            (S.contents stores.old.store self.old.progress.name) →
-            IfOk result (λ stopped. EndsDraining first
+        ensures drained { IfOk result (λ stopped. ForSessionLogs S.TakeStore J.Journal
+            self.old stores.old (λ first log. EndsDraining first
             (with_message log (message_of message.now)) stopped out.new.items (part_of self.new)
-            (S.contents stores.new.store self.old.progress.name)) }
-        ensures noted { IsTrue (S.honest stores.old.store) →
-            IsTrue (J.honest stores.old.journal) → (first : Option (List ℕ)) (log : Log) →
-            HoldsLog first log (part_of self.old)
-            (S.contents stores.old.store self.old.progress.name) →
-            (J.header stores.old.journal self.old.progress.name).stood ≡ is_some first →
-            IsNoted (J.header stores.old.journal self.old.progress.name) self.old.progress.name
-            log self.old.progress.noted (J.notes stores.old.journal self.old.progress.name) →
-            OnOk result (IsNoted (J.header stores.old.journal self.old.progress.name)
-            self.old.progress.name (with_more_done (with_message log (message_of message.now))
-            (length out.new.items)) self.new.progress.noted
-            (J.notes stores.new.journal self.old.progress.name)) }
+            (S.contents stores.new.store self.old.progress.name))) }
+        ensures noted { OnOk result (KeepsSessionNotes S.TakeStore J.Journal
+            self.old stores.old self.new stores.new
+            (λ log. with_more_done (with_message log (message_of message.now))
+            (length out.new.items))) }
     {
         let is_held = self.window.get(0).is_some();
         if is_held || message.number() as usize != self.progress.ledger.len() {

@@ -1,8 +1,9 @@
 -- What calls leave of a store, whatever store it is.
-use Rattle.std.specs.Prelude.{◌≡◌, ℕ, Bool, IsTrue, List}
+use Rattle.std.specs.Prelude.{◌≡◌, ℕ, Bool, IsTrue, List, Option, Result, OnOk}
 use Rattle.bw_store.specs.Stores.{Counts, KeepsOthers}
 use Rattle.bw_store.specs.Calls.{StoreCall, Gets, GetsFirst}
 use Rattle.bw_store.specs.declared.store.TakeStore.{Ghosts}
+use Rattle.bw_file.specs.Stores.{MayTear}
 
 -- A failure is counted, the store is as honest as it was, and each other name has what it had.
 pub record Shared {X : Type 0} (S : Ghosts X) (fails : Bool) (name : List ℕ) (old new : X) :
@@ -19,3 +20,15 @@ WasAsked S plan old new = Gets plan (S.calls old) (S.calls new) (S.asked old) (S
 abbrev pub WasAskedFirst : {X : Type 0} → Ghosts X → List StoreCall → X → X → Type 0
 WasAskedFirst S plan old new =
     GetsFirst plan (S.calls old) (S.calls new) (S.asked old) (S.asked new)
+
+-- Over an honest store the content of a name changes in these n bytes from a place on, and nowhere
+-- else.
+abbrev pub TearsIn : {X : Type 0} → Ghosts X → List ℕ → ℕ → ℕ → X → X → Type 0
+TearsIn S name place n old new =
+    IsTrue (S.honest old) → MayTear (S.contents old name) place n (S.contents new name)
+
+-- What a success changes of a name in an honest store.
+abbrev pub PutsIn : {X T E : Type 0} → Ghosts X → Result T E → List ℕ →
+    (Option (List ℕ) → Option (List ℕ) → Type 0) → X → X → Type 0
+PutsIn S answer name Changes old new =
+    IsTrue (S.honest old) → OnOk answer (Changes (S.contents old name) (S.contents new name))

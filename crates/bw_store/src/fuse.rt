@@ -1,13 +1,12 @@
 //! A store that fails chosen calls.
-ghost use Rattle.std.specs.Prelude.{◌≡◌, ◌<◌, ◌==◌, ◌||◌, ◌∷◌, [], ℕ, List, Option, true, false};
+ghost use Rattle.std.specs.Prelude.{◌≡◌, ◌==◌, ◌||◌, ◌∷◌, [], ℕ, List, Option, true, false};
 ghost use Rattle.std.specs.Prelude.{not, IsTrue, IfOk, OnOk, OnErr, is_err, is_ok, length, filter};
 ghost use Rattle.std.specs.Prelude.{if◌then◌else◌};
-ghost use Rattle.bw_store.specs.Stores.{Counts, Creates, Written, MayTear, KeepsOthers, last_count};
-ghost use Rattle.bw_store.specs.Stores.{raised};
+ghost use Rattle.bw_store.specs.Stores.{Counts, Creates, Written, MayTear, KeepsOthers, last_count, raised};
 ghost use Rattle.bw_store.specs.Calls.{Create, WriteAt, Finish, Asks};
 ghost use Rattle.bw_store.specs.StoreSteps.{WasAsked};
-ghost use Rattle.bw_store.specs.Fuses.{has_fuse, Blows, passed_on, unless_fused, let_through};
-ghost use Rattle.bw_store.specs.Fuses.{first_half};
+ghost use Rattle.bw_store.specs.Fuses.{has_fuse, Blows, passed_on, unless_fused, let_through, first_half};
+ghost use Rattle.bw_file.specs.Fuses.{AsksPassed, WritesHalf};
 
 use crate::store::{Created, StoreFault, TakeStore};
 use crate::tally::Tally;
@@ -111,9 +110,8 @@ impl<S: TakeStore> TakeStore for FuseStore<S> {
     fn create(&mut self, name: &Name) -> Result<Created, StoreFault>
         ensures failures { Counts self.old.tally.failures self.new.tally.failures (is_err result) }
         ensures calls { Counts self.old.tally.calls self.new.tally.calls true }
-        ensures asked { Asks (Create name.now ∷ [])
-            (passed_on self.old.blown (S.asked self.old.inner))
-            (passed_on self.new.blown (S.asked self.new.inner)) }
+        ensures asked { AsksPassed (Create name.now ∷ []) self.old.blown
+            (S.asked self.old.inner) self.new.blown (S.asked self.new.inner) }
         ensures honest { S.honest self.new.inner ≡ S.honest self.old.inner }
         ensures created { IsTrue (S.honest self.old.inner) → IfOk result (λ c.
             Creates c (S.contents self.old.inner name.now) (S.contents self.new.inner name.now)) }
@@ -158,9 +156,8 @@ impl<S: TakeStore> TakeStore for FuseStore<S> {
     fn write_at(&mut self, name: &Name, offset: u64, bytes: &[u8]) -> Result<(), StoreFault>
         ensures failures { Counts self.old.tally.failures self.new.tally.failures (is_err result) }
         ensures calls { Counts self.old.tally.calls self.new.tally.calls true }
-        ensures asked { Asks (WriteAt name.now offset (length bytes.now) ∷ [])
-            (passed_on self.old.blown (S.asked self.old.inner))
-            (passed_on self.new.blown (S.asked self.new.inner)) }
+        ensures asked { AsksPassed (WriteAt name.now offset (length bytes.now) ∷ []) self.old.blown
+            (S.asked self.old.inner) self.new.blown (S.asked self.new.inner) }
         ensures honest { S.honest self.new.inner ≡ S.honest self.old.inner }
         ensures all { IsTrue (S.honest self.old.inner) → OnOk result (Written
             (S.contents self.old.inner name.now) offset bytes.now
@@ -173,11 +170,7 @@ impl<S: TakeStore> TakeStore for FuseStore<S> {
         ensures blows { Blows (has_fuse self.old.fuses.items self.old.tally.calls) (is_err result)
             (S.failures self.old.inner) (S.failures self.new.inner) }
         ensures half { IsTrue (has_fuse self.old.fuses.items self.old.tally.calls) →
-            IsTrue (S.honest self.old.inner) →
-            S.failures self.old.inner < last_count →
-            S.failures self.new.inner ≡ S.failures self.old.inner →
-            Written (S.contents self.old.inner name.now) offset (first_half bytes.now)
-            (S.contents self.new.inner name.now) }
+            WritesHalf S.TakeStore name.now offset bytes.now self.old.inner self.new.inner }
         ensures inner { WasAsked S.TakeStore
             (WriteAt name.now offset (length (let_through
             (has_fuse self.old.fuses.items self.old.tally.calls) bytes.now)) ∷ [])
@@ -216,9 +209,8 @@ impl<S: TakeStore> TakeStore for FuseStore<S> {
     fn finish(&mut self, name: &Name) -> Result<(), StoreFault>
         ensures failures { Counts self.old.tally.failures self.new.tally.failures (is_err result) }
         ensures calls { Counts self.old.tally.calls self.new.tally.calls true }
-        ensures asked { Asks (Finish name.now ∷ [])
-            (passed_on self.old.blown (S.asked self.old.inner))
-            (passed_on self.new.blown (S.asked self.new.inner)) }
+        ensures asked { AsksPassed (Finish name.now ∷ []) self.old.blown
+            (S.asked self.old.inner) self.new.blown (S.asked self.new.inner) }
         ensures honest { S.honest self.new.inner ≡ S.honest self.old.inner }
         ensures unchanged { IsTrue (S.honest self.old.inner) → (other : List ℕ) →
             S.contents self.new.inner other ≡ S.contents self.old.inner other }
@@ -264,10 +256,7 @@ fn write_half<S: TakeStore>(store: &mut S, name: &Name, offset: u64, bytes: &[u8
     ensures honest { S.honest store.new ≡ S.honest store.old }
     ensures torn { IsTrue (S.honest store.old) → MayTear
         (S.contents store.old name.now) offset (length bytes.now) (S.contents store.new name.now) }
-    ensures half { IsTrue (S.honest store.old) → S.failures store.old < last_count →
-        S.failures store.new ≡ S.failures store.old →
-        Written (S.contents store.old name.now) offset (first_half bytes.now)
-        (S.contents store.new name.now) }
+    ensures half { WritesHalf S.TakeStore name.now offset bytes.now store.old store.new }
     ensures others { IsTrue (S.honest store.old) →
         KeepsOthers (S.contents store.old) (S.contents store.new) name.now }
 {

@@ -7,7 +7,7 @@ use Rattle.bw_request.specs.Verdicts.{verdict_meaning}
 use Rattle.bw_file.specs.Growing.{Growing}
 use Rattle.bw_wire.specs.Frames.{message_of}
 use Rattle.bw_session.proofs.DrainForms.{count_front, fits_done, held_front, part_waits, part_done}
-use Rattle.bw_session.specs.KeptParts.{part}
+use Rattle.bw_session.specs.Sessions.{kept_with}
 use Rattle.bw_session.proofs.AskForms.{does_first, tries_first}
 use Rattle.bw_session.proofs.draining.drain_one.Goals as goal
 
@@ -27,12 +27,12 @@ pub returns-in-Ok-clause-fits : goal.returns-in-Ok-clause-fits
 returns-in-Ok-clause-fits g c =
     let old : List (List ℕ × Verdict) = c.args.progress.now.ledger.outcomes in
     let more : length c.number_done.new.self.ledger.outcomes ≡ length old + 1 =
-    ap length c.in-Ok.ensures.outcomes ∙ length_push old (c.digest.result.now, verdict_meaning c.in-Ok.verdict) in
+    ap length c.in-Ok.ensures.kept.outcomes ∙ length_push old (c.digest.result.now, verdict_meaning c.in-Ok.verdict) in
     fits_done c.args.progress.now.growing c.number_done.new.self.growing c.args.progress.now.state.parts
     c.number_done.new.self.state.parts (length old) _ c.args.progress.now.state.room
     c.number_done.new.self.state.room c.args.progress.now.ledger.room c.number_done.new.self.ledger.room
     c.args.window.now _ c.in-Some.body.now c.requires.fits (sym c.in-Some.ensures.value)
-    (search rules) more c.in-Ok.ensures.room c.in-Ok.ensures.places c.in-Ok.ensures.clean
+    (search rules) more c.in-Ok.ensures.places.room c.in-Ok.ensures.places.places c.in-Ok.ensures.kept.clean
 
 pub returns-in-Ok-clause-drained : goal.returns-in-Ok-clause-drained
 returns-in-Ok-clause-drained g c = λ honest first log h.
@@ -48,8 +48,8 @@ returns-in-Ok-clause-drained g c = λ honest first log h.
       told = (ap is_some front.0.here, done.verdict_is);
       left = part_done first log c.args.progress.now.state.parts finished c.args.window.now g0 _ h
           (verdict_meaning c.in-Ok.verdict) c.number_done.new.self.state.parts c.number_done.new.self.ledger.outcomes
-          _ c.number_done.new.self.growing _ (ap (λ (x : Growing). x.name) c.in-Ok.ensures.known)
-          c.in-Ok.ensures.clean (search rules) done;
+          _ c.number_done.new.self.growing _ (ap (λ (x : Growing). x.name) c.in-Ok.ensures.places.known)
+          c.in-Ok.ensures.kept.clean (search rules) done;
     }
 
 pub returns-in-Ok-clause-noted : goal.returns-in-Ok-clause-noted
@@ -77,7 +77,7 @@ returns-in-Err-clause-drained g c = λ honest first log h.
       left = part_waits first log c.args.progress.now.state.parts finished c.args.window.now g0 _ h
           c.number_done.new.self.state.parts c.number_done.new.self.ledger.outcomes r c.number_done.new.self.growing _
           front.0.here
-          (ap (λ (x : Growing). x.name) c.in-Err.ensures.known)
+          (ap (λ (x : Growing). x.name) c.in-Err.ensures.places.known)
           (c.in-Err.ensures.done honest first log front.0 front.1);
     }
 
@@ -95,24 +95,20 @@ returns-in-Err-clause-noted g c = λ honest honest_notes first log h stood noted
 pub returns-in-Ok-clause-asked : goal.returns-in-Ok-clause-asked
 returns-in-Ok-clause-asked g c =
     does_first g.S.TakeStore
-    (part c.args.progress.now.state.parts c.args.progress.now.ledger.outcomes c.args.window.now
-    c.args.progress.now.growing)
-    (part c.number_done.new.self.state.parts c.number_done.new.self.ledger.outcomes c.advance.new.self
-    c.number_done.new.self.growing)
+    (kept_with c.args.progress.now c.args.window.now)
+    (kept_with c.number_done.new.self c.advance.new.self)
     c.args.stores.now.store c.number_done.new.stores.store c.in-Some.body.now c.digest.result.now
     (meaning c.request-request.result) (verdict_meaning c.in-Ok.verdict) (sym c.in-Some.ensures.value)
     (c.request-request.ensures.value ∙ ap (λ m. m.request) c.message-message.ensures.value) c.digest.ensures
-    c.in-Ok.ensures.order c.in-Ok.ensures.known c.in-Ok.ensures.clean c.in-Ok.ensures.kept c.in-Ok.ensures.verdict
-    c.in-Ok.ensures.outcomes c.advance.ensures
+    c.in-Ok.ensures.asked.1.order c.in-Ok.ensures.places.known c.in-Ok.ensures.kept.clean c.in-Ok.ensures.kept.kept
+    c.in-Ok.ensures.kept.verdict c.in-Ok.ensures.kept.outcomes c.advance.ensures
 
 pub returns-in-Err-clause-asked : goal.returns-in-Err-clause-asked
 returns-in-Err-clause-asked g c =
     tries_first g.S.TakeStore
-    (part c.args.progress.now.state.parts c.args.progress.now.ledger.outcomes c.args.window.now
-    c.args.progress.now.growing)
-    (part c.number_done.new.self.state.parts c.number_done.new.self.ledger.outcomes c.args.window.now
-    c.number_done.new.self.growing)
+    (kept_with c.args.progress.now c.args.window.now)
+    (kept_with c.number_done.new.self c.args.window.now)
     c.args.stores.now.store c.number_done.new.stores.store c.in-Some.body.now
     (meaning c.request-request.result) (sym c.in-Some.ensures.value)
     (c.request-request.ensures.value ∙ ap (λ m. m.request) c.message-message.ensures.value)
-    c.in-Err.ensures.begun (ap (λ l. l.outcomes) c.in-Err.ensures.stopped.0) refl
+    (c.in-Err.ensures.asked.0, c.in-Err.ensures.asked.1.begun) (ap (λ l. l.outcomes) c.in-Err.ensures.left.ledger) refl

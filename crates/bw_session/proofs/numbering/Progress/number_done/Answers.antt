@@ -1,6 +1,6 @@
 use Rattle.std.proofs.lemmas.Result.{err_from_is_err_and}
 use Rattle.bw_session.proofs.NoteForms.{begun_in_part, begun_notes, carried_noted, carried_in_part}
-use Rattle.std.proofs.Common.{ap, ◌∙◌, ◌≤◌, inr, rules, ◌≡◌, ℕ, List, sym, subst}
+use Rattle.std.proofs.Common.{ap, ◌∙◌, ◌≤◌, inr, rules, ◌≡◌, ℕ, List, Ok, refl, true, sym, subst}
 use Rattle.bw_model.specs.Take.{Parts, Request, Verdict, AreFields}
 use Rattle.bw_request.specs.Requests.{meaning}
 use Rattle.bw_request.specs.Verdicts.{verdict_meaning}
@@ -9,7 +9,7 @@ use Rattle.bw_session.specs.Numbered.{IsNext, IsDone, noted_of}
 use Rattle.bw_journal.specs.Notes.{NotesInPart}
 use Rattle.bw_session.proofs.NumberForms.{done_again, done_next}
 use Rattle.bw_store.proofs.Asked.{gets_all}
-use Rattle.bw_session.specs.Carrying.{judged_plan}
+use Rattle.bw_session.specs.Carrying.{judged_plan, AsksJudged}
 use Rattle.bw_store.specs.StoreSteps.{WasAskedFirst}
 use Rattle.bw_session.proofs.AskForms.{verdict_by, keeps_judged}
 use Rattle.bw_session.proofs.numbering.Progress.number_done.Goals as goal
@@ -115,22 +115,77 @@ returns-clause-noted g c = λ honest honest_notes first log n h stood noted.
     carried n c.args.self.now.noted c.in-Ok.len _ _ noted.offset_is entries c.in-Ok.ensures.value
     (c.in-Ok.ensures.noted (c.begin_notes.ensures.journal.honest ∙ honest_notes))
 
-pub returns-in_default-clause-begun : goal.returns-in_default-clause-begun
-returns-in_default-clause-begun g c = (
+pub returns-in_default-clause-asked : goal.returns-in_default-clause-asked
+returns-in_default-clause-asked g c = (
   c.carry_out.new.growing.made,
-  subst (λ s. WasAskedFirst g.S.TakeStore (judged_plan c.args.self.now.growing c.args.self.now.state.parts
-      (meaning c.args.request.now) c.carry_out.new.growing.made) c.args.stores.now.store s) (sym c.note.ensures.store)
-      (gets_all c.in_ok-verdict.ensures.order),
+  record {
+    refused = λ no. c.note.ensures.store ∙ c.in_ok-verdict.ensures.asked.refused no;
+    order = tt;
+    begun = subst (λ s. WasAskedFirst g.S.TakeStore (judged_plan c.args.self.now.growing c.args.self.now.state.parts
+        (meaning c.args.request.now) c.carry_out.new.growing.made) c.args.stores.now.store s) (sym c.note.ensures.store)
+        (gets_all c.in_ok-verdict.ensures.asked.order);
+  },
 )
 
-pub returns-clause-kept : goal.returns-clause-kept
-returns-clause-kept g c =
-    keeps_judged c.args.self.now.state.parts c.carry_out.new.state.parts c.settle.new.state.parts
-    (meaning c.args.request.now) (verdict_meaning c.in_ok-verdict.verdict) (search rules)
-    c.in_ok-verdict.ensures.verdict c.settle.ensures.parts
+pub returns-in_err-begin_notes-clause-asked : goal.returns-in_err-begin_notes-clause-asked
+returns-in_err-begin_notes-clause-asked g c =
+    let answer = err_from_is_err_and c.from_residual.result c.from_residual.ensures.1 in
+    rw answer.1 (true, record { refused = λ no. refl; order = tt; begun = search rules })
 
-pub returns-clause-verdict : goal.returns-clause-verdict
-returns-clause-verdict g c =
-    verdict_by c.args.self.now.state.parts c.carry_out.new.state.parts c.settle.new.state.parts
-    (meaning c.args.request.now) (verdict_meaning c.in_ok-verdict.verdict) (search rules)
-    c.in_ok-verdict.ensures.verdict c.settle.ensures.parts
+pub returns-in_err-verdict-clause-asked : goal.returns-in_err-verdict-clause-asked
+returns-in_err-verdict-clause-asked g c =
+    let answer = err_from_is_err_and c.from_residual-in_err-verdict.result c.from_residual-in_err-verdict.ensures.1 in
+    let asked = c.in_err-verdict.ensures.asked in
+    rw answer.1 (true, record { refused = asked.refused; order = tt; begun = asked.begun })
+
+pub returns-clause-asked : goal.returns-clause-asked
+returns-clause-asked g c =
+    (true, subst (λ s. AsksJudged g.S.TakeStore (Ok c.in_ok-verdict.verdict) c.args.self.now.growing
+    c.args.self.now.state.parts (meaning c.args.request.now) c.carry_out.new.growing.made true
+    c.args.stores.now.store s) (sym c.note.ensures.store) c.in_ok-verdict.ensures.asked)
+
+pub returns-clause-kept : goal.returns-clause-kept
+returns-clause-kept g c = record {
+  kept = keeps_judged c.args.self.now.state.parts c.carry_out.new.state.parts c.settle.new.state.parts
+      (meaning c.args.request.now) (verdict_meaning c.in_ok-verdict.verdict) (search rules)
+      c.in_ok-verdict.ensures.verdict c.settle.ensures.parts;
+  verdict = verdict_by c.args.self.now.state.parts c.carry_out.new.state.parts c.settle.new.state.parts
+      (meaning c.args.request.now) (verdict_meaning c.in_ok-verdict.verdict) (search rules)
+      c.in_ok-verdict.ensures.verdict c.settle.ensures.parts;
+  outcomes = c.settle.ensures.outcomes;
+  clean = c.in_ok-verdict.ensures.clean;
+}
+
+pub returns-in_default-clause-left : goal.returns-in_default-clause-left
+returns-in_default-clause-left g c = record {
+  ledger = refl;
+  noted = refl;
+  room = search rules;
+  parts = search rules;
+  again = search rules;
+  unnoted = search rules;
+}
+
+pub returns-in_err-begin_notes-clause-left : goal.returns-in_err-begin_notes-clause-left
+returns-in_err-begin_notes-clause-left g c =
+    let answer = err_from_is_err_and c.from_residual.result c.from_residual.ensures.1 in
+    rw answer.1 (record {
+      ledger = refl;
+      noted = refl;
+      room = refl;
+      parts = refl;
+      again = c.requires.dirty;
+      unnoted = search rules;
+    })
+
+pub returns-in_err-verdict-clause-left : goal.returns-in_err-verdict-clause-left
+returns-in_err-verdict-clause-left g c =
+    let answer = err_from_is_err_and c.from_residual-in_err-verdict.result c.from_residual-in_err-verdict.ensures.1 in
+    rw answer.1 (record {
+      ledger = refl;
+      noted = refl;
+      room = search rules;
+      parts = search rules;
+      again = search rules;
+      unnoted = search rules;
+    })

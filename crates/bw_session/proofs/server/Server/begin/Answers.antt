@@ -5,6 +5,7 @@ use Rattle.std.specs.Option.{option_map_or}
 use Rattle.std.specs.Str.{bytes_eq}
 use Rattle.std.specs.HashMap.{spare}
 use Rattle.std.proofs.lemmas.Bool.{lt-leb}
+use Rattle.std.proofs.lemmas.Result.{err_from_is_err_and}
 use Rattle.bw_model.specs.Wire.{Message}
 use Rattle.bw_model.specs.Book.{Log, no_log, log_of, is_known}
 use Rattle.bw_model.specs.Turn.{is_full, window, most_takes}
@@ -199,3 +200,14 @@ returns-clause-asked g c =
     ∙ sym (ap (λ (o : Option Session). option_map_or part_of o (new_part m.name limit)) fresh))
     (sym (ap (λ (o : Option Session). option_map_or part_of o (new_part m.name limit)) here))
     c.in_ok-serve.ensures.asked
+
+pub returns-in_err-session-clause-left : goal.returns-in_err-session-clause-left
+returns-in_err-session-clause-left g c =
+    let answer = err_from_is_err_and c.from_residual.result c.from_residual.ensures.1 in
+    rw answer.1 (record { sessions = refl; store = refl; journal = refl })
+
+pub returns-in_err-serve-clause-left : goal.returns-in_err-serve-clause-left
+returns-in_err-serve-clause-left g c =
+    let answer = err_from_is_err_and c.from_residual-in_err-serve.result c.from_residual-in_err-serve.ensures.1 in
+    let left = c.in_err-serve.ensures.refused.left in
+    rw answer.1 (record { sessions = refl; store = left.store; journal = left.journal })

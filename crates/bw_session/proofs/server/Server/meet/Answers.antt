@@ -54,12 +54,20 @@ returns-in-Err-clause-noted g c = λ honest honest_notes first book h n.
     (g.J.Journal.notes c.try_meet.new.self.stores.journal) first (session_in c.try_meet.new.self.sessions) b)
     (sym (told_away book m (map reply_of c.push.new.self.items) (done_in c.try_meet.new.self.sessions m.name) away))
     (subst (λ (j : _). NotesNames (g.J.Journal.header j) (g.J.Journal.notes j) first
-    (session_in c.try_meet.new.self.sessions) book) (sym e.journal)
+    (session_in c.try_meet.new.self.sessions) book) (sym e.left.journal)
     (subst (λ (t : _). NotesNames (g.J.Journal.header c.args.self.now.stores.journal)
-    (g.J.Journal.notes c.args.self.now.stores.journal) first (session_in t) book) (sym e.sessions) n))
+    (g.J.Journal.notes c.args.self.now.stores.journal) first (session_in t) book) (sym e.left.sessions) n))
 
 pub returns-in-Err-clause-asked : goal.returns-in-Err-clause-asked
 returns-in-Err-clause-asked g c =
     let m : Message = message_of c.args.message.now in
     let e = c.in-Err.ensures in
-    inr (e.store, ap (λ (t : _). (part_in t c.args.self.now.limit m.name).outcomes) e.sessions)
+    inr (e.left.store, ap (λ (t : _). (part_in t c.args.self.now.limit m.name).outcomes) e.left.sessions)
+
+pub returns-in-Err-clause-uncalled : goal.returns-in-Err-clause-uncalled
+returns-in-Err-clause-uncalled g c = λ away.
+    let left = c.in-Err.ensures.left in (left.store, left.journal, left.sessions)
+
+pub returns-in-Err-clause-unmet : goal.returns-in-Err-clause-unmet
+returns-in-Err-clause-unmet g c = λ none.
+    let left = c.in-Err.ensures.left in (left.sessions, (left.store, left.journal))

@@ -61,3 +61,9 @@ pub returns-then-number-ge-SLOTS-clause-away : goal.returns-then-number-ge-SLOTS
 returns-then-number-ge-SLOTS-clause-away g c =
     let past : window ≤ (message_of c.args.message.now).number = search rules in
     le-leb window (message_of c.args.message.now).number past
+
+pub returns-then-number-ge-SLOTS-clause-left : goal.returns-then-number-ge-SLOTS-clause-left
+returns-then-number-ge-SLOTS-clause-left g c = record { sessions = refl; store = refl; journal = refl }
+
+pub returns-then-len-eq-NAMES-clause-left : goal.returns-then-len-eq-NAMES-clause-left
+returns-then-len-eq-NAMES-clause-left g c = record { sessions = refl; store = refl; journal = refl }

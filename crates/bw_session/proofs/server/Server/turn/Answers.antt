@@ -101,10 +101,10 @@ returns-in-Some-clause-uncalled g c = λ away.
     let sets = subst (λ (k : List ℕ). (n : List ℕ) → session_in (c.get_mut.follows.lender s') n
     ≡ cond (bytes_eq k n) (Some s') (session_in c.args.self.now.sessions n)) c.name-name.ensures
     ((c.get_mut.follows.holds s').3 (sym (ap is_some c.in-Some.ensures.value))).0 in (
-      kept.0,
-      kept.1,
+      kept.store,
+      kept.journal,
       kept_put (session_in c.args.self.now.sessions) (session_in (c.get_mut.follows.lender s')) m.name s s' found sets
-          (same_kept s s' kept.2 kept.3),
+          (same_kept s s' kept.progress kept.window),
     )
 
 pub returns-in-None-clause-uncalled : goal.returns-in-None-clause-uncalled

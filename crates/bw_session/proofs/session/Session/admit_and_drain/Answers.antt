@@ -1,19 +1,22 @@
-use Rattle.std.proofs.Common.{rules, Result, length, refl, sym, ◌∙◌, ap, subst}
+use Rattle.std.proofs.lemmas.Result.{err_from_is_err_and}
+use Rattle.std.specs.Prelude.{is_err}
+use Rattle.std.proofs.Common.{rules, ◌≡◌, ◌+◌, Result, length, refl, sym, ◌∙◌, ap, subst, arith}
 use Rattle.bw_model.specs.Wire.{Message}
 use Rattle.bw_request.specs.declared.verdict.Verdict.{Verdict}
 use Rattle.bw_file.specs.Growing.{Growing}
 use Rattle.bw_store.specs.declared.store.StoreFault.{StoreFault}
 use Rattle.bw_wire.specs.Frames.{message_of}
 use Rattle.bw_session.specs.Admitting.{with_message}
-use Rattle.bw_session.specs.Draining.{DrainsNext, drained_by, drained_log}
+use Rattle.bw_session.specs.Numbered.{KeepsBoth}
+use Rattle.bw_session.specs.Draining.{DrainsNext, drained_by, drained_log, drained_count}
 use Rattle.bw_session.specs.Noting.{IsNoted}
 use Rattle.bw_session.specs.Sessions.{part_of}
 use Rattle.bw_session.specs.Runs.{with_more_done}
-use Rattle.bw_session.proofs.RunForms.{noted_then}
+use Rattle.bw_session.proofs.RunForms.{both_then, noted_then}
+use Rattle.bw_session.proofs.PromiseForms.{run_since}
 use Rattle.bw_session.proofs.ServeForms.{starts, starts_done, stops_at_once, ends_under, noted_start, noted_one}
 use Rattle.std.proofs.Common.{List, Option, ℕ}
-use Rattle.bw_session.specs.KeptParts.{Part}
-use Rattle.bw_session.specs.Asking.{AsksNext, DoesRun, holding}
+use Rattle.bw_session.specs.Asking.{AsksNext, holding}
 use Rattle.bw_session.proofs.AskForms.{run_after, run_tried, part_kept}
 use Rattle.bw_session.proofs.session.Session.admit_and_drain.Goals as goal
 
@@ -125,30 +128,66 @@ returns-in-Err-clause-noted g c = λ honest honest_notes first log h stood noted
 pub do_next-requires-clause-free : goal.do_next-requires-clause-free
 do_next-requires-clause-free g c = search rules
 
-pub returns-then-is_held-clause-asked : goal.returns-then-is_held-clause-asked
-returns-then-is_held-clause-asked g c =
-    let m : Message = message_of c.args.message.now in
-    subst (λ (a : Part). DoesRun g.S.TakeStore c.drain.result a c.args.stores.now.store (part_of c.drain.new.self)
-    c.drain.new.stores.store)
+pub returns-then-is_held-clause-run : goal.returns-then-is_held-clause-run
+returns-then-is_held-clause-run g c =
+    run_since g.S.TakeStore g.J.Journal c.drain.result (holding (part_of c.args.self.now) (message_of c.args.message.now))
+    c.args.self.now c.admit.new.self c.drain.new.self c.args.stores.now c.drain.new.stores
+    c.in_ok-admit.ensures.progress
     (part_kept c.args.self.now c.admit.new.self c.in_ok-admit.ensures.progress
     ∙ ap (λ (w : List (Option (List ℕ))). record (part_of c.args.self.now) { window = w }) c.in_ok-admit.ensures.held)
-    c.drain.ensures.asked
+    c.drain.ensures.run
 
-pub returns-in-Ok-clause-asked : goal.returns-in-Ok-clause-asked
-returns-in-Ok-clause-asked g c =
+pub returns-in-Ok-clause-run : goal.returns-in-Ok-clause-run
+returns-in-Ok-clause-run g c =
     let m : Message = message_of c.args.message.now in
     let first = subst (λ (a : Result Verdict StoreFault). AsksNext g.S.TakeStore (drained_by a)
     (holding (part_of c.args.self.now) m) c.args.stores.now.store (part_of c.do_next.new.self)
     c.do_next.new.stores.store) c.in-Ok.is c.in_ok-verdict.ensures.asked in
-    run_after g.S.TakeStore c.drain-in-Ok.result (holding (part_of c.args.self.now) m) (part_of c.do_next.new.self)
-    (part_of c.drain-in-Ok.new.self) c.args.stores.now.store c.do_next.new.stores.store
-    c.drain-in-Ok.new.stores.store first c.drain-in-Ok.ensures.asked
+    let done = subst (λ (a : Result Verdict StoreFault). length c.do_next.new.self.progress.ledger.outcomes
+    ≡ length c.args.self.now.progress.ledger.outcomes + drained_count (drained_by a)) c.in-Ok.is
+    c.in_ok-verdict.ensures.done in
+    let both = subst (λ (a : Result Verdict StoreFault). KeepsBoth g.S.TakeStore g.J.Journal (is_err a)
+    c.args.self.now.progress.name c.args.stores.now.store c.do_next.new.stores.store c.args.stores.now.journal
+    c.do_next.new.stores.journal) c.in-Ok.is c.in_ok-verdict.ensures.both in
+    let run = c.drain-in-Ok.ensures.run in
+    let before = c.in_ok-verdict.ensures.calls in
+    let later = run.calls in
+    record {
+      both = both_then g.S.TakeStore g.J.Journal _ _ _ _ _ _ _ _ _ c.in_ok-verdict.ensures.take.name both run.both;
+      calls = omega (arith, done, before, later);
+      asked = run_after g.S.TakeStore c.drain-in-Ok.result (holding (part_of c.args.self.now) m)
+          (part_of c.do_next.new.self) (part_of c.drain-in-Ok.new.self) c.args.stores.now.store
+          c.do_next.new.stores.store c.drain-in-Ok.new.stores.store first run.asked;
+    }
 
-pub returns-in-Err-clause-asked : goal.returns-in-Err-clause-asked
-returns-in-Err-clause-asked g c =
+pub returns-in-Err-clause-run : goal.returns-in-Err-clause-run
+returns-in-Err-clause-run g c =
     let m : Message = message_of c.args.message.now in
-    run_tried g.S.TakeStore (holding (part_of c.args.self.now) m) (part_of c.do_next.new.self)
-    c.args.stores.now.store c.do_next.new.stores.store
-    (subst (λ (a : Result Verdict StoreFault). AsksNext g.S.TakeStore (drained_by a)
-    (holding (part_of c.args.self.now) m) c.args.stores.now.store (part_of c.do_next.new.self)
-    c.do_next.new.stores.store) c.in-Err.is c.in_ok-verdict.ensures.asked)
+    let done = subst (λ (a : Result Verdict StoreFault). length c.do_next.new.self.progress.ledger.outcomes
+    ≡ length c.args.self.now.progress.ledger.outcomes + drained_count (drained_by a)) c.in-Err.is
+    c.in_ok-verdict.ensures.done in
+    let before = c.in_ok-verdict.ensures.calls in
+    record {
+      both = subst (λ (a : Result Verdict StoreFault). KeepsBoth g.S.TakeStore g.J.Journal (is_err a)
+          c.args.self.now.progress.name c.args.stores.now.store c.do_next.new.stores.store c.args.stores.now.journal
+          c.do_next.new.stores.journal) c.in-Err.is c.in_ok-verdict.ensures.both;
+      calls = omega (arith, done, before);
+      asked = run_tried g.S.TakeStore (holding (part_of c.args.self.now) m) (part_of c.do_next.new.self)
+          c.args.stores.now.store c.do_next.new.stores.store
+          (subst (λ (a : Result Verdict StoreFault). AsksNext g.S.TakeStore (drained_by a)
+          (holding (part_of c.args.self.now) m) c.args.stores.now.store (part_of c.do_next.new.self)
+          c.do_next.new.stores.store) c.in-Err.is c.in_ok-verdict.ensures.asked);
+    }
+
+pub returns-in_err-admit-clause-refused : goal.returns-in_err-admit-clause-refused
+returns-in_err-admit-clause-refused g c =
+    let answer = err_from_is_err_and c.from_residual.result c.from_residual.ensures.1 in
+    rw answer.1 (record {
+      left = record { store = refl; journal = refl; progress = c.admit.ensures.progress; window = search rules };
+      refused = c.in_err-admit.ensures.refused;
+    })
+
+pub returns-in_err-verdict-clause-refused : goal.returns-in_err-verdict-clause-refused
+returns-in_err-verdict-clause-refused g c =
+    let answer = err_from_is_err_and c.from_residual-in_err-verdict.result c.from_residual-in_err-verdict.ensures.1 in
+    rw answer.1 c.in_err-verdict.ensures.refused

@@ -33,7 +33,7 @@ returns-in-Err-clause-answers g c = λ honest first log h.
     let m : Message = message_of c.args.message.now in
     let e = c.in-Err.ensures in
     let next : length c.serve.new.self.progress.ledger.outcomes ≡ log.done =
-    ap length e.progress.outcomes ∙ h.memory.done in
+    ap length e.refused.left.progress.outcomes ∙ h.memory.done in
     let told : map reply_of c.push.new.self.items ≡ notice m model.NoRoom log.done =
     ap (map reply_of) (c.push.ensures.items ∙ ap (λ (rs : List Reply). rs ++ c.notice.result ∷ []) e.untold)
     ∙ ap (λ (r : model.Reply). r ∷ []) (c.notice.ensures.value
@@ -42,13 +42,13 @@ returns-in-Err-clause-answers g c = λ honest first log h.
     (g.J.Journal.failures c.args.stores.now.journal) in
     subst (λ (j : _). Answers true false first log m before (failed_calls (g.S.TakeStore.failures c.serve.new.stores.store)
     (g.J.Journal.failures j)) c.push.new.self.items (part_of c.serve.new.self)
-    (g.S.TakeStore.contents c.serve.new.stores.store c.args.self.now.progress.name)) (sym e.journal)
+    (g.S.TakeStore.contents c.serve.new.stores.store c.args.self.now.progress.name)) (sym e.refused.left.journal)
     (subst (λ (s : _). Answers true false first log m before (failed_calls (g.S.TakeStore.failures s)
     (g.J.Journal.failures c.args.stores.now.journal)) c.push.new.self.items (part_of c.serve.new.self)
-    (g.S.TakeStore.contents s c.args.self.now.progress.name)) (sym e.store)
+    (g.S.TakeStore.contents s c.args.self.now.progress.name)) (sym e.refused.left.store)
     (answers_refused true false first log m refl refl before c.push.new.self.items (part_of c.serve.new.self) _
-    (e.refused first log _ h) told
-    (same_part first log c.args.self.now c.serve.new.self _ e.progress e.window h)))
+    (e.refused.refused first log _ h) told
+    (same_part first log c.args.self.now c.serve.new.self _ e.refused.left.progress e.refused.left.window h)))
 
 pub returns-in_default-clause-noted : goal.returns-in_default-clause-noted
 returns-in_default-clause-noted g c = λ honest honest_notes first log h stood noted.
@@ -75,10 +75,13 @@ returns-in-Err-clause-noted g c = λ honest honest_notes first log h stood noted
     (sym away)
     (subst (λ (n : ℕ). IsNoted (g.J.Journal.header c.args.stores.now.journal c.args.self.now.progress.name)
     c.args.self.now.progress.name log n
-    (g.J.Journal.notes c.serve.new.stores.journal c.args.self.now.progress.name)) (sym e.progress.noted)
+    (g.J.Journal.notes c.serve.new.stores.journal c.args.self.now.progress.name)) (sym e.refused.left.progress.noted)
     (subst (λ (j : _). IsNoted (g.J.Journal.header c.args.stores.now.journal c.args.self.now.progress.name)
     c.args.self.now.progress.name log c.args.self.now.progress.noted
-    (g.J.Journal.notes j c.args.self.now.progress.name)) (sym e.journal) noted))
+    (g.J.Journal.notes j c.args.self.now.progress.name)) (sym e.refused.left.journal) noted))
 
 pub returns-in_default-clause-uncalled : goal.returns-in_default-clause-uncalled
 returns-in_default-clause-uncalled g c = λ away. served_here c.serve.new.out.items c.in_default.ensures.told away
+
+pub returns-in-Err-clause-uncalled : goal.returns-in-Err-clause-uncalled
+returns-in-Err-clause-uncalled g c = λ away. c.in-Err.ensures.refused.left

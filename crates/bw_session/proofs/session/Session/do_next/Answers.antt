@@ -1,5 +1,6 @@
 use Rattle.std.proofs.Common.{◌≡◌, ◌+◌, ◌<◌, ◌≤◌, ℕ, List, Option, Some, [], ◌∷◌, ◌++◌, None, length, refl, sym, ◌∙◌}
-use Rattle.std.proofs.Common.{ap, subst, arith, drop}
+use Rattle.std.proofs.Common.{ap, rules, subst, arith, drop}
+use Rattle.std.proofs.lemmas.Result.{err_from_is_err_and}
 use Rattle.std.specs.Prelude.{is_some, slice_set}
 use Rattle.std.proofs.lemmas.List.{length_push}
 use Rattle.bw_model.specs.Take.{Verdict}
@@ -47,7 +48,7 @@ pub invariant_of-self : goal.invariant_of-self
 invariant_of-self g c =
     let kept = c.in_ok-room.ensures.progress in
     let more : length c.number_done.new.self.ledger.outcomes ≡ length c.args.self.now.progress.ledger.outcomes + 1 =
-    ap length c.in-Ok.ensures.outcomes
+    ap length c.in-Ok.ensures.kept.outcomes
     ∙ length_push c.make_room.new.self.progress.ledger.outcomes (c.args.digest, verdict_meaning c.in-Ok.verdict)
     ∙ ap (λ (x : List (List ℕ × Verdict)). length x + 1) kept.outcomes in
     record {
@@ -59,8 +60,8 @@ invariant_of-self g c =
           c.number_done.new.self.ledger.room c.args.self.now.window c.advance.new.self c.args.self.now.fits
           c.requires.free
           (c.advance.ensures ∙ ap (λ (w : List (Option (List ℕ))). drop 1 w ++ None ∷ []) c.in_ok-room.ensures.window)
-          more c.in_ok-room.ensures.storable c.in-Ok.ensures.room c.in_ok-room.ensures.keepable
-          c.in-Ok.ensures.places c.in-Ok.ensures.clean;
+          more c.in_ok-room.ensures.storable c.in-Ok.ensures.places.room c.in_ok-room.ensures.keepable
+          c.in-Ok.ensures.places.places c.in-Ok.ensures.kept.clean;
     }
 
 pub invariant_of-self-in-Err : goal.invariant_of-self-in-Err
@@ -84,13 +85,13 @@ invariant_of-self-in-Err g c =
           c.args.self.now.fits c.requires.free there
           (c.put.ensures ∙ ap (λ (w : List (Option (List ℕ))). slice_set w 0 (Some c.copy_to.result))
           c.in_ok-room.ensures.window)
-          (ap (λ (l : Entries). length l.outcomes) c.in-Err.ensures.stopped.0 ∙ ap length kept.outcomes)
-          (subst (λ (n : ℕ). count_held c.args.self.now.window + 1 ≤ n) (sym c.in-Err.ensures.stopped.2)
+          (ap (λ (l : Entries). length l.outcomes) c.in-Err.ensures.left.ledger ∙ ap length kept.outcomes)
+          (subst (λ (n : ℕ). count_held c.args.self.now.window + 1 ≤ n) (sym c.in-Err.ensures.left.room)
           c.in_ok-room.ensures.storable)
-          (subst (λ (l : Entries). count_held c.args.self.now.window + 1 ≤ l.room) (sym c.in-Err.ensures.stopped.0)
+          (subst (λ (l : Entries). count_held c.args.self.now.window + 1 ≤ l.room) (sym c.in-Err.ensures.left.ledger)
           c.in_ok-room.ensures.keepable)
           (omega (arith, number, next))
-          (λ dirty. subst (Touches c.number_done.new.self.state.parts) read (c.in-Err.ensures.again dirty));
+          (λ dirty. subst (Touches c.number_done.new.self.state.parts) read (c.in-Err.ensures.left.again dirty));
     }
 
 pub returns-in-Ok-clause-drained : goal.returns-in-Ok-clause-drained
@@ -123,8 +124,8 @@ returns-in-Ok-clause-drained g c = λ honest first log h.
           c.make_room.new.self.progress.ledger.outcomes (slice_set w 0 (Some (message_body m)))
           c.make_room.new.self.progress.growing _ held (verdict_meaning c.in-Ok.verdict)
           c.number_done.new.self.state.parts c.number_done.new.self.ledger.outcomes c.advance.new.self
-          c.number_done.new.self.growing _ (ap (λ (x : Growing). x.name) c.in-Ok.ensures.known)
-          c.in-Ok.ensures.clean
+          c.number_done.new.self.growing _ (ap (λ (x : Growing). x.name) c.in-Ok.ensures.places.known)
+          c.in-Ok.ensures.kept.clean
           (c.advance.ensures ∙ ap (λ (x : List (Option (List ℕ))). drop 1 x ++ None ∷ []) c.in_ok-room.ensures.window
           ∙ ap (λ (x : List (Option (List ℕ))). x ++ None ∷ []) (sym (passed_slot w (message_body m)))) done);
     }
@@ -200,7 +201,7 @@ returns-in-Err-clause-drained g c = λ honest first log h.
           c.make_room.new.self.progress.ledger.outcomes (slice_set w 0 (Some (message_body m)))
           c.make_room.new.self.progress.growing _ held c.number_done.new.self.state.parts
           c.number_done.new.self.ledger.outcomes (meaning c.request-request.result) c.number_done.new.self.growing _
-          front.0.here (ap (λ (x : Growing). x.name) c.in-Err.ensures.known)
+          front.0.here (ap (λ (x : Growing). x.name) c.in-Err.ensures.places.known)
           (c.in-Err.ensures.done honest first (with_message log m) front.0 front.1)));
     }
 
@@ -265,17 +266,17 @@ returns-in-Ok-clause-asked g c =
     c.args.stores.now.store c.number_done.new.stores.store) kept.parts
     (subst (λ (x : Growing). WasAsked g.S.TakeStore (judged_plan x c.make_room.new.self.progress.state.parts
     (meaning c.request-request.result) c.number_done.new.self.growing.made)
-    c.args.stores.now.store c.number_done.new.stores.store) kept.growing c.in-Ok.ensures.order))
-    (c.in-Ok.ensures.known ∙ ap (λ (x : Growing). record x {
+    c.args.stores.now.store c.number_done.new.stores.store) kept.growing c.in-Ok.ensures.asked.1.order))
+    (c.in-Ok.ensures.places.known ∙ ap (λ (x : Growing). record x {
       made = c.number_done.new.self.growing.made;
       dirty = c.number_done.new.self.growing.dirty;
     }) kept.growing)
-    c.in-Ok.ensures.clean
+    c.in-Ok.ensures.kept.clean
     (subst (λ (p : _). KeepsJudged p (meaning c.request-request.result) c.number_done.new.self.state.parts) kept.parts
-    c.in-Ok.ensures.kept)
-    (c.in-Ok.ensures.verdict ∙ ap (λ (p : _). judged_by p (meaning c.request-request.result)
+    c.in-Ok.ensures.kept.kept)
+    (c.in-Ok.ensures.kept.verdict ∙ ap (λ (p : _). judged_by p (meaning c.request-request.result)
     c.number_done.new.self.state.parts.taken) kept.parts)
-    (c.in-Ok.ensures.outcomes ∙ ap (λ (x : List (List ℕ × Verdict)).
+    (c.in-Ok.ensures.kept.outcomes ∙ ap (λ (x : List (List ℕ × Verdict)).
     x ++ (c.args.digest, verdict_meaning c.in-Ok.verdict) ∷ []) kept.outcomes)
     (c.advance.ensures ∙ ap (λ (x : List (Option (List ℕ))). drop 1 x ++ None ∷ []) c.in_ok-room.ensures.window
     ∙ ap (λ (x : List (Option (List ℕ))). x ++ None ∷ []) (sym (passed_slot w (message_body m)))))
@@ -301,15 +302,23 @@ returns-in-Err-clause-asked g c =
     (tries_first g.S.TakeStore a b c.args.stores.now.store c.number_done.new.stores.store (message_body m)
     (meaning c.request-request.result) (at-set_same w 0 (Some (message_body m)) there)
     (c.request-request.ensures.value ∙ ap (λ (x : List ℕ). (message_in x).request) said.spelled) (
-      c.in-Err.ensures.begun.0,
+      c.in-Err.ensures.asked.0,
       subst (λ (p : _). WasAskedFirst g.S.TakeStore (judged_plan c.args.self.now.progress.growing p
-          (meaning c.request-request.result) c.in-Err.ensures.begun.0)
+          (meaning c.request-request.result) c.in-Err.ensures.asked.0)
           c.args.stores.now.store c.number_done.new.stores.store) kept.parts
           (subst (λ (x : Growing). WasAskedFirst g.S.TakeStore (judged_plan x c.make_room.new.self.progress.state.parts
-          (meaning c.request-request.result) c.in-Err.ensures.begun.0)
-          c.args.stores.now.store c.number_done.new.stores.store) kept.growing c.in-Err.ensures.begun.1),
+          (meaning c.request-request.result) c.in-Err.ensures.asked.0)
+          c.args.stores.now.store c.number_done.new.stores.store) kept.growing c.in-Err.ensures.asked.1.begun),
     )
-    (ap (λ (l : Entries). l.outcomes) c.in-Err.ensures.stopped.0 ∙ kept.outcomes)
+    (ap (λ (l : Entries). l.outcomes) c.in-Err.ensures.left.ledger ∙ kept.outcomes)
     (c.put.ensures
     ∙ ap (λ (x : List (Option (List ℕ))). slice_set x 0 (Some c.copy_to.result)) c.in_ok-room.ensures.window
     ∙ ap (λ (b : List ℕ). slice_set w 0 (Some b)) c.copy_to.ensures))
+
+pub returns-in_err-room-clause-refused : goal.returns-in_err-room-clause-refused
+returns-in_err-room-clause-refused g c =
+    let answer = err_from_is_err_and c.from_residual.result c.from_residual.ensures.1 in
+    rw answer.1 (record {
+      left = record { store = refl; journal = refl; progress = search rules; window = search rules };
+      refused = search rules;
+    })

@@ -98,29 +98,49 @@ loop-slot-preserved g c =
           stood (loop.noted honest honest_notes first log h stood noted));
     }
 
-pub returns-in-Idle-clause-asked : goal.returns-in-Idle-clause-asked
-returns-in-Idle-clause-asked g c = record {
-  count = c.loop-slot.invariant.asked.0;
-  last = part_of c.loop-slot.self;
-  reached = c.loop-slot.stores.store;
-  done = c.loop-slot.invariant.asked.1;
-  end = c.in-Idle.ensures.asked;
-}
+pub returns-in-Idle-clause-run : goal.returns-in-Idle-clause-run
+returns-in-Idle-clause-run g c =
+    let loop = c.loop-slot.invariant in
+    record {
+      both = both_then g.S.TakeStore g.J.Journal _ _ _ _ _ _ _ _ _ loop.take.name loop.both c.in-Idle.ensures.both;
+      calls = let before = loop.calls in let now = c.in-Idle.ensures.calls in let done = c.in-Idle.ensures.done in
+          omega (arith, done, before, now);
+      asked = record {
+        count = loop.asked.0;
+        last = part_of c.loop-slot.self;
+        reached = c.loop-slot.stores.store;
+        done = loop.asked.1;
+        end = c.in-Idle.ensures.asked;
+      };
+    }
 
-pub returns-in-Stopped-clause-asked : goal.returns-in-Stopped-clause-asked
-returns-in-Stopped-clause-asked g c = record {
-  count = c.loop-slot.invariant.asked.0;
-  last = part_of c.loop-slot.self;
-  reached = c.loop-slot.stores.store;
-  done = c.loop-slot.invariant.asked.1;
-  end = c.in-Stopped.ensures.asked;
-}
+pub returns-in-Stopped-clause-run : goal.returns-in-Stopped-clause-run
+returns-in-Stopped-clause-run g c =
+    let loop = c.loop-slot.invariant in
+    record {
+      both = both_then g.S.TakeStore g.J.Journal _ _ _ _ _ _ _ _ _ loop.take.name loop.both c.in-Stopped.ensures.both;
+      calls = let before = loop.calls in let now = c.in-Stopped.ensures.calls in let done = c.in-Stopped.ensures.done in
+          omega (arith, done, before, now);
+      asked = record {
+        count = loop.asked.0;
+        last = part_of c.loop-slot.self;
+        reached = c.loop-slot.stores.store;
+        done = loop.asked.1;
+        end = c.in-Stopped.ensures.asked;
+      };
+    }
 
-pub returns-clause-asked : goal.returns-clause-asked
-returns-clause-asked g c = record {
-  count = c.loop-slot.invariant.asked.0;
-  last = part_of c.loop-slot.self;
-  reached = c.loop-slot.stores.store;
-  done = c.loop-slot.invariant.asked.1;
-  end = (refl, refl);
-}
+pub returns-clause-run : goal.returns-clause-run
+returns-clause-run g c =
+    let loop = c.loop-slot.invariant in
+    record {
+      both = loop.both;
+      calls = loop.calls;
+      asked = record {
+        count = loop.asked.0;
+        last = part_of c.loop-slot.self;
+        reached = c.loop-slot.stores.store;
+        done = loop.asked.1;
+        end = (refl, refl);
+      };
+    }

@@ -25,8 +25,8 @@ use Rattle.bw_session.proofs.session.Session.serve.Goals as goal
 pub returns-then-done-len-clause-both : goal.returns-then-done-len-clause-both
 returns-then-done-len-clause-both g c = (
   c.drain.result,
-  c.drain.ensures.both,
-  c.drain.ensures.calls,
+  c.drain.ensures.run.both,
+  c.drain.ensures.run.calls,
   timely_push c.drain.result c.drain.new.out.items c.push.new.self.items c.notice.result c.push.ensures.items
       (timely_any c.drain.result c.drain.new.out.items
       (c.drain.ensures.timely (all_none (IsTimely false) c.args.out.now.items c.requires.empty)))
@@ -36,8 +36,8 @@ returns-then-done-len-clause-both g c = (
 pub returns-in-Some-clause-both : goal.returns-in-Some-clause-both
 returns-in-Some-clause-both g c = (
   c.in_ok-stopped.stopped,
-  c.in_ok-stopped.ensures.both,
-  c.in_ok-stopped.ensures.calls,
+  c.in_ok-stopped.ensures.run.both,
+  c.in_ok-stopped.ensures.run.calls,
   timely_push c.in_ok-stopped.stopped c.admit_and_drain.new.out.items c.push-in-Some.new.self.items c.in-Some.reply
       c.push-in-Some.ensures.items
       (timely_any c.in_ok-stopped.stopped c.admit_and_drain.new.out.items c.in_ok-stopped.ensures.timely)
@@ -47,8 +47,8 @@ returns-in-Some-clause-both g c = (
 pub returns-in_default-clause-both : goal.returns-in_default-clause-both
 returns-in_default-clause-both g c = (
   c.in_ok-stopped.stopped,
-  c.in_ok-stopped.ensures.both,
-  c.in_ok-stopped.ensures.calls,
+  c.in_ok-stopped.ensures.run.both,
+  c.in_ok-stopped.ensures.run.calls,
   timely_any c.in_ok-stopped.stopped c.admit_and_drain.new.out.items c.in_ok-stopped.ensures.timely,
 )
 
@@ -72,7 +72,7 @@ returns-then-done-len-clause-served g c = λ honest first log h.
     ∙ sym (own_far (is_some first) (admitted_after log m) log.done
     (length c.drain.new.self.progress.ledger.outcomes) (run_end (admitted_after log m) log.done) m
     (omega (arith, past, done))))
-    c.drain.ensures.both.failures
+    c.drain.ensures.run.both.failures
 
 pub returns-then-done-len-clause-noted : goal.returns-then-done-len-clause-noted
 returns-then-done-len-clause-noted g c = λ honest honest_notes first log h stood noted.
@@ -108,7 +108,7 @@ returns-in-Some-clause-served g c = λ honest first log h.
     (c.in-Some.ensures.value first (with_message log m) c.admit_and_drain.new.out.items _ ended (sym done) (search rules)
     ∙ ap (λ (n : ℕ). own_reply (is_some first) (admitted_after log m) n
     (length c.admit_and_drain.new.self.progress.ledger.outcomes) (run_end (admitted_after log m) n) m) done)
-    c.in_ok-stopped.ensures.both.failures
+    c.in_ok-stopped.ensures.run.both.failures
 
 pub returns-in-Some-clause-noted : goal.returns-in-Some-clause-noted
 returns-in-Some-clause-noted g c = λ honest honest_notes first log h stood noted.
@@ -133,7 +133,7 @@ returns-in_default-clause-served g c = λ honest first log h.
     (c.in_default.ensures.value first (with_message log m) c.admit_and_drain.new.out.items _ ended (sym done) (search rules)
     ∙ ap (λ (n : ℕ). own_reply (is_some first) (admitted_after log m) n
     (length c.admit_and_drain.new.self.progress.ledger.outcomes) (run_end (admitted_after log m) n) m) done)
-    c.in_ok-stopped.ensures.both.failures
+    c.in_ok-stopped.ensures.run.both.failures
 
 pub returns-in_default-clause-noted : goal.returns-in_default-clause-noted
 returns-in_default-clause-noted g c = λ honest honest_notes first log h stood noted.
@@ -156,11 +156,11 @@ returns-then-done-len-clause-asked g c =
     inl (
       c.drain.result,
       subst (λ (a : Part). DoesRun g.S.TakeStore c.drain.result a c.args.stores.now.store (part_of c.drain.new.self)
-          c.drain.new.stores.store) (sym (holding_far (part_of c.args.self.now) m past)) c.drain.ensures.asked,
+          c.drain.new.stores.store) (sym (holding_far (part_of c.args.self.now) m past)) c.drain.ensures.run.asked,
     )
 
 pub returns-in-Some-clause-asked : goal.returns-in-Some-clause-asked
-returns-in-Some-clause-asked g c = inl (c.in_ok-stopped.stopped, c.in_ok-stopped.ensures.asked)
+returns-in-Some-clause-asked g c = inl (c.in_ok-stopped.stopped, c.in_ok-stopped.ensures.run.asked)
 
 pub returns-in_default-clause-asked : goal.returns-in_default-clause-asked
-returns-in_default-clause-asked g c = inl (c.in_ok-stopped.stopped, c.in_ok-stopped.ensures.asked)
+returns-in_default-clause-asked g c = inl (c.in_ok-stopped.stopped, c.in_ok-stopped.ensures.run.asked)
