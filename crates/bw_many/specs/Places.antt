@@ -15,6 +15,10 @@ count_of m = vec_len m.places
 abbrev pub begun_of : {L : Type 0} → Many L → ℕ
 begun_of m = m.next
 
+-- how many links were refused, since no connection could be begun over them
+abbrev pub refused_of : {L : Type 0} → Many L → ℕ
+refused_of m = m.refused
+
 -- the first at which no connection stands, if there is one
 abbrev pub first_free : {L : Type 0} → Many L → Option ℕ
 first_free m = position is_none m.places.items

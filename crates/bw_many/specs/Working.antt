@@ -4,6 +4,7 @@ use Rattle.std.specs.Prelude.{List, [], length, slice_get}
 use Rattle.bw_model.specs.Wire.{Frame}
 use Rattle.bw_model.specs.Replies.{Reply}
 use Rattle.bw_exchange.specs.Answering.{Answered, AnswersAll}
+use Rattle.bw_stream.specs.Moves.{one_more}
 use Rattle.bw_wire.specs.declared.fault.WireFault.{WireFault}
 use Rattle.bw_many.specs.declared.connection.Connection.{Connection}
 use Rattle.bw_many.specs.declared.connection.Phase.TheVariants as phases
@@ -13,16 +14,17 @@ use Rattle.bw_many.specs.declared.many.Many.{Many}
 use Rattle.bw_many.specs.Keeping.{Adds, StandsAt, tagged, those}
 use Rattle.bw_many.specs.Lives.{Begins, EndsDrained, EndsServed, IsNoSilence, IsOpen, KeepsPeer}
 use Rattle.bw_many.specs.Lives.{IsFinished, Learns, LetsGo, Moved, Stays, quantum, quiet_since}
-use Rattle.bw_many.specs.Places.{begun_of, count_of}
+use Rattle.bw_many.specs.Places.{begun_of, count_of, refused_of}
 
 -- the other places are as they were
 pub record LeavesOthers {L : Type 0} (place : ℕ) (m m' : Many L) : Type 0 where
   pub others : (j : ℕ) → j ≢ place → slice_get m'.places.items j ≡ slice_get m.places.items j
   pub count : count_of m' ≡ count_of m
 
--- .. and no connection was begun
+-- .. and no connection was begun, and no link refused
 abbrev pub StaysAt : {L : Type 0} → ℕ → Many L → Many L → Type 0
-StaysAt place m m' = LeavesOthers place m m' × (begun_of m' ≡ begun_of m)
+StaysAt place m m' =
+    LeavesOthers place m m' × (begun_of m' ≡ begun_of m) × (refused_of m' ≡ refused_of m)
 
 -- who stands there now stood there before, as it is
 abbrev pub StoodAt : {L : Type 0} → ℕ → Many L → Many L → Type 0
@@ -49,6 +51,13 @@ pub record BeginsAt {L : Type 0} (place : ℕ) (link : L) (now : ℕ) (m m' : Ma
   pub there : StandsAt m' place connection
   pub begins : Begins link m.next now connection
   pub next : m'.next ≡ m.next + 1
+  pub refused : refused_of m' ≡ refused_of m
+
+-- no connection could be begun over a link, which is counted; nothing else changed
+pub record Refuses {L : Type 0} (m m' : Many L) : Type 0 where
+  pub places : m'.places ≡ m.places
+  pub begun : begun_of m' ≡ begun_of m
+  pub refused : refused_of m' ≡ one_more (refused_of m)
 
 -- there may be bytes again, or room
 pub record Wakes {L : Type 0} (bytes room : Bool) (c c' : Connection L) : Type 0 where

@@ -59,14 +59,16 @@ fn put_at<L: Drop>(places: &mut Vec<Option<Connection<L>>>, place: usize, connec
 pub struct Many<L> {
     places: Vec<Option<Connection<L>>>,
     next: u64,
+    /// Stays at 2^64 - 1.
+    refused: u64,
 }
 
 impl<L: Link + Drop> Many<L> {
     ghost use Rattle.bw_many.specs.Keeping.{Keeps, Adds, IsFree, those};
-    ghost use Rattle.bw_many.specs.Working.{BeginsAt, EndsIts, IsEmpty, LeavesOthers, StaysAt, StoodAt};
-    ghost use Rattle.bw_many.specs.Working.{StoodUnder, WakesAt, WorksAt};
+    ghost use Rattle.bw_many.specs.Working.{BeginsAt, EndsIts, IsEmpty, LeavesOthers, Refuses, StaysAt};
+    ghost use Rattle.bw_many.specs.Working.{StoodAt, StoodUnder, WakesAt, WorksAt};
     ghost use Rattle.bw_many.specs.Places.{begun_of, count_of, can_go_on_at, end_told, expired_there};
-    ghost use Rattle.bw_many.specs.Places.{first_free};
+    ghost use Rattle.bw_many.specs.Places.{first_free, refused_of};
 
     /// So many places, at none of which a connection stands.
     ///
@@ -79,12 +81,17 @@ impl<L: Link + Drop> Many<L> {
         ensures keeps { IfOk result (λ m. Keeps L.Link m [] []) }
         ensures count { IfOk result (λ m. count_of m ≡ count) }
         ensures begun { IfOk result (λ m. begun_of m ≡ 0) }
+        ensures refused { IfOk result (λ m. refused_of m ≡ 0) }
     {
         let mut places = Vec::with_capacity(alloc, count)?;
         for _place in 0..count {
             places.push(None)?;
         }
-        Ok(Many { places, next: 0 })
+        Ok(Many {
+            places,
+            next: 0,
+            refused: 0,
+        })
     }
 
     /// How many places there are.
@@ -99,6 +106,14 @@ impl<L: Link + Drop> Many<L> {
         ensures { result ≡ begun_of self.now }
     {
         self.next
+    }
+
+    /// How many links were refused, since no connection could be begun over them. Stays at
+    /// 2^64 - 1.
+    pub fn refused(&self) -> u64
+        ensures { result ≡ refused_of self.now }
+    {
+        self.refused
     }
 
     /// The first place at which no connection stands, if there is one.
@@ -122,8 +137,8 @@ impl<L: Link + Drop> Many<L> {
     /// Begins a connection at a free place, at a time in milliseconds.
     ///
     /// # Errors
-    /// `NumbersSpent` after 2^64 - 1 connections; else `Memory`, where memory was refused. Nothing
-    /// changed, and the link is closed.
+    /// `NumbersSpent` after 2^64 - 1 connections; else `Memory`, where memory was refused. The link
+    /// is closed and counted as refused, and nothing else changed.
     ///
     /// # Not specified
     /// When memory is refused.
@@ -140,14 +155,16 @@ impl<L: Link + Drop> Many<L> {
         ensures adds { Adds L.Link self.old [] [] self.new }
         ensures begins { OnOk result (BeginsAt place link now self.old self.new) }
         ensures others { LeavesOthers place self.old self.new }
-        ensures err { OnErr result (self.new ≡ self.old) }
+        ensures err { OnErr result (Refuses self.old self.new) }
         ensures spent { result ≡ Err BeginError.NumbersSpent → 2 ^ 64 ≤ self.old.next + 1 }
         ensures memory { result ≡ Err BeginError.Memory → self.old.next + 1 < 2 ^ 64 }
     {
         let Some(next) = self.next.checked_add(1) else {
+            self.refused = self.refused.saturating_add(1);
             return Err(BeginError::NumbersSpent);
         };
         let Ok(connection) = Connection::new(alloc, link, self.next, now) else {
+            self.refused = self.refused.saturating_add(1);
             return Err(BeginError::Memory);
         };
         put_at(&mut self.places, place, connection);

@@ -107,6 +107,8 @@ impl Lobby for TcpLobby<'_> {
 
     ghost nobody = { λ _. ⊤ };
 
+    ghost admitted = { λ _ _. ⊤ };
+
     fn wait(&mut self, most: u64) -> Result<(), WaitFault> {
         self.seen = 0;
         self.patience = most;

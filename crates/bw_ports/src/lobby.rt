@@ -3,6 +3,7 @@ ghost use Rattle.std.specs.Prelude.{◌≡◌, ◌++◌, ◌+◌, ℕ, List, IfO
 ghost use Rattle.bw_stream.specs.Moves.{failures_after, one_more};
 ghost use Rattle.bw_ports.specs.Lobbies.{closes_after, those};
 ghost use Rattle.bw_ports.specs.declared.lobby.Ready.{Ready};
+ghost use Rattle.bw_serve.specs.Lobbies.{Admission, admitted_by};
 
 use crate::link::Link;
 use std::net::SocketAddr;
@@ -81,6 +82,10 @@ pub trait Lobby {
     /// Nobody may wait to be let in.
     ghost nobody: { Self → Type 0 };
 
+    /// These may be all links that it gave so far, in order, each behind the place that it was given
+    /// for.
+    ghost admitted: { Self → List (Admission Self.Link) → Type 0 };
+
     /// Waits until a peer comes or a link can go on, no longer than so many milliseconds.
     ///
     /// # Errors
@@ -93,7 +98,9 @@ pub trait Lobby {
         ensures waits { OnOk result (waits self.new ≡ one_more (waits self.old)) }
         ensures patience { patience self.new ≡ most }
         ensures told { OnOk result (told self.new []) }
-        ensures tried { OnOk result (tried self.new 0) };
+        ensures tried { OnOk result (tried self.new 0) }
+        ensures admitted { (xs : List (Admission Self.Link)) → admitted self.old xs →
+            admitted self.new xs };
 
     /// The next of the links that could go on when it was last waited, if there is one.
     ///
@@ -105,7 +112,9 @@ pub trait Lobby {
         ensures patience { patience self.new ≡ patience self.old }
         ensures told { (rs : List Ready) → told self.old rs → told self.new (rs ++ those result) }
         ensures none { result ≡ None → all_told self.new }
-        ensures tried { (n : ℕ) → tried self.old n → tried self.new n };
+        ensures tried { (n : ℕ) → tried self.old n → tried self.new n }
+        ensures admitted { (xs : List (Admission Self.Link)) → admitted self.old xs →
+            admitted self.new xs };
 
     /// Lets in the next peer, under a place by which its link is named from now on.
     ///
@@ -127,7 +136,9 @@ pub trait Lobby {
         ensures told { (rs : List Ready) → told self.old rs → told self.new rs }
         ensures all_told { all_told self.old → all_told self.new }
         ensures tried { (n : ℕ) → tried self.old n → tried self.new (n + 1) }
-        ensures nobody { result ≡ Err TryAcceptFault.Nobody → nobody self.new };
+        ensures nobody { result ≡ Err TryAcceptFault.Nobody → nobody self.new }
+        ensures admitted { (xs : List (Admission Self.Link)) → admitted self.old xs →
+            admitted self.new (xs ++ admitted_by place result) };
 
     /// The time, in milliseconds since some start. Where it can't be told, the last one.
     ///
@@ -140,5 +151,7 @@ pub trait Lobby {
         ensures patience { patience self.new ≡ patience self.old }
         ensures told { (rs : List Ready) → told self.old rs → told self.new rs }
         ensures all_told { all_told self.old → all_told self.new }
-        ensures tried { (n : ℕ) → tried self.old n → tried self.new n };
+        ensures tried { (n : ℕ) → tried self.old n → tried self.new n }
+        ensures admitted { (xs : List (Admission Self.Link)) → admitted self.old xs →
+            admitted self.new xs };
 }

@@ -14,7 +14,7 @@ use Rattle.bw_many.specs.declared.many.Closed.{Closed}
 use Rattle.bw_many.specs.declared.many.Many.{Many}
 use Rattle.bw_many.specs.Keeping.{Adds, IsFree, Keeps, Sets, StandsAt, Tagged, own, tagged}
 use Rattle.bw_many.specs.Lives.{KeepsPeer}
-use Rattle.bw_many.specs.Working.{BeginsAt, IsEmpty, LeavesOthers, StoodUnder}
+use Rattle.bw_many.specs.Working.{BeginsAt, IsEmpty, LeavesOthers, Refuses, StoodUnder}
 use Rattle.bw_many.proofs.Standing.{not_some, own-append, own-more, some_is}
 use Rattle.bw_exchange.specs.LinkCounts.{Counted, none_counted, with_frame}
 use Rattle.bw_serve.specs.LinkLines.{Logs, peer_line}
@@ -158,7 +158,7 @@ counts_stood {L} G place a b trace same stood others c i d at = go (eqb_tells i 
 pub counts_seated : {L : Type 0} (G : LinkGhosts L) (place now : ℕ) (link : L) (a b : Crowd L) (x : Seat)
     (r : Result (Unit {0}) BeginError) → Sets a.seats.items place x b.seats.items → x.tally ≡ none_counted →
     G.calls_from link x.address → IsFree a.many place → OnOk r (BeginsAt place link now a.many b.many) →
-    OnErr r (b.many ≡ a.many) → LeavesOthers place a.many b.many → (over : List (Closed L)) (trace : List Tagged) →
+    OnErr r (Refuses a.many b.many) → LeavesOthers place a.many b.many → (over : List (Closed L)) (trace : List Tagged) →
     Keeps G a.many over trace → CountsOwn G a trace → CountsOwn G b trace
 counts_seated {L} G place now link a b x r sets none from free begins refused others over trace k c i d at =
     go (eqb_tells i place)
@@ -177,10 +177,10 @@ counts_seated {L} G place now link a b x r sets none from free begins refused ot
         }
 
     here : (q : Result (Unit {0}) BeginError) → OnOk q (BeginsAt place link now a.many b.many) →
-        OnErr q (b.many ≡ a.many) → StandsAt b.many place d → SeatOf G b trace place d
+        OnErr q (Refuses a.many b.many) → StandsAt b.many place d → SeatOf G b trace place d
     here (Ok y) n same there = begun n there
     here (Err y) n same there =
-        absurd (not_some d (some_is None (Some d) (sym free ∙ subst (λ m. StandsAt m place d) same there)))
+        absurd (not_some d (some_is None (Some d) (sym free ∙ (ap (λ p. slice_get p.items place) (sym same.places) ∙ there))))
 
     go : (((i == place) ≡ true) × (i ≡ place)) ⊎ (((i == place) ≡ false) × (i ≢ place)) → SeatOf G b trace i d
     go (inl y) =

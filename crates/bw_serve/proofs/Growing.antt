@@ -16,8 +16,12 @@ use Rattle.bw_many.specs.Places.{begun_of, can_go_on_at}
 use Rattle.bw_many.specs.Working.{StaysAt, StoodAt, StoodUnder}
 use Rattle.bw_exchange.specs.LinkCounts.{up_to_last}
 use Rattle.bw_serve.specs.Crowds.{Advances, Counts, Grows, HasSeats, InTurn, ServesPlace, Stays, can_go_on_below}
+use Rattle.bw_serve.specs.Crowds.{ended_in_turn, frames_in_turn}
+use Rattle.bw_serve.specs.Admissions.{HostsAll, HostsMore}
+use Rattle.bw_serve.specs.Lobbies.{Admission}
 use Rattle.bw_serve.specs.Lines.{TellsEnds}
 use Rattle.bw_serve.specs.declared.crowd.Crowd.{Crowd}
+use Rattle.bw_serve.proofs.Admitting.{hosts_more_still, hosts_more_then, hosts_served}
 use Rattle.bw_serve.proofs.Counting.{counts_stood, tells_none, tells_then}
 
 -- one of the first can go on
@@ -55,7 +59,7 @@ adds_still G a over trace k =
     (subst (λ (t : List Tagged). Keeps G a over t) (sym (append-nil trace)) k)
 
 pub stays_still : {L : Type 0} (place : ℕ) (m : Many L) → StaysAt place m m
-stays_still place m = (record { others = λ j other. refl; count = refl }, refl)
+stays_still place m = (record { others = λ j other. refl; count = refl }, refl, refl)
 
 pub stood_still : {L : Type 0} (place : ℕ) (m : Many L) → StoodAt place m m
 stood_still place m c at = at
@@ -124,36 +128,47 @@ stays_woken G place a b adds stood stays seats ended = record {
     ended = ended;
   };
   begun = stays.1;
+  refused = stays.2;
 }
 
 pub stays_then : {L : Type 0} (G : LinkGhosts L) (a b c : Crowd L) → Stays G a b → Stays G b c → Stays G a c
-stays_then G a b c f g = record { grows = grows_then G a b c f.grows g.grows; begun = g.begun ∙ f.begun }
+stays_then G a b c f g = record {
+  grows = grows_then G a b c f.grows g.grows;
+  begun = g.begun ∙ f.begun;
+  refused = g.refused ∙ f.refused;
+}
 
 module _ {L S O E : Type 0} (G : LinkGhosts L) (answers : S → Frame → List Reply → S → Type 0) (out : Writer O)
     (told : Writer E) (log : Bool) where
-  pub advances_none : (a b : Crowd L) (s : S) (o : O) (e : E) → Grows G a b →
-      Advances G answers out told log a b s s o o e e
-  advances_none a b s o e g = record {
-    more = [];
-    closed = [];
+  -- nothing was answered, and nobody's connection ended
+  pub advances_grown : (links : List (Admission L)) (a b : Crowd L) (s : S) (o : O) (e : E) → Grows G a b →
+      HostsMore G a.many links [] b.many → Advances G answers out told log [] [] links a b s s o o e e
+  advances_grown links a b s o e g hosts = record {
     by_server = refl;
     adds = g.adds;
     prints = counts_none out a b o g.ended;
     tells = tells_none G told log a b e g;
+    hosts = hosts;
   }
 
-  pub advances_then : (a b c : Crowd L) (s t u : S) (o p q : O) (e f g : E) →
-      Advances G answers out told log a b s t o p e f → Advances G answers out told log b c t u p q f g →
-      Advances G answers out told log a c s u o q e g
-  advances_then a b c s t u o p q e f g x y = record {
-    more = x.more ++ y.more;
-    closed = x.closed ++ y.closed;
-    by_server = subst (λ (xs : List Answered). AnswersAll answers s xs u)
-        (sym (map-append (λ (x : Tagged). x.1) x.more y.more))
-        (answers_append answers (all_answered x.more) (all_answered y.more) s t u x.by_server y.by_server);
-    adds = adds_then G a.many b.many c.many x.more y.more x.closed y.closed x.adds y.adds;
-    prints = counts_then out a b c x.closed y.closed o p q x.prints y.prints;
-    tells = tells_then G told log a b c x.more y.more x.closed y.closed e f g x.adds x.tells y.tells;
+  -- nothing happened
+  pub advances_none : (a : Crowd L) (s : S) (o : O) (e : E) →
+      Advances G answers out told log [] [] [] a a s s o o e e
+  advances_none a s o e = advances_grown [] a a s o e (grows_still G a) (hosts_more_still G a.many a.many []
+      (λ over trace links k h. subst (λ (l : List (Closed L)). HostsAll G a.many l links) (sym (append-nil over)) h))
+
+  pub advances_then : (a b c : Crowd L) (xs ys : List Tagged) (us vs : List (Closed L)) (ks ls : List (Admission L))
+      (s t u : S) (o p q : O) (e f g : E) →
+      Advances G answers out told log xs us ks a b s t o p e f → Advances G answers out told log ys vs ls b c t u p q f g →
+      Advances G answers out told log (xs ++ ys) (us ++ vs) (ks ++ ls) a c s u o q e g
+  advances_then a b c xs ys us vs ks ls s t u o p q e f g x y = record {
+    by_server = subst (λ (zs : List Answered). AnswersAll answers s zs u)
+        (sym (map-append (λ (x : Tagged). x.1) xs ys))
+        (answers_append answers (all_answered xs) (all_answered ys) s t u x.by_server y.by_server);
+    adds = adds_then G a.many b.many c.many xs ys us vs x.adds y.adds;
+    prints = counts_then out a b c us vs o p q x.prints y.prints;
+    tells = tells_then G told log a b c xs ys us vs e f g x.adds x.tells y.tells;
+    hosts = hosts_more_then G a.many b.many c.many ks ls us vs xs x.adds x.hosts y.hosts;
   }
 
   answered_by : (n : ℕ) (xs : List Answered) → all_answered (tagged n xs) ≡ xs
@@ -161,16 +176,18 @@ module _ {L S O E : Type 0} (G : LinkGhosts L) (answers : S → Frame → List R
   answered_by n (x ∷ xs) = ap (λ (ys : List Answered). x ∷ ys) (answered_by n xs)
 
   -- what a quantum at a place adds
-  pub place_advances : (now idle place : ℕ) (a b : Crowd L) (s t : S) (o p : O) (e f : E) →
-      ServesPlace G answers out told log now idle place a b s t o p e f → Advances G answers out told log a b s t o p e f
+  pub place_advances : (now idle place : ℕ) (a b : Crowd L) (s t : S) (o p : O) (e f : E)
+      (x : ServesPlace G answers out told log now idle place a b s t o p e f) →
+      Advances G answers out told log (tagged x.works.number x.works.answered) x.closed [] a b s t o p e f
   place_advances now idle place a b s t o p e f x = record {
-    more = tagged x.works.number x.works.answered;
-    closed = x.closed;
     by_server = subst (λ (xs : List Answered). AnswersAll answers s xs t)
         (sym (answered_by x.works.number x.works.answered)) x.works.by_server;
     adds = x.adds;
     prints = x.prints;
     tells = x.tells;
+    hosts = hosts_more_still G a.many b.many x.closed (λ over trace links k h.
+        hosts_served G place a.many b.many x.closed over trace (tagged x.works.number x.works.answered) links x.stays
+        x.stood x.whose k (x.adds over trace k) h);
   }
 
   pub turn_more : (now idle n : ℕ) (a b c : Crowd L) (s t u : S) (o p q : O) (e f g : E) →
@@ -194,14 +211,19 @@ module _ {L S O E : Type 0} (G : LinkGhosts L) (answers : S → Frame → List R
       x.5.seats_are ∙ (turn_seats now idle n a x.0 s x.1 o x.2 e x.3 x.4 h ∙ sym x.5.stays.0.count)
 
   -- and what one at each of the first places adds
-  pub turn_advances : (now idle n : ℕ) (a b : Crowd L) (s t : S) (o p : O) (e f : E) →
-      InTurn G answers out told log now idle n a b s t o p e f → Advances G answers out told log a b s t o p e f
+  pub turn_advances : (now idle n : ℕ) (a b : Crowd L) (s t : S) (o p : O) (e f : E)
+      (x : InTurn G answers out told log now idle n a b s t o p e f) →
+      Advances G answers out told log (frames_in_turn G answers out told log now idle n a b s t o p e f x)
+      (ended_in_turn G answers out told log now idle n a b s t o p e f x) [] a b s t o p e f
   turn_advances now idle zero a b s t o p e f x =
-      subst (λ (c : Crowd L). Advances G answers out told log a c s t o p e f) (sym x.0)
-      (subst (λ (u : S). Advances G answers out told log a a s u o p e f) (sym x.1)
-      (subst (λ (q : O). Advances G answers out told log a a s s o q e f) (sym x.2)
-      (subst (λ (g : E). Advances G answers out told log a a s s o o e g) (sym x.3)
-      (advances_none a a s o e (grows_still G a)))))
+      subst (λ (c : Crowd L). Advances G answers out told log [] [] [] a c s t o p e f) (sym x.0)
+      (subst (λ (u : S). Advances G answers out told log [] [] [] a a s u o p e f) (sym x.1)
+      (subst (λ (q : O). Advances G answers out told log [] [] [] a a s s o q e f) (sym x.2)
+      (subst (λ (g : E). Advances G answers out told log [] [] [] a a s s o o e g) (sym x.3)
+      (advances_none a s o e))))
   turn_advances now idle (suc n) a b s t o p e f x =
-      advances_then a x.0 b s x.1 t o x.2 p e x.3 f (turn_advances now idle n a x.0 s x.1 o x.2 e x.3 x.4)
+      advances_then a x.0 b (frames_in_turn G answers out told log now idle n a x.0 s x.1 o x.2 e x.3 x.4)
+      (tagged x.5.works.number x.5.works.answered)
+      (ended_in_turn G answers out told log now idle n a x.0 s x.1 o x.2 e x.3 x.4) x.5.closed [] []
+      s x.1 t o x.2 p e x.3 f (turn_advances now idle n a x.0 s x.1 o x.2 e x.3 x.4)
       (place_advances now idle n x.0 b x.1 t x.2 p x.3 f x.5)

@@ -1,4 +1,5 @@
 mod Counting
+mod Admitting
 mod Growing
 mod Noticing
 mod Rounds

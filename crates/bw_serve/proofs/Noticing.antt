@@ -25,21 +25,24 @@ or_then false false true = refl
 or_then false false false = refl
 
 -- nobody was told of
+pub wakes_none : {L : Type 0} (c : Crowd L) → WakesEach [] c c
+wakes_none c i d at = (
+  d,
+  at,
+  record {
+    readable = or_false d.readable;
+    writable = or_false d.writable;
+    link = refl;
+    exchange = refl;
+    stays = record { number = refl; phase = refl; since = refl };
+  },
+)
+
 notices_none : {B K L : Type 0} (lobby : LobbyGhosts B K) (b : B) (c : Crowd L) → Notices lobby b b c c
 notices_none lobby b c = record {
   told = [];
   more = λ rs was. subst (lobby.told b) (sym (append-nil rs)) was;
-  each = λ i d at. (
-    d,
-    at,
-    record {
-      readable = or_false d.readable;
-      writable = or_false d.writable;
-      link = refl;
-      exchange = refl;
-      stays = record { number = refl; phase = refl; since = refl };
-    },
-  );
+  each = wakes_none c;
 }
 
 -- one more step of one that was woken

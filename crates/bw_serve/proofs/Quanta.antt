@@ -20,6 +20,7 @@ use Rattle.bw_many.specs.Places.{end_told, expired_there}
 use Rattle.bw_many.specs.Working.{EndsIts, IsEmpty, StaysAt, StoodAt, StoodUnder}
 use Rattle.bw_many.proofs.Standing.{not_some, own-kept, some_is}
 use Rattle.bw_exchange.specs.LinkCounts.{with_frame}
+use Rattle.bw_serve.specs.Admissions.{AreOf}
 use Rattle.bw_serve.specs.Crowds.{AreSilent, Counts, CountsOwn, LooksBehind, SeatOf, ServesPlace, WorksCounted}
 use Rattle.bw_serve.specs.Lines.{LogsEnds, counted_of}
 use Rattle.bw_serve.specs.Seats.{LogsAt}
@@ -35,6 +36,14 @@ TellsThose G told log place m seats [] e f = f ≡ e
 TellsThose G told log place m seats (y ∷ []) e f =
     EndsIts G place (Some y) m × (IsEmpty place m → ⊥) × LogsAt told log place y.end seats e f
 TellsThose G told log place m seats (y ∷ z ∷ zs) e f = ⊥
+
+-- each of those is who stood there
+pub whose_are : {L E : Type 0} (G : LinkGhosts L) (told : Writer E) (log : Bool) (place : ℕ) (m : Many L)
+    (seats : List Seat) (closed : List (Closed L)) (e f : E) → TellsThose G told log place m seats closed e f →
+    (d : Connection L) → StandsAt m place d → AreOf G d closed
+whose_are G told log place m seats [] e f h d at = tt
+whose_are G told log place m seats (y ∷ []) e f h d at = (h.0 d at, tt)
+whose_are G told log place m seats (y ∷ z ∷ zs) e f h d at = absurd h
 
 -- who ends for its silence stands there
 pub expired_stands : {L : Type 0} (now idle place : ℕ) (m : Many L) (y : Closed L) →
@@ -203,7 +212,10 @@ place_served {L} G answers out told log place now idle a mid b m first rest s t 
           count = stays'.0.count ∙ w.others.0.count;
         },
         stays'.1 ∙ w.others.1,
+        stays'.2 ∙ w.others.2,
       );
+      stood = λ d at. w.stood d (stood' d at);
+      whose = whose_are G told log place a.many mid.seats.items (those first ++ rest) e f tells;
       seats_are = ap (λ v. vec_len v) seats ∙ counted.seats_are;
       silent = silent;
       in_time = subst (λ (x : Many L). (d : Connection L) → StandsAt x place d → expired_at now idle d ≡ None) (sym is)

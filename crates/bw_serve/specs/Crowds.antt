@@ -16,8 +16,11 @@ use Rattle.bw_many.specs.Keeping.{Adds, Keeps, Sets, StandsAt, Tagged}
 use Rattle.bw_many.specs.Keeping.{all_answered, own, tagged, those}
 use Rattle.bw_many.specs.Lives.{Begins, expired_at}
 use Rattle.bw_many.specs.Places.{begun_of, can_go_on_at, count_of, end_told, expired_there}
-use Rattle.bw_many.specs.Working.{IsEmpty, StaysAt, StoodAt, WorksAt}
+use Rattle.bw_many.specs.Working.{IsEmpty, StaysAt, StoodAt, WorksAt, StoodUnder}
 use Rattle.bw_exchange.specs.LinkCounts.{up_to_last, with_frame}
+use Rattle.bw_many.specs.Places.{refused_of}
+use Rattle.bw_serve.specs.Admissions.{AreOf, HostsMore}
+use Rattle.bw_serve.specs.Lobbies.{Admission}
 use Rattle.bw_serve.specs.Lines.{LogsEnds, TellsEnds, counted_of}
 use Rattle.bw_serve.specs.declared.crowd.Crowd.{Crowd}
 use Rattle.bw_serve.specs.declared.seat.Seat.{Seat}
@@ -28,6 +31,7 @@ pub record IsNew {L : Type 0} (G : LinkGhosts L) (places : ℕ) (c : Crowd L) : 
   pub places_are : count_of c.many ≡ places
   pub seats_are : vec_len c.seats ≡ places
   pub begun : begun_of c.many ≡ 0
+  pub refused : refused_of c.many ≡ 0
   pub ended : c.ended ≡ 0
 
 -- whether a connection at one of the first places can go on before its link has more bytes, or room
@@ -68,10 +72,11 @@ pub record Grows {L : Type 0} (G : LinkGhosts L) (c c' : Crowd L) : Type 0 where
       CountsOwn G c trace → CountsOwn G c' trace
   pub ended : c'.ended ≡ c.ended
 
--- .. and nobody was let in
+-- .. and nobody was let in, or refused
 pub record Stays {L : Type 0} (G : LinkGhosts L) (c c' : Crowd L) : Type 0 where
   pub grows : Grows G c c'
   pub begun : begun_of c'.many ≡ begun_of c.many
+  pub refused : refused_of c'.many ≡ refused_of c.many
 
 -- A connection that begins at this time, over some link and under some number.
 abbrev pub Comes : {L : Type 0} → ℕ → Connection L → Type 0
@@ -90,14 +95,6 @@ LooksBehind now idle place (Some x) m closed m' = (closed ≡ x ∷ []) × (m' �
 LooksBehind {L} now idle place None m closed m' = (last : Option (Closed L)) × (closed ≡ those last)
     × (end_told last ≡ expired_there now idle m place) × StaysAt place m m' × StoodAt place m m'
     × IfSome last (λ x. IsEmpty place m')
-
--- some were perhaps let in, and nothing else was done
-pub record IsShut {L S O E : Type 0} (G : LinkGhosts L) (c c' : Crowd L) (s s' : S) (o o' : O)
-    (e e' : E) : Type 0 where
-  pub grows : Grows G c c'
-  pub server : s' ≡ s
-  pub printed : o' ≡ o
-  pub logged : e' ≡ e
 
 -- the line of each connection that ended was printed, and each was counted
 abbrev pub Counts : {L O : Type 0} → Writer O → Crowd L → Crowd L → List (Closed L) → O → O →
@@ -141,6 +138,9 @@ module _ {L S O E : Type 0} (G : LinkGhosts L) (answers : S → Frame → List R
     pub behind : LooksBehind now idle place first between closed c'.many
     pub adds : Adds G c.many (tagged works.number works.answered) closed c'.many
     pub stays : StaysAt place c.many c'.many
+    -- who stands there stood there before, and who is over did
+    pub stood : StoodUnder G place c.many c'.many
+    pub whose : (d : Connection L) → StandsAt c.many place d → AreOf G d closed
     pub seats_are : vec_len c'.seats ≡ vec_len c.seats
     -- it ended for its silence only where it answered nothing, for longer than so many milliseconds
     pub silent : (d : Connection L) → StandsAt c.many place d → AllByRecursion
@@ -158,11 +158,27 @@ module _ {L S O E : Type 0} (G : LinkGhosts L) (answers : S → Frame → List R
       × InTurn now idle place c d s t o p e f
       × ServesPlace now idle place d c' t s' p o' f e'
 
-  -- frames more were answered, and the lines of those that are over printed, and told of
-  pub record Advances (c c' : Crowd L) (s s' : S) (o o' : O) (e e' : E) : Type 0 where
-    pub more : List Tagged
-    pub closed : List (Closed L)
+  -- the frames that these quanta answered, behind the numbers of their connections
+  abbrev pub frames_in_turn : (now idle n : ℕ) (c c' : Crowd L) (s s' : S) (o o' : O) (e e' : E) →
+      InTurn now idle n c c' s s' o o' e e' → List Tagged
+  frames_in_turn now idle zero c c' s s' o o' e e' turn = []
+  frames_in_turn now idle (suc n) c c' s s' o o' e e' turn =
+      frames_in_turn now idle n c turn.0 s turn.1 o turn.2 e turn.3 turn.4
+      ++ tagged turn.5.works.number turn.5.works.answered
+
+  -- and the connections that they ended
+  abbrev pub ended_in_turn : (now idle n : ℕ) (c c' : Crowd L) (s s' : S) (o o' : O) (e e' : E) →
+      InTurn now idle n c c' s s' o o' e e' → List (Closed L)
+  ended_in_turn now idle zero c c' s s' o o' e e' turn = []
+  ended_in_turn now idle (suc n) c c' s s' o o' e e' turn =
+      ended_in_turn now idle n c turn.0 s turn.1 o turn.2 e turn.3 turn.4 ++ turn.5.closed
+
+  -- these frames more were answered, and the lines of these, which are over, printed, and told of;
+  -- and these links more were let in, or refused
+  pub record Advances (more : List Tagged) (closed : List (Closed L)) (links : List (Admission L))
+      (c c' : Crowd L) (s s' : S) (o o' : O) (e e' : E) : Type 0 where
     pub by_server : AnswersAll answers s (all_answered more) s'
     pub adds : Adds G c.many more closed c'.many
     pub prints : Counts out c c' closed o o'
     pub tells : Tells G told log c more closed c' e e'
+    pub hosts : HostsMore G c.many links closed c'.many

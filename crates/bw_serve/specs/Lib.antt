@@ -1,3 +1,4 @@
+pub mod Admissions
 pub mod Lines
 pub mod Seats
 pub mod Crowds

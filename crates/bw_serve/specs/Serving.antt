@@ -1,5 +1,5 @@
 -- What serving a crowd comes to.
-use Rattle.std.specs.Prelude.{◌≡◌, ◌⊎◌, ℕ, ◌-◌, ◌^◌, ◌≤◌, Bool, false, List, length}
+use Rattle.std.specs.Prelude.{◌≡◌, ◌⊎◌, ℕ, ◌-◌, ◌^◌, ◌≤◌, Bool, false, List, ◌++◌, length}
 use Rattle.bw_model.specs.Wire.{Frame}
 use Rattle.bw_model.specs.Replies.{Reply}
 use Rattle.bw_stream.specs.Moves.{one_more}
@@ -14,8 +14,10 @@ use Rattle.bw_many.specs.Places.{begun_of}
 use Rattle.bw_many.specs.Served.{ServesEach}
 use Rattle.bw_serve.specs.declared.crowd.Crowd.{Crowd}
 use Rattle.bw_serve.specs.declared.serving.Bounds.{Bounds}
+use Rattle.bw_serve.specs.Admissions.{HostsAll}
 use Rattle.bw_serve.specs.Crowds.{Grows}
-use Rattle.bw_serve.specs.Rounds.{ServesInRounds}
+use Rattle.bw_serve.specs.Lobbies.{Admission}
+use Rattle.bw_serve.specs.Rounds.{ServesInRounds, ended_of_run, frames_of_run}
 use Rattle.bw_serve.specs.Lines.{LogsEnds, TellsEnds}
 use Rattle.bw_ports.specs.declared.lobby.Lobby.{Ghosts as LobbyGhosts}
 
@@ -41,16 +43,25 @@ module _ {B L S O E : Type 0} (lobby : LobbyGhosts B L) (G : LinkGhosts L)
   -- told of, where that was asked for.
   pub record HasServed (bounds : Bounds) (exit : Exit) (s s' : S) (b b' : B) (o o' : O) (e e' : E)
       : Type 0 where
-    pub trace : List Tagged
-    pub by_server : AnswersAll answers s (all_answered trace) s'
     -- in rounds, behind the last of which some were perhaps let in still
     pub behind : Crowd L
     pub lobby_behind : B
     pub in_rounds : ServesInRounds lobby G answers out told log bounds.places bounds.idle
         bounds.exchanges behind s s' b lobby_behind o o' e e'
+    -- what their quanta took from the connections, in their order, and whom they ended
+    pub trace : List Tagged
+    pub taken : trace ≡ frames_of_run lobby G answers out told log bounds.places bounds.idle
+        bounds.exchanges behind s s' b lobby_behind o o' e e' in_rounds
+    pub by_server : AnswersAll answers s (all_answered trace) s'
+    pub over : List (Closed L)
+    pub are_over : over ≡ ended_of_run lobby G answers out told log bounds.places bounds.idle
+        bounds.exchanges behind s s' b lobby_behind o o' e e' in_rounds
     pub crowd : Crowd L
     pub last : Grows G behind crowd
-    pub over : List (Closed L)
+    -- each link that the lobby gave stands at its place, or is over, or was refused
+    pub links : List (Admission L)
+    pub gave : (xs : List (Admission L)) → lobby.admitted b xs → lobby.admitted b' (xs ++ links)
+    pub hosts : HostsAll G crowd.many over links
     pub each : ServesEach G crowd.many over trace
     -- no more were let in than were asked for
     pub most : begun_of crowd.many ≤ bounds.exchanges

@@ -40,9 +40,11 @@ pub(crate) struct Crowd<L> {
 impl<L: Link + Drop> Crowd<L> {
     ghost use Rattle.bw_many.specs.Keeping.{IsFree};
     ghost use Rattle.bw_many.specs.Places.{begun_of, count_of};
+    ghost use Rattle.bw_serve.specs.Admissions.{Admits};
     ghost use Rattle.bw_serve.specs.Crowds.{Counts, Grows, HasSeats, IsNew, InTurn, LetsIn};
     ghost use Rattle.bw_serve.specs.Crowds.{ServesPlace, Stays, WorksCounted, can_go_on_in};
-    ghost use Rattle.bw_serve.specs.Rounds.{AsksIn, NoticesAll};
+    ghost use Rattle.bw_serve.specs.Rounds.{AsksIn, NoticesAll, Welcomes};
+    ghost use Rattle.bw_serve.specs.Lobbies.{Admission};
     ghost use Rattle.bw_serve.specs.Seats.{LogsAt};
     ghost use Rattle.bw_ports.specs.declared.lobby.Ready.{Ready};
 
@@ -87,6 +89,8 @@ impl<L: Link + Drop> Crowd<L> {
         ensures patience { B.patience lobby.new ≡ B.patience lobby.old }
         ensures notices { NoticesAll B.Lobby lobby.old lobby.new self.old self.new }
         ensures tried { (n : ℕ) → B.tried lobby.old n → B.tried lobby.new n }
+        ensures admitted { (xs : List (Admission B.Link)) → B.admitted lobby.old xs →
+            B.admitted lobby.new xs }
     {
         for _place in 0..=self.many.places() {
             let Some(ready) = lobby.next_ready() else {
@@ -111,6 +115,7 @@ impl<L: Link + Drop> Crowd<L> {
         requires seats { HasSeats self.old }
         ensures grows { Grows L.Link self.old self.new }
         ensures lets_in { LetsIn now self.old self.new }
+        ensures welcomes { Welcomes B.Lobby now lobby.old lobby.new self.old self.new }
         ensures most { begun_of self.new.many ≤ exchanges }
         ensures count { B.failures lobby.new ≡ failures_after result (B.failures lobby.old) }
         ensures waits { B.waits lobby.new ≡ B.waits lobby.old }
@@ -138,8 +143,8 @@ impl<L: Link + Drop> Crowd<L> {
         Ok(())
     }
 
-    /// Seats a guest at a free place. Where memory is refused its link is closed, and it may come
-    /// again.
+    /// Seats a guest at a free place. Where memory is refused its link is closed and counted, and it
+    /// may come again.
     fn seat(&mut self, alloc: Global, place: usize, guest: Guest<L>, now: u64)
         requires free { IsFree self.old.many place }
         requires place { place < vec_len self.old.seats }
@@ -148,6 +153,7 @@ impl<L: Link + Drop> Crowd<L> {
         requires peer { L.calls_from guest.link guest.address }
         ensures grows { Grows L.Link self.old self.new }
         ensures lets_in { LetsIn now self.old self.new }
+        ensures admits { Admits now place guest.link self.old self.new }
         ensures most { begun_of self.new.many ≤ begun_of self.old.many + 1 }
     {
         let Guest { address, link } = guest;

@@ -3,8 +3,8 @@ ghost use Rattle.std.specs.Prelude.{◌≡◌, ◌≤◌, OnOk, OnErr, vec_len};
 ghost use Rattle.bw_stream.specs.Moves.{failures_after, one_more};
 ghost use Rattle.bw_wire.specs.Held.{longest_piece};
 ghost use Rattle.bw_many.specs.Places.{begun_of};
-ghost use Rattle.bw_serve.specs.Crowds.{HasSeats, IsShut};
-ghost use Rattle.bw_serve.specs.Rounds.{ServesRound, patience_of};
+ghost use Rattle.bw_serve.specs.Crowds.{HasSeats};
+ghost use Rattle.bw_serve.specs.Rounds.{IsShut, ServesRound, patience_of};
 ghost use Rattle.bw_serve.specs.Serving.{ServesCrowd};
 
 use crate::crowd::{Crowd, Round, Shut};
@@ -44,8 +44,6 @@ pub struct Bounds {
 ///
 /// # Not specified
 /// - That each was told of under its own place.
-/// - Who of those whom the lobby gave was let in: that a link is let go only where memory is
-///   refused.
 /// - When memory is refused.
 /// - With `log`, when a line is missing.
 pub fn serve_crowd<B: Lobby, T: Turns, O: Sink, E: Sink>(
@@ -117,8 +115,8 @@ fn serve_round<B: Lobby, T: Turns, O: Sink, E: Sink>(
     ensures round { OnOk result (ServesRound B.Lobby B.Link.Link T.answers O.Sink E.Sink log
         bounds.now.idle bounds.now.exchanges crowd.old crowd.new server.old.server
         server.new.server lobby.old lobby.new out.old out.new faults.old faults.new) }
-    ensures shut { OnErr result (IsShut B.Link.Link crowd.old crowd.new server.old.server
-        server.new.server out.old out.new faults.old faults.new) }
+    ensures shut { OnErr result (IsShut B.Lobby B.Link.Link crowd.old crowd.new server.old.server
+        server.new.server lobby.old lobby.new out.old out.new faults.old faults.new) }
     ensures begun { begun_of crowd.new.many ≤ bounds.now.exchanges }
     ensures count { B.failures lobby.new ≡ failures_after result (B.failures lobby.old) }
     ensures waits { OnOk result (B.waits lobby.new ≡ one_more (B.waits lobby.old)) }

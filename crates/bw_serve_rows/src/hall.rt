@@ -195,6 +195,8 @@ impl Lobby for Hall {
 
     ghost nobody = { λ _. ⊤ };
 
+    ghost admitted = { λ _ _. ⊤ };
+
     fn wait(&mut self, most: u64) -> Result<(), WaitFault> {
         self.patience = most;
         if self.round >= self.plan.rounds {

@@ -1,9 +1,7 @@
 use Rattle.std.proofs.Common.{ℕ, ◌+◌, ◌≤◌, rules, arith, refl, sym, subst, inl, inr, ◌∙◌, ap}
 use Rattle.bw_stream.specs.Moves.{one_more}
 use Rattle.bw_console.specs.declared.exit.Exit.TheVariants as exits
-use Rattle.bw_serve.proofs.Growing.{grows_still}
-use Rattle.bw_serve.proofs.Rounds.{no_rounds, rounds_more}
-use Rattle.bw_serve.proofs.Running.{all_ended, has_served, none_so_far, round_so_far, shut_rounds, shut_so_far, waited_more}
+use Rattle.bw_serve.proofs.Running.{all_ended, waited_more, runs_more, runs_none, runs_over, runs_shut}
 use Rattle.bw_serve.proofs.serving.serve_crowd.Goals as goal
 
 pub returns-in_default : goal.returns-in_default
@@ -17,9 +15,7 @@ loop-round-init g c =
     let n = c.in-Ok.ensures in
     let begun = n.begun in
     record {
-      served = none_so_far g.B.Link.Link g.T.Turns.answers g.O.Sink g.E.Sink c.args.log c.args.bounds.now.places
-          c.in-Ok.crowd c.args.server.now.server c.args.out.now c.args.faults.now n;
-      rounds = no_rounds g.B.Lobby g.B.Link.Link g.T.Turns.answers g.O.Sink g.E.Sink c.args.log
+      runs = runs_none g.B.Lobby g.B.Link.Link g.T.Turns.answers g.O.Sink g.E.Sink c.args.log
           c.args.bounds.now.places c.args.bounds.now.idle c.args.bounds.now.exchanges c.in-Ok.crowd
           c.args.server.now.server c.args.lobby.now c.args.out.now c.args.faults.now n;
       begun = omega (arith, begun);
@@ -35,14 +31,10 @@ loop-round-preserved g c =
     let r = c.serve_round in
     let ok = c.in-Ok-serve_round.ensures in
     record {
-      served = round_so_far g.B.Link.Link g.T.Turns.answers g.O.Sink g.E.Sink c.args.log g.B.Lobby
-          c.args.bounds.now.idle c.args.bounds.now.exchanges l.crowd r.new.crowd c.args.server.now.server
-          l.server.server r.new.server.server l.lobby r.new.lobby c.args.out.now l.out r.new.out c.args.faults.now
-          l.faults r.new.faults l.invariant.served ok.round;
-      rounds = rounds_more g.B.Lobby g.B.Link.Link g.T.Turns.answers g.O.Sink g.E.Sink c.args.log
+      runs = runs_more g.B.Lobby g.B.Link.Link g.T.Turns.answers g.O.Sink g.E.Sink c.args.log
           c.args.bounds.now.places c.args.bounds.now.idle c.args.bounds.now.exchanges l.crowd r.new.crowd
           c.args.server.now.server l.server.server r.new.server.server c.args.lobby.now l.lobby r.new.lobby
-          c.args.out.now l.out r.new.out c.args.faults.now l.faults r.new.faults l.invariant.rounds (search rules)
+          c.args.out.now l.out r.new.out c.args.faults.now l.faults r.new.faults l.invariant.runs (search rules)
           ok.round;
       begun = r.ensures.begun;
       seats = r.ensures.seats;
@@ -64,38 +56,25 @@ serve_round-requires-clause-seats g c = c.loop-round.invariant.seats
 pub returns-then-ended-bounds : goal.returns-then-ended-bounds
 returns-then-ended-bounds g c =
     let l = c.loop-round in
-    has_served g.B.Link.Link g.T.Turns.answers g.O.Sink g.E.Sink c.args.log g.B.Lobby c.law_many.ensures
-    c.args.bounds.now exits.Done l.crowd l.crowd c.args.server.now.server l.server.server c.args.lobby.now l.lobby
-    l.lobby c.args.out.now l.out c.args.faults.now l.faults l.invariant.rounds (grows_still g.B.Link.Link l.crowd)
-    l.invariant.served l.invariant.begun (
-      all_ended g.B.Link.Link g.T.Turns.answers g.O.Sink g.E.Sink c.args.log c.args.bounds.now.exchanges l.crowd
-          c.args.server.now.server l.server.server c.args.out.now l.out c.args.faults.now l.faults l.invariant.served
-          (search rules),
-      l.invariant.failures,
-    )
+    runs_over g.B.Lobby g.B.Link.Link g.T.Turns.answers g.O.Sink g.E.Sink c.args.log c.law_many.ensures
+    c.args.bounds.now exits.Done l.crowd c.args.server.now.server l.server.server c.args.lobby.now l.lobby
+    c.args.out.now l.out c.args.faults.now l.faults l.invariant.runs l.invariant.begun
+    (λ over is. (all_ended c.args.bounds.now.exchanges l.crowd over is (search rules), l.invariant.failures))
 
 pub returns-in_default-serve_round : goal.returns-in_default-serve_round
 returns-in_default-serve_round g c =
     let l = c.loop-round in
     let r = c.serve_round in
     let shut = c.in_default-serve_round.ensures in
-    has_served g.B.Link.Link g.T.Turns.answers g.O.Sink g.E.Sink c.args.log g.B.Lobby c.law_many.ensures
-    c.args.bounds.now exits.Device l.crowd r.new.crowd c.args.server.now.server r.new.server.server c.args.lobby.now
-    l.lobby r.new.lobby c.args.out.now r.new.out c.args.faults.now r.new.faults
-    (shut_rounds g.B.Link.Link g.T.Turns.answers g.O.Sink g.E.Sink c.args.log g.B.Lobby c.args.bounds.now.places
-    c.args.bounds.now.idle c.args.bounds.now.exchanges l.crowd r.new.crowd c.args.server.now.server l.server.server
-    r.new.server.server c.args.lobby.now l.lobby c.args.out.now l.out r.new.out c.args.faults.now l.faults r.new.faults
-    l.invariant.rounds shut.shut)
-    shut.shut.grows
-    (shut_so_far g.B.Link.Link g.T.Turns.answers g.O.Sink g.E.Sink c.args.log l.crowd r.new.crowd
-    c.args.server.now.server l.server.server r.new.server.server c.args.out.now l.out r.new.out c.args.faults.now
-    l.faults r.new.faults l.invariant.served shut.shut)
-    r.ensures.begun (inl (shut.count ∙ ap one_more l.invariant.failures))
+    runs_shut g.B.Lobby g.B.Link.Link g.T.Turns.answers g.O.Sink g.E.Sink c.args.log c.law_many.ensures
+    c.args.bounds.now exits.Device l.crowd r.new.crowd c.args.server.now.server l.server.server r.new.server.server
+    c.args.lobby.now l.lobby r.new.lobby c.args.out.now l.out r.new.out c.args.faults.now l.faults r.new.faults
+    l.invariant.runs shut.shut r.ensures.begun (λ over. inl (shut.count ∙ ap one_more l.invariant.failures))
 
 pub returns : goal.returns
 returns g c =
     let l = c.loop-round in
-    has_served g.B.Link.Link g.T.Turns.answers g.O.Sink g.E.Sink c.args.log g.B.Lobby c.law_many.ensures
-    c.args.bounds.now exits.Device l.crowd l.crowd c.args.server.now.server l.server.server c.args.lobby.now l.lobby
-    l.lobby c.args.out.now l.out c.args.faults.now l.faults l.invariant.rounds (grows_still g.B.Link.Link l.crowd)
-    l.invariant.served l.invariant.begun (inr (search rules))
+    runs_over g.B.Lobby g.B.Link.Link g.T.Turns.answers g.O.Sink g.E.Sink c.args.log c.law_many.ensures
+    c.args.bounds.now exits.Device l.crowd c.args.server.now.server l.server.server c.args.lobby.now l.lobby
+    c.args.out.now l.out c.args.faults.now l.faults l.invariant.runs l.invariant.begun
+    (λ over is. inr (search rules))

@@ -1,15 +1,23 @@
 use Rattle.std.proofs.Common.{◌≡◌, ◌≤◌, ℕ, [], ap, refl, sym, subst, ◌∙◌}
 use Rattle.bw_many.specs.Places.{count_of}
-use Rattle.bw_serve.proofs.Growing.{grown_seats, grows_still, grows_then, turn_begun, turn_seats}
+use Rattle.bw_serve.proofs.Growing.{grown_seats, grows_still, turn_begun, turn_seats}
 use Rattle.bw_layout.proofs.Exits.{on_err}
-use Rattle.bw_serve.specs.Crowds.{InTurn, IsShut, LetsIn}
-use Rattle.bw_serve.specs.Rounds.{patience_of}
-use Rattle.bw_serve.proofs.Noticing.{all_still}
+use Rattle.bw_serve.specs.Crowds.{InTurn, LetsIn}
+use Rattle.bw_serve.specs.Rounds.{IsShut, patience_of}
+use Rattle.bw_serve.proofs.Noticing.{all_still, wakes_none}
+use Rattle.bw_serve.proofs.Rounds.{welcomes_behind, welcomes_none}
 use Rattle.bw_serve.proofs.serving.serve_round.Goals as goal
 
 pub returns-in_default-clause-shut : goal.returns-in_default-clause-shut
 returns-in_default-clause-shut g c = record {
+  noticed = c.args.crowd.now;
+  notices = record { grows = grows_still g.B.Link.Link c.args.crowd.now; begun = refl; refused = refl };
+  told = [];
+  wakes = wakes_none c.args.crowd.now;
   grows = grows_still g.B.Link.Link c.args.crowd.now;
+  now = 0;
+  welcomes = welcomes_behind g.B.Lobby 0 0 c.args.lobby.now c.wait.new.self c.wait.new.self c.args.crowd.now
+      c.args.crowd.now refl c.wait.ensures.admitted (welcomes_none g.B.Lobby 0 c.wait.new.self c.args.crowd.now);
   server = refl;
   printed = refl;
   logged = refl;
@@ -17,10 +25,18 @@ returns-in_default-clause-shut g c = record {
 
 pub returns-in_err-welcome-clause-shut : goal.returns-in_err-welcome-clause-shut
 returns-in_err-welcome-clause-shut g c =
-    let shut : IsShut g.B.Link.Link c.args.crowd.now c.welcome.new.self c.args.server.now.server
-    c.args.server.now.server c.args.out.now c.args.out.now c.args.faults.now c.args.faults.now = record {
-      grows = grows_then g.B.Link.Link c.args.crowd.now c.notice.new.self c.welcome.new.self
-          c.notice.ensures.stays.grows c.welcome.ensures.grows;
+    let shut : IsShut g.B.Lobby g.B.Link.Link c.args.crowd.now c.welcome.new.self c.args.server.now.server
+    c.args.server.now.server c.args.lobby.now c.welcome.new.lobby c.args.out.now c.args.out.now c.args.faults.now
+    c.args.faults.now = record {
+      noticed = c.notice.new.self;
+      notices = c.notice.ensures.stays;
+      told = c.notice.ensures.notices.0.told;
+      wakes = c.notice.ensures.notices.0.each;
+      grows = c.welcome.ensures.grows;
+      now = c.now-now.result;
+      welcomes = welcomes_behind g.B.Lobby c.now-now.result c.now-now.result c.args.lobby.now c.now-now.new.self
+          c.welcome.new.lobby c.notice.new.self c.welcome.new.self refl (λ xs was. c.now-now.ensures.admitted xs
+          (c.notice.ensures.admitted xs (c.wait.ensures.admitted xs was))) c.welcome.ensures.welcomes;
       server = refl;
       printed = refl;
       logged = refl;
@@ -47,6 +63,10 @@ returns-clause-round g c =
       between = c.welcome.new.self;
       grows = c.welcome.ensures.grows;
       lets_in = subst (λ (now : ℕ). LetsIn now c.notice.new.self c.welcome.new.self) at c.welcome.ensures.lets_in;
+      welcomes = welcomes_behind g.B.Lobby c.now-now.result (g.B.Lobby.time c.welcome.new.lobby) c.args.lobby.now
+          c.now-now.new.self c.welcome.new.lobby c.notice.new.self c.welcome.new.self at (λ xs was.
+          c.now-now.ensures.admitted xs (c.notice.ensures.admitted xs (c.wait.ensures.admitted xs was)))
+          c.welcome.ensures.welcomes;
       asks = c.in_ok-welcome.ensures.asks (c.now-now.ensures.tried 0 (c.notice.ensures.tried 0 c.in-Ok.ensures.tried));
       in_turn = subst (λ (now : ℕ). InTurn g.B.Link.Link g.T.Turns.answers g.O.Sink g.E.Sink c.args.log now
           c.args.bounds.now.idle (count_of c.welcome.new.self.many) c.welcome.new.self e.new.self

@@ -1,5 +1,6 @@
+use Rattle.std.proofs.Common.{refl}
 use Rattle.bw_many.proofs.Going.{begun}
-use Rattle.bw_many.proofs.Standing.{adds_none, keeps_begun}
+use Rattle.bw_many.proofs.Standing.{adds_none, keeps_begun, keeps_free}
 use Rattle.bw_many.proofs.many.Many.begin.Goals as goal
 
 pub returns-clause-adds : goal.returns-clause-adds
@@ -16,4 +17,17 @@ returns-clause-begins g c = record {
   there = c.put_at.ensures.sets.there;
   begins = c.in-Ok.ensures;
   next = c.in-Some.ensures.1;
+  refused = refl;
 }
+
+pub returns-in_default-clause-adds : goal.returns-in_default-clause-adds
+returns-in_default-clause-adds g c =
+    adds_none g.L.Link c.args.self.now _ (λ over trace.
+    keeps_free g.L.Link c.args.self.now _ c.args.place over trace refl c.requires.free
+    (record { there = c.requires.free; elsewhere = λ j other. refl }))
+
+pub returns-in_default-new-clause-adds : goal.returns-in_default-new-clause-adds
+returns-in_default-new-clause-adds g c =
+    adds_none g.L.Link c.args.self.now _ (λ over trace.
+    keeps_free g.L.Link c.args.self.now _ c.args.place over trace refl c.requires.free
+    (record { there = c.requires.free; elsewhere = λ j other. refl }))

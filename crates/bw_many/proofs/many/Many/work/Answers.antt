@@ -20,7 +20,7 @@ returns-in_default g c =
       nobody = λ empty. (refl, refl);
       adds = adds_none g.L.Link c.args.self.now _ (λ over trace.
           keeps_free g.L.Link c.args.self.now _ c.args.place over trace refl t.was t.sets);
-      others = (record { others = t.sets.elsewhere; count = t.count }, refl);
+      others = (record { others = t.sets.elsewhere; count = t.count }, refl, refl);
       unended = λ d at. absurd (not_some d (some_is None (Some d) (sym t.sets.there ∙ at)));
       since = λ d e at there. absurd (not_some d (some_is None (Some d) (sym t.was ∙ at)));
       moved = λ d e at. absurd (not_some d (some_is None (Some d) (sym t.was ∙ at)));
@@ -59,7 +59,7 @@ returns-in-Ok g c =
       nobody = λ empty. absurd (empty was t.was);
       adds = adds_on g.L.Link c.args.self.now _ c.args.place was new was.number w.answered refl refl t.was sets w.number
           w.goes;
-      others = (record { others = sets.elsewhere; count = c.put_at.ensures.count ∙ t.count }, refl);
+      others = (record { others = sets.elsewhere; count = c.put_at.ensures.count ∙ t.count }, refl, refl);
       unended = λ d at. subst IsOpen (some_is new d (some_is (Some new) (Some d) (sym sets.there ∙ at))) w.unended;
       since = λ d e at there. quiet_at c.args.now was d new e w.answered
           (some_is was d (some_is (Some was) (Some d) (sym t.was ∙ at)))
@@ -106,7 +106,7 @@ returns-in-Err g c =
           t.sets (ap (λ y. y.number) is ∙ w.number)
           (subst (λ y. (before : List Answered) → Lives g.L.Link was before →
           IsOver g.L.Link y.end y.link (before ++ w.answered)) (sym is) w.goes);
-      others = (record { others = t.sets.elsewhere; count = t.count }, refl);
+      others = (record { others = t.sets.elsewhere; count = t.count }, refl, refl);
       unended = λ d at. absurd (not_some d (some_is None (Some d) (sym t.sets.there ∙ at)));
       since = λ d e at there. absurd (not_some e (some_is None (Some e) (sym t.sets.there ∙ there)));
       moved = λ d e at there. absurd (not_some e (some_is None (Some e) (sym t.sets.there ∙ there)));

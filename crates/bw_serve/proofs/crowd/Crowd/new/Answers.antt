@@ -9,5 +9,6 @@ returns g c =
       places_are = m.count;
       seats_are = c.in_ok-empty_seats.ensures;
       begun = m.begun;
+      refused = m.refused;
       ended = refl;
     }

@@ -5,11 +5,12 @@ use Rattle.bw_serve.proofs.crowd.Crowd.notice.Goals as goal
 
 pub loop-place-init : goal.loop-place-init
 loop-place-init g c = record {
-  stays = record { grows = grows_still g.L.Link c.args.self.now; begun = refl };
+  stays = record { grows = grows_still g.L.Link c.args.self.now; begun = refl; refused = refl };
   failures = refl;
   waits = refl;
   patience = refl;
   tried = λ n was. was;
+  admitted = λ xs was. was;
   notices = noticed_none g.B.Lobby c.args.lobby.now c.args.self.now;
 }
 
@@ -27,6 +28,7 @@ loop-place-preserved g c =
       waits = n.waits ∙ c.loop-place.invariant.waits;
       patience = n.patience ∙ c.loop-place.invariant.patience;
       tried = λ k was. n.tried k (c.loop-place.invariant.tried k was);
+      admitted = λ xs was. n.admitted xs (c.loop-place.invariant.admitted xs was);
       notices = noticed_more g.B.Lobby c.loop-place._place c.args.lobby.now c.loop-place.lobby c.next_ready.new.self
           c.in-Some.ready c.args.self.now l (record { many = c.wake.new.self; seats = l.seats; ended = l.ended })
           c.loop-place.invariant.notices (λ rs was. c.in-Some.ensures.told rs was) w.wakes w.others.0;
@@ -46,6 +48,7 @@ returns-in-Some g c =
       waits = n.waits ∙ c.loop-place.invariant.waits;
       patience = n.patience ∙ c.loop-place.invariant.patience;
       tried = λ k was. n.tried k (c.loop-place.invariant.tried k was);
+      admitted = λ xs was. n.admitted xs (c.loop-place.invariant.admitted xs was);
       notices = noticed_most g.B.Lobby (c.loop-place._place + 1) c.args.lobby.now c.next_ready.new.self c.args.self.now
           (record { many = c.wake.new.self; seats = l.seats; ended = l.ended })
           (noticed_more g.B.Lobby c.loop-place._place c.args.lobby.now c.loop-place.lobby c.next_ready.new.self
