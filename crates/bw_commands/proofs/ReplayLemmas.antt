@@ -1,12 +1,12 @@
 -- What a replay tells of its run.
 use Rattle.std.proofs.Common.{◌≡◌, ◌∙◌, ℕ, ◌≤◌, Bool, List, [], ◌∷◌, ◌++◌, length, map, Option, Some, None, refl}
-use Rattle.std.proofs.Common.{sym, ap, subst, arith, true, false, ◌⊎◌, inl, ◌||◌, ◌<◌, nat_lt, cond}
+use Rattle.std.proofs.Common.{sym, ap, subst, arith, true, false, ◌⊎◌, inl, ◌||◌, ◌<◌, ◌+◌, ◌*◌, nat_lt, cond}
 use Rattle.std.proofs.Math.Path.{fun_ext}
 use Rattle.std.specs.Prelude.{flat_map, is_some, IsTrue, Vec, All}
 use Rattle.std.specs.List.{AllByRecursion, list_any}
 use Rattle.std.specs.declared.alloc.Global.{Global}
 use Rattle.std.proofs.lemmas.Bool.{or_parts}
-use Rattle.std.proofs.lemmas.List.{map-append}
+use Rattle.std.proofs.lemmas.List.{map-append, length-append}
 use Rattle.std.proofs.lemmas.List.Folds.{list_any-append, flat_map-map}
 use Rattle.std.proofs.lemmas.List.Elements.{All-head, All-tail}
 use Rattle.std.proofs.lemmas.Grind.{flat_map-append}
@@ -35,8 +35,9 @@ use Rattle.bw_commands.specs.Runs.{IsRun, AreExchangesOf, no_contents}
 use Rattle.bw_commands.specs.Text.{exchanges_text, files_text}
 use Rattle.bw_exchange.specs.Answering.{Answered, frames_of, replies_of}
 use Rattle.bw_exchange.specs.TurnRuns.{IsRun as IsRun', with_good_luck}
-use Rattle.bw_engine.specs.Ingesting.{ServedInput, WasServed, IsServedTo, Ingests, LeavesRun, answered_in, end_in}
-use Rattle.bw_engine.specs.Ingesting.{frames_in}
+use Rattle.bw_engine.specs.Ingesting.{ServedInput, WasServed, IsServedTo, LeavesRun, answered_in, end_in, frames_in}
+use Rattle.bw_engine.specs.Ingesting.{AreServed, bytes_in}
+use Rattle.bw_engine.specs.ServerRuns.{all_done}
 use Rattle.bw_engine.specs.declared.ingest.Run.{Run}
 use Rattle.bw_exchange.specs.declared.serving.ExchangeEnd.{ExchangeEnd}
 use Rattle.bw_commands.proofs.QuietLemmas.{never_falls, run_rises, quiet_run}
@@ -59,7 +60,10 @@ tells_one : (x : ServedInput) → WasServed x → length x.input ≤ longest_inp
 tells_one x served short = go (end_in x.end) refl served
   where
     go : (o : Option End) → end_in x.end ≡ o → IsServedTo o x → (t : ToldExchange) × Tells x t
-    go None is cut = let long = cut.long in absurd (omega (arith, long, short))
+    go None is cut =
+        let long = cut.long in
+        let len = ap length (sym cut.all) ∙ length-append cut.bytes_read cut.unread in
+        absurd (omega (arith, long, len, short))
     go (Some end) is whole = (
       record { replies = replies_of x.answered ++ last_reply end; end = end },
       record {
@@ -230,20 +234,24 @@ short_each (x ∷ inputs) short = (
 )
 
 -- a run over a store that was empty and honest, and what it tells
-pub record Replayed (limit : ℕ) (inputs : List (List ℕ)) (failures : ℕ) (rs : List (Vec ℕ Global))
+pub record Replayed (limit : ℕ) (inputs : List (List ℕ)) (failures calls : ℕ) (rs : List (Vec ℕ Global))
     (es : List ExchangeEnd) (contents : List ℕ → Option (List ℕ)) : Type 0 where
   pub told : List ToldExchange
   pub run : IsRun limit inputs failures told contents
   pub kept : AllTell rs es told
+  pub most : calls ≤ 4 * (all_done run.book + failures)
 
 module _ {X : Type 0} (S : StoreGhosts X) (limit : ℕ) (before : X) (inputs : List (Vec ℕ Global)) (ran : Run X)
     (honest : IsTrue (S.honest before)) (still : S.honest ran.store ≡ S.honest before)
     (empty : (name : List ℕ) → S.contents before name ≡ None)
     (short : All (λ x. length x.items ≤ longest_input) inputs)
-    (failures : ℕ) (few : failures ≤ 1) (started : S.failures before ≡ 0) (failed : S.failures ran.store ≡ failures)
-    (h : Ingests S limit before (map (λ x. x.items) inputs) ran) where
-  leaves : LeavesRun S limit before (answered_in h.went) ran.store
-  leaves = h.leaves honest
+    (failures : ℕ) (few : failures ≤ 1) (started : S.failures before ≡ 0) (unasked : S.calls before ≡ 0)
+    (failed : S.failures ran.store ≡ failures)
+    (went : List ServedInput)
+    (are : AreServed went (map (λ x. x.items) inputs) (bytes_in ran.replies.items) ran.ends.items)
+    (ran_so : IsTrue (S.honest before) → LeavesRun S limit before (answered_in went) ran.store) where
+  leaves : LeavesRun S limit before (answered_in went) ran.store
+  leaves = ran_so honest
 
   abbrev first : List ℕ → Option (List ℕ)
   first = S.contents before
@@ -252,19 +260,19 @@ module _ {X : Type 0} (S : StoreGhosts X) (limit : ℕ) (before : X) (inputs : L
   none_first = fun_ext empty
 
   abbrev lists : List (List Answered)
-  lists = map (λ x. x.answered) h.went
+  lists = map (λ x. x.answered) went
 
-  one_list : answered_in h.went ≡ joined lists
-  one_list = sym (flat_map-map (λ (a : List Answered). a) (λ (x : ServedInput). x.answered) h.went)
+  one_list : answered_in went ≡ joined lists
+  one_list = sym (flat_map-map (λ (a : List Answered). a) (λ (x : ServedInput). x.answered) went)
 
-  all_short : AllByRecursion (λ xs. length xs ≤ longest_input) (map (λ x. x.input) h.went)
-  all_short = subst (AllByRecursion (λ xs. length xs ≤ longest_input)) (sym h.are.inputs_are) (short_each inputs short)
+  all_short : AllByRecursion (λ xs. length xs ≤ longest_input) (map (λ x. x.input) went)
+  all_short = subst (AllByRecursion (λ xs. length xs ≤ longest_input)) (sym are.inputs_are) (short_each inputs short)
 
-  tell : TellAll h.went ran.replies.items ran.ends.items
-  tell = tell_all h.went ran.replies.items ran.ends.items h.are.each all_short h.are.written_is h.are.ends_are
+  tell : TellAll went ran.replies.items ran.ends.items
+  tell = tell_all went ran.replies.items ran.ends.items are.each all_short are.written_is are.ends_are
 
   tells : TellInputs (map (λ x. x.items) inputs) lists tell.told
-  tells = subst (λ (is : List (List ℕ)). TellInputs is lists tell.told) h.are.inputs_are tell.streams
+  tells = subst (λ (is : List (List ℕ)). TellInputs is lists tell.told) are.inputs_are tell.streams
 
   counted : IsRun' nothing_stands (failed_calls (S.failures before) 0) (failed_calls (S.failures ran.store) 0) []
       (joined lists) leaves.book
@@ -272,7 +280,7 @@ module _ {X : Type 0} (S : StoreGhosts X) (limit : ℕ) (before : X) (inputs : L
       subst (λ (all : List Answered). IsRun' nothing_stands (failed_calls (S.failures before) 0)
       (failed_calls (S.failures ran.store) 0) [] all leaves.book) one_list
       (subst (λ (f : List ℕ → Option (List ℕ)). IsRun' (λ name. is_some (f name)) (failed_calls (S.failures before) 0)
-      (failed_calls (S.failures ran.store) 0) [] (answered_in h.went) leaves.book) none_first leaves.run)
+      (failed_calls (S.failures ran.store) 0) [] (answered_in went) leaves.book) none_first leaves.run)
 
   from_none : IsRun' nothing_stands 0 failures [] (joined lists) leaves.book
   from_none =
@@ -315,7 +323,14 @@ module _ {X : Type 0} (S : StoreGhosts X) (limit : ℕ) (before : X) (inputs : L
             ∙ ap (λ (b : Book). content_in no_contents limit b name) left;
       }
 
-  pub replayed : Replayed limit (map (λ x. x.items) inputs) failures ran.replies.items ran.ends.items (S.contents ran.store)
+  called : S.calls ran.store ≤ 4 * (all_done leaves.book + failures)
+  called =
+      let below : S.failures ran.store < last_count = omega (arith, failed, few) in
+      let bound = leaves.calls below in
+      omega (arith, bound, unasked, failed)
+
+  pub replayed : Replayed limit (map (λ x. x.items) inputs) failures (S.calls ran.store) ran.replies.items ran.ends.items
+      (S.contents ran.store)
   replayed = record {
     told = tell.told;
     run = record {
@@ -334,6 +349,7 @@ module _ {X : Type 0} (S : StoreGhosts X) (limit : ℕ) (before : X) (inputs : L
       in_order = in_order;
     };
     kept = tell.kept;
+    most = called;
   }
 
 -- what follows where a call succeeded, by two of its facts
@@ -345,22 +361,26 @@ with_ok (Err e) P Q N f p n = tt
 -- the text of such a run, over these files of a store in memory
 pub text_replayed : (limit : ℕ) (fuse : Option ℕ) (calls : ℕ) (inputs : List (List ℕ)) (rs : List (Vec ℕ Global))
     (es : List ExchangeEnd) (store told_from : MemoryStore) (text : List ℕ) →
-    Replayed limit inputs (failures_under fuse calls) rs es (content_under store.files) →
+    Replayed limit inputs (failures_under fuse calls) calls rs es (content_under store.files) →
     SufficeForAll (content_under store.files) calls →
     told_from ≡ store → AreNames (names_of told_from) (content_under told_from.files) →
     ((told : List ToldExchange) → AllTell rs es told →
     text ≡ exchanges_text 0 told ++ files_text (content_under told_from.files) (names_of told_from)) →
     IsRunText limit fuse inputs text
-text_replayed limit fuse calls inputs rs es store told_from text h took same names is = record {
-  told = h.told;
-  contents = content_under told_from.files;
-  calls = calls;
-  failures = failures_under fuse calls;
-  failed = refl;
-  run = subst (λ (s : MemoryStore). IsRun limit inputs (failures_under fuse calls) h.told (content_under s.files)) (sym same) h.run;
-  names = names_of told_from;
-  ordered = names;
-  took = subst (λ (s : MemoryStore). SufficeForAll (content_under s.files) calls) (sym same) took
-      (names_of told_from) names.ordered;
-  is = is h.told h.kept;
-}
+text_replayed limit fuse calls inputs rs es store told_from text kept took same names is =
+    let h = subst (λ (s : MemoryStore). Replayed limit inputs (failures_under fuse calls) calls rs es
+    (content_under s.files)) (sym same) kept in
+    record {
+      told = h.told;
+      contents = content_under told_from.files;
+      calls = calls;
+      failures = failures_under fuse calls;
+      failed = refl;
+      run = h.run;
+      most = h.most;
+      names = names_of told_from;
+      ordered = names;
+      took = subst (λ (s : MemoryStore). SufficeForAll (content_under s.files) calls) (sym same) took
+          (names_of told_from) names.ordered;
+      is = is h.told h.kept;
+    }

@@ -1,10 +1,11 @@
 -- What a replay reads and writes, and how it ends.
-use Rattle.std.specs.Prelude.{◌≡◌, ℕ, Option, List, ◌++◌, Result, Ok, Err}
+use Rattle.std.specs.Prelude.{◌≡◌, ℕ, Option, List, ◌++◌, Result, Ok, Err, ◌*◌}
 use Rattle.bw_store.specs.MemoryNames.{AreNames}
 use Rattle.bw_stream.specs.Readers.{Of}
 use Rattle.bw_console.specs.Deeds.{Deed}
 use Rattle.bw_console.specs.Faults.{IsToldBy, RefusesInput, exit_of, is_read}
 use Rattle.bw_console.specs.Input.{Asked, asked_by, TooLong, NotHex, Exchanges}
+use Rattle.bw_engine.specs.ServerRuns.{all_done}
 use Rattle.bw_commands.specs.OneFuse.{failures_under, SufficeFor}
 use Rattle.bw_console.specs.Printing.{Print, Nothing, Whole, Part}
 use Rattle.bw_commands.specs.Runs.{ToldExchange, IsRun}
@@ -27,6 +28,8 @@ pub record IsRunText (limit : ℕ) (fuse : Option ℕ) (inputs : List (List ℕ)
   pub ordered : AreNames names contents
   -- .. each file took the calls that made it and wrote it
   pub took : SufficeFor contents names calls
+  -- .. and at most four came for each number that was done, and for the one whose call failed
+  pub most : calls ≤ 4 * (all_done run.book + failures)
   pub is : text ≡ exchanges_text 0 told ++ files_text contents names
 
 -- the input asks for exchanges, and this is the text of a run of them

@@ -57,8 +57,8 @@ pub fn replay<R: Source, W: Sink, E: Sink>(
 /// that one failed only where it did.
 ///
 /// # Not specified
-/// - How many store calls a run makes, but for those that its files took: so which reply reports
-///   the failed call.
+/// - How many store calls a run makes, between those that its files took and four for each number
+///   that was done or tried: so which reply reports the failed call.
 /// - When memory is refused.
 /// - Of a reader that doesn't report its bytes: what is refused, and what the text is of.
 pub fn replay_fused<R: Source, W: Sink, E: Sink>(
@@ -139,7 +139,7 @@ fn run_text(
     let Ok(run) = ingest_run(alloc, store, limit, inputs) else {
         return Err(AllocError);
     };
-    // That this is the store that was passed in is no clause of `ingest_run`.
+    // No clause of a store's calls says that they keep its fuse, nor that there is memory for them.
     if !run.store.kept_to(fuse) {
         return Err(AllocError);
     }

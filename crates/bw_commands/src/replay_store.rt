@@ -26,6 +26,7 @@ impl ReplayStore {
     /// An empty store, of which no call came.
     pub(crate) fn new(alloc: Global, fuse: Option<u32>) -> Result<ReplayStore, AllocError>
         ensures failures { IfOk result (λ s. s.store.tally.failures ≡ 0) }
+        ensures calls { IfOk result (λ s. s.store.tally.calls ≡ 0) }
         ensures empty { IfOk result (λ s. (name : List ℕ) →
             content_under s.store.inner.files name ≡ None) }
     {

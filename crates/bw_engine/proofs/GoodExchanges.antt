@@ -1,10 +1,10 @@
 -- Inputs whose run goes well, as the definitions' exchanges.
-use Rattle.std.proofs.Common.{◌≡◌, ℕ, Bool, false, List, [], ◌∷◌, ◌++◌, Option, Some, None}
+use Rattle.std.proofs.Common.{◌≡◌, ℕ, Bool, false, List, [], ◌∷◌, ◌++◌, length, Option, Some, None}
 use Rattle.std.proofs.Common.{refl, sym, ◌∙◌, ap, arith, ◌||◌}
 use Rattle.std.specs.Prelude.{map, flat_map}
 use Rattle.std.specs.List.{AllByRecursion, list_any}
 use Rattle.std.proofs.lemmas.Bool.{or_parts}
-use Rattle.std.proofs.lemmas.List.{map-append}
+use Rattle.std.proofs.lemmas.List.{map-append, length-append}
 use Rattle.std.proofs.lemmas.List.Folds.{list_any-append, flat_map-map}
 use Rattle.std.proofs.lemmas.Grind.{flat_map-append}
 use Rattle.bw_model.specs.Wire.{Second, Frame}
@@ -31,7 +31,10 @@ to_its_end x h short = go (end_in x.end) refl h
   where
     go : (o : Option End) → end_in x.end ≡ o → IsServedTo o x → ToItsEnd x
     go (Some end) e h = record { end = end; is = e; whole = h }
-    go None e h = let long = h.long in absurd (omega (arith, long, short))
+    go None e h =
+        let long = h.long in
+        let len = ap length (sym h.all) ∙ length-append h.bytes_read h.unread in
+        absurd (omega (arith, long, len, short))
 
 -- the frames that were answered are those of the inputs
 pub frames_answered : (went : List ServedInput) → AllByRecursion WasServed went →

@@ -1,3 +1,4 @@
+mod DoneCounts
 mod ServedRuns
 mod InputSteps
 pub mod GoodExchanges

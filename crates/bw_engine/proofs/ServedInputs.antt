@@ -1,8 +1,8 @@
 -- An exchange over an input in memory.
-use Rattle.std.proofs.Common.{◌≡◌, ◌≢◌, ℕ, true, List, [], ◌++◌, length, Option, Some, refl, sym, ap, ◌∙◌, subst, arith}
+use Rattle.std.proofs.Common.{◌≡◌, ◌≢◌, ℕ, true, List, [], ◌++◌, Option, Some, refl, sym, ap, ◌∙◌, subst, arith}
 use Rattle.std.specs.List.{list_all}
 use Rattle.std.proofs.lemmas.Bool.{and_from}
-use Rattle.std.proofs.lemmas.List.{length-append, append-nil}
+use Rattle.std.proofs.lemmas.List.{append-nil}
 use Rattle.std.proofs.lemmas.List.Folds.{list_all-append}
 use Rattle.bw_model.specs.Wire.{Frame, are_bytes}
 use Rattle.bw_model.specs.Replies.{Reply, is_reply}
@@ -51,14 +51,16 @@ was_served (ends.BadFrame fault) input fed rest output left left' answered fits 
       spelled = both_spelled answered (BadFrame (reason_meaning fault.reason) fault.offset) spelled h.spelled;
     }
 was_served ends.TurnLimit input fed rest output left left' answered fits all from spelled h reads write memory =
-    let len = ap length (sym all) ∙ length-append fed rest in
-    let read = h.1 in
     record {
       end_is = refl;
-      long = omega (arith, len, read);
+      bytes_read = fed;
+      unread = rest;
+      all = all;
+      long = h.1;
+      answers = h.0;
+      spelled = spelled;
       first = subst (AreFirstOf (frames_of answered)) all (first_of_more (frames_of answered) fed rest
           (ap are_bytes all ∙ fits) ([], h.0.frames ∙ sym (append-nil (frames_of answered))));
-      replies = h.0.written;
     }
 was_served ends.ReadFault input fed rest output left left' answered fits all from spelled h reads write memory =
     absurd (omega (arith, reads))

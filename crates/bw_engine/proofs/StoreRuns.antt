@@ -1,8 +1,9 @@
 -- What a run leaves in the store.
-use Rattle.std.proofs.Common.{◌≡◌, ℕ, Bool, List, [], Some, None, refl, sym, ◌∙◌, ap}
-use Rattle.std.proofs.Common.{subst, inl}
+use Rattle.std.proofs.Common.{◌≡◌, ℕ, ◌+◌, ◌*◌, ◌≤◌, ◌<◌, Bool, List, [], Some, None, refl, sym, ◌∙◌, ap}
+use Rattle.std.proofs.Common.{subst, inl, inr, arith}
 use Rattle.std.specs.Prelude.{IsTrue, is_some, map}
 use Rattle.bw_model.specs.Book.{Book}
+use Rattle.bw_model.specs.Counts.{last_count}
 use Rattle.bw_model.specs.Holds.{Kept, Holds}
 use Rattle.bw_model.specs.Wire.{Frame}
 use Rattle.bw_model.specs.Exchange.{content_in, replies_bytes, exchanges}
@@ -19,6 +20,7 @@ use Rattle.bw_session.specs.declared.server.Server.{Server}
 use Rattle.bw_exchange.specs.Answering.{Answered, AnswersAll}
 use Rattle.bw_session.specs.ServerTurns.{ServerTurn}
 use Rattle.bw_exchange.specs.TurnRuns.{IsRun, with_good_luck}
+use Rattle.bw_engine.specs.ServerRuns.{all_done}
 use Rattle.bw_engine.specs.Ingesting.{answered_in, LeavesRun, Ingests, IngestsInPart, bytes_in}
 use Rattle.bw_engine.specs.Ingesting.{GoWell, RunsAsDefined, end_in, frames_in, IsShort, TellsNoWant}
 use Rattle.bw_engine.specs.declared.ingest.Run.{Run}
@@ -27,6 +29,17 @@ use Rattle.bw_engine.proofs.InputSteps.{none_first}
 use Rattle.bw_engine.proofs.ServedRuns.{servers_run}
 use Rattle.bw_exchange.proofs.GoodRuns.{in_order_well, good_run}
 use Rattle.bw_engine.proofs.GoodExchanges.{frames_answered, none_wanted, exchanges_well}
+
+-- the calls of a store whose failures alone are counted
+store_calls : (failures failures' calls calls' done : ℕ) → failed_calls failures 0 ≤ failed_calls failures' 0 →
+    (failed_calls failures' 0 < last_count →
+    calls' + 4 * (0 + failed_calls failures 0) ≤ calls + 4 * (done + failed_calls failures' 0)) →
+    failures' < last_count → calls' + 4 * failures ≤ calls + 4 * (done + failures')
+store_calls failures failures' calls calls' done up few below =
+    let same' : failed_calls failures' 0 ≡ failures' = omega (arith, below) in
+    let same : failed_calls failures 0 ≡ failures = omega (arith, below, up, same') in
+    let bound = few (omega (arith, same', below)) in
+    omega (arith, same, same', bound)
 
 module _ {X : Type 0} (S : StoreGhosts X) where
   -- of an empty run
@@ -47,6 +60,7 @@ module _ {X : Type 0} (S : StoreGhosts X) where
   leaves_nothing limit store honest = record {
     book = [];
     run = (refl, refl);
+    calls = λ below. omega arith;
     kept_of = λ n. None;
     held = empty_held limit store;
     files = λ n which. held_files limit (store_since S (S.contents store) store) (λ k. None) []
@@ -83,26 +97,39 @@ module _ {X : Type 0} (S : StoreGhosts X) where
               (failed_calls (S.failures new.stores.store) 0) [] answered x.later) count
               (subst (λ (n : ℕ). IsRun (λ name. is_some (S.contents store name)) (failures_of S J old) n [] answered
               x.later) count' x.went);
+          calls = store_calls (S.failures store) (S.failures new.stores.store) (S.calls store) (S.calls new.stores.store)
+              (all_done x.later)
+              (subst (λ (n : ℕ). n ≤ failed_calls (S.failures new.stores.store) 0) count
+              (subst (λ (n : ℕ). failures_of S J old ≤ n) count' r.no_less))
+              (subst (λ (s : X). failed_calls (S.failures new.stores.store) 0 < last_count →
+              S.calls new.stores.store + 4 * (0 + failed_calls (S.failures store) 0)
+              ≤ S.calls s + 4 * (all_done x.later + failed_calls (S.failures new.stores.store) 0)) begun
+              (subst (λ (n : ℕ). failed_calls (S.failures new.stores.store) 0 < last_count →
+              S.calls new.stores.store + 4 * (0 + n)
+              ≤ S.calls old.stores.store + 4 * (all_done x.later + failed_calls (S.failures new.stores.store) 0)) count
+              (subst (λ (n : ℕ). n < last_count → S.calls new.stores.store + 4 * (0 + failures_of S J old)
+              ≤ S.calls old.stores.store + 4 * (all_done x.later + n)) count' x.calls)));
           kept_of = kept_in new.sessions;
           held = held;
           files = λ n which. held_files limit (store_since S (S.contents store) new.stores.store)
               (kept_in new.sessions) x.later held (r.honest ∙ was_honest) n which;
         }
 
-  pub ingests_nothing : (limit : ℕ) (store : X) (inputs : List (List ℕ)) →
-      IngestsInPart S limit store inputs store
-  ingests_nothing limit store inputs = record {
+  pub ingests_nothing : {Y : Type 0} (J : JournalGhosts Y) (limit : ℕ) (store : X) (inputs : List (List ℕ)) →
+      IngestsInPart S J limit store inputs store
+  ingests_nothing J limit store inputs = record {
     went = [];
     next = [];
     are = record { left = inputs; inputs_are = refl; each = tt; first = none_first inputs };
+    store = inr (refl, refl);
     leaves = λ honest. leaves_nothing limit store honest;
   }
 
   -- what is in order goes as the definitions' exchanges go
-  pub ingests_well : (limit : ℕ) (before : X) (inputs : List (List ℕ)) (run : Run X) →
-      Ingests S limit before inputs run → IsTrue (S.honest before) →
+  pub ingests_well : {Y : Type 0} (J : JournalGhosts Y) (limit : ℕ) (before : X) (inputs : List (List ℕ)) (run : Run X) →
+      Ingests S J limit before inputs run → IsTrue (S.honest before) →
       GoWell inputs (bytes_in run.replies.items) → RunsAsDefined S limit before inputs run
-  ingests_well limit before inputs run h honest well =
+  ingests_well J limit before inputs run h honest well =
       let stood : List ℕ → Bool = λ n. is_some (S.contents before n) in
       let leaves = h.leaves honest in
       let short = subst (AllByRecursion IsShort) (sym h.are.inputs_are) well.short in

@@ -1,8 +1,9 @@
 -- Whole inputs, each served as an exchange, and what they leave in a store.
-use Rattle.std.specs.Prelude.{◌≡◌, ◌⊎◌, ℕ, ◌<◌, ◌≤◌, true, false, IsTrue, IsFalse, Option, Some}
+use Rattle.std.specs.Prelude.{◌≡◌, ◌⊎◌, ℕ, ◌+◌, ◌*◌, ◌<◌, ◌≤◌, true, false, IsTrue, IsFalse, Option, Some}
 use Rattle.std.specs.Prelude.{None, is_some, List, [], ◌∷◌, ◌++◌, length, map, flat_map, Vec}
 use Rattle.std.specs.List.{AllByRecursion, list_all, list_any}
 use Rattle.std.specs.declared.alloc.Global.{Global}
+use Rattle.bw_model.specs.Counts.{last_count}
 use Rattle.bw_model.specs.Wire.{Second, Frame}
 use Rattle.bw_model.specs.Replies.{Reply, is_reply}
 use Rattle.bw_model.specs.Stream.{End, EndOfInput, SaidBye, BadFrame, stream_of}
@@ -14,12 +15,18 @@ use Rattle.bw_model.specs.Exchange.{replies_bytes, last_reply, exchanges, take_i
 use Rattle.bw_model.specs.Holds.{Kept, Holds}
 use Rattle.bw_wire.specs.Reasons.{reason_meaning}
 use Rattle.bw_store.specs.declared.store.TakeStore.{Ghosts as StoreGhosts}
+use Rattle.bw_journal.specs.declared.journal.Journal.{Ghosts as JournalGhosts}
+use Rattle.bw_session.specs.Books.{HoldsBook}
 use Rattle.bw_session.specs.Numbered.{failed_calls}
 use Rattle.bw_session.specs.Servers.{store_since}
 use Rattle.bw_exchange.specs.Answering.{Answered, frames_of, replies_of, AnswersAll}
 use Rattle.bw_exchange.specs.Done.{AreFirstOf}
 use Rattle.bw_exchange.specs.Served.{most_reads}
 use Rattle.bw_exchange.specs.TurnRuns.{IsRun, with_good_luck}
+use Rattle.bw_session.specs.declared.server.Server.{Server}
+use Rattle.bw_exchange.specs.Served.{AnswersAllRead}
+use Rattle.bw_session.specs.ServerTurns.{ServerTurn}
+use Rattle.bw_engine.specs.ServerRuns.{all_done}
 use Rattle.bw_engine.specs.declared.ingest.Run.{Run}
 use Rattle.bw_engine.specs.declared.ingest.Told.{Told}
 use Rattle.bw_exchange.specs.declared.serving.ExchangeEnd.{ExchangeEnd}
@@ -49,13 +56,18 @@ pub record IsServedWhole (x : ServedInput) (end : End) : Type 0 where
   -- each of which has a spelling
   pub spelled : IsTrue (list_all is_reply (replies_of x.answered ++ last_reply end))
 
--- So many reads were not enough for its bytes: its first frames were answered, and the replies
--- written.
+-- So many reads were not enough for its bytes: all whole frames of what was read were answered, and
+-- the replies written.
 pub record IsCutOff (x : ServedInput) : Type 0 where
   pub end_is : x.end ≡ ends.TurnLimit
-  pub long : most_reads ≤ length x.input
+  pub bytes_read : List ℕ
+  pub unread : List ℕ
+  pub all : bytes_read ++ unread ≡ x.input
+  pub long : most_reads ≤ length bytes_read
+  pub answers : AnswersAllRead x.answered bytes_read x.written
+  -- each reply has a spelling
+  pub spelled : IsTrue (list_all is_reply (replies_of x.answered))
   pub first : AreFirstOf (frames_of x.answered) x.input
-  pub replies : x.written ≡ replies_bytes (replies_of x.answered)
 
 -- it was served to the end that its bytes tell, or was cut off
 abbrev pub IsServedTo : Option End → ServedInput → Type 0
@@ -134,25 +146,15 @@ module _ {X : Type 0} (S : StoreGhosts X) (limit : ℕ) (before : X) where
     pub book : Book
     pub run : IsRun (λ name. is_some (S.contents before name)) (failed_calls (S.failures before) 0)
         (failed_calls (S.failures after) 0) [] answered book
+    -- the store was called at most four times for each number that was done, and four for each call
+    -- that failed
+    pub calls : S.failures after < last_count →
+        S.calls after + 4 * S.failures before ≤ S.calls before + 4 * (all_done book + S.failures after)
     pub kept_of : List ℕ → Option Kept
     pub held : Holds limit (store_since S (S.contents before) after) kept_of book
     pub files : (name : List ℕ) → (is_pending (log_of book name) ≡ false)
         ⊎ ((take_in false book name).closed ≡ true) →
         S.contents after name ≡ content_in (S.contents before) limit book name
-
-  -- The inputs were served, one after another; over an honest store, all in one run.
-  pub record Ingests (inputs : List (List ℕ)) (run : Run X) : Type 0 where
-    pub went : List ServedInput
-    pub are : AreServed went inputs (bytes_in run.replies.items) run.ends.items
-    pub leaves : IsTrue (S.honest before) → LeavesRun (answered_in went) run.store
-
-  -- The first of the inputs were served, and first frames of the next; over an honest store, all in
-  -- one run.
-  pub record IngestsInPart (inputs : List (List ℕ)) (after : X) : Type 0 where
-    pub went : List ServedInput
-    pub next : List Answered
-    pub are : AreServedInPart went next inputs
-    pub leaves : IsTrue (S.honest before) → LeavesRun (answered_in went ++ next) after
 
   -- What is written, the ends and the contents are those of the definitions' exchanges, in which
   -- memory and store give all that is asked of them.
@@ -164,6 +166,39 @@ module _ {X : Type 0} (S : StoreGhosts X) (limit : ℕ) (before : X) where
     pub files : (name : List ℕ) → S.contents run.store name
         ≡ content_in (S.contents before) limit (book_after (λ n. is_some (S.contents before n)) []
         (with_good_luck (frames_in inputs))) name
+
+module _ {X Y : Type 0} (S : StoreGhosts X) (J : JournalGhosts Y) (limit : ℕ) (before : X) where
+  -- A new server over this store answered these frames, one after another, and its store is the one
+  -- that is left: whatever store it is, it was asked what the turns ask, and nothing else.
+  pub record WentThrough (answered : List Answered) (after : X) : Type 0 where
+    pub server : Server X Y S J
+    pub store_is : server.stores.store ≡ before
+    pub limit_is : server.limit ≡ limit
+    pub new : HoldsBook S J (S.contents before) server []
+    pub behind : Server X Y S J
+    pub by_server : AnswersAll (ServerTurn S J) server answered behind
+    pub left : after ≡ behind.stores.store
+
+  -- it did; or no server was made, nothing was answered, and the store is as it was
+  abbrev pub CameBack : List Answered → X → Type 0
+  CameBack answered after = WentThrough answered after ⊎ ((answered ≡ []) × (after ≡ before))
+
+  -- The inputs were served, one after another; over an honest store, all in one run.
+  pub record Ingests (inputs : List (List ℕ)) (run : Run X) : Type 0 where
+    pub went : List ServedInput
+    pub are : AreServed went inputs (bytes_in run.replies.items) run.ends.items
+    pub store : WentThrough (answered_in went) run.store
+    pub leaves : IsTrue (S.honest before) → LeavesRun S limit before (answered_in went) run.store
+
+  -- The first of the inputs were served, and first frames of the next; over an honest store, all in
+  -- one run.
+  pub record IngestsInPart (inputs : List (List ℕ)) (after : X) : Type 0 where
+    pub went : List ServedInput
+    pub next : List Answered
+    pub are : AreServedInPart went next inputs
+    pub store : CameBack (answered_in went ++ next) after
+    pub leaves : IsTrue (S.honest before) →
+        LeavesRun S limit before (answered_in went ++ next) after
 
 -- there are fewer bytes than an exchange has reads
 abbrev pub IsShort : List ℕ → Type 0

@@ -1,13 +1,20 @@
 -- Runs of turns, as a server's answers are one.
-use Rattle.std.specs.Prelude.{◌≡◌, ℕ, IsTrue, Option, is_some, List}
+use Rattle.std.specs.Prelude.{◌≡◌, ℕ, IsTrue, Option, is_some, List, ◌+◌, ◌≤◌, ◌<◌, length, ◌*◌, sum_by}
+use Rattle.std.specs.List.{AllByRecursion, list_any}
+use Rattle.bw_model.specs.Counts.{last_count}
 use Rattle.bw_model.specs.Book.{Book}
 use Rattle.bw_store.specs.declared.store.TakeStore.{Ghosts as StoreGhosts}
+use Rattle.bw_model.specs.CountedTurn.{is_delayed}
 use Rattle.bw_journal.specs.declared.journal.Journal.{Ghosts as JournalGhosts}
 use Rattle.bw_session.specs.Books.{failures_of, HoldsBook, NotesBook}
 use Rattle.bw_session.specs.declared.server.Server.{Server}
-use Rattle.bw_exchange.specs.Answering.{Answered, AnswersAll}
+use Rattle.bw_exchange.specs.Answering.{Answered, AnswersAll, replies_of}
 use Rattle.bw_exchange.specs.TurnRuns.{IsRun}
-use Rattle.bw_session.specs.ServerTurns.{ServerTurn}
+use Rattle.bw_session.specs.ServerTurns.{most_replies, ServerTurn}
+
+-- how many numbers have their verdicts, of all names
+abbrev pub all_done : Book → ℕ
+all_done book = sum_by (λ entry. entry.1.done) book
 
 module _ {X Y : Type 0} (S : StoreGhosts X) (J : JournalGhosts Y) where
   -- The frames are answered in a run from this book on; the server holds the later one, and an
@@ -18,16 +25,28 @@ module _ {X Y : Type 0} (S : StoreGhosts X) (J : JournalGhosts Y) where
     pub went : IsRun (λ name. is_some (first name)) (failures_of S J old) (failures_of S J new)
         book answered later
     pub held : HoldsBook S J first new later
+    -- the store was called at most four times for each number that was done, and four for each call
+    -- that failed
+    pub calls : failures_of S J new < last_count →
+        S.calls new.stores.store + 4 * (all_done book + failures_of S J old)
+        ≤ S.calls old.stores.store + 4 * (all_done later + failures_of S J new)
     pub noted : IsTrue (J.honest old.stores.journal) → NotesBook S J first old book →
         NotesBook S J first new later
 
-  -- A server may answer these frames so: its limit stays, store and journal are as honest as they
-  -- were, and over an honest store it is a run from every book that the server holds.
+  -- A server may answer these frames so. Over any store and journal its limit stays, these are as
+  -- honest as they were, each frame has few replies, and none tells of a failed call unless one was
+  -- counted; over an honest store it is a run from every book that the server holds.
   pub record ServerRun (old : Server X Y S J) (answered : List Answered)
       (new : Server X Y S J) : Type 0 where
     pub limit : new.limit ≡ old.limit
     pub honest : S.honest new.stores.store ≡ S.honest old.stores.store
     pub honest_notes : J.honest new.stores.journal ≡ J.honest old.stores.journal
+    pub few : AllByRecursion (λ a. length a.replies ≤ most_replies) answered
+    -- the count of failures never falls, and rises by one at most with each frame
+    pub no_less : failures_of S J old ≤ failures_of S J new
+    pub most : failures_of S J new ≤ failures_of S J old + length answered
+    pub delays : failures_of S J old < last_count →
+        IsTrue (list_any is_delayed (replies_of answered)) → failures_of S J old < failures_of S J new
     pub runs : IsTrue (S.honest old.stores.store) → (first : List ℕ → Option (List ℕ))
         (book : Book) → HoldsBook S J first old book → RunsOn first old new book answered
 

@@ -5,6 +5,7 @@ ghost use Rattle.bw_engine.specs.Ingesting.{Ingests, IngestsInPart, GoWell, Runs
 ghost use Rattle.bw_engine.specs.Ingesting.{bytes_in};
 
 use bw_exchange::{ExchangeEnd, Turns, serve_exchange};
+use bw_journal::{Journal, NoJournal};
 use bw_layout::Limit;
 use bw_session::Server;
 use bw_store::TakeStore;
@@ -69,6 +70,9 @@ struct Told {
 
 /// Serves each input as an exchange, one after another, from an empty server over the store on.
 ///
+/// Whatever store it is, it comes back from the server that took it, and was asked only what the
+/// turns ask.
+///
 /// # Errors
 /// `Memory`, with the store, where memory was refused: the inputs before were served, and first
 /// frames of the next. Their replies are lost.
@@ -85,12 +89,12 @@ pub fn ingest_run<S: TakeStore>(
     ensures honest { MatchResult result (λ run. S.honest run.store ≡ S.honest store)
         (λ e. S.honest e.1 ≡ S.honest store) }
     ensures ok { IfOk result (λ run.
-        Ingests S.TakeStore limit store (bytes_in inputs.now) run) }
+        Ingests S.TakeStore ⟦<NoJournal as Journal>⟧ limit store (bytes_in inputs.now) run) }
     ensures in_order { IsTrue (S.honest store) → IfOk result (λ run.
         GoWell (bytes_in inputs.now) (bytes_in run.replies.items) →
         RunsAsDefined S.TakeStore limit store (bytes_in inputs.now) run) }
     ensures err { IfErr result (λ e.
-        IngestsInPart S.TakeStore limit store (bytes_in inputs.now) e.1) }
+        IngestsInPart S.TakeStore ⟦<NoJournal as Journal>⟧ limit store (bytes_in inputs.now) e.1) }
 {
     let mut server = match Server::new(alloc, store, limit) {
         Ok(server) => server,

@@ -11,11 +11,12 @@ use std::io::{ErrorKind, Seek, SeekFrom, Write};
 
 /// The files of the system, by the calls of std.
 ///
-/// Of a write it is proved that the file is sought at its offset, and that then exactly its bytes
-/// are written, once; where the seek fails, nothing is written. No clause of std says what a file of
-/// the system then holds, nor anything of `create_new` and `sync_all`, so `honest` is false here,
-/// and what is proved of honest disks says nothing of this one: that its calls do what is asked of
-/// an honest disk is a premise.
+/// Of a write it is proved over each file that reports its position and its bytes: one that succeeds
+/// sought its offset, and then wrote exactly its bytes, once; one that fails wrote nothing before
+/// that seek, and where this failed nothing at all. A file of the system reports neither, so that
+/// this is known of the code alone. No clause of std says what such a file then holds, nor anything
+/// of `create_new` and `sync_all`, so `honest` is false here, and what is proved of honest disks
+/// says nothing of this one: that its calls do what is asked of an honest disk is a premise.
 #[derive(Drop)]
 pub struct SystemDisk<R> {
     rt: R,
@@ -69,6 +70,9 @@ impl<R: Files + Drop> Disk for SystemDisk<R> {
     ///
     /// # Errors
     /// `DiskFault` where the seek or the write failed: after a failed seek nothing is written.
+    ///
+    /// # Not specified
+    /// After a failed write that a seek came before: what the file holds, and its position.
     fn write_at(&mut self, file: &mut R::File, offset: u64, bytes: &[u8]) -> Result<(), DiskFault>
         ensures call { IsOneCall (λ d. d.tally.calls) (λ d. d.tally.failures) self.old self.new
             (is_err result) }

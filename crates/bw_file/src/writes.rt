@@ -7,7 +7,7 @@ ghost use Rattle.bw_model.specs.File.{cue_chunks};
 ghost use Rattle.bw_file.specs.Conditions.{is_clean};
 ghost use Rattle.bw_store.specs.Stores.{MayTear};
 ghost use Rattle.bw_store.specs.StoreSteps.{Shared, WasAsked, WasAskedFirst};
-ghost use Rattle.bw_file.specs.StoreSteps.{TearsIn, PutsIn};
+ghost use Rattle.bw_store.specs.StoreSteps.{TearsIn, PutsIn};
 ghost use Rattle.bw_file.specs.Plans.{samples_plan, cues_plan, header_plan, sizes_plan, form_plan};
 ghost use Rattle.bw_file.specs.Plans.{grown_plan, closed_plan, field_plan, set_plan};
 ghost use Rattle.bw_file.specs.Headers.{PutsLast, PutsHeader, PutsOver, Updates};

@@ -1,8 +1,9 @@
--- What a lobby counts and tells.
-use Rattle.std.specs.Prelude.{ℕ, Option, Some, None, List, [], ◌∷◌, Result, Err}
+-- What a lobby counts, and whom it let in.
+use Rattle.std.specs.Prelude.{ℕ, Option, Some, None, List, [], ◌∷◌, Result, Ok, Err}
 use Rattle.bw_stream.specs.Moves.{one_more}
 use Rattle.bw_ports.specs.declared.lobby.TryAcceptFault.{TryAcceptFault}
 use Rattle.bw_ports.specs.declared.lobby.TryAcceptFault.TheVariants.{Closed}
+use Rattle.bw_ports.specs.declared.lobby.Guest.{Guest}
 
 -- the count of failures after a peer was asked for: it rises exactly where no more are let in
 abbrev pub closes_after : {G : Type 0} → Result G TryAcceptFault → ℕ → ℕ
@@ -13,3 +14,12 @@ closes_after _ n = n
 abbrev pub those : {X : Type 0} → Option X → List X
 those None = []
 those (Some x) = x ∷ []
+
+-- a link that a lobby gave, behind the place for which it was asked
+abbrev pub Admission : Type 0 → Type 0
+Admission L = ℕ × L
+
+-- what a call for a place comes to: the link that it gave, where it gave one
+abbrev pub admitted_by : {L : Type 0} → ℕ → Result (Guest L) TryAcceptFault → List (Admission L)
+admitted_by place (Ok guest) = (place, guest.link) ∷ []
+admitted_by place (Err fault) = []

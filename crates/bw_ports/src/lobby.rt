@@ -3,7 +3,7 @@ ghost use Rattle.std.specs.Prelude.{◌≡◌, ◌++◌, ◌+◌, ℕ, List, IfO
 ghost use Rattle.bw_stream.specs.Moves.{failures_after, one_more};
 ghost use Rattle.bw_ports.specs.Lobbies.{closes_after, those};
 ghost use Rattle.bw_ports.specs.declared.lobby.Ready.{Ready};
-ghost use Rattle.bw_serve.specs.Lobbies.{Admission, admitted_by};
+ghost use Rattle.bw_ports.specs.Lobbies.{Admission, admitted_by};
 
 use crate::link::Link;
 use std::net::SocketAddr;

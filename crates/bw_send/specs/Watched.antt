@@ -3,7 +3,6 @@ use Rattle.std.specs.Prelude.{ℕ, ◌-◌, ◌^◌, min, List, ◌++◌, take, 
 use Rattle.bw_model.specs.Take.{Request}
 use Rattle.bw_model.specs.World.{Sender, settled, stored}
 use Rattle.bw_request.specs.Requests.{samples_in}
-use Rattle.bw_exchange.specs.LinkCounts.{up_to_last}
 use Rattle.bw_console.specs.Text.{as_line}
 
 -- the bytes of samples in these requests

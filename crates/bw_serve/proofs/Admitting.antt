@@ -7,7 +7,7 @@ use Rattle.std.proofs.lemmas.Bool.Decides.{eqb_tells}
 use Rattle.std.proofs.lemmas.List.{append-nil}
 use Rattle.bw_stream.specs.Moves.{one_more}
 use Rattle.bw_many.specs.declared.connection.Connection.{Connection}
-use Rattle.bw_many.specs.declared.link.Link.{Ghosts as LinkGhosts}
+use Rattle.bw_ports.specs.declared.link.Link.{Ghosts as LinkGhosts}
 use Rattle.bw_many.specs.declared.many.BeginError.{BeginError}
 use Rattle.bw_many.specs.declared.many.Closed.{Closed}
 use Rattle.bw_many.specs.declared.many.Many.{Many}
@@ -17,10 +17,10 @@ use Rattle.bw_many.specs.Places.{begun_of, refused_of}
 use Rattle.bw_many.specs.Working.{BeginsAt, IsEmpty, LeavesOthers, Refuses, StaysAt, StoodUnder}
 use Rattle.bw_many.proofs.Standing.{not_some, some_is}
 use Rattle.bw_serve.specs.Admissions.{Admits, AdmitsEach, AreOf, EndedAs, Hosts, HostsAll, HostsMore, IsHosted, StandsFor}
-use Rattle.bw_serve.specs.Lobbies.{Admission}
+use Rattle.bw_ports.specs.Lobbies.{Admission}
 use Rattle.bw_serve.specs.Rounds.{WakesEach}
 use Rattle.bw_serve.specs.declared.crowd.Crowd.{Crowd}
-use Rattle.bw_serve.specs.declared.lobby.Ready.{Ready}
+use Rattle.bw_ports.specs.declared.lobby.Ready.{Ready}
 use Rattle.bw_serve.proofs.Counting.{stands_or_not}
 
 -- a call to begin either begins, or refuses

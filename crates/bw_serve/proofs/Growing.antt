@@ -18,7 +18,7 @@ use Rattle.bw_exchange.specs.LinkCounts.{up_to_last}
 use Rattle.bw_serve.specs.Crowds.{Advances, Counts, Grows, HasSeats, InTurn, ServesPlace, Stays, can_go_on_below}
 use Rattle.bw_serve.specs.Crowds.{ended_in_turn, frames_in_turn}
 use Rattle.bw_serve.specs.Admissions.{HostsAll, HostsMore}
-use Rattle.bw_serve.specs.Lobbies.{Admission}
+use Rattle.bw_ports.specs.Lobbies.{Admission}
 use Rattle.bw_serve.specs.Lines.{TellsEnds}
 use Rattle.bw_serve.specs.declared.crowd.Crowd.{Crowd}
 use Rattle.bw_serve.proofs.Admitting.{hosts_more_still, hosts_more_then, hosts_served}

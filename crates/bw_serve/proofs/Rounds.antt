@@ -16,7 +16,7 @@ use Rattle.bw_many.specs.Places.{count_of}
 use Rattle.bw_many.specs.Working.{BeginsAt, LeavesOthers, Refuses}
 use Rattle.bw_many.proofs.Standing.{not_some, some_is}
 use Rattle.bw_serve.specs.Admissions.{Admits, AdmitsEach}
-use Rattle.bw_serve.specs.Lobbies.{Admission}
+use Rattle.bw_ports.specs.Lobbies.{Admission}
 use Rattle.bw_serve.specs.Crowds.{Advances, Comes, IsNew, LetsIn}
 use Rattle.bw_serve.specs.Rounds.{ServesInRounds, ServesRound, Welcomes, ended_in_round, frames_in_round}
 use Rattle.bw_serve.specs.declared.crowd.Crowd.{Crowd}

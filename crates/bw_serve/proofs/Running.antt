@@ -18,7 +18,7 @@ use Rattle.bw_exchange.specs.LinkCounts.{up_to_last}
 use Rattle.bw_serve.specs.Crowds.{Advances, CountsOwn, Grows, IsNew}
 use Rattle.bw_serve.specs.Rounds.{ServesInRounds, ServesRound, IsShut, ended_of_run, frames_of_run}
 use Rattle.bw_serve.specs.Admissions.{HostsAll}
-use Rattle.bw_serve.specs.Lobbies.{Admission}
+use Rattle.bw_ports.specs.Lobbies.{Admission}
 use Rattle.bw_serve.specs.Lines.{LogsEnds, TellsEnds}
 use Rattle.bw_serve.specs.Serving.{EndsAt, HasServed}
 use Rattle.bw_serve.specs.declared.crowd.Crowd.{Crowd}

@@ -3,14 +3,14 @@ use Rattle.std.specs.Prelude.{◌≡◌, ◌⊎◌, ℕ, suc, List, [], ◌∷�
 use Rattle.std.specs.List.{AllByRecursion}
 use Rattle.bw_stream.specs.Moves.{one_more}
 use Rattle.bw_many.specs.declared.connection.Connection.{Connection}
-use Rattle.bw_many.specs.declared.link.Link.{Ghosts as LinkGhosts}
+use Rattle.bw_ports.specs.declared.link.Link.{Ghosts as LinkGhosts}
 use Rattle.bw_many.specs.declared.many.Closed.{Closed}
 use Rattle.bw_many.specs.declared.many.Many.{Many}
 use Rattle.bw_many.specs.Keeping.{IsFree, Keeps, StandsAt, Tagged}
 use Rattle.bw_many.specs.Lives.{KeepsPeer}
 use Rattle.bw_many.specs.Places.{begun_of, refused_of}
 use Rattle.bw_many.specs.Working.{BeginsAt, LeavesOthers, Refuses}
-use Rattle.bw_serve.specs.Lobbies.{Admission}
+use Rattle.bw_ports.specs.Lobbies.{Admission}
 use Rattle.bw_serve.specs.declared.crowd.Crowd.{Crowd}
 
 -- a link begins at a place that was free, at this time, under the next number; or it is refused,

@@ -20,7 +20,7 @@ use Rattle.bw_many.specs.Working.{IsEmpty, StaysAt, StoodAt, WorksAt, StoodUnder
 use Rattle.bw_exchange.specs.LinkCounts.{up_to_last, with_frame}
 use Rattle.bw_many.specs.Places.{refused_of}
 use Rattle.bw_serve.specs.Admissions.{AreOf, HostsMore}
-use Rattle.bw_serve.specs.Lobbies.{Admission}
+use Rattle.bw_ports.specs.Lobbies.{Admission}
 use Rattle.bw_serve.specs.Lines.{LogsEnds, TellsEnds, counted_of}
 use Rattle.bw_serve.specs.declared.crowd.Crowd.{Crowd}
 use Rattle.bw_serve.specs.declared.seat.Seat.{Seat}

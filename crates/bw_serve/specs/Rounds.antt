@@ -13,7 +13,7 @@ use Rattle.bw_many.specs.declared.many.Closed.{Closed}
 use Rattle.bw_many.specs.Places.{begun_of, count_of, first_free}
 use Rattle.bw_many.specs.Working.{Wakes}
 use Rattle.bw_serve.specs.Admissions.{AdmitsEach}
-use Rattle.bw_serve.specs.Lobbies.{Admission}
+use Rattle.bw_ports.specs.Lobbies.{Admission}
 use Rattle.bw_serve.specs.Crowds.{Grows, InTurn, IsNew, LetsIn, Stays, can_go_on_in, ended_in_turn}
 use Rattle.bw_serve.specs.Crowds.{frames_in_turn}
 use Rattle.bw_serve.specs.declared.crowd.Crowd.{Crowd}

@@ -16,7 +16,7 @@ use Rattle.bw_serve.specs.declared.crowd.Crowd.{Crowd}
 use Rattle.bw_serve.specs.declared.serving.Bounds.{Bounds}
 use Rattle.bw_serve.specs.Admissions.{HostsAll}
 use Rattle.bw_serve.specs.Crowds.{Grows}
-use Rattle.bw_serve.specs.Lobbies.{Admission}
+use Rattle.bw_ports.specs.Lobbies.{Admission}
 use Rattle.bw_serve.specs.Rounds.{ServesInRounds, ended_of_run, frames_of_run}
 use Rattle.bw_serve.specs.Lines.{LogsEnds, TellsEnds}
 use Rattle.bw_ports.specs.declared.lobby.Lobby.{Ghosts as LobbyGhosts}

@@ -44,7 +44,7 @@ impl<L: Link + Drop> Crowd<L> {
     ghost use Rattle.bw_serve.specs.Crowds.{Counts, Grows, HasSeats, IsNew, InTurn, LetsIn};
     ghost use Rattle.bw_serve.specs.Crowds.{ServesPlace, Stays, WorksCounted, can_go_on_in};
     ghost use Rattle.bw_serve.specs.Rounds.{AsksIn, NoticesAll, Welcomes};
-    ghost use Rattle.bw_serve.specs.Lobbies.{Admission};
+    ghost use Rattle.bw_ports.specs.Lobbies.{Admission};
     ghost use Rattle.bw_serve.specs.Seats.{LogsAt};
     ghost use Rattle.bw_ports.specs.declared.lobby.Ready.{Ready};
 

@@ -1,6 +1,6 @@
 -- What is asked of a store while numbers are done.
 use Rattle.std.proofs.Common.{◌≡◌, ℕ, suc, zero, Bool, true, false, cond, List, ◌∷◌, ◌++◌, [], Option, Some, None, refl}
-use Rattle.std.proofs.Common.{sym, ◌∙◌, ap, subst, arith, Ok, Err, Result}
+use Rattle.std.proofs.Common.{sym, ◌∙◌, ap, subst, arith, Ok, Err, Result, inl, inr, ◌⊎◌}
 use Rattle.std.specs.Prelude.{OnErr, IfOk}
 use Rattle.bw_model.specs.Take.{Parts, Request, Open, Block, Mark, SetField, Close, Verdict, judge, is_stored}
 use Rattle.bw_take.specs.States.{parts_with}
@@ -15,7 +15,8 @@ use Rattle.bw_wire.specs.Bodies.{message_in}
 use Rattle.bw_session.specs.Carrying.{judged_plan}
 use Rattle.bw_session.specs.KeptParts.{Part}
 use Rattle.bw_session.specs.Judging.{judged_by, parts_under, KeepsJudged}
-use Rattle.bw_session.specs.Asking.{DoesFirst, TriesFirst, DoesInRow, DoesRun, window_with, holding, AsksInTurn}
+use Rattle.bw_session.specs.Asking.{DoesFirst, TriesFirst, DoesInRow, DoesRun, IsIdle, window_with, holding}
+use Rattle.bw_session.specs.Asking.{AsksInTurn}
 use Rattle.bw_session.specs.Asking.{new_part}
 use Rattle.std.specs.Option.{option_map_or}
 use Rattle.std.specs.Prelude.{slice_set, is_some, nat_lt, nat_le}
@@ -63,6 +64,11 @@ module _ (p q s : Parts) (r : Request) (v : Verdict) (known : q ≡ record p { t
       ∙ ap (λ (x : Parts). parts_under (judged_by p r s.taken) x r)
       (known ∙ ap (λ (b : Bool). record p { taken = b }) (sym taken_is))
 
+-- no number is left, behind one more
+one_further : (a : Part) (count most : ℕ) → IsIdle a ⊎ (count ≡ most) → IsIdle a ⊎ (suc count ≡ suc most)
+one_further a count most (inl idle) = inl idle
+one_further a count most (inr all) = inr (ap suc all)
+
 module _ {X : Type 0} (S : StoreGhosts X) where
   -- one number is done, where its request is read off its body
   pub does_first : (a b : Part) (x y : X) (body digest : List ℕ) (r : Request) (v : Verdict) →
@@ -109,24 +115,40 @@ module _ {X : Type 0} (S : StoreGhosts X) where
   )
   row_after (suc n) a b c x y z first row = (row.0, row.1, row_after n a b row.0 x y row.1 first row.2, row.3)
 
-  pub run_after : (stopped : Bool) (a b c : Part) (x y z : X) → DoesFirst S a x b y → DoesRun S stopped b y c z →
-      DoesRun S stopped a x c z
-  run_after stopped a b c x y z first run = record {
+  pub run_after : (most : ℕ) (stopped : Bool) (a b c : Part) (x y z : X) → DoesFirst S a x b y →
+      DoesRun S most stopped b y c z → DoesRun S (suc most) stopped a x c z
+  run_after most stopped a b c x y z first run = let within = run.within in record {
     count = suc run.count;
+    within = omega (arith, within);
     last = run.last;
     reached = run.reached;
     done = row_after run.count a b run.last x y run.reached first run.done;
     end = run.end;
+    all = λ whole. one_further run.last run.count most (run.all whole);
   }
 
+  -- where no reply was given yet sixteen numbers may be done, and behind one reply fifteen
+  pub run_from_none : {A : Type 0} (told : List A) (stopped : Bool) (a b : Part) (x y : X) → told ≡ [] →
+      DoesRun S (16 - length told) stopped a x b y → DoesRun S 16 stopped a x b y
+  run_from_none {A} told stopped a b x y none run =
+      subst (λ (t : List A). DoesRun S (16 - length t) stopped a x b y) none run
+
+  pub run_from_one : {A : Type 0} (old told : List A) (r : A) (stopped : Bool) (a b : Part) (x y : X) → old ≡ [] →
+      told ≡ old ++ r ∷ [] → DoesRun S (16 - length told) stopped a x b y → DoesRun S 15 stopped a x b y
+  run_from_one {A} old told r stopped a b x y none one run =
+      subst (λ (t : List A). DoesRun S (16 - length t) stopped a x b y)
+      (one ∙ ap (λ (t : List A). t ++ r ∷ []) none) run
+
   -- the first number was only tried
-  pub run_tried : (a b : Part) (x y : X) → TriesFirst S a x b y → DoesRun S true a x b y
-  run_tried a b x y tried = record {
+  pub run_tried : (most : ℕ) (a b : Part) (x y : X) → TriesFirst S a x b y → DoesRun S most true a x b y
+  run_tried most a b x y tried = record {
     count = 0;
+    within = omega arith;
     last = a;
     reached = x;
     done = (refl, refl);
     end = tried;
+    all = λ whole. absurd cc;
   }
 
 -- where a message stands that is the next and isn't held

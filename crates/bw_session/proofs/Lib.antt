@@ -22,5 +22,5 @@ pub mod JournalForms
 pub mod SettledForms
 pub mod UseForms
 pub mod AskForms
-mod ServerAnswers
+pub mod ServerAnswers
 pub mod PromiseForms

@@ -1,16 +1,22 @@
 -- A server's answers as turns on the books that it may hold.
 use Rattle.std.proofs.Common.{◌≡◌, ℕ, Bool, true, false, length, Option, Some, None, List, refl, sym, ◌∙◌, ap}
-use Rattle.std.specs.Prelude.{option_map, ◌∷◌, []}
+use Rattle.std.specs.Prelude.{option_map, ◌∷◌, [], ◌||◌, map}
+use Rattle.std.specs.List.{All, list_any}
 use Rattle.std.specs.Option.{option_map_or}
+use Rattle.std.proofs.lemmas.List.Elements.{All-head, All-tail}
+use Rattle.bw_model.specs.Counts.{Counts}
 use Rattle.bw_model.specs.Wire.{Message, Says, Asks}
 use Rattle.bw_model.specs.Replies.{Reply, Noticed, Next}
 use Rattle.bw_model.specs.Book.{Log, Book, log_of}
 use Rattle.bw_model.specs.Turn.{good, turn}
-use Rattle.bw_model.specs.CountedTurn.{IsTurn, book_told}
+use Rattle.bw_model.specs.CountedTurn.{IsTurn, book_told, is_delayed}
 use Rattle.bw_model.specs.Holds.{Store, Holds}
 use Rattle.bw_model.proofs.BookLemmas.{unknown_log}
 use Rattle.bw_model.proofs.TurnLaws.{replies_tell}
+use Rattle.bw_wire.specs.declared.reply.Reply.{Reply as Told}
+use Rattle.bw_wire.specs.Replies.{reply_of}
 use Rattle.bw_session.specs.Servers.{kept_by}
+use Rattle.bw_session.specs.Telling.{IsTimely}
 use Rattle.bw_session.specs.declared.session.Session.{Session}
 use Rattle.bw_session.proofs.TellForms.{done_told, unknown_told}
 
@@ -36,6 +42,18 @@ later_told stood before after book m replies later done t e =
     (sym t.answered)
     ∙ sym (replies_tell stood book m t.luck) ∙ t.left
 
+-- where a reply tells of a failed call, one failed
+pub one_failed : (failed : Bool) (replies : List Told) → All (IsTimely failed) replies →
+    list_any is_delayed (map reply_of replies) ≡ true → failed ≡ true
+one_failed failed [] timely told = absurd cc
+one_failed failed (r ∷ rest) timely told =
+    go (is_delayed (reply_of r)) refl (one_failed failed rest (All-tail (IsTimely failed) r rest timely))
+  where
+    go : (b : Bool) → is_delayed (reply_of r) ≡ b →
+        (list_any is_delayed (map reply_of rest) ≡ true → failed ≡ true) → failed ≡ true
+    go true e others = All-head (IsTimely failed) r rest timely e
+    go false e others = others (sym (ap (λ (b : Bool). b || list_any is_delayed (map reply_of rest)) e) ∙ told)
+
 -- an ask is answered in a turn that meets no luck
 pub asked_turn : (stood : List ℕ → Bool) (failures : ℕ) (book : Book) (name : List ℕ) (n : ℕ) (reply : Reply) →
     reply ≡ Noticed name n Next (log_of book name).done →
@@ -52,3 +70,13 @@ asked_turn stood failures book name n reply is = record {
   where
     no_luck : false ≡ true → ⊥
     no_luck e = cc
+
+-- where nothing failed a count stays
+pub quiet_count : (n : ℕ) → Counts n n false
+quiet_count n = record { quiet = λ e. refl; rises = λ e. absurd cc; stays = λ e. refl }
+
+-- the answer to an ask tells of no failed call
+pub next_not_delayed : (name : List ℕ) (n next : ℕ) (reply : Reply) → reply ≡ Noticed name n Next next →
+    list_any is_delayed (reply ∷ []) ≡ true → false ≡ true
+next_not_delayed name n next reply is told =
+    sym (ap (λ (r : Reply). list_any is_delayed (r ∷ [])) is) ∙ told

@@ -1,5 +1,6 @@
 -- What is asked of a store, whatever store it is, while numbers of a name are done in a row.
-use Rattle.std.specs.Prelude.{◌≡◌, ◌⊎◌, ℕ, zero, suc, ◌+◌, ◌-◌, nat_lt, nat_le, Bool, false, ◌||◌}
+use Rattle.std.specs.Prelude.{◌≡◌, ◌⊎◌, ℕ, zero, suc, ◌+◌, ◌-◌, ◌≤◌, nat_lt, nat_le, Bool, false, ◌||◌}
+use Rattle.std.specs.Prelude.{IsFalse}
 use Rattle.std.specs.Prelude.{if◌then◌else◌, Option, Some, None, is_some, List, [], ◌∷◌, ◌++◌, length}
 use Rattle.std.specs.Prelude.{drop, replicate, slice_set}
 use Rattle.std.specs.Bool.{MatchBool}
@@ -46,9 +47,13 @@ pub record TriesFirst {X : Type 0} (S : StoreGhosts X) (a : Part) (x : X) (b : P
   pub outcomes : b.outcomes ≡ a.outcomes
   pub window : b.window ≡ a.window
 
+-- Nothing is held under the next number.
+abbrev pub IsIdle : Part → Type 0
+IsIdle a = at a.window 0 ≡ None
+
 -- what draining one number asks
 abbrev pub AsksNext : {X : Type 0} → StoreGhosts X → Drained → Part → X → Part → X → Type 0
-AsksNext S Idle a x b y = DoesNothing a x b y
+AsksNext S Idle a x b y = IsIdle a × DoesNothing a x b y
 AsksNext S (Done v) a x b y = DoesFirst S a x b y
 AsksNext S Stopped a x b y = TriesFirst S a x b y
 
@@ -58,14 +63,18 @@ DoesInRow S zero a x b y = DoesNothing a x b y
 DoesInRow {X} S (suc n) a x b y =
     (mid : Part) × (z : X) × DoesInRow S n a x mid z × DoesFirst S mid z b y
 
--- Numbers were done one after another, and where that stopped the next one was tried.
-pub record DoesRun {X : Type 0} (S : StoreGhosts X) (stopped : Bool) (a : Part) (x : X) (b : Part)
-    (y : X) : Type 0 where
+-- Numbers were done one after another, at most so many, and where that stopped the next one was
+-- tried.
+pub record DoesRun {X : Type 0} (S : StoreGhosts X) (most : ℕ) (stopped : Bool) (a : Part) (x : X)
+    (b : Part) (y : X) : Type 0 where
   pub count : ℕ
+  pub within : count ≤ most
   pub last : Part
   pub reached : X
   pub done : DoesInRow S count a x last reached
   pub end : MatchBool stopped (TriesFirst S last reached b y) (DoesNothing last reached b y)
+  -- where none stopped it, no number that could be done is left
+  pub all : IsFalse stopped → IsIdle last ⊎ (count ≡ most)
 
 -- a window with a message's body in its slot, where the message is new in it
 abbrev pub window_with : List (Option (List ℕ)) → ℕ → Message → List (Option (List ℕ))
@@ -81,7 +90,7 @@ holding a m = record a { window = window_with a.window (length a.outcomes) m }
 -- no number was done.
 abbrev pub AsksInTurn : {X : Type 0} → StoreGhosts X → Message → Part → X → Part → X → Type 0
 AsksInTurn S m a x b y =
-    ((stopped : Bool) × DoesRun S stopped (holding a m) x b y)
+    ((stopped : Bool) × DoesRun S slots stopped (holding a m) x b y)
     ⊎ ((y ≡ x) × (b.outcomes ≡ a.outcomes))
 
 -- what is kept of a name of which nothing came

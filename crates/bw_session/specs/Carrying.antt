@@ -7,8 +7,8 @@ use Rattle.bw_request.specs.declared.verdict.Verdict.{Verdict}
 use Rattle.bw_store.specs.Calls.{StoreCall}
 use Rattle.bw_file.specs.Growing.{Growing}
 use Rattle.bw_store.specs.declared.store.StoreFault.{StoreFault}
-use Rattle.bw_file.specs.StoreSteps.{WasAsked, WasAskedFirst}
-use Rattle.bw_file.specs.declared.store.TakeStore.{Ghosts as StoreGhosts}
+use Rattle.bw_store.specs.StoreSteps.{WasAsked, WasAskedFirst}
+use Rattle.bw_store.specs.declared.store.TakeStore.{Ghosts as StoreGhosts}
 use Rattle.bw_session.specs.Writing.{is_mark, request_plan, HasOwnFile, HasWholeFile}
 
 -- The request is to be stored, by a call of the file.

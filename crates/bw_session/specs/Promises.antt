@@ -3,7 +3,7 @@ use Rattle.std.specs.Prelude.{◌≡◌, ℕ, Bool, IsTrue, Option, List, length
 use Rattle.bw_model.specs.Book.{Log}
 use Rattle.bw_model.specs.Wire.{Message}
 use Rattle.bw_model.specs.Turn.{is_admissible}
-use Rattle.bw_file.specs.declared.store.TakeStore.{Ghosts as StoreGhosts}
+use Rattle.bw_store.specs.declared.store.TakeStore.{Ghosts as StoreGhosts}
 use Rattle.bw_journal.specs.declared.journal.Journal.{Ghosts as JournalGhosts}
 use Rattle.bw_wire.specs.declared.reply.Reply.{Reply}
 use Rattle.bw_session.specs.Numbered.{KeepsBoth, failed_calls}
@@ -75,8 +75,9 @@ module _ {X Y : Type 0} (S : StoreGhosts X) (J : JournalGhosts Y) where
     -- each log that the session held admits the message
     pub refused : IsAdmissible before m
 
-  -- Numbers of a name were done in a row, from this part on: to their end, or to a fault.
-  pub record RunsNumbers (stopped : Bool) (a : Part) (before : Session) (old : Stores X Y S J)
+  -- Numbers of a name were done in a row, from this part on: at most so many, to their end, or to a
+  -- fault.
+  pub record RunsNumbers (most : ℕ) (stopped : Bool) (a : Part) (before : Session) (old : Stores X Y S J)
       (after : Session) (new : Stores X Y S J) : Type 0 where
     -- a failure is counted where a fault stopped it, and all else is kept
     pub both : KeepsStores stopped before.progress.name old new
@@ -84,7 +85,7 @@ module _ {X Y : Type 0} (S : StoreGhosts X) (J : JournalGhosts Y) where
     pub calls : CallsFew (S.calls old.store) (S.calls new.store)
         (length before.progress.ledger.outcomes) (length after.progress.ledger.outcomes) stopped
     -- it was asked what the judged requests of these numbers ask
-    pub asked : DoesRun S stopped a old.store (part_of after) new.store
+    pub asked : DoesRun S most stopped a old.store (part_of after) new.store
 
   -- What a turn asks of store and journal, and that no reply tells of a failure that didn't come.
   abbrev pub UsesStores : Session → Stores X Y S J → Session → Stores X Y S J → List Reply → Type 0

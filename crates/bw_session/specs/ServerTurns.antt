@@ -1,13 +1,22 @@
 -- A server's answer to one frame, beside the books that it may hold.
-use Rattle.std.specs.Prelude.{◌≡◌, ℕ, Option, List, IsTrue, is_some}
-use Rattle.bw_model.specs.Wire.{Frame}
+use Rattle.std.specs.Prelude.{◌≡◌, ℕ, ◌≤◌, Bool, Option, List, length, IsTrue, is_some}
+use Rattle.std.specs.List.{list_any}
+use Rattle.bw_model.specs.Counts.{Counts}
+use Rattle.bw_model.specs.Wire.{Frame, Message, Says, Asks, Bye}
 use Rattle.bw_model.specs.Replies.{Reply}
 use Rattle.bw_model.specs.Book.{Book}
-use Rattle.bw_model.specs.CountedTurn.{IsTurn}
+use Rattle.bw_model.specs.CountedTurn.{IsTurn, is_delayed}
 use Rattle.bw_store.specs.declared.store.TakeStore.{Ghosts as StoreGhosts}
+use Rattle.bw_model.specs.Turn.{is_turned_away}
 use Rattle.bw_journal.specs.declared.journal.Journal.{Ghosts as JournalGhosts}
-use Rattle.bw_session.specs.Books.{failures_of, HoldsBook, NotesBook}
+use Rattle.bw_session.specs.Books.{failures_of, HoldsBook, NotesBook, SameStores, AsksTurn}
+use Rattle.bw_session.specs.Servers.{done_in}
+use Rattle.bw_session.specs.Sessions.{CallsFew}
 use Rattle.bw_session.specs.declared.server.Server.{Server}
+
+-- at most so many replies to a frame
+abbrev pub most_replies : ℕ
+most_replies = 17
 
 module _ {X Y : Type 0} (S : StoreGhosts X) (J : JournalGhosts Y) where
   -- The frame is answered in a turn of the definitions, from this book on; the server holds the
@@ -21,12 +30,35 @@ module _ {X Y : Type 0} (S : StoreGhosts X) (J : JournalGhosts Y) where
     pub noted : IsTrue (J.honest old.stores.journal) → NotesBook S J first old book →
         NotesBook S J first new later
 
-  -- A server may answer the frame so: its limit stays, store and journal are as honest as they
-  -- were, and over an honest store it is a turn on every book that the server holds.
+  -- What the store is asked for a message: what its turn asks, in at most four calls for each number
+  -- of its name that was done, and four more where a call failed.
+  pub record AsksForMessage (m : Message) (failed : Bool) (old new : Server X Y S J) : Type 0 where
+    pub asked : AsksTurn S J old new m
+    pub few : CallsFew (S.calls old.stores.store) (S.calls new.stores.store)
+        (done_in old.sessions m.name) (done_in new.sessions m.name) failed
+
+  -- .. for a frame: an ask changes nothing, and the last frame is answered by none
+  abbrev pub AsksFor : Frame → Bool → Server X Y S J → Server X Y S J → Type 0
+  AsksFor (Says m) failed old new = AsksForMessage m failed old new
+  AsksFor (Asks name n) failed old new = new ≡ old
+  AsksFor Bye failed old new = ⊥
+
+  -- A server may answer the frame so. Over any store and journal its limit stays, these are as honest
+  -- as they were, the replies are few, and none tells of a failed call where none failed; over an
+  -- honest store it is a turn on every book that the server holds.
   pub record ServerTurn (old : Server X Y S J) (frame : Frame) (replies : List Reply)
       (new : Server X Y S J) : Type 0 where
     pub limit : new.limit ≡ old.limit
     pub honest : S.honest new.stores.store ≡ S.honest old.stores.store
     pub honest_notes : J.honest new.stores.journal ≡ J.honest old.stores.journal
+    pub few : length replies ≤ most_replies
+    -- whether a call of store or journal failed: then the count of failures rises by one, else it
+    -- stays
+    pub failed : Bool
+    pub counted : Counts (failures_of S J old) (failures_of S J new) failed
+    pub delays : IsTrue (list_any is_delayed replies) → IsTrue failed
+    pub asks : AsksFor frame failed old new
+    -- the message that is turned away for want of room asks for nothing
+    pub away : IsTrue (is_turned_away replies) → SameStores S J old new
     pub turned : IsTrue (S.honest old.stores.store) → (first : List ℕ → Option (List ℕ))
         (book : Book) → HoldsBook S J first old book → TurnsOn first old new book frame replies

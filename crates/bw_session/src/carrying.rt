@@ -9,7 +9,7 @@ ghost use Rattle.bw_request.specs.Verdicts.{verdict_meaning};
 ghost use Rattle.bw_store.specs.Stores.{Counts, KeepsOthers};
 ghost use Rattle.bw_store.specs.StoreSteps.{WasAsked, WasAskedFirst};
 ghost use Rattle.bw_session.specs.Carrying.{Touches, Carries, AsksJudged};
-ghost use Rattle.bw_file.specs.StoreSteps.{Shared};
+ghost use Rattle.bw_store.specs.StoreSteps.{Shared};
 ghost use Rattle.bw_session.specs.Writing.{IsSameFile};
 ghost use Rattle.bw_session.specs.Fronts.{CarriesNext};
 

@@ -1,6 +1,5 @@
 //! Draining: the next number of a name is done where its message came.
-ghost use Rattle.std.specs.Prelude.{◌≡◌, ◌+◌, ◌≤◌, ℕ, List, Option, length, IsTrue};
-ghost use Rattle.std.specs.Prelude.{false};
+ghost use Rattle.std.specs.Prelude.{◌≡◌, ◌+◌, ◌≤◌, ℕ, List, Option, length, IsTrue, false, ◌-◌};
 ghost use Rattle.std.specs.List.{All};
 ghost use Rattle.bw_model.specs.Book.{Log};
 ghost use Rattle.bw_session.specs.Writing.{IsSameFile};
@@ -85,8 +84,8 @@ impl Session {
         out: &mut ArrayVec<Reply, 17>,
     ) -> bool
         requires few { length out.old.items ≤ 16 }
-        ensures run { RunsNumbers S.TakeStore J.Journal result (part_of self.old)
-            self.old stores.old self.new stores.new }
+        ensures run { RunsNumbers S.TakeStore J.Journal (16 - length out.old.items) result
+            (part_of self.old) self.old stores.old self.new stores.new }
         ensures take { KeepsTake self.old self.new }
         ensures few { length out.new.items ≤ 16 }
         ensures served { All IsServing out.old.items → All IsServing out.new.items }

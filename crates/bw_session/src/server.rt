@@ -291,11 +291,12 @@ impl<S: TakeStore, J: Journal> Server<S, J> {
     /// known. The number that was asked with is repeated.
     ///
     /// # Not specified
-    /// Anything after a turn over a store that isn't honest.
+    /// After a turn over a store that isn't honest: how many it tells.
     pub fn ask(&self, name: &Name, number: u32) -> Reply
         ensures value { (first : List ℕ → Option (List ℕ)) (book : Book) →
             HoldsBook S.TakeStore J.Journal first self.now book →
             reply_of result ≡ Noticed name.now number Next (log_of book name.now).done }
+        ensures notice { (next : ℕ) × (reply_of result ≡ Noticed name.now number Next next) }
         ensures numbers { number ≤ last_number Second → HasWireNumbers result }
     {
         Reply::Notice {

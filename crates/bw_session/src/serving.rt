@@ -123,7 +123,7 @@ impl Session {
         requires name { (message_of message.now).name ≡ self.old.progress.name }
         requires digest { digest ≡ sha256 (message_body (message_of message.now)) }
         requires empty { out.old.items ≡ [] }
-        ensures run { IfOk result (λ stopped. RunsNumbers S.TakeStore J.Journal stopped
+        ensures run { IfOk result (λ stopped. RunsNumbers S.TakeStore J.Journal 16 stopped
             (holding (part_of self.old) (message_of message.now))
             self.old stores.old self.new stores.new) }
         ensures take { KeepsTake self.old self.new }

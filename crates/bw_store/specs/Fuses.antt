@@ -4,9 +4,9 @@ use Rattle.std.specs.Prelude.{◌==◌, Option, None, if◌then◌else◌}
 use Rattle.std.specs.List.{list_any}
 use Rattle.bw_store.specs.Stores.{Counts}
 use Rattle.bw_store.specs.Calls.{StoreCall}
-use Rattle.bw_file.specs.Stores.{Written, last_count}
-use Rattle.bw_file.specs.Calls.{Asks}
-use Rattle.bw_file.specs.declared.store.TakeStore.{Ghosts}
+use Rattle.bw_store.specs.Stores.{Written, last_count}
+use Rattle.bw_store.specs.Calls.{Asks}
+use Rattle.bw_store.specs.declared.store.TakeStore.{Ghosts}
 
 -- the call of this number is to fail
 abbrev pub has_fuse : List ℕ → ℕ → Bool

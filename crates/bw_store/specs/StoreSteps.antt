@@ -3,7 +3,7 @@ use Rattle.std.specs.Prelude.{◌≡◌, ℕ, Bool, IsTrue, List, Option, Result
 use Rattle.bw_store.specs.Stores.{Counts, KeepsOthers}
 use Rattle.bw_store.specs.Calls.{StoreCall, Gets, GetsFirst}
 use Rattle.bw_store.specs.declared.store.TakeStore.{Ghosts}
-use Rattle.bw_file.specs.Stores.{MayTear}
+use Rattle.bw_store.specs.Stores.{MayTear}
 
 -- A failure is counted, the store is as honest as it was, and each other name has what it had.
 pub record Shared {X : Type 0} (S : Ghosts X) (fails : Bool) (name : List ℕ) (old new : X) :

@@ -6,7 +6,7 @@ ghost use Rattle.bw_store.specs.Stores.{Counts, Creates, Written, MayTear, Keeps
 ghost use Rattle.bw_store.specs.Calls.{Create, WriteAt, Finish, Asks};
 ghost use Rattle.bw_store.specs.StoreSteps.{WasAsked};
 ghost use Rattle.bw_store.specs.Fuses.{has_fuse, Blows, passed_on, unless_fused, let_through, first_half};
-ghost use Rattle.bw_file.specs.Fuses.{AsksPassed, WritesHalf};
+ghost use Rattle.bw_store.specs.Fuses.{AsksPassed, WritesHalf};
 
 use crate::store::{Created, StoreFault, TakeStore};
 use crate::tally::Tally;

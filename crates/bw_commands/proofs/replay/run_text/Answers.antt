@@ -11,15 +11,16 @@ pub returns : goal.returns
 returns c =
     let run = c.in-Ok.run' in
     let calls = run.store.store.tally.calls in
+    let h = c.in-Ok.ensures.ok in
     let ran = replayed _ c.args.limit c.in_ok-store.store c.args.inputs.now run refl c.in-Ok.ensures.honest
     c.in_ok-store.ensures.empty c.requires (failures_under c.args.fuse calls) (one_at_most c.args.fuse calls)
-    c.in_ok-store.ensures.failures (c.kept_to.ensures c.if-not-kept_to.false) c.in-Ok.ensures.ok in
+    c.in_ok-store.ensures.failures c.in_ok-store.ensures.calls (c.kept_to.ensures c.if-not-kept_to.false) h.went h.are h.leaves in
     with_ok c.text_of_run.result _ _ _
     (λ text names is. text_replayed c.args.limit c.args.fuse calls (map (λ x. x.items) c.args.inputs.now) _ _ run.store.store.inner
     c.files.result.now text.items
     (subst (λ (es : List ExchangeEnd). Replayed c.args.limit (map (λ x. x.items) c.args.inputs.now)
-    (failures_under c.args.fuse calls) c.as_slice-replies.result.now es (content_under run.store.store.inner.files)) (sym c.as_slice-ends.ensures.value)
+    (failures_under c.args.fuse calls) calls c.as_slice-replies.result.now es (content_under run.store.store.inner.files)) (sym c.as_slice-ends.ensures.value)
     (subst (λ (rs : List (Vec ℕ Global)). Replayed c.args.limit (map (λ x. x.items) c.args.inputs.now)
-    (failures_under c.args.fuse calls) rs run.ends.items (content_under run.store.store.inner.files)) (sym c.as_slice-replies.ensures.value) ran))
+    (failures_under c.args.fuse calls) calls rs run.ends.items (content_under run.store.store.inner.files)) (sym c.as_slice-replies.ensures.value) ran))
     run.store.took c.files.ensures names is)
     c.text_of_run.ensures.text c.text_of_run.ensures.names

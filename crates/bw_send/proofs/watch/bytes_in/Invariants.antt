@@ -1,6 +1,6 @@
 use Rattle.std.proofs.Common.{◌≡◌, ◌+◌, ◌-◌, ◌<◌, ◌^◌, drop, min}
 use Rattle.std.specs.Prelude.{sum_by}
-use Rattle.bw_take.specs.States.{samples_in}
+use Rattle.bw_request.specs.Requests.{samples_in}
 use Rattle.bw_send.specs.Watched.{bytes_in}
 use Rattle.bw_send.proofs.watch.bytes_in.Given as goal
 

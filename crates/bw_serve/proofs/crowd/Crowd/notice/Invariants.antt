@@ -1,6 +1,6 @@
 use Rattle.std.proofs.Common.{◌≡◌, ℕ, List}
 use Rattle.bw_serve.specs.Crowds.{Stays}
-use Rattle.bw_serve.specs.Lobbies.{Admission}
+use Rattle.bw_ports.specs.Lobbies.{Admission}
 use Rattle.bw_serve.proofs.Noticing.{Noticed}
 use Rattle.bw_serve.proofs.crowd.Crowd.notice.Given as goal
 

@@ -1,4 +1,4 @@
-use Rattle.std.proofs.Common.{List, ℕ, refl, ◌∙◌, ap}
+use Rattle.std.proofs.Common.{List, ℕ, false, arith, refl, ◌∙◌, ap}
 use Rattle.std.specs.Prelude.{is_some}
 use Rattle.bw_model.specs.Replies.{Noticed, Next}
 use Rattle.bw_model.specs.Book.{log_of}
@@ -7,12 +7,20 @@ use Rattle.bw_wire.specs.Replies.{reply_of}
 use Rattle.bw_session.specs.Books.{failures_of}
 use Rattle.bw_session.proofs.ServerAnswers.{asked_turn}
 use Rattle.bw_session.proofs.server_turns.ServerTurns.ask.Goals as goal
+use Rattle.bw_session.proofs.ServerAnswers.{quiet_count, next_not_delayed}
 
 pub returns-clause-answered : goal.returns-clause-answered
 returns-clause-answered g c = record {
   limit = refl;
   honest = refl;
   honest_notes = refl;
+  few = omega arith;
+  failed = false;
+  counted = quiet_count _;
+  delays = next_not_delayed c.name.result c.number.result c.ask.ensures.notice.0 (reply_of c.ask.result)
+      c.ask.ensures.notice.1;
+  asks = refl;
+  away = λ turned_away. (refl, refl);
   turned = λ honest first book h. record {
     later = book;
     turned = asked_turn (λ n. is_some (first n)) (failures_of g.S.TakeStore g.J.Journal c.args.self.now) book

@@ -1,4 +1,5 @@
-use Rattle.std.proofs.Common.{subst, map}
+use Rattle.std.proofs.Common.{ℕ, ◌≤◌, sym, subst, map}
+use Rattle.std.proofs.lemmas.List.{length-map}
 use Rattle.std.specs.Prelude.{is_some}
 use Rattle.bw_model.specs.Book.{Book}
 use Rattle.bw_wire.specs.Frames.{message_of}
@@ -8,6 +9,7 @@ use Rattle.bw_session.specs.Servers.{store_since, done_in}
 use Rattle.bw_session.specs.Tables.{session_in}
 use Rattle.bw_session.proofs.ServerAnswers.{done_is, later_told}
 use Rattle.bw_session.proofs.server_turns.ServerTurns.turn.Goals as goal
+use Rattle.bw_session.proofs.ServerAnswers.{one_failed}
 
 pub returns-clause-answered : goal.returns-clause-answered
 returns-clause-answered g c =
@@ -16,6 +18,12 @@ returns-clause-answered g c =
       limit = c.turn.ensures.limit;
       honest = both.honest;
       honest_notes = both.honest_notes;
+      few = subst (λ (n : ℕ). n ≤ 17) (sym (length-map c.turn.new.out.items reply_of)) c.turn.ensures.few;
+      failed = c.turn.ensures.both.0;
+      counted = both.failures;
+      delays = one_failed c.turn.ensures.both.0 c.turn.new.out.items c.turn.ensures.both.3;
+      asks = record { asked = c.turn.ensures.asked; few = c.turn.ensures.both.2 };
+      away = λ turned_away. let kept = c.turn.ensures.uncalled turned_away in (kept.0, kept.1);
       turned = λ honest first book h.
           let t = c.turn.ensures.turned honest first book h in
           let m = message_of c.args.message.now in

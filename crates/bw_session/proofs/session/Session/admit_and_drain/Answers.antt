@@ -13,11 +13,11 @@ use Rattle.bw_session.specs.Noting.{IsNoted}
 use Rattle.bw_session.specs.Sessions.{part_of}
 use Rattle.bw_session.specs.Runs.{with_more_done}
 use Rattle.bw_session.proofs.RunForms.{both_then, noted_then}
-use Rattle.bw_session.proofs.PromiseForms.{run_since}
+use Rattle.bw_session.proofs.PromiseForms.{run_since, runs_from_none}
 use Rattle.bw_session.proofs.ServeForms.{starts, starts_done, stops_at_once, ends_under, noted_start, noted_one}
 use Rattle.std.proofs.Common.{List, Option, ℕ}
 use Rattle.bw_session.specs.Asking.{AsksNext, holding}
-use Rattle.bw_session.proofs.AskForms.{run_after, run_tried, part_kept}
+use Rattle.bw_session.proofs.AskForms.{run_after, run_tried, part_kept, run_from_one}
 use Rattle.bw_session.proofs.session.Session.admit_and_drain.Goals as goal
 
 pub returns-then-is_held-clause-drained : goal.returns-then-is_held-clause-drained
@@ -130,12 +130,13 @@ do_next-requires-clause-free g c = search rules
 
 pub returns-then-is_held-clause-run : goal.returns-then-is_held-clause-run
 returns-then-is_held-clause-run g c =
-    run_since g.S.TakeStore g.J.Journal c.drain.result (holding (part_of c.args.self.now) (message_of c.args.message.now))
+    run_since g.S.TakeStore g.J.Journal 16 c.drain.result (holding (part_of c.args.self.now) (message_of c.args.message.now))
     c.args.self.now c.admit.new.self c.drain.new.self c.args.stores.now c.drain.new.stores
     c.in_ok-admit.ensures.progress
     (part_kept c.args.self.now c.admit.new.self c.in_ok-admit.ensures.progress
     ∙ ap (λ (w : List (Option (List ℕ))). record (part_of c.args.self.now) { window = w }) c.in_ok-admit.ensures.held)
-    c.drain.ensures.run
+    (runs_from_none g.S.TakeStore g.J.Journal c.args.out.now.items c.drain.result (part_of c.admit.new.self)
+    c.admit.new.self c.drain.new.self c.args.stores.now c.drain.new.stores c.requires.empty c.drain.ensures.run)
 
 pub returns-in-Ok-clause-run : goal.returns-in-Ok-clause-run
 returns-in-Ok-clause-run g c =
@@ -155,9 +156,12 @@ returns-in-Ok-clause-run g c =
     record {
       both = both_then g.S.TakeStore g.J.Journal _ _ _ _ _ _ _ _ _ c.in_ok-verdict.ensures.take.name both run.both;
       calls = omega (arith, done, before, later);
-      asked = run_after g.S.TakeStore c.drain-in-Ok.result (holding (part_of c.args.self.now) m)
+      asked = run_after g.S.TakeStore 15 c.drain-in-Ok.result (holding (part_of c.args.self.now) m)
           (part_of c.do_next.new.self) (part_of c.drain-in-Ok.new.self) c.args.stores.now.store
-          c.do_next.new.stores.store c.drain-in-Ok.new.stores.store first run.asked;
+          c.do_next.new.stores.store c.drain-in-Ok.new.stores.store first
+          (run_from_one g.S.TakeStore c.args.out.now.items c.push.new.self.items _ c.drain-in-Ok.result
+          (part_of c.do_next.new.self) (part_of c.drain-in-Ok.new.self) c.do_next.new.stores.store
+          c.drain-in-Ok.new.stores.store c.requires.empty c.push.ensures.items run.asked);
     }
 
 pub returns-in-Err-clause-run : goal.returns-in-Err-clause-run
@@ -172,7 +176,7 @@ returns-in-Err-clause-run g c =
           c.args.self.now.progress.name c.args.stores.now.store c.do_next.new.stores.store c.args.stores.now.journal
           c.do_next.new.stores.journal) c.in-Err.is c.in_ok-verdict.ensures.both;
       calls = omega (arith, done, before);
-      asked = run_tried g.S.TakeStore (holding (part_of c.args.self.now) m) (part_of c.do_next.new.self)
+      asked = run_tried g.S.TakeStore 16 (holding (part_of c.args.self.now) m) (part_of c.do_next.new.self)
           c.args.stores.now.store c.do_next.new.stores.store
           (subst (λ (a : Result Verdict StoreFault). AsksNext g.S.TakeStore (drained_by a)
           (holding (part_of c.args.self.now) m) c.args.stores.now.store (part_of c.do_next.new.self)

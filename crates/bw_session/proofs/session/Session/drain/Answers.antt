@@ -1,4 +1,4 @@
-use Rattle.std.proofs.Common.{rules, ◌≡◌, ◌+◌, ◌≤◌, ℕ, suc, false, length, refl, sym, ◌∙◌, ap, subst, arith}
+use Rattle.std.proofs.Common.{rules, inl, inr, ◌≡◌, ◌+◌, ◌≤◌, ℕ, suc, false, length, refl, sym, ◌∙◌, ap, subst, arith}
 use Rattle.std.specs.List.{All}
 use Rattle.std.proofs.lemmas.List.{length_push}
 use Rattle.std.proofs.lemmas.List.Elements.{All-append, All-push}
@@ -52,6 +52,8 @@ loop-slot-preserved g c =
           let now = c.in-Done.ensures.calls in
           let done = c.in-Done.ensures.done in
           omega (arith, done, before, now);
+      reached = let far = c.loop-slot.invariant.reached in
+          omega (arith, far);
       asked = (
         suc c.loop-slot.invariant.asked.0,
         (part_of c.loop-slot.self, c.loop-slot.stores.store, c.loop-slot.invariant.asked.1, c.in-Done.ensures.asked),
@@ -110,7 +112,9 @@ returns-in-Idle-clause-run g c =
         last = part_of c.loop-slot.self;
         reached = c.loop-slot.stores.store;
         done = loop.asked.1;
-        end = c.in-Idle.ensures.asked;
+        within = let far = c.loop-slot.invariant.reached in omega (arith, far);
+        end = c.in-Idle.ensures.asked.1;
+        all = λ whole. inl c.in-Idle.ensures.asked.0;
       };
     }
 
@@ -126,7 +130,9 @@ returns-in-Stopped-clause-run g c =
         last = part_of c.loop-slot.self;
         reached = c.loop-slot.stores.store;
         done = loop.asked.1;
+        within = let far = c.loop-slot.invariant.reached in omega (arith, far);
         end = c.in-Stopped.ensures.asked;
+        all = λ whole. absurd cc;
       };
     }
 
@@ -141,6 +147,22 @@ returns-clause-run g c =
         last = part_of c.loop-slot.self;
         reached = c.loop-slot.stores.store;
         done = loop.asked.1;
+        within = let far = c.loop-slot.invariant.reached in omega (arith, far);
         end = (refl, refl);
+        all = λ whole. inr (let far = c.loop-slot.invariant.reached in omega (arith, far));
       };
     }
+
+pub loop-slot-init : goal.loop-slot-init
+loop-slot-init g c = record {
+  both = search rules;
+  calls = search rules;
+  asked = (0, (refl, refl));
+  reached = let count = c.len-slot.ensures.value in omega (arith, count);
+  take = search rules;
+  few = search rules;
+  served = λ all. all;
+  timely = λ all. all;
+  drained = λ honest first log h. h;
+  noted = λ honest honest_notes first log h stood noted. noted;
+}

@@ -1,4 +1,4 @@
-use Rattle.std.proofs.Common.{◌≡◌, ℕ, List, Option, length, IsTrue, is_some, false}
+use Rattle.std.proofs.Common.{◌≡◌, ℕ, ◌+◌, List, Option, length, IsTrue, is_some, false}
 use Rattle.std.specs.List.{All}
 use Rattle.bw_model.specs.Book.{Log}
 use Rattle.bw_session.specs.Numbered.{KeepsBoth}
@@ -16,6 +16,7 @@ invariant-loop-slot g l = record {
   calls : CallsFew (g.S.TakeStore.calls l.fn.stores.store) (g.S.TakeStore.calls l.stores.store)
       (length l.fn.self.progress.ledger.outcomes) (length l.self.progress.ledger.outcomes) false;
   asked : (n : ℕ) × DoesInRow g.S.TakeStore n (part_of l.fn.self) l.fn.stores.store (part_of l.self) l.stores.store;
+  reached : asked.0 + length l.fn.out.items ≡ l._slot;
   take : KeepsTake l.fn.self l.self;
   few : length l.out.items ≡ l._slot;
   served : All IsServing l.fn.out.items → All IsServing l.out.items;

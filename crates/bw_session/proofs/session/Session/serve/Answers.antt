@@ -19,7 +19,7 @@ use Rattle.bw_session.proofs.UseForms.{all_none, timely_any, timely_notice, time
 use Rattle.std.proofs.Common.{inl}
 use Rattle.bw_session.specs.KeptParts.{Part}
 use Rattle.bw_session.specs.Asking.{DoesRun}
-use Rattle.bw_session.proofs.AskForms.{holding_far}
+use Rattle.bw_session.proofs.AskForms.{holding_far, run_from_none}
 use Rattle.bw_session.proofs.session.Session.serve.Goals as goal
 
 pub returns-then-done-len-clause-both : goal.returns-then-done-len-clause-both
@@ -155,8 +155,11 @@ returns-then-done-len-clause-asked g c =
     let past : length c.args.self.now.progress.ledger.outcomes + 16 ≤ m.number = search rules in
     inl (
       c.drain.result,
-      subst (λ (a : Part). DoesRun g.S.TakeStore c.drain.result a c.args.stores.now.store (part_of c.drain.new.self)
-          c.drain.new.stores.store) (sym (holding_far (part_of c.args.self.now) m past)) c.drain.ensures.run.asked,
+      subst (λ (a : Part). DoesRun g.S.TakeStore 16 c.drain.result a c.args.stores.now.store (part_of c.drain.new.self)
+          c.drain.new.stores.store) (sym (holding_far (part_of c.args.self.now) m past))
+          (run_from_none g.S.TakeStore c.args.out.now.items c.drain.result (part_of c.args.self.now)
+          (part_of c.drain.new.self) c.args.stores.now.store c.drain.new.stores.store c.requires.empty
+          c.drain.ensures.run.asked),
     )
 
 pub returns-in-Some-clause-asked : goal.returns-in-Some-clause-asked
