@@ -12,4 +12,3 @@ mod world_text;
 
 pub use inspection::{inspect_file, inspect_run};
 pub use rehearsal::rehearse_run;
-

@@ -14,9 +14,9 @@ ghost use Rattle.bw_commands.specs.Text.{reply_line};
 ghost use Rattle.bw_console.specs.Text.{as_line};
 ghost use Rattle.bw_commands.specs.Text.{exchanges_text, file_text, file_text_if, files_text};
 
+use bw_exchange::{ExchangeEnd, end_name};
 use bw_request::Name;
 use bw_store::MemoryStore;
-use bw_exchange::{ExchangeEnd, end_name};
 use std::alloc::{AllocError, Global};
 
 /// The exchanges with their replies, and then the store's files in the order of their names.

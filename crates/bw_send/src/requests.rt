@@ -9,8 +9,8 @@ ghost use Rattle.bw_console.specs.Input.{IsReadAhead};
 ghost use Rattle.bw_send.specs.RequestLines.{AreRequestsOf, IsRequestFault, RefusesRequests};
 ghost use Rattle.bw_send.specs.RequestLines.{SayRequests};
 
-use bw_request::Request;
 use bw_console::{Fault, all_bytes, first_line};
+use bw_request::Request;
 use bw_stream::Source;
 use bw_wire::request_from_hex;
 use std::alloc::Global;

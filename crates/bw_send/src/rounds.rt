@@ -12,8 +12,8 @@ use crate::dispatch::Dispatch;
 use crate::offering::offer_more_of;
 use crate::watch::Progress;
 use bw_engine::{SendFault, send_exchange};
-use bw_request::Request;
 use bw_ports::{Dial, Watch};
+use bw_request::Request;
 use bw_sender::Sender;
 use std::alloc::{AllocError, Global};
 

@@ -9,9 +9,9 @@ ghost use Rattle.bw_send.specs.Watched.{bytes_in, counts_line, progress_line};
 ghost use Rattle.bw_send.specs.Watched.{settled_bytes};
 
 use arrayvec::ArrayString;
-use bw_request::{Request, RequestRef};
 use bw_console::print::tell;
 use bw_ports::ProgressReport;
+use bw_request::{Request, RequestRef};
 use bw_sender::Sender;
 use bw_stream::Sink;
 use itoa::Buffer;

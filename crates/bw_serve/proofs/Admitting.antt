@@ -1,7 +1,7 @@
 -- What becomes of each link that a lobby gave.
 use Rattle.std.proofs.Common.{◌≡◌, ◌≢◌, ◌⊎◌, inl, inr, ℕ, suc, ◌+◌, ◌==◌, true, false, Some, None, List, [], ◌∷◌, ◌++◌}
-use Rattle.std.proofs.Common.{refl, sym, ap, subst, ◌∙◌, arith, append_assoc}
-use Rattle.std.specs.Prelude.{Result, Ok, Err, OnOk, OnErr, slice_get}
+use Rattle.std.proofs.Common.{sym, ap, subst, ◌∙◌, arith, append_assoc}
+use Rattle.std.specs.Prelude.{Result, Ok, Err, OnOk, OnErr}
 use Rattle.std.specs.List.{AllByRecursion}
 use Rattle.std.proofs.lemmas.Bool.Decides.{eqb_tells}
 use Rattle.std.proofs.lemmas.List.{append-nil}
@@ -11,12 +11,12 @@ use Rattle.bw_ports.specs.declared.link.Link.{Ghosts as LinkGhosts}
 use Rattle.bw_many.specs.declared.many.BeginError.{BeginError}
 use Rattle.bw_many.specs.declared.many.Closed.{Closed}
 use Rattle.bw_many.specs.declared.many.Many.{Many}
-use Rattle.bw_many.specs.Keeping.{HasLeft, IsAmong, IsFree, Keeps, Stands, StandsAt, Tagged}
+use Rattle.bw_many.specs.Keeping.{HasLeft, IsAmong, Keeps, Stands, StandsAt, Tagged}
 use Rattle.bw_many.specs.Lives.{KeepsPeer}
 use Rattle.bw_many.specs.Places.{begun_of, refused_of}
-use Rattle.bw_many.specs.Working.{BeginsAt, IsEmpty, LeavesOthers, Refuses, StaysAt, StoodUnder}
+use Rattle.bw_many.specs.Working.{BeginsAt, IsEmpty, Refuses, StaysAt, StoodUnder}
 use Rattle.bw_many.proofs.Standing.{not_some, some_is}
-use Rattle.bw_serve.specs.Admissions.{Admits, AdmitsEach, AreOf, EndedAs, Hosts, HostsAll, HostsMore, IsHosted, StandsFor}
+use Rattle.bw_serve.specs.Admissions.{Admits, AdmitsEach, AreOf, EndedAs, Hosts, HostsAll, HostsMore, IsHosted}
 use Rattle.bw_ports.specs.Lobbies.{Admission}
 use Rattle.bw_serve.specs.Rounds.{WakesEach}
 use Rattle.bw_serve.specs.declared.crowd.Crowd.{Crowd}

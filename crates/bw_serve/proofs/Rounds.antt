@@ -104,7 +104,6 @@ welcomes_behind lobby now later b x y a c at none w = record {
   admits = subst (λ (n : ℕ). AdmitsEach n w.links a c) at w.admits;
 }
 
-
 module _ {B L S O E : Type 0} (lobby : LobbyGhosts B L) (G : LinkGhosts L)
     (answers : S → Frame → List Reply → S → Type 0) (out : Writer O) (told : Writer E) (log : Bool) where
   -- what a round adds

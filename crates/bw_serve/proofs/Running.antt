@@ -15,7 +15,7 @@ use Rattle.bw_many.specs.Keeping.{Keeps, Tagged, all_answered}
 use Rattle.bw_many.specs.Places.{begun_of}
 use Rattle.bw_many.specs.Served.{EachIsServed}
 use Rattle.bw_exchange.specs.LinkCounts.{up_to_last}
-use Rattle.bw_serve.specs.Crowds.{Advances, CountsOwn, Grows, IsNew}
+use Rattle.bw_serve.specs.Crowds.{Advances, CountsOwn, IsNew}
 use Rattle.bw_serve.specs.Rounds.{ServesInRounds, ServesRound, IsShut, ended_of_run, frames_of_run}
 use Rattle.bw_serve.specs.Admissions.{HostsAll}
 use Rattle.bw_ports.specs.Lobbies.{Admission}

@@ -111,14 +111,14 @@ module _ {B L S O E : Type 0} (lobby : LobbyGhosts B L) (G : LinkGhosts L)
   abbrev pub frames_in_round : (idle exchanges : ℕ) (c c' : Crowd L) (s s' : S) (b b' : B)
       (o o' : O) (e e' : E) → ServesRound idle exchanges c c' s s' b b' o o' e e' → List Tagged
   frames_in_round idle exchanges c c' s s' b b' o o' e e' round =
-      frames_in_turn G answers out told log (lobby.time b') idle (count_of round.between.many) round.between c' s s' o o'
-      e e' round.in_turn
+      frames_in_turn G answers out told log (lobby.time b') idle (count_of round.between.many)
+      round.between c' s s' o o' e e' round.in_turn
 
   abbrev pub ended_in_round : (idle exchanges : ℕ) (c c' : Crowd L) (s s' : S) (b b' : B)
       (o o' : O) (e e' : E) → ServesRound idle exchanges c c' s s' b b' o o' e e' → List (Closed L)
   ended_in_round idle exchanges c c' s s' b b' o o' e e' round =
-      ended_in_turn G answers out told log (lobby.time b') idle (count_of round.between.many) round.between c' s s' o o'
-      e e' round.in_turn
+      ended_in_turn G answers out told log (lobby.time b') idle (count_of round.between.many)
+      round.between c' s s' o o' e e' round.in_turn
 
   -- so many rounds, one behind another, each begun where fewer were over than are asked for
   abbrev pub ServesRounds : ℕ → ℕ → ℕ → Crowd L → Crowd L → S → S → B → B →

@@ -3,12 +3,12 @@
 ghost use Rattle.std.specs.Prelude.{◌≡◌};
 ghost use Rattle.bw_serve.specs.HostedMany.{HostsMany, HostsManyOver};
 
-use crate::laws::law_names;
 use crate::hosting_in_turn::{format_listening, tell_end, tell_unbound};
+use crate::laws::law_names;
 use crate::serving::{Bounds, serve_crowd};
-use bw_exchange::Tallied;
 use bw_console::print::{give_up, print};
 use bw_console::{Exit, Fault, tell_unopened};
+use bw_exchange::Tallied;
 use bw_journal::{Journal, NoJournal};
 use bw_layout::Limit;
 use bw_ports::{Gathering, Lobby, Network};

@@ -5,10 +5,10 @@ ghost use Rattle.std.specs.Net.Text.{socket_text};
 ghost use Rattle.bw_serve.specs.Hosted.{Hosts, HostsOver, TellsEnd, TellsUnopened};
 ghost use Rattle.bw_serve.specs.Hosted.{listening_line};
 
-use bw_exchange::Tallied;
 use crate::serving_in_turn::serve_run;
 use bw_console::print::{give_up, print, tell};
 use bw_console::{Exit, Fault, tell_unopened};
+use bw_exchange::Tallied;
 use bw_journal::{Journal, NoJournal};
 use bw_layout::Limit;
 use bw_ports::{Network, Peers};

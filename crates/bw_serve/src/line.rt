@@ -4,8 +4,8 @@ ghost use Rattle.bw_console.specs.Printing.{IsOf, IsPrint, Print};
 ghost use Rattle.bw_serve.specs.Lines.{connection_line, name_of_connection_end};
 
 use arrayvec::ArrayString;
-use bw_exchange::end_name;
 use bw_console::print::tell;
+use bw_exchange::end_name;
 use bw_many::ConnectionEnd;
 use bw_stream::Sink;
 use itoa::Buffer;

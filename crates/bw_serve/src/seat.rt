@@ -7,8 +7,8 @@ ghost use Rattle.bw_serve.specs.Lines.{name_of_connection_end};
 ghost use Rattle.bw_serve.specs.Seats.{LogsAt, SwapsAt};
 
 use crate::line::name_of;
-use bw_exchange::{Tallied, Tally};
 use crate::telling::tell_link;
+use bw_exchange::{Tallied, Tally};
 use bw_many::ConnectionEnd;
 use bw_stream::Sink;
 use std::alloc::{AllocError, Global};

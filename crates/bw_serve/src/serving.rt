@@ -8,8 +8,8 @@ ghost use Rattle.bw_serve.specs.Rounds.{IsShut, ServesRound, patience_of};
 ghost use Rattle.bw_serve.specs.Serving.{ServesCrowd};
 
 use crate::crowd::{Crowd, Round, Shut};
-use bw_exchange::{Tallied, Turns};
 use bw_console::Exit;
+use bw_exchange::{Tallied, Turns};
 use bw_ports::Lobby;
 use bw_stream::Sink;
 use std::alloc::Global;
@@ -37,6 +37,9 @@ pub struct Bounds {
 /// Where there is no free place nobody is let in; a connection that sends no whole frame for too
 /// long is ended. `Done` behind the last one; `Memory` where memory was refused before the first;
 /// `Device` where no more peers are let in, or nothing can be waited for, or behind 2^64 - 1 rounds.
+///
+/// Each link that the lobby gives stands at the place for which it was given, or is over; one for
+/// which memory is refused is closed and counted.
 ///
 /// With `log` each that is over is a line on `faults` too: `peer ADDRESS names NAME.. end END
 /// messages N bytes N`, with the first eight names of its messages. Where memory is refused for the

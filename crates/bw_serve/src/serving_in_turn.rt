@@ -5,8 +5,8 @@ ghost use Rattle.bw_serve.specs.ServedAll.{exit_now};
 
 use crate::serving_one::serve_link;
 use crate::telling::tell_link;
-use bw_exchange::{Tallied, Turns, end_name};
 use bw_console::Exit;
+use bw_exchange::{Tallied, Turns, end_name};
 use bw_ports::{AcceptFault, Peer, Peers};
 use bw_stream::{Sink, Source};
 use std::alloc::Global;

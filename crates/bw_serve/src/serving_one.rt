@@ -4,9 +4,9 @@ ghost use Rattle.bw_serve.specs.ServedOne.{ServesOne, ServesTo, exchange_end_lin
 ghost use Rattle.bw_serve.specs.ServedOne.{exit_untold};
 
 use arrayvec::ArrayString;
-use bw_exchange::{ExchangeEnd, Turns, end_name, serve_exchange};
 use bw_console::Exit;
 use bw_console::print::print;
+use bw_exchange::{ExchangeEnd, Turns, end_name, serve_exchange};
 use bw_stream::{Sink, Source};
 use itoa::Buffer;
 use std::alloc::Global;

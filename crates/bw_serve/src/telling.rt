@@ -3,8 +3,8 @@ ghost use Rattle.std.specs.Prelude.{◌≡◌, ◌++◌, [], flat_map, IfOk, OnO
 ghost use Rattle.bw_serve.specs.LinkLines.{Logs, counts_text, name_behind, peer_line};
 ghost use Rattle.bw_serve.specs.LinkLines.{peer_text};
 
-use bw_exchange::{KnownName, Tally};
 use bw_console::print::tell;
+use bw_exchange::{KnownName, Tally};
 use bw_stream::Sink;
 use std::alloc::{AllocError, Global};
 use std::net::SocketAddr;

@@ -2,15 +2,14 @@
 use crate::compare::same;
 use crate::hall::{Comes, Hall, Plan, Visit};
 use crate::scripted::{Give, Script, Take};
-use bw_exchange::Tallied;
 use bw_console::Exit;
+use bw_exchange::Tallied;
 use bw_layout::Limit;
 use bw_request::Name;
 use bw_serve::{Bounds, serve_crowd};
 use bw_session::Server;
 use bw_store::MemoryStore;
 use bw_stream::MemorySink;
-
 use std::alloc::{AllocError, Global};
 use std::process::Abort;
 use std::test::Fail;

@@ -3,8 +3,8 @@ ghost use Rattle.std.specs.Prelude.{◌≡◌, None};
 ghost use Rattle.bw_stream.specs.Moves.{failures_after};
 
 use crate::hall::{Hall, Plan};
-use bw_store::MemoryStore;
 use bw_ports::{AcceptFault, Dial, DialFault, Duplex, Gathering, Network, Peer, Peers};
+use bw_store::MemoryStore;
 use bw_stream::{MemorySink, MemorySource};
 use std::alloc::Global;
 use std::io::{self, ErrorKind};

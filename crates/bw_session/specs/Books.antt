@@ -90,6 +90,15 @@ module _ {X Y : Type 0} (S : StoreGhosts X) (J : JournalGhosts Y) where
       AsksInTurn S m (part_in old.sessions old.limit m.name) old.stores.store
       (part_in new.sessions old.limit m.name) new.stores.store
 
+  -- The message had its turn.
+  pub record Turned (old new : Server X Y S J) (m : Message) (replies : List Reply) : Type 0 where
+    -- the store was asked for each number of the message's name that was done
+    pub asked : AsksTurn old new m
+    -- each book that the server held over an honest store is turned
+    pub turned : TurnsBooks old new m replies
+    -- an honest journal has of each name what the later book says
+    pub noted : NotesBooks old new m replies
+
 -- what a known name's log tells
 abbrev pub of_known : {A : Type 0} → Book → List ℕ → (Log → A) → Option A
 of_known book name f = if is_known book name then Some (f (log_of book name)) else None

@@ -75,7 +75,7 @@ impl<S: TakeStore> Server<S> {
 impl<S: TakeStore, J: Journal> Server<S, J> {
     ghost use Rattle.bw_session.specs.Books.{HoldsBook, NotesBook, TurnsBooks, NotesBooks};
     ghost use Rattle.bw_session.specs.Books.{KeepsBooks, LeavesServer, UsesInTurn, AsksTurn};
-    ghost use Rattle.bw_session.specs.Books.{SameStores};
+    ghost use Rattle.bw_session.specs.Books.{SameStores, Turned};
     ghost use Rattle.bw_session.specs.Books.{of_known, count_waiting};
 
     /// A server that knows no name, over a store and a journal.
@@ -182,11 +182,8 @@ impl<S: TakeStore, J: Journal> Server<S, J> {
             × SameStores S.TakeStore J.Journal self.old self.new }
         ensures both { UsesInTurn S.TakeStore J.Journal self.old self.new (message_of message.now)
             out.new.items }
-        ensures asked { AsksTurn S.TakeStore J.Journal self.old self.new (message_of message.now) }
         ensures limit { self.new.limit ≡ self.old.limit }
-        ensures turned { TurnsBooks S.TakeStore J.Journal self.old self.new (message_of message.now)
-            out.new.items }
-        ensures noted { NotesBooks S.TakeStore J.Journal self.old self.new (message_of message.now)
+        ensures turned { Turned S.TakeStore J.Journal self.old self.new (message_of message.now)
             out.new.items }
     {
         if let Err(code) = self.try_meet(&name, message, out) {
@@ -216,15 +213,11 @@ impl<S: TakeStore, J: Journal> Server<S, J> {
         ensures told { All IsServing out.new.items }
         ensures both { UsesInTurn S.TakeStore J.Journal self.old self.new (message_of message.now)
             out.new.items }
-        ensures asked { OnOk result (AsksTurn S.TakeStore J.Journal self.old self.new
-            (message_of message.now)) }
         ensures limit { self.new.limit ≡ self.old.limit }
         ensures left { OnErr result (LeavesServer S.TakeStore J.Journal self.old self.new) }
         ensures untold { OnErr result (out.new.items ≡ []) }
         ensures met { OnOk result (IsSome (session_in self.new.sessions name.now)) }
-        ensures turned { OnOk result (TurnsBooks S.TakeStore J.Journal self.old self.new
-            (message_of message.now) out.new.items) }
-        ensures noted { OnOk result (NotesBooks S.TakeStore J.Journal self.old self.new
+        ensures turned { OnOk result (Turned S.TakeStore J.Journal self.old self.new
             (message_of message.now) out.new.items) }
         ensures prompt { IfErr result (λ code. is_delay (notice_meaning code) ≡ false) }
         ensures away { IfErr result (λ code. IsTrue
@@ -267,15 +260,11 @@ impl<S: TakeStore, J: Journal> Server<S, J> {
             self.old.stores.store self.new.stores.store
             self.old.stores.journal self.new.stores.journal
             0 (done_in self.new.sessions name.now) out.new.items }
-        ensures asked { OnOk result (AsksTurn S.TakeStore J.Journal self.old self.new
-            (message_of message.now)) }
         ensures limit { self.new.limit ≡ self.old.limit }
         ensures left { OnErr result (LeavesServer S.TakeStore J.Journal self.old self.new) }
         ensures untold { OnErr result (out.new.items ≡ []) }
         ensures met { OnOk result (IsSome (session_in self.new.sessions name.now)) }
-        ensures turned { OnOk result (TurnsBooks S.TakeStore J.Journal self.old self.new
-            (message_of message.now) out.new.items) }
-        ensures noted { OnOk result (NotesBooks S.TakeStore J.Journal self.old self.new
+        ensures turned { OnOk result (Turned S.TakeStore J.Journal self.old self.new
             (message_of message.now) out.new.items) }
     {
         let mut session = Session::new(self.stores.alloc, name.copy(), self.limit)?;

@@ -1,5 +1,5 @@
 //! A request in hex.
-ghost use Rattle.std.specs.Prelude.{◌≢◌, Ok, IfOk, OnErr, MatchOption, length};
+ghost use Rattle.std.specs.Prelude.{◌≡◌, ◌≢◌, Ok, IfOk, OnErr, MatchOption, length};
 ghost use Rattle.bw_model.specs.Take.{Request as Requested};
 ghost use Rattle.bw_model.specs.Wire.{decoded_request};
 ghost use Rattle.bw_wire.specs.RequestTexts.{IsRequestText, IsEven};

@@ -18,9 +18,9 @@ returns c =
     with_ok c.text_of_run.result _ _ _
     (λ text names is. text_replayed c.args.limit c.args.fuse calls (map (λ x. x.items) c.args.inputs.now) _ _ run.store.store.inner
     c.files.result.now text.items
-    (subst (λ (es : List ExchangeEnd). Replayed c.args.limit (map (λ x. x.items) c.args.inputs.now)
-    (failures_under c.args.fuse calls) calls c.as_slice-replies.result.now es (content_under run.store.store.inner.files)) (sym c.as_slice-ends.ensures.value)
-    (subst (λ (rs : List (Vec ℕ Global)). Replayed c.args.limit (map (λ x. x.items) c.args.inputs.now)
-    (failures_under c.args.fuse calls) calls rs run.ends.items (content_under run.store.store.inner.files)) (sym c.as_slice-replies.ensures.value) ran))
+    (subst (λ (es : List ExchangeEnd). Replayed c.args.limit (map (λ x. x.items) c.args.inputs.now) (failures_under c.args.fuse calls)
+    calls c.as_slice-replies.result.now es (content_under run.store.store.inner.files)) (sym c.as_slice-ends.ensures.value)
+    (subst (λ (rs : List (Vec ℕ Global)). Replayed c.args.limit (map (λ x. x.items) c.args.inputs.now) (failures_under c.args.fuse calls)
+    calls rs run.ends.items (content_under run.store.store.inner.files)) (sym c.as_slice-replies.ensures.value) ran))
     run.store.took c.files.ensures names is)
     c.text_of_run.ensures.text c.text_of_run.ensures.names

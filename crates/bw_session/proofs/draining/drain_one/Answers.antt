@@ -6,7 +6,8 @@ use Rattle.bw_request.specs.Requests.{meaning}
 use Rattle.bw_request.specs.Verdicts.{verdict_meaning}
 use Rattle.bw_file.specs.Growing.{Growing}
 use Rattle.bw_wire.specs.Frames.{message_of}
-use Rattle.bw_session.proofs.DrainForms.{count_front, fits_done, held_front, part_waits, part_done}
+use Rattle.bw_session.proofs.DrainForms.{count_front, fits_done, part_waits, part_done}
+use Rattle.bw_session.proofs.NextForms.{front_here}
 use Rattle.bw_session.specs.Sessions.{kept_with}
 use Rattle.bw_session.proofs.AskForms.{does_first, tries_first}
 use Rattle.bw_session.proofs.draining.drain_one.Goals as goal
@@ -39,9 +40,8 @@ returns-in-Ok-clause-drained g c = λ honest first log h.
     let r : Request = meaning c.request-request.result in
     let g0 : Growing = c.args.progress.now.growing in
     let finished : List (List ℕ × Verdict) = c.args.progress.now.ledger.outcomes in
-    let front = held_front first log c.args.progress.now.state.parts finished c.args.window.now g0 _ h
-    (message_of c.message-message.result) r c.digest.result.now c.in-Some.body.now c.args.progress.now.name
-    c.args.progress.now.same_name (sym c.in-Some.ensures.value) c.message-message.ensures.spelled
+    let front = front_here first log c.args.progress.now c.args.window.now _ h (message_of c.message-message.result) r
+    c.digest.result.now c.in-Some.body.now (sym c.in-Some.ensures.value) c.message-message.ensures.spelled
     c.request-request.ensures.value c.request-request.ensures.fits c.digest.ensures in
     let done = c.in-Ok.ensures.done honest first log front.0 front.1 in
     record {
@@ -55,11 +55,8 @@ returns-in-Ok-clause-drained g c = λ honest first log h.
 pub returns-in-Ok-clause-noted : goal.returns-in-Ok-clause-noted
 returns-in-Ok-clause-noted g c = λ honest honest_notes first log h stood noted.
     let r : Request = meaning c.request-request.result in
-    let g0 : Growing = c.args.progress.now.growing in
-    let finished : List (List ℕ × Verdict) = c.args.progress.now.ledger.outcomes in
-    let front = held_front first log c.args.progress.now.state.parts finished c.args.window.now g0 _ h
-    (message_of c.message-message.result) r c.digest.result.now c.in-Some.body.now c.args.progress.now.name
-    c.args.progress.now.same_name (sym c.in-Some.ensures.value) c.message-message.ensures.spelled
+    let front = front_here first log c.args.progress.now c.args.window.now _ h (message_of c.message-message.result) r
+    c.digest.result.now c.in-Some.body.now (sym c.in-Some.ensures.value) c.message-message.ensures.spelled
     c.request-request.ensures.value c.request-request.ensures.fits c.digest.ensures in
     c.in-Ok.ensures.noted honest honest_notes first log front.0 front.1 stood noted
 
@@ -68,9 +65,8 @@ returns-in-Err-clause-drained g c = λ honest first log h.
     let r : Request = meaning c.request-request.result in
     let g0 : Growing = c.args.progress.now.growing in
     let finished : List (List ℕ × Verdict) = c.args.progress.now.ledger.outcomes in
-    let front = held_front first log c.args.progress.now.state.parts finished c.args.window.now g0 _ h
-    (message_of c.message-message.result) r c.digest.result.now c.in-Some.body.now c.args.progress.now.name
-    c.args.progress.now.same_name (sym c.in-Some.ensures.value) c.message-message.ensures.spelled
+    let front = front_here first log c.args.progress.now c.args.window.now _ h (message_of c.message-message.result) r
+    c.digest.result.now c.in-Some.body.now (sym c.in-Some.ensures.value) c.message-message.ensures.spelled
     c.request-request.ensures.value c.request-request.ensures.fits c.digest.ensures in
     record {
       told = ap is_some front.0.here;
@@ -84,11 +80,8 @@ returns-in-Err-clause-drained g c = λ honest first log h.
 pub returns-in-Err-clause-noted : goal.returns-in-Err-clause-noted
 returns-in-Err-clause-noted g c = λ honest honest_notes first log h stood noted.
     let r : Request = meaning c.request-request.result in
-    let g0 : Growing = c.args.progress.now.growing in
-    let finished : List (List ℕ × Verdict) = c.args.progress.now.ledger.outcomes in
-    let front = held_front first log c.args.progress.now.state.parts finished c.args.window.now g0 _ h
-    (message_of c.message-message.result) r c.digest.result.now c.in-Some.body.now c.args.progress.now.name
-    c.args.progress.now.same_name (sym c.in-Some.ensures.value) c.message-message.ensures.spelled
+    let front = front_here first log c.args.progress.now c.args.window.now _ h (message_of c.message-message.result) r
+    c.digest.result.now c.in-Some.body.now (sym c.in-Some.ensures.value) c.message-message.ensures.spelled
     c.request-request.ensures.value c.request-request.ensures.fits c.digest.ensures in
     c.in-Err.ensures.noted honest honest_notes first log front.0 front.1 stood noted
 

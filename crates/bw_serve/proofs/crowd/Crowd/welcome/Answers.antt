@@ -10,19 +10,19 @@ use Rattle.bw_serve.proofs.crowd.Crowd.welcome.Goals as goal
 pub loop-peer-preserved : goal.loop-peer-preserved
 loop-peer-preserved g c = record {
   grows = elim c.match-accept.branch [
-    in-Ok w ↦ subst (λ m. Grows g.L.Link c.args.self.now m) (sym w.self-is)
+    | in-Ok w ↦ subst (λ m. Grows g.L.Link c.args.self.now m) (sym w.self-is)
         (grows_then g.L.Link c.args.self.now c.loop-peer.self w.seat.new.self c.loop-peer.invariant.grows
         w.seat.ensures.grows)
     | in-Err-Gone w ↦ subst (λ m. Grows g.L.Link c.args.self.now m) (sym w.self-is) c.loop-peer.invariant.grows
   ];
   lets_in = elim c.match-accept.branch [
-    in-Ok w ↦ subst (λ m. LetsIn c.args.now c.args.self.now m) (sym w.self-is)
+    | in-Ok w ↦ subst (λ m. LetsIn c.args.now c.args.self.now m) (sym w.self-is)
         (lets_in_then c.args.now c.args.self.now c.loop-peer.self w.seat.new.self c.loop-peer.invariant.lets_in
         w.seat.ensures.lets_in)
     | in-Err-Gone w ↦ subst (λ m. LetsIn c.args.now c.args.self.now m) (sym w.self-is) c.loop-peer.invariant.lets_in
   ];
   welcomes = elim c.match-accept.branch [
-    in-Ok w ↦ subst (λ m. Welcomes g.B.Lobby c.args.now c.args.lobby.now c.accept.new.self c.args.self.now m)
+    | in-Ok w ↦ subst (λ m. Welcomes g.B.Lobby c.args.now c.args.lobby.now c.accept.new.self c.args.self.now m)
         (sym w.self-is) (welcomes_more g.B.Lobby c.args.now c.in-Some.place w.in-Ok.guest.link c.args.lobby.now
         c.loop-peer.lobby c.accept.new.self c.args.self.now c.loop-peer.self w.seat.new.self
         c.loop-peer.invariant.welcomes w.in-Ok.ensures.admitted w.seat.ensures.admits)
@@ -31,11 +31,11 @@ loop-peer-preserved g c = record {
         c.args.self.now c.loop-peer.self c.loop-peer.invariant.welcomes w.in-Err-Gone.ensures.admitted)
   ];
   most = elim c.match-accept.branch [
-    in-Ok w ↦ subst (λ m. begun_of m.many ≤ c.args.exchanges) (sym w.self-is) (search rules)
+    | in-Ok w ↦ subst (λ m. begun_of m.many ≤ c.args.exchanges) (sym w.self-is) (search rules)
     | in-Err-Gone w ↦ subst (λ m. begun_of m.many ≤ c.args.exchanges) (sym w.self-is) c.loop-peer.invariant.most
   ];
   failures = elim c.match-accept.branch [
-    in-Ok w ↦ w.in-Ok.ensures.count ∙ c.loop-peer.invariant.failures
+    | in-Ok w ↦ w.in-Ok.ensures.count ∙ c.loop-peer.invariant.failures
     | in-Err-Gone w ↦ search rules
   ];
   waits = c.accept.ensures.waits ∙ c.loop-peer.invariant.waits;

@@ -139,10 +139,12 @@ returns-in_err-verdict-clause-asked g c =
     rw answer.1 (true, record { refused = asked.refused; order = tt; begun = asked.begun })
 
 pub returns-clause-asked : goal.returns-clause-asked
-returns-clause-asked g c =
-    (true, subst (λ s. AsksJudged g.S.TakeStore (Ok c.in_ok-verdict.verdict) c.args.self.now.growing
-    c.args.self.now.state.parts (meaning c.args.request.now) c.carry_out.new.growing.made true
-    c.args.stores.now.store s) (sym c.note.ensures.store) c.in_ok-verdict.ensures.asked)
+returns-clause-asked g c = (
+  true,
+  subst (λ s. AsksJudged g.S.TakeStore (Ok c.in_ok-verdict.verdict) c.args.self.now.growing
+      c.args.self.now.state.parts (meaning c.args.request.now) c.carry_out.new.growing.made true
+      c.args.stores.now.store s) (sym c.note.ensures.store) c.in_ok-verdict.ensures.asked,
+)
 
 pub returns-clause-kept : goal.returns-clause-kept
 returns-clause-kept g c = record {

@@ -79,101 +79,6 @@ returns-clause-both g c =
       both.3,
     )
 
-pub returns-clause-turned : goal.returns-clause-turned
-returns-clause-turned g c = λ honest first book h.
-    let m : Message = message_of c.args.message.now in
-    let said = message_spelled c.args.message.now.body.now c.args.message.now.spells in
-    let s : Session = c.serve.new.self in
-    let take = c.in_ok-serve.ensures.take in
-    let both = c.in_ok-serve.ensures.both in
-    let owner : c.in_ok-session.session.progress.name ≡ m.name =
-    c.in_ok-session.ensures.name ∙ c.copy.ensures ∙ sym c.requires.name in
-    let fresh = subst (λ (n : List ℕ). session_in c.args.self.now.sessions n ≡ None) (sym c.requires.name)
-    c.requires.fresh in
-    let unknown = unknown_here c.args.self.now.limit (store_since g.S.TakeStore first c.args.self.now.stores.store)
-    (session_in c.args.self.now.sessions) book h honest m.name fresh in
-    let nothing = h.others honest m.name (inr unknown) in
-    let served = c.in_ok-serve.ensures.served honest (first m.name) no_log
-    (subst (λ (o : Option (List ℕ)). HoldsLog (first m.name) no_log (part_of c.in_ok-session.session) o)
-    (sym (ap (g.S.TakeStore.contents c.args.self.now.stores.store) owner ∙ nothing))
-    (c.in_ok-session.ensures.holds (first m.name))) in
-    let after : ℕ = failed_calls (g.S.TakeStore.failures c.serve.new.stores.store)
-    (g.J.Journal.failures c.serve.new.stores.journal) in
-    let here = subst (λ (n : List ℕ). Serves (first m.name) no_log m (failures_of g.S.TakeStore g.J.Journal c.args.self.now)
-    after c.serve.new.out.items (part_of s) (g.S.TakeStore.contents c.serve.new.stores.store n)) owner served in
-    let there = subst (λ (l : Log). Serves (first m.name) l m (failures_of g.S.TakeStore g.J.Journal c.args.self.now)
-    after c.serve.new.out.items (part_of s) (g.S.TakeStore.contents c.serve.new.stores.store m.name))
-    (sym (unknown_log book m.name unknown)) here in
-    let count = counted c.args.self.now.sessions book c.requires.unique h.is_book c.args.self.now.table.few h.names in
-    let place = c.requires.place in
-    let near = ap (λ (k : Bool). not k && nat_le window m.number) unknown ∙ lt-leb window m.number c.requires.near in
-    let fits = ap (λ (k : Bool). not k && is_full book) unknown
-    ∙ lt-leb most_takes (length book) (omega (arith, count, place)) in
-    let sets = subst (λ (k : List ℕ). (n : List ℕ) → session_in c.insert.new.self n
-    ≡ cond (bytes_eq k n) (Some s) (session_in c.args.self.now.sessions n)) (c.copy-2.ensures ∙ sym c.requires.name)
-    c.in-Ok.ensures.updates.0 in
-    let others = subst (λ (n : List ℕ). KeepsOthers (g.S.TakeStore.contents c.args.self.now.stores.store)
-    (g.S.TakeStore.contents c.serve.new.stores.store) n) owner (both.1.others honest) in
-    let turned = book_turned c.args.self.now.limit (store_since g.S.TakeStore first c.args.self.now.stores.store)
-    (store_since g.S.TakeStore first c.serve.new.stores.store) (session_in c.args.self.now.sessions)
-    (session_in c.insert.new.self) book h honest m said.fits s
-    (failures_of g.S.TakeStore g.J.Journal c.args.self.now) after c.serve.new.out.items sets refl others
-    (ap (λ (x : Growing). x.name) take.growing ∙ c.in_ok-session.session.progress.same_name ∙ owner)
-    (ap (λ (x : Growing). x.limit) take.growing ∙ ap (λ (x : Growing). x.limit) c.in_ok-session.ensures.growing)
-    (answers_served (is_known book m.name) (is_full book) (first m.name) (log_of book m.name) m near fits
-    (failures_of g.S.TakeStore g.J.Journal c.args.self.now) after c.serve.new.out.items (part_of s)
-    (g.S.TakeStore.contents c.serve.new.stores.store m.name) there)
-    (inl (answers_known (is_known book m.name) (is_full book) (first m.name) (log_of book m.name) m near fits
-    (failures_of g.S.TakeStore g.J.Journal c.args.self.now) after c.serve.new.out.items (part_of s)
-    (g.S.TakeStore.contents c.serve.new.stores.store m.name) there)) in
-    record { later = _; turned = turned.0; held = turned.1 }
-
-pub returns-clause-noted : goal.returns-clause-noted
-returns-clause-noted g c = λ honest honest_notes first book h n.
-    let m : Message = message_of c.args.message.now in
-    let s : Session = c.serve.new.self in
-    let both = c.in_ok-serve.ensures.both in
-    let owner : c.in_ok-session.session.progress.name ≡ m.name =
-    c.in_ok-session.ensures.name ∙ c.copy.ensures ∙ sym c.requires.name in
-    let fresh = subst (λ (n : List ℕ). session_in c.args.self.now.sessions n ≡ None) (sym c.requires.name)
-    c.requires.fresh in
-    let unknown = unknown_here c.args.self.now.limit (store_since g.S.TakeStore first c.args.self.now.stores.store)
-    (session_in c.args.self.now.sessions) book h honest m.name fresh in
-    let nothing = h.others honest m.name (inr unknown) in
-    let near = ap (λ (k : Bool). not k && nat_le window m.number) unknown ∙ lt-leb window m.number c.requires.near in
-    let sets = subst (λ (k : List ℕ). (n : List ℕ) → session_in c.insert.new.self n
-    ≡ cond (bytes_eq k n) (Some s) (session_in c.args.self.now.sessions n)) (c.copy-2.ensures ∙ sym c.requires.name)
-    c.in-Ok.ensures.updates.0 in
-    let here = put_here (session_in c.args.self.now.sessions) (session_in c.insert.new.self) m.name s sets in
-    let done : done_in c.insert.new.self m.name ≡ length s.progress.ledger.outcomes =
-    ap (λ (o : Option Session). option_map_or (λ x. length x.progress.ledger.outcomes) o 0) here in
-    let begun = subst (λ (k : List ℕ). IsNoted (g.J.Journal.header c.args.self.now.stores.journal m.name) k no_log
-    c.in_ok-session.session.progress.noted (g.J.Journal.notes c.args.self.now.stores.journal m.name))
-    (c.copy.ensures ∙ sym c.requires.name)
-    (c.in_ok-session.ensures.noted (g.J.Journal.header c.args.self.now.stores.journal m.name)
-    (g.J.Journal.notes c.args.self.now.stores.journal m.name) (n.unknown m.name fresh)) in
-    let noted = noted_then c.in_ok-session.session.progress.name m.name
-    (g.J.Journal.header c.args.self.now.stores.journal) _ (first m.name) no_log
-    (log_after no_log m (length s.progress.ledger.outcomes)) c.in_ok-session.session.progress.noted _
-    (g.J.Journal.notes c.args.self.now.stores.journal) (g.J.Journal.notes c.serve.new.stores.journal) owner refl
-    (c.in_ok-serve.ensures.noted honest honest_notes (first m.name) no_log
-    (subst (λ (o : Option (List ℕ)). HoldsLog (first m.name) no_log (part_of c.in_ok-session.session) o)
-    (sym (ap (g.S.TakeStore.contents c.args.self.now.stores.store) owner ∙ nothing))
-    (c.in_ok-session.ensures.holds (first m.name)))) (n.stood m.name) begun in
-    notes_after (g.J.Journal.header c.args.self.now.stores.journal) (g.J.Journal.header c.serve.new.stores.journal)
-    (g.J.Journal.notes c.args.self.now.stores.journal) (g.J.Journal.notes c.serve.new.stores.journal) first
-    (session_in c.args.self.now.sessions) (session_in c.insert.new.self) book
-    (book_told book m (map reply_of c.serve.new.out.items) (done_in c.insert.new.self m.name)) m.name s
-    (log_after no_log m (length s.progress.ledger.outcomes)) n (both.1.headers honest_notes)
-    (subst (λ (k : List ℕ). KeepsOthers (g.J.Journal.notes c.args.self.now.stores.journal)
-    (g.J.Journal.notes c.serve.new.stores.journal) k) owner (both.1.other_notes honest_notes)) sets
-    (told_here book m (map reply_of c.serve.new.out.items) (done_in c.insert.new.self m.name) near
-    ∙ ap (λ (b : Bool). cond b (log_of book m.name) (log_after (log_of book m.name) m
-    (done_in c.insert.new.self m.name))) (none_away c.serve.new.out.items c.in_ok-serve.ensures.told)
-    ∙ ap (λ (l : Log). log_after l m (done_in c.insert.new.self m.name)) (unknown_log book m.name unknown)
-    ∙ ap (log_after no_log m) done)
-    (told_others book m (map reply_of c.serve.new.out.items) (done_in c.insert.new.self m.name) near) noted
-
 pub returns-clause-met : goal.returns-clause-met
 returns-clause-met g c =
     ap is_some (put_here (session_in c.args.self.now.sessions) (session_in c.insert.new.self) c.args.name.now
@@ -181,25 +86,6 @@ returns-clause-met g c =
     (subst (λ (k : List ℕ). (n : List ℕ) → session_in c.insert.new.self n
     ≡ cond (bytes_eq k n) (Some c.serve.new.self) (session_in c.args.self.now.sessions n)) c.copy-2.ensures
     c.in-Ok.ensures.updates.0))
-
-pub returns-clause-asked : goal.returns-clause-asked
-returns-clause-asked g c =
-    let m : Message = message_of c.args.message.now in
-    let s : Session = c.in_ok-session.session in
-    let s' : Session = c.serve.new.self in
-    let limit : ℕ = c.args.self.now.limit in
-    let fresh = subst (λ (n : List ℕ). session_in c.args.self.now.sessions n ≡ None) (sym c.requires.name)
-    c.requires.fresh in
-    let here = put_here (session_in c.args.self.now.sessions) (session_in c.insert.new.self) m.name s'
-    (subst (λ (k : List ℕ). (n : List ℕ) → session_in c.insert.new.self n
-    ≡ cond (bytes_eq k n) (Some s') (session_in c.args.self.now.sessions n)) (c.copy-2.ensures ∙ sym c.requires.name)
-    c.in-Ok.ensures.updates.0) in
-    asks_at g.S.TakeStore m limit (part_of s) (part_of s') (session_in c.args.self.now.sessions m.name)
-    (session_in c.insert.new.self m.name) c.args.self.now.stores.store c.serve.new.stores.store
-    (c.in_ok-session.ensures.part ∙ ap (λ (n : List ℕ). new_part n limit) (c.copy.ensures ∙ sym c.requires.name)
-    ∙ sym (ap (λ (o : Option Session). option_map_or part_of o (new_part m.name limit)) fresh))
-    (sym (ap (λ (o : Option Session). option_map_or part_of o (new_part m.name limit)) here))
-    c.in_ok-serve.ensures.asked
 
 pub returns-in_err-session-clause-left : goal.returns-in_err-session-clause-left
 returns-in_err-session-clause-left g c =
@@ -211,3 +97,114 @@ returns-in_err-serve-clause-left g c =
     let answer = err_from_is_err_and c.from_residual-in_err-serve.result c.from_residual-in_err-serve.ensures.1 in
     let left = c.in_err-serve.ensures.refused.left in
     rw answer.1 (record { sessions = refl; store = left.store; journal = left.journal })
+
+pub returns-clause-turned : goal.returns-clause-turned
+returns-clause-turned g c = record {
+  asked = let m : Message = message_of c.args.message.now in
+      let s : Session = c.in_ok-session.session in
+      let s' : Session = c.serve.new.self in
+      let limit : ℕ = c.args.self.now.limit in
+      let fresh = subst (λ (n : List ℕ). session_in c.args.self.now.sessions n ≡ None) (sym c.requires.name)
+      c.requires.fresh in
+      let here = put_here (session_in c.args.self.now.sessions) (session_in c.insert.new.self) m.name s'
+      (subst (λ (k : List ℕ). (n : List ℕ) → session_in c.insert.new.self n
+      ≡ cond (bytes_eq k n) (Some s') (session_in c.args.self.now.sessions n)) (c.copy-2.ensures ∙ sym c.requires.name)
+      c.in-Ok.ensures.updates.0) in
+      asks_at g.S.TakeStore m limit (part_of s) (part_of s') (session_in c.args.self.now.sessions m.name)
+      (session_in c.insert.new.self m.name) c.args.self.now.stores.store c.serve.new.stores.store
+      (c.in_ok-session.ensures.part ∙ ap (λ (n : List ℕ). new_part n limit) (c.copy.ensures ∙ sym c.requires.name)
+      ∙ sym (ap (λ (o : Option Session). option_map_or part_of o (new_part m.name limit)) fresh))
+      (sym (ap (λ (o : Option Session). option_map_or part_of o (new_part m.name limit)) here))
+      c.in_ok-serve.ensures.asked;
+  turned = λ honest first book h.
+      let m : Message = message_of c.args.message.now in
+      let said = message_spelled c.args.message.now.body.now c.args.message.now.spells in
+      let s : Session = c.serve.new.self in
+      let take = c.in_ok-serve.ensures.take in
+      let both = c.in_ok-serve.ensures.both in
+      let owner : c.in_ok-session.session.progress.name ≡ m.name =
+      c.in_ok-session.ensures.name ∙ c.copy.ensures ∙ sym c.requires.name in
+      let fresh = subst (λ (n : List ℕ). session_in c.args.self.now.sessions n ≡ None) (sym c.requires.name)
+      c.requires.fresh in
+      let unknown = unknown_here c.args.self.now.limit (store_since g.S.TakeStore first c.args.self.now.stores.store)
+      (session_in c.args.self.now.sessions) book h honest m.name fresh in
+      let nothing = h.others honest m.name (inr unknown) in
+      let served = c.in_ok-serve.ensures.served honest (first m.name) no_log
+      (subst (λ (o : Option (List ℕ)). HoldsLog (first m.name) no_log (part_of c.in_ok-session.session) o)
+      (sym (ap (g.S.TakeStore.contents c.args.self.now.stores.store) owner ∙ nothing))
+      (c.in_ok-session.ensures.holds (first m.name))) in
+      let after : ℕ = failed_calls (g.S.TakeStore.failures c.serve.new.stores.store)
+      (g.J.Journal.failures c.serve.new.stores.journal) in
+      let here = subst (λ (n : List ℕ). Serves (first m.name) no_log m (failures_of g.S.TakeStore g.J.Journal c.args.self.now)
+      after c.serve.new.out.items (part_of s) (g.S.TakeStore.contents c.serve.new.stores.store n)) owner served in
+      let there = subst (λ (l : Log). Serves (first m.name) l m (failures_of g.S.TakeStore g.J.Journal c.args.self.now)
+      after c.serve.new.out.items (part_of s) (g.S.TakeStore.contents c.serve.new.stores.store m.name))
+      (sym (unknown_log book m.name unknown)) here in
+      let count = counted c.args.self.now.sessions book c.requires.unique h.is_book c.args.self.now.table.few h.names in
+      let place = c.requires.place in
+      let near = ap (λ (k : Bool). not k && nat_le window m.number) unknown ∙ lt-leb window m.number c.requires.near in
+      let fits = ap (λ (k : Bool). not k && is_full book) unknown
+      ∙ lt-leb most_takes (length book) (omega (arith, count, place)) in
+      let sets = subst (λ (k : List ℕ). (n : List ℕ) → session_in c.insert.new.self n
+      ≡ cond (bytes_eq k n) (Some s) (session_in c.args.self.now.sessions n)) (c.copy-2.ensures ∙ sym c.requires.name)
+      c.in-Ok.ensures.updates.0 in
+      let others = subst (λ (n : List ℕ). KeepsOthers (g.S.TakeStore.contents c.args.self.now.stores.store)
+      (g.S.TakeStore.contents c.serve.new.stores.store) n) owner (both.1.others honest) in
+      let turned = book_turned c.args.self.now.limit (store_since g.S.TakeStore first c.args.self.now.stores.store)
+      (store_since g.S.TakeStore first c.serve.new.stores.store) (session_in c.args.self.now.sessions)
+      (session_in c.insert.new.self) book h honest m said.fits s
+      (failures_of g.S.TakeStore g.J.Journal c.args.self.now) after c.serve.new.out.items sets refl others
+      (ap (λ (x : Growing). x.name) take.growing ∙ c.in_ok-session.session.progress.same_name ∙ owner)
+      (ap (λ (x : Growing). x.limit) take.growing ∙ ap (λ (x : Growing). x.limit) c.in_ok-session.ensures.growing)
+      (answers_served (is_known book m.name) (is_full book) (first m.name) (log_of book m.name) m near fits
+      (failures_of g.S.TakeStore g.J.Journal c.args.self.now) after c.serve.new.out.items (part_of s)
+      (g.S.TakeStore.contents c.serve.new.stores.store m.name) there)
+      (inl (answers_known (is_known book m.name) (is_full book) (first m.name) (log_of book m.name) m near fits
+      (failures_of g.S.TakeStore g.J.Journal c.args.self.now) after c.serve.new.out.items (part_of s)
+      (g.S.TakeStore.contents c.serve.new.stores.store m.name) there)) in
+      record { later = _; turned = turned.0; held = turned.1 };
+  noted = λ honest honest_notes first book h n.
+      let m : Message = message_of c.args.message.now in
+      let s : Session = c.serve.new.self in
+      let both = c.in_ok-serve.ensures.both in
+      let owner : c.in_ok-session.session.progress.name ≡ m.name =
+      c.in_ok-session.ensures.name ∙ c.copy.ensures ∙ sym c.requires.name in
+      let fresh = subst (λ (n : List ℕ). session_in c.args.self.now.sessions n ≡ None) (sym c.requires.name)
+      c.requires.fresh in
+      let unknown = unknown_here c.args.self.now.limit (store_since g.S.TakeStore first c.args.self.now.stores.store)
+      (session_in c.args.self.now.sessions) book h honest m.name fresh in
+      let nothing = h.others honest m.name (inr unknown) in
+      let near = ap (λ (k : Bool). not k && nat_le window m.number) unknown ∙ lt-leb window m.number c.requires.near in
+      let sets = subst (λ (k : List ℕ). (n : List ℕ) → session_in c.insert.new.self n
+      ≡ cond (bytes_eq k n) (Some s) (session_in c.args.self.now.sessions n)) (c.copy-2.ensures ∙ sym c.requires.name)
+      c.in-Ok.ensures.updates.0 in
+      let here = put_here (session_in c.args.self.now.sessions) (session_in c.insert.new.self) m.name s sets in
+      let done : done_in c.insert.new.self m.name ≡ length s.progress.ledger.outcomes =
+      ap (λ (o : Option Session). option_map_or (λ x. length x.progress.ledger.outcomes) o 0) here in
+      let begun = subst (λ (k : List ℕ). IsNoted (g.J.Journal.header c.args.self.now.stores.journal m.name) k no_log
+      c.in_ok-session.session.progress.noted (g.J.Journal.notes c.args.self.now.stores.journal m.name))
+      (c.copy.ensures ∙ sym c.requires.name)
+      (c.in_ok-session.ensures.noted (g.J.Journal.header c.args.self.now.stores.journal m.name)
+      (g.J.Journal.notes c.args.self.now.stores.journal m.name) (n.unknown m.name fresh)) in
+      let noted = noted_then c.in_ok-session.session.progress.name m.name
+      (g.J.Journal.header c.args.self.now.stores.journal) _ (first m.name) no_log
+      (log_after no_log m (length s.progress.ledger.outcomes)) c.in_ok-session.session.progress.noted _
+      (g.J.Journal.notes c.args.self.now.stores.journal) (g.J.Journal.notes c.serve.new.stores.journal) owner refl
+      (c.in_ok-serve.ensures.noted honest honest_notes (first m.name) no_log
+      (subst (λ (o : Option (List ℕ)). HoldsLog (first m.name) no_log (part_of c.in_ok-session.session) o)
+      (sym (ap (g.S.TakeStore.contents c.args.self.now.stores.store) owner ∙ nothing))
+      (c.in_ok-session.ensures.holds (first m.name)))) (n.stood m.name) begun in
+      notes_after (g.J.Journal.header c.args.self.now.stores.journal) (g.J.Journal.header c.serve.new.stores.journal)
+      (g.J.Journal.notes c.args.self.now.stores.journal) (g.J.Journal.notes c.serve.new.stores.journal) first
+      (session_in c.args.self.now.sessions) (session_in c.insert.new.self) book
+      (book_told book m (map reply_of c.serve.new.out.items) (done_in c.insert.new.self m.name)) m.name s
+      (log_after no_log m (length s.progress.ledger.outcomes)) n (both.1.headers honest_notes)
+      (subst (λ (k : List ℕ). KeepsOthers (g.J.Journal.notes c.args.self.now.stores.journal)
+      (g.J.Journal.notes c.serve.new.stores.journal) k) owner (both.1.other_notes honest_notes)) sets
+      (told_here book m (map reply_of c.serve.new.out.items) (done_in c.insert.new.self m.name) near
+      ∙ ap (λ (b : Bool). cond b (log_of book m.name) (log_after (log_of book m.name) m
+      (done_in c.insert.new.self m.name))) (none_away c.serve.new.out.items c.in_ok-serve.ensures.told)
+      ∙ ap (λ (l : Log). log_after l m (done_in c.insert.new.self m.name)) (unknown_log book m.name unknown)
+      ∙ ap (log_after no_log m) done)
+      (told_others book m (map reply_of c.serve.new.out.items) (done_in c.insert.new.self m.name) near) noted;
+}

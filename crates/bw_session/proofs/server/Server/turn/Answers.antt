@@ -1,5 +1,6 @@
 use Rattle.std.proofs.Common.{rules}
-use Rattle.std.proofs.Common.{◌≡◌, ◌+◌, ◌≤◌, ℕ, List, Option, Some, true, false, Bool, cond, length, refl, sym, ◌∙◌, ap, subst, inr, map, not, ◌&&◌}
+use Rattle.std.proofs.Common.{◌≡◌, ◌+◌, ◌≤◌, ℕ, List, Option, Some, true, false, Bool, cond, length, refl, sym, ◌∙◌}
+use Rattle.std.proofs.Common.{ap, subst, inr, map, not, ◌&&◌}
 use Rattle.std.specs.Prelude.{is_some, nat_le}
 use Rattle.std.specs.Str.{bytes_eq}
 use Rattle.std.specs.Option.{option_map_or}
@@ -19,6 +20,7 @@ use Rattle.bw_wire.specs.Replies.{reply_of}
 use Rattle.bw_session.specs.Serving.{Answers, log_told}
 use Rattle.bw_session.specs.Servers.{kept_in, store_since, done_in}
 use Rattle.bw_session.specs.Books.{failures_of}
+use Rattle.bw_session.specs.Journaled.{NotesNames}
 use Rattle.bw_session.specs.Tables.{session_in}
 use Rattle.bw_session.specs.declared.session.Session.{Session}
 use Rattle.bw_session.proofs.AnswerForms.{answers_full}
@@ -160,7 +162,7 @@ returns-in-Some-clause-turned g c = λ honest first book h.
 
 pub returns-in-None-clause-turned : goal.returns-in-None-clause-turned
 returns-in-None-clause-turned g c = λ honest first book h.
-    let turned = c.meet.ensures.turned honest first book
+    let turned = c.meet.ensures.turned.turned honest first book
     (subst (λ (t : _). Holds c.args.self.now.limit (store_since g.S.TakeStore first c.args.self.now.stores.store)
     (kept_in t) book) (sym c.get_mut.follows.holds-at-none) h) in
     record { later = turned.later; turned = turned.turned; held = turned.held }
@@ -252,4 +254,13 @@ returns-in-None-clause-asked g c =
     let limit : ℕ = c.args.self.now.limit in
     subst (λ (t : _). AsksInTurn g.S.TakeStore m (part_in t limit m.name) c.args.self.now.stores.store
     (part_in c.meet.new.self.sessions limit m.name) c.meet.new.self.stores.store) c.get_mut.follows.holds-at-none
-    c.meet.ensures.asked
+    c.meet.ensures.turned.asked
+
+pub returns-in-None-clause-noted : goal.returns-in-None-clause-noted
+returns-in-None-clause-noted g c = λ honest honest_notes first book h n.
+    c.meet.ensures.turned.noted honest honest_notes first book
+    (subst (λ (t : _). Holds c.args.self.now.limit (store_since g.S.TakeStore first c.args.self.now.stores.store)
+    (kept_in t) book) (sym c.get_mut.follows.holds-at-none) h)
+    (subst (λ (t : _). NotesNames (g.J.Journal.header c.args.self.now.stores.journal)
+    (g.J.Journal.notes c.args.self.now.stores.journal) first (session_in t) book)
+    (sym c.get_mut.follows.holds-at-none) n)

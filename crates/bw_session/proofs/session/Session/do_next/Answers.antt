@@ -20,9 +20,9 @@ use Rattle.bw_session.specs.Noting.{IsNoted}
 use Rattle.bw_session.specs.Admitting.{with_message}
 use Rattle.bw_session.specs.Draining.{HoldsPart}
 use Rattle.bw_session.specs.Numbered.{with_done}
-use Rattle.bw_session.proofs.AdmitForms.{at-set_same, count_room, said_number, said_request, notes_put}
-use Rattle.bw_session.proofs.DrainForms.{held_front, part_waits, part_done}
-use Rattle.bw_session.proofs.NextForms.{fits_passed, fits_waiting, passed_slot, held_at, next_held}
+use Rattle.bw_session.proofs.AdmitForms.{at-set_same, count_room, said_number, notes_put}
+use Rattle.bw_session.proofs.DrainForms.{part_waits, part_done}
+use Rattle.bw_session.proofs.NextForms.{fits_passed, fits_waiting, passed_slot, held_at, next_front}
 use Rattle.bw_session.proofs.RunForms.{noted_then}
 use Rattle.bw_session.specs.Sessions.{part_of}
 use Rattle.bw_session.specs.KeptParts.{Part}
@@ -97,25 +97,13 @@ invariant_of-self-in-Err g c =
 pub returns-in-Ok-clause-drained : goal.returns-in-Ok-clause-drained
 returns-in-Ok-clause-drained g c = λ honest first log h.
     let m : Message = message_of c.args.message.now in
-    let said = message_spelled c.args.message.now.body.now c.args.message.now.spells in
     let w : List (Option (List ℕ)) = c.args.self.now.window in
     let kept = c.in_ok-room.ensures.progress in
-    let slots = c.requires.slots in
-    let there : 0 < length w = omega (arith, slots) in
-    let held = next_held first log c.args.self.now.progress.state.parts c.make_room.new.self.progress.state.parts
-    c.args.self.now.progress.ledger.outcomes c.make_room.new.self.progress.ledger.outcomes w
-    c.args.self.now.progress.growing c.make_room.new.self.progress.growing
-    (g.S.TakeStore.contents c.args.stores.now.store) c.args.self.now.progress.name
-    c.make_room.new.self.progress.name m h (c.requires.name ∙ sym c.args.self.now.progress.same_name)
-    (said_request m said.fits) c.requires.next c.requires.free there kept.growing kept.parts kept.outcomes
-    (sym kept.name) in
-    let front = held_front first (with_message log m) c.make_room.new.self.progress.state.parts
-    c.make_room.new.self.progress.ledger.outcomes (slice_set w 0 (Some (message_body m)))
-    c.make_room.new.self.progress.growing
-    (g.S.TakeStore.contents c.args.stores.now.store c.make_room.new.self.progress.name) held
-    m (meaning c.request-request.result) c.args.digest (message_body m) c.make_room.new.self.progress.name
-    c.make_room.new.self.progress.same_name (at-set_same w 0 (Some (message_body m)) there) refl
-    c.request-request.ensures.value c.request-request.ensures.fits c.requires.digest in
+    let here = next_front first log c.args.self.now c.make_room.new.self (g.S.TakeStore.contents c.args.stores.now.store)
+    m (meaning c.request-request.result) c.args.digest h kept c.requires.name c.requires.next c.requires.free
+    c.requires.slots c.request-request.ensures.value c.request-request.ensures.fits c.requires.digest in
+    let held = here.0 in
+    let front = here.1 in
     let done = c.in-Ok.ensures.done honest first (with_message log m) front.0 front.1 in
     record {
       told = (ap is_some front.0.here, done.verdict_is);
@@ -133,25 +121,13 @@ returns-in-Ok-clause-drained g c = λ honest first log h.
 pub returns-in-Ok-clause-noted : goal.returns-in-Ok-clause-noted
 returns-in-Ok-clause-noted g c = λ honest honest_notes first log h stood noted.
     let m : Message = message_of c.args.message.now in
-    let said = message_spelled c.args.message.now.body.now c.args.message.now.spells in
     let w : List (Option (List ℕ)) = c.args.self.now.window in
     let kept = c.in_ok-room.ensures.progress in
-    let slots = c.requires.slots in
-    let there : 0 < length w = omega (arith, slots) in
-    let held = next_held first log c.args.self.now.progress.state.parts c.make_room.new.self.progress.state.parts
-    c.args.self.now.progress.ledger.outcomes c.make_room.new.self.progress.ledger.outcomes w
-    c.args.self.now.progress.growing c.make_room.new.self.progress.growing
-    (g.S.TakeStore.contents c.args.stores.now.store) c.args.self.now.progress.name
-    c.make_room.new.self.progress.name m h (c.requires.name ∙ sym c.args.self.now.progress.same_name)
-    (said_request m said.fits) c.requires.next c.requires.free there kept.growing kept.parts kept.outcomes
-    (sym kept.name) in
-    let front = held_front first (with_message log m) c.make_room.new.self.progress.state.parts
-    c.make_room.new.self.progress.ledger.outcomes (slice_set w 0 (Some (message_body m)))
-    c.make_room.new.self.progress.growing
-    (g.S.TakeStore.contents c.args.stores.now.store c.make_room.new.self.progress.name) held
-    m (meaning c.request-request.result) c.args.digest (message_body m) c.make_room.new.self.progress.name
-    c.make_room.new.self.progress.same_name (at-set_same w 0 (Some (message_body m)) there) refl
-    c.request-request.ensures.value c.request-request.ensures.fits c.requires.digest in
+    let here = next_front first log c.args.self.now c.make_room.new.self (g.S.TakeStore.contents c.args.stores.now.store)
+    m (meaning c.request-request.result) c.args.digest h kept c.requires.name c.requires.next c.requires.free
+    c.requires.slots c.request-request.ensures.value c.request-request.ensures.fits c.requires.digest in
+    let held = here.0 in
+    let front = here.1 in
     let next = c.requires.next in
     noted_then c.make_room.new.self.progress.name c.args.self.now.progress.name
     (g.J.Journal.header c.args.stores.now.journal) _ first (with_message log m) (with_done (with_message log m))
@@ -168,25 +144,13 @@ returns-in-Ok-clause-noted g c = λ honest honest_notes first log h stood noted.
 pub returns-in-Err-clause-drained : goal.returns-in-Err-clause-drained
 returns-in-Err-clause-drained g c = λ honest first log h.
     let m : Message = message_of c.args.message.now in
-    let said = message_spelled c.args.message.now.body.now c.args.message.now.spells in
     let w : List (Option (List ℕ)) = c.args.self.now.window in
     let kept = c.in_ok-room.ensures.progress in
-    let slots = c.requires.slots in
-    let there : 0 < length w = omega (arith, slots) in
-    let held = next_held first log c.args.self.now.progress.state.parts c.make_room.new.self.progress.state.parts
-    c.args.self.now.progress.ledger.outcomes c.make_room.new.self.progress.ledger.outcomes w
-    c.args.self.now.progress.growing c.make_room.new.self.progress.growing
-    (g.S.TakeStore.contents c.args.stores.now.store) c.args.self.now.progress.name
-    c.make_room.new.self.progress.name m h (c.requires.name ∙ sym c.args.self.now.progress.same_name)
-    (said_request m said.fits) c.requires.next c.requires.free there kept.growing kept.parts kept.outcomes
-    (sym kept.name) in
-    let front = held_front first (with_message log m) c.make_room.new.self.progress.state.parts
-    c.make_room.new.self.progress.ledger.outcomes (slice_set w 0 (Some (message_body m)))
-    c.make_room.new.self.progress.growing
-    (g.S.TakeStore.contents c.args.stores.now.store c.make_room.new.self.progress.name) held
-    m (meaning c.request-request.result) c.args.digest (message_body m) c.make_room.new.self.progress.name
-    c.make_room.new.self.progress.same_name (at-set_same w 0 (Some (message_body m)) there) refl
-    c.request-request.ensures.value c.request-request.ensures.fits c.requires.digest in
+    let here = next_front first log c.args.self.now c.make_room.new.self (g.S.TakeStore.contents c.args.stores.now.store)
+    m (meaning c.request-request.result) c.args.digest h kept c.requires.name c.requires.next c.requires.free
+    c.requires.slots c.request-request.ensures.value c.request-request.ensures.fits c.requires.digest in
+    let held = here.0 in
+    let front = here.1 in
     record {
       told = ap is_some front.0.here;
       left = held_at first _ _ _ _ _ (g.S.TakeStore.contents c.number_done.new.stores.store) _ _ kept.name
@@ -208,25 +172,13 @@ returns-in-Err-clause-drained g c = λ honest first log h.
 pub returns-in-Err-clause-noted : goal.returns-in-Err-clause-noted
 returns-in-Err-clause-noted g c = λ honest honest_notes first log h stood noted.
     let m : Message = message_of c.args.message.now in
-    let said = message_spelled c.args.message.now.body.now c.args.message.now.spells in
     let w : List (Option (List ℕ)) = c.args.self.now.window in
     let kept = c.in_ok-room.ensures.progress in
-    let slots = c.requires.slots in
-    let there : 0 < length w = omega (arith, slots) in
-    let held = next_held first log c.args.self.now.progress.state.parts c.make_room.new.self.progress.state.parts
-    c.args.self.now.progress.ledger.outcomes c.make_room.new.self.progress.ledger.outcomes w
-    c.args.self.now.progress.growing c.make_room.new.self.progress.growing
-    (g.S.TakeStore.contents c.args.stores.now.store) c.args.self.now.progress.name
-    c.make_room.new.self.progress.name m h (c.requires.name ∙ sym c.args.self.now.progress.same_name)
-    (said_request m said.fits) c.requires.next c.requires.free there kept.growing kept.parts kept.outcomes
-    (sym kept.name) in
-    let front = held_front first (with_message log m) c.make_room.new.self.progress.state.parts
-    c.make_room.new.self.progress.ledger.outcomes (slice_set w 0 (Some (message_body m)))
-    c.make_room.new.self.progress.growing
-    (g.S.TakeStore.contents c.args.stores.now.store c.make_room.new.self.progress.name) held
-    m (meaning c.request-request.result) c.args.digest (message_body m) c.make_room.new.self.progress.name
-    c.make_room.new.self.progress.same_name (at-set_same w 0 (Some (message_body m)) there) refl
-    c.request-request.ensures.value c.request-request.ensures.fits c.requires.digest in
+    let here = next_front first log c.args.self.now c.make_room.new.self (g.S.TakeStore.contents c.args.stores.now.store)
+    m (meaning c.request-request.result) c.args.digest h kept c.requires.name c.requires.next c.requires.free
+    c.requires.slots c.request-request.ensures.value c.request-request.ensures.fits c.requires.digest in
+    let held = here.0 in
+    let front = here.1 in
     let next = c.requires.next in
     noted_then c.make_room.new.self.progress.name c.args.self.now.progress.name
     (g.J.Journal.header c.args.stores.now.journal) _ first (with_message log m) (with_message log m)

@@ -1,0 +1,215 @@
+"""Reads wrong bodies, and the functions that they change; divides them into batches, and makes their texts.
+
+The sources are read line by line, as `rt fmt` lays them out.
+"""
+import pathlib
+import re
+from dataclasses import dataclass
+
+from sources import ROOT
+
+PUB = r"(?:pub(?:\([a-z]+\))? )?"
+FUNCTION = re.compile(rf" *{PUB}(?:const |unsafe |final )*fn (\w+)")
+OWNER = re.compile(r" *(?:unsafe )?impl\b| *" + PUB + r"trait\b")
+ITEM = re.compile(rf"(?m)^ *{PUB}(?:const|static|enum|struct) (\w+)")
+UNNAMED = "()"  # a type without a name, as a tuple: what a check names its functions by isn't known
+
+
+@dataclass(frozen=True)
+class Body:
+    """A wrong body: its file, what it changes, as (file, old, new), and the functions that must refuse it.
+
+    changed are the functions whose text it changes, items the constants and enums."""
+
+    path: pathlib.Path
+    changes: tuple
+    refused: frozenset
+    changed: frozenset
+    items: frozenset
+
+    @property
+    def functions(self):
+        return self.changed | self.refused
+
+    def __str__(self):
+        return f"{self.path.parent.parent.name}/{self.path.stem}"
+
+
+def module_of(file):
+    parts = pathlib.PurePath(file).with_suffix("").parts[1:]
+    return "::".join(it for it in parts if it not in ("lib", "main", "mod"))
+
+
+def owner_of(line, module, homes):
+    """What stands before the names of the functions of an `impl` or a trait: the module (without a trait that of the
+    type), and in one word the type, what it is given but for the names that the `impl` itself declares, the trait and
+    what that is given. For a type's own functions all that it is given is named, where any of it is no such name, or
+    where it is fewer than the type has parameters, as some have a default."""
+    head = re.match(r".*?\b(?:impl|trait)\b(?:<((?:[^<>]|<(?:[^<>]|<[^<>]*>)*>)*)>)?", line)
+    trait, _, owner = line[head.end() :].strip().rpartition(" for ")
+    words = [re.match(r"\w*", re.sub(r"^(\w+::)*", "", it.strip()))[0] for it in (owner, trait)]
+    declared = set(re.findall(r"(?:^|,) *(\w+)", head[1] or ""))
+    given = re.findall(r"\w+", re.sub(r"'\w+", "", owner.partition("<")[2]))
+    others = [it for it in given if it not in declared]
+    if not trait:
+        home, count = homes.get(words[0], (module, 0))
+        arguments = "".join(f"+{it}" for it in given) if others or len(given) < count else ""
+        return home, words[0] + arguments
+    of_trait = [it for it in re.findall(r"<(\w+)", trait) if it not in declared]
+    words = [words[0] or UNNAMED, *others, words[1], *of_trait]
+    return module, "".join(it[0].upper() + it[1:] for it in words if it)
+
+
+def last_of(lines, first):
+    """The last line of the function that begins at a line: its closing brace, or else the end of its contract."""
+    indent = len(lines[first]) - len(lines[first].lstrip())
+    for number in range(first + 1, len(lines)) if not lines[first].endswith("}") else ():
+        text = lines[number].lstrip()
+        if text and len(lines[number]) - len(text) <= indent and not text.startswith(("{", ")", "where")):
+            return number if text.startswith("}") and len(lines[number]) - len(text) == indent else number - 1
+    return first
+
+
+def functions_of(text, module, homes):
+    """The functions of a file: path, first line, with what stands over it, and last line, from 0 on."""
+    lines, owner, closes = text.splitlines(), (module, ""), "}"
+    for number, line in enumerate(lines):
+        if OWNER.match(line) and not line.endswith(("}", ";")):
+            owner, closes = owner_of(line, module, homes), " " * (len(line) - len(line.lstrip())) + "}"
+        elif line == closes:
+            owner = module, ""
+        elif found := FUNCTION.match(line):
+            first = number
+            while first and lines[first - 1].strip() and not lines[first - 1].endswith(("{", "}", ";")):
+                first -= 1
+            yield "::".join(filter(None, [*owner, found[1]])), first, last_of(lines, number)
+
+
+def without_body(lines):
+    """The lines of a function with a body that never ends; as they are where that is `const`, or stands in a line."""
+    at = next(number for number, line in enumerate(lines) if FUNCTION.match(line))
+    indent = lines[at][: len(lines[at]) - len(lines[at].lstrip())]
+    if "const fn" in lines[at] or lines[-1] != indent + "}":
+        return lines
+    opens = next(number for number in range(at, len(lines)) if re.match(rf"{indent}(\S.*)?\{{$", lines[number]))
+    return [*lines[: opens + 1], f"{indent}    loop {{}}", lines[-1]]
+
+
+def function_of(path):
+    """The function itself, or the one that a closure stands in."""
+    return re.sub(r"(^|::)fn::(\w+).*", r"\1\2", path)
+
+
+class Sources:
+    """The texts of a crate's `src`, by their path in the crate."""
+
+    def __init__(self, crate):
+        self.crate = pathlib.Path(crate)
+        self.texts = {str(it.relative_to(crate)): it.read_text() for it in sorted(self.crate.glob("src/**/*.rt"))}
+        types = re.compile(rf"(?m)^{PUB}(?:struct|enum) (\w+)(?:<(.*? = .*)> )?")
+        self.homes = {  # of each type the module, and, where one has a default, how many parameters it has
+            name: (module_of(file), len(re.findall(r"(?:^|, )\w", given)))
+            for file, text in self.texts.items()
+            for name, given in types.findall(text)
+        }
+        self.files = {path: file for file in self.texts for path, _, _ in self.functions(file)}
+
+    def functions(self, file, text=None):
+        return functions_of(self.texts[file] if text is None else text, module_of(file), self.homes)
+
+    def place(self, file, at):
+        """The function, or else the item, that stands at a place; neither for a `use` line."""
+        text = self.texts[file]
+        line = text.count("\n", 0, at)
+        function = next((path for path, first, last in self.functions(file) if first <= line <= last), None)
+        if function or re.match(rf" *{PUB}use ", text.splitlines()[line]):
+            return function, None
+        items = [it[1] for it in ITEM.finditer(text) if text.count("\n", 0, it.start()) <= line]
+        return None, items[-1] if items else file
+
+    def with_bodies(self, bodies):
+        """The texts that the bodies change together, or nothing where one can't be applied beside the others."""
+        texts = {}
+        for file, old, new in (it for body in bodies for it in body.changes):
+            text = texts.get(file, self.texts[file])
+            if text.count(old) != 1:
+                return None
+            texts[file] = text.replace(old, new)
+        return texts
+
+    def names(self, body, items):
+        """Whether a file of the body's functions has the name of one of the items."""
+        texts = [self.texts[self.files[it]] for it in body.functions if it in self.files]
+        return any(re.search(rf"\b{item}\b", text) for item in items for text in texts)
+
+    def can_stand(self, body, others):
+        """Whether neither the body's error can stem from another's change, nor another's from the body's."""
+        for it in others:
+            if body.functions & it.functions or body.items & it.items:
+                return False
+            if self.names(body, it.items) or self.names(it, body.items):
+                return False
+        return self.with_bodies([*others, body]) is not None
+
+
+def read(path, sources):
+    """A wrong body, or why it can't be applied."""
+    file, old, changes, refused, changed, items = None, None, [], set(), set(), set()
+    for line in path.read_text().splitlines():
+        key, _, said = line.partition(": ")
+        if key == "file":
+            file = said.strip()
+        elif key == "old":
+            old = said
+        elif key in ("new", "new:"):
+            changes.append((file, old, said))
+        elif key == "refused":
+            refused.add(said.strip())
+    for file, old, _ in changes:
+        if file not in sources.texts or not old:
+            return "a change names no text of a file of src/"
+        if (count := sources.texts[file].count(old)) != 1:
+            return f"an old text stands {count} times in {file}"
+        function, item = sources.place(file, sources.texts[file].index(old) + len(old) - len(old.lstrip()))
+        changed |= {function} - {None}
+        items |= {item} - {None}
+    if not changed | items:
+        return "it changes nothing"
+    return Body(path, tuple(changes), frozenset(refused), frozenset(changed), frozenset(items))
+
+
+def batches_of(bodies, sources):
+    """Batches, each body in the first that can hold it, those with the most rivals first."""
+    rivals = {body: sum(not sources.can_stand(body, [it]) for it in bodies) for body in bodies}
+    batches = []
+    for body in sorted(bodies, key=lambda it: (-rivals[it], it.path)):
+        batch = next((it for it in batches if sources.can_stand(body, it)), None)
+        if batch is None:
+            batches.append([body])
+        else:
+            batch.append(body)
+    return batches
+
+
+def bodies_of(folder, names=()):
+    """The wrong bodies in such folders by crate, and a line for each that can't be applied."""
+    found, faults = {}, []
+    for crate in sorted(ROOT.glob("crates/*")):
+        paths = sorted(it for it in crate.glob(f"{folder}/*") if it.suffix != ".md")
+        if not paths or names and crate.name not in names:
+            continue
+        sources = Sources(crate)
+        for path in paths:
+            body = read(path, sources)
+            if isinstance(body, str):
+                faults.append(f"{path.relative_to(ROOT)}: {body}")
+            else:
+                found.setdefault(crate.name, []).append(body)
+    return found, faults
+
+
+def named(body):
+    """Whether a wrong body's name begins with what it changes, in lower case."""
+    words = {it.split("::")[-1] for it in body.changed}
+    words |= {it if it.isupper() else re.sub(r"(?<=[a-z])(?=[A-Z])", "_", it) for it in body.items}
+    return body.path.stem.split("-")[0] in {it.lower() for it in words}
