@@ -12,11 +12,11 @@ use Rattle.bw_args.specs.Lines.{AsksNothing, GivesAddress, GivesCount, GivesEnd,
 use Rattle.bw_args.specs.Lines.{GivesNoFuse, IsAddressGiven, IsEndGiven, is_set}
 use Rattle.bw_args.specs.Lines.{GivesRecorders, GivesSender, GivesServer, HasNumbersInRange, IsEnd, IsEndWithin, IsFirstBad}
 use Rattle.bw_args.specs.Lines.{IsGood, IsLimitGiven, IsRecorders, IsRecordersGiven, IsWayWithin, looked_at_waiting}
-use Rattle.bw_args.specs.Lines.{IsNameGiven, IsLineFor, IsWishOf, IsWithin, Service, Wish, given_by, looked_at}
+use Rattle.bw_args.specs.Lines.{IsNameGiven, IsLineFor, IsWishOf, IsWithin, Service, Wish, given_on_line, looked_at}
 use Rattle.bw_args.specs.Lines.{Replaying, Rehearsing, Inspecting, Sending, Serving}
-use Rattle.bw_args.specs.Numbers.{IsLimit, default_rounds, most_exchanges, most_recorders, most_rounds, most_seconds}
+use Rattle.bw_args.specs.Numbers.{IsLimitValue, default_rounds, most_exchanges, most_recorders, most_rounds, most_seconds}
 use Rattle.bw_args.specs.declared.CommandLine.{CommandLine}
-use Rattle.bw_args.specs.declared.CommandLine.TheVariants.{Run, BadValue as Bad, Tell}
+use Rattle.bw_args.specs.declared.CommandLine.TheVariants.{Run, BadValue as Bad, Report}
 use Rattle.bw_args.specs.declared.Task.TheVariants.{Replay, Rehearse, Inspect, Serve, Send}
 use Rattle.bw_args.proofs.WishLemmas.{one_count, same_way}
 use Rattle.bw_args.specs.declared.peers.End.{End}
@@ -26,7 +26,7 @@ use Rattle.bw_args.specs.declared.bad_value.BadValue.{BadValue}
 use Rattle.bw_args.specs.declared.bad_value.BadValue.TheVariants.{Name, Limit, Fuse, UntilStopped, Wait}
 
 -- what the getters give of the options, by their rows
-by_rows : (found : Found) (P : (Text → Option Text) → Type 0) → P (first_value found) → P (given_by (rows_of found))
+by_rows : (found : Found) (P : (Text → Option Text) → Type 0) → P (first_value found) → P (given_on_line (rows_of found))
 by_rows found P given = subst P (fun_ext (first_value-rows found)) given
 
 -- none of these values is bad
@@ -36,14 +36,14 @@ AllGood (value ∷ values) given = IsGood value given × AllGood values given
 
 -- what is asked for has good values alone
 pub wished_good : (name : Text) (options : List Row) (wish : Wish) → IsWishOf (Some (name, options)) wish
-    → AllGood (looked_at name) (given_by options)
+    → AllGood (looked_at name) (given_on_line options)
 wished_good name options wish asked = go wish asked
   where
-    at : (command : Text) → name ≡ command → AllGood (looked_at command) (given_by options)
-        → AllGood (looked_at name) (given_by options)
-    at command same good = subst (λ n. AllGood (looked_at n) (given_by options)) (sym same) good
+    at : (command : Text) → name ≡ command → AllGood (looked_at command) (given_on_line options)
+        → AllGood (looked_at name) (given_on_line options)
+    at command same good = subst (λ n. AllGood (looked_at n) (given_on_line options)) (sym same) good
 
-    go : (w : Wish) → IsWishOf (Some (name, options)) w → AllGood (looked_at name) (given_by options)
+    go : (w : Wish) → IsWishOf (Some (name, options)) w → AllGood (looked_at name) (given_on_line options)
     go (Replaying limit fuse) a = at (codes "replay") a.0 ((limit, a.1), ((fuse, a.2), tt))
     go (Rehearsing take_name limit) a = at (codes "rehearse") a.0 ((take_name, a.1), ((limit, a.2), tt))
     go (Inspecting path) a = at (codes "inspect") a.0 tt
@@ -80,7 +80,7 @@ pub good_not_bad : (values : List BadValue) (given : Text → Option Text) (valu
 good_not_bad [] given value good bad = bad
 good_not_bad (first ∷ later) given value good bad = elim bad [
   | inl here ↦ here.0 good.0
-  | inr behind ↦ good_not_bad later given value good.1 behind.1
+  | inr following ↦ good_not_bad later given value good.1 following.1
 ]
 
 -- the first bad value is one
@@ -88,17 +88,17 @@ pub one_bad : (values : List BadValue) (given : Text → Option Text) (a b : Bad
     → IsFirstBad values given b → a ≡ b
 one_bad [] given a b x y = absurd x
 one_bad (first ∷ later) given a b x y = elim x [
-  | inl here ↦ elim y [ inl too ↦ here.1 ∙ sym too.1 | inr behind ↦ absurd (here.0 behind.0) ]
-  | inr behind ↦ elim y [ inl here ↦ absurd (here.0 behind.0) | inr too ↦ one_bad later given a b behind.1 too.1 ]
+  | inl here ↦ elim y [ inl too ↦ here.1 ∙ sym too.1 | inr following ↦ absurd (here.0 following.0) ]
+  | inr following ↦ elim y [ inl here ↦ absurd (here.0 following.0) | inr too ↦ one_bad later given a b following.1 too.1 ]
 ]
 
 -- where a value is the first that is bad, that is the line
 pub bad_line : (found : Found) (command : Text) (value : BadValue)
     → IsFirstBad (looked_at command) (first_value found) value → IsLineFor (Some (command, rows_of found)) (Bad value)
 bad_line found command value first =
-    let bad : IsFirstBad (looked_at command) (given_by (rows_of found)) value =
+    let bad : IsFirstBad (looked_at command) (given_on_line (rows_of found)) value =
     by_rows found (λ g. IsFirstBad (looked_at command) g value) first in (
-      (λ wish asked. good_not_bad (looked_at command) (given_by (rows_of found)) value
+      (λ wish asked. good_not_bad (looked_at command) (given_on_line (rows_of found)) value
           (wished_good command (rows_of found) wish asked) bad),
       inl bad,
     )
@@ -224,7 +224,7 @@ pub first_then : (values later : List BadValue) (given : Text → Option Text) (
 first_then [] later given value bad = absurd bad
 first_then (first ∷ rest) later given value bad = elim bad [
   | inl here ↦ inl here
-  | inr behind ↦ inr (behind.0, first_then rest later given value behind.1)
+  | inr following ↦ inr (following.0, first_then rest later given value following.1)
 ]
 
 -- where how recorders are served is good, a later value may be the first that is bad
@@ -233,9 +233,9 @@ pub way_then : (later : List BadValue) (given : Text → Option Text) (value : B
 way_then later given value way g bad =
     inr ((g.timeout, g.waits), inr ((g.most, g.serves), inr ((g.idle, g.idles), inr ((way, g), bad))))
 
-given_limit : (text : Option Text) (limit : ℕ) → GivesLimit text limit → IsLimit limit
-given_limit (Some text) limit given = subst IsLimit (sym given.1) given.0.1
-given_limit None limit given = subst IsLimit (sym given) (refl, omega arith, omega arith)
+given_limit : (text : Option Text) (limit : ℕ) → GivesLimit text limit → IsLimitValue limit
+given_limit (Some text) limit given = subst IsLimitValue (sym given.1) given.0.1
+given_limit None limit given = subst IsLimitValue (sym given) (refl, omega arith, omega arith)
 
 given_port : (network : Bool) (text : Option Text) (address : SocketAddr) → GivesAddress network text address
     → 0 < socket_port address
@@ -287,7 +287,7 @@ line_limit (Some command) (Run (Send sender)) asked = (
 )
 line_limit None (Run task) asked = absurd asked
 line_limit command (Bad value) asked = tt
-line_limit command (Tell error) asked = tt
+line_limit command (Report error) asked = tt
 
 -- what holds in any case holds of a fault
 pub on_err : {X Y P : Type 0} (r : Result X Y) → P → OnErr r P

@@ -12,11 +12,11 @@ use Rattle.bw_args.specs.Commands.{command_line}
 use Rattle.bw_args.specs.Lines.{AsksFor, IsLineOf, IsLineRead, Wish}
 use Rattle.bw_args.specs.ReadWords.{as_read}
 use Rattle.bw_args.specs.Lines.{Inspecting, Replaying, wish_of}
-use Rattle.bw_args.specs.Forms.{Inspects, IsPlain, IsToldAs, RunsFor, RunsInspect, RunsReplay, TellsHelp}
+use Rattle.bw_args.specs.Forms.{Inspects, IsPlain, IsReportedAs, RunsFor, RunsInspect, RunsReplay, ReportsHelp}
 use Rattle.bw_args.specs.Numbers.{IsLimitText, IsNumber, default_limit, number_written}
 use Rattle.bw_args.proofs.WishLemmas.{one_wish}
 use Rattle.bw_args.specs.declared.CommandLine.{CommandLine}
-use Rattle.bw_args.specs.declared.CommandLine.TheVariants.{Run, BadValue as Bad, Tell}
+use Rattle.bw_args.specs.declared.CommandLine.TheVariants.{Run, BadValue as Bad, Report}
 use Rattle.bw_args.specs.declared.Task.TheVariants.{Inspect, Rehearse, Replay, Send, Serve}
 
 -- a digit is no hyphen, so the word is read as a value
@@ -86,7 +86,7 @@ pub runs : (words : List Text) (line : CommandLine) (wish : Wish) → IsLineRead
     RunsFor wish line
 runs words (Run task) wish is asks = one_wish _ (wish_of task) wish is.asked asks.asked
 runs words (Bad value) wish is asks = absurd (is.asks_nothing wish asks)
-runs words (Tell error) wish is asks = absurd (is.asks_nothing wish asks)
+runs words (Report error) wish is asks = absurd (is.asks_nothing wish asks)
 
 replays : (limit : ℕ) (fuse : Option ℕ) (line : CommandLine) → RunsFor (Replaying limit fuse) line
     → line ≡ Run (Replay limit fuse)
@@ -96,7 +96,7 @@ replays limit fuse (Run (Inspect file)) e = cc
 replays limit fuse (Run (Serve server)) e = cc
 replays limit fuse (Run (Send sender)) e = cc
 replays limit fuse (Bad value) e = absurd e
-replays limit fuse (Tell error) e = absurd e
+replays limit fuse (Report error) e = absurd e
 
 inspects : (path : Text) (line : CommandLine) → RunsFor (Inspecting path) line → Inspects path line
 inspects path (Run (Inspect file)) e = cc
@@ -105,7 +105,7 @@ inspects path (Run (Rehearse name limit)) e = cc
 inspects path (Run (Serve server)) e = cc
 inspects path (Run (Send sender)) e = cc
 inspects path (Bad value) e = absurd e
-inspects path (Tell error) e = absurd e
+inspects path (Report error) e = absurd e
 
 -- words that ask for a replay run it
 asked_replays : (words asking : List Text) (line : CommandLine) (limit : ℕ) (fuse : Option ℕ) → IsLineOf words line
@@ -127,11 +127,11 @@ runs_replay words line is = record {
 }
 
 -- words with a fault of one kind tell it
-pub tells : (kind : ErrorKind) (words : List Text) (line : CommandLine) → fault_of command_line words ≡ kind ∷ []
-    → IsLineRead words line → IsToldAs kind line
-tells kind words (Run task) fault is = let bad : kind ∷ [] ≡ [] = sym fault ∙ is.taken in cc
-tells kind words (Bad value) fault is = let bad : kind ∷ [] ≡ [] = sym fault ∙ is.taken in cc
-tells kind words (Tell error) fault is =
+pub reports : (kind : ErrorKind) (words : List Text) (line : CommandLine) → fault_of command_line words ≡ kind ∷ []
+    → IsLineRead words line → IsReportedAs kind line
+reports kind words (Run task) fault is = let bad : kind ∷ [] ≡ [] = sym fault ∙ is.taken in cc
+reports kind words (Bad value) fault is = let bad : kind ∷ [] ≡ [] = sym fault ∙ is.taken in cc
+reports kind words (Report error) fault is =
     elim (subst (IsAmong (kind_of error)) fault is.reason) [ inl same ↦ same | inr none ↦ absurd none ]
 
 help_fault : (program : Text) → fault_of command_line (program ∷ codes "--help" ∷ []) ≡ DisplayHelp ∷ []
@@ -146,13 +146,13 @@ bare_fault : (program : Text) → fault_of command_line (program ∷ []) ≡ Mis
 unfolding clap_on_literals
 bare_fault program = refl
 
-pub tells_help : (words : List Text) (line : CommandLine) → IsLineOf words line → TellsHelp words line
-tells_help words line is = record {
-  help = λ program e. tells DisplayHelp (as_read words) line
+pub reports_help : (words : List Text) (line : CommandLine) → IsLineOf words line → ReportsHelp words line
+reports_help words line is = record {
+  help = λ program e. reports DisplayHelp (as_read words) line
       (ap (λ w. fault_of command_line (as_read w)) e ∙ help_fault program) is;
-  version = λ program e. tells DisplayVersion (as_read words) line
+  version = λ program e. reports DisplayVersion (as_read words) line
       (ap (λ w. fault_of command_line (as_read w)) e ∙ version_fault program) is;
-  bare = λ program e. tells MissingSubcommand (as_read words) line
+  bare = λ program e. reports MissingSubcommand (as_read words) line
       (ap (λ w. fault_of command_line (as_read w)) e ∙ bare_fault program) is;
 }
 
@@ -192,9 +192,9 @@ runs_inspect words line is = record {
   file = λ program path plain e.
       inspects path line (runs (as_read words) line _ is
       (subst (λ w. AsksFor (as_read w) (Inspecting path)) (sym e) (file_asks program path plain)));
-  none = λ program e. tells MissingRequiredArgument (as_read words) line
+  none = λ program e. reports MissingRequiredArgument (as_read words) line
       (ap (λ w. fault_of command_line (as_read w)) e ∙ no_file_fault program) is;
   second = λ program path other p q e.
-      tells UnknownArgument (as_read words) line
+      reports UnknownArgument (as_read words) line
       (ap (λ w. fault_of command_line (as_read w)) e ∙ second_fault program path other p q) is;
 }

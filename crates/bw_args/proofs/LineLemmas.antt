@@ -10,10 +10,10 @@ use Rattle.clap.specs.declared.error.ErrorKind.TheVariants.{OutOfMemory}
 use Rattle.clap.proofs.OnLiterals.{clap_on_literals}
 use Rattle.bw_args.specs.Commands.{command_line}
 use Rattle.bw_args.specs.ReadWords.{as_read}
-use Rattle.bw_args.specs.Lines.{AsksFor, AsksNothing, IsLineFor, IsLineOf, IsLineRead, IsWishOf, IsToldOf, Lacks}
+use Rattle.bw_args.specs.Lines.{AsksFor, AsksNothing, IsLineFor, IsLineOf, IsLineRead, IsWishOf, IsReportedOf, Lacks}
 use Rattle.bw_args.specs.Lines.{Wish, wish_of}
 use Rattle.bw_args.specs.declared.CommandLine.{CommandLine}
-use Rattle.bw_args.specs.declared.CommandLine.TheVariants.{Run, BadValue as Bad, Tell}
+use Rattle.bw_args.specs.declared.CommandLine.TheVariants.{Run, BadValue as Bad, Report}
 
 -- the contracts of `clap` are exact at this command line
 is_exact : is_simple_and_free command_line ≡ true
@@ -25,10 +25,10 @@ unfolding clap_on_literals
 is_plain = refl
 
 -- words that `clap` refuses, or answers with help or the version
-pub told_line : (a : App) (words : List Text) (error : Error) → a ≡ command_line
+pub reported_line : (a : App) (words : List Text) (error : Error) → a ≡ command_line
     → (is_simple_and_free a ≡ true → HasKind (fault_of a words) error) → kind_of error ≢ OutOfMemory
-    → IsToldOf words (kind_of error)
-told_line a words error is kinds known =
+    → IsReportedOf words (kind_of error)
+reported_line a words error is kinds known =
     let has : HasKind (fault_of command_line words) error =
     subst (λ (b : App). HasKind (fault_of b words) error) is (kinds (ap is_simple_and_free is ∙ is_exact)) in
     elim has [
@@ -80,15 +80,15 @@ line_asked a words command (Bad value) is free found bad = record {
   asks_nothing = asks_nothing a words command is found bad.0;
   lacks = subst (λ o. Lacks o value) (same_command a words command is found) bad.1;
 }
-line_asked a words command (Tell error) is free found given = absurd given
+line_asked a words command (Report error) is free found given = absurd given
 
 -- the line that tells an error, where memory did not run out
-pub told_result : (result : Result CommandLine AllocError) (words : List Text) (error : Error)
-    → IfOk result (λ line. line ≡ Tell error) → (kind_of error ≡ OutOfMemory → IsErr result)
-    → (kind_of error ≢ OutOfMemory → IsToldOf words (kind_of error)) → IfOk result (IsLineRead words)
-told_result (Ok line) words error told failed known = subst (IsLineRead words) (sym told)
+pub reported_result : (result : Result CommandLine AllocError) (words : List Text) (error : Error)
+    → IfOk result (λ line. line ≡ Report error) → (kind_of error ≡ OutOfMemory → IsErr result)
+    → (kind_of error ≢ OutOfMemory → IsReportedOf words (kind_of error)) → IfOk result (IsLineRead words)
+reported_result (Ok line) words error reported failed known = subst (IsLineRead words) (sym reported)
     (known (λ memory. let bad : false ≡ true = failed memory in cc))
-told_result (Err e) words error told failed known = told
+reported_result (Err e) words error reported failed known = reported
 
 -- the line of the words as they are read is that of the words
 pub line_of_read : (read words : List Text) (line : CommandLine) → read ≡ as_read words → IsLineRead read line

@@ -13,12 +13,12 @@ use Rattle.bw_args.specs.Numbers.{most_rounds, most_seconds}
 use Rattle.bw_args.specs.Numbers.{number_written}
 use Rattle.bw_args.specs.ReadWords.{as_read}
 use Rattle.bw_args.specs.Lines.{GivesCount, GivesRecorders, IsEnd, IsLineOf, IsName, IsRecordersGiven}
-use Rattle.bw_args.specs.Forms.{IsToldAs}
+use Rattle.bw_args.specs.Forms.{IsReportedAs}
 use Rattle.bw_args.specs.PeerForms.{RefusesPeers, WantsPeers}
 use Rattle.bw_args.specs.PeerForms.{sending, serving}
 use Rattle.bw_args.specs.declared.CommandLine.{CommandLine}
-use Rattle.bw_args.proofs.FormLemmas.{tells}
-use Rattle.bw_args.proofs.ValueLemmas.{IsBadAt, told}
+use Rattle.bw_args.proofs.FormLemmas.{reports}
+use Rattle.bw_args.proofs.ValueLemmas.{IsBadAt, reported}
 use Rattle.bw_args.specs.declared.bad_value.BadValue.TheVariants.{Name, Limit, Listen, Folder, Exchanges, Timeout}
 use Rattle.bw_args.specs.declared.bad_value.BadValue.TheVariants.{Recorders, Idle, Wait}
 use Rattle.bw_args.specs.declared.bad_value.BadValue.TheVariants.{UntilStopped, Connect, Rounds}
@@ -273,23 +273,23 @@ send_timeout program connect text address seconds at named none = (
 
 pub refuses_peers : (words : List Text) (line : CommandLine) → IsLineOf words line → RefusesPeers words line
 refuses_peers words line is = record {
-  listen = λ p l f none e. told words _ line Listen is e (listen p l f none);
-  listen_far = λ p l f none e. told words _ line Listen is e (listen_far p l f none);
-  folder = λ p l a at e. told words _ line Folder is e (folder p l a at);
-  exchanges = λ n none p l f a at full e. told words _ line Exchanges is e (exchanges p l f a n at full none);
-  limit = λ n none p l f a at full e. told words _ line Limit is e (limit p l f a n at full none);
-  timeout = λ n none p l f a at full e. told words _ line Timeout is e (timeout p l f a n at full none);
-  recorders = λ n none p l f a at full e. told words _ line Recorders is e (recorders p l f a n at full none);
-  idle = λ n none p l f a at full e. told words _ line Idle is e (idle p l f a n at full none);
-  idle_alone = λ n given p l f a at full e. told words _ line Wait is e (idle_alone p l f a n at full given);
+  listen = λ p l f none e. reported words _ line Listen is e (listen p l f none);
+  listen_far = λ p l f none e. reported words _ line Listen is e (listen_far p l f none);
+  folder = λ p l a at e. reported words _ line Folder is e (folder p l a at);
+  exchanges = λ n none p l f a at full e. reported words _ line Exchanges is e (exchanges p l f a n at full none);
+  limit = λ n none p l f a at full e. reported words _ line Limit is e (limit p l f a n at full none);
+  timeout = λ n none p l f a at full e. reported words _ line Timeout is e (timeout p l f a n at full none);
+  recorders = λ n none p l f a at full e. reported words _ line Recorders is e (recorders p l f a n at full none);
+  idle = λ n none p l f a at full e. reported words _ line Idle is e (idle p l f a n at full none);
+  idle_alone = λ n given p l f a at full e. reported words _ line Wait is e (idle_alone p l f a n at full given);
   timeout_beside = λ n s given waits p l f a at full e.
-      told words _ line Wait is e (timeout_beside p l f a n s at full given waits);
-  both = λ n given p l f a at full e. told words _ line UntilStopped is e (both p l f a n at full given);
-  connect = λ p c n none e. told words _ line Connect is e (connect p c n none);
-  connect_far = λ p c n none e. told words _ line Connect is e (connect_far p c n none);
-  name = λ p c n a at none e. told words _ line Name is e (name p c n a at none);
-  rounds = λ t none p c n a at named e. told words _ line Rounds is e (rounds p c n a t at named none);
-  send_timeout = λ t none p c n a at named e. told words _ line Timeout is e (send_timeout p c n a t at named none);
+      reported words _ line Wait is e (timeout_beside p l f a n s at full given waits);
+  both = λ n given p l f a at full e. reported words _ line UntilStopped is e (both p l f a n at full given);
+  connect = λ p c n none e. reported words _ line Connect is e (connect p c n none);
+  connect_far = λ p c n none e. reported words _ line Connect is e (connect_far p c n none);
+  name = λ p c n a at none e. reported words _ line Name is e (name p c n a at none);
+  rounds = λ t none p c n a at named e. reported words _ line Rounds is e (rounds p c n a t at named none);
+  send_timeout = λ t none p c n a at named e. reported words _ line Timeout is e (send_timeout p c n a t at named none);
 }
 
 no_server : (program : Text) → fault_of command_line (as_read (program ∷ codes "serve" ∷ []))
@@ -329,8 +329,8 @@ no_connect program name = refl
 -- words that lack something say so
 wants : (words asking : List Text) (line : CommandLine) → IsLineOf words line → words ≡ asking
     → fault_of command_line (as_read asking) ≡ MissingRequiredArgument ∷ []
-    → IsToldAs MissingRequiredArgument line
-wants words asking line is e fault = tells MissingRequiredArgument (as_read words) line
+    → IsReportedAs MissingRequiredArgument line
+wants words asking line is e fault = reports MissingRequiredArgument (as_read words) line
     (ap (λ w. fault_of command_line (as_read w)) e ∙ fault) is
 
 pub wants_peers : (words : List Text) (line : CommandLine) → IsLineOf words line → WantsPeers words line

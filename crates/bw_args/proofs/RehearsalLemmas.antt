@@ -10,9 +10,9 @@ use Rattle.bw_args.specs.Lines.{AsksFor, IsLineOf, IsName, IsWishOf, Rehearsing}
 use Rattle.bw_args.specs.Forms.{RunsFor, RunsRehearsal}
 use Rattle.bw_args.specs.Numbers.{IsLimitText, default_limit, number_written}
 use Rattle.bw_args.specs.declared.CommandLine.{CommandLine}
-use Rattle.bw_args.specs.declared.CommandLine.TheVariants.{Run, BadValue as Bad, Tell}
+use Rattle.bw_args.specs.declared.CommandLine.TheVariants.{Run, BadValue as Bad, Report}
 use Rattle.bw_args.specs.declared.Task.TheVariants.{Inspect, Rehearse, Replay, Send, Serve}
-use Rattle.bw_args.proofs.FormLemmas.{no_hyphen, runs, tells}
+use Rattle.bw_args.proofs.FormLemmas.{no_hyphen, runs, reports}
 
 -- a limit's word is read as it stands
 limit_stays : (d : ℕ) (ds : Text) (rest : List Text) → (d == 45) ≡ false
@@ -90,7 +90,7 @@ rehearses name limit (Run (Inspect file)) e = cc
 rehearses name limit (Run (Serve server)) e = cc
 rehearses name limit (Run (Send sender)) e = cc
 rehearses name limit (Bad value) e = absurd e
-rehearses name limit (Tell error) e = absurd e
+rehearses name limit (Report error) e = absurd e
 
 -- words that ask for a rehearsal run it
 asked_rehearses : (words asking : List Text) (line : CommandLine) (name : Text) (limit : ℕ) → IsLineOf words line
@@ -119,8 +119,8 @@ runs_rehearsal words line is = record {
       asked_rehearses words _ line _ _ is e (turned_asks program name limit named given);
   both_joined = λ program name limit named given e.
       asked_rehearses words _ line _ _ is e (both_joined_asks program name limit named given);
-  none = λ program e. tells MissingRequiredArgument (as_read words) line
+  none = λ program e. reports MissingRequiredArgument (as_read words) line
       (ap (λ w. fault_of command_line (as_read w)) e ∙ no_name_fault program) is;
-  limit_alone = λ program limit e. tells MissingRequiredArgument (as_read words) line
+  limit_alone = λ program limit e. reports MissingRequiredArgument (as_read words) line
       (ap (λ w. fault_of command_line (as_read w)) e ∙ limit_alone_fault program limit) is;
 }

@@ -54,7 +54,7 @@ alone_asks program listen folder address at full =
           ends = (None, refl, refl);
           limited = refl;
           serves = serves_by None None None _ refl refl refl refl;
-          tells = refl;
+          reports = refl;
         },
       );
     }
@@ -75,7 +75,7 @@ exchanges_asks program listen folder address count at full given =
           ends = (Some (number_written count), (given, refl), refl);
           limited = refl;
           serves = serves_by None None None _ refl refl refl refl;
-          tells = refl;
+          reports = refl;
         },
       );
     }
@@ -96,7 +96,7 @@ limit_asks program listen folder address limit at full given =
           ends = (None, refl, refl);
           limited = (given, refl);
           serves = serves_by None None None _ refl refl refl refl;
-          tells = refl;
+          reports = refl;
         },
       );
     }
@@ -117,7 +117,7 @@ timeout_asks program listen folder address seconds at full given =
           ends = (None, refl, refl);
           limited = refl;
           serves = serves_by (Some (number_written seconds)) None None _ (given, refl) refl refl refl;
-          tells = refl;
+          reports = refl;
         },
       );
     }
@@ -138,7 +138,7 @@ recorders_asks program listen folder address count at full given =
           ends = (None, refl, refl);
           limited = refl;
           serves = serves_by None (Some (number_written count)) None _ refl (given, refl) refl refl;
-          tells = refl;
+          reports = refl;
         },
       );
     }
@@ -162,7 +162,7 @@ idle_asks program listen folder address count seconds at full given idles =
           limited = refl;
           serves = serves_by None (Some (number_written count)) (Some (number_written seconds)) _ refl (given, refl)
               (idles, refl) refl;
-          tells = refl;
+          reports = refl;
         },
       );
     }
@@ -182,7 +182,7 @@ network_asks program listen folder address at full =
           ends = (None, refl, refl);
           limited = refl;
           serves = serves_by None None None _ refl refl refl refl;
-          tells = refl;
+          reports = refl;
         },
       );
     }
@@ -203,7 +203,7 @@ until_stopped_asks program listen folder address at full =
           ends = (None, refl, refl);
           limited = refl;
           serves = serves_by None None None _ refl refl refl refl;
-          tells = refl;
+          reports = refl;
         },
       );
     }
@@ -223,7 +223,7 @@ log_asks program listen folder address at full =
           ends = (None, refl, refl);
           limited = refl;
           serves = serves_by None None None _ refl refl refl refl;
-          tells = refl;
+          reports = refl;
         },
       );
     }
@@ -245,7 +245,7 @@ apart_near program folder address at full = record {
       ends = (None, refl, refl);
       limited = refl;
       serves = serves_by None None None _ refl refl refl refl;
-      tells = refl;
+      reports = refl;
     },
   );
 }

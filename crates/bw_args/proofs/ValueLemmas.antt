@@ -5,11 +5,11 @@ use Rattle.clap.proofs.OnLiterals.{clap_on_literals}
 use Rattle.bw_args.specs.Commands.{command_line}
 use Rattle.bw_args.specs.ReadWords.{as_read}
 use Rattle.bw_args.specs.Lines.{IsFirstBad, IsLineOf, IsLineRead, IsName, IsWishOf, Lacks, Wish}
-use Rattle.bw_args.specs.Lines.{given_by, looked_at, wish_of}
+use Rattle.bw_args.specs.Lines.{given_on_line, looked_at, wish_of}
 use Rattle.bw_args.specs.Forms.{RefusesValues}
 use Rattle.bw_args.specs.Numbers.{IsLimitText, IsNumber, default_limit}
 use Rattle.bw_args.specs.declared.CommandLine.{CommandLine}
-use Rattle.bw_args.specs.declared.CommandLine.TheVariants.{Run, BadValue as Bad, Tell}
+use Rattle.bw_args.specs.declared.CommandLine.TheVariants.{Run, BadValue as Bad, Report}
 use Rattle.bw_args.specs.declared.bad_value.BadValue.{BadValue}
 use Rattle.bw_args.specs.declared.bad_value.BadValue.TheVariants.{Name, Limit, Fuse}
 use Rattle.bw_args.proofs.Asked.{good_not_bad, one_bad, wished_good}
@@ -17,39 +17,39 @@ use Rattle.bw_args.proofs.Asked.{good_not_bad, one_bad, wished_good}
 -- the command's first bad value
 abbrev pub HasFirstBad : Option (Text × List Row) → BadValue → Type 0
 HasFirstBad None value = ⊥
-HasFirstBad (Some command) value = IsFirstBad (looked_at command.0) (given_by command.1) value
+HasFirstBad (Some command) value = IsFirstBad (looked_at command.0) (given_on_line command.1) value
 
 -- a command with a bad value asks for nothing
 bad_not_wished : (command : Option (Text × List Row)) (value : BadValue) (wish : Wish) → HasFirstBad command value
     → ¬ IsWishOf command wish
 bad_not_wished None value wish bad asked = bad
 bad_not_wished (Some command) value wish bad asked =
-    good_not_bad (looked_at command.0) (given_by command.1) value (wished_good command.0 command.1 wish asked) bad
+    good_not_bad (looked_at command.0) (given_on_line command.1) value (wished_good command.0 command.1 wish asked) bad
 
 -- .. and lacks no other one
 one_lacked : (command : Option (Text × List Row)) (a b : BadValue) → HasFirstBad command a → Lacks command b → b ≡ a
 one_lacked None a b bad lacks = absurd bad
 one_lacked (Some command) a b bad lacks = elim lacks [
-  | inl first ↦ one_bad (looked_at command.0) (given_by command.1) b a first bad
-  | inr none ↦ absurd (subst (λ (values : List BadValue). IsFirstBad values (given_by command.1) a) none.0 bad)
+  | inl first ↦ one_bad (looked_at command.0) (given_on_line command.1) b a first bad
+  | inr none ↦ absurd (subst (λ (values : List BadValue). IsFirstBad values (given_on_line command.1) a) none.0 bad)
 ]
 
 -- words that `clap` takes, and whose command has a first bad value, tell it
-bad_told : (words : List Text) (line : CommandLine) (value : BadValue) → fault_of command_line words ≡ []
+bad_reported : (words : List Text) (line : CommandLine) (value : BadValue) → fault_of command_line words ≡ []
     → HasFirstBad (subcommand_of command_line words) value → IsLineRead words line → line ≡ Bad value
-bad_told words (Run task) value taken bad is =
+bad_reported words (Run task) value taken bad is =
     absurd (bad_not_wished (subcommand_of command_line words) value (wish_of task) bad is.asked)
-bad_told words (Bad other) value taken bad is =
+bad_reported words (Bad other) value taken bad is =
     ap Bad (one_lacked (subcommand_of command_line words) value other bad is.lacks)
-bad_told words (Tell error) value taken bad is = absurd (subst (IsAmong (kind_of error)) taken is.reason)
+bad_reported words (Report error) value taken bad is = absurd (subst (IsAmong (kind_of error)) taken is.reason)
 
 -- .. as they are read
-pub told : (words asking : List Text) (line : CommandLine) (value : BadValue) → IsLineOf words line
+pub reported : (words asking : List Text) (line : CommandLine) (value : BadValue) → IsLineOf words line
     → words ≡ asking
     → (fault_of command_line (as_read asking) ≡ []) × HasFirstBad (subcommand_of command_line (as_read asking)) value
     → line ≡ Bad value
-told words asking line value is e bad =
-    bad_told (as_read asking) line value bad.0 bad.1 (subst (λ w. IsLineRead (as_read w) line) e is)
+reported words asking line value is e bad =
+    bad_reported (as_read asking) line value bad.0 bad.1 (subst (λ w. IsLineRead (as_read w) line) e is)
 
 -- the words are taken, and this is the first bad value
 abbrev pub IsBadAt : List Text → BadValue → Type 0
@@ -89,11 +89,11 @@ bad_limit_then program name limit named none =
 
 pub refuses_values : (words : List Text) (line : CommandLine) → IsLineOf words line → RefusesValues words line
 refuses_values words line is = record {
-  limit = λ program text none e. told words _ line Limit is e (bad_limit program text none);
-  fuse = λ program text none e. told words _ line Fuse is e (bad_fuse program text none);
-  first = λ program limit fuse none e. told words _ line Limit is e (bad_limit_first program limit fuse none);
-  name = λ program text none e. told words _ line Name is e (bad_name program text none);
-  name_first = λ program name limit none e. told words _ line Name is e (bad_name_first program name limit none);
+  limit = λ program text none e. reported words _ line Limit is e (bad_limit program text none);
+  fuse = λ program text none e. reported words _ line Fuse is e (bad_fuse program text none);
+  first = λ program limit fuse none e. reported words _ line Limit is e (bad_limit_first program limit fuse none);
+  name = λ program text none e. reported words _ line Name is e (bad_name program text none);
+  name_first = λ program name limit none e. reported words _ line Name is e (bad_name_first program name limit none);
   name_then = λ program name limit named none e.
-      told words _ line Limit is e (bad_limit_then program name limit named none);
+      reported words _ line Limit is e (bad_limit_then program name limit named none);
 }

@@ -91,14 +91,14 @@ one_server given a b x y =
     let stops = ends_once _ _ a.end b.end x.ends y.ends in
     let limited = one_limit _ a.limit b.limit x.limited y.limited in
     let serves = one_way given a.recorders b.recorders x.serves y.serves in
-    let tells = x.tells ∙ sym y.tells in
+    let reports = x.reports ∙ sym y.reports in
     λ i. record {
       listen = listens i;
       folder = keeps i;
       end = stops i;
       limit = limited i;
       recorders = serves i;
-      log = tells i;
+      log = reports i;
     }
 
 one_sender : (given : Text → Option Text) (a b : Sender) → GivesSender given a → GivesSender given b → a ≡ b

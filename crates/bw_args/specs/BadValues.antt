@@ -1,4 +1,4 @@
--- What is told of a value that is none of its kind.
+-- What is reported of a value that is none of its kind.
 use Rattle.std.specs.Prelude.{[], ◌∷◌, ◌++◌, codes}
 use Rattle.clap.specs.Walk.{Text}
 use Rattle.bw_args.specs.declared.bad_value.BadValue.{BadValue}

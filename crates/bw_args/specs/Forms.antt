@@ -10,7 +10,7 @@ use Rattle.clap.specs.declared.error.ErrorKind.TheVariants.{MissingSubcommand, U
 use Rattle.bw_args.specs.Numbers.{IsLimitText, IsNumber, default_limit, number_written}
 use Rattle.bw_args.specs.Lines.{IsName, Wish, wish_of}
 use Rattle.bw_args.specs.declared.CommandLine.{CommandLine}
-use Rattle.bw_args.specs.declared.CommandLine.TheVariants.{Run, BadValue as Bad, Tell}
+use Rattle.bw_args.specs.declared.CommandLine.TheVariants.{Run, BadValue as Bad, Report}
 use Rattle.bw_args.specs.declared.bad_value.BadValue.TheVariants.{Name, Limit, Fuse}
 use Rattle.bw_args.specs.declared.Task.TheVariants.{Replay, Rehearse, Inspect, Serve, Send}
 
@@ -18,7 +18,7 @@ use Rattle.bw_args.specs.declared.Task.TheVariants.{Replay, Rehearse, Inspect, S
 abbrev pub RunsFor : Wish → CommandLine → Type 0
 RunsFor wish (Run task) = wish_of task ≡ wish
 RunsFor wish (Bad value) = ⊥
-RunsFor wish (Tell error) = ⊥
+RunsFor wish (Report error) = ⊥
 
 -- `replay` runs, with a limit N and a fuse K or without, whatever the program's name, N and K
 pub record RunsReplay (words : List Text) (line : CommandLine) : Type 0 where
@@ -53,10 +53,10 @@ pub record RunsReplay (words : List Text) (line : CommandLine) : Type 0 where
       → line ≡ Run (Replay (number_written limit) (Some (number_written fuse)))
 
 -- the line tells an error of this kind
-abbrev pub IsToldAs : ErrorKind → CommandLine → Type 0
-IsToldAs kind (Run task) = ⊥
-IsToldAs kind (Bad value) = ⊥
-IsToldAs kind (Tell error) = kind_of error ≡ kind
+abbrev pub IsReportedAs : ErrorKind → CommandLine → Type 0
+IsReportedAs kind (Run task) = ⊥
+IsReportedAs kind (Bad value) = ⊥
+IsReportedAs kind (Report error) = kind_of error ≡ kind
 
 -- `rehearse` runs, with a limit N or without, whatever the program's name, NAME and N; a NAME may
 -- begin with a hyphen
@@ -86,14 +86,14 @@ pub record RunsRehearsal (words : List Text) (line : CommandLine) : Type 0 where
       → line ≡ Run (Rehearse name (number_written limit))
   -- `rehearse`
   pub none : (program : Text) → words ≡ program ∷ codes "rehearse" ∷ []
-      → IsToldAs MissingRequiredArgument line
+      → IsReportedAs MissingRequiredArgument line
   -- `rehearse --limit=N`
   pub limit_alone : (program limit : Text)
       → words ≡ program ∷ codes "rehearse" ∷ (codes "--limit=" ++ limit) ∷ []
-      → IsToldAs MissingRequiredArgument line
+      → IsReportedAs MissingRequiredArgument line
 
 -- a value of another form is a fault of its own, whatever the program's name, NAME, N and K; that
--- of the name is told first, then that of the limit
+-- of the name is reported first, then that of the limit
 pub record RefusesValues (words : List Text) (line : CommandLine) : Type 0 where
   -- `replay --limit=N`
   pub limit : (program text : Text) → ¬ IsLimitText text
@@ -122,11 +122,11 @@ pub record RefusesValues (words : List Text) (line : CommandLine) : Type 0 where
 
 -- `--help` and `--version` are answered, and no command at all is a fault, whatever the program's
 -- name
-pub record TellsHelp (words : List Text) (line : CommandLine) : Type 0 where
-  pub help : (program : Text) → words ≡ program ∷ codes "--help" ∷ [] → IsToldAs DisplayHelp line
+pub record ReportsHelp (words : List Text) (line : CommandLine) : Type 0 where
+  pub help : (program : Text) → words ≡ program ∷ codes "--help" ∷ [] → IsReportedAs DisplayHelp line
   pub version : (program : Text) → words ≡ program ∷ codes "--version" ∷ []
-      → IsToldAs DisplayVersion line
-  pub bare : (program : Text) → words ≡ program ∷ [] → IsToldAs MissingSubcommand line
+      → IsReportedAs DisplayVersion line
+  pub bare : (program : Text) → words ≡ program ∷ [] → IsReportedAs MissingSubcommand line
 
 -- the line inspects the file of this path
 abbrev pub Inspects : Text → CommandLine → Type 0
@@ -136,7 +136,7 @@ Inspects path (Run (Rehearse name limit)) = ⊥
 Inspects path (Run (Serve server)) = ⊥
 Inspects path (Run (Send sender)) = ⊥
 Inspects path (Bad value) = ⊥
-Inspects path (Tell error) = ⊥
+Inspects path (Report error) = ⊥
 
 -- a word that is no option: it doesn't begin with a hyphen
 abbrev pub IsPlain : Text → Type 0
@@ -148,6 +148,6 @@ pub record RunsInspect (words : List Text) (line : CommandLine) : Type 0 where
   pub file : (program path : Text) → IsPlain path
       → words ≡ program ∷ codes "inspect" ∷ path ∷ [] → Inspects path line
   pub none : (program : Text) → words ≡ program ∷ codes "inspect" ∷ []
-      → IsToldAs MissingRequiredArgument line
+      → IsReportedAs MissingRequiredArgument line
   pub second : (program path other : Text) → IsPlain path → IsPlain other
-      → words ≡ program ∷ codes "inspect" ∷ path ∷ other ∷ [] → IsToldAs UnknownArgument line
+      → words ≡ program ∷ codes "inspect" ∷ path ∷ other ∷ [] → IsReportedAs UnknownArgument line

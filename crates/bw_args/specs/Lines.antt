@@ -15,13 +15,13 @@ use Rattle.clap.specs.declared.error.ErrorKind.{ErrorKind}
 use Rattle.clap.specs.declared.error.ErrorKind.TheVariants.{OutOfMemory}
 use Rattle.bw_model.specs.Wire.{is_name}
 use Rattle.bw_args.specs.Addresses.{IsAddress}
-use Rattle.bw_args.specs.Numbers.{IsCountText, IsLimit, IsLimitText, IsNumber, default_limit}
+use Rattle.bw_args.specs.Numbers.{IsCountText, IsLimitValue, IsLimitText, IsNumber, default_limit}
 use Rattle.bw_args.specs.Numbers.{default_idle, default_rounds, most_exchanges, most_recorders}
 use Rattle.bw_args.specs.Numbers.{most_rounds, most_seconds, number_written}
 use Rattle.bw_args.specs.Commands.{command_line}
 use Rattle.bw_args.specs.ReadWords.{as_read}
 use Rattle.bw_args.specs.declared.CommandLine.{CommandLine}
-use Rattle.bw_args.specs.declared.CommandLine.TheVariants.{Run, BadValue as Bad, Tell}
+use Rattle.bw_args.specs.declared.CommandLine.TheVariants.{Run, BadValue as Bad, Report}
 use Rattle.bw_args.specs.declared.bad_value.BadValue.{BadValue}
 use Rattle.bw_args.specs.declared.bad_value.BadValue.TheVariants.{Name, Limit, Fuse, Listen}
 use Rattle.bw_args.specs.declared.bad_value.BadValue.TheVariants.{Folder, Exchanges, Timeout}
@@ -74,8 +74,8 @@ IsFuseGiven text (Ok fuse) = GivesFuse text fuse
 IsFuseGiven text (Err fault) = GivesNoFuse text
 
 -- what the options of a command give, by their names
-abbrev pub given_by : List Row → Text → Option Text
-given_by options id = first_of id options
+abbrev pub given_on_line : List Row → Text → Option Text
+given_on_line options id = first_of id options
 
 -- the flag is given
 abbrev pub is_set : Option Text → Bool
@@ -201,7 +201,7 @@ pub record GivesServer (given : Text → Option Text) (server : Service) : Type 
       GivesEnd (given (codes "exchanges")) (is_set (given (codes "until-stopped"))) server.end
   pub limited : GivesLimit (given (codes "limit")) server.limit
   pub serves : GivesRecorders given server.recorders
-  pub tells : server.log ≡ is_set (given (codes "log"))
+  pub reports : server.log ≡ is_set (given (codes "log"))
 
 -- what is given is this sender
 pub record GivesSender (given : Text → Option Text) (sender : Sender) : Type 0 where
@@ -223,9 +223,9 @@ IsWishOf (Some command) (Rehearsing name limit) =
 IsWishOf (Some command) (Inspecting path) =
     (command.0 ≡ codes "inspect") × (first_of (codes "file") command.1 ≡ Some path)
 IsWishOf (Some command) (Serving server) =
-    (command.0 ≡ codes "serve") × GivesServer (given_by command.1) server
+    (command.0 ≡ codes "serve") × GivesServer (given_on_line command.1) server
 IsWishOf (Some command) (Sending sender) =
-    (command.0 ≡ codes "send") × GivesSender (given_by command.1) sender
+    (command.0 ≡ codes "send") × GivesSender (given_on_line command.1) sender
 
 -- they ask for nothing
 abbrev pub AsksNothing : Option (Text × List Row) → Type 0
@@ -279,22 +279,22 @@ IsFirstBad (first ∷ later) given value = (¬ IsGood first given × (value ≡ 
 -- `clap` doesn't let through
 abbrev pub Lacks : Option (Text × List Row) → BadValue → Type 0
 Lacks None value = value ≡ Limit
-Lacks (Some command) value = IsFirstBad (looked_at command.0) (given_by command.1) value
+Lacks (Some command) value = IsFirstBad (looked_at command.0) (given_on_line command.1) value
     ⊎ ((looked_at command.0 ≡ []) × (value ≡ Limit))
 
 -- exactly the line that they come to
 abbrev pub IsLineFor : Option (Text × List Row) → CommandLine → Type 0
 IsLineFor command (Run task) = IsWishOf command (wish_of task)
 IsLineFor command (Bad value) = AsksNothing command × Lacks command value
-IsLineFor command (Tell error) = ⊥
+IsLineFor command (Report error) = ⊥
 
 -- `clap` takes the words, of which the first is the program's name, and they ask for this
 pub record AsksFor (words : List Text) (wish : Wish) : Type 0 where
   pub taken : fault_of command_line words ≡ []
   pub asked : IsWishOf (subcommand_of command_line words) wish
 
--- the words ask for nothing by `clap`'s walk over them; want of memory is never told
-pub record IsToldOf (words : List Text) (kind : ErrorKind) : Type 0 where
+-- the words ask for nothing by `clap`'s walk over them; lack of memory is never told
+pub record IsReportedOf (words : List Text) (kind : ErrorKind) : Type 0 where
   pub asks_nothing : (wish : Wish) → ¬ AsksFor words wish
   pub not_memory : kind ≢ OutOfMemory
   pub reason : IsAmong kind (fault_of command_line words)
@@ -309,7 +309,7 @@ pub record HasBadValue (value : BadValue) (words : List Text) : Type 0 where
 abbrev pub IsLineRead : List Text → CommandLine → Type 0
 IsLineRead words (Run task) = AsksFor words (wish_of task)
 IsLineRead words (Bad value) = HasBadValue value words
-IsLineRead words (Tell error) = IsToldOf words (kind_of error)
+IsLineRead words (Report error) = IsReportedOf words (kind_of error)
 
 -- what the words come to
 abbrev pub IsLineOf : List Text → CommandLine → Type 0
@@ -333,13 +333,13 @@ IsWayWithin (AtOnce most idle) = ((1 ≤ most) × (most ≤ most_recorders))
 
 -- where a task runs, its numbers are such as may be asked for
 abbrev pub HasNumbersInRange : CommandLine → Type 0
-HasNumbersInRange (Run (Replay limit fuse)) = IsLimit limit
-HasNumbersInRange (Run (Rehearse name limit)) = IsLimit limit
+HasNumbersInRange (Run (Replay limit fuse)) = IsLimitValue limit
+HasNumbersInRange (Run (Rehearse name limit)) = IsLimitValue limit
 HasNumbersInRange (Run (Inspect file)) = ⊤
 HasNumbersInRange (Run (Serve server)) = (0 < socket_port server.listen) × IsEndWithin server.end
-    × IsLimit server.limit × IsWayWithin server.recorders
+    × IsLimitValue server.limit × IsWayWithin server.recorders
 HasNumbersInRange (Run (Send sender)) = (0 < socket_port sender.connect)
     × ((1 ≤ sender.rounds) × (sender.rounds ≤ most_rounds))
     × IsWithin most_seconds sender.timeout
 HasNumbersInRange (Bad value) = ⊤
-HasNumbersInRange (Tell error) = ⊤
+HasNumbersInRange (Report error) = ⊤

@@ -11,8 +11,8 @@ abbrev pub number_written : List ℕ → ℕ
 number_written text = digits_value 10 text
 
 -- a greatest form size of a RIFF file, in bytes
-abbrev pub IsLimit : ℕ → Type 0
-IsLimit n = (n % 2 ≡ 0) × (8192 ≤ n) × (n ≤ 4294967294)
+abbrev pub IsLimitValue : ℕ → Type 0
+IsLimitValue n = (n % 2 ≡ 0) × (8192 ≤ n) × (n ≤ 4294967294)
 
 -- the limit where none is given: the greatest one
 abbrev pub default_limit : ℕ
@@ -20,7 +20,7 @@ default_limit = 4294967294
 
 -- a text of a number that is a limit
 abbrev pub IsLimitText : List ℕ → Type 0
-IsLimitText text = IsNumber text × IsLimit (number_written text)
+IsLimitText text = IsNumber text × IsLimitValue (number_written text)
 
 -- a text of a number from 1 to this one
 abbrev pub IsCountText : ℕ → List ℕ → Type 0

@@ -9,7 +9,7 @@ use Rattle.bw_args.specs.Numbers.{IsCountText, IsLimitText, default_idle, defaul
 use Rattle.bw_args.specs.Numbers.{default_rounds, most_exchanges, most_recorders, most_rounds}
 use Rattle.bw_args.specs.Numbers.{most_seconds, number_written}
 use Rattle.bw_args.specs.Lines.{IsName, Sending, Service, Serving}
-use Rattle.bw_args.specs.Forms.{IsToldAs, RunsFor}
+use Rattle.bw_args.specs.Forms.{IsReportedAs, RunsFor}
 use Rattle.bw_args.specs.declared.CommandLine.{CommandLine}
 use Rattle.bw_args.specs.declared.CommandLine.TheVariants.{BadValue as Bad}
 use Rattle.bw_args.specs.declared.bad_value.BadValue.{BadValue}
@@ -45,64 +45,64 @@ ForServer network words more Holds = (program listen folder : Text) (address : S
     → Holds address folder
 
 -- the line runs the server that so comes of the plain one
-abbrev pub Serves : CommandLine → (Service → Service) → SocketAddr → Text → Type 0
-Serves line change address folder = RunsFor (Serving (change (plain_server address folder))) line
+abbrev pub AsksToServe : CommandLine → (Service → Service) → SocketAddr → Text → Type 0
+AsksToServe line change address folder = RunsFor (Serving (change (plain_server address folder))) line
 
 -- `serve` runs, with each of its options; DIR may begin with a hyphen
 pub record RunsServer (words : List Text) (line : CommandLine) : Type 0 where
   -- `serve --listen=ADDR --folder=DIR`
-  pub alone : ForServer false words [] (Serves line (λ s. s))
+  pub alone : ForServer false words [] (AsksToServe line (λ s. s))
   -- `serve --listen ADDR --folder DIR`
   pub apart : (program listen folder : Text) (address : SocketAddr)
       → IsAddress false listen address → folder ≢ []
       → words ≡ program ∷ codes "serve" ∷ codes "--listen" ∷ listen
-      ∷ codes "--folder" ∷ folder ∷ [] → Serves line (λ s. s) address folder
+      ∷ codes "--folder" ∷ folder ∷ [] → AsksToServe line (λ s. s) address folder
   -- .. `--exchanges=N`
   pub exchanges : (count : Text) → IsCountText most_exchanges count
       → ForServer false words ((codes "--exchanges=" ++ count) ∷ [])
-      (Serves line (λ s. record s { end = when.Exchanges (number_written count) }))
+      (AsksToServe line (λ s. record s { end = when.Exchanges (number_written count) }))
   -- .. `--exchanges N`
   pub exchanges_apart : (count : Text) → IsCountText most_exchanges count
       → ForServer false words (codes "--exchanges" ∷ count ∷ [])
-      (Serves line (λ s. record s { end = when.Exchanges (number_written count) }))
+      (AsksToServe line (λ s. record s { end = when.Exchanges (number_written count) }))
   -- .. `--limit=N`
   pub limit : (limit : Text) → IsLimitText limit
       → ForServer false words ((codes "--limit=" ++ limit) ∷ [])
-      (Serves line (λ s. record s { limit = number_written limit }))
+      (AsksToServe line (λ s. record s { limit = number_written limit }))
   -- .. `--limit N`
   pub limit_apart : (limit : Text) → IsLimitText limit
       → ForServer false words (codes "--limit" ∷ limit ∷ [])
-      (Serves line (λ s. record s { limit = number_written limit }))
+      (AsksToServe line (λ s. record s { limit = number_written limit }))
   -- .. `--timeout=SECONDS`
   pub timeout : (seconds : Text) → IsCountText most_seconds seconds
       → ForServer false words ((codes "--timeout=" ++ seconds) ∷ [])
-      (Serves line (λ s. record s { recorders = InTurn (Some (number_written seconds)) }))
+      (AsksToServe line (λ s. record s { recorders = InTurn (Some (number_written seconds)) }))
   -- .. `--timeout SECONDS`
   pub timeout_apart : (seconds : Text) → IsCountText most_seconds seconds
       → ForServer false words (codes "--timeout" ∷ seconds ∷ [])
-      (Serves line (λ s. record s { recorders = InTurn (Some (number_written seconds)) }))
+      (AsksToServe line (λ s. record s { recorders = InTurn (Some (number_written seconds)) }))
   -- .. `--recorders=N`
   pub recorders : (count : Text) → IsCountText most_recorders count
       → ForServer false words ((codes "--recorders=" ++ count) ∷ [])
-      (Serves line (λ s. record s { recorders = AtOnce (number_written count) default_idle }))
+      (AsksToServe line (λ s. record s { recorders = AtOnce (number_written count) default_idle }))
   -- .. `--recorders N`
   pub recorders_apart : (count : Text) → IsCountText most_recorders count
       → ForServer false words (codes "--recorders" ∷ count ∷ [])
-      (Serves line (λ s. record s { recorders = AtOnce (number_written count) default_idle }))
+      (AsksToServe line (λ s. record s { recorders = AtOnce (number_written count) default_idle }))
   -- .. `--recorders=N --idle=SECONDS`
   pub idle : (count seconds : Text) → IsCountText most_recorders count
       → IsCountText most_seconds seconds → ForServer false words
       ((codes "--recorders=" ++ count) ∷ (codes "--idle=" ++ seconds) ∷ [])
-      (Serves line (λ s. record s {
+      (AsksToServe line (λ s. record s {
         recorders = AtOnce (number_written count) (number_written seconds);
       }))
   -- .. `--network`
-  pub network : ForServer true words (codes "--network" ∷ []) (Serves line (λ s. s))
+  pub network : ForServer true words (codes "--network" ∷ []) (AsksToServe line (λ s. s))
   -- .. `--until-stopped`
   pub until_stopped : ForServer false words (codes "--until-stopped" ∷ [])
-      (Serves line (λ s. record s { end = when.UntilStopped }))
+      (AsksToServe line (λ s. record s { end = when.UntilStopped }))
   -- .. `--log`
-  pub log : ForServer false words (codes "--log" ∷ []) (Serves line (λ s. record s { log = true }))
+  pub log : ForServer false words (codes "--log" ∷ []) (AsksToServe line (λ s. record s { log = true }))
 
 -- the sender of which only address and name are said
 abbrev pub plain_sender : SocketAddr → Text → Sender
@@ -121,40 +121,40 @@ ForSender network words more Holds = (program connect name : Text) (address : So
     → Holds address name
 
 -- the line runs the sender that so comes of the plain one
-abbrev pub Sends : CommandLine → (Sender → Sender) → SocketAddr → Text → Type 0
-Sends line change address name = RunsFor (Sending (change (plain_sender address name))) line
+abbrev pub AsksToSend : CommandLine → (Sender → Sender) → SocketAddr → Text → Type 0
+AsksToSend line change address name = RunsFor (Sending (change (plain_sender address name))) line
 
 -- `send` runs, with each of its options; NAME may begin with a hyphen
 pub record RunsSender (words : List Text) (line : CommandLine) : Type 0 where
   -- `send --connect=ADDR --name=NAME`
-  pub alone : ForSender false words [] (Sends line (λ s. s))
+  pub alone : ForSender false words [] (AsksToSend line (λ s. s))
   -- `send --connect ADDR --name NAME`
   pub apart : (program connect name : Text) (address : SocketAddr)
       → IsAddress false connect address → IsName name
       → words ≡ program ∷ codes "send" ∷ codes "--connect" ∷ connect
-      ∷ codes "--name" ∷ name ∷ [] → Sends line (λ s. s) address name
+      ∷ codes "--name" ∷ name ∷ [] → AsksToSend line (λ s. s) address name
   -- .. `--rounds=N`
   pub rounds : (count : Text) → IsCountText most_rounds count
       → ForSender false words ((codes "--rounds=" ++ count) ∷ [])
-      (Sends line (λ s. record s { rounds = number_written count }))
+      (AsksToSend line (λ s. record s { rounds = number_written count }))
   -- .. `--rounds N`
   pub rounds_apart : (count : Text) → IsCountText most_rounds count
       → ForSender false words (codes "--rounds" ∷ count ∷ [])
-      (Sends line (λ s. record s { rounds = number_written count }))
+      (AsksToSend line (λ s. record s { rounds = number_written count }))
   -- .. `--timeout=SECONDS`
   pub timeout : (seconds : Text) → IsCountText most_seconds seconds
       → ForSender false words ((codes "--timeout=" ++ seconds) ∷ [])
-      (Sends line (λ s. record s { timeout = Some (number_written seconds) }))
+      (AsksToSend line (λ s. record s { timeout = Some (number_written seconds) }))
   -- .. `--timeout SECONDS`
   pub timeout_apart : (seconds : Text) → IsCountText most_seconds seconds
       → ForSender false words (codes "--timeout" ∷ seconds ∷ [])
-      (Sends line (λ s. record s { timeout = Some (number_written seconds) }))
+      (AsksToSend line (λ s. record s { timeout = Some (number_written seconds) }))
   -- .. `--network`
-  pub network : ForSender true words (codes "--network" ∷ []) (Sends line (λ s. s))
+  pub network : ForSender true words (codes "--network" ∷ []) (AsksToSend line (λ s. s))
 
 -- the line tells this value as bad
-abbrev pub TellsBad : CommandLine → BadValue → SocketAddr → Text → Type 0
-TellsBad line value address text = line ≡ Bad value
+abbrev pub ReportsBad : CommandLine → BadValue → SocketAddr → Text → Type 0
+ReportsBad line value address text = line ≡ Bad value
 
 -- a value of another form is a fault of its own
 pub record RefusesPeers (words : List Text) (line : CommandLine) : Type 0 where
@@ -171,30 +171,30 @@ pub record RefusesPeers (words : List Text) (line : CommandLine) : Type 0 where
       → words ≡ serving program listen [] [] → line ≡ Bad Folder
   -- `serve` with `--exchanges=N`
   pub exchanges : (count : Text) → ¬ IsCountText most_exchanges count
-      → ForServer false words ((codes "--exchanges=" ++ count) ∷ []) (TellsBad line Exchanges)
+      → ForServer false words ((codes "--exchanges=" ++ count) ∷ []) (ReportsBad line Exchanges)
   -- .. with `--limit=N`
   pub limit : (limit : Text) → ¬ IsLimitText limit
-      → ForServer false words ((codes "--limit=" ++ limit) ∷ []) (TellsBad line Limit)
+      → ForServer false words ((codes "--limit=" ++ limit) ∷ []) (ReportsBad line Limit)
   -- .. with `--timeout=SECONDS`
   pub timeout : (seconds : Text) → ¬ IsCountText most_seconds seconds
-      → ForServer false words ((codes "--timeout=" ++ seconds) ∷ []) (TellsBad line Timeout)
+      → ForServer false words ((codes "--timeout=" ++ seconds) ∷ []) (ReportsBad line Timeout)
   -- .. with `--recorders=N`
   pub recorders : (count : Text) → ¬ IsCountText most_recorders count
-      → ForServer false words ((codes "--recorders=" ++ count) ∷ []) (TellsBad line Recorders)
+      → ForServer false words ((codes "--recorders=" ++ count) ∷ []) (ReportsBad line Recorders)
   -- .. with `--idle=SECONDS`
   pub idle : (seconds : Text) → ¬ IsCountText most_seconds seconds
-      → ForServer false words ((codes "--idle=" ++ seconds) ∷ []) (TellsBad line Idle)
+      → ForServer false words ((codes "--idle=" ++ seconds) ∷ []) (ReportsBad line Idle)
   -- .. where that is a time, and no number of recorders is given
   pub idle_alone : (seconds : Text) → IsCountText most_seconds seconds
-      → ForServer false words ((codes "--idle=" ++ seconds) ∷ []) (TellsBad line Wait)
+      → ForServer false words ((codes "--idle=" ++ seconds) ∷ []) (ReportsBad line Wait)
   -- .. with `--recorders=N --timeout=SECONDS`
   pub timeout_beside : (count seconds : Text) → IsCountText most_recorders count
       → IsCountText most_seconds seconds → ForServer false words
-      ((codes "--recorders=" ++ count) ∷ (codes "--timeout=" ++ seconds) ∷ []) (TellsBad line Wait)
+      ((codes "--recorders=" ++ count) ∷ (codes "--timeout=" ++ seconds) ∷ []) (ReportsBad line Wait)
   -- .. with `--exchanges=N --until-stopped`
   pub both : (count : Text) → IsCountText most_exchanges count
       → ForServer false words ((codes "--exchanges=" ++ count) ∷ codes "--until-stopped" ∷ [])
-      (TellsBad line UntilStopped)
+      (ReportsBad line UntilStopped)
   -- `send --connect=ADDR --name=NAME`, where ADDR is no local address
   pub connect : (program connect name : Text)
       → ((address : SocketAddr) → ¬ IsAddress false connect address)
@@ -209,26 +209,26 @@ pub record RefusesPeers (words : List Text) (line : CommandLine) : Type 0 where
       → words ≡ sending program connect name [] → line ≡ Bad Name
   -- `send` with `--rounds=N`
   pub rounds : (count : Text) → ¬ IsCountText most_rounds count
-      → ForSender false words ((codes "--rounds=" ++ count) ∷ []) (TellsBad line Rounds)
+      → ForSender false words ((codes "--rounds=" ++ count) ∷ []) (ReportsBad line Rounds)
   -- .. with `--timeout=SECONDS`
   pub send_timeout : (seconds : Text) → ¬ IsCountText most_seconds seconds
-      → ForSender false words ((codes "--timeout=" ++ seconds) ∷ []) (TellsBad line Timeout)
+      → ForSender false words ((codes "--timeout=" ++ seconds) ∷ []) (ReportsBad line Timeout)
 
 -- `serve` wants an address and a folder, `send` an address and a name
 pub record WantsPeers (words : List Text) (line : CommandLine) : Type 0 where
   pub serve : (program : Text) → words ≡ program ∷ codes "serve" ∷ []
-      → IsToldAs MissingRequiredArgument line
+      → IsReportedAs MissingRequiredArgument line
   pub folder : (program listen : Text)
       → words ≡ program ∷ codes "serve" ∷ (codes "--listen=" ++ listen) ∷ []
-      → IsToldAs MissingRequiredArgument line
+      → IsReportedAs MissingRequiredArgument line
   pub listen : (program folder : Text)
       → words ≡ program ∷ codes "serve" ∷ (codes "--folder=" ++ folder) ∷ []
-      → IsToldAs MissingRequiredArgument line
+      → IsReportedAs MissingRequiredArgument line
   pub send : (program : Text) → words ≡ program ∷ codes "send" ∷ []
-      → IsToldAs MissingRequiredArgument line
+      → IsReportedAs MissingRequiredArgument line
   pub name : (program connect : Text)
       → words ≡ program ∷ codes "send" ∷ (codes "--connect=" ++ connect) ∷ []
-      → IsToldAs MissingRequiredArgument line
+      → IsReportedAs MissingRequiredArgument line
   pub connect : (program name : Text)
       → words ≡ program ∷ codes "send" ∷ (codes "--name=" ++ name) ∷ []
-      → IsToldAs MissingRequiredArgument line
+      → IsReportedAs MissingRequiredArgument line

@@ -1,11 +1,11 @@
 -- The words of a command line as `clap` reads them. A word that begins with a hyphen isn't taken
--- behind an option, so a name, or a folder, stands in the word of its option.
+-- after an option, so a name, or a folder, stands in the word of its option.
 use Rattle.std.specs.Prelude.{Bool, true, false, List, [], ◌∷◌, ◌++◌, Option, Some, None, codes}
 use Rattle.std.specs.Prelude.{bytes_eq, ◌||◌, if◌then◌else◌}
 use Rattle.std.specs.Option.{option_map_or}
 use Rattle.clap.specs.Walk.{Text}
 
--- each such option and the word behind it as one, where the word before these is the option or not
+-- each such option and the word after it as one, where the word before these is the option or not
 abbrev pub joined : Text → Bool → List Text → List Text
 joined option false [] = []
 joined option true [] = option ∷ []

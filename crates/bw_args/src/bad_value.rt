@@ -34,7 +34,7 @@ pub enum BadValue {
 }
 
 impl BadValue {
-    /// What is told of it.
+    /// What is reported of it.
     pub fn text(self) -> &'static str
         ensures { result.now ≡ text_of self }
     {

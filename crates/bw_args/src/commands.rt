@@ -118,7 +118,7 @@ fn inspect<'a>(alloc: Global) -> Result<Command<'a>, AllocError>
 }
 
 /// What parsed words come to. Only the path of a file or a folder takes memory, so that a bad value
-/// is told whatever is left of it.
+/// is reported whatever is left of it.
 pub fn line(alloc: Global, matches: &ArgMatches<'_>) -> Result<CommandLine, AllocError>
     ensures ok { IfOk result (IsLineFor (subcommand_rows_of matches.now)) }
     ensures err { OnErr result (AsksForPath (subcommand_rows_of matches.now)) }

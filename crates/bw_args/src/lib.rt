@@ -5,7 +5,7 @@ ghost use Rattle.std.specs.Prelude.{◌≡◌, ◌↔◌, map, IfOk, IsErr, stri
 ghost use Rattle.clap.specs.Words.{kind_of};
 ghost use Rattle.bw_args.specs.Lines.{HasNumbersInRange, IsLineOf};
 ghost use Rattle.bw_args.specs.Forms.{RefusesValues, RunsInspect, RunsRehearsal, RunsReplay};
-ghost use Rattle.bw_args.specs.Forms.{TellsHelp};
+ghost use Rattle.bw_args.specs.Forms.{ReportsHelp};
 ghost use Rattle.bw_args.specs.PeerForms.{RefusesPeers, RunsSender, RunsServer, WantsPeers};
 
 mod addresses;
@@ -46,9 +46,9 @@ pub enum CommandLine {
     Run(Task),
     /// A value that is none of its kind, a usage fault: of several the first that is looked at.
     BadValue(BadValue),
-    /// Help, the version or another usage fault, and never want of memory. `Error::use_stderr` says
+    /// Help, the version or another usage fault, and never lack of memory. `Error::use_stderr` says
     /// where its text goes, and `Error::exit_code` is the status, 0 or 2.
-    Tell(Error),
+    Report(Error),
 }
 
 /// Reads a command line, of which the first word is the program's own name.
@@ -78,23 +78,23 @@ pub fn parse(alloc: Global, words: &[String]) -> Result<CommandLine, AllocError>
     ensures send { IfOk result (RunsSender (map string_bytes words.now)) }
     ensures peers { IfOk result (RefusesPeers (map string_bytes words.now)) }
     ensures wanted { IfOk result (WantsPeers (map string_bytes words.now)) }
-    ensures help { IfOk result (TellsHelp (map string_bytes words.now)) }
+    ensures help { IfOk result (ReportsHelp (map string_bytes words.now)) }
 {
     let read = read_words::read_words(alloc, words)?;
     let mut command = commands::bwingest(alloc)?;
     match command.try_get_matches_from_mut(read.as_slice()) {
         Ok(matches) => commands::line(alloc, &matches),
-        Err(error) => told(error),
+        Err(error) => reported(error),
     }
 }
 
 /// Want of memory is no text for the user: the program has a status of its own for it.
-fn told(error: Error) -> Result<CommandLine, AllocError>
-    ensures told { IfOk result (λ line. line ≡ CommandLine.Tell error) }
+fn reported(error: Error) -> Result<CommandLine, AllocError>
+    ensures reported { IfOk result (λ line. line ≡ CommandLine.Report error) }
     ensures out_of_memory { IsErr result ↔ (kind_of error ≡ ErrorKind.OutOfMemory) }
 {
     match error.kind() {
         ErrorKind::OutOfMemory => Err(AllocError),
-        _ => Ok(CommandLine::Tell(error)),
+        _ => Ok(CommandLine::Report(error)),
     }
 }

@@ -35,7 +35,7 @@ pub struct Serve {
     pub limit: u64,
     /// How recorders are served.
     pub recorders: Recorders,
-    /// Whether each connection is told in a line on standard error.
+    /// Whether each connection is reported in a line on standard error.
     pub log: bool,
 }
 

@@ -51,7 +51,7 @@ fn push_copies(alloc: Global, read: &mut Vec<String>, words: &[String]) -> Resul
     Ok(())
 }
 
-/// Adds the words, each such option and the word behind it as one.
+/// Adds the words, each such option and the word after it as one.
 fn push_joined(
     alloc: Global,
     read: &mut Vec<String>,

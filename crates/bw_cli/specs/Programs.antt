@@ -9,61 +9,61 @@ use Rattle.clap.specs.declared.error.ErrorKind.TheVariants as texts
 use Rattle.bw_args.specs.Lines.{IsLineOf}
 use Rattle.bw_args.specs.BadValues.{text_of}
 use Rattle.bw_args.specs.declared.CommandLine.{CommandLine}
-use Rattle.bw_args.specs.declared.CommandLine.TheVariants.{Run, BadValue as Bad, Tell}
+use Rattle.bw_args.specs.declared.CommandLine.TheVariants.{Run, BadValue as Bad, Report}
 use Rattle.bw_args.specs.declared.Task.{Task}
 use Rattle.bw_args.specs.declared.Task.TheVariants.{Replay, Inspect, Rehearse, Serve, Send}
 use Rattle.bw_stream.specs.declared.sink.Sink.{Ghosts as Writer}
 use Rattle.bw_stream.specs.declared.source.Source.{Ghosts as Reader}
 use Rattle.bw_store.specs.declared.store.TakeStore.{Ghosts as StoreGhosts}
 use Rattle.bw_journal.specs.declared.journal.Journal.{Ghosts as JournalGhosts}
-use Rattle.bw_console.specs.Deeds.{Deed, Does, IsWant}
+use Rattle.bw_console.specs.Outcomes.{Outcome, Does, IsOutOfMemory}
 use Rattle.bw_commands.specs.Replays.{IsReplay}
-use Rattle.bw_console.specs.Faults.{IsToldBy, exit_of}
+use Rattle.bw_console.specs.Faults.{IsReportedBy, exit_of}
 use Rattle.bw_commands.specs.Inspections.{IsPrintOfText}
 use Rattle.bw_commands.specs.Looks.{IsLook}
 use Rattle.bw_console.specs.Printing.{Nothing, IsOf}
 use Rattle.bw_commands.specs.Rehearsals.{IsRehearsal}
-use Rattle.bw_console.specs.Unworded.{IsUnworded}
+use Rattle.bw_console.specs.BadArgv.{IsBadArgv}
 use Rattle.bw_console.specs.declared.exit.Exit.{Exit}
 use Rattle.bw_console.specs.declared.exit.Exit.TheVariants as exits
 use Rattle.bw_console.specs.declared.fault.Fault.{Fault}
 use Rattle.bw_ports.specs.declared.link.Link.{Ghosts as LinkGhosts}
-use Rattle.bw_ports.specs.declared.lobby.Lobby.{Ghosts as LobbyGhosts}
+use Rattle.bw_ports.specs.declared.reactor.Reactor.{Ghosts as ReactorGhosts}
 use Rattle.bw_ports.specs.declared.dial.Dial.{Ghosts as DialGhosts}
 use Rattle.bw_ports.specs.declared.network.Network.{Ghosts as NetworkGhosts}
 use Rattle.bw_ports.specs.declared.peers.Peers.{Ghosts as PeerGhosts}
-use Rattle.bw_ports.specs.declared.gathering.Gathering.{Ghosts as GatheringGhosts}
+use Rattle.bw_ports.specs.declared.listener_setup.ListenerSetup.{Ghosts as ListenerSetupGhosts}
 use Rattle.bw_cli.specs.Remote.{Sends, Serves}
 
 -- help or the version is printed
-pub record IsHelp (did : Deed) : Type 0 where
+pub record IsHelp (did : Outcome) : Type 0 where
   pub outcome : Result (Unit {0}) Fault
   pub exit_is : did.exit ≡ exit_of outcome
   pub reads : did.reads_all ≡ true
   pub text : List ℕ
   pub prints : IsPrintOfText text outcome did.out
-  pub tells : IsToldBy outcome did.faults
+  pub reports : IsReportedBy outcome did.faults
 
--- what is wrong with the command line is told
-pub record IsUsage (did : Deed) : Type 0 where
+-- what is wrong with the command line is reported
+pub record IsUsage (did : Outcome) : Type 0 where
   pub exit_is : did.exit ≡ exits.Usage
   pub reads : did.reads_all ≡ true
   pub prints : did.out ≡ Nothing
   pub text : List ℕ
-  pub tells : IsOf text did.faults
+  pub reports : IsOf text did.faults
 
--- exactly this is told, a fault of usage
-pub record IsBadValue (text : List ℕ) (did : Deed) : Type 0 where
+-- exactly this is reported, a fault of usage
+pub record IsBadValue (text : List ℕ) (did : Outcome) : Type 0 where
   pub exit_is : did.exit ≡ exits.Usage
   pub reads : did.reads_all ≡ true
   pub prints : did.out ≡ Nothing
-  pub tells : IsOf text did.faults
+  pub reports : IsOf text did.faults
 
--- a text of this kind is told where it belongs
-abbrev pub IsTelling : TextKind → Deed → Type 0
-IsTelling texts.DisplayHelp did = IsHelp did
-IsTelling texts.DisplayVersion did = IsHelp did
-IsTelling _ did = IsUsage did ⊎ IsWant did
+-- a text of this kind is reported where it belongs
+abbrev pub IsReporting : TextKind → Outcome → Type 0
+IsReporting texts.DisplayHelp did = IsHelp did
+IsReporting texts.DisplayVersion did = IsHelp did
+IsReporting _ did = IsUsage did ⊎ IsOutOfMemory did
 
 -- what the system gives: the words of the command line, and the bytes at each path
 pub record Given : Type 0 where
@@ -71,9 +71,9 @@ pub record Given : Type 0 where
   pub file_at : Text → Option (List ℕ)
 
 -- what is done for a task over these files and this input, where the system gives what is asked of
--- it, or not; those that use the network are told elsewhere
+-- it, or not; those that use the network are reported elsewhere
 abbrev pub IsTaskDone : (Text → Option (List ℕ)) → Option (List ℕ) → Task → Bool →
-    Deed → Type 0
+    Outcome → Type 0
 IsTaskDone file_at input (Replay limit fuse) gives_all did =
     IsReplay limit fuse input did × (gives_all ≡ true)
 IsTaskDone file_at input (Inspect file) gives_all did =
@@ -85,37 +85,37 @@ IsTaskDone file_at input (Send sender) gives_all did = ⊥
 
 -- .. for a command line
 abbrev pub IsLineDone : (Text → Option (List ℕ)) → Option (List ℕ) → CommandLine → Bool →
-    Deed → Type 0
+    Outcome → Type 0
 IsLineDone file_at input (Run task) gives_all did = IsTaskDone file_at input task gives_all did
 IsLineDone file_at input (Bad value) gives_all did =
     IsBadValue (text_of value) did × (gives_all ≡ true)
-IsLineDone file_at input (Tell error) gives_all did =
-    IsTelling (kind_of error) did × (gives_all ≡ true)
+IsLineDone file_at input (Report error) gives_all did =
+    IsReporting (kind_of error) did × (gives_all ≡ true)
 
--- the words can't be read: where the system fails, that is told; where it doesn't, memory is wanted
-abbrev pub IsUnread : Bool → Deed → Type 0
-IsUnread true did = IsWant did
-IsUnread false did = (kind : ErrorKind) × IsUnworded kind did
+-- the words can't be read: where the system fails, that is reported; where it doesn't, memory is wanted
+abbrev pub IsUnread : Bool → Outcome → Type 0
+IsUnread true did = IsOutOfMemory did
+IsUnread false did = (kind : ErrorKind) × IsBadArgv kind did
 
 module _ {X Y P R W L K N D A B I O E : Type 0} (S : StoreGhosts X) (J : JournalGhosts Y)
-    (peers : PeerGhosts P R W) (reader : Reader R) (writer : Writer W) (lobby : LobbyGhosts L K)
-    (link : LinkGhosts K) (network : NetworkGhosts N X P D R W A B) (gathering : GatheringGhosts N L K)
+    (peers : PeerGhosts P R W) (reader : Reader R) (writer : Writer W) (reactor : ReactorGhosts L K)
+    (link : LinkGhosts K) (network : NetworkGhosts N X P D R W A B) (listener_setup : ListenerSetupGhosts N L K)
     (dial : DialGhosts D A B) (replies : Reader A) (requests : Writer B) (input : Reader I)
-    (out : Writer O) (told : Writer E) where
+    (out : Writer O) (reported : Writer E) where
   -- this is done without the network
-  pub record DoesAlone (is_asked : Bool → Deed → Type 0) (exit : Exit) (s s' : ℕ) (n n' : N)
+  pub record DoesAlone (is_asked : Bool → Outcome → Type 0) (exit : Exit) (s s' : ℕ) (n n' : N)
       (i i' : I) (o o' : O) (e e' : E) : Type 0 where
-    pub does : Does input out told is_asked exit s s' i i' o o' e e'
+    pub does : Does input out reported is_asked exit s s' i i' o o' e e'
     pub unused : n' ≡ n
 
   -- what is done for a command line, and how the program ends
   abbrev pub IsDoneFor : (Text → Option (List ℕ)) → CommandLine → Exit → ℕ → ℕ → N → N →
       I → I → O → O → E → E → Type 0
   IsDoneFor file_at (Run (Serve server)) exit s s' n n' i i' o o' e e' =
-      Serves S J peers reader writer lobby link out told network gathering server exit n n' o o' e e'
+      Serves S J peers reader writer reactor link out reported network listener_setup server exit n n' o o' e e'
       × (s' ≡ s) × (i' ≡ i)
   IsDoneFor file_at (Run (Send sender)) exit s s' n n' i i' o o' e e' =
-      Sends network dial replies requests input out told sender exit n i i' o o' e e'
+      Sends network dial replies requests input out reported sender exit n i i' o o' e e'
       × (s' ≡ s) × (n' ≡ n)
   IsDoneFor file_at line exit s s' n n' i i' o o' e e' =
       DoesAlone (IsLineDone file_at (input.left i) line) exit s s' n n' i i' o o' e e'

@@ -10,11 +10,11 @@ use Rattle.bw_args.specs.declared.peers.Recorders.{Recorders}
 use Rattle.bw_args.specs.declared.peers.Recorders.TheVariants as recorders
 use Rattle.bw_args.specs.declared.peers.Send.{Send}
 use Rattle.bw_args.specs.declared.peers.Serve.{Serve}
-use Rattle.bw_console.specs.Deeds.{Deed, HasWritten}
+use Rattle.bw_console.specs.Outcomes.{Outcome, HasWritten}
 use Rattle.bw_console.specs.Printing.{failures_if}
 use Rattle.bw_console.specs.declared.exit.Exit.{Exit}
 use Rattle.bw_ports.specs.declared.link.Link.{Ghosts as LinkGhosts}
-use Rattle.bw_ports.specs.declared.lobby.Lobby.{Ghosts as LobbyGhosts}
+use Rattle.bw_ports.specs.declared.reactor.Reactor.{Ghosts as ReactorGhosts}
 use Rattle.bw_serve.specs.Hosted.{Hosts}
 use Rattle.bw_send.specs.Sends.{IsSendRun}
 use Rattle.bw_ports.specs.declared.dial.Dial.{Ghosts as DialGhosts}
@@ -22,7 +22,7 @@ use Rattle.bw_ports.specs.declared.network.Network.{Ghosts as NetworkGhosts}
 use Rattle.bw_serve.specs.declared.hosting_in_turn.Serving.{Serving}
 use Rattle.bw_ports.specs.declared.peers.Peers.{Ghosts as PeerGhosts}
 use Rattle.bw_serve.specs.HostedMany.{HostsMany}
-use Rattle.bw_ports.specs.declared.gathering.Gathering.{Ghosts as GatheringGhosts}
+use Rattle.bw_ports.specs.declared.listener_setup.ListenerSetup.{Ghosts as ListenerSetupGhosts}
 use Rattle.bw_serve.specs.declared.hosting.Hosting.{Hosting}
 
 -- how many exchanges a server makes: without an end the most that can be counted, 2^64 - 1
@@ -31,7 +31,7 @@ exchanges_of (when.Exchanges count) = count
 exchanges_of when.UntilStopped = 18_446_744_073_709_551_615
 
 -- the server of one recorder after the other that a command line asks for
-pub record IsServing (server : Serve) (timeout : Option ℕ) (serving : Serving) : Type 0 where
+pub record IsServingAs (server : Serve) (timeout : Option ℕ) (serving : Serving) : Type 0 where
   pub listens : serving.address ≡ server.listen
   pub keeps : serving.folder.now ≡ string_bytes server.folder
   pub ends : serving.exchanges ≡ exchanges_of server.end
@@ -51,22 +51,22 @@ pub record IsHosting (server : Serve) (most idle : ℕ) (hosting : Hosting) : Ty
   pub logs : hosting.log ≡ server.log
 
 module _ {X Y P R W L K O E N D A B : Type 0} (S : StoreGhosts X) (J : JournalGhosts Y)
-    (peers : PeerGhosts P R W) (reader : Reader R) (writer : Writer W) (lobby : LobbyGhosts L K)
-    (link : LinkGhosts K) (out : Writer O) (told : Writer E) (network : NetworkGhosts N X P D R W A B)
-    (gathering : GatheringGhosts N L K) where
+    (peers : PeerGhosts P R W) (reader : Reader R) (writer : Writer W) (reactor : ReactorGhosts L K)
+    (link : LinkGhosts K) (out : Writer O) (reported : Writer E) (network : NetworkGhosts N X P D R W A B)
+    (listener_setup : ListenerSetupGhosts N L K) where
   -- it served one recorder after the other
   pub record ServesInTurn (server : Serve) (timeout : Option ℕ) (exit : Exit) (n n' : N) (o o' : O)
       (e e' : E) : Type 0 where
     pub serving : Serving
-    pub asked : IsServing server timeout serving
-    pub hosts : Hosts S J peers reader writer out told network serving exit n n' o o' e e'
+    pub asked : IsServingAs server timeout serving
+    pub hosts : Hosts S J peers reader writer out reported network serving exit n n' o o' e e'
 
   -- it served many at once
   pub record ServesAtOnce (server : Serve) (most idle : ℕ) (exit : Exit) (n n' : N) (o o' : O)
       (e e' : E) : Type 0 where
     pub hosting : Hosting
     pub asked : IsHosting server most idle hosting
-    pub hosts : HostsMany S J lobby link out told network gathering hosting exit n n' o o' e e'
+    pub hosts : HostsMany S J reactor link out reported network listener_setup hosting exit n n' o o' e e'
 
   -- the server was asked for so, and served
   abbrev pub ServesAs : Recorders → Serve → Exit → N → N → O → O → E → E → Type 0
@@ -80,15 +80,15 @@ module _ {X Y P R W L K O E N D A B : Type 0} (S : StoreGhosts X) (J : JournalGh
 
 module _ {N X P R W D A B I O E : Type 0} (network : NetworkGhosts N X P D R W A B)
     (dial : DialGhosts D A B) (replies : Reader A) (requests : Writer B) (input : Reader I)
-    (out : Writer O) (told : Writer E) where
+    (out : Writer O) (reported : Writer E) where
   -- this sender was asked for, and the requests of the input were sent over links that are made so
   pub record Sends (sender : Send) (exit : Exit) (n : N) (i i' : I) (o o' : O) (e e' : E)
       : Type 0 where
     pub first : D
     pub calls : network.calls n sender.connect sender.timeout first
     pub last : D
-    pub did : Deed
+    pub did : Outcome
     pub ends : did.exit ≡ exit
     pub is : IsSendRun dial replies requests sender.name sender.rounds (input.left i) first last did
     pub reads : input.failures i' ≡ failures_if did.reads_all (input.failures i)
-    pub writes : HasWritten out told did o o' e e'
+    pub writes : HasWritten out reported did o o' e e'

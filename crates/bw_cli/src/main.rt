@@ -5,16 +5,16 @@ pub mod program;
 mod remote;
 
 use bw_net::{Host, TcpNetwork, Terminal};
-use bw_stream::Plain;
+use bw_stream::StdIo;
 use program::start;
 use std::process::ExitCode;
 
 fn main(rt: HostRuntime) -> ExitCode {
     let mut system = Host::new(&rt);
     let mut network = TcpNetwork::new(&rt);
-    let mut input = Plain::new(rt.stdin());
-    let mut out = Plain::new(rt.stdout());
-    let mut faults = Plain::new(rt.stderr());
+    let mut input = StdIo::new(rt.stdin());
+    let mut out = StdIo::new(rt.stdout());
+    let mut faults = StdIo::new(rt.stderr());
     let mut watch = Terminal::new(&rt);
     start(
         rt.alloc(),

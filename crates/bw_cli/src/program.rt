@@ -3,20 +3,20 @@ ghost use Rattle.std.specs.Prelude.{◌≡◌, true, Some, map, string_bytes};
 ghost use Rattle.std.specs.Process.{exit_status};
 ghost use Rattle.clap.specs.Values.{kind_of};
 ghost use Rattle.bw_args.specs.Lines.{HasNumbersInRange};
-ghost use Rattle.bw_console.specs.Deeds.{Deed, HasWritten};
+ghost use Rattle.bw_console.specs.Outcomes.{Outcome, HasWritten};
 ghost use Rattle.bw_console.specs.declared.exit.Exit.{Exit};
 ghost use Rattle.bw_console.specs.Exits.{status_of};
-ghost use Rattle.bw_cli.specs.Programs.{Given, IsDoneFor, IsProgram, IsTelling};
+ghost use Rattle.bw_cli.specs.Programs.{Given, IsDoneFor, IsProgram, IsReporting};
 
 use crate::remote::{send_as, serve_as};
 use bw_args::{CommandLine, Task, parse};
 use bw_commands::replay::{replay, replay_fused};
 use bw_commands::{inspect_file, rehearse_run};
-use bw_console::print::{give_up, print, tell};
-use bw_console::{Exit, Fault, tell_unworded};
+use bw_console::print::{give_up, print, print_diagnostic};
+use bw_console::{Exit, Fault, report_bad_argv};
 use bw_journal::{Journal, NoJournal};
 use bw_layout::Limit;
-use bw_ports::{Gathering, Network, System, Watch};
+use bw_ports::{ListenerSetup, Network, System, Watch};
 use bw_stream::{Sink, Source};
 use clap::Error;
 use std::alloc::Global;
@@ -29,7 +29,7 @@ use std::process::ExitCode;
 /// - When the status 4 is returned.
 /// - Which command line is obeyed where the system reports no words, as `Host` doesn't.
 /// - The texts of help, version and usage errors.
-pub fn start<S: System, N: Network + Gathering, R: Source, W: Sink, E: Sink, V: Watch>(
+pub fn start<S: System, N: Network + ListenerSetup, R: Source, W: Sink, E: Sink, V: Watch>(
     alloc: Global,
     system: &mut S,
     network: &mut N,
@@ -44,8 +44,8 @@ pub fn start<S: System, N: Network + Gathering, R: Source, W: Sink, E: Sink, V: 
     } in
         (exit : Exit) × (exit_status result ≡ status_of exit)
         × IsProgram N.Store.TakeStore ⟦<NoJournal as Journal>⟧ N.Peers.Peers
-        N.Peers.Reader.Source N.Peers.Writer.Sink N.Lobby.Lobby N.Lobby.Link.Link N.Network
-        N.Gathering N.Dial.Dial N.Dial.Reader.Source N.Dial.Writer.Sink R.Source W.Sink E.Sink given
+        N.Peers.Reader.Source N.Peers.Writer.Sink N.Reactor.Reactor N.Reactor.Link.Link N.Network
+        N.ListenerSetup N.Dial.Dial N.Dial.Reader.Source N.Dial.Writer.Sink R.Source W.Sink E.Sink given
         exit (S.failures system.old) (S.failures system.new) network.old network.new input.old
         input.new out.old out.new faults.old faults.new }
 {
@@ -53,7 +53,7 @@ pub fn start<S: System, N: Network + Gathering, R: Source, W: Sink, E: Sink, V: 
 }
 
 /// Reads the command line, and does what it asks for.
-fn obey<S: System, N: Network + Gathering, R: Source, W: Sink, E: Sink, V: Watch>(
+fn obey<S: System, N: Network + ListenerSetup, R: Source, W: Sink, E: Sink, V: Watch>(
     alloc: Global,
     system: &mut S,
     network: &mut N,
@@ -67,8 +67,8 @@ fn obey<S: System, N: Network + Gathering, R: Source, W: Sink, E: Sink, V: Watch
       file_at = S.file_at system.old;
     } in
         IsProgram N.Store.TakeStore ⟦<NoJournal as Journal>⟧ N.Peers.Peers
-        N.Peers.Reader.Source N.Peers.Writer.Sink N.Lobby.Lobby N.Lobby.Link.Link N.Network
-        N.Gathering N.Dial.Dial N.Dial.Reader.Source N.Dial.Writer.Sink R.Source W.Sink E.Sink given
+        N.Peers.Reader.Source N.Peers.Writer.Sink N.Reactor.Reactor N.Reactor.Link.Link N.Network
+        N.ListenerSetup N.Dial.Dial N.Dial.Reader.Source N.Dial.Writer.Sink R.Source W.Sink E.Sink given
         result (S.failures system.old) (S.failures system.new) network.old network.new input.old
         input.new out.old out.new faults.old faults.new }
 {
@@ -83,12 +83,12 @@ fn obey<S: System, N: Network + Gathering, R: Source, W: Sink, E: Sink, V: Watch
             faults,
             watch,
         ),
-        Err(error) => tell_unworded(&error, faults),
+        Err(error) => report_bad_argv(&error, faults),
     }
 }
 
 /// Does what these words ask for.
-fn answer<S: System, N: Network + Gathering, R: Source, W: Sink, E: Sink, V: Watch>(
+fn answer<S: System, N: Network + ListenerSetup, R: Source, W: Sink, E: Sink, V: Watch>(
     alloc: Global,
     words: &[String],
     system: &mut S,
@@ -103,8 +103,8 @@ fn answer<S: System, N: Network + Gathering, R: Source, W: Sink, E: Sink, V: Wat
       file_at = S.file_at system.old;
     } in
         IsProgram N.Store.TakeStore ⟦<NoJournal as Journal>⟧ N.Peers.Peers
-        N.Peers.Reader.Source N.Peers.Writer.Sink N.Lobby.Lobby N.Lobby.Link.Link N.Network
-        N.Gathering N.Dial.Dial N.Dial.Reader.Source N.Dial.Writer.Sink R.Source W.Sink E.Sink given
+        N.Peers.Reader.Source N.Peers.Writer.Sink N.Reactor.Reactor N.Reactor.Link.Link N.Network
+        N.ListenerSetup N.Dial.Dial N.Dial.Reader.Source N.Dial.Writer.Sink R.Source W.Sink E.Sink given
         result (S.failures system.old) (S.failures system.new) network.old network.new input.old
         input.new out.old out.new faults.old faults.new }
 {
@@ -115,7 +115,7 @@ fn answer<S: System, N: Network + Gathering, R: Source, W: Sink, E: Sink, V: Wat
 }
 
 /// Does what a command line asks for.
-fn perform<S: System, N: Network + Gathering, R: Source, W: Sink, E: Sink, V: Watch>(
+fn perform<S: System, N: Network + ListenerSetup, R: Source, W: Sink, E: Sink, V: Watch>(
     alloc: Global,
     line: &CommandLine,
     system: &mut S,
@@ -127,23 +127,23 @@ fn perform<S: System, N: Network + Gathering, R: Source, W: Sink, E: Sink, V: Wa
 ) -> Exit
     requires { HasNumbersInRange line.now }
     ensures { IsDoneFor N.Store.TakeStore ⟦<NoJournal as Journal>⟧ N.Peers.Peers
-        N.Peers.Reader.Source N.Peers.Writer.Sink N.Lobby.Lobby N.Lobby.Link.Link N.Network
-        N.Gathering N.Dial.Dial N.Dial.Reader.Source N.Dial.Writer.Sink R.Source W.Sink E.Sink
+        N.Peers.Reader.Source N.Peers.Writer.Sink N.Reactor.Reactor N.Reactor.Link.Link N.Network
+        N.ListenerSetup N.Dial.Dial N.Dial.Reader.Source N.Dial.Writer.Sink R.Source W.Sink E.Sink
         (S.file_at system.old) line.now result (S.failures system.old) (S.failures system.new)
         network.old network.new input.old input.new out.old out.new faults.old faults.new }
 {
     match line {
         CommandLine::Run(task) => run(alloc, task, system, network, input, out, faults, watch),
         CommandLine::BadValue(value) => {
-            tell(faults, value.text().as_bytes());
+            print_diagnostic(faults, value.text().as_bytes());
             Exit::Usage
         }
-        CommandLine::Tell(text) => show(alloc, text, out, faults),
+        CommandLine::Report(text) => show(alloc, text, out, faults),
     }
 }
 
 /// Runs a task.
-fn run<S: System, N: Network + Gathering, R: Source, W: Sink, E: Sink, V: Watch>(
+fn run<S: System, N: Network + ListenerSetup, R: Source, W: Sink, E: Sink, V: Watch>(
     alloc: Global,
     task: &Task,
     system: &mut S,
@@ -155,8 +155,8 @@ fn run<S: System, N: Network + Gathering, R: Source, W: Sink, E: Sink, V: Watch>
 ) -> Exit
     requires { HasNumbersInRange (CommandLine.Run task.now) }
     ensures { IsDoneFor N.Store.TakeStore ⟦<NoJournal as Journal>⟧ N.Peers.Peers
-        N.Peers.Reader.Source N.Peers.Writer.Sink N.Lobby.Lobby N.Lobby.Link.Link N.Network
-        N.Gathering N.Dial.Dial N.Dial.Reader.Source N.Dial.Writer.Sink R.Source W.Sink E.Sink
+        N.Peers.Reader.Source N.Peers.Writer.Sink N.Reactor.Reactor N.Reactor.Link.Link N.Network
+        N.ListenerSetup N.Dial.Dial N.Dial.Reader.Source N.Dial.Writer.Sink R.Source W.Sink E.Sink
         (S.file_at system.old) (CommandLine.Run task.now) result (S.failures system.old)
         (S.failures system.new) network.old network.new input.old input.new out.old out.new
         faults.old faults.new }
@@ -177,9 +177,9 @@ fn run<S: System, N: Network + Gathering, R: Source, W: Sink, E: Sink, V: Watch>
     }
 }
 
-/// Prints help or the version, or tells what is wrong with the command line.
+/// Prints help or the version, or says what is wrong with the command line.
 fn show<W: Sink, E: Sink>(alloc: Global, text: &Error, out: &mut W, faults: &mut E) -> Exit
-    ensures { (did : Deed) × (did.exit ≡ result) × IsTelling (kind_of text.now) did
+    ensures { (did : Outcome) × (did.exit ≡ result) × IsReporting (kind_of text.now) did
         × (did.reads_all ≡ true)
         × HasWritten W.Sink E.Sink did out.old out.new faults.old faults.new }
 {
@@ -187,7 +187,7 @@ fn show<W: Sink, E: Sink>(alloc: Global, text: &Error, out: &mut W, faults: &mut
         return give_up(faults, &Fault::Memory);
     };
     if text.use_stderr() {
-        tell(faults, words.as_bytes());
+        print_diagnostic(faults, words.as_bytes());
         return Exit::Usage;
     }
     match print(out, words.as_bytes()) {

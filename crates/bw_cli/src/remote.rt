@@ -1,20 +1,20 @@
 //! The commands that use the network, as a command line asks for them.
 ghost use Rattle.std.specs.Prelude.{◌≡◌};
 ghost use Rattle.bw_layout.specs.Limits.{IsLimit};
-ghost use Rattle.bw_cli.specs.Remote.{IsHosting, IsServing, Sends, Serves, exchanges_of};
+ghost use Rattle.bw_cli.specs.Remote.{IsHosting, IsServingAs, Sends, Serves, exchanges_of};
 
 use bw_args::{End, Recorders, Send, Serve};
 use bw_console::Exit;
 use bw_journal::{Journal, NoJournal};
 use bw_layout::Limit;
-use bw_ports::{Gathering, Network, Watch};
+use bw_ports::{ListenerSetup, Network, Watch};
 use bw_send::send_watched;
 use bw_serve::{Bounds, Hosting, Serving, serve, serve_many};
 use bw_stream::{Sink, Source};
 use std::alloc::Global;
 
 /// Serves as it is asked for.
-pub(crate) fn serve_as<N: Network + Gathering, W: Sink, E: Sink>(
+pub(crate) fn serve_as<N: Network + ListenerSetup, W: Sink, E: Sink>(
     alloc: Global,
     server: &Serve,
     network: &mut N,
@@ -23,8 +23,8 @@ pub(crate) fn serve_as<N: Network + Gathering, W: Sink, E: Sink>(
 ) -> Exit
     requires { IsLimit server.now.limit }
     ensures { Serves N.Store.TakeStore ⟦<NoJournal as Journal>⟧ N.Peers.Peers
-        N.Peers.Reader.Source N.Peers.Writer.Sink N.Lobby.Lobby N.Lobby.Link.Link W.Sink E.Sink
-        N.Network N.Gathering server.now result network.old network.new out.old out.new faults.old
+        N.Peers.Reader.Source N.Peers.Writer.Sink N.Reactor.Reactor N.Reactor.Link.Link W.Sink E.Sink
+        N.Network N.ListenerSetup server.now result network.old network.new out.old out.new faults.old
         faults.new }
 {
     let Some(limit) = Limit::new(server.limit) else {
@@ -45,7 +45,7 @@ pub(crate) fn serve_as<N: Network + Gathering, W: Sink, E: Sink>(
 /// A server of one recorder after the other.
 fn serving_of(server: &Serve, limit: Limit, timeout: Option<u32>) -> Serving<'_>
     requires { limit ≡ server.now.limit }
-    ensures { IsServing server.now timeout result }
+    ensures { IsServingAs server.now timeout result }
 {
     Serving {
         address: server.listen,

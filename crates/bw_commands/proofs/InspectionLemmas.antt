@@ -4,48 +4,48 @@ use Rattle.std.proofs.Common.{ap, if◌then◌else◌}
 use Rattle.bw_stream.specs.Moves.{Keeps, Writes, one_more}
 use Rattle.bw_model.specs.Report.{report_text}
 use Rattle.bw_stream.specs.Readers.{Of}
-use Rattle.bw_inspect.specs.Readings.{Refuses, Tells}
-use Rattle.bw_inspect.specs.Reports.{told_by}
+use Rattle.bw_inspect.specs.Readings.{Refuses, GivesReport}
+use Rattle.bw_inspect.specs.Reports.{reported_by}
 use Rattle.bw_inspect.specs.Faults.{is_failed_read}
 use Rattle.bw_inspect.specs.declared.fault.InspectFault.{InspectFault}
 use Rattle.bw_inspect.specs.declared.report.Report.{Report}
-use Rattle.bw_console.specs.Deeds.{Deed}
-use Rattle.bw_console.specs.Faults.{IsToldBy, exit_of}
-use Rattle.bw_commands.specs.Inspections.{IsInspection, IsPrintOfText, exit_for, fault_line}
+use Rattle.bw_console.specs.Outcomes.{Outcome}
+use Rattle.bw_console.specs.Faults.{IsReportedBy, exit_of}
+use Rattle.bw_commands.specs.Inspections.{IsInspection, IsPrintOfText, exit_for_fault, fault_line}
 use Rattle.bw_console.specs.Printing.{IsOf, Nothing, Print, failures_if}
 use Rattle.bw_console.specs.declared.fault.Fault.{Fault}
 
 -- an inspection that came to a report
-pub report-told : (file : Option (List ℕ)) (r : Report) (left : Option (List ℕ)) (outcome : Result (Unit {0}) Fault)
-    (out faults : Print) → Of file (λ b. Tells b r left) → IsPrintOfText (report_text (told_by r)) outcome out
-    → IsToldBy outcome faults
+pub report-reported : (file : Option (List ℕ)) (r : Report) (left : Option (List ℕ)) (outcome : Result (Unit {0}) Fault)
+    (out faults : Print) → Of file (λ b. GivesReport b r left) → IsPrintOfText (report_text (reported_by r)) outcome out
+    → IsReportedBy outcome faults
     → IsInspection file (record { reads_all = true; out = out; faults = faults; exit = exit_of outcome })
-report-told file r left outcome out faults tells prints told = inl (record {
+report-reported file r left outcome out faults reports prints reported = inl (record {
   outcome = outcome;
   exit_is = refl;
   reads = refl;
-  text = report_text (told_by r);
-  right = λ b e. record { reading_is = (tells b e).reading_is; is = ap report_text (tells b e).tells };
+  text = report_text (reported_by r);
+  right = λ b e. record { reading_is = (reports b e).reading_is; is = ap report_text (reports b e).reports };
   prints = prints;
-  tells = told;
+  reports = reported;
 })
 
 -- an inspection that came to a fault
-pub fault-told : (file : Option (List ℕ)) (f : InspectFault) (left : Option (List ℕ)) (faults : Print)
+pub fault-reported : (file : Option (List ℕ)) (f : InspectFault) (left : Option (List ℕ)) (faults : Print)
     → Of file (λ b. Refuses b f left) → IsOf (fault_line f) faults
     → IsInspection file (record {
       reads_all = not (is_failed_read f.kind);
       out = Nothing;
       faults = faults;
-      exit = exit_for f.kind;
+      exit = exit_for_fault f.kind;
     })
-fault-told file f left faults refuses told = inr (record {
+fault-reported file f left faults refuses reported = inr (record {
   fault = f;
   exit_is = refl;
   reads = refl;
   right = λ b e met same. (refuses b e).fault met same;
   prints = refl;
-  tells = told;
+  reports = reported;
 })
 
 -- the reader failed exactly where not all reads succeeded
@@ -54,7 +54,7 @@ failures-not true n = refl
 failures-not false n = refl
 
 -- what is true of a reader's bytes is true of those of its file
-pub inspected-at : (file left : Option (List ℕ)) (did : Deed) → Keeps file left → IsInspection left did →
+pub inspected-at : (file left : Option (List ℕ)) (did : Outcome) → Keeps file left → IsInspection left did →
     IsInspection file did
 inspected-at file left did keeps (inl r) = inl (record {
   outcome = r.outcome;
@@ -63,7 +63,7 @@ inspected-at file left did keeps (inl r) = inl (record {
   text = r.text;
   right = λ b e. r.right b (keeps b e);
   prints = r.prints;
-  tells = r.tells;
+  reports = r.reports;
 })
 inspected-at file left did keeps (inr r) = inr (record {
   fault = r.fault;
@@ -71,7 +71,7 @@ inspected-at file left did keeps (inr r) = inr (record {
   reads = r.reads;
   right = λ b e. r.right b (keeps b e);
   prints = r.prints;
-  tells = r.tells;
+  reports = r.reports;
 })
 
 -- what is written into empty memory is all that is there

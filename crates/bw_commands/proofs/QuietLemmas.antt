@@ -10,13 +10,13 @@ use Rattle.bw_model.specs.Take.{Request}
 use Rattle.bw_model.specs.Wire.{Message, Frame, Says, Asks, Bye}
 use Rattle.bw_model.specs.Replies.{Reply}
 use Rattle.bw_model.specs.Book.{Log, Book, log_of, with_log}
-use Rattle.bw_model.specs.CountedTurn.{is_pending, stops_short, log_behind}
-use Rattle.bw_model.specs.Turn.{Luck, turn, with_change}
+use Rattle.bw_model.specs.CountedTurn.{is_pending, stops_short, log_after_frame}
+use Rattle.bw_model.specs.Turn.{Faults, turn, with_change}
 use Rattle.bw_model.specs.Exchange.{nothing_stands}
 use Rattle.bw_model.specs.World.{World, Event, Offer, Send, Deliver, Bring, Ask, Foreign, send, deliver}
 use Rattle.bw_model.specs.World.{bring, pending, happens, world_after}
 use Rattle.bw_model.proofs.BookLemmas.{same_name, log-with_log_same, log-with_log_other}
-use Rattle.bw_rehearsal.specs.Lucks.{IsLuckOf, IsLuckOfDelivery, AreLucksOf}
+use Rattle.bw_rehearsal.specs.FaultRuns.{AreFaultsOf, AreFaultsOfDelivery, AreFaultsOfRuns}
 use Rattle.bw_exchange.specs.Answering.{Answered}
 use Rattle.bw_exchange.specs.TurnRuns.{IsRun}
 
@@ -39,32 +39,32 @@ not_counted a b true h zero_a zero_b =
     let more = h.rises refl below in
     absurd (omega (arith, more, zero_b))
 
-pub run_rises : (stood : List ℕ → Bool) (before after : ℕ) (book : Book) (answered : List Answered) (later : Book) →
-    IsRun stood before after book answered later → before ≤ after
-run_rises stood before after book [] later h = let same = h.0 in omega (arith, same)
-run_rises stood before after book (a ∷ rest) later h =
+pub run_rises : (existed : List ℕ → Bool) (before after : ℕ) (book : Book) (answered : List Answered) (later : Book) →
+    IsRun existed before after book answered later → before ≤ after
+run_rises existed before after book [] later h = let same = h.0 in omega (arith, same)
+run_rises existed before after book (a ∷ rest) later h =
     let one = never_falls before h.0 _ h.2.count in
-    let more = run_rises stood h.0 after h.1 rest later h.3 in
+    let more = run_rises existed h.0 after h.1 rest later h.3 in
     omega (arith, one, more)
 
-delivered_rises : (before after : ℕ) (w : World) (o : Option Message) (luck : Luck) →
-    IsLuckOfDelivery before after w.book o luck → before ≤ after
-delivered_rises before after w None luck h = let e = h.count in omega (arith, e)
-delivered_rises before after w (Some m) luck h = never_falls before after _ h.count
+delivered_rises : (before after : ℕ) (w : World) (o : Option Message) (faults : Faults) →
+    AreFaultsOfDelivery before after w.book o faults → before ≤ after
+delivered_rises before after w None faults h = let e = h.count in omega (arith, e)
+delivered_rises before after w (Some m) faults h = never_falls before after _ h.count
 
-event_rises : (before after : ℕ) (w : World) (e : Event) (luck : Luck) → IsLuckOf before after w e luck → before ≤ after
-event_rises before after w (Offer r) luck h = let e = h.count in omega (arith, e)
-event_rises before after w (Send i) luck h = let e = h.count in omega (arith, e)
-event_rises before after w (Deliver k) luck h = delivered_rises before after w (slice_get w.sent k) luck h
-event_rises before after w (Bring k) luck h = let e = h.count in omega (arith, e)
-event_rises before after w Ask luck h = let e = h.count in omega (arith, e)
-event_rises before after w (Foreign f) luck h = absurd h
+event_rises : (before after : ℕ) (w : World) (e : Event) (faults : Faults) → AreFaultsOf before after w e faults → before ≤ after
+event_rises before after w (Offer r) faults h = let e = h.count in omega (arith, e)
+event_rises before after w (Send i) faults h = let e = h.count in omega (arith, e)
+event_rises before after w (Deliver k) faults h = delivered_rises before after w (slice_get w.sent k) faults h
+event_rises before after w (Bring k) faults h = let e = h.count in omega (arith, e)
+event_rises before after w Ask faults h = let e = h.count in omega (arith, e)
+event_rises before after w (Foreign f) faults h = absurd h
 
-lucks_rise : (before after : ℕ) (w : World) (es : List (Event × Luck)) → AreLucksOf before after w es → before ≤ after
-lucks_rise before after w [] h = omega (arith, h)
-lucks_rise before after w (e ∷ es) h =
+faults_rise : (before after : ℕ) (w : World) (es : List (Event × Faults)) → AreFaultsOfRuns before after w es → before ≤ after
+faults_rise before after w [] h = omega (arith, h)
+faults_rise before after w (e ∷ es) h =
     let one = event_rises before h.0 w e.0 e.1 h.1 in
-    let more = lucks_rise h.0 after (happens nothing_stands w e.0 e.1) es h.2 in
+    let more = faults_rise h.0 after (happens nothing_stands w e.0 e.1) es h.2 in
     omega (arith, one, more)
 
 -- Books.
@@ -74,10 +74,10 @@ abbrev pub NonePends : Book → Type 0
 NonePends book = (name : List ℕ) → is_pending (log_of book name) ≡ false
 
 -- a turn that doesn't stop short leaves none
-quiet_turn : (stood : List ℕ → Bool) (book : Book) (f : Frame) (luck : Luck) → NonePends book →
-    stops_short stood book f luck ≡ false → NonePends (turn stood book f luck).1
+quiet_turn : (existed : List ℕ → Bool) (book : Book) (f : Frame) (faults : Faults) → NonePends book →
+    stops_short existed book f faults ≡ false → NonePends (turn existed book f faults).1
 unfolding turn
-quiet_turn stood book (Says m) luck none quiet name = go (log_behind stood book (Says m) luck) quiet
+quiet_turn existed book (Says m) faults none quiet name = go (log_after_frame existed book (Says m) faults) quiet
   where
     go : (o : Option Log) → option_map_or is_pending o false ≡ false →
         is_pending (log_of (with_change book m.name o) name) ≡ false
@@ -90,19 +90,19 @@ quiet_turn stood book (Says m) luck none quiet name = go (log_behind stood book 
             ap (λ (x : List ℕ). is_pending (log_of (with_log book m.name log) x)) (sym (same_name m.name name e))
             ∙ (ap is_pending (log-with_log_same book m.name log) ∙ q)
         at_name false e = ap is_pending (log-with_log_other book m.name name log e) ∙ none name
-quiet_turn stood book (Asks x n) luck none quiet name = none name
-quiet_turn stood book Bye luck none quiet name = none name
+quiet_turn existed book (Asks x n) faults none quiet name = none name
+quiet_turn existed book Bye faults none quiet name = none name
 
-pub quiet_run : (stood : List ℕ → Bool) (before after : ℕ) (book : Book) (answered : List Answered) (later : Book) →
-    IsRun stood before after book answered later → after ≤ 0 → NonePends book → NonePends later
-quiet_run stood before after book [] later h zero none = subst NonePends (sym h.1) none
-quiet_run stood before after book (a ∷ rest) later h zero none =
+pub quiet_run : (existed : List ℕ → Bool) (before after : ℕ) (book : Book) (answered : List Answered) (later : Book) →
+    IsRun existed before after book answered later → after ≤ 0 → NonePends book → NonePends later
+quiet_run existed before after book [] later h zero none = subst NonePends (sym h.1) none
+quiet_run existed before after book (a ∷ rest) later h zero none =
     let one = never_falls before h.0 _ h.2.count in
-    let more = run_rises stood h.0 after h.1 rest later h.3 in
+    let more = run_rises existed h.0 after h.1 rest later h.3 in
     let mid : h.0 ≤ 0 = omega (arith, more, zero) in
     let first : before ≤ 0 = omega (arith, one, mid) in
-    quiet_run stood h.0 after h.1 rest later h.3 zero
-    (subst NonePends h.2.left (quiet_turn stood book a.frame h.2.luck none
+    quiet_run existed h.0 after h.1 rest later h.3 zero
+    (subst NonePends h.2.left (quiet_turn existed book a.frame h.2.faults none
     (not_counted before h.0 _ h.2.count first mid)))
 
 sent_book : (w : World) (p : Option (ℕ × Request)) → (send w p).book ≡ w.book
@@ -113,33 +113,33 @@ brought_book : (w : World) (r : Option Reply) → (bring w r).book ≡ w.book
 brought_book w None = refl
 brought_book w (Some r) = refl
 
-quiet_delivery : (before after : ℕ) (w : World) (o : Option Message) (luck : Luck) →
-    IsLuckOfDelivery before after w.book o luck → before ≤ 0 → after ≤ 0 → NonePends w.book →
-    NonePends (deliver nothing_stands w o luck).book
-quiet_delivery before after w None luck h first last none = none
-quiet_delivery before after w (Some m) luck h first last none =
-    quiet_turn nothing_stands w.book (Says m) luck none (not_counted before after _ h.count first last)
+quiet_delivery : (before after : ℕ) (w : World) (o : Option Message) (faults : Faults) →
+    AreFaultsOfDelivery before after w.book o faults → before ≤ 0 → after ≤ 0 → NonePends w.book →
+    NonePends (deliver nothing_stands w o faults).book
+quiet_delivery before after w None faults h first last none = none
+quiet_delivery before after w (Some m) faults h first last none =
+    quiet_turn nothing_stands w.book (Says m) faults none (not_counted before after _ h.count first last)
 
-quiet_event : (before after : ℕ) (w : World) (e : Event) (luck : Luck) → IsLuckOf before after w e luck →
-    before ≤ 0 → after ≤ 0 → NonePends w.book → NonePends (happens nothing_stands w e luck).book
+quiet_event : (before after : ℕ) (w : World) (e : Event) (faults : Faults) → AreFaultsOf before after w e faults →
+    before ≤ 0 → after ≤ 0 → NonePends w.book → NonePends (happens nothing_stands w e faults).book
 unfolding happens
-quiet_event before after w (Offer r) luck h first last none = none
-quiet_event before after w (Send i) luck h first last none =
+quiet_event before after w (Offer r) faults h first last none = none
+quiet_event before after w (Send i) faults h first last none =
     subst NonePends (sym (sent_book w (pending w.sender i))) none
-quiet_event before after w (Deliver k) luck h first last none =
-    quiet_delivery before after w (slice_get w.sent k) luck h first last none
-quiet_event before after w (Bring k) luck h first last none =
+quiet_event before after w (Deliver k) faults h first last none =
+    quiet_delivery before after w (slice_get w.sent k) faults h first last none
+quiet_event before after w (Bring k) faults h first last none =
     subst NonePends (sym (brought_book w (slice_get w.replies k))) none
-quiet_event before after w Ask luck h first last none =
-    quiet_turn nothing_stands w.book (Asks w.sender.name 0) luck none refl
-quiet_event before after w (Foreign f) luck h first last none = absurd h
+quiet_event before after w Ask faults h first last none =
+    quiet_turn nothing_stands w.book (Asks w.sender.name 0) faults none refl
+quiet_event before after w (Foreign f) faults h first last none = absurd h
 
-pub quiet_world : (before after : ℕ) (w : World) (es : List (Event × Luck)) → AreLucksOf before after w es →
+pub quiet_world : (before after : ℕ) (w : World) (es : List (Event × Faults)) → AreFaultsOfRuns before after w es →
     after ≤ 0 → NonePends w.book → NonePends (world_after nothing_stands w es).book
 quiet_world before after w [] h zero none = none
 quiet_world before after w (e ∷ es) h zero none =
     let one = event_rises before h.0 w e.0 e.1 h.1 in
-    let more = lucks_rise h.0 after (happens nothing_stands w e.0 e.1) es h.2 in
+    let more = faults_rise h.0 after (happens nothing_stands w e.0 e.1) es h.2 in
     let mid : h.0 ≤ 0 = omega (arith, more, zero) in
     let first : before ≤ 0 = omega (arith, one, mid) in
     quiet_world h.0 after (happens nothing_stands w e.0 e.1) es h.2 zero

@@ -6,7 +6,7 @@ use Rattle.std.specs.declared.alloc.Global.{Global}
 use Rattle.std.proofs.Common.{◌⊎◌, inl, inr}
 use Rattle.bw_model.proofs.Elements.{some_inj}
 use Rattle.bw_model.specs.Stream.{End}
-use Rattle.bw_engine.specs.Ingesting.{end_in}
+use Rattle.bw_engine.specs.Ingesting.{ingested_end}
 use Rattle.std.specs.List.{list_all}
 use Rattle.std.proofs.lemmas.Bool.{leb-true}
 use Rattle.hex.specs.Hex.{encode_lower}
@@ -14,7 +14,7 @@ use Rattle.bw_model.specs.Bytes.{is_within}
 use Rattle.bw_model.specs.Wire.{framed, is_name, is_name_byte}
 use Rattle.bw_model.specs.Replies.{Reply, Judged, Noticed, Refused, is_reply, reply_body}
 use Rattle.bw_model.specs.Exchange.{replies_bytes}
-use Rattle.bw_commands.specs.Runs.{ToldExchange, AllTell}
+use Rattle.bw_commands.specs.Runs.{ReportedExchange, AllReport}
 use Rattle.bw_exchange.specs.EndNames.{end_name, name_of_end}
 use Rattle.bw_commands.specs.Text.{reply_line, exchange_line, exchanges_text}
 use Rattle.bw_console.specs.Text.{as_line}
@@ -74,13 +74,13 @@ pub no_reply_left : (left : List Reply) → length (replies_bytes left) ≡ 0 �
 no_reply_left [] h = refl
 no_reply_left (r ∷ rs) h = absurd (omega arith)
 
-one_more : (i : ℕ) (t : ToldExchange) (ts : List ToldExchange) →
+one_more : (i : ℕ) (t : ReportedExchange) (ts : List ReportedExchange) →
     exchanges_text i (t ∷ ts) ≡ exchange_line i t.end ++ (flat_map reply_line t.replies ++ exchanges_text (i + 1) ts)
 unfolding exchanges_text
 one_more i t ts = append_assoc (exchange_line i t.end) (flat_map reply_line t.replies) (exchanges_text (i + 1) ts)
 
 -- an end that an exchange's bytes tell is named so
-named : (e : ExchangeEnd) (end : End) → end_in e ≡ Some end → name_of_end e ≡ end_name end
+named : (e : ExchangeEnd) (end : End) → ingested_end e ≡ Some end → name_of_end e ≡ end_name end
 named ends.Bye end is = ap end_name (some_inj is)
 named ends.EndOfInput end is = ap end_name (some_inj is)
 named (ends.BadFrame fault) end is = ap end_name (some_inj is)
@@ -90,13 +90,13 @@ named ends.TurnLimit end is = absurd (cc)
 named ends.Memory end is = absurd (cc)
 
 -- the first of the exchanges that are left is put
-pub exchange_step : (left : List ToldExchange) (r : Vec ℕ Global) (more : List (Vec ℕ Global)) (e : ExchangeEnd)
+pub exchange_step : (left : List ReportedExchange) (r : Vec ℕ Global) (more : List (Vec ℕ Global)) (e : ExchangeEnd)
     (others : List ExchangeEnd) (i : ℕ) (out mid out' whole : List ℕ) →
-    AllTell (r ∷ more) (e ∷ others) left → out ++ exchanges_text i left ≡ whole →
+    AllReport (r ∷ more) (e ∷ others) left → out ++ exchanges_text i left ≡ whole →
     mid ≡ out ++ as_line (codes "exchange " ++ decimal i ++ codes " " ++ name_of_end e) →
     ((rs : List Reply) → list_all is_reply rs ≡ true → r.items ≡ replies_bytes rs →
     out' ≡ mid ++ flat_map reply_line rs) →
-    (left' : List ToldExchange) × AllTell more others left' × (out' ++ exchanges_text (i + 1) left' ≡ whole)
+    (left' : List ReportedExchange) × AllReport more others left' × (out' ++ exchanges_text (i + 1) left' ≡ whole)
 exchange_step [] r more e others i out mid out' whole t w m put = absurd t
 exchange_step (one ∷ rest) r more e others i out mid out' whole t w m put =
     let l : List ℕ = exchange_line i one.end in
@@ -114,8 +114,8 @@ exchange_step (one ∷ rest) r more e others i out mid out' whole t w m put =
     )
 
 -- none is left where no replies or no ends are left
-pub no_exchange_left : (left : List ToldExchange) (rs : List (Vec ℕ Global)) (es : List ExchangeEnd) (i : ℕ)
-    (out whole : List ℕ) → AllTell rs es left → (rs ≡ []) ⊎ (es ≡ []) → out ++ exchanges_text i left ≡ whole →
+pub no_exchange_left : (left : List ReportedExchange) (rs : List (Vec ℕ Global)) (es : List ExchangeEnd) (i : ℕ)
+    (out whole : List ℕ) → AllReport rs es left → (rs ≡ []) ⊎ (es ≡ []) → out ++ exchanges_text i left ≡ whole →
     out ≡ whole
 unfolding exchanges_text
 no_exchange_left [] rs es i out whole t none w = sym (append-nil out) ∙ w
@@ -143,7 +143,7 @@ file_step contents names place out out' whole within w put =
     ∙ (ap (λ (z : List ℕ). out ++ z) (sym (ap (files_text contents) (drop_more names place [] within)
     ∙ one_file contents name (drop (place + 1) names))) ∙ w))
 
--- behind the last name there is no file
+-- after the last name there is no file
 pub no_file_left : (contents : List ℕ → Option (List ℕ)) (names : List (List ℕ)) (place : ℕ) (out whole : List ℕ) →
     length names ≤ place → out ++ files_text contents (drop place names) ≡ whole → out ≡ whole
 unfolding files_text

@@ -21,7 +21,7 @@ FirstOther n (line ∷ lines) number =
     ((number ≡ n) × ((e : Event) → ¬ SaysEvent line e))
     ⊎ (((e : Event) × SaysEvent line e) × FirstOther (n + 1) lines number)
 
--- want of memory, or the first line that says no event
+-- lack of memory, or the first line that says no event
 abbrev pub IsEventFault : Fault → List (List ℕ) → Type 0
 IsEventFault (NotEvent number) lines = FirstOther 1 lines number
 IsEventFault Memory lines = Unit {0}

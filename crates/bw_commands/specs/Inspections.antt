@@ -12,8 +12,8 @@ use Rattle.bw_inspect.specs.declared.fault.InspectKind.TheVariants.{NotWave, Tru
 use Rattle.bw_inspect.specs.declared.fault.InspectKind.TheVariants.{BadDs64, NoSize, Twice, NoFmt}
 use Rattle.bw_inspect.specs.declared.fault.InspectKind.TheVariants.{NoData, BadFmt, BadBext, BadCue}
 use Rattle.bw_inspect.specs.declared.fault.InspectKind.TheVariants.{TooMany, TooLarge, Read, Memory}
-use Rattle.bw_console.specs.Deeds.{Deed}
-use Rattle.bw_console.specs.Faults.{IsToldBy, exit_of}
+use Rattle.bw_console.specs.Outcomes.{Outcome}
+use Rattle.bw_console.specs.Faults.{IsReportedBy, exit_of}
 use Rattle.bw_console.specs.Printing.{Print, Nothing, Whole, Part, IsOf}
 use Rattle.bw_console.specs.declared.exit.Exit.{Exit}
 use Rattle.bw_console.specs.declared.exit.Exit.TheVariants.{Refused, Device, Memory as OutOfMemory}
@@ -25,22 +25,22 @@ abbrev pub fault_line : InspectFault → List ℕ
 fault_line f = codes "inspect: " ++ inspect_fault_text f ++ 10 ∷ []
 
 -- how an inspection ends on a fault of this kind
-abbrev pub exit_for : InspectKind → Exit
-exit_for NotWave = Refused
-exit_for Truncated = Refused
-exit_for NoDs64 = Refused
-exit_for BadDs64 = Refused
-exit_for NoSize = Refused
-exit_for Twice = Refused
-exit_for NoFmt = Refused
-exit_for NoData = Refused
-exit_for BadFmt = Refused
-exit_for BadBext = Refused
-exit_for BadCue = Refused
-exit_for TooMany = Refused
-exit_for TooLarge = Refused
-exit_for Read = Device
-exit_for Memory = OutOfMemory
+abbrev pub exit_for_fault : InspectKind → Exit
+exit_for_fault NotWave = Refused
+exit_for_fault Truncated = Refused
+exit_for_fault NoDs64 = Refused
+exit_for_fault BadDs64 = Refused
+exit_for_fault NoSize = Refused
+exit_for_fault Twice = Refused
+exit_for_fault NoFmt = Refused
+exit_for_fault NoData = Refused
+exit_for_fault BadFmt = Refused
+exit_for_fault BadBext = Refused
+exit_for_fault BadCue = Refused
+exit_for_fault TooMany = Refused
+exit_for_fault TooLarge = Refused
+exit_for_fault Read = Device
+exit_for_fault Memory = OutOfMemory
 
 -- what is printed of a text: all, a beginning where the writer fails, or nothing where memory was
 -- refused before
@@ -60,24 +60,24 @@ pub record IsReportOf (b text : List ℕ) : Type 0 where
   pub is : text ≡ report_text (report_of b reading_is.form reading_is.entries)
 
 -- an inspection came to the report of the file's reading
-pub record IsReport (file : Option (List ℕ)) (did : Deed) : Type 0 where
+pub record IsReport (file : Option (List ℕ)) (did : Outcome) : Type 0 where
   pub outcome : Result (Unit {0}) Failure
   pub exit_is : did.exit ≡ exit_of outcome
   pub reads : did.reads_all ≡ true
   pub text : List ℕ
   pub right : Of file (λ b. IsReportOf b text)
   pub prints : IsPrintOfText text outcome did.out
-  pub tells : IsToldBy outcome did.faults
+  pub reports : IsReportedBy outcome did.faults
 
 -- an inspection came to a fault, and a fault of the bytes is the file's first
-pub record IsFinding (file : Option (List ℕ)) (did : Deed) : Type 0 where
+pub record IsFinding (file : Option (List ℕ)) (did : Outcome) : Type 0 where
   pub fault : InspectFault
-  pub exit_is : did.exit ≡ exit_for fault.kind
+  pub exit_is : did.exit ≡ exit_for_fault fault.kind
   pub reads : did.reads_all ≡ not (is_failed_read fault.kind)
   pub right : Of file (λ b. (met : Fault) → bytes_fault fault ≡ Some met → IsFault b met)
   pub prints : did.out ≡ Nothing
-  pub tells : IsOf (fault_line fault) did.faults
+  pub reports : IsOf (fault_line fault) did.faults
 
 -- an inspection of this file did this
-abbrev pub IsInspection : Option (List ℕ) → Deed → Type 0
+abbrev pub IsInspection : Option (List ℕ) → Outcome → Type 0
 IsInspection file did = IsReport file did ⊎ IsFinding file did

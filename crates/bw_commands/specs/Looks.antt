@@ -1,17 +1,17 @@
 -- What comes of a file that is to be opened and inspected.
 use Rattle.std.specs.Prelude.{◌≡◌, ◌⊎◌, ℕ, Bool, true, false, Option, List}
 use Rattle.std.specs.declared.io.ErrorKind.{ErrorKind}
-use Rattle.bw_console.specs.Deeds.{Deed, IsWant}
+use Rattle.bw_console.specs.Outcomes.{Outcome, IsOutOfMemory}
 use Rattle.bw_console.specs.Openings.{IsUnopened}
 use Rattle.bw_commands.specs.Inspections.{IsInspection}
 
 -- the file of a path was inspected, which the input has no part in
-pub record IsInspected (file : Option (List ℕ)) (did : Deed) : Type 0 where
+pub record IsInspected (file : Option (List ℕ)) (did : Outcome) : Type 0 where
   pub reads : did.reads_all ≡ true
   pub reads_file : Bool
   pub is : IsInspection file (record did { reads_all = reads_file })
 
 -- what comes of a file that is to be inspected, where the system opens it, or not
-abbrev pub IsLook : Option (List ℕ) → List ℕ → Bool → Deed → Type 0
+abbrev pub IsLook : Option (List ℕ) → List ℕ → Bool → Outcome → Type 0
 IsLook file path true did = IsInspected file did
-IsLook file path false did = ((kind : ErrorKind) × IsUnopened path kind did) ⊎ IsWant did
+IsLook file path false did = ((kind : ErrorKind) × IsUnopened path kind did) ⊎ IsOutOfMemory did

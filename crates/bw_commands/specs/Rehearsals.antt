@@ -3,7 +3,7 @@ use Rattle.std.specs.Prelude.{◌≡◌, ◌⊎◌, ◌<◌, ◌≤◌, ℕ, Opt
 use Rattle.std.specs.Prelude.{Result, Ok, Err, codes, decimal}
 use Rattle.bw_model.specs.Book.{log_of}
 use Rattle.bw_model.specs.CountedTurn.{is_pending}
-use Rattle.bw_model.specs.Turn.{Luck}
+use Rattle.bw_model.specs.Turn.{Faults}
 use Rattle.bw_model.specs.Exchange.{nothing_stands, take_in, content_in}
 use Rattle.bw_model.specs.Holds.{Kept, Holds}
 use Rattle.bw_model.specs.World as model
@@ -11,37 +11,37 @@ use Rattle.bw_store.specs.MemoryNames.{AreNames}
 use Rattle.bw_stream.specs.Readers.{Of}
 use Rattle.bw_session.specs.Books.{HoldsBook}
 use Rattle.bw_sender.specs.Senders.{IsSender}
-use Rattle.bw_rehearsal.specs.Lucks.{AreLucksOf}
+use Rattle.bw_rehearsal.specs.FaultRuns.{AreFaultsOfRuns}
 use Rattle.bw_rehearsal.specs.Rehearsing.{no_contents}
 use Rattle.bw_rehearsal.specs.declared.rehearsal.World.{World}
 use Rattle.bw_commands.specs.EventLines.{SayEvents, FirstOther}
 use Rattle.bw_console.specs.Input.{longest_input}
 use Rattle.bw_console.specs.Lines.{lines_of}
 use Rattle.bw_console.specs.Printing.{Print, Nothing, Whole, Part}
-use Rattle.bw_console.specs.Faults.{IsToldBy, exit_of, is_read}
-use Rattle.bw_console.specs.Deeds.{Deed}
+use Rattle.bw_console.specs.Faults.{IsReportedBy, exit_of, is_read}
+use Rattle.bw_console.specs.Outcomes.{Outcome}
 use Rattle.bw_console.specs.Text.{as_line}
 use Rattle.bw_commands.specs.Text.{files_text}
 use Rattle.bw_console.specs.declared.fault.Fault.{Fault}
 use Rattle.bw_console.specs.declared.fault.Fault.TheVariants as faults
 
 -- how many requests were offered, messages sent and replies written
-abbrev pub counts_line : ℕ → ℕ → ℕ → List ℕ
-counts_line offered sent replies =
+abbrev pub world_counts_line : ℕ → ℕ → ℕ → List ℕ
+world_counts_line offered sent replies =
     as_line (codes "offered " ++ decimal offered ++ codes " sent " ++ decimal sent
     ++ codes " replies " ++ decimal replies)
 
 -- how far the server and the sender came
-abbrev pub progress_line : ℕ → ℕ → ℕ → List ℕ
-progress_line done settled stored =
+abbrev pub world_progress_line : ℕ → ℕ → ℕ → List ℕ
+world_progress_line done settled stored =
     as_line (codes "done " ++ decimal done ++ codes " settled " ++ decimal settled
     ++ codes " stored " ++ decimal stored)
 
 -- the two lines that tell of a world
 abbrev pub world_lines : model.World → List ℕ
 world_lines w =
-    counts_line (length w.sender.offered) (length w.sent) (length w.replies)
-    ++ progress_line (log_of w.book w.sender.name).done (model.settled w.sender)
+    world_counts_line (length w.sender.offered) (length w.sent) (length w.replies)
+    ++ world_progress_line (log_of w.book w.sender.name).done (model.settled w.sender)
     (model.stored w.sender)
 
 -- a rehearsal came to this world
@@ -52,16 +52,16 @@ pub record HasWorld (world : model.World) (w : World) : Type 0 where
   pub sender : IsSender world.sender w.sender
   pub held : HoldsBook _ _ no_contents w.server world.book
 
--- The text of a world that just these events lead to, under some luck at each, which is told where
+-- The text of a world that just these events lead to, with some faults at each, which is reported where
 -- so many calls of the store failed: its two lines, and the files in the order of their names.
 pub record IsWorldText (name : List ℕ) (limit : ℕ) (events : List model.Event) (text : List ℕ)
     : Type 0 where
-  pub schedule : List (model.Event × Luck)
+  pub schedule : List (model.Event × Faults)
   pub events_are : map (λ x. x.0) schedule ≡ events
   pub world : model.World
   pub reached : model.world_after nothing_stands (model.new_world name) schedule ≡ world
   pub failures : ℕ
-  pub lucks : AreLucksOf 0 failures (model.new_world name) schedule
+  pub fault_runs : AreFaultsOfRuns 0 failures (model.new_world name) schedule
   -- the files are those of a server that holds the world's book
   pub contents : List ℕ → Option (List ℕ)
   pub kept_of : List ℕ → Option Kept
@@ -128,10 +128,10 @@ IsPrintOfWorld name limit input (Err faults.Memory) print =
     RefusesWorld input faults.Memory print
 
 -- a rehearsal of this input did this
-pub record IsRehearsal (name : List ℕ) (limit : ℕ) (input : Option (List ℕ)) (did : Deed)
+pub record IsRehearsal (name : List ℕ) (limit : ℕ) (input : Option (List ℕ)) (did : Outcome)
     : Type 0 where
   pub outcome : Result (Unit {0}) Fault
   pub exit_is : did.exit ≡ exit_of outcome
   pub reads : did.reads_all ≡ is_read outcome
   pub prints : IsPrintOfWorld name limit input outcome did.out
-  pub tells : IsToldBy outcome did.faults
+  pub reports : IsReportedBy outcome did.faults

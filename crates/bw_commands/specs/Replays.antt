@@ -2,13 +2,13 @@
 use Rattle.std.specs.Prelude.{◌≡◌, ℕ, Option, List, ◌++◌, Result, Ok, Err, ◌*◌}
 use Rattle.bw_store.specs.MemoryNames.{AreNames}
 use Rattle.bw_stream.specs.Readers.{Of}
-use Rattle.bw_console.specs.Deeds.{Deed}
-use Rattle.bw_console.specs.Faults.{IsToldBy, RefusesInput, exit_of, is_read}
+use Rattle.bw_console.specs.Outcomes.{Outcome}
+use Rattle.bw_console.specs.Faults.{IsReportedBy, RefusesInput, exit_of, is_read}
 use Rattle.bw_console.specs.Input.{Asked, asked_by, TooLong, NotHex, Exchanges}
 use Rattle.bw_engine.specs.ServerRuns.{all_done}
 use Rattle.bw_commands.specs.OneFuse.{failures_under, SufficeFor}
 use Rattle.bw_console.specs.Printing.{Print, Nothing, Whole, Part}
-use Rattle.bw_commands.specs.Runs.{ToldExchange, IsRun}
+use Rattle.bw_commands.specs.Runs.{ReportedExchange, IsReplayRun}
 use Rattle.bw_commands.specs.Text.{exchanges_text, files_text}
 use Rattle.bw_console.specs.declared.fault.Fault.{Fault}
 use Rattle.bw_console.specs.declared.fault.Fault.TheVariants as faults
@@ -17,20 +17,20 @@ use Rattle.bw_console.specs.declared.fault.Fault.TheVariants as faults
 -- there is a fuse: its exchanges, and then the files in the order of their names.
 pub record IsRunText (limit : ℕ) (fuse : Option ℕ) (inputs : List (List ℕ)) (text : List ℕ) :
     Type 0 where
-  pub told : List ToldExchange
+  pub reported : List ReportedExchange
   pub contents : List ℕ → Option (List ℕ)
   -- one store call failed if the run made more than `fuse`, else none; none without a fuse
   pub calls : ℕ
   pub failures : ℕ
   pub failed : failures ≡ failures_under fuse calls
-  pub run : IsRun limit inputs failures told contents
+  pub run : IsReplayRun limit inputs failures reported contents
   pub names : List (List ℕ)
   pub ordered : AreNames names contents
   -- .. each file took the calls that made it and wrote it
   pub took : SufficeFor contents names calls
   -- .. and at most four came for each number that was done, and for the one whose call failed
   pub most : calls ≤ 4 * (all_done run.book + failures)
-  pub is : text ≡ exchanges_text 0 told ++ files_text contents names
+  pub is : text ≡ exchanges_text 0 reported ++ files_text contents names
 
 -- the input asks for exchanges, and this is the text of a run of them
 abbrev pub IsTextFor : ℕ → Option ℕ → Asked → List ℕ → Type 0
@@ -68,10 +68,10 @@ IsPrintOf limit fuse input (Err faults.Memory) print = PrintsNothing input fault
 
 -- a replay of this input did this, over a store of which the call of the fuse's number fails, if
 -- there is a fuse
-pub record IsReplay (limit : ℕ) (fuse : Option ℕ) (input : Option (List ℕ)) (did : Deed) :
+pub record IsReplay (limit : ℕ) (fuse : Option ℕ) (input : Option (List ℕ)) (did : Outcome) :
     Type 0 where
   pub outcome : Result (Unit {0}) Fault
   pub exit_is : did.exit ≡ exit_of outcome
   pub reads : did.reads_all ≡ is_read outcome
   pub prints : IsPrintOf limit fuse input outcome did.out
-  pub tells : IsToldBy outcome did.faults
+  pub reports : IsReportedBy outcome did.faults

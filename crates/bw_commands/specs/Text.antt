@@ -6,7 +6,7 @@ use Rattle.bw_model.specs.Wire.{framed}
 use Rattle.bw_model.specs.Replies.{Reply, reply_body}
 use Rattle.bw_model.specs.Stream.{End}
 use Rattle.bw_exchange.specs.EndNames.{end_name}
-use Rattle.bw_commands.specs.Runs.{ToldExchange}
+use Rattle.bw_commands.specs.Runs.{ReportedExchange}
 use Rattle.bw_console.specs.Text.{as_line}
 
 -- the line of a reply: its frame in hex
@@ -18,11 +18,11 @@ abbrev pub exchange_line : ℕ → End → List ℕ
 exchange_line i end = as_line (codes "exchange " ++ decimal i ++ codes " " ++ end_name end)
 
 -- that line, and those of its replies
-abbrev pub exchange_text : ℕ → ToldExchange → List ℕ
-exchange_text i told = exchange_line i told.end ++ flat_map reply_line told.replies
+abbrev pub exchange_text : ℕ → ReportedExchange → List ℕ
+exchange_text i reported = exchange_line i reported.end ++ flat_map reply_line reported.replies
 
 -- the exchanges from number i on
-unfoldable pub exchanges_text : ℕ → List ToldExchange → List ℕ
+unfoldable pub exchanges_text : ℕ → List ReportedExchange → List ℕ
 exchanges_text i [] = []
 exchanges_text i (one ∷ more) = exchange_text i one ++ exchanges_text (i + 1) more
 

@@ -1,15 +1,15 @@
 //! The command `inspect`: what is in a file, also in that of a path.
 ghost use Rattle.std.specs.Prelude.{◌≡◌, true};
 ghost use Rattle.bw_model.specs.Report.{report_text};
-ghost use Rattle.bw_inspect.specs.Reports.{told_by};
-ghost use Rattle.bw_console.specs.Deeds.{Deed, HasWritten};
+ghost use Rattle.bw_inspect.specs.Reports.{reported_by};
+ghost use Rattle.bw_console.specs.Outcomes.{Outcome, HasWritten};
 ghost use Rattle.bw_commands.specs.Looks.{IsLook};
-ghost use Rattle.bw_commands.specs.Inspections.{IsInspection, IsPrintOfText, exit_for, fault_line};
+ghost use Rattle.bw_commands.specs.Inspections.{IsInspection, IsPrintOfText, exit_for_fault, fault_line};
 ghost use Rattle.bw_console.specs.Printing.{IsPrint, Print, failures_if};
 
 use arrayvec::ArrayString;
-use bw_console::print::{give_up, print, tell};
-use bw_console::{Exit, Fault, tell_unopened};
+use bw_console::print::{give_up, print, print_diagnostic};
+use bw_console::{Exit, Fault, report_unopened};
 use bw_inspect::{InspectFault, InspectKind, Report, inspect, write_report};
 use bw_ports::System;
 use bw_stream::{MemorySink, Sink, Source};
@@ -33,7 +33,7 @@ pub fn inspect_run<R: Source, W: Sink, E: Sink>(
     out: &mut W,
     faults: &mut E,
 ) -> Exit
-    ensures { (did : Deed) × (did.exit ≡ result) × IsInspection (R.left file.old) did
+    ensures { (did : Outcome) × (did.exit ≡ result) × IsInspection (R.left file.old) did
         × (R.failures file.new ≡ failures_if did.reads_all (R.failures file.old))
         × HasWritten W.Sink E.Sink did out.old out.new faults.old faults.new }
 {
@@ -43,7 +43,7 @@ pub fn inspect_run<R: Source, W: Sink, E: Sink>(
             Err(fault) => give_up(faults, &fault),
         },
         Err(fault) => {
-            tell(faults, line_of(&fault).as_str().as_bytes());
+            print_diagnostic(faults, line_of(&fault).as_str().as_bytes());
             exit_on(fault.kind)
         }
     }
@@ -69,7 +69,7 @@ pub fn inspect_file<S: System, W: Sink, E: Sink>(
     out: &mut W,
     faults: &mut E,
 ) -> Exit
-    ensures { (did : Deed) × (did.exit ≡ result) × (gives_all : Bool)
+    ensures { (did : Outcome) × (did.exit ≡ result) × (gives_all : Bool)
         × IsLook (S.file_at system.old path.now) path.now gives_all did
         × (did.reads_all ≡ true)
         × (S.failures system.new ≡ failures_if gives_all (S.failures system.old))
@@ -77,14 +77,14 @@ pub fn inspect_file<S: System, W: Sink, E: Sink>(
 {
     match system.open(path) {
         Ok(mut file) => inspect_run(alloc, &mut file, out, faults),
-        Err(error) => tell_unopened(alloc, path, &error, faults),
+        Err(error) => report_unopened(alloc, path, &error, faults),
     }
 }
 
 /// Writes the text of a report, which is made whole before.
 fn print_report<W: Sink>(alloc: Global, report: &Report, out: &mut W) -> Result<(), Fault>
     ensures { (print : Print)
-        × IsPrintOfText (report_text (told_by report.now)) result print
+        × IsPrintOfText (report_text (reported_by report.now)) result print
         × IsPrint W.Sink print out.old out.new }
 {
     let mut text = MemorySink::new(Vec::new(alloc));
@@ -113,7 +113,7 @@ fn line_of(fault: &InspectFault) -> ArrayString<64>
 
 /// How an inspection ends on a fault of this kind.
 fn exit_on(kind: InspectKind) -> Exit
-    ensures { result ≡ exit_for kind }
+    ensures { result ≡ exit_for_fault kind }
 {
     match kind {
         InspectKind::Read => Exit::Device,

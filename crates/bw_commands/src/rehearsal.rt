@@ -2,7 +2,7 @@
 ghost use Rattle.std.specs.Prelude.{◌≡◌, ℕ, ◌+◌, ◌≤◌, List, length, map, IfOk, IfErr, OnOk, ◌≢◌};
 ghost use Rattle.bw_stream.specs.Readers.{Of};
 ghost use Rattle.bw_rehearsal.specs.Rehearsing.{event_meaning};
-ghost use Rattle.bw_console.specs.Deeds.{Deed, HasWritten};
+ghost use Rattle.bw_console.specs.Outcomes.{Outcome, HasWritten};
 ghost use Rattle.bw_commands.specs.EventLines.{SayEvents};
 ghost use Rattle.bw_console.specs.Faults.{is_read};
 ghost use Rattle.bw_console.specs.Input.{longest_input};
@@ -46,7 +46,7 @@ pub fn rehearse_run<R: Source, W: Sink, E: Sink>(
 ) -> Exit
     ensures within { Of (R.left input.old) (λ xs. IsReadAhead xs (R.left input.new)) }
     ensures most { R.moved input.new ≤ R.moved input.old + (longest_input + 1) }
-    ensures did { (did : Deed) × (did.exit ≡ result)
+    ensures did { (did : Outcome) × (did.exit ≡ result)
         × IsRehearsal name limit (R.left input.old) did
         × (R.failures input.new ≡ failures_if did.reads_all (R.failures input.old))
         × HasWritten W.Sink E.Sink did out.old out.new faults.old faults.new }

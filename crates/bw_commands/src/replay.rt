@@ -1,7 +1,7 @@
 //! The command `replay`: runs from standard input.
 ghost use Rattle.std.specs.Prelude.{◌≡◌, ◌+◌, ◌≤◌, Some, None, All, length, map, IfOk};
 ghost use Rattle.bw_stream.specs.Readers.{Of};
-ghost use Rattle.bw_console.specs.Deeds.{Deed, HasWritten};
+ghost use Rattle.bw_console.specs.Outcomes.{Outcome, HasWritten};
 ghost use Rattle.bw_commands.specs.Replays.{IsReplay};
 ghost use Rattle.bw_console.specs.Faults.{is_read};
 ghost use Rattle.bw_console.specs.Input.{longest_input};
@@ -44,7 +44,7 @@ pub fn replay<R: Source, W: Sink, E: Sink>(
 ) -> Exit
     ensures within { Of (R.left input.old) (λ xs. IsReadAhead xs (R.left input.new)) }
     ensures most { R.moved input.new ≤ R.moved input.old + (longest_input + 1) }
-    ensures did { (did : Deed) × (did.exit ≡ result) × IsReplay limit None (R.left input.old) did
+    ensures did { (did : Outcome) × (did.exit ≡ result) × IsReplay limit None (R.left input.old) did
         × (R.failures input.new ≡ failures_if did.reads_all (R.failures input.old))
         × HasWritten W.Sink E.Sink did out.old out.new faults.old faults.new }
 {
@@ -71,7 +71,7 @@ pub fn replay_fused<R: Source, W: Sink, E: Sink>(
 ) -> Exit
     ensures within { Of (R.left input.old) (λ xs. IsReadAhead xs (R.left input.new)) }
     ensures most { R.moved input.new ≤ R.moved input.old + (longest_input + 1) }
-    ensures did { (did : Deed) × (did.exit ≡ result)
+    ensures did { (did : Outcome) × (did.exit ≡ result)
         × IsReplay limit (Some fuse) (R.left input.old) did
         × (R.failures input.new ≡ failures_if did.reads_all (R.failures input.old))
         × HasWritten W.Sink E.Sink did out.old out.new faults.old faults.new }
@@ -90,7 +90,7 @@ fn replay_over<R: Source, W: Sink, E: Sink>(
 ) -> Exit
     ensures within { Of (R.left input.old) (λ xs. IsReadAhead xs (R.left input.new)) }
     ensures most { R.moved input.new ≤ R.moved input.old + (longest_input + 1) }
-    ensures did { (did : Deed) × (did.exit ≡ result) × IsReplay limit fuse (R.left input.old) did
+    ensures did { (did : Outcome) × (did.exit ≡ result) × IsReplay limit fuse (R.left input.old) did
         × (R.failures input.new ≡ failures_if did.reads_all (R.failures input.old))
         × HasWritten W.Sink E.Sink did out.old out.new faults.old faults.new }
 {

@@ -18,15 +18,15 @@ pub(crate) struct ReplayStore {
     /// A call failed that is not the fuse's.
     failed: bool,
     ghost counts: { KeepsFuse fuse failed store.fuses.items
-        store.tally.calls store.tally.failures },
-    ghost took: { SufficeForAll (content_under store.inner.files) store.tally.calls },
+        store.link_stats.calls store.link_stats.failures },
+    ghost took: { SufficeForAll (content_under store.inner.files) store.link_stats.calls },
 }
 
 impl ReplayStore {
     /// An empty store, of which no call came.
     pub(crate) fn new(alloc: Global, fuse: Option<u32>) -> Result<ReplayStore, AllocError>
-        ensures failures { IfOk result (λ s. s.store.tally.failures ≡ 0) }
-        ensures calls { IfOk result (λ s. s.store.tally.calls ≡ 0) }
+        ensures failures { IfOk result (λ s. s.store.link_stats.failures ≡ 0) }
+        ensures calls { IfOk result (λ s. s.store.link_stats.calls ≡ 0) }
         ensures empty { IfOk result (λ s. (name : List ℕ) →
             content_under s.store.inner.files name ≡ None) }
     {
@@ -50,15 +50,15 @@ impl ReplayStore {
 
     /// Whether the store has this fuse, and no call failed but the fuse's.
     pub(crate) fn kept_to(&self, fuse: Option<u32>) -> bool
-        ensures { IsTrue result → self.now.store.tally.failures
-            ≡ failures_under fuse self.now.store.tally.calls }
+        ensures { IsTrue result → self.now.store.link_stats.failures
+            ≡ failures_under fuse self.now.store.link_stats.calls }
     {
         self.fuse == fuse && !self.failed
     }
 
     /// Whether the next call is the fuse's.
     fn is_at_fuse(&self) -> bool
-        ensures { result ≡ is_at self.now.fuse self.now.store.tally.calls }
+        ensures { result ≡ is_at self.now.fuse self.now.store.link_stats.calls }
     {
         match self.fuse {
             Some(fuse) => u64::from(fuse) == self.store.calls(),
@@ -70,9 +70,9 @@ impl ReplayStore {
 impl TakeStore for ReplayStore {
     ghost contents = { λ s name. content_under s.store.inner.files name };
 
-    ghost failures = { λ s. s.store.tally.failures };
+    ghost failures = { λ s. s.store.link_stats.failures };
 
-    ghost calls = { λ s. s.store.tally.calls };
+    ghost calls = { λ s. s.store.link_stats.calls };
 
     ghost honest = { λ s. true };
 

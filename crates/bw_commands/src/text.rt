@@ -8,7 +8,7 @@ ghost use Rattle.bw_model.specs.Replies.{Reply, is_reply};
 ghost use Rattle.bw_model.specs.Exchange.{replies_bytes};
 ghost use Rattle.bw_store.specs.Memory.{content_under};
 ghost use Rattle.bw_store.specs.MemoryNames.{names_of, AreNames};
-ghost use Rattle.bw_commands.specs.Runs.{ToldExchange, AllTell};
+ghost use Rattle.bw_commands.specs.Runs.{ReportedExchange, AllReport};
 ghost use Rattle.bw_exchange.specs.EndNames.{name_of_end};
 ghost use Rattle.bw_commands.specs.Text.{reply_line};
 ghost use Rattle.bw_console.specs.Text.{as_line};
@@ -26,9 +26,9 @@ pub fn text_of_run(
     ends: &[ExchangeEnd],
     store: &MemoryStore,
 ) -> Result<Vec<u8>, AllocError>
-    ensures text { IfOk result (λ text. (told : List ToldExchange) →
-        AllTell replies.now ends.now told → text.items
-        ≡ exchanges_text 0 told
+    ensures text { IfOk result (λ text. (reported : List ReportedExchange) →
+        AllReport replies.now ends.now reported → text.items
+        ≡ exchanges_text 0 reported
         ++ files_text (content_under store.now.files) (names_of store.now)) }
     ensures names { OnOk result (AreNames (names_of store.now) (content_under store.now.files)) }
 {
@@ -45,8 +45,8 @@ fn put_exchanges(
     replies: &[Vec<u8>],
     ends: &[ExchangeEnd],
 ) -> Result<(), AllocError>
-    ensures { OnOk result ((told : List ToldExchange) → AllTell replies.now ends.now told →
-        out.new.items ≡ out.old.items ++ exchanges_text 0 told) }
+    ensures { OnOk result ((reported : List ReportedExchange) → AllReport replies.now ends.now reported →
+        out.new.items ≡ out.old.items ++ exchanges_text 0 reported) }
 {
     for (index, end) in ends.iter().enumerate() {
         let Some(frames) = replies.get(index) else {

@@ -1,10 +1,10 @@
 //! The text of what a rehearsal came to.
 ghost use Rattle.std.specs.Prelude.{◌≡◌, ◌++◌, length, IfOk, OnOk};
 ghost use Rattle.bw_model.specs.Book.{log_of};
-ghost use Rattle.bw_model.specs.World.{World as ToldWorld, settled, stored};
+ghost use Rattle.bw_model.specs.World.{World as ReportedWorld, settled, stored};
 ghost use Rattle.bw_store.specs.Memory.{content_under};
 ghost use Rattle.bw_store.specs.MemoryNames.{names_of, AreNames};
-ghost use Rattle.bw_commands.specs.Rehearsals.{counts_line, progress_line, world_lines, HasWorld};
+ghost use Rattle.bw_commands.specs.Rehearsals.{world_counts_line, world_progress_line, world_lines, HasWorld};
 ghost use Rattle.bw_commands.specs.Text.{files_text};
 
 use crate::text::put_files;
@@ -14,7 +14,7 @@ use std::alloc::{AllocError, Global};
 
 /// What the world came to, in two lines, and then the store's files in the order of their names.
 pub fn text_of_world(alloc: Global, name: &Name, world: &World) -> Result<Vec<u8>, AllocError>
-    ensures text { IfOk result (λ text. (w : ToldWorld) →
+    ensures text { IfOk result (λ text. (w : ReportedWorld) →
         HasWorld w world.now → w.sender.name ≡ name.now →
         text.items ≡ world_lines w ++ files_text (content_under world.now.server.stores.store.files)
         (names_of world.now.server.stores.store)) }
@@ -31,7 +31,7 @@ pub fn text_of_world(alloc: Global, name: &Name, world: &World) -> Result<Vec<u8
 /// Adds how many requests were offered, messages sent and replies written.
 fn put_counts(alloc: Global, out: &mut Vec<u8>, world: &World) -> Result<(), AllocError>
     ensures { OnOk result (out.new.items ≡ out.old.items ++
-        counts_line world.now.offered world.now.sent world.now.replies) }
+        world_counts_line world.now.offered world.now.sent world.now.replies) }
 {
     let (offered, sent, replies) = (world.offered, world.sent, world.replies);
     let text = format!(in alloc; "offered {offered} sent {sent} replies {replies}\n")?;
@@ -46,8 +46,8 @@ fn put_progress(
     name: &Name,
     world: &World,
 ) -> Result<(), AllocError>
-    ensures { OnOk result ((w : ToldWorld) → HasWorld w world.now → w.sender.name ≡ name.now →
-        out.new.items ≡ out.old.items ++ progress_line (log_of w.book w.sender.name).done
+    ensures { OnOk result ((w : ReportedWorld) → HasWorld w world.now → w.sender.name ≡ name.now →
+        out.new.items ≡ out.old.items ++ world_progress_line (log_of w.book w.sender.name).done
         (settled w.sender) (stored w.sender)) }
 {
     let done = world.server.done(name).unwrap_or(0);
@@ -68,7 +68,7 @@ fn put_progress_of(
     settled: u32,
     stored: u32,
 ) -> Result<(), AllocError>
-    ensures { OnOk result (out.new.items ≡ out.old.items ++ progress_line done settled stored) }
+    ensures { OnOk result (out.new.items ≡ out.old.items ++ world_progress_line done settled stored) }
 {
     let text = format!(in alloc; "done {done} settled {settled} stored {stored}\n")?;
     out.extend_from_slice(text.as_bytes())?;

@@ -84,7 +84,7 @@ pub decoded_stop : (found : List (List ℕ)) (n : ℕ) (line : List ℕ) (lines 
 unfolding decoded_from
 decoded_stop found n line lines e h = rw h refl
 
--- a line that can't be read is the fault that is told
+-- a line that can't be read is the fault that is reported
 pub line_faulted : (e : FromHexError) (n : ℕ) (line : List ℕ) (lines : Result (List (List ℕ)) ℕ) →
     (e ≡ OutOfMemory) ⊎ (decode_of line ≡ Err e) → (decode_of line ≡ Err e → lines ≡ Err n) →
     IsLineFault (line_fault e n) lines

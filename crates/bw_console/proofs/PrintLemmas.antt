@@ -4,7 +4,7 @@ use Rattle.bw_stream.specs.Moves.{Keeps, Writes, failures_after}
 use Rattle.bw_stream.specs.declared.sink.Sink.{Ghosts as Writer}
 use Rattle.bw_console.specs.Printing.{HasPrinted, HasStopped, IsOf, IsPrint, Print, Whole, Part}
 
--- a text that was written whole is only begun where the flush behind it fails
+-- a text that was written whole is only begun where the flush after it fails
 pub flush-stops : {S X Y : Type 0} (w : Writer S) (text : List ℕ) (old mid new : S) (r : Result X Y)
     → Writes (w.written old) text (w.written mid) → w.failures mid ≡ w.failures old
     → w.failures new ≡ failures_after r (w.failures mid) → Keeps (w.written mid) (w.written new)

@@ -17,12 +17,12 @@ use Rattle.bw_console.specs.declared.exit.Exit.TheVariants.{Refused as Exit-Refu
 use Rattle.bw_console.specs.declared.exit.Exit.TheVariants.{Device as Exit-Device}
 use Rattle.bw_console.specs.declared.exit.Exit.TheVariants.{Memory as Exit-Memory}
 
--- what is told of the line with this number, whose digits can't be read for this error
+-- what is reported of the line with this number, whose digits can't be read for this error
 abbrev pub line_fault : FromHexError → ℕ → Fault
 line_fault OutOfMemory n = Memory
 line_fault _ n = NotHex n
 
--- want of memory, or the first line that is not hex
+-- lack of memory, or the first line that is not hex
 abbrev pub IsLineFault : Fault → Result (List (List ℕ)) ℕ → Type 0
 IsLineFault (NotHex n) lines = lines ≡ Err n
 IsLineFault (NotEvent n) lines = ⊥
@@ -52,7 +52,7 @@ RefusesLength Unreadable input = Unit {0}
 RefusesLength Unwritable input = ⊥
 RefusesLength Memory input = Unit {0}
 
--- a fault as it is told
+-- a fault as it is reported
 abbrev pub input_fault_text : Fault → List ℕ
 input_fault_text TooLong = codes "input too long"
 input_fault_text (NotHex n) = codes "line " ++ decimal n ++ codes ": not hex"
@@ -92,7 +92,7 @@ abbrev pub is_read : {X : Type 0} → Result X Fault → Bool
 is_read (Ok x) = true
 is_read (Err fault) = is_readable fault
 
--- the fault's line alone is told, and of none nothing
-abbrev pub IsToldBy : Result (Unit {0}) Fault → Print → Type 0
-IsToldBy (Ok x) print = print ≡ Nothing
-IsToldBy (Err fault) print = IsOf (as_line (input_fault_text fault)) print
+-- the fault's line alone is reported, and of none nothing
+abbrev pub IsReportedBy : Result (Unit {0}) Fault → Print → Type 0
+IsReportedBy (Ok x) print = print ≡ Nothing
+IsReportedBy (Err fault) print = IsOf (as_line (input_fault_text fault)) print

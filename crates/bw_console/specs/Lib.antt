@@ -4,6 +4,6 @@ pub mod Exits
 pub mod Text
 pub mod Printing
 pub mod Faults
-pub mod Deeds
-pub mod Unworded
+pub mod Outcomes
+pub mod BadArgv
 pub mod Openings

@@ -9,7 +9,7 @@ use Rattle.hex.specs.declared.error.FromHexError.{FromHexError}
 abbrev pub is_line_end : ℕ → Bool
 is_line_end byte = byte == 10
 
--- the lines of bytes behind the first bytes of a line. Byte 10 ends a line, and one byte 13 before
+-- the lines of bytes after the first bytes of a line. Byte 10 ends a line, and one byte 13 before
 -- it goes with it
 unfoldable pub lines_from : List ℕ → List ℕ → List (List ℕ)
 lines_from line [] = if length line == 0 then [] else line ∷ []
@@ -20,7 +20,7 @@ lines_from line (c ∷ cs) =
 abbrev pub lines_of : List ℕ → List (List ℕ)
 lines_of bytes = lines_from [] bytes
 
--- the bytes of a line and of those behind it, or the number of the first that is not hex
+-- the bytes of a line and of those after it, or the number of the first that is not hex
 abbrev pub with_line : ℕ → Result (List ℕ) FromHexError → Result (List (List ℕ)) ℕ →
     Result (List (List ℕ)) ℕ
 with_line n (Err e) more = Err n

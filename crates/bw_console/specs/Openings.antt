@@ -1,8 +1,8 @@
--- What is told of a file that can't be opened.
+-- What is reported of a file that can't be opened.
 use Rattle.std.specs.Prelude.{◌≡◌, ℕ, [], ◌∷◌, ◌++◌, true, List, codes}
 use Rattle.std.specs.declared.io.ErrorKind.{ErrorKind}
 use Rattle.std.specs.declared.io.ErrorKind.TheVariants as kinds
-use Rattle.bw_console.specs.Deeds.{Deed}
+use Rattle.bw_console.specs.Outcomes.{Outcome}
 use Rattle.bw_console.specs.Printing.{Nothing, IsOf}
 use Rattle.bw_console.specs.declared.exit.Exit.{Exit}
 use Rattle.bw_console.specs.declared.exit.Exit.TheVariants as exits
@@ -12,14 +12,14 @@ abbrev pub exit_unopened : ErrorKind → Exit
 exit_unopened kinds.OutOfMemory = exits.Memory
 exit_unopened _ = exits.Device
 
--- what is told of a path whose file can't be opened
+-- what is reported of a path whose file can't be opened
 abbrev pub unopened_text : List ℕ → List ℕ → List ℕ
 unopened_text path reason = path ++ (codes " can't be opened: " ++ (reason ++ 10 ∷ []))
 
--- the file of this path can't be opened, for an error of this kind, whose reason is told
-pub record IsUnopened (path : List ℕ) (kind : ErrorKind) (did : Deed) : Type 0 where
+-- the file of this path can't be opened, for an error of this kind, whose reason is reported
+pub record IsUnopened (path : List ℕ) (kind : ErrorKind) (did : Outcome) : Type 0 where
   pub exit_is : did.exit ≡ exit_unopened kind
   pub reads : did.reads_all ≡ true
   pub prints : did.out ≡ Nothing
   pub reason : List ℕ
-  pub tells : IsOf (unopened_text path reason) did.faults
+  pub reports : IsOf (unopened_text path reason) did.faults

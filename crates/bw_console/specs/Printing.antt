@@ -3,13 +3,13 @@ use Rattle.std.specs.Prelude.{◌≡◌, ◌⊎◌, ℕ, List, Bool, true, if◌
 use Rattle.bw_stream.specs.Moves.{Begins, Writes, one_more}
 use Rattle.bw_stream.specs.declared.sink.Sink.{Ghosts as Writer}
 
--- the writer has the whole text behind what was there, and holds nothing back
+-- the writer has the whole text after what was there, and holds nothing back
 pub record HasPrinted {S : Type 0} (w : Writer S) (text : List ℕ) (old new : S) : Type 0 where
   pub wrote : Writes (w.written old) text (w.written new)
   pub counted : w.failures new ≡ w.failures old
   pub flushed : w.is_flushed new ≡ true
 
--- the writer failed, and has a beginning of the text behind what was there
+-- the writer failed, and has a beginning of the text after what was there
 pub record HasStopped {S : Type 0} (w : Writer S) (text : List ℕ) (old new : S) : Type 0 where
   pub wrote : Begins (w.written old) text (w.written new)
   pub counted : w.failures new ≡ one_more (w.failures old)
@@ -30,6 +30,6 @@ IsPrint w (Part text) old new = HasStopped w text old new
 abbrev pub IsOf : List ℕ → Print → Type 0
 IsOf text print = (print ≡ Whole text) ⊎ (print ≡ Part text)
 
--- the failures behind calls of which none failed, or the last one
+-- the failures after calls of which none failed, or the last one
 abbrev pub failures_if : Bool → ℕ → ℕ
 failures_if all_succeeded n = if all_succeeded then n else one_more n

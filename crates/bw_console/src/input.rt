@@ -125,7 +125,7 @@ pub fn first_line(bytes: &[u8]) -> (&[u8], &[u8])
     }
 }
 
-/// Where the first line ends: at its byte 10, or behind all bytes.
+/// Where the first line ends: at its byte 10, or after all bytes.
 fn line_end(bytes: &[u8]) -> usize
     ensures value { result ≡ position_or_len is_line_end bytes.now }
     ensures within { result ≤ length bytes.now }
@@ -143,7 +143,7 @@ fn without_return(line: &[u8]) -> &[u8]
     ensures within { length result.now ≤ length line.now }
 {
     match line {
-        [front @ .., b'\r'] => front,
+        [prefix @ .., b'\r'] => prefix,
         _ => line,
     }
 }

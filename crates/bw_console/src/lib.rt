@@ -1,15 +1,15 @@
 //! What commands read, print and tell, and how they end.
 #![tactic(auto)]
 
+mod bad_argv;
 mod exit;
 mod fault;
 mod input;
 mod opening;
 pub mod print;
-mod unworded;
 
+pub use bad_argv::report_bad_argv;
 pub use exit::Exit;
 pub use fault::Fault;
 pub use input::{all_bytes, exchanges, first_line};
-pub use opening::tell_unopened;
-pub use unworded::tell_unworded;
+pub use opening::report_unopened;

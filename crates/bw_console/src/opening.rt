@@ -1,13 +1,13 @@
 //! Why what is named can't be opened.
 ghost use Rattle.std.specs.Prelude.{◌≡◌, ◌⊎◌, ℕ, List, IfOk, string_bytes};
 ghost use Rattle.std.specs.IoError.{error_kind};
-ghost use Rattle.bw_console.specs.Deeds.{Deed, IsWant};
+ghost use Rattle.bw_console.specs.Outcomes.{Outcome, IsOutOfMemory};
 ghost use Rattle.bw_console.specs.Printing.{IsPrint};
 ghost use Rattle.bw_console.specs.Openings.{IsUnopened, unopened_text};
 
 use crate::exit::Exit;
 use crate::fault::Fault;
-use crate::print::{give_up, tell};
+use crate::print::{give_up, print_diagnostic};
 use bw_stream::Sink;
 use std::alloc::{AllocError, Global};
 use std::io::{self, ErrorKind};
@@ -18,15 +18,20 @@ use std::io::{self, ErrorKind};
 /// # Not specified
 /// - The reason in the line.
 /// - When memory is refused for it.
-pub fn tell_unopened<E: Sink>(alloc: Global, path: &str, error: &io::Error, faults: &mut E) -> Exit
-    ensures { (did : Deed) × (did.exit ≡ result)
-        × (IsUnopened path.now (error_kind error.now) did ⊎ IsWant did)
+pub fn report_unopened<E: Sink>(
+    alloc: Global,
+    path: &str,
+    error: &io::Error,
+    faults: &mut E,
+) -> Exit
+    ensures { (did : Outcome) × (did.exit ≡ result)
+        × (IsUnopened path.now (error_kind error.now) did ⊎ IsOutOfMemory did)
         × IsPrint E.Sink did.faults faults.old faults.new }
 {
     let Ok(line) = unopened_line(alloc, path, error) else {
         return give_up(faults, &Fault::Memory);
     };
-    tell(faults, line.as_str().as_bytes());
+    print_diagnostic(faults, line.as_str().as_bytes());
     match error.kind() {
         ErrorKind::OutOfMemory => Exit::Memory,
         _ => Exit::Device,

@@ -28,7 +28,7 @@ pub fn print<W: Sink>(out: &mut W, text: &[u8]) -> Result<(), IoFailed>
 ///
 /// # Not specified
 /// Whether the text was written: only the writer's count of failures shows it.
-pub fn tell<E: Sink>(faults: &mut E, text: &[u8])
+pub fn print_diagnostic<E: Sink>(faults: &mut E, text: &[u8])
     ensures { (print : Print) × IsOf text.now print × IsPrint E.Sink print faults.old faults.new }
 {
     let _ = print(faults, text);
@@ -43,6 +43,6 @@ pub fn give_up<E: Sink>(faults: &mut E, fault: &Fault) -> Exit
     ensures line { (print : Print) × IsOf (as_line (input_fault_text fault.now)) print
         × IsPrint E.Sink print faults.old faults.new }
 {
-    tell(faults, fault.line().as_str().as_bytes());
+    print_diagnostic(faults, fault.line().as_str().as_bytes());
     fault.exit()
 }

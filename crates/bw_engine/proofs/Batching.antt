@@ -14,10 +14,10 @@ use Rattle.bw_model.specs.Stream.{SaidBye, end_at, end_by, is_turn, frames_bytes
 use Rattle.bw_model.specs.World.{Sender as Defined, settled, pending_from}
 use Rattle.bw_model.proofs.FrameLaws.{first_frame-framed}
 use Rattle.bw_stream.specs.Moves.{Keeps, Writes, Begins}
-use Rattle.bw_sender.specs.Entries.{Entry, entries, pending_entries}
+use Rattle.bw_sender.specs.Entries.{SenderEntry, entries, pending_entries}
 use Rattle.bw_sender.specs.Senders.{IsSender}
 use Rattle.bw_sender.specs.declared.sender.Sender.{Sender}
-use Rattle.bw_sender.proofs.EntryLaws.{drop_at, drop_none, pending_in, pending_behind}
+use Rattle.bw_sender.proofs.EntryLaws.{drop_at, drop_none, pending_in, pending_after}
 use Rattle.bw_wire.specs.Encoded.{said}
 use Rattle.bw_engine.specs.declared.send_fault.SendFault.{SendFault}
 use Rattle.bw_engine.specs.declared.send_fault.SendFault.TheVariants as faults
@@ -36,7 +36,7 @@ begins-none a p xs e = record {
   stands = e ∙ ap Some (sym (append-nil xs));
 }
 
--- a beginning is one of what has more behind it
+-- a beginning is one of what has more after it
 pub begins-before : (a b : Option (List ℕ)) (p q : List ℕ) → Begins a p b → Begins a (p ++ q) b
 begins-before a b p q f xs e =
     let x = f xs e in
@@ -47,9 +47,9 @@ begins-before a b p q f xs e =
       stands = x.stands;
     }
 
--- some bytes were written, and a beginning of those behind them
-pub begins-behind : (a b c : Option (List ℕ)) (p q : List ℕ) → Writes a p b → Begins b q c → Begins a (p ++ q) c
-begins-behind a b c p q f g xs e =
+-- some bytes were written, and a beginning of those after them
+pub begins-after : (a b c : Option (List ℕ)) (p q : List ℕ) → Writes a p b → Begins b q c → Begins a (p ++ q) c
+begins-after a b c p q f g xs e =
     let x = g (xs ++ p) (f xs e) in
     record {
       part = p ++ x.part;
@@ -64,7 +64,7 @@ begins-behind a b c p q f g xs e =
 abbrev pub waiting : Defined → List (ℕ × Request)
 waiting s = pending_from 0 s.offered s.verdicts
 
-few_entries : (n : ℕ) (es : List Entry) → length (pending_entries n es) ≤ length es
+few_entries : (n : ℕ) (es : List SenderEntry) → length (pending_entries n es) ≤ length es
 few_entries n [] = omega arith
 few_entries n (e ∷ es) = go e.verdict (few_entries (suc n) es)
   where
@@ -80,15 +80,15 @@ few_pending s x is =
     let es = entries s.offered s.verdicts in
     let k = settled s in
     let same : waiting s ≡ pending_entries (0 + k) (drop k es) =
-    pending_in 0 s.offered s.verdicts ∙ pending_behind k 0 s.offered s.verdicts is.front is.within in
+    pending_in 0 s.offered s.verdicts ∙ pending_after k 0 s.offered s.verdicts is.prefix is.within in
     let len : length (waiting s) ≡ length (pending_entries (0 + k) (drop k es)) = ap length same in
     let window : length x.window ≡ length (drop k es) = ap length is.window in
     let few = few_entries (0 + k) (drop k es) in
     omega (arith, len, window, few, x.few)
 
-pub none_behind : (s : Defined) (x : Sender) (place : ℕ) → IsSender s x → 16 ≤ place →
+pub none_after : (s : Defined) (x : Sender) (place : ℕ) → IsSender s x → 16 ≤ place →
     slice_get (waiting s) place ≡ None
-none_behind s x place is past =
+none_after s x place is past =
     slice_get_past (waiting s) place (omega (arith, few_pending s x is, past))
 
 -- the messages from a place on
@@ -99,10 +99,10 @@ messages_from s place = messages s.name (drop place (waiting s))
 pub record SentTo (place : ℕ) (s : Defined) (written written' : Option (List ℕ)) : Type 0 where
   pub sent : List Frame
   pub all : sent ++ messages_from s place ≡ pending_messages s
-  pub front : WritesMessages sent written written'
+  pub prefix : WritesMessages sent written written'
 
 pub sent-none : (s : Defined) (w : Option (List ℕ)) → SentTo 0 s w w
-sent-none s w = record { sent = []; all = refl; front = record { each = refl; taken = writes-none w } }
+sent-none s w = record { sent = []; all = refl; prefix = record { each = refl; taken = writes-none w } }
 
 -- a message stands before the others
 one_message : (s : Defined) (place : ℕ) (p : ℕ × Request) → slice_get (waiting s) place ≡ Some p →
@@ -139,7 +139,7 @@ sent-more place s name w w' w'' p same e f fits taken =
       sent = f.sent ++ m ∷ [];
       all = append_assoc f.sent (m ∷ []) (messages_from s (place + 1))
           ∙ ap (λ (x : List Frame). f.sent ++ x) (sym (one_message s place p e)) ∙ f.all;
-      front = messages_more f.sent m w w' w'' f.front
+      prefix = messages_more f.sent m w w' w'' f.prefix
           (subst (λ (x : List ℕ). IsTrue (is_frame Second (said x p.0 p.1))) same fits)
           (subst (λ (x : List ℕ). Writes w' (framed (body (said x p.0 p.1))) w'') same taken);
     }
@@ -154,11 +154,11 @@ sent-part place s name w w' w'' p same e f begun =
     subst (λ (x : List ℕ). Begins w x w'')
     (ap (λ (fs : List Frame). frames_bytes f.sent ++ frames_bytes fs) (sym (one_message s place p e))
     ∙ sym (bytes_on f.sent (messages_from s place)) ∙ ap frames_bytes f.all)
-    (begins-behind w w' w'' (frames_bytes f.sent) (frame ++ rest) f.front.taken
+    (begins-after w w' w'' (frames_bytes f.sent) (frame ++ rest) f.prefix.taken
     (begins-before w' w'' frame rest
     (subst (λ (x : List ℕ). Begins w' (framed (body (said x p.0 p.1))) w'') same begun)))
 
--- of one more nothing, for want of memory
+-- of one more nothing, for lack of memory
 sent-lacking : (place : ℕ) (s : Defined) (w w' w'' : Option (List ℕ)) (p : ℕ × Request) →
     slice_get (waiting s) place ≡ Some p → SentTo place s w w' → Keeps w' w'' → LacksMemoryToSend s w w''
 sent-lacking place s w w' w'' p e f kept =
@@ -169,9 +169,9 @@ sent-lacking place s w w' w'' p e f kept =
       unsent = messages_from s place;
       all = f.all;
       some = omega (arith, len);
-      front = record {
-        each = f.front.each;
-        taken = λ xs h. kept (xs ++ frames_bytes f.sent) (f.front.taken xs h);
+      prefix = record {
+        each = f.prefix.each;
+        taken = λ xs h. kept (xs ++ frames_bytes f.sent) (f.prefix.taken xs h);
       };
     }
 
@@ -194,7 +194,7 @@ sent-all place s w w' e f =
     subst (λ (fs : List Frame). WritesMessages fs w w')
     (sym (append-nil f.sent)
     ∙ ap (λ (ps : List (ℕ × Request)). f.sent ++ messages s.name ps) (sym none) ∙ f.all)
-    f.front
+    f.prefix
   where
     past : (k : ℕ) (ps : List (ℕ × Request)) → slice_get ps k ≡ None → length ps ≤ k
     past k [] h = omega arith
@@ -219,7 +219,7 @@ batch_parts s =
 bye_ends : (place : ℕ) → end_at Second place bye_frame ≡ Some SaidBye
 bye_ends place = ap (end_by place) (first_frame-framed Second Bye [] refl)
 
--- the messages were written, and the frame behind them
+-- the messages were written, and the frame after them
 pub batch_sent : {E : Type 0} (r : Result (Unit {0}) E) (s : Defined) (a b c : Option (List ℕ)) →
     WritesMessages (pending_messages s) a b → OnOk r (Writes b bye_frame c) → OnOk r (WritesBatch s a c)
 batch_sent (Err e) s a b c f g = tt
@@ -242,7 +242,7 @@ batch_begun (Ok x) s a b c f g why = tt
 batch_begun (Err fault) s a b c f g why =
     subst (λ (x : SendFault). BreaksBytes x s (batch_bytes s) a c) (sym why)
     (subst (λ (y : List ℕ). Begins a y c) (batch_parts s)
-    (begins-behind a b c (frames_bytes (pending_messages s)) bye_frame f.taken g))
+    (begins-after a b c (frames_bytes (pending_messages s)) bye_frame f.taken g))
 
 -- the messages broke off
 pub batch_cut : (fault : SendFault) (s : Defined) (a b : Option (List ℕ)) →

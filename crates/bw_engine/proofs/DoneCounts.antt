@@ -8,7 +8,7 @@ use Rattle.bw_model.specs.Wire.{Frame, Message, Says, Asks, Bye}
 use Rattle.bw_model.specs.Replies.{Reply}
 use Rattle.bw_model.specs.Book.{Log, Book, log_of, with_log}
 use Rattle.bw_model.specs.Turn.{turn, with_change}
-use Rattle.bw_model.specs.CountedTurn.{IsTurn, log_behind}
+use Rattle.bw_model.specs.CountedTurn.{IsTurn, log_after_frame}
 use Rattle.bw_model.proofs.BookLemmas.{log-with_log_same}
 use Rattle.bw_store.specs.declared.store.TakeStore.{Ghosts as StoreGhosts}
 use Rattle.bw_journal.specs.declared.journal.Journal.{Ghosts as JournalGhosts}
@@ -32,9 +32,9 @@ here e book name log =
     let old : all_done (e ∷ book) ≡ e.1.done + all_done book = done-cons e book in
     omega (arith, new, old)
 
-behind : (e : List ℕ × Log) (book book' : Book) (x y : ℕ) → all_done book' + x ≡ all_done book + y →
+following : (e : List ℕ × Log) (book book' : Book) (x y : ℕ) → all_done book' + x ≡ all_done book + y →
     all_done (e ∷ book') + x ≡ all_done (e ∷ book) + y
-behind e book book' x y others =
+following e book book' x y others =
     let new : all_done (e ∷ book') ≡ e.1.done + all_done book' = done-cons e book' in
     let old : all_done (e ∷ book) ≡ e.1.done + all_done book = done-cons e book in
     omega (arith, new, old, others)
@@ -53,7 +53,7 @@ done-with_log (e ∷ book) name log = go (bytes_eq e.0 name) (done-with_log book
         all_done (cond v ((name, log) ∷ book) (e ∷ with_log book name log)) + (cond v e.1 (log_of book name)).done
         ≡ all_done (e ∷ book) + log.done
     go true others = here e book name log
-    go false others = behind e book (with_log book name log) (log_of book name).done log.done others
+    go false others = following e book (with_log book name log) (log_of book name).done log.done others
 
 done-with_change : (book : Book) (name : List ℕ) (o : Option Log) →
     all_done (with_change book name o) + (log_of book name).done
@@ -63,18 +63,18 @@ done-with_change book name (Some log) =
     done-with_log book name log ∙ ap (λ (l : Log). all_done book + l.done) (sym (log-with_log_same book name log))
 
 -- a turn of a message changes the count by what it does under the message's name
-done_by_turn : (stood : List ℕ → Bool) (before after : ℕ) (book : Book) (m : Message) (replies : List Reply)
-    (later : Book) → IsTurn stood before after book (Says m) replies later →
+done_by_turn : (existed : List ℕ → Bool) (before after : ℕ) (book : Book) (m : Message) (replies : List Reply)
+    (later : Book) → IsTurn existed before after book (Says m) replies later →
     all_done later + (log_of book m.name).done ≡ all_done book + (log_of later m.name).done
 unfolding turn
-done_by_turn stood before after book m replies later t =
+done_by_turn existed before after book m replies later t =
     subst (λ (b : Book). all_done b + (log_of book m.name).done ≡ all_done book + (log_of b m.name).done) t.left
-    (done-with_change book m.name (log_behind stood book (Says m) t.luck))
+    (done-with_change book m.name (log_after_frame existed book (Says m) t.faults))
 
-same_by_ask : (stood : List ℕ → Bool) (before after : ℕ) (book : Book) (name : List ℕ) (n : ℕ) (replies : List Reply)
-    (later : Book) → IsTurn stood before after book (Asks name n) replies later → book ≡ later
+same_by_ask : (existed : List ℕ → Bool) (before after : ℕ) (book : Book) (name : List ℕ) (n : ℕ) (replies : List Reply)
+    (later : Book) → IsTurn existed before after book (Asks name n) replies later → book ≡ later
 unfolding turn
-same_by_ask stood before after book name n replies later t = t.left
+same_by_ask existed before after book name n replies later t = t.left
 
 -- how often a store was called for what was done between two counts
 pub record CalledFor (called called' done done' : ℕ) (failed : Bool) : Type 0 where
@@ -84,25 +84,25 @@ pub record CalledFor (called called' done done' : ℕ) (failed : Bool) : Type 0 
   pub same : done' + earlier ≡ done + later
 
 module _ {X Y : Type 0} (S : StoreGhosts X) (J : JournalGhosts Y) where
-  pub called_for : (first : List ℕ → Option (List ℕ)) (stood : List ℕ → Bool) (old new : Server X Y S J)
+  pub called_for : (first : List ℕ → Option (List ℕ)) (existed : List ℕ → Bool) (old new : Server X Y S J)
       (book later : Book) (frame : Frame) (replies : List Reply) (failed : Bool) →
       AsksFor S J frame failed old new → HoldsBook S J first old book → HoldsBook S J first new later →
-      IsTurn stood (failures_of S J old) (failures_of S J new) book frame replies later →
+      IsTurn existed (failures_of S J old) (failures_of S J new) book frame replies later →
       CalledFor (S.calls old.stores.store) (S.calls new.stores.store) (all_done book) (all_done later) failed
-  called_for first stood old new book later (Says m) replies failed asks held held' t =
+  called_for first existed old new book later (Says m) replies failed asks held held' t =
       let before : (log_of book m.name).done ≡ done_in old.sessions m.name =
       done_is old.limit (store_since S first old.stores.store) (session_in old.sessions) book held m.name in
       let after : (log_of later m.name).done ≡ done_in new.sessions m.name =
       done_is new.limit (store_since S first new.stores.store) (session_in new.sessions) later held' m.name in
-      let all = done_by_turn stood (failures_of S J old) (failures_of S J new) book m replies later t in
+      let all = done_by_turn existed (failures_of S J old) (failures_of S J new) book m replies later t in
       record {
         earlier = done_in old.sessions m.name;
         later = done_in new.sessions m.name;
         few = asks.few;
         same = omega (arith, before, after, all);
       }
-  called_for first stood old new book later (Asks name n) replies failed asks held held' t =
-      let same = same_by_ask stood (failures_of S J old) (failures_of S J new) book name n replies later t in
+  called_for first existed old new book later (Asks name n) replies failed asks held held' t =
+      let same = same_by_ask existed (failures_of S J old) (failures_of S J new) book name n replies later t in
       let calls : S.calls new.stores.store ≡ S.calls old.stores.store =
       ap (λ (s : Server X Y S J). S.calls s.stores.store) asks in
       let done : all_done book ≡ all_done later = ap all_done same in
@@ -111,7 +111,7 @@ module _ {X Y : Type 0} (S : StoreGhosts X) (J : JournalGhosts Y) where
       called_none : (called called' : ℕ) (failed : Bool) → called' ≡ called → CallsFew called called' 0 0 failed
       called_none called called' true e = omega (arith, e)
       called_none called called' false e = omega (arith, e)
-  called_for first stood old new book later Bye replies failed asks held held' t = absurd asks
+  called_for first existed old new book later Bye replies failed asks held held' t = absurd asks
 
 -- one turn, and then others
 pub called_then : (called mid called' done between done' failures failed_mid failures' : ℕ) (failed : Bool) →

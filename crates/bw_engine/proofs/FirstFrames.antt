@@ -12,7 +12,7 @@ use Rattle.bw_model.proofs.ByteNumbers.{are_bytes-tail}
 use Rattle.bw_model.proofs.StreamLaws.{StreamAt, given, found}
 use Rattle.bw_exchange.specs.Done.{AreFirstOf}
 
--- a stream, and then that of the bytes that no frame of it has, with more behind them
+-- a stream, and then that of the bytes that no frame of it has, with more after them
 two_streams : (bytes more rest : List ℕ) (fs gs : List Frame) (end : End) → list_all (is_turn Second) fs ≡ true →
     bytes ≡ frames_bytes fs ++ rest → StreamAt Second (length (frames_bytes fs)) (rest ++ more) gs end →
     StreamAt Second 0 (bytes ++ more) (fs ++ gs) end
@@ -33,7 +33,7 @@ two_streams bytes more rest fs gs end each whole t = record {
     len : length (frames_bytes (fs ++ gs)) ≡ length (frames_bytes fs) + length (frames_bytes gs)
     len = ap length joined ∙ length-append (frames_bytes fs) (frames_bytes gs)
 
--- what are first frames of some bytes are so with more behind them
+-- what are first frames of some bytes are so with more after them
 pub first_of_more : (frames : List Frame) (bytes more : List ℕ) → are_bytes (bytes ++ more) ≡ true →
     AreFirstOf frames bytes → AreFirstOf frames (bytes ++ more)
 unfolding stream_of

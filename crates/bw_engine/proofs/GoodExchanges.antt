@@ -12,24 +12,24 @@ use Rattle.bw_model.specs.Replies.{Reply}
 use Rattle.bw_model.specs.Stream.{End, stream_of}
 use Rattle.bw_model.specs.Book.{Book}
 use Rattle.bw_model.specs.Turn.{Turn, good, turn, run, book_after}
-use Rattle.bw_model.specs.NumberOrder.{tells_want}
+use Rattle.bw_model.specs.NumberOrder.{reports_failure}
 use Rattle.bw_model.specs.Exchange.{replies_bytes, last_reply, exchange, exchanges}
-use Rattle.bw_exchange.specs.Answering.{Answered, frames_of, replies_of}
-use Rattle.bw_exchange.specs.TurnRuns.{with_good_luck}
-use Rattle.bw_engine.specs.Ingesting.{ServedInput, WasServed, IsServedTo, IsServedWhole, answered_in, end_in, frames_in}
-use Rattle.bw_engine.specs.Ingesting.{IsShort, TellsNoWant}
+use Rattle.bw_exchange.specs.Answering.{Answered, answered_frames, replies_of}
+use Rattle.bw_exchange.specs.TurnRuns.{run_without_faults}
+use Rattle.bw_engine.specs.Ingesting.{ServedInput, WasServed, IsServedTo, IsServedWhole, answered_in, ingested_end, input_frames}
+use Rattle.bw_engine.specs.Ingesting.{IsShort, ReportsNoFailure}
 use Rattle.bw_exchange.proofs.GoodRuns.{GoesWell, good_run}
 
 -- a short input that was served, with its end
 record ToItsEnd (x : ServedInput) : Type 0 where
   end : End
-  is : end_in x.end ≡ Some end
+  is : ingested_end x.end ≡ Some end
   whole : IsServedWhole x end
 
 to_its_end : (x : ServedInput) → WasServed x → IsShort x.input → ToItsEnd x
-to_its_end x h short = go (end_in x.end) refl h
+to_its_end x h short = go (ingested_end x.end) refl h
   where
-    go : (o : Option End) → end_in x.end ≡ o → IsServedTo o x → ToItsEnd x
+    go : (o : Option End) → ingested_end x.end ≡ o → IsServedTo o x → ToItsEnd x
     go (Some end) e h = record { end = end; is = e; whole = h }
     go None e h =
         let long = h.long in
@@ -39,86 +39,86 @@ to_its_end x h short = go (end_in x.end) refl h
 -- the frames that were answered are those of the inputs
 pub frames_answered : (went : List ServedInput) → AllByRecursion WasServed went →
     AllByRecursion IsShort (map (λ x. x.input) went) →
-    frames_of (answered_in went) ≡ frames_in (map (λ x. x.input) went)
+    answered_frames (answered_in went) ≡ input_frames (map (λ x. x.input) went)
 frames_answered [] h short = refl
 frames_answered (x ∷ went) h short =
     let one = to_its_end x h.0 short.0 in
     map-append (λ (a : Answered). a.frame) x.answered (answered_in went)
-    ∙ ap (λ (fs : List Frame). fs ++ frames_of (answered_in went))
+    ∙ ap (λ (fs : List Frame). fs ++ answered_frames (answered_in went))
     (sym (ap (λ (s : List Frame × End). s.0) one.whole.stream))
     ∙ ap (λ (fs : List Frame). (stream_of Second x.input).0 ++ fs) (frames_answered went h.1 short.1)
 
--- where what was written tells no want, no reply did
+-- where what was written reports no failure, no reply did
 pub none_wanted : (went : List ServedInput) → AllByRecursion WasServed went →
-    AllByRecursion IsShort (map (λ x. x.input) went) → AllByRecursion TellsNoWant (map (λ x. x.written) went) →
-    list_any tells_want (replies_of (answered_in went)) ≡ false
-none_wanted [] h short told = refl
-none_wanted (x ∷ went) h short told =
+    AllByRecursion IsShort (map (λ x. x.input) went) → AllByRecursion ReportsNoFailure (map (λ x. x.written) went) →
+    list_any reports_failure (replies_of (answered_in went)) ≡ false
+none_wanted [] h short reported = refl
+none_wanted (x ∷ went) h short reported =
     let one = to_its_end x h.0 short.0 in
-    let here = or_parts (list_any tells_want (replies_of x.answered)) (list_any tells_want (last_reply one.end))
-    (sym (list_any-append tells_want (replies_of x.answered) (last_reply one.end))
-    ∙ told.0 (replies_of x.answered ++ last_reply one.end) one.whole.spelled one.whole.replies) in
-    ap (list_any tells_want) (flat_map-append (λ (a : Answered). a.replies) x.answered (answered_in went))
-    ∙ list_any-append tells_want (replies_of x.answered) (replies_of (answered_in went))
-    ∙ ap (λ (b : Bool). b || list_any tells_want (replies_of (answered_in went))) here.0
-    ∙ none_wanted went h.1 short.1 told.1
+    let here = or_parts (list_any reports_failure (replies_of x.answered)) (list_any reports_failure (last_reply one.end))
+    (sym (list_any-append reports_failure (replies_of x.answered) (last_reply one.end))
+    ∙ reported.0 (replies_of x.answered ++ last_reply one.end) one.whole.spelled one.whole.replies) in
+    ap (list_any reports_failure) (flat_map-append (λ (a : Answered). a.replies) x.answered (answered_in went))
+    ∙ list_any-append reports_failure (replies_of x.answered) (replies_of (answered_in went))
+    ∙ ap (λ (b : Bool). b || list_any reports_failure (replies_of (answered_in went))) here.0
+    ∙ none_wanted went h.1 short.1 reported.1
 
 -- A run that goes well, exchange by exchange.
 
-abbrev pub behind : (List ℕ → Bool) → Book → List Answered → Book
-behind stood book answered = book_after stood book (with_good_luck (frames_of answered))
+abbrev pub following : (List ℕ → Bool) → Book → List Answered → Book
+following existed book answered = book_after existed book (run_without_faults (answered_frames answered))
 
-pub record GoesWellTwice (stood : List ℕ → Bool) (book : Book) (xs ys : List Answered) (later : Book) : Type 0 where
-  pub first : GoesWell stood book xs (behind stood book xs)
-  pub then : GoesWell stood (behind stood book xs) ys later
+pub record GoesWellTwice (existed : List ℕ → Bool) (book : Book) (xs ys : List Answered) (later : Book) : Type 0 where
+  pub first : GoesWell existed book xs (following existed book xs)
+  pub then : GoesWell existed (following existed book xs) ys later
 
-pub well_parts : (stood : List ℕ → Bool) (book : Book) (xs ys : List Answered) (later : Book) →
-    GoesWell stood book (xs ++ ys) later → GoesWellTwice stood book xs ys later
-well_parts stood book [] ys later h = record { first = refl; then = h }
-well_parts stood book (x ∷ xs) ys later h =
-    let more = well_parts stood (turn stood book x.frame good).1 xs ys later h.1 in
+pub well_parts : (existed : List ℕ → Bool) (book : Book) (xs ys : List Answered) (later : Book) →
+    GoesWell existed book (xs ++ ys) later → GoesWellTwice existed book xs ys later
+well_parts existed book [] ys later h = record { first = refl; then = h }
+well_parts existed book (x ∷ xs) ys later h =
+    let more = well_parts existed (turn existed book x.frame good).1 xs ys later h.1 in
     record { first = (h.0, more.first); then = more.then }
 
-pub replies_well : (stood : List ℕ → Bool) (book : Book) (answered : List Answered) (later : Book) →
-    GoesWell stood book answered later →
-    flat_map (λ t. t.replies) (run stood book (with_good_luck (frames_of answered))) ≡ replies_of answered
-replies_well stood book answered later h =
+pub replies_well : (existed : List ℕ → Bool) (book : Book) (answered : List Answered) (later : Book) →
+    GoesWell existed book answered later →
+    flat_map (λ t. t.replies) (run existed book (run_without_faults (answered_frames answered))) ≡ replies_of answered
+replies_well existed book answered later h =
     sym (flat_map-map (λ (a : Answered). a.replies) (λ (t : Turn). record { frame = t.frame; replies = t.replies })
-    (run stood book (with_good_luck (frames_of answered))))
-    ∙ ap replies_of (good_run stood book answered later h).answers
+    (run existed book (run_without_faults (answered_frames answered))))
+    ∙ ap replies_of (good_run existed book answered later h).answers
 
-pub record AreAlike (stood : List ℕ → Bool) (book : Book) (went : List ServedInput) : Type 0 where
+pub record AreAlike (existed : List ℕ → Bool) (book : Book) (went : List ServedInput) : Type 0 where
   pub written : map (λ x. x.written) went
-      ≡ map (λ x. replies_bytes x.replies) (exchanges stood book (map (λ x. x.input) went))
-  pub ends : map end_in (map (λ x. x.end) went)
-      ≡ map (λ x. Some x.end) (exchanges stood book (map (λ x. x.input) went))
+      ≡ map (λ x. replies_bytes x.replies) (exchanges existed book (map (λ x. x.input) went))
+  pub ends : map ingested_end (map (λ x. x.end) went)
+      ≡ map (λ x. Some x.end) (exchanges existed book (map (λ x. x.input) went))
 
-pub exchanges_well : (stood : List ℕ → Bool) (book : Book) (went : List ServedInput) (later : Book) →
+pub exchanges_well : (existed : List ℕ → Bool) (book : Book) (went : List ServedInput) (later : Book) →
     AllByRecursion WasServed went → AllByRecursion IsShort (map (λ x. x.input) went) →
-    GoesWell stood book (answered_in went) later → AreAlike stood book went
-exchanges_well stood book [] later h short well = record { written = refl; ends = refl }
-exchanges_well stood book (x ∷ went) later h short well =
+    GoesWell existed book (answered_in went) later → AreAlike existed book went
+exchanges_well existed book [] later h short well = record { written = refl; ends = refl }
+exchanges_well existed book (x ∷ went) later h short well =
     let one = to_its_end x h.0 short.0 in
-    let parts = well_parts stood book x.answered (answered_in went) later well in
-    let left : (exchange stood book x.input).book ≡ behind stood book x.answered =
-    ap (λ (s : List Frame × End). book_after stood book (with_good_luck s.0)) one.whole.stream in
-    let more = exchanges_well stood (behind stood book x.answered) went later h.1 short.1 parts.then in
-    let replies : (exchange stood book x.input).replies ≡ replies_of x.answered ++ last_reply one.end =
-    ap (λ (s : List Frame × End). flat_map (λ t. t.replies) (run stood book (with_good_luck s.0)) ++ last_reply s.1)
+    let parts = well_parts existed book x.answered (answered_in went) later well in
+    let left : (exchange existed book x.input).book ≡ following existed book x.answered =
+    ap (λ (s : List Frame × End). book_after existed book (run_without_faults s.0)) one.whole.stream in
+    let more = exchanges_well existed (following existed book x.answered) went later h.1 short.1 parts.then in
+    let replies : (exchange existed book x.input).replies ≡ replies_of x.answered ++ last_reply one.end =
+    ap (λ (s : List Frame × End). flat_map (λ t. t.replies) (run existed book (run_without_faults s.0)) ++ last_reply s.1)
     one.whole.stream
     ∙ ap (λ (rs : List Reply). rs ++ last_reply one.end)
-    (replies_well stood book x.answered (behind stood book x.answered) parts.first) in
+    (replies_well existed book x.answered (following existed book x.answered) parts.first) in
     record {
       written = ap (λ (ws : List (List ℕ)). x.written ∷ ws) more.written
           ∙ ap (λ (b : Book). x.written
-          ∷ map (λ x. replies_bytes x.replies) (exchanges stood b (map (λ x. x.input) went))) (sym left)
+          ∷ map (λ x. replies_bytes x.replies) (exchanges existed b (map (λ x. x.input) went))) (sym left)
           ∙ ap (λ (w : List ℕ). w ∷ map (λ x. replies_bytes x.replies)
-          (exchanges stood (exchange stood book x.input).book (map (λ x. x.input) went)))
+          (exchanges existed (exchange existed book x.input).book (map (λ x. x.input) went)))
           (one.whole.replies ∙ ap replies_bytes (sym replies));
-      ends = ap (λ (es : List (Option End)). end_in x.end ∷ es) more.ends
-          ∙ ap (λ (b : Book). end_in x.end
-          ∷ map (λ x. Some x.end) (exchanges stood b (map (λ x. x.input) went))) (sym left)
+      ends = ap (λ (es : List (Option End)). ingested_end x.end ∷ es) more.ends
+          ∙ ap (λ (b : Book). ingested_end x.end
+          ∷ map (λ x. Some x.end) (exchanges existed b (map (λ x. x.input) went))) (sym left)
           ∙ ap (λ (o : Option End). o ∷ map (λ x. Some x.end)
-          (exchanges stood (exchange stood book x.input).book (map (λ x. x.input) went)))
+          (exchanges existed (exchange existed book x.input).book (map (λ x. x.input) went)))
           (one.is ∙ ap (λ (s : List Frame × End). Some s.1) (sym one.whole.stream));
     }

@@ -14,17 +14,17 @@ use Rattle.bw_sender.specs.Senders.{IsSender}
 use Rattle.bw_sender.specs.declared.sender.Sender.{Sender}
 use Rattle.bw_wire.specs.Codecs.{reply_codec, spelling_of, Spelled}
 use Rattle.bw_wire.specs.Held.{longest_piece}
-use Rattle.bw_wire.specs.Pending.{Pending, Told, Nothing, Gives, Fails, fresh, with_piece, next_of, cut_off}
+use Rattle.bw_wire.specs.Pending.{Pending, Reported, Nothing, Gives, Fails, fresh, with_piece, next_of, cut_off}
 use Rattle.bw_wire.specs.Pending.{end_fault}
 use Rattle.bw_wire.specs.Replies.{reply_of}
 use Rattle.bw_wire.specs.Runs.{given_by}
-use Rattle.bw_wire.specs.Telling.{told_as}
+use Rattle.bw_wire.specs.Reporting.{reported_as}
 use Rattle.bw_wire.specs.declared.reply.Reply.{Reply as Answer}
 use Rattle.bw_engine.specs.declared.send_fault.SendFault.{SendFault}
 use Rattle.bw_engine.specs.declared.send_fault.SendFault.TheVariants as faults
 use Rattle.bw_exchange.specs.Served.{most_reads, HasGiven, HasNoneLeft}
 use Rattle.bw_engine.specs.Hears.{hear_all, CountsAll, IsHeardUpTo, IsAllHeard, IsHeardWhole}
-use Rattle.bw_engine.specs.Hears.{HearsBy, HearsNoFurther, Hears, GaveReplies, HearsMore, TellsFault}
+use Rattle.bw_engine.specs.Hears.{HearsBy, HearsNoFurther, Hears, GaveReplies, HearsMore, ReportsFault}
 use Rattle.bw_engine.specs.Hears.{hears_failed, IsHearingLimited, FeedsReplies, EndsReplies, ReadsReplies}
 use Rattle.bw_engine.specs.Hears.{StopsHearing}
 use Rattle.bw_exchange.proofs.Reading.{has_given-none, has_given-on, has_given-piece}
@@ -60,20 +60,20 @@ hears-on x y z p q r f g = record {
 }
 
 -- what an answer tells whose value is known
-pub as_told : {a b : Option Answer} {t : Told Reply} → a ≡ b → told_as reply_of (Ok a) ≡ t →
-    told_as reply_of (Ok b) ≡ t
-as_told same told = ap (λ (o : Option Answer). told_as reply_of (Ok o)) (sym same) ∙ told
+pub as_reported : {a b : Option Answer} {t : Reported Reply} → a ≡ b → reported_as reply_of (Ok a) ≡ t →
+    reported_as reply_of (Ok b) ≡ t
+as_reported same reported = ap (λ (o : Option Answer). reported_as reply_of (Ok o)) (sym same) ∙ reported
 
 -- a framer was asked, and there was no reply
-pub hears-quiet : (x : Sender) (p q : Pending) (t : Told Reply) → t ≡ (next_of reply_codec p).0 → IsNoReply t →
+pub hears-quiet : (x : Sender) (p q : Pending) (t : Reported Reply) → t ≡ (next_of reply_codec p).0 → IsNoReply t →
     q ≡ (next_of reply_codec p).1 → HearsMore x x p q
-hears-quiet x p q t told none same = record {
+hears-quiet x p q t reported none same = record {
   heard = [];
   counted = λ s is. is;
-  gives = λ fed before d. gave_more fed before [] p q same (ap (given_by reply_codec) (sym told) ∙ no_reply t none) d;
+  gives = λ fed before d. gave_more fed before [] p q same (ap (given_by reply_codec) (sym reported) ∙ no_reply t none) d;
 }
   where
-    no_reply : (t : Told Reply) → IsNoReply t → given_by reply_codec t ≡ []
+    no_reply : (t : Reported Reply) → IsNoReply t → given_by reply_codec t ≡ []
     no_reply Nothing none = refl
     no_reply (Gives r) none = absurd none
     no_reply (Fails reason place) none = refl
@@ -81,10 +81,10 @@ hears-quiet x p q t told none same = record {
 -- a reply was there, and is counted
 pub hears-one : (x y : Sender) (p q : Pending) (r : Reply) → Gives r ≡ (next_of reply_codec p).0 →
     q ≡ (next_of reply_codec p).1 → ((s : Defined) → IsSender s x → IsSender (hear s r) y) → HearsMore x y p q
-hears-one x y p q r told same counted = record {
+hears-one x y p q r reported same counted = record {
   heard = r ∷ [];
   counted = counted;
-  gives = λ fed before d. gave_more fed before (r ∷ []) p q same (ap (given_by reply_codec) (sym told)) d;
+  gives = λ fed before d. gave_more fed before (r ∷ []) p q same (ap (given_by reply_codec) (sym reported)) d;
 }
 
 -- ---- a piece is read
@@ -151,7 +151,7 @@ pub fed_so_far : (reads : ℕ) (x y : Sender) (left left' : Option (List ℕ)) (
 fed_so_far reads x y left left' p f =
     let same = gave_counted f.input f.heard p f.gave in omega (arith, same, f.most)
 
--- what was given behind a piece
+-- what was given after a piece
 gave_piece : (reads : ℕ) (x y z : Sender) (left left' left'' : Option (List ℕ)) (moved moved' : ℕ) (p q r : Pending)
     → (f : HeardSoFar reads x y left left' p) → (n : FeedsReplies left' left'' moved moved' p q) →
     (g : HearsMore y z q r) → GaveReplies (f.input ++ n.piece) (f.heard ++ g.heard) r
@@ -177,7 +177,7 @@ heard-more reads x y z left left' left'' moved moved' p q r f n g quiet =
 
 -- ---- the end
 
--- more bytes stand behind the others
+-- more bytes stand after the others
 spelled-more : (bytes rest more : List ℕ) (rs : List Reply) → Spelled Reply reply_codec bytes rs rest →
     Spelled Reply reply_codec (bytes ++ more) rs (rest ++ more)
 spelled-more bytes rest more rs f = record {
@@ -225,7 +225,7 @@ no_memory x left =
       given = f.given;
       no_further = no_more 0 x x left left fresh f;
       heard = [];
-      front = first_heard 0 x x left left fresh f;
+      prefix = first_heard 0 x x left left fresh f;
       counted = f.counted;
       by_end = inl (record { unread = refl; unheard = refl });
     }
@@ -242,7 +242,7 @@ no_more_heard reads x y left left' left'' p faults.Read f stops = record {
   given = λ xs h. let a = f.given xs h in (a.0, stops a.0 a.1, a.2);
   no_further = no_more reads x y left left' p f;
   heard = f.heard;
-  front = first_heard reads x y left left' p f;
+  prefix = first_heard reads x y left left' p f;
   counted = f.counted;
   by_end = all_heard reads x y left left' p f;
 }
@@ -253,7 +253,7 @@ no_more_heard reads x y left left' left'' p faults.Memory f stops =
       given = has_given-on left left' left'' f.input stops.0 f.given stops.2;
       no_further = no_further reads x y left left' p f stops.0 stops.4;
       heard = f.heard;
-      front = (first.0 ++ stops.0, spelled-more f.input first.0 stops.0 f.heard first.1);
+      prefix = (first.0 ++ stops.0, spelled-more f.input first.0 stops.0 f.heard first.1);
       counted = f.counted;
       by_end = inr (record {
         before = f.input;
@@ -273,7 +273,7 @@ limit_reached reads x y left left' p f often = record {
   given = f.given;
   no_further = no_more reads x y left left' p f;
   heard = f.heard;
-  front = first_heard reads x y left left' p f;
+  prefix = first_heard reads x y left left' p f;
   counted = f.counted;
   by_end = (all_heard reads x y left left' p f, omega (arith, often, f.least));
 }
@@ -287,39 +287,39 @@ some_bad [] reason e other = absurd (other (one_fault (first_reply []) e no_byte
     one_fault (Err why) a b = cc
 some_bad (b ∷ rest) reason e other = omega arith
 
--- behind the replies of a piece stands what is none
+-- after the replies of a piece stands what is none
 pub bad_reply : (reads : ℕ) (x y z : Sender) (left left' left'' : Option (List ℕ)) (moved moved' : ℕ)
     (p q r : Pending) → HeardSoFar reads x y left left' p → FeedsReplies left' left'' moved moved' p q →
-    HearsMore y z q r → TellsFault r → Hears (Err faults.BadReply) x z left left''
-bad_reply reads x y z left left' left'' moved moved' p q r f n g told =
+    HearsMore y z q r → ReportsFault r → Hears (Err faults.BadReply) x z left left''
+bad_reply reads x y z left left' left'' moved moved' p q r f n g reported =
     let input = f.input ++ n.piece in
     let heard = f.heard ++ g.heard in
     let gave = gave_piece reads x y z left left' left'' moved moved' p q r f n g in
     let follows = gave_follows input heard r gave in
-    let fault = follows.fault told.0 told.1 told.2 in
-    let other : told.0 ≢ Cut =
-    λ cut. follows.not_cut told.1 (told.2 ∙ ap (λ (why : Reason). Fails why told.1) cut) in
+    let fault = follows.fault reported.0 reported.1 reported.2 in
+    let other : reported.0 ≢ Cut =
+    λ cut. follows.not_cut reported.1 (reported.2 ∙ ap (λ (why : Reason). Fails why reported.1) cut) in
     let given = has_given-on left left' left'' f.input n.piece f.given n.given in
     record {
       input = input;
       given = given;
       no_further = no_further reads x y left left' p f n.piece n.short;
       heard = heard;
-      front = (fault.0, fault.1);
+      prefix = (fault.0, fault.1);
       counted = counts_on f.heard g.heard x y z f.counted g.counted;
       by_end = record {
-        reason = told.0;
+        reason = reported.0;
         rest = fault.0;
         spelled = fault.1;
-        some = some_bad fault.0 told.0 fault.2 other;
+        some = some_bad fault.0 reported.0 fault.2 other;
         bad = fault.2;
         drained = inl other;
         all = λ xs e.
             let a = given xs e in
-            subst (λ (bytes : List ℕ). IsHeardUpTo told.0 bytes heard) a.2 (
+            subst (λ (bytes : List ℕ). IsHeardUpTo reported.0 bytes heard) a.2 (
               fault.0 ++ a.0,
               spelled-more input fault.0 a.0 heard fault.1,
-              first_reply-bad_grows fault.0 a.0 told.0 other fault.2,
+              first_reply-bad_grows fault.0 a.0 reported.0 other fault.2,
             );
       };
     }
@@ -336,7 +336,7 @@ all_read left left' left'' p q input xs given n e =
     some_same : (a b : List ℕ) → Some a ≡ Some b → a ≡ b
     some_same a b h = cc
 
--- how the bytes that are left are told at the input's end
+-- how the bytes that are left are reported at the input's end
 none_cut : (bytes : List ℕ) (place : ℕ) → cut_off bytes place ≡ None → bytes ≡ []
 none_cut [] place e = refl
 none_cut (b ∷ bs) place e = absurd cc
@@ -357,7 +357,7 @@ input_ended result reads x y left left' left'' p q f n ok bad why = record {
       let b = n.given a.0 a.1 in (b.0, b.1, ap (λ (ys : List ℕ). f.input ++ ys) b.2 ∙ a.2);
   no_further = no_more reads x y left left' p f;
   heard = f.heard;
-  front = first_heard reads x y left left' p f;
+  prefix = first_heard reads x y left left' p f;
   counted = f.counted;
   by_end = by_end result ok bad why;
 }

@@ -9,8 +9,8 @@ use Rattle.bw_model.specs.Wire.{Frame}
 use Rattle.bw_model.specs.Replies.{Reply}
 use Rattle.bw_exchange.specs.Answering.{Answered, AnswersAll}
 use Rattle.bw_engine.specs.Ingesting.{ServedInput, WasServed, AreServed, AreFirstIn, answered_in}
-use Rattle.bw_engine.specs.Ingesting.{bytes_in, ServesInput, ServesFirst, ServesInputs, ServesInPart}
-use Rattle.bw_engine.specs.declared.ingest.Told.{Told}
+use Rattle.bw_engine.specs.Ingesting.{input_bytes, ServesInput, ServesFirst, ServesInputs, ServesInPart}
+use Rattle.bw_engine.specs.declared.ingest.Reported.{Reported}
 use Rattle.bw_exchange.proofs.Going.{answers_append}
 use Rattle.bw_exchange.specs.declared.serving.ExchangeEnd.{ExchangeEnd}
 
@@ -24,9 +24,9 @@ none_first [] = refl
 none_first (input ∷ left) = (_, refl)
 
 module _ {T : Type 0} (answers : T → Frame → List Reply → T → Type 0) where
-  pub inputs-none : (old : T) (told : Told) → told.replies.items ≡ [] → told.ends.items ≡ [] →
-      ServesInputs answers old old [] told
-  inputs-none old told replies ends = record {
+  pub inputs-none : (old : T) (reported : Reported) → reported.replies.items ≡ [] → reported.ends.items ≡ [] →
+      ServesInputs answers old old [] reported
+  inputs-none old reported replies ends = record {
     went = [];
     by_server = refl;
     are = record {
@@ -65,22 +65,22 @@ module _ {T : Type 0} (answers : T → Frame → List Reply → T → Type 0) wh
       last : ServedInput
       last = record { input = input; answered = one.answered; written = bytes; end = end }
 
-  pub inputs-more : (old mid new : T) (inputs inputs' : List (List ℕ)) (told told' : Told)
+  pub inputs-more : (old mid new : T) (inputs inputs' : List (List ℕ)) (reported reported' : Reported)
       (input bytes : List ℕ) (end : ExchangeEnd) → inputs' ≡ inputs ++ input ∷ [] →
-      bytes_in told'.replies.items ≡ bytes_in told.replies.items ++ bytes ∷ [] →
-      told'.ends.items ≡ told.ends.items ++ end ∷ [] →
-      ServesInputs answers old mid inputs told → ServesInput answers mid new input bytes end →
-      ServesInputs answers old new inputs' told'
-  inputs-more old mid new inputs inputs' told told' input bytes end is ws es h one =
-      let all = all_served old mid new inputs inputs' (bytes_in told.replies.items) (bytes_in told'.replies.items)
-      told.ends.items told'.ends.items input bytes end h.went h.by_server h.are is ws es one in
+      input_bytes reported'.replies.items ≡ input_bytes reported.replies.items ++ bytes ∷ [] →
+      reported'.ends.items ≡ reported.ends.items ++ end ∷ [] →
+      ServesInputs answers old mid inputs reported → ServesInput answers mid new input bytes end →
+      ServesInputs answers old new inputs' reported'
+  inputs-more old mid new inputs inputs' reported reported' input bytes end is ws es h one =
+      let all = all_served old mid new inputs inputs' (input_bytes reported.replies.items) (input_bytes reported'.replies.items)
+      reported.ends.items reported'.ends.items input bytes end h.went h.by_server h.are is ws es one in
       record { went = all.0; by_server = all.1; are = all.2 }
 
   -- first frames of the next
-  pub inputs-part : (old mid new : T) (inputs : List (List ℕ)) (told : Told) (input : List ℕ)
-      (left : List (List ℕ)) → ServesInputs answers old mid inputs told → ServesFirst answers mid new input →
+  pub inputs-part : (old mid new : T) (inputs : List (List ℕ)) (reported : Reported) (input : List ℕ)
+      (left : List (List ℕ)) → ServesInputs answers old mid inputs reported → ServesFirst answers mid new input →
       ServesInPart answers old new (inputs ++ input ∷ left)
-  inputs-part old mid new inputs told input left h one = record {
+  inputs-part old mid new inputs reported input left h one = record {
     went = h.went;
     next = one.answered;
     by_server = answers_append answers (answered_in h.went) one.answered old mid new h.by_server one.by_server;
@@ -93,12 +93,12 @@ module _ {T : Type 0} (answers : T → Frame → List Reply → T → Type 0) wh
   }
 
   -- the next whole, but what it told is lost
-  pub inputs-whole : (old mid new : T) (inputs : List (List ℕ)) (told : Told) (input bytes : List ℕ)
-      (end : ExchangeEnd) (left : List (List ℕ)) → ServesInputs answers old mid inputs told →
+  pub inputs-whole : (old mid new : T) (inputs : List (List ℕ)) (reported : Reported) (input bytes : List ℕ)
+      (end : ExchangeEnd) (left : List (List ℕ)) → ServesInputs answers old mid inputs reported →
       ServesInput answers mid new input bytes end → ServesInPart answers old new (inputs ++ input ∷ left)
-  inputs-whole old mid new inputs told input bytes end left h one =
-      let all = all_served old mid new inputs (inputs ++ input ∷ []) (bytes_in told.replies.items)
-      (bytes_in told.replies.items ++ bytes ∷ []) told.ends.items (told.ends.items ++ end ∷ []) input bytes end h.went
+  inputs-whole old mid new inputs reported input bytes end left h one =
+      let all = all_served old mid new inputs (inputs ++ input ∷ []) (input_bytes reported.replies.items)
+      (input_bytes reported.replies.items ++ bytes ∷ []) reported.ends.items (reported.ends.items ++ end ∷ []) input bytes end h.went
       h.by_server h.are refl refl refl one in
       record {
         went = all.0;

@@ -11,7 +11,7 @@ use Rattle.bw_model.specs.Replies.{Reply}
 use Rattle.bw_model.specs.Stream.{first_reply}
 use Rattle.bw_model.proofs.FrameLaws.{reads_reply}
 use Rattle.bw_wire.specs.Codecs.{reply_codec}
-use Rattle.bw_wire.specs.Pending.{Phase, Reading, Left, Failed, Pending, Told, Nothing, Gives, Fails, fresh}
+use Rattle.bw_wire.specs.Pending.{Phase, Reading, Left, Failed, Pending, Reported, Nothing, Gives, Fails, fresh}
 use Rattle.bw_wire.specs.Pending.{with_piece, compacted, emptied, next_of}
 use Rattle.bw_wire.specs.Runs.{Call, Feeds, Takes, fed_in, Run, given_by, with_call, with_calls}
 use Rattle.bw_wire.specs.Runs.{Follows}
@@ -24,17 +24,17 @@ use Rattle.bw_exchange.proofs.Lawful.{with_piece-fed}
 
 -- what a framer tells, and what it then keeps
 abbrev Answer : Type 0
-Answer = Told Reply × Pending
+Answer = Reported Reply × Pending
 
--- ---- what is told last is told again
+-- ---- what is reported last is reported again
 
--- what is told is no reply
-abbrev pub IsNoReply : Told Reply → Type 0
+-- what is reported is no reply
+abbrev pub IsNoReply : Reported Reply → Type 0
 IsNoReply Nothing = Unit {0}
 IsNoReply (Gives r) = ⊥
 IsNoReply (Fails reason place) = Unit {0}
 
-again_by : (p q : Pending) (t : Told Reply) → next_of reply_codec p ≡ (t, q) → (next_of reply_codec q).0 ≡ t →
+again_by : (p q : Pending) (t : Reported Reply) → next_of reply_codec p ≡ (t, q) → (next_of reply_codec q).0 ≡ t →
     (next_of reply_codec (next_of reply_codec p).1).0 ≡ (next_of reply_codec p).0
 again_by p q t e again =
     ap (λ (y : Answer). (next_of reply_codec y.1).0) e ∙ again ∙ sym (ap (λ (y : Answer). y.0) e)
@@ -58,9 +58,9 @@ again_in Reading (Err reason) p e f last = elim (cut_or_not reason) [
       (ap (λ (y : Answer). y.0) (next_of-failed reply_codec q reason refl))
 ]
 
-pub told_again : (p q : Pending) (t : Told Reply) → (next_of reply_codec p).0 ≡ t → q ≡ (next_of reply_codec p).1 →
+pub reported_again : (p q : Pending) (t : Reported Reply) → (next_of reply_codec p).0 ≡ t → q ≡ (next_of reply_codec p).1 →
     IsNoReply t → (next_of reply_codec q).0 ≡ t
-told_again p q t e same last =
+reported_again p q t e same last =
     ap (λ (x : Pending). (next_of reply_codec x).0) same
     ∙ again_in p.phase (first_reply p.bytes) p refl refl (subst IsNoReply (sym e) last) ∙ e
 
@@ -104,7 +104,7 @@ pub gives_shorter : (p q : Pending) (r : Reply) → (next_of reply_codec p).0 �
     → length q.bytes < length p.bytes
 gives_shorter p q r e same =
     subst (λ (x : Pending). length x.bytes < length p.bytes) (sym same)
-    (subst (λ (t : Told Reply). IsShorter p (t, (next_of reply_codec p).1)) e
+    (subst (λ (t : Reported Reply). IsShorter p (t, (next_of reply_codec p).1)) e
     (shorter_in p.phase (first_reply p.bytes) p refl refl))
 
 taken_fed : (h : Phase) (read : Result (Reply × List ℕ) Reason) (p : Pending) → p.phase ≡ h →
@@ -152,13 +152,13 @@ gave_fed fed given piece p q same bytes d = record {
 pub gave_more : (fed : List ℕ) (given more : List Reply) (p q : Pending) → q ≡ (next_of reply_codec p).1 →
     given_by reply_codec (next_of reply_codec p).0 ≡ more → GaveReplies fed given p →
     GaveReplies fed (given ++ more) q
-gave_more fed given more p q same told d = record {
+gave_more fed given more p q same reported d = record {
   fits = d.fits;
   calls = d.calls ++ Takes ∷ [];
   fed_by = fed_in-more d.calls Takes ∙ append-nil (fed_in d.calls) ∙ d.fed_by;
   runs = run_more reply_codec d.calls Takes
       ∙ ap (λ (r : Run Reply). with_call reply_codec r Takes) d.runs
-      ∙ ap (λ (x : List Reply). record { given = given ++ x; state = (next_of reply_codec p).1 }) told
+      ∙ ap (λ (x : List Reply). record { given = given ++ x; state = (next_of reply_codec p).1 }) reported
       ∙ ap (λ (x : Pending). record { given = given ++ more; state = x }) (sym same);
 }
 

@@ -10,7 +10,7 @@ use Rattle.bw_model.specs.Stream.{End, EndOfInput, SaidBye, BadFrame}
 use Rattle.bw_wire.specs.Reasons.{reason_meaning}
 use Rattle.bw_model.specs.Exchange.{last_reply}
 use Rattle.bw_model.proofs.Elements.{some_inj}
-use Rattle.bw_exchange.specs.Answering.{Answered, frames_of, replies_of}
+use Rattle.bw_exchange.specs.Answering.{Answered, answered_frames, replies_of}
 use Rattle.bw_exchange.specs.Done.{AreFirstOf}
 use Rattle.bw_exchange.specs.Served.{Serves, EndsBy, reads_failed}
 use Rattle.bw_engine.specs.Ingesting.{WasServed, ServesInput, ServesFirst}
@@ -59,8 +59,8 @@ was_served ends.TurnLimit input fed rest output left left' answered fits all fro
       long = h.1;
       answers = h.0;
       spelled = spelled;
-      first = subst (AreFirstOf (frames_of answered)) all (first_of_more (frames_of answered) fed rest
-          (ap are_bytes all ∙ fits) ([], h.0.frames ∙ sym (append-nil (frames_of answered))));
+      first = subst (AreFirstOf (answered_frames answered)) all (first_of_more (answered_frames answered) fed rest
+          (ap are_bytes all ∙ fits) ([], h.0.frames ∙ sym (append-nil (answered_frames answered))));
     }
 was_served ends.ReadFault input fed rest output left left' answered fits all from spelled h reads write memory =
     absurd (omega (arith, reads))
@@ -96,6 +96,6 @@ module _ {T : Type 0} (answers : T → Frame → List Reply → T → Type 0) (o
       record {
         answered = h.answered;
         by_server = h.by_server;
-        first = subst (AreFirstOf (frames_of h.answered)) given.2
-            (first_of_more (frames_of h.answered) h.input given.0 (ap are_bytes given.2 ∙ fits) h.front);
+        first = subst (AreFirstOf (answered_frames h.answered)) given.2
+            (first_of_more (answered_frames h.answered) h.input given.0 (ap are_bytes given.2 ∙ fits) h.prefix);
       }

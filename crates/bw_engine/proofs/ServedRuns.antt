@@ -52,7 +52,7 @@ delays_first : (first rest : List Reply) (failed : Bool) (before mid after : ℕ
     mid ≤ after → (list_any is_delayed first ≡ true → failed ≡ true) →
     (mid < last_count → list_any is_delayed rest ≡ true → mid < after) → before < last_count →
     list_any is_delayed (first ++ rest) ≡ true → before < after
-delays_first first rest failed before mid after one more here there below told =
+delays_first first rest failed before mid after one more here there below reported =
     go (list_any is_delayed first) refl
   where
     by_order : (b : Bool) → nat_lt mid last_count ≡ b → list_any is_delayed rest ≡ true → before ≤ mid → before < after
@@ -65,7 +65,7 @@ delays_first first rest failed before mid after one more here there below told =
     go true e = let rose = one.some (here e) below in omega (arith, rose, more)
     go false e =
         let later = sym (list_any-append is_delayed first rest
-        ∙ ap (λ (b : Bool). b || list_any is_delayed rest) e) ∙ told in
+        ∙ ap (λ (b : Bool). b || list_any is_delayed rest) e) ∙ reported in
         let up = one.no_less in
         by_order (nat_lt mid last_count) refl later up
 
@@ -78,7 +78,7 @@ module _ {X Y : Type 0} (S : StoreGhosts X) (J : JournalGhosts Y) where
     few = tt;
     no_less = omega arith;
     most = omega arith;
-    delays = λ below told. absurd cc;
+    delays = λ below reported. absurd cc;
     runs = λ honest first book h. record {
       later = book;
       went = (refl, refl);

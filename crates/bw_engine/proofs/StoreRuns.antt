@@ -19,10 +19,10 @@ use Rattle.bw_session.specs.Servers.{kept_in, store_since}
 use Rattle.bw_session.specs.declared.server.Server.{Server}
 use Rattle.bw_exchange.specs.Answering.{Answered, AnswersAll}
 use Rattle.bw_session.specs.ServerTurns.{ServerTurn}
-use Rattle.bw_exchange.specs.TurnRuns.{IsRun, with_good_luck}
+use Rattle.bw_exchange.specs.TurnRuns.{IsRun, run_without_faults}
 use Rattle.bw_engine.specs.ServerRuns.{all_done}
-use Rattle.bw_engine.specs.Ingesting.{answered_in, LeavesRun, Ingests, IngestsInPart, bytes_in}
-use Rattle.bw_engine.specs.Ingesting.{GoWell, RunsAsDefined, end_in, frames_in, IsShort, TellsNoWant}
+use Rattle.bw_engine.specs.Ingesting.{answered_in, LeavesRun, Ingests, IngestsInPart, input_bytes}
+use Rattle.bw_engine.specs.Ingesting.{GoWell, RunsAsDefined, ingested_end, input_frames, IsShort, ReportsNoFailure}
 use Rattle.bw_engine.specs.declared.ingest.Run.{Run}
 use Rattle.std.specs.List.{AllByRecursion}
 use Rattle.bw_engine.proofs.InputSteps.{none_first}
@@ -49,7 +49,7 @@ module _ {X : Type 0} (S : StoreGhosts X) where
     names = λ n. refl;
     each = λ n k e. absurd (no_kept e);
     others = λ honest n which. refl;
-    theirs = λ honest n k e stood. absurd (no_kept e);
+    theirs = λ honest n k e existed. absurd (no_kept e);
     files = λ honest n k e new. absurd (no_kept e);
   }
     where
@@ -128,24 +128,24 @@ module _ {X : Type 0} (S : StoreGhosts X) where
   -- what is in order goes as the definitions' exchanges go
   pub ingests_well : {Y : Type 0} (J : JournalGhosts Y) (limit : ℕ) (before : X) (inputs : List (List ℕ)) (run : Run X) →
       Ingests S J limit before inputs run → IsTrue (S.honest before) →
-      GoWell inputs (bytes_in run.replies.items) → RunsAsDefined S limit before inputs run
+      GoWell inputs (input_bytes run.replies.items) → RunsAsDefined S limit before inputs run
   ingests_well J limit before inputs run h honest well =
-      let stood : List ℕ → Bool = λ n. is_some (S.contents before n) in
+      let existed : List ℕ → Bool = λ n. is_some (S.contents before n) in
       let leaves = h.leaves honest in
       let short = subst (AllByRecursion IsShort) (sym h.are.inputs_are) well.short in
-      let told = subst (AllByRecursion TellsNoWant) (sym h.are.written_is) well.no_want in
-      let frames = frames_answered h.went h.are.each short ∙ ap frames_in h.are.inputs_are in
+      let reported = subst (AllByRecursion ReportsNoFailure) (sym h.are.written_is) well.no_want in
+      let frames = frames_answered h.went h.are.each short ∙ ap input_frames h.are.inputs_are in
       let near = subst (AreInOrder []) (sym frames) well.in_order in
-      let x = in_order_well stood _ _ (answered_in h.went) leaves.book leaves.run near
-      (none_wanted h.went h.are.each short told) in
-      let alike = exchanges_well stood [] h.went leaves.book h.are.each short x.0 in
-      let left = ap (λ (fs : List Frame). book_after stood [] (with_good_luck fs)) (sym frames)
-      ∙ (good_run stood [] (answered_in h.went) leaves.book x.0).left in
+      let x = in_order_well existed _ _ (answered_in h.went) leaves.book leaves.run near
+      (none_wanted h.went h.are.each short reported) in
+      let alike = exchanges_well existed [] h.went leaves.book h.are.each short x.0 in
+      let left = ap (λ (fs : List Frame). book_after existed [] (run_without_faults fs)) (sym frames)
+      ∙ (good_run existed [] (answered_in h.went) leaves.book x.0).left in
       record {
         replies = sym h.are.written_is ∙ alike.written
-            ∙ ap (λ (is : List (List ℕ)). map (λ x. replies_bytes x.replies) (exchanges stood [] is)) h.are.inputs_are;
-        ends_are = ap (map end_in) (sym h.are.ends_are) ∙ alike.ends
-            ∙ ap (λ (is : List (List ℕ)). map (λ x. Some x.end) (exchanges stood [] is)) h.are.inputs_are;
+            ∙ ap (λ (is : List (List ℕ)). map (λ x. replies_bytes x.replies) (exchanges existed [] is)) h.are.inputs_are;
+        ends_are = ap (map ingested_end) (sym h.are.ends_are) ∙ alike.ends
+            ∙ ap (λ (is : List (List ℕ)). map (λ x. Some x.end) (exchanges existed [] is)) h.are.inputs_are;
         files = λ n. leaves.files n (inl (x.1 n))
             ∙ ap (λ (b : Book). content_in (S.contents before) limit b n) (sym left);
       }

@@ -23,7 +23,7 @@ pending_messages s = messages s.name (pending_from 0 s.offered s.verdicts)
 abbrev pub batch : Sender → List Frame
 batch s = pending_messages s ++ Bye ∷ []
 
--- their frames one behind another
+-- their frames one after another
 abbrev pub batch_bytes : Sender → List ℕ
 batch_bytes s = frames_bytes (batch s)
 
@@ -44,7 +44,7 @@ pub record LacksMemoryToSend (s : Sender) (written written' : Option (List ℕ))
   pub unsent : List Frame
   pub all : sent ++ unsent ≡ pending_messages s
   pub some : 1 ≤ length unsent
-  pub front : WritesMessages sent written written'
+  pub prefix : WritesMessages sent written written'
 
 -- what is written of a sender's bytes where they break off, by why they do
 abbrev pub BreaksBytes : SendFault → Sender → List ℕ → Option (List ℕ) →

@@ -30,7 +30,7 @@ abbrev pub IsHeardUpTo : Reason → List ℕ → List Reply → Type 0
 IsHeardUpTo reason bytes heard =
     (rest : List ℕ) × Spelled Reply reply_codec bytes heard rest × (first_reply rest ≡ Err reason)
 
--- all whole replies of the bytes were heard: what is left is the front of one, or nothing
+-- all whole replies of the bytes were heard: what is left is the prefix of one, or nothing
 abbrev pub IsAllHeard : List ℕ → List Reply → Type 0
 IsAllHeard bytes heard = IsHeardUpTo Cut bytes heard
 
@@ -38,7 +38,7 @@ IsAllHeard bytes heard = IsHeardUpTo Cut bytes heard
 abbrev pub IsHeardWhole : List ℕ → List Reply → Type 0
 IsHeardWhole bytes heard = Spelled Reply reply_codec bytes heard []
 
--- the input ended behind a reply
+-- the input ended after a reply
 pub record HearsToTheEnd (left left' : Option (List ℕ)) (input : List ℕ) (heard : List Reply)
     : Type 0 where
   pub whole : IsHeardWhole input heard
@@ -46,7 +46,7 @@ pub record HearsToTheEnd (left left' : Option (List ℕ)) (input : List ℕ) (he
   -- so is all that the reader had
   pub all : (xs : List ℕ) → left ≡ Some xs → IsHeardWhole xs heard
 
--- behind the replies stands what is none: bad bytes, or the front of a reply at the input's end
+-- after the replies stands what is none: bad bytes, or the prefix of a reply at the input's end
 pub record FindsBadReply (left left' : Option (List ℕ)) (input : List ℕ) (heard : List Reply)
     : Type 0 where
   pub reason : Reason
@@ -86,8 +86,8 @@ HearsBy (Err faults.BadReply) left left' input heard = FindsBadReply left left' 
 HearsBy (Err faults.TurnLimit) left left' input heard =
     IsAllHeard input heard × (most_reads ≤ length input)
 
--- Nothing is read behind a bad reply: without the last piece that was read, the bytes are whole
--- replies and the front of one.
+-- Nothing is read after a bad reply: without the last piece that was read, the bytes are whole
+-- replies and the prefix of one.
 pub record HearsNoFurther (input : List ℕ) : Type 0 where
   pub before : List ℕ
   pub last : List ℕ
@@ -105,7 +105,7 @@ pub record Hears (result : Result (Unit {0}) SendFault) (x y : Sender)
   pub no_further : HearsNoFurther input
   -- these replies were heard: they are the first of what was read
   pub heard : List Reply
-  pub front : (rest : List ℕ) × Spelled Reply reply_codec input heard rest
+  pub prefix : (rest : List ℕ) × Spelled Reply reply_codec input heard rest
   pub counted : CountsAll heard x y
   pub by_end : HearsBy result left left' input heard
 
@@ -118,7 +118,7 @@ hears_failed (Err faults.Memory) n = n
 hears_failed (Err faults.BadReply) n = n
 hears_failed (Err faults.TurnLimit) n = n
 
--- the limit of reads is told only where a reader has counted so many bytes more, and so many calls
+-- the limit of reads is reported only where a reader has counted so many bytes more, and so many calls
 -- more, or as many as it can count
 abbrev pub IsHearingLimited : Result (Unit {0}) SendFault → ℕ → ℕ → ℕ → ℕ → Type 0
 IsHearingLimited (Ok x) moved moved' calls calls' = Unit {0}
@@ -148,8 +148,8 @@ pub record HearsMore (x y : Sender) (p q : Pending) : Type 0 where
       GaveReplies fed (before ++ heard) q
 
 -- a framer tells a fault
-abbrev pub TellsFault : Pending → Type 0
-TellsFault p = (reason : Reason) × (offset : ℕ)
+abbrev pub ReportsFault : Pending → Type 0
+ReportsFault p = (reason : Reason) × (offset : ℕ)
     × ((next_of reply_codec p).0 ≡ Fails reason offset)
 
 -- a piece was read and fed

@@ -10,7 +10,7 @@ use Rattle.bw_model.specs.Stream.{End, EndOfInput, SaidBye, BadFrame, stream_of}
 use Rattle.bw_model.specs.Book.{Book, log_of}
 use Rattle.bw_model.specs.Turn.{book_after}
 use Rattle.bw_model.specs.CountedTurn.{is_pending}
-use Rattle.bw_model.specs.NumberOrder.{AreInOrder, tells_want}
+use Rattle.bw_model.specs.NumberOrder.{AreInOrder, reports_failure}
 use Rattle.bw_model.specs.Exchange.{replies_bytes, last_reply, exchanges, take_in, content_in}
 use Rattle.bw_model.specs.Holds.{Kept, Holds}
 use Rattle.bw_wire.specs.Reasons.{reason_meaning}
@@ -19,28 +19,28 @@ use Rattle.bw_journal.specs.declared.journal.Journal.{Ghosts as JournalGhosts}
 use Rattle.bw_session.specs.Books.{HoldsBook}
 use Rattle.bw_session.specs.Numbered.{failed_calls}
 use Rattle.bw_session.specs.Servers.{store_since}
-use Rattle.bw_exchange.specs.Answering.{Answered, frames_of, replies_of, AnswersAll}
+use Rattle.bw_exchange.specs.Answering.{Answered, answered_frames, replies_of, AnswersAll}
 use Rattle.bw_exchange.specs.Done.{AreFirstOf}
 use Rattle.bw_exchange.specs.Served.{most_reads}
-use Rattle.bw_exchange.specs.TurnRuns.{IsRun, with_good_luck}
+use Rattle.bw_exchange.specs.TurnRuns.{IsRun, run_without_faults}
 use Rattle.bw_session.specs.declared.server.Server.{Server}
 use Rattle.bw_exchange.specs.Served.{AnswersAllRead}
 use Rattle.bw_session.specs.ServerTurns.{ServerTurn}
 use Rattle.bw_engine.specs.ServerRuns.{all_done}
 use Rattle.bw_engine.specs.declared.ingest.Run.{Run}
-use Rattle.bw_engine.specs.declared.ingest.Told.{Told}
+use Rattle.bw_engine.specs.declared.ingest.Reported.{Reported}
 use Rattle.bw_exchange.specs.declared.serving.ExchangeEnd.{ExchangeEnd}
 use Rattle.bw_exchange.specs.declared.serving.ExchangeEnd.TheVariants as ends
 
 -- an exchange's end in the definitions' words, where its bytes tell it
-abbrev pub end_in : ExchangeEnd → Option End
-end_in ends.Bye = Some SaidBye
-end_in ends.EndOfInput = Some EndOfInput
-end_in (ends.BadFrame fault) = Some (BadFrame (reason_meaning fault.reason) fault.offset)
-end_in ends.ReadFault = None
-end_in ends.WriteFault = None
-end_in ends.TurnLimit = None
-end_in ends.Memory = None
+abbrev pub ingested_end : ExchangeEnd → Option End
+ingested_end ends.Bye = Some SaidBye
+ingested_end ends.EndOfInput = Some EndOfInput
+ingested_end (ends.BadFrame fault) = Some (BadFrame (reason_meaning fault.reason) fault.offset)
+ingested_end ends.ReadFault = None
+ingested_end ends.WriteFault = None
+ingested_end ends.TurnLimit = None
+ingested_end ends.Memory = None
 
 -- an input, which of its frames were answered, what was written, and how the exchange ended
 pub record ServedInput : Type 0 where
@@ -49,9 +49,9 @@ pub record ServedInput : Type 0 where
   pub written : List ℕ
   pub end : ExchangeEnd
 
--- All its frames were answered; the replies were written, and the one to a bad frame behind them.
+-- All its frames were answered; the replies were written, and the one to a bad frame after them.
 pub record IsServedWhole (x : ServedInput) (end : End) : Type 0 where
-  pub stream : stream_of Second x.input ≡ (frames_of x.answered, end)
+  pub stream : stream_of Second x.input ≡ (answered_frames x.answered, end)
   pub replies : x.written ≡ replies_bytes (replies_of x.answered ++ last_reply end)
   -- each of which has a spelling
   pub spelled : IsTrue (list_all is_reply (replies_of x.answered ++ last_reply end))
@@ -67,7 +67,7 @@ pub record IsCutOff (x : ServedInput) : Type 0 where
   pub answers : AnswersAllRead x.answered bytes_read x.written
   -- each reply has a spelling
   pub spelled : IsTrue (list_all is_reply (replies_of x.answered))
-  pub first : AreFirstOf (frames_of x.answered) x.input
+  pub first : AreFirstOf (answered_frames x.answered) x.input
 
 -- it was served to the end that its bytes tell, or was cut off
 abbrev pub IsServedTo : Option End → ServedInput → Type 0
@@ -76,18 +76,18 @@ IsServedTo None x = IsCutOff x
 
 -- .. as its end says
 abbrev pub WasServed : ServedInput → Type 0
-WasServed x = IsServedTo (end_in x.end) x
+WasServed x = IsServedTo (ingested_end x.end) x
 
 -- the bytes of each
-abbrev pub bytes_in : List (Vec ℕ Global) → List (List ℕ)
-bytes_in vecs = map (λ v. v.items) vecs
+abbrev pub input_bytes : List (Vec ℕ Global) → List (List ℕ)
+input_bytes vecs = map (λ v. v.items) vecs
 
 -- These inputs were served, one after another; this was written for each, and each ended so.
 pub record AreServed (went : List ServedInput) (inputs written : List (List ℕ))
-    (ends_told : List ExchangeEnd) : Type 0 where
+    (ends_reported : List ExchangeEnd) : Type 0 where
   pub inputs_are : map (λ x. x.input) went ≡ inputs
   pub written_is : map (λ x. x.written) went ≡ written
-  pub ends_are : map (λ x. x.end) went ≡ ends_told
+  pub ends_are : map (λ x. x.end) went ≡ ends_reported
   pub each : AllByRecursion WasServed went
 
 -- all that was answered, one input after another
@@ -105,11 +105,11 @@ pub record AreServedInPart (went : List ServedInput) (next : List Answered)
   pub left : List (List ℕ)
   pub inputs_are : map (λ x. x.input) went ++ left ≡ inputs
   pub each : AllByRecursion WasServed went
-  pub first : AreFirstIn (frames_of next) left
+  pub first : AreFirstIn (answered_frames next) left
 
 -- the frames of all inputs
-abbrev pub frames_in : List (List ℕ) → List Frame
-frames_in inputs = flat_map (λ input. (stream_of Second input).0) inputs
+abbrev pub input_frames : List (List ℕ) → List Frame
+input_frames inputs = flat_map (λ input. (stream_of Second input).0) inputs
 
 module _ {T : Type 0} (answers : T → Frame → List Reply → T → Type 0) (old new : T) where
   -- a server serves this input in an exchange, which writes this and ends so
@@ -123,13 +123,13 @@ module _ {T : Type 0} (answers : T → Frame → List Reply → T → Type 0) (o
   pub record ServesFirst (input : List ℕ) : Type 0 where
     pub answered : List Answered
     pub by_server : AnswersAll answers old answered new
-    pub first : AreFirstOf (frames_of answered) input
+    pub first : AreFirstOf (answered_frames answered) input
 
   -- it serves these inputs one after another, writes this, and these are the ends
-  pub record ServesInputs (inputs : List (List ℕ)) (told : Told) : Type 0 where
+  pub record ServesInputs (inputs : List (List ℕ)) (reported : Reported) : Type 0 where
     pub went : List ServedInput
     pub by_server : AnswersAll answers old (answered_in went) new
-    pub are : AreServed went inputs (bytes_in told.replies.items) told.ends.items
+    pub are : AreServed went inputs (input_bytes reported.replies.items) reported.ends.items
 
   -- it serves the first of these inputs, and first frames of the next
   pub record ServesInPart (inputs : List (List ℕ)) : Type 0 where
@@ -140,7 +140,7 @@ module _ {T : Type 0} (answers : T → Frame → List Reply → T → Type 0) (o
 
 module _ {X : Type 0} (S : StoreGhosts X) (limit : ℕ) (before : X) where
   -- These frames were answered in a run from the empty book, beside the store's count of failures,
-  -- and the store is as a server leaves it that holds the book behind them: each name that is
+  -- and the store is as a server leaves it that holds the book after them: each name that is
   -- closed, or of which nothing waits, has its take's file, or what stood there before.
   pub record LeavesRun (answered : List Answered) (after : X) : Type 0 where
     pub book : Book
@@ -159,13 +159,13 @@ module _ {X : Type 0} (S : StoreGhosts X) (limit : ℕ) (before : X) where
   -- What is written, the ends and the contents are those of the definitions' exchanges, in which
   -- memory and store give all that is asked of them.
   pub record RunsAsDefined (inputs : List (List ℕ)) (run : Run X) : Type 0 where
-    pub replies : bytes_in run.replies.items ≡ map (λ x. replies_bytes x.replies)
+    pub replies : input_bytes run.replies.items ≡ map (λ x. replies_bytes x.replies)
         (exchanges (λ name. is_some (S.contents before name)) [] inputs)
-    pub ends_are : map end_in run.ends.items ≡ map (λ x. Some x.end)
+    pub ends_are : map ingested_end run.ends.items ≡ map (λ x. Some x.end)
         (exchanges (λ name. is_some (S.contents before name)) [] inputs)
     pub files : (name : List ℕ) → S.contents run.store name
         ≡ content_in (S.contents before) limit (book_after (λ n. is_some (S.contents before n)) []
-        (with_good_luck (frames_in inputs))) name
+        (run_without_faults (input_frames inputs))) name
 
 module _ {X Y : Type 0} (S : StoreGhosts X) (J : JournalGhosts Y) (limit : ℕ) (before : X) where
   -- A new server over this store answered these frames, one after another, and its store is the one
@@ -175,18 +175,18 @@ module _ {X Y : Type 0} (S : StoreGhosts X) (J : JournalGhosts Y) (limit : ℕ) 
     pub store_is : server.stores.store ≡ before
     pub limit_is : server.limit ≡ limit
     pub new : HoldsBook S J (S.contents before) server []
-    pub behind : Server X Y S J
-    pub by_server : AnswersAll (ServerTurn S J) server answered behind
-    pub left : after ≡ behind.stores.store
+    pub following : Server X Y S J
+    pub by_server : AnswersAll (ServerTurn S J) server answered following
+    pub left : after ≡ following.stores.store
 
   -- it did; or no server was made, nothing was answered, and the store is as it was
-  abbrev pub CameBack : List Answered → X → Type 0
-  CameBack answered after = WentThrough answered after ⊎ ((answered ≡ []) × (after ≡ before))
+  abbrev pub ReceivedBack : List Answered → X → Type 0
+  ReceivedBack answered after = WentThrough answered after ⊎ ((answered ≡ []) × (after ≡ before))
 
   -- The inputs were served, one after another; over an honest store, all in one run.
   pub record Ingests (inputs : List (List ℕ)) (run : Run X) : Type 0 where
     pub went : List ServedInput
-    pub are : AreServed went inputs (bytes_in run.replies.items) run.ends.items
+    pub are : AreServed went inputs (input_bytes run.replies.items) run.ends.items
     pub store : WentThrough (answered_in went) run.store
     pub leaves : IsTrue (S.honest before) → LeavesRun S limit before (answered_in went) run.store
 
@@ -196,7 +196,7 @@ module _ {X Y : Type 0} (S : StoreGhosts X) (J : JournalGhosts Y) (limit : ℕ) 
     pub went : List ServedInput
     pub next : List Answered
     pub are : AreServedInPart went next inputs
-    pub store : CameBack (answered_in went ++ next) after
+    pub store : ReceivedBack (answered_in went ++ next) after
     pub leaves : IsTrue (S.honest before) →
         LeavesRun S limit before (answered_in went ++ next) after
 
@@ -205,12 +205,12 @@ abbrev pub IsShort : List ℕ → Type 0
 IsShort input = length input < most_reads
 
 -- these bytes spell no reply that tells a want
-abbrev pub TellsNoWant : List ℕ → Type 0
-TellsNoWant written = (replies : List Reply) → IsTrue (list_all is_reply replies) →
-    written ≡ replies_bytes replies → IsFalse (list_any tells_want replies)
+abbrev pub ReportsNoFailure : List ℕ → Type 0
+ReportsNoFailure written = (replies : List Reply) → IsTrue (list_all is_reply replies) →
+    written ≡ replies_bytes replies → IsFalse (list_any reports_failure replies)
 
--- The inputs are short, their frames in number order, and no want is told.
+-- The inputs are short, their frames in number order, and no failure is reported.
 pub record GoWell (inputs written : List (List ℕ)) : Type 0 where
   pub short : AllByRecursion IsShort inputs
-  pub in_order : AreInOrder [] (frames_in inputs)
-  pub no_want : AllByRecursion TellsNoWant written
+  pub in_order : AreInOrder [] (input_frames inputs)
+  pub no_want : AllByRecursion ReportsNoFailure written

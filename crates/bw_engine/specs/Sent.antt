@@ -1,4 +1,4 @@
--- A whole exchange of a sender: what is sent, and what is heard behind it.
+-- A whole exchange of a sender: what is sent, and what is heard after it.
 use Rattle.std.specs.Prelude.{◌≡◌, ◌⊎◌, ◌+◌, ◌≤◌, Result, Err}
 use Rattle.bw_model.specs.World.{Sender as Defined}
 use Rattle.bw_stream.specs.Moves.{one_more}
@@ -12,7 +12,7 @@ use Rattle.bw_engine.specs.Batches.{batch_bytes, WritesBatch, BreaksBytes}
 use Rattle.bw_engine.specs.Hears.{Hears, hears_failed, IsHearingLimited}
 use Rattle.bw_exchange.specs.Served.{most_reads}
 
--- how an exchange ends whose batch broke off at a write, by how its hearing did: want of memory
+-- how an exchange ends whose batch broke off at a write, by how its hearing did: lack of memory
 -- goes before
 abbrev pub after_write : Result (Unit {0}) SendFault → Result (Unit {0}) SendFault
 after_write (Err faults.Memory) = Err faults.Memory
@@ -36,7 +36,7 @@ module _ {R W : Type 0} (reader : Reader R) (writer : Writer W) where
     pub counted : writer.failures w' ≡ writer.failures w
     pub over : HearsOver result x y r r'
 
-  -- the writer failed behind a beginning of the batch, and what came back of it was heard
+  -- the writer failed after a beginning of the batch, and what came back of it was heard
   pub record BreaksAndHears (result : Result (Unit {0}) SendFault) (x y : Sender) (r r' : R)
       (w w' : W) : Type 0 where
     pub cut : (s : Defined) → IsSender s x →

@@ -8,7 +8,7 @@ ghost use Rattle.bw_wire.specs.Held.{longest_piece, longest_stream};
 ghost use Rattle.bw_wire.specs.Pending.{Nothing, next_of, with_piece, end_fault};
 ghost use Rattle.bw_engine.specs.declared.send_fault.SendFault.TheVariants.{BadReply};
 ghost use Rattle.bw_engine.specs.Hears.{Hears, hears_failed, IsHearingLimited, HearsMore};
-ghost use Rattle.bw_engine.specs.Hears.{TellsFault, ReadsReplies, StopsHearing};
+ghost use Rattle.bw_engine.specs.Hears.{ReportsFault, ReadsReplies, StopsHearing};
 ghost use Rattle.bw_exchange.specs.Served.{most_reads};
 
 use crate::send_fault::SendFault;
@@ -104,7 +104,7 @@ fn feed_piece(framer: &mut ReplyFramer, piece: &[u8]) -> Result<(), AllocError>
 fn hear_held(sender: &mut Sender, framer: &mut ReplyFramer) -> Result<(), SendFault>
     ensures hears { HearsMore sender.old sender.new framer.old framer.new }
     ensures none { OnOk result ((next_of reply_codec framer.new).0 ≡ Nothing) }
-    ensures bad { OnErr result (TellsFault framer.new) }
+    ensures bad { OnErr result (ReportsFault framer.new) }
     ensures why { IfErr result (λ fault. fault ≡ BadReply) }
 {
     while hear_next(sender, framer)? {}
@@ -121,7 +121,7 @@ fn hear_next(sender: &mut Sender, framer: &mut ReplyFramer) -> Result<bool, Send
         length framer.new.bytes < length framer.old.bytes) }
     ensures none { IfOk result (λ some. some ≡ false →
         (next_of reply_codec framer.new).0 ≡ Nothing) }
-    ensures bad { OnErr result (TellsFault framer.new) }
+    ensures bad { OnErr result (ReportsFault framer.new) }
     ensures why { IfErr result (λ fault. fault ≡ BadReply) }
 {
     match framer.next_frame() {

@@ -2,7 +2,7 @@
 ghost use Rattle.std.specs.Prelude.{◌≡◌, IsTrue, IfOk, OnErr, IfErr, MatchResult};
 ghost use Rattle.bw_engine.specs.Ingesting.{ServesInput, ServesFirst, ServesInputs, ServesInPart};
 ghost use Rattle.bw_engine.specs.Ingesting.{Ingests, IngestsInPart, GoWell, RunsAsDefined};
-ghost use Rattle.bw_engine.specs.Ingesting.{bytes_in};
+ghost use Rattle.bw_engine.specs.Ingesting.{input_bytes};
 
 use bw_exchange::{ExchangeEnd, Turns, serve_exchange};
 use bw_journal::{Journal, NoJournal};
@@ -63,7 +63,7 @@ impl<T: Drop> From<AllocFailed<T>> for RunFault {
 
 /// What the exchanges told.
 #[derive(Drop)]
-struct Told {
+struct Reported {
     replies: Vec<Vec<u8>>,
     ends: Vec<ExchangeEnd>,
 }
@@ -89,20 +89,20 @@ pub fn ingest_run<S: TakeStore>(
     ensures honest { MatchResult result (λ run. S.honest run.store ≡ S.honest store)
         (λ e. S.honest e.1 ≡ S.honest store) }
     ensures ok { IfOk result (λ run.
-        Ingests S.TakeStore ⟦<NoJournal as Journal>⟧ limit store (bytes_in inputs.now) run) }
+        Ingests S.TakeStore ⟦<NoJournal as Journal>⟧ limit store (input_bytes inputs.now) run) }
     ensures in_order { IsTrue (S.honest store) → IfOk result (λ run.
-        GoWell (bytes_in inputs.now) (bytes_in run.replies.items) →
-        RunsAsDefined S.TakeStore limit store (bytes_in inputs.now) run) }
+        GoWell (input_bytes inputs.now) (input_bytes run.replies.items) →
+        RunsAsDefined S.TakeStore limit store (input_bytes inputs.now) run) }
     ensures err { IfErr result (λ e.
-        IngestsInPart S.TakeStore ⟦<NoJournal as Journal>⟧ limit store (bytes_in inputs.now) e.1) }
+        IngestsInPart S.TakeStore ⟦<NoJournal as Journal>⟧ limit store (input_bytes inputs.now) e.1) }
 {
     let mut server = match Server::new(alloc, store, limit) {
         Ok(server) => server,
         Err((_error, store)) => return Err((RunFault::Memory, store)),
     };
     match serve_inputs(alloc, &mut server, inputs) {
-        Ok(told) => {
-            let Told { replies, ends } = told;
+        Ok(reported) => {
+            let Reported { replies, ends } = reported;
             let store = server.into_store();
             Ok(Run {
                 replies,
@@ -122,22 +122,22 @@ fn serve_inputs<T: Turns>(
     alloc: Global,
     server: &mut T,
     inputs: &[Vec<u8>],
-) -> Result<Told, RunFault>
-    ensures ok { IfOk result (λ told.
-        ServesInputs T.answers server.old server.new (bytes_in inputs.now) told) }
+) -> Result<Reported, RunFault>
+    ensures ok { IfOk result (λ reported.
+        ServesInputs T.answers server.old server.new (input_bytes inputs.now) reported) }
     ensures err { OnErr result
-        (ServesInPart T.answers server.old server.new (bytes_in inputs.now)) }
+        (ServesInPart T.answers server.old server.new (input_bytes inputs.now)) }
 {
-    let mut told = Told {
+    let mut reported = Reported {
         replies: Vec::new(alloc),
         ends: Vec::new(alloc),
     };
     for input in inputs {
         let (replies, end) = serve_input(alloc, server, input.as_slice())?;
-        told.replies.push(replies)?;
-        told.ends.push(end)?;
+        reported.replies.push(replies)?;
+        reported.ends.push(end)?;
     }
-    Ok(told)
+    Ok(reported)
 }
 
 /// Serves an input as an exchange.
@@ -149,8 +149,8 @@ fn serve_input<T: Turns>(
     server: &mut T,
     input: &[u8],
 ) -> Result<(Vec<u8>, ExchangeEnd), RunFault>
-    ensures ok { IfOk result (λ told. ServesInput T.answers server.old server.new
-        input.now told.0.items told.1) }
+    ensures ok { IfOk result (λ reported. ServesInput T.answers server.old server.new
+        input.now reported.0.items reported.1) }
     ensures err { OnErr result (ServesFirst T.answers server.old server.new input.now) }
 {
     let mut reader = MemorySource::new(input);

@@ -14,7 +14,7 @@ use Rattle.bw_model.specs.Exchange.{replies_bytes}
 use Rattle.bw_wire.specs.Codecs.{Codec, message_codec}
 use Rattle.bw_wire.specs.Pending.{Pending, fresh, with_piece, next_of}
 use Rattle.bw_wire.specs.Runs.{Call, Feeds, Takes, piece_of, fed_in, Run, given_by, with_call, with_calls, framer_run}
-use Rattle.bw_exchange.specs.Answering.{Answered, frames_of, replies_of}
+use Rattle.bw_exchange.specs.Answering.{Answered, answered_frames, replies_of}
 use Rattle.bw_exchange.specs.Done.{EndsSo, last_of, Done}
 
 with_calls-append : {X : Type 0} (codec : Codec X) (r : Run X) (calls : List Call) (c : Call) →
@@ -61,7 +61,7 @@ done_fed fed xs gone p w piece q same bytes d =
       fed_by = fed_in-more d.calls (Feeds piece) ∙ ap (λ (x : List ℕ). x ++ piece) d.fed_by;
       runs = run_more message_codec d.calls (Feeds piece)
           ∙ ap (λ (r : Run Frame). with_call message_codec r (Feeds piece)) d.runs
-          ∙ ap (λ (x : Pending). record { given = frames_of xs; state = x }) (sym same);
+          ∙ ap (λ (x : Pending). record { given = answered_frames xs; state = x }) (sym same);
       ends = tt;
       written = d.written;
       spelled = d.spelled;
@@ -70,18 +70,18 @@ done_fed fed xs gone p w piece q same bytes d =
 takes_run : (fed : List ℕ) (xs : List Answered) (gone w : List ℕ) (p q : Pending) (fs : List Frame) →
     q ≡ (next_of message_codec p).1 → given_by message_codec (next_of message_codec p).0 ≡ fs →
     (d : Done fed xs gone p w None)
-    → framer_run message_codec (d.calls ++ Takes ∷ []) ≡ record { given = frames_of xs ++ fs; state = q }
-takes_run fed xs gone w p q fs same told d =
+    → framer_run message_codec (d.calls ++ Takes ∷ []) ≡ record { given = answered_frames xs ++ fs; state = q }
+takes_run fed xs gone w p q fs same reported d =
     run_more message_codec d.calls Takes
     ∙ ap (λ (r : Run Frame). with_call message_codec r Takes) d.runs
-    ∙ ap (λ (x : List Frame). record { given = frames_of xs ++ x; state = (next_of message_codec p).1 }) told
-    ∙ ap (λ (x : Pending). record { given = frames_of xs ++ fs; state = x }) (sym same)
+    ∙ ap (λ (x : List Frame). record { given = answered_frames xs ++ x; state = (next_of message_codec p).1 }) reported
+    ∙ ap (λ (x : Pending). record { given = answered_frames xs ++ fs; state = x }) (sym same)
 
 takes_fed : (fed : List ℕ) (xs : List Answered) (gone w : List ℕ) (p : Pending) (d : Done fed xs gone p w None) →
     fed_in (d.calls ++ Takes ∷ []) ≡ fed
 takes_fed fed xs gone w p d = fed_in-more d.calls Takes ∙ append-nil (fed_in d.calls) ∙ d.fed_by
 
--- more replies are written behind the others
+-- more replies are written after the others
 pub replies_bytes-append : (xs ys : List Reply) → replies_bytes (xs ++ ys) ≡ replies_bytes xs ++ replies_bytes ys
 replies_bytes-append xs ys = flat_map-append (λ (r : Reply). framed (reply_body r)) xs ys
 
@@ -90,7 +90,7 @@ replies_of-more xs a =
     flat_map-append (λ (x : Answered). x.replies) xs (a ∷ [])
     ∙ ap (λ (x : List Reply). replies_of xs ++ x) (append-nil a.replies)
 
--- more replies' bytes behind those that were written
+-- more replies' bytes after those that were written
 written_more : (gone w new : List ℕ) (rs more : List Reply) → gone ++ w ≡ replies_bytes (rs ++ []) →
     new ≡ w ++ replies_bytes more → gone ++ new ≡ replies_bytes (rs ++ more)
 written_more gone w new rs more e n =
@@ -112,7 +112,7 @@ pub done_answer : (fed : List ℕ) (xs : List Answered) (gone : List ℕ) (p : P
     given_by message_codec (next_of message_codec p).0 ≡ frame ∷ [] → q ≡ (next_of message_codec p).1 →
     new ≡ w ++ replies_bytes replies → IsTrue (list_all is_reply replies) → Done fed xs gone p w None
     → Done (fed ++ []) (xs ++ record { frame = frame; replies = replies } ∷ []) (gone ++ []) q new None
-done_answer fed xs gone p w frame replies new q told same n fits d =
+done_answer fed xs gone p w frame replies new q reported same n fits d =
     let a : Answered = record { frame = frame; replies = replies } in
     same_done fed (fed ++ []) (xs ++ a ∷ []) (xs ++ a ∷ []) gone (gone ++ []) q new None (sym (append-nil fed)) refl
     (sym (append-nil gone))
@@ -120,7 +120,7 @@ done_answer fed xs gone p w frame replies new q told same n fits d =
       fits = d.fits;
       calls = d.calls ++ Takes ∷ [];
       fed_by = takes_fed fed xs gone w p d;
-      runs = takes_run fed xs gone w p q (frame ∷ []) same told d
+      runs = takes_run fed xs gone w p q (frame ∷ []) same reported d
           ∙ ap (λ (x : List Frame). record { given = x; state = q })
           (sym (map-append (λ (x : Answered). x.frame) xs (a ∷ [])));
       ends = tt;
@@ -137,14 +137,14 @@ pub done_quiet : (fed : List ℕ) (xs : List Answered) (gone : List ℕ) (p : Pe
     new ≡ w ++ replies_bytes (last_of e) → IsTrue (list_all is_reply (last_of e)) → IfSome e (λ x. EndsSo x q) →
     Done fed xs gone p w None
     → Done (fed ++ []) (xs ++ []) (gone ++ []) q new e
-done_quiet fed xs gone p w e new q told same n fits ends d =
+done_quiet fed xs gone p w e new q reported same n fits ends d =
     nothing_done fed xs gone q new e
     (record {
       fits = d.fits;
       calls = d.calls ++ Takes ∷ [];
       fed_by = takes_fed fed xs gone w p d;
-      runs = takes_run fed xs gone w p q [] same told d
-          ∙ ap (λ (x : List Frame). record { given = x; state = q }) (append-nil (frames_of xs));
+      runs = takes_run fed xs gone w p q [] same reported d
+          ∙ ap (λ (x : List Frame). record { given = x; state = q }) (append-nil (answered_frames xs));
       ends = ends;
       written = written_more gone w new (replies_of xs) (last_of e) d.written n;
       spelled = spelled_more (replies_of xs) (last_of e) d.spelled fits;

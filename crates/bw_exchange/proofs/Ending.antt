@@ -14,7 +14,7 @@ use Rattle.bw_exchange.specs.declared.serving.ExchangeEnd.{ExchangeEnd}
 use Rattle.bw_exchange.specs.declared.serving.ExchangeEnd.TheVariants as ends
 use Rattle.bw_exchange.specs.declared.step.StreamEnd.{StreamEnd}
 use Rattle.bw_exchange.specs.declared.step.StreamEnd.TheVariants as streams
-use Rattle.bw_exchange.specs.Answering.{Answered, frames_of, replies_of}
+use Rattle.bw_exchange.specs.Answering.{Answered, answered_frames, replies_of}
 use Rattle.bw_exchange.specs.Ends.{end_meaning, end_so_far, IsFinal}
 use Rattle.bw_exchange.specs.Done.{last_of, AreFirstOf}
 use Rattle.bw_exchange.specs.Served.{most_reads, ended_by, HasGiven, HasNoneLeft, ReachesEnd, AnswersAllRead, EndsBy}
@@ -27,29 +27,29 @@ use Rattle.bw_exchange.proofs.Reading.{has_given-none, has_given-on, writes-none
 use Rattle.bw_exchange.proofs.Writing.{all_gone, spelled_parts}
 use Rattle.bw_exchange.proofs.Whole.{SoFar, done_piece, fed_done}
 
--- behind a piece all replies are written
+-- after a piece all replies are written
 gone_so_far : {S : Type 0} (answers : S → Frame → List Reply → S → Type 0) (reads : ℕ) (s later : S)
     (left left' w w' : Option (List ℕ)) (e : Exchange) → (f : SoFar answers reads s later left left' w w' e) →
     f.output ≡ replies_bytes (replies_of f.answered)
 gone_so_far answers reads s later left left' w w' e f =
-    all_gone f.input f.answered f.output e f.done f.none_wait (e.«open» f.hungry)
+    all_gone f.input f.answered f.output e f.done f.none_wait (e.«open» f.wants_read)
 
 all_read : {S : Type 0} (answers : S → Frame → List Reply → S → Type 0) (reads : ℕ) (s later : S)
     (left left' w w' : Option (List ℕ)) (e : Exchange) → (f : SoFar answers reads s later left left' w w' e) →
     AnswersAllRead f.answered f.input f.output
 all_read answers reads s later left left' w w' e f = record {
-  frames = (is_exchange runs_follow_streams f.input f.answered f.output e f.done).hungry f.hungry;
-  unended = (is_exchange runs_follow_streams f.input f.answered f.output e f.done).unended f.hungry;
+  frames = (is_exchange runs_follow_streams f.input f.answered f.output e f.done).wants_read f.wants_read;
+  unended = (is_exchange runs_follow_streams f.input f.answered f.output e f.done).unended f.wants_read;
   written = gone_so_far answers reads s later left left' w w' e f;
 }
 
 -- the answered frames are the first of what was read
 first_read : {S : Type 0} (answers : S → Frame → List Reply → S → Type 0) (reads : ℕ) (s later : S)
     (left left' w w' : Option (List ℕ)) (e : Exchange) → (f : SoFar answers reads s later left left' w w' e) →
-    AreFirstOf (frames_of f.answered) f.input
+    AreFirstOf (answered_frames f.answered) f.input
 first_read answers reads s later left left' w w' e f =
-    subst (AreFirstOf (frames_of f.answered)) (append-nil f.input)
-    ((is_exchange runs_follow_streams f.input f.answered f.output e f.done).front [] refl)
+    subst (AreFirstOf (answered_frames f.answered)) (append-nil f.input)
+    ((is_exchange runs_follow_streams f.input f.answered f.output e f.done).prefix [] refl)
 
 -- no end was found so far, so what is read from here on is the last piece
 no_further : {S : Type 0} (answers : S → Frame → List Reply → S → Type 0) (reads : ℕ) (s later : S)
@@ -60,7 +60,7 @@ no_further answers reads s later left left' w w' e f piece short = record {
   last = piece;
   all = refl;
   short = short;
-  unended = (is_exchange runs_follow_streams f.input f.answered f.output e f.done).unended f.hungry;
+  unended = (is_exchange runs_follow_streams f.input f.answered f.output e f.done).unended f.wants_read;
 }
 
 no_more : {S : Type 0} (answers : S → Frame → List Reply → S → Type 0) (reads : ℕ) (s later : S)
@@ -93,7 +93,7 @@ no_memory answers s left w = record {
   no_further = record { before = []; last = []; all = refl; short = omega arith; unended = λ final. nothing_ends final };
   output = [];
   taken = writes-none w;
-  front = (_, refl);
+  prefix = (_, refl);
   spelled = refl;
   by_end = (inl refl, refl);
 }
@@ -116,7 +116,7 @@ no_more_read answers reads s later left left' left'' w w' e ends.ReadFault f sto
   no_further = no_more answers reads s later left left' w w' e f;
   output = f.output;
   taken = f.taken;
-  front = first_read answers reads s later left left' w w' e f;
+  prefix = first_read answers reads s later left left' w w' e f;
   spelled = all_spelled answers reads s later left left' w w' e f;
   by_end = all_read answers reads s later left left' w w' e f;
 }
@@ -128,7 +128,7 @@ no_more_read answers reads s later left left' left'' w w' e ends.Memory f stops 
   no_further = no_further answers reads s later left left' w w' e f stops.0 stops.3;
   output = f.output;
   taken = f.taken;
-  front = (is_exchange runs_follow_streams f.input f.answered f.output e f.done).front stops.0 stops.1;
+  prefix = (is_exchange runs_follow_streams f.input f.answered f.output e f.done).prefix stops.0 stops.1;
   spelled = all_spelled answers reads s later left left' w w' e f;
   by_end = (
     inr (record {
@@ -149,7 +149,7 @@ pub write_failed : {S : Type 0} (answers : S → Frame → List Reply → S → 
     SoFar answers reads s mid left left' w w' a → FeedsNext left' left'' moved moved' a b →
     StopsWriting answers mid later w' w'' b → Serves answers ends.WriteFault s later left left'' w w''
 write_failed answers reads s mid later left left' left'' w w' w'' moved moved' a b f n g =
-    let told = g.tells (f.input ++ n.piece) f.answered f.output
+    let reported = g.reports (f.input ++ n.piece) f.answered f.output
     (fed_done f.input n.piece f.output f.answered a b f.done n.does)
     (gone_so_far answers reads s mid left left' w w' a f) in
     record {
@@ -160,9 +160,9 @@ write_failed answers reads s mid later left left' left'' w w' w'' moved moved' a
       no_further = no_further answers reads s mid left left' w w' a f n.piece n.short;
       output = f.output ++ g.bytes;
       taken = writes-on w w' w'' f.output g.bytes f.taken g.taken;
-      front = told.0;
-      spelled = told.2;
-      by_end = told.1;
+      prefix = reported.0;
+      spelled = reported.2;
+      by_end = reported.1;
     }
 
 -- too often was read
@@ -177,7 +177,7 @@ limit_reached answers reads s later left left' w w' e f often = record {
   no_further = no_more answers reads s later left left' w w' e f;
   output = f.output;
   taken = f.taken;
-  front = first_read answers reads s later left left' w w' e f;
+  prefix = first_read answers reads s later left left' w w' e f;
   spelled = all_spelled answers reads s later left left' w w' e f;
   by_end = (all_read answers reads s later left left' w w' e f, omega (arith, often, f.least));
 }
@@ -217,13 +217,13 @@ stream_ended answers reads s mid later left left' left'' w w' w'' moved moved' a
     let x = is_exchange runs_follow_streams input xs output c
     (done_piece f.input n.piece f.output g.bytes f.answered g.answered a b c f.done n.does g.does) in
     let given = has_given-on left left' left'' f.input n.piece f.given n.given in
-    let stream : stream_of Second input ≡ (frames_of xs, end_meaning end) =
-    subst (λ (o : Option StreamEnd). IfSome (end_so_far o) (λ y. stream_of Second input ≡ (frames_of xs, y)))
+    let stream : stream_of Second input ≡ (answered_frames xs, end_meaning end) =
+    subst (λ (o : Option StreamEnd). IfSome (end_so_far o) (λ y. stream_of Second input ≡ (answered_frames xs, y)))
     is x.whole in
     let settled : IsFinal (end_meaning end) → (more : List ℕ) →
-    stream_of Second (input ++ more) ≡ (frames_of xs, end_meaning end) =
+    stream_of Second (input ++ more) ≡ (answered_frames xs, end_meaning end) =
     subst (λ (o : Option StreamEnd). IfSome (end_so_far o) (λ y. IsFinal y → (more : List ℕ) →
-    stream_of Second (input ++ more) ≡ (frames_of xs, y))) is x.settled in
+    stream_of Second (input ++ more) ≡ (answered_frames xs, y))) is x.settled in
     let drained = drained_by n.by_end in
     record {
       answered = xs;
@@ -233,11 +233,11 @@ stream_ended answers reads s mid later left left' left'' w w' w'' moved moved' a
       no_further = no_further answers reads s mid left left' w w' a f n.piece n.short;
       output = output;
       taken = writes-on w w' w'' f.output g.bytes f.taken g.taken;
-      front = subst (AreFirstOf (frames_of xs)) (append-nil input) (x.front [] refl);
+      prefix = subst (AreFirstOf (answered_frames xs)) (append-nil input) (x.prefix [] refl);
       spelled = (spelled_parts (replies_of xs) (last_of (end_so_far c.end)) x.spelled).0;
       by_end = by_stream_end end left left'' xs input output (record {
         stream = stream;
-        whole = whole_input left left'' input (frames_of xs) (end_meaning end) given drained stream settled;
+        whole = whole_input left left'' input (answered_frames xs) (end_meaning end) given drained stream settled;
         drained = drained;
         written = sym (append-nil output) ∙ ap (λ (y : List ℕ). output ++ y) (sym g.none_wait) ∙ x.written
             ∙ ap (λ (o : Option StreamEnd). replies_bytes (replies_of xs ++ last_of (end_so_far o))) is;

@@ -17,11 +17,11 @@ use Rattle.bw_exchange.proofs.Reading.{has_given-piece}
 -- some bytes were read, and then fed
 pub feeds_next : (r : Result (Unit {0}) ExchangeEnd) (left left' : Option (List ℕ)) (moved moved' count most : ℕ)
     (buf : List ℕ) (e e' : Exchange) → Reads left most count buf left' → count ≤ length buf →
-    length buf ≡ longest_piece → (count ≡ 0 → ⊥) → moved' ≡ min (moved + count) (2 ^ 64 - 1) → e.hungry ≡ true →
+    length buf ≡ longest_piece → (count ≡ 0 → ⊥) → moved' ≡ min (moved + count) (2 ^ 64 - 1) → e.wants_read ≡ true →
     OnOk r (DoesMore e (take count buf) [] [] e') → OnOk r (e'.end ≡ e.end) →
     OnOk r (FeedsNext left left' moved moved' e e')
-feeds_next (Err why) left left' moved moved' count most buf e e' reads within long some m hungry does end = tt
-feeds_next (Ok x) left left' moved moved' count most buf e e' reads within long some m hungry does end =
+feeds_next (Err why) left left' moved moved' count most buf e e' reads within long some m wants_read does end = tt
+feeds_next (Ok x) left left' moved moved' count most buf e e' reads within long some m wants_read does end =
     let len = length-take-le count buf within in
     record {
       piece = take count buf;
@@ -29,7 +29,7 @@ feeds_next (Ok x) left left' moved moved' count most buf e e' reads within long 
       short = omega (arith, len, within, long);
       counted = m ∙ ap (λ (n : ℕ). min (moved + n) (2 ^ 64 - 1)) (sym len);
       does = does;
-      by_end = inl (ap is_some end ∙ e.«open» hungry, omega (arith, len, some));
+      by_end = inl (ap is_some end ∙ e.«open» wants_read, omega (arith, len, some));
     }
 
 -- some bytes were read, for which there is no memory

@@ -8,7 +8,7 @@ use Rattle.bw_model.specs.Replies.{Reply, is_reply}
 use Rattle.bw_model.specs.Stream.{End}
 use Rattle.bw_model.specs.Exchange.{replies_bytes, last_reply}
 use Rattle.bw_wire.specs.Codecs.{message_codec}
-use Rattle.bw_wire.specs.Pending.{Pending, Told, Gives, Fails, next_of}
+use Rattle.bw_wire.specs.Pending.{Pending, Reported, Gives, Fails, next_of}
 use Rattle.bw_wire.specs.Reasons.{reason_meaning}
 use Rattle.bw_wire.specs.Runs.{given_by}
 use Rattle.bw_exchange.specs.declared.exchange.Exchange.{Exchange}
@@ -16,7 +16,7 @@ use Rattle.bw_exchange.specs.declared.step.StreamEnd.{StreamEnd}
 use Rattle.bw_exchange.specs.declared.step.StreamEnd.TheVariants as ends
 use Rattle.bw_exchange.specs.Answering.{Answered, AnswersAll}
 use Rattle.bw_exchange.specs.Ends.{end_meaning, end_so_far}
-use Rattle.bw_exchange.specs.Steps.{TellsEnd}
+use Rattle.bw_exchange.specs.Steps.{ReportsEnd}
 use Rattle.bw_exchange.specs.Done.{EndsSo, Done, DoesMore}
 use Rattle.bw_exchange.proofs.Doing.{same_done, nothing_done, done_quiet}
 use Rattle.bw_exchange.proofs.Staying.{stays}
@@ -27,28 +27,28 @@ none_so_far None h = refl
 none_so_far (Some end) h = absurd cc
 
 -- a framer that told an end is left so that it tells it
-tells : (end : StreamEnd) (p q : Pending) → TellsEnd end (next_of message_codec p).0 → q ≡ (next_of message_codec p).1
+reports : (end : StreamEnd) (p q : Pending) → ReportsEnd end (next_of message_codec p).0 → q ≡ (next_of message_codec p).1
     → EndsSo (end_meaning end) q
-tells ends.Bye p q t same = stays p q (Gives Bye) t same tt
-tells ends.EndOfInput p q t same = absurd t
-tells (ends.BadFrame fault) p q t same =
+reports ends.Bye p q t same = stays p q (Gives Bye) t same tt
+reports ends.EndOfInput p q t same = absurd t
+reports (ends.BadFrame fault) p q t same =
     inl (stays p q (Fails (reason_meaning fault.reason) fault.offset) t same tt)
 
 -- an end is no frame that is given
-pub no_turns : (end : StreamEnd) (t : Told Frame) → TellsEnd end t → given_by message_codec t ≡ []
+pub no_turns : (end : StreamEnd) (t : Reported Frame) → ReportsEnd end t → given_by message_codec t ≡ []
 no_turns ends.Bye t e = ap (given_by message_codec) e
 no_turns ends.EndOfInput t e = absurd e
 no_turns (ends.BadFrame fault) t e = ap (given_by message_codec) e
 
 -- the framer told the end
 pub done_end : (fed : List ℕ) (xs : List Answered) (gone : List ℕ) (p : Pending) (w : List ℕ) (e : Option StreamEnd)
-    (end : StreamEnd) (new : List ℕ) (q : Pending) → is_some e ≡ false → TellsEnd end (next_of message_codec p).0 →
+    (end : StreamEnd) (new : List ℕ) (q : Pending) → is_some e ≡ false → ReportsEnd end (next_of message_codec p).0 →
     q ≡ (next_of message_codec p).1 → new ≡ w ++ replies_bytes (last_reply (end_meaning end)) →
     IsTrue (list_all is_reply (last_reply (end_meaning end))) → Done fed xs gone p w (end_so_far e)
     → Done (fed ++ []) (xs ++ []) (gone ++ []) q new (Some (end_meaning end))
 done_end fed xs gone p w e end new q none t same n fits d =
     done_quiet fed xs gone p w (Some (end_meaning end)) new q (no_turns end (next_of message_codec p).0 t) same n fits
-    (tells end p q t same)
+    (reports end p q t same)
     (subst (λ (x : Option End). Done fed xs gone p w x) (none_so_far e none) d)
 
 -- a server answers one frame

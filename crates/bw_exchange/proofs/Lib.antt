@@ -11,4 +11,4 @@ mod Writing
 pub mod Whole
 mod Ending
 pub mod GoodRuns
-pub mod TallyLemmas
+pub mod LinkStatsLemmas

@@ -9,7 +9,7 @@ use Rattle.bw_exchange.specs.Served.{HasGiven, HasNoneLeft}
 pub has_given-none : (left left' : Option (List ℕ)) → Keeps left left' → HasGiven left [] left'
 has_given-none left left' k xs e = (xs, k xs e, refl)
 
--- a read gave the front of the buffer
+-- a read gave the prefix of the buffer
 pub has_given-piece : (left left' : Option (List ℕ)) (most n : ℕ) (buf : List ℕ) → Reads left most n buf left' →
     HasGiven left (take n buf) left'
 has_given-piece left left' most n buf r xs e =

@@ -4,13 +4,13 @@ use Rattle.std.proofs.Common.{inl, inr}
 use Rattle.bw_model.specs.Wire.{Second, Frame, Says, Asks, Bye, Reason, Cut}
 use Rattle.bw_model.specs.Stream.{first_frame}
 use Rattle.bw_wire.specs.Codecs.{message_codec}
-use Rattle.bw_wire.specs.Pending.{Phase, Reading, Left, Failed, Pending, Told, Nothing, Gives, Fails, fresh}
+use Rattle.bw_wire.specs.Pending.{Phase, Reading, Left, Failed, Pending, Reported, Nothing, Gives, Fails, fresh}
 use Rattle.bw_wire.specs.Pending.{compacted, emptied, next_of}
 use Rattle.bw_wire.proofs.FramerLaws.{next_of-left, next_of-failed, next_of-partial, next_of-bad, next_of-value}
 use Rattle.bw_wire.proofs.FramerLaws.{next_of-last, cut_or_not}
 
--- what is told is no frame that others may follow
-abbrev pub IsLast : Told Frame → Type 0
+-- what is reported is no frame that others may follow
+abbrev pub IsLast : Reported Frame → Type 0
 IsLast Nothing = Unit {0}
 IsLast (Gives (Says m)) = ⊥
 IsLast (Gives (Asks name number)) = ⊥
@@ -19,10 +19,10 @@ IsLast (Fails reason place) = Unit {0}
 
 -- what a framer tells, and what it then keeps
 abbrev Answer : Type 0
-Answer = Told Frame × Pending
+Answer = Reported Frame × Pending
 
 -- what it tells it tells again, where it does so from what it keeps
-stays_by : (p q : Pending) (t : Told Frame) → next_of message_codec p ≡ (t, q) → (next_of message_codec q).0 ≡ t →
+stays_by : (p q : Pending) (t : Reported Frame) → next_of message_codec p ≡ (t, q) → (next_of message_codec q).0 ≡ t →
     (next_of message_codec (next_of message_codec p).1).0 ≡ (next_of message_codec p).0
 stays_by p q t e again =
     ap (λ (y : Answer). (next_of message_codec y.1).0) e ∙ again ∙ sym (ap (λ (y : Answer). y.0) e)
@@ -53,8 +53,8 @@ stays_in Reading (Err reason) p e f last = elim (cut_or_not reason) [
       (ap (λ (y : Answer). y.0) (next_of-failed message_codec q reason refl))
 ]
 
--- what is told last stays told
-pub stays : (p q : Pending) (t : Told Frame) → (next_of message_codec p).0 ≡ t → q ≡ (next_of message_codec p).1 →
+-- what is reported last stays told
+pub stays : (p q : Pending) (t : Reported Frame) → (next_of message_codec p).0 ≡ t → q ≡ (next_of message_codec p).1 →
     IsLast t → (next_of message_codec q).0 ≡ t
 stays p q t e same last =
     ap (λ (x : Pending). (next_of message_codec x).0) same

@@ -124,8 +124,8 @@ some_stopped answers n turns false s mid later a b c is le f goes g =
     )
 
 -- where it is neither idle nor without room, it needn't wait
-pub goes_on : (e : Exchange) → e.hungry ≡ false → is_some e.end ≡ false → vec_len e.outgoing ≤ most_before_answer →
+pub goes_on : (e : Exchange) → e.wants_read ≡ false → is_some e.end ≡ false → vec_len e.outgoing ≤ most_before_answer →
     MustWait e → ⊥
-goes_on e fed running room (inl (inl hungry)) = cc
+goes_on e fed running room (inl (inl wants_read)) = cc
 goes_on e fed running room (inl (inr over)) = cc
 goes_on e fed running room (inr full) = omega (arith, room, full)

@@ -31,15 +31,15 @@ pub record SoFar {S : Type 0} (answers : S → Frame → List Reply → S → Ty
   pub taken : Writes written output written'
   pub done : HasDone input answered output e
   pub none_wait : e.outgoing.items ≡ []
-  pub hungry : e.hungry ≡ true
+  pub wants_read : e.wants_read ≡ true
   pub least : reads ≤ length input
   pub most : length input ≤ reads * longest_piece
 
 -- at the start
 pub so_far-none : {S : Type 0} (answers : S → Frame → List Reply → S → Type 0) (s : S)
-    (left written : Option (List ℕ)) (e : Exchange) → HasDone [] [] [] e → e.outgoing.items ≡ [] → e.hungry ≡ true →
+    (left written : Option (List ℕ)) (e : Exchange) → HasDone [] [] [] e → e.outgoing.items ≡ [] → e.wants_read ≡ true →
     SoFar answers 0 s s left left written written e
-so_far-none answers s left written e d none hungry = record {
+so_far-none answers s left written e d none wants_read = record {
   answered = [];
   by_server = refl;
   input = [];
@@ -48,7 +48,7 @@ so_far-none answers s left written e d none hungry = record {
   taken = writes-none written;
   done = d;
   none_wait = none;
-  hungry = hungry;
+  wants_read = wants_read;
   least = omega arith;
   most = omega arith;
 }
@@ -61,7 +61,7 @@ counted answers reads s later left left' w w' e f =
     let same = (is_exchange runs_follow_streams f.input f.answered f.output e f.done).counted in
     omega (arith, same, f.most)
 
--- what was done behind a piece and its answers
+-- what was done after a piece and its answers
 pub done_piece : (input piece output bytes : List ℕ) (xs ys : List Answered) (a b c : Exchange) →
     HasDone input xs output a → DoesMore a piece [] [] b → DoesMore b [] ys bytes c →
     HasDone (input ++ piece) (xs ++ ys) (output ++ bytes) c
@@ -69,7 +69,7 @@ done_piece input piece output bytes xs ys a b c d f g =
     subst (λ (x : List ℕ). HasDone (input ++ x) (xs ++ ys) (output ++ bytes) c) (append-nil piece)
     (does_on a b c piece [] [] ys [] bytes f g input xs output d)
 
--- what was done behind a piece
+-- what was done after a piece
 pub fed_done : (input piece output : List ℕ) (xs : List Answered) (a b : Exchange) → HasDone input xs output a
     → DoesMore a piece [] [] b → HasDone (input ++ piece) xs output b
 fed_done input piece output xs a b d f =
@@ -107,13 +107,13 @@ so_far-more answers reads s mid later left left' left'' w w' w'' moved moved' a 
       taken = writes-on w w' w'' f.output g.bytes f.taken g.taken;
       done = done_piece f.input n.piece f.output g.bytes f.answered g.answered a b c f.done n.does g.does;
       none_wait = g.none_wait;
-      hungry = fed idle;
+      wants_read = fed idle;
       least = omega (arith, f.least, some, len);
       most = omega (arith, f.most, n.short, len);
     }
   where
-    fed : IsIdle c → c.hungry ≡ true
-    fed (inl hungry) = hungry
+    fed : IsIdle c → c.wants_read ≡ true
+    fed (inl wants_read) = wants_read
     fed (inr over) = absurd cc
 
 -- a reader has counted as many bytes more, or as many as it can count

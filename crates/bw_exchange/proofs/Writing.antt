@@ -14,7 +14,7 @@ use Rattle.bw_stream.specs.Moves.{Writes, Begins}
 use Rattle.bw_wire.proofs.StreamRuns.{runs_follow_streams}
 use Rattle.bw_exchange.specs.declared.exchange.Exchange.{Exchange}
 use Rattle.bw_exchange.specs.declared.step.StreamEnd.{StreamEnd}
-use Rattle.bw_exchange.specs.Answering.{Answered, frames_of, replies_of}
+use Rattle.bw_exchange.specs.Answering.{Answered, answered_frames, replies_of}
 use Rattle.bw_exchange.specs.Ends.{end_so_far, IsFinal}
 use Rattle.bw_exchange.specs.Done.{last_of, HasDone, DoesMore, AnswersUpTo, AreFirstOf}
 use Rattle.bw_exchange.specs.Served.{IsBrokenOff}
@@ -81,7 +81,7 @@ writes_more answers s mid later w w' w'' a b c e f running g does none same take
 
 -- ---- a write failed
 
--- what holds anyway holds behind an error
+-- what holds anyway holds after an error
 pub on_err : {X Y P : Type 0} (r : Result X Y) → P → OnErr r P
 on_err (Ok x) p = tt
 on_err (Err e) p = p
@@ -96,11 +96,11 @@ spelled_parts rs more all =
 broken_off : (fed : List ℕ) (earlier last : List Answered) (gone part rest : List ℕ) (e : Exchange) →
     HasDone fed (earlier ++ last) gone e → gone ≡ replies_bytes (replies_of earlier) → length last ≤ 1 →
     part ++ rest ≡ e.outgoing.items
-    → AreFirstOf (frames_of (earlier ++ last)) fed × IsBrokenOff (earlier ++ last) fed (gone ++ part)
+    → AreFirstOf (answered_frames (earlier ++ last)) fed × IsBrokenOff (earlier ++ last) fed (gone ++ part)
     × IsTrue (list_all is_reply (replies_of (earlier ++ last)))
 broken_off fed earlier last gone part rest e d all few whole =
     let x = is_exchange runs_follow_streams fed (earlier ++ last) gone e d in (
-      subst (AreFirstOf (frames_of (earlier ++ last))) (append-nil fed) (x.front [] refl),
+      subst (AreFirstOf (answered_frames (earlier ++ last))) (append-nil fed) (x.prefix [] refl),
       record {
         end = end_so_far e.end;
         is_end = x.whole;
@@ -126,7 +126,7 @@ stops_first answers s w w' e begins =
       by_server = refl;
       bytes = x.part;
       taken = x.taken;
-      tells = λ fed before gone d all.
+      reports = λ fed before gone d all.
           broken_off fed before [] gone x.part x.rest e
           (same_done fed fed before (before ++ []) gone gone e.framer e.outgoing.items (end_so_far e.end) refl
           (sym (append-nil before)) refl d) all (omega arith) x.whole;
@@ -144,7 +144,7 @@ stops_more answers s mid later w w' w'' a b c f running g begins =
       by_server = answers_append answers f.answered g.answered s mid later f.by_server g.by_server;
       bytes = f.bytes ++ x.part;
       taken = writes-on w w' w'' f.bytes x.part f.taken x.taken;
-      tells = λ fed before gone d all.
+      reports = λ fed before gone d all.
           let earlier = before ++ f.answered in
           let out = gone ++ f.bytes in
           let here = f.does fed before gone d in
@@ -152,18 +152,18 @@ stops_more answers s mid later w w' w'' a b c f running g begins =
           same_done ((fed ++ []) ++ []) fed (earlier ++ g.answered) (earlier ++ g.answered) (out ++ []) out c.framer
           c.outgoing.items (end_so_far c.end) (append-nil (fed ++ []) ∙ append-nil fed) refl (append-nil out)
           (g.does (fed ++ []) earlier out here) in
-          let told = broken_off fed earlier g.answered out x.part x.rest c later_done
+          let reported = broken_off fed earlier g.answered out x.part x.rest c later_done
           (all_gone (fed ++ []) earlier out b here f.none_wait running) g.most x.whole in
-          subst (λ (xs : List Answered). AreFirstOf (frames_of xs) fed
+          subst (λ (xs : List Answered). AreFirstOf (answered_frames xs) fed
           × IsBrokenOff xs fed (gone ++ (f.bytes ++ x.part)) × IsTrue (list_all is_reply (replies_of xs)))
           (append_assoc before f.answered g.answered)
-          (subst (λ (y : List ℕ). AreFirstOf (frames_of (earlier ++ g.answered)) fed
+          (subst (λ (y : List ℕ). AreFirstOf (answered_frames (earlier ++ g.answered)) fed
           × IsBrokenOff (earlier ++ g.answered) fed y × IsTrue (list_all is_reply (replies_of (earlier ++ g.answered))))
-          (append_assoc gone f.bytes x.part) told);
+          (append_assoc gone f.bytes x.part) reported);
     }
 
 -- ---- it ends
 
 -- 1 as long as more may be answered
 abbrev pub is_busy : Exchange → ℕ
-is_busy e = if e.hungry || is_some e.end then 0 else 1
+is_busy e = if e.wants_read || is_some e.end then 0 else 1

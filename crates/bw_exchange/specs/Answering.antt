@@ -9,8 +9,8 @@ pub record Answered : Type 0 where
   pub replies : List Reply
 
 -- the frames that were answered
-abbrev pub frames_of : List Answered → List Frame
-frames_of answered = map (λ a. a.frame) answered
+abbrev pub answered_frames : List Answered → List Frame
+answered_frames answered = map (λ a. a.frame) answered
 
 -- all their replies
 abbrev pub replies_of : List Answered → List Reply

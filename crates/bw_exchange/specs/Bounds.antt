@@ -18,6 +18,6 @@ most_waiting = 65600
 abbrev pub most_before_answer : ℕ
 most_before_answer = most_waiting - longest_reply_frame - longest_answer
 
--- at most so many bytes of frames are held: a rest, and a piece behind it
+-- at most so many bytes of frames are held: a rest, and a piece after it
 abbrev pub most_held : ℕ
 most_held = longest_rest + longest_piece

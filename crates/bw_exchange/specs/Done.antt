@@ -10,7 +10,7 @@ use Rattle.bw_wire.specs.Codecs.{message_codec}
 use Rattle.bw_wire.specs.Pending.{Pending, Nothing, Gives, Fails, next_of, end_fault}
 use Rattle.bw_wire.specs.Runs.{Call, fed_in, framer_run}
 use Rattle.bw_exchange.specs.declared.exchange.Exchange.{Exchange}
-use Rattle.bw_exchange.specs.Answering.{Answered, frames_of, replies_of, AnswersAll}
+use Rattle.bw_exchange.specs.Answering.{Answered, answered_frames, replies_of, AnswersAll}
 use Rattle.bw_exchange.specs.Bounds.{most_before_answer}
 use Rattle.bw_exchange.specs.Ends.{end_so_far, IsFinal}
 use Rattle.bw_exchange.specs.Parts.{wants_piece, end_of, waiting_in, pending_of}
@@ -35,7 +35,7 @@ pub record Done (fed : List ℕ) (answered : List Answered) (gone : List ℕ) (p
   -- the framer was called so
   pub calls : List Call
   pub fed_by : fed_in calls ≡ fed
-  pub runs : framer_run message_codec calls ≡ record { given = frames_of answered; state = p }
+  pub runs : framer_run message_codec calls ≡ record { given = answered_frames answered; state = p }
   pub ends : IfSome end (λ x. EndsSo x p)
   pub written : gone ++ waiting ≡ replies_bytes (replies_of answered ++ last_of end)
   pub spelled : IsTrue (list_all is_reply (replies_of answered ++ last_of end))
@@ -88,17 +88,17 @@ AnswersSome answers turns count s later e e' =
 pub record IsExchangeOf (fed : List ℕ) (answered : List Answered) (out : List ℕ) (e : Exchange)
     : Type 0 where
   -- the answered frames are the first, whatever more is fed
-  pub front : (more : List ℕ) → IsTrue (are_bytes more) →
-      AreFirstOf (frames_of answered) (fed ++ more)
-  -- they are all of them where it is hungry
-  pub hungry : wants_piece e ≡ true → (stream_of Second fed).0 ≡ frames_of answered
+  pub prefix : (more : List ℕ) → IsTrue (are_bytes more) →
+      AreFirstOf (answered_frames answered) (fed ++ more)
+  -- they are all of them where it wants to read
+  pub wants_read : wants_piece e ≡ true → (stream_of Second fed).0 ≡ answered_frames answered
   -- and no end is among them that more bytes can't change
   pub unended : wants_piece e ≡ true → IsFinal (stream_of Second fed).1 → ⊥
   -- they are all where it is over, with this end
-  pub whole : IfSome (end_so_far (end_of e)) (λ x. stream_of Second fed ≡ (frames_of answered, x))
+  pub whole : IfSome (end_so_far (end_of e)) (λ x. stream_of Second fed ≡ (answered_frames answered, x))
   -- which is that of all longer input too, unless only the input's end could tell it
   pub settled : IfSome (end_so_far (end_of e)) (λ x. IsFinal x → (more : List ℕ) →
-      stream_of Second (fed ++ more) ≡ (frames_of answered, x))
+      stream_of Second (fed ++ more) ≡ (answered_frames answered, x))
   -- what came out is exactly their replies
   pub written : out ≡ replies_bytes (replies_of answered ++ last_of (end_so_far (end_of e)))
   -- each of which has a spelling

@@ -9,5 +9,5 @@ pub mod Served
 pub mod Pieces
 pub mod TurnRuns
 pub mod LinkCounts
-pub mod Tallied
+pub mod Metered
 pub mod EndNames

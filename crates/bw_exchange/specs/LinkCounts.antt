@@ -11,7 +11,7 @@ pub record Counted : Type 0 where
   pub bytes : ℕ
   pub names : List (List ℕ)
 
--- so many names are told
+-- so many names are reported
 abbrev pub most_names : ℕ
 most_names = 8
 
@@ -19,26 +19,26 @@ most_names = 8
 abbrev pub up_to_last : ℕ → ℕ
 up_to_last n = min n (2 ^ 64 - 1)
 
--- a name behind those before it, where it is none of them and there is room
+-- a name after those before it, where it is none of them and there is room
 abbrev pub with_name : List (List ℕ) → List ℕ → List (List ℕ)
 with_name names name =
     if list_any (λ n. bytes_eq n name) names || nat_le most_names (length names) then names
     else names ++ name ∷ []
 
 -- one frame more
-abbrev pub with_frame : Counted → Frame → Counted
-with_frame c (Says m) = record {
+abbrev pub counting_frame : Counted → Frame → Counted
+counting_frame c (Says m) = record {
   messages = up_to_last (c.messages + 1);
   bytes = up_to_last (c.bytes + length (message_body m));
   names = with_name c.names m.name;
 }
-with_frame c (Asks name number) = c
-with_frame c Bye = c
+counting_frame c (Asks name number) = c
+counting_frame c Bye = c
 
 -- no frame
 abbrev pub none_counted : Counted
 none_counted = record { messages = 0; bytes = 0; names = [] }
 
 -- all frames of a link
-abbrev pub count_of : List Frame → Counted
-count_of frames = fold with_frame none_counted frames
+abbrev pub message_count : List Frame → Counted
+message_count frames = fold counting_frame none_counted frames

@@ -6,7 +6,7 @@ use Rattle.bw_exchange.specs.declared.step.StreamEnd.{StreamEnd}
 
 -- whether a piece may be fed: all whole frames were answered, and more may come
 abbrev pub wants_piece : Exchange → Bool
-wants_piece e = e.hungry
+wants_piece e = e.wants_read
 
 -- how it ended, where it is over
 abbrev pub end_of : Exchange → Option StreamEnd

@@ -10,7 +10,7 @@ use Rattle.bw_wire.specs.Held.{longest_piece}
 use Rattle.bw_exchange.specs.declared.exchange.Exchange.{Exchange}
 use Rattle.bw_exchange.specs.declared.serving.ExchangeEnd.{ExchangeEnd}
 use Rattle.bw_exchange.specs.declared.serving.ExchangeEnd.TheVariants as ends
-use Rattle.bw_exchange.specs.Answering.{Answered, frames_of, replies_of, AnswersAll}
+use Rattle.bw_exchange.specs.Answering.{Answered, answered_frames, replies_of, AnswersAll}
 use Rattle.bw_exchange.specs.Ends.{end_so_far, IsFinal}
 use Rattle.bw_exchange.specs.Parts.{end_of, waiting_in}
 use Rattle.bw_exchange.specs.Done.{HasDone, DoesMore, AreFirstOf}
@@ -35,7 +35,7 @@ StopsReading ends.Memory left left' =
     × (length piece ≤ longest_piece) × (1 ≤ length piece)
 StopsReading end left left' = ⊥
 
--- frames were answered one by one, and all that waited was written behind each
+-- frames were answered one by one, and all that waited was written after each
 pub record WritesAnswers {S : Type 0} (answers : S → Frame → List Reply → S → Type 0)
     (s later : S) (written written' : Option (List ℕ)) (e e' : Exchange) : Type 0 where
   pub answered : List Answered
@@ -57,8 +57,8 @@ pub record StopsWriting {S : Type 0} (answers : S → Frame → List Reply → S
   pub by_server : AnswersAll answers s answered later
   pub bytes : List ℕ
   pub taken : Writes written bytes written'
-  pub tells : (fed : List ℕ) (before : List Answered) (gone : List ℕ) → HasDone fed before gone e →
+  pub reports : (fed : List ℕ) (before : List Answered) (gone : List ℕ) → HasDone fed before gone e →
       gone ≡ replies_bytes (replies_of before) →
-      AreFirstOf (frames_of (before ++ answered)) fed
+      AreFirstOf (answered_frames (before ++ answered)) fed
       × IsBrokenOff (before ++ answered) fed (gone ++ bytes)
       × IsTrue (list_all is_reply (replies_of (before ++ answered)))

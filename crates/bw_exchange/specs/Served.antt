@@ -13,7 +13,7 @@ use Rattle.bw_exchange.specs.declared.serving.ExchangeEnd.{ExchangeEnd}
 use Rattle.bw_exchange.specs.declared.serving.ExchangeEnd.TheVariants as ends
 use Rattle.bw_exchange.specs.declared.step.StreamEnd.{StreamEnd}
 use Rattle.bw_exchange.specs.declared.step.StreamEnd.TheVariants as streams
-use Rattle.bw_exchange.specs.Answering.{Answered, frames_of, replies_of, AnswersAll}
+use Rattle.bw_exchange.specs.Answering.{Answered, answered_frames, replies_of, AnswersAll}
 use Rattle.bw_exchange.specs.Ends.{IsFinal}
 use Rattle.bw_exchange.specs.Done.{last_of, AreFirstOf}
 
@@ -37,7 +37,7 @@ abbrev pub writes_failed : ExchangeEnd → ℕ → ℕ
 writes_failed ends.WriteFault n = one_more n
 writes_failed end n = n
 
--- the limit of reads is told only where a reader has counted so many bytes more, and so many calls
+-- the limit of reads is reported only where a reader has counted so many bytes more, and so many calls
 -- more, or as many as it can count
 abbrev pub IsLimited : ExchangeEnd → ℕ → ℕ → ℕ → ℕ → Type 0
 IsLimited ends.TurnLimit moved moved' calls calls' =
@@ -58,10 +58,10 @@ HasNoneLeft left left' = (xs : List ℕ) → left ≡ Some xs → left' ≡ Some
 pub record ReachesEnd (end : End) (left left' : Option (List ℕ)) (answered : List Answered)
     (input output : List ℕ) : Type 0 where
   -- the answered frames are those of what was read
-  pub stream : stream_of Second input ≡ (frames_of answered, end)
+  pub stream : stream_of Second input ≡ (answered_frames answered, end)
   -- and those of all that the reader had, whether it was read or not
-  pub whole : (xs : List ℕ) → left ≡ Some xs → stream_of Second xs ≡ (frames_of answered, end)
-  -- nothing is left where only the input's end tells how it ended
+  pub whole : (xs : List ℕ) → left ≡ Some xs → stream_of Second xs ≡ (answered_frames answered, end)
+  -- nothing is left where only the input's end says how it ended
   pub drained : IsFinal end ⊎ HasNoneLeft left left'
   -- all replies are written, and that to a bad frame
   pub written : output ≡ replies_bytes (replies_of answered ++ last_reply end)
@@ -69,7 +69,7 @@ pub record ReachesEnd (end : End) (left left' : Option (List ℕ)) (answered : L
 
 -- all whole frames of what was read are answered, and their replies written
 pub record AnswersAllRead (answered : List Answered) (input output : List ℕ) : Type 0 where
-  pub frames : (stream_of Second input).0 ≡ frames_of answered
+  pub frames : (stream_of Second input).0 ≡ answered_frames answered
   -- and no end was found among them that more bytes can't change
   pub unended : IsFinal (stream_of Second input).1 → ⊥
   pub written : output ≡ replies_bytes (replies_of answered)
@@ -79,7 +79,7 @@ pub record AnswersAllRead (answered : List Answered) (input output : List ℕ) :
 pub record IsBrokenOff (answered : List Answered) (input output : List ℕ) : Type 0 where
   -- how the stream ends, if that was found: a bad frame has its reply too
   pub end : Option End
-  pub is_end : IfSome end (λ x. stream_of Second input ≡ (frames_of answered, x))
+  pub is_end : IfSome end (λ x. stream_of Second input ≡ (answered_frames answered, x))
   pub unwritten : List ℕ
   pub begins : output ++ unwritten ≡ replies_bytes (replies_of answered ++ last_of end)
   pub earlier : List Answered
@@ -105,7 +105,7 @@ pub record LacksMemory (answered : List Answered) (input : List ℕ) : Type 0 wh
   pub all : input ≡ before ++ last
   pub short : length last ≤ longest_piece
   pub some : 1 ≤ length last
-  pub frames : (stream_of Second before).0 ≡ frames_of answered
+  pub frames : (stream_of Second before).0 ≡ answered_frames answered
 
 -- what an exchange that ends so has answered and written of what it read
 abbrev pub EndsBy : ExchangeEnd → Option (List ℕ) → Option (List ℕ) → List Answered → List ℕ →
@@ -137,7 +137,7 @@ pub record Serves {S : Type 0} (answers : S → Frame → List Reply → S → T
   pub no_further : ReadsNoFurther input
   pub output : List ℕ
   pub taken : Writes written output written'
-  pub front : AreFirstOf (frames_of answered) input
+  pub prefix : AreFirstOf (answered_frames answered) input
   -- each reply has a spelling
   pub spelled : IsTrue (list_all is_reply (replies_of answered))
   pub by_end : EndsBy end left left' answered input output

@@ -5,42 +5,42 @@ use Rattle.bw_model.specs.Wire.{Frame, Bye}
 use Rattle.bw_model.specs.Replies.{Reply, is_reply}
 use Rattle.bw_model.specs.Exchange.{replies_bytes, last_reply}
 use Rattle.bw_wire.specs.Codecs.{message_codec}
-use Rattle.bw_wire.specs.Pending.{Pending, Told, Nothing, Gives, Fails, next_of, HoldsLittle}
+use Rattle.bw_wire.specs.Pending.{Pending, Reported, Nothing, Gives, Fails, next_of, HoldsLittle}
 use Rattle.bw_wire.specs.Reasons.{reason_meaning}
 use Rattle.bw_wire.specs.Runs.{given_by}
 use Rattle.bw_exchange.specs.declared.step.Step.{Step}
-use Rattle.bw_exchange.specs.declared.step.Step.TheVariants.{Hungry, Answered, Ended}
+use Rattle.bw_exchange.specs.declared.step.Step.TheVariants.{WantsRead, Answered, Ended}
 use Rattle.bw_exchange.specs.declared.step.StreamEnd.{StreamEnd}
 use Rattle.bw_exchange.specs.declared.step.StreamEnd.TheVariants as ends
 use Rattle.bw_exchange.specs.Ends.{end_meaning}
 
--- a framer that tells this tells that the exchange ends so
-abbrev pub TellsEnd : StreamEnd → Told Frame → Type 0
-TellsEnd ends.Bye told = told ≡ Gives Bye
-TellsEnd ends.EndOfInput told = ⊥
-TellsEnd (ends.BadFrame fault) told = told ≡ Fails (reason_meaning fault.reason) fault.offset
+-- a framer that tells this says that the exchange ends so
+abbrev pub ReportsEnd : StreamEnd → Reported Frame → Type 0
+ReportsEnd ends.Bye reported = reported ≡ Gives Bye
+ReportsEnd ends.EndOfInput reported = ⊥
+ReportsEnd (ends.BadFrame fault) reported = reported ≡ Fails (reason_meaning fault.reason) fault.offset
 
--- a frame was told that isn't the last, and a server answered it
+-- a frame was reported that isn't the last, and a server answered it
 pub record AnswersFrame {S : Type 0} (answers : S → Frame → List Reply → S → Type 0)
-    (told : Told Frame) (s later : S) (waiting waiting' : List ℕ) : Type 0 where
+    (reported : Reported Frame) (s later : S) (waiting waiting' : List ℕ) : Type 0 where
   pub frame : Frame
   pub replies : List Reply
-  pub is_told : told ≡ Gives frame
-  -- it is none behind which nothing is read
-  pub goes_on : given_by message_codec told ≡ frame ∷ []
+  pub is_reported : reported ≡ Gives frame
+  -- it is none after which nothing is read
+  pub goes_on : given_by message_codec reported ≡ frame ∷ []
   pub answered : answers s frame replies later
   pub waits : waiting' ≡ waiting ++ replies_bytes replies
   pub spelled : IsTrue (list_all is_reply replies)
 
 -- what comes of what the framer tells
-abbrev pub Comes : {S : Type 0} → (S → Frame → List Reply → S → Type 0) → Step → Told Frame →
+abbrev pub Comes : {S : Type 0} → (S → Frame → List Reply → S → Type 0) → Step → Reported Frame →
     S → S → List ℕ → List ℕ → Type 0
-Comes answers Hungry told s later waiting waiting' =
-    (told ≡ Nothing) × (later ≡ s) × (waiting' ≡ waiting)
-Comes answers Answered told s later waiting waiting' =
-    AnswersFrame answers told s later waiting waiting'
-Comes answers (Ended end) told s later waiting waiting' =
-    TellsEnd end told × (later ≡ s)
+Comes answers WantsRead reported s later waiting waiting' =
+    (reported ≡ Nothing) × (later ≡ s) × (waiting' ≡ waiting)
+Comes answers Answered reported s later waiting waiting' =
+    AnswersFrame answers reported s later waiting waiting'
+Comes answers (Ended end) reported s later waiting waiting' =
+    ReportsEnd end reported × (later ≡ s)
     × (waiting' ≡ waiting ++ replies_bytes (last_reply (end_meaning end)))
     × IsTrue (list_all is_reply (last_reply (end_meaning end)))
 

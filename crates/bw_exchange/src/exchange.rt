@@ -8,7 +8,7 @@ ghost use Rattle.bw_exchange.specs.Bounds.{longest_reply_frame, longest_answer, 
 ghost use Rattle.bw_exchange.specs.Bounds.{most_held, most_before_answer};
 ghost use Rattle.bw_exchange.specs.Feeding.{IsFeeding};
 
-use crate::outgoing::{drop_front, put_bad_frame};
+use crate::outgoing::{drop_prefix, put_bad_frame};
 use crate::step::{Step, StreamEnd, take_next};
 use crate::turns::Turns;
 use bw_wire::Framer;
@@ -17,7 +17,7 @@ use std::alloc::{AllocError, Global};
 /// The most bytes of replies that wait.
 const MOST_WAITING: usize = 65_600;
 
-/// The most bytes that wait where a frame is still answered: its 17 replies have room behind them,
+/// The most bytes that wait where a frame is still answered: its 17 replies have room after them,
 /// and that to a bad frame. For each 64 bytes are kept; a frame of a reply has at most 47.
 const MOST_BEFORE_ANSWER: usize = 64_448;
 
@@ -43,12 +43,12 @@ pub struct Exchange {
     framer: Framer,
     outgoing: Vec<u8>,
     end: Option<StreamEnd>,
-    hungry: bool,
+    wants_read: bool,
     ghost capacity: { most_waiting ≤ vec_capacity outgoing },
     ghost waiting: { vec_len outgoing ≤ most_waiting },
     ghost room: { is_some end ≡ false → vec_len outgoing + longest_reply_frame ≤ most_waiting },
-    ghost open: { hungry ≡ true → is_some end ≡ false },
-    ghost quiet: { hungry ≡ true →
+    ghost open: { wants_read ≡ true → is_some end ≡ false },
+    ghost quiet: { wants_read ≡ true →
         ((next_of message_codec framer).0 ≡ Nothing) × KeepsAtMost longest_rest framer },
     ghost held: { framer.held ≤ most_held },
     ghost block: { HasSmallBlock framer },
@@ -67,7 +67,7 @@ impl Exchange {
     /// When memory is refused.
     pub fn new(alloc: Global) -> Result<Exchange, AllocError>
         ensures fresh { IfOk result (λ e. HasDone [] [] [] e) }
-        ensures hungry { IfOk result (λ e. wants_piece e ≡ true) }
+        ensures wants_read { IfOk result (λ e. wants_piece e ≡ true) }
         ensures waiting { IfOk result (λ e. waiting_in e ≡ []) }
         ensures small { IfOk result (λ e. vec_capacity e.outgoing ≡ most_waiting) }
     {
@@ -75,25 +75,25 @@ impl Exchange {
             framer: Framer::new(alloc),
             outgoing: Vec::with_capacity(alloc, MOST_WAITING)?,
             end: None,
-            hungry: true,
+            wants_read: true,
         })
     }
 
     /// Whether a piece may be fed: every whole frame was answered, and the exchange isn't over.
-    pub fn is_hungry(&self) -> bool
+    pub fn wants_read(&self) -> bool
         ensures value { result ≡ wants_piece self.now }
         ensures open { result ≡ true → end_of self.now ≡ None }
     {
-        self.hungry
+        self.wants_read
     }
 
     /// Whether nothing can be answered, with whatever room: until a piece is fed, or ever.
     pub(crate) fn is_idle(&self) -> bool
         ensures idle { result ≡ true → IsIdle self.now }
-        ensures fed { result ≡ false → self.now.hungry ≡ false }
+        ensures fed { result ≡ false → self.now.wants_read ≡ false }
         ensures open { result ≡ false → is_some self.now.end ≡ false }
     {
-        self.hungry || self.end.is_some()
+        self.wants_read || self.end.is_some()
     }
 
     /// How it ended, where it is over.
@@ -111,7 +111,7 @@ impl Exchange {
         self.outgoing.as_slice()
     }
 
-    /// Feeds the next piece, of at most 65,536 bytes, to an exchange that is hungry.
+    /// Feeds the next piece, of at most 65,536 bytes, to an exchange that wants to read.
     ///
     /// # Errors
     /// `TooLong` where more than 2^62 bytes would have been fed; `Memory` where memory was refused,
@@ -120,7 +120,7 @@ impl Exchange {
     /// # Not specified
     /// When a growth is refused.
     pub fn feed(&mut self, piece: &[u8]) -> Result<(), FeedError>
-        requires hungry { wants_piece self.old ≡ true }
+        requires wants_read { wants_piece self.old ≡ true }
         requires short { length piece.now ≤ longest_piece }
         ensures fed { OnOk result (DoesMore self.old piece.now [] [] self.new) }
         ensures busy { OnOk result (wants_piece self.new ≡ false) }
@@ -135,14 +135,14 @@ impl Exchange {
         let Ok(()) = self.framer.feed(piece) else {
             return Err(FeedError::Memory);
         };
-        self.hungry = false;
+        self.wants_read = false;
         Ok(())
     }
 
     /// Has whole frames answered: at most so many, and as long as there is room for replies. How
     /// many were.
     ///
-    /// Fewer than asked for only where the exchange is hungry or over, or more than 64,448 bytes
+    /// Fewer than asked for only where the exchange wants to read or over, or more than 64,448 bytes
     /// wait.
     pub fn answer<T: Turns>(&mut self, server: &mut T, turns: usize) -> usize
         ensures { AnswersSome T.answers turns result server.old server.new self.old self.new }
@@ -167,8 +167,8 @@ impl Exchange {
         ensures waiting { vec_len self.new.outgoing ≤ vec_len self.old.outgoing + longest_answer }
     {
         match take_next(server, &mut self.framer, &mut self.outgoing) {
-            Step::Hungry => {
-                self.hungry = true;
+            Step::WantsRead => {
+                self.wants_read = true;
                 false
             }
             Step::Answered => true,
@@ -179,14 +179,14 @@ impl Exchange {
         }
     }
 
-    /// Ends the exchange, which is hungry, and whose input has ended.
+    /// Ends the exchange, which wants to read, and whose input has ended.
     pub fn finish(&mut self)
-        requires hungry { wants_piece self.old ≡ true }
+        requires wants_read { wants_piece self.old ≡ true }
         ensures done { DoesMore self.old [] [] [] self.new }
         ensures over { is_some (end_of self.new) ≡ true }
         ensures idle { wants_piece self.new ≡ false }
     {
-        self.hungry = false;
+        self.wants_read = false;
         match self.framer.end() {
             Ok(()) => self.end = Some(StreamEnd::EndOfInput),
             Err(fault) => {
@@ -196,15 +196,15 @@ impl Exchange {
         }
     }
 
-    /// Lets go of so many bytes at the front of those that wait, which were taken.
-    pub fn took(&mut self, count: usize)
+    /// Lets go of so many bytes at the start of those that wait, which were taken.
+    pub fn consumed(&mut self, count: usize)
         requires { count ≤ length (waiting_in self.old) }
         ensures done { DoesMore self.old [] [] (take count (waiting_in self.old)) self.new }
         ensures left { waiting_in self.new ≡ drop count (waiting_in self.old) }
         ensures end { end_of self.new ≡ end_of self.old }
-        ensures hungry { wants_piece self.new ≡ wants_piece self.old }
+        ensures wants_read { wants_piece self.new ≡ wants_piece self.old }
         ensures kept { pending_of self.new ≡ pending_of self.old }
     {
-        drop_front(&mut self.outgoing, count);
+        drop_prefix(&mut self.outgoing, count);
     }
 }

@@ -1,9 +1,9 @@
 //! Laws of exchanges. Each function's contract is one; nothing runs.
 ghost use Rattle.bw_exchange.specs.Done.{ExchangesFollowStreams};
-ghost use Rattle.bw_exchange.specs.TurnRuns.{OrderNeedsNoLuck, TurnsAreRuns};
+ghost use Rattle.bw_exchange.specs.TurnRuns.{OrderHoldsUnderFaults, TurnsAreRuns};
 
 /// Whatever was fed and taken so far, the answered frames are the first of the stream of the bytes
-/// fed, and all of them where the exchange is hungry or over; the bytes that were taken and those
+/// fed, and all of them where the exchange wants to read or over; the bytes that were taken and those
 /// that wait are exactly their replies.
 pub fn law_exchange()
     ensures { ExchangesFollowStreams }
@@ -11,9 +11,9 @@ pub fn law_exchange()
     bw_wire::laws::law_framer();
 }
 
-/// Turns one after another are a run of the definitions, under some luck at each; and where the
-/// frames come in number order and no want is told, replies and book hang on no luck.
+/// Turns one after another are a run of the definitions, with some faults at each; and where the
+/// frames come in number order and no failure is reported, replies and book depend on no fault.
 pub fn law_runs()
     ensures runs { TurnsAreRuns }
-    ensures in_order { OrderNeedsNoLuck }
+    ensures in_order { OrderHoldsUnderFaults }
 {}

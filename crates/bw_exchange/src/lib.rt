@@ -1,19 +1,19 @@
 //! The machine of an exchange: from the bytes of a recorder, through whoever answers its frames, to the
-//! bytes of its replies. What is kept of a name stands above, behind `Turns`.
+//! bytes of its replies. What is kept of a name stands above, after `Turns`.
 #![tactic(auto)]
 
 mod end_text;
 mod exchange;
 pub mod laws;
+mod link_stats;
 mod outgoing;
 mod serving;
 mod step;
-mod tally;
 mod turns;
 
 pub use end_text::end_name;
 pub use exchange::{Exchange, FeedError};
+pub use link_stats::{KnownName, LinkStats, Metered};
 pub use serving::{ExchangeEnd, MOST_READS, PIECE, serve_exchange};
 pub use step::StreamEnd;
-pub use tally::{KnownName, Tallied, Tally};
 pub use turns::Turns;

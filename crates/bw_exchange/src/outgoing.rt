@@ -1,4 +1,4 @@
-//! Frames of replies, put behind those that wait.
+//! Frames of replies, put after those that wait.
 ghost use Rattle.std.specs.Prelude.{◌≡◌, ◌+◌, ◌*◌, ◌≤◌, ◌++◌, [], ◌∷◌, length, map, drop, vec_len};
 ghost use Rattle.std.specs.Prelude.{vec_capacity, IsTrue};
 ghost use Rattle.std.specs.List.{All, list_all};
@@ -57,8 +57,8 @@ pub(crate) fn put_bad_frame(out: &mut Vec<u8>, fault: WireFault)
     put_reply(out, &reply);
 }
 
-/// Lets so many bytes at the front go.
-pub(crate) fn drop_front(out: &mut Vec<u8>, count: usize)
+/// Lets so many bytes at the start go.
+pub(crate) fn drop_prefix(out: &mut Vec<u8>, count: usize)
     requires { count ≤ length out.old.items }
     ensures items { out.new.items ≡ drop count out.old.items }
     ensures capacity { vec_capacity out.new ≡ vec_capacity out.old }

@@ -28,7 +28,7 @@ pub const MOST_READS: u64 = 1 << 32;
 pub enum ExchangeEnd {
     /// The recorder said that it ends.
     Bye,
-    /// The input ended behind a frame.
+    /// The input ended after a frame.
     EndOfInput,
     /// A frame was bad, or was cut off by the input's end.
     BadFrame(WireFault),
@@ -60,7 +60,7 @@ impl From<StreamEnd> for ExchangeEnd {
 /// Serves one exchange to its end.
 ///
 /// Each frame is answered by itself, and its replies are written before the next is taken. Bytes
-/// behind `Bye` or a bad frame are ignored.
+/// after `Bye` or a bad frame are ignored.
 ///
 /// `TurnLimit` comes only after 2^32 reads, of 2^32 bytes or more.
 ///
@@ -115,7 +115,7 @@ fn read_piece<R: Source>(
     reader: &mut R,
     buffer: &mut [u8],
 ) -> Result<(), ExchangeEnd>
-    requires hungry { wants_piece exchange.old ≡ true }
+    requires wants_read { wants_piece exchange.old ≡ true }
     requires buffer { length buffer.old ≡ longest_piece }
     requires room { (pending_of exchange.old).fed + longest_piece ≤ longest_stream }
     ensures fed { OnOk result (FeedsNext (R.left reader.old) (R.left reader.new)
@@ -143,7 +143,7 @@ fn read_piece<R: Source>(
 /// # Errors
 /// `Memory`: the exchange is as it was.
 fn feed_piece(exchange: &mut Exchange, piece: &[u8]) -> Result<(), ExchangeEnd>
-    requires hungry { wants_piece exchange.old ≡ true }
+    requires wants_read { wants_piece exchange.old ≡ true }
     requires short { length piece.now ≤ longest_piece }
     requires room { (pending_of exchange.old).fed + longest_piece ≤ longest_stream }
     ensures bytes { IsTrue (are_bytes piece.now) }
@@ -194,7 +194,7 @@ fn write_waiting<W: Sink>(exchange: &mut Exchange, writer: &mut W) -> Result<(),
         exchange.new) }
     ensures none { OnOk result (waiting_in exchange.new ≡ []) }
     ensures end { end_of exchange.new ≡ end_of exchange.old }
-    ensures hungry { wants_piece exchange.new ≡ wants_piece exchange.old }
+    ensures wants_read { wants_piece exchange.new ≡ wants_piece exchange.old }
     ensures framer { pending_of exchange.new ≡ pending_of exchange.old }
     ensures ok { OnOk result (Writes (W.written writer.old) (waiting_in exchange.old)
         (W.written writer.new)) }
@@ -204,6 +204,6 @@ fn write_waiting<W: Sink>(exchange: &mut Exchange, writer: &mut W) -> Result<(),
 {
     let count = exchange.outgoing().len();
     write_all(writer, exchange.outgoing())?;
-    exchange.took(count);
+    exchange.consumed(count);
     Ok(())
 }

@@ -13,7 +13,7 @@ use bw_wire::{Frame, Framer, Reply, WireFault};
 pub enum StreamEnd {
     /// The recorder said that it ends.
     Bye,
-    /// The input ended behind a frame.
+    /// The input ended after a frame.
     EndOfInput,
     /// A frame was bad, or was cut off by the input's end.
     BadFrame(WireFault),
@@ -23,7 +23,7 @@ pub enum StreamEnd {
 #[derive(Clone, Copy, Debug)]
 pub(crate) enum Step {
     /// It isn't whole yet.
-    Hungry,
+    WantsRead,
     /// It was answered, and its replies wait.
     Answered,
     /// There is none: the stream has ended.
@@ -43,7 +43,7 @@ pub(crate) fn take_next<T: Turns>(
     ensures capacity { vec_capacity outgoing.old ≤ vec_capacity outgoing.new }
 {
     match framer.next_frame() {
-        Ok(None) => Step::Hungry,
+        Ok(None) => Step::WantsRead,
         Ok(Some(Frame::Bye)) => Step::Ended(StreamEnd::Bye),
         Ok(Some(Frame::Message(message))) => {
             let mut replies = ArrayVec::<Reply, 17>::new();

@@ -88,24 +88,24 @@ module _ (g : Growing) (t : Take) (samples : List ℕ) (f : Format) (format : t.
       (stands_torn old new data_at (data_at + d) c1 c2 0 data_at (omega (arith, length-old))
       (body_torn c0 c1 ready w) v (inl (omega arith)) (omega (arith, length-new)))
 
-  joined : (front samples more rest : List ℕ) →
-      (front ++ samples) ++ (more ++ rest) ≡ front ++ ((samples ++ more) ++ rest)
-  joined front samples more rest = simp append_assoc
+  joined : (prefix samples more rest : List ℕ) →
+      (prefix ++ samples) ++ (more ++ rest) ≡ prefix ++ ((samples ++ more) ++ rest)
+  joined prefix samples more rest = simp append_assoc
 
-  -- the samples behind what stood
-  with_tail : (front rest : List ℕ) (c0 c1 : Option (List ℕ)) → c0 ≡ Some (front ++ (t.samples ++ rest)) →
-      length front ≡ data_at → length rest ≤ tail_len → PutsLast (data_at + d) tail c0 c1 →
-      c1 ≡ Some (front ++ ((t.samples ++ samples) ++ pad (data_at + d + length samples)))
-  with_tail front rest c0 c1 is long short put =
+  -- the samples after what stood
+  with_tail : (prefix rest : List ℕ) (c0 c1 : Option (List ℕ)) → c0 ≡ Some (prefix ++ (t.samples ++ rest)) →
+      length prefix ≡ data_at → length rest ≤ tail_len → PutsLast (data_at + d) tail c0 c1 →
+      c1 ≡ Some (prefix ++ ((t.samples ++ samples) ++ pad (data_at + d + length samples)))
+  with_tail prefix rest c0 c1 is long short put =
       let room : length rest ≤ length tail =
       omega (
         arith,
         length-append samples (pad (data_at + d + length samples)),
         length-pad (data_at + d + length samples),
       ) in
-      put (front ++ t.samples) rest (is ∙ ap Some (sym (append_assoc front t.samples rest)))
-      (omega (arith, length-append front t.samples)) room
-      ∙ ap Some (joined front t.samples samples (pad (data_at + d + length samples)))
+      put (prefix ++ t.samples) rest (is ∙ ap Some (sym (append_assoc prefix t.samples rest)))
+      (omega (arith, length-append prefix t.samples)) room
+      ∙ ap Some (joined prefix t.samples samples (pad (data_at + d + length samples)))
 
   same_pad : pad (data_at + d + length samples) ≡ pad (length (t.samples ++ samples))
   same_pad = let parity : (data_at + d + length samples) % 2 ≡ length (t.samples ++ samples) % 2 =
@@ -118,23 +118,23 @@ module _ (g : Growing) (t : Take) (samples : List ℕ) (f : Format) (format : t.
   length-head : (data_len : ℕ) → length (head_with f t g.limit fields data_len 0) ≡ data_at
   length-head data_len = length-header f t.fields t.history data_len 0 g.limit fields
 
-  -- the data as they stand, behind the header where the file is clean
-  Fronted : Bool → Option (List ℕ) → Type 0
-  Fronted dirty c0 = (front : List ℕ) × (rest : List ℕ) × (c0 ≡ Some (front ++ (t.samples ++ rest)))
-      × (length front ≡ data_at) × (length rest ≤ tail_len)
-      × (not dirty ≡ true → front ≡ head_with f t g.limit fields d 0)
+  -- the data as they stand, after the header where the file is clean
+  Prefixed : Bool → Option (List ℕ) → Type 0
+  Prefixed dirty c0 = (prefix : List ℕ) × (rest : List ℕ) × (c0 ≡ Some (prefix ++ (t.samples ++ rest)))
+      × (length prefix ≡ data_at) × (length rest ≤ tail_len)
+      × (not dirty ≡ true → prefix ≡ head_with f t g.limit fields d 0)
 
-  fronted : (dirty : Bool) (c0 : Option (List ℕ)) →
-      MatchBool dirty (IsBetween t g.limit (Block samples) c0) (c0 ≡ file_of t g.limit) → Fronted dirty c0
-  unfolding Fronted
-  fronted true c0 ready =
+  prefixed : (dirty : Bool) (c0 : Option (List ℕ)) →
+      MatchBool dirty (IsBetween t g.limit (Block samples) c0) (c0 ≡ file_of t g.limit) → Prefixed dirty c0
+  unfolding Prefixed
+  prefixed true c0 ready =
       let s = ready_stands t g.limit f format (Block samples) true c0 tt grows ready in
       let p = repairable_parts (head_with f t g.limit fields d 0) t.samples (pad d) new s.bytes data_at (data_at + d)
       (length-head d) refl (subst
       (λ (o : List ℕ). Repairable o new data_at (data_at + d) s.bytes) old_parts s.repairable) in
       let short = p.rest_is in
-      (p.front, p.rest, s.is ∙ ap Some p.parts, p.front_is, omega (arith, length-new), λ e. absurd (cc))
-  fronted false c0 ready =
+      (p.prefix, p.rest, s.is ∙ ap Some p.parts, p.prefix_is, omega (arith, length-new), λ e. absurd (cc))
+  prefixed false c0 ready =
       let clean = ready_clean t g.limit f format (Block samples) false c0 ready refl in (
         head_with f t g.limit fields d 0,
         pad d,
@@ -149,9 +149,9 @@ module _ (g : Growing) (t : Take) (samples : List ℕ) (f : Format) (format : t.
   whole : (c0 c1 c2 : Option (List ℕ)) → IsReady g t (Block samples) c0 → PutsLast (data_at + d) tail c0 c1 →
       PutsOver (not g.dirty) (head_with f t g.limit fields d 0)
       (head_with f t g.limit fields (d + length samples) 0) c1 c2 → c2 ≡ file_of later g.limit
-  unfolding Fronted
+  unfolding Prefixed
   whole c0 c1 c2 ready put over =
-      let x = fronted g.dirty c0 ready in
+      let x = prefixed g.dirty c0 ready in
       let reach = x.3 ∙ sym (length-head (d + length samples)) in
       over x.0 _ (with_tail x.0 x.1 c0 c1 x.2 x.3 x.4 put) reach x.5
       ∙ ap Some (rw (same_pad, ← all-samples, ← append-nil (body f later g.limit fields))

@@ -90,22 +90,22 @@ module _ (g : Growing) (t : Take) (total : ℕ) (f : Format) (format : t.format 
   length-head : (k : ℕ) → length (header k) ≡ data_at
   length-head k = length-header f t.fields t.history d k g.limit fields
 
-  -- the data as they stand, behind the header where the file is clean
-  Fronted : Bool → Option (List ℕ) → Type 0
-  Fronted dirty c0 = (front : List ℕ) × (rest : List ℕ) × (c0 ≡ Some (front ++ (samples ++ rest)))
-      × (length front ≡ data_at) × (length rest ≤ length cues) × (not dirty ≡ true → front ≡ header 0)
+  -- the data as they stand, after the header where the file is clean
+  Prefixed : Bool → Option (List ℕ) → Type 0
+  Prefixed dirty c0 = (prefix : List ℕ) × (rest : List ℕ) × (c0 ≡ Some (prefix ++ (samples ++ rest)))
+      × (length prefix ≡ data_at) × (length rest ≤ length cues) × (not dirty ≡ true → prefix ≡ header 0)
 
-  fronted : (dirty : Bool) (c0 : Option (List ℕ)) →
-      MatchBool dirty (IsBetween t g.limit (Close total) c0) (c0 ≡ file_of t g.limit) → Fronted dirty c0
-  unfolding Fronted
-  fronted true c0 ready =
+  prefixed : (dirty : Bool) (c0 : Option (List ℕ)) →
+      MatchBool dirty (IsBetween t g.limit (Close total) c0) (c0 ≡ file_of t g.limit) → Prefixed dirty c0
+  unfolding Prefixed
+  prefixed true c0 ready =
       let s = ready_stands t g.limit f format (Close total) true c0 tt grows ready in
       let to : data_at + length samples ≡ length old = omega (arith, length-old, length-samples) in
       let p = repairable_parts (header 0) samples [] new s.bytes data_at (length old) (length-head 0) to
       (subst (λ (o : List ℕ). Repairable o new data_at (length old) s.bytes) old_parts s.repairable) in
       let short = p.rest_is in
-      (p.front, p.rest, s.is ∙ ap Some p.parts, p.front_is, omega (arith, length-old, length-new), λ e. absurd (cc))
-  fronted false c0 ready =
+      (p.prefix, p.rest, s.is ∙ ap Some p.parts, p.prefix_is, omega (arith, length-old, length-new), λ e. absurd (cc))
+  prefixed false c0 ready =
       let clean = ready_clean t g.limit f format (Close total) false c0 ready refl in
       (header 0, [], clean ∙ ap Some old_parts, length-head 0, omega arith, λ e. refl)
 
@@ -113,13 +113,13 @@ module _ (g : Growing) (t : Take) (total : ℕ) (f : Format) (format : t.format 
   whole : (c0 c1 c2 : Option (List ℕ)) → IsReady g t (Close total) c0 → PutsLast (data_at + d + d % 2) cues c0 c1 →
       PutsOver (not g.dirty) (header 0) (header (length t.markers)) c1 c2 →
       c2 ≡ file_of (with_request t (Close total)) g.limit
-  unfolding Fronted
+  unfolding Prefixed
   whole c0 c1 c2 ready put over =
-      let x = fronted g.dirty c0 ready in
-      let behind : length (x.0 ++ samples) ≡ data_at + d + d % 2 =
+      let x = prefixed g.dirty c0 ready in
+      let following : length (x.0 ++ samples) ≡ data_at + d + d % 2 =
       omega (arith, length-append x.0 samples, length-samples, x.3) in
       over x.0 (samples ++ cues)
-      (put (x.0 ++ samples) x.1 (x.2 ∙ ap Some (sym (append_assoc x.0 samples x.1))) behind x.4
+      (put (x.0 ++ samples) x.1 (x.2 ∙ ap Some (sym (append_assoc x.0 samples x.1))) following x.4
       ∙ ap Some (append_assoc x.0 samples cues)) (x.3 ∙ sym (length-head (length t.markers))) x.5
       ∙ ap Some (sym new_parts)
       ∙ sym (file_after t g.limit f format (Close total) tt)

@@ -23,9 +23,9 @@ module _ (f : Format) (t : Take) (limit : ℕ) (fields : AreFields t.fields) whe
   abbrev pub place : ℕ
   place = data_place (length t.history)
 
-  joined : (header samples pad behind : List ℕ) →
-      header ++ samples ++ pad ++ behind ≡ header ++ ((samples ++ pad) ++ behind)
-  joined header samples pad behind = simp append_assoc
+  joined : (header samples pad following : List ℕ) →
+      header ++ samples ++ pad ++ following ≡ header ++ ((samples ++ pad) ++ following)
+  joined header samples pad following = simp append_assoc
 
   pub file_open : t.closed ≡ false → file_with f t limit ≡ head_with (length t.samples) 0 ++ (body ++ [])
   file_open is_open = header_of_file f t limit fields

@@ -120,11 +120,11 @@ module _ (files : List StoredFile) (path : List ℕ) (i : ℕ) (old new : Stored
 
 module _ (files : List StoredFile) (path : List ℕ) (new : StoredFile)
     (none : is_some (position (stands_at path) files) ≡ false) (at : string_bytes new.path ≡ path) where
-  stood : find (stands_at path) files ≡ None
-  stood = find_none (stands_at path) files none
+  existed : find (stands_at path) files ≡ None
+  existed = find_none (stands_at path) files none
 
   pub nothing : content_at files path ≡ None
-  nothing = ap content_under stood
+  nothing = ap content_under existed
 
   new_stands : stands_at path new ≡ true
   new_stands = (bytes_eq-Decides (string_bytes new.path) path).1 at
@@ -137,7 +137,7 @@ module _ (files : List StoredFile) (path : List ℕ) (new : StoredFile)
   pub made : content_at (files ++ new ∷ []) path ≡ Some new.content.items
   made =
       ap content_under (found path
-      ∙ ap (λ (o : Option StoredFile). option_or o (cond (stands_at path new) (Some new) None)) stood
+      ∙ ap (λ (o : Option StoredFile). option_or o (cond (stands_at path new) (Some new) None)) existed
       ∙ ap (λ (b : Bool). cond b (Some new) None) new_stands)
 
   or_none : (o : Option StoredFile) → option_or o None ≡ o

@@ -13,10 +13,10 @@ use Rattle.bw_file.proofs.Parts.{parts_at}
 
 -- what `!=` says of bytes
 pub differs : (r : Bool) (xs ys : List ℕ) → r ≡ not (bytes_eq xs ys) → r ≡ true → xs ≡ ys → ⊥
-differs r xs ys is told same = let alike : r ≡ false = is ∙ ap not ((bytes_eq-Decides xs ys).1 same) in cc
+differs r xs ys is reported same = let alike : r ≡ false = is ∙ ap not ((bytes_eq-Decides xs ys).1 same) in cc
 
 pub agrees : (r : Bool) (xs ys : List ℕ) → r ≡ not (bytes_eq xs ys) → r ≡ false → xs ≡ ys
-agrees r xs ys is told = (bytes_eq-Decides xs ys).0 (go (bytes_eq xs ys) (sym is ∙ told))
+agrees r xs ys is reported = (bytes_eq-Decides xs ys).0 (go (bytes_eq xs ys) (sym is ∙ reported))
   where
     go : (b : Bool) → not b ≡ false → b ≡ true
     go true e = refl

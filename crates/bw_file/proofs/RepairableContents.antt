@@ -19,7 +19,7 @@ range_stays found torn from to place n fits t apart =
     let small : k < to - from = omega (arith, short) in
     let inside : from + k < length found = omega arith in
     let same : get_or torn (from + k) 0 ≡ get_or found (from + k) 0 =
-    elim apart [ inl b ↦ t.behind (from + k) (omega arith) | inr b ↦ t.before (from + k) (omega arith) ] in
+    elim apart [ inl b ↦ t.following (from + k) (omega arith) | inr b ↦ t.before (from + k) (omega arith) ] in
     get_or-take (to - from) (drop from torn) k d small ∙ get_or-drop from torn k d ∙ grind (arith, places, same))
 
 -- what a torn write of bytes that the request may change leaves
@@ -41,37 +41,37 @@ repairable_torn old new found torn from to place n fits r t apart room =
 pub repairable_old : (old new : List ℕ) (from to : ℕ) → length old ≤ length new → Repairable old new from to old
 repairable_old old new from to h = record { no_shorter = omega arith; no_longer = h; kept = refl }
 
--- the parts of such a content: bytes that may be any, those that stand, and at most so many behind them
-pub record Parted (front_len : ℕ) (kept : List ℕ) (most : ℕ) (found : List ℕ) : Type 0 where
-  pub front : List ℕ
+-- the parts of such a content: bytes that may be any, those that stand, and at most so many after them
+pub record Parted (prefix_len : ℕ) (kept : List ℕ) (most : ℕ) (found : List ℕ) : Type 0 where
+  pub prefix : List ℕ
   pub rest : List ℕ
-  pub parts : found ≡ front ++ (kept ++ rest)
-  pub front_is : length front ≡ front_len
+  pub parts : found ≡ prefix ++ (kept ++ rest)
+  pub prefix_is : length prefix ≡ prefix_len
   pub rest_is : length rest ≤ most
 
-range_at : (front kept tail : List ℕ) (from to : ℕ) → length front ≡ from → from + length kept ≡ to →
-    slice_range (front ++ (kept ++ tail)) from to ≡ kept
-range_at front kept tail from to f t =
+range_at : (prefix kept tail : List ℕ) (from to : ℕ) → length prefix ≡ from → from + length kept ≡ to →
+    slice_range (prefix ++ (kept ++ tail)) from to ≡ kept
+range_at prefix kept tail from to f t =
     let n : to - from ≡ length kept = omega arith in
-    ap (take (to - from)) (drop_at front (kept ++ tail) from f) ∙ take_at kept tail (to - from) (sym n)
+    ap (take (to - from)) (drop_at prefix (kept ++ tail) from f) ∙ take_at kept tail (to - from) (sym n)
 
-pub repairable_parts : (front kept tail new found : List ℕ) (from to : ℕ) → length front ≡ from →
-    from + length kept ≡ to → Repairable (front ++ (kept ++ tail)) new from to found →
+pub repairable_parts : (prefix kept tail new found : List ℕ) (from to : ℕ) → length prefix ≡ from →
+    from + length kept ≡ to → Repairable (prefix ++ (kept ++ tail)) new from to found →
     Parted from kept (length new - to) found
-repairable_parts front kept tail new found from to f t r =
+repairable_parts prefix kept tail new found from to f t r =
     let low = r.no_shorter in
     let high = r.no_longer in
-    let long : length (front ++ (kept ++ tail)) ≡ from + (length kept + length tail) =
-    omega (arith, length-append front (kept ++ tail), length-append kept tail) in
+    let long : length (prefix ++ (kept ++ tail)) ≡ from + (length kept + length tail) =
+    omega (arith, length-append prefix (kept ++ tail), length-append kept tail) in
     let n : to - from ≡ length kept = omega arith in
-    let stands : take (to - from) (drop from found) ≡ kept = r.kept ∙ range_at front kept tail from to f t in
+    let stands : take (to - from) (drop from found) ≡ kept = r.kept ∙ range_at prefix kept tail from to f t in
     record {
-      front = take from found;
+      prefix = take from found;
       rest = drop (to - from) (drop from found);
       parts = sym (take-append-drop from found)
           ∙ ap (λ (l : List ℕ). take from found ++ l)
           (sym (take-append-drop (to - from) (drop from found))
           ∙ ap (λ (l : List ℕ). l ++ drop (to - from) (drop from found)) stands);
-      front_is = length-take-le from found (omega arith);
+      prefix_is = length-take-le from found (omega arith);
       rest_is = omega (arith, length-drop (to - from) (drop from found), length-drop from found);
     }

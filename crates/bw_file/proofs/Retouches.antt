@@ -25,7 +25,7 @@ pub part_put : (c0 c1 : Option (List ℕ)) (old new tail : List ℕ) (from to : 
     to ≤ length new → new ≡ take from old ++ slice_range new from to ++ drop to old →
     c0 ≡ Some (old ++ tail) → Written c0 from (slice_range new from to) c1 → c1 ≡ Some (new ++ tail)
 part_put c0 c1 old new tail from to ordered in_old in_new same e w =
-    let front = take from old in
+    let prefix = take from old in
     let part = slice_range old from to in
     let rest = drop to old in
     let split = parts_at old from to ordered in
@@ -34,21 +34,21 @@ part_put c0 c1 old new tail from to ordered in_old in_new same e w =
     let long : (l : List ℕ) → to ≤ length l → length (slice_range l from to) ≡ to - from =
     λ l fits. length-take-le (to - from) (drop from l) (omega (arith, length-drop from l, fits)) in
     let as_long = long old in_old ∙ sym (long new in_new) in
-    put_over c0 c1 front part (rest ++ tail) (slice_range new from to) from
-    (e ∙ ap (λ (l : List ℕ). Some (l ++ tail)) split ∙ ap Some (regroup front part rest tail))
+    put_over c0 c1 prefix part (rest ++ tail) (slice_range new from to) from
+    (e ∙ ap (λ (l : List ℕ). Some (l ++ tail)) split ∙ ap Some (regroup prefix part rest tail))
     (length-take-le from old (omega arith)) as_long w
-    ∙ ap Some (join front (slice_range new from to) rest tail ∙ ap (λ (l : List ℕ). l ++ tail) (sym same))
+    ∙ ap Some (join prefix (slice_range new from to) rest tail ∙ ap (λ (l : List ℕ). l ++ tail) (sym same))
 
--- two headers that were built one behind the other
-pub two_headers : (first second : Heading) (data_len mid : ℕ) (bytes front back : List ℕ) →
-    bytes ≡ header_of first data_len 0 ++ header_of second data_len 0 → mid ≡ place_of first → front ≡ take mid bytes →
+-- two headers that were built one after the other
+pub two_headers : (first second : Heading) (data_len mid : ℕ) (bytes prefix back : List ℕ) →
+    bytes ≡ header_of first data_len 0 ++ header_of second data_len 0 → mid ≡ place_of first → prefix ≡ take mid bytes →
     back ≡ drop mid bytes →
-    (front ≡ header_of first data_len 0) × (back ≡ header_of second data_len 0)
-two_headers first second data_len mid bytes front back are at_place is_front is_back =
+    (prefix ≡ header_of first data_len 0) × (back ≡ header_of second data_len 0)
+two_headers first second data_len mid bytes prefix back are at_place is_prefix is_back =
     let long : length (header_of first data_len 0) ≡ mid =
     length-header first.format first.bext.now first.history.now data_len 0 first.limit first.widths ∙ sym at_place
     in (
-      is_front ∙ ap (take mid) are ∙ take_at (header_of first data_len 0) (header_of second data_len 0) mid long,
+      is_prefix ∙ ap (take mid) are ∙ take_at (header_of first data_len 0) (header_of second data_len 0) mid long,
       is_back ∙ ap (drop mid) are ∙ drop_at (header_of first data_len 0) (header_of second data_len 0) mid long,
     )
 
@@ -115,14 +115,14 @@ module _ (g : Growing) (t : Take) (tag : ℕ) (value : List ℕ) (f : Format) (f
       (stands_torn old new data_at (length old) c0 c1 0 data_at (omega arith) stands w (inl (omega arith))
       (omega (arith, length-new)))
 
-  Fronted : Bool → Option (List ℕ) → Type 0
-  Fronted dirty c0 = (front : List ℕ) × (c0 ≡ Some (front ++ (samples ++ []))) × (length front ≡ data_at)
-      × (not dirty ≡ true → front ≡ header_with t.fields)
+  Prefixed : Bool → Option (List ℕ) → Type 0
+  Prefixed dirty c0 = (prefix : List ℕ) × (c0 ≡ Some (prefix ++ (samples ++ []))) × (length prefix ≡ data_at)
+      × (not dirty ≡ true → prefix ≡ header_with t.fields)
 
-  fronted : (dirty : Bool) (c0 : Option (List ℕ)) →
-      MatchBool dirty (IsBetween t g.limit (SetField tag value) c0) (c0 ≡ file_of t g.limit) → Fronted dirty c0
-  unfolding Fronted
-  fronted true c0 ready =
+  prefixed : (dirty : Bool) (c0 : Option (List ℕ)) →
+      MatchBool dirty (IsBetween t g.limit (SetField tag value) c0) (c0 ≡ file_of t g.limit) → Prefixed dirty c0
+  unfolding Prefixed
+  prefixed true c0 ready =
       let s = ready_stands t g.limit f format (SetField tag value) true c0 tt same_length ready in
       let to : data_at + length samples ≡ length old = sym length-old in
       let p = repairable_parts (header_with t.fields) samples [] new s.bytes data_at (length old)
@@ -130,13 +130,13 @@ module _ (g : Growing) (t : Take) (tag : ℕ) (value : List ℕ) (f : Format) (f
       (subst (λ (o : List ℕ). Repairable o new data_at (length old) s.bytes) old_parts s.repairable) in
       let short = p.rest_is in
       let none : p.rest ≡ [] = nil_from_length p.rest (omega (arith, length-old, length-new)) in (
-        p.front,
+        p.prefix,
         s.is ∙ ap Some p.parts
-            ∙ ap (λ (l : List ℕ). Some (p.front ++ (samples ++ l))) none,
-        p.front_is,
+            ∙ ap (λ (l : List ℕ). Some (p.prefix ++ (samples ++ l))) none,
+        p.prefix_is,
         λ e. absurd (cc),
       )
-  fronted false c0 ready =
+  prefixed false c0 ready =
       let clean = ready_clean t g.limit f format (SetField tag value) false c0 ready refl in
       (header_with t.fields, clean ∙ ap Some old_parts, length-head t.fields fields, λ e. refl)
 
@@ -144,9 +144,9 @@ module _ (g : Growing) (t : Take) (tag : ℕ) (value : List ℕ) (f : Format) (f
   whole : (c0 c1 : Option (List ℕ)) → IsReady g t (SetField tag value) c0 →
       PutsOver (not g.dirty) (header_with t.fields) (header_with (with_field t.fields tag value)) c0 c1 →
       c1 ≡ file_of later g.limit
-  unfolding Fronted
+  unfolding Prefixed
   whole c0 c1 ready over =
-      let x = fronted g.dirty c0 ready in
+      let x = prefixed g.dirty c0 ready in
       over x.0 (samples ++ []) x.1 (x.2 ∙ sym (length-head (with_field t.fields tag value) set)) x.3
       ∙ ap Some (sym new_parts)
       ∙ sym (file_after t g.limit f format (SetField tag value) tt)

@@ -42,7 +42,7 @@ length-set_plan true name place tag before after = go (bytes_eq before after) (r
 length-set_plan false name place tag before after = omega arith
 
 module _ (g : Growing) (p : Parts) (old new : Heading) (data_len : ℕ) (was : old.bext.now ≡ p.fields)
-    (told : old.history.now ≡ p.history) (format : new.format ≡ old.format)
+    (reported : old.history.now ≡ p.history) (format : new.format ≡ old.format)
     (history : new.history.now ≡ old.history.now)
     (limit : new.limit ≡ old.limit) where
   abbrev before : List ℕ
@@ -56,7 +56,7 @@ module _ (g : Growing) (p : Parts) (old new : Heading) (data_len : ℕ) (was : o
       (field_part tag new.bext.now)
 
   to_plan : (tag : ℕ) → by_fields tag ≡ retouch_plan g p new.bext.now tag
-  to_plan tag = rw told refl
+  to_plan tag = rw reported refl
 
   -- what holds of the calls by the headers holds of the plan
   planned : (Q : List StoreCall → Type 0) (first tag : ℕ) (value : List ℕ) (fields : List (List ℕ)) →

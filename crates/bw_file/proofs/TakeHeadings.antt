@@ -16,10 +16,10 @@ pub is_heading : (t : Take) (p : Parts) (h : Heading) (limit : ℕ) → parts t 
     h.bext.now ≡ p.fields → h.history.now ≡ p.history → h.limit ≡ limit → IsHeading t limit h
 is_heading t p h limit same format fields history at_limit =
     let set = fields ∙ sym (ap (λ (q : Parts). q.fields) same) in
-    let told = history ∙ sym (ap (λ (q : Parts). q.history) same) in
+    let reported = history ∙ sym (ap (λ (q : Parts). q.history) same) in
     record {
       format = ap (λ (q : Parts). q.format) same ∙ sym format;
       fields = subst AreFields set h.widths;
-      place = ap (λ (l : List ℕ). data_place (length l)) told;
-      header = λ data_len cues. rw (set, told, at_limit);
+      place = ap (λ (l : List ℕ). data_place (length l)) reported;
+      header = λ data_len cues. rw (set, reported, at_limit);
     }

@@ -5,8 +5,8 @@ use Rattle.bw_file.specs.Folders.{take_path}
 
 joined : (folder slash a b end : List ℕ) → folder ++ slash ++ a ++ end ≡ folder ++ slash ++ b ++ end → a ≡ b
 joined folder slash a b end e =
-    let front = folder ++ slash in
-    append_cancel_left front a b (append_cancel_right (front ++ a) (front ++ b) end e)
+    let prefix = folder ++ slash in
+    append_cancel_left prefix a b (append_cancel_right (prefix ++ a) (prefix ++ b) end e)
 
 -- distinct names have distinct paths
 pub take_path_injective : (folder a b : List ℕ) → take_path folder a ≡ take_path folder b → a ≡ b

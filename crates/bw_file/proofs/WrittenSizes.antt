@@ -5,7 +5,7 @@ use Rattle.std.specs.Prelude.{codes, nat_le}
 use Rattle.bw_model.specs.Bytes.{le32, le64}
 use Rattle.bw_model.specs.Take.{Format, AreFields}
 use Rattle.bw_model.specs.File.{header, form_size, data_place}
-use Rattle.bw_layout.specs.Headers.{riff_middle, bw64_front, bw64_rear}
+use Rattle.bw_layout.specs.Headers.{riff_middle, bw64_prefix, bw64_rear}
 use Rattle.bw_layout.proofs.SizePlaces.{riff_sizes_stand, bw64_sizes_stand}
 use Rattle.bw_store.specs.Stores.{Written}
 use Rattle.bw_file.proofs.Puts.{put_over}
@@ -33,9 +33,9 @@ module _ (f : Format) (fields : List (List ℕ)) (history : List ℕ) (limit : �
   abbrev between : List ℕ
   between = riff_middle f fields history
 
-  -- behind the sizes of a BW64 header
-  abbrev behind : List ℕ
-  behind = bw64_rear f fields history
+  -- after the sizes of a BW64 header
+  abbrev following : List ℕ
+  following = bw64_rear f fields history
 
   joined : (a b c d : List ℕ) → a ++ b ++ c ++ d ≡ a ++ (b ++ (c ++ d))
   joined a b c d = simp append_assoc
@@ -50,13 +50,13 @@ module _ (f : Format) (fields : List (List ℕ)) (history : List ℕ) (limit : �
   around a b c d = simp append_assoc
 
   bw64_parts : (data_len cues : ℕ) → limit < form_for data_len cues →
-      head_for data_len cues ≡ bw64_front ++ (le64 (form_for data_len cues) ++ (le64 data_len ++ behind))
+      head_for data_len cues ≡ bw64_prefix ++ (le64 (form_for data_len cues) ++ (le64 data_len ++ following))
   bw64_parts data_len cues large =
       (bw64_sizes_stand f fields history data_len cues limit large).whole
-      ∙ around bw64_front (le64 (form_for data_len cues)) (le64 data_len) behind
+      ∙ around bw64_prefix (le64 (form_for data_len cues)) (le64 data_len) following
 
-  length-front : (data_len cues : ℕ) → limit < form_for data_len cues → length bw64_front ≡ 20
-  length-front data_len cues large = (bw64_sizes_stand f fields history data_len cues limit large).front_length
+  length-prefix : (data_len cues : ℕ) → limit < form_for data_len cues → length bw64_prefix ≡ 20
+  length-prefix data_len cues large = (bw64_sizes_stand f fields history data_len cues limit large).prefix_length
 
   -- the data size stands in the last four bytes
   length-between : (data_len cues : ℕ) → AreFields fields → form_for data_len cues ≤ limit →
@@ -78,13 +78,13 @@ module _ (f : Format) (fields : List (List ℕ)) (history : List ℕ) (limit : �
       (e ∙ ap (λ (l : List ℕ). Some (l ++ tail)) (riff_parts before cues h small_before)
       ∙ ap Some (regroup (codes "RIFF") (le32 (form_for before cues)) (between ++ le32 before) tail)) refl refl
       w1 in
-      let front = codes "RIFF" ++ (form ++ between) in
+      let prefix = codes "RIFF" ++ (form ++ between) in
       let at_data : (data_size : List ℕ) →
-      codes "RIFF" ++ (form ++ ((between ++ data_size) ++ tail)) ≡ front ++ (data_size ++ tail) =
+      codes "RIFF" ++ (form ++ ((between ++ data_size) ++ tail)) ≡ prefix ++ (data_size ++ tail) =
       λ data_size. simp append_assoc in
-      let long : length front ≡ data_place (length history) - 4 =
+      let long : length prefix ≡ data_place (length history) - 4 =
       omega (arith, length-between after cues h small_after, length-append form between) in
-      put_over c1 c2 front (le32 before) tail (le32 after) (data_place (length history) - 4)
+      put_over c1 c2 prefix (le32 before) tail (le32 after) (data_place (length history) - 4)
       (first ∙ ap Some (at_data (le32 before))) long refl w2
       ∙ ap Some (sym (at_data (le32 after)) ∙ sym (regroup (codes "RIFF") form (between ++ le32 after) tail)
       ∙ ap (λ (l : List ℕ). l ++ tail) (sym (riff_parts after cues h small_after)))
@@ -109,11 +109,11 @@ module _ (f : Format) (fields : List (List ℕ)) (history : List ℕ) (limit : �
       c1 ≡ Some (head_for after cues ++ tail)
   bw64_sizes before after cues c0 c1 tail large_before large_after e w =
       let sizes : ℕ → List ℕ = λ d. le64 (form_for d cues) ++ le64 d in
-      let regrouped : (d : ℕ) → bw64_front ++ (sizes d ++ (behind ++ tail))
-      ≡ (bw64_front ++ (le64 (form_for d cues) ++ (le64 d ++ behind))) ++ tail = λ d. simp append_assoc in
-      put_over c0 c1 bw64_front (sizes before) (behind ++ tail) (sizes after) 20
+      let regrouped : (d : ℕ) → bw64_prefix ++ (sizes d ++ (following ++ tail))
+      ≡ (bw64_prefix ++ (le64 (form_for d cues) ++ (le64 d ++ following))) ++ tail = λ d. simp append_assoc in
+      put_over c0 c1 bw64_prefix (sizes before) (following ++ tail) (sizes after) 20
       (e ∙ ap (λ (l : List ℕ). Some (l ++ tail)) (bw64_parts before cues large_before)
-      ∙ ap Some (sym (regrouped before))) (length-front before cues large_before) refl w
+      ∙ ap Some (sym (regrouped before))) (length-prefix before cues large_before) refl w
       ∙ ap Some (regrouped after ∙ ap (λ (l : List ℕ). l ++ tail) (sym (bw64_parts after cues large_after)))
 
   -- its form size
@@ -122,10 +122,10 @@ module _ (f : Format) (fields : List (List ℕ)) (history : List ℕ) (limit : �
       c0 ≡ Some (head_for data_len before ++ tail) → Written c0 20 (le64 (form_for data_len after)) c1 →
       c1 ≡ Some (head_for data_len after ++ tail)
   bw64_form data_len before after c0 c1 tail large_before large_after e w =
-      let rest = le64 data_len ++ behind in
-      put_over c0 c1 bw64_front (le64 (form_for data_len before)) (rest ++ tail) (le64 (form_for data_len after)) 20
+      let rest = le64 data_len ++ following in
+      put_over c0 c1 bw64_prefix (le64 (form_for data_len before)) (rest ++ tail) (le64 (form_for data_len after)) 20
       (e ∙ ap (λ (l : List ℕ). Some (l ++ tail)) (bw64_parts data_len before large_before)
-      ∙ ap Some (regroup bw64_front (le64 (form_for data_len before)) rest tail))
-      (length-front data_len before large_before) refl w
-      ∙ ap Some (sym (regroup bw64_front (le64 (form_for data_len after)) rest tail)
+      ∙ ap Some (regroup bw64_prefix (le64 (form_for data_len before)) rest tail))
+      (length-prefix data_len before large_before) refl w
+      ∙ ap Some (sym (regroup bw64_prefix (le64 (form_for data_len after)) rest tail)
       ∙ ap (λ (l : List ℕ). l ++ tail) (sym (bw64_parts data_len after large_after)))

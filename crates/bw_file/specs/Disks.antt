@@ -25,5 +25,5 @@ AsksOnce calls failures old new answer =
 -- What stands under a name is synced where its sync succeeds; all else stays as it was synced.
 pub record Syncs {T E : Type 0} (answer : Result T E) (content : Option (List ℕ))
     (before after : List ℕ → Option (List ℕ)) (name : List ℕ) : Type 0 where
-  pub told : MatchResult answer (λ _. after name ≡ content) (λ _. after name ≡ before name)
+  pub reported : MatchResult answer (λ _. after name ≡ content) (λ _. after name ≡ before name)
   pub others : KeepsOthers before after name

@@ -37,7 +37,7 @@ abbrev pub Stores : {T E : Type 0} → Result T E → Growing → Take → Reque
 Stores answer g t r before after = IsReady g t r before → Leaves answer g t r after
 
 -- a request that is to be stored sets the fields to these
-pub record Sets (p : Parts) (set : List (List ℕ)) : Type 0 where
+pub record SetsOneField (p : Parts) (set : List (List ℕ)) : Type 0 where
   pub tag : ℕ
   pub value : List ℕ
   pub stored : judge p (SetField tag value) ≡ Stored

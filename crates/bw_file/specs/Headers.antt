@@ -1,7 +1,7 @@
 -- What the writes of a growing file leave.
 use Rattle.std.specs.Prelude.{◌≡◌, ℕ, ◌≤◌, List, ◌++◌, length, Option, Some, Bool, IsTrue}
 
--- These bytes stand behind the others, in place of no more.
+-- These bytes stand after the others, in place of no more.
 abbrev pub PutsLast : ℕ → List ℕ → Option (List ℕ) → Option (List ℕ) → Type 0
 PutsLast place bytes before after =
     (base rest : List ℕ) → before ≡ Some (base ++ rest) → length base ≡ place →
@@ -10,7 +10,7 @@ PutsLast place bytes before after =
 -- A header stands in place of as many bytes.
 abbrev pub PutsHeader : List ℕ → Option (List ℕ) → Option (List ℕ) → Type 0
 PutsHeader header before after =
-    (front tail : List ℕ) → before ≡ Some (front ++ tail) → length front ≡ length header →
+    (prefix tail : List ℕ) → before ≡ Some (prefix ++ tail) → length prefix ≡ length header →
     after ≡ Some (header ++ tail)
 
 -- .. in place of this one
@@ -21,5 +21,5 @@ Updates old new before after =
 -- .. in place of any bytes, or of this one where the file is clean
 abbrev pub PutsOver : Bool → List ℕ → List ℕ → Option (List ℕ) → Option (List ℕ) → Type 0
 PutsOver is_clean old new before after =
-    (front tail : List ℕ) → before ≡ Some (front ++ tail) → length front ≡ length new →
-    (IsTrue is_clean → front ≡ old) → after ≡ Some (new ++ tail)
+    (prefix tail : List ℕ) → before ≡ Some (prefix ++ tail) → length prefix ≡ length new →
+    (IsTrue is_clean → prefix ≡ old) → after ≡ Some (new ++ tail)

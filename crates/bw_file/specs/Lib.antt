@@ -10,7 +10,7 @@ pub mod Growing
 pub mod Headers
 pub mod Plans
 pub mod OneField
-pub mod RowsOfCalls
+pub mod ExamplesOfCalls
 pub mod Disks
 pub mod FileWrites
 pub mod Folders

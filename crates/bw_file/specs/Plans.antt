@@ -51,7 +51,7 @@ abbrev pub grown_plan : Bool → List ℕ → ℕ → Bool → Bool → List Sto
 grown_plan is_clean name place was_riff is_riff =
     change_plan is_clean was_riff is_riff (sizes_plan name place is_riff) (header_plan name place)
 
--- .. of data with cue points behind them
+-- .. of data with cue points after them
 abbrev pub closed_plan : Bool → List ℕ → ℕ → Bool → Bool → ℕ → List StoreCall
 closed_plan is_clean name place was_riff is_riff count =
     change_plan is_clean was_riff is_riff (form_plan name count is_riff) (header_plan name place)

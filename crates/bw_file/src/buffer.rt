@@ -60,7 +60,7 @@ impl Buffer {
             .unwrap();
     }
 
-    /// Builds two headers of the same take, one behind the other.
+    /// Builds two headers of the same take, one after the other.
     pub(crate) fn build_headers(&mut self, first: &Heading<'_>, second: &Heading<'_>, data_len: u64)
         requires { data_len ≤ largest }
         ensures { self.new ≡ header_of first.now data_len 0 ++ header_of second.now data_len 0 }

@@ -9,7 +9,7 @@ ghost use Rattle.bw_file.specs.Folders.{take_path, take_content, open_names, ope
 use crate::disk::Disk;
 use crate::system::SystemDisk;
 use bw_request::Name;
-use bw_store::{Created, StoreFault, TakeStore, Tally};
+use bw_store::{CallCounter, Created, StoreFault, TakeStore};
 use std::alloc::{AllocError, Global};
 use std::fs::Files;
 
@@ -31,7 +31,7 @@ pub struct FolderStore<D: Disk> {
     alloc: Global,
     folder: String,
     takes: Vec<OpenTake<D::File>>,
-    tally: Tally,
+    call_counter: CallCounter,
     ghost paths: { IsTrue (D.honest disk) → All
         (λ take. D.path_of take.file ≡ take_path (string_bytes folder) take.name) takes.items },
 }
@@ -49,8 +49,8 @@ impl<R: Files + Drop> FolderStore<SystemDisk<R>> {
         ensures rt { IfOk result (λ s. s.disk.rt ≡ rt) }
         ensures folder { IfOk result (λ s. string_bytes s.folder ≡ folder.now) }
         ensures takes { IfOk result (λ s. s.takes.items ≡ []) }
-        ensures failures { IfOk result (λ s. s.tally.failures ≡ 0) }
-        ensures calls { IfOk result (λ s. s.tally.calls ≡ 0) }
+        ensures failures { IfOk result (λ s. s.call_counter.failures ≡ 0) }
+        ensures calls { IfOk result (λ s. s.call_counter.calls ≡ 0) }
     {
         FolderStore::over(SystemDisk::new(rt), alloc, folder)
     }
@@ -68,15 +68,15 @@ impl<D: Disk> FolderStore<D> {
         ensures disk { IfOk result (λ s. s.disk ≡ disk) }
         ensures folder { IfOk result (λ s. string_bytes s.folder ≡ folder.now) }
         ensures takes { IfOk result (λ s. s.takes.items ≡ []) }
-        ensures failures { IfOk result (λ s. s.tally.failures ≡ 0) }
-        ensures calls { IfOk result (λ s. s.tally.calls ≡ 0) }
+        ensures failures { IfOk result (λ s. s.call_counter.failures ≡ 0) }
+        ensures calls { IfOk result (λ s. s.call_counter.calls ≡ 0) }
     {
         Ok(FolderStore {
             disk,
             alloc,
             folder: String::from_str(alloc, folder)?,
             takes: Vec::new(alloc),
-            tally: Tally::new(),
+            call_counter: CallCounter::new(),
         })
     }
 
@@ -103,7 +103,7 @@ impl<D: Disk> FolderStore<D> {
 
     #[tactic(auto, using(crate::proofs::TakePaths::take_path_injective))]
     fn make(&mut self, name: &Name) -> Result<Created, StoreFault>
-        ensures tally { self.new.tally ≡ self.old.tally }
+        ensures call_counter { self.new.call_counter ≡ self.old.call_counter }
         ensures folder { self.new.folder ≡ self.old.folder }
         ensures honest { D.honest self.new.disk ≡ D.honest self.old.disk }
         ensures created { IsTrue (D.honest self.old.disk) → IfOk result (λ c. Creates c
@@ -138,9 +138,9 @@ impl<D: Disk> FolderStore<D> {
 impl<D: Disk> TakeStore for FolderStore<D> {
     ghost contents = { λ s name. take_content (D.contents s.disk) (string_bytes s.folder) name };
 
-    ghost failures = { λ s. s.tally.failures };
+    ghost failures = { λ s. s.call_counter.failures };
 
-    ghost calls = { λ s. s.tally.calls };
+    ghost calls = { λ s. s.call_counter.calls };
 
     ghost honest = { λ s. D.honest s.disk };
 
@@ -153,8 +153,8 @@ impl<D: Disk> TakeStore for FolderStore<D> {
     /// # Not specified
     /// When memory is refused: an error without a call of the disk has no other cause given.
     fn create(&mut self, name: &Name) -> Result<Created, StoreFault>
-        ensures failures { Counts self.old.tally.failures self.new.tally.failures (is_err result) }
-        ensures calls { Counts self.old.tally.calls self.new.tally.calls true }
+        ensures failures { Counts self.old.call_counter.failures self.new.call_counter.failures (is_err result) }
+        ensures calls { Counts self.old.call_counter.calls self.new.call_counter.calls true }
         ensures folder { self.new.folder ≡ self.old.folder }
         ensures honest { D.honest self.new.disk ≡ D.honest self.old.disk }
         ensures created { IsTrue (D.honest self.old.disk) → IfOk result (λ c. Creates c
@@ -173,7 +173,7 @@ impl<D: Disk> TakeStore for FolderStore<D> {
             ≡ opened_by result name.now (open_names self.old.takes.items) }
     {
         let answer = self.make(name);
-        self.tally.count(answer.is_err());
+        self.call_counter.count(answer.is_err());
         answer
     }
 
@@ -184,8 +184,8 @@ impl<D: Disk> TakeStore for FolderStore<D> {
     /// isn't called then.
     #[tactic(auto, using(crate::proofs::TakePaths::take_path_injective))]
     fn write_at(&mut self, name: &Name, offset: u64, bytes: &[u8]) -> Result<(), StoreFault>
-        ensures failures { Counts self.old.tally.failures self.new.tally.failures (is_err result) }
-        ensures calls { Counts self.old.tally.calls self.new.tally.calls true }
+        ensures failures { Counts self.old.call_counter.failures self.new.call_counter.failures (is_err result) }
+        ensures calls { Counts self.old.call_counter.calls self.new.call_counter.calls true }
         ensures folder { self.new.folder ≡ self.old.folder }
         ensures honest { D.honest self.new.disk ≡ D.honest self.old.disk }
         ensures written { IsTrue (D.honest self.old.disk) → OnOk result (Written
@@ -208,7 +208,7 @@ impl<D: Disk> TakeStore for FolderStore<D> {
         ensures opened { open_names self.new.takes.items ≡ open_names self.old.takes.items }
     {
         let Some(place) = find(&self.takes, name) else {
-            self.tally.count(true);
+            self.call_counter.count(true);
             return Err(StoreFault);
         };
         let take = &mut self.takes[place];
@@ -216,7 +216,7 @@ impl<D: Disk> TakeStore for FolderStore<D> {
             .disk
             .write_at(&mut take.file, offset, bytes)
             .map_err(|_| StoreFault);
-        self.tally.count(answer.is_err());
+        self.call_counter.count(answer.is_err());
         answer
     }
 
@@ -227,8 +227,8 @@ impl<D: Disk> TakeStore for FolderStore<D> {
     /// isn't called then.
     #[tactic(auto, using(crate::proofs::TakePaths::take_path_injective))]
     fn finish(&mut self, name: &Name) -> Result<(), StoreFault>
-        ensures failures { Counts self.old.tally.failures self.new.tally.failures (is_err result) }
-        ensures calls { Counts self.old.tally.calls self.new.tally.calls true }
+        ensures failures { Counts self.old.call_counter.failures self.new.call_counter.failures (is_err result) }
+        ensures calls { Counts self.old.call_counter.calls self.new.call_counter.calls true }
         ensures folder { self.new.folder ≡ self.old.folder }
         ensures takes { self.new.takes ≡ self.old.takes }
         ensures honest { D.honest self.new.disk ≡ D.honest self.old.disk }
@@ -244,12 +244,12 @@ impl<D: Disk> TakeStore for FolderStore<D> {
             IsErr result × (self.new.disk ≡ self.old.disk) }
     {
         let Some(place) = find(&self.takes, name) else {
-            self.tally.count(true);
+            self.call_counter.count(true);
             return Err(StoreFault);
         };
         let take = &self.takes[place];
         let answer = self.disk.sync(&take.file).map_err(|_| StoreFault);
-        self.tally.count(answer.is_err());
+        self.call_counter.count(answer.is_err());
         answer
     }
 }

@@ -7,7 +7,7 @@ ghost use Rattle.bw_model.specs.Take.{frames, with_field};
 ghost use Rattle.bw_model.specs.Wire.{is_request};
 ghost use Rattle.bw_store.specs.StoreSteps.{Shared, WasAsked, WasAskedFirst};
 ghost use Rattle.bw_file.specs.Plans.{name_plan, begin_plan, append_plan, retouch_plan, close_plan};
-ghost use Rattle.bw_file.specs.Growing.{Growing, Stores, Sets, BeginsFile, AsksForName, IsFresh};
+ghost use Rattle.bw_file.specs.Growing.{Growing, Stores, SetsOneField, BeginsFile, AsksForName, IsFresh};
 ghost use Rattle.bw_file.specs.Growing.{is_new};
 
 use crate::buffer::Buffer;
@@ -102,7 +102,7 @@ impl GrowingFile {
 
     /// Marks the file for another try of the request that its last call stored.
     ///
-    /// So it is where the store has the request and the journal behind it failed.
+    /// So it is where the store has the request and the journal after it failed.
     pub fn mark_dirty(&mut self)
         ensures { self.new ≡ record self.old { dirty = true } }
     {
@@ -142,7 +142,7 @@ impl GrowingFile {
             (begin_plan self.old true (length history.now)) store.old store.new) }
         ensures name { IsTrue (S.honest store.old) → AsksForName self.old.made self.new.made
             (S.contents store.old self.old.name) (S.contents store.new self.old.name) }
-        ensures stood { IsTrue (S.honest store.old) →
+        ensures existed { IsTrue (S.honest store.old) →
             IfOk result (λ c. IsFalse (is_new c) → IsSome (S.contents store.old self.old.name)) }
         ensures file { IsTrue (S.honest store.old) → (t : Take) → parts t ≡ state.now.parts →
             BeginsFile result self.old self.new.made t (Open format history.now)
@@ -170,7 +170,7 @@ impl GrowingFile {
     }
 
     /// Appends the samples of a block that fits and is judged Stored. The data have at most 2^62
-    /// bytes behind it.
+    /// bytes after it.
     ///
     /// # Errors
     /// `StoreFault` where a call of the store failed. The file is dirty then, and the same call may
@@ -234,7 +234,7 @@ impl GrowingFile {
         state: &TakeState,
         bext: &Bext,
     ) -> Result<(), StoreFault>
-        requires { Sets state.now.parts bext.now }
+        requires { SetsOneField state.now.parts bext.now }
         ensures known { self.new ≡ record self.old { dirty = is_err result } }
         ensures shared { Shared S.TakeStore (is_err result) self.old.name store.old store.new }
         ensures calls { S.calls store.new ≤ S.calls store.old + 1 }
@@ -268,7 +268,7 @@ impl GrowingFile {
         Ok(())
     }
 
-    /// Puts the cue points of the markers behind the data, and says that the file is complete. The
+    /// Puts the cue points of the markers after the data, and says that the file is complete. The
     /// CLOSE with the take's own frames is judged Stored.
     ///
     /// # Errors
@@ -348,7 +348,7 @@ fn make_name<S: TakeStore>(
         (name_plan name.now made.old) store.old store.new) }
     ensures name { IsTrue (S.honest store.old) → AsksForName made.old made.new
         (S.contents store.old name.now) (S.contents store.new name.now) }
-    ensures stood { IsTrue (S.honest store.old) →
+    ensures existed { IsTrue (S.honest store.old) →
         IfOk result (λ c. IsFalse (is_new c) → IsSome (S.contents store.old name.now)) }
     ensures fresh { IsTrue (S.honest store.old) → IfOk result (λ c. IsTrue (is_new c) →
         IsFresh made.old (S.contents store.old name.now) (S.contents store.new name.now)) }

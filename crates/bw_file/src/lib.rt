@@ -16,6 +16,6 @@ pub use bw_store::{Created, FuseStore, MemoryStore, StoreFault, TakeStore};
 pub use disk::{Disk, DiskFault};
 pub use folder::FolderStore;
 pub use growing::GrowingFile;
-pub use laws::rows_of_calls;
+pub use laws::examples_of_calls;
 pub use memory_disk::{MemoryDisk, MemoryFile};
 pub use system::SystemDisk;

@@ -8,7 +8,7 @@ ghost use Rattle.bw_file.specs.Disks.{Makes, Syncs};
 ghost use Rattle.bw_file.specs.MemoryDisks.{stands_at, content_at, synced_at};
 
 use crate::disk::{Disk, DiskFault};
-use bw_store::{Tally, overwrite};
+use bw_store::{CallCounter, overwrite};
 use std::alloc::Global;
 
 /// What stands at a path, and what stood there when the file was last synced.
@@ -33,7 +33,7 @@ pub struct MemoryFile {
 pub struct MemoryDisk {
     alloc: Global,
     files: Vec<StoredFile>,
-    tally: Tally,
+    call_counter: CallCounter,
 }
 
 impl MemoryDisk {
@@ -48,7 +48,7 @@ impl MemoryDisk {
         MemoryDisk {
             alloc,
             files: Vec::new(alloc),
-            tally: Tally::new(),
+            call_counter: CallCounter::new(),
         }
     }
 
@@ -72,9 +72,9 @@ impl Disk for MemoryDisk {
 
     ghost path_of = { λ file. string_bytes file.path };
 
-    ghost failures = { λ d. d.tally.failures };
+    ghost failures = { λ d. d.call_counter.failures };
 
-    ghost calls = { λ d. d.tally.calls };
+    ghost calls = { λ d. d.call_counter.calls };
 
     ghost honest = { λ d. true };
 
@@ -87,8 +87,8 @@ impl Disk for MemoryDisk {
     /// # Not specified
     /// When memory is refused.
     fn create_new(&mut self, path: &str) -> Result<Option<MemoryFile>, DiskFault>
-        ensures failures { Counts self.old.tally.failures self.new.tally.failures (is_err result) }
-        ensures calls { Counts self.old.tally.calls self.new.tally.calls true }
+        ensures failures { Counts self.old.call_counter.failures self.new.call_counter.failures (is_err result) }
+        ensures calls { Counts self.old.call_counter.calls self.new.call_counter.calls true }
         ensures path { IfOk result (λ made.
             IfSome made (λ file. string_bytes file.path ≡ path.now)) }
         ensures made { IfOk result (λ made. Makes made
@@ -102,7 +102,7 @@ impl Disk for MemoryDisk {
         ensures stands { IsSome (content_at self.old.files.items path.now) → IsOk result }
     {
         let answer = make(&mut self.files, self.alloc, path);
-        self.tally.count(answer.is_err());
+        self.call_counter.count(answer.is_err());
         answer
     }
 
@@ -120,8 +120,8 @@ impl Disk for MemoryDisk {
         offset: u64,
         bytes: &[u8],
     ) -> Result<(), DiskFault>
-        ensures failures { Counts self.old.tally.failures self.new.tally.failures (is_err result) }
-        ensures calls { Counts self.old.tally.calls self.new.tally.calls true }
+        ensures failures { Counts self.old.call_counter.failures self.new.call_counter.failures (is_err result) }
+        ensures calls { Counts self.old.call_counter.calls self.new.call_counter.calls true }
         ensures path { file.new ≡ file.old }
         ensures written { OnOk result (Written
             (content_at self.old.files.items (string_bytes file.old.path)) offset bytes.now
@@ -137,7 +137,7 @@ impl Disk for MemoryDisk {
             (λ old. offset + length bytes.now ≤ length old → IsOk result) }
     {
         let answer = write(&mut self.files, file.path.as_str(), offset, bytes);
-        self.tally.count(answer.is_err());
+        self.call_counter.count(answer.is_err());
         answer
     }
 
@@ -149,8 +149,8 @@ impl Disk for MemoryDisk {
     /// # Not specified
     /// That it succeeds where the file stands and there is memory.
     fn sync(&mut self, file: &MemoryFile) -> Result<(), DiskFault>
-        ensures failures { Counts self.old.tally.failures self.new.tally.failures (is_err result) }
-        ensures calls { Counts self.old.tally.calls self.new.tally.calls true }
+        ensures failures { Counts self.old.call_counter.failures self.new.call_counter.failures (is_err result) }
+        ensures calls { Counts self.old.call_counter.calls self.new.call_counter.calls true }
         ensures unchanged { (other : List ℕ) →
             content_at self.new.files.items other ≡ content_at self.old.files.items other }
         ensures synced { Syncs result
@@ -161,7 +161,7 @@ impl Disk for MemoryDisk {
             (IsSome (content_at self.old.files.items (string_bytes file.now.path))) }
     {
         let answer = keep(&mut self.files, self.alloc, file.path.as_str());
-        self.tally.count(answer.is_err());
+        self.call_counter.count(answer.is_err());
         answer
     }
 }

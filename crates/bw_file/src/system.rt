@@ -4,7 +4,7 @@ ghost use Rattle.bw_file.specs.Disks.{IsOneCall};
 ghost use Rattle.bw_file.specs.FileWrites.{PutsFrom};
 
 use crate::disk::{Disk, DiskFault};
-use bw_store::Tally;
+use bw_store::CallCounter;
 use std::fs::{File, Files, OpenFile};
 use std::io;
 use std::io::{ErrorKind, Seek, SeekFrom, Write};
@@ -20,7 +20,7 @@ use std::io::{ErrorKind, Seek, SeekFrom, Write};
 #[derive(Drop)]
 pub struct SystemDisk<R> {
     rt: R,
-    tally: Tally,
+    call_counter: CallCounter,
 }
 
 impl<R> SystemDisk<R> {
@@ -31,12 +31,12 @@ impl<R> SystemDisk<R> {
     /// are proved: no clause says that they call std, so runs show it.
     pub fn new(rt: R) -> SystemDisk<R>
         ensures rt { result.rt ≡ rt }
-        ensures failures { result.tally.failures ≡ 0 }
-        ensures calls { result.tally.calls ≡ 0 }
+        ensures failures { result.call_counter.failures ≡ 0 }
+        ensures calls { result.call_counter.calls ≡ 0 }
     {
         SystemDisk {
             rt,
-            tally: Tally::new(),
+            call_counter: CallCounter::new(),
         }
     }
 }
@@ -50,9 +50,9 @@ impl<R: Files + Drop> Disk for SystemDisk<R> {
 
     ghost path_of = { λ file. [] };
 
-    ghost failures = { λ d. d.tally.failures };
+    ghost failures = { λ d. d.call_counter.failures };
 
-    ghost calls = { λ d. d.tally.calls };
+    ghost calls = { λ d. d.call_counter.calls };
 
     ghost honest = { λ d. false };
 
@@ -62,7 +62,7 @@ impl<R: Files + Drop> Disk for SystemDisk<R> {
             Err(e) if e.kind() == ErrorKind::AlreadyExists => Ok(None),
             Err(_) => Err(DiskFault),
         };
-        self.tally.count(answer.is_err());
+        self.call_counter.count(answer.is_err());
         answer
     }
 
@@ -74,18 +74,18 @@ impl<R: Files + Drop> Disk for SystemDisk<R> {
     /// # Not specified
     /// After a failed write that a seek came before: what the file holds, and its position.
     fn write_at(&mut self, file: &mut R::File, offset: u64, bytes: &[u8]) -> Result<(), DiskFault>
-        ensures call { IsOneCall (λ d. d.tally.calls) (λ d. d.tally.failures) self.old self.new
+        ensures call { IsOneCall (λ d. d.call_counter.calls) (λ d. d.call_counter.failures) self.old self.new
             (is_err result) }
         ensures puts { PutsFrom R.File.Seek R.File.Write offset bytes.now file.old file.new result }
     {
         let answer = put(file, offset, bytes).map_err(|_| DiskFault);
-        self.tally.count(answer.is_err());
+        self.call_counter.count(answer.is_err());
         answer
     }
 
     fn sync(&mut self, file: &R::File) -> Result<(), DiskFault> {
         let answer = file.sync_all().map_err(|_| DiskFault);
-        self.tally.count(answer.is_err());
+        self.call_counter.count(answer.is_err());
         answer
     }
 }

@@ -136,7 +136,7 @@ pub(crate) fn put_grown_header<S: TakeStore>(
     Ok(())
 }
 
-/// Brings the header of a file to the cue points behind its data.
+/// Brings the header of a file to the cue points after its data.
 ///
 /// A clean file of the same kind gets its form size alone, and without cue points nothing.
 pub(crate) fn put_closed_header<S: TakeStore>(

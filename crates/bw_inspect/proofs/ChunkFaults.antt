@@ -10,7 +10,7 @@ use Rattle.bw_inspect.specs.declared.chunk.ChunkKind.{ChunkKind}
 use Rattle.bw_inspect.specs.declared.chunk.ChunkKind.TheVariants.{Fmt, Bext, Data, Cue, Other}
 use Rattle.bw_inspect.specs.Chunks.{kind_by, start_faults, size_faults, content_faults}
 use Rattle.bw_inspect.specs.Walks.{faults_at}
-use Rattle.bw_inspect.specs.Known.{facts_in, has_kind, learned, fmt_told, bext_told, samples_told, cues_told}
+use Rattle.bw_inspect.specs.Known.{facts_in, has_kind, learned, fmt_reported, bext_reported, samples_reported, cues_reported}
 
 -- what an id is, by its kind
 abbrev pub Named : ChunkKind → List ℕ → Type 0
@@ -47,13 +47,13 @@ parts_by : (b : List ℕ) (len end : ℕ) (seen : List reading.Entry) (p : ℕ) 
     reading.chunk_faults len end seen p (record { id = id; size = size; count = count }) c
     ≡ parts len end seen p s (has_kind s (facts_in b seen)) size count c
 parts_by b len end seen p id size count c Fmt n =
-    rw (n, some-map (fmt_told b) (reading.entry_of (codes "fmt ") seen)) refl
+    rw (n, some-map (fmt_reported b) (reading.entry_of (codes "fmt ") seen)) refl
 parts_by b len end seen p id size count c Bext n =
-    rw (n, some-map (bext_told b) (reading.entry_of (codes "bext") seen)) refl
+    rw (n, some-map (bext_reported b) (reading.entry_of (codes "bext") seen)) refl
 parts_by b len end seen p id size count c Data n =
-    rw (n, some-map samples_told (reading.entry_of (codes "data") seen)) refl
+    rw (n, some-map samples_reported (reading.entry_of (codes "data") seen)) refl
 parts_by b len end seen p id size count c Cue n =
-    rw (n, some-map (cues_told b) (reading.entry_of (codes "cue ") seen)) refl
+    rw (n, some-map (cues_reported b) (reading.entry_of (codes "cue ") seen)) refl
 parts_by b len end seen p id size count c Other n = simp (n.0, n.1, n.2, n.3)
 
 -- the faults at a place, in parts
@@ -147,7 +147,7 @@ pub facts_push : (b : List ℕ) (seen : List reading.Entry) (e : reading.Entry) 
 facts_push b seen e Fmt n h =
     let other = λ (i : List ℕ) (f : reading.is_id (codes "fmt ") i ≡ false). apart i (codes "fmt ") seen e n f in
     rw (
-      joins (codes "fmt ") seen e n refl (none-map (fmt_told b) _ h),
+      joins (codes "fmt ") seen e n refl (none-map (fmt_reported b) _ h),
       other (codes "bext") refl,
       other (codes "data") refl,
       other (codes "cue ") refl,
@@ -155,7 +155,7 @@ facts_push b seen e Fmt n h =
 facts_push b seen e Bext n h =
     let other = λ (i : List ℕ) (f : reading.is_id (codes "bext") i ≡ false). apart i (codes "bext") seen e n f in
     rw (
-      joins (codes "bext") seen e n refl (none-map (bext_told b) _ h),
+      joins (codes "bext") seen e n refl (none-map (bext_reported b) _ h),
       other (codes "fmt ") refl,
       other (codes "data") refl,
       other (codes "cue ") refl,
@@ -163,7 +163,7 @@ facts_push b seen e Bext n h =
 facts_push b seen e Data n h =
     let other = λ (i : List ℕ) (f : reading.is_id (codes "data") i ≡ false). apart i (codes "data") seen e n f in
     rw (
-      joins (codes "data") seen e n refl (none-map samples_told _ h),
+      joins (codes "data") seen e n refl (none-map samples_reported _ h),
       other (codes "fmt ") refl,
       other (codes "bext") refl,
       other (codes "cue ") refl,
@@ -171,7 +171,7 @@ facts_push b seen e Data n h =
 facts_push b seen e Cue n h =
     let other = λ (i : List ℕ) (f : reading.is_id (codes "cue ") i ≡ false). apart i (codes "cue ") seen e n f in
     rw (
-      joins (codes "cue ") seen e n refl (none-map (cues_told b) _ h),
+      joins (codes "cue ") seen e n refl (none-map (cues_reported b) _ h),
       other (codes "fmt ") refl,
       other (codes "bext") refl,
       other (codes "data") refl,

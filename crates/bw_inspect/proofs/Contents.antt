@@ -11,7 +11,7 @@ use Rattle.bw_layout.specs.Raw.{bext_at}
 use Rattle.bw_inspect.specs.declared.chunk.ChunkKind.{ChunkKind}
 use Rattle.bw_inspect.specs.declared.chunk.ChunkKind.TheVariants.{Bext}
 use Rattle.bw_inspect.specs.Chunks.{is_cue_kind, content_faults}
-use Rattle.bw_inspect.specs.Known.{Facts, bext_told}
+use Rattle.bw_inspect.specs.Known.{Facts, bext_reported}
 use Rattle.bw_inspect.specs.Contents.{ReadTo, IsFaultless, IsLearned}
 use Rattle.bw_inspect.proofs.PartialReads.{part_at}
 
@@ -35,58 +35,58 @@ plain_whole b e s left n r = record {
   to = r;
 }
 
--- a part of a front, and a number in it
+-- a part of a prefix, and a number in it
 
-pub range_front : (c : List ℕ) (n i j : ℕ) → i ≤ j → j ≤ n → slice_range (slice_range c 0 n) i j ≡ slice_range c i j
-range_front c n i j h k =
+pub range_prefix : (c : List ℕ) (n i j : ℕ) → i ≤ j → j ≤ n → slice_range (slice_range c 0 n) i j ≡ slice_range c i j
+range_prefix c n i j h k =
     ap (λ (m : ℕ). slice_range (slice_range c 0 m) i j) (sym (zero-add n))
     ∙ part_at c 0 n i j h k
     ∙ (ap (λ (m : ℕ). slice_range c m (0 + j)) (zero-add i) ∙ ap (λ (m : ℕ). slice_range c i m) (zero-add j))
 
-u16_front : (c : List ℕ) (n p : ℕ) → p + 2 ≤ n → u16_at (slice_range c 0 n) p ≡ u16_at c p
-u16_front c n p h = ap (from_le_bytes w16) (range_front c n p (p + 2) (omega arith) h)
+u16_prefix : (c : List ℕ) (n p : ℕ) → p + 2 ≤ n → u16_at (slice_range c 0 n) p ≡ u16_at c p
+u16_prefix c n p h = ap (from_le_bytes w16) (range_prefix c n p (p + 2) (omega arith) h)
 
-pub u32_front : (c : List ℕ) (n p : ℕ) → p + 4 ≤ n → u32_at (slice_range c 0 n) p ≡ u32_at c p
-u32_front c n p h = ap (from_le_bytes w32) (range_front c n p (p + 4) (omega arith) h)
+pub u32_prefix : (c : List ℕ) (n p : ℕ) → p + 4 ≤ n → u32_at (slice_range c 0 n) p ≡ u32_at c p
+u32_prefix c n p h = ap (from_le_bytes w32) (range_prefix c n p (p + 4) (omega arith) h)
 
-pub u64_front : (c : List ℕ) (n p : ℕ) → p + 8 ≤ n → u64_at (slice_range c 0 n) p ≡ u64_at c p
-u64_front c n p h = ap (from_le_bytes w64) (range_front c n p (p + 8) (omega arith) h)
+pub u64_prefix : (c : List ℕ) (n p : ℕ) → p + 8 ≤ n → u64_at (slice_range c 0 n) p ≡ u64_at c p
+u64_prefix c n p h = ap (from_le_bytes w64) (range_prefix c n p (p + 8) (omega arith) h)
 
 -- what `fmt ` says stands in its first 16 bytes
-pub fmt_front : (c : List ℕ) → report.raw_fmt (slice_range c 0 16) ≡ report.raw_fmt c
-fmt_front c =
-    let a = u16_front c 16 0 (lit≤ tt) in
-    let d = u16_front c 16 2 (lit≤ tt) in
-    let e = u32_front c 16 4 (lit≤ tt) in
-    let f = u32_front c 16 8 (lit≤ tt) in
-    let g = u16_front c 16 12 (lit≤ tt) in
-    let h = u16_front c 16 14 (lit≤ tt) in
+pub fmt_prefix : (c : List ℕ) → report.raw_fmt (slice_range c 0 16) ≡ report.raw_fmt c
+fmt_prefix c =
+    let a = u16_prefix c 16 0 (lit≤ tt) in
+    let d = u16_prefix c 16 2 (lit≤ tt) in
+    let e = u32_prefix c 16 4 (lit≤ tt) in
+    let f = u32_prefix c 16 8 (lit≤ tt) in
+    let g = u16_prefix c 16 12 (lit≤ tt) in
+    let h = u16_prefix c 16 14 (lit≤ tt) in
     cc
 
-fields_front : (c : List ℕ) → report.raw_bext (slice_range c 0 602) ≡ report.raw_bext c
-fields_front c =
-    let t1 = range_front c 602 0 256 (lit≤ tt) (lit≤ tt) in
-    let t2 = range_front c 602 256 288 (lit≤ tt) (lit≤ tt) in
-    let t3 = range_front c 602 288 320 (lit≤ tt) (lit≤ tt) in
-    let t4 = range_front c 602 320 330 (lit≤ tt) (lit≤ tt) in
-    let t5 = range_front c 602 330 338 (lit≤ tt) (lit≤ tt) in
-    let t6 = range_front c 602 348 412 (lit≤ tt) (lit≤ tt) in
-    let n1 = u64_front c 602 338 (lit≤ tt) in
-    let n2 = u16_front c 602 346 (lit≤ tt) in
-    let l1 = u16_front c 602 412 (lit≤ tt) in
-    let l2 = u16_front c 602 414 (lit≤ tt) in
-    let l3 = u16_front c 602 416 (lit≤ tt) in
-    let l4 = u16_front c 602 418 (lit≤ tt) in
-    let l5 = u16_front c 602 420 (lit≤ tt) in
+fields_prefix : (c : List ℕ) → report.raw_bext (slice_range c 0 602) ≡ report.raw_bext c
+fields_prefix c =
+    let t1 = range_prefix c 602 0 256 (lit≤ tt) (lit≤ tt) in
+    let t2 = range_prefix c 602 256 288 (lit≤ tt) (lit≤ tt) in
+    let t3 = range_prefix c 602 288 320 (lit≤ tt) (lit≤ tt) in
+    let t4 = range_prefix c 602 320 330 (lit≤ tt) (lit≤ tt) in
+    let t5 = range_prefix c 602 330 338 (lit≤ tt) (lit≤ tt) in
+    let t6 = range_prefix c 602 348 412 (lit≤ tt) (lit≤ tt) in
+    let n1 = u64_prefix c 602 338 (lit≤ tt) in
+    let n2 = u16_prefix c 602 346 (lit≤ tt) in
+    let l1 = u16_prefix c 602 412 (lit≤ tt) in
+    let l2 = u16_prefix c 602 414 (lit≤ tt) in
+    let l3 = u16_prefix c 602 416 (lit≤ tt) in
+    let l4 = u16_prefix c 602 418 (lit≤ tt) in
+    let l5 = u16_prefix c 602 420 (lit≤ tt) in
     rw (t1, t2, t3, t4, t5, t6, n1, n2, l1, l2, l3, l4, l5) refl
 
 -- what `bext` says stands in its first 602 bytes, and so do its reserved bytes
-pub bext_front : (c : List ℕ) → bext_at (slice_range c 0 602) ≡ bext_at c
-bext_front c =
-    ap (λ (x : report.RawBext). (x, slice_range (slice_range c 0 602) 422 602)) (fields_front c)
-    ∙ ap (λ (z : List ℕ). (report.raw_bext c, z)) (range_front c 602 422 602 (lit≤ tt) (lit≤ tt))
+pub bext_prefix : (c : List ℕ) → bext_at (slice_range c 0 602) ≡ bext_at c
+bext_prefix c =
+    ap (λ (x : report.RawBext). (x, slice_range (slice_range c 0 602) 422 602)) (fields_prefix c)
+    ∙ ap (λ (z : List ℕ). (report.raw_bext c, z)) (range_prefix c 602 422 602 (lit≤ tt) (lit≤ tt))
 
--- behind a head its content begins
+-- after a head its content begins
 pub at_start : (b : List ℕ) (e : reading.Entry) (left : Option (List ℕ)) → e.place + 8 ≤ length b →
     left ≡ Some (drop (e.place + 8) b) → ReadTo b e 0 left
 at_start b e left h r = record {
@@ -101,7 +101,7 @@ read_as b e e' done left same r = subst (λ (x : reading.Entry). ReadTo b x done
 
 -- what `bext` tells is known
 pub bext_learned : (b : List ℕ) (e : reading.Entry) (x : (report.RawBext × List ℕ) × ℕ) (old : Facts)
-    (left : Option (List ℕ)) → ReadTo b e e.size left → x ≡ bext_told b e →
+    (left : Option (List ℕ)) → ReadTo b e e.size left → x ≡ bext_reported b e →
     IsLearned b Bext e old (record old { bext = Some x }) left
 bext_learned b e x old left r q = record {
   whole = plain_whole b e Bext left refl r;

@@ -16,7 +16,7 @@ use Rattle.bw_inspect.specs.CueContents.{IsCued, WantsCounted, cue_faults}
 use Rattle.bw_inspect.proofs.Contents.{in_content}
 use Rattle.bw_inspect.proofs.Counted.{stopped_as}
 
--- the count stands behind the head
+-- the count stands after the head
 count_there : (b : List ℕ) (e : reading.Entry) → 4 ≤ e.size →
     u32_at (report.content_of b (Some e)) 0 ≡ u32_at b (e.place + 8)
 count_there b e h =
@@ -61,5 +61,5 @@ pub cues_learned : (b : List ℕ) (e : reading.Entry) (points : List report.RawC
     IsLearned b Cue e old (record old { cues = Some points }) left
 cues_learned b e points old left h c = record {
   whole = cues_whole b e points left h c;
-  facts = ap (λ (x : List report.RawCue). record old { cues = Some x }) c.told;
+  facts = ap (λ (x : List report.RawCue). record old { cues = Some x }) c.reported;
 }

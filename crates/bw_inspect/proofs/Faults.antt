@@ -14,12 +14,12 @@ pub bytes_no_read : (k : InspectKind) → is_of_bytes k ≡ true → is_failed_r
 bytes_no_read Read e = cc
 bytes_no_read _ e = refl
 
--- nor want of memory
+-- nor lack of memory
 pub bytes_no_memory : (k : InspectKind) → is_of_bytes k ≡ true → is_memory k ≡ false
 bytes_no_memory Memory e = cc
 bytes_no_memory _ e = refl
 
--- want of memory is no failed read
+-- lack of memory is no failed read
 pub memory_no_read : (k : InspectKind) → is_memory k ≡ true → is_failed_read k ≡ false
 memory_no_read Read e = cc
 memory_no_read _ e = refl
@@ -36,15 +36,15 @@ named (Some k) n g e = refl
 pub of_bytes : (f : InspectFault) (g : reading.Fault) → bytes_fault f ≡ Some g → is_of_bytes f.kind ≡ true
 of_bytes f g e = named (kind_of f.kind) f.offset g e
 
-kind_told : (o : Option reading.FaultKind) (n : ℕ) → is_some o ≡ true →
+kind_reported : (o : Option reading.FaultKind) (n : ℕ) → is_some o ≡ true →
     (g : reading.Fault) × (option_map {U = reading.Fault} (λ (k : reading.FaultKind). record { kind = k; offset = n }) o
     ≡ Some g)
-kind_told None n e = cc
-kind_told (Some k) n e = (record { kind = k; offset = n }, refl)
+kind_reported None n e = cc
+kind_reported (Some k) n e = (record { kind = k; offset = n }, refl)
 
 -- and such a fault is named
-pub told_fault : (f : InspectFault) → is_of_bytes f.kind ≡ true → (g : reading.Fault) × (bytes_fault f ≡ Some g)
-told_fault f e = kind_told (kind_of f.kind) f.offset e
+pub reported_fault : (f : InspectFault) → is_of_bytes f.kind ≡ true → (g : reading.Fault) × (bytes_fault f ≡ Some g)
+reported_fault f e = kind_reported (kind_of f.kind) f.offset e
 
 -- a call halts where it stands, for a fault of the bytes
 pub halts_by_bytes : (b : List ℕ) (most place reached : ℕ) (wants : ℕ → Type 0) (f : InspectFault)
@@ -73,7 +73,7 @@ halts_further b most more place wants further f left w k h = record {
   memory = λ t. let m = h.memory t in (m.0, k h.reached m.1);
 }
 
--- bytes that were missed are no want of memory
+-- bytes that were missed are no lack of memory
 pub missed_no_memory : (b : List ℕ) (place n : ℕ) (cut f : InspectFault) (left : Option (List ℕ)) →
     IsMissed b place n cut f left → is_of_bytes cut.kind ≡ true → is_memory f.kind ≡ true → ⊥
 missed_no_memory b place n cut f left m k t =
@@ -94,6 +94,6 @@ halts_missed b place n most p wants cut f left m k w l = record {
   memory = λ t. absurd (missed_no_memory b place n cut f left m k t);
 }
 
--- a fault of the bytes is no want of memory
+-- a fault of the bytes is no lack of memory
 pub no_memory : (f : InspectFault) → is_of_bytes f.kind ≡ true → is_memory f.kind ≡ true → ⊥
 no_memory f k t = not_both (is_memory f.kind) (bytes_no_memory f.kind k) t

@@ -6,17 +6,17 @@ use Rattle.bw_model.specs.Bytes.{first_that_holds, unless, u32_at}
 use Rattle.bw_model.specs.Reading as reading
 use Rattle.bw_model.specs.Report as report
 use Rattle.bw_inspect.specs.Reports.{reserved_in}
-use Rattle.bw_inspect.specs.Known.{Facts, facts_in, fmt_told, samples_told, bext_told, cues_told}
+use Rattle.bw_inspect.specs.Known.{Facts, facts_in, fmt_reported, samples_reported, bext_reported, cues_reported}
 
 -- the `fmt ` chunk is there, and this is what it tells
 record FmtIs (b : List ℕ) (o : Option reading.Entry) (fmt : report.RawFmt) : Type 0 where
   there : is_none o ≡ false
   says : fmt ≡ report.raw_fmt (report.content_of b o)
 
-fmt_is : (b : List ℕ) (o : Option reading.Entry) (fmt : report.RawFmt) → option_map (fmt_told b) o ≡ Some fmt →
+fmt_is : (b : List ℕ) (o : Option reading.Entry) (fmt : report.RawFmt) → option_map (fmt_reported b) o ≡ Some fmt →
     FmtIs b o fmt
 fmt_is b None fmt e = cc
-fmt_is b (Some x) fmt e = record { there = refl; says = let s : fmt ≡ fmt_told b x = cc in s }
+fmt_is b (Some x) fmt e = record { there = refl; says = let s : fmt ≡ fmt_reported b x = cc in s }
 
 -- the `data` chunk is there, and this is where
 record DataIs (o : Option reading.Entry) (at size : ℕ) : Type 0 where
@@ -24,7 +24,7 @@ record DataIs (o : Option reading.Entry) (at size : ℕ) : Type 0 where
   place : at ≡ unwrap_or (option_map (λ (e : reading.Entry). e.place + 8) o) 0
   bytes : size ≡ unwrap_or (option_map (λ (e : reading.Entry). e.size) o) 0
 
-data_is : (o : Option reading.Entry) (at size : ℕ) → option_map samples_told o ≡ Some (at, size) → DataIs o at size
+data_is : (o : Option reading.Entry) (at size : ℕ) → option_map samples_reported o ≡ Some (at, size) → DataIs o at size
 data_is None at size e = cc
 data_is (Some x) at size e =
     record {
@@ -33,7 +33,7 @@ data_is (Some x) at size e =
       bytes = ap (λ (o : Option (ℕ × ℕ)). (unwrap_or o (0, 0)).1) (sym e);
     }
 
--- what is told of `bext`, of all that is kept of it
+-- what is reported of `bext`, of all that is kept of it
 abbrev pub shown : (report.RawBext × List ℕ) × ℕ → report.RawBext × ℕ
 shown x = (x.0.0, x.1)
 
@@ -42,38 +42,38 @@ abbrev pub kept : (report.RawBext × List ℕ) × ℕ → List ℕ
 kept x = x.0.1
 
 bext_is : (b : List ℕ) (o : Option reading.Entry) →
-    option_map shown (option_map (bext_told b) o)
+    option_map shown (option_map (bext_reported b) o)
     ≡ option_map (λ (e : reading.Entry). (report.raw_bext (report.content_of b o), e.size - 602)) o
 bext_is b None = refl
 bext_is b (Some x) = refl
 
 reserved_is : (b : List ℕ) (o : Option reading.Entry) →
-    option_map kept (option_map (bext_told b) o)
+    option_map kept (option_map (bext_reported b) o)
     ≡ option_map (λ (e : reading.Entry). slice_range (report.content_of b (Some e)) 422 602) o
 reserved_is b None = refl
 reserved_is b (Some x) = refl
 
--- one map behind another
+-- one map after another
 pub maps : {X Y Z : Type 0} (f : Y → Z) (g : X → Y) (o : Option X) →
     option_map f (option_map g o) ≡ option_map (λ x. f (g x)) o
 maps f g None = refl
 maps f g (Some x) = refl
 
 cues_is : (b : List ℕ) (o : Option reading.Entry) →
-    unwrap_or (option_map (cues_told b) o) []
+    unwrap_or (option_map (cues_reported b) o) []
     ≡ report.raw_cues (report.content_of b o) 4 (u32_at (report.content_of b o) 0)
 cues_is b None = refl
 cues_is b (Some x) = refl
 
 -- what a finished walk tells is the report
 pub record Finished (b : List ℕ) (form : reading.Form) (seen : List reading.Entry) (r : report.Report) : Type 0 where
-  pub tells : r ≡ report.report_of b form seen
+  pub reports : r ≡ report.report_of b form seen
   pub free : first_that_holds (reading.end_faults (reading.form_end form) seen) ≡ None
 
 -- and these are the reserved bytes
-pub reserved_told : (b : List ℕ) (seen : List reading.Entry) (k : Facts) → k ≡ facts_in b seen →
+pub reserved_reported : (b : List ℕ) (seen : List reading.Entry) (k : Facts) → k ≡ facts_in b seen →
     option_map kept k.bext ≡ reserved_in b seen
-reserved_told b seen k e =
+reserved_reported b seen k e =
     ap (λ (z : Facts). option_map kept z.bext) e ∙ reserved_is b (reading.entry_of (codes "bext") seen)
 
 pub finished : (b : List ℕ) (form : reading.Form) (seen : List reading.Entry) (k : Facts) (fmt : report.RawFmt)
@@ -104,7 +104,7 @@ finished b form seen k fmt at size bext cues chunks x l e f d c =
     c ∙ (ap (λ (z : Facts). unwrap_or z.cues []) e ∙ cues_is b qo) in
     let fe = fs.says in let de = ds.place in let df = ds.bytes in
     record {
-      tells = cc;
+      reports = cc;
       free = rw (fs.there, ds.there) refl;
     }
 

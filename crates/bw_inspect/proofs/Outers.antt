@@ -13,7 +13,7 @@ use Rattle.bw_inspect.specs.Places.{IsGiven, IsMissed, Nowhere}
 use Rattle.bw_inspect.specs.Contents.{IsStopped}
 use Rattle.bw_inspect.specs.Outers.{IsOpened, IsOutside, WantsDs64, form_faults, names_form, opening_faults}
 use Rattle.bw_model.proofs.ChunkSteps.{none_holds}
-use Rattle.bw_inspect.proofs.Contents.{range_front, u32_front}
+use Rattle.bw_inspect.proofs.Contents.{range_prefix, u32_prefix}
 use Rattle.bw_inspect.proofs.Faults.{bytes_no_read, of_bytes, halts_by_bytes, halts_further, halts_missed}
 
 -- the last fault of the outer header: `ds64` reaches past the form
@@ -21,7 +21,7 @@ abbrev pub last_fault : List ℕ → List (Bool × reading.Fault)
 last_fault b = reading.line
     (reading.is_wide b && nat_lt (8 + reading.form_size_at b) (20 + u32_at b 16)) reading.Truncated 12 ∷ []
 
--- the faults behind the opening
+-- the faults after the opening
 abbrev pub later_faults : List ℕ → List (Bool × reading.Fault)
 later_faults b = form_faults (reading.form_size_at b) ++ last_fault b
 
@@ -103,13 +103,13 @@ opening_missed b cut f left q m = record {
 
 -- the parts of the opening
 pub opened_id : (b buf : List ℕ) → buf ≡ slice_range b 0 12 → slice_range buf 0 4 ≡ reading.id_at b 0
-opened_id b buf e = ap (λ (z : List ℕ). slice_range z 0 4) e ∙ range_front b 12 0 4 (lit≤ tt) (lit≤ tt)
+opened_id b buf e = ap (λ (z : List ℕ). slice_range z 0 4) e ∙ range_prefix b 12 0 4 (lit≤ tt) (lit≤ tt)
 
 pub opened_type : (b buf : List ℕ) → buf ≡ slice_range b 0 12 → slice_range buf 8 12 ≡ reading.id_at b 8
-opened_type b buf e = ap (λ (z : List ℕ). slice_range z 8 12) e ∙ range_front b 12 8 12 (lit≤ tt) (lit≤ tt)
+opened_type b buf e = ap (λ (z : List ℕ). slice_range z 8 12) e ∙ range_prefix b 12 8 12 (lit≤ tt) (lit≤ tt)
 
 pub opened_size : (b buf : List ℕ) → buf ≡ slice_range b 0 12 → u32_at buf 4 ≡ u32_at b 4
-opened_size b buf e = ap (λ (z : List ℕ). u32_at z 4) e ∙ u32_front b 12 4 (lit≤ tt)
+opened_size b buf e = ap (λ (z : List ℕ). u32_at z 4) e ∙ u32_prefix b 12 4 (lit≤ tt)
 
 -- the opening was read
 pub record IsTaken (b buf : List ℕ) (left : Option (List ℕ)) : Type 0 where
@@ -158,6 +158,6 @@ opened b buf h left t n w i s = record {
   free = all_well b t.there (ap names_form (sym (opened_id b buf t.bytes)) ∙ n)
       (ap (λ (z : List ℕ). reading.is_id z (codes "WAVE")) (sym (opened_type b buf t.bytes)) ∙ w);
   spells = i ∙ opened_id b buf t.bytes;
-  tells = s ∙ opened_size b buf t.bytes;
+  reports = s ∙ opened_size b buf t.bytes;
   rest = t.rest;
 }

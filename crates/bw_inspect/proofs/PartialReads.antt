@@ -52,18 +52,18 @@ more_read b place d n most buf new post left w g l fits r =
     let piece : length (take n xs) ≡ n = length-take-le n xs r.within in
     let inner : take n (new ++ post) ≡ take n xs =
     take-append-le n new post fits ∙ r.given in
-    let front : take (d + n) (take d buf ++ (new ++ post)) ≡ take d buf ++ take n xs =
+    let prefix : take (d + n) (take d buf ++ (new ++ post)) ≡ take d buf ++ take n xs =
     ap (λ (k : ℕ). take (k + n) (take d buf ++ (new ++ post))) (sym low)
     ∙ (take-append-add (take d buf) (new ++ post) n ∙ ap (λ (z : List ℕ). take d buf ++ z) inner) in
     let back : take (d + n) (drop place b) ≡ take d (drop place b) ++ take n xs =
     take-add d n (drop place b) ∙ ap (λ (z : List ℕ). take d (drop place b) ++ take n z) (further b place d) in
     record {
       within = λ p. reach b place d n w r.within p;
-      got = front ∙ (ap (λ (z : List ℕ). z ++ take n xs) g ∙ sym back);
+      got = prefix ∙ (ap (λ (z : List ℕ). z ++ take n xs) g ∙ sym back);
       rest = r.rest ∙ ap Some (further b (place + d) n ∙ ap (λ (k : ℕ). drop k b) (add_assoc place d n));
     }
 
--- nothing stands behind a place at or past the end
+-- nothing stands after a place at or past the end
 pub ended : (b : List ℕ) (k : ℕ) → drop k b ≡ [] → length b ≤ k
 ended b k e = let l = length-drop k b in let z : length (drop k b) ≡ 0 = ap length e in omega arith
 
@@ -114,7 +114,7 @@ head_read b p buf h left g i s = record {
   within = g.within (lit< tt);
   spells = i ∙ ap (λ (z : List ℕ). slice_range z 0 4) g.bytes ∙ part_at b p 8 0 4 (lit≤ tt) (lit≤ tt)
       ∙ ap (λ (k : ℕ). slice_range b k (p + 4)) (add-zero p);
-  tells = s ∙ ap (λ (z : List ℕ). u32_at z 4) g.bytes ∙ ap (from_le_bytes w32) (part_at b p 8 4 8 (lit≤ tt) (lit≤ tt))
+  reports = s ∙ ap (λ (z : List ℕ). u32_at z 4) g.bytes ∙ ap (from_le_bytes w32) (part_at b p 8 4 8 (lit≤ tt) (lit≤ tt))
       ∙ ap (λ (k : ℕ). from_le_bytes w32 (slice_range b (p + 4) k)) (sym (add_assoc p 4 4));
   rest = g.rest;
 }

@@ -38,9 +38,9 @@ not_wide : (b : List ℕ) → reading.is_riff b ≡ true → reading.is_wide b �
 not_wide b r = ap (λ (z : List ℕ). reading.is_id z (codes "BW64") || reading.is_id z (codes "RF64"))
     ((bytes_eq-Decides (reading.id_at b 0) (codes "RIFF")).0 r)
 
-behind_opening : (b : List ℕ) (h : ChunkHead) (left : Option (List ℕ)) → IsOpened b h left → reading.is_riff b ≡ true →
+after_opening : (b : List ℕ) (h : ChunkHead) (left : Option (List ℕ)) → IsOpened b h left → reading.is_riff b ≡ true →
     first_that_holds (reading.outer_faults b) ≡ first_that_holds (reading.riff_faults b ++ later_faults b)
-behind_opening b h left o r =
+after_opening b h left o r =
     ap first_that_holds (riff_parts b r)
     ∙ first_none (opening_faults b) (reading.riff_faults b ++ later_faults b) o.free
 
@@ -56,11 +56,11 @@ unsaid_refused b h f left o r u q = record {
   halts = halts_by_bytes b (2 ^ 62 + 8) 12 12 (WantsDs64 b) f left (lit≤ tt) (opening_there b o.free) o.rest
       (ap (λ (z : InspectFault). is_of_bytes z.kind) q);
   fault = λ g k.
-      outer_err b g (behind_opening b h left o r ∙ first_some (reading.riff_faults b) (later_faults b) g
-      (unsaid_by b true (ap (λ (n : ℕ). n == unsaid) (sym o.tells) ∙ u) ∙ (sym (ap bytes_fault q) ∙ k)));
+      outer_err b g (after_opening b h left o r ∙ first_some (reading.riff_faults b) (later_faults b) g
+      (unsaid_by b true (ap (λ (n : ℕ). n == unsaid) (sym o.reports) ∙ u) ∙ (sym (ap bytes_fault q) ∙ k)));
 }
 
--- the size is told
+-- the size is reported
 pub record IsSaid (b : List ℕ) (h : ChunkHead) : Type 0 where
   pub size_is : reading.form_size_at b ≡ h.size32
   pub wide : reading.is_wide b ≡ false
@@ -71,11 +71,11 @@ pub said : (b : List ℕ) (h : ChunkHead) (left : Option (List ℕ)) → IsOpene
 said b h left o r u =
     let wide = not_wide b r in
     record {
-      size_is = ap (λ (v : Bool). if v && (u32_at b 4 == unsaid) then u64_at b 20 else u32_at b 4) wide ∙ sym o.tells;
+      size_is = ap (λ (v : Bool). if v && (u32_at b 4 == unsaid) then u64_at b 20 else u32_at b 4) wide ∙ sym o.reports;
       wide = wide;
-      later = behind_opening b h left o r
+      later = after_opening b h left o r
           ∙ first_none (reading.riff_faults b) (later_faults b)
-          (unsaid_by b false (ap (λ (n : ℕ). n == unsaid) (sym o.tells) ∙ u));
+          (unsaid_by b false (ap (λ (n : ℕ). n == unsaid) (sym o.reports) ∙ u));
     }
 
 -- the size can't be

@@ -1,4 +1,4 @@
--- Rows of the same width, one behind another.
+-- Rows of the same width, one after another.
 use Rattle.std.proofs.Common.{◌≡◌, ℕ, zero, suc, ◌+◌, ◌*◌, ◌<◌, ◌≤◌, List, [], ◌∷◌, ◌++◌, Some, refl, sym, ◌∙◌, ap}
 use Rattle.std.proofs.Common.{subst, Option, arith, add_assoc, add-zero, lit≤}
 use Rattle.std.proofs.Math.Nat.{mul-zero, mul-suc, mul-le-mul_left}
@@ -40,62 +40,62 @@ row_part c d =
     let s = u64_part c d 12 4 (lit≤ tt) in
     cc
 
--- a row behind the others
-rows_at-suc : {X : Type 0} (told : List ℕ → X) (width : ℕ) (c : List ℕ) (p n : ℕ) →
-    rows_at told width c p (suc n)
-    ≡ rows_at told width c p n ++ told (slice_range c (p + width * n) (p + width * n + width)) ∷ []
-rows_at-suc {X} told width c p zero =
+-- a row after the others
+rows_at-suc : {X : Type 0} (reported : List ℕ → X) (width : ℕ) (c : List ℕ) (p n : ℕ) →
+    rows_at reported width c p (suc n)
+    ≡ rows_at reported width c p n ++ reported (slice_range c (p + width * n) (p + width * n + width)) ∷ []
+rows_at-suc {X} reported width c p zero =
     let here : p ≡ p + width * zero = sym (ap (λ (k : ℕ). p + k) (mul-zero width) ∙ add-zero p) in
-    ap (λ (k : ℕ). told (slice_range c k (k + width)) ∷ []) here
-rows_at-suc {X} told width c p (suc n) =
+    ap (λ (k : ℕ). reported (slice_range c k (k + width)) ∷ []) here
+rows_at-suc {X} reported width c p (suc n) =
     let more = mul-suc width n in
     let here : p + width + width * n ≡ p + width * suc n = omega arith in
-    ap (λ (rest : List X). told (slice_range c p (p + width)) ∷ rest)
-    (rows_at-suc told width c (p + width) n
-    ∙ ap (λ (k : ℕ). rows_at told width c (p + width) n ++ told (slice_range c k (k + width)) ∷ []) here)
+    ap (λ (rest : List X). reported (slice_range c p (p + width)) ∷ rest)
+    (rows_at-suc reported width c (p + width) n
+    ∙ ap (λ (k : ℕ). rows_at reported width c (p + width) n ++ reported (slice_range c k (k + width)) ∷ []) here)
 
--- where the row behind n others ends
-pub row_end : (front width n : ℕ) → front + width * n + width ≡ front + width * (n + 1)
-row_end front width n =
+-- where the row after n others ends
+pub row_end : (prefix width n : ℕ) → prefix + width * n + width ≡ prefix + width * (n + 1)
+row_end prefix width n =
     let one : n + 1 ≡ suc n = omega arith in
     let more : width * (n + 1) ≡ width * n + width = ap (λ (k : ℕ). width * k) one ∙ mul-suc width n in
     omega arith
 
--- the row behind n others stands in the content, where all of them do
-pub row_fits : (front width n count size : ℕ) → n < count → front + width * count ≤ size →
-    front + width * (n + 1) ≤ size
-row_fits front width n count size less fits =
+-- the row after n others stands in the content, where all of them do
+pub row_fits : (prefix width n count size : ℕ) → n < count → prefix + width * count ≤ size →
+    prefix + width * (n + 1) ≤ size
+row_fits prefix width n count size less fits =
     let next : n + 1 ≤ count = omega arith in
     let most = mul-le-mul_left width next in
     omega arith
 
 -- the place of a row, by the width that the code has
-pub stands_at : (b : List ℕ) (e e' : reading.Entry) (front width w n : ℕ) (left : Option (List ℕ)) → w ≡ width →
-    e' ≡ e → ReadTo b e (front + width * n) left → ReadTo b e' (front + w * n) left
-stands_at b e e' front width w n left q same r =
-    subst (λ (k : ℕ). ReadTo b e' (front + k * n) left) (sym q) (read_as b e e' (front + width * n) left (sym same) r)
+pub stands_at : (b : List ℕ) (e e' : reading.Entry) (prefix width w n : ℕ) (left : Option (List ℕ)) → w ≡ width →
+    e' ≡ e → ReadTo b e (prefix + width * n) left → ReadTo b e' (prefix + w * n) left
+stands_at b e e' prefix width w n left q same r =
+    subst (λ (k : ℕ). ReadTo b e' (prefix + k * n) left) (sym q) (read_as b e e' (prefix + width * n) left (sym same) r)
 
 -- a row, by the width that the code has
-pub row_at : {X : Type 0} (told : List ℕ → X) (b : List ℕ) (e e' : reading.Entry) (front width w n : ℕ) (row : X)
-    (left : Option (List ℕ)) → w ≡ width → e' ≡ e → HasRow told width b e' (front + w * n) row left →
-    HasRow told width b e (front + width * n) row left
-row_at told b e e' front width w n row left q same r =
-    subst (λ (x : reading.Entry). HasRow told width b x (front + width * n) row left) same
-    (subst (λ (k : ℕ). HasRow told width b e' (front + k * n) row left) q r)
+pub row_at : {X : Type 0} (reported : List ℕ → X) (b : List ℕ) (e e' : reading.Entry) (prefix width w n : ℕ) (row : X)
+    (left : Option (List ℕ)) → w ≡ width → e' ≡ e → HasRow reported width b e' (prefix + w * n) row left →
+    HasRow reported width b e (prefix + width * n) row left
+row_at reported b e e' prefix width w n row left q same r =
+    subst (λ (x : reading.Entry). HasRow reported width b x (prefix + width * n) row left) same
+    (subst (λ (k : ℕ). HasRow reported width b e' (prefix + k * n) row left) q r)
 
 -- one row more was read
-pub more_rows : {X : Type 0} (told : List ℕ → X) (width : ℕ) (b : List ℕ) (e : reading.Entry) (front n : ℕ)
-    (old new : List X) (x : X) (left left' : Option (List ℕ)) → HasRows told width b e front n old left →
-    HasRow told width b e (front + width * n) x left' →
-    new ≡ old ++ x ∷ [] → HasRows told width b e front (n + 1) new left'
-more_rows {X} told width b e front n old new x left left' h r q =
+pub more_rows : {X : Type 0} (reported : List ℕ → X) (width : ℕ) (b : List ℕ) (e : reading.Entry) (prefix n : ℕ)
+    (old new : List X) (x : X) (left left' : Option (List ℕ)) → HasRows reported width b e prefix n old left →
+    HasRow reported width b e (prefix + width * n) x left' →
+    new ≡ old ++ x ∷ [] → HasRows reported width b e prefix (n + 1) new left'
+more_rows {X} reported width b e prefix n old new x left left' h r q =
     let content = report.content_of b (Some e) in
     let one : n + 1 ≡ suc n = omega arith in
     record {
       rows_are = q ∙ (ap (λ (z : List X). z ++ x ∷ []) h.rows_are
-          ∙ (ap (λ (y : X). rows_at told width content front n ++ y ∷ []) r.row_is
-          ∙ (sym (rows_at-suc told width content front n) ∙ ap (rows_at told width content front) (sym one))));
-      to = subst (λ (k : ℕ). ReadTo b e k left') (row_end front width n) r.to;
+          ∙ (ap (λ (y : X). rows_at reported width content prefix n ++ y ∷ []) r.row_is
+          ∙ (sym (rows_at-suc reported width content prefix n) ∙ ap (rows_at reported width content prefix) (sym one))));
+      to = subst (λ (k : ℕ). ReadTo b e k left') (row_end prefix width n) r.to;
     }
 
 -- the points of a `cue ` chunk, as rows

@@ -18,13 +18,13 @@ use Rattle.bw_inspect.specs.Chunks.{is_other_kind, is_fmt_kind, is_bext_kind}
 use Rattle.bw_inspect.specs.Chunks.{is_cue_kind}
 use Rattle.bw_inspect.specs.Known.{facts_of, facts_in, has_kind, learned, Facts}
 use Rattle.bw_inspect.specs.Contents.{IsEndOf, IsLearned, IsStoppedIn, IsUnlearned, IsFaultless, WantsPoints}
-use Rattle.bw_inspect.specs.Walks.{HasReadPoints, Stands, IsHead, IsFaulted, IsPassedOver, place_behind}
+use Rattle.bw_inspect.specs.Walks.{HasReadPoints, StandsInForm, IsHead, IsFaulted, IsPassedOver, place_after}
 use Rattle.bw_inspect.specs.Walks.{faults_at, seen_by}
 use Rattle.bw_inspect.proofs.Faults.{bytes_no_read, of_bytes, missed_no_memory, no_memory, not_both}
 use Rattle.bw_inspect.proofs.ChunkFaults.{Named, named, faults_in_parts, first_none, first_some, next_err, next_ok}
 use Rattle.bw_inspect.proofs.ChunkFaults.{follow_push, place_push, facts_push}
 
--- the faults behind those before a head
+-- the faults after those before a head
 abbrev pub later_faults : ℕ → List ℕ → reading.Form → List reading.Entry → ℕ → List (Bool × reading.Fault)
 later_faults len b form seen p =
     size_faults (reading.form_end form) p (kind_by (reading.id_at b p))
@@ -39,11 +39,11 @@ in_parts len b form seen p =
     ap first_that_holds (faults_in_parts len b form seen p (unwrap_or (reading.size_at b form p) 0))
 
 -- a fault before the head's end
-start_told : (b : List ℕ) (form : reading.Form) (w : Walk) (left : Option (List ℕ)) (g : reading.Fault) →
-    Stands b form w left → w.place + 8 ≤ reading.form_end form →
+start_reported : (b : List ℕ) (form : reading.Form) (w : Walk) (left : Option (List ℕ)) (g : reading.Fault) →
+    StandsInForm b form w left → w.place + 8 ≤ reading.form_end form →
     first_that_holds (start_faults (length b) (seen_by w) w.place) ≡ Some g →
     reading.next b form (seen_by w) ≡ Err g
-start_told b form w left g s l e =
+start_reported b form w left g s l e =
     next_err b form (seen_by w) w.place g s.place l
     (in_parts (length b) b form (seen_by w) w.place
     ∙ first_some (start_faults (length b) (seen_by w) w.place)
@@ -51,7 +51,7 @@ start_told b form w left g s l e =
 
 -- 4,096 chunks are listed already
 pub too_many : (b : List ℕ) (form : reading.Form) (w : Walk) (left : Option (List ℕ)) (f : InspectFault) →
-    Stands b form w left → w.place + 8 ≤ reading.form_end form →
+    StandsInForm b form w left → w.place + 8 ≤ reading.form_end form →
     4096 ≤ length (seen_by w) → f ≡ record { kind = TooMany; offset = w.place } → IsFaulted b form (seen_by w) f left
 too_many b form w left f s l n e =
     let full : nat_le 4096 (length (seen_by w)) ≡ true = le-leb 4096 (length (seen_by w)) n in
@@ -63,12 +63,12 @@ too_many b form w left f s l n e =
       rest = s.rest;
       fails = λ t. absurd (not_both (is_failed_read f.kind) (bytes_no_read f.kind kind) t);
       memory = λ t. absurd (no_memory f kind t);
-      fault = λ g h. start_told b form w left g s l (rw full (sym (ap bytes_fault e) ∙ h));
+      fault = λ g h. start_reported b form w left g s l (rw full (sym (ap bytes_fault e) ∙ h));
     }
 
 -- b ends before the head's end
 pub head_cut : (b : List ℕ) (form : reading.Form) (w : Walk) (left left' : Option (List ℕ)) (cut f : InspectFault) →
-    Stands b form w left → w.place + 8 ≤ reading.form_end form →
+    StandsInForm b form w left → w.place + 8 ≤ reading.form_end form →
     length (seen_by w) < 4096 → cut ≡ record { kind = Truncated; offset = w.place } →
     IsMissed b w.place 8 cut f left' → IsFaulted b form (seen_by w) f left'
 head_cut b form w left left' cut f s l n e m =
@@ -87,7 +87,7 @@ head_cut b form w left left' cut f s l n e m =
       fault = λ g h.
           let c = m.cuts (ap not (bytes_no_read f.kind (of_bytes f g h))) in
           let short : nat_lt (length b) (w.place + 8) ≡ true = lt-ltb (length b) (w.place + 8) c.1 in
-          start_told b form w left g s l (rw (few, short) (sym (ap bytes_fault (c.0 ∙ e)) ∙ h));
+          start_reported b form w left g s l (rw (few, short) (sym (ap bytes_fault (c.0 ∙ e)) ∙ h));
     }
 
 -- a head was read
@@ -96,7 +96,7 @@ pub record Headed (b : List ℕ) (form : reading.Form) (w : Walk) (id : List ℕ
   pub few : length (seen_by w) < 4096
   pub there : w.place + 8 ≤ length b
   pub spells : id ≡ reading.id_at b w.place
-  pub told : size ≡ reading.size_at b form w.place
+  pub reported : size ≡ reading.size_at b form w.place
 
 start_free : (len : ℕ) (b : List ℕ) (form : reading.Form) (w : Walk) (id : List ℕ) (size : Option ℕ) →
     w.place + 8 ≤ len → Headed b form w id size → first_that_holds (start_faults len (seen_by w) w.place) ≡ None
@@ -107,7 +107,7 @@ start_free len b form w id size l h =
 
 -- the faults that the code looks for are those
 later_are : (len : ℕ) (b : List ℕ) (form : reading.Form) (w : Walk) (id : List ℕ) (size : Option ℕ)
-    (left : Option (List ℕ)) → w.place + 8 ≤ len → Stands b form w left → Headed b form w id size →
+    (left : Option (List ℕ)) → w.place + 8 ≤ len → StandsInForm b form w left → Headed b form w id size →
     first_that_holds (faults_at len b form (seen_by w) w.place)
     ≡ first_that_holds (size_faults (reading.form_end form) w.place (kind_by id)
     (has_kind (kind_by id) (facts_of w.known)) size (unwrap_or size 0)
@@ -116,10 +116,10 @@ later_are len b form w id size left l s h =
     in_parts len b form (seen_by w) w.place
     ∙ first_none (start_faults len (seen_by w) w.place) (later_faults len b form (seen_by w) w.place)
     (start_free len b form w id size l h)
-    ∙ rw (h.spells, h.told, s.facts) refl
+    ∙ rw (h.spells, h.reported, s.facts) refl
 
 pub size_faulted : (b : List ℕ) (form : reading.Form) (w : Walk) (id : List ℕ) (size : Option ℕ)
-    (left left' : Option (List ℕ)) (f : InspectFault) → Stands b form w left → Headed b form w id size →
+    (left left' : Option (List ℕ)) (f : InspectFault) → StandsInForm b form w left → Headed b form w id size →
     left' ≡ Some (drop (w.place + 8) b) → is_of_bytes f.kind ≡ true →
     bytes_fault f ≡ first_that_holds
     (size_faults (reading.form_end form) w.place (kind_by id) (has_kind (kind_by id) (facts_of w.known)) size
@@ -148,7 +148,7 @@ pub record Sized (end : ℕ) (w : Walk) (id : List ℕ) (size : Option ℕ) (c :
   pub inside : w.place + 8 + c ≤ end
 
 content_are : (len : ℕ) (b : List ℕ) (form : reading.Form) (w : Walk) (id : List ℕ) (size : Option ℕ) (c : ℕ)
-    (left : Option (List ℕ)) → w.place + 8 ≤ len → Stands b form w left → Headed b form w id size →
+    (left : Option (List ℕ)) → w.place + 8 ≤ len → StandsInForm b form w left → Headed b form w id size →
     Sized (reading.form_end form) w id size c →
     first_that_holds (faults_at len b form (seen_by w) w.place)
     ≡ first_that_holds (content_faults len w.place (kind_by id) (u32_at b (w.place + 8)) c)
@@ -170,14 +170,14 @@ record HasReadPointsAt (b : List ℕ) (form : reading.Form) (seen : List reading
 
 -- the chunk that is read has no fault: it is what comes
 chunk_comes : (b : List ℕ) (form : reading.Form) (w : Walk) (e : reading.Entry) (size : Option ℕ)
-    (left mid : Option (List ℕ)) → Stands b form w left → Headed b form w e.id size →
+    (left mid : Option (List ℕ)) → StandsInForm b form w left → Headed b form w e.id size →
     Sized (reading.form_end form) w e.id size e.size → e.place ≡ w.place →
     IsFaultless b (kind_by e.id) e mid → reading.next b form (seen_by w) ≡ Ok (Some e)
 chunk_comes b form w e size left mid s h z p n =
     let entry : reading.Entry =
     record { id = reading.id_at b w.place; place = w.place; size = unwrap_or (reading.size_at b form w.place) 0 } in
     let sz : unwrap_or (reading.size_at b form w.place) 0 ≡ e.size =
-    ap (λ (o : Option ℕ). unwrap_or o 0) (sym h.told ∙ z.is) in
+    ap (λ (o : Option ℕ). unwrap_or o 0) (sym h.reported ∙ z.is) in
     let sp = h.spells in
     let same : entry ≡ e =
     ap (λ (i : List ℕ). record { id = i; place = w.place; size = unwrap_or (reading.size_at b form w.place) 0 })
@@ -199,12 +199,12 @@ cue_named Other id n e = cc
 
 -- some points were read of the chunk that is read
 points_read : (b : List ℕ) (form : reading.Form) (w : Walk) (e : reading.Entry) (size : Option ℕ)
-    (left : Option (List ℕ)) (reached : ℕ) → Stands b form w left → Headed b form w e.id size →
+    (left : Option (List ℕ)) (reached : ℕ) → StandsInForm b form w left → Headed b form w e.id size →
     Sized (reading.form_end form) w e.id size e.size → e.place ≡ w.place →
     WantsPoints b (kind_by e.id) e reached → HasReadPoints b form (seen_by w) reached
 points_read b form w e size left reached s h z p k =
-    let told : unwrap_or (reading.size_at b form w.place) 0 ≡ e.size =
-    ap (λ (o : Option ℕ). unwrap_or o 0) (sym h.told ∙ z.is) in
+    let reported : unwrap_or (reading.size_at b form w.place) 0 ≡ e.size =
+    ap (λ (o : Option ℕ). unwrap_or o 0) (sym h.reported ∙ z.is) in
     let id : reading.is_id (reading.id_at b w.place) (codes "cue ") ≡ true =
     ap (λ (i : List ℕ). reading.is_id i (codes "cue ")) (sym h.spells)
     ∙ cue_named (kind_by e.id) e.id (named e.id) k.is in
@@ -214,14 +214,14 @@ points_read b form w e size left reached s h z p k =
     (sym p) ∙ k.free) in
     let here : HasReadPointsAt b form (seen_by w) reached w.place = record {
       is_cue = id;
-      free = ap (λ (n : ℕ). first_that_holds (faults_at (w.place + 8 + n) b form (seen_by w) w.place)) told ∙ free;
+      free = ap (λ (n : ℕ). first_that_holds (faults_at (w.place + 8 + n) b form (seen_by w) w.place)) reported ∙ free;
       grown = subst (λ (q : ℕ). HasGrown b (q + 12) 24 (u32_at b (q + 8)) reached) p k.grown;
     } in
     let x = subst (λ (q : ℕ). HasReadPointsAt b form (seen_by w) reached q) s.place here in
     record { is_cue = x.is_cue; free = x.free; grown = x.grown }
 
 pub content_faulted : (b : List ℕ) (form : reading.Form) (w : Walk) (e : reading.Entry) (size : Option ℕ)
-    (left left' : Option (List ℕ)) (f : InspectFault) → Stands b form w left → Headed b form w e.id size →
+    (left left' : Option (List ℕ)) (f : InspectFault) → StandsInForm b form w left → Headed b form w e.id size →
     Sized (reading.form_end form) w e.id size e.size → e.place ≡ w.place → IsUnlearned b (kind_by e.id) e f left' →
     IsFaulted b form (seen_by w) f left'
 content_faulted b form w e size left left' f s h z p u =
@@ -293,14 +293,14 @@ sized form w id kind seen size c k s is free inside = record {
 pub headed : (b : List ℕ) (form : reading.Form) (w : Walk) (head : ChunkHead) (size : Option ℕ)
     (left : Option (List ℕ)) → w.place + 8 ≤ reading.form_end form → length (seen_by w) < 4096 →
     IsHead b w.place head left →
-    size ≡ (if head.size32 == unsaid then reading.told_size form.sizes head.id else Some head.size32) →
+    size ≡ (if head.size32 == unsaid then reading.reported_size form.sizes head.id else Some head.size32) →
     Headed b form w head.id size
 headed b form w head size left l n h e = record {
   wanted = l;
   few = n;
   there = h.within;
   spells = h.spells;
-  told = e ∙ rw (h.tells, h.spells) refl;
+  reported = e ∙ rw (h.reports, h.spells) refl;
 }
 
 -- a content is known, by other words for its kind and for what is known
@@ -318,11 +318,11 @@ whole_as b kind kind' e left k w = subst (λ (x : ChunkKind). IsFaultless b x e 
 
 -- one more chunk
 pub goes_on : (b : List ℕ) (form : reading.Form) (w v : Walk) (e : reading.Entry) (size : Option ℕ)
-    (left mid left' : Option (List ℕ)) → Stands b form w left → Headed b form w e.id size →
+    (left mid left' : Option (List ℕ)) → StandsInForm b form w left → Headed b form w e.id size →
     Sized (reading.form_end form) w e.id size e.size → e.place ≡ w.place →
     IsLearned b (kind_by e.id) e (facts_of w.known) (facts_of v.known) mid →
-    seen_by v ≡ seen_by w ++ e ∷ [] → v.place ≡ place_behind e → IsPassedOver b (reading.form_end form) e left' →
-    Stands b form v left'
+    seen_by v ≡ seen_by w ++ e ∷ [] → v.place ≡ place_after e → IsPassedOver b (reading.form_end form) e left' →
+    StandsInForm b form v left'
 goes_on b form w v e size left mid left' s h z p n seen place o =
     let comes = chunk_comes b form w e size left mid s h z p n.whole in
     let there = n.whole.to.there in
@@ -346,12 +346,12 @@ goes_on b form w v e size left mid left' s h z p n seen place o =
           (o.next (subst (λ (q : ℕ). q + 8 ≤ reading.form_end form) place l) ∙ sym place);
     }
 
--- a call stopped behind a chunk, for no fault of the bytes
-pub stopped_behind : (b : List ℕ) (form : reading.Form) (w : Walk) (e : reading.Entry) (size : Option ℕ)
-    (left mid left' : Option (List ℕ)) (f : InspectFault) → Stands b form w left → Headed b form w e.id size →
+-- a call stopped after a chunk, for no fault of the bytes
+pub stopped_after : (b : List ℕ) (form : reading.Form) (w : Walk) (e : reading.Entry) (size : Option ℕ)
+    (left mid left' : Option (List ℕ)) (f : InspectFault) → StandsInForm b form w left → Headed b form w e.id size →
     Sized (reading.form_end form) w e.id size e.size → e.place ≡ w.place → IsFaultless b (kind_by e.id) e mid →
     IsStoppedIn b (IsEndOf e) [] e f left' → IsFaulted b form (seen_by w) f left'
-stopped_behind b form w e size left mid left' f s h z p n u =
+stopped_after b form w e size left mid left' f s h z p n u =
     let inside = z.inside in
     let most = u.halts.within in
     let there = u.halts.there in

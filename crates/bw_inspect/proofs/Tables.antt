@@ -17,7 +17,7 @@ use Rattle.bw_inspect.specs.Places.{IsMissed, Nowhere}
 use Rattle.bw_inspect.specs.Contents.{IsStopped}
 use Rattle.bw_inspect.specs.Tables.{IsDs64Head, ds64_head_faults}
 use Rattle.bw_inspect.specs.Walks.{IsHead}
-use Rattle.bw_inspect.proofs.Contents.{u32_front, u64_front, at_start}
+use Rattle.bw_inspect.proofs.Contents.{u32_prefix, u64_prefix, at_start}
 use Rattle.bw_inspect.proofs.Faults.{bytes_no_read, of_bytes, halts_by_bytes, halts_missed}
 
 -- no `ds64` has this size
@@ -82,7 +82,7 @@ size_refused b head f left h i s q = record {
       (ap (λ (z : InspectFault). is_of_bytes z.kind) q);
   fault = λ g t.
       bad_head b (le-ltb (length b) 20 h.within)
-      (ap (λ (z : List ℕ). reading.is_id z (codes "ds64")) (sym h.spells) ∙ i) (ap bad_size (sym h.tells) ∙ s)
+      (ap (λ (z : List ℕ). reading.is_id z (codes "ds64")) (sym h.spells) ∙ i) (ap bad_size (sym h.reports) ∙ s)
       ∙ (sym (ap bytes_fault q) ∙ t);
 }
 
@@ -93,11 +93,11 @@ pub head_taken : (b : List ℕ) (head : ChunkHead) (e : reading.Entry) (left : O
     IsDs64Head b e left
 head_taken b head e left h i s q =
     let id = h.spells in
-    let size = h.tells in
+    let size = h.reports in
     let place : e.place ≡ 12 = ap (λ (z : reading.Entry). z.place) q in
     record {
       free = good_head b (le-ltb (length b) 20 h.within)
-          (ap (λ (z : List ℕ). reading.is_id z (codes "ds64")) (sym h.spells) ∙ i) (ap bad_size (sym h.tells) ∙ s);
+          (ap (λ (z : List ℕ). reading.is_id z (codes "ds64")) (sym h.spells) ∙ i) (ap bad_size (sym h.reports) ∙ s);
       entry = q ∙ (ap (λ (z : List ℕ). record { id = z; place = 12; size = head.size32 }) id
           ∙ ap (λ (n : ℕ). record { id = reading.id_at b 12; place = 12; size = n }) size);
       to = at_start b e left (let w = h.within in omega arith)
@@ -105,27 +105,27 @@ head_taken b head e left h i s q =
     }
 
 -- what stands before the table stands in its first 28 bytes
-pub fixed_front : (c : List ℕ) → fixed_at (slice_range c 0 28) ≡ fixed_at c
-fixed_front c =
-    let f = u64_front c 28 0 (lit≤ tt) in
-    let d = u64_front c 28 8 (lit≤ tt) in
-    let n = u32_front c 28 24 (lit≤ tt) in
+pub fixed_prefix : (c : List ℕ) → fixed_at (slice_range c 0 28) ≡ fixed_at c
+fixed_prefix c =
+    let f = u64_prefix c 28 0 (lit≤ tt) in
+    let d = u64_prefix c 28 8 (lit≤ tt) in
+    let n = u32_prefix c 28 24 (lit≤ tt) in
     cc
 
 -- what the code has of the bytes before the table is what stands there
 pub record IsFixedPart (b : List ℕ) (e : reading.Entry) (x : Fixed) : Type 0 where
   pub form : x.form ≡ u64_at (content_of b (Some e)) 0
   pub size : x.data_size ≡ u64_at (content_of b (Some e)) 8
-  pub told : x.table_len ≡ u32_at (content_of b (Some e)) 24
+  pub reported : x.table_len ≡ u32_at (content_of b (Some e)) 24
   pub few : x.table_len ≤ most_entries
   pub fits : 28 + 12 * x.table_len ≤ e.size
 
 pub fixed_part : (b : List ℕ) (e : reading.Entry) (x y : Fixed) → x ≡ y → y ≡ fixed_at (content_of b (Some e)) →
     y.table_len ≤ most_entries → 28 + 12 * y.table_len ≤ e.size → IsFixedPart b e x
-fixed_part b e x y q told few fits = record {
-  form = ap (λ (z : Fixed). z.form) (q ∙ told);
-  size = ap (λ (z : Fixed). z.data_size) (q ∙ told);
-  told = ap (λ (z : Fixed). z.table_len) (q ∙ told);
+fixed_part b e x y q reported few fits = record {
+  form = ap (λ (z : Fixed). z.form) (q ∙ reported);
+  size = ap (λ (z : Fixed). z.data_size) (q ∙ reported);
+  reported = ap (λ (z : Fixed). z.table_len) (q ∙ reported);
   few = subst (λ (z : Fixed). z.table_len ≤ most_entries) (sym q) few;
   fits = subst (λ (z : Fixed). 28 + 12 * z.table_len ≤ e.size) (sym q) fits;
 }

@@ -11,8 +11,8 @@ use Rattle.bw_inspect.specs.declared.walk.Form.{Form}
 use Rattle.bw_inspect.specs.Faults.{is_failed_read, is_memory, is_of_bytes, bytes_fault}
 use Rattle.bw_inspect.specs.Walks.{IsFaulted, form_by, seen_by}
 use Rattle.bw_inspect.specs.Outers.{BeginsForm, IsOutside}
-use Rattle.bw_inspect.specs.Readings.{HasReading, IsPadAbsent, IsReported, Refuses, Tells}
-use Rattle.bw_inspect.proofs.Faults.{bytes_no_read, bytes_no_memory, not_both, told_fault}
+use Rattle.bw_inspect.specs.Readings.{HasReading, IsPadAbsent, IsReported, Refuses, GivesReport}
+use Rattle.bw_inspect.proofs.Faults.{bytes_no_read, bytes_no_memory, not_both, reported_fault}
 use Rattle.bw_inspect.proofs.Finish.{next_end}
 use Rattle.bw_model.proofs.ReadingLaws.{no_fault}
 
@@ -37,7 +37,7 @@ pad_absent b form w reached left s past p =
     record {
       form = form_by form;
       entries = seen_by w;
-      front = record { header = s.header; chunks = s.stands.chunks };
+      prefix = record { header = s.header; chunks = s.stands.chunks };
       wanted = p;
       one = omega arith;
     }
@@ -46,15 +46,15 @@ pad_absent b form w reached left s past p =
 pub step_refused : (b : List ℕ) (form : Form) (w : Walk) (f : InspectFault) (left left' : Option (List ℕ)) →
     form.size ≤ 2 ^ 62 → BeginsForm b form w left → IsFaulted b (form_by form) (seen_by w) f left' → Refuses b f left'
 step_refused b form w f left left' small s k =
-    let front : reading.IsFront b (form_by form) (seen_by w) = record { header = s.header; chunks = s.stands.chunks } in
+    let prefix : reading.IsPrefix b (form_by form) (seen_by w) = record { header = s.header; chunks = s.stands.chunks } in
     record {
-      fault = λ g h. inr (form_by form, (seen_by w, (front, k.fault g h)));
+      fault = λ g h. inr (form_by form, (seen_by w, (prefix, k.fault g h)));
       within = record { reached = k.reached; within = let x = k.within in omega arith; rest = k.rest };
       there = λ t. pad_absent b form w k.reached left s t (k.there t);
       fails = k.fails;
       memory = λ t.
           let m = k.memory t in
-          inr (record { form = form_by form; entries = seen_by w; front = front; place_is = m.0; wants = m.1 });
+          inr (record { form = form_by form; entries = seen_by w; prefix = prefix; place_is = m.0; wants = m.1 });
     }
 
 -- a fault at the form's end
@@ -80,20 +80,20 @@ end_refused b form w f left small s past k e = record {
 }
 
 -- the report of the reading
-pub told : (b : List ℕ) (form : Form) (w : Walk) (r : Report) (left : Option (List ℕ)) → form.size ≤ 2 ^ 62 →
+pub reported : (b : List ℕ) (form : Form) (w : Walk) (r : Report) (left : Option (List ℕ)) → form.size ≤ 2 ^ 62 →
     BeginsForm b form w left → reading.form_end (form_by form) < w.place + 8 →
     IsReported b (form_by form) (seen_by w) r →
-    Tells b r left
-told b form w r left small s past k = record {
+    GivesReport b r left
+reported b form w r left small s past k = record {
   reading_is = record {
     form = form_by form;
     entries = seen_by w;
     reads = record {
-      front = record { header = s.header; chunks = s.stands.chunks };
+      prefix = record { header = s.header; chunks = s.stands.chunks };
       ends = next_end b (form_by form) (seen_by w) w.place None s.stands.place (omega arith) k.free;
     };
   };
-  tells = k.tells;
+  reports = k.reports;
   reserved = k.reserved;
   within = record { reached = s.stands.reached; within = s.stands.within; rest = s.stands.rest };
   small = small;
@@ -107,7 +107,7 @@ err_both (Err f) A B C a b k = k f a b
 refused_by : (b : List ℕ) (f : InspectFault) (left : Option (List ℕ)) (v : Bool) → is_of_bytes f.kind ≡ v →
     Refuses b f left → HasReading b → is_of_bytes f.kind ≡ false
 refused_by b f left true e r h = let g =
-    told_fault f e in absurd (no_fault b h.form h.entries g.0 h.reads (r.fault g.0 g.1))
+    reported_fault f e in absurd (no_fault b h.form h.entries g.0 h.reads (r.fault g.0 g.1))
 refused_by b f left false e r h = e
 
 -- bytes with a reading are refused for none of their own faults

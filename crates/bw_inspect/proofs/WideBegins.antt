@@ -1,4 +1,4 @@
--- The walk behind `ds64`, which is the first chunk that is listed.
+-- The walk after `ds64`, which is the first chunk that is listed.
 use Rattle.std.proofs.Common.{◌≡◌, ℕ, ◌+◌, ◌^◌, ◌≤◌, ◌<◌, Bool, false, cond, List, [], ◌∷◌, ◌++◌, length, drop, Option}
 use Rattle.std.proofs.Common.{Some, None, Ok, refl, sym, ◌∙◌, ap, subst, arith, lit<}
 use Rattle.std.specs.Prelude.{codes, nat_lt, ◌==◌}
@@ -17,7 +17,7 @@ use Rattle.bw_inspect.specs.Chunks.{kind_by, size_faults, sizes_by, sizes_of}
 use Rattle.bw_inspect.specs.Known.{facts_of, facts_in, has_kind, nothing}
 use Rattle.bw_inspect.specs.Contents.{IsLearned, ReadTo}
 use Rattle.bw_inspect.specs.Outers.{BeginsForm, IsOpened, form_faults}
-use Rattle.bw_inspect.specs.Walks.{IsPassedOver, Stands, place_behind, form_by, seen_by}
+use Rattle.bw_inspect.specs.Walks.{IsPassedOver, StandsInForm, place_after, form_by, seen_by}
 use Rattle.bw_inspect.proofs.Contents.{plain_whole}
 use Rattle.bw_inspect.proofs.Outers.{outer_ok}
 use Rattle.bw_inspect.proofs.Steps.{Headed, Sized, goes_on, learned_as}
@@ -29,9 +29,9 @@ pub record IsFresh (w : Walk) : Type 0 where
   pub chunks : seen_by w ≡ []
   pub known : facts_of w.known ≡ nothing
 
--- it stands behind the outer header
+-- it stands after the outer header
 pub fresh_stands : (b : List ℕ) (form : reading.Form) (w : Walk) (left : Option (List ℕ)) → IsFresh w → 4 ≤ form.size →
-    12 ≤ length b → left ≡ Some (drop 12 b) → Stands b form w left
+    12 ≤ length b → left ≡ Some (drop 12 b) → StandsInForm b form w left
 fresh_stands b form w left f s l r = record {
   chunks = subst (λ (es : List reading.Entry). reading.FollowEachOther (reading.next b form) [] es) (sym f.chunks) tt;
   facts = f.known ∙ ap (facts_in b) (sym f.chunks);
@@ -53,7 +53,7 @@ other_free end p c seen l w = rw (le-ltb reading.largest c l, le-ltb end (p + 8 
 said_size : (b : List ℕ) (form : reading.Form) (p : ℕ) → (u32_at b (p + 4) == unsaid) ≡ false →
     Some (u32_at b (p + 4)) ≡ reading.size_at b form p
 said_size b form p e = sym
-    (ap (λ (v : Bool). cond v (reading.told_size form.sizes (reading.id_at b p)) (Some (u32_at b (p + 4)))) e)
+    (ap (λ (v : Bool). cond v (reading.reported_size form.sizes (reading.id_at b p)) (Some (u32_at b (p + 4)))) e)
 
 -- the form that the header tells
 form_is : (b : List ℕ) (h : ChunkHead) (e : reading.Entry) (x : Ds64) (size : ℕ) (left : Option (List ℕ)) →
@@ -68,7 +68,7 @@ form_is b h e x size left o w =
     ∙ (ap (λ (i : List ℕ). record { id = i; size = reading.form_size_at b; sizes = Some (reading.sizes_at b) })
     (sym o.spells)
     ∙ (ap (λ (n : ℕ). record { id = h.id; size = n; sizes = Some (reading.sizes_at b) }) w.size_is
-    ∙ ap (λ (z : reading.Sizes). record { id = h.id; size = size; sizes = Some z }) (sym w.told)))
+    ∙ ap (λ (z : reading.Sizes). record { id = h.id; size = size; sizes = Some z }) (sym w.reported)))
 
 -- `ds64` is listed
 pub wide_begins : (b : List ℕ) (h : ChunkHead) (e : reading.Entry) (x : Ds64) (form : Form) (w v : Walk)
@@ -76,11 +76,11 @@ pub wide_begins : (b : List ℕ) (h : ChunkHead) (e : reading.Entry) (x : Ds64) 
     form.sizes ≡ Some x →
     first_that_holds (form_faults form.size) ≡ None → ReadTo b e e.size mid → e.size < 2 ^ 32 →
     e.place + 8 + e.size ≤ 8 + form.size → IsFresh w →
-    v.known ≡ w.known → v.place ≡ place_behind e → seen_by v ≡ seen_by w ++ e ∷ [] →
+    v.known ≡ w.known → v.place ≡ place_after e → seen_by v ≡ seen_by w ++ e ∷ [] →
     IsPassedOver b (8 + form.size) e left' →
     BeginsForm b form v left'
 wide_begins b h e x form w v left mid left' o r i z free to small inside f k place seen over =
-    let told = form_by form in
+    let reported = form_by form in
     let four : 4 ≤ form.size = ltb-false form.size 4 (none_holds (form_faults form.size) free).1.0 in
     let at : e.place ≡ 12 = ap (λ (y : reading.Entry). y.place) r.entry in
     let here : w.place ≡ 12 = f.place in
@@ -91,20 +91,20 @@ wide_begins b h e x form w v left mid left' o r i z free to small inside f k pla
     let there = r.head.there in
     let last : nat_lt (8 + form.size) (20 + u32_at b 16) ≡ false =
     le-ltb (8 + form.size) (20 + u32_at b 16) (omega arith) in
-    let headed : Headed b told w e.id (Some e.size) = record {
+    let headed : Headed b reported w e.id (Some e.size) = record {
       wanted = omega arith;
       few = subst (λ (es : List reading.Entry). length es < 4096) (sym f.chunks) (lit< tt);
       there = omega arith;
       spells = id ∙ ap (reading.id_at b) (sym f.place);
-      told = ap (λ (n : ℕ). Some n) bytes
-          ∙ (said_size b told 12 r.head.said ∙ ap (reading.size_at b told) (sym f.place));
+      reported = ap (λ (n : ℕ). Some n) bytes
+          ∙ (said_size b reported 12 r.head.said ∙ ap (reading.size_at b reported) (sym f.place));
     } in
-    let sized : Sized (reading.form_end told) w e.id (Some e.size) e.size = record {
+    let sized : Sized (reading.form_end reported) w e.id (Some e.size) e.size = record {
       is = refl;
       free =
           ap (λ (y : ChunkKind). first_that_holds
-          (size_faults (reading.form_end told) w.place y (has_kind y (facts_of w.known)) (Some e.size) e.size)) other
-          ∙ other_free (reading.form_end told) w.place e.size false (omega arith) (omega arith);
+          (size_faults (reading.form_end reported) w.place y (has_kind y (facts_of w.known)) (Some e.size) e.size)) other
+          ∙ other_free (reading.form_end reported) w.place e.size false (omega arith) (omega arith);
       inside = omega arith;
     } in
     let learned : IsLearned b (kind_by e.id) e (facts_of w.known) (facts_of v.known) mid =
@@ -116,7 +116,7 @@ wide_begins b h e x form w v left mid left' o r i z free to small inside f k pla
           ∙ (ap (λ (y : reading.Form). Ok y) (form_is b h e x form.size left o r)
           ∙ (ap (λ (y : List ℕ). Ok (record { id = y; size = form.size; sizes = Some (sizes_by x) })) (sym i)
           ∙ ap (λ (y : Option Ds64). Ok (record { id = form.id; size = form.size; sizes = sizes_of y })) (sym z)));
-      stands = goes_on b told w v e (Some e.size) left mid left'
-          (fresh_stands b told w left f four (omega arith) o.rest) headed sized
+      stands = goes_on b reported w v e (Some e.size) left mid left'
+          (fresh_stands b reported w left f four (omega arith) o.rest) headed sized
           (at ∙ sym f.place) learned seen place over;
     }

@@ -1,4 +1,4 @@
--- The outer header of BW64 and RF64, behind its opening.
+-- The outer header of BW64 and RF64, after its opening.
 use Rattle.std.proofs.Common.{◌≡◌, ℕ, zero, suc, ◌+◌, ◌*◌, ◌^◌, ◌≤◌, ◌<◌, Bool, true, false, ◌||◌, List, [], ◌∷◌, ◌++◌}
 use Rattle.std.proofs.Common.{length, Option, Some, None, refl, sym, ◌∙◌, ap, subst, arith, lit≤, add_assoc, inr}
 use Rattle.std.specs.Prelude.{codes, not, nat_lt, ◌==◌, slice_range}
@@ -95,10 +95,10 @@ all_parts : (b : List ℕ) → reading.is_riff b ≡ false →
     reading.outer_faults b ≡ opening_faults b ++ (ds64_head_faults b ++ (row_faults b ++ later_faults b))
 all_parts b r = wide_parts b r
 
-behind_opening : (b : List ℕ) (h : ChunkHead) (left : Option (List ℕ)) → IsOpened b h left → reading.is_riff b ≡ false →
+after_opening : (b : List ℕ) (h : ChunkHead) (left : Option (List ℕ)) → IsOpened b h left → reading.is_riff b ≡ false →
     first_that_holds (reading.outer_faults b)
     ≡ first_that_holds (ds64_head_faults b ++ (row_faults b ++ later_faults b))
-behind_opening b h left o r =
+after_opening b h left o r =
     ap first_that_holds (all_parts b r)
     ∙ first_none (opening_faults b) (ds64_head_faults b ++ (row_faults b ++ later_faults b)) o.free
 
@@ -107,7 +107,7 @@ pub head_refused : (b : List ℕ) (h : ChunkHead) (f : InspectFault) (left left'
     reading.is_riff b ≡ false → IsStopped b 20 12 Nowhere (ds64_head_faults b) f left' → IsOutside b f left'
 head_refused b h f left left' o r s =
     outside_by b 20 Nowhere (ds64_head_faults b) f left' (lit≤ tt) (none_wanted b) s
-    (λ g k. behind_opening b h left o r ∙ first_some (ds64_head_faults b) (row_faults b ++ later_faults b) g k)
+    (λ g k. after_opening b h left o r ∙ first_some (ds64_head_faults b) (row_faults b ++ later_faults b) g k)
 
 pub not_false : (v : Bool) → not v ≡ false → v ≡ true
 not_false true e = refl
@@ -135,11 +135,11 @@ head_free b e =
       said = s.1;
     }
 
-pub behind_head : (b : List ℕ) (h : ChunkHead) (left : Option (List ℕ)) → IsOpened b h left →
+pub after_head : (b : List ℕ) (h : ChunkHead) (left : Option (List ℕ)) → IsOpened b h left →
     reading.is_riff b ≡ false → first_that_holds (ds64_head_faults b) ≡ None →
     first_that_holds (reading.outer_faults b) ≡ first_that_holds (row_faults b ++ later_faults b)
-behind_head b h left o r e =
-    behind_opening b h left o r ∙ first_none (ds64_head_faults b) (row_faults b ++ later_faults b) e
+after_head b h left o r e =
+    after_opening b h left o r ∙ first_none (ds64_head_faults b) (row_faults b ++ later_faults b) e
 
 pub wide_by : (b : List ℕ) → first_that_holds (opening_faults b) ≡ None → reading.is_riff b ≡ false →
     reading.is_wide b ≡ true
@@ -174,6 +174,6 @@ rows_refused b h e f left mid left' o r d small s =
     let most : 20 + u32_at b 16 ≤ 2 ^ 62 + 8 = omega arith in
     outside_by b (20 + u32_at b 16) (WantsEntry b (ds64_entry b)) (table_faults b (ds64_entry b)) f left' most
     (λ n k. entry_wanted b n o.free (wide_by b o.free r) d.free k) s'
-    (λ g k. behind_head b h left o r d.free
+    (λ g k. after_head b h left o r d.free
     ∙ first_some (row_faults b) (later_faults b) g
     (sym (ap first_that_holds (rows_are b (head_free b d.free).long)) ∙ k))

@@ -1,4 +1,4 @@
--- A BW64 or RF64 file behind its `ds64`.
+-- A BW64 or RF64 file after its `ds64`.
 use Rattle.std.proofs.Common.{◌≡◌, ℕ, ◌+◌, ◌*◌, ◌^◌, ◌≤◌, ◌<◌, Bool, true, false, cond, ◌&&◌, List, Option, Some, None}
 use Rattle.std.proofs.Common.{Ok, sym, ◌∙◌, ap, subst, arith, [], inl}
 use Rattle.std.specs.Prelude.{nat_lt, ◌==◌, if◌then◌else◌}
@@ -19,13 +19,13 @@ use Rattle.bw_model.proofs.ChunkSteps.{none_holds}
 use Rattle.bw_inspect.proofs.Faults.{halts_by_bytes}
 use Rattle.bw_inspect.proofs.ChunkFaults.{first_none, first_some}
 use Rattle.bw_inspect.proofs.Outers.{last_fault, later_faults, outer_err, outer_ok}
-use Rattle.bw_inspect.proofs.WideForms.{IsHeadFree, behind_head, head_free, row_faults, rows_are, sizes_there, wide_by}
+use Rattle.bw_inspect.proofs.WideForms.{IsHeadFree, after_head, head_free, row_faults, rows_are, sizes_there, wide_by}
 
 -- `ds64` was read, and what it tells is known
 pub record IsWideRead (b : List ℕ) (h : ChunkHead) (e : reading.Entry) (x : Ds64) (size : ℕ) : Type 0 where
   pub head : IsHeadFree b
   pub entry : e ≡ ds64_entry b
-  pub told : sizes_by x ≡ reading.sizes_at b
+  pub reported : sizes_by x ≡ reading.sizes_at b
   pub wide : reading.is_wide b ≡ true
   pub size_is : reading.form_size_at b ≡ size
   pub later : first_that_holds (reading.outer_faults b) ≡ first_that_holds (later_faults b)
@@ -44,21 +44,21 @@ wide_read b h e x size left mid left' o r d k s =
     ∙ subst (λ (z : reading.Entry). first_that_holds (table_faults b z) ≡ None) d.entry k.free in
     let room : 28 + 12 * u32_at b 44 ≤ u32_at b 16 =
     ltb-false (u32_at b 16) (28 + 12 * u32_at b 44) (none_holds (row_faults b) rows).1.1.0 in
-    let told : sizes_by x ≡ reading.sizes_at b =
-    subst (λ (z : reading.Entry). sizes_by x ≡ sizes_in (content_of b (Some z))) d.entry k.told
+    let reported : sizes_by x ≡ reading.sizes_at b =
+    subst (λ (z : reading.Entry). sizes_by x ≡ sizes_in (content_of b (Some z))) d.entry k.reported
     ∙ sizes_there b head.long room in
     let wide = wide_by b o.free r in
-    let form : x.form ≡ u64_at b 20 = ap (λ (z : reading.Sizes). z.form) told in
+    let form : x.form ≡ u64_at b 20 = ap (λ (z : reading.Sizes). z.form) reported in
     record {
       head = head;
       entry = d.entry;
-      told = told;
+      reported = reported;
       wide = wide;
       size_is =
           size_by (reading.is_wide b) (u32_at b 4 == unsaid) (u64_at b 20) (u32_at b 4) wide
-          ∙ (ap (λ (n : ℕ). if n == unsaid then u64_at b 20 else n) (sym o.tells)
+          ∙ (ap (λ (n : ℕ). if n == unsaid then u64_at b 20 else n) (sym o.reports)
           ∙ (ap (λ (n : ℕ). if h.size32 == unsaid then n else h.size32) (sym form) ∙ sym s));
-      later = behind_head b h left o r d.free ∙ first_none (row_faults b) (later_faults b) rows;
+      later = after_head b h left o r d.free ∙ first_none (row_faults b) (later_faults b) rows;
     }
 
 -- the form's size can't be

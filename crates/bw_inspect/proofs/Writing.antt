@@ -7,19 +7,19 @@ use Rattle.std.proofs.lemmas.Grind.{flat_map-append}
 use Rattle.std.proofs.Math.Seq.{drop-cons}
 use Rattle.bw_stream.specs.Moves.{Writes, Begins}
 
--- a part behind another one
-pub writes_behind : {old mid new : Option (List ℕ)} (a b : List ℕ) → Writes old a mid → Writes mid b new →
+-- a part after another one
+pub writes_after : {old mid new : Option (List ℕ)} (a b : List ℕ) → Writes old a mid → Writes mid b new →
     Writes old (a ++ b) new
-writes_behind a b first second xs e = second (xs ++ a) (first xs e) ∙ ap Some (append_assoc xs a b)
+writes_after a b first second xs e = second (xs ++ a) (first xs e) ∙ ap Some (append_assoc xs a b)
 
 -- nothing more
 pub writes_none : {old : Option (List ℕ)} → Writes old [] old
 writes_none xs e = e ∙ ap Some (sym (append-nil xs))
 
--- a beginning of the part behind another one
-pub begins_behind : {old mid new : Option (List ℕ)} (a b : List ℕ) → Writes old a mid → Begins mid b new →
+-- a beginning of the part after another one
+pub begins_after : {old mid new : Option (List ℕ)} (a b : List ℕ) → Writes old a mid → Begins mid b new →
     Begins old (a ++ b) new
-begins_behind a b first second xs e =
+begins_after a b first second xs e =
     let p = second (xs ++ a) (first xs e) in
     record {
       part = a ++ p.part;
@@ -47,16 +47,16 @@ flat_map_around {X} f xs i x h is =
     ap (λ (ys : List X). flat_map f (take i xs) ++ flat_map f ys) (sym d)
     ∙ sym (flat_map-append f (take i xs) (drop i xs)) ∙ ap (flat_map f) (take-append-drop i xs)
 
--- a beginning of an element's part, behind those of the elements before it
+-- a beginning of an element's part, after those of the elements before it
 pub begins_within : {X : Type 0} {old mid new : Option (List ℕ)} (f : X → List ℕ) (xs : List X) (i : ℕ) (x : X) →
     i < length xs → x ≡ get_or xs i x → Writes old (flat_map f (take i xs)) mid → Begins mid (f x) new →
     Begins old (flat_map f xs) new
 begins_within {X} {old} {mid} {new} f xs i x h is first second =
     let whole = flat_map_around f xs i x h is in
     let P : List ℕ → Type 0 = λ ys. Begins old ys new in
-    subst P whole (begins_behind (flat_map f (take i xs)) _ first (begins_before (f x) _ second))
+    subst P whole (begins_after (flat_map f (take i xs)) _ first (begins_before (f x) _ second))
 
--- an element's part, behind those of the elements before it
+-- an element's part, after those of the elements before it
 pub writes_next : {X : Type 0} {old mid new : Option (List ℕ)} (f : X → List ℕ) (xs : List X) (i : ℕ) (x : X) →
     i < length xs → x ≡ get_or xs i x → Writes old (flat_map f (take i xs)) mid → Writes mid (f x) new →
     Writes old (flat_map f (take (i + 1) xs)) new
@@ -64,4 +64,4 @@ writes_next {X} {old} {mid} {new} f xs i x h is first second =
     let more : flat_map f (take i xs) ++ f x ≡ flat_map f (take (i + 1) xs) =
     rw (take_more xs i x h, ← is, flat_map-append) (simp append-nil) in
     let P : List ℕ → Type 0 = λ ys. Writes old ys new in
-    subst P more (writes_behind (flat_map f (take i xs)) (f x) first second)
+    subst P more (writes_after (flat_map f (take i xs)) (f x) first second)

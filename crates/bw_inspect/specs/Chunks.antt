@@ -69,7 +69,7 @@ size_faults end p kind seen size c =
     ∷ reading.line (is_cue_kind kind && nat_lt c 4) reading.BadCue p
     ∷ []
 
--- the faults behind a head; `count` is the number that stands there
+-- the faults after a head; `count` is the number that stands there
 abbrev pub content_faults : ℕ → ℕ → ChunkKind → ℕ → ℕ → List (Bool × reading.Fault)
 content_faults len p kind count c =
     reading.line (is_cue_kind kind && nat_lt len (p + 12)) reading.Truncated p
@@ -78,14 +78,14 @@ content_faults len p kind count c =
     ∷ reading.line (nat_lt len (p + 8 + c)) reading.Truncated p
     ∷ []
 
--- The faults of a content that begins with `front` bytes, which tell a number n of rows of so many
+-- The faults of a content that begins with `prefix` bytes, which tell a number n of rows of so many
 -- bytes, at most `most`.
 abbrev pub counted_faults : ℕ → reading.Entry → ℕ → ℕ → ℕ → reading.FaultKind → ℕ →
     List (Bool × reading.Fault)
-counted_faults len e front most width bad n =
-    reading.line (nat_lt len (e.place + 8 + front)) reading.Truncated e.place
+counted_faults len e prefix most width bad n =
+    reading.line (nat_lt len (e.place + 8 + prefix)) reading.Truncated e.place
     ∷ reading.line (nat_lt most n) reading.TooMany e.place
-    ∷ reading.line (nat_lt e.size (front + width * n)) bad e.place
+    ∷ reading.line (nat_lt e.size (prefix + width * n)) bad e.place
     ∷ reading.line (nat_lt len (e.place + 8 + e.size)) reading.Truncated e.place
     ∷ []
 

@@ -51,13 +51,13 @@ IsStoppedIn b wants faults e f left = IsStopped b (e.place + 8 + e.size) e.place
 abbrev pub IsEndOf : reading.Entry → ℕ → Type 0
 IsEndOf e reached = reached ≡ e.place + 8 + e.size
 
--- Some of the n rows were read that a content tells at its front; the content has no fault, but
+-- Some of the n rows were read that a content tells at its start; the content has no fault, but
 -- that b may end in it.
-pub record WantsRows (b : List ℕ) (e : reading.Entry) (front most width : ℕ)
+pub record WantsRows (b : List ℕ) (e : reading.Entry) (prefix most width : ℕ)
     (bad : reading.FaultKind) (n reached : ℕ) : Type 0 where
-  pub free : first_that_holds (counted_faults (e.place + 8 + e.size) e front most width bad n)
+  pub free : first_that_holds (counted_faults (e.place + 8 + e.size) e prefix most width bad n)
       ≡ None
-  pub grown : HasGrown b (e.place + 8 + front) width n reached
+  pub grown : HasGrown b (e.place + 8 + prefix) width n reached
 
 -- some points were read of a `cue ` chunk; its content has no fault, but that b may end in it
 pub record WantsPoints (b : List ℕ) (kind : ChunkKind) (e : reading.Entry)

@@ -5,7 +5,7 @@ use Rattle.bw_model.specs.Reading as reading
 use Rattle.bw_model.specs.Report as report
 use Rattle.bw_model.specs.Bytes.{first_that_holds, u32_at}
 use Rattle.bw_inspect.specs.Chunks.{counted_faults}
-use Rattle.bw_inspect.specs.Known.{cues_told}
+use Rattle.bw_inspect.specs.Known.{cues_reported}
 use Rattle.bw_inspect.specs.Contents.{ReadTo, WantsRows}
 
 -- the faults of the content
@@ -32,5 +32,5 @@ pub record IsCounted (b : List ℕ) (e : reading.Entry) (n : ℕ)
 pub record IsCued (b : List ℕ) (e : reading.Entry) (points : List report.RawCue)
     (left : Option (List ℕ)) : Type 0 where
   pub free : first_that_holds (cue_faults b e) ≡ None
-  pub told : points ≡ cues_told b e
+  pub reported : points ≡ cues_reported b e
   pub to : ReadTo b e e.size left

@@ -50,7 +50,7 @@ name_of Memory = codes "Memory"
 abbrev pub inspect_fault_text : InspectFault → List ℕ
 inspect_fault_text f = name_of f.kind ++ codes " at " ++ decimal f.offset
 
--- the fault of the bytes that a kind names: a failed read and want of memory aren't theirs
+-- the fault of the bytes that a kind names: a failed read and lack of memory aren't theirs
 abbrev pub kind_of : InspectKind → Option reading.FaultKind
 kind_of NotWave = Some reading.NotWave
 kind_of Truncated = Some reading.Truncated

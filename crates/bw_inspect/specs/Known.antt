@@ -41,29 +41,29 @@ abbrev pub nothing : Facts
 nothing = record { fmt = None; samples = None; bext = None; cues = None }
 
 -- what `fmt ` tells
-abbrev pub fmt_told : List ℕ → reading.Entry → report.RawFmt
-fmt_told b e = report.raw_fmt (report.content_of b (Some e))
+abbrev pub fmt_reported : List ℕ → reading.Entry → report.RawFmt
+fmt_reported b e = report.raw_fmt (report.content_of b (Some e))
 
 -- where the samples begin, and a data chunk's size
-abbrev pub samples_told : reading.Entry → ℕ × ℕ
-samples_told e = (e.place + 8, e.size)
+abbrev pub samples_reported : reading.Entry → ℕ × ℕ
+samples_reported e = (e.place + 8, e.size)
 
 -- what `bext` tells, and how long its coding history is
-abbrev pub bext_told : List ℕ → reading.Entry → (report.RawBext × List ℕ) × ℕ
-bext_told b e = (bext_at (report.content_of b (Some e)), e.size - 602)
+abbrev pub bext_reported : List ℕ → reading.Entry → (report.RawBext × List ℕ) × ℕ
+bext_reported b e = (bext_at (report.content_of b (Some e)), e.size - 602)
 
 -- the cue points that `cue ` tells
-abbrev pub cues_told : List ℕ → reading.Entry → List report.RawCue
-cues_told b e = report.raw_cues (report.content_of b (Some e)) 4
+abbrev pub cues_reported : List ℕ → reading.Entry → List report.RawCue
+cues_reported b e = report.raw_cues (report.content_of b (Some e)) 4
     (u32_at (report.content_of b (Some e)) 0)
 
 -- what the chunks seen tell
 abbrev pub facts_in : List ℕ → List reading.Entry → Facts
 facts_in b seen = record {
-  fmt = option_map (fmt_told b) (reading.entry_of (codes "fmt ") seen);
-  samples = option_map samples_told (reading.entry_of (codes "data") seen);
-  bext = option_map (bext_told b) (reading.entry_of (codes "bext") seen);
-  cues = option_map (cues_told b) (reading.entry_of (codes "cue ") seen);
+  fmt = option_map (fmt_reported b) (reading.entry_of (codes "fmt ") seen);
+  samples = option_map samples_reported (reading.entry_of (codes "data") seen);
+  bext = option_map (bext_reported b) (reading.entry_of (codes "bext") seen);
+  cues = option_map (cues_reported b) (reading.entry_of (codes "cue ") seen);
 }
 
 -- whether a chunk of that kind was seen
@@ -76,8 +76,8 @@ has_kind Other k = false
 
 -- what is known with one more chunk
 abbrev pub learned : List ℕ → ChunkKind → reading.Entry → Facts → Facts
-learned b Fmt e k = record k { fmt = Some (fmt_told b e) }
-learned b Bext e k = record k { bext = Some (bext_told b e) }
-learned b Data e k = record k { samples = Some (samples_told e) }
-learned b Cue e k = record k { cues = Some (cues_told b e) }
+learned b Fmt e k = record k { fmt = Some (fmt_reported b e) }
+learned b Bext e k = record k { bext = Some (bext_reported b e) }
+learned b Data e k = record k { samples = Some (samples_reported e) }
+learned b Cue e k = record k { cues = Some (cues_reported b e) }
 learned b Other e k = k

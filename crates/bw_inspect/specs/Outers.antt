@@ -13,7 +13,7 @@ use Rattle.bw_inspect.specs.Faults.{bytes_fault}
 use Rattle.bw_inspect.specs.Places.{Halts, HasGrown}
 use Rattle.bw_inspect.specs.Chunks.{counted_faults}
 use Rattle.bw_inspect.specs.Tables.{ds64_entry, ds64_head_faults}
-use Rattle.bw_inspect.specs.Walks.{Stands, form_by}
+use Rattle.bw_inspect.specs.Walks.{StandsInForm, form_by}
 
 -- the ids of the forms that are read
 abbrev pub names_form : List ℕ → Bool
@@ -39,7 +39,7 @@ form_faults size =
 pub record IsOpened (b : List ℕ) (h : ChunkHead) (left : Option (List ℕ)) : Type 0 where
   pub free : first_that_holds (opening_faults b) ≡ None
   pub spells : h.id ≡ reading.id_at b 0
-  pub tells : h.size32 ≡ u32_at b 4
+  pub reports : h.size32 ≡ u32_at b 4
   pub rest : left ≡ Some (drop 12 b)
 
 -- so it is of all the bytes, where their first 12 were read and are not those of RIFF
@@ -49,7 +49,7 @@ OnWide h left holds = (b : List ℕ) → IsOpened b h left → reading.is_riff b
 -- the outer header was read
 pub record BeginsForm (b : List ℕ) (form : Form) (w : Walk) (left : Option (List ℕ)) : Type 0 where
   pub header : reading.outer b ≡ Ok (form_by form)
-  pub stands : Stands b (form_by form) w left
+  pub stands : StandsInForm b (form_by form) w left
 
 -- the outer header has no fault, and its `ds64` was read to its end
 pub record IsDs64Whole (b : List ℕ) (reached : ℕ) : Type 0 where

@@ -40,11 +40,11 @@ pub record HasGrown (b : List ℕ) (from width most reached : ℕ) : Type 0 wher
   pub rows : ℕ
   pub some : 0 < rows
   pub few : rows ≤ most
-  pub behind : reached ≡ from + width * rows
+  pub following : reached ≡ from + width * rows
   pub there : reached ≤ length b
 
--- A call stopped with a fault within b, and at most so far into it: a failed read is told at the
--- next byte that was wanted, want of memory at a chunk's place, where a list was to grow by what
+-- A call stopped with a fault within b, and at most so far into it: a failed read is reported at the
+-- next byte that was wanted, lack of memory at a chunk's place, where a list was to grow by what
 -- was read up to there.
 pub record Halts (b : List ℕ) (most place : ℕ) (wants : ℕ → Type 0) (f : InspectFault)
     (left : Option (List ℕ)) : Type 0 where

@@ -13,7 +13,7 @@ use Rattle.bw_inspect.specs.Faults.{bytes_fault, is_memory, is_failed_read}
 use Rattle.bw_inspect.specs.Known.{facts_of, facts_in}
 use Rattle.bw_inspect.specs.Walks.{WantsChunk, seen_by}
 use Rattle.bw_inspect.specs.Outers.{WantsDs64}
-use Rattle.bw_inspect.specs.Reports.{told_by, reserved_by, reserved_in}
+use Rattle.bw_inspect.specs.Reports.{reported_by, reserved_by, reserved_in}
 
 -- so it is of all the bytes, where the walk knows what its chunks tell
 abbrev pub OnFacts : Walk → (List ℕ → Type 0) → Type 0
@@ -22,7 +22,7 @@ OnFacts w holds = (b : List ℕ) → facts_of w.known ≡ facts_in b (seen_by w)
 -- the chunks have no fault at the form's end, and this is their report
 pub record IsReported (b : List ℕ) (form : reading.Form) (seen : List reading.Entry)
     (r : Report) : Type 0 where
-  pub tells : told_by r ≡ report.report_of b form seen
+  pub reports : reported_by r ≡ report.report_of b form seen
   pub reserved : reserved_by r ≡ reserved_in b seen
   pub free : first_that_holds (reading.end_faults (reading.form_end form) seen) ≡ None
 
@@ -38,10 +38,10 @@ pub record HasReading (b : List ℕ) : Type 0 where
   pub entries : List reading.Entry
   pub reads : reading.IsReading b form entries
 
--- the bytes have a reading, and this is its report; no byte behind the form was read
-pub record Tells (b : List ℕ) (r : Report) (left : Option (List ℕ)) : Type 0 where
+-- the bytes have a reading, and this is its report; no byte after the form was read
+pub record GivesReport (b : List ℕ) (r : Report) (left : Option (List ℕ)) : Type 0 where
   pub reading_is : HasReading b
-  pub tells : told_by r ≡ report.report_of b reading_is.form reading_is.entries
+  pub reports : reported_by r ≡ report.report_of b reading_is.form reading_is.entries
   -- and these are the reserved bytes of its `bext`
   pub reserved : reserved_by r ≡ reserved_in b reading_is.entries
   pub within : IsReadWithin b (reading.form_end reading_is.form) left
@@ -57,17 +57,17 @@ pub record ListsChunk (b : List ℕ) (place reached : ℕ) : Type 0 where
   pub form : reading.Form
   -- the chunks before it
   pub entries : List reading.Entry
-  pub front : reading.IsFront b form entries
+  pub prefix : reading.IsPrefix b form entries
   pub place_is : place ≡ reading.next_place entries
   pub wants : WantsChunk b form entries reached
 
--- the next head is wanted here, one byte behind the end of b: the pad byte of the last chunk is
+-- the next head is wanted here, one byte after the end of b: the pad byte of the last chunk is
 -- absent
 pub record IsPadAbsent (b : List ℕ) (reached : ℕ) : Type 0 where
   pub form : reading.Form
   -- the chunks before it
   pub entries : List reading.Entry
-  pub front : reading.IsFront b form entries
+  pub prefix : reading.IsPrefix b form entries
   pub wanted : reached ≡ reading.next_place entries
   pub one : reached ≡ length b + 1
 
@@ -77,9 +77,9 @@ pub record Refuses (b : List ℕ) (f : InspectFault) (left : Option (List ℕ)) 
   pub within : IsReadWithin b longest_end left
   -- and none past the end of b, but for the pad byte of its last chunk
   pub there : length b < within.reached → IsPadAbsent b within.reached
-  -- a failed read is told at the next byte that was wanted
+  -- a failed read is reported at the next byte that was wanted
   pub fails : IsTrue (is_failed_read f.kind) → f.offset ≡ within.reached
-  -- want of memory at the place of a chunk without fault that is to be listed, or a part of it:
+  -- lack of memory at the place of a chunk without fault that is to be listed, or a part of it:
   -- `ds64` or a further one
   pub memory : IsTrue (is_memory f.kind) →
       ListsDs64 b f.offset within.reached ⊎ ListsChunk b f.offset within.reached

@@ -5,7 +5,7 @@ use Rattle.bw_model.specs.Report as report
 use Rattle.bw_inspect.specs.declared.report.BextChunk.{BextChunk}
 use Rattle.bw_inspect.specs.declared.report.Report.{Report}
 
--- the fields of `bext` and its history's length, as they are told
+-- the fields of `bext` and its history's length, as they are reported
 abbrev pub bext_by : BextChunk → report.RawBext × ℕ
 bext_by x = (x.fields.0, x.history_len)
 
@@ -20,8 +20,8 @@ reserved_in b entries =
     (reading.entry_of (codes "bext") entries)
 
 -- the same report
-abbrev pub told_by : Report → report.Report
-told_by r = record {
+abbrev pub reported_by : Report → report.Report
+reported_by r = record {
   form = r.form;
   size = r.size;
   chunks = r.chunks;

@@ -1,4 +1,4 @@
--- Rows of a fixed size, one behind another in a chunk's content.
+-- Rows of a fixed size, one after another in a chunk's content.
 use Rattle.std.specs.Prelude.{◌≡◌, ℕ, zero, suc, ◌+◌, ◌*◌, List, [], ◌∷◌, slice_range, Option, Some}
 use Rattle.bw_model.specs.Reading as reading
 use Rattle.bw_model.specs.Report.{content_of}
@@ -6,18 +6,18 @@ use Rattle.bw_inspect.specs.Contents.{ReadTo}
 
 -- what n rows of so many bytes each tell, from a place on
 abbrev pub rows_at : {X : Type 0} → (List ℕ → X) → ℕ → List ℕ → ℕ → ℕ → List X
-rows_at told width c p zero = []
-rows_at told width c p (suc n) =
-    told (slice_range c p (p + width)) ∷ rows_at told width c (p + width) n
+rows_at reported width c p zero = []
+rows_at reported width c p (suc n) =
+    reported (slice_range c p (p + width)) ∷ rows_at reported width c (p + width) n
 
--- one row was read, behind so many bytes of a content
-pub record HasRow {X : Type 0} (told : List ℕ → X) (width : ℕ) (b : List ℕ) (e : reading.Entry)
+-- one row was read, after so many bytes of a content
+pub record HasRow {X : Type 0} (reported : List ℕ → X) (width : ℕ) (b : List ℕ) (e : reading.Entry)
     (done : ℕ) (row : X) (left : Option (List ℕ)) : Type 0 where
-  pub row_is : row ≡ told (slice_range (content_of b (Some e)) done (done + width))
+  pub row_is : row ≡ reported (slice_range (content_of b (Some e)) done (done + width))
   pub to : ReadTo b e (done + width) left
 
--- n rows were read, behind the front of a content
-pub record HasRows {X : Type 0} (told : List ℕ → X) (width : ℕ) (b : List ℕ) (e : reading.Entry)
-    (front n : ℕ) (rows : List X) (left : Option (List ℕ)) : Type 0 where
-  pub rows_are : rows ≡ rows_at told width (content_of b (Some e)) front n
-  pub to : ReadTo b e (front + width * n) left
+-- n rows were read, after the prefix of a content
+pub record HasRows {X : Type 0} (reported : List ℕ → X) (width : ℕ) (b : List ℕ) (e : reading.Entry)
+    (prefix n : ℕ) (rows : List X) (left : Option (List ℕ)) : Type 0 where
+  pub rows_are : rows ≡ rows_at reported width (content_of b (Some e)) prefix n
+  pub to : ReadTo b e (prefix + width * n) left

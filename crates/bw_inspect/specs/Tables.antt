@@ -41,7 +41,7 @@ WantsEntry b e reached =
 -- what stands before the table was read
 pub record IsFixed (b : List ℕ) (e : reading.Entry) (x : Fixed)
     (left : Option (List ℕ)) : Type 0 where
-  pub told : x ≡ fixed_at (content_of b (Some e))
+  pub reported : x ≡ fixed_at (content_of b (Some e))
   pub to : ReadTo b e 28 left
 
 -- what a content of `ds64` tells
@@ -56,5 +56,5 @@ sizes_in c = record {
 pub record IsDs64Read (b : List ℕ) (e : reading.Entry) (x : Ds64)
     (left : Option (List ℕ)) : Type 0 where
   pub free : first_that_holds (table_faults b e) ≡ None
-  pub told : sizes_by x ≡ sizes_in (content_of b (Some e))
+  pub reported : sizes_by x ≡ sizes_in (content_of b (Some e))
   pub to : ReadTo b e e.size left

@@ -22,7 +22,7 @@ abbrev pub seen_by : Walk → List reading.Entry
 seen_by w = w.chunks.items
 
 -- the chunks so far are those of b, and the reader stands where the next head is wanted, if one is
-pub record Stands (b : List ℕ) (form : reading.Form) (w : Walk)
+pub record StandsInForm (b : List ℕ) (form : reading.Form) (w : Walk)
     (left : Option (List ℕ)) : Type 0 where
   pub chunks : reading.FollowEachOther (reading.next b form) [] (seen_by w)
   pub facts : facts_of w.known ≡ facts_in b (seen_by w)
@@ -37,27 +37,27 @@ pub record Stands (b : List ℕ) (form : reading.Form) (w : Walk)
 
 -- so it is of all the bytes, where a walk over them stands so
 abbrev pub OnWalk : reading.Form → Walk → Option (List ℕ) → (List ℕ → Type 0) → Type 0
-OnWalk form w left holds = (b : List ℕ) → Stands b form w left → holds b
+OnWalk form w left holds = (b : List ℕ) → StandsInForm b form w left → holds b
 
 -- a head was read
 pub record IsHead (b : List ℕ) (p : ℕ) (h : ChunkHead) (left : Option (List ℕ)) : Type 0 where
   pub within : p + 8 ≤ length b
   pub spells : h.id ≡ reading.id_at b p
-  pub tells : h.size32 ≡ u32_at b (p + 4)
+  pub reports : h.size32 ≡ u32_at b (p + 4)
   pub rest : left ≡ Some (drop (p + 8) b)
 
--- where the head behind a chunk stands
-abbrev pub place_behind : reading.Entry → ℕ
-place_behind e = e.place + 8 + even_up e.size
+-- where the head after a chunk stands
+abbrev pub place_after : reading.Entry → ℕ
+place_after e = e.place + 8 + even_up e.size
 
--- a chunk is behind the reader, and so is its pad byte where a further head is wanted
+-- a chunk is after the reader, and so is its pad byte where a further head is wanted
 pub record IsPassedOver (b : List ℕ) (end : ℕ) (e : reading.Entry)
     (left : Option (List ℕ)) : Type 0 where
   pub reached : ℕ
   pub within : reached ≤ end
-  pub there : length b < reached → reached ≡ place_behind e
+  pub there : length b < reached → reached ≡ place_after e
   pub rest : left ≡ Some (drop reached b)
-  pub next : place_behind e + 8 ≤ end → reached ≡ place_behind e
+  pub next : place_after e + 8 ≤ end → reached ≡ place_after e
 
 -- no more chunks and points than may be
 pub record IsSmall (w : Walk) : Type 0 where
@@ -72,43 +72,43 @@ pub record GrowsByOne (old new : List reading.Entry) : Type 0 where
 -- one more chunk is seen, or none is wanted
 pub record Goes (b : List ℕ) (form : reading.Form) (more : Bool) (w : Walk)
     (left : Option (List ℕ)) : Type 0 where
-  pub stands : Stands b form w left
+  pub stands : StandsInForm b form w left
   pub ends : more ≡ false → reading.form_end form < w.place + 8
 
--- where the chunk behind those seen ends, without its pad byte
-abbrev pub end_behind : List ℕ → reading.Form → List reading.Entry → ℕ
-end_behind b form seen =
+-- where the chunk after those seen ends, without its pad byte
+abbrev pub end_after : List ℕ → reading.Form → List reading.Entry → ℕ
+end_after b form seen =
     reading.next_place seen + 8 + unwrap_or (reading.size_at b form (reading.next_place seen)) 0
 
--- the faults of the chunk at a place behind those seen, where so many bytes of b are there
+-- the faults of the chunk at a place after those seen, where so many bytes of b are there
 abbrev pub faults_at : ℕ → List ℕ → reading.Form → List reading.Entry → ℕ →
     List (Bool × reading.Fault)
 faults_at len b form seen p =
     reading.chunk_faults len (reading.form_end form) seen p (reading.head_at b form p)
     (unwrap_or (reading.size_at b form p) 0)
 
--- the chunk behind those seen has no fault, and was read to its end
+-- the chunk after those seen has no fault, and was read to its end
 pub record IsReadWhole (b : List ℕ) (form : reading.Form) (seen : List reading.Entry)
     (reached : ℕ) : Type 0 where
   pub entry : reading.Entry
   pub comes : reading.next b form seen ≡ Ok (Some entry)
   pub ends : reached ≡ entry.place + 8 + entry.size
 
--- the chunk behind those seen is a `cue ` chunk without fault, but that b may end in it, and some
+-- the chunk after those seen is a `cue ` chunk without fault, but that b may end in it, and some
 -- points were read
 pub record HasReadPoints (b : List ℕ) (form : reading.Form) (seen : List reading.Entry)
     (reached : ℕ) : Type 0 where
   pub is_cue : reading.is_cue (reading.head_at b form (reading.next_place seen)) ≡ true
   pub free : first_that_holds
-      (faults_at (end_behind b form seen) b form seen (reading.next_place seen)) ≡ None
+      (faults_at (end_after b form seen) b form seen (reading.next_place seen)) ≡ None
   pub grown : HasGrown b (reading.next_place seen + 12) 24
       (u32_at b (reading.next_place seen + 8)) reached
 
--- the chunk behind those seen, or a point of it, is to be listed
+-- the chunk after those seen, or a point of it, is to be listed
 abbrev pub WantsChunk : List ℕ → reading.Form → List reading.Entry → ℕ → Type 0
 WantsChunk b form seen reached = IsReadWhole b form seen reached ⊎ HasReadPoints b form seen reached
 
--- what comes behind the chunks seen is a fault, or wasn't read
+-- what comes after the chunks seen is a fault, or wasn't read
 pub record IsFaulted (b : List ℕ) (form : reading.Form) (seen : List reading.Entry)
     (f : InspectFault) (left : Option (List ℕ)) : Type 0 where
   pub reached : ℕ

@@ -2,7 +2,7 @@
 ghost use Rattle.std.specs.Prelude.{◌≡◌, ◌+◌, ◌-◌, ◌^◌, ◌≤◌, ◌<◌, length, IfOk, IfErr, OnOk};
 ghost use Rattle.bw_inspect.specs.ReaderCalls.{Consumes};
 ghost use Rattle.bw_inspect.specs.Chunks.{Allows};
-ghost use Rattle.bw_inspect.specs.Known.{HasFewCues, facts_of, fmt_told, bext_kept, bext_told};
+ghost use Rattle.bw_inspect.specs.Known.{HasFewCues, facts_of, fmt_reported, bext_kept, bext_reported};
 ghost use Rattle.bw_inspect.specs.Places.{Nowhere};
 ghost use Rattle.bw_inspect.specs.Contents.{InContent, IsCutShort, IsLearned, IsPart, IsUnlearned};
 ghost use Rattle.bw_inspect.specs.Contents.{ReadTo};
@@ -17,7 +17,7 @@ use bw_layout::{RawFmt, read_bext, read_fmt};
 use bw_stream::Source;
 use std::alloc::Global;
 
-/// Reads the content of a chunk, and keeps what is told of it.
+/// Reads the content of a chunk, and keeps what is reported of it.
 ///
 /// # Errors
 /// Truncated, and of `cue ` TooMany and BadCue; Read; Memory.
@@ -112,13 +112,13 @@ fn read_fmt_chunk<R: Source>(reader: &mut R, entry: ListedChunk) -> Result<RawFm
     requires long { 16 ≤ entry.size }
     ensures consumed { Consumes R.Source entry.size result reader.old reader.new }
     ensures ok { IfOk result (λ x. InContent (R.left reader.old) entry 0 (λ b.
-        ReadTo b entry entry.size (R.left reader.new) × (x ≡ fmt_told b entry))) }
+        ReadTo b entry entry.size (R.left reader.new) × (x ≡ fmt_reported b entry))) }
     ensures err { IfErr result (λ f. InContent (R.left reader.old) entry 0 (λ b.
         IsCutShort b entry entry.size Nowhere f (R.left reader.new))) }
 {
-    let mut front = [0; 16];
-    read_part(reader, entry, 0, &mut front)?;
-    let Ok(fmt) = read_fmt(&front) else {
+    let mut prefix = [0; 16];
+    read_part(reader, entry, 0, &mut prefix)?;
+    let Ok(fmt) = read_fmt(&prefix) else {
         return Err(fault_at(InspectKind::BadFmt, entry.place));
     };
     pass_rest(reader, entry, 16)?;
@@ -131,13 +131,13 @@ fn read_bext_chunk<R: Source>(reader: &mut R, entry: ListedChunk) -> Result<Bext
     requires long { 602 ≤ entry.size }
     ensures consumed { Consumes R.Source entry.size result reader.old reader.new }
     ensures ok { IfOk result (λ x. InContent (R.left reader.old) entry 0 (λ b.
-        ReadTo b entry entry.size (R.left reader.new) × (bext_kept x ≡ bext_told b entry))) }
+        ReadTo b entry entry.size (R.left reader.new) × (bext_kept x ≡ bext_reported b entry))) }
     ensures err { IfErr result (λ f. InContent (R.left reader.old) entry 0 (λ b.
         IsCutShort b entry entry.size Nowhere f (R.left reader.new))) }
 {
-    let mut front = [0; 602];
-    read_part(reader, entry, 0, &mut front)?;
-    let Ok(fields) = read_bext(&front) else {
+    let mut prefix = [0; 602];
+    read_part(reader, entry, 0, &mut prefix)?;
+    let Ok(fields) = read_bext(&prefix) else {
         return Err(fault_at(InspectKind::BadBext, entry.place));
     };
     pass_rest(reader, entry, 602)?;

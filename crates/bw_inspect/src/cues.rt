@@ -56,9 +56,9 @@ fn read_count<R: Source>(reader: &mut R, entry: ListedChunk) -> Result<u64, Insp
     ensures err { IfErr result (λ f. InContent (R.left reader.old) entry 0 (λ b.
         IsStoppedIn b Nowhere (cue_faults b entry) entry f (R.left reader.new))) }
 {
-    let mut front = [0; 4];
-    read_part(reader, entry, 0, &mut front)?;
-    let count = read_u32(&front, 0);
+    let mut prefix = [0; 4];
+    read_part(reader, entry, 0, &mut prefix)?;
+    let count = read_u32(&prefix, 0);
     if count > MOST_POINTS {
         return Err(fault_at(InspectKind::TooMany, entry.place));
     }

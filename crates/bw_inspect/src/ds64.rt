@@ -18,7 +18,7 @@ use bw_layout::{Ds64, Ds64Fixed, SizeTable, read_ds64_fixed};
 use bw_stream::Source;
 use std::alloc::Global;
 
-/// Where a `ds64` chunk stands: behind the outer header.
+/// Where a `ds64` chunk stands: after the outer header.
 const PLACE: u64 = 12;
 
 /// The most entries of a table that are read.
@@ -94,9 +94,9 @@ fn read_fixed<R: Source>(reader: &mut R, entry: ListedChunk) -> Result<Ds64Fixed
     ensures err { IfErr result (λ f. InContent (R.left reader.old) entry 0 (λ b.
         IsStoppedIn b Nowhere (table_faults b entry) entry f (R.left reader.new))) }
 {
-    let mut front = [0; 28];
-    read_part(reader, entry, 0, &mut front)?;
-    let Ok(fixed) = read_ds64_fixed(&front) else {
+    let mut prefix = [0; 28];
+    read_part(reader, entry, 0, &mut prefix)?;
+    let Ok(fixed) = read_ds64_fixed(&prefix) else {
         return Err(fault_at(InspectKind::BadDs64, entry.place));
     };
     if fixed.table_len > MOST_ENTRIES {

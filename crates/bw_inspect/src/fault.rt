@@ -10,7 +10,7 @@ use std::fmt;
 pub enum InspectKind {
     /// No RIFF, BW64 or RF64 form of type `WAVE`.
     NotWave = 1,
-    /// The input, the form or the chunk ends before what is told of it.
+    /// The input, the form or the chunk ends before what is reported of it.
     Truncated = 2,
     /// A BW64 or RF64 file doesn't begin with `ds64`.
     NoDs64 = 3,

@@ -1,7 +1,7 @@
 //! Laws of readings and their reports: a function that does nothing, whose contract is the
 //! statements.
 ghost use Rattle.bw_model.specs.ReadBack.{FilesReadBack, MadeFilesReadBack};
-ghost use Rattle.bw_inspect.specs.Laws.{FilesAreTold, MadeFilesAreTold};
+ghost use Rattle.bw_inspect.specs.Laws.{FilesAreReported, MadeFilesAreReported};
 
 /// A take's file reads as the chunks of its layout, and the report of that reading tells the take:
 /// its fields, its sizes and, where it is closed, its markers. So `inspect` answers that report or
@@ -9,6 +9,6 @@ ghost use Rattle.bw_inspect.specs.Laws.{FilesAreTold, MadeFilesAreTold};
 pub fn law_file_reads()
     ensures within_limits { FilesReadBack }
     ensures made { MadeFilesReadBack }
-    ensures told { FilesAreTold }
-    ensures made_told { MadeFilesAreTold }
+    ensures reported { FilesAreReported }
+    ensures made_reported { MadeFilesAreReported }
 {}

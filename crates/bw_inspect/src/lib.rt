@@ -13,9 +13,9 @@ mod outer;
 mod places;
 mod reading;
 mod report;
+mod reported_sizes;
 mod row_list;
 mod text;
-mod told_sizes;
 mod walk;
 mod write;
 

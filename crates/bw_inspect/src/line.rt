@@ -42,7 +42,7 @@ impl Line {
         &self.bytes[..self.len]
     }
 
-    /// Puts a text behind what there is: at most 1,152 bytes in all.
+    /// Puts a text after what there is: at most 1,152 bytes in all.
     pub fn put(&mut self, text: &[u8])
         requires { length self.old + length text.now ≤ 1152 }
         ensures { self.new ≡ self.old ++ text.now }

@@ -22,7 +22,7 @@ use bw_layout::{ChunkHead, ChunkId};
 use bw_stream::Source;
 use std::alloc::Global;
 
-/// Reads the outer header, and in BW64 and RF64 the `ds64` chunk behind it.
+/// Reads the outer header, and in BW64 and RF64 the `ds64` chunk after it.
 ///
 /// # Errors
 /// The first fault of the outer header; Read; Memory.
@@ -92,7 +92,7 @@ fn is_form(id: ChunkId) -> bool
     is_named(id, *b"RIFF") || is_named(id, *b"BW64") || is_named(id, *b"RF64")
 }
 
-/// Reads what stands before the second chunk of a BW64 or RF64 file, behind its opening.
+/// Reads what stands before the second chunk of a BW64 or RF64 file, after its opening.
 fn read_wide<R: Source>(
     alloc: Global,
     reader: &mut R,
@@ -127,11 +127,11 @@ fn read_wide<R: Source>(
 }
 
 /// The size of a form, where `ds64` tells one too: that of the outer header, if it can tell it.
-fn form_size(size32: u32, told: u64) -> u64
-    ensures { result ≡ (if size32 == unsaid then told else size32) }
+fn form_size(size32: u32, reported: u64) -> u64
+    ensures { result ≡ (if size32 == unsaid then reported else size32) }
 {
     if size32 == u32::MAX {
-        told
+        reported
     } else {
         size32 as u64
     }

@@ -9,7 +9,7 @@ ghost use Rattle.bw_stream.specs.Readers.{Of};
 ghost use Rattle.bw_inspect.specs.Known.{facts_of, facts_in};
 ghost use Rattle.bw_inspect.specs.Walks.{IsSmall, form_by, seen_by};
 ghost use Rattle.bw_inspect.specs.Readings.{HasReading, IsBounded, IsReported, OnFacts, Refuses};
-ghost use Rattle.bw_inspect.specs.Readings.{Tells};
+ghost use Rattle.bw_inspect.specs.Readings.{GivesReport};
 
 use crate::fault::{InspectFault, InspectKind, fault_at};
 use crate::outer::read_outer;
@@ -18,7 +18,7 @@ use crate::walk::{Form, Known, Walk, next_chunk};
 use bw_stream::Source;
 use std::alloc::Global;
 
-/// Reads a file once and forward, and tells what it holds. Content that isn't told is passed over
+/// Reads a file once and forward, and says what it holds. Content that isn't told is passed over
 /// and not kept.
 ///
 /// It lists at most 4,096 chunks and 65,536 cue points.
@@ -33,7 +33,7 @@ use std::alloc::Global;
 pub fn inspect<R: Source>(alloc: Global, reader: &mut R) -> Result<Report, InspectFault>
     ensures consumed { Consumes R.Source longest_end result reader.old reader.new }
     ensures within { IfOk result (λ r. R.moved reader.new ≤ R.moved reader.old + (8 + r.size)) }
-    ensures ok { IfOk result (λ r. Of (R.left reader.old) (λ b. Tells b r (R.left reader.new))) }
+    ensures ok { IfOk result (λ r. Of (R.left reader.old) (λ b. GivesReport b r (R.left reader.new))) }
     ensures err { IfErr result (λ f. Of (R.left reader.old) (λ b.
         Refuses b f (R.left reader.new))) }
     ensures bounded { IfOk result (λ r. IsBounded r) }

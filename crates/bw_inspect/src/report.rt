@@ -1,4 +1,4 @@
-//! What is told of a file.
+//! What is reported of a file.
 ghost use Rattle.std.specs.Prelude.{◌≡◌};
 
 use bw_layout::{ChunkId, RawBext, RawCue, RawFmt};

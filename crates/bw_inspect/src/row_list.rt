@@ -1,4 +1,4 @@
-//! Lists in a chunk's content: rows of a fixed size, one behind another.
+//! Lists in a chunk's content: rows of a fixed size, one after another.
 ghost use Rattle.std.specs.Prelude.{◌≡◌, ℕ, ◌+◌, ◌*◌, ◌^◌, ◌≤◌, ◌<◌, List, length, IfOk, IfErr};
 ghost use Rattle.std.proofs.Common.{lit<, lit≤};
 ghost use Rattle.std.specs.Result.{OkIff};
@@ -24,17 +24,17 @@ pub(crate) trait Row: Copy {
     ghost WIDTH: { ℕ };
 
     /// What the bytes of a row tell.
-    ghost told: { List ℕ → Self };
+    ghost reported: { List ℕ → Self };
 
     /// Its size in bytes.
     const WIDTH: usize;
 
-    /// The row at the front of these bytes.
+    /// The row at the start of these bytes.
     ///
     /// # Errors
     /// Short where there are fewer bytes than a row has.
     fn read_row(bytes: &[u8]) -> Result<Self, Short>
-        ensures { OkIff result (WIDTH ≤ length bytes.now) (told bytes.now) };
+        ensures { OkIff result (WIDTH ≤ length bytes.now) (reported bytes.now) };
 
     ghost some: { 0 < WIDTH };
 
@@ -44,7 +44,7 @@ pub(crate) trait Row: Copy {
 impl Row for RawCue {
     ghost WIDTH = { 24 };
 
-    ghost told = { raw_cue };
+    ghost reported = { raw_cue };
 
     ghost some = { lit< tt };
 
@@ -60,7 +60,7 @@ impl Row for RawCue {
 impl Row for (ChunkId, u64) {
     ghost WIDTH = { 12 };
 
-    ghost told = { entry_at };
+    ghost reported = { entry_at };
 
     ghost some = { lit< tt };
 
@@ -73,7 +73,7 @@ impl Row for (ChunkId, u64) {
     }
 }
 
-/// Reads so many rows, which begin behind `front` bytes of a chunk's content.
+/// Reads so many rows, which begin after `prefix` bytes of a chunk's content.
 ///
 /// # Errors
 /// Truncated; Read; Memory.
@@ -81,22 +81,22 @@ pub(crate) fn read_rows<R: Source, T: Row>(
     alloc: Global,
     reader: &mut R,
     entry: ListedChunk,
-    front: u64,
+    prefix: u64,
     count: u64,
 ) -> Result<Vec<T>, InspectFault>
     requires room { entry.place + 8 + entry.size < 2 ^ 63 }
-    requires fits { front + T.WIDTH * count ≤ entry.size }
+    requires fits { prefix + T.WIDTH * count ≤ entry.size }
     ensures consumed { Consumes R.Source (T.WIDTH * count) result reader.old reader.new }
     ensures all { IfOk result (λ rows. length rows.items ≡ count) }
-    ensures ok { IfOk result (λ rows. InContent (R.left reader.old) entry front (λ b.
-        HasRows T.told T.WIDTH b entry front count rows.items (R.left reader.new))) }
-    ensures err { IfErr result (λ f. InContent (R.left reader.old) entry front (λ b.
-        IsCutShort b entry entry.size (HasGrown b (entry.place + 8 + front) T.WIDTH count) f
+    ensures ok { IfOk result (λ rows. InContent (R.left reader.old) entry prefix (λ b.
+        HasRows T.reported T.WIDTH b entry prefix count rows.items (R.left reader.new))) }
+    ensures err { IfErr result (λ f. InContent (R.left reader.old) entry prefix (λ b.
+        IsCutShort b entry entry.size (HasGrown b (entry.place + 8 + prefix) T.WIDTH count) f
         (R.left reader.new))) }
 {
     let mut rows = Vec::new(alloc);
     for done in 0..count {
-        let row = read_next(reader, entry, front + T::WIDTH as u64 * done)?;
+        let row = read_next(reader, entry, prefix + T::WIDTH as u64 * done)?;
         let Ok(()) = rows.push(row) else {
             return Err(fault_at(InspectKind::Memory, entry.place));
         };
@@ -104,7 +104,7 @@ pub(crate) fn read_rows<R: Source, T: Row>(
     Ok(rows)
 }
 
-/// Reads the row behind `done` bytes of a chunk's content.
+/// Reads the row after `done` bytes of a chunk's content.
 ///
 /// # Errors
 /// Truncated; Read.
@@ -117,7 +117,7 @@ fn read_next<R: Source, T: Row>(
     requires fits { done + T.WIDTH ≤ entry.size }
     ensures consumed { Consumes R.Source T.WIDTH result reader.old reader.new }
     ensures ok { IfOk result (λ row. InContent (R.left reader.old) entry done (λ b.
-        HasRow T.told T.WIDTH b entry done row (R.left reader.new))) }
+        HasRow T.reported T.WIDTH b entry done row (R.left reader.new))) }
     ensures err { IfErr result (λ f. InContent (R.left reader.old) entry done (λ b.
         IsCutShort b entry entry.size Nowhere f (R.left reader.new))) }
 {

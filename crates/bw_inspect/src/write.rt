@@ -3,7 +3,7 @@ ghost use Rattle.std.specs.Prelude.{◌≡◌, codes, flat_map, Some, OnOk, OnEr
 ghost use Rattle.bw_stream.specs.Moves.{failures_after, Writes, Begins};
 ghost use Rattle.bw_model.specs.Report.{chunk_line, cue_line, report_text};
 ghost use Rattle.bw_inspect.specs.Lines.{lines_of_bext, lines_of_texts, lines_of_loudness};
-ghost use Rattle.bw_inspect.specs.Reports.{told_by};
+ghost use Rattle.bw_inspect.specs.Reports.{reported_by};
 
 use crate::line::Line;
 use crate::report::{BextChunk, Chunks, Cues, Report};
@@ -48,9 +48,9 @@ impl From<IoFailed> for WriteFailed {
 pub fn write_report<W: Sink>(report: &Report, writer: &mut W) -> Result<(), WriteFailed>
     ensures count { W.failures writer.new ≡ failures_after result (W.failures writer.old) }
     ensures ok { OnOk result
-        (Writes (W.written writer.old) (report_text (told_by report.now)) (W.written writer.new)) }
+        (Writes (W.written writer.old) (report_text (reported_by report.now)) (W.written writer.new)) }
     ensures err { OnErr result
-        (Begins (W.written writer.old) (report_text (told_by report.now)) (W.written writer.new)) }
+        (Begins (W.written writer.old) (report_text (reported_by report.now)) (W.written writer.new)) }
 {
     write_line(&make_form_line(&report.form, report.size), writer)?;
     write_chunks(&report.chunks, writer)?;

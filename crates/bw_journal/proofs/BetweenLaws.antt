@@ -25,11 +25,11 @@ stored_open : (p : Parts) (r : Request) → judge p r ≡ Stored → (p.closed �
 unfolding judge
 stored_open p r e = still_open p.closed (judge_open p p.format r) e
 
-range_at : (front kept tail : List ℕ) (from to : ℕ) → length front ≡ from → from + length kept ≡ to →
-    slice_range (front ++ (kept ++ tail)) from to ≡ kept
-range_at front kept tail from to f t =
+range_at : (prefix kept tail : List ℕ) (from to : ℕ) → length prefix ≡ from → from + length kept ≡ to →
+    slice_range (prefix ++ (kept ++ tail)) from to ≡ kept
+range_at prefix kept tail from to f t =
     let n : to - from ≡ length kept = omega arith in
-    ap (take (to - from)) (drop_at front (kept ++ tail) from f) ∙ take_at kept tail (to - from) (sym n)
+    ap (take (to - from)) (drop_at prefix (kept ++ tail) from f) ∙ take_at kept tail (to - from) (sym n)
 
 kept_same : (old new hd hd' mid rest rest' : List ℕ) (from to : ℕ) → old ≡ hd ++ (mid ++ rest) →
     new ≡ hd' ++ (mid ++ rest') → length hd ≡ from → length hd' ≡ from

@@ -19,7 +19,7 @@ use Rattle.bw_model.proofs.BookLemmas.{unknown_log}
 none_some : {X : Type 0} {x : X} → None ≡ Some x → ⊥
 none_some e = cc
 
--- places of a front
+-- places of a prefix
 pub at-take : {X : Type 0} (d n : ℕ) (s : List (Option X)) → n < d → at (take d s) n ≡ at s n
 at-take zero n s h = absurd (omega arith)
 at-take (suc d) n [] h = refl

@@ -9,24 +9,24 @@ use Rattle.std.proofs.lemmas.List.{length-take-le}
 use Rattle.bw_model.specs.Bytes.{le32, u32_at}
 use Rattle.bw_model.proofs.ByteNumbers.{wide32, number_at-written}
 use Rattle.bw_model.proofs.BookLemmas.{name_refl}
-use Rattle.bw_journal.specs.JournalHeaders.{Header, flag, flag_of, magic, header_content, header_bytes, header_len}
+use Rattle.bw_journal.specs.JournalHeaders.{Header, existed_flag, flag_of, magic, header_content, header_bytes, header_len}
 use Rattle.bw_journal.specs.JournalHeaders.{header_with, header_in, first_header, is_torn, is_torn_header}
 use Rattle.bw_journal.specs.Noted.{IsHeader, HeadersReadBack, CutHeadersAreNotBegun}
-use Rattle.bw_journal.specs.Replays.{NotBegun, NotAJournal, replay, replayed_behind}
+use Rattle.bw_journal.specs.Replays.{NotBegun, NotAJournal, replay, replayed_after}
 use Rattle.bw_journal.proofs.Lengths.{length-header_bytes}
 use Rattle.bw_journal.proofs.SealLaws.{opened-sealed, opened-cut}
 
-flag_again : (limit : ℕ) (stood : Bool) →
-    header_with limit (flag_of (flag stood)) ≡ Some (record { limit = limit; stood = stood })
+flag_again : (limit : ℕ) (existed : Bool) →
+    header_with limit (flag_of (existed_flag existed)) ≡ Some (record { limit = limit; existed = existed })
 flag_again limit true = refl
 flag_again limit false = refl
 
 header_again : (h : Header) → IsHeader h → header_in (header_content h) ≡ Some h
 unfolding header_in header_content
 header_again h small =
-    let number : u32_at (magic ++ (le32 h.limit ++ flag h.stood ∷ [])) 4 ≡ h.limit =
-    number_at-written w32 (2 ^ 32) wide32 h.limit (flag h.stood ∷ []) small in
-    ap (λ (n : ℕ). header_with n (flag_of (flag h.stood))) number ∙ flag_again h.limit h.stood
+    let number : u32_at (magic ++ (le32 h.limit ++ existed_flag h.existed ∷ [])) 4 ≡ h.limit =
+    number_at-written w32 (2 ^ 32) wide32 h.limit (existed_flag h.existed ∷ []) small in
+    ap (λ (n : ℕ). header_with n (flag_of (existed_flag h.existed))) number ∙ flag_again h.limit h.existed
 
 content_short : (h : Header) → length (header_content h) < 2 ^ 16
 unfolding header_content
@@ -37,9 +37,9 @@ unfolding first_header
 headers_read_back h more small =
     ap (option_and_then header_in) (opened-sealed (header_content h) more (content_short h)) ∙ header_again h small
 
--- a front of bytes is torn from them
-front_torn : (whole : List ℕ) (count : ℕ) → count < length whole → is_torn (take count whole) whole ≡ true
-front_torn whole count short =
+-- a prefix of bytes is torn from them
+prefix_torn : (whole : List ℕ) (count : ℕ) → count < length whole → is_torn (take count whole) whole ≡ true
+prefix_torn whole count short =
     let long : length (take count whole) ≡ count = length-take-le count whole (omega arith) in
     ap (λ (n : ℕ). nat_lt n (length whole) && bytes_eq (take count whole) (take n whole)) long
     ∙ and_from (nat_lt count (length whole)) (bytes_eq (take count whole) (take count whole))
@@ -49,12 +49,12 @@ or_right : (v : Bool) → v || true ≡ true
 or_right true = refl
 or_right false = refl
 
-torn_header : (limit : ℕ) (stood : Bool) (bytes : List ℕ) →
-    is_torn bytes (header_bytes (record { limit = limit; stood = stood })) ≡ true → is_torn_header limit bytes ≡ true
+torn_header : (limit : ℕ) (existed : Bool) (bytes : List ℕ) →
+    is_torn bytes (header_bytes (record { limit = limit; existed = existed })) ≡ true → is_torn_header limit bytes ≡ true
 torn_header limit false bytes torn =
-    ap (λ (v : Bool). v || is_torn bytes (header_bytes (record { limit = limit; stood = true }))) torn
+    ap (λ (v : Bool). v || is_torn bytes (header_bytes (record { limit = limit; existed = true }))) torn
 torn_header limit true bytes torn =
-    ap (λ (v : Bool). is_torn bytes (header_bytes (record { limit = limit; stood = false })) || v) torn ∙ or_right _
+    ap (λ (v : Bool). is_torn bytes (header_bytes (record { limit = limit; existed = false })) || v) torn ∙ or_right _
 
 pub cut_headers_are_not_begun : CutHeadersAreNotBegun
 unfolding replay first_header
@@ -64,6 +64,6 @@ cut_headers_are_not_begun h count small short =
     let none : first_header bytes ≡ None =
     ap (option_and_then header_in) (opened-cut (header_content h) count (content_short h) (omega (arith, long, short)))
     in
-    ap (replayed_behind h.limit bytes) none
+    ap (replayed_after h.limit bytes) none
     ∙ ap (λ (v : Bool). cond v (Err NotBegun) (Err NotAJournal))
-    (torn_header h.limit h.stood bytes (front_torn (header_bytes h) count (omega (arith, long, short))))
+    (torn_header h.limit h.existed bytes (prefix_torn (header_bytes h) count (omega (arith, long, short))))

@@ -12,7 +12,7 @@ use Rattle.bw_model.proofs.ByteNumbers.{are_bytes-parts, wide32, written-number_
 use Rattle.bw_model.proofs.BookLemmas.{same_name}
 use Rattle.bw_model.proofs.Elements.{some_inj}
 use Rattle.bw_journal.specs.Seals.{sealed, opened}
-use Rattle.bw_journal.specs.JournalHeaders.{Header, flag, flag_of, magic, header_content, header_bytes, header_len}
+use Rattle.bw_journal.specs.JournalHeaders.{Header, existed_flag, flag_of, magic, header_content, header_bytes, header_len}
 use Rattle.bw_journal.specs.JournalHeaders.{header_with, header_in, first_header}
 use Rattle.bw_journal.specs.Noted.{ReadHeadersStand}
 use Rattle.bw_journal.proofs.SpeltLaws.{opened_stands}
@@ -20,22 +20,22 @@ use Rattle.bw_journal.proofs.SpeltLaws.{opened_stands}
 none_some : {X : Type 0} {x : X} → None ≡ Some x → ⊥
 none_some e = cc
 
-flag_stands : (n : ℕ) (stood : Bool) → flag_of n ≡ Some stood → flag stood ≡ n
-flag_stands n stood e = go (n == 0) refl (n == 1) refl e
+flag_stands : (n : ℕ) (existed : Bool) → flag_of n ≡ Some existed → existed_flag existed ≡ n
+flag_stands n existed e = go (n == 0) refl (n == 1) refl e
   where
     go : (a : Bool) → (n == 0) ≡ a → (b : Bool) → (n == 1) ≡ b →
-        cond a (Some false) (cond b (Some true) None) ≡ Some stood → flag stood ≡ n
-    go true t b u e = ap flag (sym (some_inj e)) ∙ sym (eqb-true n 0 t)
-    go false t true u e = ap flag (sym (some_inj e)) ∙ sym (eqb-true n 1 u)
+        cond a (Some false) (cond b (Some true) None) ≡ Some existed → existed_flag existed ≡ n
+    go true t b u e = ap existed_flag (sym (some_inj e)) ∙ sym (eqb-true n 0 t)
+    go false t true u e = ap existed_flag (sym (some_inj e)) ∙ sym (eqb-true n 1 u)
     go false t false u e = absurd (none_some e)
 
 with_parts : (limit : ℕ) (o : Option Bool) (h : Header) → header_with limit o ≡ Some h →
-    (h.limit ≡ limit) × (o ≡ Some h.stood)
+    (h.limit ≡ limit) × (o ≡ Some h.existed)
 with_parts limit None h e = absurd (none_some e)
-with_parts limit (Some stood) h e =
-    (sym (ap (λ (x : Header). x.limit) (some_inj e)), ap (λ (x : Header). Some x.stood) (some_inj e))
+with_parts limit (Some existed) h e =
+    (sym (ap (λ (x : Header). x.limit) (some_inj e)), ap (λ (x : Header). Some x.existed) (some_inj e))
 
--- behind all but one of its bytes stands the last
+-- after all but one of its bytes stands the last
 last_left : (n : ℕ) (xs : List ℕ) → length xs ≡ suc n → drop n xs ≡ slice_index xs n ∷ []
 last_left zero [] e = absurd (omega (arith, e))
 last_left zero (x ∷ []) e = refl
@@ -51,7 +51,7 @@ content_stands c h fits e = go ((length c == 9) && bytes_eq (take 4 c) magic) re
   where
     go : (v : Bool) → ((length c == 9) && bytes_eq (take 4 c) magic) ≡ v →
         cond v (header_with (u32_at c 4) (flag_of (slice_index c 8))) None ≡ Some h →
-        (length c ≡ 9) × (magic ++ (le32 h.limit ++ flag h.stood ∷ []) ≡ c)
+        (length c ≡ 9) × (magic ++ (le32 h.limit ++ existed_flag h.existed ∷ []) ≡ c)
     go false t e = absurd (none_some e)
     go true t e =
         let tests = and_parts (length c == 9) (bytes_eq (take 4 c) magic) t in
@@ -62,7 +62,7 @@ content_stands c h fits e = go ((length c == 9) && bytes_eq (take 4 c) magic) re
         (written-number_at w32 (2 ^ 32) wide32 (drop 4 c) 0 (are_bytes-parts 4 c fits).1 (omega (arith, nine, left))).0
         in (
           nine,
-          ap (λ (n : ℕ). magic ++ (le32 n ++ flag h.stood ∷ [])) w.0
+          ap (λ (n : ℕ). magic ++ (le32 n ++ existed_flag h.existed ∷ [])) w.0
               ∙ ap (λ (b : ℕ). magic ++ (le32 (u32_at c 4) ++ b ∷ [])) (flag_stands _ _ w.1)
               ∙ ap (λ (x : List ℕ). magic ++ (le32 (u32_at c 4) ++ x)) (sym (drop-drop 4 4 c ∙ last_left 8 c nine))
               ∙ ap (λ (x : List ℕ). magic ++ x) number

@@ -6,7 +6,7 @@ pub mod HeaderReads
 pub mod SpeltLaws
 pub mod HeaderStands
 pub mod BareLaws
-pub mod TellLaws
+pub mod ReportLaws
 pub mod CutLaws
 pub mod Taken
 pub mod RecoveryLaws

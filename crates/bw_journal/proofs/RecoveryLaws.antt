@@ -16,11 +16,11 @@ use Rattle.bw_model.specs.Book.{Log, log_of, is_known, made, verdict_at}
 use Rattle.bw_model.specs.Holds.{Kept, body_of, finished_from, HasFile, HoldsName}
 use Rattle.bw_journal.specs.Noted.{AdmitsDone, fits}
 use Rattle.bw_journal.specs.Stops.{cut_log, cut_book}
-use Rattle.bw_journal.specs.Recovery.{IsOnTheWay, HeldFilesSurvive, kept_by, kept_after, RecoveryHolds}
+use Rattle.bw_journal.specs.Recovery.{IsOnTheWay, HeldFilesSurvive, kept_after_stop, kept_after, RecoveryHolds}
 use Rattle.bw_journal.specs.Recovery.{ClosedFilesAreWhole}
 use Rattle.bw_model.proofs.BookLemmas.{unknown_log}
 use Rattle.bw_journal.proofs.CutLaws.{made-cut, verdict-cut, books_are_cut, cut_books_are_books}
-use Rattle.bw_journal.proofs.Taken.{taken-made, taken_told}
+use Rattle.bw_journal.proofs.Taken.{taken-made, taken_reported}
 
 false_true : false ≡ true → ⊥
 false_true h = cc
@@ -55,25 +55,25 @@ held_files_survive limit store kept_of book holds honest name none = go (known_o
         )
 
 -- as many outcomes as requests
-finished-length : (stood : Bool) (s : List (Option Request)) (name : List ℕ) (n : ℕ) (rest : List (Option Request)) →
+finished-length : (existed : Bool) (s : List (Option Request)) (name : List ℕ) (n : ℕ) (rest : List (Option Request)) →
     list_all fits rest ≡ true
-    → length (finished_from stood s name n rest) ≡ length rest
-finished-length stood s name n [] h = refl
-finished-length stood s name n (None ∷ rest) h = absurd cc
-finished-length stood s name n (Some r ∷ rest) h =
-    ap suc (finished-length stood s name (suc n) rest (and_parts (is_request r) (list_all fits rest) h).1)
+    → length (finished_from existed s name n rest) ≡ length rest
+finished-length existed s name n [] h = refl
+finished-length existed s name n (None ∷ rest) h = absurd cc
+finished-length existed s name n (Some r ∷ rest) h =
+    ap suc (finished-length existed s name (suc n) rest (and_parts (is_request r) (list_all fits rest) h).1)
 
 -- outcomes of the done numbers are those of the log that is cut
-finished-cut : (stood : Bool) (s : List (Option Request)) (name : List ℕ) (d n : ℕ) (rest : List (Option Request)) →
+finished-cut : (existed : Bool) (s : List (Option Request)) (name : List ℕ) (d n : ℕ) (rest : List (Option Request)) →
     n + length rest ≤ d
-    → finished_from stood s name n rest ≡ finished_from stood (take d s) name n rest
-finished-cut stood s name d n [] h = refl
-finished-cut stood s name d n (None ∷ rest) h = refl
-finished-cut stood s name d n (Some r ∷ rest) h =
-    ap (λ (v : Verdict). (sha256 (body_of name n r), v) ∷ finished_from stood s name (suc n) rest)
-    (sym (verdict-cut stood s d n (omega arith)))
-    ∙ ap (λ (rows : List (List ℕ × Verdict)). (sha256 (body_of name n r), verdict_at stood (take d s) n) ∷ rows)
-    (finished-cut stood s name d (suc n) rest (omega arith))
+    → finished_from existed s name n rest ≡ finished_from existed (take d s) name n rest
+finished-cut existed s name d n [] h = refl
+finished-cut existed s name d n (None ∷ rest) h = refl
+finished-cut existed s name d n (Some r ∷ rest) h =
+    ap (λ (v : Verdict). (sha256 (body_of name n r), v) ∷ finished_from existed s name (suc n) rest)
+    (sym (verdict-cut existed s d n (omega arith)))
+    ∙ ap (λ (rows : List (List ℕ × Verdict)). (sha256 (body_of name n r), verdict_at existed (take d s) n) ∷ rows)
+    (finished-cut existed s name d (suc n) rest (omega arith))
 
 at-past : {X : Type 0} (d i : ℕ) (s : List (Option X)) → at (take d s) (d + i) ≡ None
 at-past zero i s = refl
@@ -81,20 +81,20 @@ at-past (suc d) i [] = refl
 at-past (suc d) i (y ∷ ys) =
     let e : suc d + i ≡ suc (d + i) = omega arith in ap (at (take (suc d) (y ∷ ys))) e ∙ at-past d i ys
 
-holds_name : (stood : Bool) (name : List ℕ) (log : Log) (found : Option (List ℕ)) → AdmitsDone log →
-    HoldsName stood name (cut_log log) (kept_by stood name log found)
-holds_name stood name log found whole = record {
-  done = finished-length stood log.admitted name 0 (take log.done log.admitted) whole.each ∙ whole.long;
+holds_name : (existed : Bool) (name : List ℕ) (log : Log) (found : Option (List ℕ)) → AdmitsDone log →
+    HoldsName existed name (cut_log log) (kept_after_stop existed name log found)
+holds_name existed name log found whole = record {
+  done = finished-length existed log.admitted name 0 (take log.done log.admitted) whole.each ∙ whole.long;
   finished =
-      finished-cut stood log.admitted name log.done 0 (take log.done log.admitted) (let l = whole.long in
+      finished-cut existed log.admitted name log.done 0 (take log.done log.admitted) (let l = whole.long in
       omega (arith, l))
-      ∙ ap (finished_from stood (take log.done log.admitted) name 0)
+      ∙ ap (finished_from existed (take log.done log.admitted) name 0)
       (sym (take-take log.done log.done log.admitted (omega arith)));
   held = λ i. sym (ap (option_map (body_of name (log.done + i))) (at-past log.done i log.admitted));
-  state = ap (λ (t : Take). record (parts t) { taken = (parts (made stood log.admitted log.done)).taken })
-      (sym (made-cut stood log.admitted log.done log.done (omega arith)));
-  taken = λ h. subst (λ (v : Bool). IsTrue v) (taken-made stood log.admitted log.done) h;
-  told = λ n below e. taken-made stood log.admitted log.done ∙ taken_told stood (take log.done log.admitted) n e;
+  state = ap (λ (t : Take). record (parts t) { taken = (parts (made existed log.admitted log.done)).taken })
+      (sym (made-cut existed log.admitted log.done log.done (omega arith)));
+  taken = λ h. subst (λ (v : Bool). IsTrue v) (taken-made existed log.admitted log.done) h;
+  reported = λ n below e. taken-made existed log.admitted log.done ∙ taken_reported existed (take log.done log.admitted) n e;
 }
 
 pub recovery_holds : RecoveryHolds
@@ -109,8 +109,8 @@ recovery_holds limit first contents honest book is wholes repaired =
           (holds_name (is_some (first name)) name (log_of book name) (contents name) (wholes name)));
       others = λ h name which. left name (first name) refl which;
       theirs =
-          λ h name kept e stood. ap (λ (k : Kept). k.has_made) (sym (picked name kept e))
-          ∙ ap (λ (v : Bool). not v && is_some (contents name)) (is_there (first name) stood);
+          λ h name kept e existed. ap (λ (k : Kept). k.has_made) (sym (picked name kept e))
+          ∙ ap (λ (v : Bool). not v && is_some (contents name)) (is_there (first name) existed);
       files = λ h name kept e none.
           let t : made false (log_of (cut_book book) name).admitted (log_of (cut_book book) name).done ≡ made false
           (log_of book name).admitted (log_of book name).done =
@@ -136,7 +136,7 @@ recovery_holds limit first contents honest book is wholes repaired =
     one false k kept e = absurd cc
 
     picked : (name : List ℕ) (kept : Kept) → kept_after first contents book name ≡ Some kept →
-        kept_by (is_some (first name)) name (log_of book name) (contents name) ≡ kept
+        kept_after_stop (is_some (first name)) name (log_of book name) (contents name) ≡ kept
     picked name kept e = one (nat_lt 0 (log_of book name).done) _ kept e
 
     is_there : (o : Option (List ℕ)) → IsSome o → is_some o ≡ true
@@ -145,7 +145,7 @@ recovery_holds limit first contents honest book is wholes repaired =
 
     left : (name : List ℕ) (o : Option (List ℕ)) → first name ≡ o →
         IsSome (first name) ⊎ (is_known (cut_book book) name ≡ false) → contents name ≡ first name
-    left name (Some x) e which = repaired.stood name (subst (λ (o : Option (List ℕ)). IsSome o) (sym e) refl)
+    left name (Some x) e which = repaired.existed name (subst (λ (o : Option (List ℕ)). IsSome o) (sym e) refl)
     left name None e (inl h) = absurd (false_true (subst (λ (o : Option (List ℕ)). IsSome o) e h))
     left name None e (inr unknown) =
         let none_done : (log_of book name).done ≡ 0 =

@@ -7,21 +7,21 @@ use Rattle.std.proofs.lemmas.Bool.{eq-eqb}
 use Rattle.bw_model.specs.Bytes.{unless}
 use Rattle.bw_journal.specs.JournalHeaders.{Header, header_len, first_header}
 use Rattle.bw_journal.specs.Replays.{Story, JournalFault, OtherLimit, OtherVerdict, with_entry, is_judged, replayed}
-use Rattle.bw_journal.specs.Replays.{replayed_entries, tail_fault, told_with_tail, replayed_behind, replay}
+use Rattle.bw_journal.specs.Replays.{replayed_entries, tail_fault, reported_with_tail, replayed_after, replay}
 
--- nothing is told yet
-pub begins : (k used : ℕ) (stood : Bool) (bytes : List ℕ) (p : Parts) (table : List ℕ) → k ≡ length bytes →
-    used ≡ header_len → p ≡ parts (new_take stood) → table ≡ [] →
-    replayed k bytes (record { parts = p; table = table; used = used }) ≡ replayed_entries stood bytes
+-- nothing is reported yet
+pub begins : (k used : ℕ) (existed : Bool) (bytes : List ℕ) (p : Parts) (table : List ℕ) → k ≡ length bytes →
+    used ≡ header_len → p ≡ parts (new_take existed) → table ≡ [] →
+    replayed k bytes (record { parts = p; table = table; used = used }) ≡ replayed_entries existed bytes
 unfolding replayed_entries
-begins k used stood bytes p table e front is empty =
+begins k used existed bytes p table e prefix is empty =
     ap (λ (n : ℕ). replayed n bytes (record { parts = p; table = table; used = used })) e
-    ∙ ap (λ (n : ℕ). replayed (length bytes) bytes (record { parts = p; table = table; used = n })) front
+    ∙ ap (λ (n : ℕ). replayed (length bytes) bytes (record { parts = p; table = table; used = n })) prefix
     ∙ ap (λ (q : Parts). replayed (length bytes) bytes (record { parts = q; table = table; used = header_len })) is
     ∙ ap (λ (t : List ℕ). replayed (length bytes) bytes
-    (record { parts = parts (new_take stood); table = t; used = header_len })) empty
+    (record { parts = parts (new_take existed); table = t; used = header_len })) empty
 
--- what is told by these parts and this table
+-- what is reported by these parts and this table
 pub same_story : (m : ℕ) (bytes : List ℕ) (s : Story) (x : JournalEntry × ℕ) (p : Parts) (table : List ℕ)
     → p ≡ (with_entry s x).parts → table ≡ (with_entry s x).table
     → replayed m bytes (record { parts = p; table = table; used = s.used + x.1 }) ≡ replayed m bytes (with_entry s x)
@@ -30,7 +30,7 @@ same_story m bytes s x p table is rows =
     ∙ ap (λ (t : List ℕ). replayed m bytes (record { parts = (with_entry s x).parts; table = t; used = s.used + x.1 }))
     rows
 
--- one more entry is told
+-- one more entry is reported
 pub goes_on : (k m : ℕ) (bytes : List ℕ) (s : Story) (x : JournalEntry × ℕ) → k ≡ suc m →
     first_entry (drop s.used bytes) ≡ Some x → is_judged s.parts x.0 ≡ true
     → replayed k bytes s ≡ replayed m bytes (with_entry s x)
@@ -47,19 +47,19 @@ pub differs : (k m : ℕ) (bytes : List ℕ) (s : Story) (x : JournalEntry × �
     → replayed k bytes s ≡ Err OtherVerdict
 differs k m bytes s x e found judged = ap (λ (n : ℕ). replayed n bytes s) e ∙ rw (found, replayed) (rw judged refl)
 
--- all is told
+-- all is reported
 pub ends : (k : ℕ) (bytes : List ℕ) (s : Story) → k ≡ 0 → replayed k bytes s ≡ Ok s
 ends k bytes s e = ap (λ (n : ℕ). replayed n bytes s) e
 
--- what follows the entries isn't a front of one
+-- what follows the entries isn't a prefix of one
 pub refused_tail : (limit : ℕ) (bytes : List ℕ) (h : Header) (s : Story) (f : JournalFault) →
     Some h ≡ first_header bytes →
-    h.limit ≡ limit → replayed_entries h.stood bytes ≡ Ok s → tail_fault (drop s.used bytes) ≡ Some f →
+    h.limit ≡ limit → replayed_entries h.existed bytes ≡ Ok s → tail_fault (drop s.used bytes) ≡ Some f →
     replay limit bytes ≡ Err f
 unfolding replay
-refused_tail limit bytes h s f found is told wrong =
-    ap (replayed_behind limit bytes) (sym found)
-    ∙ ap (λ (v : Bool). cond v (told_with_tail bytes (replayed_entries h.stood bytes)) (Err OtherLimit))
+refused_tail limit bytes h s f found is reported wrong =
+    ap (replayed_after limit bytes) (sym found)
+    ∙ ap (λ (v : Bool). cond v (reported_with_tail bytes (replayed_entries h.existed bytes)) (Err OtherLimit))
     (eq-eqb h.limit limit is)
-    ∙ ap (told_with_tail bytes) told
+    ∙ ap (reported_with_tail bytes) reported
     ∙ ap (λ (o : Option JournalFault). unless o s) wrong

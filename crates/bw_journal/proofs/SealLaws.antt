@@ -46,7 +46,7 @@ payload_short (SetField tag value) h =
     omega arith
 payload_short (Close total) h = omega arith
 
--- what stands at the front of sealed bytes
+-- what stands at the start of sealed bytes
 pub sealed_parts : (c more : List ℕ) → length c < 2 ^ 16
     → (u16_at (sealed c ++ more) 0 ≡ length c) × (drop 2 (sealed c ++ more) ≡ (c ++ check c) ++ more)
 unfolding sealed
@@ -59,20 +59,20 @@ opened-sealed c more short =
     let len : length b ≡ 10 + length c + length more =
     length-append (sealed c) more ∙ ap (λ (n : ℕ). n + length more) (sealed-length c) in
     let apart : (c ++ check c) ++ more ≡ c ++ (check c ++ more) = append_assoc c (check c) more in
-    let behind : drop (2 + length c) b ≡ check c ++ more =
+    let following : drop (2 + length c) b ≡ check c ++ more =
     sym (drop-drop (length c) 2 b) ∙ ap (drop (length c)) (parts.1 ∙ apart)
     ∙ drop_at c (check c ++ more) (length c) refl in
-    let front : take (length c) (drop 2 b) ≡ c =
+    let prefix : take (length c) (drop 2 b) ≡ c =
     ap (take (length c)) (parts.1 ∙ apart) ∙ take_at c (check c ++ more) (length c) refl in
     let good : bytes_eq (take 8 (drop (2 + length c) b)) (check (take (length c) (drop 2 b))) ≡ true =
-    ap (λ (x : List ℕ). bytes_eq (take 8 x) (check (take (length c) (drop 2 b)))) behind
+    ap (λ (x : List ℕ). bytes_eq (take 8 x) (check (take (length c) (drop 2 b)))) following
     ∙ ap (λ (x : List ℕ). bytes_eq x (check (take (length c) (drop 2 b)))) (take_at (check c) more 8 (check-length c))
-    ∙ ap (λ (x : List ℕ). bytes_eq (check c) (check x)) front
+    ∙ ap (λ (x : List ℕ). bytes_eq (check c) (check x)) prefix
     ∙ name_refl (check c) in
     sym (opened_reads b (length c) (length c) 8 (sym parts.0) (omega arith) (omega arith) refl refl good)
-    ∙ ap Some front
+    ∙ ap Some prefix
 
--- a front of sealed bytes isn't opened
+-- a prefix of sealed bytes isn't opened
 short_none : (b : List ℕ) → length b < 2 → opened b ≡ None
 unfolding opened
 short_none b h = rw (lt-ltb (length b) 2 h) refl
@@ -81,13 +81,13 @@ cut_none : (b : List ℕ) → 2 ≤ length b → length b < 10 + u16_at b 0 → 
 unfolding opened
 cut_none b long h = rw (le-ltb (length b) 2 long, lt-ltb (length b) (10 + u16_at b 0) h) refl
 
--- the number at the front is that of a longer front
-front_number : (k : ℕ) (b : List ℕ) → 2 ≤ k → u16_at (take k b) 0 ≡ u16_at b 0
-front_number zero b h = absurd (omega arith)
-front_number (suc zero) b h = absurd (omega arith)
-front_number (suc (suc k)) [] h = refl
-front_number (suc (suc k)) (x ∷ []) h = refl
-front_number (suc (suc k)) (x ∷ y ∷ b) h = refl
+-- the number at the start is that of a longer front
+prefix_number : (k : ℕ) (b : List ℕ) → 2 ≤ k → u16_at (take k b) 0 ≡ u16_at b 0
+prefix_number zero b h = absurd (omega arith)
+prefix_number (suc zero) b h = absurd (omega arith)
+prefix_number (suc (suc k)) [] h = refl
+prefix_number (suc (suc k)) (x ∷ []) h = refl
+prefix_number (suc (suc k)) (x ∷ y ∷ b) h = refl
 
 number_of_sealed : (c : List ℕ) → length c < 2 ^ 16 → u16_at (sealed c) 0 ≡ length c
 unfolding sealed
@@ -105,7 +105,7 @@ opened-cut c k short cut =
     go (inr more) =
         let len : length (take k (sealed c)) ≡ k = length-take-le k (sealed c) (omega arith) in
         let number : u16_at (take k (sealed c)) 0 ≡ length c =
-        front_number k (sealed c) more ∙ number_of_sealed c short in
+        prefix_number k (sealed c) more ∙ number_of_sealed c short in
         cut_none (take k (sealed c)) (omega arith) (omega (arith, sealed-length c, number, len))
 
 -- contents
@@ -180,7 +180,7 @@ entries_read_back e more h =
 pub cut_entries_are_none : CutEntriesAreNone
 unfolding first_entry
 cut_entries_are_none tail h =
-    ap (λ (b : List ℕ). option_and_then entry_with_len (opened b)) h.front
+    ap (λ (b : List ℕ). option_and_then entry_with_len (opened b)) h.prefix
     ∙ ap (option_and_then entry_with_len)
     (opened-cut (content h.entry) h.count (content-length h.entry h.notable).1 h.short)
 

@@ -36,7 +36,7 @@ chain false true c x y e = absurd (none_some e)
 chain false false true x y e = (refl, refl, refl, some_inj e)
 chain false false false x y e = absurd (none_some e)
 
--- what was opened stands sealed at the front
+-- what was opened stands sealed at the start
 pub opened_stands : (bytes c : List ℕ) → are_bytes bytes ≡ true → opened bytes ≡ Some c →
     (take (10 + length c) bytes ≡ sealed c) × (c ≡ take (u16_at bytes 0) (drop 2 bytes))
 unfolding opened sealed
@@ -52,9 +52,9 @@ opened_stands bytes c fits e =
     let number : le16 n ++ d ≡ bytes = (written-number_at w16 (2 ^ 16) wide16 bytes 0 fits long).0 in
     let chk = take 8 (drop (2 + n) bytes) in
     let rest = drop 8 (drop n d) in
-    let behind : drop (2 + n) bytes ≡ drop n d = sym (drop-drop n 2 bytes) in
+    let following : drop (2 + n) bytes ≡ drop n d = sym (drop-drop n 2 bytes) in
     let good : take 8 (drop n d) ≡ check c =
-    ap (take 8) (sym behind) ∙ same_name chk (check (take n d)) t.2 ∙ ap check t.3 in
+    ap (take 8) (sym following) ∙ same_name chk (check (take n d)) t.2 ∙ ap check t.3 in
     let parted : bytes ≡ (le16 (length c) ++ c ++ check c) ++ rest =
     sym number
     ∙ ap (λ (k : ℕ). le16 k ++ d) (sym c_len)

@@ -1,4 +1,4 @@
--- Worlds go on behind stops of their servers.
+-- Worlds go on after stops of their servers.
 use Rattle.std.proofs.Common.{◌≡◌, ℕ, ◌<◌, Bool, List, [], ◌∷◌, Some, refl, sym, ◌∙◌, subst}
 use Rattle.bw_model.specs.Bytes.{at}
 use Rattle.bw_model.specs.Take.{Request, Verdict}
@@ -27,36 +27,36 @@ true_cut taken name log r h = record {
 }
 
 -- the sender's part of a world stays true where the log is cut
-cut_kept : (stood : List ℕ → Bool) (w : World) → IsKept stood w → IsKept stood (record w { book = cut_book w.book })
-cut_kept stood w k =
+cut_kept : (existed : List ℕ → Bool) (w : World) → IsKept existed w → IsKept existed (record w { book = cut_book w.book })
+cut_kept existed w k =
     let name = w.sender.name in
     let log = log_of w.book name in
     let same : cut_log log ≡ log_of (cut_book w.book) name = sym (logs_cut w.book name) in
     record {
       sound = subst (IsSound w.sender.offered) same (sound_cut w.sender.offered log k.sound);
       were = subst (λ (l : Log). Each (WasOffered name w.sender.offered l.done) w.sent) same k.were;
-      told = subst (λ (l : Log). Each (IsTrueReply (stood name) name l) w.replies) same
-          (each-map (IsTrueReply (stood name) name log) (IsTrueReply (stood name) name (cut_log log)) w.replies
-          (true_cut (stood name) name log) k.told);
+      reported = subst (λ (l : Log). Each (IsTrueReply (existed name) name l) w.replies) same
+          (each-map (IsTrueReply (existed name) name log) (IsTrueReply (existed name) name (cut_log log)) w.replies
+          (true_cut (existed name) name log) k.reported);
       known = subst (λ (l : Log). (n : ℕ) (v : Verdict) → at w.sender.verdicts n ≡ Some v →
-          (n < l.done) × (v ≡ verdict_at (stood name) l.admitted n)) same
-          (λ n v e. let x = k.known n v e in (x.0, x.1 ∙ sym (verdict-cut (stood name) log.admitted log.done n x.0)));
+          (n < l.done) × (v ≡ verdict_at (existed name) l.admitted n)) same
+          (λ n v e. let x = k.known n v e in (x.0, x.1 ∙ sym (verdict-cut (existed name) log.admitted log.done n x.0)));
       near = k.near;
     }
 
-steps_true : (stood : List ℕ → Bool) (w : World) (steps : List Step) → IsKept stood w →
-    IsKept stood (after_steps stood w steps)
-steps_true stood w [] k = k
-steps_true stood w (Happens e luck ∷ ss) k =
-    steps_true stood (after_step stood w (Happens e luck)) ss (event_true stood w e luck k)
-steps_true stood w (Stops ∷ ss) k = steps_true stood (record w { book = cut_book w.book }) ss (cut_kept stood w k)
+steps_true : (existed : List ℕ → Bool) (w : World) (steps : List Step) → IsKept existed w →
+    IsKept existed (after_steps existed w steps)
+steps_true existed w [] k = k
+steps_true existed w (Happens e faults ∷ ss) k =
+    steps_true existed (after_step existed w (Happens e faults)) ss (event_true existed w e faults k)
+steps_true existed w (Stops ∷ ss) k = steps_true existed (record w { book = cut_book w.book }) ss (cut_kept existed w k)
 
 pub each_world_goes_on : EachWorldGoesOn
-each_world_goes_on stood name steps =
-    let w = after_steps stood (new_world name) steps in
-    let k = steps_true stood (new_world name) steps (start stood name) in (
-      faithful stood w k,
+each_world_goes_on existed name steps =
+    let w = after_steps existed (new_world name) steps in
+    let k = steps_true existed (new_world name) steps (start existed name) in (
+      faithful existed w k,
       λ i n v e.
-          (each-get (IsTrueReply (stood w.sender.name) w.sender.name (log_of w.book w.sender.name)) w.replies i
-          (Judged w.sender.name n v) k.told e).judged n v refl,
+          (each-get (IsTrueReply (existed w.sender.name) w.sender.name (log_of w.book w.sender.name)) w.replies i
+          (Judged w.sender.name n v) k.reported e).judged n v refl,
     )

@@ -27,9 +27,9 @@ taken-fold t [] = refl
 taken-fold t (None ∷ s) = taken-fold t s
 taken-fold t (Some r ∷ s) = taken-fold (after t r) s ∙ taken-after t r
 
-pub taken-made : (stood : Bool) (s : List (Option Request)) (n : ℕ) → (parts (made stood s n)).taken ≡ stood
+pub taken-made : (existed : Bool) (s : List (Option Request)) (n : ℕ) → (parts (made existed s n)).taken ≡ existed
 unfolding made
-taken-made stood s n = taken-fold (new_take stood) (take n s)
+taken-made existed s n = taken-fold (new_take existed) (take n s)
 
 -- the verdict NameTaken, as a test
 abbrev is_name_taken : Verdict → Bool
@@ -72,7 +72,7 @@ untaken_by t (Some r) e = untaken (parts t) r e
 false_true : false ≡ true → ⊥
 false_true h = cc
 
-pub taken_told : (stood : Bool) (s : List (Option Request)) (n : ℕ) → verdict_at stood s n ≡ NameTaken → stood ≡ true
-taken_told true s n e = refl
-taken_told false s n e =
+pub taken_reported : (existed : Bool) (s : List (Option Request)) (n : ℕ) → verdict_at existed s n ≡ NameTaken → existed ≡ true
+taken_reported true s n e = refl
+taken_reported false s n e =
     absurd (false_true (sym (untaken_by (made false s n) (at s n) (taken-made false s n)) ∙ ap is_name_taken e))

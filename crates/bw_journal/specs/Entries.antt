@@ -17,7 +17,7 @@ bare (Mark id frame) = Mark id frame
 bare (SetField tag value) = SetField tag value
 bare (Close total) = Close total
 
--- what is noted of a request behind its kind: its payload, and of a block its length
+-- what is noted of a request after its kind: its payload, and of a block its length
 abbrev pub noted_payload : Request → List ℕ
 noted_payload (Block bytes) = le32 (length bytes)
 noted_payload (Open f history) = payload (Open f history)
@@ -86,7 +86,7 @@ entry_in bytes =
 abbrev pub entry_with_len : List ℕ → Option (JournalEntry × ℕ)
 entry_with_len bytes = option_map (λ e. (e, 10 + length bytes)) (entry_in bytes)
 
--- The entry at the front of these bytes, and how many it takes; none where the front is torn or
+-- The entry at the start of these bytes, and how many it takes; none where the front is torn or
 -- isn't one.
 unfoldable pub first_entry : List ℕ → Option (JournalEntry × ℕ)
 first_entry bytes = option_and_then entry_with_len (opened bytes)

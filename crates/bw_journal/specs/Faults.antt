@@ -15,11 +15,11 @@ fault_meaning faults.NotAnEntry = Some NotAnEntry
 fault_meaning faults.LongTail = Some LongTail
 fault_meaning faults.Memory = None
 
--- the number of a want of memory
+-- the number of a lack of memory
 abbrev pub memory_code : ℕ
 memory_code = 7
 
--- the number of a fault, or of a want of memory
+-- the number of a fault, or of a lack of memory
 abbrev pub code_by : Option JournalFault → ℕ
 code_by None = memory_code
 code_by (Some f) = fault_code f
@@ -30,4 +30,4 @@ replay_code e = code_by (fault_meaning e)
 
 -- unless memory was refused, this is the journal's fault
 abbrev pub IsJournalFault : ReplayFault → Result Story JournalFault → Type 0
-IsJournalFault e told = (f : JournalFault) → fault_meaning e ≡ Some f → told ≡ Err f
+IsJournalFault e reported = (f : JournalFault) → fault_meaning e ≡ Some f → reported ≡ Err f

@@ -10,20 +10,20 @@ use Rattle.bw_journal.specs.Seals.{sealed, opened}
 pub record Header : Type 0 where
   -- the largest form size of a RIFF file
   pub limit : ℕ
-  pub stood : Bool
+  pub existed : Bool
 
 -- one byte for a fact
-abbrev pub flag : Bool → ℕ
-flag true = 1
-flag false = 0
+abbrev pub existed_flag : Bool → ℕ
+existed_flag true = 1
+existed_flag false = 0
 
--- by which a journal is told from other files
+-- by which a journal is reported from other files
 abbrev pub magic : List ℕ
 magic = codes "BWJ1"
 
 -- a header's bytes between its length and its check
 unfoldable pub header_content : Header → List ℕ
-header_content h = magic ++ (le32 h.limit ++ flag h.stood ∷ [])
+header_content h = magic ++ (le32 h.limit ++ existed_flag h.existed ∷ [])
 
 -- a header's bytes
 abbrev pub header_bytes : Header → List ℕ
@@ -40,7 +40,7 @@ flag_of n = if n == 0 then Some false else if n == 1 then Some true else None
 -- the header with this limit, if its flag is one
 abbrev pub header_with : ℕ → Option Bool → Option Header
 header_with limit None = None
-header_with limit (Some stood) = Some (record { limit = limit; stood = stood })
+header_with limit (Some existed) = Some (record { limit = limit; existed = existed })
 
 -- the header with these bytes between its length and its check
 unfoldable pub header_in : List ℕ → Option Header
@@ -49,7 +49,7 @@ header_in bytes =
     then header_with (u32_at bytes 4) (flag_of (slice_index bytes 8))
     else None
 
--- the header at the front of these bytes, if one is there
+-- the header at the start of these bytes, if one is there
 unfoldable pub first_header : List ℕ → Option Header
 first_header bytes = option_and_then header_in (opened bytes)
 
@@ -66,5 +66,5 @@ has_limit limit (Some h) = h.limit == limit
 -- the beginning of a header of this limit, which isn't all of it
 abbrev pub is_torn_header : ℕ → List ℕ → Bool
 is_torn_header limit bytes =
-    is_torn bytes (header_bytes (record { limit = limit; stood = false }))
-    || is_torn bytes (header_bytes (record { limit = limit; stood = true }))
+    is_torn bytes (header_bytes (record { limit = limit; existed = false }))
+    || is_torn bytes (header_bytes (record { limit = limit; existed = true }))

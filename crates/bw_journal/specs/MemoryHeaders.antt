@@ -8,4 +8,4 @@ use Rattle.bw_journal.specs.declared.memory.MemoryJournal.{MemoryJournal}
 -- the server's limit, and whether a file of the name was said to stand
 abbrev pub header_for : MemoryJournal → List ℕ → Header
 header_for j name =
-    record { limit = j.limit; stood = list_any (λ x. bytes_eq x name) j.stood.items }
+    record { limit = j.limit; existed = list_any (λ x. bytes_eq x name) j.existed.items }

@@ -15,22 +15,22 @@ use Rattle.bw_journal.specs.Replays.{Story, NotBegun, replay}
 
 -- the entry of a done number
 abbrev pub done_entry : Bool → List (Option Request) → List ℕ → ℕ → Request → JournalEntry
-done_entry stood s name n r =
-    record { request = r; verdict = verdict_at stood s n; digest = sha256 (body_of name n r) }
+done_entry existed s name n r =
+    record { request = r; verdict = verdict_at existed s n; digest = sha256 (body_of name n r) }
 
 -- the entries of the numbers from n on
 abbrev pub entries_from : Bool → List (Option Request) → List ℕ → ℕ → List (Option Request) →
     List JournalEntry
-entries_from stood s name n [] = []
-entries_from stood s name n (None ∷ rest) = []
-entries_from stood s name n (Some r ∷ rest) =
-    done_entry stood s name n r ∷ entries_from stood s name (suc n) rest
+entries_from existed s name n [] = []
+entries_from existed s name n (None ∷ rest) = []
+entries_from existed s name n (Some r ∷ rest) =
+    done_entry existed s name n r ∷ entries_from existed s name (suc n) rest
 
 -- the journal of a name: its header, and an entry for each done number, in order
 abbrev pub journal_of : Header → List ℕ → Log → List ℕ
 journal_of h name log =
     header_bytes h
-    ++ sealed_entries (entries_from h.stood log.admitted name 0 (take log.done log.admitted))
+    ++ sealed_entries (entries_from h.existed log.admitted name 0 (take log.done log.admitted))
 
 -- what digests and verdicts are kept as: 33 bytes each
 abbrev pub packed : List (List ℕ × Verdict) → List ℕ
@@ -72,19 +72,19 @@ abbrev pub ReadHeadersStand : Type 0
 ReadHeadersStand = (bytes : List ℕ) (h : Header) → IsTrue (are_bytes bytes) →
     first_header bytes ≡ Some h → take header_len bytes ≡ header_bytes h
 
--- a front of an entry, which isn't all of it: what a stop leaves of the entry that was written
+-- a prefix of an entry, which isn't all of it: what a stop leaves of the entry that was written
 pub record IsCut (tail : List ℕ) : Type 0 where
   pub entry : JournalEntry
   pub notable : IsNotable entry
   pub count : ℕ
   pub short : count < length (sealed_entry entry)
-  pub front : tail ≡ take count (sealed_entry entry)
+  pub prefix : tail ≡ take count (sealed_entry entry)
 
 -- no entry is read from it
 abbrev pub CutEntriesAreNone : Type 0
 CutEntriesAreNone = (tail : List ℕ) → IsCut tail → first_entry tail ≡ None
 
--- a front of a header, which isn't all of it, tells that the journal is to be begun
+-- a prefix of a header, which isn't all of it, says that the journal is to be begun
 abbrev pub CutHeadersAreNotBegun : Type 0
 CutHeadersAreNotBegun = (h : Header) (count : ℕ) → IsHeader h → count < header_len →
     replay h.limit (take count (header_bytes h)) ≡ Err NotBegun
@@ -102,13 +102,13 @@ pub record AdmitsDone (log : Log) : Type 0 where
 -- what a server keeps of the done numbers of a name
 abbrev pub story_of_log : Header → List ℕ → Log → Story
 story_of_log h name log = record {
-  parts = parts (made h.stood log.admitted log.done);
-  table = packed (finished_from h.stood log.admitted name 0 (take log.done log.admitted));
+  parts = parts (made h.existed log.admitted log.done);
+  table = packed (finished_from h.existed log.admitted name 0 (take log.done log.admitted));
   used = length (journal_of h name log);
 }
 
--- A journal whose last entry may have been cut tells what the server kept of the done numbers.
-abbrev pub JournalsTellLogs : Type 0
-JournalsTellLogs = (h : Header) (name : List ℕ) (log : Log) (tail : List ℕ) →
+-- A journal whose last entry may have been cut says what the server kept of the done numbers.
+abbrev pub JournalsReportLogs : Type 0
+JournalsReportLogs = (h : Header) (name : List ℕ) (log : Log) (tail : List ℕ) →
     IsHeader h → AdmitsDone log → IsCut tail →
     replay h.limit (journal_of h name log ++ tail) ≡ Ok (story_of_log h name log)

@@ -4,11 +4,11 @@ use Rattle.std.specs.Prelude.{length, take, nat_le}
 use Rattle.std.specs.Str.{bytes_eq}
 use Rattle.bw_journal.specs.JournalHeaders.{Header, header_bytes}
 
--- nothing stands, or a front of these bytes
-abbrev pub IsFrontOf : List ℕ → Option (List ℕ) → Type 0
-IsFrontOf bytes found = (found ≡ None) ⊎ ((count : ℕ) × (found ≡ Some (take count bytes)))
+-- nothing stands, or a prefix of these bytes
+abbrev pub IsPrefixOf : List ℕ → Option (List ℕ) → Type 0
+IsPrefixOf bytes found = (found ≡ None) ⊎ ((count : ℕ) × (found ≡ Some (take count bytes)))
 
--- nothing stands, or a front of them that isn't all of them
+-- nothing stands, or a prefix of them that isn't all of them
 abbrev pub IsShortOf : List ℕ → Option (List ℕ) → Type 0
 IsShortOf bytes found =
     (found ≡ None)
@@ -19,24 +19,24 @@ abbrev pub BeginsWith : List ℕ → Option (List ℕ) → Type 0
 BeginsWith bytes found = (rest : List ℕ) × (found ≡ Some (bytes ++ rest))
 
 -- the same as a test
-abbrev pub has_front : List ℕ → List ℕ → Bool
-has_front bytes content =
+abbrev pub has_prefix : List ℕ → List ℕ → Bool
+has_prefix bytes content =
     nat_le (length bytes) (length content) && bytes_eq (take (length bytes) content) bytes
 
--- where these bytes begin a content: they stand whole then, and what stood behind them is kept
+-- where these bytes begin a content: they stand whole then, and what stood after them is kept
 pub record Starts (bytes : List ℕ) (before after : Option (List ℕ)) : Type 0 where
   pub stands : BeginsWith bytes after
-  pub written : IsFrontOf bytes before → after ≡ Some bytes
+  pub written : IsPrefixOf bytes before → after ≡ Some bytes
   pub kept : BeginsWith bytes before → after ≡ before
   -- other bytes are never written over
-  pub only : (after ≡ before) ⊎ IsFrontOf bytes before
+  pub only : (after ≡ before) ⊎ IsPrefixOf bytes before
 
--- .. or no more than a front of them was written, and nothing over all of them
+-- .. or no more than a prefix of them was written, and nothing over all of them
 pub record StartsInPart (bytes : List ℕ) (before after : Option (List ℕ)) : Type 0 where
-  pub front : IsFrontOf bytes before → IsFrontOf bytes after
+  pub prefix : IsPrefixOf bytes before → IsPrefixOf bytes after
   pub kept : BeginsWith bytes before → after ≡ before
   -- other bytes are never written over
-  pub only : (after ≡ before) ⊎ IsFrontOf bytes before
+  pub only : (after ≡ before) ⊎ IsPrefixOf bytes before
 
 -- after a `begin` that succeeds
 abbrev pub BeginsNotes : Header → Option (List ℕ) → Option (List ℕ) → Type 0
@@ -46,21 +46,21 @@ BeginsNotes header before after = Starts (header_bytes header) before after
 abbrev pub BeginsInPart : Header → Option (List ℕ) → Option (List ℕ) → Type 0
 BeginsInPart header before after = StartsInPart (header_bytes header) before after
 
--- After a `note` that succeeds: the bytes stand behind so many others, in place of a front of them.
+-- After a `note` that succeeds: the bytes stand after so many others, in place of a prefix of them.
 abbrev pub Notes : ℕ → List ℕ → Option (List ℕ) → Option (List ℕ) → Type 0
 Notes offset bytes before after =
     (base : List ℕ) (count : ℕ) →
     before ≡ Some (base ++ take count bytes) → length base ≡ offset →
     after ≡ Some (base ++ bytes)
 
--- .. that fails: a front of them stands there
+-- .. that fails: a prefix of them stands there
 abbrev pub NotesInPart : ℕ → List ℕ → Option (List ℕ) → Option (List ℕ) → Type 0
 NotesInPart offset bytes before after =
     (base : List ℕ) (count : ℕ) →
     before ≡ Some (base ++ take count bytes) → length base ≡ offset →
     (reached : ℕ) × (after ≡ Some (base ++ take reached bytes))
 
--- the bytes stand behind so many others, in place of whatever stood there
+-- the bytes stand after so many others, in place of whatever stood there
 abbrev pub NotesOver : ℕ → List ℕ → Option (List ℕ) → Option (List ℕ) → Type 0
 NotesOver offset bytes before after =
     (old : List ℕ) × (before ≡ Some old) × (offset ≤ length old)

@@ -1,5 +1,5 @@
 -- What a folder has after a stop between two turns, and what a server that goes on over it holds. A
--- stop within a turn is taken for one behind a turn in which a call failed.
+-- stop within a turn is taken for one after a turn in which a call failed.
 use Rattle.std.specs.Prelude.{◌≡◌, ◌⊎◌, ℕ, ◌+◌, ◌≤◌, Bool, true, false, not, ◌&&◌, Option, Some}
 use Rattle.std.specs.Prelude.{None, IsSome, IsTrue, is_some, List, [], ◌++◌, length, take, drop}
 use Rattle.std.specs.Prelude.{nat_lt, if◌then◌else◌}
@@ -20,7 +20,7 @@ abbrev pub IsOnTheWay : Take → ℕ → Option Request → Option (List ℕ) �
 IsOnTheWay t limit waits found =
     (found ≡ file_of t limit) ⊎ IsInTheMiddle t limit waits found
 
--- A server's files are so behind each turn, whatever it is told and whichever calls fail.
+-- A server's files are so after each turn, whatever it is reported and whichever calls fail.
 abbrev pub HeldFilesSurvive : Type 0
 HeldFilesSurvive =
     (limit : ℕ) (store : Store) (kept_of : List ℕ → Option Kept) (book : Book) →
@@ -29,13 +29,13 @@ HeldFilesSurvive =
     IsOnTheWay (made false (log_of book name).admitted (log_of book name).done) limit
     (at (log_of book name).admitted (log_of book name).done) (store.contents name)
 
--- what is kept of a name behind its journal
-abbrev pub kept_by : Bool → List ℕ → Log → Option (List ℕ) → Kept
-kept_by stood name log found = record {
-  state = parts (made stood log.admitted log.done);
-  finished = finished_from stood log.admitted name 0 (take log.done log.admitted);
+-- what is kept of a name after its journal
+abbrev pub kept_after_stop : Bool → List ℕ → Log → Option (List ℕ) → Kept
+kept_after_stop existed name log found = record {
+  state = parts (made existed log.admitted log.done);
+  finished = finished_from existed log.admitted name 0 (take log.done log.admitted);
   held = [];
-  has_made = not stood && is_some found;
+  has_made = not existed && is_some found;
   dirty = false;
 }
 
@@ -44,18 +44,18 @@ abbrev pub kept_after : (List ℕ → Option (List ℕ)) → (List ℕ → Optio
     List ℕ → Option Kept
 kept_after first contents book name =
     if nat_lt 0 (log_of book name).done
-    then Some (kept_by (is_some (first name)) name (log_of book name) (contents name))
+    then Some (kept_after_stop (is_some (first name)) name (log_of book name) (contents name))
     else None
 
 -- the files are repaired: each is the one of its done numbers again
 pub record IsRepaired (limit : ℕ) (first contents : List ℕ → Option (List ℕ)) (book : Book) :
     Type 0 where
-  pub stood : (name : List ℕ) → IsSome (first name) → contents name ≡ first name
+  pub existed : (name : List ℕ) → IsSome (first name) → contents name ≡ first name
   pub files : (name : List ℕ) → first name ≡ None →
       contents name
       ≡ file_of (made false (log_of book name).admitted (log_of book name).done) limit
 
--- Behind the repair a server that keeps what the journals tell holds the book that the stop left.
+-- After the repair a server that keeps what the journals tell holds the book that the stop left.
 abbrev pub RecoveryHolds : Type 0
 RecoveryHolds =
     (limit : ℕ) (first contents : List ℕ → Option (List ℕ)) (honest : Bool) (book : Book) →
@@ -69,7 +69,7 @@ abbrev pub ClosedFilesAreWhole : Type 0
 ClosedFilesAreWhole = (t : Take) (limit : ℕ) (waits : Option Request) (found : Option (List ℕ)) →
     t.closed ≡ true → IsOnTheWay t limit waits found → found ≡ file_of t limit
 
--- A file between two requests has its take's samples. It is repaired by a cut behind them, a pad
+-- A file between two requests has its take's samples. It is repaired by a cut after them, a pad
 -- byte and the header: no sample is read or written.
 pub record IsRepairedBy (t : Take) (f : Format) (limit : ℕ) (found : List ℕ) : Type 0 where
   pub long : data_place (length t.history) + length t.samples ≤ length found

@@ -9,7 +9,7 @@ use Rattle.bw_journal.specs.Seals.{opened}
 use Rattle.bw_journal.specs.JournalHeaders.{Header, header_len, first_header, is_torn_header}
 use Rattle.bw_journal.specs.Entries.{JournalEntry, first_entry, longest_entry}
 
--- what is known behind some entries
+-- what is known after some entries
 pub record Story : Type 0 where
   -- the take without its data
   pub parts : Parts
@@ -22,13 +22,13 @@ pub record Story : Type 0 where
 pub data JournalFault : Type 0 where
   -- a beginning of a header is all that stands
   NotBegun : JournalFault
-  -- no header stands at the front
+  -- no header stands at the start
   NotAJournal : JournalFault
   -- the header has another limit than the server
   OtherLimit : JournalFault
   -- an entry has another verdict than the request's judgement
   OtherVerdict : JournalFault
-  -- bytes behind the last entry are whole, but no entry
+  -- bytes after the last entry are whole, but no entry
   NotAnEntry : JournalFault
   -- more bytes follow the last entry than an entry may have
   LongTail : JournalFault
@@ -44,13 +44,13 @@ fault_code LongTail = 6
 
 -- before any entry
 abbrev pub beginning : Bool → Story
-beginning stood = record { parts = parts (new_take stood); table = []; used = header_len }
+beginning existed = record { parts = parts (new_take existed); table = []; used = header_len }
 
 -- the parts after a request with this verdict
 abbrev pub parts_after : Parts → Verdict → Request → Parts
 parts_after p v r = if is_stored v then parts_with p r else p
 
--- what is known behind one more entry, which takes so many bytes
+-- what is known after one more entry, which takes so many bytes
 abbrev pub with_entry : Story → JournalEntry × ℕ → Story
 with_entry s x = record {
   parts = parts_after s.parts x.0.verdict x.0.request;
@@ -71,11 +71,11 @@ replayed (suc steps) bytes s = elim (first_entry (drop s.used bytes)) [
       else Err OtherVerdict
 ]
 
--- what the entries behind a header tell, up to the first that is torn
+-- what the entries after a header tell, up to the first that is torn
 unfoldable pub replayed_entries : Bool → List ℕ → Result Story JournalFault
-replayed_entries stood bytes = replayed (length bytes) bytes (beginning stood)
+replayed_entries existed bytes = replayed (length bytes) bytes (beginning existed)
 
--- what is wrong with the bytes behind the last entry, if they aren't a torn entry: the first that
+-- what is wrong with the bytes after the last entry, if they aren't a torn entry: the first that
 -- holds
 unfoldable pub tail_fault : List ℕ → Option JournalFault
 tail_fault tail = first_that_holds (
@@ -83,19 +83,19 @@ tail_fault tail = first_that_holds (
     ∷ (nat_lt longest_entry (length tail), LongTail)
     ∷ [])
 
--- .. where this much is told
-abbrev pub told_with_tail : List ℕ → Result Story JournalFault → Result Story JournalFault
-told_with_tail bytes (Ok s) = unless (tail_fault (drop s.used bytes)) s
-told_with_tail bytes (Err f) = Err f
+-- .. where this much is reported
+abbrev pub reported_with_tail : List ℕ → Result Story JournalFault → Result Story JournalFault
+reported_with_tail bytes (Ok s) = unless (tail_fault (drop s.used bytes)) s
+reported_with_tail bytes (Err f) = Err f
 
--- what the bytes behind this header tell a server of this limit
-abbrev pub replayed_behind : ℕ → List ℕ → Option Header → Result Story JournalFault
-replayed_behind limit bytes None =
+-- what the bytes after this header tell a server of this limit
+abbrev pub replayed_after : ℕ → List ℕ → Option Header → Result Story JournalFault
+replayed_after limit bytes None =
     if is_torn_header limit bytes then Err NotBegun else Err NotAJournal
-replayed_behind limit bytes (Some h) =
-    if h.limit == limit then told_with_tail bytes (replayed_entries h.stood bytes)
+replayed_after limit bytes (Some h) =
+    if h.limit == limit then reported_with_tail bytes (replayed_entries h.existed bytes)
     else Err OtherLimit
 
 -- what a journal tells a server of this limit
 unfoldable pub replay : ℕ → List ℕ → Result Story JournalFault
-replay limit bytes = replayed_behind limit bytes (first_header bytes)
+replay limit bytes = replayed_after limit bytes (first_header bytes)

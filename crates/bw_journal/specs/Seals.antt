@@ -1,4 +1,4 @@
--- Bytes between their length and a check, so that a torn end is told from a whole one.
+-- Bytes between their length and a check, so that a torn end is reported from a whole one.
 use Rattle.std.specs.Prelude.{ℕ, ◌+◌, Option, Some, None, List, ◌++◌, length, take, drop, nat_lt}
 use Rattle.std.specs.Prelude.{if◌then◌else◌}
 use Rattle.std.specs.Str.{bytes_eq}
@@ -9,11 +9,11 @@ use Rattle.bw_model.specs.Bytes.{le16, u16_at}
 unfoldable pub check : List ℕ → List ℕ
 check bytes = take 8 (sha256 bytes)
 
--- bytes behind their length, and their check
+-- bytes after their length, and their check
 unfoldable pub sealed : List ℕ → List ℕ
 sealed bytes = le16 (length bytes) ++ bytes ++ check bytes
 
--- the bytes that are sealed at the front of these, if any are
+-- the bytes that are sealed at the start of these, if any are
 unfoldable pub opened : List ℕ → Option (List ℕ)
 opened bytes =
     if nat_lt (length bytes) 2 then None

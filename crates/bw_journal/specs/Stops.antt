@@ -6,7 +6,7 @@ use Rattle.bw_model.specs.Take.{Verdict}
 use Rattle.bw_model.specs.Replies.{Judged}
 use Rattle.bw_model.specs.Book.{Log, Book, log_of, is_known, verdict_at}
 use Rattle.bw_model.specs.BookRules.{IsBook}
-use Rattle.bw_model.specs.Turn.{Luck}
+use Rattle.bw_model.specs.Turn.{Faults}
 use Rattle.bw_model.specs.World.{World, Event, new_world, happens, IsFaithful}
 
 -- A log that a stop leaves: the done numbers. What was held is sent again.
@@ -39,30 +39,30 @@ CutBooksAreBooks = (book : Book) → IsBook book → IsBook (cut_book book)
 
 -- what happens in a world, or its server stops and another goes on over what it left
 pub data Step : Type 0 where
-  Happens : Event → Luck → Step
+  Happens : Event → Faults → Step
   Stops : Step
 
 -- A stop within a turn is a turn in which a call of the store failed, none of whose replies
 -- arrives, and then a stop.
 abbrev pub after_step : (List ℕ → Bool) → World → Step → World
-after_step stood w (Happens e luck) = happens stood w e luck
-after_step stood w Stops = record w { book = cut_book w.book }
+after_step existed w (Happens e faults) = happens existed w e faults
+after_step existed w Stops = record w { book = cut_book w.book }
 
 -- the world after these steps
 abbrev pub after_steps : (List ℕ → Bool) → World → List Step → World
-after_steps stood w [] = w
-after_steps stood w (s ∷ ss) = after_steps stood (after_step stood w s) ss
+after_steps existed w [] = w
+after_steps existed w (s ∷ ss) = after_steps existed (after_step existed w s) ss
 
 -- Each verdict that was ever written for the sender's name is that of a done number, before and
 -- after each stop.
 abbrev pub AnswersStay : (List ℕ → Bool) → World → Type 0
-AnswersStay stood w =
+AnswersStay existed w =
     (k n : ℕ) (v : Verdict) → slice_get w.replies k ≡ Some (Judged w.sender.name n v) →
     (n < (log_of w.book w.sender.name).done)
-    × (v ≡ verdict_at (stood w.sender.name) (log_of w.book w.sender.name).admitted n)
+    × (v ≡ verdict_at (existed w.sender.name) (log_of w.book w.sender.name).admitted n)
 
 -- So it is in every world, however often its server stops.
 abbrev pub EachWorldGoesOn : Type 0
-EachWorldGoesOn = (stood : List ℕ → Bool) (name : List ℕ) (steps : List Step) →
-    IsFaithful stood (after_steps stood (new_world name) steps)
-    × AnswersStay stood (after_steps stood (new_world name) steps)
+EachWorldGoesOn = (existed : List ℕ → Bool) (name : List ℕ) (steps : List Step) →
+    IsFaithful existed (after_steps existed (new_world name) steps)
+    × AnswersStay existed (after_steps existed (new_world name) steps)

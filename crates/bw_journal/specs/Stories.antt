@@ -1,4 +1,4 @@
--- What the code knows behind a replay.
+-- What the code knows after a replay.
 use Rattle.bw_journal.specs.Replays.{Story}
 use Rattle.bw_journal.specs.declared.reader.Replayed.{Replayed}
 

@@ -27,7 +27,7 @@ pub struct EntryRef<'a> {
     pub digest: &'a [u8],
 }
 
-/// The entry at the front of the bytes, and how many bytes it takes.
+/// The entry at the start of the bytes, and how many bytes it takes.
 ///
 /// None where the front is torn, or is no entry. `zeros` are 32,768 zero bytes, lent to it in place
 /// of samples.

@@ -13,7 +13,7 @@ pub enum ReplayFault {
     /// A beginning of its header is all that stands: the journal is to be begun again.
     #[error("the journal's header is torn")]
     NotBegun = 1,
-    /// No header stands at its front.
+    /// No header stands at its start.
     #[error("not a journal")]
     NotAJournal = 2,
     /// Its header has another limit than the server.
@@ -22,7 +22,7 @@ pub enum ReplayFault {
     /// An entry has another verdict than the request's judgement: other rules made it.
     #[error("an entry isn't judged as it says")]
     OtherVerdict = 4,
-    /// The bytes behind the last entry are whole, but none that this program writes.
+    /// The bytes after the last entry are whole, but none that this program writes.
     #[error("an entry isn't known")]
     NotAnEntry = 5,
     /// More bytes follow the last entry than one can have: more was lost than one write.

@@ -13,7 +13,7 @@ use crate::memory::{MemoryJournal, count};
 use bw_request::Name;
 use bw_store::{StoreFault, blow};
 
-/// A journal behind fuses: the calls of chosen numbers, counted from 0, fail, each once.
+/// A journal after fuses: the calls of chosen numbers, counted from 0, fail, each once.
 ///
 /// A `note` that fails so notes the first half of its bytes, rounded down; a `begin` nothing.
 #[derive(Drop)]
@@ -47,14 +47,14 @@ impl FuseJournal {
         self.calls
     }
 
-    /// The journal behind the fuses.
+    /// The journal after the fuses.
     pub fn inner(&self) -> &MemoryJournal
         ensures { result.now ≡ self.now.inner }
     {
         &self.inner
     }
 
-    /// The journal behind the fuses, without them.
+    /// The journal after the fuses, without them.
     pub fn into_inner(self) -> MemoryJournal
         ensures { result ≡ self.inner }
     {

@@ -19,7 +19,7 @@ pub struct JournalHeader {
     /// The server's limit.
     pub limit: Limit,
     /// Whether a file of the name stood before its journal.
-    pub stood: bool,
+    pub existed: bool,
 }
 
 impl JournalHeader {
@@ -35,14 +35,14 @@ impl JournalHeader {
         bytes[0] = 9;
         bytes[2..6].copy_from_slice(&MAGIC);
         bytes[6..10].copy_from_slice(&(self.limit.bytes() as u32).to_le_bytes());
-        bytes[10] = u8::from(self.stood);
+        bytes[10] = u8::from(self.existed);
         let check = check(&bytes[2..11]);
         bytes[11..].copy_from_slice(&check[..8]);
         bytes
     }
 }
 
-/// The header at the front of the bytes: its limit, and whether a file of the name stood.
+/// The header at the start of the bytes: its limit, and whether a file of the name stood.
 #[tactic(auto, unfolding(crate::specs::JournalHeaders::first_header))]
 pub(crate) fn first_header(bytes: &[u8]) -> Option<(u32, bool)>
     ensures value { option_map header_found result ≡ first_header_in bytes.now }
@@ -79,10 +79,17 @@ pub(crate) fn is_torn_header(limit: Limit, bytes: &[u8]) -> bool
         bytes,
         &JournalHeader {
             limit,
-            stood: false,
+            existed: false,
         }
         .to_bytes(),
-    ) || is_torn(bytes, &JournalHeader { limit, stood: true }.to_bytes())
+    ) || is_torn(
+        bytes,
+        &JournalHeader {
+            limit,
+            existed: true,
+        }
+        .to_bytes(),
+    )
 }
 
 /// Whether the bytes begin the others, and are fewer.

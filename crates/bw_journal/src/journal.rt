@@ -30,10 +30,10 @@ pub trait Journal: Drop {
 
     /// Writes the header of a name's journal, unless it stands there whole.
     ///
-    /// Bytes that are no front of the header are never written over.
+    /// Bytes that are no prefix of the header are never written over.
     ///
     /// # Errors
-    /// `StoreFault` where the journal failed: a front of the header may stand there then, and the
+    /// `StoreFault` where the journal failed: a prefix of the header may stand there then, and the
     /// same call may be tried again.
     ///
     /// # Not specified
@@ -52,11 +52,11 @@ pub trait Journal: Drop {
         ensures others { IsTrue (honest self.old) →
             KeepsOthers (notes self.old) (notes self.new) name.now };
 
-    /// Notes bytes under a name behind its first ones, in place of what a call that failed may have
-    /// left there: a front of the same bytes.
+    /// Notes bytes under a name after its first ones, in place of what a call that failed may have
+    /// left there: a prefix of the same bytes.
     ///
     /// # Errors
-    /// `StoreFault` where the journal failed: a front of the bytes may stand there then, and the
+    /// `StoreFault` where the journal failed: a prefix of the bytes may stand there then, and the
     /// same call may be tried again.
     ///
     /// # Not specified
@@ -83,7 +83,7 @@ pub struct NoJournal;
 impl Journal for NoJournal {
     ghost notes = { λ _ _. None };
 
-    ghost header = { λ _ _. record { limit = 0; stood = false } };
+    ghost header = { λ _ _. record { limit = 0; existed = false } };
 
     ghost failures = { λ _. 0 };
 

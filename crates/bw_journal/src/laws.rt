@@ -1,13 +1,13 @@
 //! Laws of journals. Each function's contract is one; nothing runs.
 ghost use Rattle.bw_journal.specs.Noted.{JournalEntriesReadBack, ReadEntriesStand};
 ghost use Rattle.bw_journal.specs.Noted.{CutEntriesAreNone, EntriesAreShort, HeadersReadBack};
-ghost use Rattle.bw_journal.specs.Noted.{ReadHeadersStand, CutHeadersAreNotBegun, JournalsTellLogs};
+ghost use Rattle.bw_journal.specs.Noted.{ReadHeadersStand, CutHeadersAreNotBegun, JournalsReportLogs};
 ghost use Rattle.bw_journal.specs.Stops.{BooksAreCut, CutBooksAreBooks, EachWorldGoesOn};
 ghost use Rattle.bw_journal.specs.Recovery.{HeldFilesSurvive, FilesAreRepaired, RecoveryHolds};
 ghost use Rattle.bw_journal.specs.Recovery.{ClosedFilesAreWhole, NewFilesAreBetween};
 
 /// An entry is read again from its bytes, whatever follows; where one is read, its bytes stand; and
-/// none is read from a front of one.
+/// none is read from a prefix of one.
 pub fn law_entries()
     ensures back { JournalEntriesReadBack }
     ensures stand { ReadEntriesStand }
@@ -15,16 +15,16 @@ pub fn law_entries()
     ensures short { EntriesAreShort }
 {}
 
-/// The same of headers: a front of one tells that the journal is to be begun.
+/// The same of headers: a prefix of one says that the journal is to be begun.
 pub fn law_headers()
     ensures back { HeadersReadBack }
     ensures stand { ReadHeadersStand }
     ensures cut { CutHeadersAreNotBegun }
 {}
 
-/// A journal whose last entry may have been cut tells what the server kept of the done numbers.
+/// A journal whose last entry may have been cut says what the server kept of the done numbers.
 pub fn law_journals()
-    ensures { JournalsTellLogs }
+    ensures { JournalsReportLogs }
 {}
 
 /// A stop leaves the done numbers, and a book. In every world of a sender, a network and servers
@@ -36,8 +36,8 @@ pub fn law_stops()
     ensures worlds { EachWorldGoesOn }
 {}
 
-/// Behind each turn a server's files are those of its done numbers, or between them and the next;
-/// behind their repair a server with what the journals tell holds the book that the stop left; and
+/// After each turn a server's files are those of its done numbers, or between them and the next;
+/// after their repair a server with what the journals tell holds the book that the stop left; and
 /// files of closed takes need no repair.
 pub fn law_recovery()
     ensures survive { HeldFilesSurvive }

@@ -8,7 +8,7 @@ ghost use Rattle.bw_model.specs.Counts.{Counts};
 ghost use Rattle.bw_store.specs.Memory.{content_under as content_of};
 ghost use Rattle.bw_store.specs.Stores.{KeepsOthers};
 ghost use Rattle.bw_journal.specs.Notes.{BeginsWith, Starts, BeginsNotes, KeepsHeaders, IsShortOf};
-ghost use Rattle.bw_journal.specs.Notes.{NotesOver, has_front};
+ghost use Rattle.bw_journal.specs.Notes.{NotesOver, has_prefix};
 ghost use Rattle.bw_journal.specs.JournalHeaders.{header_bytes};
 ghost use Rattle.bw_journal.specs.MemoryHeaders.{header_for};
 
@@ -26,7 +26,7 @@ use std::collections::BTreeMap;
 pub struct MemoryJournal {
     alloc: Global,
     limit: Limit,
-    stood: Vec<Name>,
+    existed: Vec<Name>,
     notes: BTreeMap<Name, Vec<u8>>,
     failures: u64,
 }
@@ -37,13 +37,13 @@ impl MemoryJournal {
         ensures honest { IsTrue (⟦<MemoryJournal as Journal>⟧.honest result) }
         ensures empty { (name : List ℕ) → ⟦<MemoryJournal as Journal>⟧.notes result name ≡ None }
         ensures headers { (name : List ℕ) → ⟦<MemoryJournal as Journal>⟧.header result name
-            ≡ record { limit = limit; stood = false } }
+            ≡ record { limit = limit; existed = false } }
         ensures failures { ⟦<MemoryJournal as Journal>⟧.failures result ≡ 0 }
     {
         MemoryJournal {
             alloc,
             limit,
-            stood: Vec::new(alloc),
+            existed: Vec::new(alloc),
             notes: BTreeMap::new(alloc),
             failures: 0,
         }
@@ -56,13 +56,13 @@ impl MemoryJournal {
     ///
     /// # Not specified
     /// When memory is refused.
-    pub fn set_stood(&mut self, name: &Name) -> Result<(), AllocError>
-        ensures ok { OnOk result (self.new.stood.items ≡ self.old.stood.items ++ name.now ∷ []) }
-        ensures err { OnErr result (self.new.stood.items ≡ self.old.stood.items) }
+    pub fn set_existed(&mut self, name: &Name) -> Result<(), AllocError>
+        ensures ok { OnOk result (self.new.existed.items ≡ self.old.existed.items ++ name.now ∷ []) }
+        ensures err { OnErr result (self.new.existed.items ≡ self.old.existed.items) }
         ensures rest { (self.new.limit ≡ self.old.limit) × (self.new.notes ≡ self.old.notes)
             × (self.new.failures ≡ self.old.failures) }
     {
-        match self.stood.push(name.copy()) {
+        match self.existed.push(name.copy()) {
             Ok(()) => Ok(()),
             Err(_) => Err(AllocError),
         }
@@ -81,7 +81,7 @@ impl MemoryJournal {
             (content_of self.new.notes name.now ≡ content_of self.old.notes name.now) }
         ensures others { KeepsOthers
             (content_of self.old.notes) (content_of self.new.notes) name.now }
-        ensures rest { (self.new.limit ≡ self.old.limit) × (self.new.stood ≡ self.old.stood)
+        ensures rest { (self.new.limit ≡ self.old.limit) × (self.new.existed ≡ self.old.existed)
             × (self.new.failures ≡ self.old.failures) }
     {
         put(&mut self.notes, self.alloc, name, bytes)
@@ -104,10 +104,10 @@ impl Journal for MemoryJournal {
 
     ghost honest = { λ _. true };
 
-    /// Puts the header where no more than a front of it stands.
+    /// Puts the header where no more than a prefix of it stands.
     ///
     /// # Errors
-    /// `StoreFault` where bytes stand that neither begin with the header nor are a front of it, or
+    /// `StoreFault` where bytes stand that neither begin with the header nor are a prefix of it, or
     /// memory was refused, never where the header stands: the notes are as they were.
     ///
     /// # Not specified
@@ -126,7 +126,7 @@ impl Journal for MemoryJournal {
     {
         let header = JournalHeader {
             limit: self.limit,
-            stood: has_name(self.stood.as_slice(), name),
+            existed: has_name(self.existed.as_slice(), name),
         };
         let answer = start(&mut self.notes, self.alloc, name, &header.to_bytes());
         count(&mut self.failures, answer.is_err());
@@ -207,25 +207,25 @@ enum Standing {
     /// All of it, whatever follows.
     Whole,
     /// Nothing, or a beginning that isn't all of it.
-    Front,
+    Prefix,
     /// Other bytes.
     Other,
 }
 
 /// What stands of a header.
-#[tactic(auto, using(crate::proofs::Starts::front_begins, crate::proofs::Starts::torn_short))]
+#[tactic(auto, using(crate::proofs::Starts::prefix_begins, crate::proofs::Starts::torn_short))]
 fn compare(found: Option<&[u8]>, header: &[u8]) -> Standing
     ensures whole { result ≡ Standing.Whole → BeginsWith header.now (option_copied found.entry) }
-    ensures front { result ≡ Standing.Front → IsShortOf header.now (option_copied found.entry) }
+    ensures prefix { result ≡ Standing.Prefix → IsShortOf header.now (option_copied found.entry) }
     ensures stands { BeginsWith header.now (option_copied found.entry) → result ≡ Standing.Whole }
 {
     match found {
-        None => Standing::Front,
+        None => Standing::Prefix,
         Some(content) => {
-            if has_front_of(content, header) {
+            if has_prefix_of(content, header) {
                 Standing::Whole
             } else if is_torn(content, header) {
-                Standing::Front
+                Standing::Prefix
             } else {
                 Standing::Other
             }
@@ -233,9 +233,9 @@ fn compare(found: Option<&[u8]>, header: &[u8]) -> Standing
     }
 }
 
-/// Whether a header stands at the front of a content.
-fn has_front_of(content: &[u8], header: &[u8]) -> bool
-    ensures { result ≡ has_front header.now content.now }
+/// Whether a header stands at the start of a content.
+fn has_prefix_of(content: &[u8], header: &[u8]) -> bool
+    ensures { result ≡ has_prefix header.now content.now }
 {
     content.len() >= header.len() && &content[..header.len()] == header
 }
@@ -258,11 +258,11 @@ fn start(
     match compare(content_in(notes, name), header) {
         Standing::Whole => Ok(()),
         Standing::Other => Err(StoreFault),
-        Standing::Front => put(notes, alloc, name, header).map_err(|_| StoreFault),
+        Standing::Prefix => put(notes, alloc, name, header).map_err(|_| StoreFault),
     }
 }
 
-/// Notes bytes behind the first ones of a name's content, in place of what stood there.
+/// Notes bytes after the first ones of a name's content, in place of what stood there.
 fn append(
     notes: &mut BTreeMap<Name, Vec<u8>>,
     name: &Name,
@@ -281,7 +281,7 @@ fn append(
     }
 }
 
-/// Puts bytes behind the first ones of a content, in place of what stood there.
+/// Puts bytes after the first ones of a content, in place of what stood there.
 fn replace_tail(content: &mut Vec<u8>, offset: u64, bytes: &[u8]) -> Result<(), StoreFault>
     ensures fits { OnOk result (offset ≤ length content.old.items) }
     ensures ok { OnOk result (content.new.items ≡ take offset content.old.items ++ bytes.now) }

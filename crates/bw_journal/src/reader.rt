@@ -38,7 +38,7 @@ pub struct Replayed {
     pub table: Vec<u8>,
     /// How many bytes of the journal are its header and whole entries.
     pub used: usize,
-    /// How many bytes follow: a front of an entry, which is to be cut.
+    /// How many bytes follow: a prefix of an entry, which is to be cut.
     pub torn: usize,
 }
 
@@ -63,7 +63,7 @@ pub fn replay(alloc: Global, limit: Limit, bytes: &[u8]) -> Result<Replayed, Rep
     ensures header { has_limit limit (first_header_in bytes.now) ≡ false →
         IfErr result (λ e. IsSome (fault_meaning e)) }
 {
-    let Some((found, stood)) = first_header(bytes) else {
+    let Some((found, existed)) = first_header(bytes) else {
         return Err(if is_torn_header(limit, bytes) {
             ReplayFault::NotBegun
         } else {
@@ -73,14 +73,14 @@ pub fn replay(alloc: Global, limit: Limit, bytes: &[u8]) -> Result<Replayed, Rep
     if u64::from(found) != limit.bytes() {
         return Err(ReplayFault::OtherLimit);
     }
-    let replayed = replay_entries(alloc, stood, bytes)?;
+    let replayed = replay_entries(alloc, existed, bytes)?;
     match tail_fault(&bytes[replayed.used..]) {
         Some(fault) => Err(fault),
         None => Ok(replayed),
     }
 }
 
-/// What is wrong with the bytes behind the last entry, if they aren't a torn entry.
+/// What is wrong with the bytes after the last entry, if they aren't a torn entry.
 #[tactic(auto, unfolding(crate::specs::Replays::tail_fault))]
 fn tail_fault(tail: &[u8]) -> Option<ReplayFault>
     ensures none { IsNone result → tail_fault_of tail.now ≡ None }
@@ -95,16 +95,16 @@ fn tail_fault(tail: &[u8]) -> Option<ReplayFault>
     }
 }
 
-/// What the entries behind a header tell, up to the first that is torn.
-fn replay_entries(alloc: Global, stood: bool, bytes: &[u8]) -> Result<Replayed, ReplayFault>
+/// What the entries after a header tell, up to the first that is torn.
+fn replay_entries(alloc: Global, existed: bool, bytes: &[u8]) -> Result<Replayed, ReplayFault>
     requires header { header_len ≤ length bytes.now }
     requires few { length bytes.now ≤ 2 ^ 40 }
-    ensures ok { IfOk result (λ r. replayed_entries stood bytes.now ≡ Ok (story_of r)) }
+    ensures ok { IfOk result (λ r. replayed_entries existed bytes.now ≡ Ok (story_of r)) }
     ensures torn { IfOk result (λ r. r.used + r.torn ≡ length bytes.now) }
-    ensures err { IfErr result (λ e. IsJournalFault e (replayed_entries stood bytes.now)) }
+    ensures err { IfErr result (λ e. IsJournalFault e (replayed_entries existed bytes.now)) }
 {
     let zeros = make_zeros(alloc)?;
-    let mut state = unopened(alloc, stood);
+    let mut state = unopened(alloc, existed);
     let mut table = Vec::new(alloc);
     let mut used = JournalHeader::LEN;
     for _step in 0..bytes.len() {
@@ -140,11 +140,11 @@ fn make_zeros(alloc: Global) -> Result<Vec<u8>, AllocError>
 }
 
 /// A take before any request.
-fn unopened(alloc: Global, stood: bool) -> TakeState
-    ensures { result.parts ≡ parts_of_take (new_take stood) }
+fn unopened(alloc: Global, existed: bool) -> TakeState
+    ensures { result.parts ≡ parts_of_take (new_take existed) }
 {
     let mut state = TakeState::new(alloc);
-    if stood {
+    if existed {
         state.set_taken();
     }
     state

@@ -8,7 +8,7 @@ ghost use Rattle.bw_journal.specs.Seals.{opened as opened_in, check as check_of}
 use bw_bytes::read_u16;
 use sha2::{Digest, Sha256};
 
-/// The bytes that are sealed at the front.
+/// The bytes that are sealed at the start.
 #[tactic(auto, unfolding(crate::specs::Seals::opened))]
 pub(crate) fn opened(bytes: &[u8]) -> Option<&[u8]>
     ensures value { option_map (λ c. c.now) result ≡ opened_in bytes.now }

@@ -1,4 +1,4 @@
--- A header is a front of 80 bytes, the fixed part of `bext`, and a rear, and neither end depends on the fields.
+-- A header is a prefix of 80 bytes, the fixed part of `bext`, and a rear, and neither end depends on the fields.
 use Rattle.std.proofs.Common.{◌≡◌, ℕ, ◌+◌, Bool, true, false, cond, List, ◌++◌, length, refl, ◌∙◌, ap, append_assoc}
 use Rattle.std.proofs.Common.{length-append}
 use Rattle.std.specs.Prelude.{codes, nat_le}
@@ -8,9 +8,9 @@ use Rattle.bw_model.specs.Layout.{head, pad, chunk, bext_fixed}
 use Rattle.bw_model.specs.File.{form_size, header, fmt_chunk, junk_chunk, ds64_chunk}
 use Rattle.bw_model.proofs.Widths.{length-bext_fixed}
 
--- the bytes before the fixed part, and those behind it, in RIFF or not
-abbrev pub front : Bool → ℕ → ℕ → Format → ℕ → List ℕ
-front v form data_len f n =
+-- the bytes before the fixed part, and those after it, in RIFF or not
+abbrev pub prefix : Bool → ℕ → ℕ → Format → ℕ → List ℕ
+prefix v form data_len f n =
     cond v (head (codes "RIFF") form) (head (codes "BW64") unsaid) ++ codes "WAVE"
     ++ cond v (chunk junk_chunk) (chunk (ds64_chunk form data_len)) ++ chunk (fmt_chunk f) ++ head (codes "bext") n
 
@@ -21,9 +21,9 @@ rear v data_len history n = history ++ pad n ++ cond v (head (codes "data") data
 abbrev pub around : List ℕ → List ℕ → List (List ℕ) → List ℕ
 around p q fields = p ++ (bext_fixed fields ++ q)
 
-pub length-front : (v : Bool) (form data_len : ℕ) (f : Format) (n : ℕ) → length (front v form data_len f n) ≡ 80
-length-front true form data_len f n = refl
-length-front false form data_len f n = refl
+pub length-prefix : (v : Bool) (form data_len : ℕ) (f : Format) (n : ℕ) → length (prefix v form data_len f n) ≡ 80
+length-prefix true form data_len f n = refl
+length-prefix false form data_len f n = refl
 
 regrouped : (outer wave first fmt size fixed history pad data_head : List ℕ) →
     outer ++ wave ++ first ++ (fmt ++ (size ++ ((fixed ++ history) ++ pad))) ++ data_head
@@ -34,7 +34,7 @@ pub header_around : (f : Format) (fields : List (List ℕ)) (history : List ℕ)
     AreFields fields →
     let form = form_size (length history) data_len cues in let n = 602 + length history in
     header f fields history data_len cues limit
-    ≡ around (front (nat_le form limit) form data_len f n) (rear (nat_le form limit) data_len history n) fields
+    ≡ around (prefix (nat_le form limit) form data_len f n) (rear (nat_le form limit) data_len history n) fields
 unfolding header
 header_around f fields history data_len cues limit h =
     ap whole (length-append (bext_fixed fields) history
@@ -59,7 +59,7 @@ header_around f fields history data_len cues limit h =
         (head (codes "RIFF") form ++ codes "WAVE" ++ chunk junk_chunk ++ middle n ++ head (codes "data") data_len)
         (head (codes "BW64") unsaid ++ codes "WAVE" ++ chunk (ds64_chunk form data_len) ++ middle n
         ++ head (codes "data") unsaid)
-        ≡ around (front v form data_len f n) (rear v data_len history n) fields
+        ≡ around (prefix v form data_len f n) (rear v data_len history n) fields
     go true = regrouped (head (codes "RIFF") form) (codes "WAVE") (chunk junk_chunk) (chunk (fmt_chunk f))
         (head (codes "bext") n) (bext_fixed fields) history (pad n) (head (codes "data") data_len)
     go false = regrouped (head (codes "BW64") unsaid) (codes "WAVE") (chunk (ds64_chunk form data_len))

@@ -10,7 +10,7 @@ use Rattle.bw_model.specs.Layout.{bext_fixed}
 use Rattle.bw_model.specs.Report.{RawBext}
 use Rattle.bw_layout.specs.Raw.{bext_at}
 use Rattle.bw_layout.specs.ReadBack.{FieldsReadBack}
-use Rattle.bw_model.specs.ReadBack.{told_bext}
+use Rattle.bw_model.specs.ReadBack.{reported_bext}
 use Rattle.bw_layout.proofs.JoinedRanges.{range_at_seam}
 use Rattle.bw_layout.proofs.BextParts.{Widths, by_name, fixed, version_1}
 
@@ -70,12 +70,12 @@ slices a b c d e t v u l z q w = record {
       w.z-width (simp (append_assoc, append-nil));
 }
   where
-    part : (before x behind : List ℕ) (place count : ℕ) → length before ≡ place → length x ≡ count →
-        fixed [] a b c d e t v u l z q ≡ before ++ (x ++ behind) →
+    part : (before x following : List ℕ) (place count : ℕ) → length before ≡ place → length x ≡ count →
+        fixed [] a b c d e t v u l z q ≡ before ++ (x ++ following) →
         slice_range (fixed [] a b c d e t v u l z q) place (place + count) ≡ x
-    part before x behind place count p k is =
+    part before x following place count p k is =
         ap (λ (bytes : List ℕ). slice_range bytes place (place + count)) is
-        ∙ range_at_seam before x behind place count p k
+        ∙ range_at_seam before x following place count p k
 
 -- the five parts of the loudness stand in theirs
 record Levels (g h i j k bytes : List ℕ) : Type 0 where
@@ -98,22 +98,22 @@ levels_at_412 x g h i j k q lx lg lh li lj lk = record {
     whole : List ℕ
     whole = x ++ ((g ++ (h ++ (i ++ (j ++ (k ++ []))))) ++ q)
 
-    part : (before y behind : List ℕ) (place : ℕ) → length before ≡ place → length y ≡ 2 →
-        whole ≡ before ++ (y ++ behind) → slice_range whole place (place + 2) ≡ y
-    part before y behind place p l is =
-        ap (λ (bytes : List ℕ). slice_range bytes place (place + 2)) is ∙ range_at_seam before y behind place 2 p l
+    part : (before y following : List ℕ) (place : ℕ) → length before ≡ place → length y ≡ 2 →
+        whole ≡ before ++ (y ++ following) → slice_range whole place (place + 2) ≡ y
+    part before y following place p l is =
+        ap (λ (bytes : List ℕ). slice_range bytes place (place + 2)) is ∙ range_at_seam before y following place 2 p l
 
 same_five : (g g' h h' i i' j j' k k' : ℕ) → g ≡ g' → h ≡ h' → i ≡ i' → j ≡ j' → k ≡ k' →
     g ∷ h ∷ i ∷ j ∷ k ∷ [] ≡ g' ∷ h' ∷ i' ∷ j' ∷ k' ∷ []
 same_five g g' h h' i i' j j' k k' ge he ie je ke = cc
 
-same_told : (a a' b b' c c' d d' e e' u u' l l' z z' : List ℕ) (t t' v v' : ℕ) → a ≡ a' → b ≡ b' → c ≡ c' → d ≡ d' →
+same_reported : (a a' b b' c c' d d' e e' u u' l l' z z' : List ℕ) (t t' v v' : ℕ) → a ≡ a' → b ≡ b' → c ≡ c' → d ≡ d' →
     e ≡ e' → t ≡ t' → v ≡ v' → u ≡ u' → l ≡ l' → z ≡ z' →
     (let left : RawBext × List ℕ =
     (record { texts = a ∷ b ∷ c ∷ d ∷ e ∷ []; time = t; version = v; umid = u; loudness = l }, z) in left)
     ≡ (let right : RawBext × List ℕ =
     (record { texts = a' ∷ b' ∷ c' ∷ d' ∷ e' ∷ []; time = t'; version = v'; umid = u'; loudness = l' }, z') in right)
-same_told a a' b b' c c' d d' e e' u u' l l' z z' t t' v v' ae be ce de ee te ve ue le ze = cc
+same_reported a a' b b' c c' d d' e e' u u' l l' z z' t t' v v' ae be ce de ee te ve ue le ze = cc
 
 -- the bytes of a chunk of version 1 or 2, with these five numbers
 abbrev chunk_of : (a b c d e t u g h i j k q : List ℕ) → Bool → List ℕ
@@ -129,7 +129,7 @@ to_levels : (a b c d e t v u l z q : List ℕ) →
 to_levels a b c d e t v u l z q = simp (append_assoc, append-nil)
 
 -- with its parts known, what it tells is known
-told : (a b c d e t u g h i j k q : List ℕ) (v : Bool) → Widths a b c d e t u (g ∷ h ∷ i ∷ j ∷ k ∷ []) →
+reported : (a b c d e t u g h i j k q : List ℕ) (v : Bool) → Widths a b c d e t u (g ∷ h ∷ i ∷ j ∷ k ∷ []) →
     bext_at (chunk_of a b c d e t u g h i j k q v)
     ≡ (let right : RawBext × List ℕ = (
       record {
@@ -141,7 +141,7 @@ told : (a b c d e t u g h i j k q : List ℕ) (v : Bool) → Widths a b c d e t 
       },
       zeros 180,
     ) in right)
-told a b c d e t u g h i j k q true w =
+reported a b c d e t u g h i j k q true w =
     let x = chunk_of a b c d e t u g h i j k q true in
     let parts : PartWidths a b c d e t (le16 1) u (zeros 10) (zeros 180) = record {
       a-width = w.a-width;
@@ -157,10 +157,10 @@ told a b c d e t u g h i j k q true w =
     } in
     let s = slices a b c d e t (le16 1) u (zeros 10) (zeros 180) q parts in
     let version : u16_at x 346 ≡ 1 = ap (from_le_bytes w16) s.v-is in
-    same_told _ a _ b _ c _ d _ e _ u _ [] _ (zeros 180) _ (from_le_bytes w64 t) _ 1 s.a-is s.b-is s.c-is s.d-is s.e-is
+    same_reported _ a _ b _ c _ d _ e _ u _ [] _ (zeros 180) _ (from_le_bytes w64 t) _ 1 s.a-is s.b-is s.c-is s.d-is s.e-is
     (ap (from_le_bytes w64) s.t-is) version s.u-is
     (ap (λ (n : ℕ). cond (nat_le 2 n) (numbers x) []) version) s.z-is
-told a b c d e t u g h i j k q false w =
+reported a b c d e t u g h i j k q false w =
     let x = chunk_of a b c d e t u g h i j k q false in
     let l = g ++ (h ++ (i ++ (j ++ (k ++ [])))) in
     let lg : length g ≡ 2 = cc (w.level-widths) in
@@ -192,7 +192,7 @@ told a b c d e t u g h i j k q false w =
     from_le_bytes w16 (slice_range x from to) ≡ from_le_bytes w16 y =
     λ from to y is. ap (λ (bytes : List ℕ). from_le_bytes w16 (slice_range bytes from to)) whole
     ∙ ap (from_le_bytes w16) is in
-    same_told _ a _ b _ c _ d _ e _ u _ (map (from_le_bytes w16) (g ∷ h ∷ i ∷ j ∷ k ∷ [])) _ (zeros 180) _
+    same_reported _ a _ b _ c _ d _ e _ u _ (map (from_le_bytes w16) (g ∷ h ∷ i ∷ j ∷ k ∷ [])) _ (zeros 180) _
     (from_le_bytes w64 t) _ 2 s.a-is s.b-is s.c-is s.d-is s.e-is (ap (from_le_bytes w64) s.t-is) version s.u-is
     (ap (λ (n : ℕ). cond (nat_le 2 n) (numbers x) []) version
     ∙ same_five _ (from_le_bytes w16 g) _ (from_le_bytes w16 h) _ (from_le_bytes w16 i) _ (from_le_bytes w16 j) _
@@ -202,13 +202,13 @@ told a b c d e t u g h i j k q false w =
 
 pub fields_read_back : FieldsReadBack
 fields_read_back fields rest h =
-    by_name (λ fs. bext_at (bext_fixed fs ++ rest) ≡ (told_bext fs, zeros 180)) named fields h
+    by_name (λ fs. bext_at (bext_fixed fs ++ rest) ≡ (reported_bext fs, zeros 180)) named fields h
   where
     named : (a b c d e t u : List ℕ) (levels : List (List ℕ)) → Widths a b c d e t u levels →
         bext_at (bext_fixed (a ∷ b ∷ c ∷ d ∷ e ∷ t ∷ u ∷ levels) ++ rest)
-        ≡ (told_bext (a ∷ b ∷ c ∷ d ∷ e ∷ t ∷ u ∷ levels), zeros 180)
+        ≡ (reported_bext (a ∷ b ∷ c ∷ d ∷ e ∷ t ∷ u ∷ levels), zeros 180)
     named a b c d e t u (g ∷ h ∷ i ∷ j ∷ k ∷ []) w =
-        told a b c d e t u g h i j k rest (version_1 (g ∷ h ∷ i ∷ j ∷ k ∷ [])) w
+        reported a b c d e t u g h i j k rest (version_1 (g ∷ h ∷ i ∷ j ∷ k ∷ [])) w
     named a b c d e t u [] w = cc (w.level-widths)
     named a b c d e t u (g ∷ []) w = cc (w.level-widths)
     named a b c d e t u (g ∷ h ∷ []) w = cc (w.level-widths)

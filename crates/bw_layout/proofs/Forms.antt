@@ -11,7 +11,7 @@ pub matches_from : (form value : List ℕ) (i : ℕ) → i < length form → i <
     ≡ (fits_place (get_or form i 0) (get_or value i 0) && matches (drop (i + 1) form) (drop (i + 1) value))
 matches_from form value i f v = rw (drop-cons form i 0, drop-cons value i 0, add-one) refl
 
--- behind the ends of both nothing is left to fit
+-- after the ends of both nothing is left to fit
 pub matches_end : (form value : List ℕ) → length form ≡ length value →
     matches (drop (length value) form) (drop (length value) value) ≡ true
 matches_end form value h =

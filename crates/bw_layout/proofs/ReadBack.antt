@@ -12,7 +12,7 @@ use Rattle.bw_model.specs.Reading.{table_at}
 use Rattle.bw_model.specs.Report.{RawFmt, RawCue, raw_cues}
 use Rattle.bw_layout.specs.declared.chunk.ChunkHead.{ChunkHead}
 use Rattle.bw_layout.specs.ReadBack.{HeadsReadBack, FormatsReadBack, EntriesReadBack, EachDs64ReadsBack}
-use Rattle.bw_model.specs.ReadBack.{told_cue}
+use Rattle.bw_model.specs.ReadBack.{reported_cue}
 use Rattle.bw_layout.specs.ReadBack.{CuePointsReadBack, EachCueChunkReadsBack, IsEntry, IsMarker}
 use Rattle.bw_layout.specs.Tables.{Fixed, entry_bytes, entry_at, ds64_with_table}
 use Rattle.bw_layout.proofs.JoinedRanges.{range_at_seam}
@@ -71,24 +71,24 @@ same_fixed : (f f' d d' n n' : ℕ) → f ≡ f' → d ≡ d' → n ≡ n' →
     left ≡ right
 same_fixed f f' d d' n n' fe de ne = cc
 
--- an entry behind a front, of any four and any eight bytes
-record EntryStep (front id size more : List ℕ) (p : ℕ) (b : List ℕ) : Type 0 where
+-- an entry after a prefix, of any four and any eight bytes
+record EntryStep (prefix id size more : List ℕ) (p : ℕ) (b : List ℕ) : Type 0 where
   id-is : slice_range b p (p + 4) ≡ id
   size-is : slice_range b (p + 4) (p + 4 + 8) ≡ size
-  next : b ≡ (front ++ (id ++ size)) ++ more
-  next-place : length (front ++ (id ++ size)) ≡ p + 12
+  next : b ≡ (prefix ++ (id ++ size)) ++ more
+  next-place : length (prefix ++ (id ++ size)) ≡ p + 12
 
-entry_step : (front id size es rest : List ℕ) (p : ℕ) → length front ≡ p → length id ≡ 4 → length size ≡ 8 →
-    EntryStep front id size (es ++ rest) p (front ++ (((id ++ size) ++ es) ++ rest))
-entry_step front id size es rest p place four eight =
-    let at-id : front ++ (((id ++ size) ++ es) ++ rest) ≡ front ++ (id ++ (size ++ (es ++ rest))) = simp append_assoc in
-    let at-size : front ++ (((id ++ size) ++ es) ++ rest) ≡ (front ++ id) ++ (size ++ (es ++ rest)) =
+entry_step : (prefix id size es rest : List ℕ) (p : ℕ) → length prefix ≡ p → length id ≡ 4 → length size ≡ 8 →
+    EntryStep prefix id size (es ++ rest) p (prefix ++ (((id ++ size) ++ es) ++ rest))
+entry_step prefix id size es rest p place four eight =
+    let at-id : prefix ++ (((id ++ size) ++ es) ++ rest) ≡ prefix ++ (id ++ (size ++ (es ++ rest))) = simp append_assoc in
+    let at-size : prefix ++ (((id ++ size) ++ es) ++ rest) ≡ (prefix ++ id) ++ (size ++ (es ++ rest)) =
     simp append_assoc in
     record {
       id-is = ap (λ (b : List ℕ). slice_range b p (p + 4)) at-id
-          ∙ range_at_seam front id (size ++ (es ++ rest)) p 4 place four;
+          ∙ range_at_seam prefix id (size ++ (es ++ rest)) p 4 place four;
       size-is = ap (λ (b : List ℕ). slice_range b (p + 4) (p + 4 + 8)) at-size
-          ∙ range_at_seam (front ++ id) size (es ++ rest) (p + 4) 8 (length-append front id ∙ omega arith) eight;
+          ∙ range_at_seam (prefix ++ id) size (es ++ rest) (p + 4) 8 (length-append prefix id ∙ omega arith) eight;
       next = simp append_assoc;
       next-place = simp length-append (omega arith);
     }
@@ -97,27 +97,27 @@ same_entries : (i i' : List ℕ) (n n' : ℕ) (t t' : List (List ℕ × ℕ)) �
     (let e : List ℕ × ℕ = (i, n) in e ∷ t) ≡ (let e : List ℕ × ℕ = (i', n') in e ∷ t')
 same_entries i i' n n' t t' ie ne te = cc
 
--- the table behind a front
-table_read_back : (table : List (List ℕ × ℕ)) (front rest : List ℕ) (p : ℕ) → length front ≡ p → All IsEntry table →
-    table_at (front ++ (flat_map entry_bytes table ++ rest)) p (length table) ≡ table
-table_read_back [] front rest p place entries = refl
-table_read_back (e ∷ es) front rest p place entries =
+-- the table after a prefix
+table_read_back : (table : List (List ℕ × ℕ)) (prefix rest : List ℕ) (p : ℕ) → length prefix ≡ p → All IsEntry table →
+    table_at (prefix ++ (flat_map entry_bytes table ++ rest)) p (length table) ≡ table
+table_read_back [] prefix rest p place entries = refl
+table_read_back (e ∷ es) prefix rest p place entries =
     let is = All-head IsEntry e es entries in
-    let step = entry_step front e.0 (le64 e.1) (flat_map entry_bytes es) rest p place is.id refl in
+    let step = entry_step prefix e.0 (le64 e.1) (flat_map entry_bytes es) rest p place is.id refl in
     same_entries _ e.0 _ e.1 _ es
     step.id-is (ap (from_le_bytes w64) step.size-is ∙ from_le_bytes-to_le_bytes_8 e.1 is.size)
     (ap (λ (b : List ℕ). table_at b (p + 12) (length es)) step.next
-    ∙ table_read_back es (front ++ entry_bytes e) rest (p + 12) step.next-place (All-tail IsEntry e es entries))
+    ∙ table_read_back es (prefix ++ entry_bytes e) rest (p + 12) step.next-place (All-tail IsEntry e es entries))
 
 pub ds64_reads_back : EachDs64ReadsBack
 unfolding ds64_with_table
 ds64_reads_back form data_size table rest form-fits data-fits table-fits entries =
-    let front = le64 form ++ le64 data_size ++ le64 0 ++ le32 (length table) in
+    let prefix = le64 form ++ le64 data_size ++ le64 0 ++ le32 (length table) in
     record {
       fixed = same_fixed _ form _ data_size _ (length table) (from_le_bytes-to_le_bytes_8 form form-fits)
           (from_le_bytes-to_le_bytes_8 data_size data-fits) (from_le_bytes-to_le_bytes_4 (length table) table-fits);
       entries = ap (λ (b : List ℕ). table_at b 28 (length table))
-          (append_assoc front (flat_map entry_bytes table) rest) ∙ table_read_back table front rest 28 refl entries;
+          (append_assoc prefix (flat_map entry_bytes table) rest) ∙ table_read_back table prefix rest 28 refl entries;
     }
 
 same_cue : (i i' p p' o o' : ℕ) → i ≡ i' → p ≡ p' → o ≡ o' →
@@ -131,28 +131,28 @@ cue_points_read_back m rest is =
     same_cue _ m.0 _ m.1 _ m.1 (from_le_bytes-to_le_bytes_4 m.0 is.id) (from_le_bytes-to_le_bytes_4 m.1 is.frame)
     (from_le_bytes-to_le_bytes_4 m.1 is.frame)
 
--- a cue point behind a front, of any pieces of four bytes
-record PointStep (front a b c d e f more : List ℕ) (p : ℕ) (bytes : List ℕ) : Type 0 where
+-- a cue point after a prefix, of any pieces of four bytes
+record PointStep (prefix a b c d e f more : List ℕ) (p : ℕ) (bytes : List ℕ) : Type 0 where
   id-is : slice_range bytes p (p + 4) ≡ a
   position-is : slice_range bytes (p + 4) (p + 4 + 4) ≡ b
   offset-is : slice_range bytes (p + 20) (p + 20 + 4) ≡ f
-  next : bytes ≡ (front ++ (a ++ b ++ c ++ d ++ e ++ f)) ++ more
-  next-place : length (front ++ (a ++ b ++ c ++ d ++ e ++ f)) ≡ p + 24
+  next : bytes ≡ (prefix ++ (a ++ b ++ c ++ d ++ e ++ f)) ++ more
+  next-place : length (prefix ++ (a ++ b ++ c ++ d ++ e ++ f)) ≡ p + 24
 
-point_step : (front a b c d e f ms rest : List ℕ) (p : ℕ) → length front ≡ p → length a ≡ 4 → length b ≡ 4 →
+point_step : (prefix a b c d e f ms rest : List ℕ) (p : ℕ) → length prefix ≡ p → length a ≡ 4 → length b ≡ 4 →
     length c ≡ 4 → length d ≡ 4 → length e ≡ 4 → length f ≡ 4 →
-    PointStep front a b c d e f (ms ++ rest) p (front ++ (((a ++ b ++ c ++ d ++ e ++ f) ++ ms) ++ rest))
-point_step front a b c d e f ms rest p place la lb lc ld le lf =
-    let bytes = front ++ (((a ++ b ++ c ++ d ++ e ++ f) ++ ms) ++ rest) in
-    let at-id : bytes ≡ front ++ (a ++ (b ++ (c ++ (d ++ (e ++ (f ++ (ms ++ rest))))))) = simp append_assoc in
-    let at-position : bytes ≡ (front ++ a) ++ (b ++ (c ++ (d ++ (e ++ (f ++ (ms ++ rest)))))) = simp append_assoc in
-    let at-offset : bytes ≡ (front ++ a ++ b ++ c ++ d ++ e) ++ (f ++ (ms ++ rest)) = simp append_assoc in
+    PointStep prefix a b c d e f (ms ++ rest) p (prefix ++ (((a ++ b ++ c ++ d ++ e ++ f) ++ ms) ++ rest))
+point_step prefix a b c d e f ms rest p place la lb lc ld le lf =
+    let bytes = prefix ++ (((a ++ b ++ c ++ d ++ e ++ f) ++ ms) ++ rest) in
+    let at-id : bytes ≡ prefix ++ (a ++ (b ++ (c ++ (d ++ (e ++ (f ++ (ms ++ rest))))))) = simp append_assoc in
+    let at-position : bytes ≡ (prefix ++ a) ++ (b ++ (c ++ (d ++ (e ++ (f ++ (ms ++ rest)))))) = simp append_assoc in
+    let at-offset : bytes ≡ (prefix ++ a ++ b ++ c ++ d ++ e) ++ (f ++ (ms ++ rest)) = simp append_assoc in
     record {
-      id-is = ap (λ (x : List ℕ). slice_range x p (p + 4)) at-id ∙ range_at_seam front a _ p 4 place la;
+      id-is = ap (λ (x : List ℕ). slice_range x p (p + 4)) at-id ∙ range_at_seam prefix a _ p 4 place la;
       position-is = ap (λ (x : List ℕ). slice_range x (p + 4) (p + 4 + 4)) at-position
-          ∙ range_at_seam (front ++ a) b _ (p + 4) 4 (length-append front a ∙ omega arith) lb;
+          ∙ range_at_seam (prefix ++ a) b _ (p + 4) 4 (length-append prefix a ∙ omega arith) lb;
       offset-is = ap (λ (x : List ℕ). slice_range x (p + 20) (p + 20 + 4)) at-offset
-          ∙ range_at_seam (front ++ a ++ b ++ c ++ d ++ e) f (ms ++ rest) (p + 20) 4
+          ∙ range_at_seam (prefix ++ a ++ b ++ c ++ d ++ e) f (ms ++ rest) (p + 20) 4
           (simp length-append (omega arith)) lf;
       next = simp append_assoc;
       next-place = simp length-append (omega arith);
@@ -166,25 +166,25 @@ same_cues i i' p p' o o' t t' ie pe oe te = cc
 number_back : (n : ℕ) (bytes : List ℕ) → n < 2 ^ 32 → bytes ≡ le32 n → from_le_bytes w32 bytes ≡ n
 number_back n bytes fits is = ap (from_le_bytes w32) is ∙ from_le_bytes-to_le_bytes_4 n fits
 
--- the points behind a front
-points_read_back : (markers : List (ℕ × ℕ)) (front rest : List ℕ) (p : ℕ) → length front ≡ p → All IsMarker markers →
-    raw_cues (front ++ (flat_map cue_point markers ++ rest)) p (length markers) ≡ map told_cue markers
-points_read_back [] front rest p place are = refl
-points_read_back (m ∷ ms) front rest p place are =
+-- the points after a prefix
+points_read_back : (markers : List (ℕ × ℕ)) (prefix rest : List ℕ) (p : ℕ) → length prefix ≡ p → All IsMarker markers →
+    raw_cues (prefix ++ (flat_map cue_point markers ++ rest)) p (length markers) ≡ map reported_cue markers
+points_read_back [] prefix rest p place are = refl
+points_read_back (m ∷ ms) prefix rest p place are =
     let is = All-head IsMarker m ms are in
-    let step = point_step front (le32 m.0) (le32 m.1) (codes "data") (le32 0) (le32 0) (le32 m.1)
+    let step = point_step prefix (le32 m.0) (le32 m.1) (codes "data") (le32 0) (le32 0) (le32 m.1)
     (flat_map cue_point ms) rest p place refl refl refl refl refl refl in
-    same_cues _ m.0 _ m.1 _ m.1 _ (map told_cue ms)
+    same_cues _ m.0 _ m.1 _ m.1 _ (map reported_cue ms)
     (number_back m.0 _ is.id step.id-is) (number_back m.1 _ is.frame step.position-is)
     (number_back m.1 _ is.frame step.offset-is)
     (ap (λ (b : List ℕ). raw_cues b (p + 24) (length ms)) step.next
-    ∙ points_read_back ms (front ++ cue_point m) rest (p + 24) step.next-place (All-tail IsMarker m ms are))
+    ∙ points_read_back ms (prefix ++ cue_point m) rest (p + 24) step.next-place (All-tail IsMarker m ms are))
 
 pub cues_read_back : EachCueChunkReadsBack
 cues_read_back markers rest few are =
-    let front = le32 (length markers) in
+    let prefix = le32 (length markers) in
     record {
       count = from_le_bytes-to_le_bytes_4 (length markers) few;
       points = ap (λ (b : List ℕ). raw_cues b 4 (length markers))
-          (append_assoc front (flat_map cue_point markers) rest) ∙ points_read_back markers front rest 4 refl are;
+          (append_assoc prefix (flat_map cue_point markers) rest) ∙ points_read_back markers prefix rest 4 refl are;
     }

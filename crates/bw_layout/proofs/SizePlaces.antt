@@ -8,7 +8,7 @@ use Rattle.bw_model.specs.Take.{Format}
 use Rattle.bw_model.specs.Layout.{head, chunk}
 use Rattle.bw_model.specs.File.{form_size, header, junk_chunk}
 use Rattle.bw_model.proofs.HeaderLaws.{length-header}
-use Rattle.bw_layout.specs.Headers.{middle, ds64, riff_header, bw64_header, riff_middle, bw64_front, bw64_rear}
+use Rattle.bw_layout.specs.Headers.{middle, ds64, riff_header, bw64_header, riff_middle, bw64_prefix, bw64_rear}
 use Rattle.bw_layout.specs.Headers.{EachRiffHasItsSizes, EachBw64HasItsSizes}
 use Rattle.bw_layout.proofs.HeaderKinds.{header_riff, header_bw64}
 
@@ -30,14 +30,14 @@ riff_parts f fields history data_len cues limit h =
 -- a RIFF header around its sizes
 pub riff_sizes_stand : EachRiffHasItsSizes
 riff_sizes_stand f fields history data_len cues limit h fits =
-    let front = codes "RIFF" ++ le32 (form_size (length history) data_len cues) in
+    let prefix = codes "RIFF" ++ le32 (form_size (length history) data_len cues) in
     let whole = riff_parts f fields history data_len cues limit fits in
-    let all : length (front ++ riff_middle f fields history ++ le32 data_len) ≡ 690 + even_up (length history) =
+    let all : length (prefix ++ riff_middle f fields history ++ le32 data_len) ≡ 690 + even_up (length history) =
     ap length (sym whole) ∙ length-header f fields history data_len cues limit h in
-    let parts = length-append (front ++ riff_middle f fields history) (le32 data_len) in
+    let parts = length-append (prefix ++ riff_middle f fields history) (le32 data_len) in
     record {
       whole = whole;
-      middle_length = omega (arith, all, parts, length-append front (riff_middle f fields history));
+      middle_length = omega (arith, all, parts, length-append prefix (riff_middle f fields history));
     }
 
 bw64_regrouped : (outer wave size form data_len none empty rest data_head : List ℕ) →
@@ -47,12 +47,12 @@ bw64_regrouped outer wave size form data_len none empty rest data_head = simp (a
 
 -- a BW64 header around its sizes
 pub bw64_sizes_stand : EachBw64HasItsSizes
-unfolding bw64_header bw64_front bw64_rear ds64
+unfolding bw64_header bw64_prefix bw64_rear ds64
 bw64_sizes_stand f fields history data_len cues limit passes =
     let form = form_size (length history) data_len cues in
     record {
       whole = header_bw64 f fields history data_len cues limit form refl passes
           ∙ bw64_regrouped (head (codes "BW64") unsaid) (codes "WAVE") (head (codes "ds64") 28) (le64 form)
           (le64 data_len) (le64 0) (le32 0) (middle f fields history) (head (codes "data") unsaid);
-      front_length = refl;
+      prefix_length = refl;
     }

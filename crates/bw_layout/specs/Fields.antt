@@ -38,6 +38,6 @@ fits_place form c = if form == 100 then is_ascii_digit c else form == c
 -- value.
 pub record SetsField (shape : Shape) (value : List ℕ) (answer : Result (Unit {0}) FieldError)
     (old new : List ℕ) : Type 0 where
-  pub told : answer ≡ answer_of (shape_fault (Some shape) value)
+  pub reported : answer ≡ answer_of (shape_fault (Some shape) value)
   pub ok : OnOk answer (new ≡ field_bytes shape value)
   pub err : OnErr answer (new ≡ old)

@@ -31,15 +31,15 @@ riff_middle f fields history =
     codes "WAVE" ++ chunk junk_chunk ++ middle f fields history ++ codes "data"
 
 -- a BW64 header before its two sizes
-unfoldable pub bw64_front : List ℕ
-bw64_front = head (codes "BW64") unsaid ++ codes "WAVE" ++ head (codes "ds64") 28
+unfoldable pub bw64_prefix : List ℕ
+bw64_prefix = head (codes "BW64") unsaid ++ codes "WAVE" ++ head (codes "ds64") 28
 
--- a BW64 header behind its `ds64`'s two sizes
+-- a BW64 header after its `ds64`'s two sizes
 unfoldable pub bw64_rear : Format → List (List ℕ) → List ℕ → List ℕ
 bw64_rear f fields history =
     le64 0 ++ le32 0 ++ middle f fields history ++ head (codes "data") unsaid
 
--- In RIFF the form size stands at 4, the data size behind a middle that neither has a say in.
+-- In RIFF the form size stands at 4, the data size after a middle that neither has a say in.
 pub record RiffSizesStand (f : Format) (fields : List (List ℕ)) (history : List ℕ)
     (data_len cues limit : ℕ) : Type 0 where
   pub whole : header f fields history data_len cues limit
@@ -54,13 +54,13 @@ EachRiffHasItsSizes =
     AreFields fields → form_size (length history) data_len cues ≤ limit →
     RiffSizesStand f fields history data_len cues limit
 
--- In BW64 both stand at 20, between a front and a rear that they have no say in.
+-- In BW64 both stand at 20, between a prefix and a rear that they have no say in.
 pub record Bw64SizesStand (f : Format) (fields : List (List ℕ)) (history : List ℕ)
     (data_len cues limit : ℕ) : Type 0 where
   pub whole : header f fields history data_len cues limit
-      ≡ bw64_front ++ (le64 (form_size (length history) data_len cues) ++ le64 data_len)
+      ≡ bw64_prefix ++ (le64 (form_size (length history) data_len cues) ++ le64 data_len)
       ++ bw64_rear f fields history
-  pub front_length : length bw64_front ≡ 20
+  pub prefix_length : length bw64_prefix ≡ 20
 
 -- a BW64 header has both sizes in `ds64`
 abbrev pub EachBw64HasItsSizes : Type 0

@@ -28,7 +28,7 @@ field_ranges =
     ∷ (410, 8)  -- OriginationTime
     ∷ (418, 8)  -- TimeReference
     ∷ (428, 64)  -- UMID
-    ∷ (426, 76)  -- LoudnessValue: from Version on, which tells whether one is given
+    ∷ (426, 76)  -- LoudnessValue: from Version on, which says whether one is given
     ∷ (426, 76)  -- LoudnessRange
     ∷ (426, 76)  -- MaxTruePeakLevel
     ∷ (426, 76)  -- MaxMomentaryLoudness

@@ -6,7 +6,7 @@ use Rattle.bw_model.specs.Layout.{head, fmt_content, bext_fixed, cue_point}
 use Rattle.bw_model.specs.Layout.{cue_content}
 use Rattle.bw_model.specs.Reading.{table_at}
 use Rattle.bw_model.specs.Report.{raw_fmt, raw_cues}
-use Rattle.bw_model.specs.ReadBack.{told_fmt, told_bext, told_cue}
+use Rattle.bw_model.specs.ReadBack.{reported_fmt, reported_bext, reported_cue}
 use Rattle.bw_layout.specs.Heads.{chunk_head}
 use Rattle.bw_layout.specs.Raw.{raw_cue, bext_at}
 use Rattle.bw_layout.specs.Tables.{entry_bytes, ds64_with_table, entry_at, fixed_at}
@@ -19,12 +19,12 @@ HeadsReadBack = (id rest : List ℕ) (size : ℕ) → length id ≡ 4 → size <
 -- so is the content of `fmt `
 abbrev pub FormatsReadBack : Type 0
 FormatsReadBack = (f : Format) (rest : List ℕ) → IsTrue (is_format f) →
-    raw_fmt (fmt_content f ++ rest) ≡ told_fmt f
+    raw_fmt (fmt_content f ++ rest) ≡ reported_fmt f
 
 -- so is the content of `bext`, with its reserved bytes
 abbrev pub FieldsReadBack : Type 0
 FieldsReadBack = (fields : List (List ℕ)) (rest : List ℕ) → AreFields fields →
-    bext_at (bext_fixed fields ++ rest) ≡ (told_bext fields, zeros 180)
+    bext_at (bext_fixed fields ++ rest) ≡ (reported_bext fields, zeros 180)
 
 -- an entry of four bytes and a size of eight
 pub record IsEntry (e : List ℕ × ℕ) : Type 0 where
@@ -58,12 +58,12 @@ pub record IsMarker (m : ℕ × ℕ) : Type 0 where
 -- so is a cue point
 abbrev pub CuePointsReadBack : Type 0
 CuePointsReadBack = (m : ℕ × ℕ) (rest : List ℕ) → IsMarker m →
-    raw_cue (cue_point m ++ rest) ≡ told_cue m
+    raw_cue (cue_point m ++ rest) ≡ reported_cue m
 
 -- the cue points of a `cue ` chunk are read back
 pub record CuesReadBack (markers : List (ℕ × ℕ)) (rest : List ℕ) : Type 0 where
   pub count : u32_at (cue_content markers ++ rest) 0 ≡ length markers
-  pub points : raw_cues (cue_content markers ++ rest) 4 (length markers) ≡ map told_cue markers
+  pub points : raw_cues (cue_content markers ++ rest) 4 (length markers) ≡ map reported_cue markers
 
 -- so is each `cue ` chunk
 abbrev pub EachCueChunkReadsBack : Type 0

@@ -11,7 +11,7 @@ unfoldable pub ds64_with_table : ℕ → ℕ → List (List ℕ × ℕ) → List
 ds64_with_table form data_size table =
     le64 form ++ le64 data_size ++ le64 0 ++ le32 (length table) ++ flat_map entry_bytes table
 
--- the entry at the front of these bytes
+-- the entry at the start of these bytes
 abbrev pub entry_at : List ℕ → List ℕ × ℕ
 entry_at b = (slice_range b 0 4, u64_at b 4)
 
@@ -21,6 +21,6 @@ pub record Fixed : Type 0 where
   pub data_size : ℕ
   pub table_len : ℕ
 
--- the fixed part at the front of the bytes
+-- the fixed part at the start of the bytes
 abbrev pub fixed_at : List ℕ → Fixed
 fixed_at b = record { form = u64_at b 0; data_size = u64_at b 8; table_len = u32_at b 24 }

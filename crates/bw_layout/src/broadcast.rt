@@ -95,7 +95,7 @@ impl Bext {
     /// The first that holds of `Tag` (the tag is none of 1 to 12), `Length` (the field takes no
     /// value of this length) and `Text` (a byte isn't allowed at its place): nothing changed.
     pub fn set(&mut self, tag: u8, value: &[u8]) -> Result<(), FieldError>
-        ensures told { result ≡ answer_of (field_fault tag value.now) }
+        ensures reported { result ≡ answer_of (field_fault tag value.now) }
         ensures ok { OnOk result (self.new ≡ with_field self.old tag value.now) }
         ensures err { OnErr result (self.new ≡ self.old) }
         ensures widths { AreFields self.new }

@@ -118,8 +118,8 @@ fn put_value(field: &mut [u8], value: &[u8])
     requires { length value.now ≤ length field.old }
     ensures { field.new ≡ value.now ++ zeros (length field.old - length value.now) }
 {
-    let (front, rest) = field.split_at_mut(value.len());
-    front.copy_from_slice(value);
+    let (prefix, rest) = field.split_at_mut(value.len());
+    prefix.copy_from_slice(value);
     rest.fill(0);
 }
 

@@ -25,7 +25,7 @@ const UNSAID: u32 = 0xffff_ffff;
 pub struct Heading<'a> {
     pub format: Fmt,
     pub bext: &'a Bext,
-    /// The coding history, which stands behind the fields in `bext`.
+    /// The coding history, which stands after the fields in `bext`.
     pub history: &'a [u8],
     pub limit: Limit,
     ghost widths: { AreFields bext.now },

@@ -105,7 +105,7 @@ pub fn put_ds64(_alloc: Global, out: &mut Vec<u8>, sizes: &Ds64) -> Result<(), A
     Ok(())
 }
 
-/// Reads what stands before the table at the front of a `ds64` chunk's content.
+/// Reads what stands before the table at the start of a `ds64` chunk's content.
 ///
 /// # Errors
 /// Short where there are fewer than 28 bytes.

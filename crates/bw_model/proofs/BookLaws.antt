@@ -11,10 +11,10 @@ use Rattle.bw_model.specs.Wire.{Message, Says, Asks, Bye, Second, last_number, i
 use Rattle.bw_model.specs.ReadBack.{is_admitted as spelled}
 use Rattle.bw_model.specs.Replies.{Reply, TooFar, TableFull, NoRoom}
 use Rattle.bw_model.specs.Book.{Log, Book, log_of, is_known, with_log, no_log, run_end}
-use Rattle.bw_model.specs.Turn.{Luck, turn, turn_by, served, notice, window, most_takes, is_admissible, admitted_after}
+use Rattle.bw_model.specs.Turn.{Faults, turn, turn_by, served, notice, window, most_takes, is_admissible, admitted_after}
 use Rattle.bw_model.specs.Turn.{drained_to, is_full, with_change, message_turn}
 use Rattle.bw_model.specs.BookRules.{IsLog, HasEachOnce, IsBook, TurnsKeepBooks, NoBookHasANameTwice}
-use Rattle.bw_model.specs.BookRules.{NamesTellTheLength}
+use Rattle.bw_model.specs.BookRules.{NamesReportTheLength}
 use Rattle.bw_model.proofs.MapLemmas.{first_free-put}
 use Rattle.bw_model.proofs.BookLemmas.{same_name, name_refl, log-with_log_same, log-with_log_other}
 use Rattle.bw_model.proofs.BookLemmas.{known-with_log_other, unknown_log}
@@ -43,7 +43,7 @@ first_free-length [] = omega arith
 first_free-length (None ∷ ys) = omega arith
 first_free-length (Some y ∷ ys) = let h : first_free ys ≤ length ys = first_free-length ys in omega arith
 
--- behind numbers that are all in the map
+-- after numbers that are all in the map
 pub first_free-drop : {X : Type 0} (d : ℕ) (s : List (Option X)) → d ≤ first_free s →
     d + first_free (drop d s) ≡ first_free s
 first_free-drop zero s h = omega arith
@@ -54,7 +54,7 @@ first_free-drop (suc d) (Some y ∷ ys) h =
 
 -- One log.
 
--- what a message may be served behind: a log of the book, or none
+-- what a message may be served after: a log of the book, or none
 pub record IsServable (log : Log) : Type 0 where
   pub all_done : log.done ≤ first_free log.admitted
   pub none_past : length log.admitted ≤ log.done + window
@@ -207,7 +207,7 @@ length-with_log_grows (e ∷ b) x l = go (bytes_eq e.0 x) (length-with_log_grows
     go true ih = omega arith
     go false ih = omega arith
 
--- a log of a book, or none, is one behind which a message may be served
+-- a log of a book, or none, is one after which a message may be served
 pub is_servable : (b : Book) (name : List ℕ) → IsBook b → IsServable (log_of b name)
 is_servable b name h = go (is_known b name) refl
   where
@@ -241,13 +241,13 @@ book-with_log b x l h log room = record {
         let free : length b < most_takes = leb-false most_takes (length b) (room k) in
         omega (arith, more, free)
 
-message_keeps : (stood : List ℕ → Bool) (b : Book) (m : Message) (luck : Luck) → is_request m.request ≡ true →
+message_keeps : (existed : List ℕ → Bool) (b : Book) (m : Message) (faults : Faults) → is_request m.request ≡ true →
     IsBook b →
-    IsBook (message_turn (stood m.name) b m luck).1
+    IsBook (message_turn (existed m.name) b m faults).1
 unfolding turn_by
-message_keeps stood b m luck fit h =
+message_keeps existed b m faults fit h =
     go (is_known b m.name) refl (nat_le window m.number) refl (is_full b) refl
-    (is_admissible log m.number && luck.refused)
+    (is_admissible log m.number && faults.refused)
   where
     log : Log
     log = log_of b m.name
@@ -257,10 +257,10 @@ message_keeps stood b m luck fit h =
 
     kept : (is_known b m.name ≡ false → is_full b ≡ false) →
         (is_admissible log m.number ≡ false → IsTrue (list_any is_some log.admitted)) →
-        Goal ((served (stood m.name) log m luck.stop).0, Some (served (stood m.name) log m luck.stop).1)
+        Goal ((served (existed m.name) log m faults.stop).0, Some (served (existed m.name) log m faults.stop).1)
     kept room some =
         book-with_log b m.name _ h
-        (served_log (stood m.name) log m luck.stop (is_servable b m.name h) some (all_fit b m.name h) fit) room
+        (served_log (existed m.name) log m faults.stop (is_servable b m.name h) some (all_fit b m.name h) fit) room
 
     admissible : is_known b m.name ≡ false → nat_le window m.number ≡ false → is_admissible log m.number ≡ true
     admissible k near =
@@ -273,7 +273,7 @@ message_keeps stood b m luck fit h =
         is_full b ≡ full → (refused : Bool) →
         Goal (cond (not known && far) (notice m TooFar 0, None) (cond (not known && full) (notice m TableFull 0, None)
         (cond refused (notice m NoRoom log.done, None)
-        ((served (stood m.name) log m luck.stop).0, Some (served (stood m.name) log m luck.stop).1))))
+        ((served (existed m.name) log m faults.stop).0, Some (served (existed m.name) log m faults.stop).1))))
     go false k true f full fl refused = h
     go false k false f true fl refused = h
     go false k false f false fl true = h
@@ -283,11 +283,11 @@ message_keeps stood b m luck fit h =
 
 pub turns_keep_books : TurnsKeepBooks
 unfolding turn
-turns_keep_books stood book (Says m) luck spells h =
-    let front = is_name m.name && nat_le m.number (last_number Second) in
-    message_keeps stood book m luck (and_parts front (is_request m.request) spells).1 h
-turns_keep_books stood book (Asks name n) luck spells h = h
-turns_keep_books stood book Bye luck spells h = h
+turns_keep_books existed book (Says m) faults spells h =
+    let prefix = is_name m.name && nat_le m.number (last_number Second) in
+    message_keeps existed book m faults (and_parts prefix (is_request m.request) spells).1 h
+turns_keep_books existed book (Asks name n) faults spells h = h
+turns_keep_books existed book Bye faults spells h = h
 
 pub empty_book : IsBook []
 empty_book = record { once = tt; logs = λ name known. absurd (false≢true known); few = omega arith }
@@ -361,5 +361,5 @@ same_length (e ∷ a) b ha hb same =
         go false p =
             ap (λ (v : Bool). v || is_known a name) (sym p) ∙ same name ∙ sym (known-without_other b e.0 name p)
 
-pub names_tell_the_length : NamesTellTheLength
-names_tell_the_length a b ha hb same = same_length a b ha.once hb.once same
+pub names_report_the_length : NamesReportTheLength
+names_report_the_length a b ha hb same = same_length a b ha.once hb.once same

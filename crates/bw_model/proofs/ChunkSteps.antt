@@ -7,9 +7,9 @@ use Rattle.std.proofs.lemmas.Bool.{leb-false, ltb-false, le-ltb, lt-leb, le-leb,
 use Rattle.std.proofs.lemmas.Bool.{false≢true}
 use Rattle.bw_model.specs.Bytes.{first_that_holds, unless, u32_at, unsaid}
 use Rattle.bw_model.specs.Reading.{Entry, Form, Fault, Sizes, Head, next, next_by, next_place, head_at, size_at}
-use Rattle.bw_model.specs.Reading.{told_size, chunk_faults, end_faults, form_end, id_at, is_id, single_ids, entry_of}
+use Rattle.bw_model.specs.Reading.{reported_size, chunk_faults, end_faults, form_end, id_at, is_id, single_ids, entry_of}
 use Rattle.bw_model.specs.Reading.{largest}
-use Rattle.bw_model.specs.Front.{IsFirstRow, IsTold, IsSized, IsChunkAt}
+use Rattle.bw_model.specs.Prefix.{IsFirstRow, IsSizeGiven, IsSized, IsChunkAt}
 use Rattle.bw_model.proofs.BookLemmas.{same_name, name_refl}
 
 -- no test of these lines holds
@@ -51,7 +51,7 @@ first_row (row ∷ table) id size e = go (is_id row.0 id) refl e (first_row tabl
         let sized : row.1 ≡ size = cc in
         record {
           before = [];
-          behind = table;
+          following = table;
           whole = ap (λ (z : List ℕ). (z, row.1) ∷ table) named ∙ ap (λ (n : ℕ). (id, n) ∷ table) sized;
           first = refl;
         }
@@ -59,55 +59,55 @@ first_row (row ∷ table) id size e = go (is_id row.0 id) refl e (first_row tabl
         let rest = ih e in
         record {
           before = row ∷ rest.before;
-          behind = rest.behind;
+          following = rest.following;
           whole = ap (λ (z : List (List ℕ × ℕ)). row ∷ z) rest.whole;
           first =
               ap (λ (v : Bool). v || list_any (λ row. is_id row.0 id) rest.before) p ∙ rest.first;
         }
 
-row_first : (before behind : List (List ℕ × ℕ)) (id : List ℕ) (size : ℕ) →
+row_first : (before following : List (List ℕ × ℕ)) (id : List ℕ) (size : ℕ) →
     list_any (λ row. is_id row.0 id) before ≡ false →
-    option_map (λ row. row.1) (find (λ row. is_id row.0 id) (before ++ (id, size) ∷ behind)) ≡ Some size
-row_first [] behind id size h =
-    ap (λ (v : Bool). option_map (λ row. row.1) (cond v (Some (id, size)) (find (λ row. is_id row.0 id) behind)))
+    option_map (λ row. row.1) (find (λ row. is_id row.0 id) (before ++ (id, size) ∷ following)) ≡ Some size
+row_first [] following id size h =
+    ap (λ (v : Bool). option_map (λ row. row.1) (cond v (Some (id, size)) (find (λ row. is_id row.0 id) following)))
     (name_refl id)
-row_first (row ∷ before) behind id size h = go (is_id row.0 id) h (λ q. row_first before behind id size q)
+row_first (row ∷ before) following id size h = go (is_id row.0 id) h (λ q. row_first before following id size q)
   where
     go : (v : Bool) → v || list_any (λ row. is_id row.0 id) before ≡ false →
         (list_any (λ row. is_id row.0 id) before ≡ false →
-        option_map (λ row. row.1) (find (λ row. is_id row.0 id) (before ++ (id, size) ∷ behind)) ≡ Some size) →
-        option_map (λ row. row.1) (cond v (Some row) (find (λ row. is_id row.0 id) (before ++ (id, size) ∷ behind)))
+        option_map (λ row. row.1) (find (λ row. is_id row.0 id) (before ++ (id, size) ∷ following)) ≡ Some size) →
+        option_map (λ row. row.1) (cond v (Some row) (find (λ row. is_id row.0 id) (before ++ (id, size) ∷ following)))
         ≡ Some size
     go true h ih = cc
     go false h ih = ih h
 
 -- what `ds64` tells
 
-told : (sizes : Option Sizes) (id : List ℕ) (size : ℕ) → told_size sizes id ≡ Some size → IsTold sizes id size
-told None id size e = absurd (none e)
+reported : (sizes : Option Sizes) (id : List ℕ) (size : ℕ) → reported_size sizes id ≡ Some size → IsSizeGiven sizes id size
+reported None id size e = absurd (none e)
   where
     none : None ≡ Some size → ⊥
     none e = cc
-told (Some s) id size e = go (is_id id (codes "data")) refl e
+reported (Some s) id size e = go (is_id id (codes "data")) refl e
   where
     go : (v : Bool) → is_id id (codes "data") ≡ v →
         cond v (Some s.«data») (option_map (λ row. row.1) (find (λ row. is_id row.0 id) s.table)) ≡ Some size →
-        IsTold (Some s) id size
+        IsSizeGiven (Some s) id size
     go true p e = inl (same_name id (codes "data") p, (let h : s.«data» ≡ size = cc in sym h))
     go false p e = inr (
       (λ q. false≢true (sym p ∙ ap (λ (z : List ℕ). is_id z (codes "data")) q)),
       first_row s.table id size e,
     )
 
-tells : (sizes : Option Sizes) (id : List ℕ) (size : ℕ) → IsTold sizes id size → told_size sizes id ≡ Some size
-tells None id size h = absurd h
-tells (Some s) id size (inl h) =
-    ap (λ (z : List ℕ). told_size (Some s) z) h.0 ∙ ap (λ (n : ℕ). Some n) (sym h.1)
-tells (Some s) id size (inr h) =
+reports : (sizes : Option Sizes) (id : List ℕ) (size : ℕ) → IsSizeGiven sizes id size → reported_size sizes id ≡ Some size
+reports None id size h = absurd h
+reports (Some s) id size (inl h) =
+    ap (λ (z : List ℕ). reported_size (Some s) z) h.0 ∙ ap (λ (n : ℕ). Some n) (sym h.1)
+reports (Some s) id size (inr h) =
     ap (λ (v : Bool). cond v (Some s.«data») (option_map (λ row. row.1) (find (λ row. is_id row.0 id) s.table)))
     (other (is_id id (codes "data")) refl)
     ∙ ap (λ (t : List (List ℕ × ℕ)). option_map (λ row. row.1) (find (λ row. is_id row.0 id) t)) h.1.whole
-    ∙ row_first h.1.before h.1.behind id size h.1.first
+    ∙ row_first h.1.before h.1.following id size h.1.first
   where
     other : (v : Bool) → is_id id (codes "data") ≡ v → is_id id (codes "data") ≡ false
     other true p = absurd (h.0 (same_name id (codes "data") p))
@@ -171,15 +171,15 @@ has_size : (size : Option ℕ) → is_none size ≡ false → size ≡ Some (unw
 has_size None h = absurd (false≢true (sym h))
 has_size (Some c) h = refl
 
--- the size that stands or is told
+-- the size that stands or is reported
 sized : (b : List ℕ) (form : Form) (p c : ℕ) → size_at b form p ≡ Some c →
     IsSized b form (record { id = id_at b p; place = p; size = c })
 sized b form p c h = go (u32_at b (p + 4) == unsaid) refl h
   where
     go : (v : Bool) → (u32_at b (p + 4) == unsaid) ≡ v →
-        cond v (told_size form.sizes (id_at b p)) (Some (u32_at b (p + 4))) ≡ Some c →
+        cond v (reported_size form.sizes (id_at b p)) (Some (u32_at b (p + 4))) ≡ Some c →
         IsSized b form (record { id = id_at b p; place = p; size = c })
-    go true q h = inr (eqb-true (u32_at b (p + 4)) unsaid q, told form.sizes (id_at b p) c h)
+    go true q h = inr (eqb-true (u32_at b (p + 4)) unsaid q, reported form.sizes (id_at b p) c h)
     go false q h = inl (eqb-false (u32_at b (p + 4)) unsaid q, same h)
       where
         same : Some (u32_at b (p + 4)) ≡ Some c → c ≡ u32_at b (p + 4)
@@ -188,13 +188,13 @@ sized b form p c h = go (u32_at b (p + 4) == unsaid) refl h
 sizes : (b : List ℕ) (form : Form) (p c : ℕ) → IsSized b form (record { id = id_at b p; place = p; size = c }) →
     size_at b form p ≡ Some c
 sizes b form p c (inl h) =
-    ap (λ (v : Bool). cond v (told_size form.sizes (id_at b p)) (Some (u32_at b (p + 4))))
+    ap (λ (v : Bool). cond v (reported_size form.sizes (id_at b p)) (Some (u32_at b (p + 4))))
     (ne_eqb (u32_at b (p + 4)) unsaid h.0) ∙ ap (λ (n : ℕ). Some n) (sym h.1)
 sizes b form p c (inr h) =
-    ap (λ (v : Bool). cond v (told_size form.sizes (id_at b p)) (Some (u32_at b (p + 4))))
-    (eq-eqb (u32_at b (p + 4)) unsaid h.0) ∙ tells form.sizes (id_at b p) c h.1
+    ap (λ (v : Bool). cond v (reported_size form.sizes (id_at b p)) (Some (u32_at b (p + 4))))
+    (eq-eqb (u32_at b (p + 4)) unsaid h.0) ∙ reports form.sizes (id_at b p) c h.1
 
--- what it takes that a chunk is listed behind those seen
+-- what it takes that a chunk is listed after those seen
 pub record Step (b : List ℕ) (form : Form) (seen : List Entry) (e : Entry) : Type 0 where
   pub few : length seen < 4096
   pub place : e.place ≡ next_place seen

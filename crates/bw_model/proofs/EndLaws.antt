@@ -6,12 +6,12 @@ use Rattle.std.specs.Prelude.{nat_le, is_none, is_some, codes, unwrap_or}
 use Rattle.std.proofs.lemmas.Bool.{false≢true, leb-false, lt-leb}
 use Rattle.std.proofs.lemmas.List.{append-nil}
 use Rattle.bw_model.specs.Bytes.{first_that_holds, unless}
-use Rattle.bw_model.specs.Reading.{Entry, Form, Fault, FollowEachOther, IsFront, IsReading, IsFault, BytesReadOrFault}
+use Rattle.bw_model.specs.Reading.{Entry, Form, Fault, FollowEachOther, IsPrefix, IsReading, IsFault, BytesReadOrFault}
 use Rattle.bw_model.specs.Reading.{outer, next, next_place, head_at, chunk_faults, end_faults, form_end, entry_of, walk}
 use Rattle.bw_model.specs.Reading.{read}
-use Rattle.bw_model.specs.Front.{StandsFirst, EndsForm, count_of, ReadingsEndForms}
+use Rattle.bw_model.specs.Prefix.{StandsFirst, EndsForm, count_of, ReadingsEndForms}
 use Rattle.bw_model.proofs.ChunkSteps.{none_holds, first-none, steps_to}
-use Rattle.bw_model.proofs.FrontLaws.{none-count, count-none, fronts}
+use Rattle.bw_model.proofs.PrefixLaws.{none-count, count-none, prefixes}
 
 -- no chunk comes where no head fits, and `fmt ` and `data` were seen
 record Ends (form : Form) (seen : List Entry) : Type 0 where
@@ -94,7 +94,7 @@ readings b form entries = (to, from)
   where
     to : IsReading b form entries → StandsFirst b form entries × EndsForm form entries
     to r =
-        let s = (fronts b form entries).0 r.front in
+        let s = (prefixes b form entries).0 r.prefix in
         let e = ends_to b form entries r.ends in (
           s,
           record {
@@ -106,7 +106,7 @@ readings b form entries = (to, from)
 
     from : StandsFirst b form entries × EndsForm form entries → IsReading b form entries
     from h = record {
-      front = (fronts b form entries).1 h.0;
+      prefix = (prefixes b form entries).1 h.0;
       ends = ends_from b form entries
           (record {
             ends = h.1.ends;
@@ -115,7 +115,7 @@ readings b form entries = (to, from)
           });
     }
 
--- one more chunk behind those that follow each other
+-- one more chunk after those that follow each other
 follow-push : (comes : List Entry → Result (Option Entry) Fault) (before seen : List Entry) (e : Entry) →
     FollowEachOther comes before seen → comes (before ++ seen) ≡ Ok (Some e) →
     FollowEachOther comes before (seen ++ e ∷ [])
@@ -163,27 +163,27 @@ faults_at b fault h = record {
     same : (f : Fault) → broken ≡ Err f → fault ≡ f
     same f e = cc
 
-walks : (steps : ℕ) (b : List ℕ) (form : Form) (seen : List Entry) → IsFront b form seen → length seen + steps ≡ 4097 →
+walks : (steps : ℕ) (b : List ℕ) (form : Form) (seen : List Entry) → IsPrefix b form seen → length seen + steps ≡ 4097 →
     length seen ≤ 4096 → Walks b (walk steps b form seen)
 unfolding walk
-walks zero b form seen front all few = absurd (omega arith)
-walks (suc steps) b form seen front all few =
+walks zero b form seen prefix all few = absurd (omega arith)
+walks (suc steps) b form seen prefix all few =
     go (next b form seen) refl (λ e f k l. walks steps b form (seen ++ e ∷ []) f k l)
   where
     go : (x : Result (Option Entry) Fault) → next b form seen ≡ x →
-        ((e : Entry) → IsFront b form (seen ++ e ∷ []) → length (seen ++ e ∷ []) + steps ≡ 4097 →
+        ((e : Entry) → IsPrefix b form (seen ++ e ∷ []) → length (seen ++ e ∷ []) + steps ≡ 4097 →
         length (seen ++ e ∷ []) ≤ 4096 → Walks b (walk steps b form (seen ++ e ∷ []))) →
         Walks b (elim x [
           | Err fault ↦ Err fault
           | Ok more ↦ elim more [ None ↦ Ok (form, seen) | Some e ↦ walk steps b form (seen ++ e ∷ []) ]
         ])
-    go (Err fault) q ih = faults_at b fault (inr (form, (seen, (front, q))))
-    go (Ok None) q ih = read_whole b form seen (record { front = front; ends = q })
+    go (Err fault) q ih = faults_at b fault (inr (form, (seen, (prefix, q))))
+    go (Ok None) q ih = read_whole b form seen (record { prefix = prefix; ends = q })
     go (Ok (Some e)) q ih =
         let step = steps_to b form seen e q in
         let room : length seen < 4096 = step.few in
         let longer = length-append seen (e ∷ []) in
-        ih e (record { header = front.header; chunks = follow-push (next b form) [] seen e front.chunks q })
+        ih e (record { header = prefix.header; chunks = follow-push (next b form) [] seen e prefix.chunks q })
         (omega (arith, longer)) (omega (arith, longer))
 
 pub reads : BytesReadOrFault

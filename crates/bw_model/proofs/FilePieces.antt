@@ -1,4 +1,4 @@
--- The chunks of a take's file, as pieces that stand one behind another.
+-- The chunks of a take's file, as pieces that stand one after another.
 use Rattle.std.proofs.Common.{◌≡◌, ℕ, ◌+◌, ◌*◌, ◌<◌, ◌≤◌, ◌^◌, false, inl, List, [], ◌∷◌, ◌++◌, length, refl, sym, ◌∙◌}
 use Rattle.std.proofs.Common.{ap, arith, append_assoc, length-append}
 use Rattle.std.specs.Prelude.{flat_map, codes, map}
@@ -8,7 +8,7 @@ use Rattle.std.proofs.lemmas.Nat.{from_le_bytes-to_le_bytes_4}
 use Rattle.bw_model.specs.Bytes.{even_up, u32_at}
 use Rattle.bw_model.specs.Take.{Format, Take, AreFields}
 use Rattle.bw_model.specs.Layout.{Chunk, chunk, chunk_sized, bext_fixed, cue_content}
-use Rattle.bw_model.specs.File.{form_of, fmt_chunk, bext_chunk, data_chunk, cue_chunks, chunks_before, chunks_behind}
+use Rattle.bw_model.specs.File.{form_of, fmt_chunk, bext_chunk, data_chunk, cue_chunks, chunks_before, chunks_after}
 use Rattle.bw_model.specs.File.{cues, data_place}
 use Rattle.bw_model.specs.Reading.{Entry, Form, is_id, largest}
 use Rattle.bw_model.specs.ReadBack.{read_cues}
@@ -23,9 +23,9 @@ own c = (length c.content, c)
 abbrev pub pieces : Format → Take → Chunk → ℕ → List Piece
 pieces f t first data_size =
     own first ∷ own (fmt_chunk f) ∷ own (bext_chunk t.fields t.history) ∷ (data_size, data_chunk t.samples)
-    ∷ map own (chunks_behind t)
+    ∷ map own (chunks_after t)
 
--- the form is its pieces behind `WAVE`
+-- the form is its pieces after `WAVE`
 pub form-pieces : (outer : List ℕ) (f : Format) (t : Take) (first : Chunk) (data_size : ℕ) →
     outer ++ form_of f t first data_size
     ≡ (outer ++ codes "WAVE") ++ (flat_map piece_bytes (pieces f t first data_size) ++ [])
@@ -33,9 +33,9 @@ unfolding form_of
 form-pieces outer f t first data_size =
     ap (λ (z : List ℕ). outer
     ++ (codes "WAVE" ++ chunk first ++ flat_map chunk (chunks_before f t)
-    ++ chunk_sized data_size (data_chunk t.samples) ++ z)) (sym (owns (chunks_behind t)))
+    ++ chunk_sized data_size (data_chunk t.samples) ++ z)) (sym (owns (chunks_after t)))
     ∙ joined outer (codes "WAVE") (chunk first) (chunk (fmt_chunk f)) (chunk (bext_chunk t.fields t.history))
-    (chunk_sized data_size (data_chunk t.samples)) (flat_map piece_bytes (map own (chunks_behind t)))
+    (chunk_sized data_size (data_chunk t.samples)) (flat_map piece_bytes (map own (chunks_after t)))
   where
     owns : (cs : List Chunk) → flat_map piece_bytes (map own cs) ≡ flat_map chunk cs
     owns [] = refl
@@ -150,9 +150,9 @@ pub pieces-listed : (f : Format) (t : Take) (first : Chunk) (data_size : ℕ) �
 pieces-listed f t first data_size l h =
     ap (λ (a : ℕ). by_lengths a (length (bext_fixed t.fields ++ t.history))) l
     ∙ ap (by_lengths 28) (length-bext_content t.fields t.history h)
-    ∙ ap (λ (p : ℕ). front ++ record { id = codes "data"; place = p; size = d } ∷ entries_from (p + 8 + even_up d) cue)
+    ∙ ap (λ (p : ℕ). prefix ++ record { id = codes "data"; place = p; size = d } ∷ entries_from (p + 8 + even_up d) cue)
     samples
-    ∙ ap (λ (es : List Entry). front
+    ∙ ap (λ (es : List Entry). prefix
     ++ record { id = codes "data"; place = 682 + even_up (length t.history); size = d } ∷ es)
     (cue-listed (682 + even_up (length t.history) + 8 + even_up d) (data_place (length t.history) + even_up d)
     (cues t.closed t.markers) (omega arith))
@@ -161,22 +161,22 @@ pieces-listed f t first data_size l h =
     d = length t.samples
 
     cue : List Piece
-    cue = map own (chunks_behind t)
+    cue = map own (chunks_after t)
 
-    front : List Entry
-    front =
+    prefix : List Entry
+    prefix =
         record { id = first.id; place = 12; size = 28 } ∷ record { id = codes "fmt "; place = 48; size = 16 }
         ∷ record { id = codes "bext"; place = 72; size = 602 + length t.history } ∷ []
 
-    behind : ℕ → ℕ → ℕ
-    behind a n = 12 + 8 + even_up a + 8 + even_up 16 + 8 + even_up n
+    following : ℕ → ℕ → ℕ
+    following a n = 12 + 8 + even_up a + 8 + even_up 16 + 8 + even_up n
 
     by_lengths : ℕ → ℕ → List Entry
     by_lengths a n =
         record { id = first.id; place = 12; size = a }
         ∷ record { id = codes "fmt "; place = 12 + 8 + even_up a; size = 16 }
         ∷ record { id = codes "bext"; place = 12 + 8 + even_up a + 8 + even_up 16; size = n }
-        ∷ record { id = codes "data"; place = behind a n; size = d } ∷ entries_from (behind a n + 8 + even_up d) cue
+        ∷ record { id = codes "data"; place = following a n; size = d } ∷ entries_from (following a n + 8 + even_up d) cue
 
-    samples : behind 28 (602 + length t.history) ≡ 682 + even_up (length t.history)
+    samples : following 28 (602 + length t.history) ≡ 682 + even_up (length t.history)
     samples = omega arith

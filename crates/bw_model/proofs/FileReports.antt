@@ -11,8 +11,8 @@ use Rattle.bw_model.specs.File.{file_with, form_len, junk_chunk, ds64_chunk, fmt
 use Rattle.bw_model.specs.File.{data_place}
 use Rattle.bw_model.specs.Reading.{Entry, Form, entry_of, is_id}
 use Rattle.bw_model.specs.Report.{RawFmt, RawBext, RawCue, Report, report_of, content_of, raw_fmt, raw_bext, raw_cues}
-use Rattle.bw_model.specs.ReadBack.{IsWithinLimits, FilesReadBack, read_form, read_chunks, read_cues, told_fmt}
-use Rattle.bw_model.specs.ReadBack.{told_bext, told_cue, told_report, is_marker}
+use Rattle.bw_model.specs.ReadBack.{IsWithinLimits, FilesReadBack, read_form, read_chunks, read_cues, reported_fmt}
+use Rattle.bw_model.specs.ReadBack.{reported_bext, reported_cue, reported_report, is_marker}
 use Rattle.bw_model.proofs.FileLaws.{file_len}
 use Rattle.bw_model.proofs.Widths.{length-cue_content}
 use Rattle.bw_model.proofs.StandingChunks.{StandsAt, AllStand, content-whole}
@@ -32,12 +32,12 @@ content-at b p q n c s l place size =
     ∙ content-whole b p (own c) s l
 
 -- the cue points that stand from a place on
-cues-told : (b : List ℕ) (p q : ℕ) (markers : List (ℕ × ℕ)) → AllStand b p (map own (cue_chunks markers)) → p ≡ q →
+cues-reported : (b : List ℕ) (p q : ℕ) (markers : List (ℕ × ℕ)) → AllStand b p (map own (cue_chunks markers)) → p ≡ q →
     length markers ≤ 1024 → IsTrue (list_all is_marker markers) →
     raw_cues (content_of b (entry_of (codes "cue ") (read_cues q markers))) 4
-    (u32_at (content_of b (entry_of (codes "cue ") (read_cues q markers))) 0) ≡ map told_cue markers
-cues-told b p q [] s place few h = refl
-cues-told b p q (m ∷ ms) s place few h =
+    (u32_at (content_of b (entry_of (codes "cue ") (read_cues q markers))) 0) ≡ map reported_cue markers
+cues-reported b p q [] s place few h = refl
+cues-reported b p q (m ∷ ms) s place few h =
     ap (λ (c : List ℕ). raw_cues c 4 (u32_at c 0))
     (content-at b p q (4 + 24 * length (m ∷ ms))
     (record { id = codes "cue "; content = cue_content (m ∷ ms) }) s.0 refl place (length-cue_content (m ∷ ms)))
@@ -52,12 +52,12 @@ report-own : (f : Format) (t : Take) (outer : List ℕ) (first : Chunk) (data_si
       form = form.id;
       size = form_len f t;
       chunks = listed first.id t;
-      fmt = told_fmt f;
+      fmt = reported_fmt f;
       data_at = data_place (length t.history);
       data_size = length t.samples;
       bext =
-          Some (told_bext t.fields, length t.history);
-      cues = map told_cue (cues t.closed t.markers);
+          Some (reported_bext t.fields, length t.history);
+      cues = map reported_cue (cues t.closed t.markers);
     }
 unfolding report_of
 report-own f t outer first data_size form eight within h =
@@ -71,14 +71,14 @@ report-own f t outer first data_size form eight within h =
     ∙ ap (λ (n : ℕ). made n (raw_fmt (content_of b (Some fmt_entry))) (d_place + 8)
     (raw_bext (content_of b (Some bext_entry))) (602 + length t.history - 602) (raw_cues cue 4 (u32_at cue 0))) h.size
     ∙ ap (λ (x : RawFmt). made (form_len f t) x (d_place + 8) (raw_bext (content_of b (Some bext_entry)))
-    (602 + length t.history - 602) (raw_cues cue 4 (u32_at cue 0))) fmt_told
-    ∙ ap (λ (n : ℕ). made (form_len f t) (told_fmt f) n (raw_bext (content_of b (Some bext_entry)))
+    (602 + length t.history - 602) (raw_cues cue 4 (u32_at cue 0))) fmt_reported
+    ∙ ap (λ (n : ℕ). made (form_len f t) (reported_fmt f) n (raw_bext (content_of b (Some bext_entry)))
     (602 + length t.history - 602) (raw_cues cue 4 (u32_at cue 0))) place
-    ∙ ap (λ (x : RawBext). made (form_len f t) (told_fmt f) (data_place (length t.history)) x
-    (602 + length t.history - 602) (raw_cues cue 4 (u32_at cue 0))) bext_told
-    ∙ ap (λ (n : ℕ). made (form_len f t) (told_fmt f) (data_place (length t.history)) (told_bext t.fields) n
+    ∙ ap (λ (x : RawBext). made (form_len f t) (reported_fmt f) (data_place (length t.history)) x
+    (602 + length t.history - 602) (raw_cues cue 4 (u32_at cue 0))) bext_reported
+    ∙ ap (λ (n : ℕ). made (form_len f t) (reported_fmt f) (data_place (length t.history)) (reported_bext t.fields) n
     (raw_cues cue 4 (u32_at cue 0))) history
-    ∙ ap (made (form_len f t) (told_fmt f) (data_place (length t.history)) (told_bext t.fields) (length t.history))
+    ∙ ap (made (form_len f t) (reported_fmt f) (data_place (length t.history)) (reported_bext t.fields) (length t.history))
     cues_are
   where
     b : List ℕ
@@ -99,11 +99,11 @@ report-own f t outer first data_size form eight within h =
     data_entry : Entry
     data_entry = record { id = codes "data"; place = d_place; size = length t.samples }
 
-    behind : List Entry
-    behind = read_cues (data_place (length t.history) + even_up (length t.samples)) (cues t.closed t.markers)
+    following : List Entry
+    following = read_cues (data_place (length t.history) + even_up (length t.samples)) (cues t.closed t.markers)
 
     cue : List ℕ
-    cue = content_of b (entry_of (codes "cue ") behind)
+    cue = content_of b (entry_of (codes "cue ") following)
 
     made : ℕ → RawFmt → ℕ → RawBext → ℕ → List RawCue → Report
     made size fmt at bext history cues =
@@ -131,9 +131,9 @@ report-own f t outer first data_size form eight within h =
     }
 
     skip : (want : List ℕ) → is_id first.id want ≡ false →
-        entry_of want es ≡ entry_of want (fmt_entry ∷ bext_entry ∷ data_entry ∷ behind)
+        entry_of want es ≡ entry_of want (fmt_entry ∷ bext_entry ∷ data_entry ∷ following)
     skip want other = ap (λ (v : Bool). cond v (Some (record { id = first.id; place = 12; size = 28 }))
-        (entry_of want (fmt_entry ∷ bext_entry ∷ data_entry ∷ behind))) other
+        (entry_of want (fmt_entry ∷ bext_entry ∷ data_entry ∷ following))) other
 
     all : AllStand b 12 (pieces f t first data_size)
     all = own_stand f t outer first data_size form eight within h
@@ -144,12 +144,12 @@ report-own f t outer first data_size form eight within h =
     bext_size : length (bext_fixed t.fields ++ t.history) ≡ 602 + length t.history
     bext_size = length-bext_content t.fields t.history within.fields
 
-    fmt_told : raw_fmt (content_of b (Some fmt_entry)) ≡ told_fmt f
-    fmt_told = ap raw_fmt (content-at b (12 + 8 + even_up (length first.content)) 48 16 (fmt_chunk f) all.1.0 refl
+    fmt_reported : raw_fmt (content_of b (Some fmt_entry)) ≡ reported_fmt f
+    fmt_reported = ap raw_fmt (content-at b (12 + 8 + even_up (length first.content)) 48 16 (fmt_chunk f) all.1.0 refl
         (omega (arith, long)) refl) ∙ raw-fmt f within.format
 
-    bext_told : raw_bext (content_of b (Some bext_entry)) ≡ told_bext t.fields
-    bext_told =
+    bext_reported : raw_bext (content_of b (Some bext_entry)) ≡ reported_bext t.fields
+    bext_reported =
         ap raw_bext (content-at b (12 + 8 + even_up (length first.content) + 8 + even_up 16) 72
         (602 + length t.history) (bext_chunk t.fields t.history) all.1.1.0 refl (omega (arith, long)) bext_size)
         ∙ raw-bext t.fields t.history within.fields
@@ -168,15 +168,15 @@ report-own f t outer first data_size form eight within h =
     numbers true = within.numbers
     numbers false = refl
 
-    cues_are : raw_cues cue 4 (u32_at cue 0) ≡ map told_cue (cues t.closed t.markers)
-    cues_are = cues-told b (12 + 8 + even_up (length first.content) + 8 + even_up 16 + 8
+    cues_are : raw_cues cue 4 (u32_at cue 0) ≡ map reported_cue (cues t.closed t.markers)
+    cues_are = cues-reported b (12 + 8 + even_up (length first.content) + 8 + even_up 16 + 8
         + even_up (length (bext_fixed t.fields ++ t.history)) + 8 + even_up (length t.samples))
         (data_place (length t.history) + even_up (length t.samples)) (cues t.closed t.markers) all.1.1.1.1
         (omega (arith, long, bext_size)) (few t.closed) (numbers t.closed)
 
 -- the report of the file, in either kind of form
 file_report : (f : Format) (t : Take) (limit : ℕ) → IsWithinLimits f t → limit ≤ 4294967294 →
-    report_of (file_with f t limit) (read_form f t limit) (read_chunks f t limit) ≡ told_report f t limit
+    report_of (file_with f t limit) (read_form f t limit) (read_chunks f t limit) ≡ reported_report f t limit
 unfolding file_with
 file_report f t limit within below = go (nat_le n limit) refl (file_len f t limit)
   where
@@ -186,23 +186,23 @@ file_report f t limit within below = go (nat_le n limit) refl (file_len f t limi
     ds64 : Chunk
     ds64 = ds64_chunk n (length t.samples)
 
-    told : Form → List Entry → Report
-    told form chunks = record {
+    reported : Form → List Entry → Report
+    reported form chunks = record {
       form = form.id;
       size = n;
       chunks = chunks;
-      fmt = told_fmt f;
+      fmt = reported_fmt f;
       data_at = data_place (length t.history);
       data_size = length t.samples;
       bext =
-          Some (told_bext t.fields, length t.history);
-      cues = map told_cue (cues t.closed t.markers);
+          Some (reported_bext t.fields, length t.history);
+      cues = map reported_cue (cues t.closed t.markers);
     }
 
     go : (v : Bool) → nat_le n limit ≡ v → length (cond v (narrow_bytes f t) (broad_bytes f t)) ≡ 8 + n →
         report_of (cond v (narrow_bytes f t) (broad_bytes f t)) (cond v (narrow f t) (broad f t))
         (listed (cond v (codes "JUNK") (codes "ds64")) t)
-        ≡ told (cond v (narrow f t) (broad f t)) (listed (cond v (codes "JUNK") (codes "ds64")) t)
+        ≡ reported (cond v (narrow f t) (broad f t)) (listed (cond v (codes "JUNK") (codes "ds64")) t)
     go true v whole =
         let fits : n ≤ limit = leb-true n limit v in
         report-own f t (head (codes "RIFF") n) junk_chunk (length t.samples) (narrow f t) refl within

@@ -185,7 +185,7 @@ pub reads_reply : (bytes : List ℕ) (r : Reply) (more : List ℕ) → first_rep
     ReadsFirst longest_reply bytes decoded_reply r more
 reads_reply bytes r more e = first_from longest_reply bytes decoded_reply r more (sym (first_reply-by bytes) ∙ e)
 
--- bytes from whose front a value was read begin with its body behind its length
+-- bytes from whose front a value was read begin with its body after its length
 stands : {X : Type 0} (longest : ℕ) (bytes : List ℕ) (read : List ℕ → Result X Reason) (x : X)
     (more spelling : List ℕ) → are_bytes bytes ≡ true → ReadsFirst longest bytes read x more
     → take (u32_at bytes 0) (drop 4 bytes) ≡ spelling → bytes ≡ framed spelling ++ more
@@ -205,7 +205,7 @@ stands longest bytes read x more spelling fits r spelled =
 body_fits : (bytes : List ℕ) → are_bytes bytes ≡ true → are_bytes (take (u32_at bytes 0) (drop 4 bytes)) ≡ true
 body_fits bytes fits = (are_bytes-parts (u32_at bytes 0) (drop 4 bytes) (are_bytes-parts 4 bytes fits).1).0
 
--- a frame that was read stands at the front, and what was left is what follows it
+-- a frame that was read stands at the start, and what was left is what follows it
 pub read_frame_stands : (v : Version) (bytes : List ℕ) (f : Frame) (more : List ℕ) → are_bytes bytes ≡ true →
     first_frame v bytes ≡ Ok (f, more)
     → (is_frame v f ≡ true) × (bytes ≡ framed (body f) ++ more)
@@ -222,7 +222,7 @@ read_reply_stands bytes r more fits e =
     let s = reply_read_is_spelled (take (u32_at bytes 0) (drop 4 bytes)) r (body_fits bytes fits) reads.reads in
     (s.fits, stands longest_reply bytes decoded_reply r more (reply_body r) fits reads s.spelled)
 
--- bytes that begin with a body behind its length
+-- bytes that begin with a body after its length
 framed_has : (longest : ℕ) (spelling more : List ℕ) → 1 ≤ length spelling → length spelling ≤ longest →
     length spelling < 2 ^ 32
     → HasBody longest (framed spelling ++ more) × (u32_at (framed spelling ++ more) 0 ≡ length spelling)
@@ -252,7 +252,7 @@ first_of_framed read x spelling more n-is reads =
     ∙ ap (λ (y : List ℕ). Ok (x, y))
     (sym (drop-drop (length spelling) 4 bytes) ∙ drop_at spelling more (length spelling) refl)
 
--- a frame at the front is the first
+-- a frame at the start is the first
 pub first_frame-framed : (v : Version) (f : Frame) (more : List ℕ) → is_frame v f ≡ true →
     first_frame v (framed (body f) ++ more) ≡ Ok (f, more)
 first_frame-framed v f more h =

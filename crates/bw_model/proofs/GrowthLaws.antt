@@ -31,7 +31,7 @@ body-grows longest bytes piece h =
           ∙ take-append-le (u32_at bytes 0) (drop 4 bytes) piece (omega (arith, h.whole, length-drop 4 bytes)),
     )
 
--- a fault that isn't for want of bytes stays
+-- a fault that isn't for lack of bytes stays
 bad_grows : {X : Type 0} (longest : ℕ) (bytes piece more later : List ℕ) (read : List ℕ → Result X Reason)
     (reason : Reason) (a b c : Bool) → reason ≢ Cut
     → nat_lt (length bytes) 4 ≡ a → ((u32_at bytes 0 == 0) || nat_lt longest (u32_at bytes 0)) ≡ b →

@@ -1,4 +1,4 @@
--- The header is the front of the file.
+-- The header is the prefix of the file.
 use Rattle.std.proofs.Common.{◌≡◌, ℕ, ◌+◌, ◌*◌, Bool, true, false, cond, List, [], ◌∷◌, ◌++◌, length, refl, sym, ◌∙◌}
 use Rattle.std.proofs.Common.{ap, arith, append_assoc, length-append}
 use Rattle.std.specs.Prelude.{nat_le, codes, flat_map, ◌==◌}
@@ -8,7 +8,7 @@ use Rattle.bw_model.specs.Bytes.{unsaid, even_up}
 use Rattle.bw_model.specs.Take.{Format, AreFields}
 use Rattle.bw_model.specs.Layout.{Chunk, head, chunk, chunk_sized, pad, bext_fixed, cue_content}
 use Rattle.bw_model.specs.File.{file_with, form_of, form_len, form_size, header, data_place, junk_chunk, ds64_chunk}
-use Rattle.bw_model.specs.File.{fmt_chunk, bext_chunk, data_chunk, chunks_behind, cue_chunks, cues}
+use Rattle.bw_model.specs.File.{fmt_chunk, bext_chunk, data_chunk, chunks_after, cue_chunks, cues}
 use Rattle.bw_model.specs.File.{EachFileHasItsHeader, HeadersReachTheData, FormSizesAreLengths}
 use Rattle.bw_model.proofs.Widths.{length-bext_fixed, length-chunk_sized, length-cue_content}
 
@@ -27,7 +27,7 @@ joined-header : (id : List ℕ) (size : ℕ) (first bext : List ℕ) (f : Format
     ≡ 80 + length bext
 joined-header id size first bext f data_size i l = simp length-append (omega (arith, i, l))
 
--- the data begin behind the header
+-- the data begin after the header
 pub length-header : HeadersReachTheData
 unfolding header
 length-header f fields history data_len cue_count limit h = go (nat_le size limit)
@@ -64,27 +64,27 @@ length-cue_chunks (m ∷ ms) =
     cue_chunk : List (ℕ × ℕ) → Chunk
     cue_chunk markers = record { id = codes "cue "; content = cue_content markers }
 
-joined-form : (wave first fmt bext data_bytes behind : List ℕ) → length wave ≡ 4 → length first ≡ 36 → length fmt ≡ 24 →
-    length (wave ++ first ++ (fmt ++ (bext ++ [])) ++ data_bytes ++ behind)
-    ≡ 64 + length bext + length data_bytes + length behind
-joined-form wave first fmt bext data_bytes behind k l m = simp (length-append, append-nil) (omega (arith, k, l, m))
+joined-form : (wave first fmt bext data_bytes following : List ℕ) → length wave ≡ 4 → length first ≡ 36 → length fmt ≡ 24 →
+    length (wave ++ first ++ (fmt ++ (bext ++ [])) ++ data_bytes ++ following)
+    ≡ 64 + length bext + length data_bytes + length following
+joined-form wave first fmt bext data_bytes following k l m = simp (length-append, append-nil) (omega (arith, k, l, m))
 
--- the form size is the length of what stands behind it
+-- the form size is the length of what stands after it
 pub form_len-form_size : FormSizesAreLengths
 unfolding form_len form_of
 form_len-form_size f t h =
     let n = length t.samples in
     let bext = length-bext t.fields t.history h in
     let data_bytes = length-chunk_sized n (data_chunk t.samples) refl in
-    let behind = length-cue_chunks (cues t.closed t.markers) in
+    let following = length-cue_chunks (cues t.closed t.markers) in
     joined-form (codes "WAVE") (chunk junk_chunk) (chunk (fmt_chunk f)) (chunk (bext_chunk t.fields t.history))
-    (chunk_sized n (data_chunk t.samples)) (flat_map chunk (chunks_behind t)) refl refl refl
-    ∙ omega (arith, bext, data_bytes, behind)
+    (chunk_sized n (data_chunk t.samples)) (flat_map chunk (chunks_after t)) refl refl refl
+    ∙ omega (arith, bext, data_bytes, following)
 
-header-joined : (outer wave first fmt bext data_head samples pad behind : List ℕ) →
-    outer ++ (wave ++ first ++ (fmt ++ (bext ++ [])) ++ (data_head ++ (samples ++ pad)) ++ behind)
-    ≡ (outer ++ wave ++ first ++ (fmt ++ bext) ++ data_head) ++ samples ++ pad ++ behind
-header-joined outer wave first fmt bext data_head samples pad behind = simp (append_assoc, append-nil)
+header-joined : (outer wave first fmt bext data_head samples pad following : List ℕ) →
+    outer ++ (wave ++ first ++ (fmt ++ (bext ++ [])) ++ (data_head ++ (samples ++ pad)) ++ following)
+    ≡ (outer ++ wave ++ first ++ (fmt ++ bext) ++ data_head) ++ samples ++ pad ++ following
+header-joined outer wave first fmt bext data_head samples pad following = simp (append_assoc, append-nil)
 
 -- the header, the data, their pad byte and the cue points are the file
 pub header_of_file : EachFileHasItsHeader
@@ -106,22 +106,22 @@ header_of_file f t limit h = ap with_size (form_len-form_size f t h) ∙ go (nat
     with_size : ℕ → List ℕ
     with_size s = cond (nat_le s limit) (riff s) (wide s)
 
-    front : List ℕ → Chunk → ℕ → List ℕ
-    front outer first data_size =
+    prefix : List ℕ → Chunk → ℕ → List ℕ
+    prefix outer first data_size =
         outer ++ codes "WAVE" ++ chunk first ++ (chunk (fmt_chunk f) ++ chunk (bext_chunk t.fields t.history))
         ++ head (codes "data") data_size
 
     rest : List ℕ → List ℕ
-    rest header = header ++ t.samples ++ pad n ++ flat_map chunk (chunks_behind t)
+    rest header = header ++ t.samples ++ pad n ++ flat_map chunk (chunks_after t)
 
     joined : (outer : List ℕ) (first : Chunk) (data_size : ℕ) →
-        outer ++ form_of f t first data_size ≡ rest (front outer first data_size)
+        outer ++ form_of f t first data_size ≡ rest (prefix outer first data_size)
     joined outer first data_size =
         header-joined outer (codes "WAVE") (chunk first) (chunk (fmt_chunk f)) (chunk (bext_chunk t.fields t.history))
-        (head (codes "data") data_size) t.samples (pad n) (flat_map chunk (chunks_behind t))
+        (head (codes "data") data_size) t.samples (pad n) (flat_map chunk (chunks_after t))
 
     go : (v : Bool) → cond v (riff size) (wide size)
-        ≡ rest (cond v (front (head (codes "RIFF") size) junk_chunk n)
-        (front (head (codes "BW64") unsaid) (ds64_chunk size n) unsaid))
+        ≡ rest (cond v (prefix (head (codes "RIFF") size) junk_chunk n)
+        (prefix (head (codes "BW64") unsaid) (ds64_chunk size n) unsaid))
     go true = joined (head (codes "RIFF") size) junk_chunk n
     go false = joined (head (codes "BW64") unsaid) (ds64_chunk size n) unsaid

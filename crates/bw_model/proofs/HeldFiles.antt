@@ -38,7 +38,7 @@ no_file book name limit unknown =
     ap (λ (log : Log). file_of (made false log.admitted log.done) limit) (unknown_log book name unknown)
 
 pub held_files : HeldBooksLeaveFiles
-held_files limit store kept_of book h honest name quiet = stood (store.first name) refl
+held_files limit store kept_of book h honest name quiet = existed (store.first name) refl
   where
     known : (v : Bool) → is_known book name ≡ v → store.first name ≡ None →
         store.contents name ≡ file_of (take_in false book name) limit
@@ -51,10 +51,10 @@ held_files limit store kept_of book h honest name quiet = stood (store.first nam
         kept (Some x) k some =
             whole_file (take_in false book name) limit _ x (store.contents name) (h.files honest name x k none) quiet
 
-    stood : (o : Option (List ℕ)) → store.first name ≡ o →
+    existed : (o : Option (List ℕ)) → store.first name ≡ o →
         store.contents name ≡ elim o [ Some bytes ↦ Some bytes | None ↦ file_of (take_in false book name) limit ]
-    stood None e = known (is_known book name) refl e
-    stood (Some bytes) e = h.others honest name (inl (ap is_some e)) ∙ e
+    existed None e = known (is_known book name) refl e
+    existed (Some bytes) e = h.others honest name (inl (ap is_some e)) ∙ e
 
 pub name_taken_known : NameTakenIsKnown
-name_taken_known stood name log kept n h below told = (h.told n below told, h.taken (h.told n below told))
+name_taken_known existed name log kept n h below reported = (h.reported n below reported, h.taken (h.reported n below reported))

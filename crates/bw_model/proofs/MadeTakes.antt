@@ -81,8 +81,8 @@ made_with t (Open f history) m fits e = record {
   fields = m.fields;
   history =
       let small = is_below (2 ^ 32) f.rate && is_below (2 ^ 16) f.channels && is_below (2 ^ 16) f.bits in
-      let front = and_parts (small && nat_le (length history) 4096) (are_bytes history) fits in
-      leb-true (length history) 4096 (and_parts small (nat_le (length history) 4096) front.0).1;
+      let prefix = and_parts (small && nat_le (length history) 4096) (are_bytes history) fits in
+      leb-true (length history) 4096 (and_parts small (nat_le (length history) 4096) prefix.0).1;
   markers = m.markers;
   numbers = m.numbers;
 }

@@ -6,12 +6,12 @@ use Rattle.std.specs.List.{list_any}
 use Rattle.std.proofs.lemmas.Bool.{le-leb, lt-leb, false≢true}
 use Rattle.bw_model.specs.Bytes.{le32, even_up, first_that_holds, unless}
 use Rattle.bw_model.specs.Layout.{head}
-use Rattle.bw_model.specs.Reading.{Entry, Form, Fault, Head, NoFmt, NoData, TooMany, line, IsFront, next, next_place}
+use Rattle.bw_model.specs.Reading.{Entry, Form, Fault, Head, NoFmt, NoData, TooMany, line, IsPrefix, next, next_place}
 use Rattle.bw_model.specs.Reading.{form_end, entry_of, is_id, single_ids, head_at, chunk_faults, end_faults}
-use Rattle.bw_model.specs.Front.{count_of}
-use Rattle.bw_model.specs.RowWords.{riff, hex}
-use Rattle.bw_model.specs.RowsOfReadings.{empty_chunks, chunks_form, ManyChunksRow, TooManyChunksRow}
-use Rattle.bw_model.proofs.FrontLaws.{fronts, none-count, count-cons}
+use Rattle.bw_model.specs.Prefix.{count_of}
+use Rattle.bw_model.specs.ExampleWords.{riff, hex}
+use Rattle.bw_model.specs.ExamplesOfReadings.{empty_chunks, chunks_form, ManyChunksExample, TooManyChunksExample}
+use Rattle.bw_model.proofs.PrefixLaws.{prefixes, none-count, count-cons}
 use Rattle.bw_model.proofs.StandingChunks.{Piece, piece_bytes, entries_from, ArePieces, all-stand, pieces-stand}
 use Rattle.bw_model.proofs.FilePieces.{other_id}
 use Rattle.bw_model.proofs.FileReads.{single_cases}
@@ -68,9 +68,9 @@ split (suc k) m (suc n) e = ap (λ (z : List ℕ). hex "6162636400000000" ++ z) 
 abbrev form_of : ℕ → List ℕ
 form_of n = chunks_form (le32 (4 + 8 * n)) n
 
--- the first 4,096 chunks at most are a front
-front : (n k m : ℕ) → n ≡ k + m → k ≤ 4096 → n ≤ 4097 → IsFront (form_of n) (riff (4 + 8 * n)) (listed 12 k)
-front n k m e few small = (fronts b form (listed 12 k)).1 (record {
+-- the first 4,096 chunks at most are a prefix
+prefix : (n k m : ℕ) → n ≡ k + m → k ≤ 4096 → n ≤ 4097 → IsPrefix (form_of n) (riff (4 + 8 * n)) (listed 12 k)
+prefix n k m e few small = (prefixes b form (listed 12 k)).1 (record {
   header = riff-outer (4 + 8 * n) (empty_chunks n) (omega arith) (omega arith);
   chunks = pieces-stand b form 12 (empties k) whole (are_empties form k)
       (all-stand b form 12 (empties k) outer (empty_chunks m) (are_empties form k) refl
@@ -98,7 +98,7 @@ placed : (p k : ℕ) → fold (λ p e. e.place + 8 + even_up e.size) p (listed p
 placed p zero = omega arith
 placed p (suc k) = let rest = placed (p + 8 + even_up 0) k in omega arith
 
--- behind all of them the form ends
+-- after all of them the form ends
 ends : (n : ℕ) → n ≤ 4096 →
     next (form_of n) (riff (4 + 8 * n)) (listed 12 n) ≡ Err (record { kind = NoFmt; offset = 8 + (4 + 8 * n) })
 unfolding next
@@ -135,7 +135,7 @@ ends n small =
     none None e = refl
     none (Some x) e = absurd (false≢true (sym e))
 
--- behind 4,096 comes one too many
+-- after 4,096 comes one too many
 one_more : (n k : ℕ) → n ≡ k + 1 → k ≡ 4096 →
     next (form_of n) (riff (4 + 8 * n)) (listed 12 k) ≡ Err (record { kind = TooMany; offset = 12 + 8 * k })
 unfolding next
@@ -175,14 +175,14 @@ one_more n k e all =
     many : nat_le 4096 (length seen) ≡ true
     many = le-leb 4096 (length seen) (let long = length-listed 12 k in omega arith)
 
-pub many_chunks : ManyChunksRow
+pub many_chunks : ManyChunksExample
 many_chunks = inr (
   riff 32772,
-  (listed 12 4096, (front 4096 4096 0 refl (omega arith) (omega arith), ends 4096 (omega arith))),
+  (listed 12 4096, (prefix 4096 4096 0 refl (omega arith) (omega arith), ends 4096 (omega arith))),
 )
 
-pub too_many_chunks : TooManyChunksRow
+pub too_many_chunks : TooManyChunksExample
 too_many_chunks = inr (
   riff 32780,
-  (listed 12 4096, (front 4097 4096 1 refl (omega arith) (omega arith), one_more 4097 4096 refl refl)),
+  (listed 12 4096, (prefix 4097 4096 1 refl (omega arith) (omega arith), one_more 4097 4096 refl refl)),
 )

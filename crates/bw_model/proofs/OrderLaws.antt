@@ -1,4 +1,4 @@
--- A run in number order that no want was told of leaves nothing pending.
+-- A run in number order in which no failure was reported leaves nothing pending.
 use Rattle.std.proofs.Common.{◌≡◌, ℕ, suc, zero, ◌+◌, ◌-◌, ◌<◌, ◌≤◌, Bool, true, false, not, cond, ◌&&◌, List, [], ◌∷◌}
 use Rattle.std.proofs.Common.{◌++◌, length, Option, Some, None, refl, sym, ◌∙◌, ap, subst, arith, ◌⊎◌, inl, inr}
 use Rattle.std.specs.Prelude.{map, is_some, is_none, nat_le, nat_lt}
@@ -14,10 +14,10 @@ use Rattle.bw_model.specs.Take.{Request}
 use Rattle.bw_model.specs.Wire.{Message, Frame, Says, Asks, Bye, message_body}
 use Rattle.bw_model.specs.Replies.{Reply, Judged, Noticed, Held, TooFar, Conflict, DelayedStore}
 use Rattle.bw_model.specs.Book.{Log, Book, log_of, is_known, with_log, run_end, verdict_at}
-use Rattle.bw_model.specs.Turn.{Luck, turn, turn_by, served, own_reply, verdicts_from, window, is_admissible}
+use Rattle.bw_model.specs.Turn.{Faults, turn, turn_by, served, own_reply, verdicts_from, window, is_admissible}
 use Rattle.bw_model.specs.Turn.{admitted_after, drained_to, is_repeat, repeats, is_full, most_takes, with_change}
-use Rattle.bw_model.specs.Turn.{message_turn, book_behind, book_after, run}
-use Rattle.bw_model.specs.NumberOrder.{with_frame, came_under, IsNextOrCame, AreInOrder, tells_want, lacks}
+use Rattle.bw_model.specs.Turn.{message_turn, book_after_turn, book_after, run}
+use Rattle.bw_model.specs.NumberOrder.{with_frame, received_under, IsNextOrReceived, AreInOrder, reports_failure, lacks}
 use Rattle.bw_model.specs.NumberOrder.{OrderLeavesNothingPending}
 use Rattle.bw_model.proofs.MapLemmas.{at-put_same, at-below, at-first_free}
 use Rattle.bw_model.proofs.BookLemmas.{same_name, name_refl, log-with_log_same, log-with_log_other, known-with_log_same}
@@ -61,14 +61,14 @@ nothing_past s n h = go (at s n) refl
 
 -- its log has no gap and nothing pending, and has what came under the name; an unknown one had no place, or nothing
 -- came
-record IsInStep (name : List ℕ) (b : Book) (came : List (Option Request)) : Type 0 where
+record IsInStep (name : List ℕ) (b : Book) (received : List (Option Request)) : Type 0 where
   whole : IsWhole (log_of b name).admitted
   ended : (log_of b name).done ≡ length (log_of b name).admitted
-  came_whole : IsWhole came
-  same : is_known b name ≡ true → length came ≡ (log_of b name).done
-  free : is_known b name ≡ false → is_full b ≡ false → length came ≡ 0
+  received_whole : IsWhole received
+  same : is_known b name ≡ true → length received ≡ (log_of b name).done
+  free : is_known b name ≡ false → is_full b ≡ false → length received ≡ 0
 
--- a log without a gap behind a message
+-- a log without a gap after a message
 record IsLogInStep (log : Log) (n : ℕ) (new : Log) : Type 0 where
   whole : IsWhole new.admitted
   ended : new.done ≡ length new.admitted
@@ -87,7 +87,7 @@ drained_most done end (Some k) = omega arith
 -- the own reply to an admitted number that draining did not reach tells a want
 own-short : (taken : Bool) (s : List (Option Request)) (done later end : ℕ) (m : Message) →
     at s m.number ≡ Some m.request → done ≤ m.number → m.number < done + window →
-    later ≤ m.number → later < end → list_any tells_want (own_reply taken s done later end m) ≡ true
+    later ≤ m.number → later < end → list_any reports_failure (own_reply taken s done later end m) ≡ true
 unfolding own_reply
 own-short taken s done later end m here from near short below =
     go (nat_le (done + window) m.number) (not (is_repeat s m)) (nat_le done m.number && nat_lt m.number later)
@@ -100,7 +100,7 @@ own-short taken s done later end m here from near short below =
     same = ap (repeats m) here ∙ name_refl (sha256 (message_body m))
 
     go : (v w x y z : Bool) → v ≡ false → w ≡ false → x ≡ false → y ≡ false → z ≡ true →
-        list_any tells_want
+        list_any reports_failure
         (cond v (Noticed m.name m.number TooFar later ∷ [])
         (cond w (Noticed m.name m.number Conflict later ∷ [])
         (cond x []
@@ -116,7 +116,7 @@ own-short taken s done later end m here from near short below =
 
 served_step : (taken : Bool) (log : Log) (m : Message) (stop : Option ℕ) → IsWhole log.admitted →
     log.done ≡ length log.admitted → m.number ≤ log.done →
-    list_any tells_want (served taken log m stop).0 ≡ false → IsLogInStep log m.number (served taken log m stop).1
+    list_any reports_failure (served taken log m stop).0 ≡ false → IsLogInStep log m.number (served taken log m stop).1
 unfolding served
 served_step taken log m stop whole ended near good = go (cases_eq m.number log.done)
   where
@@ -132,11 +132,11 @@ served_step taken log m stop whole ended near good = go (cases_eq m.number log.d
     p : IsPut log.admitted m.number (put log.admitted m.number m.request)
     p = whole-put log.admitted m.number m.request whole (omega (arith, ended))
 
-    own_good : list_any tells_want (own_reply taken s log.done later end m) ≡ false
+    own_good : list_any reports_failure (own_reply taken s log.done later end m) ≡ false
     own_good =
-        (or_parts (list_any tells_want (verdicts_from taken s m.name log.done (later - log.done)))
-        (list_any tells_want (own_reply taken s log.done later end m))
-        (sym (list_any-append tells_want (verdicts_from taken s m.name log.done (later - log.done))
+        (or_parts (list_any reports_failure (verdicts_from taken s m.name log.done (later - log.done)))
+        (list_any reports_failure (own_reply taken s log.done later end m))
+        (sym (list_any-append reports_failure (verdicts_from taken s m.name log.done (later - log.done))
         (own_reply taken s log.done later end m)) ∙ good)).1
 
     -- the next number
@@ -203,16 +203,16 @@ served_step taken log m stop whole ended near good = go (cases_eq m.number log.d
 -- Books.
 
 -- a message of another name
-other_step : (name : List ℕ) (b : Book) (came : List (Option Request)) (x : List ℕ) (o : Option Log) →
-    bytes_eq x name ≡ false → IsInStep name b came → IsInStep name (with_change b x o) came
-other_step name b came x None off h = h
-other_step name b came x (Some l) off h =
+other_step : (name : List ℕ) (b : Book) (received : List (Option Request)) (x : List ℕ) (o : Option Log) →
+    bytes_eq x name ≡ false → IsInStep name b received → IsInStep name (with_change b x o) received
+other_step name b received x None off h = h
+other_step name b received x (Some l) off h =
     let logs = log-with_log_other b x name l off in
     let known = known-with_log_other b x name l off in
     record {
       whole = subst (λ (z : Log). IsWhole z.admitted) (sym logs) h.whole;
       ended = ap (λ (z : Log). z.done) logs ∙ h.ended ∙ ap (λ (z : Log). length z.admitted) (sym logs);
-      came_whole = h.came_whole;
+      received_whole = h.received_whole;
       same = λ k. h.same (sym known ∙ k) ∙ ap (λ (z : Log). z.done) (sym logs);
       free = λ k room. h.free (sym known ∙ k) (lt-leb most_takes (length b) (
           let more = length-with_log_grows b x l in
@@ -221,126 +221,126 @@ other_step name b came x (Some l) off h =
     }
 
 -- a message of the name that changes nothing
-away_step : (b : Book) (came : List (Option Request)) (m : Message) → IsInStep m.name b came →
-    m.number ≤ first_free came → is_known b m.name ≡ false → is_full b ≡ true →
-    IsInStep m.name b (put came m.number m.request)
-away_step b came m h near k full =
-    let came_whole = h.came_whole in
-    let p = whole-put came m.number m.request h.came_whole (omega (arith, came_whole, near)) in
+away_step : (b : Book) (received : List (Option Request)) (m : Message) → IsInStep m.name b received →
+    m.number ≤ first_free received → is_known b m.name ≡ false → is_full b ≡ true →
+    IsInStep m.name b (put received m.number m.request)
+away_step b received m h near k full =
+    let received_whole = h.received_whole in
+    let p = whole-put received m.number m.request h.received_whole (omega (arith, received_whole, near)) in
     record {
       whole = h.whole;
       ended = h.ended;
-      came_whole = p.whole;
+      received_whole = p.whole;
       same = λ yes. absurd (false≢true (sym k ∙ yes));
       free = λ _ room. absurd (false≢true (sym room ∙ full));
     }
 
 -- a message of the name that is served
-kept_step : (taken : Bool) (b : Book) (came : List (Option Request)) (m : Message) (stop : Option ℕ) →
-    IsInStep m.name b came → m.number ≤ first_free came → length came ≡ (log_of b m.name).done →
-    list_any tells_want (served taken (log_of b m.name) m stop).0 ≡ false →
-    IsInStep m.name (with_log b m.name (served taken (log_of b m.name) m stop).1) (put came m.number m.request)
-kept_step taken b came m stop h near same good =
-    let came_whole = h.came_whole in
-    let p = whole-put came m.number m.request h.came_whole (omega (arith, came_whole, near)) in
-    let x = served_step taken (log_of b m.name) m stop h.whole h.ended (omega (arith, came_whole, near, same)) good in
+kept_step : (taken : Bool) (b : Book) (received : List (Option Request)) (m : Message) (stop : Option ℕ) →
+    IsInStep m.name b received → m.number ≤ first_free received → length received ≡ (log_of b m.name).done →
+    list_any reports_failure (served taken (log_of b m.name) m stop).0 ≡ false →
+    IsInStep m.name (with_log b m.name (served taken (log_of b m.name) m stop).1) (put received m.number m.request)
+kept_step taken b received m stop h near same good =
+    let received_whole = h.received_whole in
+    let p = whole-put received m.number m.request h.received_whole (omega (arith, received_whole, near)) in
+    let x = served_step taken (log_of b m.name) m stop h.whole h.ended (omega (arith, received_whole, near, same)) good in
     let new : Log = (served taken (log_of b m.name) m stop).1 in
     let logs : log_of (with_log b m.name new) m.name ≡ new = log-with_log_same b m.name new in
-    let count : length (put came m.number m.request) ≡ new.done = go (cases_eq m.number (log_of b m.name).done) p x in
+    let count : length (put received m.number m.request) ≡ new.done = go (cases_eq m.number (log_of b m.name).done) p x in
     record {
       whole = subst (λ (z : Log). IsWhole z.admitted) (sym logs) x.whole;
       ended = ap (λ (z : Log). z.done) logs ∙ x.ended ∙ ap (λ (z : Log). length z.admitted) (sym logs);
-      came_whole = p.whole;
+      received_whole = p.whole;
       same = λ _. count ∙ ap (λ (z : Log). z.done) (sym logs);
       free = λ no _. absurd (false≢true (sym no ∙ known-with_log_same b m.name new));
     }
   where
     go : (m.number ≡ (log_of b m.name).done) ⊎ (m.number ≡ (log_of b m.name).done → ⊥) →
-        IsPut came m.number (put came m.number m.request) →
+        IsPut received m.number (put received m.number m.request) →
         IsLogInStep (log_of b m.name) m.number (served taken (log_of b m.name) m stop).1 →
-        length (put came m.number m.request) ≡ (served taken (log_of b m.name) m stop).1.done
+        length (put received m.number m.request) ≡ (served taken (log_of b m.name) m stop).1.done
     go (inl e) p x = p.more (e ∙ sym same) ∙ ap suc same ∙ sym (x.more e)
     go (inr other) p x =
-        let came_whole = h.came_whole in
-        let below : m.number < (log_of b m.name).done = omega (arith, other, near, same, came_whole) in
+        let received_whole = h.received_whole in
+        let below : m.number < (log_of b m.name).done = omega (arith, other, near, same, received_whole) in
         p.there (omega (arith, below, same)) ∙ same ∙ sym (x.there below)
 
-message_step : (taken : Bool) (b : Book) (came : List (Option Request)) (m : Message) (luck : Luck) →
-    IsInStep m.name b came → m.number ≤ first_free came →
-    list_any tells_want (message_turn taken b m luck).0 ≡ false →
-    IsInStep m.name (message_turn taken b m luck).1 (put came m.number m.request)
+message_step : (taken : Bool) (b : Book) (received : List (Option Request)) (m : Message) (faults : Faults) →
+    IsInStep m.name b received → m.number ≤ first_free received →
+    list_any reports_failure (message_turn taken b m faults).0 ≡ false →
+    IsInStep m.name (message_turn taken b m faults).1 (put received m.number m.request)
 unfolding turn_by
-message_step taken b came m luck h near good =
+message_step taken b received m faults h near good =
     go (is_known b m.name) refl (nat_le window m.number) refl (is_full b) refl
-    (is_admissible log m.number && luck.refused) good
+    (is_admissible log m.number && faults.refused) good
   where
     log : Log
     log = log_of b m.name
 
     x : List Reply × Log
-    x = served taken log m luck.stop
+    x = served taken log m faults.stop
 
-    came_whole : IsWhole came
-    came_whole = h.came_whole
+    received_whole : IsWhole received
+    received_whole = h.received_whole
 
     go : (known : Bool) → is_known b m.name ≡ known → (far : Bool) → nat_le window m.number ≡ far → (full : Bool) →
         is_full b ≡ full → (refused : Bool) →
-        list_any tells_want (outcome known far full refused log m x).0 ≡ false →
+        list_any reports_failure (outcome known far full refused log m x).0 ≡ false →
         IsInStep m.name (with_change b m.name (outcome known far full refused log m x).1)
-        (put came m.number m.request)
-    go false k true f true fl refused good = away_step b came m h near k fl
+        (put received m.number m.request)
+    go false k true f true fl refused good = away_step b received m h near k fl
     go false k true f false fl refused good =
         let none = h.free k fl in
         let over : window ≤ m.number = leb-true window m.number f in
-        absurd (omega (arith, none, over, near, came_whole))
-    go false k false f true fl refused good = away_step b came m h near k fl
+        absurd (omega (arith, none, over, near, received_whole))
+    go false k false f true fl refused good = away_step b received m h near k fl
     go false k false f false fl true good = absurd (false≢true (sym good))
     go false k false f false fl false good =
-        kept_step taken b came m luck.stop h near (h.free k fl
+        kept_step taken b received m faults.stop h near (h.free k fl
         ∙ sym (ap (λ (l : Log). l.done) (unknown_log b m.name k))) good
     go true k far f full fl true good = absurd (false≢true (sym good))
-    go true k far f full fl false good = kept_step taken b came m luck.stop h near (h.same k) good
+    go true k far f full fl false good = kept_step taken b received m faults.stop h near (h.same k) good
 
-frame_step : (stood : List ℕ → Bool) (name : List ℕ) (b : Book) (before : List Frame) (f : Frame) (luck : Luck) →
-    IsInStep name b (came_under name before) → IsNextOrCame before f →
-    list_any tells_want (turn stood b f luck).0 ≡ false →
-    IsInStep name (turn stood b f luck).1 (with_frame name (came_under name before) f)
+frame_step : (existed : List ℕ → Bool) (name : List ℕ) (b : Book) (before : List Frame) (f : Frame) (faults : Faults) →
+    IsInStep name b (received_under name before) → IsNextOrReceived before f →
+    list_any reports_failure (turn existed b f faults).0 ≡ false →
+    IsInStep name (turn existed b f faults).1 (with_frame name (received_under name before) f)
 unfolding turn
-frame_step stood name b before (Says m) luck h near good = go (bytes_eq m.name name) refl
+frame_step existed name b before (Says m) faults h near good = go (bytes_eq m.name name) refl
   where
     go : (v : Bool) → bytes_eq m.name name ≡ v →
-        IsInStep name (message_turn (stood m.name) b m luck).1
-        (cond v (put (came_under name before) m.number m.request) (came_under name before))
-    go false e = other_step name b (came_under name before) m.name _ e h
+        IsInStep name (message_turn (existed m.name) b m faults).1
+        (cond v (put (received_under name before) m.number m.request) (received_under name before))
+    go false e = other_step name b (received_under name before) m.name _ e h
     go true e =
         let is : m.name ≡ name = same_name m.name name e in
-        subst (λ (z : List ℕ). IsInStep z (message_turn (stood m.name) b m luck).1
-        (put (came_under z before) m.number m.request)) is
-        (message_step (stood m.name) b (came_under m.name before) m luck
-        (subst (λ (z : List ℕ). IsInStep z b (came_under z before)) (sym is) h) near good)
-frame_step stood name b before (Asks x n) luck h near good = h
-frame_step stood name b before Bye luck h near good = h
+        subst (λ (z : List ℕ). IsInStep z (message_turn (existed m.name) b m faults).1
+        (put (received_under z before) m.number m.request)) is
+        (message_step (existed m.name) b (received_under m.name before) m faults
+        (subst (λ (z : List ℕ). IsInStep z b (received_under z before)) (sym is) h) near good)
+frame_step existed name b before (Asks x n) faults h near good = h
+frame_step existed name b before Bye faults h near good = h
 
-steps : (stood : List ℕ → Bool) (name : List ℕ) (b : Book) (before : List Frame) (ts : List (Frame × Luck)) →
-    IsInStep name b (came_under name before) →
-    AreInOrder before (map (λ t. t.0) ts) → list_any lacks (run stood b ts) ≡ false →
-    (came : List (Option Request)) × IsInStep name (book_after stood b ts) came
-steps stood name b before [] h near good = (came_under name before, h)
-steps stood name b before (t ∷ ts) h near good =
+steps : (existed : List ℕ → Bool) (name : List ℕ) (b : Book) (before : List Frame) (ts : List (Frame × Faults)) →
+    IsInStep name b (received_under name before) →
+    AreInOrder before (map (λ t. t.0) ts) → list_any lacks (run existed b ts) ≡ false →
+    (received : List (Option Request)) × IsInStep name (book_after existed b ts) received
+steps existed name b before [] h near good = (received_under name before, h)
+steps existed name b before (t ∷ ts) h near good =
     let goods =
-    or_parts (list_any tells_want (turn stood b t.0 t.1).0) (list_any lacks (run stood (book_behind stood b t) ts))
+    or_parts (list_any reports_failure (turn existed b t.0 t.1).0) (list_any lacks (run existed (book_after_turn existed b t) ts))
     good in
-    steps stood name (book_behind stood b t) (before ++ t.0 ∷ []) ts
-    (subst (IsInStep name (book_behind stood b t)) (sym (fold-append (with_frame name) [] before (t.0 ∷ [])))
-    (frame_step stood name b before t.0 t.1 h near.0 goods.0))
+    steps existed name (book_after_turn existed b t) (before ++ t.0 ∷ []) ts
+    (subst (IsInStep name (book_after_turn existed b t)) (sym (fold-append (with_frame name) [] before (t.0 ∷ [])))
+    (frame_step existed name b before t.0 t.1 h near.0 goods.0))
     near.1 goods.1
 
-start : (name : List ℕ) → IsInStep name [] (came_under name [])
-start name = record { whole = refl; ended = refl; came_whole = refl; same = λ k. refl; free = λ _ _. refl }
+start : (name : List ℕ) → IsInStep name [] (received_under name [])
+start name = record { whole = refl; ended = refl; received_whole = refl; same = λ k. refl; free = λ _ _. refl }
 
 pub nothing_pends : OrderLeavesNothingPending
-nothing_pends stood ts near good name =
-    let x = steps stood name [] [] ts (start name) near good in
-    let log = log_of (book_after stood [] ts) name in
+nothing_pends existed ts near good name =
+    let x = steps existed name [] [] ts (start name) near good in
+    let log = log_of (book_after existed [] ts) name in
     let ended = x.1.ended in
     ap is_some (nothing_past log.admitted log.done (omega (arith, ended)))

@@ -9,7 +9,7 @@ use Rattle.bw_model.specs.Wire.{Message, Frame, Says, Asks, Bye}
 use Rattle.bw_model.specs.Replies.{Reply, Judged, Noticed, Refused, Held, TooFar, Conflict, TableFull, NoRoom}
 use Rattle.bw_model.specs.Replies.{DelayedStore, Next}
 use Rattle.bw_model.specs.Book.{Log, Book, log_of, is_known, run_end, verdict_at}
-use Rattle.bw_model.specs.Turn.{Luck, turn, turn_by, served, own_reply, verdicts_from, notice, window, is_admissible}
+use Rattle.bw_model.specs.Turn.{Faults, turn, turn_by, served, own_reply, verdicts_from, notice, window, is_admissible}
 use Rattle.bw_model.specs.Turn.{admitted_after, drained_to, is_of, is_repeat, is_full, with_change}
 use Rattle.bw_model.specs.World.{is_too_far_or_conflict}
 use Rattle.bw_model.proofs.BookLemmas.{name_refl, log-with_log_other}
@@ -68,23 +68,23 @@ own_of taken s done later end m =
     go false false false false true = (refl, tt)
     go false false false false false = (refl, tt)
 
-pub message_of : (taken known full : Bool) (log : Log) (m : Message) (luck : Luck) →
-    Each (IsOf m.name) (turn_by taken known full log m luck).0
+pub message_of : (taken known full : Bool) (log : Log) (m : Message) (faults : Faults) →
+    Each (IsOf m.name) (turn_by taken known full log m faults).0
 unfolding served turn_by
-message_of taken known full log m luck =
-    go (not known && nat_le window m.number) (not known && full) (is_admissible log m.number && luck.refused)
+message_of taken known full log m faults =
+    go (not known && nat_le window m.number) (not known && full) (is_admissible log m.number && faults.refused)
   where
     s : List (Option Request)
     s = admitted_after log m
 
     later : ℕ
-    later = drained_to log.done (run_end s log.done) luck.stop
+    later = drained_to log.done (run_end s log.done) faults.stop
 
     go : (u v w : Bool) → Each (IsOf m.name)
         (cond {A = List Reply × Option Log} u (notice m TooFar 0, None)
         (cond v (notice m TableFull 0, None)
         (cond w (notice m NoRoom log.done, None)
-        ((served taken log m luck.stop).0, Some (served taken log m luck.stop).1)))).0
+        ((served taken log m faults.stop).0, Some (served taken log m faults.stop).1)))).0
     go true v w = (refl, tt)
     go false true w = (refl, tt)
     go false false true = (refl, tt)
@@ -92,24 +92,24 @@ message_of taken known full log m luck =
         (own_of taken s log.done later (run_end s log.done) m)
 
 -- a turn of another name
-pub other_true : (stood : List ℕ → Bool) (offered : List Request) (name : List ℕ) (b : Book) (f : Frame)
-    (luck : Luck) → is_of name f ≡ false →
+pub other_true : (existed : List ℕ → Bool) (offered : List Request) (name : List ℕ) (b : Book) (f : Frame)
+    (faults : Faults) → is_of name f ≡ false →
     IsSound offered (log_of b name) →
-    IsFaithfulStep (stood name) offered name (log_of b name) (log_of (turn stood b f luck).1 name)
-    (turn stood b f luck).0
+    IsFaithfulStep (existed name) offered name (log_of b name) (log_of (turn existed b f faults).1 name)
+    (turn existed b f faults).0
 unfolding turn turn_by
-other_true stood offered name b (Says m) luck off sound =
-    let x = turn_by (stood m.name) (is_known b m.name) (is_full b) (log_of b m.name) m luck in
-    subst (λ (l : Log). IsFaithfulStep (stood name) offered name (log_of b name) l x.0) (sym (same x.1))
-    (still (stood name) offered name (log_of b name) x.0 sound
-    (each-map (IsOf m.name) (IsTrueReply (stood name) name (log_of b name)) x.0
-    (λ r h. other_reply (stood name) name m.name (log_of b name) r off h)
-    (message_of (stood m.name) (is_known b m.name) (is_full b) (log_of b m.name) m luck)))
+other_true existed offered name b (Says m) faults off sound =
+    let x = turn_by (existed m.name) (is_known b m.name) (is_full b) (log_of b m.name) m faults in
+    subst (λ (l : Log). IsFaithfulStep (existed name) offered name (log_of b name) l x.0) (sym (same x.1))
+    (still (existed name) offered name (log_of b name) x.0 sound
+    (each-map (IsOf m.name) (IsTrueReply (existed name) name (log_of b name)) x.0
+    (λ r h. other_reply (existed name) name m.name (log_of b name) r off h)
+    (message_of (existed m.name) (is_known b m.name) (is_full b) (log_of b m.name) m faults)))
   where
     same : (c : Option Log) → log_of (with_change b m.name c) name ≡ log_of b name
     same None = refl
     same (Some l) = log-with_log_other b m.name name l off
-other_true stood offered name b (Asks x n) luck off sound =
-    still (stood name) offered name (log_of b name) _ sound
-    (notice_true (stood name) name x (log_of b name) n (log_of b x).done Next refl, tt)
-other_true stood offered name b Bye luck off sound = still (stood name) offered name (log_of b name) [] sound tt
+other_true existed offered name b (Asks x n) faults off sound =
+    still (existed name) offered name (log_of b name) _ sound
+    (notice_true (existed name) name x (log_of b name) n (log_of b x).done Next refl, tt)
+other_true existed offered name b Bye faults off sound = still (existed name) offered name (log_of b name) [] sound tt

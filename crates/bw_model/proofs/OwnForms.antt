@@ -5,7 +5,7 @@ use Rattle.std.specs.Prelude.{codes, flat_map}
 use Rattle.bw_model.specs.Bytes.{unsaid}
 use Rattle.bw_model.specs.Take.{Format, Take}
 use Rattle.bw_model.specs.Layout.{Chunk, head, chunk, chunk_sized}
-use Rattle.bw_model.specs.File.{form_of, form_len, junk_chunk, ds64_chunk, data_chunk, chunks_before, chunks_behind}
+use Rattle.bw_model.specs.File.{form_of, form_len, junk_chunk, ds64_chunk, data_chunk, chunks_before, chunks_after}
 use Rattle.bw_model.specs.File.{cues}
 use Rattle.bw_model.specs.Reading.{Form, outer, is_id, largest}
 use Rattle.bw_model.specs.ReadBack.{IsWithinLimits}
@@ -27,7 +27,7 @@ first_piece form first four long fmt bext cue = record {
   cue = λ e. absurd (other_id first.id (codes "cue ") cue e);
 }
 
--- the form of a take's chunks behind this first chunk, with this as the data chunk's size
+-- the form of a take's chunks after this first chunk, with this as the data chunk's size
 pub record IsOwnForm (f : Format) (t : Take) (first : Chunk) (data_size : ℕ) (form : Form) (b : List ℕ) : Type 0 where
   pub header : outer b ≡ Ok form
   pub size : form.size ≡ form_len f t
@@ -40,7 +40,7 @@ pub record IsOwnForm (f : Format) (t : Take) (first : Chunk) (data_size : ℕ) (
   pub cue : is_id first.id (codes "cue ") ≡ false
   pub long : length first.content ≡ 28
 
--- the bytes of such a form behind an outer header of 8
+-- the bytes of such a form after an outer header of 8
 abbrev pub bytes_of : List ℕ → Format → Take → Chunk → ℕ → List ℕ
 bytes_of outer f t first data_size = outer ++ form_of f t first data_size
 
@@ -89,7 +89,7 @@ broad_bytes f t = bytes_of (head (codes "BW64") unsaid) f t (ds64_chunk (form_le
 
 rest : Format → Take → ℕ → List ℕ
 rest f t size = flat_map chunk (chunks_before f t) ++ chunk_sized size (data_chunk t.samples)
-    ++ flat_map chunk (chunks_behind t)
+    ++ flat_map chunk (chunks_after t)
 
 pub narrow-own : (f : Format) (t : Take) → IsWithinLimits f t → form_len f t ≤ 4294967294 →
     length (narrow_bytes f t) ≡ 8 + form_len f t →

@@ -12,7 +12,7 @@ use Rattle.bw_model.specs.Wire.{Message, message_body}
 use Rattle.bw_model.specs.Replies.{Reply, Judged, Noticed, Notice, Held, TooFar, Conflict, TableFull, NoRoom}
 use Rattle.bw_model.specs.Replies.{DelayedStore}
 use Rattle.bw_model.specs.Book.{Log, Book, log_of, is_known, run_end, verdict_at}
-use Rattle.bw_model.specs.Turn.{Luck, turn_by, served, own_reply, notice, window, is_admissible, admitted_after}
+use Rattle.bw_model.specs.Turn.{Faults, turn_by, served, own_reply, notice, window, is_admissible, admitted_after}
 use Rattle.bw_model.specs.Turn.{drained_to, repeats, is_repeat, is_full, with_change, message_turn}
 use Rattle.bw_model.specs.World.{turns_down}
 use Rattle.bw_model.proofs.BookLemmas.{name_refl, log-with_log_same, unknown_log}
@@ -130,44 +130,44 @@ served_true taken offered log m stop sound was near =
     record {
       sound = record { admitted = a.admitted; filled = filled_to s log.done later a.filled d.to };
       grows = record { done = d.from; verdicts = a.same };
-      told = each-append (IsTrueReply taken m.name new) _ _
+      reported = each-append (IsTrueReply taken m.name new) _ _
           (verdicts_true taken m.name new log.done (later - log.done) (let f = d.from in omega (arith, f)))
           (own_true taken s log.done later end m near a.here d.from);
     }
 
 -- the turn of the sender's message
-pub own_message_true : (stood : List ℕ → Bool) (offered : List Request) (b : Book) (m : Message) (luck : Luck) →
+pub own_message_true : (existed : List ℕ → Bool) (offered : List Request) (b : Book) (m : Message) (faults : Faults) →
     IsSound offered (log_of b m.name) → slice_get offered m.number ≡ Some m.request →
     m.number < (log_of b m.name).done + window →
-    IsFaithfulStep (stood m.name) offered m.name (log_of b m.name)
-    (log_of (message_turn (stood m.name) b m luck).1 m.name) (message_turn (stood m.name) b m luck).0
+    IsFaithfulStep (existed m.name) offered m.name (log_of b m.name)
+    (log_of (message_turn (existed m.name) b m faults).1 m.name) (message_turn (existed m.name) b m faults).0
 unfolding turn_by
-own_message_true stood offered b m luck sound was near =
-    go (is_known b m.name) refl (nat_le window m.number) refl (is_full b) (is_admissible log m.number && luck.refused)
+own_message_true existed offered b m faults sound was near =
+    go (is_known b m.name) refl (nat_le window m.number) refl (is_full b) (is_admissible log m.number && faults.refused)
   where
     log : Log
     log = log_of b m.name
 
     Goal : List Reply × Option Log → Type 0
-    Goal x = IsFaithfulStep (stood m.name) offered m.name log (log_of (with_change b m.name x.1) m.name) x.0
+    Goal x = IsFaithfulStep (existed m.name) offered m.name log (log_of (with_change b m.name x.1) m.name) x.0
 
     kept : (code : Notice) (next : ℕ) → turns_down m.name (Noticed m.name m.number code next) ≡ false →
         Goal (Noticed m.name m.number code next ∷ [], None)
-    kept code next w = still (stood m.name) offered m.name log _ sound
-        (notice_true (stood m.name) m.name m.name log m.number next code w, tt)
+    kept code next w = still (existed m.name) offered m.name log _ sound
+        (notice_true (existed m.name) m.name m.name log m.number next code w, tt)
 
-    served_goal : Goal ((served (stood m.name) log m luck.stop).0, Some (served (stood m.name) log m luck.stop).1)
+    served_goal : Goal ((served (existed m.name) log m faults.stop).0, Some (served (existed m.name) log m faults.stop).1)
     served_goal =
-        subst (λ (z : Log). IsFaithfulStep (stood m.name) offered m.name log z
-        (served (stood m.name) log m luck.stop).0)
-        (sym (log-with_log_same b m.name (served (stood m.name) log m luck.stop).1))
-        (served_true (stood m.name) offered log m luck.stop sound was near)
+        subst (λ (z : Log). IsFaithfulStep (existed m.name) offered m.name log z
+        (served (existed m.name) log m faults.stop).0)
+        (sym (log-with_log_same b m.name (served (existed m.name) log m faults.stop).1))
+        (served_true (existed m.name) offered log m faults.stop sound was near)
 
     go : (known : Bool) → is_known b m.name ≡ known → (far : Bool) → nat_le window m.number ≡ far →
         (full refused : Bool) →
         Goal (cond (not known && far) (notice m TooFar 0, None) (cond (not known && full) (notice m TableFull 0, None)
         (cond refused (notice m NoRoom log.done, None)
-        ((served (stood m.name) log m luck.stop).0, Some (served (stood m.name) log m luck.stop).1))))
+        ((served (existed m.name) log m faults.stop).0, Some (served (existed m.name) log m faults.stop).1))))
     go false k true f full refused =
         let none : log.done ≡ 0 = ap (λ (l : Log). l.done) (unknown_log b m.name k) in
         let over : window ≤ m.number = leb-true window m.number f in

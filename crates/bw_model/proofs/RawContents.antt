@@ -11,7 +11,7 @@ use Rattle.bw_model.specs.Bytes.{u16_at, u32_at, le32}
 use Rattle.bw_model.specs.Take.{Format, is_format, block_align}
 use Rattle.bw_model.specs.Layout.{fmt_content, cue_point, cue_content}
 use Rattle.bw_model.specs.Report.{RawFmt, raw_fmt, RawCue, raw_cues}
-use Rattle.bw_model.specs.ReadBack.{told_fmt, told_cue, is_marker}
+use Rattle.bw_model.specs.ReadBack.{reported_fmt, reported_cue, is_marker}
 
 -- `fmt `
 
@@ -51,7 +51,7 @@ is_small f h =
         two (inl e) = at rate channels 16 (eqb-true f.bits 16 e) (omega arith) (omega arith)
         two (inr e) = at rate channels 24 (eqb-true f.bits 24 e) (omega arith) (omega arith)
 
-pub raw-fmt : (f : Format) → IsTrue (is_format f) → raw_fmt (fmt_content f) ≡ told_fmt f
+pub raw-fmt : (f : Format) → IsTrue (is_format f) → raw_fmt (fmt_content f) ≡ reported_fmt f
 raw-fmt f h =
     ap (λ (n : ℕ). made n (u16_at c 2) (u32_at c 4) (u32_at c 8) (u16_at c 12) (u16_at c 14))
     (from_le_bytes-to_le_bytes_2 1 (omega arith))
@@ -84,45 +84,45 @@ raw-fmt f h =
 
 -- `cue `
 
--- a number that stands behind a front
-shifted : (front x : List ℕ) (p i q : ℕ) → p ≡ length front → q ≡ p + i →
-    u32_at (front ++ x) q ≡ from_le_bytes w32 (take 4 (drop i x))
-shifted front x p i q e at =
+-- a number that stands after a prefix
+shifted : (prefix x : List ℕ) (p i q : ℕ) → p ≡ length prefix → q ≡ p + i →
+    u32_at (prefix ++ x) q ≡ from_le_bytes w32 (take 4 (drop i x))
+shifted prefix x p i q e at =
     let count : p + i + 4 - (p + i) ≡ 4 = omega arith in
-    ap (u32_at (front ++ x)) at
-    ∙ ap (λ (k : ℕ). from_le_bytes w32 (take k (drop (p + i) (front ++ x)))) count
+    ap (u32_at (prefix ++ x)) at
+    ∙ ap (λ (k : ℕ). from_le_bytes w32 (take k (drop (p + i) (prefix ++ x)))) count
     ∙ ap (λ (z : List ℕ). from_le_bytes w32 (take 4 z))
-    (sym (drop-drop i p (front ++ x)) ∙ ap (drop i) (drop_at front x p (sym e)))
+    (sym (drop-drop i p (prefix ++ x)) ∙ ap (drop i) (drop_at prefix x p (sym e)))
 
-cues_behind : (front : List ℕ) (p : ℕ) (ms : List (ℕ × ℕ)) → p ≡ length front → IsTrue (list_all is_marker ms) →
-    raw_cues (front ++ flat_map cue_point ms) p (length ms) ≡ map told_cue ms
-cues_behind front p [] e h = refl
-cues_behind front p (m ∷ ms) e h =
+cues_after : (prefix : List ℕ) (p : ℕ) (ms : List (ℕ × ℕ)) → p ≡ length prefix → IsTrue (list_all is_marker ms) →
+    raw_cues (prefix ++ flat_map cue_point ms) p (length ms) ≡ map reported_cue ms
+cues_after prefix p [] e h = refl
+cues_after prefix p (m ∷ ms) e h =
     let both = and_parts (is_marker m) (list_all is_marker ms) h in
     let small = and_parts (nat_lt m.0 (2 ^ 32)) (nat_lt m.1 (2 ^ 32)) both.0 in
     let rest : List ℕ = flat_map cue_point ms in
-    let c : List ℕ = front ++ (cue_point m ++ rest) in
-    let behind : p + 24 ≡ length (front ++ cue_point m) = omega (arith, length-append front (cue_point m)) in
+    let c : List ℕ = prefix ++ (cue_point m ++ rest) in
+    let following : p + 24 ≡ length (prefix ++ cue_point m) = omega (arith, length-append prefix (cue_point m)) in
     let id : u32_at c p ≡ m.0 =
-    shifted front (cue_point m ++ rest) p 0 p e (omega arith)
+    shifted prefix (cue_point m ++ rest) p 0 p e (omega arith)
     ∙ from_le_bytes-to_le_bytes_4 m.0 (ltb-true m.0 (2 ^ 32) small.0) in
     let position : u32_at c (p + 4) ≡ m.1 =
-    shifted front (cue_point m ++ rest) p 4 (p + 4) e refl
+    shifted prefix (cue_point m ++ rest) p 4 (p + 4) e refl
     ∙ from_le_bytes-to_le_bytes_4 m.1 (ltb-true m.1 (2 ^ 32) small.1) in
     let offset : u32_at c (p + 20) ≡ m.1 =
-    shifted front (cue_point m ++ rest) p 20 (p + 20) e refl
+    shifted prefix (cue_point m ++ rest) p 20 (p + 20) e refl
     ∙ from_le_bytes-to_le_bytes_4 m.1 (ltb-true m.1 (2 ^ 32) small.1) in
     ap (λ (n : ℕ). record { id = n; position = u32_at c (p + 4); offset = u32_at c (p + 20) }
     ∷ raw_cues c (p + 24) (length ms)) id
     ∙ ap (λ (n : ℕ). record { id = m.0; position = n; offset = u32_at c (p + 20) } ∷ raw_cues c (p + 24) (length ms))
     position
     ∙ ap (λ (n : ℕ). record { id = m.0; position = m.1; offset = n } ∷ raw_cues c (p + 24) (length ms)) offset
-    ∙ ap (λ (cs : List RawCue). told_cue m ∷ cs)
-    (ap (λ (z : List ℕ). raw_cues z (p + 24) (length ms)) (sym (append_assoc front (cue_point m) rest))
-    ∙ cues_behind (front ++ cue_point m) (p + 24) ms behind both.1)
+    ∙ ap (λ (cs : List RawCue). reported_cue m ∷ cs)
+    (ap (λ (z : List ℕ). raw_cues z (p + 24) (length ms)) (sym (append_assoc prefix (cue_point m) rest))
+    ∙ cues_after (prefix ++ cue_point m) (p + 24) ms following both.1)
 
 pub raw-cues : (ms : List (ℕ × ℕ)) → length ms < 2 ^ 32 → IsTrue (list_all is_marker ms) →
-    raw_cues (cue_content ms) 4 (u32_at (cue_content ms) 0) ≡ map told_cue ms
+    raw_cues (cue_content ms) 4 (u32_at (cue_content ms) 0) ≡ map reported_cue ms
 raw-cues ms few h =
     ap (raw_cues (cue_content ms) 4) (from_le_bytes-to_le_bytes_4 (length ms) few)
-    ∙ cues_behind (le32 (length ms)) 4 ms refl h
+    ∙ cues_after (le32 (length ms)) 4 ms refl h

@@ -29,13 +29,13 @@ pub record WasOffered (name : List ℕ) (offered : List Request) (done : ℕ) (m
   pub near : m.number < done + window
 
 -- what each event keeps
-pub record IsKept (stood : List ℕ → Bool) (w : World) : Type 0 where
+pub record IsKept (existed : List ℕ → Bool) (w : World) : Type 0 where
   pub sound : IsSound w.sender.offered (log_of w.book w.sender.name)
   pub were : Each (WasOffered w.sender.name w.sender.offered (log_of w.book w.sender.name).done) w.sent
-  pub told : Each (IsTrueReply (stood w.sender.name) w.sender.name (log_of w.book w.sender.name)) w.replies
+  pub reported : Each (IsTrueReply (existed w.sender.name) w.sender.name (log_of w.book w.sender.name)) w.replies
   pub known : (n : ℕ) (v : Verdict) → at w.sender.verdicts n ≡ Some v →
       (n < (log_of w.book w.sender.name).done)
-      × (v ≡ verdict_at (stood w.sender.name) (log_of w.book w.sender.name).admitted n)
+      × (v ≡ verdict_at (existed w.sender.name) (log_of w.book w.sender.name).admitted n)
   pub near : length w.sender.offered ≤ settled w.sender + window
 
 pub settled_done : (vs : List (Option Verdict)) (done : ℕ) → ((n : ℕ) (v : Verdict) → at vs n ≡ Some v → n < done) →
@@ -46,12 +46,12 @@ settled_done vs done h = go (cases_lt done (first_free vs))
     go (inl p) = let x = at-first_free vs done p in let bad : done < done = h done x.0 x.1 in absurd (omega arith)
     go (inr p) = p
 
-pub offered_true : (stood : List ℕ → Bool) (w : World) (r : Request) → IsKept stood w →
-    IsKept stood (record w { sender = offer w.sender r })
-offered_true stood w r k = go (offer_fault w.sender r) refl
+pub offered_true : (existed : List ℕ → Bool) (w : World) (r : Request) → IsKept existed w →
+    IsKept existed (record w { sender = offer w.sender r })
+offered_true existed w r k = go (offer_fault w.sender r) refl
   where
     more : nat_le (settled w.sender + window) (length w.sender.offered) ≡ false →
-        IsKept stood (record w { sender = record w.sender { offered = w.sender.offered ++ r ∷ [] } })
+        IsKept existed (record w { sender = record w.sender { offered = w.sender.offered ++ r ∷ [] } })
     more room =
         let room' : length w.sender.offered < settled w.sender + window = leb-false _ _ room in
         record {
@@ -66,7 +66,7 @@ offered_true stood w r k = go (offer_fault w.sender r) refl
                 was = get-push w.sender.offered r m.number m.request h.was;
                 near = h.near;
               }) k.were;
-          told = k.told;
+          reported = k.reported;
           known = k.known;
           near = omega (arith, length-append w.sender.offered (r ∷ []), room');
         }
@@ -81,15 +81,15 @@ offered_true stood w r k = go (offer_fault w.sender r) refl
     room_of false false false false e = refl
 
     go : (x : Option OfferFault) → offer_fault w.sender r ≡ x →
-        IsKept stood (record w {
+        IsKept existed (record w {
           sender = cond (is_none (offer_fault w.sender r))
               (record w.sender { offered = w.sender.offered ++ r ∷ [] }) w.sender;
         })
-    go None e = subst (λ (v : Option OfferFault). IsKept stood
+    go None e = subst (λ (v : Option OfferFault). IsKept existed
         (record w { sender = cond (is_none v) (record w.sender { offered = w.sender.offered ++ r ∷ [] }) w.sender }))
         (sym e)
         (more (room_of _ _ _ _ e))
-    go (Some f) e = subst (λ (v : Option OfferFault). IsKept stood
+    go (Some f) e = subst (λ (v : Option OfferFault). IsKept existed
         (record w { sender = cond (is_none v) (record w.sender { offered = w.sender.offered ++ r ∷ [] }) w.sender }))
         (sym e) k
 
@@ -112,14 +112,14 @@ pending_offered n (r ∷ rs) (None ∷ vs) (suc i) p e = let x =
 pending_offered n (r ∷ rs) (Some v ∷ vs) i p e = let x =
     pending_offered (suc n) rs vs i p e in (suc x.0, ((let h = x.1.0 in omega (arith, h)), x.1.1))
 
-pub sent_true : (stood : List ℕ → Bool) (w : World) (i : ℕ) → IsKept stood w →
-    IsKept stood (send w (pending w.sender i))
-sent_true stood w i k = go (pending w.sender i) refl
+pub sent_true : (existed : List ℕ → Bool) (w : World) (i : ℕ) → IsKept existed w →
+    IsKept existed (send w (pending w.sender i))
+sent_true existed w i k = go (pending w.sender i) refl
   where
     done : ℕ
     done = (log_of w.book w.sender.name).done
 
-    go : (x : Option (ℕ × Request)) → pending w.sender i ≡ x → IsKept stood (send w x)
+    go : (x : Option (ℕ × Request)) → pending w.sender i ≡ x → IsKept existed (send w x)
     go None e = k
     go (Some p) e =
         let x = pending_offered 0 w.sender.offered w.sender.verdicts i p e in
@@ -127,23 +127,23 @@ sent_true stood w i k = go (pending w.sender i) refl
         ap (slice_get w.sender.offered) (let h = x.1.0 in let same : p.0 ≡ x.0 = omega (arith, h) in same)
         ∙ x.1.1 in
         let below : p.0 < length w.sender.offered = get-below w.sender.offered p.0 p.1 was in
-        let behind : settled w.sender ≤ done = settled_done w.sender.verdicts done (λ n v e. (k.known n v e).0) in
+        let following : settled w.sender ≤ done = settled_done w.sender.verdicts done (λ n v e. (k.known n v e).0) in
         let near = k.near in
         record {
           sound = k.sound;
           were = each-append (WasOffered w.sender.name w.sender.offered done) w.sent _ k.were
-              (record { own = refl; was = was; near = omega (arith, below, behind, near) }, tt);
-          told = k.told;
+              (record { own = refl; was = was; near = omega (arith, below, following, near) }, tt);
+          reported = k.reported;
           known = k.known;
           near = k.near;
         }
 
-pub heard_true : (stood : List ℕ → Bool) (w : World) (r : Reply) → IsKept stood w →
-    IsTrueReply (stood w.sender.name) w.sender.name (log_of w.book w.sender.name) r →
-    IsKept stood (record w { sender = hear w.sender r })
-heard_true stood w (Noticed x n code next) k t = k
-heard_true stood w (Refused reason place) k t = k
-heard_true stood w (Judged x n v) k t = go (is_counted w.sender x n) refl
+pub heard_true : (existed : List ℕ → Bool) (w : World) (r : Reply) → IsKept existed w →
+    IsTrueReply (existed w.sender.name) w.sender.name (log_of w.book w.sender.name) r →
+    IsKept existed (record w { sender = hear w.sender r })
+heard_true existed w (Noticed x n code next) k t = k
+heard_true existed w (Refused reason place) k t = k
+heard_true existed w (Judged x n v) k t = go (is_counted w.sender x n) refl
   where
     first : is_counted w.sender x n ≡ true → bytes_eq x w.sender.name ≡ true
     first e = left (bytes_eq x w.sender.name) (nat_lt n (length w.sender.offered))
@@ -166,7 +166,7 @@ heard_true stood w (Judged x n v) k t = go (is_counted w.sender x n) refl
         none_of (Some v) e = absurd (false≢true e)
 
     go : (c : Bool) → is_counted w.sender x n ≡ c →
-        IsKept stood (record w { sender = cond c (record w.sender { verdicts = put w.sender.verdicts n v }) w.sender })
+        IsKept existed (record w { sender = cond c (record w.sender { verdicts = put w.sender.verdicts n v }) w.sender })
     go false e = k
     go true e =
         let own : x ≡ w.sender.name = same_name x w.sender.name (first e) in
@@ -177,7 +177,7 @@ heard_true stood w (Judged x n v) k t = go (is_counted w.sender x n) refl
         record {
           sound = k.sound;
           were = k.were;
-          told = k.told;
+          reported = k.reported;
           known = λ j u h. by_place j u h (eqb_tells j n) says;
           near = omega (arith, up, near);
         }
@@ -185,13 +185,13 @@ heard_true stood w (Judged x n v) k t = go (is_counted w.sender x n) refl
         by_place : (j : ℕ) (u : Verdict) → at (put w.sender.verdicts n v) j ≡ Some u →
             ((eqb j n ≡ true) × (j ≡ n)) ⊎ ((eqb j n ≡ false) × (j ≢ n)) →
             (n < (log_of w.book w.sender.name).done)
-            × (v ≡ verdict_at (stood w.sender.name) (log_of w.book w.sender.name).admitted n) →
+            × (v ≡ verdict_at (existed w.sender.name) (log_of w.book w.sender.name).admitted n) →
             (j < (log_of w.book w.sender.name).done)
-            × (u ≡ verdict_at (stood w.sender.name) (log_of w.book w.sender.name).admitted j)
+            × (u ≡ verdict_at (existed w.sender.name) (log_of w.book w.sender.name).admitted j)
         by_place j u h (inl p) says =
             let same : u ≡ v = some_inj
             (sym h ∙ ap (at (put w.sender.verdicts n v)) p.1 ∙ at-put_same w.sender.verdicts n v) in
             subst (λ (z : ℕ). (z < (log_of w.book w.sender.name).done)
-            × (u ≡ verdict_at (stood w.sender.name) (log_of w.book w.sender.name).admitted z)) (sym p.1)
+            × (u ≡ verdict_at (existed w.sender.name) (log_of w.book w.sender.name).admitted z)) (sym p.1)
             (says.0, same ∙ says.1)
         by_place j u h (inr p) says = k.known j u (sym (at-put_other w.sender.verdicts n j v p.1) ∙ h)

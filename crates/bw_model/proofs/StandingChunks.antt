@@ -1,4 +1,4 @@
--- Chunks that stand one behind another in bytes are read as they stand.
+-- Chunks that stand one after another in bytes are read as they stand.
 use Rattle.std.proofs.Common.{◌≡◌, ℕ, ◌+◌, ◌-◌, ◌*◌, ◌<◌, ◌≤◌, ◌^◌, ◌⊎◌, inl, inr, List, [], ◌∷◌, ◌++◌, length, take}
 use Rattle.std.proofs.Common.{drop, refl, sym, ◌∙◌, ap, subst, arith, append_assoc, length-append}
 use Rattle.std.specs.Prelude.{flat_map, codes, slice_range}
@@ -8,28 +8,28 @@ use Rattle.std.proofs.lemmas.Nat.{from_le_bytes-to_le_bytes_4}
 use Rattle.bw_model.specs.Bytes.{even_up, u32_at, le32, unsaid}
 use Rattle.bw_model.specs.Layout.{Chunk, chunk_sized, pad}
 use Rattle.bw_model.specs.Reading.{Entry, Form, id_at, form_end, largest}
-use Rattle.bw_model.specs.Front.{IsTold, IsSized, HasRoomForCues, IsChunkAt, StandFrom}
+use Rattle.bw_model.specs.Prefix.{IsSizeGiven, IsSized, HasRoomForCues, IsChunkAt, StandFrom}
 use Rattle.bw_model.proofs.Widths.{length-chunk_sized}
 
--- n bytes from a place on, of what stands behind the front
-pub range-behind : (front x rest : List ℕ) (p i n : ℕ) → p ≡ length front → i + n ≤ length x →
-    slice_range (front ++ (x ++ rest)) (p + i) (p + i + n) ≡ take n (drop i x)
-range-behind front x rest p i n e l =
+-- n bytes from a place on, of what stands after the front
+pub range-after : (prefix x rest : List ℕ) (p i n : ℕ) → p ≡ length prefix → i + n ≤ length x →
+    slice_range (prefix ++ (x ++ rest)) (p + i) (p + i + n) ≡ take n (drop i x)
+range-after prefix x rest p i n e l =
     let count : p + i + n - (p + i) ≡ n = omega arith in
     let here : i ≤ length x = omega arith in
     let room : n ≤ length (drop i x) = omega (arith, length-drop i x) in
-    ap (λ (k : ℕ). take k (drop (p + i) (front ++ (x ++ rest)))) count
-    ∙ ap (take n) (sym (drop-drop i p (front ++ (x ++ rest))) ∙ ap (drop i) (drop_at front (x ++ rest) p (sym e))
+    ap (λ (k : ℕ). take k (drop (p + i) (prefix ++ (x ++ rest)))) count
+    ∙ ap (take n) (sym (drop-drop i p (prefix ++ (x ++ rest))) ∙ ap (drop i) (drop_at prefix (x ++ rest) p (sym e))
     ∙ drop-append-le i x rest here)
     ∙ take-append-le n (drop i x) rest room
 
--- what stands behind the front, whole
-pub range-whole : (front x rest : List ℕ) (p n : ℕ) → p ≡ length front → n ≡ length x →
-    slice_range (front ++ (x ++ rest)) p (p + n) ≡ x
-range-whole front x rest p n e l =
+-- what stands after the front, whole
+pub range-whole : (prefix x rest : List ℕ) (p n : ℕ) → p ≡ length prefix → n ≡ length x →
+    slice_range (prefix ++ (x ++ rest)) p (p + n) ≡ x
+range-whole prefix x rest p n e l =
     let count : p + n - p ≡ n = omega arith in
-    ap (λ (k : ℕ). take k (drop p (front ++ (x ++ rest)))) count
-    ∙ ap (take n) (drop_at front (x ++ rest) p (sym e))
+    ap (λ (k : ℕ). take k (drop p (prefix ++ (x ++ rest)))) count
+    ∙ ap (take n) (drop_at prefix (x ++ rest) p (sym e))
     ∙ take_at x rest n (sym l)
 
 -- a chunk, and what its head says as its size
@@ -42,18 +42,18 @@ piece_bytes x = chunk_sized x.0 x.1
 abbrev pub piece_size : Piece → ℕ
 piece_size x = length x.1.content
 
--- a piece that stands in bytes, behind so many others
+-- a piece that stands in bytes, after so many others
 pub record StandsAt (b : List ℕ) (p : ℕ) (x : Piece) : Type 0 where
-  pub front : List ℕ
+  pub prefix : List ℕ
   pub rest : List ℕ
-  pub place : p ≡ length front
-  pub bytes : b ≡ front ++ (piece_bytes x ++ rest)
+  pub place : p ≡ length prefix
+  pub bytes : b ≡ prefix ++ (piece_bytes x ++ rest)
 
 -- the same, part by part
 in_parts : (b : List ℕ) (p : ℕ) (x : Piece) (s : StandsAt b p x) →
-    b ≡ s.front ++ (x.1.id ++ (le32 x.0 ++ (x.1.content ++ (pad (piece_size x) ++ s.rest))))
+    b ≡ s.prefix ++ (x.1.id ++ (le32 x.0 ++ (x.1.content ++ (pad (piece_size x) ++ s.rest))))
 in_parts b p x s = s.bytes
-    ∙ ap (λ (z : List ℕ). s.front ++ z) (parts x.1.id (le32 x.0) x.1.content (pad (piece_size x)) s.rest)
+    ∙ ap (λ (z : List ℕ). s.prefix ++ z) (parts x.1.id (le32 x.0) x.1.content (pad (piece_size x)) s.rest)
   where
     parts : (i n c d r : List ℕ) → (i ++ n ++ (c ++ d)) ++ r ≡ i ++ (n ++ (c ++ (d ++ r)))
     parts i n c d r = simp append_assoc
@@ -61,15 +61,15 @@ in_parts b p x s = s.bytes
 id-stands : (b : List ℕ) (p : ℕ) (x : Piece) → StandsAt b p x → length x.1.id ≡ 4 → id_at b p ≡ x.1.id
 id-stands b p x s l =
     ap (λ (z : List ℕ). slice_range z p (p + 4)) (in_parts b p x s)
-    ∙ range-whole s.front x.1.id (le32 x.0 ++ (x.1.content ++ (pad (piece_size x) ++ s.rest))) p 4 s.place (sym l)
+    ∙ range-whole s.prefix x.1.id (le32 x.0 ++ (x.1.content ++ (pad (piece_size x) ++ s.rest))) p 4 s.place (sym l)
 
 size-stands : (b : List ℕ) (p : ℕ) (x : Piece) → StandsAt b p x → length x.1.id ≡ 4 → x.0 < 2 ^ 32 →
     u32_at b (p + 4) ≡ x.0
 size-stands b p x s l small =
     let rest : List ℕ = x.1.content ++ (pad (piece_size x) ++ s.rest) in
-    let place : p + 4 ≡ length (s.front ++ x.1.id) = omega (arith, length-append s.front x.1.id, s.place) in
-    ap (λ (z : List ℕ). u32_at z (p + 4)) (in_parts b p x s ∙ sym (append_assoc s.front x.1.id (le32 x.0 ++ rest)))
-    ∙ ap (from_le_bytes w32) (range-whole (s.front ++ x.1.id) (le32 x.0) rest (p + 4) 4 place refl)
+    let place : p + 4 ≡ length (s.prefix ++ x.1.id) = omega (arith, length-append s.prefix x.1.id, s.place) in
+    ap (λ (z : List ℕ). u32_at z (p + 4)) (in_parts b p x s ∙ sym (append_assoc s.prefix x.1.id (le32 x.0 ++ rest)))
+    ∙ ap (from_le_bytes w32) (range-whole (s.prefix ++ x.1.id) (le32 x.0) rest (p + 4) 4 place refl)
     ∙ from_le_bytes-to_le_bytes_4 x.0 small
 
 -- the bytes of a content, from its start on
@@ -77,13 +77,13 @@ pub content-stands : (b : List ℕ) (p : ℕ) (x : Piece) (i n : ℕ) → Stands
     i + n ≤ piece_size x →
     slice_range b (p + 8 + i) (p + 8 + i + n) ≡ take n (drop i x.1.content)
 content-stands b p x i n s l inside =
-    let front : List ℕ = s.front ++ (x.1.id ++ le32 x.0) in
+    let prefix : List ℕ = s.prefix ++ (x.1.id ++ le32 x.0) in
     let rest : List ℕ = pad (piece_size x) ++ s.rest in
-    let place : p + 8 ≡ length front =
-    omega (arith, length-append s.front (x.1.id ++ le32 x.0), length-append x.1.id (le32 x.0), s.place) in
+    let place : p + 8 ≡ length prefix =
+    omega (arith, length-append s.prefix (x.1.id ++ le32 x.0), length-append x.1.id (le32 x.0), s.place) in
     ap (λ (z : List ℕ). slice_range z (p + 8 + i) (p + 8 + i + n))
-    (in_parts b p x s ∙ joined s.front x.1.id (le32 x.0) (x.1.content ++ rest))
-    ∙ range-behind front x.1.content rest (p + 8) i n place inside
+    (in_parts b p x s ∙ joined s.prefix x.1.id (le32 x.0) (x.1.content ++ rest))
+    ∙ range-after prefix x.1.content rest (p + 8) i n place inside
   where
     joined : (f i n r : List ℕ) → f ++ (i ++ (n ++ r)) ≡ (f ++ (i ++ n)) ++ r
     joined f i n r = simp append_assoc
@@ -104,7 +104,7 @@ pub record HasCount (content : List ℕ) : Type 0 where
 
 abbrev pub SaysSize : Form → Piece → Type 0
 SaysSize form x = ((x.0 ≡ piece_size x) × (piece_size x < unsaid))
-    ⊎ ((x.0 ≡ unsaid) × IsTold form.sizes x.1.id (piece_size x))
+    ⊎ ((x.0 ≡ unsaid) × IsSizeGiven form.sizes x.1.id (piece_size x))
 
 pub record IsPiece (form : Form) (x : Piece) : Type 0 where
   pub id : length x.1.id ≡ 4
@@ -122,7 +122,7 @@ length-stands b p x s l =
     omega (
       arith,
       ap length s.bytes,
-      length-append s.front (piece_bytes x ++ s.rest),
+      length-append s.prefix (piece_bytes x ++ s.rest),
       length-append (piece_bytes x) s.rest,
       length-chunk_sized x.0 x.1 l,
       s.place,
@@ -180,17 +180,17 @@ abbrev pub AllStand : List ℕ → ℕ → List Piece → Type 0
 AllStand b p [] = Unit {0}
 AllStand b p (x ∷ xs) = StandsAt b p x × AllStand b (p + 8 + even_up (piece_size x)) xs
 
-pub all-stand : (b : List ℕ) (form : Form) (p : ℕ) (xs : List Piece) (front rest : List ℕ) → ArePieces form xs →
-    p ≡ length front → b ≡ front ++ (flat_map piece_bytes xs ++ rest) → AllStand b p xs
-all-stand b form p [] front rest h place bytes = tt
-all-stand b form p (x ∷ xs) front rest h place bytes =
-    let split : b ≡ front ++ (piece_bytes x ++ (flat_map piece_bytes xs ++ rest)) =
-    bytes ∙ ap (λ (z : List ℕ). front ++ z) (append_assoc (piece_bytes x) (flat_map piece_bytes xs) rest) in
-    let next : p + 8 + even_up (piece_size x) ≡ length (front ++ piece_bytes x) =
-    omega (arith, length-append front (piece_bytes x), length-chunk_sized x.0 x.1 h.0.id, place) in (
-      record { front = front; rest = flat_map piece_bytes xs ++ rest; place = place; bytes = split },
-      all-stand b form (p + 8 + even_up (piece_size x)) xs (front ++ piece_bytes x) rest h.1 next
-          (split ∙ sym (append_assoc front (piece_bytes x) (flat_map piece_bytes xs ++ rest))),
+pub all-stand : (b : List ℕ) (form : Form) (p : ℕ) (xs : List Piece) (prefix rest : List ℕ) → ArePieces form xs →
+    p ≡ length prefix → b ≡ prefix ++ (flat_map piece_bytes xs ++ rest) → AllStand b p xs
+all-stand b form p [] prefix rest h place bytes = tt
+all-stand b form p (x ∷ xs) prefix rest h place bytes =
+    let split : b ≡ prefix ++ (piece_bytes x ++ (flat_map piece_bytes xs ++ rest)) =
+    bytes ∙ ap (λ (z : List ℕ). prefix ++ z) (append_assoc (piece_bytes x) (flat_map piece_bytes xs) rest) in
+    let next : p + 8 + even_up (piece_size x) ≡ length (prefix ++ piece_bytes x) =
+    omega (arith, length-append prefix (piece_bytes x), length-chunk_sized x.0 x.1 h.0.id, place) in (
+      record { prefix = prefix; rest = flat_map piece_bytes xs ++ rest; place = place; bytes = split },
+      all-stand b form (p + 8 + even_up (piece_size x)) xs (prefix ++ piece_bytes x) rest h.1 next
+          (split ∙ sym (append_assoc prefix (piece_bytes x) (flat_map piece_bytes xs ++ rest))),
     )
 
 -- pieces that stand in bytes are chunks there

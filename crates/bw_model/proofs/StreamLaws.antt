@@ -51,7 +51,7 @@ stream_from-by : (steps : ℕ) (v : Version) (place : ℕ) (bytes : List ℕ)
     ≡ ended_or (read_or place (later_from steps v place bytes) (first_frame v bytes)) (end_at v place bytes)
 stream_from-by steps v place bytes = refl
 
--- where a frame comes next, the function goes on behind it
+-- where a frame comes next, the function goes on after it
 stream_from-frame : (steps : ℕ) (v : Version) (place : ℕ) (bytes : List ℕ) (f : Frame) (more : List ℕ) →
     end_at v place bytes ≡ None → first_frame v bytes ≡ Ok (f, more)
     → stream_from (suc steps) v place bytes

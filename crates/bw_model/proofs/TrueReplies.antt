@@ -1,4 +1,4 @@
--- Replies that tell what the log has.
+-- Replies that say what the log has.
 use Rattle.std.proofs.Common.{◌≡◌, ℕ, suc, zero, ◌+◌, ◌<◌, ◌≤◌, Bool, false, List, Some, refl, sym, ◌∙◌, ap, subst}
 use Rattle.std.proofs.Common.{arith}
 use Rattle.std.specs.Prelude.{slice_get}
@@ -31,7 +31,7 @@ pub record IsFaithfulStep (taken : Bool) (offered : List Request) (name : List �
     (replies : List Reply) : Type 0 where
   pub sound : IsSound offered new
   pub grows : Grows taken old new
-  pub told : Each (IsTrueReply taken name new) replies
+  pub reported : Each (IsTrueReply taken name new) replies
 
 pub notice_true : (taken : Bool) (name x : List ℕ) (log : Log) (n next : ℕ) (code : Notice) →
     turns_down name (Noticed x n code next) ≡ false → IsTrueReply taken name log (Noticed x n code next)
@@ -42,11 +42,11 @@ notice_true taken name x log n next code w = record { judged = λ k v e. absurd 
 
 pub judged_true : (taken : Bool) (name : List ℕ) (log : Log) (n : ℕ) → n < log.done →
     IsTrueReply taken name log (Judged name n (verdict_at taken log.admitted n))
-judged_true taken name log n below = record { judged = λ k v e. told k v e; welcome = refl }
+judged_true taken name log n below = record { judged = λ k v e. reported k v e; welcome = refl }
   where
-    told : (k : ℕ) (v : Verdict) → Judged name n (verdict_at taken log.admitted n) ≡ Judged name k v →
+    reported : (k : ℕ) (v : Verdict) → Judged name n (verdict_at taken log.admitted n) ≡ Judged name k v →
         (k < log.done) × (v ≡ verdict_at taken log.admitted k)
-    told k v e =
+    reported k v e =
         let same : n ≡ k = cc in
         let verdicts : verdict_at taken log.admitted n ≡ v = cc in
         (subst (λ (z : ℕ). z < log.done) same below, sym verdicts ∙ ap (verdict_at taken log.admitted) same)
@@ -61,5 +61,5 @@ verdicts_true taken name log n (suc k) h =
 pub still : (taken : Bool) (offered : List Request) (name : List ℕ) (log : Log) (replies : List Reply) →
     IsSound offered log → Each (IsTrueReply taken name log) replies →
     IsFaithfulStep taken offered name log log replies
-still taken offered name log replies sound told =
-    record { sound = sound; grows = record { done = omega arith; verdicts = λ n h. refl }; told = told }
+still taken offered name log replies sound reported =
+    record { sound = sound; grows = record { done = omega arith; verdicts = λ n h. refl }; reported = reported }

@@ -11,11 +11,11 @@ use Rattle.bw_model.specs.Take.{Request}
 use Rattle.bw_model.specs.Wire.{Message, Frame, Says, Asks, Bye}
 use Rattle.bw_model.specs.Replies.{Reply, Judged, Noticed, Held, TooFar, Conflict, TableFull, NoRoom, DelayedStore}
 use Rattle.bw_model.specs.Book.{Log, Book, log_of, is_known, with_log, run_end, verdict_at}
-use Rattle.bw_model.specs.Turn.{Luck, turn, turn_by, served, own_reply, verdicts_from, notice, window, is_admissible}
+use Rattle.bw_model.specs.Turn.{Faults, turn, turn_by, served, own_reply, verdicts_from, notice, window, is_admissible}
 use Rattle.bw_model.specs.Turn.{admitted_after, drained_to, is_repeat, is_full, with_change, is_turned_away}
 use Rattle.bw_model.specs.BookRules.{IsBook}
-use Rattle.bw_model.specs.CountedTurn.{is_pending, is_delayed, stops_short, book_told, TurnsGiveFewReplies}
-use Rattle.bw_model.specs.CountedTurn.{RepliesTellTheBook, DelaysAreCounted, QuietTurnsDrain}
+use Rattle.bw_model.specs.CountedTurn.{is_pending, is_delayed, stops_short, book_reported, TurnsGiveFewReplies}
+use Rattle.bw_model.specs.CountedTurn.{RepliesReportTheBook, DelaysAreCounted, QuietTurnsDrain}
 use Rattle.bw_model.proofs.MapLemmas.{at-drop, at-first_free}
 use Rattle.bw_model.proofs.BookLemmas.{log-with_log_same, unknown_log}
 use Rattle.bw_model.proofs.BookLaws.{first_free-length, is_servable, is_admitted, is_drained}
@@ -77,45 +77,45 @@ length-served taken b m stop h =
 
 pub few_replies : TurnsGiveFewReplies
 unfolding turn turn_by
-few_replies stood b (Says m) luck h =
+few_replies existed b (Says m) faults h =
     go (is_known b m.name) (nat_le window m.number) (is_full b)
-    (is_admissible (log_of b m.name) m.number && luck.refused)
+    (is_admissible (log_of b m.name) m.number && faults.refused)
   where
     go : (known far full refused : Bool) →
         length (outcome known far full refused (log_of b m.name) m
-        (served (stood m.name) (log_of b m.name) m luck.stop)).0 ≤ 17
+        (served (existed m.name) (log_of b m.name) m faults.stop)).0 ≤ 17
     go false true full refused = omega arith
     go false false true refused = omega arith
     go false false false true = omega arith
-    go false false false false = length-served (stood m.name) b m luck.stop h
+    go false false false false = length-served (existed m.name) b m faults.stop h
     go true far full true = omega arith
-    go true far full false = length-served (stood m.name) b m luck.stop h
-few_replies stood b (Asks name n) luck h = omega arith
-few_replies stood b Bye luck h = omega arith
+    go true far full false = length-served (existed m.name) b m faults.stop h
+few_replies existed b (Asks name n) faults h = omega arith
+few_replies existed b Bye faults h = omega arith
 
--- The book behind the replies.
+-- The book after the replies.
 
 served-admitted : (taken : Bool) (log : Log) (m : Message) (stop : Option ℕ) →
     (served taken log m stop).1.admitted ≡ admitted_after log m
 unfolding served
 served-admitted taken log m stop = refl
 
-pub replies_tell : RepliesTellTheBook
+pub replies_report : RepliesReportTheBook
 unfolding turn turn_by
-replies_tell stood b m luck =
-    go (is_known b m.name) refl (nat_le window m.number) refl (is_full b) (is_admissible log m.number && luck.refused)
+replies_report existed b m faults =
+    go (is_known b m.name) refl (nat_le window m.number) refl (is_full b) (is_admissible log m.number && faults.refused)
   where
     log : Log
     log = log_of b m.name
 
     x : List Reply × Log
-    x = served (stood m.name) log m luck.stop
+    x = served (existed m.name) log m faults.stop
 
     Goal : List Reply × Option Log → Type 0
-    Goal y = with_change b m.name y.1 ≡ book_told b m y.0 (log_of (with_change b m.name y.1) m.name).done
+    Goal y = with_change b m.name y.1 ≡ book_reported b m y.0 (log_of (with_change b m.name y.1) m.name).done
 
-    told : Log
-    told = record { admitted = admitted_after log m; done = log.done }
+    reported : Log
+    reported = record { admitted = admitted_after log m; done = log.done }
 
     unchanged : (u v : Bool) (l : Log) → u || v ≡ true → b ≡ cond (u || v) b (with_log b m.name l)
     unchanged u v l e = sym (ap (λ (z : Bool). cond z b (with_log b m.name l)) e)
@@ -128,25 +128,25 @@ replies_tell stood b m luck =
         ap (λ (n : ℕ). record { admitted = admitted_after log m; done = n })
         (ap (λ (l : Log). l.done) (log-with_log_same b m.name x.1))
         ∙ ap (λ (s : List (Option Request)). record { admitted = s; done = x.1.done })
-        (sym (served-admitted (stood m.name) log m luck.stop)) in
+        (sym (served-admitted (existed m.name) log m faults.stop)) in
         let test : (not (is_known b m.name) && nat_le window m.number) || is_turned_away x.0 ≡ false =
-        ap (λ (v : Bool). v || is_turned_away x.0) near ∙ served-not_away (stood m.name) log m luck.stop in
+        ap (λ (v : Bool). v || is_turned_away x.0) near ∙ served-not_away (existed m.name) log m faults.stop in
         ap (with_log b m.name) (sym same) ∙ sym (ap (λ (v : Bool). cond v b (with_log b m.name later)) test)
 
     go : (known : Bool) → is_known b m.name ≡ known → (far : Bool) → nat_le window m.number ≡ far →
         (full refused : Bool) → Goal (outcome known far full refused log m x)
     go false k true f full refused =
-        unchanged (not (is_known b m.name) && nat_le window m.number) false told
+        unchanged (not (is_known b m.name) && nat_le window m.number) false reported
         (ap (λ (v : Bool). not v && nat_le window m.number || false) k ∙ ap (λ (v : Bool). v || false) f)
     go false k false f true refused =
-        unchanged (not (is_known b m.name) && nat_le window m.number) true told
+        unchanged (not (is_known b m.name) && nat_le window m.number) true reported
         (ap (λ (v : Bool). not v && nat_le window m.number || true) k ∙ ap (λ (v : Bool). v || true) f)
     go false k false f false true =
-        unchanged (not (is_known b m.name) && nat_le window m.number) true told
+        unchanged (not (is_known b m.name) && nat_le window m.number) true reported
         (ap (λ (v : Bool). not v && nat_le window m.number || true) k ∙ ap (λ (v : Bool). v || true) f)
     go false k false f false false = changed (ap (λ (v : Bool). not v && nat_le window m.number) k ∙ f)
     go true k far f full true =
-        unchanged (not (is_known b m.name) && nat_le window m.number) true told
+        unchanged (not (is_known b m.name) && nat_le window m.number) true reported
         (ap (λ (v : Bool). not v && nat_le window m.number || true) k)
     go true k far f full false = changed (ap (λ (v : Bool). not v && nat_le window m.number) k)
 
@@ -203,15 +203,15 @@ served-delayed taken log m stop e =
     from None = omega arith
     from (Some k) = omega arith
 
-delayed-short : (stood : List ℕ → Bool) (b : Book) (f : Frame) (luck : Luck) →
-    list_any is_delayed (turn stood b f luck).0 ≡ true → stops_short stood b f luck ≡ true
+delayed-short : (existed : List ℕ → Bool) (b : Book) (f : Frame) (faults : Faults) →
+    list_any is_delayed (turn existed b f faults).0 ≡ true → stops_short existed b f faults ≡ true
 unfolding turn turn_by
-delayed-short stood b (Says m) luck e =
+delayed-short existed b (Says m) faults e =
     go (is_known b m.name) (nat_le window m.number) (is_full b)
-    (is_admissible (log_of b m.name) m.number && luck.refused) e
+    (is_admissible (log_of b m.name) m.number && faults.refused) e
   where
     x : List Reply × Log
-    x = served (stood m.name) (log_of b m.name) m luck.stop
+    x = served (existed m.name) (log_of b m.name) m faults.stop
 
     go : (known far full refused : Bool) →
         list_any is_delayed (outcome known far full refused (log_of b m.name) m x).0 ≡ true →
@@ -219,26 +219,26 @@ delayed-short stood b (Says m) luck e =
     go false true full refused e = absurd (false≢true e)
     go false false true refused e = absurd (false≢true e)
     go false false false true e = absurd (false≢true e)
-    go false false false false e = served-delayed (stood m.name) (log_of b m.name) m luck.stop e
+    go false false false false e = served-delayed (existed m.name) (log_of b m.name) m faults.stop e
     go true far full true e = absurd (false≢true e)
-    go true far full false e = served-delayed (stood m.name) (log_of b m.name) m luck.stop e
-delayed-short stood b (Asks name n) luck e = absurd (false≢true e)
-delayed-short stood b Bye luck e = absurd (false≢true e)
+    go true far full false e = served-delayed (existed m.name) (log_of b m.name) m faults.stop e
+delayed-short existed b (Asks name n) faults e = absurd (false≢true e)
+delayed-short existed b Bye faults e = absurd (false≢true e)
 
 pub delays_counted : DelaysAreCounted
-delays_counted stood before after book f replies later t below delayed =
-    t.count.rises (delayed-short stood book f t.luck (ap (list_any is_delayed) t.answered ∙ delayed)) below
+delays_counted existed before after book f replies later t below delayed =
+    t.count.rises (delayed-short existed book f t.faults (ap (list_any is_delayed) t.answered ∙ delayed)) below
 
-quiet-drained : (stood : List ℕ → Bool) (b : Book) (m : Message) (luck : Luck) →
-    stops_short stood b (Says m) luck ≡ false → is_turned_away (turn stood b (Says m) luck).0 ≡ false →
-    is_pending (log_of (turn stood b (Says m) luck).1 m.name) ≡ false
+quiet-drained : (existed : List ℕ → Bool) (b : Book) (m : Message) (faults : Faults) →
+    stops_short existed b (Says m) faults ≡ false → is_turned_away (turn existed b (Says m) faults).0 ≡ false →
+    is_pending (log_of (turn existed b (Says m) faults).1 m.name) ≡ false
 unfolding turn turn_by
-quiet-drained stood b m luck quiet kept_here =
+quiet-drained existed b m faults quiet kept_here =
     go (is_known b m.name) refl (nat_le window m.number) (is_full b)
-    (is_admissible (log_of b m.name) m.number && luck.refused) quiet kept_here
+    (is_admissible (log_of b m.name) m.number && faults.refused) quiet kept_here
   where
     x : List Reply × Log
-    x = served (stood m.name) (log_of b m.name) m luck.stop
+    x = served (existed m.name) (log_of b m.name) m faults.stop
 
     kept : is_pending x.1 ≡ false → is_pending (log_of (with_log b m.name x.1) m.name) ≡ false
     kept q = ap is_pending (log-with_log_same b m.name x.1) ∙ q
@@ -256,11 +256,11 @@ quiet-drained stood b m luck quiet kept_here =
     go true k far full false q a = kept q
 
 pub quiet_drains : QuietTurnsDrain
-quiet_drains stood before book m replies later t below away =
+quiet_drains existed before book m replies later t below away =
     ap (λ (b : Book). is_pending (log_of b m.name)) (sym t.left)
-    ∙ quiet-drained stood book m t.luck (go (stops_short stood book (Says m) t.luck) refl) (ap is_turned_away t.answered
+    ∙ quiet-drained existed book m t.faults (go (stops_short existed book (Says m) t.faults) refl) (ap is_turned_away t.answered
     ∙ away)
   where
-    go : (v : Bool) → stops_short stood book (Says m) t.luck ≡ v → stops_short stood book (Says m) t.luck ≡ false
+    go : (v : Bool) → stops_short existed book (Says m) t.faults ≡ v → stops_short existed book (Says m) t.faults ≡ false
     go false e = e
     go true e = let up : before ≡ before + 1 = t.count.rises e below in absurd (omega arith)

@@ -6,7 +6,7 @@ use Rattle.bw_model.specs.Bytes.{first_free}
 use Rattle.bw_model.specs.Wire.{Frame, Second, is_frame}
 use Rattle.bw_model.specs.ReadBack.{is_admitted}
 use Rattle.bw_model.specs.Book.{Log, Book, log_of, is_known}
-use Rattle.bw_model.specs.Turn.{Luck, turn, window, most_takes}
+use Rattle.bw_model.specs.Turn.{Faults, turn, window, most_takes}
 
 -- Something was admitted, all numbers below `done`, and none past the window; each request has a
 -- spelling, so that no two of them have one body.
@@ -34,16 +34,16 @@ TheEmptyBookIsOne = IsBook []
 
 -- each turn of a frame that has a spelling leaves a book
 abbrev pub TurnsKeepBooks : Type 0
-TurnsKeepBooks = (stood : List ℕ → Bool) (book : Book) (f : Frame) (luck : Luck) →
-    IsTrue (is_frame Second f) → IsBook book → IsBook (turn stood book f luck).1
+TurnsKeepBooks = (existed : List ℕ → Bool) (book : Book) (f : Frame) (faults : Faults) →
+    IsTrue (is_frame Second f) → IsBook book → IsBook (turn existed book f faults).1
 
 -- no book has a name twice
 abbrev pub NoBookHasANameTwice : Type 0
 NoBookHasANameTwice = (entry : List ℕ × Log) (book : Book) → is_known book entry.0 ≡ true →
     IsBook (entry ∷ book) → ⊥
 
--- Books with the same names have as many entries: a table's names tell whether it is full.
-abbrev pub NamesTellTheLength : Type 0
-NamesTellTheLength =
+-- Books with the same names have as many entries: a table's names say whether it is full.
+abbrev pub NamesReportTheLength : Type 0
+NamesReportTheLength =
     (a b : Book) → IsBook a → IsBook b → ((name : List ℕ) → is_known a name ≡ is_known b name) →
     length a ≡ length b

@@ -9,7 +9,7 @@ use Rattle.bw_model.specs.Counts.{Counts, last_count}
 use Rattle.bw_model.specs.Wire.{Message, Frame, Says, Asks, Bye}
 use Rattle.bw_model.specs.Replies.{Reply, Judged, Noticed, Refused, Notice, NoRoom, DelayedStore}
 use Rattle.bw_model.specs.Book.{Log, Book, log_of, is_known, with_log}
-use Rattle.bw_model.specs.Turn.{Luck, turn, turn_by, window, is_admissible, admitted_after, notice}
+use Rattle.bw_model.specs.Turn.{Faults, turn, turn_by, window, is_admissible, admitted_after, notice}
 use Rattle.bw_model.specs.Turn.{is_full, is_turned_away}
 use Rattle.bw_model.specs.BookRules.{IsBook}
 
@@ -18,15 +18,15 @@ abbrev pub is_pending : Log → Bool
 is_pending log = is_some (at log.admitted log.done)
 
 -- the log that a frame's turn leaves under its name, where the frame is a message that is served
-abbrev pub log_behind : (List ℕ → Bool) → Book → Frame → Luck → Option Log
-log_behind stood book (Says m) luck =
-    (turn_by (stood m.name) (is_known book m.name) (is_full book) (log_of book m.name) m luck).1
-log_behind stood book (Asks name n) luck = None
-log_behind stood book Bye luck = None
+abbrev pub log_after_frame : (List ℕ → Bool) → Book → Frame → Faults → Option Log
+log_after_frame existed book (Says m) faults =
+    (turn_by (existed m.name) (is_known book m.name) (is_full book) (log_of book m.name) m faults).1
+log_after_frame existed book (Asks name n) faults = None
+log_after_frame existed book Bye faults = None
 
 -- a message is served, and draining stops before the run's end
-abbrev pub stops_short : (List ℕ → Bool) → Book → Frame → Luck → Bool
-stops_short stood book f luck = option_map_or is_pending (log_behind stood book f luck) false
+abbrev pub stops_short : (List ℕ → Bool) → Book → Frame → Faults → Bool
+stops_short existed book f faults = option_map_or is_pending (log_after_frame existed book f faults) false
 
 -- a message whose number would be admitted is answered NoRoom
 abbrev pub IsWithoutRoom : Book → Frame → List Reply → Type 0
@@ -38,20 +38,20 @@ IsWithoutRoom book Bye replies = ⊥
 
 -- A server whose store's failures were counted before and after may answer so, and go on with this
 -- book.
-pub record IsTurn (stood : List ℕ → Bool) (before after : ℕ) (book : Book) (f : Frame)
+pub record IsTurn (existed : List ℕ → Bool) (before after : ℕ) (book : Book) (f : Frame)
     (replies : List Reply) (later : Book) : Type 0 where
-  pub luck : Luck
-  pub answered : (turn stood book f luck).0 ≡ replies
-  pub left : (turn stood book f luck).1 ≡ later
+  pub faults : Faults
+  pub answered : (turn existed book f faults).0 ≡ replies
+  pub left : (turn existed book f faults).1 ≡ later
   -- a growth is refused only where NoRoom is the answer
-  pub room : IsTrue luck.refused → IsWithoutRoom book f replies
+  pub room : IsTrue faults.refused → IsWithoutRoom book f replies
   -- the count rises exactly where draining stops short
-  pub count : Counts before after (stops_short stood book f luck)
-  pub stop : IsFalse (stops_short stood book f luck) → luck.stop ≡ None
+  pub count : Counts before after (stops_short existed book f faults)
+  pub stop : IsFalse (stops_short existed book f faults) → faults.stop ≡ None
 
--- the book behind a message, as the replies and the number of those done then tell it
-abbrev pub book_told : Book → Message → List Reply → ℕ → Book
-book_told book m replies done =
+-- the book after a message, as the replies and the number of those done then tell it
+abbrev pub book_reported : Book → Message → List Reply → ℕ → Book
+book_reported book m replies done =
     if (not (is_known book m.name) && nat_le window m.number) || is_turned_away replies then book
     else with_log book m.name
     (record { admitted = admitted_after (log_of book m.name) m; done = done })
@@ -69,28 +69,28 @@ is_delayed (Refused reason place) = false
 
 -- A turn gives at most 17 replies.
 abbrev pub TurnsGiveFewReplies : Type 0
-TurnsGiveFewReplies = (stood : List ℕ → Bool) (book : Book) (f : Frame) (luck : Luck) →
-    IsBook book → length (turn stood book f luck).0 ≤ suc window
+TurnsGiveFewReplies = (existed : List ℕ → Bool) (book : Book) (f : Frame) (faults : Faults) →
+    IsBook book → length (turn existed book f faults).0 ≤ suc window
 
 -- The later book follows from the earlier one, the message, the replies and the number of those
 -- done then.
-abbrev pub RepliesTellTheBook : Type 0
-RepliesTellTheBook = (stood : List ℕ → Bool) (book : Book) (m : Message) (luck : Luck) →
-    let x = turn stood book (Says m) luck in
-    x.1 ≡ book_told book m x.0 (log_of x.1 m.name).done
+abbrev pub RepliesReportTheBook : Type 0
+RepliesReportTheBook = (existed : List ℕ → Bool) (book : Book) (m : Message) (faults : Faults) →
+    let x = turn existed book (Says m) faults in
+    x.1 ≡ book_reported book m x.0 (log_of x.1 m.name).done
 
 -- DelayedStore is answered only where a store call failed in this very turn.
 abbrev pub DelaysAreCounted : Type 0
 DelaysAreCounted =
-    (stood : List ℕ →
+    (existed : List ℕ →
     Bool) (before after : ℕ) (book : Book) (f : Frame) (replies : List Reply) (later : Book) →
-    IsTurn stood before after book f replies later → before < last_count →
+    IsTurn existed before after book f replies later → before < last_count →
     IsTrue (list_any is_delayed replies) → after ≡ before + 1
 
 -- Where no call failed, a message that is served leaves nothing pending under its name.
 abbrev pub QuietTurnsDrain : Type 0
 QuietTurnsDrain =
-    (stood : List ℕ →
+    (existed : List ℕ →
     Bool) (before : ℕ) (book : Book) (m : Message) (replies : List Reply) (later : Book) →
-    IsTurn stood before before book (Says m) replies later → before < last_count →
+    IsTurn existed before before book (Says m) replies later → before < last_count →
     IsFalse (is_turned_away replies) → is_pending (log_of later m.name) ≡ false

@@ -9,49 +9,49 @@ use Rattle.bw_model.specs.Take.{Request}
 use Rattle.bw_model.specs.Wire.{Frame, Says, Asks, Bye}
 use Rattle.bw_model.specs.Replies.{Reply, Judged, Noticed, Refused, Notice, NoRoom, DelayedStore}
 use Rattle.bw_model.specs.Book.{log_of}
-use Rattle.bw_model.specs.Turn.{Luck, Turn, run, book_after}
+use Rattle.bw_model.specs.Turn.{Faults, Turn, run, book_after}
 use Rattle.bw_model.specs.CountedTurn.{is_pending}
 
 -- the numbers that came under a name, with one frame more
 abbrev pub with_frame : List ℕ → List (Option Request) → Frame → List (Option Request)
-with_frame name came (Says m) = if bytes_eq m.name name then put came m.number m.request else came
-with_frame name came (Asks x n) = came
-with_frame name came Bye = came
+with_frame name received (Says m) = if bytes_eq m.name name then put received m.number m.request else received
+with_frame name received (Asks x n) = received
+with_frame name received Bye = received
 
 -- the numbers that came under a name
-abbrev pub came_under : List ℕ → List Frame → List (Option Request)
-came_under name frames = fold (with_frame name) [] frames
+abbrev pub received_under : List ℕ → List Frame → List (Option Request)
+received_under name frames = fold (with_frame name) [] frames
 
 -- a message's number is at most the least that did not come under its name yet
-abbrev pub IsNextOrCame : List Frame → Frame → Type 0
-IsNextOrCame before (Says m) = m.number ≤ first_free (came_under m.name before)
-IsNextOrCame before (Asks name n) = Unit {0}
-IsNextOrCame before Bye = Unit {0}
+abbrev pub IsNextOrReceived : List Frame → Frame → Type 0
+IsNextOrReceived before (Says m) = m.number ≤ first_free (received_under m.name before)
+IsNextOrReceived before (Asks name n) = Unit {0}
+IsNextOrReceived before Bye = Unit {0}
 
--- each frame is so, behind all that came before it
+-- each frame is so, after all that came before it
 abbrev pub AreInOrder : List Frame → List Frame → Type 0
 AreInOrder before [] = Unit {0}
-AreInOrder before (f ∷ frames) = IsNextOrCame before f × AreInOrder (before ++ f ∷ []) frames
+AreInOrder before (f ∷ frames) = IsNextOrReceived before f × AreInOrder (before ++ f ∷ []) frames
 
 -- the notice says that memory was wanting, or the store
-abbrev pub is_want : Notice → Bool
-is_want NoRoom = true
-is_want DelayedStore = true
-is_want _ = false
+abbrev pub is_out_of_memory : Notice → Bool
+is_out_of_memory NoRoom = true
+is_out_of_memory DelayedStore = true
+is_out_of_memory _ = false
 
 -- the reply is such a notice
-abbrev pub tells_want : Reply → Bool
-tells_want (Judged name n v) = false
-tells_want (Noticed name n code next) = is_want code
-tells_want (Refused reason place) = false
+abbrev pub reports_failure : Reply → Bool
+reports_failure (Judged name n v) = false
+reports_failure (Noticed name n code next) = is_out_of_memory code
+reports_failure (Refused reason place) = false
 
 -- the turn was answered so
 abbrev pub lacks : Turn → Bool
-lacks t = list_any tells_want t.replies
+lacks t = list_any reports_failure t.replies
 
--- A run in order that no want was told of leaves nothing pending.
+-- A run in order in which no failure was reported leaves nothing pending.
 abbrev pub OrderLeavesNothingPending : Type 0
 OrderLeavesNothingPending =
-    (stood : List ℕ → Bool) (ts : List (Frame × Luck)) → AreInOrder [] (map (λ t. t.0) ts) →
-    IsFalse (list_any lacks (run stood [] ts)) → (name : List ℕ) →
-    is_pending (log_of (book_after stood [] ts) name) ≡ false
+    (existed : List ℕ → Bool) (ts : List (Frame × Faults)) → AreInOrder [] (map (λ t. t.0) ts) →
+    IsFalse (list_any lacks (run existed [] ts)) → (name : List ℕ) →
+    is_pending (log_of (book_after existed [] ts) name) ≡ false

@@ -67,8 +67,8 @@ read_chunks f t limit =
     (cues t.closed t.markers)
 
 -- the numbers of `fmt `, of the format
-abbrev pub told_fmt : Format → RawFmt
-told_fmt f = record {
+abbrev pub reported_fmt : Format → RawFmt
+reported_fmt f = record {
   tag = 1;
   channels = f.channels;
   rate = f.rate;
@@ -82,8 +82,8 @@ abbrev pub field_at : List (List ℕ) → ℕ → List ℕ
 field_at fields n = slice_index_or fields n []
 
 -- the fields as they were set; the five levels only in version 2
-abbrev pub told_bext : List (List ℕ) → RawBext
-told_bext fields = record {
+abbrev pub reported_bext : List (List ℕ) → RawBext
+reported_bext fields = record {
   texts = take 5 fields;
   time = from_le_bytes w64 (field_at fields 5);
   version = if is_version_1 fields then 1 else 2;
@@ -92,27 +92,27 @@ told_bext fields = record {
 }
 
 -- a marker's frame is both position and sample offset of its cue point
-abbrev pub told_cue : (ℕ × ℕ) → RawCue
-told_cue m = record { id = m.0; position = m.1; offset = m.1 }
+abbrev pub reported_cue : (ℕ × ℕ) → RawCue
+reported_cue m = record { id = m.0; position = m.1; offset = m.1 }
 
 -- the report that tells the take
-abbrev pub told_report : Format → Take → ℕ → Report
-told_report f t limit = record {
+abbrev pub reported_report : Format → Take → ℕ → Report
+reported_report f t limit = record {
   form = (read_form f t limit).id;
   size = form_len f t;
   chunks = read_chunks f t limit;
-  fmt = told_fmt f;
+  fmt = reported_fmt f;
   data_at = data_place (length t.history);
   data_size = length t.samples;
-  bext = Some (told_bext t.fields, length t.history);
-  cues = map told_cue (cues t.closed t.markers);
+  bext = Some (reported_bext t.fields, length t.history);
+  cues = map reported_cue (cues t.closed t.markers);
 }
 
 -- the file reads as its chunks, and the report tells the take
 pub record ReadsBack (f : Format) (t : Take) (limit : ℕ) : Type 0 where
   pub reading : IsReading (file_with f t limit) (read_form f t limit) (read_chunks f t limit)
   pub report : report_of (file_with f t limit) (read_form f t limit) (read_chunks f t limit)
-      ≡ told_report f t limit
+      ≡ reported_report f t limit
 
 -- so does each file of a take within the limits, whatever size is the last that is RIFF
 abbrev pub FilesReadBack : Type 0

@@ -102,13 +102,13 @@ notice_of code = find (λ n. notice_code n == code) notices
 abbrev pub reason_of : ℕ → Option Reason
 reason_of code = find (λ r. reason_code r == code) reasons
 
--- the verdict that a code with nothing behind it makes
+-- the verdict that a code with nothing after it makes
 abbrev pub judged_by : List ℕ → ℕ → List ℕ → Option Reply
 judged_by name number [] = None
 judged_by name number (code ∷ more) =
     if length more == 0 then option_map (Judged name number) (verdict_of code) else None
 
--- the notice that a code and a number behind it make
+-- the notice that a code and a number after it make
 abbrev pub noticed_by : List ℕ → ℕ → List ℕ → Option Reply
 noticed_by name number [] = None
 noticed_by name number (code ∷ next) =

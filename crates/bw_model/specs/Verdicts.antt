@@ -6,46 +6,46 @@ use Rattle.bw_model.specs.Take.{Request, Verdict}
 use Rattle.bw_model.specs.Wire.{Message, Frame, Says}
 use Rattle.bw_model.specs.Replies.{Judged}
 use Rattle.bw_model.specs.Book.{Book, log_of, verdict_at}
-use Rattle.bw_model.specs.Turn.{Luck, turn, run, book_after, is_repeat}
+use Rattle.bw_model.specs.Turn.{Faults, turn, run, book_after, is_repeat}
 use Rattle.bw_model.specs.BookRules.{IsBook}
 
 -- What was admitted under a number is never replaced, whatever turns follow.
 abbrev pub AdmittedStays : Type 0
-AdmittedStays = (stood : List ℕ → Bool) (book : Book) (ts : List (Frame × Luck)) (name : List ℕ)
+AdmittedStays = (existed : List ℕ → Bool) (book : Book) (ts : List (Frame × Faults)) (name : List ℕ)
     (n : ℕ) (r : Request) →
     at (log_of book name).admitted n ≡ Some r →
-    at (log_of (book_after stood book ts) name).admitted n ≡ Some r
+    at (log_of (book_after existed book ts) name).admitted n ≡ Some r
 
 -- A done number stays done, and keeps its verdict, whatever turns follow.
 abbrev pub VerdictsStay : Type 0
-VerdictsStay = (stood : List ℕ → Bool) (book : Book) (ts : List (Frame × Luck)) → IsBook book →
+VerdictsStay = (existed : List ℕ → Bool) (book : Book) (ts : List (Frame × Faults)) → IsBook book →
     (name : List ℕ) (n : ℕ) → n < (log_of book name).done →
-    let later = log_of (book_after stood book ts) name in
+    let later = log_of (book_after existed book ts) name in
     (n < later.done)
-    × (verdict_at (stood name) later.admitted n
-    ≡ verdict_at (stood name) (log_of book name).admitted n)
+    × (verdict_at (existed name) later.admitted n
+    ≡ verdict_at (existed name) (log_of book name).admitted n)
 
--- Each verdict that a turn tells is that of a number that is done behind it.
+-- Each verdict that a turn tells is that of a number that is done after it.
 abbrev pub VerdictsAreTrue : Type 0
-VerdictsAreTrue = (stood : List ℕ → Bool) (book : Book) (f : Frame) (luck : Luck) → IsBook book →
+VerdictsAreTrue = (existed : List ℕ → Bool) (book : Book) (f : Frame) (faults : Faults) → IsBook book →
     (name : List ℕ) (n : ℕ) (v : Verdict) →
-    Contains (turn stood book f luck).0 (Judged name n v) →
-    let later = log_of (turn stood book f luck).1 name in
-    (n < later.done) × (v ≡ verdict_at (stood name) later.admitted n)
+    Contains (turn existed book f faults).0 (Judged name n v) →
+    let later = log_of (turn existed book f faults).1 name in
+    (n < later.done) × (v ≡ verdict_at (existed name) later.admitted n)
 
--- Whatever turns follow, a message with the body of a done number is told the verdict that the
+-- Whatever turns follow, a message with the body of a done number is reported the verdict that the
 -- number had, whatever memory and store do then.
-abbrev pub RepeatsAreTold : Type 0
-RepeatsAreTold = (stood : List ℕ → Bool) (book : Book) (ts : List (Frame × Luck)) (m : Message)
-    (luck : Luck) → IsBook book →
+abbrev pub RepeatsAreReported : Type 0
+RepeatsAreReported = (existed : List ℕ → Bool) (book : Book) (ts : List (Frame × Faults)) (m : Message)
+    (faults : Faults) → IsBook book →
     let log = log_of book m.name in
     m.number < log.done → IsTrue (is_repeat log.admitted m) →
-    Contains (turn stood (book_after stood book ts) (Says m) luck).0
-    (Judged m.name m.number (verdict_at (stood m.name) log.admitted m.number))
+    Contains (turn existed (book_after existed book ts) (Says m) faults).0
+    (Judged m.name m.number (verdict_at (existed m.name) log.admitted m.number))
 
 -- In a run, whatever comes, two verdicts on the same number of a name are equal.
-abbrev pub RunsTellOneVerdict : Type 0
-RunsTellOneVerdict = (stood : List ℕ → Bool) (book : Book) (ts : List (Frame × Luck)) →
+abbrev pub RunsReportOneVerdict : Type 0
+RunsReportOneVerdict = (existed : List ℕ → Bool) (book : Book) (ts : List (Frame × Faults)) →
     IsBook book → (name : List ℕ) (n : ℕ) (v w : Verdict) →
-    let replies = flat_map (λ t. t.replies) (run stood book ts) in
+    let replies = flat_map (λ t. t.replies) (run existed book ts) in
     Contains replies (Judged name n v) → Contains replies (Judged name n w) → v ≡ w

@@ -4,16 +4,16 @@
 
 mod folder;
 mod host;
-mod lobby;
 mod network;
+mod reactor;
 mod socket;
 mod tcp;
 mod terminal;
 
 pub use folder::{check_folder, has_folder};
 pub use host::Host;
-pub use lobby::TcpLobby;
 pub use network::TcpNetwork;
+pub use reactor::TcpReactor;
 pub use socket::Socket;
 pub use tcp::{TcpDial, TcpPeers};
 pub use terminal::Terminal;

@@ -4,10 +4,10 @@ ghost use Rattle.std.specs.Duration.{as_nanos};
 ghost use Rattle.mio.specs.Events.{capacity as room_of};
 
 use crate::folder::check_folder;
-use crate::lobby::TcpLobby;
+use crate::reactor::TcpReactor;
 use crate::tcp::{TcpDial, TcpPeers};
 use bw_file::{FolderStore, SystemDisk};
-use bw_ports::{Gathering, Network};
+use bw_ports::{ListenerSetup, Network};
 use std::io;
 use std::net::{SocketAddr, TcpListener};
 use std::time::Duration;
@@ -47,19 +47,19 @@ impl<'a> TcpNetwork<'a> {
         TcpPeers::listen(self.rt, address, folder, span(timeout))
     }
 
-    fn open_lobby(
+    fn open_reactor(
         &self,
         address: SocketAddr,
         folder: &str,
         places: usize,
-    ) -> io::Result<TcpLobby<'a>>
-        ensures { IfOk result (λ lobby. (lobby.address ≡ address)
-            × (string_bytes lobby.folder ≡ folder.now)
-            × (room_of lobby.events ≡ places + 1) × (lobby.failures ≡ 0)
-            × (lobby.waits ≡ 0)) }
+    ) -> io::Result<TcpReactor<'a>>
+        ensures { IfOk result (λ reactor. (reactor.address ≡ address)
+            × (string_bytes reactor.folder ≡ folder.now)
+            × (room_of reactor.events ≡ places + 1) × (reactor.failures ≡ 0)
+            × (reactor.waits ≡ 0)) }
     {
         let folder = String::from_str(self.rt.alloc(), folder)?;
-        TcpLobby::listen(self.rt, address, folder, places)
+        TcpReactor::listen(self.rt, address, folder, places)
     }
 }
 
@@ -125,25 +125,25 @@ impl<'a> Network for TcpNetwork<'a> {
     }
 }
 
-impl<'a> Gathering for TcpNetwork<'a> {
-    type Lobby = TcpLobby<'a>;
+impl<'a> ListenerSetup for TcpNetwork<'a> {
+    type Reactor = TcpReactor<'a>;
 
     ghost failures = { λ n. n.failures };
 
-    ghost opens = { λ n address folder places result n'. IfOk result (λ lobby.
-        (lobby.address ≡ address) × (string_bytes lobby.folder ≡ folder)
-        × (room_of lobby.events ≡ places + 1) × (lobby.failures ≡ 0) × (lobby.waits ≡ 0)) };
+    ghost opens = { λ n address folder places result n'. IfOk result (λ reactor.
+        (reactor.address ≡ address) × (string_bytes reactor.folder ≡ folder)
+        × (room_of reactor.events ≡ places + 1) × (reactor.failures ≡ 0) × (reactor.waits ≡ 0)) };
 
-    fn lobby(
+    fn reactor(
         &mut self,
         address: SocketAddr,
         folder: &str,
         places: usize,
-    ) -> io::Result<TcpLobby<'a>> {
-        let lobby = self.open_lobby(address, folder, places);
-        if lobby.is_err() {
+    ) -> io::Result<TcpReactor<'a>> {
+        let reactor = self.open_reactor(address, folder, places);
+        if reactor.is_err() {
             self.failures = self.failures.saturating_add(1);
         }
-        lobby
+        reactor
     }
 }

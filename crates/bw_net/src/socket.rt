@@ -6,8 +6,8 @@ use mio::net::TcpStream;
 use std::io::{ErrorKind, Read, Write};
 use std::net::Shutdown;
 
-/// How often a call is made that signals interrupt. That a socket is ready is told only once, so it
-/// can't be put off until that is told again.
+/// How often a call is made that signals interrupt. That a socket is ready is reported only once, so it
+/// can't be put off until that is reported again.
 const MOST_TRIES: u32 = 16;
 
 /// The link over a recorder's stream. No clause says which bytes it gives and takes.

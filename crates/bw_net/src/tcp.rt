@@ -3,7 +3,7 @@ ghost use Rattle.std.specs.Prelude.{◌≡◌, IfOk, None};
 
 use crate::folder::has_folder;
 use bw_ports::{AcceptFault, Dial, DialFault, Duplex, Peer, Peers};
-use bw_stream::Plain;
+use bw_stream::StdIo;
 use std::fs::Files;
 use std::io;
 use std::io::{Read, Write};
@@ -42,9 +42,9 @@ impl<'a, R> TcpDial<'a, R> {
 }
 
 impl<R: Net> Dial for TcpDial<'_, R> {
-    type Reader = Plain<R::Stream>;
+    type Reader = StdIo<R::Stream>;
 
-    type Writer = Plain<R::Stream>;
+    type Writer = StdIo<R::Stream>;
 
     ghost links = { λ d. None };
 
@@ -52,7 +52,7 @@ impl<R: Net> Dial for TcpDial<'_, R> {
 
     ghost dials = { λ d result d'. (d'.address ≡ d.address) × (d'.timeout ≡ d.timeout) };
 
-    fn dial(&mut self) -> Result<Duplex<Plain<R::Stream>, Plain<R::Stream>>, DialFault> {
+    fn dial(&mut self) -> Result<Duplex<StdIo<R::Stream>, StdIo<R::Stream>>, DialFault> {
         match connect(self.rt, self.address, self.timeout) {
             Ok(link) => Ok(link),
             Err(_) => {
@@ -67,7 +67,7 @@ fn connect<R: Net>(
     rt: &R,
     address: SocketAddr,
     timeout: Option<Duration>,
-) -> io::Result<Duplex<Plain<R::Stream>, Plain<R::Stream>>> {
+) -> io::Result<Duplex<StdIo<R::Stream>, StdIo<R::Stream>>> {
     let stream = match timeout {
         Some(most) => TcpStream::connect_timeout(rt, &address, most)?,
         None => TcpStream::connect(rt, address)?,
@@ -79,12 +79,12 @@ fn connect<R: Net>(
 fn link_over<S: Read + Write + OpenStream + Drop>(
     stream: S,
     timeout: Option<Duration>,
-) -> io::Result<Duplex<Plain<S>, Plain<S>>> {
+) -> io::Result<Duplex<StdIo<S>, StdIo<S>>> {
     stream.set_nodelay(true)?;
     stream.set_read_timeout(timeout)?;
     stream.set_write_timeout(timeout)?;
-    let reader = Plain::new(stream.try_clone()?);
-    let writer = Plain::new(stream);
+    let reader = StdIo::new(stream.try_clone()?);
+    let writer = StdIo::new(stream);
     Ok(Duplex { reader, writer })
 }
 
@@ -133,16 +133,16 @@ impl<'a, R: Net> TcpPeers<'a, R, R::Listener> {
 }
 
 impl<R: Net + Files> Peers for TcpPeers<'_, R, R::Listener> {
-    type Reader = Plain<R::Stream>;
+    type Reader = StdIo<R::Stream>;
 
-    type Writer = Plain<R::Stream>;
+    type Writer = StdIo<R::Stream>;
 
     ghost failures = { λ p. p.failures };
 
     ghost accepts = { λ p result p'. (p'.address ≡ p.address) × (p'.folder ≡ p.folder)
         × (p'.timeout ≡ p.timeout) };
 
-    fn accept(&mut self) -> Result<Peer<Plain<R::Stream>, Plain<R::Stream>>, AcceptFault> {
+    fn accept(&mut self) -> Result<Peer<StdIo<R::Stream>, StdIo<R::Stream>>, AcceptFault> {
         let peer = self.next_peer();
         if peer.is_err() {
             self.failures = self.failures.saturating_add(1);
@@ -154,7 +154,7 @@ impl<R: Net + Files> Peers for TcpPeers<'_, R, R::Listener> {
 impl<R: Net + Files> TcpPeers<'_, R, R::Listener> {
     /// The next peer. One that comes when the folder is gone isn't heard: its requests wait for
     /// another server.
-    fn next_peer(&self) -> Result<Peer<Plain<R::Stream>, Plain<R::Stream>>, AcceptFault> {
+    fn next_peer(&self) -> Result<Peer<StdIo<R::Stream>, StdIo<R::Stream>>, AcceptFault> {
         let accepted = self.listener.accept();
         if !has_folder(self.rt, self.folder.as_str()) {
             return Err(AcceptFault::Closed);

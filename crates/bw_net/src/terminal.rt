@@ -1,13 +1,13 @@
-//! The terminal that a sender's progress is told to.
+//! The terminal that a sender's progress is reported to.
 use bw_ports::{ProgressReport, Watch};
-use bw_stream::Plain;
+use bw_stream::StdIo;
 use std::io::{IsTerminal, Stderr};
 
 /// Standard error where it is a terminal, for the progress of a sender. What a terminal shows, no
 /// clause says.
 #[derive(Drop)]
 pub struct Terminal {
-    screen: Option<Plain<Stderr>>,
+    screen: Option<StdIo<Stderr>>,
 }
 
 impl Terminal {
@@ -18,7 +18,7 @@ impl Terminal {
     pub fn new(rt: &HostRuntime) -> Terminal {
         let faults = rt.stderr();
         let screen = if faults.is_terminal() {
-            Some(Plain::new(faults))
+            Some(StdIo::new(faults))
         } else {
             None
         };
@@ -29,7 +29,7 @@ impl Terminal {
 impl Watch for Terminal {
     fn round<P: ProgressReport>(&mut self, progress: &P) {
         if let Some(screen) = &mut self.screen {
-            progress.tell(screen);
+            progress.print_diagnostic(screen);
         }
     }
 }

@@ -1,3 +1,3 @@
 pub mod Dialled
 pub mod Links
-pub mod Lobbies
+pub mod Reactors

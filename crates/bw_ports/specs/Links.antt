@@ -5,7 +5,7 @@ use Rattle.bw_ports.specs.declared.link.Received.TheVariants as receives
 use Rattle.bw_ports.specs.declared.link.Sent.{Sent}
 use Rattle.bw_ports.specs.declared.link.Sent.TheVariants as sends
 
--- the bytes that came, at the front of a buffer
+-- the bytes that came, at the start of a buffer
 abbrev pub received : Received → List ℕ → List ℕ
 received (receives.Bytes n) buffer = take n buffer
 received receives.Ended buffer = []

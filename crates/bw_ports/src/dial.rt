@@ -35,13 +35,13 @@ pub trait Dial {
     /// Takes what is said to the server.
     type Writer: Sink + Drop;
 
-    /// What each of the next links gives, in their order, where that is told.
+    /// What each of the next links gives, in their order, where that is reported.
     ghost links: { Self → Option (List (List ℕ)) };
 
     /// How many calls failed; the count stays at 2^64 - 1.
     ghost failures: { Self → ℕ };
 
-    /// What a call may come to, and what it leaves. Rounds are told in these words, so that each
+    /// What a call may come to, and what it leaves. Rounds are reported in these words, so that each
     /// exchange goes over the link that was made for it.
     ghost dials: { Self → Result (Duplex Self.Reader Self.Writer) DialFault → Self → Type 0 };
 
@@ -53,7 +53,7 @@ pub trait Dial {
     /// # Not specified
     /// When no link can be made, and why.
     fn dial(&mut self) -> Result<Duplex<Self::Reader, Self::Writer>, DialFault>
-        ensures came { dials self.old result self.new }
+        ensures received { dials self.old result self.new }
         ensures count { failures self.new ≡ failures_after result (failures self.old) }
         ensures ok { IfOk result (λ link.
             GivesNext (links self.old) (Self.Reader.left link.reader) (links self.new)) }

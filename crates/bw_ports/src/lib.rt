@@ -3,19 +3,19 @@
 #![tactic(auto)]
 
 mod dial;
-mod gathering;
 mod link;
-mod lobby;
+mod listener_setup;
 mod network;
 mod peers;
+mod reactor;
 mod system;
 mod watch;
 
 pub use dial::{Dial, DialFault, Duplex};
-pub use gathering::Gathering;
 pub use link::{Link, Received, Sent};
-pub use lobby::{Guest, Lobby, Ready, TryAcceptFault, WaitFault};
+pub use listener_setup::ListenerSetup;
 pub use network::Network;
 pub use peers::{AcceptFault, Peer, Peers};
+pub use reactor::{Accepted, Reactor, Ready, TryAcceptFault, WaitFault};
 pub use system::System;
 pub use watch::{NoWatch, ProgressReport, Watch};

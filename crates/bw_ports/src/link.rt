@@ -19,7 +19,7 @@ pub enum Received {
 /// What came of a call that offers bytes.
 #[derive(Clone, Copy, Debug, PartialEq, Eq)]
 pub enum Sent {
-    /// So many bytes at the front were taken, at least one.
+    /// So many bytes at the start were taken, at least one.
     Bytes(usize),
     /// There is room for none now.
     Nothing,
@@ -29,7 +29,7 @@ pub enum Sent {
 
 /// Gives bytes and takes bytes, and never waits.
 ///
-/// What it has given and taken so far is told by relations, so that one over memory can tell all of
+/// What it has given and taken so far is reported by relations, so that one over memory can tell all of
 /// it, and a socket nothing.
 pub trait Link {
     /// These bytes may be all that it has given so far.
@@ -56,7 +56,7 @@ pub trait Link {
     /// It may be a link to the one who calls from this address.
     ghost calls_from: { Self → SocketAddr → Type 0 };
 
-    /// Puts the next bytes at the front of the buffer.
+    /// Puts the next bytes at the start of the buffer.
     ///
     /// # Not specified
     /// When which answer comes.
@@ -73,7 +73,7 @@ pub trait Link {
         ensures finished { finished self.old → finished self.new }
         ensures peer { (p : SocketAddr) → calls_from self.old p → calls_from self.new p };
 
-    /// Takes bytes at the front of these, which are some.
+    /// Takes bytes at the start of these, which are some.
     ///
     /// # Not specified
     /// When which answer comes.

@@ -43,7 +43,7 @@ pub trait Network {
     /// - When it fails, and the kind of the error.
     /// - What the network is afterwards, but for its count of failures.
     fn store(&mut self, folder: &str) -> io::Result<Self::Store>
-        ensures came { stores self.old folder.now result self.new }
+        ensures received { stores self.old folder.now result self.new }
         ensures count { failures self.new ≡ failures_after result (failures self.old) };
 
     /// Those who come to this address from now on, to a server over the folder, which waits for each
@@ -61,7 +61,7 @@ pub trait Network {
         folder: &str,
         timeout: Option<u32>,
     ) -> io::Result<Self::Peers>
-        ensures came { listens self.old address folder.now timeout result self.new }
+        ensures received { listens self.old address folder.now timeout result self.new }
         ensures count { failures self.new ≡ failures_after result (failures self.old) };
 
     /// What makes links to the server at this address, and waits no longer than so many seconds.
@@ -69,5 +69,5 @@ pub trait Network {
     /// # Not specified
     /// Anything beyond what each network says of itself.
     fn dial(&self, address: SocketAddr, timeout: Option<u32>) -> Self::Dial
-        ensures came { calls self.now address timeout result };
+        ensures received { calls self.now address timeout result };
 }

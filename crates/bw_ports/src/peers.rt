@@ -42,7 +42,7 @@ pub trait Peers {
     /// How many calls failed; the count stays at 2^64 - 1.
     ghost failures: { Self → ℕ };
 
-    /// What a call may come to, and what it leaves. A run of exchanges is told in these words, so
+    /// What a call may come to, and what it leaves. A run of exchanges is reported in these words, so
     /// that each goes over the link of the peer that was let in for it.
     ghost accepts: { Self → Result (Peer Self.Reader Self.Writer) AcceptFault → Self → Type 0 };
 
@@ -55,6 +55,6 @@ pub trait Peers {
     /// - When `Gone` and when `Closed` is returned.
     /// - What the peers are afterwards, but for their count of failures.
     fn accept(&mut self) -> Result<Peer<Self::Reader, Self::Writer>, AcceptFault>
-        ensures came { accepts self.old result self.new }
+        ensures received { accepts self.old result self.new }
         ensures count { failures self.new ≡ failures_after result (failures self.old) };
 }

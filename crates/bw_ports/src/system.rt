@@ -31,8 +31,8 @@ pub trait System {
     fn words(&mut self) -> io::Result<Vec<String>>
         ensures count { failures self.new ≡ failures_after result (failures self.old) }
         ensures files { file_at self.new ≡ file_at self.old }
-        ensures ok { IfOk result (λ found. (told : List (List ℕ)) →
-            words self.old ≡ Some told → map string_bytes found.items ≡ told) };
+        ensures ok { IfOk result (λ found. (reported : List (List ℕ)) →
+            words self.old ≡ Some reported → map string_bytes found.items ≡ reported) };
 
     /// A reader of the file of a path, at its start.
     ///

@@ -1,7 +1,7 @@
 //! Whoever hears how far a sender is.
 use bw_stream::Sink;
 
-/// How far a sender is behind a round. No clause here says what its numbers are: that is the sender's
+/// How far a sender is after a round. No clause here says what its numbers are: that is the sender's
 /// own.
 pub trait ProgressReport {
     /// The round's number, counted from 1.
@@ -17,13 +17,13 @@ pub trait ProgressReport {
     fn bytes(&self) -> u64;
 
     /// Tells it in a line.
-    fn tell<E: Sink>(&self, out: &mut E);
+    fn print_diagnostic<E: Sink>(&self, out: &mut E);
 }
 
 /// Whoever watches a sender. What it does with what it hears, no clause says: it changes nothing of
 /// what is sent.
 pub trait Watch {
-    /// Hears how far the sender is behind a round.
+    /// Hears how far the sender is after a round.
     ///
     /// # Not specified
     /// What it does.

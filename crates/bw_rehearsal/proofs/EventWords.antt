@@ -63,7 +63,7 @@ none_offered line text is none =
     (λ k. apart line (Bring k) 111 (ap first is) (λ e. omega (arith, e)))
     (apart line Ask 111 (ap first is) (λ e. omega (arith, e)))
 
--- What a word has behind it.
+-- What a word has after it.
 
 pub begins : (r : Option (Bor (List ℕ))) (line word : List ℕ) →
     MatchOption r (pointwise nat_eq (take (length word) line) word ≡ false)

@@ -1,5 +1,5 @@
 mod Staging
 mod Playing
 mod Schedules
-mod LuckLaws
+mod FaultLaws
 pub mod EventWords

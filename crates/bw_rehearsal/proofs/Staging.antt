@@ -1,4 +1,4 @@
--- What lies on a stage, by its place, and what an event changes of it.
+-- What lies on a simulation, by its place, and what an event changes of it.
 use Rattle.std.proofs.Common.{◌≡◌, ℕ, suc, zero, ◌+◌, ◌<◌, ◌≤◌, Bool, true, false, List, [], ◌∷◌, ◌++◌, length}
 use Rattle.std.proofs.Common.{◌-◌, take, drop, get_or, Option, Some, None, cond, refl, sym, ◌∙◌, ap, subst}
 use Rattle.std.specs.Prelude.{slice_get, is_none, IsSome, Vec, Result, Ok, Err, OnOk, OnErr, map, option_map}
@@ -20,7 +20,7 @@ use Rattle.bw_wire.specs.declared.message.Ask.{Ask as Asked}
 use Rattle.bw_wire.specs.declared.message.Frame.{Frame as Read}
 use Rattle.bw_wire.specs.declared.message.Frame.TheVariants as frames
 use Rattle.bw_wire.specs.declared.reply.Reply.{Reply as Answer}
-use Rattle.bw_rehearsal.specs.Staged.{AreFrames}
+use Rattle.bw_rehearsal.specs.Simulated.{AreFrames}
 
 -- Frames by place.
 
@@ -75,15 +75,15 @@ none_at (m ∷ ms) (v ∷ vs) (suc i) h e = none_at ms vs i h.1 e
 
 -- The body in a frame is read as its message.
 
-behind_length : (bytes : List ℕ) → drop 4 (framed bytes) ≡ bytes
-behind_length bytes = refl
+after_length : (bytes : List ℕ) → drop 4 (framed bytes) ≡ bytes
+after_length bytes = refl
 
 pub body_read : (m : Message) (bytes : List ℕ) → IsFrameOf (Says m) bytes →
     decoded Second (take (length bytes - 4) (drop 4 bytes)) ≡ Ok (Says m)
 body_read m bytes h =
     ap (decoded Second) (take_rest bytes 4)
     ∙ ap (λ (b : List ℕ). decoded Second (drop 4 b)) h.spelled
-    ∙ ap (decoded Second) (behind_length (body (Says m)))
+    ∙ ap (decoded Second) (after_length (body (Says m)))
     ∙ spelled_is_read Second (Says m) h.fits
 
 -- The sender.
@@ -143,9 +143,9 @@ reply_at xs w i o e found =
 pub replies_len : (xs : List Answer) (w : List Reply) → map reply_of xs ≡ w → length xs ≡ length w
 replies_len xs w e = sym (length-map xs reply_of) ∙ ap length e
 
-pub replies_more : (xs ys more : List Answer) (w told : List Reply) → ys ≡ xs ++ more → map reply_of xs ≡ w →
-    map reply_of more ≡ told → map reply_of ys ≡ w ++ told
-replies_more xs ys more w told e was is =
+pub replies_more : (xs ys more : List Answer) (w reported : List Reply) → ys ≡ xs ++ more → map reply_of xs ≡ w →
+    map reply_of more ≡ reported → map reply_of ys ≡ w ++ reported
+replies_more xs ys more w reported e was is =
     ap (map reply_of) e ∙ map-append reply_of xs more ∙ ap (λ (rs : List Reply). rs ++ map reply_of more) was
     ∙ ap (λ (rs : List Reply). w ++ rs) is
 

@@ -16,7 +16,7 @@ index_written text = digits_value 10 text
 abbrev pub IsIndex : List ℕ → ℕ → Type 0
 IsIndex text index = IsIndexText text × (index ≡ index_written text)
 
--- the line begins as one that says an offer, and has an even number of digits behind it
+-- the line begins as one that says an offer, and has an even number of digits after it
 abbrev pub MayOffer : List ℕ → Type 0
 MayOffer line = (text : List ℕ) × (line ≡ codes "offer " ++ text) × IsEven (length text)
 

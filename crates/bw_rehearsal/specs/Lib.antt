@@ -1,5 +1,5 @@
 pub mod Rehearsing
 pub mod EventLines
-pub mod Lucks
-pub mod Staged
+pub mod FaultRuns
+pub mod Simulated
 pub mod Worlds

@@ -1,11 +1,11 @@
 -- The events of a rehearsal in the definitions' words, and the worlds that they lead to.
 use Rattle.std.specs.Prelude.{◌≡◌, ℕ, Option, None, List, map, IsFalse}
 use Rattle.std.specs.List.{list_any}
-use Rattle.bw_model.specs.Turn.{Luck, good}
-use Rattle.bw_model.specs.NumberOrder.{tells_want}
+use Rattle.bw_model.specs.Turn.{Faults, good}
+use Rattle.bw_model.specs.NumberOrder.{reports_failure}
 use Rattle.bw_model.specs.Exchange.{nothing_stands}
 use Rattle.bw_model.specs.World as model
-use Rattle.bw_rehearsal.specs.Lucks.{AreLucksOf}
+use Rattle.bw_rehearsal.specs.FaultRuns.{AreFaultsOfRuns}
 use Rattle.bw_rehearsal.specs.declared.event.Event.{Event}
 use Rattle.bw_rehearsal.specs.declared.event.Event.TheVariants as events
 
@@ -22,21 +22,21 @@ abbrev pub no_contents : List ℕ → Option (List ℕ)
 no_contents name = None
 
 -- From the empty world of this name, over an empty store, just these events lead to this world, one
--- after another, under some luck at each; the luck is told, and so many calls of the store failed.
+-- after another, with some faults at each; the faults is reported, and so many calls of the store failed.
 pub record LeadsTo (name : List ℕ) (events_now : List Event) (failures : ℕ)
     (world : model.World) : Type 0 where
-  pub schedule : List (model.Event × Luck)
+  pub schedule : List (model.Event × Faults)
   pub meant : map (λ x. x.0) schedule ≡ map event_meaning events_now
   pub reached : model.world_after nothing_stands (model.new_world name) schedule ≡ world
-  pub lucks : AreLucksOf 0 failures (model.new_world name) schedule
+  pub fault_runs : AreFaultsOfRuns 0 failures (model.new_world name) schedule
 
--- the events, with good luck at each
-abbrev pub with_good_luck : List Event → List (model.Event × Luck)
-with_good_luck events = map (λ e. (event_meaning e, good)) events
+-- the events, without a fault at any
+abbrev pub without_faults : List Event → List (model.Event × Faults)
+without_faults events = map (λ e. (event_meaning e, good)) events
 
 -- A rehearsal in which no call of the store failed, and no reply says that memory was wanting, has
--- the world that the events lead to with good luck at each.
+-- the world that the events lead to without a fault at any.
 abbrev pub QuietRehearsalsHaveOneWorld : Type 0
 QuietRehearsalsHaveOneWorld = (name : List ℕ) (events : List Event) (world : model.World) →
-    LeadsTo name events 0 world → IsFalse (list_any tells_want world.replies) →
-    world ≡ model.world_after nothing_stands (model.new_world name) (with_good_luck events)
+    LeadsTo name events 0 world → IsFalse (list_any reports_failure world.replies) →
+    world ≡ model.world_after nothing_stands (model.new_world name) (without_faults events)

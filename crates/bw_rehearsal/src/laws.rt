@@ -1,6 +1,6 @@
 //! Laws of the definitions that rehearsals rest on.
 ghost use Rattle.bw_model.specs.World.{EachWorldIsFaithful, FaithfulWorldsHaveNoGap};
-ghost use Rattle.bw_rehearsal.specs.Lucks.{UntoldLuckIsGood};
+ghost use Rattle.bw_rehearsal.specs.FaultRuns.{UnreportedFaultsAreNone};
 ghost use Rattle.bw_rehearsal.specs.Rehearsing.{QuietRehearsalsHaveOneWorld};
 
 /// Whatever is lost, repeated or reordered, the sender counts only what the server's take has.
@@ -11,9 +11,9 @@ pub fn law_world()
     bw_model::law_world();
 }
 
-/// Luck that is told nowhere was good: a rehearsal in which no call of the store failed, and no
+/// Faults that is reported nowhere was good: a rehearsal in which no call of the store failed, and no
 /// reply says that memory was wanting, has just one world.
-pub fn law_luck()
-    ensures untold { UntoldLuckIsGood }
+pub fn law_faults()
+    ensures unreported { UnreportedFaultsAreNone }
     ensures one { QuietRehearsalsHaveOneWorld }
 {}

@@ -5,7 +5,7 @@ mod event;
 pub mod laws;
 mod line;
 mod rehearsal;
-mod stage;
+mod simulation;
 
 pub use event::Event;
 pub use line::event_in;

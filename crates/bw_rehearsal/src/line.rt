@@ -1,7 +1,7 @@
 //! Lines as the events of a rehearsal.
 ghost use Rattle.std.specs.Prelude.{◌≡◌, ◌≢◌, ◌++◌, ℕ, List, IfOk, OnErr, MatchOption};
 ghost use Rattle.std.specs.Option.{SomeIff};
-ghost use Rattle.bw_model.specs.World.{Event as ToldEvent};
+ghost use Rattle.bw_model.specs.World.{Event as ReportedEvent};
 ghost use Rattle.bw_rehearsal.specs.Rehearsing.{event_meaning};
 ghost use Rattle.bw_rehearsal.specs.EventLines.{SaysEvent, IsIndexText, MayOffer, index_written};
 
@@ -21,32 +21,32 @@ use std::alloc::{AllocError, Global};
 /// Of an even number of digits, when memory is refused, and that only those that spell a request
 /// are.
 pub fn event_in(alloc: Global, line: &[u8]) -> Result<Option<Event>, AllocError>
-    ensures ok { IfOk result (λ found. MatchOption found ((e : ToldEvent) → ¬ SaysEvent line.now e)
+    ensures ok { IfOk result (λ found. MatchOption found ((e : ReportedEvent) → ¬ SaysEvent line.now e)
         (λ event. SaysEvent line.now (event_meaning event))) }
     ensures err { OnErr result (MayOffer line.now) }
 {
     if line == b"ask".as_slice() {
         return Ok(Some(Event::Ask));
     }
-    if let Some(text) = behind(b"offer ", line) {
+    if let Some(text) = following(b"offer ", line) {
         let Some(request) = request_from_hex(alloc, text)? else {
             return Ok(None);
         };
         return Ok(Some(Event::Offer(request)));
     }
-    if let Some(text) = behind(b"send ", line) {
+    if let Some(text) = following(b"send ", line) {
         let Some(place) = index(text) else {
             return Ok(None);
         };
         return Ok(Some(Event::Send(place)));
     }
-    if let Some(text) = behind(b"deliver ", line) {
+    if let Some(text) = following(b"deliver ", line) {
         let Some(place) = index(text) else {
             return Ok(None);
         };
         return Ok(Some(Event::Deliver(place)));
     }
-    if let Some(text) = behind(b"bring ", line) {
+    if let Some(text) = following(b"bring ", line) {
         let Some(place) = index(text) else {
             return Ok(None);
         };
@@ -55,8 +55,8 @@ pub fn event_in(alloc: Global, line: &[u8]) -> Result<Option<Event>, AllocError>
     Ok(None)
 }
 
-/// What a line has behind a word, if it begins with it.
-fn behind<'a>(word: &[u8], line: &'a [u8]) -> Option<&'a [u8]>
+/// What a line has after a word, if it begins with it.
+fn following<'a>(word: &[u8], line: &'a [u8]) -> Option<&'a [u8]>
     ensures { MatchOption result ((rest : List ℕ) → line.now ≢ word.now ++ rest)
         (λ rest. line.now ≡ word.now ++ rest.now) }
 {

@@ -3,7 +3,7 @@ ghost use Rattle.std.specs.Prelude.{IfOk};
 ghost use Rattle.bw_rehearsal.specs.Worlds.{WasRehearsed};
 
 use crate::event::Event;
-use crate::stage::Stage;
+use crate::simulation::Simulation;
 use bw_layout::Limit;
 use bw_request::Name;
 use bw_sender::Sender;
@@ -45,18 +45,18 @@ pub fn rehearse(
 ) -> Result<World, AllocError>
     ensures { IfOk result (λ w. WasRehearsed name limit events.now w) }
 {
-    let mut stage = Stage::new(alloc, name, limit)?;
+    let mut simulation = Simulation::new(alloc, name, limit)?;
     for event in events {
-        stage.play(event)?;
+        simulation.play(event)?;
     }
-    let Stage {
+    let Simulation {
         sender,
         server,
         offered,
         sent,
         replies,
         ..
-    } = stage;
+    } = simulation;
     Ok(World {
         offered,
         sent: sent.len(),

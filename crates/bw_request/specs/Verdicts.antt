@@ -30,6 +30,6 @@ DecodesVerdict code r =
     MatchResult r (λ v. verdict_of code ≡ Some (verdict_meaning v))
     (λ e. (verdict_of code ≡ None) × (e.0 ≡ code))
 
--- what is told to people of a code that no verdict has
+-- what is reported to people of a code that no verdict has
 abbrev pub unknown_text : UnknownVerdict → List ℕ
 unknown_text u = codes "no verdict has code " ++ decimal u.0

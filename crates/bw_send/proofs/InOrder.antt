@@ -18,85 +18,85 @@ use Rattle.bw_stream.specs.declared.source.Source.{Ghosts as Reader}
 use Rattle.bw_send.specs.RoundsMade.{AreRounds, MakesRounds}
 use Rattle.bw_send.specs.SendState.{Sending, IsSettled, hear_in, new_sending, offer_all, offer_more, offer_next}
 use Rattle.bw_console.specs.declared.exit.Exit.TheVariants.{Done, Refused, Device}
-use Rattle.bw_send.specs.SendState.{unoffered, OffersInOrder, EachIsStored, exit_for, has_refused}
+use Rattle.bw_send.specs.SendState.{unoffered, OffersInOrder, EachIsStored, exit_for_sender, has_refused}
 use Rattle.bw_send.proofs.OfferSteps.{taken, refused, all_taken, all_refused}
 use Rattle.bw_send.proofs.RoundSteps.{all_heard}
 use Rattle.bw_ports.specs.declared.dial.Dial.{Ghosts as DialGhosts}
 
 -- what was offered, and then these, are the requests of the input
-abbrev pub Front : Sending → List Request → Type 0
-Front x rest = x.sender.offered ++ rest ≡ x.requests
+abbrev pub Prefix : Sending → List Request → Type 0
+Prefix x rest = x.sender.offered ++ rest ≡ x.requests
 
-pub rest_is : (x : Sending) (rest : List Request) → Front x rest → unoffered x ≡ rest
+pub rest_is : (x : Sending) (rest : List Request) → Prefix x rest → unoffered x ≡ rest
 rest_is x rest e = ap (drop (length x.sender.offered)) (sym e) ∙ drop-append_seam x.sender.offered rest
 
-next_front : (x : Sending) (r : Request) (rs : List Request) → Front x (r ∷ rs) → offer_fault x.sender r ≡ None →
-    Front (offer_next x r) rs
-next_front x r rs e none =
+next_prefix : (x : Sending) (r : Request) (rs : List Request) → Prefix x (r ∷ rs) → offer_fault x.sender r ≡ None →
+    Prefix (offer_next x r) rs
+next_prefix x r rs e none =
     ap (λ (s : Defined). s.offered ++ rs) (taken x.sender r none) ∙ append_assoc x.sender.offered (r ∷ []) rs ∙ e
 
-stopped_front : (x : Sending) (r : Request) (rest : List Request) (f : OfferFault) → Front x rest →
-    offer_fault x.sender r ≡ Some f → Front (offer_next x r) rest
-stopped_front x r rest f e some = ap (λ (s : Defined). s.offered ++ rest) (refused x.sender r f some) ∙ e
+stopped_prefix : (x : Sending) (r : Request) (rest : List Request) (f : OfferFault) → Prefix x rest →
+    offer_fault x.sender r ≡ Some f → Prefix (offer_next x r) rest
+stopped_prefix x r rest f e some = ap (λ (s : Defined). s.offered ++ rest) (refused x.sender r f some) ∙ e
 
-all_front : (x : Sending) (rs : List Request) → Front x rs → (rest : List Request) × Front (offer_all x rs) rest
+all_prefix : (x : Sending) (rs : List Request) → Prefix x rs → (rest : List Request) × Prefix (offer_all x rs) rest
 unfolding offer_all
-all_front x [] e = ([], e)
-all_front x (r ∷ rs) e = go (offer_fault x.sender r) refl (all_front (offer_next x r) rs)
+all_prefix x [] e = ([], e)
+all_prefix x (r ∷ rs) e = go (offer_fault x.sender r) refl (all_prefix (offer_next x r) rs)
   where
     go : (o : Option OfferFault) → offer_fault x.sender r ≡ o →
-        (Front (offer_next x r) rs → (rest : List Request) × Front (offer_all (offer_next x r) rs) rest) →
-        (rest : List Request) × Front (offer_all x (r ∷ rs)) rest
+        (Prefix (offer_next x r) rs → (rest : List Request) × Prefix (offer_all (offer_next x r) rs) rest) →
+        (rest : List Request) × Prefix (offer_all x (r ∷ rs)) rest
     go None is rec =
-        let more = rec (next_front x r rs e is) in
-        (more.0, subst (λ (y : Sending). Front y more.0) (sym (all_taken x r rs is)) more.1)
+        let more = rec (next_prefix x r rs e is) in
+        (more.0, subst (λ (y : Sending). Prefix y more.0) (sym (all_taken x r rs is)) more.1)
     go (Some f) is rec = (
       r ∷ rs,
-      subst (λ (y : Sending). Front y (r ∷ rs)) (sym (all_refused x r rs f is))
-          (stopped_front x r (r ∷ rs) f e is),
+      subst (λ (y : Sending). Prefix y (r ∷ rs)) (sym (all_refused x r rs f is))
+          (stopped_prefix x r (r ∷ rs) f e is),
     )
 
-more_front : (x : Sending) (rest : List Request) → Front x rest → (rest : List Request) × Front (offer_more x) rest
+more_prefix : (x : Sending) (rest : List Request) → Prefix x rest → (rest : List Request) × Prefix (offer_more x) rest
 unfolding offer_more
-more_front x rest e = go x.is_stopped
+more_prefix x rest e = go x.is_stopped
   where
-    go : (b : Bool) → (rest : List Request) × Front (cond b x (offer_all x (unoffered x))) rest
+    go : (b : Bool) → (rest : List Request) × Prefix (cond b x (offer_all x (unoffered x))) rest
     go true = (rest, e)
-    go false = all_front x (unoffered x) (ap (λ (rs : List Request). x.sender.offered ++ rs) (rest_is x rest e) ∙ e)
+    go false = all_prefix x (unoffered x) (ap (λ (rs : List Request). x.sender.offered ++ rs) (rest_is x rest e) ∙ e)
 
-hear_front : (x : Sending) (heard : List Reply) (rest : List Request) → Front x rest → Front (hear_in x heard) rest
-hear_front x heard rest e = ap (λ (rs : List Request). rs ++ rest) (all_heard x.sender heard) ∙ e
+hear_prefix : (x : Sending) (heard : List Reply) (rest : List Request) → Prefix x rest → Prefix (hear_in x heard) rest
+hear_prefix x heard rest e = ap (λ (rs : List Request). rs ++ rest) (all_heard x.sender heard) ∙ e
 
 module _ {D R W : Type 0} (dial : DialGhosts D R W) (reader : Reader R) (writer : Writer W) where
-  went_front : (x : Sending) (heard : List (List Reply)) (y : Sending) (d e : D) →
-      AreRounds dial reader writer x heard y d e → (rest : List Request) → Front x rest →
-      (rest : List Request) × Front y rest
-  went_front x [] y d e went rest f = (rest, subst (λ (z : Sending). Front z rest) (sym went.0) f)
-  went_front x (h ∷ hs) y d e went rest f =
-      let more = more_front x rest f in
-      went_front (hear_in (offer_more x) h) hs y went.0 e went.3 more.0 (hear_front (offer_more x) h more.0 more.1)
+  went_prefix : (x : Sending) (heard : List (List Reply)) (y : Sending) (d e : D) →
+      AreRounds dial reader writer x heard y d e → (rest : List Request) → Prefix x rest →
+      (rest : List Request) × Prefix y rest
+  went_prefix x [] y d e went rest f = (rest, subst (λ (z : Sending). Prefix z rest) (sym went.0) f)
+  went_prefix x (h ∷ hs) y d e went rest f =
+      let more = more_prefix x rest f in
+      went_prefix (hear_in (offer_more x) h) hs y went.0 e went.3 more.0 (hear_prefix (offer_more x) h more.0 more.1)
 
-  -- behind rounds what was offered is the front of the requests
-  pub made_front : (name : List ℕ) (requests : List Request) (rounds : ℕ) (y : Sending) (d e : D) →
+  -- after rounds what was offered is the prefix of the requests
+  pub made_prefix : (name : List ℕ) (requests : List Request) (rounds : ℕ) (y : Sending) (d e : D) →
       MakesRounds dial reader writer rounds (new_sending name requests) y d e →
       y.sender.offered ++ unoffered y ≡ y.requests
-  made_front name requests rounds y d e made = go made.ends
+  made_prefix name requests rounds y d e made = go made.ends
     where
-      behind : (rest : List Request) × Front made.behind rest
-      behind = went_front (new_sending name requests) made.heard made.behind d e made.went requests refl
+      following : (rest : List Request) × Prefix made.following rest
+      following = went_prefix (new_sending name requests) made.heard made.following d e made.went requests refl
 
-      whole : (z : Sending) (rest : List Request) → Front z rest → y ≡ z → y.sender.offered ++ unoffered y ≡ y.requests
+      whole : (z : Sending) (rest : List Request) → Prefix z rest → y ≡ z → y.sender.offered ++ unoffered y ≡ y.requests
       whole z rest f is =
-          let g : Front y rest = subst (λ (z : Sending). Front z rest) (sym is) f in
+          let g : Prefix y rest = subst (λ (z : Sending). Prefix z rest) (sym is) f in
           ap (λ (rs : List Request). y.sender.offered ++ rs) (rest_is y rest g) ∙ g
 
-      go : ((length made.heard ≡ rounds) × (y ≡ made.behind))
-          ⊎ ((length made.heard < rounds) × (y ≡ offer_more made.behind) × IsSettled y) →
+      go : ((length made.heard ≡ rounds) × (y ≡ made.following))
+          ⊎ ((length made.heard < rounds) × (y ≡ offer_more made.following) × IsSettled y) →
           y.sender.offered ++ unoffered y ≡ y.requests
-      go (inl all) = whole made.behind behind.0 behind.1 all.1
+      go (inl all) = whole made.following following.0 following.1 all.1
       go (inr few) =
-          let more = more_front made.behind behind.0 behind.1 in
-          whole (offer_more made.behind) more.0 more.1 few.1
+          let more = more_prefix made.following following.0 following.1 in
+          whole (offer_more made.following) more.0 more.1 few.1
 
 -- As many stored as there are requests.
 
@@ -166,7 +166,7 @@ each_stored (Some v ∷ vs) m e le n lt = go (is_stored v) refl n lt (each_store
         rec (count k vs) refl (omega (arith, split, e, less)) n (omega (arith, split, e, lt))
 
 -- Done says that each request is stored
-exit_done : (x : Sending) → exit_for x ≡ Done → stored x.sender ≡ length x.requests
+exit_done : (x : Sending) → exit_for_sender x ≡ Done → stored x.sender ≡ length x.requests
 exit_done x e = go (has_refused x) e
   where
     last : (b : Bool) → (stored x.sender == length x.requests) ≡ b → cond b Done Device ≡ Done →
@@ -179,7 +179,7 @@ exit_done x e = go (has_refused x) e
     go true e = absurd (cc)
     go false e = last (stored x.sender == length x.requests) refl e
 
-pub done_stored : (x : Sending) → OffersInOrder x → exit_for x ≡ Done → EachIsStored x
+pub done_stored : (x : Sending) → OffersInOrder x → exit_for_sender x ≡ Done → EachIsStored x
 done_stored x o e =
     let count_is : count (first_free x.sender.verdicts) x.sender.verdicts ≡ length x.requests = exit_done x e in
     let c : count (first_free x.sender.verdicts) x.sender.verdicts ≤ first_free x.sender.verdicts =
@@ -187,11 +187,11 @@ done_stored x o e =
     let f : first_free x.sender.verdicts ≤ length x.sender.verdicts = first_free-le x.sender.verdicts in
     let w = o.within in
     let parts : length x.sender.offered + length (unoffered x) ≡ length x.requests =
-    sym (length-append x.sender.offered (unoffered x)) ∙ ap length o.front in
+    sym (length-append x.sender.offered (unoffered x)) ∙ ap length o.prefix in
     let none : length (unoffered x) ≡ 0 = omega (arith, count_is, c, f, w, parts) in
     record {
       all = sym (append-nil x.sender.offered)
-          ∙ ap (λ (rs : List Request). x.sender.offered ++ rs) (sym (empty (unoffered x) none)) ∙ o.front;
+          ∙ ap (λ (rs : List Request). x.sender.offered ++ rs) (sym (empty (unoffered x) none)) ∙ o.prefix;
       stored = each_stored x.sender.verdicts (length x.requests) count_is (omega (arith, f, w, parts));
     }
   where

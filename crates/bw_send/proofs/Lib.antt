@@ -2,5 +2,5 @@ pub mod OfferSteps
 pub mod RefusedLines
 pub mod RequestLemmas
 pub mod RoundSteps
-pub mod ToldLinks
+pub mod ReportedLinks
 pub mod InOrder

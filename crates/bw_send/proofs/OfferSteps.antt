@@ -66,9 +66,9 @@ next_refused x r r' p sender last (Some f) same k e some is unchanged =
 
 -- Offers in a row.
 
-pub none_behind : (x : Sending) → x.is_stopped ≡ true → offer_more x ≡ x
+pub none_after : (x : Sending) → x.is_stopped ≡ true → offer_more x ≡ x
 unfolding offer_more
-none_behind x e = ap (λ (b : Bool). cond b x (offer_all x (unoffered x))) e
+none_after x e = ap (λ (b : Bool). cond b x (offer_all x (unoffered x))) e
 
 pub none_left : (x : Sending) → length x.requests ≤ length x.sender.offered → offer_more x ≡ x
 unfolding offer_more offer_all
@@ -158,10 +158,10 @@ pub goes_further : (requests : List Request) (x : Sending) (p p' : Dispatch) (r 
     (o : OffersOn requests x p) → p.is_stopped ≡ false → p.offered < length requests →
     r ≡ get_or requests p.offered r → IsSending (offer_next o.y r) p' × (v ≡ is_none (offer_fault o.y.sender r)) →
     v ≡ true → OffersOn requests x p'
-goes_further requests x p p' r v o goes within is stepped took = record {
+goes_further requests x p p' r v o goes within is stepped consumed = record {
   y = offer_next o.y r;
   is = stepped.0;
-  same = o.same ∙ more_taken o.y r (sym o.is.stopped ∙ goes) (sym took ∙ stepped.1)
+  same = o.same ∙ more_taken o.y r (sym o.is.stopped ∙ goes) (sym consumed ∙ stepped.1)
       (first_unoffered requests o.y p r o.is o.from within is);
   from = o.from;
 }
@@ -178,12 +178,12 @@ stops_here requests x p p' r v o goes within is stepped left =
 pub no_more : (requests : List Request) (x : Sending) (p : Dispatch) → OffersOn requests x p →
     p.is_stopped ≡ true → IsSending (offer_more x) p
 no_more requests x p o stopped =
-    subst (λ (z : Sending). IsSending z p) (sym (o.same ∙ none_behind o.y (sym o.is.stopped ∙ stopped))) o.is
+    subst (λ (z : Sending). IsSending z p) (sym (o.same ∙ none_after o.y (sym o.is.stopped ∙ stopped))) o.is
 
 pub all_offered : (requests : List Request) (x : Sending) (p : Dispatch) → OffersOn requests x p →
     length requests ≤ p.offered → IsSending (offer_more x) p
 all_offered requests x p o past =
-    let behind : length o.y.requests ≤ length o.y.sender.offered =
+    let following : length o.y.requests ≤ length o.y.sender.offered =
     subst (λ (rs : List Request). length rs ≤ length o.y.sender.offered) (sym o.from)
     (subst (λ (n : ℕ). length requests ≤ n) o.is.offered past) in
-    subst (λ (z : Sending). IsSending z p) (sym (o.same ∙ none_left o.y behind)) o.is
+    subst (λ (z : Sending). IsSending z p) (sym (o.same ∙ none_left o.y following)) o.is

@@ -21,7 +21,7 @@ refusal_step xs x i out out' whole first w put =
     ∙ append_assoc out (refused_line (refusal_of x)) more
     ∙ ap (λ (z : List (ℕ × Verdict)). out ++ lines_for z) (sym first) ∙ w
 
--- behind the last there is none
+-- after the last there is none
 pub none_left : (xs : List (ℕ × Verdict)) (i : ℕ) (out whole : List ℕ) → length xs ≤ i →
     out ++ lines_for (drop i xs) ≡ whole → out ≡ whole
 none_left xs i out whole past w =

@@ -108,12 +108,12 @@ module _ {D R W : Type 0} (dial : DialGhosts D R W) (reader : Reader R) (writer 
       y.requests ≡ x.requests
   rounds_keep rounds x y d e made = go made.ends
     where
-      go : ((length made.heard ≡ rounds) × (y ≡ made.behind))
-          ⊎ ((length made.heard < rounds) × (y ≡ offer_more made.behind) × IsSettled y) → y.requests ≡ x.requests
-      go (inl all) = ap (λ (z : Sending). z.requests) all.1 ∙ went_keeps x made.heard made.behind d e made.went
+      go : ((length made.heard ≡ rounds) × (y ≡ made.following))
+          ⊎ ((length made.heard < rounds) × (y ≡ offer_more made.following) × IsSettled y) → y.requests ≡ x.requests
+      go (inl all) = ap (λ (z : Sending). z.requests) all.1 ∙ went_keeps x made.heard made.following d e made.went
       go (inr few) =
-          ap (λ (z : Sending). z.requests) few.1 ∙ more_keeps made.behind
-          ∙ went_keeps x made.heard made.behind d e made.went
+          ap (λ (z : Sending). z.requests) few.1 ∙ more_keeps made.following
+          ∙ went_keeps x made.heard made.following d e made.went
 
 -- What refuses an input.
 

@@ -28,7 +28,7 @@ pub record AreRequestsOf (input : List ℕ) (requests : List Request) : Type 0 w
   pub within : length input ≤ longest_input
   pub said : SayRequests (lines_of input) requests
 
--- want of memory, or the first line that is no request's
+-- lack of memory, or the first line that is no request's
 abbrev pub IsRequestFault : Fault → List (List ℕ) → Type 0
 IsRequestFault (NotRequest number) lines = FirstUnsaid 1 lines number
 IsRequestFault Memory lines = Unit {0}

@@ -82,13 +82,13 @@ module _ {D R W : Type 0} (dial : DialGhosts D R W) (reader : Reader R) (writer 
       (mid : D) × (¬ IsSettled (offer_more x)) × IsRound (offer_more x).sender heard d mid
       × AreRounds (hear_in (offer_more x) heard) more y mid d'
 
-  -- So many rounds were made, or fewer, behind which nothing more can be offered and all that was
+  -- So many rounds were made, or fewer, after which nothing more can be offered and all that was
   -- offered has its verdict.
   pub record MakesRounds (rounds : ℕ) (x y : Sending) (d d' : D) : Type 0 where
     pub heard : List (List Reply)
-    pub behind : Sending
-    pub went : AreRounds x heard behind d d'
-    -- what was heard is what the links gave, where that is told
-    pub told : (xs : List (List ℕ)) → dial.links d ≡ Some xs → AreHeardFrom heard xs
-    pub ends : ((length heard ≡ rounds) × (y ≡ behind))
-        ⊎ ((length heard < rounds) × (y ≡ offer_more behind) × IsSettled y)
+    pub following : Sending
+    pub went : AreRounds x heard following d d'
+    -- what was heard is what the links gave, where that is reported
+    pub reported : (xs : List (List ℕ)) → dial.links d ≡ Some xs → AreHeardFrom heard xs
+    pub ends : ((length heard ≡ rounds) × (y ≡ following))
+        ⊎ ((length heard < rounds) × (y ≡ offer_more following) × IsSettled y)

@@ -65,14 +65,14 @@ abbrev pub has_refused : Sending → Bool
 has_refused x = x.is_stopped || not (length (refused x.sender) == 0)
 
 -- how the command ends: `Done` where each line's request is settled and stored
-abbrev pub exit_for : Sending → Exit
-exit_for x =
+abbrev pub exit_for_sender : Sending → Exit
+exit_for_sender x =
     if has_refused x then Refused
     else if stored x.sender == length x.requests then Done else Device
 
 -- The requests that were offered are the first of the input, and only they have verdicts.
 pub record OffersInOrder (x : Sending) : Type 0 where
-  pub front : x.sender.offered ++ unoffered x ≡ x.requests
+  pub prefix : x.sender.offered ++ unoffered x ≡ x.requests
   pub within : length x.sender.verdicts ≤ length x.sender.offered
 
 -- Each request of the input was offered, and has the verdict Stored.

@@ -4,8 +4,8 @@ use Rattle.bw_model.specs.Take.{Request}
 use Rattle.bw_stream.specs.declared.sink.Sink.{Ghosts as Writer}
 use Rattle.bw_stream.specs.declared.source.Source.{Ghosts as Reader}
 use Rattle.bw_stream.specs.Readers.{Of}
-use Rattle.bw_console.specs.Deeds.{Deed}
-use Rattle.bw_console.specs.Faults.{IsToldBy, exit_on, is_read}
+use Rattle.bw_console.specs.Outcomes.{Outcome}
+use Rattle.bw_console.specs.Faults.{IsReportedBy, exit_on, is_read}
 use Rattle.bw_console.specs.Printing.{Print, Nothing, Whole, Part, IsOf}
 use Rattle.bw_console.specs.Text.{as_line}
 use Rattle.bw_console.specs.declared.exit.Exit.{Exit}
@@ -15,7 +15,7 @@ use Rattle.bw_console.specs.declared.fault.Fault.TheVariants as faults
 use Rattle.bw_send.specs.RequestLines.{AreRequestsOf, RefusesRequests}
 use Rattle.bw_send.specs.RoundsMade.{MakesRounds}
 use Rattle.bw_send.specs.SenderText.{sender_text}
-use Rattle.bw_send.specs.SendState.{Sending, OffersInOrder, EachIsStored, exit_for}
+use Rattle.bw_send.specs.SendState.{Sending, OffersInOrder, EachIsStored, exit_for_sender}
 use Rattle.bw_send.specs.SendState.{new_sending}
 use Rattle.bw_ports.specs.declared.dial.Dial.{Ghosts as DialGhosts}
 
@@ -24,19 +24,19 @@ abbrev pub exit_of_send : Result Exit Fault → Exit
 exit_of_send (Ok exit) = exit
 exit_of_send (Err fault) = exit_on fault
 
--- what is told of a sender that isn't done
+-- what is reported of a sender that isn't done
 abbrev pub unsettled_line : List ℕ
 unsettled_line = as_line (codes "not every request has its verdict yet")
 
--- what is told where the input was sent: that line, where the sender isn't done
-abbrev pub TellsOfExit : Exit → Print → Type 0
-TellsOfExit Device told = IsOf unsettled_line told
-TellsOfExit exit told = told ≡ Nothing
+-- what is reported where the input was sent: that line, where the sender isn't done
+abbrev pub ReportsOfExit : Exit → Print → Type 0
+ReportsOfExit Device reported = IsOf unsettled_line reported
+ReportsOfExit exit reported = reported ≡ Nothing
 
--- what is told on what the command comes to
-abbrev pub TellsOfSend : Result Exit Fault → Print → Type 0
-TellsOfSend (Ok exit) told = TellsOfExit exit told
-TellsOfSend (Err fault) told = IsToldBy (Err fault) told
+-- what is reported on what the command comes to
+abbrev pub ReportsOfSend : Result Exit Fault → Print → Type 0
+ReportsOfSend (Ok exit) reported = ReportsOfExit exit reported
+ReportsOfSend (Err fault) reported = IsReportedBy (Err fault) reported
 
 module _ {D R W : Type 0} (dial : DialGhosts D R W) (reader : Reader R) (writer : Writer W) where
   -- The input's requests were sent in rounds by a new sender of this name, and the text of what the
@@ -48,7 +48,7 @@ module _ {D R W : Type 0} (dial : DialGhosts D R W) (reader : Reader R) (writer 
     pub last : Sending
     pub went : MakesRounds dial reader writer rounds (new_sending name requests) last d d'
     pub is : print ≡ printed (sender_text last.sender)
-    pub exit_is : exit ≡ exit_for last
+    pub exit_is : exit ≡ exit_for_sender last
     pub in_order : OffersInOrder last
     pub done : exit ≡ Done → EachIsStored last
 
@@ -80,9 +80,9 @@ module _ {D R W : Type 0} (dial : DialGhosts D R W) (reader : Reader R) (writer 
 
   -- the command did this with the input and the links
   pub record IsSendRun (name : List ℕ) (rounds : ℕ) (input : Option (List ℕ)) (d d' : D)
-      (did : Deed) : Type 0 where
+      (did : Outcome) : Type 0 where
     pub outcome : Result Exit Fault
     pub exit_is : did.exit ≡ exit_of_send outcome
     pub reads : did.reads_all ≡ is_read outcome
     pub prints : IsPrintOfSend name rounds input d d' outcome did.out
-    pub tells : TellsOfSend outcome did.faults
+    pub reports : ReportsOfSend outcome did.faults

@@ -1,4 +1,4 @@
--- How far a sender is behind a round, as its line tells it.
+-- How far a sender is after a round, as its line tells it.
 use Rattle.std.specs.Prelude.{ℕ, ◌-◌, ◌^◌, min, List, ◌++◌, take, sum_by, codes, decimal}
 use Rattle.bw_model.specs.Take.{Request}
 use Rattle.bw_model.specs.World.{Sender, settled, stored}
@@ -6,20 +6,20 @@ use Rattle.bw_request.specs.Requests.{samples_in}
 use Rattle.bw_console.specs.Text.{as_line}
 
 -- the bytes of samples in these requests
-abbrev pub bytes_in : List Request → ℕ
-bytes_in requests = min (sum_by samples_in requests) (2 ^ 64 - 1)
+abbrev pub counted_bytes : List Request → ℕ
+counted_bytes requests = min (sum_by samples_in requests) (2 ^ 64 - 1)
 
 -- .. in those of an input that are settled: they are its first
 abbrev pub settled_bytes : Sender → List Request → ℕ
-settled_bytes s requests = bytes_in (take (settled s) requests)
+settled_bytes s requests = counted_bytes (take (settled s) requests)
 
 -- the line of these counts
-abbrev pub counts_line : ℕ → ℕ → ℕ → ℕ → List ℕ
-counts_line round settled stored bytes = as_line
+abbrev pub round_counts_line : ℕ → ℕ → ℕ → ℕ → List ℕ
+round_counts_line round settled stored bytes = as_line
     (codes "round " ++ decimal round ++ codes " settled " ++ decimal settled ++ codes " stored "
     ++ decimal stored ++ codes " bytes " ++ decimal bytes)
 
--- the line behind the round with this number, of a sender and the requests of its input
+-- the line after the round with this number, of a sender and the requests of its input
 abbrev pub progress_line : ℕ → Sender → List Request → List ℕ
 progress_line round s requests =
-    counts_line round (settled s) (stored s) (settled_bytes s requests)
+    round_counts_line round (settled s) (stored s) (settled_bytes s requests)

@@ -1,6 +1,6 @@
 //! How far a recorder's requests have got, and how `send` ends there.
 ghost use Rattle.std.specs.Prelude.{◌≡◌, length};
-ghost use Rattle.bw_send.specs.SendState.{Sending, IsSending, exit_for};
+ghost use Rattle.bw_send.specs.SendState.{Sending, IsSending, exit_for_sender};
 
 use bw_console::Exit;
 use bw_sender::Sender;
@@ -18,7 +18,7 @@ pub(crate) struct Dispatch {
 /// How the command ends where it has got so far with so many requests.
 pub(crate) fn exit_after(dispatch: &Dispatch, requests: usize) -> Exit
     ensures { (x : Sending) → IsSending x dispatch.now → requests ≡ length x.requests →
-        result ≡ exit_for x }
+        result ≡ exit_for_sender x }
 {
     if dispatch.is_stopped || !dispatch.sender.refused().is_empty() {
         return Exit::Refused;

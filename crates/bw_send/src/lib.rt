@@ -1,5 +1,5 @@
 //! The command `send`: requests of an input, sent in rounds until all are settled. Sockets stand
-//! above, behind `Dial`.
+//! above, after `Dial`.
 #![tactic(auto)]
 
 mod dispatch;

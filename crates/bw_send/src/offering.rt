@@ -57,7 +57,7 @@ fn offer_next(alloc: Global, dispatch: &mut Dispatch, request: &Request) -> Resu
     }
 }
 
-/// Whether no more is offered behind an offer that is refused so.
+/// Whether no more is offered after an offer that is refused so.
 ///
 /// # Errors
 /// `AllocError` where memory was refused.

@@ -1,20 +1,20 @@
 //! The command `send`: a recorder's requests from standard input, in rounds.
 ghost use Rattle.std.specs.Prelude.{◌≡◌, ◌+◌, ◌≤◌, IfOk};
 ghost use Rattle.bw_stream.specs.Readers.{Of};
-ghost use Rattle.bw_console.specs.Deeds.{Deed, HasWritten};
+ghost use Rattle.bw_console.specs.Outcomes.{Outcome, HasWritten};
 ghost use Rattle.bw_console.specs.Faults.{is_read};
 ghost use Rattle.bw_console.specs.Input.{longest_input};
 ghost use Rattle.bw_console.specs.Printing.{IsPrint, Print, failures_if};
 ghost use Rattle.bw_console.specs.Input.{IsReadAhead};
 ghost use Rattle.bw_send.specs.RoundsMade.{MakesRounds};
 ghost use Rattle.bw_send.specs.SendState.{Sending, IsSending, new_sending};
-ghost use Rattle.bw_send.specs.Sends.{IsPrintOfSend, IsSendRun, TellsOfExit};
+ghost use Rattle.bw_send.specs.Sends.{IsPrintOfSend, IsSendRun, ReportsOfExit};
 
 use crate::dispatch::{Dispatch, exit_after};
 use crate::requests::read_requests;
 use crate::rounds::make_rounds;
 use crate::text::text_of_sender;
-use bw_console::print::{give_up, print, tell};
+use bw_console::print::{give_up, print, print_diagnostic};
 use bw_console::{Exit, Fault};
 use bw_ports::{Dial, NoWatch, Watch};
 use bw_request::{Name, Request};
@@ -22,7 +22,7 @@ use bw_sender::Sender;
 use bw_stream::{Sink, Source};
 use std::alloc::{AllocError, Global};
 
-/// What is told of a sender that isn't done.
+/// What is reported of a sender that isn't done.
 const UNSETTLED: &str = "not every request has its verdict yet\n";
 
 /// Sends the requests that the lines of the input say, as a recorder of this name, and writes as
@@ -50,7 +50,7 @@ pub fn send_run<D: Dial, R: Source, W: Sink, E: Sink>(
 ) -> Exit
     ensures within { Of (R.left input.old) (λ xs. IsReadAhead xs (R.left input.new)) }
     ensures most { R.moved input.new ≤ R.moved input.old + (longest_input + 1) }
-    ensures did { (did : Deed) × (did.exit ≡ result)
+    ensures did { (did : Outcome) × (did.exit ≡ result)
         × IsSendRun D.Dial D.Reader.Source D.Writer.Sink name rounds (R.left input.old)
         dial.old dial.new did
         × (R.failures input.new ≡ failures_if did.reads_all (R.failures input.old))
@@ -59,7 +59,7 @@ pub fn send_run<D: Dial, R: Source, W: Sink, E: Sink>(
     send_watched(alloc, name, rounds, dial, input, out, faults, &mut NoWatch)
 }
 
-/// Sends as `send_run` does, and lets a watcher hear how far it is behind each round.
+/// Sends as `send_run` does, and lets a watcher hear how far it is after each round.
 ///
 /// # Not specified
 /// - What `send_run` leaves open.
@@ -76,26 +76,26 @@ pub fn send_watched<D: Dial, R: Source, W: Sink, E: Sink, V: Watch>(
 ) -> Exit
     ensures within { Of (R.left input.old) (λ xs. IsReadAhead xs (R.left input.new)) }
     ensures most { R.moved input.new ≤ R.moved input.old + (longest_input + 1) }
-    ensures did { (did : Deed) × (did.exit ≡ result)
+    ensures did { (did : Outcome) × (did.exit ≡ result)
         × IsSendRun D.Dial D.Reader.Source D.Writer.Sink name rounds (R.left input.old)
         dial.old dial.new did
         × (R.failures input.new ≡ failures_if did.reads_all (R.failures input.old))
         × HasWritten W.Sink E.Sink did out.old out.new faults.old faults.new }
 {
     match send(alloc, name, rounds, dial, input, out, watch) {
-        Ok(exit) => tell_of_exit(exit, faults),
+        Ok(exit) => report_of_exit(exit, faults),
         Err(fault) => give_up(faults, &fault),
     }
 }
 
 /// Tells where the sender isn't done. That it can't be written changes nothing.
-fn tell_of_exit<E: Sink>(exit: Exit, faults: &mut E) -> Exit
+fn report_of_exit<E: Sink>(exit: Exit, faults: &mut E) -> Exit
     ensures exit { result ≡ exit }
-    ensures told { (print : Print) × TellsOfExit exit print
+    ensures reported { (print : Print) × ReportsOfExit exit print
         × IsPrint E.Sink print faults.old faults.new }
 {
     match exit {
-        Exit::Device => tell(faults, UNSETTLED.as_bytes()),
+        Exit::Device => print_diagnostic(faults, UNSETTLED.as_bytes()),
         Exit::Done | Exit::Refused | Exit::Usage | Exit::Memory => (),
     }
     exit

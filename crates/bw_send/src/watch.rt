@@ -1,22 +1,22 @@
-//! How far a sender is behind each round, for whoever watches it.
+//! How far a sender is after each round, for whoever watches it.
 ghost use Rattle.std.specs.Prelude.{◌≡◌, ◌≤◌, ◌+◌, ◌++◌, decimal, length};
 ghost use Rattle.bw_model.specs.World.{Sender as Defined, settled as settled_of};
 ghost use Rattle.bw_model.specs.World.{stored as stored_of};
 ghost use Rattle.bw_request.specs.Requests.{samples_in};
 ghost use Rattle.bw_sender.specs.Senders.{IsSender};
 ghost use Rattle.bw_console.specs.Printing.{IsOf, IsPrint, Print};
-ghost use Rattle.bw_send.specs.Watched.{bytes_in, counts_line, progress_line};
+ghost use Rattle.bw_send.specs.Watched.{counted_bytes, round_counts_line, progress_line};
 ghost use Rattle.bw_send.specs.Watched.{settled_bytes};
 
 use arrayvec::ArrayString;
-use bw_console::print::tell;
+use bw_console::print::print_diagnostic;
 use bw_ports::ProgressReport;
 use bw_request::{Request, RequestRef};
 use bw_sender::Sender;
 use bw_stream::Sink;
 use itoa::Buffer;
 
-/// How far a sender is with the requests of an input, behind a round.
+/// How far a sender is with the requests of an input, after a round.
 #[derive(Clone, Copy)]
 pub struct Progress<'a> {
     round: u32,
@@ -65,16 +65,16 @@ impl<'a> Progress<'a> {
             result ≡ settled_bytes s self.now.requests.now }
     {
         let settled = (self.settled() as usize).min(self.requests.len());
-        bytes_in(&self.requests[..settled])
+        counted_bytes(&self.requests[..settled])
     }
 
     /// Tells it in a line. It takes no memory.
-    pub fn tell<E: Sink>(&self, out: &mut E)
+    pub fn print_diagnostic<E: Sink>(&self, out: &mut E)
         ensures { (s : Defined) → IsSender s self.now.sender.now → (print : Print)
             × IsOf (progress_line self.now.round s self.now.requests.now) print
             × IsPrint E.Sink print out.old out.new }
     {
-        tell(out, self.line().as_str().as_bytes());
+        print_diagnostic(out, self.line().as_str().as_bytes());
     }
 
     fn line(&self) -> ArrayString<128>
@@ -102,13 +102,13 @@ impl ProgressReport for Progress<'_> {
         Progress::bytes(self)
     }
 
-    fn tell<E: Sink>(&self, out: &mut E) {
-        Progress::tell(self, out);
+    fn print_diagnostic<E: Sink>(&self, out: &mut E) {
+        Progress::print_diagnostic(self, out);
     }
 }
 
 fn line_of(round: u32, settled: u32, stored: u32, bytes: u64) -> ArrayString<128>
-    ensures { result.bytes ≡ counts_line round settled stored bytes }
+    ensures { result.bytes ≡ round_counts_line round settled stored bytes }
 {
     let mut line = ArrayString::new();
     put_count(&mut line, "round ", u64::from(round));
@@ -119,7 +119,7 @@ fn line_of(round: u32, settled: u32, stored: u32, bytes: u64) -> ArrayString<128
     line
 }
 
-/// Adds a count behind what it is called.
+/// Adds a count after what it is called.
 fn put_count(line: &mut ArrayString<128>, name: &str, count: u64)
     requires { length line.old.bytes + length name.now ≤ 100 }
     ensures text { line.new.bytes ≡ line.old.bytes ++ name.now ++ decimal count }
@@ -130,8 +130,8 @@ fn put_count(line: &mut ArrayString<128>, name: &str, count: u64)
 }
 
 /// The bytes of samples in these requests; 2^64 - 1 where there are more.
-fn bytes_in(requests: &[Request]) -> u64
-    ensures { result ≡ bytes_in requests.now }
+fn counted_bytes(requests: &[Request]) -> u64
+    ensures { result ≡ counted_bytes requests.now }
 {
     let mut bytes: u64 = 0;
     for request in requests {

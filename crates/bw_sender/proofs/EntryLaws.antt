@@ -11,7 +11,7 @@ use Rattle.std.proofs.Math.Bool.{or-false, or_assoc, and-true}
 use Rattle.std.proofs.lemmas.Option.{slice_get-get_or}
 use Rattle.std.proofs.lemmas.List.Sums.{count_by_more_no, count_by_more_yes}
 use Rattle.bw_model.proofs.Elements.{some_inj}
-use Rattle.bw_sender.specs.Entries.{Entry, unjudged, entries, judged, is_judged_at, closes}
+use Rattle.bw_sender.specs.Entries.{SenderEntry, unjudged, entries, judged, is_judged_at, closes}
 use Rattle.bw_sender.specs.Entries.{pending_entries, pending_at}
 
 pub length_entries : (rs : List Request) (vs : List (Option Verdict)) → length (entries rs vs) ≡ length rs
@@ -24,13 +24,13 @@ first_free_len [] = omega arith
 first_free_len (None ∷ vs) = omega arith
 first_free_len (Some v ∷ vs) = let h : first_free vs ≤ length vs = first_free_len vs in omega arith
 
--- what is refused below the first number without a verdict is all that is told as refused
-pub refused_front : (n : ℕ) (vs : List (Option Verdict)) →
+-- what is refused below the first number without a verdict is all that is reported as refused
+pub refused_prefix : (n : ℕ) (vs : List (Option Verdict)) →
     refused_from n (take (first_free vs) vs) ≡ refused_from n vs
-refused_front n [] = refl
-refused_front n (None ∷ vs) = refl
-refused_front n (Some v ∷ vs) =
-    ap (λ (xs : List (ℕ × Verdict)). if is_stored v then xs else (n, v) ∷ xs) (refused_front (suc n) vs)
+refused_prefix n [] = refl
+refused_prefix n (None ∷ vs) = refl
+refused_prefix n (Some v ∷ vs) =
+    ap (λ (xs : List (ℕ × Verdict)). if is_stored v then xs else (n, v) ∷ xs) (refused_prefix (suc n) vs)
 
 -- Lists.
 
@@ -62,15 +62,15 @@ drop_one_more (suc k) (x ∷ xs) = drop_one_more k xs
 
 -- Settling: the first entry without a verdict.
 
-pub judged_front : (rs : List Request) (vs : List (Option Verdict)) (k : ℕ) (r : Request) (v : Verdict) →
+pub judged_prefix : (rs : List Request) (vs : List (Option Verdict)) (k : ℕ) (r : Request) (v : Verdict) →
     slice_get (entries rs vs) k ≡ Some (record { request = r; verdict = Some v }) →
     (slice_get rs k ≡ Some r) × (slice_get vs k ≡ Some (Some v))
-judged_front [] vs k r v e = absurd (no_some e)
-judged_front (x ∷ rs) [] zero r v e = absurd (no_some (ap (λ (y : Entry). y.verdict) (some_inj e)))
-judged_front (x ∷ rs) [] (suc k) r v e = let h = judged_front rs [] k r v e in (h.0, h.1)
-judged_front (x ∷ rs) (y ∷ vs) zero r v e =
-    (ap (λ (z : Entry). Some z.request) (some_inj e), ap (λ (z : Entry). Some z.verdict) (some_inj e))
-judged_front (x ∷ rs) (y ∷ vs) (suc k) r v e = judged_front rs vs k r v e
+judged_prefix [] vs k r v e = absurd (no_some e)
+judged_prefix (x ∷ rs) [] zero r v e = absurd (no_some (ap (λ (y : SenderEntry). y.verdict) (some_inj e)))
+judged_prefix (x ∷ rs) [] (suc k) r v e = let h = judged_prefix rs [] k r v e in (h.0, h.1)
+judged_prefix (x ∷ rs) (y ∷ vs) zero r v e =
+    (ap (λ (z : SenderEntry). Some z.request) (some_inj e), ap (λ (z : SenderEntry). Some z.verdict) (some_inj e))
+judged_prefix (x ∷ rs) (y ∷ vs) (suc k) r v e = judged_prefix rs vs k r v e
 
 pub one_more_free : (vs : List (Option Verdict)) (k : ℕ) (v : Verdict) → k ≤ first_free vs →
     slice_get vs k ≡ Some (Some v) → suc k ≤ first_free vs
@@ -162,9 +162,9 @@ pub entries_more : (rs : List Request) (vs : List (Option Verdict)) (r : Request
     entries (rs ++ r ∷ []) vs ≡ entries rs vs ++ unjudged r ∷ []
 entries_more [] [] r h = refl
 entries_more [] (v ∷ vs) r h = absurd (omega (arith, h))
-entries_more (x ∷ rs) [] r h = ap (λ (es : List Entry). unjudged x ∷ es) (entries_more rs [] r (omega arith))
+entries_more (x ∷ rs) [] r h = ap (λ (es : List SenderEntry). unjudged x ∷ es) (entries_more rs [] r (omega arith))
 entries_more (x ∷ rs) (v ∷ vs) r h =
-    ap (λ (es : List Entry). record { request = x; verdict = v } ∷ es) (entries_more rs vs r (omega (arith, h)))
+    ap (λ (es : List SenderEntry). record { request = x; verdict = v } ∷ es) (entries_more rs vs r (omega (arith, h)))
 
 any_closes : (rs : List Request) (vs : List (Option Verdict)) → has_closed_from rs vs ≡ list_any closes (entries rs vs)
 any_closes [] vs = refl
@@ -204,12 +204,12 @@ pub judged_put : (rs : List Request) (vs : List (Option Verdict)) (n : ℕ) (v :
 judged_put [] vs n v h = absurd (omega (arith, h))
 judged_put (r ∷ rs) [] zero v h = refl
 judged_put (r ∷ rs) [] (suc n) v h =
-    ap (λ (es : List Entry). unjudged r ∷ es) (judged_put rs [] n v (omega (arith, h)))
+    ap (λ (es : List SenderEntry). unjudged r ∷ es) (judged_put rs [] n v (omega (arith, h)))
 judged_put (r ∷ rs) (y ∷ vs) zero v h = refl
 judged_put (r ∷ rs) (y ∷ vs) (suc n) v h =
-    ap (λ (es : List Entry). record { request = r; verdict = y } ∷ es) (judged_put rs vs n v (omega (arith, h)))
+    ap (λ (es : List SenderEntry). record { request = r; verdict = y } ∷ es) (judged_put rs vs n v (omega (arith, h)))
 
-pub judged_drop : (k i : ℕ) (es : List Entry) (v : Verdict) → drop k (judged es (k + i) v) ≡ judged (drop k es) i v
+pub judged_drop : (k i : ℕ) (es : List SenderEntry) (v : Verdict) → drop k (judged es (k + i) v) ≡ judged (drop k es) i v
 judged_drop zero i es v = ap (λ (m : ℕ). judged es m v) (omega arith)
 judged_drop (suc k) i [] v = refl
 judged_drop (suc k) i (e ∷ es) v =
@@ -237,14 +237,14 @@ pending_in n (r ∷ rs) [] = ap (λ (ps : List (ℕ × Request)). (n, r) ∷ ps)
 pending_in n (r ∷ rs) (None ∷ vs) = ap (λ (ps : List (ℕ × Request)). (n, r) ∷ ps) (pending_in (suc n) rs vs)
 pending_in n (r ∷ rs) (Some v ∷ vs) = pending_in (suc n) rs vs
 
-pub pending_behind : (k n : ℕ) (rs : List Request) (vs : List (Option Verdict)) → k ≤ first_free vs →
+pub pending_after : (k n : ℕ) (rs : List Request) (vs : List (Option Verdict)) → k ≤ first_free vs →
     length vs ≤ length rs → pending_entries n (entries rs vs) ≡ pending_entries (n + k) (drop k (entries rs vs))
-pending_behind zero n rs vs h l = ap (λ (m : ℕ). pending_entries m (entries rs vs)) (omega arith)
-pending_behind (suc k) n rs [] h l = absurd (omega (arith, h))
-pending_behind (suc k) n rs (None ∷ vs) h l = absurd (omega (arith, h))
-pending_behind (suc k) n [] (Some v ∷ vs) h l = absurd (omega (arith, l))
-pending_behind (suc k) n (r ∷ rs) (Some v ∷ vs) h l =
-    pending_behind k (suc n) rs vs (omega (arith, h)) (omega (arith, l))
+pending_after zero n rs vs h l = ap (λ (m : ℕ). pending_entries m (entries rs vs)) (omega arith)
+pending_after (suc k) n rs [] h l = absurd (omega (arith, h))
+pending_after (suc k) n rs (None ∷ vs) h l = absurd (omega (arith, h))
+pending_after (suc k) n [] (Some v ∷ vs) h l = absurd (omega (arith, l))
+pending_after (suc k) n (r ∷ rs) (Some v ∷ vs) h l =
+    pending_after k (suc n) rs vs (omega (arith, h)) (omega (arith, l))
     ∙ ap (λ (m : ℕ). pending_entries m (drop k (entries rs vs))) (omega arith)
 
 pub drop_past : {X : Type 0} (k : ℕ) (xs : List X) → slice_get xs k ≡ None → drop k xs ≡ drop (suc k) xs
@@ -253,7 +253,7 @@ drop_past zero (y ∷ ys) e = absurd (no_some (sym e))
 drop_past (suc k) (y ∷ ys) e = drop_past k ys e
 
 -- what is pending from a slot on, where its request is pending
-pub pending_some : (slot n : ℕ) (es : List Entry) (r : Request) → pending_at es slot ≡ Some r →
+pub pending_some : (slot n : ℕ) (es : List SenderEntry) (r : Request) → pending_at es slot ≡ Some r →
     pending_entries n (drop slot es) ≡ (n, r) ∷ pending_entries (suc n) (drop (suc slot) es)
 pending_some slot n [] r h = absurd (no_some h)
 pending_some zero n (e ∷ es) r h = go e.verdict h
@@ -266,7 +266,7 @@ pending_some zero n (e ∷ es) r h = go e.verdict h
 pending_some (suc slot) n (e ∷ es) r h = pending_some slot n es r h
 
 -- .. and where it isn't
-pub pending_none : (slot n : ℕ) (es : List Entry) → pending_at es slot ≡ None →
+pub pending_none : (slot n : ℕ) (es : List SenderEntry) → pending_at es slot ≡ None →
     pending_entries n (drop slot es) ≡ pending_entries (suc n) (drop (suc slot) es)
 pending_none slot n [] h =
     ap (pending_entries n) (drop_none slot [] (omega arith))

@@ -7,13 +7,13 @@ use Rattle.bw_request.specs.Verdicts.{verdict_meaning}
 use Rattle.bw_sender.specs.declared.offer.OfferError.{OfferError}
 use Rattle.bw_sender.specs.declared.offer.OfferError.TheVariants as errors
 use Rattle.bw_sender.specs.declared.window.Offered.{Offered}
-use Rattle.bw_sender.specs.Entries.{Entry}
+use Rattle.bw_sender.specs.Entries.{SenderEntry}
 
 -- an offered request, beside its verdict
-abbrev pub entry_of : Offered → Entry
-entry_of o = record { request = o.request; verdict = option_map verdict_meaning o.verdict }
+abbrev pub sender_entry : Offered → SenderEntry
+sender_entry o = record { request = o.request; verdict = option_map verdict_meaning o.verdict }
 
--- why an offer is refused: want of memory is no cause of the definitions
+-- why an offer is refused: lack of memory is no cause of the definitions
 abbrev pub fault_of : OfferError → Option model.OfferFault
 fault_of errors.NumbersSpent = Some model.NumbersSpent
 fault_of errors.BeforeOpen = Some model.BeforeOpen

@@ -16,7 +16,7 @@ pub record KeepsFrom (k : ℕ) (s : Defined) (x : Sender) : Type 0 where
   pub offered : x.offered ≡ length s.offered
   -- only what was offered has a verdict, and the first k all have theirs
   pub within : length s.verdicts ≤ length s.offered
-  pub front : k ≤ first_free s.verdicts
+  pub prefix : k ≤ first_free s.verdicts
   -- the others stand in the window
   pub window : x.window ≡ drop k (entries s.offered s.verdicts)
   -- the first k are counted, or told with their verdicts

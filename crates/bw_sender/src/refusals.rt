@@ -60,7 +60,7 @@ impl Refusals {
         self.entries.reserve_exact(room.max(count))
     }
 
-    /// Notes a number behind the others, in room that is there.
+    /// Notes a number after the others, in room that is there.
     pub(crate) fn push(&mut self, number: u32, verdict: Verdict)
         requires { 1 ≤ self.old.room }
         ensures numbers { self.new.numbers ≡

@@ -19,7 +19,7 @@ use bw_request::{Name, Request, Verdict};
 use bw_wire::Reply;
 use std::alloc::{AllocError, Global};
 
-/// A recorder's side of one take: it numbers requests, tells which of them have no verdict yet,
+/// A recorder's side of one take: it numbers requests, says which of them have no verdict yet,
 /// and counts those that are stored.
 ///
 /// It holds at most sixteen requests, and room for at most twice as many refused numbers as there
@@ -111,7 +111,7 @@ impl Sender {
         self.window.pending(self.settled(), place)
     }
 
-    /// Counts a verdict, if it is the first of an offered request, and tells what the reply is.
+    /// Counts a verdict, if it is the first of an offered request, and says what the reply is.
     ///
     /// Every other reply changes nothing: also Conflict and TooFar, which are final, are `Noted`,
     /// as Held is.

@@ -8,7 +8,7 @@ ghost use Rattle.bw_model.specs.World.{is_close as is_closing_request};
 ghost use Rattle.bw_request.specs.Verdicts.{verdict_meaning};
 ghost use Rattle.bw_sender.specs.Entries.{unjudged, judged, is_judged_at, closes};
 ghost use Rattle.bw_sender.specs.Entries.{pending_entries, pending_at};
-ghost use Rattle.bw_sender.specs.Offers.{entry_of, lent_pending};
+ghost use Rattle.bw_sender.specs.Offers.{sender_entry, lent_pending};
 
 use bw_request::{Request, RequestRef, Verdict};
 use circular_buffer::HeapCircularBuffer;
@@ -33,12 +33,12 @@ pub(crate) struct Window {
 
 impl Model for Window {
     ghost use Rattle.std.specs.Prelude.{◌≡◌, ◌≤◌, List, length, map};
-    ghost use Rattle.bw_sender.specs.Entries.{Entry};
-    ghost use Rattle.bw_sender.specs.Offers.{entry_of};
+    ghost use Rattle.bw_sender.specs.Entries.{SenderEntry};
+    ghost use Rattle.bw_sender.specs.Offers.{sender_entry};
 
-    ghost Value = { List Entry };
+    ghost Value = { List SenderEntry };
 
-    ghost view = { λ w. map entry_of w.slots.items };
+    ghost view = { λ w. map sender_entry w.slots.items };
 
     ghost invariant = { λ w. (length w.slots.items ≤ 16) × (w.slots.capacity ≡ 16) };
 }
@@ -65,7 +65,7 @@ impl Window {
 
     /// An offered request, counted from the first.
     pub(crate) fn get(&self, slot: usize) -> Option<&Offered>
-        ensures value { option_map entry_of (option_copied result) ≡ slice_get self.now slot }
+        ensures value { option_map sender_entry (option_copied result) ≡ slice_get self.now slot }
     {
         self.slots.get(slot)
     }
@@ -81,7 +81,7 @@ impl Window {
         }
     }
 
-    /// Puts a request behind the others, for which there is a slot.
+    /// Puts a request after the others, for which there is a slot.
     pub(crate) fn push(&mut self, request: Request)
         requires { length self.old < 16 }
         ensures { self.new ≡ self.old ++ unjudged request ∷ [] }
@@ -162,7 +162,7 @@ impl Window {
 impl Offered {
     /// Whether it is a CLOSE that has no verdict yet, or is stored.
     pub(crate) fn closes(&self) -> bool
-        ensures { result ≡ closes (entry_of self.now) }
+        ensures { result ≡ closes (sender_entry self.now) }
     {
         if !is_close(&self.request) {
             return false;

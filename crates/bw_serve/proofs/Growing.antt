@@ -1,4 +1,4 @@
--- Steps of a crowd.
+-- Steps of an event loop.
 use Rattle.std.proofs.Common.{◌≡◌, ◌⊎◌, inl, inr, ℕ, zero, suc, ◌+◌, ◌≤◌, ◌<◌, ◌||◌, Bool, true, false, List, [], ◌∷◌, ◌++◌}
 use Rattle.std.proofs.Common.{length, vec_len, refl, sym, ap, subst, ◌∙◌, arith, append_assoc}
 use Rattle.std.proofs.Math.Nat.{eq-or-lt_of_le}
@@ -9,29 +9,29 @@ use Rattle.bw_stream.specs.declared.sink.Sink.{Ghosts as Writer}
 use Rattle.bw_exchange.specs.Answering.{Answered, AnswersAll}
 use Rattle.bw_exchange.proofs.Going.{answers_append}
 use Rattle.bw_ports.specs.declared.link.Link.{Ghosts as LinkGhosts}
-use Rattle.bw_many.specs.declared.many.Closed.{Closed}
-use Rattle.bw_many.specs.declared.many.Many.{Many}
-use Rattle.bw_many.specs.Keeping.{Adds, Keeps, Tagged, all_answered, tagged}
-use Rattle.bw_many.specs.Places.{begun_of, can_go_on_at}
-use Rattle.bw_many.specs.Working.{StaysAt, StoodAt, StoodUnder}
+use Rattle.bw_connections.specs.declared.connections.Closed.{Closed}
+use Rattle.bw_connections.specs.declared.connections.Connections.{Connections}
+use Rattle.bw_connections.specs.Keeping.{Adds, Keeps, Tagged, all_answered, tagged}
+use Rattle.bw_connections.specs.Places.{begun_of, can_go_on_at}
+use Rattle.bw_connections.specs.Working.{StaysAt, ExistedAt, ExistedUnder}
 use Rattle.bw_exchange.specs.LinkCounts.{up_to_last}
-use Rattle.bw_serve.specs.Crowds.{Advances, Counts, Grows, HasSeats, InTurn, ServesPlace, Stays, can_go_on_below}
-use Rattle.bw_serve.specs.Crowds.{ended_in_turn, frames_in_turn}
+use Rattle.bw_serve.specs.EventLoops.{Advances, CountsEnds, Grows, HasPeerSlots, InTurn, ServesPlace, KeepsEventLoop, can_go_on_below}
+use Rattle.bw_serve.specs.EventLoops.{ended_in_turn, frames_in_turn}
 use Rattle.bw_serve.specs.Admissions.{HostsAll, HostsMore}
-use Rattle.bw_ports.specs.Lobbies.{Admission}
-use Rattle.bw_serve.specs.Lines.{TellsEnds}
-use Rattle.bw_serve.specs.declared.crowd.Crowd.{Crowd}
+use Rattle.bw_ports.specs.Reactors.{Admission}
+use Rattle.bw_serve.specs.Lines.{ReportsEnds}
+use Rattle.bw_serve.specs.declared.event_loop.EventLoop.{EventLoop}
 use Rattle.bw_serve.proofs.Admitting.{hosts_more_still, hosts_more_then, hosts_served}
-use Rattle.bw_serve.proofs.Counting.{counts_stood, tells_none, tells_then}
+use Rattle.bw_serve.proofs.Counting.{counts_existed, reports_none, reports_then}
 
 -- one of the first can go on
-pub one_can : {L : Type 0} (c : Crowd L) (place n : ℕ) → place < n → can_go_on_at c.many place ≡ true →
+pub one_can : {L : Type 0} (c : EventLoop L) (place n : ℕ) → place < n → can_go_on_at c.connections place ≡ true →
     can_go_on_below c n ≡ true
 one_can c place zero below h = absurd (omega (arith, below))
 one_can c place (suc n) below h =
     let le : place ≤ n = omega (arith, below) in go (λ lt. one_can c place n lt h) (eq-or-lt_of_le le)
   where
-    first : (b : Bool) → b ≡ true → (b || can_go_on_at c.many n) ≡ true
+    first : (b : Bool) → b ≡ true → (b || can_go_on_at c.connections n) ≡ true
     first true e = refl
     first false e = absurd cc
 
@@ -41,39 +41,39 @@ one_can c place (suc n) below h =
 
     go : (place < n → can_go_on_below c n ≡ true) → (place ≡ n) ⊎ (place < n) → can_go_on_below c (suc n) ≡ true
     go before (inl e) =
-        subst (λ (b : Bool). (can_go_on_below c n || b) ≡ true) (sym (ap (λ k. can_go_on_at c.many k) (sym e) ∙ h))
+        subst (λ (b : Bool). (can_go_on_below c n || b) ≡ true) (sym (ap (λ k. can_go_on_at c.connections k) (sym e) ∙ h))
         (last (can_go_on_below c n))
     go before (inr lt) = first (can_go_on_below c n) (before lt)
 
 -- Many connections, one step after another.
-pub adds_then : {L : Type 0} (G : LinkGhosts L) (a b c : Many L) (xs ys : List Tagged) (us vs : List (Closed L)) →
+pub adds_then : {L : Type 0} (G : LinkGhosts L) (a b c : Connections L) (xs ys : List Tagged) (us vs : List (Closed L)) →
     Adds G a xs us b → Adds G b ys vs c → Adds G a (xs ++ ys) (us ++ vs) c
 adds_then G a b c xs ys us vs f g over trace k =
     subst (λ (o : List (Closed _)). Keeps G c o (trace ++ (xs ++ ys))) (append_assoc over us vs)
     (subst (λ (t : List Tagged). Keeps G c ((over ++ us) ++ vs) t) (append_assoc trace xs ys)
     (g (over ++ us) (trace ++ xs) (f over trace k)))
 
-pub adds_still : {L : Type 0} (G : LinkGhosts L) (a : Many L) → Adds G a [] [] a
+pub adds_still : {L : Type 0} (G : LinkGhosts L) (a : Connections L) → Adds G a [] [] a
 adds_still G a over trace k =
     subst (λ (o : List (Closed _)). Keeps G a o (trace ++ [])) (sym (append-nil over))
     (subst (λ (t : List Tagged). Keeps G a over t) (sym (append-nil trace)) k)
 
-pub stays_still : {L : Type 0} (place : ℕ) (m : Many L) → StaysAt place m m
+pub stays_still : {L : Type 0} (place : ℕ) (m : Connections L) → StaysAt place m m
 stays_still place m = (record { others = λ j other. refl; count = refl }, refl, refl)
 
-pub stood_still : {L : Type 0} (place : ℕ) (m : Many L) → StoodAt place m m
-stood_still place m c at = at
+pub existed_still : {L : Type 0} (place : ℕ) (m : Connections L) → ExistedAt place m m
+existed_still place m c at = at
 
--- Lines, one behind another.
+-- Lines, one after another.
 pub ends_then : {L O : Type 0} (out : Writer O) (n m : ℕ) (us vs : List (Closed L)) (o p q : O) →
-    m ≡ n + length us → TellsEnds out n us o p → TellsEnds out m vs p q → TellsEnds out n (us ++ vs) o q
+    m ≡ n + length us → ReportsEnds out n us o p → ReportsEnds out m vs p q → ReportsEnds out n (us ++ vs) o q
 ends_then out n m [] vs o p q e f g =
-    subst (λ (k : ℕ). TellsEnds out k vs o q) (omega (arith, e)) (subst (λ x. TellsEnds out m vs x q) f g)
+    subst (λ (k : ℕ). ReportsEnds out k vs o q) (omega (arith, e)) (subst (λ x. ReportsEnds out m vs x q) f g)
 ends_then out n m (u ∷ us) vs o p q e f g =
     (f.0, f.1, f.2, f.3, ends_then out (suc n) m us vs f.0 p q (omega (arith, e)) f.4 g)
 
-pub counts_then : {L O : Type 0} (out : Writer O) (a b c : Crowd L) (us vs : List (Closed L)) (o p q : O) →
-    Counts out a b us o p → Counts out b c vs p q → Counts out a c (us ++ vs) o q
+pub counts_then : {L O : Type 0} (out : Writer O) (a b c : EventLoop L) (us vs : List (Closed L)) (o p q : O) →
+    CountsEnds out a b us o p → CountsEnds out b c vs p q → CountsEnds out a c (us ++ vs) o q
 counts_then out a b c us vs o p q f g n e =
     let x = f n e in
     let y = g (n + length us) x.1 in (
@@ -82,56 +82,56 @@ counts_then out a b c us vs o p q f g n e =
     )
 
 -- none ended
-pub counts_none : {L O : Type 0} (out : Writer O) (a b : Crowd L) (o : O) → b.ended ≡ a.ended →
-    Counts out a b [] o o
+pub counts_none : {L O : Type 0} (out : Writer O) (a b : EventLoop L) (o : O) → b.ended ≡ a.ended →
+    CountsEnds out a b [] o o
 counts_none out a b o e n h = (refl, e ∙ (h ∙ ap up_to_last (omega arith)))
 
 -- it counts on from a step that ended none
-pub counts_on : {L O : Type 0} (out : Writer O) (a b c : Crowd L) (closed : List (Closed L)) (o p : O) →
-    b.ended ≡ a.ended → Counts out b c closed o p → Counts out a c closed o p
+pub counts_on : {L O : Type 0} (out : Writer O) (a b c : EventLoop L) (closed : List (Closed L)) (o p : O) →
+    b.ended ≡ a.ended → CountsEnds out b c closed o p → CountsEnds out a c closed o p
 counts_on out a b c closed o p same f n e = f n (same ∙ e)
 
 -- nothing happened, and then more stays as it was
-pub grows_still : {L : Type 0} (G : LinkGhosts L) (c : Crowd L) → Grows G c c
+pub grows_still : {L : Type 0} (G : LinkGhosts L) (c : EventLoop L) → Grows G c c
 grows_still G c = record {
-  adds = adds_still G c.many;
+  adds = adds_still G c.connections;
   places_are = refl;
-  seats_are = refl;
+  peer_slots_are = refl;
   counts = λ over trace k own. own;
   ended = refl;
 }
 
-pub grows_then : {L : Type 0} (G : LinkGhosts L) (a b c : Crowd L) → Grows G a b → Grows G b c → Grows G a c
+pub grows_then : {L : Type 0} (G : LinkGhosts L) (a b c : EventLoop L) → Grows G a b → Grows G b c → Grows G a c
 grows_then {L} G a b c f g = record {
-  adds = adds_then G a.many b.many c.many [] [] [] [] f.adds g.adds;
+  adds = adds_then G a.connections b.connections c.connections [] [] [] [] f.adds g.adds;
   places_are = g.places_are ∙ f.places_are;
-  seats_are = g.seats_are ∙ f.seats_are;
+  peer_slots_are = g.peer_slots_are ∙ f.peer_slots_are;
   counts = λ over trace k own. g.counts over trace
-      (subst (λ (o : List (Closed L)). Keeps G b.many o trace) (append-nil over)
-      (subst (λ (t : List Tagged). Keeps G b.many (over ++ []) t) (append-nil trace) (f.adds over trace k)))
+      (subst (λ (o : List (Closed L)). Keeps G b.connections o trace) (append-nil over)
+      (subst (λ (t : List Tagged). Keeps G b.connections (over ++ []) t) (append-nil trace) (f.adds over trace k)))
       (f.counts over trace k own);
   ended = g.ended ∙ f.ended;
 }
 
-pub grown_seats : {L : Type 0} (G : LinkGhosts L) (a b : Crowd L) → Grows G a b → HasSeats a → HasSeats b
-grown_seats G a b g seats = g.seats_are ∙ (seats ∙ sym g.places_are)
+pub grown_peer_slots : {L : Type 0} (G : LinkGhosts L) (a b : EventLoop L) → Grows G a b → HasPeerSlots a → HasPeerSlots b
+grown_peer_slots G a b g peer_slots = g.peer_slots_are ∙ (peer_slots ∙ sym g.places_are)
 
--- who may have bytes or room is told so
-pub stays_woken : {L : Type 0} (G : LinkGhosts L) (place : ℕ) (a b : Crowd L) → Adds G a.many [] [] b.many →
-    StoodUnder G place a.many b.many → StaysAt place a.many b.many → b.seats ≡ a.seats → b.ended ≡ a.ended → Stays G a b
-stays_woken G place a b adds stood stays seats ended = record {
+-- who may have bytes or room is reported so
+pub stays_woken : {L : Type 0} (G : LinkGhosts L) (place : ℕ) (a b : EventLoop L) → Adds G a.connections [] [] b.connections →
+    ExistedUnder G place a.connections b.connections → StaysAt place a.connections b.connections → b.peer_slots ≡ a.peer_slots → b.ended ≡ a.ended → KeepsEventLoop G a b
+stays_woken G place a b adds existed stays peer_slots ended = record {
   grows = record {
     adds = adds;
     places_are = stays.0.count;
-    seats_are = ap (λ s. vec_len s) seats;
-    counts = λ over trace k own. counts_stood G place a b trace seats stood stays.0 own;
+    peer_slots_are = ap (λ s. vec_len s) peer_slots;
+    counts = λ over trace k own. counts_existed G place a b trace peer_slots existed stays.0 own;
     ended = ended;
   };
   begun = stays.1;
   refused = stays.2;
 }
 
-pub stays_then : {L : Type 0} (G : LinkGhosts L) (a b c : Crowd L) → Stays G a b → Stays G b c → Stays G a c
+pub stays_then : {L : Type 0} (G : LinkGhosts L) (a b c : EventLoop L) → KeepsEventLoop G a b → KeepsEventLoop G b c → KeepsEventLoop G a c
 stays_then G a b c f g = record {
   grows = grows_then G a b c f.grows g.grows;
   begun = g.begun ∙ f.begun;
@@ -139,36 +139,36 @@ stays_then G a b c f g = record {
 }
 
 module _ {L S O E : Type 0} (G : LinkGhosts L) (answers : S → Frame → List Reply → S → Type 0) (out : Writer O)
-    (told : Writer E) (log : Bool) where
+    (reported : Writer E) (log : Bool) where
   -- nothing was answered, and nobody's connection ended
-  pub advances_grown : (links : List (Admission L)) (a b : Crowd L) (s : S) (o : O) (e : E) → Grows G a b →
-      HostsMore G a.many links [] b.many → Advances G answers out told log [] [] links a b s s o o e e
+  pub advances_grown : (links : List (Admission L)) (a b : EventLoop L) (s : S) (o : O) (e : E) → Grows G a b →
+      HostsMore G a.connections links [] b.connections → Advances G answers out reported log [] [] links a b s s o o e e
   advances_grown links a b s o e g hosts = record {
     by_server = refl;
     adds = g.adds;
     prints = counts_none out a b o g.ended;
-    tells = tells_none G told log a b e g;
+    reports = reports_none G reported log a b e g;
     hosts = hosts;
   }
 
   -- nothing happened
-  pub advances_none : (a : Crowd L) (s : S) (o : O) (e : E) →
-      Advances G answers out told log [] [] [] a a s s o o e e
-  advances_none a s o e = advances_grown [] a a s o e (grows_still G a) (hosts_more_still G a.many a.many []
-      (λ over trace links k h. subst (λ (l : List (Closed L)). HostsAll G a.many l links) (sym (append-nil over)) h))
+  pub advances_none : (a : EventLoop L) (s : S) (o : O) (e : E) →
+      Advances G answers out reported log [] [] [] a a s s o o e e
+  advances_none a s o e = advances_grown [] a a s o e (grows_still G a) (hosts_more_still G a.connections a.connections []
+      (λ over trace links k h. subst (λ (l : List (Closed L)). HostsAll G a.connections l links) (sym (append-nil over)) h))
 
-  pub advances_then : (a b c : Crowd L) (xs ys : List Tagged) (us vs : List (Closed L)) (ks ls : List (Admission L))
+  pub advances_then : (a b c : EventLoop L) (xs ys : List Tagged) (us vs : List (Closed L)) (ks ls : List (Admission L))
       (s t u : S) (o p q : O) (e f g : E) →
-      Advances G answers out told log xs us ks a b s t o p e f → Advances G answers out told log ys vs ls b c t u p q f g →
-      Advances G answers out told log (xs ++ ys) (us ++ vs) (ks ++ ls) a c s u o q e g
+      Advances G answers out reported log xs us ks a b s t o p e f → Advances G answers out reported log ys vs ls b c t u p q f g →
+      Advances G answers out reported log (xs ++ ys) (us ++ vs) (ks ++ ls) a c s u o q e g
   advances_then a b c xs ys us vs ks ls s t u o p q e f g x y = record {
     by_server = subst (λ (zs : List Answered). AnswersAll answers s zs u)
         (sym (map-append (λ (x : Tagged). x.1) xs ys))
         (answers_append answers (all_answered xs) (all_answered ys) s t u x.by_server y.by_server);
-    adds = adds_then G a.many b.many c.many xs ys us vs x.adds y.adds;
+    adds = adds_then G a.connections b.connections c.connections xs ys us vs x.adds y.adds;
     prints = counts_then out a b c us vs o p q x.prints y.prints;
-    tells = tells_then G told log a b c xs ys us vs e f g x.adds x.tells y.tells;
-    hosts = hosts_more_then G a.many b.many c.many ks ls us vs xs x.adds x.hosts y.hosts;
+    reports = reports_then G reported log a b c xs ys us vs e f g x.adds x.reports y.reports;
+    hosts = hosts_more_then G a.connections b.connections c.connections ks ls us vs xs x.adds x.hosts y.hosts;
   }
 
   answered_by : (n : ℕ) (xs : List Answered) → all_answered (tagged n xs) ≡ xs
@@ -176,54 +176,54 @@ module _ {L S O E : Type 0} (G : LinkGhosts L) (answers : S → Frame → List R
   answered_by n (x ∷ xs) = ap (λ (ys : List Answered). x ∷ ys) (answered_by n xs)
 
   -- what a quantum at a place adds
-  pub place_advances : (now idle place : ℕ) (a b : Crowd L) (s t : S) (o p : O) (e f : E)
-      (x : ServesPlace G answers out told log now idle place a b s t o p e f) →
-      Advances G answers out told log (tagged x.works.number x.works.answered) x.closed [] a b s t o p e f
+  pub place_advances : (now idle place : ℕ) (a b : EventLoop L) (s t : S) (o p : O) (e f : E)
+      (x : ServesPlace G answers out reported log now idle place a b s t o p e f) →
+      Advances G answers out reported log (tagged x.works.number x.works.answered) x.closed [] a b s t o p e f
   place_advances now idle place a b s t o p e f x = record {
     by_server = subst (λ (xs : List Answered). AnswersAll answers s xs t)
         (sym (answered_by x.works.number x.works.answered)) x.works.by_server;
     adds = x.adds;
     prints = x.prints;
-    tells = x.tells;
-    hosts = hosts_more_still G a.many b.many x.closed (λ over trace links k h.
-        hosts_served G place a.many b.many x.closed over trace (tagged x.works.number x.works.answered) links x.stays
-        x.stood x.whose k (x.adds over trace k) h);
+    reports = x.reports;
+    hosts = hosts_more_still G a.connections b.connections x.closed (λ over trace links k h.
+        hosts_served G place a.connections b.connections x.closed over trace (tagged x.works.number x.works.answered) links x.stays
+        x.existed x.whose k (x.adds over trace k) h);
   }
 
-  pub turn_more : (now idle n : ℕ) (a b c : Crowd L) (s t u : S) (o p q : O) (e f g : E) →
-      InTurn G answers out told log now idle n a b s t o p e f → ServesPlace G answers out told log now idle n b c t u p q f g →
-      InTurn G answers out told log now idle (n + 1) a c s u o q e g
+  pub turn_more : (now idle n : ℕ) (a b c : EventLoop L) (s t u : S) (o p q : O) (e f g : E) →
+      InTurn G answers out reported log now idle n a b s t o p e f → ServesPlace G answers out reported log now idle n b c t u p q f g →
+      InTurn G answers out reported log now idle (n + 1) a c s u o q e g
   turn_more now idle n a b c s t u o p q e f g x y =
       let next : suc n ≡ n + 1 = omega arith in
-      subst (λ (k : ℕ). InTurn G answers out told log now idle k a c s u o q e g) next (b, t, p, f, x, y)
+      subst (λ (k : ℕ). InTurn G answers out reported log now idle k a c s u o q e g) next (b, t, p, f, x, y)
 
   -- nobody is let in by quanta
-  pub turn_begun : (now idle n : ℕ) (a b : Crowd L) (s t : S) (o p : O) (e f : E) →
-      InTurn G answers out told log now idle n a b s t o p e f → begun_of b.many ≡ begun_of a.many
-  turn_begun now idle zero a b s t o p e f x = ap (λ (c : Crowd L). begun_of c.many) x.0
+  pub turn_begun : (now idle n : ℕ) (a b : EventLoop L) (s t : S) (o p : O) (e f : E) →
+      InTurn G answers out reported log now idle n a b s t o p e f → begun_of b.connections ≡ begun_of a.connections
+  turn_begun now idle zero a b s t o p e f x = ap (λ (c : EventLoop L). begun_of c.connections) x.0
   turn_begun now idle (suc n) a b s t o p e f x = x.5.stays.1 ∙ turn_begun now idle n a x.0 s x.1 o x.2 e x.3 x.4
 
-  -- and there are as many seats for as many places
-  pub turn_seats : (now idle n : ℕ) (a b : Crowd L) (s t : S) (o p : O) (e f : E) →
-      InTurn G answers out told log now idle n a b s t o p e f → HasSeats a → HasSeats b
-  turn_seats now idle zero a b s t o p e f x h = subst HasSeats (sym x.0) h
-  turn_seats now idle (suc n) a b s t o p e f x h =
-      x.5.seats_are ∙ (turn_seats now idle n a x.0 s x.1 o x.2 e x.3 x.4 h ∙ sym x.5.stays.0.count)
+  -- and there are as many slots for as many places
+  pub turn_peer_slots : (now idle n : ℕ) (a b : EventLoop L) (s t : S) (o p : O) (e f : E) →
+      InTurn G answers out reported log now idle n a b s t o p e f → HasPeerSlots a → HasPeerSlots b
+  turn_peer_slots now idle zero a b s t o p e f x h = subst HasPeerSlots (sym x.0) h
+  turn_peer_slots now idle (suc n) a b s t o p e f x h =
+      x.5.peer_slots_are ∙ (turn_peer_slots now idle n a x.0 s x.1 o x.2 e x.3 x.4 h ∙ sym x.5.stays.0.count)
 
   -- and what one at each of the first places adds
-  pub turn_advances : (now idle n : ℕ) (a b : Crowd L) (s t : S) (o p : O) (e f : E)
-      (x : InTurn G answers out told log now idle n a b s t o p e f) →
-      Advances G answers out told log (frames_in_turn G answers out told log now idle n a b s t o p e f x)
-      (ended_in_turn G answers out told log now idle n a b s t o p e f x) [] a b s t o p e f
+  pub turn_advances : (now idle n : ℕ) (a b : EventLoop L) (s t : S) (o p : O) (e f : E)
+      (x : InTurn G answers out reported log now idle n a b s t o p e f) →
+      Advances G answers out reported log (frames_in_turn G answers out reported log now idle n a b s t o p e f x)
+      (ended_in_turn G answers out reported log now idle n a b s t o p e f x) [] a b s t o p e f
   turn_advances now idle zero a b s t o p e f x =
-      subst (λ (c : Crowd L). Advances G answers out told log [] [] [] a c s t o p e f) (sym x.0)
-      (subst (λ (u : S). Advances G answers out told log [] [] [] a a s u o p e f) (sym x.1)
-      (subst (λ (q : O). Advances G answers out told log [] [] [] a a s s o q e f) (sym x.2)
-      (subst (λ (g : E). Advances G answers out told log [] [] [] a a s s o o e g) (sym x.3)
+      subst (λ (c : EventLoop L). Advances G answers out reported log [] [] [] a c s t o p e f) (sym x.0)
+      (subst (λ (u : S). Advances G answers out reported log [] [] [] a a s u o p e f) (sym x.1)
+      (subst (λ (q : O). Advances G answers out reported log [] [] [] a a s s o q e f) (sym x.2)
+      (subst (λ (g : E). Advances G answers out reported log [] [] [] a a s s o o e g) (sym x.3)
       (advances_none a s o e))))
   turn_advances now idle (suc n) a b s t o p e f x =
-      advances_then a x.0 b (frames_in_turn G answers out told log now idle n a x.0 s x.1 o x.2 e x.3 x.4)
+      advances_then a x.0 b (frames_in_turn G answers out reported log now idle n a x.0 s x.1 o x.2 e x.3 x.4)
       (tagged x.5.works.number x.5.works.answered)
-      (ended_in_turn G answers out told log now idle n a x.0 s x.1 o x.2 e x.3 x.4) x.5.closed [] []
+      (ended_in_turn G answers out reported log now idle n a x.0 s x.1 o x.2 e x.3 x.4) x.5.closed [] []
       s x.1 t o x.2 p e x.3 f (turn_advances now idle n a x.0 s x.1 o x.2 e x.3 x.4)
       (place_advances now idle n x.0 b x.1 t x.2 p x.3 f x.5)

@@ -11,26 +11,26 @@ use Rattle.bw_serve.specs.Names.{KeepsNamesApart, NamesStandApart}
 use Rattle.bw_console.specs.declared.exit.Exit.{Exit}
 use Rattle.bw_console.specs.declared.exit.Exit.TheVariants.{Done, Refused, Usage, Device, Memory}
 use Rattle.bw_ports.specs.declared.link.Link.{Ghosts as LinkGhosts}
-use Rattle.bw_serve.specs.HostedMany.{answered_in_crowd}
-use Rattle.bw_serve.specs.Serving.{ServesCrowd}
-use Rattle.bw_ports.specs.declared.lobby.Lobby.{Ghosts as LobbyGhosts}
+use Rattle.bw_serve.specs.HostedMany.{answered_in_loop}
+use Rattle.bw_serve.specs.Serving.{RunsEventLoop}
+use Rattle.bw_ports.specs.declared.reactor.Reactor.{Ghosts as ReactorGhosts}
 use Rattle.bw_serve.specs.declared.serving.Bounds.{Bounds}
 
-module _ {X Y B L O E : Type 0} (S : StoreGhosts X) (J : JournalGhosts Y) (lobby : LobbyGhosts B L) (link : LinkGhosts L)
-    (out : Writer O) (told : Writer E) (log : Bool) (law : NamesStandApart S J) where
+module _ {X Y B L O E : Type 0} (S : StoreGhosts X) (J : JournalGhosts Y) (reactor : ReactorGhosts B L) (link : LinkGhosts L)
+    (out : Writer O) (reported : Writer E) (log : Bool) (law : NamesStandApart S J) where
   -- a new server leaves the files of what it answered over all its connections
-  pub crowd_leaves : (limit : ℕ) (store : X) (old new : Server X Y S J) (bounds : Bounds) (exit : Exit) (b b' : B)
+  pub event_loop_leaves : (limit : ℕ) (store : X) (old new : Server X Y S J) (bounds : Bounds) (exit : Exit) (b b' : B)
       (o o' : O) (e e' : E) → old.stores.store ≡ store → old.limit ≡ limit → HoldsBook S J (S.contents store) old [] →
-      (run : ServesCrowd lobby link (ServerTurn S J) out told log bounds exit old new b b' o o' e e') → IsTrue (S.honest store) →
+      (run : RunsEventLoop reactor link (ServerTurn S J) out reported log bounds exit old new b b' o o' e e') → IsTrue (S.honest store) →
       KeepsNamesApart S J limit store new.stores.store
-      (answered_in_crowd lobby link (ServerTurn S J) out told log bounds exit old new b b' o o' e e' run)
-  crowd_leaves limit store old new bounds Done b b' o o' e e' begun limited empty run honest =
+      (answered_in_loop reactor link (ServerTurn S J) out reported log bounds exit old new b b' o o' e e' run)
+  event_loop_leaves limit store old new bounds Done b b' o o' e e' begun limited empty run honest =
       law limit store old new run.trace honest begun limited empty run.by_server
-  crowd_leaves limit store old new bounds Refused b b' o o' e e' begun limited empty run honest =
+  event_loop_leaves limit store old new bounds Refused b b' o o' e e' begun limited empty run honest =
       law limit store old new run.trace honest begun limited empty run.by_server
-  crowd_leaves limit store old new bounds Usage b b' o o' e e' begun limited empty run honest =
+  event_loop_leaves limit store old new bounds Usage b b' o o' e e' begun limited empty run honest =
       law limit store old new run.trace honest begun limited empty run.by_server
-  crowd_leaves limit store old new bounds Device b b' o o' e e' begun limited empty run honest =
+  event_loop_leaves limit store old new bounds Device b b' o o' e e' begun limited empty run honest =
       law limit store old new run.trace honest begun limited empty run.by_server
-  crowd_leaves limit store old new bounds Memory b b' o o' e e' begun limited empty run honest =
+  event_loop_leaves limit store old new bounds Memory b b' o o' e e' begun limited empty run honest =
       law limit store old new [] honest begun limited empty run.0

@@ -8,11 +8,11 @@ use Rattle.bw_stream.specs.declared.sink.Sink.{Ghosts as Writer}
 use Rattle.bw_stream.specs.declared.source.Source.{Ghosts as Reader}
 use Rattle.bw_console.specs.declared.exit.Exit.{Exit}
 use Rattle.bw_console.specs.declared.exit.Exit.TheVariants.{Done, Refused, Usage, Device, Memory}
-use Rattle.bw_serve.specs.ServedAll.{Outcome, Served, Gone, Closed, exit_now, ServesNext, ServesEach, ServesAll}
+use Rattle.bw_serve.specs.ServedAll.{ServedOutcome, Served, Gone, Closed, exit_now, ServesNext, ServesEach, ServesAll}
 use Rattle.bw_serve.specs.ServedAll.{EndsEarly, ServesRun}
 use Rattle.bw_ports.specs.declared.peers.Peers.{Ghosts as PeerGhosts}
 
-not_done : (x : Outcome) → exit_now x ≡ Some Done → ⊥
+not_done : (x : ServedOutcome) → exit_now x ≡ Some Done → ⊥
 not_done (Served Done) e = absurd (cc)
 not_done (Served Refused) e = absurd (cc)
 not_done (Served Usage) e = absurd (cc)
@@ -22,29 +22,29 @@ not_done Gone e = absurd (cc)
 not_done Closed e = absurd (cc)
 
 module _ {T P R W O E : Type 0} (answers : T → Frame → List Reply → T → Type 0) (peers : PeerGhosts P R W)
-    (reader : Reader R) (writer : Writer W) (out : Writer O) (told : Writer E) (log : Bool) where
+    (reader : Reader R) (writer : Writer W) (out : Writer O) (reported : Writer E) (log : Bool) where
   -- one peer more
-  each_more : (index : ℕ) (xs : List Outcome) (x : Outcome) (t m t' : T) (p q p' : P) (o n o' : O) (e f e' : E) →
-      ServesEach answers peers reader writer out told log index xs t m p q o n e f →
-      ServesNext answers peers reader writer out told log (index + length xs) x m t' q p' n o' f e' →
+  each_more : (index : ℕ) (xs : List ServedOutcome) (x : ServedOutcome) (t m t' : T) (p q p' : P) (o n o' : O) (e f e' : E) →
+      ServesEach answers peers reader writer out reported log index xs t m p q o n e f →
+      ServesNext answers peers reader writer out reported log (index + length xs) x m t' q p' n o' f e' →
       exit_now x ≡ None →
-      ServesEach answers peers reader writer out told log index (xs ++ x ∷ []) t t' p p' o o' e e'
+      ServesEach answers peers reader writer out reported log index (xs ++ x ∷ []) t t' p p' o o' e e'
   each_more index [] x t m t' p q p' o n o' e f e' each next goes = (
     t',
     p',
     o',
     e',
-    subst (λ (a : T). ServesNext answers peers reader writer out told log index x a t' p p' o o' e e') each.0
-        (subst (λ (b : P). ServesNext answers peers reader writer out told log index x m t' b p' o o' e e') each.1
-        (subst (λ (c : O). ServesNext answers peers reader writer out told log index x m t' q p' c o' e e') each.2
-        (subst (λ (d : E). ServesNext answers peers reader writer out told log index x m t' q p' n o' d e') each.3
-        (subst (λ (i : ℕ). ServesNext answers peers reader writer out told log i x m t' q p' n o' f e')
+    subst (λ (a : T). ServesNext answers peers reader writer out reported log index x a t' p p' o o' e e') each.0
+        (subst (λ (b : P). ServesNext answers peers reader writer out reported log index x m t' b p' o o' e e') each.1
+        (subst (λ (c : O). ServesNext answers peers reader writer out reported log index x m t' q p' c o' e e') each.2
+        (subst (λ (d : E). ServesNext answers peers reader writer out reported log index x m t' q p' n o' d e') each.3
+        (subst (λ (i : ℕ). ServesNext answers peers reader writer out reported log i x m t' q p' n o' f e')
         (omega (arith)) next)))),
     goes,
     (refl, refl, refl, refl),
   )
   each_more index (y ∷ ys) x t m t' p q p' o n o' e f e' each next goes =
-      let behind = subst (λ (i : ℕ). ServesNext answers peers reader writer out told log i x m t' q p' n o' f e')
+      let following = subst (λ (i : ℕ). ServesNext answers peers reader writer out reported log i x m t' q p' n o' f e')
       (omega (arith)) next in (
         each.0,
         each.1,
@@ -52,25 +52,25 @@ module _ {T P R W O E : Type 0} (answers : T → Frame → List Reply → T → 
         each.3,
         each.4,
         each.5,
-        each_more (suc index) ys x each.0 m t' each.1 q p' each.2 n o' each.3 f e' each.6 behind goes,
+        each_more (suc index) ys x each.0 m t' each.1 q p' each.2 n o' each.3 f e' each.6 following goes,
       )
 
-  pub run_more : (count : ℕ) (x : Outcome) (t m t' : T) (p q p' : P) (o n o' : O) (e f e' : E) →
-      ServesAll answers peers reader writer out told log count t m p q o n e f →
-      ServesNext answers peers reader writer out told log count x m t' q p' n o' f e' → exit_now x ≡ None →
-      ServesAll answers peers reader writer out told log (count + 1) t t' p p' o o' e e'
+  pub run_more : (count : ℕ) (x : ServedOutcome) (t m t' : T) (p q p' : P) (o n o' : O) (e f e' : E) →
+      ServesAll answers peers reader writer out reported log count t m p q o n e f →
+      ServesNext answers peers reader writer out reported log count x m t' q p' n o' f e' → exit_now x ≡ None →
+      ServesAll answers peers reader writer out reported log (count + 1) t t' p p' o o' e e'
   run_more count x t m t' p q p' o n o' e f e' all next goes = record {
     outcomes = all.outcomes ++ x ∷ [];
     all = let n = length-append all.outcomes (x ∷ []) in let e = all.all in omega (arith, n, e);
     each = each_more 0 all.outcomes x t m t' p q p' o n o' e f e' all.each
-        (subst (λ (i : ℕ). ServesNext answers peers reader writer out told log i x m t' q p' n o' f e')
+        (subst (λ (i : ℕ). ServesNext answers peers reader writer out reported log i x m t' q p' n o' f e')
         (let e = all.all in omega (arith, e)) next) goes;
   }
 
   -- a run that ends before its last exchange
   pub run_ends : (exchanges : ℕ) (exit : Exit) (t t' : T) (p p' : P) (o o' : O) (e e' : E) →
-      EndsEarly answers peers reader writer out told log exchanges exit t t' p p' o o' e e' →
-      ServesRun answers peers reader writer out told log exchanges exit t t' p p' o o' e e'
+      EndsEarly answers peers reader writer out reported log exchanges exit t t' p p' o o' e e' →
+      ServesRun answers peers reader writer out reported log exchanges exit t t' p p' o o' e e'
   run_ends exchanges Done t t' p p' o o' e e' ends = absurd (not_done ends.last ends.ends)
   run_ends exchanges Refused t t' p p' o o' e e' ends = ends
   run_ends exchanges Usage t t' p p' o o' e e' ends = ends

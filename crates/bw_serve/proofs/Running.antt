@@ -10,19 +10,19 @@ use Rattle.bw_exchange.specs.Answering.{Answered, AnswersAll}
 use Rattle.bw_exchange.proofs.Going.{answers_append}
 use Rattle.bw_console.specs.declared.exit.Exit.{Exit}
 use Rattle.bw_ports.specs.declared.link.Link.{Ghosts as LinkGhosts}
-use Rattle.bw_many.specs.declared.many.Closed.{Closed}
-use Rattle.bw_many.specs.Keeping.{Keeps, Tagged, all_answered}
-use Rattle.bw_many.specs.Places.{begun_of}
-use Rattle.bw_many.specs.Served.{EachIsServed}
+use Rattle.bw_connections.specs.declared.connections.Closed.{Closed}
+use Rattle.bw_connections.specs.Keeping.{Keeps, Tagged, all_answered}
+use Rattle.bw_connections.specs.Places.{begun_of}
+use Rattle.bw_connections.specs.Served.{EachIsServed}
 use Rattle.bw_exchange.specs.LinkCounts.{up_to_last}
-use Rattle.bw_serve.specs.Crowds.{Advances, CountsOwn, IsNew}
+use Rattle.bw_serve.specs.EventLoops.{Advances, CountsOwn, IsNew}
 use Rattle.bw_serve.specs.Rounds.{ServesInRounds, ServesRound, IsShut, ended_of_run, frames_of_run}
 use Rattle.bw_serve.specs.Admissions.{HostsAll}
-use Rattle.bw_ports.specs.Lobbies.{Admission}
-use Rattle.bw_serve.specs.Lines.{LogsEnds, TellsEnds}
+use Rattle.bw_ports.specs.Reactors.{Admission}
+use Rattle.bw_serve.specs.Lines.{LogsEnds, ReportsEnds}
 use Rattle.bw_serve.specs.Serving.{EndsAt, HasServed}
-use Rattle.bw_serve.specs.declared.crowd.Crowd.{Crowd}
-use Rattle.bw_ports.specs.declared.lobby.Lobby.{Ghosts as LobbyGhosts}
+use Rattle.bw_serve.specs.declared.event_loop.EventLoop.{EventLoop}
+use Rattle.bw_ports.specs.declared.reactor.Reactor.{Ghosts as ReactorGhosts}
 use Rattle.bw_serve.specs.declared.serving.Bounds.{Bounds}
 use Rattle.bw_serve.proofs.Counting.{logs_still, logs_then, logs_unasked}
 use Rattle.bw_serve.proofs.Admitting.{hosts_admitted_each, hosts_more, hosts_woken}
@@ -38,24 +38,24 @@ waited_more round waits below le = go (nat_lt waits (2 ^ 64 - 1)) refl
     go false e = (let all = ltb-false waits (2 ^ 64 - 1) e in omega (arith, below, all))
 
 -- as many have ended as were asked for
-pub all_ended : {L : Type 0} (exchanges : ℕ) (c : Crowd L) (over : List (Closed L)) → c.ended ≡ up_to_last (length over) →
+pub all_ended : {L : Type 0} (exchanges : ℕ) (c : EventLoop L) (over : List (Closed L)) → c.ended ≡ up_to_last (length over) →
     exchanges ≤ c.ended → exchanges ≤ length over
 all_ended exchanges c over is all = omega (arith, is, all)
 
 module _ {L S O E : Type 0} (G : LinkGhosts L) (answers : S → Frame → List Reply → S → Type 0) (out : Writer O)
-    (told : Writer E) (log : Bool) where
+    (reported : Writer E) (log : Bool) where
   -- what a run has come to
-  pub record SoFar (trace : List Tagged) (over : List (Closed L)) (links : List (Admission L)) (c : Crowd L) (s s' : S)
+  pub record SoFar (trace : List Tagged) (over : List (Closed L)) (links : List (Admission L)) (c : EventLoop L) (s s' : S)
       (o o' : O) (e e' : E) : Type 0 where
     pub by_server : AnswersAll answers s (all_answered trace) s'
-    pub keeps : Keeps G c.many over trace
+    pub keeps : Keeps G c.connections over trace
     pub counts : CountsOwn G c trace
-    pub printed : TellsEnds out 0 over o o'
-    pub logged : LogsEnds G told log trace over e e'
+    pub printed : ReportsEnds out 0 over o o'
+    pub logged : LogsEnds G reported log trace over e e'
     pub ended : c.ended ≡ up_to_last (length over)
-    pub hosts : HostsAll G c.many over links
+    pub hosts : HostsAll G c.connections over links
 
-  pub none_so_far : (places : ℕ) (c : Crowd L) (s : S) (o : O) (e : E) → IsNew G places c →
+  pub none_so_far : (places : ℕ) (c : EventLoop L) (s : S) (o : O) (e : E) → IsNew G places c →
       SoFar [] [] [] c s s o o e e
   none_so_far places c s o e n = record {
     by_server = refl;
@@ -67,67 +67,67 @@ module _ {L S O E : Type 0} (G : LinkGhosts L) (answers : S → Frame → List R
     hosts = (n.begun, n.refused);
   }
 
-  pub more_so_far : (trace more : List Tagged) (over closed : List (Closed L)) (links came : List (Admission L))
-      (c d : Crowd L) (s t u : S) (o p q : O) (e f g : E) → SoFar trace over links c s t o p e f →
-      Advances G answers out told log more closed came c d t u p q f g →
-      SoFar (trace ++ more) (over ++ closed) (links ++ came) d s u o q e g
-  more_so_far trace more over closed links came c d s t u o p q e f g x y =
+  pub more_so_far : (trace more : List Tagged) (over closed : List (Closed L)) (links received : List (Admission L))
+      (c d : EventLoop L) (s t u : S) (o p q : O) (e f g : E) → SoFar trace over links c s t o p e f →
+      Advances G answers out reported log more closed received c d t u p q f g →
+      SoFar (trace ++ more) (over ++ closed) (links ++ received) d s u o q e g
+  more_so_far trace more over closed links received c d s t u o p q e f g x y =
       let prints = y.prints (length over) x.ended in
-      let tells = y.tells over trace x.keeps x.counts in
+      let reports = y.reports over trace x.keeps x.counts in
       record {
         by_server = subst (λ (xs : List Answered). AnswersAll answers s xs u)
             (sym (map-append (λ (x : Tagged). x.1) trace more))
             (answers_append answers (all_answered trace) (all_answered more) s t u x.by_server y.by_server);
         keeps = y.adds over trace x.keeps;
-        counts = tells.0;
+        counts = reports.0;
         printed = ends_then out 0 (length over) over closed o p q (omega arith) x.printed prints.0;
-        logged = logs_then G told log over closed (trace ++ more) e f g
-            (logs_still G told log over trace more e f tells.2 x.logged) tells.1;
+        logged = logs_then G reported log over closed (trace ++ more) e f g
+            (logs_still G reported log over trace more e f reports.2 x.logged) reports.1;
         ended = prints.1 ∙ ap up_to_last (sym (length-append over closed));
         hosts = y.hosts over trace links x.keeps x.hosts;
       }
 
-module _ {B L S O E : Type 0} (lobby : LobbyGhosts B L) (G : LinkGhosts L)
-    (answers : S → Frame → List Reply → S → Type 0) (out : Writer O) (told : Writer E) (log : Bool) where
-  -- what rounds have come to, one behind another
-  pub record Runs (places idle exchanges : ℕ) (c : Crowd L) (s s' : S) (b b' : B) (o o' : O) (e e' : E)
+module _ {B L S O E : Type 0} (reactor : ReactorGhosts B L) (G : LinkGhosts L)
+    (answers : S → Frame → List Reply → S → Type 0) (out : Writer O) (reported : Writer E) (log : Bool) where
+  -- what rounds have come to, one after another
+  pub record Runs (places idle exchanges : ℕ) (c : EventLoop L) (s s' : S) (b b' : B) (o o' : O) (e e' : E)
       : Type 0 where
-    pub rounds : ServesInRounds lobby G answers out told log places idle exchanges c s s' b b' o o' e e'
+    pub rounds : ServesInRounds reactor G answers out reported log places idle exchanges c s s' b b' o o' e e'
     pub links : List (Admission L)
-    pub gave : (xs : List (Admission L)) → lobby.admitted b xs → lobby.admitted b' (xs ++ links)
-    pub so_far : SoFar G answers out told log
-        (frames_of_run lobby G answers out told log places idle exchanges c s s' b b' o o' e e' rounds)
-        (ended_of_run lobby G answers out told log places idle exchanges c s s' b b' o o' e e' rounds) links c s s' o o'
+    pub gave : (xs : List (Admission L)) → reactor.admitted b xs → reactor.admitted b' (xs ++ links)
+    pub so_far : SoFar G answers out reported log
+        (frames_of_run reactor G answers out reported log places idle exchanges c s s' b b' o o' e e' rounds)
+        (ended_of_run reactor G answers out reported log places idle exchanges c s s' b b' o o' e e' rounds) links c s s' o o'
         e e'
 
   -- no round yet
-  pub runs_none : (places idle exchanges : ℕ) (c : Crowd L) (s : S) (b : B) (o : O) (e : E) → IsNew G places c →
+  pub runs_none : (places idle exchanges : ℕ) (c : EventLoop L) (s : S) (b : B) (o : O) (e : E) → IsNew G places c →
       Runs places idle exchanges c s s b b o o e e
   unfolding no_rounds
   runs_none places idle exchanges c s b o e n = record {
-    rounds = no_rounds lobby G answers out told log places idle exchanges c s b o e n;
+    rounds = no_rounds reactor G answers out reported log places idle exchanges c s b o e n;
     links = [];
-    gave = λ xs was. subst (lobby.admitted b) (sym (append-nil xs)) was;
-    so_far = none_so_far G answers out told log places c s o e n;
+    gave = λ xs was. subst (reactor.admitted b) (sym (append-nil xs)) was;
+    so_far = none_so_far G answers out reported log places c s o e n;
   }
 
   -- one round more
-  pub runs_more : (places idle exchanges : ℕ) (a b : Crowd L) (s t u : S) (x y z : B) (o p q : O) (e f g : E) →
+  pub runs_more : (places idle exchanges : ℕ) (a b : EventLoop L) (s t u : S) (x y z : B) (o p q : O) (e f g : E) →
       Runs places idle exchanges a s t x y o p e f → a.ended < exchanges →
-      ServesRound lobby G answers out told log idle exchanges a b t u y z p q f g →
+      ServesRound reactor G answers out reported log idle exchanges a b t u y z p q f g →
       Runs places idle exchanges b s u x z o q e g
   unfolding rounds_more
   runs_more places idle exchanges a b s t u x y z o p q e f g r few w = record {
-    rounds = rounds_more lobby G answers out told log places idle exchanges a b s t u x y z o p q e f g r.rounds few w;
+    rounds = rounds_more reactor G answers out reported log places idle exchanges a b s t u x y z o p q e f g r.rounds few w;
     links = r.links ++ w.welcomes.links;
-    gave = λ xs was. subst (lobby.admitted z) (append_assoc xs r.links w.welcomes.links)
+    gave = λ xs was. subst (reactor.admitted z) (append_assoc xs r.links w.welcomes.links)
         (w.welcomes.gave (xs ++ r.links) (r.gave xs was));
-    so_far = more_so_far G answers out told log _ _ _ _ r.links w.welcomes.links a b s t u o p q e f g r.so_far
-        (round_advances lobby G answers out told log idle exchanges a b t u y z p q f g w);
+    so_far = more_so_far G answers out reported log _ _ _ _ r.links w.welcomes.links a b s t u o p q e f g r.so_far
+        (round_advances reactor G answers out reported log idle exchanges a b t u y z p q f g w);
   }
 
   -- nothing else was done
-  runs_still : (places idle exchanges : ℕ) (c : Crowd L) (s t u : S) (b b' : B) (o p q : O) (e f g : E) →
+  runs_still : (places idle exchanges : ℕ) (c : EventLoop L) (s t u : S) (b b' : B) (o p q : O) (e f g : E) →
       Runs places idle exchanges c s t b b' o p e f → u ≡ t → q ≡ p → g ≡ f →
       Runs places idle exchanges c s u b b' o q e g
   runs_still places idle n c s t u b b' o p q e f g r server printed logged =
@@ -136,73 +136,73 @@ module _ {B L S O E : Type 0} (lobby : LobbyGhosts B L) (G : LinkGhosts L)
       (subst (λ (h : E). Runs places idle n c s t b b' o p e h) (sym logged) r))
 
   -- it ends so
-  pub runs_over : EachIsServed G → (bounds : Bounds) (exit : Exit) (c : Crowd L) (s s' : S) (b b' : B) (o o' : O)
+  pub runs_over : EachIsServed G → (bounds : Bounds) (exit : Exit) (c : EventLoop L) (s s' : S) (b b' : B) (o o' : O)
       (e e' : E) (r : Runs bounds.places bounds.idle bounds.exchanges c s s' b b' o o' e e') →
-      begun_of c.many ≤ bounds.exchanges → ((over : List (Closed L)) → c.ended ≡ up_to_last (length over) →
-      EndsAt lobby exit bounds.exchanges (length over) b b') →
-      HasServed lobby G answers out told log bounds exit s s' b b' o o' e e'
+      begun_of c.connections ≤ bounds.exchanges → ((over : List (Closed L)) → c.ended ≡ up_to_last (length over) →
+      EndsAt reactor exit bounds.exchanges (length over) b b') →
+      HasServed reactor G answers out reported log bounds exit s s' b b' o o' e e'
   runs_over law bounds exit c s s' b b' o o' e e' r most ends = record {
-    behind = c;
-    lobby_behind = b';
+    following = c;
+    reactor_after = b';
     in_rounds = r.rounds;
-    trace = frames_of_run lobby G answers out told log bounds.places bounds.idle bounds.exchanges c s s' b b' o o' e e'
+    trace = frames_of_run reactor G answers out reported log bounds.places bounds.idle bounds.exchanges c s s' b b' o o' e e'
         r.rounds;
     taken = refl;
     by_server = r.so_far.by_server;
-    over = ended_of_run lobby G answers out told log bounds.places bounds.idle bounds.exchanges c s s' b b' o o' e e'
+    over = ended_of_run reactor G answers out reported log bounds.places bounds.idle bounds.exchanges c s s' b b' o o' e e'
         r.rounds;
     are_over = refl;
-    crowd = c;
+    event_loop = c;
     last = grows_still G c;
     links = r.links;
     gave = r.gave;
     hosts = r.so_far.hosts;
-    each = law c.many _ _ r.so_far.keeps;
+    each = law c.connections _ _ r.so_far.keeps;
     most = most;
     printed = r.so_far.printed;
     logged = r.so_far.logged;
-    unasked = λ no. logs_unasked G told log _ _ e e' no r.so_far.logged;
+    unasked = λ no. logs_unasked G reported log _ _ e e' no r.so_far.logged;
     ends = ends _ r.so_far.ended;
   }
 
   -- .. where no more are let in
-  pub runs_shut : EachIsServed G → (bounds : Bounds) (exit : Exit) (c d : Crowd L) (s t u : S) (b x y : B) (o p q : O)
+  pub runs_shut : EachIsServed G → (bounds : Bounds) (exit : Exit) (c d : EventLoop L) (s t u : S) (b x y : B) (o p q : O)
       (e f g : E) → Runs bounds.places bounds.idle bounds.exchanges c s t b x o p e f →
-      IsShut lobby G c d t u x y p q f g → begun_of d.many ≤ bounds.exchanges →
-      ((over : List (Closed L)) → EndsAt lobby exit bounds.exchanges (length over) b y) →
-      HasServed lobby G answers out told log bounds exit s u b y o q e g
+      IsShut reactor G c d t u x y p q f g → begun_of d.connections ≤ bounds.exchanges →
+      ((over : List (Closed L)) → EndsAt reactor exit bounds.exchanges (length over) b y) →
+      HasServed reactor G answers out reported log bounds exit s u b y o q e g
   runs_shut law bounds exit c d s t u b x y o p q e f g before shut most ends =
       let r = runs_still bounds.places bounds.idle bounds.exchanges c s t u b x o p q e f g before shut.server shut.printed
       shut.logged in
-      let trace = frames_of_run lobby G answers out told log bounds.places bounds.idle bounds.exchanges c s u b x o q e g
+      let trace = frames_of_run reactor G answers out reported log bounds.places bounds.idle bounds.exchanges c s u b x o q e g
       r.rounds in
-      let over = ended_of_run lobby G answers out told log bounds.places bounds.idle bounds.exchanges c s u b x o q e g
+      let over = ended_of_run reactor G answers out reported log bounds.places bounds.idle bounds.exchanges c s u b x o q e g
       r.rounds in
-      let came = shut.welcomes.links in
+      let received = shut.welcomes.links in
       let grows = grows_then G c shut.noticed d shut.notices.grows shut.grows in
-      let now = more_so_far G answers out told log trace [] over [] r.links came c d s u u o q q e g g r.so_far
-      (advances_grown G answers out told log came c d u q g grows (hosts_more G c.many d.many came (λ over links h.
-      hosts_admitted_each G shut.now came shut.noticed d over links shut.welcomes.admits
-      (hosts_woken G shut.told c shut.noticed over links shut.notices.begun shut.notices.refused shut.wakes h)))) in
+      let now = more_so_far G answers out reported log trace [] over [] r.links received c d s u u o q q e g g r.so_far
+      (advances_grown G answers out reported log received c d u q g grows (hosts_more G c.connections d.connections received (λ over links h.
+      hosts_admitted_each G shut.now received shut.noticed d over links shut.welcomes.admits
+      (hosts_woken G shut.reported c shut.noticed over links shut.notices.begun shut.notices.refused shut.wakes h)))) in
       record {
-        behind = c;
-        lobby_behind = x;
+        following = c;
+        reactor_after = x;
         in_rounds = r.rounds;
         trace = trace ++ [];
         taken = append-nil trace;
         by_server = now.by_server;
         over = over ++ [];
         are_over = append-nil over;
-        crowd = d;
+        event_loop = d;
         last = grows;
-        links = r.links ++ came;
-        gave = λ xs was. subst (lobby.admitted y) (append_assoc xs r.links came)
+        links = r.links ++ received;
+        gave = λ xs was. subst (reactor.admitted y) (append_assoc xs r.links received)
             (shut.welcomes.gave (xs ++ r.links) (r.gave xs was));
         hosts = now.hosts;
-        each = law d.many (over ++ []) (trace ++ []) now.keeps;
+        each = law d.connections (over ++ []) (trace ++ []) now.keeps;
         most = most;
         printed = now.printed;
         logged = now.logged;
-        unasked = λ no. logs_unasked G told log (over ++ []) (trace ++ []) e g no now.logged;
+        unasked = λ no. logs_unasked G reported log (over ++ []) (trace ++ []) e g no now.logged;
         ends = ends (over ++ []);
       }

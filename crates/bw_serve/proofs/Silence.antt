@@ -5,33 +5,33 @@ use Rattle.std.proofs.lemmas.Bool.{ltb-true}
 use Rattle.bw_exchange.specs.Answering.{Answered}
 use Rattle.bw_exchange.specs.declared.serving.ExchangeEnd.{ExchangeEnd}
 use Rattle.bw_exchange.specs.declared.serving.ExchangeEnd.TheVariants as ends
-use Rattle.bw_many.specs.declared.connection.Connection.{Connection}
-use Rattle.bw_many.specs.declared.connection.ConnectionEnd.{ConnectionEnd}
-use Rattle.bw_many.specs.declared.connection.ConnectionEnd.TheVariants.{Idle, Over}
-use Rattle.bw_many.specs.declared.connection.Phase.{Phase}
-use Rattle.bw_many.specs.declared.connection.Phase.TheVariants as phases
-use Rattle.bw_many.specs.declared.many.Closed.{Closed}
-use Rattle.bw_many.specs.declared.many.Many.{Many}
-use Rattle.bw_many.specs.Keeping.{StandsAt}
-use Rattle.bw_many.specs.Lives.{IsNoSilence, expired_at, expired_by, longest_drain, quiet_since}
-use Rattle.bw_many.specs.Places.{end_told, expired_there}
-use Rattle.bw_many.proofs.Standing.{not_some}
+use Rattle.bw_connections.specs.declared.connection.Connection.{Connection}
+use Rattle.bw_connections.specs.declared.connection.ConnectionEnd.{ConnectionEnd}
+use Rattle.bw_connections.specs.declared.connection.ConnectionEnd.TheVariants.{Idle, Over}
+use Rattle.bw_connections.specs.declared.connection.Phase.{Phase}
+use Rattle.bw_connections.specs.declared.connection.Phase.TheVariants as phases
+use Rattle.bw_connections.specs.declared.connections.Closed.{Closed}
+use Rattle.bw_connections.specs.declared.connections.Connections.{Connections}
+use Rattle.bw_connections.specs.Keeping.{HoldsConnectionAt}
+use Rattle.bw_connections.specs.Lives.{IsNoSilence, expired_at, expired_by, longest_drain, quiet_since}
+use Rattle.bw_connections.specs.Places.{end_of_connection, expired_there}
+use Rattle.bw_connections.proofs.Standing.{not_some}
 use Rattle.bw_serve.proofs.Quanta.{expired_stands}
 
 -- what is looked at is the connection that stands there
-expired_is : {L : Type 0} (now idle place : ℕ) (m : Many L) (d : Connection L) → StandsAt m place d →
+expired_is : {L : Type 0} (now idle place : ℕ) (m : Connections L) (d : Connection L) → HoldsConnectionAt m place d →
     expired_there now idle m place ≡ expired_at now idle d
 expired_is now idle place m d at = rw at refl
 
--- one that stands behind it isn't quiet for too long
-pub not_expired : {L : Type 0} (now idle place : ℕ) (m : Many L) → end_told {L = L} None ≡ expired_there now idle m place →
-    (d : Connection L) → StandsAt m place d → expired_at now idle d ≡ None
+-- one that stands after it isn't quiet for too long
+pub not_expired : {L : Type 0} (now idle place : ℕ) (m : Connections L) → end_of_connection {L = L} None ≡ expired_there now idle m place →
+    (d : Connection L) → HoldsConnectionAt m place d → expired_at now idle d ≡ None
 not_expired now idle place m is d at = sym (is ∙ expired_is now idle place m d at)
 
 not_over : (end : ExchangeEnd) → Some Idle ≡ Some (Over end) → ⊥
 not_over end e = cc
 
--- only one that is served ends for its silence, and only behind so long
+-- only one that is served ends for its silence, and only after so long
 idle_by : (p : Phase) (idle quiet : ℕ) → Some Idle ≡ expired_by p idle quiet → (p ≡ phases.Serving) × (idle < quiet)
 idle_by phases.Serving idle quiet is = go (nat_lt idle quiet) refl
   where
@@ -53,11 +53,11 @@ quiet_for : (now since idle : ℕ) (p : Phase) (answered : List Answered) →
 quiet_for now since idle p [] long = (refl, long)
 quiet_for now since idle p (x ∷ xs) long = absurd (omega (arith, long))
 
-pub silent_long : {L : Type 0} (now idle place : ℕ) (a mid : Many L) (y : Closed L) (answered : List Answered) →
-    ((d c : Connection L) → StandsAt a place d → StandsAt mid place c →
+pub silent_long : {L : Type 0} (now idle place : ℕ) (a mid : Connections L) (y : Closed L) (answered : List Answered) →
+    ((d c : Connection L) → HoldsConnectionAt a place d → HoldsConnectionAt mid place c →
     c.since ≡ quiet_since now d.since d.phase c.phase answered) →
-    end_told (Some y) ≡ expired_there now idle mid place → y.end ≡ Idle →
-    (d : Connection L) → StandsAt a place d → (answered ≡ []) × (idle < now - d.since)
+    end_of_connection (Some y) ≡ expired_there now idle mid place → y.end ≡ Idle →
+    (d : Connection L) → HoldsConnectionAt a place d → (answered ≡ []) × (idle < now - d.since)
 silent_long {L} now idle place a mid y answered since is idles d at =
     let x = expired_stands now idle place mid y is in
     let by = idle_by x.0.phase idle (now - x.0.since)

@@ -14,7 +14,7 @@ use Rattle.bw_session.specs.Books.{HoldsBook}
 use Rattle.bw_session.specs.declared.server.Server.{Server}
 use Rattle.bw_engine.specs.Ingesting.{LeavesRun}
 use Rattle.bw_session.specs.ServerTurns.{ServerTurn}
-use Rattle.bw_console.specs.Deeds.{Deed, IsWant}
+use Rattle.bw_console.specs.Outcomes.{Outcome, IsOutOfMemory}
 use Rattle.bw_console.specs.Faults.{exit_on, input_fault_text}
 use Rattle.bw_console.specs.Openings.{IsUnopened}
 use Rattle.bw_console.specs.Printing.{HasPrinted, HasStopped, IsOf, IsPrint, Print}
@@ -32,75 +32,75 @@ use Rattle.bw_ports.specs.declared.peers.Peers.{Ghosts as PeerGhosts}
 abbrev pub listening_line : SocketAddr → List ℕ
 listening_line address = as_line (codes "listening " ++ socket_text address)
 
--- what is told where no more peers are let in
+-- what is reported where no more peers are let in
 abbrev pub gone_line : List ℕ
 gone_line = as_line (codes "the server can't go on: its folder is gone, or nothing can be waited for")
 
--- this fault's line is told, and the command ends so
-pub record GivesUp {E : Type 0} (told : Writer E) (fault : Fault) (exit : Exit) (e e' : E)
+-- this fault's line is reported, and the command ends so
+pub record GivesUp {E : Type 0} (reported : Writer E) (fault : Fault) (exit : Exit) (e e' : E)
     : Type 0 where
   pub exit_is : exit ≡ exit_on fault
   pub print : Print
   pub line : IsOf (as_line (input_fault_text fault)) print
-  pub tells : IsPrint told print e e'
+  pub reports : IsPrint reported print e e'
 
--- it is told that no more peers are let in
-pub record TellsGone {E : Type 0} (told : Writer E) (exit : Exit) (e e' : E) : Type 0 where
+-- it is reported that no more peers are let in
+pub record ReportsGone {E : Type 0} (reported : Writer E) (exit : Exit) (e e' : E) : Type 0 where
   pub exit_is : exit ≡ exits.Device
   pub print : Print
   pub line : IsOf gone_line print
-  pub tells : IsPrint told print e e'
+  pub reports : IsPrint reported print e e'
 
--- what is told of a run that ended so, and how the command ends
-abbrev pub TellsEnd : {E : Type 0} → Writer E → Exit → Exit → E → E → Type 0
-TellsEnd told exits.Done exit e e' = (exit ≡ exits.Done) × (e' ≡ e)
-TellsEnd told exits.Memory exit e e' = GivesUp told faults.Memory exit e e'
-TellsEnd told _ exit e e' = TellsGone told exit e e'
+-- what is reported of a run that ended so, and how the command ends
+abbrev pub ReportsExit : {E : Type 0} → Writer E → Exit → Exit → E → E → Type 0
+ReportsExit reported exits.Done exit e e' = (exit ≡ exits.Done) × (e' ≡ e)
+ReportsExit reported exits.Memory exit e e' = GivesUp reported faults.Memory exit e e'
+ReportsExit reported _ exit e e' = ReportsGone reported exit e e'
 
--- it is told that what is named so can't be opened, for an error of this kind, and the command ends
+-- it is reported that what is named so can't be opened, for an error of this kind, and the command ends
 -- so
-pub record TellsUnopened {E : Type 0} (told : Writer E) (what : List ℕ) (kind : ErrorKind)
+pub record ReportsUnopened {E : Type 0} (reported : Writer E) (what : List ℕ) (kind : ErrorKind)
     (exit : Exit) (e e' : E) : Type 0 where
-  pub did : Deed
+  pub did : Outcome
   pub ends : did.exit ≡ exit
-  pub is : IsUnopened what kind did ⊎ IsWant did
-  pub tells : IsPrint told did.faults e e'
+  pub is : IsUnopened what kind did ⊎ IsOutOfMemory did
+  pub reports : IsPrint reported did.faults e e'
 
 module _ {X Y P R W O E : Type 0} (S : StoreGhosts X) (J : JournalGhosts Y)
     (peers : PeerGhosts P R W) (reader : Reader R) (writer : Writer W) (out : Writer O)
-    (told : Writer E) where
-  -- a new server over this store served its exchanges, behind its first line
+    (reported : Writer E) where
+  -- a new server over this store served its exchanges, after its first line
   pub record HostsRun (serving : Serving) (exit : Exit) (store : X) (p p' : P) (o o' : O)
       (e e' : E) : Type 0 where
     pub server : Server X Y S J
     pub store_is : server.stores.store ≡ store
     pub limit_is : server.limit ≡ serving.limit
     pub new : HoldsBook S J (S.contents store) server []
-    pub behind : Server X Y S J
+    pub following : Server X Y S J
     pub between : O
     pub listens : HasPrinted out (listening_line serving.address) o between
     pub ended : Exit
     pub logged : E
-    pub run : ServesRun (ServerTurn S J) peers reader writer out told serving.log serving.exchanges
-        ended server behind p p' between o' e logged
+    pub run : ServesRun (ServerTurn S J) peers reader writer out reported serving.log serving.exchanges
+        ended server following p p' between o' e logged
     -- an honest store has the files of what was answered
     pub leaves : IsTrue (S.honest store) → LeavesRun S serving.limit store
-        (answered_in_run (ServerTurn S J) peers reader writer out told serving.log
-        serving.exchanges ended server behind p p' between o' e logged run) behind.stores.store
-    pub tells : TellsEnd told ended exit logged e'
+        (answered_in_run (ServerTurn S J) peers reader writer out reported serving.log
+        serving.exchanges ended server following p p' between o' e logged run) following.stores.store
+    pub reports : ReportsExit reported ended exit logged e'
 
   -- memory was refused before the first line
   pub record WantsFirst (exit : Exit) (p p' : P) (o o' : O) (e e' : E) : Type 0 where
     pub peers_are : p' ≡ p
     pub printed : o' ≡ o
-    pub tells : GivesUp told faults.Memory exit e e'
+    pub reports : GivesUp reported faults.Memory exit e e'
 
   -- the first line can't be written, and nothing is served
   pub record CantListen (serving : Serving) (exit : Exit) (p p' : P) (o o' : O) (e e' : E)
       : Type 0 where
     pub peers_are : p' ≡ p
     pub printed : HasStopped out (listening_line serving.address) o o'
-    pub tells : GivesUp told faults.Unwritable exit e e'
+    pub reports : GivesUp reported faults.Unwritable exit e e'
 
   -- what comes of a server over this store
   abbrev pub HostsOver : Serving → Exit → X → P → P → O → O → E → E → Type 0
@@ -116,7 +116,7 @@ module _ {X Y P R W O E : Type 0} (S : StoreGhosts X) (J : JournalGhosts Y)
       pub refused : network.stores n serving.folder.now (Err error) n'
       pub counted : network.failures n' ≡ one_more (network.failures n)
       pub printed : o' ≡ o
-      pub tells : TellsUnopened told serving.folder.now (error_kind error) exit e e'
+      pub reports : ReportsUnopened reported serving.folder.now (error_kind error) exit e e'
 
     -- the folder can be used, and the address can't: nothing is printed
     pub record CantBind (serving : Serving) (exit : Exit) (n n' : N) (o o' : O) (e e' : E)
@@ -129,7 +129,7 @@ module _ {X Y P R W O E : Type 0} (S : StoreGhosts X) (J : JournalGhosts Y)
           (Err error) n'
       pub counted : network.failures n' ≡ one_more (network.failures n)
       pub printed : o' ≡ o
-      pub tells : TellsUnopened told (socket_text serving.address) (error_kind error) exit e e'
+      pub reports : ReportsUnopened reported (socket_text serving.address) (error_kind error) exit e e'
 
     -- both are there, and a server is over them
     pub record HostsAt (serving : Serving) (exit : Exit) (n n' : N) (o o' : O) (e e' : E)

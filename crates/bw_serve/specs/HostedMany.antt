@@ -18,73 +18,73 @@ use Rattle.bw_console.specs.declared.exit.Exit.{Exit}
 use Rattle.bw_console.specs.declared.exit.Exit.TheVariants.{Done, Refused, Usage, Device, Memory}
 use Rattle.bw_console.specs.declared.fault.Fault.TheVariants as faults
 use Rattle.bw_ports.specs.declared.link.Link.{Ghosts as LinkGhosts}
-use Rattle.bw_many.specs.Keeping.{all_answered}
+use Rattle.bw_connections.specs.Keeping.{all_answered}
 use Rattle.bw_serve.specs.Names.{KeepsNamesApart}
-use Rattle.bw_serve.specs.Hosted.{GivesUp, TellsEnd, TellsUnopened, listening_line}
+use Rattle.bw_serve.specs.Hosted.{GivesUp, ReportsExit, ReportsUnopened, listening_line}
 use Rattle.bw_ports.specs.declared.network.Network.{Ghosts as NetworkGhosts}
-use Rattle.bw_serve.specs.Serving.{ServesCrowd}
-use Rattle.bw_ports.specs.declared.gathering.Gathering.{Ghosts as GatheringGhosts}
+use Rattle.bw_serve.specs.Serving.{RunsEventLoop}
+use Rattle.bw_ports.specs.declared.listener_setup.ListenerSetup.{Ghosts as ListenerSetupGhosts}
 use Rattle.bw_serve.specs.declared.hosting.Hosting.{Hosting}
-use Rattle.bw_ports.specs.declared.lobby.Lobby.{Ghosts as LobbyGhosts}
+use Rattle.bw_ports.specs.declared.reactor.Reactor.{Ghosts as ReactorGhosts}
 use Rattle.bw_serve.specs.declared.serving.Bounds.{Bounds}
 
-module _ {B L T O E : Type 0} (lobby : LobbyGhosts B L) (link : LinkGhosts L)
-    (answers : T → Frame → List Reply → T → Type 0) (out : Writer O) (told : Writer E)
+module _ {B L T O E : Type 0} (reactor : ReactorGhosts B L) (link : LinkGhosts L)
+    (answers : T → Frame → List Reply → T → Type 0) (out : Writer O) (reported : Writer E)
     (log : Bool) where
   -- what a server has answered in a run, over all its connections
-  abbrev pub answered_in_crowd : (bounds : Bounds) (exit : Exit) (t t' : T) (b b' : B) (o o' : O)
-      (e e' : E) → ServesCrowd lobby link answers out told log bounds exit t t' b b' o o' e e' →
+  abbrev pub answered_in_loop : (bounds : Bounds) (exit : Exit) (t t' : T) (b b' : B) (o o' : O)
+      (e e' : E) → RunsEventLoop reactor link answers out reported log bounds exit t t' b b' o o' e e' →
       List Answered
-  answered_in_crowd bounds Done t t' b b' o o' e e' run = all_answered run.trace
-  answered_in_crowd bounds Refused t t' b b' o o' e e' run = all_answered run.trace
-  answered_in_crowd bounds Usage t t' b b' o o' e e' run = all_answered run.trace
-  answered_in_crowd bounds Device t t' b b' o o' e e' run = all_answered run.trace
-  answered_in_crowd bounds Memory t t' b b' o o' e e' run = []
+  answered_in_loop bounds Done t t' b b' o o' e e' run = all_answered run.trace
+  answered_in_loop bounds Refused t t' b b' o o' e e' run = all_answered run.trace
+  answered_in_loop bounds Usage t t' b b' o o' e e' run = all_answered run.trace
+  answered_in_loop bounds Device t t' b b' o o' e e' run = all_answered run.trace
+  answered_in_loop bounds Memory t t' b b' o o' e e' run = []
 
-module _ {X Y B L O E : Type 0} (S : StoreGhosts X) (J : JournalGhosts Y) (lobby : LobbyGhosts B L)
-    (link : LinkGhosts L) (out : Writer O) (told : Writer E) where
-  -- a new server over this store served its exchanges, behind its first line
+module _ {X Y B L O E : Type 0} (S : StoreGhosts X) (J : JournalGhosts Y) (reactor : ReactorGhosts B L)
+    (link : LinkGhosts L) (out : Writer O) (reported : Writer E) where
+  -- a new server over this store served its exchanges, after its first line
   pub record HostsManyRun (hosting : Hosting) (exit : Exit) (store : X) (b b' : B) (o o' : O)
       (e e' : E) : Type 0 where
     pub server : Server X Y S J
     pub store_is : server.stores.store ≡ store
     pub limit_is : server.limit ≡ hosting.limit
     pub new : HoldsBook S J (S.contents store) server []
-    pub behind : Server X Y S J
+    pub following : Server X Y S J
     pub between : O
     pub listens : HasPrinted out (listening_line hosting.address) o between
     pub ended : Exit
     pub logged : E
-    pub run : ServesCrowd lobby link (ServerTurn S J) out told hosting.log hosting.bounds ended
-        server behind b b' between o' e logged
+    pub run : RunsEventLoop reactor link (ServerTurn S J) out reported hosting.log hosting.bounds ended
+        server following b b' between o' e logged
     -- an honest store has the files of what was answered, each name's from its own messages alone
     pub leaves : IsTrue (S.honest store) → KeepsNamesApart S J hosting.limit store
-        behind.stores.store
-        (answered_in_crowd lobby link (ServerTurn S J) out told hosting.log hosting.bounds ended
-        server behind b b' between o' e logged run)
-    pub tells : TellsEnd told ended exit logged e'
+        following.stores.store
+        (answered_in_loop reactor link (ServerTurn S J) out reported hosting.log hosting.bounds ended
+        server following b b' between o' e logged run)
+    pub reports : ReportsExit reported ended exit logged e'
 
   -- memory was refused before the first line
   pub record WantsBefore (exit : Exit) (b b' : B) (o o' : O) (e e' : E) : Type 0 where
-    pub lobby_is : b' ≡ b
+    pub reactor_is : b' ≡ b
     pub printed : o' ≡ o
-    pub tells : GivesUp told faults.Memory exit e e'
+    pub reports : GivesUp reported faults.Memory exit e e'
 
   -- the first line can't be written, and nothing is served
-  pub record CantTell (hosting : Hosting) (exit : Exit) (b b' : B) (o o' : O) (e e' : E)
+  pub record CantReport (hosting : Hosting) (exit : Exit) (b b' : B) (o o' : O) (e e' : E)
       : Type 0 where
-    pub lobby_is : b' ≡ b
+    pub reactor_is : b' ≡ b
     pub printed : HasStopped out (listening_line hosting.address) o o'
-    pub tells : GivesUp told faults.Unwritable exit e e'
+    pub reports : GivesUp reported faults.Unwritable exit e e'
 
   -- what comes of a server over this store
   abbrev pub HostsManyOver : Hosting → Exit → X → B → B → O → O → E → E → Type 0
   HostsManyOver hosting exit store b b' o o' e e' =
       HostsManyRun hosting exit store b b' o o' e e'
-      ⊎ (WantsBefore exit b b' o o' e e' ⊎ CantTell hosting exit b b' o o' e e')
+      ⊎ (WantsBefore exit b b' o o' e e' ⊎ CantReport hosting exit b b' o o' e e')
 
   module _ {N P R W D A C : Type 0} (network : NetworkGhosts N X P D R W A C)
-      (gathering : GatheringGhosts N B L) where
+      (listener_setup : ListenerSetupGhosts N B L) where
     -- the folder can't be used: nothing else is asked for, and nothing is printed
     pub record CantStore (hosting : Hosting) (exit : Exit) (n n' : N) (o o' : O) (e e' : E)
         : Type 0 where
@@ -92,7 +92,7 @@ module _ {X Y B L O E : Type 0} (S : StoreGhosts X) (J : JournalGhosts Y) (lobby
       pub refused : network.stores n hosting.folder.now (Err error) n'
       pub counted : network.failures n' ≡ one_more (network.failures n)
       pub printed : o' ≡ o
-      pub tells : TellsUnopened told hosting.folder.now (error_kind error) exit e e'
+      pub reports : ReportsUnopened reported hosting.folder.now (error_kind error) exit e e'
 
     -- the folder can be used, and the address can't: nothing is printed
     pub record CantGather (hosting : Hosting) (exit : Exit) (n n' : N) (o o' : O) (e e' : E)
@@ -102,11 +102,11 @@ module _ {X Y B L O E : Type 0} (S : StoreGhosts X) (J : JournalGhosts Y) (lobby
       pub stored : network.stores n hosting.folder.now (Ok store) between
       pub kept : network.failures between ≡ network.failures n
       pub error : IoError
-      pub refused : gathering.opens between hosting.address hosting.folder.now
+      pub refused : listener_setup.opens between hosting.address hosting.folder.now
           hosting.bounds.places (Err error) n'
-      pub counted : gathering.failures n' ≡ one_more (gathering.failures between)
+      pub counted : listener_setup.failures n' ≡ one_more (listener_setup.failures between)
       pub printed : o' ≡ o
-      pub tells : TellsUnopened told (socket_text hosting.address) (error_kind error) exit e e'
+      pub reports : ReportsUnopened reported (socket_text hosting.address) (error_kind error) exit e e'
 
     -- both are there, and a server is over them
     pub record HostsManyAt (hosting : Hosting) (exit : Exit) (n n' : N) (o o' : O) (e e' : E)
@@ -116,9 +116,9 @@ module _ {X Y B L O E : Type 0} (S : StoreGhosts X) (J : JournalGhosts Y) (lobby
       pub stored : network.stores n hosting.folder.now (Ok store) between
       pub kept : network.failures between ≡ network.failures n
       pub begun : B
-      pub opened : gathering.opens between hosting.address hosting.folder.now
+      pub opened : listener_setup.opens between hosting.address hosting.folder.now
           hosting.bounds.places (Ok begun) n'
-      pub counted : gathering.failures n' ≡ gathering.failures between
+      pub counted : listener_setup.failures n' ≡ listener_setup.failures between
       pub left : B
       pub hosts : HostsManyOver hosting exit store begun left o o' e e'
 

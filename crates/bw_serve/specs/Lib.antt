@@ -1,7 +1,7 @@
 pub mod Admissions
 pub mod Lines
-pub mod Seats
-pub mod Crowds
+pub mod PeerSlots
+pub mod EventLoops
 pub mod Rounds
 pub mod Serving
 pub mod Names

@@ -3,15 +3,15 @@ use Rattle.std.specs.Prelude.{◌≡◌, ℕ, suc, Bool, List, [], ◌∷◌, �
 use Rattle.std.specs.declared.net.socket_addr.SocketAddr.{SocketAddr}
 use Rattle.bw_stream.specs.declared.sink.Sink.{Ghosts as Writer}
 use Rattle.bw_exchange.specs.EndNames.{name_of_end}
-use Rattle.bw_exchange.specs.Answering.{frames_of}
+use Rattle.bw_exchange.specs.Answering.{answered_frames}
 use Rattle.bw_console.specs.Printing.{Print, IsOf, IsPrint}
 use Rattle.bw_console.specs.Text.{as_line}
-use Rattle.bw_many.specs.declared.connection.ConnectionEnd.{ConnectionEnd}
-use Rattle.bw_many.specs.declared.connection.ConnectionEnd.TheVariants.{Over, Idle}
+use Rattle.bw_connections.specs.declared.connection.ConnectionEnd.{ConnectionEnd}
+use Rattle.bw_connections.specs.declared.connection.ConnectionEnd.TheVariants.{Over, Idle}
 use Rattle.bw_ports.specs.declared.link.Link.{Ghosts as LinkGhosts}
-use Rattle.bw_many.specs.declared.many.Closed.{Closed}
-use Rattle.bw_many.specs.Keeping.{Tagged, own}
-use Rattle.bw_exchange.specs.LinkCounts.{Counted, count_of, up_to_last}
+use Rattle.bw_connections.specs.declared.connections.Closed.{Closed}
+use Rattle.bw_connections.specs.Keeping.{Tagged, own}
+use Rattle.bw_exchange.specs.LinkCounts.{Counted, message_count, up_to_last}
 use Rattle.bw_serve.specs.LinkLines.{Logs, peer_line}
 
 -- what an end is called
@@ -24,25 +24,25 @@ abbrev pub connection_line : ℕ → ConnectionEnd → List ℕ
 connection_line index end =
     as_line (codes "exchange " ++ decimal index ++ codes " " ++ name_of_connection_end end)
 
--- the line of each of these was printed, one behind another, the first with this number
-abbrev pub TellsEnds : {L O : Type 0} → Writer O → ℕ → List (Closed L) → O → O → Type 0
-TellsEnds out index [] o o' = o' ≡ o
-TellsEnds {L} {O} out index (x ∷ xs) o o' = (mid : O) × (print : Print)
+-- the line of each of these was printed, one after another, the first with this number
+abbrev pub ReportsEnds : {L O : Type 0} → Writer O → ℕ → List (Closed L) → O → O → Type 0
+ReportsEnds out index [] o o' = o' ≡ o
+ReportsEnds {L} {O} out index (x ∷ xs) o o' = (mid : O) × (print : Print)
     × IsOf (connection_line (up_to_last index) x.end) print × IsPrint out print o mid
-    × TellsEnds out (suc index) xs mid o'
+    × ReportsEnds out (suc index) xs mid o'
 
 -- what is counted of one connection's own part of these frames
 abbrev pub counted_of : ℕ → List Tagged → Counted
-counted_of number trace = count_of (frames_of (own number trace))
+counted_of number trace = message_count (answered_frames (own number trace))
 
--- Where lines are asked for, that of each of these connections was told, one behind another, with
+-- Where lines are asked for, that of each of these connections was reported, one after another, with
 -- the address from which its link was called, its end and what is counted of its own frames, or left
 -- out where memory was refused for it.
 abbrev pub LogsEnds : {L E : Type 0} → LinkGhosts L → Writer E → Bool → List Tagged →
     List (Closed L) → E → E → Type 0
-LogsEnds G told log trace [] e e' = e' ≡ e
-LogsEnds {L} {E} G told log trace (x ∷ xs) e e' = (mid : E) × (peer : SocketAddr)
+LogsEnds G reported log trace [] e e' = e' ≡ e
+LogsEnds {L} {E} G reported log trace (x ∷ xs) e e' = (mid : E) × (peer : SocketAddr)
     × G.calls_from x.link peer
-    × Logs told log
+    × Logs reported log
     (peer_line peer (name_of_connection_end x.end) (counted_of x.number trace)) e mid
-    × LogsEnds G told log trace xs mid e'
+    × LogsEnds G reported log trace xs mid e'

@@ -9,13 +9,13 @@ use Rattle.bw_console.specs.Text.{as_line}
 use Rattle.bw_exchange.specs.EndNames.{name_of_end}
 use Rattle.bw_exchange.specs.LinkCounts.{Counted}
 
--- a name behind a blank
-abbrev pub name_behind : List ℕ → List ℕ
-name_behind name = codes " " ++ name
+-- a name after a blank
+abbrev pub name_after : List ℕ → List ℕ
+name_after name = codes " " ++ name
 
 -- who came, and under which names
 abbrev pub peer_text : SocketAddr → List (List ℕ) → List ℕ
-peer_text peer names = codes "peer " ++ socket_text peer ++ codes " names" ++ flat_map name_behind names
+peer_text peer names = codes "peer " ++ socket_text peer ++ codes " names" ++ flat_map name_after names
 
 -- what the end is called, how many messages came, and their bytes, to the end of the line
 abbrev pub counts_text : List ℕ → ℕ → ℕ → List ℕ
@@ -31,7 +31,7 @@ peer_line peer end c = peer_text peer c.names ++ counts_text end c.messages c.by
 abbrev pub link_line : SocketAddr → ExchangeEnd → Counted → List ℕ
 link_line peer end c = peer_line peer (name_of_end end) c
 
--- where lines are asked for this one is told, unless memory is refused for it
+-- where lines are asked for this one is reported, unless memory is refused for it
 abbrev pub Logs : {E : Type 0} → Writer E → Bool → List ℕ → E → E → Type 0
-Logs told false line e e' = e' ≡ e
-Logs told true line e e' = (e' ≡ e) ⊎ ((print : Print) × IsOf line print × IsPrint told print e e')
+Logs reported false line e e' = e' ≡ e
+Logs reported true line e e' = (e' ≡ e) ⊎ ((print : Print) × IsOf line print × IsPrint reported print e e')

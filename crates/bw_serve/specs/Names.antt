@@ -1,7 +1,7 @@
 -- What many connections come to in takes: each name's own are not changed by the others.
 use Rattle.std.specs.Prelude.{◌≡◌, ℕ, is_some, IsTrue, List, []}
 use Rattle.bw_model.specs.Wire.{Frame}
-use Rattle.bw_model.specs.Turn.{IsolatesNames, Luck, book_after, run}
+use Rattle.bw_model.specs.Turn.{IsolatesNames, Faults, book_after, run}
 use Rattle.bw_store.specs.declared.store.TakeStore.{Ghosts as StoreGhosts}
 use Rattle.bw_journal.specs.declared.journal.Journal.{Ghosts as JournalGhosts}
 use Rattle.bw_session.specs.Books.{HoldsBook}
@@ -10,19 +10,19 @@ use Rattle.bw_exchange.specs.Answering.{Answered, AnswersAll}
 use Rattle.bw_engine.specs.Ingesting.{LeavesRun}
 use Rattle.bw_exchange.specs.TurnRuns.{answers_in}
 use Rattle.bw_session.specs.ServerTurns.{ServerTurn}
-use Rattle.bw_many.specs.Keeping.{Tagged, all_answered}
+use Rattle.bw_connections.specs.Keeping.{Tagged, all_answered}
 
 module _ {X Y : Type 0} (S : StoreGhosts X) (J : JournalGhosts Y) where
   -- These frames were answered over a store that was before so and is now so: it has the files of
   -- what was answered, and each name's replies and log follow from its own messages alone.
   pub record KeepsNamesApart (limit : ℕ) (before after : X) (answered : List Answered) : Type 0 where
     pub leaves : LeavesRun S limit before answered after
-    -- under some luck at each frame they are a run of the definitions
-    pub came : List (Frame × Luck)
-    pub answers : answers_in (run (λ name. is_some (S.contents before name)) [] came) ≡ answered
-    pub left : book_after (λ name. is_some (S.contents before name)) [] came ≡ leaves.book
+    -- with some faults at each frame they are a run of the definitions
+    pub received : List (Frame × Faults)
+    pub answers : answers_in (run (λ name. is_some (S.contents before name)) [] received) ≡ answered
+    pub left : book_after (λ name. is_some (S.contents before name)) [] received ≡ leaves.book
     -- of which each name's turns are a run of their own
-    pub each : (name : List ℕ) → IsolatesNames (λ n. is_some (S.contents before n)) name came
+    pub each : (name : List ℕ) → IsolatesNames (λ n. is_some (S.contents before n)) name received
 
   -- So it is for a new server over an honest store, in whatever order the turns of its connections
   -- came.

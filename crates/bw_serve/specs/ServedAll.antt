@@ -6,9 +6,9 @@ use Rattle.bw_model.specs.Replies.{Reply}
 use Rattle.bw_stream.specs.Moves.{one_more}
 use Rattle.bw_stream.specs.declared.sink.Sink.{Ghosts as Writer}
 use Rattle.bw_stream.specs.declared.source.Source.{Ghosts as Reader}
-use Rattle.bw_exchange.specs.Answering.{Answered, frames_of}
+use Rattle.bw_exchange.specs.Answering.{Answered, answered_frames}
 use Rattle.bw_exchange.specs.declared.serving.ExchangeEnd.{ExchangeEnd}
-use Rattle.bw_exchange.specs.LinkCounts.{count_of}
+use Rattle.bw_exchange.specs.LinkCounts.{message_count}
 use Rattle.bw_console.specs.declared.exit.Exit.{Exit}
 use Rattle.bw_console.specs.declared.exit.Exit.TheVariants.{Done, Refused, Usage, Device, Memory}
 use Rattle.bw_serve.specs.ServedOne.{ServesTo}
@@ -20,20 +20,20 @@ use Rattle.bw_ports.specs.declared.peers.Peers.{Ghosts as PeerGhosts}
 
 -- what came of the next peer: its exchange was served and ended so, it went away, or no more are
 -- let in
-pub data Outcome : Type 0 where
-  Served : Exit → Outcome
-  Gone : Outcome
-  Closed : Outcome
+pub data ServedOutcome : Type 0 where
+  Served : Exit → ServedOutcome
+  Gone : ServedOutcome
+  Closed : ServedOutcome
 
--- how the run ends behind it, where it ends there
-abbrev pub exit_now : Outcome → Option Exit
+-- how the run ends after it, where it ends there
+abbrev pub exit_now : ServedOutcome → Option Exit
 exit_now (Served Memory) = Some Memory
 exit_now (Served exit) = None
 exit_now Gone = None
 exit_now Closed = Some Device
 
 module _ {T R W O E : Type 0} (answers : T → Frame → List Reply → T → Type 0) (reader : Reader R)
-    (writer : Writer W) (out : Writer O) (told : Writer E) (log : Bool) where
+    (writer : Writer W) (out : Writer O) (reported : Writer E) (log : Bool) where
   -- one exchange was served over a peer's link, and told of where that is asked for
   pub record ServesPeer (index : ℕ) (exit : Exit) (peer : Peer R W) (t t' : T) (o o' : O)
       (e e' : E) : Type 0 where
@@ -42,19 +42,19 @@ module _ {T R W O E : Type 0} (answers : T → Frame → List Reply → T → Ty
     pub w' : W
     pub served : ServesTo answers reader writer out index end exit t t' peer.link.reader r'
         peer.link.writer w' o o'
-    pub logs : Logs told log
-        (link_line peer.address end (count_of (frames_of served.serves.answered))) e e'
+    pub logs : Logs reported log
+        (link_line peer.address end (message_count (answered_frames served.serves.answered))) e e'
 
 module _ {T P R W O E : Type 0} (answers : T → Frame → List Reply → T → Type 0)
     (peers : PeerGhosts P R W) (reader : Reader R) (writer : Writer W) (out : Writer O)
-    (told : Writer E) (log : Bool) where
+    (reported : Writer E) (log : Bool) where
   -- a peer was let in, and its exchange served, with this number
   pub record ServesLink (index : ℕ) (exit : Exit) (t t' : T) (p p' : P) (o o' : O) (e e' : E)
       : Type 0 where
     pub peer : Peer R W
     pub accepted : peers.accepts p (Ok peer) p'
     pub counted : peers.failures p' ≡ peers.failures p
-    pub served : ServesPeer answers reader writer out told log index exit peer t t' o o' e e'
+    pub served : ServesPeer answers reader writer out reported log index exit peer t t' o o' e e'
 
   -- no peer was let in, for this reason: the server and what is written are as they were
   pub record ServesNone (fault : AcceptFault) (t t' : T) (p p' : P) (o o' : O) (e e' : E)
@@ -66,13 +66,13 @@ module _ {T P R W O E : Type 0} (answers : T → Frame → List Reply → T → 
     pub logged : e' ≡ e
 
   -- the next peer, by what came of it
-  abbrev pub ServesNext : ℕ → Outcome → T → T → P → P → O → O → E → E → Type 0
+  abbrev pub ServesNext : ℕ → ServedOutcome → T → T → P → P → O → O → E → E → Type 0
   ServesNext index (Served exit) t t' p p' o o' e e' = ServesLink index exit t t' p p' o o' e e'
   ServesNext index Gone t t' p p' o o' e e' = ServesNone accepting.Gone t t' p p' o o' e e'
   ServesNext index Closed t t' p p' o o' e e' = ServesNone accepting.Closed t t' p p' o o' e e'
 
-  -- one peer behind another, the first with this number, and none but the last ends the run
-  abbrev pub ServesEach : ℕ → List Outcome → T → T → P → P → O → O → E → E → Type 0
+  -- one peer after another, the first with this number, and none but the last ends the run
+  abbrev pub ServesEach : ℕ → List ServedOutcome → T → T → P → P → O → O → E → E → Type 0
   ServesEach index [] t t' p p' o o' e e' = (t' ≡ t) × (p' ≡ p) × (o' ≡ o) × (e' ≡ e)
   ServesEach index (x ∷ xs) t t' p p' o o' e e' = (m : T) × (q : P) × (n : O) × (f : E)
       × ServesNext index x t m p q o n e f × (exit_now x ≡ None)
@@ -82,20 +82,20 @@ module _ {T P R W O E : Type 0} (answers : T → Frame → List Reply → T → 
   -- nothing.
   pub record EndsEarly (exchanges : ℕ) (exit : Exit) (t t' : T) (p p' : P) (o o' : O) (e e' : E)
       : Type 0 where
-    pub before : List Outcome
+    pub before : List ServedOutcome
     pub few : suc (length before) ≤ exchanges
     pub m : T
     pub q : P
     pub n : O
     pub f : E
     pub each : ServesEach 0 before t m p q o n e f
-    pub last : Outcome
+    pub last : ServedOutcome
     pub next : ServesNext (length before) last m t' q p' n o' f e'
     pub ends : exit_now last ≡ Some exit
 
   -- so many peers came, and none of them ended the run
   pub record ServesAll (exchanges : ℕ) (t t' : T) (p p' : P) (o o' : O) (e e' : E) : Type 0 where
-    pub outcomes : List Outcome
+    pub outcomes : List ServedOutcome
     pub all : length outcomes ≡ exchanges
     pub each : ServesEach 0 outcomes t t' p p' o o' e e'
 
@@ -105,14 +105,14 @@ module _ {T P R W O E : Type 0} (answers : T → Frame → List Reply → T → 
   ServesRun exchanges exit t t' p p' o o' e e' = EndsEarly exchanges exit t t' p p' o o' e e'
 
   -- what was answered of the next peer's frames
-  abbrev pub answered_next : (index : ℕ) (x : Outcome) (t t' : T) (p p' : P) (o o' : O) (e e' : E) →
+  abbrev pub answered_next : (index : ℕ) (x : ServedOutcome) (t t' : T) (p p' : P) (o o' : O) (e e' : E) →
       ServesNext index x t t' p p' o o' e e' → List Answered
   answered_next index (Served exit) t t' p p' o o' e e' next = next.served.served.serves.answered
   answered_next index Gone t t' p p' o o' e e' next = []
   answered_next index Closed t t' p p' o o' e e' next = []
 
-  -- .. of the frames of these peers, one behind another
-  abbrev pub answered_each : (index : ℕ) (xs : List Outcome) (t t' : T) (p p' : P) (o o' : O)
+  -- .. of the frames of these peers, one after another
+  abbrev pub answered_each : (index : ℕ) (xs : List ServedOutcome) (t t' : T) (p p' : P) (o o' : O)
       (e e' : E) → ServesEach index xs t t' p p' o o' e e' → List Answered
   answered_each index [] t t' p p' o o' e e' each = []
   answered_each index (x ∷ xs) t t' p p' o o' e e' each =

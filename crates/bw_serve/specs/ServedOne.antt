@@ -28,16 +28,16 @@ exit_of_end ends.WriteFault = Device
 exit_of_end ends.TurnLimit = Device
 exit_of_end ends.Memory = Memory
 
--- how it ends where the line can't be written: want of memory goes before
-abbrev pub exit_untold : ExchangeEnd → Exit
-exit_untold ends.Memory = Memory
-exit_untold _ = Device
+-- how it ends where the line can't be written: lack of memory goes before
+abbrev pub exit_unreported : ExchangeEnd → Exit
+exit_unreported ends.Memory = Memory
+exit_unreported _ = Device
 
--- how it ends behind what was printed of the line
-abbrev pub exit_behind : ExchangeEnd → Print → Exit
-exit_behind end (Whole text) = exit_of_end end
-exit_behind end (Part text) = exit_untold end
-exit_behind end Nothing = exit_untold end
+-- how it ends after what was printed of the line
+abbrev pub exit_after : ExchangeEnd → Print → Exit
+exit_after end (Whole text) = exit_of_end end
+exit_after end (Part text) = exit_unreported end
+exit_after end Nothing = exit_unreported end
 
 module _ {S R W O : Type 0} (answers : S → Frame → List Reply → S → Type 0) (reader : Reader R)
     (writer : Writer W) (out : Writer O) where
@@ -54,7 +54,7 @@ module _ {S R W O : Type 0} (answers : S → Frame → List Reply → S → Type
     pub print : Print
     pub line : IsOf (exchange_end_line index end) print
     pub printed : IsPrint out print o o'
-    pub exit_is : exit ≡ exit_behind end print
+    pub exit_is : exit ≡ exit_after end print
 
   -- to any end
   abbrev pub ServesOne : ℕ → Exit → S → S → R → R → W → W → O → O → Type 0

@@ -1,4 +1,4 @@
--- What serving a crowd comes to.
+-- What serving an event loop comes to.
 use Rattle.std.specs.Prelude.{◌≡◌, ◌⊎◌, ℕ, ◌-◌, ◌^◌, ◌≤◌, Bool, false, List, ◌++◌, length}
 use Rattle.bw_model.specs.Wire.{Frame}
 use Rattle.bw_model.specs.Replies.{Reply}
@@ -8,34 +8,34 @@ use Rattle.bw_exchange.specs.Answering.{AnswersAll}
 use Rattle.bw_console.specs.declared.exit.Exit.{Exit}
 use Rattle.bw_console.specs.declared.exit.Exit.TheVariants as exits
 use Rattle.bw_ports.specs.declared.link.Link.{Ghosts as LinkGhosts}
-use Rattle.bw_many.specs.declared.many.Closed.{Closed}
-use Rattle.bw_many.specs.Keeping.{Tagged, all_answered}
-use Rattle.bw_many.specs.Places.{begun_of}
-use Rattle.bw_many.specs.Served.{ServesEach}
-use Rattle.bw_serve.specs.declared.crowd.Crowd.{Crowd}
+use Rattle.bw_connections.specs.declared.connections.Closed.{Closed}
+use Rattle.bw_connections.specs.Keeping.{Tagged, all_answered}
+use Rattle.bw_connections.specs.Places.{begun_of}
+use Rattle.bw_connections.specs.Served.{ServesEach}
+use Rattle.bw_serve.specs.declared.event_loop.EventLoop.{EventLoop}
 use Rattle.bw_serve.specs.declared.serving.Bounds.{Bounds}
 use Rattle.bw_serve.specs.Admissions.{HostsAll}
-use Rattle.bw_serve.specs.Crowds.{Grows}
-use Rattle.bw_ports.specs.Lobbies.{Admission}
+use Rattle.bw_serve.specs.EventLoops.{Grows}
+use Rattle.bw_ports.specs.Reactors.{Admission}
 use Rattle.bw_serve.specs.Rounds.{ServesInRounds, ended_of_run, frames_of_run}
-use Rattle.bw_serve.specs.Lines.{LogsEnds, TellsEnds}
-use Rattle.bw_ports.specs.declared.lobby.Lobby.{Ghosts as LobbyGhosts}
+use Rattle.bw_serve.specs.Lines.{LogsEnds, ReportsEnds}
+use Rattle.bw_ports.specs.declared.reactor.Reactor.{Ghosts as ReactorGhosts}
 
--- the lobby could not go on once, or was waited as often as it counts
-abbrev pub GoesNoFurther : {B L : Type 0} → LobbyGhosts B L → B → B → Type 0
-GoesNoFurther lobby b b' =
-    (lobby.failures b' ≡ one_more (lobby.failures b)) ⊎ (2 ^ 64 - 1 ≤ lobby.waits b')
+-- the reactor could not go on once, or was waited as often as it counts
+abbrev pub GoesNoFurther : {B L : Type 0} → ReactorGhosts B L → B → B → Type 0
+GoesNoFurther reactor b b' =
+    (reactor.failures b' ≡ one_more (reactor.failures b)) ⊎ (2 ^ 64 - 1 ≤ reactor.waits b')
 
--- why the run ends so: as many connections have ended as were asked for, and the lobby could always
+-- why the run ends so: as many connections have ended as were asked for, and the reactor could always
 -- go on; or it could go no further
-abbrev pub EndsAt : {B L : Type 0} → LobbyGhosts B L → Exit → ℕ → ℕ → B → B → Type 0
-EndsAt lobby exits.Done exchanges ended b b' =
-    (exchanges ≤ ended) × (lobby.failures b' ≡ lobby.failures b)
-EndsAt lobby exits.Device exchanges ended b b' = GoesNoFurther lobby b b'
-EndsAt lobby _ exchanges ended b b' = ⊥
+abbrev pub EndsAt : {B L : Type 0} → ReactorGhosts B L → Exit → ℕ → ℕ → B → B → Type 0
+EndsAt reactor exits.Done exchanges ended b b' =
+    (exchanges ≤ ended) × (reactor.failures b' ≡ reactor.failures b)
+EndsAt reactor exits.Device exchanges ended b b' = GoesNoFurther reactor b b'
+EndsAt reactor _ exchanges ended b b' = ⊥
 
-module _ {B L S O E : Type 0} (lobby : LobbyGhosts B L) (G : LinkGhosts L)
-    (answers : S → Frame → List Reply → S → Type 0) (out : Writer O) (told : Writer E)
+module _ {B L S O E : Type 0} (reactor : ReactorGhosts B L) (G : LinkGhosts L)
+    (answers : S → Frame → List Reply → S → Type 0) (out : Writer O) (reported : Writer E)
     (log : Bool) where
   -- The server answered these frames, over connections of which these are over and others stand:
   -- each one's own are those of its link, whatever came between them. The line of each that is
@@ -43,35 +43,35 @@ module _ {B L S O E : Type 0} (lobby : LobbyGhosts B L) (G : LinkGhosts L)
   -- told of, where that was asked for.
   pub record HasServed (bounds : Bounds) (exit : Exit) (s s' : S) (b b' : B) (o o' : O) (e e' : E)
       : Type 0 where
-    -- in rounds, behind the last of which some were perhaps let in still
-    pub behind : Crowd L
-    pub lobby_behind : B
-    pub in_rounds : ServesInRounds lobby G answers out told log bounds.places bounds.idle
-        bounds.exchanges behind s s' b lobby_behind o o' e e'
+    -- in rounds, after the last of which some were perhaps let in still
+    pub following : EventLoop L
+    pub reactor_after : B
+    pub in_rounds : ServesInRounds reactor G answers out reported log bounds.places bounds.idle
+        bounds.exchanges following s s' b reactor_after o o' e e'
     -- what their quanta took from the connections, in their order, and whom they ended
     pub trace : List Tagged
-    pub taken : trace ≡ frames_of_run lobby G answers out told log bounds.places bounds.idle
-        bounds.exchanges behind s s' b lobby_behind o o' e e' in_rounds
+    pub taken : trace ≡ frames_of_run reactor G answers out reported log bounds.places bounds.idle
+        bounds.exchanges following s s' b reactor_after o o' e e' in_rounds
     pub by_server : AnswersAll answers s (all_answered trace) s'
     pub over : List (Closed L)
-    pub are_over : over ≡ ended_of_run lobby G answers out told log bounds.places bounds.idle
-        bounds.exchanges behind s s' b lobby_behind o o' e e' in_rounds
-    pub crowd : Crowd L
-    pub last : Grows G behind crowd
-    -- each link that the lobby gave stands at its place, or is over, or was refused
+    pub are_over : over ≡ ended_of_run reactor G answers out reported log bounds.places bounds.idle
+        bounds.exchanges following s s' b reactor_after o o' e e' in_rounds
+    pub event_loop : EventLoop L
+    pub last : Grows G following event_loop
+    -- each link that the reactor gave stands at its place, or is over, or was refused
     pub links : List (Admission L)
-    pub gave : (xs : List (Admission L)) → lobby.admitted b xs → lobby.admitted b' (xs ++ links)
-    pub hosts : HostsAll G crowd.many over links
-    pub each : ServesEach G crowd.many over trace
+    pub gave : (xs : List (Admission L)) → reactor.admitted b xs → reactor.admitted b' (xs ++ links)
+    pub hosts : HostsAll G event_loop.connections over links
+    pub each : ServesEach G event_loop.connections over trace
     -- no more were let in than were asked for
-    pub most : begun_of crowd.many ≤ bounds.exchanges
-    pub printed : TellsEnds out 0 over o o'
-    pub logged : LogsEnds G told log trace over e e'
+    pub most : begun_of event_loop.connections ≤ bounds.exchanges
+    pub printed : ReportsEnds out 0 over o o'
+    pub logged : LogsEnds G reported log trace over e e'
     pub unasked : log ≡ false → e' ≡ e
-    pub ends : EndsAt lobby exit bounds.exchanges (length over) b b'
+    pub ends : EndsAt reactor exit bounds.exchanges (length over) b b'
 
   -- so a run ends; where memory was refused, before the first was let in
-  abbrev pub ServesCrowd : Bounds → Exit → S → S → B → B → O → O → E → E → Type 0
-  ServesCrowd bounds exits.Memory s s' b b' o o' e e' =
+  abbrev pub RunsEventLoop : Bounds → Exit → S → S → B → B → O → O → E → E → Type 0
+  RunsEventLoop bounds exits.Memory s s' b b' o o' e e' =
       (s' ≡ s) × (b' ≡ b) × (o' ≡ o) × (e' ≡ e)
-  ServesCrowd bounds exit s s' b b' o o' e e' = HasServed bounds exit s s' b b' o o' e e'
+  RunsEventLoop bounds exit s s' b b' o o' e e' = HasServed bounds exit s s' b b' o o' e e'

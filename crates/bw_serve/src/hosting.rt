@@ -3,15 +3,15 @@
 ghost use Rattle.std.specs.Prelude.{◌≡◌};
 ghost use Rattle.bw_serve.specs.HostedMany.{HostsMany, HostsManyOver};
 
-use crate::hosting_in_turn::{format_listening, tell_end, tell_unbound};
+use crate::hosting_in_turn::{format_listening, report_end, report_unbound};
 use crate::laws::law_names;
-use crate::serving::{Bounds, serve_crowd};
+use crate::serving::{Bounds, run_event_loop};
 use bw_console::print::{give_up, print};
-use bw_console::{Exit, Fault, tell_unopened};
-use bw_exchange::Tallied;
+use bw_console::{Exit, Fault, report_unopened};
+use bw_exchange::Metered;
 use bw_journal::{Journal, NoJournal};
 use bw_layout::Limit;
-use bw_ports::{Gathering, Lobby, Network};
+use bw_ports::{ListenerSetup, Network, Reactor};
 use bw_session::Server;
 use bw_store::TakeStore;
 use bw_stream::Sink;
@@ -29,58 +29,58 @@ pub struct Hosting<'a> {
     pub bounds: Bounds,
     /// The greatest form size of a RIFF file.
     pub limit: Limit,
-    /// Whether each connection is told in a line.
+    /// Whether each connection is reported in a line.
     pub log: bool,
 }
 
 /// Serves so many exchanges, many at once, over a new server and the folder's store.
 ///
 /// What can't be used is a line on `faults` before anything is printed. Then `listening ADDRESS`
-/// and a line for each exchange are, as `serve_crowd` says; where the first can't be, nothing is
+/// and a line for each exchange are, as `run_event_loop` says; where the first can't be, nothing is
 /// served. Where a log is asked for, each connection is a line on `faults`, as it says too.
 ///
-/// `Done` behind the last exchange; `Device` where folder or address can't be used, the first line
+/// `Done` after the last exchange; `Device` where folder or address can't be used, the first line
 /// can't be written or no more are let in; `Memory` where memory was refused before the first
 /// connection, or to a fault's line.
 ///
 /// # Not specified
 /// - When memory is refused before the first line.
 /// - The reason in the line of a folder or an address that can't be used.
-/// - The state of the lobby after the run, which is dropped.
+/// - The state of the reactor after the run, which is dropped.
 /// - What a store that isn't honest has then.
-/// - What `serve_crowd` leaves open.
-pub fn serve_many<N: Network + Gathering, O: Sink, E: Sink>(
+/// - What `run_event_loop` leaves open.
+pub fn serve_many<N: Network + ListenerSetup, O: Sink, E: Sink>(
     alloc: Global,
     network: &mut N,
     hosting: &Hosting<'_>,
     out: &mut O,
     faults: &mut E,
 ) -> Exit
-    ensures { HostsMany N.Store.TakeStore ⟦<NoJournal as Journal>⟧ N.Lobby.Lobby N.Lobby.Link.Link
-        O.Sink E.Sink N.Network N.Gathering hosting.now result network.old network.new out.old out.new faults.old
+    ensures { HostsMany N.Store.TakeStore ⟦<NoJournal as Journal>⟧ N.Reactor.Reactor N.Reactor.Link.Link
+        O.Sink E.Sink N.Network N.ListenerSetup hosting.now result network.old network.new out.old out.new faults.old
         faults.new }
 {
     let store = match network.store(hosting.folder) {
         Ok(store) => store,
-        Err(error) => return tell_unopened(alloc, hosting.folder, &error, faults),
+        Err(error) => return report_unopened(alloc, hosting.folder, &error, faults),
     };
-    match network.lobby(hosting.address, hosting.folder, hosting.bounds.places) {
-        Ok(mut lobby) => serve_over(alloc, store, &mut lobby, hosting, out, faults),
-        Err(error) => tell_unbound(alloc, hosting.address, &error, faults),
+    match network.reactor(hosting.address, hosting.folder, hosting.bounds.places) {
+        Ok(mut reactor) => serve_over(alloc, store, &mut reactor, hosting, out, faults),
+        Err(error) => report_unbound(alloc, hosting.address, &error, faults),
     }
 }
 
 /// Serves so many exchanges, many at once, over a new server and this store.
-fn serve_over<S: TakeStore, B: Lobby, O: Sink, E: Sink>(
+fn serve_over<S: TakeStore, B: Reactor, O: Sink, E: Sink>(
     alloc: Global,
     store: S,
-    lobby: &mut B,
+    reactor: &mut B,
     hosting: &Hosting<'_>,
     out: &mut O,
     faults: &mut E,
 ) -> Exit
-    ensures { HostsManyOver S.TakeStore ⟦<NoJournal as Journal>⟧ B.Lobby B.Link.Link O.Sink E.Sink
-        hosting.now result store lobby.old lobby.new out.old out.new faults.old faults.new }
+    ensures { HostsManyOver S.TakeStore ⟦<NoJournal as Journal>⟧ B.Reactor B.Link.Link O.Sink E.Sink
+        hosting.now result store reactor.old reactor.new out.old out.new faults.old faults.new }
 {
     let Ok(server) = Server::new(alloc, store, hosting.limit) else {
         return give_up(faults, &Fault::Memory);
@@ -92,8 +92,8 @@ fn serve_over<S: TakeStore, B: Lobby, O: Sink, E: Sink>(
         return give_up(faults, &Fault::Unwritable);
     };
     law_names::<S>();
-    let mut server = Tallied::new(server);
+    let mut server = Metered::new(server);
     let (bounds, log) = (&hosting.bounds, hosting.log);
-    let exit = serve_crowd(alloc, &mut server, lobby, bounds, log, out, faults);
-    tell_end(exit, faults)
+    let exit = run_event_loop(alloc, &mut server, reactor, bounds, log, out, faults);
+    report_end(exit, faults)
 }

@@ -2,13 +2,13 @@
 ghost use Rattle.std.specs.Prelude.{◌≡◌, string_bytes, IfOk};
 ghost use Rattle.std.specs.IoError.{error_kind};
 ghost use Rattle.std.specs.Net.Text.{socket_text};
-ghost use Rattle.bw_serve.specs.Hosted.{Hosts, HostsOver, TellsEnd, TellsUnopened};
+ghost use Rattle.bw_serve.specs.Hosted.{Hosts, HostsOver, ReportsExit, ReportsUnopened};
 ghost use Rattle.bw_serve.specs.Hosted.{listening_line};
 
 use crate::serving_in_turn::serve_run;
-use bw_console::print::{give_up, print, tell};
-use bw_console::{Exit, Fault, tell_unopened};
-use bw_exchange::Tallied;
+use bw_console::print::{give_up, print, print_diagnostic};
+use bw_console::{Exit, Fault, report_unopened};
+use bw_exchange::Metered;
 use bw_journal::{Journal, NoJournal};
 use bw_layout::Limit;
 use bw_ports::{Network, Peers};
@@ -32,11 +32,11 @@ pub struct Serving<'a> {
     pub limit: Limit,
     /// For how many seconds it waits for a peer; for good, where there is none.
     pub timeout: Option<u32>,
-    /// Whether each link is told in a line.
+    /// Whether each link is reported in a line.
     pub log: bool,
 }
 
-/// What is told where no more peers are let in.
+/// What is reported where no more peers are let in.
 const GONE: &str = "the server can't go on: its folder is gone, or nothing can be waited for\n";
 
 /// Serves so many exchanges over a new server and the folder's store.
@@ -63,11 +63,11 @@ pub fn serve<N: Network, O: Sink, E: Sink>(
 {
     let store = match network.store(serving.folder) {
         Ok(store) => store,
-        Err(error) => return tell_unopened(alloc, serving.folder, &error, faults),
+        Err(error) => return report_unopened(alloc, serving.folder, &error, faults),
     };
     match network.listen(serving.address, serving.folder, serving.timeout) {
         Ok(mut peers) => serve_over(alloc, store, &mut peers, serving, out, faults),
-        Err(error) => tell_unbound(alloc, serving.address, &error, faults),
+        Err(error) => report_unbound(alloc, serving.address, &error, faults),
     }
 }
 
@@ -76,19 +76,19 @@ pub fn serve<N: Network, O: Sink, E: Sink>(
 /// # Not specified
 /// - The reason in the line.
 /// - When memory is refused for it.
-pub fn tell_unbound<E: Sink>(
+pub fn report_unbound<E: Sink>(
     alloc: Global,
     address: SocketAddr,
     error: &io::Error,
     faults: &mut E,
 ) -> Exit
-    ensures { TellsUnopened E.Sink (socket_text address) (error_kind error.now) result
+    ensures { ReportsUnopened E.Sink (socket_text address) (error_kind error.now) result
         faults.old faults.new }
 {
     let Ok(text) = format!(in alloc; "{address}") else {
         return give_up(faults, &Fault::Memory);
     };
-    tell_unopened(alloc, text.as_str(), error, faults)
+    report_unopened(alloc, text.as_str(), error, faults)
 }
 
 /// Serves so many exchanges over a new server and this store.
@@ -113,10 +113,10 @@ fn serve_over<S: TakeStore, P: Peers, O: Sink, E: Sink>(
     let Ok(()) = print(out, line.as_str().as_bytes()) else {
         return give_up(faults, &Fault::Unwritable);
     };
-    let mut server = Tallied::new(server);
+    let mut server = Metered::new(server);
     let (exchanges, log) = (serving.exchanges, serving.log);
     let exit = serve_run(alloc, &mut server, peers, exchanges, log, out, faults);
-    tell_end(exit, faults)
+    report_end(exit, faults)
 }
 
 /// The first line of a server at an address.
@@ -132,18 +132,18 @@ pub fn format_listening(alloc: Global, address: SocketAddr) -> Result<String, Al
     format!(in alloc; "listening {address}\n")
 }
 
-/// Tells why a run ended, where that wasn't behind its last exchange.
+/// Tells why a run ended, where that wasn't after its last exchange.
 ///
-/// Nothing is told of `Done`; of `Memory` it is `out of memory`; else the folder is gone, or
+/// Nothing is reported of `Done`; of `Memory` it is `out of memory`; else the folder is gone, or
 /// nothing can be waited for, and the answer is `Device`.
-pub fn tell_end<E: Sink>(exit: Exit, faults: &mut E) -> Exit
-    ensures { TellsEnd E.Sink exit result faults.old faults.new }
+pub fn report_end<E: Sink>(exit: Exit, faults: &mut E) -> Exit
+    ensures { ReportsExit E.Sink exit result faults.old faults.new }
 {
     match exit {
         Exit::Done => Exit::Done,
         Exit::Memory => give_up(faults, &Fault::Memory),
         Exit::Refused | Exit::Usage | Exit::Device => {
-            tell(faults, GONE.as_bytes());
+            print_diagnostic(faults, GONE.as_bytes());
             Exit::Device
         }
     }

@@ -4,9 +4,9 @@ ghost use Rattle.bw_console.specs.Printing.{IsOf, IsPrint, Print};
 ghost use Rattle.bw_serve.specs.Lines.{connection_line, name_of_connection_end};
 
 use arrayvec::ArrayString;
-use bw_console::print::tell;
+use bw_connections::ConnectionEnd;
+use bw_console::print::print_diagnostic;
 use bw_exchange::end_name;
-use bw_many::ConnectionEnd;
 use bw_stream::Sink;
 use itoa::Buffer;
 
@@ -16,7 +16,7 @@ pub(crate) fn print_end<O: Sink>(index: u64, end: ConnectionEnd, out: &mut O)
     ensures { (print : Print) × IsOf (connection_line index end) print
         × IsPrint O.Sink print out.old out.new }
 {
-    tell(out, end_line(index, end).as_str().as_bytes());
+    print_diagnostic(out, end_line(index, end).as_str().as_bytes());
 }
 
 fn end_line(index: u64, end: ConnectionEnd) -> ArrayString<64>

@@ -2,15 +2,15 @@
 ghost use Rattle.std.specs.Prelude.{◌≡◌, ◌≤◌, OnOk, OnErr, vec_len};
 ghost use Rattle.bw_stream.specs.Moves.{failures_after, one_more};
 ghost use Rattle.bw_wire.specs.Held.{longest_piece};
-ghost use Rattle.bw_many.specs.Places.{begun_of};
-ghost use Rattle.bw_serve.specs.Crowds.{HasSeats};
+ghost use Rattle.bw_connections.specs.Places.{begun_of};
+ghost use Rattle.bw_serve.specs.EventLoops.{HasPeerSlots};
 ghost use Rattle.bw_serve.specs.Rounds.{IsShut, ServesRound, patience_of};
-ghost use Rattle.bw_serve.specs.Serving.{ServesCrowd};
+ghost use Rattle.bw_serve.specs.Serving.{RunsEventLoop};
 
-use crate::crowd::{Crowd, Round, Shut};
+use crate::event_loop::{EventLoop, Round, Shut};
 use bw_console::Exit;
-use bw_exchange::{Tallied, Turns};
-use bw_ports::Lobby;
+use bw_exchange::{Metered, Turns};
+use bw_ports::Reactor;
 use bw_stream::Sink;
 use std::alloc::Global;
 
@@ -35,10 +35,10 @@ pub struct Bounds {
 /// ends.
 ///
 /// Where there is no free place nobody is let in; a connection that sends no whole frame for too
-/// long is ended. `Done` behind the last one; `Memory` where memory was refused before the first;
-/// `Device` where no more peers are let in, or nothing can be waited for, or behind 2^64 - 1 rounds.
+/// long is ended. `Done` after the last one; `Memory` where memory was refused before the first;
+/// `Device` where no more peers are let in, or nothing can be waited for, or after 2^64 - 1 rounds.
 ///
-/// Each link that the lobby gives stands at the place for which it was given, or is over; one for
+/// Each link that the reactor gives stands at the place for which it was given, or is over; one for
 /// which memory is refused is closed and counted.
 ///
 /// With `log` each that is over is a line on `faults` too: `peer ADDRESS names NAME.. end END
@@ -46,38 +46,38 @@ pub struct Bounds {
 /// line, it is left out.
 ///
 /// # Not specified
-/// - That each was told of under its own place.
+/// - That each was reported of under its own place.
 /// - When memory is refused.
 /// - With `log`, when a line is missing.
-pub fn serve_crowd<B: Lobby, T: Turns, O: Sink, E: Sink>(
+pub fn run_event_loop<B: Reactor, T: Turns, O: Sink, E: Sink>(
     alloc: Global,
-    server: &mut Tallied<T>,
-    lobby: &mut B,
+    server: &mut Metered<T>,
+    reactor: &mut B,
     bounds: &Bounds,
     log: bool,
     out: &mut O,
     faults: &mut E,
 ) -> Exit
-    ensures { ServesCrowd B.Lobby B.Link.Link T.answers O.Sink E.Sink log bounds.now result
-        server.old.server server.new.server lobby.old lobby.new out.old out.new faults.old
+    ensures { RunsEventLoop B.Reactor B.Link.Link T.answers O.Sink E.Sink log bounds.now result
+        server.old.server server.new.server reactor.old reactor.new out.old out.new faults.old
         faults.new }
 {
-    let Ok(mut crowd) = Crowd::new(alloc, bounds.places) else {
+    let Ok(mut event_loop) = EventLoop::new(alloc, bounds.places) else {
         return Exit::Memory;
     };
     let Ok(mut buffer) = Vec::from_elem(alloc, 0u8, PIECE) else {
         return Exit::Memory;
     };
-    bw_many::laws::law_many::<B::Link>();
+    bw_connections::laws::law_connections::<B::Link>();
     for _round in 0..u64::MAX {
-        if crowd.ended() >= bounds.exchanges {
+        if event_loop.ended() >= bounds.exchanges {
             return Exit::Done;
         }
         let Ok(()) = serve_round(
             alloc,
-            &mut crowd,
+            &mut event_loop,
             server,
-            lobby,
+            reactor,
             bounds,
             log,
             &mut buffer,
@@ -101,11 +101,11 @@ fn patience(can_go_on: bool) -> u64
 ///
 /// # Errors
 /// `Shut` where no more peers are let in, or nothing can be waited for.
-fn serve_round<B: Lobby, T: Turns, O: Sink, E: Sink>(
+fn serve_round<B: Reactor, T: Turns, O: Sink, E: Sink>(
     alloc: Global,
-    crowd: &mut Crowd<B::Link>,
-    server: &mut Tallied<T>,
-    lobby: &mut B,
+    event_loop: &mut EventLoop<B::Link>,
+    server: &mut Metered<T>,
+    reactor: &mut B,
     bounds: &Bounds,
     log: bool,
     buffer: &mut Vec<u8>,
@@ -113,30 +113,30 @@ fn serve_round<B: Lobby, T: Turns, O: Sink, E: Sink>(
     faults: &mut E,
 ) -> Result<(), Shut>
     requires buffer { vec_len buffer.old ≤ longest_piece }
-    requires begun { begun_of crowd.old.many ≤ bounds.now.exchanges }
-    requires seats { HasSeats crowd.old }
-    ensures round { OnOk result (ServesRound B.Lobby B.Link.Link T.answers O.Sink E.Sink log
-        bounds.now.idle bounds.now.exchanges crowd.old crowd.new server.old.server
-        server.new.server lobby.old lobby.new out.old out.new faults.old faults.new) }
-    ensures shut { OnErr result (IsShut B.Lobby B.Link.Link crowd.old crowd.new server.old.server
-        server.new.server lobby.old lobby.new out.old out.new faults.old faults.new) }
-    ensures begun { begun_of crowd.new.many ≤ bounds.now.exchanges }
-    ensures count { B.failures lobby.new ≡ failures_after result (B.failures lobby.old) }
-    ensures waits { OnOk result (B.waits lobby.new ≡ one_more (B.waits lobby.old)) }
-    ensures seats { HasSeats crowd.new }
+    requires begun { begun_of event_loop.old.connections ≤ bounds.now.exchanges }
+    requires peer_slots { HasPeerSlots event_loop.old }
+    ensures round { OnOk result (ServesRound B.Reactor B.Link.Link T.answers O.Sink E.Sink log
+        bounds.now.idle bounds.now.exchanges event_loop.old event_loop.new server.old.server
+        server.new.server reactor.old reactor.new out.old out.new faults.old faults.new) }
+    ensures shut { OnErr result (IsShut B.Reactor B.Link.Link event_loop.old event_loop.new server.old.server
+        server.new.server reactor.old reactor.new out.old out.new faults.old faults.new) }
+    ensures begun { begun_of event_loop.new.connections ≤ bounds.now.exchanges }
+    ensures count { B.failures reactor.new ≡ failures_after result (B.failures reactor.old) }
+    ensures waits { OnOk result (B.waits reactor.new ≡ one_more (B.waits reactor.old)) }
+    ensures peer_slots { HasPeerSlots event_loop.new }
     ensures buffer { vec_len buffer.new ≡ vec_len buffer.old }
 {
-    let Ok(()) = lobby.wait(patience(crowd.can_go_on())) else {
+    let Ok(()) = reactor.wait(patience(event_loop.can_go_on())) else {
         return Err(Shut);
     };
-    crowd.notice(lobby);
-    let now = lobby.now();
-    crowd.welcome(alloc, lobby, bounds.exchanges, now)?;
+    event_loop.notice(reactor);
+    let now = reactor.now();
+    event_loop.welcome(alloc, reactor, bounds.exchanges, now)?;
     let round = Round {
         now,
         idle: bounds.idle,
         log,
     };
-    crowd.serve_each(alloc, server, buffer.as_mut_slice(), round, out, faults);
+    event_loop.serve_each(alloc, server, buffer.as_mut_slice(), round, out, faults);
     Ok(())
 }

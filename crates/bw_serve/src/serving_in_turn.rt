@@ -1,21 +1,21 @@
 //! The exchanges of the command `serve`, one after another.
 ghost use Rattle.std.specs.Prelude.{◌≡◌};
-ghost use Rattle.bw_serve.specs.ServedAll.{Outcome, Served, ServesNext, ServesPeer, ServesRun};
+ghost use Rattle.bw_serve.specs.ServedAll.{ServedOutcome, Served, ServesNext, ServesPeer, ServesRun};
 ghost use Rattle.bw_serve.specs.ServedAll.{exit_now};
 
+use crate::reporting::report_link;
 use crate::serving_one::serve_link;
-use crate::telling::tell_link;
 use bw_console::Exit;
-use bw_exchange::{Tallied, Turns, end_name};
+use bw_exchange::{Metered, Turns, end_name};
 use bw_ports::{AcceptFault, Peer, Peers};
 use bw_stream::{Sink, Source};
 use std::alloc::Global;
 
-/// Serves so many exchanges, one after another, each over a link of its own, and tells how each
+/// Serves so many exchanges, one after another, each over a link of its own, and says how each
 /// ended in a line.
 ///
 /// An exchange that breaks off, whose line can't be written or whose peer goes away before it is
-/// let in, is the end of that exchange alone, and counts. `Done` behind the last one; `Memory` where
+/// let in, is the end of that exchange alone, and counts. `Done` after the last one; `Memory` where
 /// memory was refused to one; `Device` where no more peers are let in.
 ///
 /// With `log` each link is a line on `faults` too: `peer ADDRESS names NAME.. end END messages N
@@ -23,10 +23,10 @@ use std::alloc::Global;
 ///
 /// # Not specified
 /// - When an `accept` fails.
-/// - With `log`, when the line of a link is missing: for want of memory, or for no cause.
+/// - With `log`, when the line of a link is missing: for lack of memory, or for no cause.
 pub fn serve_run<P: Peers, T: Turns, O: Sink, E: Sink>(
     alloc: Global,
-    server: &mut Tallied<T>,
+    server: &mut Metered<T>,
     peers: &mut P,
     exchanges: u64,
     log: bool,
@@ -45,17 +45,17 @@ pub fn serve_run<P: Peers, T: Turns, O: Sink, E: Sink>(
     Exit::Done
 }
 
-/// Serves the exchange of the next peer. How the run ends, where it ends behind it.
+/// Serves the exchange of the next peer. How the run ends, where it ends after it.
 fn serve_next<P: Peers, T: Turns, O: Sink, E: Sink>(
     alloc: Global,
-    server: &mut Tallied<T>,
+    server: &mut Metered<T>,
     peers: &mut P,
     index: u64,
     log: bool,
     out: &mut O,
     faults: &mut E,
 ) -> Option<Exit>
-    ensures { (outcome : Outcome) × (result ≡ exit_now outcome)
+    ensures { (outcome : ServedOutcome) × (result ≡ exit_now outcome)
         × ServesNext T.answers P.Peers P.Reader.Source P.Writer.Sink O.Sink E.Sink log index outcome
         server.old.server server.new.server peers.old peers.new out.old out.new faults.old
         faults.new }
@@ -66,13 +66,13 @@ fn serve_next<P: Peers, T: Turns, O: Sink, E: Sink>(
         Err(AcceptFault::Closed) => return Some(Exit::Device),
     };
     let exit = serve_peer(alloc, server, peer, index, log, out, faults);
-    end_behind(exit)
+    end_after(exit)
 }
 
 /// Serves the exchange of a peer, and tells of it where lines are asked for.
 fn serve_peer<R: Source + Drop, W: Sink + Drop, T: Turns, O: Sink, E: Sink>(
     alloc: Global,
-    server: &mut Tallied<T>,
+    server: &mut Metered<T>,
     peer: Peer<R, W>,
     index: u64,
     log: bool,
@@ -92,20 +92,20 @@ fn serve_peer<R: Source + Drop, W: Sink + Drop, T: Turns, O: Sink, E: Sink>(
         index,
         out,
     );
-    tell_link(
+    report_link(
         alloc,
         log,
         address,
         end_name(ended.end),
-        server.tally(),
+        server.link_stats(),
         faults,
     );
     ended.exit
 }
 
-/// How the run ends behind an exchange that ended so, where it ends there: want of memory would end
+/// How the run ends after an exchange that ended so, where it ends there: lack of memory would end
 /// the next one too.
-fn end_behind(exit: Exit) -> Option<Exit>
+fn end_after(exit: Exit) -> Option<Exit>
     ensures { result ≡ exit_now (Served exit) }
 {
     match exit {

@@ -1,7 +1,7 @@
 //! One exchange of the command `serve`, and its line.
 ghost use Rattle.std.specs.Prelude.{◌≡◌};
 ghost use Rattle.bw_serve.specs.ServedOne.{ServesOne, ServesTo, exchange_end_line, exit_of_end};
-ghost use Rattle.bw_serve.specs.ServedOne.{exit_untold};
+ghost use Rattle.bw_serve.specs.ServedOne.{exit_unreported};
 
 use arrayvec::ArrayString;
 use bw_console::Exit;
@@ -11,7 +11,7 @@ use bw_stream::{Sink, Source};
 use itoa::Buffer;
 use std::alloc::Global;
 
-/// Serves one exchange, and tells how it ended in a line: `exchange INDEX END`.
+/// Serves one exchange, and says how it ended in a line: `exchange INDEX END`.
 ///
 /// `Done` where it came to the end of its stream, a bad frame among these; `Device` where it broke
 /// off, or the line can't be written; `Memory` where memory was refused, whatever becomes of the
@@ -56,7 +56,7 @@ pub(crate) fn serve_link<R: Source, W: Sink, T: Turns, O: Sink>(
 {
     let end = serve_exchange(alloc, server, reader, writer);
     let exit = match print(out, end_line(index, end).as_str().as_bytes()) {
-        Ok(()) => exit_told(end),
+        Ok(()) => exit_reported(end),
         Err(_failed) => exit_unwritten(end),
     };
     Ended { end, exit }
@@ -77,7 +77,7 @@ fn end_line(index: u64, end: ExchangeEnd) -> ArrayString<64>
 }
 
 /// How the call ends where the line is written.
-fn exit_told(end: ExchangeEnd) -> Exit
+fn exit_reported(end: ExchangeEnd) -> Exit
     ensures { result ≡ exit_of_end end }
 {
     match end {
@@ -93,9 +93,9 @@ fn exit_told(end: ExchangeEnd) -> Exit
 
 /// How the call ends where the line can't be written.
 fn exit_unwritten(end: ExchangeEnd) -> Exit
-    ensures { result ≡ exit_untold end }
+    ensures { result ≡ exit_unreported end }
 {
-    match exit_told(end) {
+    match exit_reported(end) {
         Exit::Memory => Exit::Memory,
         _ => Exit::Device,
     }

@@ -91,7 +91,7 @@ pub fits_held : (g : Growing) (p q : Parts) (done later room room' places places
     done + slot ≤ last_number Second → q ≡ p → later ≡ done → Fits g q later room' places' w'
 fits_held g p q done later room room' places places' slot w w' b f none within set enough enough' number same same' =
     let count = count_set w slot b none within in
-    let front : IsTrue g.dirty → at (slice_set w slot (Some b)) 0 ≡ at w 0 = λ dirty.
+    let prefix : IsTrue g.dirty → at (slice_set w slot (Some b)) 0 ≡ at w 0 = λ dirty.
     at-set_other w slot 0 (Some b) (λ e. no_false
     (ap is_some (sym none) ∙ ap (λ (i : ℕ). is_some (at w i)) (sym e) ∙ f.held dirty)) in
     subst (Fits g q later room' places') (sym set)
@@ -100,8 +100,8 @@ fits_held g p q done later room room' places places' slot w w' b f none within s
       storable = omega (arith, count, enough);
       keepable = omega (arith, count, enough');
       numbers = λ i some. by_slot i some (near_or_not i slot);
-      held = λ dirty. ap is_some (front dirty) ∙ f.held dirty;
-      again = λ dirty body is. f.again dirty body (sym (front dirty) ∙ is);
+      held = λ dirty. ap is_some (prefix dirty) ∙ f.held dirty;
+      again = λ dirty body is. f.again dirty body (sym (prefix dirty) ∙ is);
     })))
   where
     by_slot : (i : ℕ) → is_some (at (slice_set w slot (Some b)) i) ≡ true → (i ≡ slot) ⊎ (i ≢ slot) →
@@ -122,49 +122,49 @@ said_number m e =
     leb-true m.number (last_number Second) (and_parts (is_name m.name) (nat_le m.number (last_number Second))
     (and_parts (is_name m.name && nat_le m.number (last_number Second)) (is_request m.request) e).0).1
 
--- what is kept of so many numbers tells that they are in the log
-filled_front : (stood : Bool) (whole : List (Option Request)) (name : List ℕ) (n count : ℕ) (s : List (Option Request))
-    (k : ℕ) → k < length (finished_from stood whole name n (take count s)) → (r : Request) × (at s k ≡ Some r)
-filled_front stood whole name n zero s k h = absurd (omega (arith, h))
-filled_front stood whole name n (suc count) [] k h = absurd (omega (arith, h))
-filled_front stood whole name n (suc count) (None ∷ s) k h = absurd (omega (arith, h))
-filled_front stood whole name n (suc count) (Some r ∷ s) zero h = (r, refl)
-filled_front stood whole name n (suc count) (Some r ∷ s) (suc k) h =
-    filled_front stood whole name (suc n) count s k (omega (arith, h))
+-- what is kept of so many numbers says that they are in the log
+filled_prefix : (existed : Bool) (whole : List (Option Request)) (name : List ℕ) (n count : ℕ) (s : List (Option Request))
+    (k : ℕ) → k < length (finished_from existed whole name n (take count s)) → (r : Request) × (at s k ≡ Some r)
+filled_prefix existed whole name n zero s k h = absurd (omega (arith, h))
+filled_prefix existed whole name n (suc count) [] k h = absurd (omega (arith, h))
+filled_prefix existed whole name n (suc count) (None ∷ s) k h = absurd (omega (arith, h))
+filled_prefix existed whole name n (suc count) (Some r ∷ s) zero h = (r, refl)
+filled_prefix existed whole name n (suc count) (Some r ∷ s) (suc k) h =
+    filled_prefix existed whole name (suc n) count s k (omega (arith, h))
 
 -- .. where their verdicts are the same
-finished_same : (stood : Bool) (s s' : List (Option Request)) (name : List ℕ) (n end : ℕ)
-    (xs : List (Option Request)) → ((k : ℕ) → k < end → verdict_at stood s' k ≡ verdict_at stood s k) →
-    n + length xs ≤ end → finished_from stood s' name n xs ≡ finished_from stood s name n xs
-finished_same stood s s' name n end [] same h = refl
-finished_same stood s s' name n end (None ∷ xs) same h = refl
-finished_same stood s s' name n end (Some r ∷ xs) same h =
-    ap (λ (v : Verdict). (sha256 (body_of name n r), v) ∷ finished_from stood s' name (suc n) xs)
+finished_same : (existed : Bool) (s s' : List (Option Request)) (name : List ℕ) (n end : ℕ)
+    (xs : List (Option Request)) → ((k : ℕ) → k < end → verdict_at existed s' k ≡ verdict_at existed s k) →
+    n + length xs ≤ end → finished_from existed s' name n xs ≡ finished_from existed s name n xs
+finished_same existed s s' name n end [] same h = refl
+finished_same existed s s' name n end (None ∷ xs) same h = refl
+finished_same existed s s' name n end (Some r ∷ xs) same h =
+    ap (λ (v : Verdict). (sha256 (body_of name n r), v) ∷ finished_from existed s' name (suc n) xs)
     (same n (omega (arith, h)))
-    ∙ ap (λ (ys : List (List ℕ × Verdict)). (sha256 (body_of name n r), verdict_at stood s n) ∷ ys)
-    (finished_same stood s s' name (suc n) end xs same (omega (arith, h)))
+    ∙ ap (λ (ys : List (List ℕ × Verdict)). (sha256 (body_of name n r), verdict_at existed s n) ∷ ys)
+    (finished_same existed s s' name (suc n) end xs same (omega (arith, h)))
 
 abbrev entry_with : List ℕ → ℕ → Request → Verdict → JournalEntry
 entry_with name n r v = record { request = r; verdict = v; digest = sha256 (body_of name n r) }
 
-entries_same : (stood : Bool) (s s' : List (Option Request)) (name : List ℕ) (n end : ℕ)
-    (xs : List (Option Request)) → ((k : ℕ) → k < end → verdict_at stood s' k ≡ verdict_at stood s k) →
-    n + length xs ≤ end → entries_from stood s' name n xs ≡ entries_from stood s name n xs
-entries_same stood s s' name n end [] same h = refl
-entries_same stood s s' name n end (None ∷ xs) same h = refl
-entries_same stood s s' name n end (Some r ∷ xs) same h =
-    ap (λ (v : Verdict). entry_with name n r v ∷ entries_from stood s' name (suc n) xs) (same n (omega (arith, h)))
-    ∙ ap (λ (ys : List JournalEntry). entry_with name n r (verdict_at stood s n) ∷ ys)
-    (entries_same stood s s' name (suc n) end xs same (omega (arith, h)))
+entries_same : (existed : Bool) (s s' : List (Option Request)) (name : List ℕ) (n end : ℕ)
+    (xs : List (Option Request)) → ((k : ℕ) → k < end → verdict_at existed s' k ≡ verdict_at existed s k) →
+    n + length xs ≤ end → entries_from existed s' name n xs ≡ entries_from existed s name n xs
+entries_same existed s s' name n end [] same h = refl
+entries_same existed s s' name n end (None ∷ xs) same h = refl
+entries_same existed s s' name n end (Some r ∷ xs) same h =
+    ap (λ (v : Verdict). entry_with name n r v ∷ entries_from existed s' name (suc n) xs) (same n (omega (arith, h)))
+    ∙ ap (λ (ys : List JournalEntry). entry_with name n r (verdict_at existed s n) ∷ ys)
+    (entries_same existed s s' name (suc n) end xs same (omega (arith, h)))
 
 take_put : (s : List (Option Request)) (n : ℕ) (r : Request) (done : ℕ) → IsFilled s done → at s n ≡ None →
     take done (put s n r) ≡ take done s
 take_put s n r done filled none = take-put s n done r (not_filled s done n filled none) (filled_len s done filled)
 
-made_put : (stood : Bool) (s : List (Option Request)) (n : ℕ) (r : Request) (done : ℕ) → IsFilled s done →
-    at s n ≡ None → made stood (put s n r) done ≡ made stood s done
+made_put : (existed : Bool) (s : List (Option Request)) (n : ℕ) (r : Request) (done : ℕ) → IsFilled s done →
+    at s n ≡ None → made existed (put s n r) done ≡ made existed s done
 unfolding made
-made_put stood s n r done filled none = ap (fold step (new_take stood)) (take_put s n r done filled none)
+made_put existed s n r done filled none = ap (fold step (new_take existed)) (take_put s n r done filled none)
 
 filled_next : (s : List (Option Request)) (done : ℕ) (r : Request) → IsFilled s done → at s done ≡ Some r →
     IsFilled s (suc done)
@@ -189,7 +189,7 @@ module _ (first : Option (List ℕ)) (log : Log) (p : Parts) (finished : List (L
   filled k below =
       let long : length (finished_from (is_some first) log.admitted g.name 0 (take log.done log.admitted)) ≡ log.done =
       ap length (sym h.memory.finished) ∙ h.memory.done in
-      filled_front (is_some first) log.admitted g.name 0 log.done log.admitted k (omega (arith, long, below))
+      filled_prefix (is_some first) log.admitted g.name 0 log.done log.admitted k (omega (arith, long, below))
 
   -- a number that is done, or past the window
   pub outside_not_new : (n : ℕ) → (n < length finished) ⊎ (length finished + 16 ≤ n) → is_admissible log n ≡ false
@@ -203,7 +203,7 @@ module _ (first : Option (List ℕ)) (log : Log) (p : Parts) (finished : List (L
       ap (λ (b : Bool). is_none (at log.admitted n) && b) (le-ltb n (log.done + window) late)
       ∙ and_no (is_none (at log.admitted n))
 
-  -- what stands in a slot tells what the log has under its number
+  -- what stands in a slot says what the log has under its number
   slot_free : (n slot : ℕ) → n ≡ length finished + slot → at w slot ≡ None → at log.admitted n ≡ None
   slot_free n slot place none =
       let done = h.memory.done in
@@ -238,9 +238,9 @@ module _ (first : Option (List ℕ)) (log : Log) (p : Parts) (finished : List (L
     put_memory w' held =
         let same = take_put log.admitted n r log.done filled none in
         let short = take-short log.done log.admitted in
-        let verdicts : (stood : Bool) (k : ℕ) → k < log.done →
-        verdict_at stood (put log.admitted n r) k ≡ verdict_at stood log.admitted k = λ stood k below.
-        verdict-put stood log.admitted n r log.done k filled none below in
+        let verdicts : (existed : Bool) (k : ℕ) → k < log.done →
+        verdict_at existed (put log.admitted n r) k ≡ verdict_at existed log.admitted k = λ existed k below.
+        verdict-put existed log.admitted n r log.done k filled none below in
         record {
           done = h.memory.done;
           finished =
@@ -252,7 +252,7 @@ module _ (first : Option (List ℕ)) (log : Log) (p : Parts) (finished : List (L
           state = h.memory.state ∙ ap (λ (t : Take). record (parts t) { taken = p.taken })
               (sym (made_put (is_some first) log.admitted n r log.done filled none));
           taken = h.memory.taken;
-          told = λ k below is. h.memory.told k below (sym (verdicts (is_some first) k below) ∙ is);
+          reported = λ k below is. h.memory.reported k below (sym (verdicts (is_some first) k below) ∙ is);
         }
 
     put_file : (w' : List (Option (List ℕ))) →
@@ -291,9 +291,9 @@ module _ (first : Option (List ℕ)) (log : Log) (p : Parts) (finished : List (L
     journal_put hd name =
         let short = take-short log.done log.admitted in
         ap (λ (es : List JournalEntry). header_bytes hd ++ sealed_entries es)
-        (ap (entries_from hd.stood (put log.admitted n r) name 0) (take_put log.admitted n r log.done filled none)
-        ∙ entries_same hd.stood log.admitted (put log.admitted n r) name 0 log.done (take log.done log.admitted)
-        (λ k below. verdict-put hd.stood log.admitted n r log.done k filled none below) (omega (arith, short)))
+        (ap (entries_from hd.existed (put log.admitted n r) name 0) (take_put log.admitted n r log.done filled none)
+        ∙ entries_same hd.existed log.admitted (put log.admitted n r) name 0 log.done (take log.done log.admitted)
+        (λ k below. verdict-put hd.existed log.admitted n r log.done k filled none below) (omega (arith, short)))
 
     put_entries : (hd : Header) (name : List ℕ) (notes : Option (List ℕ)) → HasEntries hd name log notes →
         HasEntries hd name (record log { admitted = put log.admitted n r }) notes
@@ -305,26 +305,26 @@ module _ (first : Option (List ℕ)) (log : Log) (p : Parts) (finished : List (L
           0,
           entries.1
               ∙ ap (λ (x : Option Request). Some (journal_of hd name log
-              ++ take entries.0 (entry_if hd.stood name log.admitted log.done x))) is
+              ++ take entries.0 (entry_if hd.existed name log.admitted log.done x))) is
               ∙ ap (λ (x : List ℕ). Some (journal_of hd name log ++ x)) (take_none entries.0)
               ∙ ap (λ (x : List ℕ). Some (x ++ [])) (sym (journal_put hd name)),
         )
         go (Some x) is =
             let apart : at (put log.admitted n r) log.done ≡ at log.admitted log.done =
             at-put_other log.admitted n log.done r (λ e. no_some (sym none ∙ ap (at log.admitted) (sym e) ∙ is)) in
-            let verdict : verdict_at hd.stood (put log.admitted n r) log.done
-            ≡ verdict_at hd.stood log.admitted log.done =
-            verdict-put hd.stood log.admitted n r (suc log.done) log.done
+            let verdict : verdict_at hd.existed (put log.admitted n r) log.done
+            ≡ verdict_at hd.existed log.admitted log.done =
+            verdict-put hd.existed log.admitted n r (suc log.done) log.done
             (filled_next log.admitted log.done x filled is) none (omega arith) in
-            let same : next_entry hd.stood name log
-            ≡ next_entry hd.stood name (record log { admitted = put log.admitted n r }) =
-            ap (entry_if hd.stood name log.admitted log.done) is
+            let same : next_entry hd.existed name log
+            ≡ next_entry hd.existed name (record log { admitted = put log.admitted n r }) =
+            ap (entry_if hd.existed name log.admitted log.done) is
             ∙ ap (λ (v : Verdict). sealed_entry (entry_with name log.done x v)) (sym verdict)
-            ∙ ap (entry_if hd.stood name (put log.admitted n r) log.done) (sym (apart ∙ is)) in (
+            ∙ ap (entry_if hd.existed name (put log.admitted n r) log.done) (sym (apart ∙ is)) in (
               entries.0,
               entries.1 ∙ ap (λ (bytes : List ℕ). Some (journal_of hd name log ++ take entries.0 bytes)) same
                   ∙ ap (λ (bytes : List ℕ). Some (bytes ++ take entries.0
-                  (next_entry hd.stood name (record log { admitted = put log.admitted n r }))))
+                  (next_entry hd.existed name (record log { admitted = put log.admitted n r }))))
                   (sym (journal_put hd name)),
             )
 
@@ -334,7 +334,7 @@ module _ (first : Option (List ℕ)) (log : Log) (p : Parts) (finished : List (L
     put_notes hd name offset notes noted = record {
       offset_is = noted.offset_is ∙ ap length (sym (journal_put hd name));
       stands = elim noted.stands [
-        | inl front ↦ inl front
+        | inl prefix ↦ inl prefix
         | inr entries ↦ inr (put_entries hd name notes entries)
       ];
     }

@@ -9,7 +9,7 @@ use Rattle.bw_model.specs.Wire.{Message}
 use Rattle.bw_model.specs.Replies.{Reply as ModelReply, NoRoom, Judged, Noticed, Refused}
 use Rattle.bw_model.specs.Book.{Log}
 use Rattle.bw_model.specs.CountedTurn.{is_pending}
-use Rattle.bw_model.specs.Turn.{Luck, served, turn_by, is_admissible, notice, window, is_turned_away}
+use Rattle.bw_model.specs.Turn.{Faults, served, turn_by, is_admissible, notice, window, is_turned_away}
 use Rattle.bw_model.specs.Take.{Parts, Verdict}
 use Rattle.bw_file.specs.Growing.{Growing}
 use Rattle.bw_wire.specs.declared.reply.Reply.{Reply}
@@ -17,8 +17,8 @@ use Rattle.bw_wire.specs.Replies.{reply_of}
 use Rattle.bw_session.specs.Draining.{HoldsPart}
 use Rattle.bw_session.specs.Sessions.{Part, HoldsLog, KeepsProgress, part_of}
 use Rattle.bw_session.specs.declared.session.Session.{Session}
-use Rattle.bw_session.specs.Telling.{IsServing}
-use Rattle.bw_session.specs.Serving.{Serves, Answers}
+use Rattle.bw_session.specs.Reporting.{IsServing}
+use Rattle.bw_session.specs.Serving.{ServesMessage, Answers}
 
 and_no : (b : Bool) → (b && false) ≡ false
 and_no true = refl
@@ -41,11 +41,11 @@ module _ (known full : Bool) (first : Option (List ℕ)) (log : Log) (m : Messag
 
   -- it is served
   pub answers_served : (before after : ℕ) (replies : List Reply) (p : Part) (found : Option (List ℕ)) →
-      Serves first log m before after replies p found → Answers known full first log m before after replies p found
+      ServesMessage first log m before after replies p found → Answers known full first log m before after replies p found
   answers_served before after replies p found s =
       let is = by_serving s.stop in
       record {
-        luck = record { refused = false; stop = s.stop };
+        faults = record { refused = false; stop = s.stop };
         answered = ap (λ (x : List ModelReply × Option Log). x.0) is ∙ s.answered;
         left = subst (λ (x : List ModelReply × Option Log). HoldsLog first (unwrap_or x.1 log) p found) (sym is) s.left;
         room = λ never. no_false never;
@@ -62,13 +62,13 @@ module _ (known full : Bool) (first : Option (List ℕ)) (log : Log) (m : Messag
   pub answers_refused : (before : ℕ) (replies : List Reply) (p : Part) (found : Option (List ℕ)) →
       is_admissible log m.number ≡ true → map reply_of replies ≡ notice m NoRoom log.done →
       HoldsLog first log p found → Answers known full first log m before before replies p found
-  answers_refused before replies p found admissible told h =
+  answers_refused before replies p found admissible reported h =
       let is = by_refusal admissible in
       record {
-        luck = record { refused = true; stop = None };
-        answered = ap (λ (x : List ModelReply × Option Log). x.0) is ∙ sym told;
+        faults = record { refused = true; stop = None };
+        answered = ap (λ (x : List ModelReply × Option Log). x.0) is ∙ sym reported;
         left = subst (λ (x : List ModelReply × Option Log). HoldsLog first (unwrap_or x.1 log) p found) (sym is) h;
-        room = λ refused. (admissible, told);
+        room = λ refused. (admissible, reported);
         count = subst (λ (x : List ModelReply × Option Log). Counts before before (option_map_or is_pending x.1 false))
             (sym is) (record { quiet = λ q. refl; rises = λ r. no_false r; stays = λ l. refl });
         whole = λ quiet. refl;
@@ -95,9 +95,9 @@ same_part first log s s' found k same h =
 pub answers_known : (known full : Bool) (first : Option (List ℕ)) (log : Log) (m : Message)
     (near : (not known && nat_le window m.number) ≡ false) (fits : (not known && full) ≡ false)
     (before after : ℕ) (replies : List Reply) (p : Part) (found : Option (List ℕ))
-    (s : Serves first log m before after replies p found) →
+    (s : ServesMessage first log m before after replies p found) →
     is_some (turn_by (is_some first) known full log m
-    (answers_served known full first log m near fits before after replies p found s).luck).1 ≡ true
+    (answers_served known full first log m near fits before after replies p found s).faults).1 ≡ true
 unfolding answers_served
 answers_known known full first log m near fits before after replies p found s =
     ap (λ (x : List ModelReply × Option Log). is_some x.1) (by_serving known full first log m near fits s.stop)
@@ -109,19 +109,19 @@ pub answers_full : (full : Bool) (first : Option (List ℕ)) (log : Log) (m : Me
     Answers true full first log m before after replies p found
 unfolding turn_by
 answers_full full first log m before after replies p found a = record {
-  luck = a.luck;
-  answered = ap (λ (x : List ModelReply × Option Log). x.0) (same a.luck) ∙ a.answered;
-  left = subst (λ (x : List ModelReply × Option Log). HoldsLog first (unwrap_or x.1 log) p found) (sym (same a.luck))
+  faults = a.faults;
+  answered = ap (λ (x : List ModelReply × Option Log). x.0) (same a.faults) ∙ a.answered;
+  left = subst (λ (x : List ModelReply × Option Log). HoldsLog first (unwrap_or x.1 log) p found) (sym (same a.faults))
       a.left;
   room = a.room;
   count = subst (λ (x : List ModelReply × Option Log). Counts before after (option_map_or is_pending x.1 false))
-      (sym (same a.luck)) a.count;
+      (sym (same a.faults)) a.count;
   whole = λ quiet. a.whole
-      (sym (ap (λ (x : List ModelReply × Option Log). option_map_or is_pending x.1 false) (same a.luck)) ∙ quiet);
+      (sym (ap (λ (x : List ModelReply × Option Log). option_map_or is_pending x.1 false) (same a.faults)) ∙ quiet);
 }
   where
-    same : (luck : Luck) → turn_by (is_some first) true full log m luck ≡ turn_by (is_some first) true false log m luck
-    same luck = refl
+    same : (faults : Faults) → turn_by (is_some first) true full log m faults ≡ turn_by (is_some first) true false log m faults
+    same faults = refl
 
 same_head : (x : ModelReply) (rs : List ModelReply) → is_turned_away (x ∷ rs) ≡ is_turned_away (x ∷ [])
 same_head (Judged name n v) rs = refl

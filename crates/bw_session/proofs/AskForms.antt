@@ -14,8 +14,8 @@ use Rattle.bw_store.specs.declared.store.TakeStore.{Ghosts as StoreGhosts}
 use Rattle.bw_wire.specs.Bodies.{message_in}
 use Rattle.bw_session.specs.Carrying.{judged_plan}
 use Rattle.bw_session.specs.KeptParts.{Part}
-use Rattle.bw_session.specs.Judging.{judged_by, parts_under, KeepsJudged}
-use Rattle.bw_session.specs.Asking.{DoesFirst, TriesFirst, DoesInRow, DoesRun, IsIdle, window_with, holding}
+use Rattle.bw_session.specs.Judging.{judged_in, parts_under, KeepsJudged}
+use Rattle.bw_session.specs.Asking.{DoesFirst, TriesFirst, DoesConsecutively, DoesRun, HoldsNoNext, window_with, holding}
 use Rattle.bw_session.specs.Asking.{AsksInTurn}
 use Rattle.bw_session.specs.Asking.{new_part}
 use Rattle.std.specs.Option.{option_map_or}
@@ -53,7 +53,7 @@ module _ (p q s : Parts) (r : Request) (v : Verdict) (known : q ≡ record p { t
   taken_is = ap (λ (x : Parts). x.taken) kept ∙ under_taken (is_stored v) q r
 
   -- the verdict is by the parts before, and what is known of the name
-  pub verdict_by : v ≡ judged_by p r s.taken
+  pub verdict_by : v ≡ judged_in p r s.taken
   verdict_by =
       judged ∙ ap (λ (x : Parts). judge x r) known ∙ ap (λ (b : Bool). judge (record p { taken = b }) r) (sym taken_is)
 
@@ -61,11 +61,11 @@ module _ (p q s : Parts) (r : Request) (v : Verdict) (known : q ≡ record p { t
   pub keeps_judged : KeepsJudged p r s
   keeps_judged =
       kept ∙ ap (λ (x : Verdict). parts_under x q r) verdict_by
-      ∙ ap (λ (x : Parts). parts_under (judged_by p r s.taken) x r)
+      ∙ ap (λ (x : Parts). parts_under (judged_in p r s.taken) x r)
       (known ∙ ap (λ (b : Bool). record p { taken = b }) (sym taken_is))
 
--- no number is left, behind one more
-one_further : (a : Part) (count most : ℕ) → IsIdle a ⊎ (count ≡ most) → IsIdle a ⊎ (suc count ≡ suc most)
+-- no number is left, after one more
+one_further : (a : Part) (count most : ℕ) → HoldsNoNext a ⊎ (count ≡ most) → HoldsNoNext a ⊎ (suc count ≡ suc most)
 one_further a count most (inl idle) = inl idle
 one_further a count most (inr all) = inr (ap suc all)
 
@@ -75,7 +75,7 @@ module _ {X : Type 0} (S : StoreGhosts X) where
       at a.window 0 ≡ Some body → r ≡ (message_in body).request → digest ≡ sha256 body →
       WasAsked S (judged_plan a.growing a.parts r b.growing.made) x y →
       b.growing ≡ record a.growing { made = b.growing.made; dirty = b.growing.dirty } → b.growing.dirty ≡ false →
-      KeepsJudged a.parts r b.parts → v ≡ judged_by a.parts r b.parts.taken →
+      KeepsJudged a.parts r b.parts → v ≡ judged_in a.parts r b.parts.taken →
       b.outcomes ≡ a.outcomes ++ (digest, v) ∷ [] → b.window ≡ drop 1 a.window ++ None ∷ [] → DoesFirst S a x b y
   does_first a b x y body digest r v held read summed asked known clean kept judged outcomes window = record {
     body = body;
@@ -85,7 +85,7 @@ module _ {X : Type 0} (S : StoreGhosts X) where
     parts = subst (λ (q : Request). KeepsJudged a.parts q b.parts) read kept;
     outcomes = outcomes ∙ ap (λ (d : List ℕ). a.outcomes ++ (d, v) ∷ []) summed
         ∙ ap (λ (w : Verdict). a.outcomes ++ (sha256 body, w) ∷ [])
-        (judged ∙ ap (λ (q : Request). judged_by a.parts q b.parts.taken) read);
+        (judged ∙ ap (λ (q : Request). judged_in a.parts q b.parts.taken) read);
     window = window;
   }
 
@@ -104,8 +104,8 @@ module _ {X : Type 0} (S : StoreGhosts X) where
   }
 
   -- one number, and then so many
-  pub row_after : (n : ℕ) (a b c : Part) (x y z : X) → DoesFirst S a x b y → DoesInRow S n b y c z →
-      DoesInRow S (suc n) a x c z
+  pub row_after : (n : ℕ) (a b c : Part) (x y z : X) → DoesFirst S a x b y → DoesConsecutively S n b y c z →
+      DoesConsecutively S (suc n) a x c z
   row_after zero a b c x y z first none = (
     a,
     x,
@@ -127,15 +127,15 @@ module _ {X : Type 0} (S : StoreGhosts X) where
     all = λ whole. one_further run.last run.count most (run.all whole);
   }
 
-  -- where no reply was given yet sixteen numbers may be done, and behind one reply fifteen
-  pub run_from_none : {A : Type 0} (told : List A) (stopped : Bool) (a b : Part) (x y : X) → told ≡ [] →
-      DoesRun S (16 - length told) stopped a x b y → DoesRun S 16 stopped a x b y
-  run_from_none {A} told stopped a b x y none run =
+  -- where no reply was given yet sixteen numbers may be done, and after one reply fifteen
+  pub run_from_none : {A : Type 0} (reported : List A) (stopped : Bool) (a b : Part) (x y : X) → reported ≡ [] →
+      DoesRun S (16 - length reported) stopped a x b y → DoesRun S 16 stopped a x b y
+  run_from_none {A} reported stopped a b x y none run =
       subst (λ (t : List A). DoesRun S (16 - length t) stopped a x b y) none run
 
-  pub run_from_one : {A : Type 0} (old told : List A) (r : A) (stopped : Bool) (a b : Part) (x y : X) → old ≡ [] →
-      told ≡ old ++ r ∷ [] → DoesRun S (16 - length told) stopped a x b y → DoesRun S 15 stopped a x b y
-  run_from_one {A} old told r stopped a b x y none one run =
+  pub run_from_one : {A : Type 0} (old reported : List A) (r : A) (stopped : Bool) (a b : Part) (x y : X) → old ≡ [] →
+      reported ≡ old ++ r ∷ [] → DoesRun S (16 - length reported) stopped a x b y → DoesRun S 15 stopped a x b y
+  run_from_one {A} old reported r stopped a b x y none one run =
       subst (λ (t : List A). DoesRun S (16 - length t) stopped a x b y)
       (one ∙ ap (λ (t : List A). t ++ r ∷ []) none) run
 

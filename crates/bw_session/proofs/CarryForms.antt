@@ -72,7 +72,7 @@ carries_refused v p r g found e s touched =
           made_here = h.made_here;
         }),
       );
-      stood = λ none unmade stood. (refl, unmade, e ∙ taken_same p r none refused);
+      existed = λ none unmade existed. (refl, unmade, e ∙ taken_same p r none refused);
     }
 
 pub carries_new : (v : Verdict) (p : Parts) (r : Request) (g g' : Growing) (before found : Option (List ℕ)) →
@@ -86,7 +86,7 @@ carries_new v p r g g' before found e s w =
         refl,
         subst (λ (u : Take). HasWholeFile u g' found) (after_stored t p r same stored) (w.own t same h).1,
       );
-      stood = λ none unmade stood. no_false (sym (w.stood none unmade stood).2);
+      existed = λ none unmade existed. no_false (sym (w.existed none unmade existed).2);
     }
 
 pub carries_exists : (v : Verdict) (p q : Parts) (r : Request) (g g' : Growing) (before found : Option (List ℕ)) →
@@ -94,8 +94,8 @@ pub carries_exists : (v : Verdict) (p q : Parts) (r : Request) (g g' : Growing) 
     Carries (Ok v) r p q g g' before found
 carries_exists v p q r g g' before found taken e w = record {
   own = λ t same h. no_false (w.own t same h).0;
-  stood = λ none unmade stood.
-      let left = w.stood none unmade stood in (left.0, left.1, e ∙ ap (λ (x : Parts). judge x r) taken);
+  existed = λ none unmade existed.
+      let left = w.existed none unmade existed in (left.0, left.1, e ∙ ap (λ (x : Parts). judge x r) taken);
 }
 
 pub carries_err : (fault fault' : StoreFault) (p : Parts) (r : Request) (g g' : Growing)
@@ -103,5 +103,5 @@ pub carries_err : (fault fault' : StoreFault) (p : Parts) (r : Request) (g g' : 
     WritesRequest (Err fault) r p g g' before found → Carries (Err fault') r p p g g' before found
 carries_err fault fault' p r g g' before found w = record {
   own = λ t same h. w.own t same h;
-  stood = λ none unmade stood. let left = w.stood none unmade stood in (left.0, left.1, tt);
+  existed = λ none unmade existed. let left = w.existed none unmade existed in (left.0, left.1, tt);
 }

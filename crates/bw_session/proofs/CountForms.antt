@@ -12,7 +12,7 @@ use Rattle.bw_model.specs.Book.{Log, Book, log_of, is_known}
 use Rattle.bw_model.specs.BookRules.{IsBook, IsLog, HasEachOnce}
 use Rattle.bw_model.specs.Turn.{most_takes}
 use Rattle.bw_model.proofs.BookLemmas.{same_name, name_refl}
-use Rattle.bw_model.proofs.BookLaws.{names_tell_the_length, apart_sym}
+use Rattle.bw_model.proofs.BookLaws.{names_report_the_length, apart_sym}
 use Rattle.bw_session.specs.Tables.{Table, session_in}
 use Rattle.bw_session.specs.Servers.{kept_by}
 use Rattle.bw_session.specs.declared.session.Session.{Session}
@@ -71,7 +71,7 @@ pub counted : {H : Type 0} (sessions : Table H) (book : Book) → IsUnique bytes
     ((n : List ℕ) → is_known book n ≡ is_some (option_map kept_by (session_in sessions n))) →
     length book ≡ hash_map_len sessions
 counted sessions book unique h few names =
-    names_tell_the_length book over h over_is same ∙ length-map sessions.entries (λ e. (e.0, log_of book e.0))
+    names_report_the_length book over h over_is same ∙ length-map sessions.entries (λ e. (e.0, log_of book e.0))
   where
     over : Book
     over = book_over (log_of book) sessions.entries

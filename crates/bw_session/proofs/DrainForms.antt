@@ -19,7 +19,7 @@ use Rattle.bw_model.proofs.Elements.{some_inj}
 use Rattle.bw_model.proofs.Payloads.{reads_request}
 use Rattle.bw_file.specs.Growing.{Growing}
 use Rattle.bw_session.specs.Windows.{count_held}
-use Rattle.bw_session.specs.Fronts.{take_done, FileStands, FileFollows, HoldsFront}
+use Rattle.bw_session.specs.Prefixes.{take_done, FileStands, FileFollows, HoldsPrefix}
 use Rattle.bw_session.specs.Numbered.{IsNext, with_done, IsDone}
 use Rattle.bw_session.specs.Draining.{Fits, kept_as, NameStands, HoldsPart}
 
@@ -35,8 +35,8 @@ first_or (x ∷ xs) d = x
 head_same : (x y : ℕ) (xs ys : List ℕ) → x ∷ xs ≡ y ∷ ys → x ≡ y
 head_same x y xs ys e = ap (λ (zs : List ℕ). first_or zs x) e
 
-behind_same : (a b x y : List ℕ) → length a ≡ length b → a ++ x ≡ b ++ y → x ≡ y
-behind_same a b x y len e =
+after_same : (a b x y : List ℕ) → length a ≡ length b → a ++ x ≡ b ++ y → x ≡ y
+after_same a b x y len e =
     sym (drop_at a x (length a) refl) ∙ ap (drop (length a)) e ∙ drop_at b y (length a) (sym len)
 
 -- two messages of one body have one request
@@ -50,7 +50,7 @@ same_request a b e fits fits' =
     let len : length (a.name ++ le32 a.number) ≡ length (b.name ++ le32 b.number) =
     length-append a.name (le32 a.number) ∙ ap (λ (n : ℕ). n + 4) lengths
     ∙ sym (length-append b.name (le32 b.number)) in
-    let payloads : payload a.request ≡ payload b.request = behind_same _ _ _ _ len more in
+    let payloads : payload a.request ≡ payload b.request = after_same _ _ _ _ len more in
     sym (reads_request a.request fits).request_is
     ∙ ap (λ (k : ℕ). request_of k (payload a.request)) kinds
     ∙ ap (request_of (kind b.request)) payloads
@@ -75,10 +75,10 @@ next_slot w i = at-push (drop 1 w) i ∙ at-tail w i
 no_some : {A : Type 0} {x : List ℕ} → None ≡ Some x → A
 no_some e = cc
 
-pub count_front : (w : List (Option (List ℕ))) (b : List ℕ) → at w 0 ≡ Some b →
+pub count_prefix : (w : List (Option (List ℕ))) (b : List ℕ) → at w 0 ≡ Some b →
     count_held (drop 1 w ++ None ∷ []) + 1 ≡ count_held w
-count_front [] b e = no_some e
-count_front (x ∷ xs) b e = let some : is_some x ≡ true = ap is_some e in grind (arith, common_steps)
+count_prefix [] b e = no_some e
+count_prefix (x ∷ xs) b e = let some : is_some x ≡ true = ap is_some e in grind (arith, common_steps)
 
 -- What holds whatever was sent.
 
@@ -87,7 +87,7 @@ pub fits_done : (g g' : Growing) (p q : Parts) (done later room room' places pla
     w' ≡ drop 1 w ++ None ∷ [] → later ≡ done + 1 → room ≤ room' + 1 → places ≤ places' + 1 → g'.dirty ≡ false →
     Fits g' q later room' places' w'
 fits_done g g' p q done later room room' places places' w w' b f here moved more less less' clean =
-    let count = count_front w b here in
+    let count = count_prefix w b here in
     let r = f.storable in
     let s = f.keepable in
     subst (Fits g' q later room' places') (sym moved) (record {
@@ -143,14 +143,14 @@ module _ (first : Option (List ℕ)) (log : Log) (p : Parts) (finished : List (L
             digest_is = d ∙ ap sha256 (body ∙ ap (body_of g.name log.done) same);
           }
 
-  front_of : (r : Request) → at log.admitted log.done ≡ Some r → HoldsFront first log p finished r g found
-  front_of r here = record {
+  prefix_of : (r : Request) → at log.admitted log.done ≡ Some r → HoldsPrefix first log p finished r g found
+  prefix_of r here = record {
     memory = record {
       done = h.memory.done;
       finished_are = h.memory.finished;
       state_is = h.memory.state;
       taken = h.memory.taken;
-      told = h.memory.told;
+      reported = h.memory.reported;
     };
     file = stands first h.file;
   }
@@ -166,19 +166,19 @@ module _ (first : Option (List ℕ)) (log : Log) (p : Parts) (finished : List (L
       stands (Some bytes) f = f
 
   -- both, where the message that the body spells was read
-  pub held_front : (m : Message) (r : Request) (digest b name : List ℕ) → g.name ≡ name → at w 0 ≡ Some b →
+  pub held_prefix : (m : Message) (r : Request) (digest b name : List ℕ) → g.name ≡ name → at w 0 ≡ Some b →
       b ≡ message_body m → r ≡ m.request → is_request r ≡ true → digest ≡ sha256 b →
-      IsNext name log r digest × HoldsFront first log p finished r g found
-  held_front m r digest b name same e spelled is fits d =
+      IsNext name log r digest × HoldsPrefix first log p finished r g found
+  held_prefix m r digest b name same e spelled is fits d =
       let next : IsNext g.name log r digest =
       subst (λ (x : Request). IsNext g.name log x digest) (sym is)
       (held_next m digest (e ∙ ap Some spelled) (ap is_request (sym is) ∙ fits) (d ∙ ap sha256 spelled)) in
-      (subst (λ (x : List ℕ). IsNext x log r digest) same next, front_of r next.here)
+      (subst (λ (x : List ℕ). IsNext x log r digest) same next, prefix_of r next.here)
 
   -- the number waits on
   pub part_waits : (q : Parts) (later : List (List ℕ × Verdict)) (r : Request) (g' : Growing)
       (found' : Option (List ℕ)) →
-      at log.admitted log.done ≡ Some r → g'.name ≡ g.name → HoldsFront first log q later r g' found' →
+      at log.admitted log.done ≡ Some r → g'.name ≡ g.name → HoldsPrefix first log q later r g' found' →
       HoldsPart first log q later w g' found'
   part_waits q later r g' found' here name f = record {
     fits = h.fits;
@@ -189,7 +189,7 @@ module _ (first : Option (List ℕ)) (log : Log) (p : Parts) (finished : List (L
           ∙ ap (λ (x : List ℕ). option_map (body_of x (log.done + i)) (at log.admitted (log.done + i))) (sym name);
       state = f.memory.state_is;
       taken = f.memory.taken;
-      told = f.memory.told;
+      reported = f.memory.reported;
     };
     file = stands first f.file;
   }
@@ -222,7 +222,7 @@ module _ (first : Option (List ℕ)) (log : Log) (p : Parts) (finished : List (L
           (sym name);
       state = d.memory.state_is;
       taken = d.memory.taken;
-      told = d.memory.told;
+      reported = d.memory.reported;
     };
     file = stands first d.file;
   }

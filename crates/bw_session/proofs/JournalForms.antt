@@ -7,13 +7,13 @@ use Rattle.bw_model.specs.Wire.{Message}
 use Rattle.bw_model.specs.Replies.{Reply as ModelReply}
 use Rattle.bw_model.specs.Book.{Log, Book, log_of, is_known, with_log}
 use Rattle.bw_model.specs.Turn.{is_turned_away, window}
-use Rattle.bw_model.specs.CountedTurn.{book_told}
+use Rattle.bw_model.specs.CountedTurn.{book_reported}
 use Rattle.bw_model.proofs.BookLemmas.{same_name, log-with_log_same, log-with_log_other}
 use Rattle.bw_store.specs.Stores.{KeepsOthers}
 use Rattle.bw_journal.specs.JournalHeaders.{Header, header_bytes}
-use Rattle.bw_journal.specs.Notes.{IsFrontOf, KeepsHeaders}
+use Rattle.bw_journal.specs.Notes.{IsPrefixOf, KeepsHeaders}
 use Rattle.bw_session.specs.Noting.{IsNoted}
-use Rattle.bw_session.specs.Serving.{log_after, log_told}
+use Rattle.bw_session.specs.Serving.{log_after, log_reported}
 use Rattle.bw_session.specs.Journaled.{NotesNames}
 use Rattle.bw_session.specs.declared.session.Session.{Session}
 use Rattle.bw_session.proofs.ServerForms.{apart_names}
@@ -31,7 +31,7 @@ module _ (header header' : List ℕ → Header) (notes notes' first : List ℕ �
   notes_after headers keeps sets log_is others noted = record {
     known = λ n x e. known n x e (bytes_eq name n) refl;
     unknown = λ n e. unknown n e (bytes_eq name n) refl;
-    stood = λ n. ap (λ (z : Header). z.stood) (headers n) ∙ h.stood n;
+    existed = λ n. ap (λ (z : Header). z.existed) (headers n) ∙ h.existed n;
   }
     where
       some_same : {a b : Session} → Some a ≡ Some b → a ≡ b
@@ -64,18 +64,18 @@ module _ (header header' : List ℕ → Header) (notes notes' first : List ℕ �
           (sym (note_other n b)) (h.known n x (sym (there n b) ∙ e))))
 
       unknown : (n : List ℕ) → sessions' n ≡ None → (b : Bool) → bytes_eq name n ≡ b →
-          IsFrontOf (header_bytes (header' n)) (notes' n)
+          IsPrefixOf (header_bytes (header' n)) (notes' n)
       unknown n e true b = never (sym (here n b) ∙ e)
       unknown n e false b =
-          subst (λ (z : Header). IsFrontOf (header_bytes z) (notes' n)) (sym (headers n))
-          (subst (λ (z : Option (List ℕ)). IsFrontOf (header_bytes (header n)) z) (sym (note_other n b))
+          subst (λ (z : Header). IsPrefixOf (header_bytes z) (notes' n)) (sym (headers n))
+          (subst (λ (z : Option (List ℕ)). IsPrefixOf (header_bytes (header n)) z) (sym (note_other n b))
           (h.unknown n (sym (there n b) ∙ e)))
 
 -- the book that a message's replies tell
 module _ (book : Book) (m : Message) (replies : List ModelReply) (done : ℕ)
     (near : (not (is_known book m.name) && nat_le window m.number) ≡ false) where
-  pub told_here : log_of (book_told book m replies done) m.name ≡ log_told (log_of book m.name) m replies done
-  told_here = ap (λ (b : Bool). log_of (cond (b || is_turned_away replies) book
+  pub reported_here : log_of (book_reported book m replies done) m.name ≡ log_reported (log_of book m.name) m replies done
+  reported_here = ap (λ (b : Bool). log_of (cond (b || is_turned_away replies) book
       (with_log book m.name (log_after (log_of book m.name) m done))) m.name) near ∙ go (is_turned_away replies)
     where
       go : (b : Bool) → log_of (cond b book (with_log book m.name (log_after (log_of book m.name) m done))) m.name
@@ -83,9 +83,9 @@ module _ (book : Book) (m : Message) (replies : List ModelReply) (done : ℕ)
       go true = refl
       go false = log-with_log_same book m.name (log_after (log_of book m.name) m done)
 
-  pub told_others : (n : List ℕ) → bytes_eq m.name n ≡ false →
-      log_of (book_told book m replies done) n ≡ log_of book n
-  told_others n apart = go ((not (is_known book m.name) && nat_le window m.number) || is_turned_away replies)
+  pub reported_others : (n : List ℕ) → bytes_eq m.name n ≡ false →
+      log_of (book_reported book m replies done) n ≡ log_of book n
+  reported_others n apart = go ((not (is_known book m.name) && nat_le window m.number) || is_turned_away replies)
     where
       go : (b : Bool) → log_of (cond b book (with_log book m.name (log_after (log_of book m.name) m done))) n
           ≡ log_of book n
@@ -93,10 +93,10 @@ module _ (book : Book) (m : Message) (replies : List ModelReply) (done : ℕ)
       go false = log-with_log_other book m.name n (log_after (log_of book m.name) m done) apart
 
 -- a message that was turned away leaves the book
-pub told_away : (book : Book) (m : Message) (replies : List ModelReply) (done : ℕ) →
+pub reported_away : (book : Book) (m : Message) (replies : List ModelReply) (done : ℕ) →
     ((not (is_known book m.name) && nat_le window m.number) || is_turned_away replies) ≡ true →
-    book_told book m replies done ≡ book
-told_away book m replies done away =
+    book_reported book m replies done ≡ book
+reported_away book m replies done away =
     ap (λ (b : Bool). cond b book (with_log book m.name (log_after (log_of book m.name) m done))) away
 
 -- who is too far, or turned away, leaves the book

@@ -4,7 +4,7 @@ pub mod OwnFiles
 pub mod WriteForms
 pub mod CarryForms
 pub mod LogSteps
-pub mod FrontForms
+pub mod PrefixForms
 pub mod NumberForms
 pub mod NoteForms
 pub mod DrainForms
@@ -17,7 +17,7 @@ pub mod ServeForms
 pub mod AnswerForms
 pub mod ServerForms
 pub mod CountForms
-pub mod TellForms
+pub mod ReportForms
 pub mod JournalForms
 pub mod SettledForms
 pub mod UseForms

@@ -27,11 +27,11 @@ take_next [] n r e = absurd (none e)
 take_next (x ∷ s) zero r e = ap (λ (y : Option Request). y ∷ []) e
 take_next (x ∷ s) (suc n) r e = ap (λ (ys : List (Option Request)). x ∷ ys) (take_next s n r e)
 
-pub made_next : (stood : Bool) (s : List (Option Request)) (n : ℕ) (r : Request) → at s n ≡ Some r →
-    made stood s (suc n) ≡ after (made stood s n) r
+pub made_next : (existed : Bool) (s : List (Option Request)) (n : ℕ) (r : Request) → at s n ≡ Some r →
+    made existed s (suc n) ≡ after (made existed s n) r
 unfolding made
-made_next stood s n r e =
-    ap (fold step (new_take stood)) (take_next s n r e) ∙ fold-append step (new_take stood) (take n s) (Some r ∷ [])
+made_next existed s n r e =
+    ap (fold step (new_take existed)) (take_next s n r e) ∙ fold-append step (new_take existed) (take n s) (Some r ∷ [])
 
 taken-with : (t : Take) (r : Request) → (with_request t r).taken ≡ t.taken
 taken-with t (Open f history) = refl
@@ -49,77 +49,77 @@ taken-after t r = go (is_stored (verdict t r))
     go false = refl
 
 -- the digests and verdicts of one more request
-finished_push : (stood : Bool) (s : List (Option Request)) (name : List ℕ) (n : ℕ) (xs : List (Option Request))
+finished_push : (existed : Bool) (s : List (Option Request)) (name : List ℕ) (n : ℕ) (xs : List (Option Request))
     (r : Request) →
-    length (finished_from stood s name n xs) ≡ length xs →
-    finished_from stood s name n (xs ++ Some r ∷ []) ≡
-    finished_from stood s name n xs ++ (sha256 (body_of name (n + length xs) r), verdict_at stood s (n + length xs))
+    length (finished_from existed s name n xs) ≡ length xs →
+    finished_from existed s name n (xs ++ Some r ∷ []) ≡
+    finished_from existed s name n xs ++ (sha256 (body_of name (n + length xs) r), verdict_at existed s (n + length xs))
     ∷ []
-finished_push stood s name n [] r e =
-    ap (λ (k : ℕ). (sha256 (body_of name k r), verdict_at stood s k) ∷ []) (let same : n ≡ n + 0 = omega arith in same)
-finished_push stood s name n (None ∷ xs) r e = absurd (omega (arith, e))
-finished_push stood s name n (Some x ∷ xs) r e =
-    let rest : length (finished_from stood s name (suc n) xs) ≡ length xs = omega (arith, e) in
+finished_push existed s name n [] r e =
+    ap (λ (k : ℕ). (sha256 (body_of name k r), verdict_at existed s k) ∷ []) (let same : n ≡ n + 0 = omega arith in same)
+finished_push existed s name n (None ∷ xs) r e = absurd (omega (arith, e))
+finished_push existed s name n (Some x ∷ xs) r e =
+    let rest : length (finished_from existed s name (suc n) xs) ≡ length xs = omega (arith, e) in
     let place : suc n + length xs ≡ n + suc (length xs) = omega arith in
-    ap (λ (ys : List (List ℕ × Verdict)). (sha256 (body_of name n x), verdict_at stood s n) ∷ ys)
-    (finished_push stood s name (suc n) xs r rest
-    ∙ ap (λ (k : ℕ). finished_from stood s name (suc n) xs ++ (sha256 (body_of name k r), verdict_at stood s k) ∷ [])
+    ap (λ (ys : List (List ℕ × Verdict)). (sha256 (body_of name n x), verdict_at existed s n) ∷ ys)
+    (finished_push existed s name (suc n) xs r rest
+    ∙ ap (λ (k : ℕ). finished_from existed s name (suc n) xs ++ (sha256 (body_of name k r), verdict_at existed s k) ∷ [])
     place)
 
-pub finished-short : (stood : Bool) (s : List (Option Request)) (name : List ℕ) (n : ℕ) (xs : List (Option Request)) →
-    length (finished_from stood s name n xs) ≤ length xs
-finished-short stood s name n [] = omega arith
-finished-short stood s name n (None ∷ xs) = omega arith
-finished-short stood s name n (Some x ∷ xs) = let rest = finished-short stood s name (suc n) xs in omega (arith, rest)
+pub finished-short : (existed : Bool) (s : List (Option Request)) (name : List ℕ) (n : ℕ) (xs : List (Option Request)) →
+    length (finished_from existed s name n xs) ≤ length xs
+finished-short existed s name n [] = omega arith
+finished-short existed s name n (None ∷ xs) = omega arith
+finished-short existed s name n (Some x ∷ xs) = let rest = finished-short existed s name (suc n) xs in omega (arith, rest)
 
 pub take-short : (n : ℕ) (xs : List (Option Request)) → length (take n xs) ≤ n
 take-short zero xs = omega arith
 take-short (suc n) [] = omega arith
 take-short (suc n) (x ∷ xs) = let rest = take-short n xs in omega (arith, rest)
 
-pub verdict_here : (stood : Bool) (s : List (Option Request)) (n : ℕ) (r : Request) → at s n ≡ Some r →
-    verdict_at stood s n ≡ verdict (made stood s n) r
-verdict_here stood s n r e = ap (verdict_by (made stood s n)) e
+pub verdict_here : (existed : Bool) (s : List (Option Request)) (n : ℕ) (r : Request) → at s n ≡ Some r →
+    verdict_at existed s n ≡ verdict (made existed s n) r
+verdict_here existed s n r e = ap (verdict_by (made existed s n)) e
 
--- The next number is done with its digest and its verdict, and the state is that of the take behind it.
-pub keeps_next : (stood : Bool) (name : List ℕ) (log : Log) (r : Request) (old new : Parts)
-    (finished : List (List ℕ × Verdict)) (digest : List ℕ) (v : Verdict) → KeepsDone stood name log old finished →
+-- The next number is done with its digest and its verdict, and the state is that of the take after it.
+pub keeps_next : (existed : Bool) (name : List ℕ) (log : Log) (r : Request) (old new : Parts)
+    (finished : List (List ℕ × Verdict)) (digest : List ℕ) (v : Verdict) → KeepsDone existed name log old finished →
     at log.admitted log.done ≡ Some r → digest ≡ sha256 (body_of name log.done r) →
-    v ≡ verdict (made stood log.admitted log.done) r →
-    new ≡ record (parts (after (made stood log.admitted log.done) r)) { taken = new.taken } →
-    (IsTrue new.taken → IsTrue stood) → (IsTrue old.taken → IsTrue new.taken) → (v ≡ NameTaken → IsTrue new.taken) →
-    KeepsDone stood name (record log { done = suc log.done }) new (finished ++ (digest, v) ∷ [])
-keeps_next stood name log r old new finished digest v k here d e state taken stays told =
+    v ≡ verdict (made existed log.admitted log.done) r →
+    new ≡ record (parts (after (made existed log.admitted log.done) r)) { taken = new.taken } →
+    (IsTrue new.taken → IsTrue existed) → (IsTrue old.taken → IsTrue new.taken) → (v ≡ NameTaken → IsTrue new.taken) →
+    KeepsDone existed name (record log { done = suc log.done }) new (finished ++ (digest, v) ∷ [])
+keeps_next existed name log r old new finished digest v k here d e state taken stays reported =
     let n : ℕ = log.done in
     let s : List (Option Request) = log.admitted in
-    let front : List (Option Request) = take n s in
-    let long : length (finished_from stood s name 0 front) ≡ n = ap length (sym k.finished_are) ∙ k.done in
-    let few : length (finished_from stood s name 0 front) ≤ length front = finished-short stood s name 0 front in
-    let small : length front ≤ n = take-short n s in
-    let whole : length (finished_from stood s name 0 front) ≡ length front = omega arith in
-    let place : 0 + length front ≡ n = omega arith in
+    let prefix : List (Option Request) = take n s in
+    let long : length (finished_from existed s name 0 prefix) ≡ n = ap length (sym k.finished_are) ∙ k.done in
+    let few : length (finished_from existed s name 0 prefix) ≤ length prefix = finished-short existed s name 0 prefix in
+    let small : length prefix ≤ n = take-short n s in
+    let whole : length (finished_from existed s name 0 prefix) ≡ length prefix = omega arith in
+    let place : 0 + length prefix ≡ n = omega arith in
     record {
       done = length_push finished (digest, v)
           ∙ (let same : length finished + 1 ≡ suc n = omega (arith, k.done) in same);
       finished_are =
           ap (λ (ys : List (List ℕ × Verdict)). ys ++ (digest, v) ∷ []) k.finished_are
-          ∙ ap (λ (x : List ℕ × Verdict). finished_from stood s name 0 front ++ x ∷ [])
+          ∙ ap (λ (x : List ℕ × Verdict). finished_from existed s name 0 prefix ++ x ∷ [])
           (ap (λ (y : List ℕ). (y, v)) d
-          ∙ ap (λ (y : Verdict). (sha256 (body_of name n r), y)) (e ∙ sym (verdict_here stood s n r here)))
-          ∙ ap (λ (j : ℕ). finished_from stood s name 0 front ++ (sha256 (body_of name j r), verdict_at stood s j)
+          ∙ ap (λ (y : Verdict). (sha256 (body_of name n r), y)) (e ∙ sym (verdict_here existed s n r here)))
+          ∙ ap (λ (j : ℕ). finished_from existed s name 0 prefix ++ (sha256 (body_of name j r), verdict_at existed s j)
           ∷ []) (sym place)
-          ∙ sym (finished_push stood s name 0 front r whole)
-          ∙ ap (finished_from stood s name 0) (sym (take_next s n r here));
-      state_is = state ∙ ap (λ (t : Take). record (parts t) { taken = new.taken }) (sym (made_next stood s n r here));
+          ∙ sym (finished_push existed s name 0 prefix r whole)
+          ∙ ap (finished_from existed s name 0) (sym (take_next s n r here));
+      state_is = state ∙ ap (λ (t : Take). record (parts t) { taken = new.taken }) (sym (made_next existed s n r here));
       taken = taken;
-      told = λ j below is. elim (cases_lt j n) [
-        | inl less ↦ stays (k.told j less is)
+      reported = λ j below is. elim (cases_lt j n) [
+        | inl less ↦ stays (k.reported j less is)
         | inr above ↦ let same : j ≡ n = omega arith in
-            told (e ∙ sym (verdict_here stood s n r here) ∙ ap (verdict_at stood s) (sym same) ∙ is)
+            reported (e ∙ sym (verdict_here existed s n r here) ∙ ap (verdict_at existed s) (sym same) ∙ is)
       ];
     }
 
--- The state behind the next number.
+-- The state after the next number.
 
 name_taken : (p : Parts) (r : Request) → judge p r ≡ NameTaken → p.taken ≡ true
 unfolding judge
@@ -173,14 +173,14 @@ after_by : (t : Take) (r : Request) (v : Verdict) (b : Bool) → v ≡ verdict t
 after_by t r v b e s = ap (λ (x : Bool). cond x (with_request t r) t) (ap is_stored (sym e) ∙ s)
 
 -- a request that is stored
-pub keeps_stored : (stood : Bool) (name : List ℕ) (log : Log) (r : Request) (old new : Parts)
+pub keeps_stored : (existed : Bool) (name : List ℕ) (log : Log) (r : Request) (old new : Parts)
     (finished later : List (List ℕ × Verdict)) (digest : List ℕ) (v : Verdict) → v ≡ judge old r → is_stored v ≡ true →
-    FollowsTakes old r new → later ≡ finished ++ (digest, v) ∷ [] → KeepsDone stood name log old finished →
+    FollowsTakes old r new → later ≡ finished ++ (digest, v) ∷ [] → KeepsDone existed name log old finished →
     at log.admitted log.done ≡ Some r → digest ≡ sha256 (body_of name log.done r) →
-    v ≡ verdict (made stood log.admitted log.done) r →
-    KeepsDone stood name (record log { done = suc log.done }) new later
-keeps_stored stood name log r old new finished later digest v judged s follows pushed k here d e =
-    let t : Take = made stood log.admitted log.done in
+    v ≡ verdict (made existed log.admitted log.done) r →
+    KeepsDone existed name (record log { done = suc log.done }) new later
+keeps_stored existed name log r old new finished later digest v judged s follows pushed k here d e =
+    let t : Take = made existed log.admitted log.done in
     let u : Take = record t { taken = old.taken } in
     let same : parts u ≡ old = sym k.state_is in
     let mine : v ≡ verdict u r = judged ∙ ap (λ (p : Parts). judge p r) (sym same) in
@@ -190,22 +190,22 @@ keeps_stored stood name log r old new finished later digest v judged s follows p
     let state : new ≡ record (parts (after t r)) { taken = new.taken } =
     now ∙ ap (λ (b : Bool). record (parts (with_request t r)) { taken = b }) (sym taken)
     ∙ ap (λ (x : Take). record (parts x) { taken = new.taken }) (sym (after_by t r v true e s)) in
-    subst (KeepsDone stood name (record log { done = suc log.done }) new) (sym pushed)
-    (keeps_next stood name log r old new finished digest v k here d e state (λ h. k.taken (sym taken ∙ h))
+    subst (KeepsDone existed name (record log { done = suc log.done }) new) (sym pushed)
+    (keeps_next existed name log r old new finished digest v k here d e state (λ h. k.taken (sym taken ∙ h))
     (λ h. taken ∙ h)
     (λ is. taken ∙ name_taken old r (sym judged ∙ is)))
 
 -- a request that is refused
-pub keeps_refused : (stood : Bool) (name : List ℕ) (log : Log) (r : Request) (old : Parts)
+pub keeps_refused : (existed : Bool) (name : List ℕ) (log : Log) (r : Request) (old : Parts)
     (finished later : List (List ℕ × Verdict)) (digest : List ℕ) (v : Verdict) → v ≡ judge old r → is_stored v ≡ false →
-    later ≡ finished ++ (digest, v) ∷ [] → KeepsDone stood name log old finished →
+    later ≡ finished ++ (digest, v) ∷ [] → KeepsDone existed name log old finished →
     at log.admitted log.done ≡ Some r → digest ≡ sha256 (body_of name log.done r) →
-    v ≡ verdict (made stood log.admitted log.done) r →
-    KeepsDone stood name (record log { done = suc log.done }) old later
-keeps_refused stood name log r old finished later digest v judged s pushed k here d e =
-    let t : Take = made stood log.admitted log.done in
+    v ≡ verdict (made existed log.admitted log.done) r →
+    KeepsDone existed name (record log { done = suc log.done }) old later
+keeps_refused existed name log r old finished later digest v judged s pushed k here d e =
+    let t : Take = made existed log.admitted log.done in
     let state : old ≡ record (parts (after t r)) { taken = old.taken } =
     k.state_is ∙ ap (λ (x : Take). record (parts x) { taken = old.taken }) (sym (after_by t r v false e s)) in
-    subst (KeepsDone stood name (record log { done = suc log.done }) old) (sym pushed)
-    (keeps_next stood name log r old old finished digest v k here d e state k.taken (λ h. h)
+    subst (KeepsDone existed name (record log { done = suc log.done }) old) (sym pushed)
+    (keeps_next existed name log r old old finished digest v k here d e state k.taken (λ h. h)
     (λ is. name_taken old r (sym judged ∙ is)))

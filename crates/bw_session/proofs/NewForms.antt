@@ -12,11 +12,11 @@ use Rattle.bw_model.specs.Book.{Log, no_log, made}
 use Rattle.bw_model.specs.Holds.{body_of, IsInTheMiddle}
 use Rattle.bw_file.specs.Growing.{Growing}
 use Rattle.bw_journal.specs.JournalHeaders.{Header, header_bytes, header_len}
-use Rattle.bw_journal.specs.Notes.{IsFrontOf}
+use Rattle.bw_journal.specs.Notes.{IsPrefixOf}
 use Rattle.bw_journal.proofs.Lengths.{length-header_bytes}
 use Rattle.bw_session.specs.Noting.{IsNoted}
 use Rattle.bw_session.specs.Keeping.{KeepsDone}
-use Rattle.bw_session.specs.Fronts.{take_done, FileFollows}
+use Rattle.bw_session.specs.Prefixes.{take_done, FileFollows}
 use Rattle.bw_session.specs.Draining.{kept_as, NameStands, HoldsPart, IsAllDone}
 
 at-empty : (n i : ℕ) → at {X = List ℕ} (replicate n None) i ≡ None
@@ -58,7 +58,7 @@ module _ (first : Option (List ℕ)) (log : Log) (p : Parts) (finished : List (L
           held = nothing_held;
           state = done.state_is;
           taken = done.taken;
-          told = done.told;
+          reported = done.reported;
         };
         file = stands first file;
       })
@@ -66,14 +66,14 @@ module _ (first : Option (List ℕ)) (log : Log) (p : Parts) (finished : List (L
 pub no_log_done : IsAllDone no_log
 no_log_done = record { fits = refl; all = omega arith }
 
-nothing_kept : (stood : Bool) (name : List ℕ) → KeepsDone stood name no_log (parts (new_take false)) []
+nothing_kept : (existed : Bool) (name : List ℕ) → KeepsDone existed name no_log (parts (new_take false)) []
 unfolding made
-nothing_kept stood name = record {
+nothing_kept existed name = record {
   done = refl;
   finished_are = refl;
   state_is = refl;
   taken = λ e. absurd (false≢true e);
-  told = λ n below is. absurd (omega (arith, below));
+  reported = λ n below is. absurd (omega (arith, below));
 }
 
 pub nothing_made : (first : Option (List ℕ)) (g : Growing) → g.made ≡ false →
@@ -82,16 +82,16 @@ unfolding made
 nothing_made None g unmade = record { whole = refl; made_here = unmade }
 nothing_made (Some bytes) g unmade = (refl, unmade)
 
-pub new_done : (stood : Bool) (name : List ℕ) (p : Parts) (finished : List (List ℕ × Verdict)) →
-    p ≡ parts (new_take false) → finished ≡ [] → KeepsDone stood name no_log p finished
-new_done stood name p finished state none =
-    subst (λ (x : Parts). KeepsDone stood name no_log x finished) (sym state)
-    (subst (λ (x : List (List ℕ × Verdict)). KeepsDone stood name no_log (parts (new_take false)) x) (sym none)
-    (nothing_kept stood name))
+pub new_done : (existed : Bool) (name : List ℕ) (p : Parts) (finished : List (List ℕ × Verdict)) →
+    p ≡ parts (new_take false) → finished ≡ [] → KeepsDone existed name no_log p finished
+new_done existed name p finished state none =
+    subst (λ (x : Parts). KeepsDone existed name no_log x finished) (sym state)
+    (subst (λ (x : List (List ℕ × Verdict)). KeepsDone existed name no_log (parts (new_take false)) x) (sym none)
+    (nothing_kept existed name))
 
-pub new_notes : (h : Header) (name : List ℕ) (found : Option (List ℕ)) → IsFrontOf (header_bytes h) found →
+pub new_notes : (h : Header) (name : List ℕ) (found : Option (List ℕ)) → IsPrefixOf (header_bytes h) found →
     IsNoted h name no_log header_len found
-new_notes h name found front = record {
+new_notes h name found prefix = record {
   offset_is = sym (ap length (append-nil (header_bytes h)) ∙ length-header_bytes h);
-  stands = inl (refl, front);
+  stands = inl (refl, prefix);
 }

@@ -15,15 +15,15 @@ use Rattle.bw_session.specs.Windows.{count_held}
 use Rattle.bw_session.specs.Carrying.{Touches}
 use Rattle.bw_session.specs.Admitting.{with_message}
 use Rattle.bw_session.specs.Draining.{Fits, HoldsPart}
-use Rattle.bw_session.specs.Fronts.{HoldsFront}
+use Rattle.bw_session.specs.Prefixes.{HoldsPrefix}
 use Rattle.bw_session.specs.Numbered.{IsNext}
 use Rattle.bw_session.specs.Sessions.{HoldsLog, KeepsProgress, kept_with, part_of}
 use Rattle.bw_session.specs.declared.numbering.Progress.{Progress}
 use Rattle.bw_session.specs.declared.session.Session.{Session}
 use Rattle.bw_session.proofs.AdmitForms.{at-set_same, at-set_other, count_set, near_or_not, no_false, part_put}
-use Rattle.bw_session.proofs.DrainForms.{next_slot, held_front}
+use Rattle.bw_session.proofs.DrainForms.{next_slot, held_prefix}
 
--- where the first slot is free, as many bodies are held behind it
+-- where the first slot is free, as many bodies are held after it
 count_free : (w : List (Option (List ℕ))) → at w 0 ≡ None → count_held (drop 1 w ++ None ∷ []) ≡ count_held w
 count_free [] e = refl
 count_free (x ∷ xs) e = let none : is_some x ≡ false = ap is_some e in grind (arith, common_steps)
@@ -69,7 +69,7 @@ fits_waiting g g' p q done later room room' places places' w w' b f none there s
     by_slot i some (inl e) = omega (arith, number, e)
     by_slot i some (inr apart) = f.numbers i (ap is_some (sym (at-set_other w 0 i (Some b) apart)) ∙ some)
 
--- what is let go behind a body that was never held
+-- what is let go after a body that was never held
 pub passed_slot : (w : List (Option (List ℕ))) (b : List ℕ) → drop 1 (slice_set w 0 (Some b)) ≡ drop 1 w
 passed_slot [] b = refl
 passed_slot (x ∷ xs) b = refl
@@ -95,16 +95,16 @@ next_held first log p q finished later w g g' contents n name m h named fits nex
     q later named fits (omega (arith, next)) (omega arith) there none refl refl same' same''))
 
 -- .. and the message as the next number of the log that admits it, on what is kept once there is room
-pub next_front : (first : Option (List ℕ)) (log : Log) (s s' : Session) (contents : List ℕ → Option (List ℕ))
+pub next_prefix : (first : Option (List ℕ)) (log : Log) (s s' : Session) (contents : List ℕ → Option (List ℕ))
     (m : Message) (r : Request) (digest : List ℕ) → HoldsLog first log (part_of s) (contents s.progress.name) →
     KeepsProgress s.progress s'.progress → m.name ≡ s.progress.name → m.number ≡ length s.progress.ledger.outcomes →
     at s.window 0 ≡ None → length s.window ≡ 16 → r ≡ m.request → is_request r ≡ true → digest ≡ sha256 (message_body m) →
     HoldsPart first (with_message log m) s'.progress.state.parts s'.progress.ledger.outcomes
     (slice_set s.window 0 (Some (message_body m))) s'.progress.growing (contents s'.progress.name)
     × (IsNext s'.progress.name (with_message log m) r digest
-    × HoldsFront first (with_message log m) s'.progress.state.parts s'.progress.ledger.outcomes r s'.progress.growing
+    × HoldsPrefix first (with_message log m) s'.progress.state.parts s'.progress.ledger.outcomes r s'.progress.growing
     (contents s'.progress.name))
-next_front first log s s' contents m r digest h kept name next free slots read fits summed =
+next_prefix first log s s' contents m r digest h kept name next free slots read fits summed =
     let there : 0 < length s.window = omega (arith, slots) in
     let w : List (Option (List ℕ)) = slice_set s.window 0 (Some (message_body m)) in
     let held = next_held first log s.progress.state.parts s'.progress.state.parts s.progress.ledger.outcomes
@@ -112,17 +112,17 @@ next_front first log s s' contents m r digest h kept name next free slots read f
     s'.progress.name m h (name ∙ sym s.progress.same_name) (ap is_request (sym read) ∙ fits) next free there
     kept.growing kept.parts kept.outcomes (sym kept.name) in (
       held,
-      held_front first (with_message log m) s'.progress.state.parts s'.progress.ledger.outcomes w
+      held_prefix first (with_message log m) s'.progress.state.parts s'.progress.ledger.outcomes w
           s'.progress.growing (contents s'.progress.name) held m r digest (message_body m) s'.progress.name
           s'.progress.same_name (at-set_same s.window 0 (Some (message_body m)) there) refl read fits summed,
     )
 
 -- .. of a message that is held in the first slot
-pub front_here : (first : Option (List ℕ)) (log : Log) (p : Progress) (w : List (Option (List ℕ)))
+pub prefix_here : (first : Option (List ℕ)) (log : Log) (p : Progress) (w : List (Option (List ℕ)))
     (found : Option (List ℕ)) → HoldsLog first log (kept_with p w) found → (m : Message) (r : Request)
     (digest b : List ℕ) → at w 0 ≡ Some b → b ≡ message_body m → r ≡ m.request → is_request r ≡ true →
     digest ≡ sha256 b →
-    IsNext p.name log r digest × HoldsFront first log p.state.parts p.ledger.outcomes r p.growing found
-front_here first log p w found h m r digest b here spelled read fits summed =
-    held_front first log p.state.parts p.ledger.outcomes w p.growing found h m r digest b p.name p.same_name here spelled
+    IsNext p.name log r digest × HoldsPrefix first log p.state.parts p.ledger.outcomes r p.growing found
+prefix_here first log p w found h m r digest b here spelled read fits summed =
+    held_prefix first log p.state.parts p.ledger.outcomes w p.growing found h m r digest b p.name p.same_name here spelled
     read fits summed

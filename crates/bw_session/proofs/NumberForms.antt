@@ -19,17 +19,17 @@ use Rattle.bw_journal.proofs.BetweenLaws.{new_files_are_between}
 use Rattle.bw_session.specs.Writing.{is_mark, HasOwnFile, HasWholeFile}
 use Rattle.bw_session.specs.Carrying.{Touches}
 use Rattle.bw_session.specs.Keeping.{KeepsDone}
-use Rattle.bw_session.specs.Fronts.{take_done, FileFollows, FileStands, HoldsFront, Carried}
+use Rattle.bw_session.specs.Prefixes.{take_done, FileFollows, FileStands, HoldsPrefix, Carried}
 use Rattle.bw_session.specs.Numbered.{is_written, IsNext, with_done, IsDone}
 use Rattle.bw_file.proofs.MarkedFiles.{marked_file}
 use Rattle.bw_session.proofs.CarryForms.{after_refused, after_stored}
-use Rattle.bw_session.proofs.FrontForms.{own_parts}
+use Rattle.bw_session.proofs.PrefixForms.{own_parts}
 use Rattle.bw_session.proofs.LogSteps.{made_next, verdict_here}
 
 no_false : {A : Type 0} → false ≡ true → A
 no_false e = cc
 
--- Behind a failed note.
+-- After a failed note.
 
 pub stored_is : (v : Verdict) → is_stored v ≡ true → v ≡ Stored
 stored_is Stored e = refl
@@ -103,9 +103,9 @@ again t r v g found is fields clean h = record { whole = go (is_written v r) ref
 pub done_again : (first : Option (List ℕ)) (log : Log) (v : Verdict) (p : Parts) (finished : List (List ℕ × Verdict))
     (r : Request) (g g' : Growing) (found : Option (List ℕ)) → Carried first log v p finished r g found →
     g.dirty ≡ false → AreFields p.fields → g' ≡ record g { dirty = is_written v r || g.dirty } →
-    HoldsFront first log p finished r g' found
+    HoldsPrefix first log p finished r g' found
 done_again first log v p finished r g g' found c clean fields marked =
-    subst (λ (x : Growing). HoldsFront first log p finished r x found) (sym marked)
+    subst (λ (x : Growing). HoldsPrefix first log p finished r x found) (sym marked)
     (record { memory = c.memory; file = stands first c })
   where
     stands : (first : Option (List ℕ)) → Carried first log v p finished r g found →
@@ -120,9 +120,9 @@ done_again first log v p finished r g g' found c clean fields marked =
 pub done_next : (first : Option (List ℕ)) (log : Log) (v : Verdict) (p q : Parts)
     (finished later : List (List ℕ × Verdict)) (r : Request) (digest : List ℕ) (g : Growing)
     (found : Option (List ℕ)) → IsNext g.name log r digest → Carried first log v p finished r g found →
-    ((stood : Bool) (name : List ℕ) (log : Log) → KeepsDone stood name log p finished →
+    ((existed : Bool) (name : List ℕ) (log : Log) → KeepsDone existed name log p finished →
     at log.admitted log.done ≡ Some r → digest ≡ sha256 (body_of name log.done r) →
-    v ≡ verdict (made stood log.admitted log.done) r → KeepsDone stood name (with_done log) q later) →
+    v ≡ verdict (made existed log.admitted log.done) r → KeepsDone existed name (with_done log) q later) →
     IsDone first log v q later g found
 done_next first log v p q finished later r digest g found n c keeps = record {
   verdict_is = c.verdict_is ∙ sym (verdict_here (is_some first) log.admitted log.done r n.here);

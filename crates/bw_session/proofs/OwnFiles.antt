@@ -54,21 +54,21 @@ stands t f r g found e h = go g.dirty (ready t r g found h)
     go true b = between-some t f g.limit r found e b
     go false whole = ap is_some whole ∙ file-some t g.limit ∙ ap is_some e
 
--- behind a call on an open take that succeeded
-pub whole_behind : (t : Take) (f : Format) (r : Request) (g g' : Growing) (before after : Option (List ℕ)) →
+-- after a call on an open take that succeeded
+pub whole_after : (t : Take) (f : Format) (r : Request) (g g' : Growing) (before after : Option (List ℕ)) →
     t.format ≡ Some f → is_some (with_request t r).format ≡ true → g' ≡ record g { dirty = false } →
     HasOwnFile t r g before → after ≡ file_of (with_request t r) g.limit → HasWholeFile (with_request t r) g' after
-whole_behind t f r g g' before after e e' known h now = record {
+whole_after t f r g g' before after e e' known h now = record {
   whole = now ∙ ap (λ (x : Growing). file_of (with_request t r) x.limit) (sym known);
   made_here = ap (λ (x : Growing). x.made) known ∙ h.made_here ∙ stands t f r g before e h
       ∙ sym (ap is_some now ∙ file-some (with_request t r) g.limit ∙ e');
 }
 
 -- .. that failed
-pub own_behind : (t : Take) (f : Format) (r : Request) (g g' : Growing) (before after : Option (List ℕ)) →
+pub own_after : (t : Take) (f : Format) (r : Request) (g g' : Growing) (before after : Option (List ℕ)) →
     t.format ≡ Some f → is_stored (verdict t r) ≡ true → g' ≡ record g { dirty = true } →
     HasOwnFile t r g before → IsBetween t g.limit r after → HasOwnFile t r g' after
-own_behind t f r g g' before after e stored known h between =
+own_after t f r g g' before after e stored known h between =
     subst (λ (x : Growing). HasOwnFile t r x after) (sym known) (record {
       whole = record { request = r; waiting = refl; to_store = stored; between = between };
       made_here = h.made_here ∙ stands t f r g before e h ∙ sym (between-some t f g.limit r after e between);
@@ -115,8 +115,8 @@ module _ (t : Take) (f : Format) (history : List ℕ) (g g' : Growing) (before a
   }
 
   -- its own name can't stand already
-  pub never_stood : {A : Type 0} → g'.made ≡ false → IsSome before → A
-  never_stood unmade stood = no_false (sym unmade ∙ name.keeps (h.made_here ∙ stood))
+  pub never_existed : {A : Type 0} → g'.made ≡ false → IsSome before → A
+  never_existed unmade existed = no_false (sym unmade ∙ name.keeps (h.made_here ∙ existed))
 
   pub opened_err : is_stored (verdict t (Open f history)) ≡ true → g' ≡ record g { made = g'.made; dirty = true } →
       (IsTrue g'.made → IsBegun g t (Open f history) after) → HasOwnFile t (Open f history) g' after
@@ -153,8 +153,8 @@ module _ (t : Take) (f : Format) (history : List ℕ) (g g' : Growing) (before a
 -- A name that stood and isn't made is left as it was.
 pub left_alone : (g g' : Growing) (before after : Option (List ℕ)) → AsksForName g.made g'.made before after →
     g.made ≡ false → IsSome before → (after ≡ before) × (g'.made ≡ false)
-left_alone g g' before after name unmade stood = (name.untouched (still g'.made refl), still g'.made refl)
+left_alone g g' before after name unmade existed = (name.untouched (still g'.made refl), still g'.made refl)
   where
     still : (m : Bool) → g'.made ≡ m → g'.made ≡ false
-    still true e = none_some before (name.made unmade e) stood
+    still true e = none_some before (name.made unmade e) existed
     still false e = e

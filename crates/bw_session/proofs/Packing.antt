@@ -28,7 +28,7 @@ verdict_of-code TooManyMarkers = refl
 verdict_of-code BadField = refl
 verdict_of-code WrongTotal = refl
 
--- one entry more behind the others
+-- one entry more after the others
 pub entries_push : (n : ℕ) (bytes digest : List ℕ) (v : Verdict) → length bytes ≡ 33 * n → length digest ≡ 32 →
     entries_in (suc n) (bytes ++ (digest ++ verdict_code v ∷ [])) ≡ entries_in n bytes ++ (digest, v) ∷ []
 unfolding entries_in

@@ -10,7 +10,7 @@ use Rattle.bw_session.specs.Promises.{RunsNumbers}
 use Rattle.bw_session.specs.declared.numbering.Stores.{Stores}
 use Rattle.bw_session.specs.declared.session.Session.{Session}
 
--- numbers that are done in a row behind a change that keeps what is done
+-- numbers that are done in a row after a change that keeps what is done
 pub run_since : {X Y : Type 0} (S : StoreGhosts X) (J : JournalGhosts Y) (most : ℕ) (stopped : Bool) (a : Part)
     (before mid after : Session) (old new : Stores X Y S J) → KeepsProgress before.progress mid.progress →
     part_of mid ≡ a → RunsNumbers S J most stopped (part_of mid) mid old after new → RunsNumbers S J most stopped a before old after new

@@ -31,17 +31,17 @@ at-taken (x ∷ s) (suc n) zero h = refl
 at-taken (x ∷ s) (suc n) (suc k) h = at-taken s n k (omega (arith, h))
 
 -- what is kept of a number
-kept_at : (stood : Bool) (whole : List (Option Request)) (name : List ℕ) (n : ℕ) (xs : List (Option Request)) (k i : ℕ)
-    (d : List ℕ × Verdict) → i ≡ n + k → k < length (finished_from stood whole name n xs) →
-    (r : Request) × (at xs k ≡ Some r) × (slice_index_or (finished_from stood whole name n xs) k d
-    ≡ (sha256 (body_of name i r), verdict_at stood whole i))
-kept_at stood whole name n [] k i d e h = absurd (omega (arith, h))
-kept_at stood whole name n (None ∷ xs) k i d e h = absurd (omega (arith, h))
-kept_at stood whole name n (Some r ∷ xs) zero i d e h =
+kept_at : (existed : Bool) (whole : List (Option Request)) (name : List ℕ) (n : ℕ) (xs : List (Option Request)) (k i : ℕ)
+    (d : List ℕ × Verdict) → i ≡ n + k → k < length (finished_from existed whole name n xs) →
+    (r : Request) × (at xs k ≡ Some r) × (slice_index_or (finished_from existed whole name n xs) k d
+    ≡ (sha256 (body_of name i r), verdict_at existed whole i))
+kept_at existed whole name n [] k i d e h = absurd (omega (arith, h))
+kept_at existed whole name n (None ∷ xs) k i d e h = absurd (omega (arith, h))
+kept_at existed whole name n (Some r ∷ xs) zero i d e h =
     let same : n ≡ i = omega (arith, e) in
-    (r, refl, ap (λ (j : ℕ). (sha256 (body_of name j r), verdict_at stood whole j)) same)
-kept_at stood whole name n (Some r ∷ xs) (suc k) i d e h =
-    kept_at stood whole name (suc n) xs k i d (omega (arith, e)) (omega (arith, h))
+    (r, refl, ap (λ (j : ℕ). (sha256 (body_of name j r), verdict_at existed whole j)) same)
+kept_at existed whole name n (Some r ∷ xs) (suc k) i d e h =
+    kept_at existed whole name (suc n) xs k i d (omega (arith, e)) (omega (arith, h))
 
 module _ (first : Option (List ℕ)) (log : Log) (p : Part) (found : Option (List ℕ))
     (h : HoldsLog first log p found) where
@@ -60,14 +60,14 @@ module _ (first : Option (List ℕ)) (log : Log) (p : Part) (found : Option (Lis
         ap (λ (ys : List (List ℕ × Verdict)). slice_index_or ys n d) h.memory.finished ∙ x.2,
       )
 
-  -- whether it is the digest of a message's body tells whether the message repeats it
+  -- whether it is the digest of a message's body says whether the message repeats it
   pub repeat_done : (n : ℕ) (m : Message) (digest : List ℕ) (answer : Bool) → n < length p.outcomes →
       m.name ≡ p.growing.name → m.number ≡ n → digest ≡ sha256 (message_body m) →
       ((d : List ℕ × Verdict) → answer ≡ bytes_eq (slice_index_or p.outcomes n d).0 digest) →
       answer ≡ is_repeat log.admitted m
-  repeat_done n m digest answer below name number summed told =
+  repeat_done n m digest answer below name number summed reported =
       let x = done_at n ([], Stored) below in
-      told ([], Stored)
+      reported ([], Stored)
       ∙ ap (λ (y : List ℕ × Verdict). bytes_eq y.0 digest) x.2
       ∙ ap (bytes_eq (sha256 (body_of p.growing.name n x.0))) summed
       ∙ ap (λ (z : List ℕ). bytes_eq (sha256 (body_of z n x.0)) (sha256 (message_body m))) (sym name)
@@ -76,9 +76,9 @@ module _ (first : Option (List ℕ)) (log : Log) (p : Part) (found : Option (Lis
 
   pub verdict_kept : (n : ℕ) (v : Verdict) → n < length p.outcomes →
       ((d : List ℕ × Verdict) → v ≡ (slice_index_or p.outcomes n d).1) → v ≡ verdict_at (is_some first) log.admitted n
-  verdict_kept n v below told =
+  verdict_kept n v below reported =
       let x = done_at n ([], Stored) below in
-      told ([], Stored) ∙ ap (λ (y : List ℕ × Verdict). y.1) x.2
+      reported ([], Stored) ∙ ap (λ (y : List ℕ × Verdict). y.1) x.2
 
 -- The message's own reply, case by case.
 

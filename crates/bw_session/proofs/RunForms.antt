@@ -51,18 +51,18 @@ holds_under first log p contents n name same h = subst (λ (x : List ℕ). Holds
 -- what is noted of one more number, said of the name and the header that were there at the start
 pub noted_then : (n name : List ℕ) (head : List ℕ → Header) (h : Header) (first : Option (List ℕ)) (log later : Log)
     (offset offset' : ℕ) (before after : List ℕ → Option (List ℕ)) → n ≡ name → head name ≡ h →
-    ((head n).stood ≡ is_some first → IsNoted (head n) n log offset (before n) →
+    ((head n).existed ≡ is_some first → IsNoted (head n) n log offset (before n) →
     IsNoted (head n) n later offset' (after n)) →
-    h.stood ≡ is_some first → IsNoted h name log offset (before name) → IsNoted h name later offset' (after name)
+    h.existed ≡ is_some first → IsNoted h name log offset (before name) → IsNoted h name later offset' (after name)
 noted_then n name head h first log later offset offset' before after same begun step =
-    subst (λ (x : Header). x.stood ≡ is_some first → IsNoted x name log offset (before name) →
+    subst (λ (x : Header). x.existed ≡ is_some first → IsNoted x name log offset (before name) →
     IsNoted x name later offset' (after name)) begun
-    (subst (λ (x : List ℕ). (head x).stood ≡ is_some first → IsNoted (head x) x log offset (before x) →
+    (subst (λ (x : List ℕ). (head x).existed ≡ is_some first → IsNoted (head x) x log offset (before x) →
     IsNoted (head x) x later offset' (after x)) same step)
 
 -- Verdicts.
 
--- one verdict more behind the others
+-- one verdict more after the others
 pub verdicts_push : (t : Bool) (s : List (Option Request)) (name : List ℕ) (n k : ℕ) →
     verdicts_from t s name n (suc k) ≡ verdicts_from t s name n k ++ Judged name (n + k) (verdict_at t s (n + k)) ∷ []
 verdicts_push t s name n zero =
@@ -85,16 +85,16 @@ module _ (first : Option (List ℕ)) (log : Log) (replies : List Reply) where
       at log.admitted (log.done + window) ≡ None →
       HoldsLog first (with_done (with_more_done log (length replies))) p found →
       HasDrained first log all p found
-  drained_push name number v all owner p found is same named numbered verdict told none left =
+  drained_push name number v all owner p found is same named numbered verdict reported none left =
       let more : length all ≡ suc (length replies) =
       (let pushed = ap length is ∙ length_push replies (Verdict name number v) in omega (arith, pushed)) in
       let next : suc (log.done + length replies) ≡ log.done + length all = omega (arith, more) in
       record {
         left = subst (λ (n : ℕ). HoldsLog first (record log { done = n }) p found) next left;
-        told =
+        reported =
             ap (map reply_of) is
             ∙ map_push reply_of replies (Verdict name number v)
-            ∙ ap (λ (rs : List ModelReply). rs ++ Judged name number (verdict_meaning v) ∷ []) told
+            ∙ ap (λ (rs : List ModelReply). rs ++ Judged name number (verdict_meaning v) ∷ []) reported
             ∙ ap (λ (x : ModelReply). verdicts_from (is_some first) log.admitted owner log.done
             (length replies) ++ x ∷ [])
             (ap (λ (x : List ℕ). Judged x number (verdict_meaning v)) named

@@ -25,7 +25,7 @@ use Rattle.bw_session.specs.Noting.{IsNoted}
 use Rattle.bw_session.specs.Numbered.{with_done}
 use Rattle.bw_session.specs.Sessions.{Part, HoldsLog}
 use Rattle.bw_session.specs.Runs.{with_more_done, HasDrained, EndsDraining}
-use Rattle.bw_session.specs.Serving.{Serves}
+use Rattle.bw_session.specs.Serving.{ServesMessage}
 use Rattle.bw_session.proofs.AdmitForms.{filled}
 use Rattle.bw_session.proofs.RunForms.{drained_push}
 use Rattle.bw_session.proofs.ReplyForms.{run_stops, run_goes}
@@ -73,7 +73,7 @@ module _ (first : Option (List ℕ)) (log : Log) (m : Message) (p : Part) (befor
         left =
             let here : log.done ≡ log.done + 0 = omega arith in
             subst (λ (k : ℕ). HoldsLog first (record (with_message log m) { done = k }) q (contents n)) here held;
-        told = refl;
+        reported = refl;
         none_past = still_none;
       }))
 
@@ -90,7 +90,7 @@ module _ (first : Option (List ℕ)) (log : Log) (m : Message) (p : Part) (befor
       (drained_push first (with_message log m) [] owner number v all owner q (contents n)
       (is ∙ ap (λ (rs : List Reply). rs ++ Verdict owner number v ∷ []) none) same refl
       (omega (arith, numbered, done))
-      (d.told.1 ∙ ap (verdict_at (is_some first) (admitted_after log m)) here) refl still_none
+      (d.reported.1 ∙ ap (verdict_at (is_some first) (admitted_after log m)) here) refl still_none
       (subst (λ (k : ℕ). HoldsLog first (with_done (record (with_message log m) { done = k })) q (contents n)) here
       d.left))
 
@@ -103,7 +103,7 @@ module _ (first : Option (List ℕ)) (log : Log) (m : Message) (p : Part) (befor
       let here : log.done ≡ log.done + length out = omega (arith, ap length none) in
       record {
         drained = starts q out contents n name none same d.left;
-        end = ap (λ (k : ℕ). is_some (at (admitted_after log m) k)) (sym here) ∙ d.told;
+        end = ap (λ (k : ℕ). is_some (at (admitted_after log m) k)) (sym here) ∙ d.reported;
       }
 
 pub ends_under : (first : Option (List ℕ)) (log : Log) (stopped : Bool) (out : List Reply) (p : Part)
@@ -156,7 +156,7 @@ module _ (first : Option (List ℕ)) (log : Log) (m : Message) (stopped : Bool) 
   pub serves : (own all : List Reply) (before after : ℕ) → m.name ≡ p.growing.name → all ≡ drained ++ own →
       map reply_of own ≡ own_reply (is_some first) (admitted_after log m) log.done (length p.outcomes)
       (run_end (admitted_after log m) log.done) m →
-      Counts before after stopped → Serves first log m before after all p found
+      Counts before after stopped → ServesMessage first log m before after all p found
   unfolding served
   serves own all before after name is own_is counts =
       let s : List (Option Request) = admitted_after log m in
@@ -172,7 +172,7 @@ module _ (first : Option (List ℕ)) (log : Log) (m : Message) (stopped : Bool) 
             ap (λ (l : ℕ). verdicts_from t s m.name log.done (l - log.done) ++ own_reply t s log.done l end m) later_is
             ∙ ap (λ (n : ℕ). verdicts_from t s m.name log.done n ++ own_reply t s log.done (log.done + k) end m) count
             ∙ ap (λ (x : List ℕ). verdicts_from t s x log.done k ++ own_reply t s log.done (log.done + k) end m) name
-            ∙ ap (λ (rs : List ModelReply). rs ++ own_reply t s log.done (log.done + k) end m) (sym e.drained.told)
+            ∙ ap (λ (rs : List ModelReply). rs ++ own_reply t s log.done (log.done + k) end m) (sym e.drained.reported)
             ∙ ap (λ (rs : List ModelReply). map reply_of drained ++ rs)
             (ap (λ (l : ℕ). own_reply t s log.done l end m) (sym outcomes) ∙ sym own_is)
             ∙ sym (map-append reply_of drained own) ∙ ap (map reply_of) (sym is);

@@ -12,7 +12,7 @@ use Rattle.bw_model.specs.Bytes.{at}
 use Rattle.bw_model.specs.Book.{Log, Book, log_of, is_known, with_log, made}
 use Rattle.bw_model.specs.BookRules.{IsBook}
 use Rattle.bw_model.specs.CountedTurn.{IsTurn, IsWithoutRoom, is_pending}
-use Rattle.bw_model.specs.Turn.{Luck, good, turn, turn_by, is_full, is_admissible, notice, with_change, window}
+use Rattle.bw_model.specs.Turn.{Faults, good, turn, turn_by, is_full, is_admissible, notice, with_change, window}
 use Rattle.bw_model.specs.Turn.{most_takes}
 use Rattle.bw_model.specs.Counts.{Counts}
 use Rattle.bw_model.specs.Replies.{Reply as ModelReply, Notice, TooFar, TableFull, NoRoom}
@@ -146,15 +146,15 @@ module _ (limit : ℕ) (store store' : Store) (sessions sessions' : List ℕ →
           bytes_eq name n ≡ b → store'.contents n ≡ store'.first n
       others n which true b =
           subst (λ (x : List ℕ). store'.contents x ≡ store'.first x) (same_name name n b)
-          (stood (store'.first name) refl (elim which [
+          (existed (store'.first name) refl (elim which [
             | inl some ↦ ap (λ (x : List ℕ). is_some (store'.first x)) (same_name name n b) ∙ some
             | inr unknown ↦ no_false (sym unknown ∙ ap (is_known later) (sym (same_name name n b)) ∙ known)
           ]))
         where
-          stood : (o : Option (List ℕ)) → store'.first name ≡ o → is_some (store'.first name) ≡ true →
+          existed : (o : Option (List ℕ)) → store'.first name ≡ o → is_some (store'.first name) ≡ true →
               store'.contents name ≡ store'.first name
-          stood None e some = no_false (sym (ap is_some e) ∙ some)
-          stood (Some bytes) e some = (file_here (Some bytes) e).0 ∙ sym e
+          existed None e some = no_false (sym (ap is_some e) ∙ some)
+          existed (Some bytes) e some = (file_here (Some bytes) e).0 ∙ sym e
       others n which false b =
           content_other n b
           ∙ h.others honest n (elim which [
@@ -166,13 +166,13 @@ module _ (limit : ℕ) (store store' : Store) (sessions sessions' : List ℕ →
       theirs : (n : List ℕ) (k : Kept) → option_map kept_by (sessions' n) ≡ Some k → IsSome (store'.first n) →
           (b : Bool) → bytes_eq name n ≡ b → k.has_made ≡ false
       theirs n k e some true b =
-          ap (λ (x : Kept). x.has_made) (sym (kept_is n k e b)) ∙ stood (store'.first name) refl
+          ap (λ (x : Kept). x.has_made) (sym (kept_is n k e b)) ∙ existed (store'.first name) refl
           (ap (λ (x : List ℕ). is_some (store'.first x)) (same_name name n b) ∙ some)
         where
-          stood : (o : Option (List ℕ)) → store'.first name ≡ o → is_some (store'.first name) ≡ true →
+          existed : (o : Option (List ℕ)) → store'.first name ≡ o → is_some (store'.first name) ≡ true →
               s.progress.growing.made ≡ false
-          stood None e some = no_false (sym (ap is_some e) ∙ some)
-          stood (Some bytes) e some = (file_here (Some bytes) e).1
+          existed None e some = no_false (sym (ap is_some e) ∙ some)
+          existed (Some bytes) e some = (file_here (Some bytes) e).1
       theirs n k e some false b =
           h.theirs honest n k (sym (kept_other n b) ∙ e) (sym (ap is_some (first_same n)) ∙ some)
 
@@ -240,25 +240,25 @@ module _ (limit : ℕ) (store store' : Store) (sessions sessions' : List ℕ →
       (a : Answers (is_known book m.name) (is_full book) (store.first m.name) (log_of book m.name) m before after
       replies (part_of s) (store'.contents m.name)) →
       IsSome (turn_by (is_some (store.first m.name)) (is_known book m.name) (is_full book) (log_of book m.name) m
-      a.luck).1 ⊎ (is_known book m.name ≡ true) →
+      a.faults).1 ⊎ (is_known book m.name ≡ true) →
       IsTurn (λ n. is_some (store.first n)) before after book (Says m) (map reply_of replies)
       (with_change book m.name (turn_by (is_some (store.first m.name)) (is_known book m.name) (is_full book)
-      (log_of book m.name) m a.luck).1)
+      (log_of book m.name) m a.faults).1)
       × Holds limit store' (λ n. option_map kept_by (sessions' n))
       (with_change book m.name (turn_by (is_some (store.first m.name)) (is_known book m.name) (is_full book)
-      (log_of book m.name) m a.luck).1)
+      (log_of book m.name) m a.faults).1)
   unfolding turn
   book_turned before after replies sets same_first keeps named limited a some = (
     record {
-      luck = a.luck;
+      faults = a.faults;
       answered = a.answered;
       left = refl;
       room = a.room;
       count = a.count;
       stop = a.whole;
     },
-    go (turn_by (is_some (store.first m.name)) (is_known book m.name) (is_full book) (log_of book m.name) m a.luck).1
-        a.left some (turns_keep_books (λ n. is_some (store.first n)) book (Says m) a.luck said h.is_book),
+    go (turn_by (is_some (store.first m.name)) (is_known book m.name) (is_full book) (log_of book m.name) m a.faults).1
+        a.left some (turns_keep_books (λ n. is_some (store.first n)) book (Says m) a.faults said h.is_book),
   )
     where
       go : (o : Option Log) →
@@ -300,16 +300,16 @@ module _ {F : Type 0} (r : Result (Option Session) F) (ok : IsOk r) where
       go (Err e) i f l = no_false i
 
 -- a message that is turned away, of a name that isn't known
-module _ (stood : List ℕ → Bool) (before : ℕ) (book : Book) (m : Message)
+module _ (existed : List ℕ → Bool) (before : ℕ) (book : Book) (m : Message)
     (unknown : is_known book m.name ≡ false) where
-  turned_away : (luck : Luck) (code : Notice) →
-      turn_by (stood m.name) (is_known book m.name) (is_full book) (log_of book m.name) m luck
+  turned_away : (faults : Faults) (code : Notice) →
+      turn_by (existed m.name) (is_known book m.name) (is_full book) (log_of book m.name) m faults
       ≡ (notice m code 0, None) →
-      (IsTrue luck.refused → IsWithoutRoom book (Says m) (notice m code 0)) → luck.stop ≡ None →
-      IsTurn stood before before book (Says m) (notice m code 0) book
+      (IsTrue faults.refused → IsWithoutRoom book (Says m) (notice m code 0)) → faults.stop ≡ None →
+      IsTurn existed before before book (Says m) (notice m code 0) book
   unfolding turn
-  turned_away luck code is room stop = record {
-    luck = luck;
+  turned_away faults code is room stop = record {
+    faults = faults;
     answered = ap (λ (x : List ModelReply × Option Log). x.0) is;
     left = ap (λ (x : List ModelReply × Option Log). with_change book m.name x.1) is;
     room = room;
@@ -318,14 +318,14 @@ module _ (stood : List ℕ → Bool) (before : ℕ) (book : Book) (m : Message)
     stop = λ quiet. stop;
   }
 
-  pub too_far : window ≤ m.number → IsTurn stood before before book (Says m) (notice m TooFar 0) book
+  pub too_far : window ≤ m.number → IsTurn existed before before book (Says m) (notice m TooFar 0) book
   unfolding turn_by
   too_far past =
       let a = le-leb window m.number past in
       turned_away good TooFar (rw (unknown, a) refl) (λ r. no_false r) refl
 
   pub table_full : m.number < window → length book ≡ most_takes →
-      IsTurn stood before before book (Says m) (notice m TableFull 0) book
+      IsTurn existed before before book (Says m) (notice m TableFull 0) book
   unfolding turn_by
   table_full near full =
       let a = lt-leb window m.number near in
@@ -333,7 +333,7 @@ module _ (stood : List ℕ → Bool) (before : ℕ) (book : Book) (m : Message)
       turned_away good TableFull (rw (unknown, a, b) refl) (λ r. no_false r) refl
 
   pub no_room : m.number < window → length book < most_takes →
-      IsTurn stood before before book (Says m) (notice m NoRoom 0) book
+      IsTurn existed before before book (Says m) (notice m NoRoom 0) book
   unfolding turn_by
   no_room near place =
       let a = lt-leb window m.number near in

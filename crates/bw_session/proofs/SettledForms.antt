@@ -8,10 +8,10 @@ use Rattle.bw_model.specs.Take.{Request}
 use Rattle.bw_model.specs.Wire.{Message}
 use Rattle.bw_model.specs.Replies.{Reply, TooFar, TableFull, NoRoom}
 use Rattle.bw_model.specs.Book.{Log, log_of, is_known, run_end}
-use Rattle.bw_model.specs.Turn.{Luck, turn, turn_by, served, own_reply, verdicts_from, drained_to, admitted_after}
+use Rattle.bw_model.specs.Turn.{Faults, turn, turn_by, served, own_reply, verdicts_from, drained_to, admitted_after}
 use Rattle.bw_model.specs.Turn.{is_admissible, is_full, with_change, notice, window}
 use Rattle.bw_model.proofs.MapLemmas.{at-first_free, at-drop}
-use Rattle.bw_session.specs.Settled.{SettledTurnsNeedNoLuck}
+use Rattle.bw_session.specs.Settled.{SettledTurnsMeetNoFaults}
 
 no_request : {A : Type 0} {r : Request} → Some r ≡ None → A
 no_request e = cc
@@ -58,16 +58,16 @@ served_settled taken log m stop other old quiet =
     (drained_settled (admitted_after log m) log.done stop same
     ∙ sym (drained_settled (admitted_after log m) log.done other same))
 
-turn_settled : (taken known full : Bool) (log : Log) (m : Message) (luck other : Luck) →
+turn_settled : (taken known full : Bool) (log : Log) (m : Message) (faults other : Faults) →
     is_admissible log m.number ≡ false → is_some (at log.admitted log.done) ≡ false →
-    turn_by taken known full log m luck ≡ turn_by taken known full log m other
+    turn_by taken known full log m faults ≡ turn_by taken known full log m other
 unfolding turn_by
-turn_settled taken known full log m luck other old quiet =
-    rest luck ∙ ap (λ (x : List Reply × Log). cond (not known && nat_le window m.number) (notice m TooFar 0, None)
+turn_settled taken known full log m faults other old quiet =
+    rest faults ∙ ap (λ (x : List Reply × Log). cond (not known && nat_le window m.number) (notice m TooFar 0, None)
     (cond (not known && full) (notice m TableFull 0, None) (x.0, Some x.1)))
-    (served_settled taken log m luck.stop other.stop old quiet) ∙ sym (rest other)
+    (served_settled taken log m faults.stop other.stop old quiet) ∙ sym (rest other)
   where
-    rest : (l : Luck) → turn_by taken known full log m l
+    rest : (l : Faults) → turn_by taken known full log m l
         ≡ cond (not known && nat_le window m.number) (notice m TooFar 0, None)
         (cond (not known && full) (notice m TableFull 0, None)
         ((served taken log m l.stop).0, Some (served taken log m l.stop).1))
@@ -76,8 +76,8 @@ turn_settled taken known full log m luck other old quiet =
         (cond (b && l.refused) (notice m NoRoom log.done, None)
         ((served taken log m l.stop).0, Some (served taken log m l.stop).1)))) old
 
-pub settled_turns : SettledTurnsNeedNoLuck
+pub settled_turns : SettledTurnsMeetNoFaults
 unfolding turn
-settled_turns stood book m luck other old quiet =
+settled_turns existed book m faults other old quiet =
     ap (λ (x : List Reply × Option Log). (x.0, with_change book m.name x.1))
-    (turn_settled (stood m.name) (is_known book m.name) (is_full book) (log_of book m.name) m luck other old quiet)
+    (turn_settled (existed m.name) (is_known book m.name) (is_full book) (log_of book m.name) m faults other old quiet)

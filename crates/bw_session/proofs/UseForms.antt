@@ -19,29 +19,29 @@ use Rattle.bw_session.specs.Draining.{kept_as}
 use Rattle.bw_session.specs.Servers.{kept_by}
 use Rattle.bw_session.specs.Sessions.{KeepsProgress}
 use Rattle.bw_session.specs.Serving.{UsesBoth}
-use Rattle.bw_session.specs.Telling.{IsTimely}
+use Rattle.bw_session.specs.Reporting.{IsTimely}
 use Rattle.bw_session.specs.declared.session.Session.{Session}
 use Rattle.bw_session.proofs.AdmitForms.{no_false}
 
 pub all_none : (P : Reply → Type 0) (rs : List Reply) → rs ≡ [] → All P rs
 all_none P rs e = subst (All P) (sym e) (λ i d h. absurd (omega (arith, h)))
 
--- what is told where nothing failed may be told anyway
+-- what is reported where nothing failed may be reported anyway
 pub timely_any : (failed : Bool) (rs : List Reply) → All (IsTimely false) rs → All (IsTimely failed) rs
-timely_any failed rs all = λ i d h told. no_false (all i d h told)
+timely_any failed rs all = λ i d h reported. no_false (all i d h reported)
 
 -- a notice of something else
 pub timely_notice : (failed : Bool) (r : Reply) (name : List ℕ) (number : ℕ) (n : Notice) (next : ℕ) →
     reply_of r ≡ Noticed name number n next → is_delay n ≡ false → IsTimely failed r
-timely_notice failed r name number n next e other = λ told.
-    no_false (sym (ap is_delayed e ∙ other) ∙ told)
+timely_notice failed r name number n next e other = λ reported.
+    no_false (sym (ap is_delayed e ∙ other) ∙ reported)
 
 -- why an admitted number waits
 pub timely_waits : (failed : Bool) (r : Reply) (name : List ℕ) (number : ℕ) (n : Notice) (next : ℕ) →
     reply_of r ≡ Noticed name number n next → n ≡ cond failed DelayedStore Held → IsTimely failed r
-timely_waits true r name number n next e is = λ told. refl
-timely_waits false r name number n next e is = λ told.
-    no_false (sym (ap is_delayed (e ∙ ap (λ (x : Notice). Noticed name number x next) is)) ∙ told)
+timely_waits true r name number n next e is = λ reported. refl
+timely_waits false r name number n next e is = λ reported.
+    no_false (sym (ap is_delayed (e ∙ ap (λ (x : Notice). Noticed name number x next) is)) ∙ reported)
 
 -- one more reply
 pub timely_push : (failed : Bool) (rs rs' : List Reply) (r : Reply) → rs' ≡ rs ++ r ∷ [] → All (IsTimely failed) rs →

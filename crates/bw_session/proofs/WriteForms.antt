@@ -15,7 +15,7 @@ use Rattle.bw_store.specs.declared.store.Created.TheVariants.{New, Exists}
 use Rattle.bw_store.specs.declared.store.StoreFault.{StoreFault}
 use Rattle.bw_file.proofs.Judged.{IsOpen, open_for}
 use Rattle.bw_session.specs.Writing.{WritesRequest}
-use Rattle.bw_session.proofs.OwnFiles.{ready, whole_behind, own_behind, begun, opened_new, never_stood, opened_err}
+use Rattle.bw_session.proofs.OwnFiles.{ready, whole_after, own_after, begun, opened_new, never_existed, opened_err}
 use Rattle.bw_session.proofs.OwnFiles.{left_alone}
 use Rattle.bw_file.proofs.MarkedFiles.{marked_file}
 
@@ -39,19 +39,19 @@ module _ (p : Parts) (r : Request) (g g' : Growing) (before after : Option (List
   writes_ok keeps known file = record {
     own = λ t e h. (
       refl,
-      whole_behind t o.format r g g' before after (has_format t e)
+      whole_after t o.format r g g' before after (has_format t e)
           (ap is_some (keeps t ∙ has_format t e)) known h (file t e (ready t r g before h)),
     );
-    stood = λ none unmade s. not_none p o none;
+    existed = λ none unmade s. not_none p o none;
   }
 
   pub writes_err : (fault : StoreFault) → judge p r ≡ Stored → g' ≡ record g { dirty = true } →
       ((t : Take) → parts t ≡ p → IsReady g t r before → IsBetween t g.limit r after) →
       WritesRequest (Err fault) r p g g' before after
   writes_err fault stored known file = record {
-    own = λ t e h. own_behind t o.format r g g' before after (has_format t e) (still_stored t p r e stored) known h
+    own = λ t e h. own_after t o.format r g g' before after (has_format t e) (still_stored t p r e stored) known h
         (file t e (ready t r g before h));
-    stood = λ none unmade s. not_none p o none;
+    existed = λ none unmade s. not_none p o none;
   }
 
 -- a marker
@@ -70,7 +70,7 @@ writes_mark p id frame g found stored clean =
           made_here = h.made_here;
         },
       );
-      stood = λ none unmade s. not_none p o none;
+      existed = λ none unmade s. not_none p o none;
     }
 
 -- opening
@@ -81,7 +81,7 @@ pub writes_open : (answer : Result Created StoreFault) (p : Parts) (f : Format) 
     AsksForName g.made g'.made before after → IfOk answer (λ c. IsFalse (is_new c) → IsSome before) →
     ((t : Take) → parts t ≡ p → BeginsFile answer g g'.made t (Open f history) before after) →
     WritesRequest answer (Open f history) p g g' before after
-writes_open (Ok New) p f history g g' before after stored known err name stood file =
+writes_open (Ok New) p f history g g' before after stored known err name existed file =
     let made : g'.made ≡ true = ap (λ (x : Growing). x.made) known in
     record {
       own = λ t e h.
@@ -90,25 +90,25 @@ writes_open (Ok New) p f history g g' before after stored known err name stood f
             opened_new t f history g g' before after unopened h name known
                 (file t e (begun t f history g before unopened h) made),
           );
-      stood = λ none unmade s. absurd (no (sym made ∙ (left_alone g g' before after name unmade s).1));
+      existed = λ none unmade s. absurd (no (sym made ∙ (left_alone g g' before after name unmade s).1));
     }
   where
     no : true ≡ false → ⊥
     no e = cc
-writes_open (Ok Exists) p f history g g' before after stored known err name stood file =
+writes_open (Ok Exists) p f history g g' before after stored known err name existed file =
     let unmade : g'.made ≡ false = ap (λ (x : Growing). x.made) known in
     record {
       own = λ t e h.
           let unopened : t.format ≡ None = ap (λ (q : Parts). q.format) e ∙ opened_once p f history stored in
-          absurd (never_stood t f history g g' before after unopened h name unmade (stood refl));
-      stood = λ none was s. let a = left_alone g g' before after name was s in (a.0, a.1, refl);
+          absurd (never_existed t f history g g' before after unopened h name unmade (existed refl));
+      existed = λ none was s. let a = left_alone g g' before after name was s in (a.0, a.1, refl);
     }
-writes_open (Err fault) p f history g g' before after stored known err name stood file = record {
+writes_open (Err fault) p f history g g' before after stored known err name existed file = record {
   own = λ t e h.
       let unopened : t.format ≡ None = ap (λ (q : Parts). q.format) e ∙ opened_once p f history stored in
       opened_err t f history g g' before after unopened h name (still_stored t p (Open f history) e stored) err
       (λ made. file t e (begun t f history g before unopened h) made);
-  stood = λ none was s. let a = left_alone g g' before after name was s in (a.0, a.1, tt);
+  existed = λ none was s. let a = left_alone g g' before after name was s in (a.0, a.1, tt);
 }
 
 -- a take that is closed has as many frames as was said

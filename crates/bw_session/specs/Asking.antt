@@ -13,7 +13,7 @@ use Rattle.bw_store.specs.StoreSteps.{WasAsked, WasAskedFirst}
 use Rattle.bw_store.specs.declared.store.TakeStore.{Ghosts as StoreGhosts}
 use Rattle.bw_wire.specs.Bodies.{message_in}
 use Rattle.bw_session.specs.Carrying.{judged_plan}
-use Rattle.bw_session.specs.Judging.{judged_by, KeepsJudged}
+use Rattle.bw_session.specs.Judging.{judged_in, KeepsJudged}
 use Rattle.bw_session.specs.KeptParts.{Part}
 use Rattle.bw_session.specs.declared.draining.Drained.{Drained}
 use Rattle.bw_session.specs.declared.draining.Drained.TheVariants.{Idle, Done, Stopped}
@@ -29,7 +29,7 @@ pub record DoesFirst {X : Type 0} (S : StoreGhosts X) (a : Part) (x : X) (b : Pa
   pub growing : b.growing ≡ record a.growing { made = b.growing.made; dirty = false }
   pub parts : KeepsJudged a.parts (message_in body).request b.parts
   pub outcomes : b.outcomes ≡ a.outcomes
-      ++ (sha256 body, judged_by a.parts (message_in body).request b.parts.taken) ∷ []
+      ++ (sha256 body, judged_in a.parts (message_in body).request b.parts.taken) ∷ []
   pub window : b.window ≡ drop 1 a.window ++ None ∷ []
 
 -- Nothing was done, and nothing was asked.
@@ -48,20 +48,20 @@ pub record TriesFirst {X : Type 0} (S : StoreGhosts X) (a : Part) (x : X) (b : P
   pub window : b.window ≡ a.window
 
 -- Nothing is held under the next number.
-abbrev pub IsIdle : Part → Type 0
-IsIdle a = at a.window 0 ≡ None
+abbrev pub HoldsNoNext : Part → Type 0
+HoldsNoNext a = at a.window 0 ≡ None
 
 -- what draining one number asks
 abbrev pub AsksNext : {X : Type 0} → StoreGhosts X → Drained → Part → X → Part → X → Type 0
-AsksNext S Idle a x b y = IsIdle a × DoesNothing a x b y
+AsksNext S Idle a x b y = HoldsNoNext a × DoesNothing a x b y
 AsksNext S (Done v) a x b y = DoesFirst S a x b y
 AsksNext S Stopped a x b y = TriesFirst S a x b y
 
 -- So many numbers were done, one after another.
-abbrev pub DoesInRow : {X : Type 0} → StoreGhosts X → ℕ → Part → X → Part → X → Type 0
-DoesInRow S zero a x b y = DoesNothing a x b y
-DoesInRow {X} S (suc n) a x b y =
-    (mid : Part) × (z : X) × DoesInRow S n a x mid z × DoesFirst S mid z b y
+abbrev pub DoesConsecutively : {X : Type 0} → StoreGhosts X → ℕ → Part → X → Part → X → Type 0
+DoesConsecutively S zero a x b y = DoesNothing a x b y
+DoesConsecutively {X} S (suc n) a x b y =
+    (mid : Part) × (z : X) × DoesConsecutively S n a x mid z × DoesFirst S mid z b y
 
 -- Numbers were done one after another, at most so many, and where that stopped the next one was
 -- tried.
@@ -71,10 +71,10 @@ pub record DoesRun {X : Type 0} (S : StoreGhosts X) (most : ℕ) (stopped : Bool
   pub within : count ≤ most
   pub last : Part
   pub reached : X
-  pub done : DoesInRow S count a x last reached
+  pub done : DoesConsecutively S count a x last reached
   pub end : MatchBool stopped (TriesFirst S last reached b y) (DoesNothing last reached b y)
   -- where none stopped it, no number that could be done is left
-  pub all : IsFalse stopped → IsIdle last ⊎ (count ≡ most)
+  pub all : IsFalse stopped → HoldsNoNext last ⊎ (count ≡ most)
 
 -- a window with a message's body in its slot, where the message is new in it
 abbrev pub window_with : List (Option (List ℕ)) → ℕ → Message → List (Option (List ℕ))

@@ -1,9 +1,9 @@
--- What a server has to do with the book that it was told.
+-- What a server has to do with the book that it was reported.
 use Rattle.std.specs.Prelude.{◌≡◌, ℕ, Option, Some, None, is_some, IsTrue, List, map, drop, count_by}
 use Rattle.std.specs.Prelude.{if◌then◌else◌}
 use Rattle.bw_model.specs.Wire.{Message, Says}
 use Rattle.bw_model.specs.Book.{Log, Book, log_of, is_known}
-use Rattle.bw_model.specs.CountedTurn.{IsTurn, book_told}
+use Rattle.bw_model.specs.CountedTurn.{IsTurn, book_reported}
 use Rattle.bw_model.specs.Holds.{Holds}
 use Rattle.bw_store.specs.declared.store.TakeStore.{Ghosts as StoreGhosts}
 use Rattle.bw_model.specs.Replies.{Reply as ModelReply}
@@ -34,7 +34,7 @@ module _ {X Y : Type 0} (S : StoreGhosts X) (J : JournalGhosts Y) where
       NotesNames (J.header s.stores.journal) (J.notes s.stores.journal) first
       (session_in s.sessions) book
 
-  -- The replies and the later book are those of the definitions' turn under some luck, and the
+  -- The replies and the later book are those of the definitions' turn with some faults, and the
   -- server holds the later book.
   pub record TurnsBook (first : List ℕ → Option (List ℕ)) (old new : Server X Y S J) (book : Book)
       (m : Message) (replies : List Reply) : Type 0 where
@@ -55,7 +55,7 @@ module _ {X Y : Type 0} (S : StoreGhosts X) (J : JournalGhosts Y) where
       IsTrue (J.honest old.stores.journal) →
       (first : List ℕ → Option (List ℕ)) (book : Book) → HoldsBook first old book →
       NotesBook first old book →
-      NotesBook first new (book_told book m (map reply_of replies) (done_in new.sessions m.name))
+      NotesBook first new (book_reported book m (map reply_of replies) (done_in new.sessions m.name))
 
   -- With these replies each book that the server holds over an honest store is as it was.
   abbrev pub KeepsBooks : Server X Y S J → Message → List ModelReply → Type 0

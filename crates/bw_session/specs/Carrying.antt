@@ -38,6 +38,6 @@ pub record Carries (answer : Result Verdict StoreFault) (r : Request) (p q : Par
       MatchResult answer
       (λ _. (q ≡ p) × HasWholeFile (after t r) new found)
       (λ _. HasOwnFile t r new found)
-  pub stood : p.format ≡ None → old.made ≡ false → IsSome before →
+  pub existed : p.format ≡ None → old.made ≡ false → IsSome before →
       (found ≡ before) × (new.made ≡ false)
       × IfOk answer (λ v. verdict_meaning v ≡ judge (record p { taken = true }) r)

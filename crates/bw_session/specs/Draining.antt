@@ -73,7 +73,7 @@ is_stopped Idle = false
 is_stopped (Done v) = false
 is_stopped Stopped = true
 
--- the log behind a drained number
+-- the log after a drained number
 abbrev pub drained_log : Drained → Log → Log
 drained_log Idle log = log
 drained_log (Done v) log = with_done log
@@ -98,18 +98,18 @@ IsTried (Done v) number = number ≤ last_number Second
 IsTried Stopped number = number ≤ last_number Second
 
 -- Nothing was held; or the number has its verdict; or it waits on.
-abbrev pub TellsNext : Drained → Bool → Log → Type 0
-TellsNext Idle stood log = at log.admitted log.done ≡ None
-TellsNext (Done v) stood log =
+abbrev pub ReportsNext : Drained → Bool → Log → Type 0
+ReportsNext Idle existed log = at log.admitted log.done ≡ None
+ReportsNext (Done v) existed log =
     IsSome (at log.admitted log.done)
-    × (verdict_meaning v ≡ verdict_at stood log.admitted log.done)
-TellsNext Stopped stood log = IsSome (at log.admitted log.done)
+    × (verdict_meaning v ≡ verdict_at existed log.admitted log.done)
+ReportsNext Stopped existed log = IsSome (at log.admitted log.done)
 
 -- One drained number raises `done` by one, or leaves the log.
 pub record DrainsNext (answer : Drained) (first : Option (List ℕ)) (log : Log) (p : Parts)
     (finished : List (List ℕ × Verdict)) (window : List (Option (List ℕ))) (g : Growing)
     (found : Option (List ℕ)) : Type 0 where
-  pub told : TellsNext answer (is_some first) log
+  pub reported : ReportsNext answer (is_some first) log
   pub left : HoldsPart first (drained_log answer log) p finished window g found
 
 -- .. of what is kept and held

@@ -6,11 +6,11 @@ use Rattle.bw_model.specs.Holds.{finished_from}
 
 -- Digests, verdicts and state are those of the numbers below `done`; that the name stood is known
 -- once the store was asked.
-pub record KeepsDone (stood : Bool) (name : List ℕ) (log : Log) (state : Parts)
+pub record KeepsDone (existed : Bool) (name : List ℕ) (log : Log) (state : Parts)
     (finished : List (List ℕ × Verdict)) : Type 0 where
   pub done : length finished ≡ log.done
-  pub finished_are : finished ≡ finished_from stood log.admitted name 0 (take log.done log.admitted)
-  pub state_is : state ≡ record (parts (made stood log.admitted log.done)) { taken = state.taken }
-  pub taken : IsTrue state.taken → IsTrue stood
-  pub told : (n : ℕ) → n < log.done → verdict_at stood log.admitted n ≡ NameTaken →
+  pub finished_are : finished ≡ finished_from existed log.admitted name 0 (take log.done log.admitted)
+  pub state_is : state ≡ record (parts (made existed log.admitted log.done)) { taken = state.taken }
+  pub taken : IsTrue state.taken → IsTrue existed
+  pub reported : (n : ℕ) → n < log.done → verdict_at existed log.admitted n ≡ NameTaken →
       IsTrue state.taken

@@ -4,13 +4,13 @@ pub mod Ledgers
 pub mod Writing
 pub mod Carrying
 pub mod Keeping
-pub mod Fronts
+pub mod Prefixes
 pub mod Numbered
 pub mod Noting
 pub mod Draining
 pub mod Admitting
 pub mod Sessions
-pub mod Telling
+pub mod Reporting
 pub mod Runs
 pub mod Serving
 pub mod Tables

@@ -8,38 +8,38 @@ use Rattle.bw_store.specs.declared.store.StoreFault.{StoreFault}
 use Rattle.bw_request.specs.declared.verdict.Verdict.{Verdict}
 use Rattle.bw_journal.specs.JournalHeaders.{Header, header_bytes}
 use Rattle.bw_journal.specs.Entries.{sealed_entry}
-use Rattle.bw_journal.specs.Notes.{IsFrontOf, BeginsNotes}
+use Rattle.bw_journal.specs.Notes.{IsPrefixOf, BeginsNotes}
 use Rattle.bw_journal.specs.declared.journal.Journal.{Ghosts as JournalGhosts}
 use Rattle.bw_journal.specs.Noted.{done_entry, journal_of}
 use Rattle.bw_session.specs.Numbered.{with_done}
 
 -- the entry of a number, if something was admitted under it
 abbrev pub entry_if : Bool → List ℕ → List (Option Request) → ℕ → Option Request → List ℕ
-entry_if stood name s n None = []
-entry_if stood name s n (Some r) = sealed_entry (done_entry stood s name n r)
+entry_if existed name s n None = []
+entry_if existed name s n (Some r) = sealed_entry (done_entry existed s name n r)
 
 -- the entry of the least number without a verdict
 abbrev pub next_entry : Bool → List ℕ → Log → List ℕ
-next_entry stood name log = entry_if stood name log.admitted log.done (at log.admitted log.done)
+next_entry existed name log = entry_if existed name log.admitted log.done (at log.admitted log.done)
 
--- the header and an entry for each done number, and behind them a front of the next entry
+-- the header and an entry for each done number, and after them a prefix of the next entry
 abbrev pub HasEntries : Header → List ℕ → Log → Option (List ℕ) → Type 0
 HasEntries h name log found =
-    (count : ℕ) × (found ≡ Some (journal_of h name log ++ take count (next_entry h.stood name log)))
+    (count : ℕ) × (found ≡ Some (journal_of h name log ++ take count (next_entry h.existed name log)))
 
 -- So much of a name's journal is its header and the entries of its done numbers, and no more than a
--- front of the next entry follows. Before number 0 the header may be missing, or cut.
+-- prefix of the next entry follows. Before number 0 the header may be missing, or cut.
 pub record IsNoted (h : Header) (name : List ℕ) (log : Log) (offset : ℕ)
     (found : Option (List ℕ)) : Type 0 where
   pub offset_is : offset ≡ length (journal_of h name log)
-  pub stands : ((log.done ≡ 0) × IsFrontOf (header_bytes h) found) ⊎ HasEntries h name log found
+  pub stands : ((log.done ≡ 0) × IsPrefixOf (header_bytes h) found) ⊎ HasEntries h name log found
 
 -- A journal that has of the name what one log says, and whose header says whether the name stood,
 -- has then what the other log says.
 abbrev pub NotesOn : {Y : Type 0} → JournalGhosts Y → List ℕ → Option (List ℕ) → Y → Log → ℕ →
     Y → Log → ℕ → Type 0
 NotesOn J name first old log noted new log' noted' =
-    (J.header old name).stood ≡ is_some first →
+    (J.header old name).existed ≡ is_some first →
     IsNoted (J.header old name) name log noted (J.notes old name) →
     IsNoted (J.header old name) name log' noted' (J.notes new name)
 
@@ -49,7 +49,7 @@ pub record OnlyBegins (h : Header) (done : ℕ) (before found : Option (List ℕ
   pub begun : done ≡ 0 → BeginsNotes h before found
   pub later : 1 ≤ done → found ≡ before
 
--- the log behind a number that is done, or waits on
+-- the log after a number that is done, or waits on
 abbrev pub log_left : Result Verdict StoreFault → Log → Log
 log_left (Ok v) log = with_done log
 log_left (Err fault) log = log

@@ -21,7 +21,7 @@ use Rattle.bw_journal.specs.Notes.{KeepsHeaders}
 use Rattle.bw_journal.specs.declared.journal.Journal.{Ghosts as JournalGhosts}
 use Rattle.bw_session.specs.Writing.{is_mark}
 use Rattle.bw_session.specs.Keeping.{KeepsDone}
-use Rattle.bw_session.specs.Fronts.{take_done, FileFollows, HoldsFront}
+use Rattle.bw_session.specs.Prefixes.{take_done, FileFollows, HoldsPrefix}
 
 -- how many calls of a store and of its journal failed; the count stays at its last value
 abbrev pub failed_calls : ℕ → ℕ → ℕ
@@ -87,4 +87,4 @@ abbrev pub DoesNext : Result Judgement StoreFault → Option (List ℕ) → Log 
 DoesNext answer first log p finished r g found =
     MatchResult answer
     (λ v. IsDone first log (verdict_meaning v) p finished g found)
-    (λ _. HoldsFront first log p finished r g found)
+    (λ _. HoldsPrefix first log p finished r g found)

@@ -9,8 +9,8 @@ use Rattle.bw_store.specs.declared.store.TakeStore.{Ghosts as StoreGhosts}
 use Rattle.bw_journal.specs.declared.journal.Journal.{Ghosts as JournalGhosts}
 use Rattle.bw_session.specs.Writing.{IsSameFile}
 use Rattle.bw_session.specs.Carrying.{Touches}
-use Rattle.bw_session.specs.Fronts.{HoldsFront}
-use Rattle.bw_session.specs.Judging.{judged_by, KeepsJudged}
+use Rattle.bw_session.specs.Prefixes.{HoldsPrefix}
+use Rattle.bw_session.specs.Judging.{judged_in, KeepsJudged}
 use Rattle.bw_session.specs.Noting.{NotesOn, OnlyBegins, log_left}
 use Rattle.bw_session.specs.Numbered.{IsNext}
 use Rattle.bw_session.specs.declared.numbering.Progress.{Progress}
@@ -37,7 +37,7 @@ pub record KeepsNumber (old : Progress) (r : Request) (digest : List ℕ) (v : V
   -- the judged request is kept
   pub kept : KeepsJudged old.state.parts r new.state.parts
   -- the verdict is that of the request
-  pub verdict : v ≡ judged_by old.state.parts r new.state.parts.taken
+  pub verdict : v ≡ judged_in old.state.parts r new.state.parts.taken
   -- digest and verdict follow those of the numbers before it
   pub outcomes : new.ledger.outcomes ≡ old.ledger.outcomes ++ (digest, v) ∷ []
   -- the file is clean
@@ -67,7 +67,7 @@ module _ {X Y : Type 0} (S : StoreGhosts X) (J : JournalGhosts Y) where
       (Option (List ℕ) → Log → Type 0) → Type 0
   ForNext p r digest stores Says = IsTrue (S.honest stores.store) →
       (first : Option (List ℕ)) (log : Log) → IsNext p.name log r digest →
-      HoldsFront first log p.state.parts p.ledger.outcomes r p.growing
+      HoldsPrefix first log p.state.parts p.ledger.outcomes r p.growing
       (S.contents stores.store p.name) → Says first log
 
   -- An honest journal that has the entries of such a log has then that of the number too, if it is
@@ -77,7 +77,7 @@ module _ {X Y : Type 0} (S : StoreGhosts X) (J : JournalGhosts Y) where
   NotesNext answer before old r digest after new = IsTrue (S.honest old.store) →
       IsTrue (J.honest old.journal) → (first : Option (List ℕ)) (log : Log) →
       IsNext before.name log r digest →
-      HoldsFront first log before.state.parts before.ledger.outcomes r before.growing
+      HoldsPrefix first log before.state.parts before.ledger.outcomes r before.growing
       (S.contents old.store before.name) →
       NotesOn J before.name first old.journal log before.noted new.journal (log_left answer log)
       after.noted

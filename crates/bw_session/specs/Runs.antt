@@ -16,7 +16,7 @@ with_more_done log count = record log { done = log.done + count }
 pub record HasDrained (first : Option (List ℕ)) (log : Log) (replies : List Reply) (p : Part)
     (found : Option (List ℕ)) : Type 0 where
   pub left : HoldsLog first (with_more_done log (length replies)) p found
-  pub told : map reply_of replies
+  pub reported : map reply_of replies
       ≡ verdicts_from (is_some first) log.admitted p.growing.name log.done (length replies)
   -- nothing is admitted past the window that the log had
   pub none_past : at log.admitted (log.done + window) ≡ None

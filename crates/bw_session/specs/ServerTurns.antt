@@ -58,7 +58,7 @@ module _ {X Y : Type 0} (S : StoreGhosts X) (J : JournalGhosts Y) where
     pub counted : Counts (failures_of S J old) (failures_of S J new) failed
     pub delays : IsTrue (list_any is_delayed replies) → IsTrue failed
     pub asks : AsksFor frame failed old new
-    -- the message that is turned away for want of room asks for nothing
+    -- the message that is turned away for lack of room asks for nothing
     pub away : IsTrue (is_turned_away replies) → SameStores S J old new
     pub turned : IsTrue (S.honest old.stores.store) → (first : List ℕ → Option (List ℕ))
         (book : Book) → HoldsBook S J first old book → TurnsOn first old new book frame replies

@@ -8,27 +8,27 @@ use Rattle.bw_model.specs.Wire.{Message}
 use Rattle.bw_model.specs.Replies.{Reply as ModelReply, NoRoom}
 use Rattle.bw_model.specs.Book.{Log}
 use Rattle.bw_model.specs.CountedTurn.{is_pending}
-use Rattle.bw_model.specs.Turn.{Luck, served, turn_by, admitted_after, is_admissible, notice}
+use Rattle.bw_model.specs.Turn.{Faults, served, turn_by, admitted_after, is_admissible, notice}
 use Rattle.bw_model.specs.Turn.{is_turned_away}
 use Rattle.bw_wire.specs.declared.reply.Reply.{Reply}
 use Rattle.bw_wire.specs.Replies.{reply_of}
 use Rattle.bw_store.specs.declared.store.TakeStore.{Ghosts as StoreGhosts}
 use Rattle.bw_journal.specs.declared.journal.Journal.{Ghosts as JournalGhosts}
 use Rattle.bw_session.specs.Numbered.{KeepsBoth}
-use Rattle.bw_session.specs.Telling.{IsTimely}
+use Rattle.bw_session.specs.Reporting.{IsTimely}
 use Rattle.bw_session.specs.Sessions.{Part, HoldsLog, CallsFew}
 
 -- the log with the message admitted, where it is new in the window, and so many numbers done
 abbrev pub log_after : Log → Message → ℕ → Log
 log_after log m done = record { admitted = admitted_after log m; done = done }
 
--- the log behind a message that was answered so
-abbrev pub log_told : Log → Message → List ModelReply → ℕ → Log
-log_told log m replies done = if is_turned_away replies then log else log_after log m done
+-- the log after a message that was answered so
+abbrev pub log_reported : Log → Message → List ModelReply → ℕ → Log
+log_reported log m replies done = if is_turned_away replies then log else log_after log m done
 
--- The message is served as the definitions serve it, where draining stops behind so many numbers,
+-- The message is served as the definitions serve it, where draining stops after so many numbers,
 -- or goes to its end: it stops short exactly where a failure was counted.
-pub record Serves (first : Option (List ℕ)) (log : Log) (m : Message) (before after : ℕ)
+pub record ServesMessage (first : Option (List ℕ)) (log : Log) (m : Message) (before after : ℕ)
     (replies : List Reply) (p : Part) (found : Option (List ℕ)) : Type 0 where
   pub stop : Option ℕ
   pub answered : (served (is_some first) log m stop).0 ≡ map reply_of replies
@@ -36,20 +36,20 @@ pub record Serves (first : Option (List ℕ)) (log : Log) (m : Message) (before 
   pub count : Counts before after (is_pending (served (is_some first) log m stop).1)
   pub whole : IsFalse (is_pending (served (is_some first) log m stop).1) → stop ≡ None
 
--- The message is turned as the definitions turn it, under some luck: a growth is refused only where
+-- The message is turned as the definitions turn it, with some faults: a growth is refused only where
 -- NoRoom is the answer, and a failure is counted exactly where draining stops short.
 pub record Answers (known full : Bool) (first : Option (List ℕ)) (log : Log) (m : Message)
     (before after : ℕ) (replies : List Reply) (p : Part) (found : Option (List ℕ)) : Type 0 where
-  pub luck : Luck
-  pub answered : (turn_by (is_some first) known full log m luck).0 ≡ map reply_of replies
-  pub left : HoldsLog first (unwrap_or (turn_by (is_some first) known full log m luck).1 log) p found
-  pub room : IsTrue luck.refused →
+  pub faults : Faults
+  pub answered : (turn_by (is_some first) known full log m faults).0 ≡ map reply_of replies
+  pub left : HoldsLog first (unwrap_or (turn_by (is_some first) known full log m faults).1 log) p found
+  pub room : IsTrue faults.refused →
       IsTrue (is_admissible log m.number) × (map reply_of replies ≡ notice m NoRoom log.done)
   pub count : Counts before after
-      (option_map_or is_pending (turn_by (is_some first) known full log m luck).1 false)
+      (option_map_or is_pending (turn_by (is_some first) known full log m faults).1 false)
   pub whole : IsFalse
-      (option_map_or is_pending (turn_by (is_some first) known full log m luck).1 false) →
-      luck.stop ≡ None
+      (option_map_or is_pending (turn_by (is_some first) known full log m faults).1 false) →
+      faults.stop ≡ None
 
 -- What a turn asks of store and journal, over any of them, where a call of them failed or none did:
 -- that failure is counted, all else is kept as KeepsBoth says, the store is called a few times for

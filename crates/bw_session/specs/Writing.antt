@@ -63,5 +63,5 @@ pub record WritesRequest (answer : Result Created StoreFault) (r : Request) (p :
       MatchResult answer
       (λ c. IsTrue (is_new c) × HasWholeFile (with_request t r) new after)
       (λ _. HasOwnFile t r new after)
-  pub stood : p.format ≡ None → old.made ≡ false → IsSome before →
+  pub existed : p.format ≡ None → old.made ≡ false → IsSome before →
       (after ≡ before) × (new.made ≡ false) × IfOk answer (λ c. IsFalse (is_new c))

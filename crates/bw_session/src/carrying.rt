@@ -11,7 +11,7 @@ ghost use Rattle.bw_store.specs.StoreSteps.{WasAsked, WasAskedFirst};
 ghost use Rattle.bw_session.specs.Carrying.{Touches, Carries, AsksJudged};
 ghost use Rattle.bw_store.specs.StoreSteps.{Shared};
 ghost use Rattle.bw_session.specs.Writing.{IsSameFile};
-ghost use Rattle.bw_session.specs.Fronts.{CarriesNext};
+ghost use Rattle.bw_session.specs.Prefixes.{CarriesNext};
 
 use crate::writing::write_request;
 use bw_file::GrowingFile;
@@ -52,7 +52,7 @@ pub(crate) fn carry_out<S: TakeStore>(
     ensures file { IsTrue (S.honest store.old) →
         Carries result (meaning request.now) state.old.parts state.new.parts growing.old growing.new
         (S.contents store.old growing.old.name) (S.contents store.new growing.old.name) }
-    ensures front { IsTrue (S.honest store.old) →
+    ensures prefix { IsTrue (S.honest store.old) →
         CarriesNext result (meaning request.now) state.old.parts state.new.parts growing.old
         growing.new (S.contents store.old growing.old.name)
         (S.contents store.new growing.old.name) }

@@ -71,7 +71,7 @@ pub(crate) fn drain_one<S: TakeStore, J: Journal>(
 }
 
 impl Session {
-    ghost use Rattle.bw_session.specs.Telling.{IsServing, IsTimely};
+    ghost use Rattle.bw_session.specs.Reporting.{IsServing, IsTimely};
     ghost use Rattle.bw_session.specs.Sessions.{KeepsTake, part_of};
     ghost use Rattle.bw_session.specs.Promises.{RunsNumbers};
     ghost use Rattle.bw_session.specs.Runs.{with_more_done, HasDrained, EndsDraining};

@@ -1,6 +1,6 @@
 //! Laws of the definitions that servers of many names rest on.
 ghost use Rattle.bw_model.specs.Turn.{IsolatesEachName};
-ghost use Rattle.bw_session.specs.Settled.{SettledTurnsNeedNoLuck};
+ghost use Rattle.bw_session.specs.Settled.{SettledTurnsMeetNoFaults};
 
 /// Each name's turns are a run of their own: what comes for other names changes nothing of it.
 pub fn law_isolation()
@@ -9,9 +9,9 @@ pub fn law_isolation()
     bw_model::law_isolation();
 }
 
-/// A message whose number is admitted or too far is told the same whatever memory and store do,
+/// A message whose number is admitted or too far is reported the same whatever memory and store do,
 /// where nothing of its name waits.
 #[tactic(auto, using(crate::proofs::SettledForms::settled_turns))]
 pub fn law_settled()
-    ensures { SettledTurnsNeedNoLuck }
+    ensures { SettledTurnsMeetNoFaults }
 {}

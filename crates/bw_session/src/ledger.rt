@@ -62,7 +62,7 @@ impl Ledger {
         self.bytes.len() as u64
     }
 
-    /// Makes room for so many more. Where it grows there is room behind it for as many as are
+    /// Makes room for so many more. Where it grows there is room after it for as many as are
     /// there, so that long takes are not copied over and over.
     ///
     /// # Errors

@@ -46,7 +46,7 @@ pub(crate) struct Stores<S: TakeStore, J: Journal> {
 }
 
 impl<S: TakeStore, J: Journal> Stores<S, J> {
-    /// Notes a done number under a name behind the first bytes, and answers how many bytes its
+    /// Notes a done number under a name after the first bytes, and answers how many bytes its
     /// entry has.
     ///
     /// # Errors

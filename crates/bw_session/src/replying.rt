@@ -1,4 +1,4 @@
-//! What a message is told itself, beside the verdicts of the numbers that were drained.
+//! What a message is reported itself, beside the verdicts of the numbers that were drained.
 ghost use Rattle.std.specs.Prelude.{◌≡◌, ◌+◌, ◌<◌, ℕ, List, Option, length, is_some, IfSome};
 ghost use Rattle.std.specs.Prelude.{option_map, option_to_list, if◌then◌else◌};
 ghost use Rattle.sha2.specs.Sha256.{sha256};
@@ -17,7 +17,7 @@ use bw_wire::{Message, Notice, Reply};
 impl Session {
     ghost use Rattle.bw_session.specs.Sessions.{HoldsLog, part_of};
     ghost use Rattle.bw_session.specs.Runs.{EndsDraining};
-    ghost use Rattle.bw_session.specs.Telling.{IsServing, IsTimely};
+    ghost use Rattle.bw_session.specs.Reporting.{IsServing, IsTimely};
 
     /// The reply to a message whose number is in the window or below it, once the numbers from
     /// `done` on were drained: none where its own was among them.

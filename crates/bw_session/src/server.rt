@@ -2,7 +2,7 @@
 ghost use Rattle.std.specs.Prelude.{◌≡◌, ◌<◌, ◌≤◌, ◌+◌, ◌*◌, ◌&&◌, ◌||◌, ℕ, List, [], Option, None};
 ghost use Rattle.std.specs.Prelude.{IsTrue, IfOk, OnOk, IfErr, OnErr, IfSome, IsSome, is_some, nat_le};
 ghost use Rattle.bw_journal.specs.JournalHeaders.{header_bytes};
-ghost use Rattle.bw_journal.specs.Notes.{IsFrontOf};
+ghost use Rattle.bw_journal.specs.Notes.{IsPrefixOf};
 ghost use Rattle.std.specs.Prelude.{false, length, map, vec_capacity};
 ghost use Rattle.std.specs.List.{All};
 ghost use Rattle.std.specs.HashMap.{hash_map_len, spare, IsUnique};
@@ -20,7 +20,7 @@ ghost use Rattle.bw_wire.specs.Replies.{reply_of, HasWireNumbers};
 ghost use Rattle.bw_session.specs.Serving.{UsesBoth};
 ghost use Rattle.bw_session.specs.Servers.{done_in, kept_in};
 ghost use Rattle.bw_session.specs.Tables.{IsTable, session_in};
-ghost use Rattle.bw_session.specs.Telling.{IsServing};
+ghost use Rattle.bw_session.specs.Reporting.{IsServing};
 
 use crate::numbering::Stores;
 use crate::session::Session;
@@ -80,7 +80,7 @@ impl<S: TakeStore, J: Journal> Server<S, J> {
 
     /// A server that knows no name, over a store and a journal.
     ///
-    /// The journal notes the empty book where it has no more than fronts of headers that say which
+    /// The journal notes the empty book where it has no more than prefixes of headers that say which
     /// names stood.
     ///
     /// # Errors
@@ -100,8 +100,8 @@ impl<S: TakeStore, J: Journal> Server<S, J> {
         ensures book { IfOk result (λ s.
             HoldsBook S.TakeStore J.Journal (S.contents store) s []) }
         ensures notes { IfOk result (λ s. ((name : List ℕ) →
-            IsFrontOf (header_bytes (J.header journal name)) (J.notes journal name)) →
-            ((name : List ℕ) → (J.header journal name).stood ≡ is_some (S.contents store name)) →
+            IsPrefixOf (header_bytes (J.header journal name)) (J.notes journal name)) →
+            ((name : List ℕ) → (J.header journal name).existed ≡ is_some (S.contents store name)) →
             NotesBook S.TakeStore J.Journal (S.contents store) s []) }
         ensures store_back { IfErr result (λ e. e.1 ≡ store) }
         ensures journal_back { IfErr result (λ e. e.2 ≡ journal) }
@@ -123,7 +123,7 @@ impl<S: TakeStore, J: Journal> Server<S, J> {
     }
 
     /// Takes a message, and tells its sender, in `out`, which is emptied first: the verdicts of the
-    /// numbers of its name that are done by it, in their order, at most sixteen, and behind them
+    /// numbers of its name that are done by it, in their order, at most sixteen, and after them
     /// what is said of the message itself, where its verdict isn't among these.
     ///
     /// Whatever store it is, for each number that is done it is asked all that its judged request
@@ -210,12 +210,12 @@ impl<S: TakeStore, J: Journal> Server<S, J> {
         requires empty { out.old.items ≡ [] }
         requires fresh { session_in self.old.sessions name.now ≡ None }
         ensures few { length out.new.items ≤ 17 }
-        ensures told { All IsServing out.new.items }
+        ensures reported { All IsServing out.new.items }
         ensures both { UsesInTurn S.TakeStore J.Journal self.old self.new (message_of message.now)
             out.new.items }
         ensures limit { self.new.limit ≡ self.old.limit }
         ensures left { OnErr result (LeavesServer S.TakeStore J.Journal self.old self.new) }
-        ensures untold { OnErr result (out.new.items ≡ []) }
+        ensures unreported { OnErr result (out.new.items ≡ []) }
         ensures met { OnOk result (IsSome (session_in self.new.sessions name.now)) }
         ensures turned { OnOk result (Turned S.TakeStore J.Journal self.old self.new
             (message_of message.now) out.new.items) }
@@ -255,14 +255,14 @@ impl<S: TakeStore, J: Journal> Server<S, J> {
         requires unique { IsUnique bytes_eq self.old.sessions }
         requires near { (message_of message.now).number < window }
         ensures few { length out.new.items ≤ 17 }
-        ensures told { All IsServing out.new.items }
+        ensures reported { All IsServing out.new.items }
         ensures both { UsesBoth S.TakeStore J.Journal name.now
             self.old.stores.store self.new.stores.store
             self.old.stores.journal self.new.stores.journal
             0 (done_in self.new.sessions name.now) out.new.items }
         ensures limit { self.new.limit ≡ self.old.limit }
         ensures left { OnErr result (LeavesServer S.TakeStore J.Journal self.old self.new) }
-        ensures untold { OnErr result (out.new.items ≡ []) }
+        ensures unreported { OnErr result (out.new.items ≡ []) }
         ensures met { OnOk result (IsSome (session_in self.new.sessions name.now)) }
         ensures turned { OnOk result (Turned S.TakeStore J.Journal self.old self.new
             (message_of message.now) out.new.items) }

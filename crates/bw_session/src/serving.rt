@@ -1,5 +1,5 @@
 //! A message of a name that a session is kept of: it is admitted, what is held in a row is done,
-//! and its sender is told.
+//! and its sender is reported.
 ghost use Rattle.std.specs.Prelude.{◌≡◌, ◌≤◌, [], IsTrue, IfOk, OnOk, OnErr};
 ghost use Rattle.std.specs.Prelude.{is_some, length, map, true, false};
 ghost use Rattle.std.specs.List.{All};
@@ -26,8 +26,8 @@ impl Session {
     ghost use Rattle.bw_session.specs.Promises.{RunsNumbers, ForSessionLogs, KeepsSessionNotes};
     ghost use Rattle.bw_session.specs.Promises.{failures_in};
     ghost use Rattle.bw_session.specs.Runs.{EndsDraining, with_more_done};
-    ghost use Rattle.bw_session.specs.Telling.{IsServing, IsTimely};
-    ghost use Rattle.bw_session.specs.Serving.{Answers, Serves, log_after, log_told};
+    ghost use Rattle.bw_session.specs.Reporting.{IsServing, IsTimely};
+    ghost use Rattle.bw_session.specs.Serving.{Answers, ServesMessage, log_after, log_reported};
 
     /// Takes a message of the name, and tells its sender, in `out`, which is empty.
     pub(crate) fn answer<S: TakeStore, J: Journal>(
@@ -53,7 +53,7 @@ impl Session {
             (failures_in S.TakeStore J.Journal stores.new) out.new.items (part_of self.new)
             (S.contents stores.new.store self.old.progress.name)) }
         ensures noted { KeepsSessionNotes S.TakeStore J.Journal
-            self.old stores.old self.new stores.new (λ log. log_told log (message_of message.now)
+            self.old stores.old self.new stores.new (λ log. log_reported log (message_of message.now)
             (map reply_of out.new.items) (length self.new.progress.ledger.outcomes)) }
     {
         if let Err(_refused) = self.serve(stores, message, out) {
@@ -61,7 +61,7 @@ impl Session {
         }
     }
 
-    /// Takes a message of the name: what its sender is told is put into `out`, which is empty.
+    /// Takes a message of the name: what its sender is reported is put into `out`, which is empty.
     ///
     /// # Errors
     /// `AllocError` where a growth was refused: nothing was asked of the store, and nothing is
@@ -80,12 +80,12 @@ impl Session {
             stores.old.store (part_of self.new) stores.new.store }
         ensures take { KeepsTake self.old self.new }
         ensures few { length out.new.items ≤ 17 }
-        ensures told { All IsServing out.new.items }
+        ensures reported { All IsServing out.new.items }
         ensures refused { OnErr result (RefusesMessage S.TakeStore J.Journal
             (message_of message.now) self.old stores.old self.new stores.new) }
-        ensures untold { OnErr result (out.new.items ≡ []) }
+        ensures unreported { OnErr result (out.new.items ≡ []) }
         ensures served { OnOk result (ForSessionLogs S.TakeStore J.Journal
-            self.old stores.old (λ first log. Serves first log (message_of message.now)
+            self.old stores.old (λ first log. ServesMessage first log (message_of message.now)
             (failures_in S.TakeStore J.Journal stores.old)
             (failures_in S.TakeStore J.Journal stores.new) out.new.items (part_of self.new)
             (S.contents stores.new.store self.old.progress.name))) }
@@ -128,11 +128,11 @@ impl Session {
             self.old stores.old self.new stores.new) }
         ensures take { KeepsTake self.old self.new }
         ensures few { length out.new.items ≤ 16 }
-        ensures told { All IsServing out.new.items }
+        ensures reported { All IsServing out.new.items }
         ensures timely { All (IsTimely false) out.new.items }
         ensures refused { OnErr result (RefusesMessage S.TakeStore J.Journal
             (message_of message.now) self.old stores.old self.new stores.new) }
-        ensures untold { OnErr result (out.new.items ≡ []) }
+        ensures unreported { OnErr result (out.new.items ≡ []) }
         ensures drained { IfOk result (λ stopped. ForSessionLogs S.TakeStore J.Journal
             self.old stores.old (λ first log. EndsDraining first
             (with_message log (message_of message.now)) stopped out.new.items (part_of self.new)

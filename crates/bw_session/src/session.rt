@@ -2,10 +2,10 @@
 ghost use Rattle.std.specs.Prelude.{◌≡◌, ℕ, List, Option, IfOk, length, false, is_some};
 ghost use Rattle.bw_model.specs.Book.{Log, no_log};
 ghost use Rattle.bw_journal.specs.JournalHeaders.{Header, header_bytes, header_len};
-ghost use Rattle.bw_journal.specs.Notes.{IsFrontOf};
+ghost use Rattle.bw_journal.specs.Notes.{IsPrefixOf};
 ghost use Rattle.bw_session.specs.Noting.{IsNoted};
 ghost use Rattle.bw_session.specs.Keeping.{KeepsDone};
-ghost use Rattle.bw_session.specs.Fronts.{take_done, FileFollows};
+ghost use Rattle.bw_session.specs.Prefixes.{take_done, FileFollows};
 ghost use Rattle.bw_session.specs.Draining.{Fits, HoldsPart, IsAllDone};
 
 use crate::ledger::Ledger;
@@ -45,7 +45,7 @@ impl Session {
             HoldsPart first no_log s.progress.state.parts s.progress.ledger.outcomes s.window
             s.progress.growing first) }
         ensures noted { IfOk result (λ s. (h : Header) (found : Option (List ℕ)) →
-            IsFrontOf (header_bytes h) found → IsNoted h name no_log s.progress.noted found) }
+            IsPrefixOf (header_bytes h) found → IsNoted h name no_log s.progress.noted found) }
     {
         let progress = Progress {
             growing: GrowingFile::new(alloc, name.copy(), limit)?,

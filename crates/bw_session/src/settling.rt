@@ -42,13 +42,13 @@ pub(crate) fn settle(
         ≤ state.old.parts.samples_len + samples_in (meaning request.now) }
     ensures parts { state.new.parts ≡ parts_under (verdict_meaning verdict) state.old.parts
         (meaning request.now) }
-    ensures keeps { (stood : Bool) (name : List ℕ) (log : Log) →
-        KeepsDone stood name log state.old.parts ledger.old.outcomes →
+    ensures keeps { (existed : Bool) (name : List ℕ) (log : Log) →
+        KeepsDone existed name log state.old.parts ledger.old.outcomes →
         at log.admitted log.done ≡ Some (meaning request.now) →
         digest.now ≡ sha256 (body_of name log.done (meaning request.now)) →
         verdict_meaning verdict
-        ≡ verdict_in (made stood log.admitted log.done) (meaning request.now) →
-        KeepsDone stood name (record log { done = suc log.done })
+        ≡ verdict_in (made existed log.admitted log.done) (meaning request.now) →
+        KeepsDone existed name (record log { done = suc log.done })
         state.new.parts ledger.new.outcomes }
 {
     if verdict.is_stored() {

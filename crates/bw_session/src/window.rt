@@ -73,7 +73,7 @@ impl Window {
         *place = Some(body);
     }
 
-    /// Lets the first slot go, and has an empty one behind the others.
+    /// Lets the first slot go, and has an empty one after the others.
     pub(crate) fn advance(&mut self)
         ensures { self.new ≡ drop 1 self.old ++ None ∷ [] }
     {

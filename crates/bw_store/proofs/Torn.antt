@@ -11,7 +11,7 @@ overwritten_torn old bytes place n h =
       no_shorter = grind (arith, places);
       no_longer = grind (arith, places);
       before = λ k small. grind (arith, places);
-      behind = λ k large. grind (arith, places);
+      following = λ k large. grind (arith, places);
     }
 
 -- torn in a wider range
@@ -24,7 +24,7 @@ torn_wider old new place n first m low high torn =
       no_shorter = no_shorter;
       no_longer = omega arith;
       before = λ k small. torn.before k (omega arith);
-      behind = λ k large. torn.behind k (omega arith);
+      following = λ k large. torn.following k (omega arith);
     }
 
 -- torn twice in one range
@@ -39,5 +39,5 @@ torn_torn old middle new place n first second =
       no_shorter = omega arith;
       no_longer = omega arith;
       before = λ k small. second.before k small ∙ first.before k small;
-      behind = λ k large. second.behind k large ∙ first.behind k large;
+      following = λ k large. second.following k large ∙ first.following k large;
     }

@@ -1,4 +1,4 @@
--- Which calls of a store behind fuses fail.
+-- Which calls of a store after fuses fail.
 use Rattle.std.specs.Prelude.{◌≡◌, ◌<◌, ℕ, ◌/◌, Bool, true, false, IsTrue, IsFalse, List, [], length, take}
 use Rattle.std.specs.Prelude.{◌==◌, Option, None, if◌then◌else◌}
 use Rattle.std.specs.List.{list_any}
@@ -17,7 +17,7 @@ pub record Blows (fused fails : Bool) (inner_before inner_after : ℕ) : Type 0 
   pub at_fuse : IsTrue fused → IsTrue fails
   pub elsewhere : IsFalse fused → Counts inner_before inner_after fails
 
--- what a store behind fuses notes: what the inner one does, as long as no fuse has blown
+-- what a store after fuses notes: what the inner one does, as long as no fuse has blown
 abbrev pub passed_on : Bool → Option (List StoreCall) → Option (List StoreCall)
 passed_on true noted = None
 passed_on false noted = noted

@@ -32,7 +32,7 @@ pub record Torn (old : List ℕ) (place n : ℕ) (new : List ℕ) : Type 0 where
   pub no_shorter : length old ≤ length new
   pub no_longer : length new ≤ max (length old) (place + n)
   pub before : (k : ℕ) → k < place → slice_index new k ≡ slice_index old k
-  pub behind : (k : ℕ) → place + n ≤ k → slice_index new k ≡ slice_index old k
+  pub following : (k : ℕ) → place + n ≤ k → slice_index new k ≡ slice_index old k
 
 -- .. after a `write_at` of n bytes that fails: no name is made
 abbrev pub MayTear : Option (List ℕ) → ℕ → ℕ → Option (List ℕ) → Type 0

@@ -8,11 +8,11 @@ ghost use Rattle.bw_store.specs.StoreSteps.{WasAsked};
 ghost use Rattle.bw_store.specs.Fuses.{has_fuse, Blows, passed_on, unless_fused, let_through, first_half};
 ghost use Rattle.bw_store.specs.Fuses.{AsksPassed, WritesHalf};
 
+use crate::call_counter::CallCounter;
 use crate::store::{Created, StoreFault, TakeStore};
-use crate::tally::Tally;
 use bw_request::Name;
 
-/// A store behind fuses: the calls of chosen numbers, counted from 0, fail, each once.
+/// A store after fuses: the calls of chosen numbers, counted from 0, fail, each once.
 ///
 /// A `write_at` that fails so writes the first half of its bytes, rounded down.
 #[derive(Drop)]
@@ -22,7 +22,7 @@ pub struct FuseStore<S: TakeStore> {
     /// A fuse has blown, so that the inner store didn't get all calls.
     blown: bool,
     written: u64,
-    tally: Tally,
+    call_counter: CallCounter,
 }
 
 impl<S: TakeStore> FuseStore<S> {
@@ -31,8 +31,8 @@ impl<S: TakeStore> FuseStore<S> {
         ensures inner { result.inner ≡ inner }
         ensures fuses { result.fuses.items ≡ fuses.items }
         ensures blown { result.blown ≡ false }
-        ensures calls { result.tally.calls ≡ 0 }
-        ensures failures { result.tally.failures ≡ 0 }
+        ensures calls { result.call_counter.calls ≡ 0 }
+        ensures failures { result.call_counter.failures ≡ 0 }
         ensures written { result.written ≡ 0 }
     {
         FuseStore {
@@ -40,15 +40,15 @@ impl<S: TakeStore> FuseStore<S> {
             fuses,
             blown: false,
             written: 0,
-            tally: Tally::new(),
+            call_counter: CallCounter::new(),
         }
     }
 
     /// How many calls came, those that failed among them.
     pub fn calls(&self) -> u64
-        ensures { result ≡ self.now.tally.calls }
+        ensures { result ≡ self.now.call_counter.calls }
     {
-        self.tally.calls()
+        self.call_counter.calls()
     }
 
     /// How many bytes were written by the calls of `write_at` that succeeded.
@@ -65,14 +65,14 @@ impl<S: TakeStore> FuseStore<S> {
         self.blown
     }
 
-    /// The store behind the fuses.
+    /// The store after the fuses.
     pub fn inner(&self) -> &S
         ensures { result.now ≡ self.now.inner }
     {
         &self.inner
     }
 
-    /// The store behind the fuses, without them.
+    /// The store after the fuses, without them.
     pub fn into_inner(self) -> S
         ensures { result ≡ self.inner }
     {
@@ -81,7 +81,7 @@ impl<S: TakeStore> FuseStore<S> {
             fuses: _,
             blown: _,
             written: _,
-            tally: _,
+            call_counter: _,
         } = self;
         inner
     }
@@ -90,9 +90,9 @@ impl<S: TakeStore> FuseStore<S> {
 impl<S: TakeStore> TakeStore for FuseStore<S> {
     ghost contents = { λ s name. S.contents s.inner name };
 
-    ghost failures = { λ s. s.tally.failures };
+    ghost failures = { λ s. s.call_counter.failures };
 
-    ghost calls = { λ s. s.tally.calls };
+    ghost calls = { λ s. s.call_counter.calls };
 
     ghost asked = { λ s. passed_on s.blown (S.asked s.inner) };
 
@@ -108,8 +108,8 @@ impl<S: TakeStore> TakeStore for FuseStore<S> {
     /// Whether a call without a fuse fails as the inner one does, once the inner store's count of
     /// failures stands at 2^64 - 1.
     fn create(&mut self, name: &Name) -> Result<Created, StoreFault>
-        ensures failures { Counts self.old.tally.failures self.new.tally.failures (is_err result) }
-        ensures calls { Counts self.old.tally.calls self.new.tally.calls true }
+        ensures failures { Counts self.old.call_counter.failures self.new.call_counter.failures (is_err result) }
+        ensures calls { Counts self.old.call_counter.calls self.new.call_counter.calls true }
         ensures asked { AsksPassed (Create name.now ∷ []) self.old.blown
             (S.asked self.old.inner) self.new.blown (S.asked self.new.inner) }
         ensures honest { S.honest self.new.inner ≡ S.honest self.old.inner }
@@ -119,27 +119,27 @@ impl<S: TakeStore> TakeStore for FuseStore<S> {
             (S.contents self.new.inner name.now ≡ S.contents self.old.inner name.now) }
         ensures others { IsTrue (S.honest self.old.inner) →
             KeepsOthers (S.contents self.old.inner) (S.contents self.new.inner) name.now }
-        ensures blows { Blows (has_fuse self.old.fuses.items self.old.tally.calls) (is_err result)
+        ensures blows { Blows (has_fuse self.old.fuses.items self.old.call_counter.calls) (is_err result)
             (S.failures self.old.inner) (S.failures self.new.inner) }
-        ensures untouched { IsTrue (has_fuse self.old.fuses.items self.old.tally.calls) →
+        ensures untouched { IsTrue (has_fuse self.old.fuses.items self.old.call_counter.calls) →
             self.new.inner ≡ self.old.inner }
         ensures inner { WasAsked S.TakeStore
-            (unless_fused (has_fuse self.old.fuses.items self.old.tally.calls)
+            (unless_fused (has_fuse self.old.fuses.items self.old.call_counter.calls)
             (Create name.now ∷ []))
             self.old.inner self.new.inner }
         ensures blown { self.new.blown ≡ (self.old.blown
-            || has_fuse self.old.fuses.items self.old.tally.calls) }
+            || has_fuse self.old.fuses.items self.old.call_counter.calls) }
         ensures spent { self.new.fuses.items
-            ≡ filter (λ f. not (f == self.old.tally.calls)) self.old.fuses.items }
+            ≡ filter (λ f. not (f == self.old.call_counter.calls)) self.old.fuses.items }
         ensures written { self.new.written ≡ self.old.written }
     {
-        let answer = if blow(&mut self.fuses, self.tally.calls()) {
+        let answer = if blow(&mut self.fuses, self.call_counter.calls()) {
             self.blown = true;
             Err(StoreFault)
         } else {
             self.inner.create(name)
         };
-        self.tally.count(answer.is_err());
+        self.call_counter.count(answer.is_err());
         answer
     }
 
@@ -154,8 +154,8 @@ impl<S: TakeStore> TakeStore for FuseStore<S> {
     ///   failures stands at 2^64 - 1.
     /// - At a fuse, whether the inner store took the half: only its count of failures shows it.
     fn write_at(&mut self, name: &Name, offset: u64, bytes: &[u8]) -> Result<(), StoreFault>
-        ensures failures { Counts self.old.tally.failures self.new.tally.failures (is_err result) }
-        ensures calls { Counts self.old.tally.calls self.new.tally.calls true }
+        ensures failures { Counts self.old.call_counter.failures self.new.call_counter.failures (is_err result) }
+        ensures calls { Counts self.old.call_counter.calls self.new.call_counter.calls true }
         ensures asked { AsksPassed (WriteAt name.now offset (length bytes.now) ∷ []) self.old.blown
             (S.asked self.old.inner) self.new.blown (S.asked self.new.inner) }
         ensures honest { S.honest self.new.inner ≡ S.honest self.old.inner }
@@ -167,23 +167,23 @@ impl<S: TakeStore> TakeStore for FuseStore<S> {
             (S.contents self.new.inner name.now)) }
         ensures others { IsTrue (S.honest self.old.inner) →
             KeepsOthers (S.contents self.old.inner) (S.contents self.new.inner) name.now }
-        ensures blows { Blows (has_fuse self.old.fuses.items self.old.tally.calls) (is_err result)
+        ensures blows { Blows (has_fuse self.old.fuses.items self.old.call_counter.calls) (is_err result)
             (S.failures self.old.inner) (S.failures self.new.inner) }
-        ensures half { IsTrue (has_fuse self.old.fuses.items self.old.tally.calls) →
+        ensures half { IsTrue (has_fuse self.old.fuses.items self.old.call_counter.calls) →
             WritesHalf S.TakeStore name.now offset bytes.now self.old.inner self.new.inner }
         ensures inner { WasAsked S.TakeStore
             (WriteAt name.now offset (length (let_through
-            (has_fuse self.old.fuses.items self.old.tally.calls) bytes.now)) ∷ [])
+            (has_fuse self.old.fuses.items self.old.call_counter.calls) bytes.now)) ∷ [])
             self.old.inner self.new.inner }
         ensures blown { self.new.blown ≡ (self.old.blown
-            || has_fuse self.old.fuses.items self.old.tally.calls) }
+            || has_fuse self.old.fuses.items self.old.call_counter.calls) }
         ensures spent { self.new.fuses.items
-            ≡ filter (λ f. not (f == self.old.tally.calls)) self.old.fuses.items }
+            ≡ filter (λ f. not (f == self.old.call_counter.calls)) self.old.fuses.items }
         ensures written { self.new.written ≡ (if is_ok result
             then raised self.old.written (length bytes.now)
             else self.old.written) }
     {
-        let answer = if blow(&mut self.fuses, self.tally.calls()) {
+        let answer = if blow(&mut self.fuses, self.call_counter.calls()) {
             self.blown = true;
             write_half(&mut self.inner, name, offset, bytes);
             Err(StoreFault)
@@ -193,7 +193,7 @@ impl<S: TakeStore> TakeStore for FuseStore<S> {
         if answer.is_ok() {
             self.written = self.written.saturating_add(bytes.len() as u64);
         }
-        self.tally.count(answer.is_err());
+        self.call_counter.count(answer.is_err());
         answer
     }
 
@@ -207,41 +207,41 @@ impl<S: TakeStore> TakeStore for FuseStore<S> {
     /// Whether a call without a fuse fails as the inner one does, once the inner store's count of
     /// failures stands at 2^64 - 1.
     fn finish(&mut self, name: &Name) -> Result<(), StoreFault>
-        ensures failures { Counts self.old.tally.failures self.new.tally.failures (is_err result) }
-        ensures calls { Counts self.old.tally.calls self.new.tally.calls true }
+        ensures failures { Counts self.old.call_counter.failures self.new.call_counter.failures (is_err result) }
+        ensures calls { Counts self.old.call_counter.calls self.new.call_counter.calls true }
         ensures asked { AsksPassed (Finish name.now ∷ []) self.old.blown
             (S.asked self.old.inner) self.new.blown (S.asked self.new.inner) }
         ensures honest { S.honest self.new.inner ≡ S.honest self.old.inner }
         ensures unchanged { IsTrue (S.honest self.old.inner) → (other : List ℕ) →
             S.contents self.new.inner other ≡ S.contents self.old.inner other }
-        ensures blows { Blows (has_fuse self.old.fuses.items self.old.tally.calls) (is_err result)
+        ensures blows { Blows (has_fuse self.old.fuses.items self.old.call_counter.calls) (is_err result)
             (S.failures self.old.inner) (S.failures self.new.inner) }
-        ensures untouched { IsTrue (has_fuse self.old.fuses.items self.old.tally.calls) →
+        ensures untouched { IsTrue (has_fuse self.old.fuses.items self.old.call_counter.calls) →
             self.new.inner ≡ self.old.inner }
         ensures inner { WasAsked S.TakeStore
-            (unless_fused (has_fuse self.old.fuses.items self.old.tally.calls)
+            (unless_fused (has_fuse self.old.fuses.items self.old.call_counter.calls)
             (Finish name.now ∷ []))
             self.old.inner self.new.inner }
         ensures blown { self.new.blown ≡ (self.old.blown
-            || has_fuse self.old.fuses.items self.old.tally.calls) }
+            || has_fuse self.old.fuses.items self.old.call_counter.calls) }
         ensures spent { self.new.fuses.items
-            ≡ filter (λ f. not (f == self.old.tally.calls)) self.old.fuses.items }
+            ≡ filter (λ f. not (f == self.old.call_counter.calls)) self.old.fuses.items }
         ensures written { self.new.written ≡ self.old.written }
     {
-        let answer = if blow(&mut self.fuses, self.tally.calls()) {
+        let answer = if blow(&mut self.fuses, self.call_counter.calls()) {
             self.blown = true;
             Err(StoreFault)
         } else {
             self.inner.finish(name)
         };
-        self.tally.count(answer.is_err());
+        self.call_counter.count(answer.is_err());
         answer
     }
 }
 
 /// Whether the call of this number is to fail. Its fuse is spent then.
 pub fn blow(fuses: &mut Vec<u64>, call: u64) -> bool
-    ensures told { result ≡ has_fuse fuses.old.items call }
+    ensures reported { result ≡ has_fuse fuses.old.items call }
     ensures spent { fuses.new.items ≡ filter (λ f. not (f == call)) fuses.old.items }
 {
     let has = fuses.contains(&call);

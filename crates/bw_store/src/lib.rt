@@ -1,12 +1,12 @@
-//! Stores of takes: contents by name, in memory or behind fuses.
+//! Stores of takes: contents by name, in memory or after fuses.
 #![tactic(auto)]
 
+mod call_counter;
 mod fuse;
 mod memory;
 mod store;
-mod tally;
 
+pub use call_counter::CallCounter;
 pub use fuse::{FuseStore, blow};
 pub use memory::{MemoryStore, overwrite};
 pub use store::{Created, StoreFault, TakeStore};
-pub use tally::Tally;

@@ -6,8 +6,8 @@ ghost use Rattle.std.specs.Option.{option_copied};
 ghost use Rattle.bw_store.specs.Stores.{Counts, Creates, Written, MayTear, KeepsOthers, overwritten};
 ghost use Rattle.bw_store.specs.Memory.{content_under};
 
+use crate::call_counter::CallCounter;
 use crate::store::{Created, StoreFault, TakeStore};
-use crate::tally::Tally;
 use bw_request::Name;
 use std::alloc::{AllocError, Global};
 use std::collections::BTreeMap;
@@ -17,7 +17,7 @@ use std::collections::BTreeMap;
 pub struct MemoryStore {
     alloc: Global,
     files: BTreeMap<Name, Vec<u8>>,
-    tally: Tally,
+    call_counter: CallCounter,
 }
 
 impl MemoryStore {
@@ -33,7 +33,7 @@ impl MemoryStore {
         MemoryStore {
             alloc,
             files: BTreeMap::new(alloc),
-            tally: Tally::new(),
+            call_counter: CallCounter::new(),
         }
     }
 
@@ -50,7 +50,7 @@ impl MemoryStore {
             (content_under self.new.files name.now ≡ content_under self.old.files name.now) }
         ensures others { KeepsOthers
             (content_under self.old.files) (content_under self.new.files) name.now }
-        ensures tally { self.new.tally ≡ self.old.tally }
+        ensures call_counter { self.new.call_counter ≡ self.old.call_counter }
     {
         let content = bytes.to_vec(self.alloc)?;
         match self.files.insert(name.copy(), content) {
@@ -89,9 +89,9 @@ impl MemoryStore {
 impl TakeStore for MemoryStore {
     ghost contents = { λ s name. content_under s.files name };
 
-    ghost failures = { λ s. s.tally.failures };
+    ghost failures = { λ s. s.call_counter.failures };
 
-    ghost calls = { λ s. s.tally.calls };
+    ghost calls = { λ s. s.call_counter.calls };
 
     ghost honest = { λ s. true };
 
@@ -104,8 +104,8 @@ impl TakeStore for MemoryStore {
     /// # Not specified
     /// When memory is refused.
     fn create(&mut self, name: &Name) -> Result<Created, StoreFault>
-        ensures failures { Counts self.old.tally.failures self.new.tally.failures (is_err result) }
-        ensures calls { Counts self.old.tally.calls self.new.tally.calls true }
+        ensures failures { Counts self.old.call_counter.failures self.new.call_counter.failures (is_err result) }
+        ensures calls { Counts self.old.call_counter.calls self.new.call_counter.calls true }
         ensures created { IfOk result (λ c.
             Creates c (content_under self.old.files name.now)
             (content_under self.new.files name.now)) }
@@ -116,7 +116,7 @@ impl TakeStore for MemoryStore {
         ensures stands { IsSome (content_under self.old.files name.now) → IsOk result }
     {
         let answer = make(&mut self.files, self.alloc, name);
-        self.tally.count(answer.is_err());
+        self.call_counter.count(answer.is_err());
         answer
     }
 
@@ -129,8 +129,8 @@ impl TakeStore for MemoryStore {
     /// # Not specified
     /// When memory is refused.
     fn write_at(&mut self, name: &Name, offset: u64, bytes: &[u8]) -> Result<(), StoreFault>
-        ensures failures { Counts self.old.tally.failures self.new.tally.failures (is_err result) }
-        ensures calls { Counts self.old.tally.calls self.new.tally.calls true }
+        ensures failures { Counts self.old.call_counter.failures self.new.call_counter.failures (is_err result) }
+        ensures calls { Counts self.old.call_counter.calls self.new.call_counter.calls true }
         ensures written { OnOk result (Written (content_under self.old.files name.now)
             offset bytes.now (content_under self.new.files name.now)) }
         ensures failed { OnErr result
@@ -141,7 +141,7 @@ impl TakeStore for MemoryStore {
             offset + length bytes.now ≤ length old → IsOk result) }
     {
         let answer = write(&mut self.files, name, offset, bytes);
-        self.tally.count(answer.is_err());
+        self.call_counter.count(answer.is_err());
         answer
     }
 
@@ -150,13 +150,13 @@ impl TakeStore for MemoryStore {
     /// # Errors
     /// `StoreFault` where the name doesn't stand.
     fn finish(&mut self, name: &Name) -> Result<(), StoreFault>
-        ensures failures { Counts self.old.tally.failures self.new.tally.failures (is_err result) }
-        ensures calls { Counts self.old.tally.calls self.new.tally.calls true }
+        ensures failures { Counts self.old.call_counter.failures self.new.call_counter.failures (is_err result) }
+        ensures calls { Counts self.old.call_counter.calls self.new.call_counter.calls true }
         ensures unchanged { self.new.files ≡ self.old.files }
         ensures stands { IsOk result ↔ IsSome (content_under self.old.files name.now) }
     {
         let stands = self.files.contains_key(name);
-        self.tally.count(!stands);
+        self.call_counter.count(!stands);
         if stands { Ok(()) } else { Err(StoreFault) }
     }
 }

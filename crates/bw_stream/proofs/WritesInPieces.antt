@@ -4,7 +4,7 @@ use Rattle.std.proofs.lemmas.List.{take-append-drop}
 use Rattle.std.proofs.Math.Seq.{take-add}
 use Rattle.bw_stream.specs.Moves.{IsWrittenInPart}
 
--- n more of the bytes behind the first d of them
+-- n more of the bytes after the first d of them
 pub append-take-drop : (ys xs : List ℕ) (d n : ℕ) → (ys ++ take d xs) ++ take n (drop d xs) ≡ ys ++ take (d + n) xs
 append-take-drop ys xs d n =
     append_assoc ys (take d xs) (take n (drop d xs)) ∙ ap (λ (zs : List ℕ). ys ++ zs) (sym (take-add d n xs))

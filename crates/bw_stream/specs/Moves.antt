@@ -22,7 +22,7 @@ moved_after (Err e) m = m
 abbrev pub Keeps : Option (List ℕ) → Option (List ℕ) → Type 0
 Keeps old new = (xs : List ℕ) → old ≡ Some xs → new ≡ Some xs
 
--- the next n of xs, of at most so many, are read into the front of a buffer; none of them only at
+-- the next n of xs, of at most so many, are read into the prefix of a buffer; none of them only at
 -- the end, or with no room
 pub record IsRead (xs : List ℕ) (most n : ℕ) (buf : List ℕ) (left : Option (List ℕ)) : Type 0 where
   pub within : n ≤ length xs
@@ -46,30 +46,30 @@ abbrev pub Skips : Option (List ℕ) → ℕ → ℕ → Option (List ℕ) → T
 Skips old most n new = (xs : List ℕ) → old ≡ Some xs → IsSkipped xs most n new
 
 -- Within so many bytes a skip seeks: it passes over as many as are wanted and there are, and moves
--- a known position to the place behind them.
+-- a known position to the place after them.
 abbrev pub SeeksOver : {E : Type 0} → ℕ → ℕ → ℕ → Option ℕ → Option ℕ → Result ℕ E →
     Type 0
 SeeksOver place len most old new result =
     let count = min most (len - place) in
     0 < count → IfOk result (λ n. n ≡ count) × MovesTo old new (place + count) result
 
--- Behind so many bytes a skip reads on: it passes over the next bytes that the reader itself has.
+-- After so many bytes a skip reads on: it passes over the next bytes that the reader itself has.
 abbrev pub ReadsOn : {E : Type 0} → ℕ → ℕ → ℕ → Option (List ℕ) → Option (List ℕ) →
     Result ℕ E → Type 0
 ReadsOn place len most old new result =
     min most (len - place) ≡ 0 → MatchResult result (λ n. Skips old most n new) (λ _. Keeps old new)
 
--- a writer that tells its bytes has these behind them
+-- a writer that tells its bytes has these after them
 abbrev pub Writes : Option (List ℕ) → List ℕ → Option (List ℕ) → Type 0
 Writes old bytes new = (xs : List ℕ) → old ≡ Some xs → new ≡ Some (xs ++ bytes)
 
--- behind xs stands a beginning of these bytes
+-- after xs stands a beginning of these bytes
 pub record IsWrittenInPart (xs bytes : List ℕ) (written : Option (List ℕ)) : Type 0 where
   pub part : List ℕ
   pub rest : List ℕ
   pub whole : part ++ rest ≡ bytes
   pub stands : written ≡ Some (xs ++ part)
 
--- a writer that tells its bytes has a beginning of these behind them
+-- a writer that tells its bytes has a beginning of these after them
 abbrev pub Begins : Option (List ℕ) → List ℕ → Option (List ℕ) → Type 0
 Begins old bytes new = (xs : List ℕ) → old ≡ Some xs → IsWrittenInPart xs bytes new

@@ -2,13 +2,13 @@
 #![tactic(auto)]
 
 mod memory;
-mod plain;
 mod seek;
 mod sink;
 mod source;
+mod std_io;
 
 pub use memory::{MemorySink, MemorySource};
-pub use plain::Plain;
 pub use seek::SeekSource;
 pub use sink::{Sink, write_all};
 pub use source::{IoFailed, Source};
+pub use std_io::StdIo;

@@ -57,7 +57,7 @@ impl<'a> Source for MemorySource<'a> {
     }
 }
 
-/// Writes behind the bytes of a `Vec`, and fails only where its growth is refused.
+/// Writes after the bytes of a `Vec`, and fails only where its growth is refused.
 #[derive(Drop)]
 pub struct MemorySink {
     bytes: Vec<u8>,
@@ -65,7 +65,7 @@ pub struct MemorySink {
 }
 
 impl MemorySink {
-    /// A writer behind these bytes.
+    /// A writer after these bytes.
     pub fn new(bytes: Vec<u8>) -> MemorySink
         ensures bytes { result.bytes.items ≡ bytes.items }
         ensures failures { result.failures ≡ 0 }
@@ -73,7 +73,7 @@ impl MemorySink {
         MemorySink { bytes, failures: 0 }
     }
 
-    /// All that was written, behind the bytes from the start.
+    /// All that was written, after the bytes from the start.
     pub fn into_bytes(self) -> Vec<u8>
         ensures { result.items ≡ self.bytes.items }
     {

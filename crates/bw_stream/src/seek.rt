@@ -4,8 +4,8 @@ ghost use Rattle.std.specs.Io.Seek.{MovesTo};
 ghost use Rattle.bw_stream.specs.Moves.{one_more, failures_after, moved_after, Keeps, Reads, ReadsOn};
 ghost use Rattle.bw_stream.specs.Moves.{SeeksOver};
 
-use crate::plain::Plain;
 use crate::source::{IoFailed, Source};
+use crate::std_io::StdIo;
 use std::io::{Read, Seek, SeekFrom};
 
 /// A reader of std that seeks over what is passed by, as far as its length is known, and reads on
@@ -16,7 +16,7 @@ use std::io::{Read, Seek, SeekFrom};
 /// read and passed over, and a seek goes to the place that this makes.
 #[derive(Drop)]
 pub struct SeekSource<T> {
-    plain: Plain<T>,
+    std_io: StdIo<T>,
     place: u64,
     /// 0 where it isn't known.
     len: u64,
@@ -33,14 +33,14 @@ impl<T: Drop> SeekSource<T> {
     /// Which bytes it has: it reports none, so nothing that is proved of a file's bytes covers one
     /// that is read through it.
     pub fn new(inner: T, len: Option<u64>) -> SeekSource<T>
-        ensures inner { result.plain.inner ≡ inner }
-        ensures calls { result.plain.calls ≡ 0 }
-        ensures failures { result.plain.failures ≡ 0 }
+        ensures inner { result.std_io.inner ≡ inner }
+        ensures calls { result.std_io.calls ≡ 0 }
+        ensures failures { result.std_io.failures ≡ 0 }
         ensures place { result.place ≡ 0 }
         ensures len { result.len ≡ unwrap_or len 0 }
     {
         SeekSource {
-            plain: Plain::new(inner),
+            std_io: StdIo::new(inner),
             place: 0,
             len: len.unwrap_or(0),
             piece: [0; 65_536],
@@ -51,16 +51,16 @@ impl<T: Drop> SeekSource<T> {
 impl<T: Seek> SeekSource<T> {
     /// Seeks to a place, counted from the start.
     fn seek_to(&mut self, place: u64) -> Result<(), IoFailed>
-        ensures calls { self.new.plain.calls ≡ one_more self.old.plain.calls }
-        ensures count { self.new.plain.failures ≡ failures_after result self.old.plain.failures }
+        ensures calls { self.new.std_io.calls ≡ one_more self.old.std_io.calls }
+        ensures count { self.new.std_io.failures ≡ failures_after result self.old.std_io.failures }
         ensures ok { OnOk result (self.new.place ≡ place) }
         ensures err { OnErr result (self.new.place ≡ self.old.place) }
-        ensures seeks { MovesTo (T.stream_position self.old.plain.inner)
-            (T.stream_position self.new.plain.inner) place result }
+        ensures seeks { MovesTo (T.stream_position self.old.std_io.inner)
+            (T.stream_position self.new.std_io.inner) place result }
     {
-        self.plain.calls = self.plain.calls.saturating_add(1);
-        let Ok(_) = self.plain.inner.seek(SeekFrom::Start(place)) else {
-            self.plain.failures = self.plain.failures.saturating_add(1);
+        self.std_io.calls = self.std_io.calls.saturating_add(1);
+        let Ok(_) = self.std_io.inner.seek(SeekFrom::Start(place)) else {
+            self.std_io.failures = self.std_io.failures.saturating_add(1);
             return Err(IoFailed);
         };
         self.place = place;
@@ -73,9 +73,9 @@ impl<T: Read + Seek> Source for SeekSource<T> {
 
     ghost moved = { λ s. s.place };
 
-    ghost calls = { λ s. s.plain.calls };
+    ghost calls = { λ s. s.std_io.calls };
 
-    ghost failures = { λ s. s.plain.failures };
+    ghost failures = { λ s. s.std_io.failures };
 
     /// Reads the next bytes of its reader, and moves the place by as many.
     ///
@@ -86,17 +86,17 @@ impl<T: Read + Seek> Source for SeekSource<T> {
     /// - When the reader fails.
     /// - What `buf` holds after an error, and after the bytes that were read.
     fn read(&mut self, buf: &mut [u8]) -> Result<usize, IoFailed>
-        ensures calls { self.new.plain.calls ≡ one_more self.old.plain.calls }
-        ensures count { self.new.plain.failures ≡ failures_after result self.old.plain.failures }
+        ensures calls { self.new.std_io.calls ≡ one_more self.old.std_io.calls }
+        ensures count { self.new.std_io.failures ≡ failures_after result self.old.std_io.failures }
         ensures moved { self.new.place ≡ moved_after result self.old.place }
         ensures within { IfOk result (λ n. n ≤ length buf.old) }
         ensures given { IfOk result (λ n.
-            Reads (T.remaining self.old.plain.inner) (length buf.old) n
-            buf.new (T.remaining self.new.plain.inner)) }
+            Reads (T.remaining self.old.std_io.inner) (length buf.old) n
+            buf.new (T.remaining self.new.std_io.inner)) }
         ensures kept { OnErr result
-            (Keeps (T.remaining self.old.plain.inner) (T.remaining self.new.plain.inner)) }
+            (Keeps (T.remaining self.old.std_io.inner) (T.remaining self.new.std_io.inner)) }
     {
-        let count = self.plain.read(buf)?;
+        let count = self.std_io.read(buf)?;
         self.place = self.place.saturating_add(count as u64);
         Ok(count)
     }
@@ -110,22 +110,22 @@ impl<T: Read + Seek> Source for SeekSource<T> {
     /// - When the reader fails, and where it stands after a read.
     /// - That 0 is returned only at the end.
     fn skip(&mut self, most: u64) -> Result<u64, IoFailed>
-        ensures calls { self.new.plain.calls ≡ one_more self.old.plain.calls }
-        ensures count { self.new.plain.failures ≡ failures_after result self.old.plain.failures }
+        ensures calls { self.new.std_io.calls ≡ one_more self.old.std_io.calls }
+        ensures count { self.new.std_io.failures ≡ failures_after result self.old.std_io.failures }
         ensures moved { self.new.place ≡ moved_after result self.old.place }
         ensures within { IfOk result (λ n. n ≤ most) }
         ensures seeks { SeeksOver self.old.place self.old.len most
-            (T.stream_position self.old.plain.inner) (T.stream_position self.new.plain.inner)
+            (T.stream_position self.old.std_io.inner) (T.stream_position self.new.std_io.inner)
             result }
         ensures reads { ReadsOn self.old.place self.old.len most
-            (T.remaining self.old.plain.inner) (T.remaining self.new.plain.inner) result }
+            (T.remaining self.old.std_io.inner) (T.remaining self.new.std_io.inner) result }
     {
         let count = most.min(self.len.saturating_sub(self.place));
         if count > 0 {
             self.seek_to(self.place + count)?;
             return Ok(count);
         }
-        let count = self.plain.read_past(&mut self.piece, most)?;
+        let count = self.std_io.read_past(&mut self.piece, most)?;
         self.place = self.place.saturating_add(count);
         Ok(count)
     }

@@ -24,7 +24,7 @@ pub trait Source {
     /// How many calls failed; the count stays at 2^64 - 1.
     ghost failures: { Self → ℕ };
 
-    /// Reads some of the next bytes into the front of `buf`, at least one unless they are at their
+    /// Reads some of the next bytes into the prefix of `buf`, at least one unless they are at their
     /// end.
     ///
     /// # Errors

@@ -21,7 +21,7 @@ parts_of s = record {
 abbrev pub state_of : Inside → State
 state_of s = record { parts = parts_of s; room = s.room }
 
--- the take is sound, and the room that is told is there
+-- the take is sound, and the room that is reported is there
 pub record IsTakeState (s : Inside) : Type 0 where
   pub sound : IsSound (parts_of s)
   pub history : s.format ≡ None → 0 < s.room → longest_history ≤ vec_capacity s.history

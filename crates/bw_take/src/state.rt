@@ -166,7 +166,7 @@ impl TakeState {
     }
 
     /// Stores a request, without memory from an allocator. It fits and is judged Stored, there is
-    /// room for one, and the data have at most 2^62 bytes behind it.
+    /// room for one, and the data have at most 2^62 bytes after it.
     pub fn commit(&mut self, request: &RequestRef<'_>)
         requires fits { IsTrue (is_request (meaning request.now)) }
         requires stored { verdict_on self.old.parts (meaning request.now) ≡ Stored }

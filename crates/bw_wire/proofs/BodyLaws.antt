@@ -5,7 +5,7 @@ use Rattle.std.specs.Prelude.{IsTrue, nat_lt, nat_le, slice_index, ◌==◌}
 use Rattle.std.proofs.lemmas.Bool.{and_parts, or_parts, ltb-false, leb-true, eqb-false}
 use Rattle.bw_model.specs.Bytes.{first_that_holds, unless}
 use Rattle.bw_model.specs.Wire.{Second, last_number, Message, Frame, Says, Asks, Bye, Spells, Reason, Payload}
-use Rattle.bw_model.specs.Wire.{are_bytes, is_name, is_request, is_payload, request_of, name_in, behind_name, number_in}
+use Rattle.bw_model.specs.Wire.{are_bytes, is_name, is_request, is_payload, request_of, name_in, after_name, number_in}
 use Rattle.bw_model.specs.Wire.{payload_in, is_name_bad, body_faults, frame_in, decoded}
 use Rattle.bw_model.specs.Stream.{longest_body}
 use Rattle.bw_model.proofs.SpellingLaws.{Passes, passes_from, unless_ok, read_is_spelled}
@@ -48,7 +48,7 @@ addressed_from : (k : ℕ) (rest : List ℕ) → Passes Second k rest → IsAddr
 unfolding body_number
 addressed_from k rest p =
     let name = or_parts (nat_lt (length rest) (1 + slice_index rest 0)) (not (is_name (name_in rest))) p.name_good in
-    let number = or_parts (nat_lt (length (behind_name rest)) 4)
+    let number = or_parts (nat_lt (length (after_name rest)) 4)
     (nat_lt (last_number Second) (number_in rest)) p.number_good in
     record {
       some = omega arith;

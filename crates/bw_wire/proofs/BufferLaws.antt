@@ -1,4 +1,4 @@
--- What is held once bytes at the front are let go.
+-- What is held once bytes at the start are let go.
 use Rattle.std.proofs.Common.{◌≡◌, ℕ, ◌+◌, ◌-◌, ◌<◌, ◌≤◌, List, ◌++◌, length, take, drop, sym, ap, ◌∙◌, arith}
 use Rattle.std.specs.Prelude.{nat_le, if◌then◌else◌}
 use Rattle.std.proofs.lemmas.Bool.Decides.{nat_tests}
@@ -18,14 +18,14 @@ pub spare-large : (size spare : ℕ) → spare ≡ (if nat_le size largest_kept 
     → largest_kept < size → spare ≡ longest_rest
 spare-large size spare e large = grind (arith, nat_tests)
 
--- behind some of the first bytes
-pub drop-front : (count len : ℕ) (items : List ℕ) → count ≤ len
+-- after some of the first bytes
+pub drop-prefix : (count len : ℕ) (items : List ℕ) → count ≤ len
     → drop count (take len items) ≡ take (len - count) (drop count items)
-drop-front count len items h =
+drop-prefix count len items h =
     let all : len ≡ count + (len - count) = omega arith in
     ap (λ (n : ℕ). drop count (take n items)) all ∙ drop-take count (len - count) items
 
--- what is left was copied to the front of another block
+-- what is left was copied to the prefix of another block
 pub moved : (count len : ℕ) (items seen spare block : List ℕ) → count ≤ len → len ≤ length items → seen ≡ items
     → take (0 + length (take (len - count) (drop count seen))) block
     ≡ take 0 spare ++ take (len - count) (drop count seen)
@@ -35,19 +35,19 @@ moved count len items seen spare block h within same copied =
     omega (arith, ap (length {A = ℕ}) same, length-take (len - count) (drop count seen), length-drop count seen) in
     ap (λ (k : ℕ). take k block) (sym n)
     ∙ (copied
-    ∙ (ap (λ (x : List ℕ). take (len - count) (drop count x)) same ∙ sym (drop-front count len items h)))
+    ∙ (ap (λ (x : List ℕ). take (len - count) (drop count x)) same ∙ sym (drop-prefix count len items h)))
 
--- what is left was copied to the front of its block
+-- what is left was copied to the prefix of its block
 pub shifted : (count len : ℕ) (items block : List ℕ) → count ≤ len → len ≤ length items
     → block ≡ take 0 items ++ take (len - count) (drop count items) ++ drop (0 + (len - count)) items
     → take (len - count) block ≡ drop count (take len items)
 shifted count len items block h within copied =
-    let front = take (len - count) (drop count items) in
-    let n : length front ≡ len - count =
+    let prefix = take (len - count) (drop count items) in
+    let n : length prefix ≡ len - count =
     omega (arith, length-take (len - count) (drop count items), length-drop count items) in
     ap (take (len - count)) copied
-    ∙ (ap (λ (k : ℕ). take k (front ++ drop (0 + (len - count)) items)) (sym n)
-    ∙ (take-append_seam front (drop (0 + (len - count)) items) ∙ sym (drop-front count len items h)))
+    ∙ (ap (λ (k : ℕ). take k (prefix ++ drop (0 + (len - count)) items)) (sym n)
+    ∙ (take-append_seam prefix (drop (0 + (len - count)) items) ∙ sym (drop-prefix count len items h)))
 
 -- what is held by its parts
 pub held-parts : (bytes : List ℕ) (room : ℕ) (h : Held) → bytes ≡ h.bytes → room ≡ h.room
@@ -56,6 +56,6 @@ held-parts bytes room h e f =
     ap (λ (x : List ℕ). record { bytes = x; room = room }) e ∙ ap (λ (n : ℕ). record { bytes = h.bytes; room = n }) f
 
 -- no more than the bytes is let go
-pub within_front : (count len : ℕ) (items : List ℕ) → count ≤ length (take len items) → len ≤ length items
+pub within_prefix : (count len : ℕ) (items : List ℕ) → count ≤ length (take len items) → len ≤ length items
     → count ≤ len
-within_front count len items h within = omega (arith, length-take len items)
+within_prefix count len items h within = omega (arith, length-take len items)

@@ -1,15 +1,15 @@
--- What each front of a framer's bytes makes it tell and keep.
+-- What each prefix of a framer's bytes makes it tell and keep.
 use Rattle.std.proofs.Common.{◌≡◌, ◌≢◌, ℕ, ◌+◌, ◌-◌, ◌≤◌, Bool, true, false, List, [], ◌∷◌, length, Some, Result, Ok}
 use Rattle.std.proofs.Common.{Err}
 use Rattle.std.proofs.Common.{refl, ap, ◌∙◌, arith, ◌⊎◌, inl, inr}
 use Rattle.bw_model.specs.Wire.{Reason, Length, Kind, Name, Number, Payload, Cut}
 use Rattle.bw_wire.specs.Codecs.{Codec}
-use Rattle.bw_wire.specs.Pending.{Phase, Reading, Left, Failed, Pending, Nothing, Gives, Fails, took, compacted}
+use Rattle.bw_wire.specs.Pending.{Phase, Reading, Left, Failed, Pending, Nothing, Gives, Fails, consumed, compacted}
 use Rattle.bw_wire.specs.Pending.{emptied}
-use Rattle.bw_wire.specs.Pending.{next_value, next_read, told_again, next_in, next_of, cut_off, end_in, end_fault}
+use Rattle.bw_wire.specs.Pending.{next_value, next_read, reported_again, next_in, next_of, cut_off, end_in, end_fault}
 
 pub next_of-left : {X : Type 0} (codec : Codec X) (p : Pending) → p.phase ≡ Left →
-    next_of codec p ≡ (told_again codec.last, p)
+    next_of codec p ≡ (reported_again codec.last, p)
 unfolding next_of
 next_of-left codec p e = ap (λ (h : Phase). next_in codec h p) e
 
@@ -43,7 +43,7 @@ next_of-bad codec p reason e f other = next_of-reading codec p (Err reason) e f 
 
 -- a value that others may follow
 pub next_of-value : {X : Type 0} (codec : Codec X) (p : Pending) (x : X) (more : List ℕ) → p.phase ≡ Reading →
-    codec.first p.bytes ≡ Ok (x, more) → codec.is_last x ≡ false → next_of codec p ≡ (Gives x, took p more)
+    codec.first p.bytes ≡ Ok (x, more) → codec.is_last x ≡ false → next_of codec p ≡ (Gives x, consumed p more)
 next_of-value codec p x more e f other =
     next_of-reading codec p (Ok (x, more)) e f ∙ ap (λ (b : Bool). next_value b p x more) other
 

@@ -1,4 +1,4 @@
--- A framer's parts after each front of its bytes.
+-- A framer's parts after each prefix of its bytes.
 use Rattle.std.proofs.Common.{◌≡◌, ◌≢◌, ℕ, ◌+◌, ◌-◌, ◌≤◌, Bool, true, false, List, length, take, drop, sym, ap, subst}
 use Rattle.std.proofs.Common.{◌∙◌, arith, Option, Some, None, Ok, Err}
 use Rattle.std.proofs.lemmas.Bool.Decides.{nat_tests}
@@ -9,11 +9,11 @@ use Rattle.bw_wire.specs.declared.intake.Phase.{Phase}
 use Rattle.bw_wire.specs.declared.intake.Phase.TheVariants as phases
 use Rattle.bw_wire.specs.declared.reason.Reason.{Reason as Cause}
 use Rattle.bw_wire.specs.Codecs.{Codec}
-use Rattle.bw_wire.specs.Framings.{body_at_front}
-use Rattle.bw_wire.specs.Held.{Held, largest_kept, room_kept, nothing_held, without_front}
+use Rattle.bw_wire.specs.Framings.{body_at_prefix}
+use Rattle.bw_wire.specs.Held.{Held, largest_kept, room_kept, nothing_held, without_prefix}
 use Rattle.bw_wire.specs.Intakes.{phase_of, pending_in, LetsGo, IsIntake}
-use Rattle.bw_wire.specs.Pending.{Pending, Left, Failed, Told, Nothing, Gives, Fails, took, compacted, emptied, next_of}
-use Rattle.bw_wire.specs.Pending.{told_again, HoldsLittle}
+use Rattle.bw_wire.specs.Pending.{Pending, Left, Failed, Reported, Nothing, Gives, Fails, consumed, compacted, emptied, next_of}
+use Rattle.bw_wire.specs.Pending.{reported_again, HoldsLittle}
 use Rattle.bw_wire.specs.Reasons.{reason_meaning}
 use Rattle.bw_wire.proofs.FramerLaws.{next_of-left, next_of-failed, next_of-partial, next_of-bad, next_of-value}
 use Rattle.bw_wire.proofs.FramerLaws.{next_of-last}
@@ -28,28 +28,28 @@ nothing_kept n held gone =
     subst (λ (h : Held). (length h.bytes ≤ n) × (h.room ≤ largest_kept)) (sym gone) (omega arith, omega arith)
 
 -- a framer with p that tells t and keeps q
-pub record Steps (X : Type 0) (codec : Codec X) (p q : Pending) (t : Told X) : Type 0 where
+pub record Steps (X : Type 0) (codec : Codec X) (p q : Pending) (t : Reported X) : Type 0 where
   pub next : q ≡ (next_of codec p).1
-  pub told : t ≡ (next_of codec p).0
+  pub reported : t ≡ (next_of codec p).0
   pub held : HoldsLittle codec (next_of codec p)
 
-steps : {X : Type 0} (codec : Codec X) (p q : Pending) (t : Told X) → next_of codec p ≡ (t, q) →
+steps : {X : Type 0} (codec : Codec X) (p q : Pending) (t : Reported X) → next_of codec p ≡ (t, q) →
     HoldsLittle codec (t, q) → Steps X codec p q t
 steps {X} codec p q t e h = record {
-  next = sym (ap (λ (x : Told X × Pending). x.1) e);
-  told = sym (ap (λ (x : Told X × Pending). x.0) e);
+  next = sym (ap (λ (x : Reported X × Pending). x.1) e);
+  reported = sym (ap (λ (x : Reported X × Pending). x.0) e);
   held = subst (HoldsLittle codec) (sym e) h;
 }
 
 pub left_steps : {X : Type 0} (codec : Codec X) (i : Intake) (last : Option X) → codec.last ≡ last →
-    i.phase ≡ phases.Left → IsIntake i → Steps X codec (pending_in i) (pending_in i) (told_again last)
+    i.phase ≡ phases.Left → IsIntake i → Steps X codec (pending_in i) (pending_in i) (reported_again last)
 left_steps {X} codec i last same e h =
     let p = pending_in i in
     let gone : i.buffer ≡ nothing_held = subst (λ (h : Phase). LetsGo h i.buffer) e h.let_go in
-    steps codec p p (told_again last)
-    (next_of-left codec p (ap phase_of e) ∙ ap (λ o. (told_again {X = X} o, p)) same) (little last gone)
+    steps codec p p (reported_again last)
+    (next_of-left codec p (ap phase_of e) ∙ ap (λ o. (reported_again {X = X} o, p)) same) (little last gone)
   where
-    little : (last : Option X) → i.buffer ≡ nothing_held → HoldsLittle codec (told_again last, pending_in i)
+    little : (last : Option X) → i.buffer ≡ nothing_held → HoldsLittle codec (reported_again last, pending_in i)
     little None gone = nothing_kept codec.most_left i.buffer gone
     little (Some x) gone = λ _. nothing_kept codec.most_left i.buffer gone
 
@@ -63,24 +63,24 @@ failed_steps codec i cause e h =
     (nothing_kept codec.most_left i.buffer gone)
 
 pub partial_steps : {X : Type 0} (codec : Codec X) (i later : Intake) → i.phase ≡ phases.Reading →
-    later ≡ record i { buffer = without_front i.buffer i.start; start = 0 } →
+    later ≡ record i { buffer = without_prefix i.buffer i.start; start = 0 } →
     (codec.first (drop i.start i.buffer.bytes) ≡ Err Cut) × (length (drop i.start i.buffer.bytes) ≤ codec.most_left)
     → Steps X codec (pending_in i) (pending_in later) Nothing
-partial_steps {X} codec i later e kept front =
+partial_steps {X} codec i later e kept prefix =
     let p = pending_in i in
     subst (λ (x : Intake). Steps X codec p (pending_in x) Nothing) (sym kept)
-    (steps codec p (compacted p) Nothing (next_of-partial codec p (ap phase_of e) front.0)
-    (front.1, room_kept-bound i.buffer.room))
+    (steps codec p (compacted p) Nothing (next_of-partial codec p (ap phase_of e) prefix.0)
+    (prefix.1, room_kept-bound i.buffer.room))
 
 pub bad_steps : {X : Type 0} (codec : Codec X) (i later : Intake) (cause : Cause) → i.phase ≡ phases.Reading →
     later ≡ record i { buffer = nothing_held; start = 0; phase = phases.Failed cause } →
     (codec.first (drop i.start i.buffer.bytes) ≡ Err (reason_meaning cause)) × (reason_meaning cause ≢ Cut)
     → Steps X codec (pending_in i) (pending_in later) (Fails (reason_meaning cause) i.used)
-bad_steps {X} codec i later cause e gone front =
+bad_steps {X} codec i later cause e gone prefix =
     let p = pending_in i in
     subst (λ (x : Intake). Steps X codec p (pending_in x) (Fails (reason_meaning cause) i.used)) (sym gone)
     (steps codec p (emptied p i.used (Failed (reason_meaning cause))) (Fails (reason_meaning cause) i.used)
-    (next_of-bad codec p (reason_meaning cause) (ap phase_of e) front.0 front.1) (omega arith, omega arith))
+    (next_of-bad codec p (reason_meaning cause) (ap phase_of e) prefix.0 prefix.1) (omega arith, omega arith))
 
 -- a whole frame uses up its length and its body
 used_up : (bytes : List ℕ) (len : ℕ) → 4 + len ≤ length bytes → length bytes - length (drop (4 + len) bytes) ≡ 4 + len
@@ -103,10 +103,10 @@ last_steps {X} codec i mid later len x last e used gone whole first =
     (next_of-last codec p x more (ap phase_of e) first last) (λ _. (omega arith, omega arith))))
 
 -- a framer that took a whole frame
-took_front : (i : Intake) (len : ℕ) → 4 + len ≤ length (drop i.start i.buffer.bytes)
-    → took (pending_in i) (drop (4 + len) (drop i.start i.buffer.bytes))
+consumed_prefix : (i : Intake) (len : ℕ) → 4 + len ≤ length (drop i.start i.buffer.bytes)
+    → consumed (pending_in i) (drop (4 + len) (drop i.start i.buffer.bytes))
     ≡ pending_in (record i { start = i.start + 4 + len; used = i.used + (4 + len) })
-took_front i len whole =
+consumed_prefix i len whole =
     let place : i.start + (4 + len) ≡ i.start + 4 + len = omega arith in
     ap (λ (n : ℕ). record {
       bytes = drop (4 + len) (drop i.start i.buffer.bytes);
@@ -136,8 +136,8 @@ value_steps {X} codec i later len x other e used whole first =
     let p = pending_in i in
     let more = drop (4 + len) (drop i.start i.buffer.bytes) in
     subst (λ (h : Intake). Steps X codec p (pending_in h) (Gives x)) (sym used)
-    (subst (λ (q : Pending). Steps X codec p q (Gives x)) (took_front i len whole)
-    (steps codec p (took p more) (Gives x) (next_of-value codec p x more (ap phase_of e) first other)
+    (subst (λ (q : Pending). Steps X codec p q (Gives x)) (consumed_prefix i len whole)
+    (steps codec p (consumed p more) (Gives x) (next_of-value codec p x more (ap phase_of e) first other)
     (λ last. absurd (true_or_false (codec.is_last x) last other))))
   where
     true_or_false : (b : Bool) → b ≡ true → b ≡ false → ⊥
@@ -145,7 +145,7 @@ value_steps {X} codec i later len x other e used whole first =
 
 -- the body that is lent
 pub lent_body : (buffer items : List ℕ) (start len : ℕ) → buffer ≡ items →
-    take (start + 4 + len - (start + 4)) (drop (start + 4) buffer) ≡ body_at_front len (drop start items)
+    take (start + 4 + len - (start + 4)) (drop (start + 4) buffer) ≡ body_at_prefix len (drop start items)
 lent_body buffer items start len e =
     ap (λ (n : ℕ). take n (drop (start + 4) buffer)) (omega arith)
     ∙ ap (λ (x : List ℕ). take len (drop (start + 4) x)) e

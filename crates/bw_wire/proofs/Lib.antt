@@ -2,11 +2,11 @@ pub mod BodyLaws
 pub mod Decoding
 pub mod Encoding
 pub mod ReplyDecoding
-pub mod FrameFronts
+pub mod FramePrefixes
 pub mod BufferLaws
 pub mod FramerLaws
 pub mod FramerSteps
-pub mod ReplyFronts
+pub mod ReplyPrefixes
 pub mod RunLaws
 pub mod StreamRuns
 pub mod RequestTexts

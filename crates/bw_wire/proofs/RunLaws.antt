@@ -9,8 +9,8 @@ use Rattle.std.proofs.lemmas.List.Folds.{list_all-append}
 use Rattle.bw_model.specs.Wire.{Reason, Cut, is_below, are_bytes}
 use Rattle.bw_model.proofs.ByteNumbers.{are_bytes-tail}
 use Rattle.bw_wire.specs.Codecs.{Codec, spelling_of, Spelled}
-use Rattle.bw_wire.specs.Pending.{Phase, Reading, Left, Failed, Pending, Told, Nothing, Gives, Fails, fresh, piece_in}
-use Rattle.bw_wire.specs.Pending.{took, compacted, emptied, told_again, next_of, cut_off, end_in, end_fault}
+use Rattle.bw_wire.specs.Pending.{Phase, Reading, Left, Failed, Pending, Reported, Nothing, Gives, Fails, fresh, piece_in}
+use Rattle.bw_wire.specs.Pending.{consumed, compacted, emptied, reported_again, next_of, cut_off, end_in, end_fault}
 use Rattle.bw_wire.specs.Runs.{Call, Feeds, Takes, fed_in, Run, given_by, with_answer, with_call, with_calls}
 use Rattle.bw_wire.specs.Runs.{framer_run}
 use Rattle.bw_wire.specs.Runs.{Follows, RunsFollow}
@@ -97,7 +97,7 @@ value_more : {X : Type 0} (codec : Codec X) → IsCodec X codec → (bytes : Lis
     (more : List ℕ) → are_bytes bytes ≡ true → list_all codec.is_given given ≡ true → p.phase ≡ Reading
     → (bytes ≡ spelling_of codec given ++ p.bytes) × (p.used ≡ length (spelling_of codec given)) →
     codec.first p.bytes ≡ Ok (x, more) → codec.is_last x ≡ false
-    → Sound X codec bytes (record { given = given ++ x ∷ []; state = took p more })
+    → Sound X codec bytes (record { given = given ++ x ∷ []; state = consumed p more })
 unfolding InPhase
 value_more {X} codec is bytes given p x more fits each e k read other =
     let rest_fits = are_bytes-tail (spelling_of codec given) p.bytes (ap are_bytes (sym k.0) ∙ fits) in
@@ -113,7 +113,7 @@ value_more {X} codec is bytes given p x more fits each e k read other =
       each = list_all-append codec.is_given given (x ∷ [])
           ∙ and_from (list_all codec.is_given given) (codec.is_given x && true) each
           (and_from (codec.is_given x) true (is.given p.bytes x more rest_fits read other) refl);
-      kept = subst (λ (h : Phase). InPhase codec h bytes (record { given = given ++ x ∷ []; state = took p more }))
+      kept = subst (λ (h : Phase). InPhase codec h bytes (record { given = given ++ x ∷ []; state = consumed p more }))
           (sym e) (
             k.0 ∙ ap (λ (y : List ℕ). spelling_of codec given ++ y) stands
                 ∙ sym (append_assoc (spelling_of codec given) (codec.frame x) more)
@@ -137,11 +137,11 @@ given_by-value {X} codec x e = go (codec.is_last x) e
     go true e = absurd cc
     go false e = refl
 
--- the last is told again, and nothing given
+-- the last is reported again, and nothing given
 given_by-again : {X : Type 0} (codec : Codec X) → IsCodec X codec → (x : X) → codec.is_last x ≡ true →
-    given_by codec (told_again codec.last) ≡ []
+    given_by codec (reported_again codec.last) ≡ []
 given_by-again {X} codec is x e =
-    ap (λ o. given_by codec (told_again {X = X} o)) (is.last x e) ∙ given_by-last codec x e
+    ap (λ o. given_by codec (reported_again {X = X} o)) (is.last x e) ∙ given_by-last codec x e
 
 taken_sound : {X : Type 0} (codec : Codec X) → IsCodec X codec → (bytes : List ℕ) (given : List X) (p : Pending)
     (h : Phase) (read : Result (X × List ℕ) Reason) → are_bytes bytes ≡ true → p.phase ≡ h →
@@ -150,10 +150,10 @@ taken_sound : {X : Type 0} (codec : Codec X) → IsCodec X codec → (bytes : Li
     → Sound X codec bytes (with_answer codec given (next_of codec p))
 unfolding InPhase
 taken_sound {X} codec is bytes given p Left read fits e f s k =
-    subst (λ (x : Told X × Pending). Sound X codec bytes (with_answer codec given x)) (sym (next_of-left codec p e))
-    (same_given codec bytes given (given_by codec (told_again codec.last)) p (given_by-again codec is k.0 k.2) s)
+    subst (λ (x : Reported X × Pending). Sound X codec bytes (with_answer codec given x)) (sym (next_of-left codec p e))
+    (same_given codec bytes given (given_by codec (reported_again codec.last)) p (given_by-again codec is k.0 k.2) s)
 taken_sound {X} codec is bytes given p (Failed reason) read fits e f s k =
-    subst (λ (x : Told X × Pending). Sound X codec bytes (with_answer codec given x))
+    subst (λ (x : Reported X × Pending). Sound X codec bytes (with_answer codec given x))
     (sym (next_of-failed codec p reason e)) (same_given codec bytes given [] p refl s)
 taken_sound {X} codec is bytes given p Reading (Ok (x, more)) fits e f s k = go (codec.is_last x) refl
   where
@@ -161,7 +161,7 @@ taken_sound {X} codec is bytes given p Reading (Ok (x, more)) fits e f s k = go 
     go true last =
         let rest_fits = are_bytes-tail (spelling_of codec given) p.bytes (ap are_bytes (sym k.0) ∙ fits) in
         let q = emptied p (p.used + (length p.bytes - length more)) Left in
-        subst (λ (y : Told X × Pending). Sound X codec bytes (with_answer codec given y))
+        subst (λ (y : Reported X × Pending). Sound X codec bytes (with_answer codec given y))
         (sym (next_of-last codec p x more e f last))
         (same_given codec bytes given (given_by codec (Gives x)) q (given_by-last codec x last)
         (record {
@@ -174,12 +174,12 @@ taken_sound {X} codec is bytes given p Reading (Ok (x, more)) fits e f s k = go 
           );
         }))
     go false other =
-        subst (λ (y : Told X × Pending). Sound X codec bytes (with_answer codec given y))
+        subst (λ (y : Reported X × Pending). Sound X codec bytes (with_answer codec given y))
         (sym (next_of-value codec p x more e f other))
-        (subst (λ (xs : List X). Sound X codec bytes (record { given = given ++ xs; state = took p more }))
+        (subst (λ (xs : List X). Sound X codec bytes (record { given = given ++ xs; state = consumed p more }))
         (sym (given_by-value codec x other)) (value_more codec is bytes given p x more fits s.each e k f other))
 taken_sound {X} codec is bytes given p Reading (Err reason) fits e f s k = elim (cut_or_not reason) [
-  | inl cut ↦ subst (λ (x : Told X × Pending). Sound X codec bytes (with_answer codec given x))
+  | inl cut ↦ subst (λ (x : Reported X × Pending). Sound X codec bytes (with_answer codec given x))
       (sym (next_of-partial codec p e (f ∙ ap Err cut)))
       (same_given codec bytes given [] (compacted p) refl
       (record {
@@ -187,7 +187,7 @@ taken_sound {X} codec is bytes given p Reading (Err reason) fits e f s k = elim 
         kept = subst (λ (h : Phase). InPhase codec h bytes (record { given = given; state = compacted p }))
             (sym e) k;
       }))
-  | inr other ↦ subst (λ (x : Told X × Pending). Sound X codec bytes (with_answer codec given x))
+  | inr other ↦ subst (λ (x : Reported X × Pending). Sound X codec bytes (with_answer codec given x))
       (sym (next_of-bad codec p reason e f other))
       (same_given codec bytes given [] (emptied p p.used (Failed reason)) refl
       (record { each = s.each; kept = (p.bytes, k.0, f, other, k.1) }))
@@ -217,16 +217,16 @@ run_sound codec is (Takes ∷ calls) bytes r fits s =
 -- ---- what a run says of the values
 
 -- what an answer says of them, whose state is p
-record Ends (X : Type 0) (codec : Codec X) (bytes : List ℕ) (given : List X) (p : Pending) (told : Told X)
+record Ends (X : Type 0) (codec : Codec X) (bytes : List ℕ) (given : List X) (p : Pending) (reported : Reported X)
     : Type 0 where
-  nothing : told ≡ Nothing → Spelled X codec bytes given p.bytes × (codec.first p.bytes ≡ Err Cut)
-  ends : told ≡ Nothing → end_fault p ≡ cut_off p.bytes (length (spelling_of codec given))
-  last : (x : X) → codec.is_last x ≡ true → told ≡ Gives x →
+  nothing : reported ≡ Nothing → Spelled X codec bytes given p.bytes × (codec.first p.bytes ≡ Err Cut)
+  ends : reported ≡ Nothing → end_fault p ≡ cut_off p.bytes (length (spelling_of codec given))
+  last : (x : X) → codec.is_last x ≡ true → reported ≡ Gives x →
       (rest : List ℕ) × Spelled X codec bytes given (codec.frame x ++ rest)
-  fault : (reason : Reason) (offset : ℕ) → told ≡ Fails reason offset
+  fault : (reason : Reason) (offset : ℕ) → reported ≡ Fails reason offset
       → (rest : List ℕ) × Spelled X codec bytes given rest × (codec.first rest ≡ Err reason)
       × (offset ≡ length (spelling_of codec given))
-  not_cut : (offset : ℕ) → told ≢ Fails Cut offset
+  not_cut : (offset : ℕ) → reported ≢ Fails Cut offset
 
 fault_ends : {X : Type 0} (codec : Codec X) (bytes rest : List ℕ) (given : List X) (p : Pending) (why : Reason) →
     why ≢ Cut → Spelled X codec bytes given rest → codec.first rest ≡ Err why →
@@ -276,27 +276,27 @@ ends_in : {X : Type 0} (codec : Codec X) → IsCodec X codec → (bytes : List �
     → Ends X codec bytes given p (next_of codec p).0
 unfolding InPhase
 ends_in {X} codec is bytes given p Left read fits e f each k =
-    subst (λ (x : Told X × Pending). Ends X codec bytes given p x.0) (sym (next_of-left codec p e))
-    (subst (λ o. Ends X codec bytes given p (told_again {X = X} o)) (sym (is.last k.0 k.2))
+    subst (λ (x : Reported X × Pending). Ends X codec bytes given p x.0) (sym (next_of-left codec p e))
+    (subst (λ o. Ends X codec bytes given p (reported_again {X = X} o)) (sym (is.last k.0 k.2))
     (last_ends codec bytes k.1 given p k.0 (record { each = each; whole = k.3 })))
 ends_in {X} codec is bytes given p (Failed reason) read fits e f each k =
-    subst (λ (x : Told X × Pending). Ends X codec bytes given p x.0) (sym (next_of-failed codec p reason e))
+    subst (λ (x : Reported X × Pending). Ends X codec bytes given p x.0) (sym (next_of-failed codec p reason e))
     (fault_ends codec bytes k.0 given p reason k.3 (record { each = each; whole = k.1 }) k.2 k.4)
 ends_in {X} codec is bytes given p Reading (Ok (x, more)) fits e f each k = go (codec.is_last x) refl
   where
     go : (last : Bool) → codec.is_last x ≡ last → Ends X codec bytes given p (next_of codec p).0
     go true last =
         let rest_fits = are_bytes-tail (spelling_of codec given) p.bytes (ap are_bytes (sym k.0) ∙ fits) in
-        subst (λ (y : Told X × Pending). Ends X codec bytes given p y.0) (sym (next_of-last codec p x more e f last))
+        subst (λ (y : Reported X × Pending). Ends X codec bytes given p y.0) (sym (next_of-last codec p x more e f last))
         (last_ends codec bytes more given p x (record {
           each = each;
           whole = k.0 ∙ ap (λ (y : List ℕ). spelling_of codec given ++ y) (is.stands p.bytes x more rest_fits f);
         }))
     go false other =
-        subst (λ (y : Told X × Pending). Ends X codec bytes given p y.0) (sym (next_of-value codec p x more e f other))
+        subst (λ (y : Reported X × Pending). Ends X codec bytes given p y.0) (sym (next_of-value codec p x more e f other))
         (value_ends codec bytes given p x other)
 ends_in {X} codec is bytes given p Reading (Err reason) fits e f each k = elim (cut_or_not reason) [
-  | inl cut ↦ subst (λ (x : Told X × Pending). Ends X codec bytes given p x.0)
+  | inl cut ↦ subst (λ (x : Reported X × Pending). Ends X codec bytes given p x.0)
       (sym (next_of-partial codec p e (f ∙ ap Err cut)))
       (record {
         nothing = λ _. (record { each = each; whole = k.0 }, f ∙ ap Err cut);
@@ -305,7 +305,7 @@ ends_in {X} codec is bytes given p Reading (Err reason) fits e f each k = elim (
         fault = λ why offset x. absurd cc;
         not_cut = λ offset x. cc;
       })
-  | inr other ↦ subst (λ (x : Told X × Pending). Ends X codec bytes given p x.0)
+  | inr other ↦ subst (λ (x : Reported X × Pending). Ends X codec bytes given p x.0)
       (sym (next_of-bad codec p reason e f other))
       (fault_ends codec bytes p.bytes given p reason other (record { each = each; whole = k.0 }) f k.1)
 ]
@@ -325,7 +325,7 @@ follows codec is bytes r fits s =
     let ends = ends_in codec is bytes r.given r.state r.state.phase
     (codec.first r.state.bytes) fits refl refl s.each s.kept in
     record {
-      front = (rest.0, record { each = s.each; whole = rest.1 });
+      prefix = (rest.0, record { each = s.each; whole = rest.1 });
       nothing = ends.nothing;
       ends = ends.ends;
       last = ends.last;

@@ -56,11 +56,11 @@ frames-append (f ∷ fs) gs =
     ap (λ (x : List ℕ). framed (body f) ++ x) (frames-append fs gs)
     ∙ sym (append_assoc (framed (body f)) (frames_bytes fs) (frames_bytes gs))
 
--- a front of the messages and asks is one of the stream's
-front_of : (bytes rest : List ℕ) (given : List Frame) → are_bytes bytes ≡ true →
+-- a prefix of the messages and asks is one of the stream's
+prefix_of : (bytes rest : List ℕ) (given : List Frame) → are_bytes bytes ≡ true →
     list_all (is_turn Second) given ≡ true → bytes ≡ frames_bytes given ++ rest
     → (later : List Frame) × ((stream_of Second bytes).0 ≡ given ++ later)
-front_of bytes rest given fits each whole =
+prefix_of bytes rest given fits each whole =
     let place = length (frames_bytes given) in
     let s = stream_from (suc (length rest)) Second place rest in
     let t = found (suc (length rest)) Second place rest s.0 s.1 (omega arith)
@@ -112,7 +112,7 @@ follows_stream : (bytes : List ℕ) (r : Run Frame) → are_bytes bytes ≡ true
 follows_stream bytes r fits f =
     let place = length (frames_bytes r.given) in
     record {
-      front = front_of bytes f.front.0 r.given fits f.front.1.each f.front.1.whole;
+      prefix = prefix_of bytes f.prefix.0 r.given fits f.prefix.1.each f.prefix.1.whole;
       nothing = λ e.
           let rest = f.nothing e in
           whole_of bytes r.state.bytes r.given (input_end (end_fault r.state)) fits rest.0.each rest.0.whole

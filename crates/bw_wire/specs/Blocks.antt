@@ -3,7 +3,7 @@ use Rattle.std.specs.Prelude.{◌≡◌, ◌≤◌, take, nat_le, if◌then◌el
 use Rattle.bw_wire.specs.declared.buffer.Buffer.TheInside.{Inside}
 use Rattle.bw_wire.specs.Held.{Held, longest_rest, largest_kept}
 
--- the bytes at the front of the block, and how large it is
+-- the bytes at the start of the block, and how large it is
 abbrev pub held_in : Inside → Held
 held_in b = record { bytes = take b.len b.block.items; room = vec_capacity b.block }
 

@@ -9,13 +9,13 @@ use Rattle.bw_wire.specs.Held.{rest_below, longest_rest}
 
 -- how the values of a stream are read and spelled
 pub record Codec (X : Type 0) : Type 0 where
-  -- the first value of the bytes and the bytes behind it, or the first reason why there is none
+  -- the first value of the bytes and the bytes after it, or the first reason why there is none
   pub first : List ℕ → Result (X × List ℕ) Reason
   -- the frame of a value
   pub frame : X → List ℕ
   -- a value that is handed on
   pub is_given : X → Bool
-  -- a value behind which nothing is read
+  -- a value after which nothing is read
   pub is_last : X → Bool
   -- that value, where there is one
   pub last : Option X
@@ -50,7 +50,7 @@ reply_codec = record {
   most_left = rest_below longest_reply;
 }
 
--- the frames of these values one behind another
+-- the frames of these values one after another
 abbrev pub spelling_of : {X : Type 0} → Codec X → List X → List ℕ
 spelling_of codec xs = flat_map codec.frame xs
 

@@ -1,4 +1,4 @@
--- What stands behind a length at the front of a stream's bytes.
+-- What stands after a length at the start of a stream's bytes.
 use Rattle.std.specs.Prelude.{◌≡◌, ℕ, ◌+◌, ◌≤◌, Some, None, List, length, take, drop}
 use Rattle.bw_model.specs.Bytes.{u32_at, first_that_holds}
 use Rattle.bw_model.specs.Wire.{Length, Cut}
@@ -6,12 +6,12 @@ use Rattle.bw_model.specs.Stream.{framing_faults}
 use Rattle.bw_wire.specs.declared.framing.Framing.{Framing}
 use Rattle.bw_wire.specs.declared.framing.Framing.TheVariants as framings
 
--- the body of this length behind its length
-abbrev pub body_at_front : ℕ → List ℕ → List ℕ
-body_at_front len bytes = take len (drop 4 bytes)
+-- the body of this length after its length
+abbrev pub body_at_prefix : ℕ → List ℕ → List ℕ
+body_at_prefix len bytes = take len (drop 4 bytes)
 
--- a body of this length stands at the front
-pub record HasFront (longest : ℕ) (bytes : List ℕ) (len : ℕ) : Type 0 where
+-- a body of this length stands at the start
+pub record HasPrefix (longest : ℕ) (bytes : List ℕ) (len : ℕ) : Type 0 where
   pub framed : first_that_holds (framing_faults longest bytes) ≡ None
   pub len_is : len ≡ u32_at bytes 0
   pub short : len ≤ longest
@@ -22,4 +22,4 @@ abbrev pub IsFraming : ℕ → List ℕ → Framing → Type 0
 IsFraming longest bytes framings.Partial =
     first_that_holds (framing_faults longest bytes) ≡ Some Cut
 IsFraming longest bytes framings.Bad = first_that_holds (framing_faults longest bytes) ≡ Some Length
-IsFraming longest bytes (framings.Body len) = HasFront longest bytes len
+IsFraming longest bytes (framings.Body len) = HasPrefix longest bytes len

@@ -3,11 +3,11 @@ use Rattle.std.specs.Prelude.{ℕ, ◌+◌, ◌*◌, ◌^◌, List, [], ◌++◌
 use Rattle.std.specs.Prelude.{if◌then◌else◌}
 use Rattle.bw_model.specs.Limits.{longest_body}
 
--- all bytes of a frame but the last, where its body has so many behind their length
+-- all bytes of a frame but the last, where its body has so many after their length
 abbrev pub rest_below : ℕ → ℕ
 rest_below longest = longest + 3
 
--- so many bytes, at most, are left behind the whole frames
+-- so many bytes, at most, are left after the whole frames
 abbrev pub longest_rest : ℕ
 longest_rest = rest_below longest_body
 
@@ -38,7 +38,7 @@ nothing_held = record { bytes = []; room = 0 }
 abbrev pub room_for : ℕ → ℕ → ℕ
 room_for needed room = if nat_le needed room then room else max needed (2 * room)
 
--- the room of the block that is kept behind the whole frames: a large one is let go
+-- the room of the block that is kept after the whole frames: a large one is let go
 abbrev pub room_kept : ℕ → ℕ
 room_kept room = if nat_le room largest_kept then room else longest_rest
 
@@ -53,6 +53,6 @@ with_bytes h bytes = record {
   room = room_for (length h.bytes + length bytes) h.room;
 }
 
--- without so many bytes at the front
-abbrev pub without_front : Held → ℕ → Held
-without_front h count = record { bytes = drop count h.bytes; room = room_kept h.room }
+-- without so many bytes at the start
+abbrev pub without_prefix : Held → ℕ → Held
+without_prefix h count = record { bytes = drop count h.bytes; room = room_kept h.room }

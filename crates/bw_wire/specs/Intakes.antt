@@ -33,7 +33,7 @@ LetsGo (Failed reason) held = held ≡ nothing_held
 -- the place lies within what is held, and no more was used up or is left than was fed
 pub record IsIntake (i : Intake) : Type 0 where
   pub within : i.start ≤ length i.buffer.bytes
-  pub behind : i.start ≤ i.used
+  pub following : i.start ≤ i.used
   pub counted : i.used + (length i.buffer.bytes - i.start) ≤ i.fed
   pub bounded : i.fed ≤ longest_stream
   pub let_go : LetsGo i.phase i.buffer

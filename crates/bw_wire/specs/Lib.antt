@@ -7,13 +7,13 @@ pub mod Notices
 pub mod Replies
 pub mod Encoded
 pub mod Framings
-pub mod FrameFronts
-pub mod ReplyFronts
+pub mod FramePrefixes
+pub mod ReplyPrefixes
 pub mod Held
 pub mod Blocks
 pub mod Codecs
 pub mod RequestTexts
 pub mod Pending
 pub mod Intakes
-pub mod Telling
+pub mod Reporting
 pub mod Runs

@@ -9,9 +9,9 @@ use Rattle.bw_wire.specs.Held.{largest_kept, room_for, room_kept}
 -- whether more is read
 pub data Phase : Type 0 where
   Reading : Phase
-  -- the end of the exchange was told
+  -- the end of the exchange was reported
   Left : Phase
-  -- a fault was told
+  -- a fault was reported
   Failed : Reason → Phase
 
 -- what a framer keeps of a stream
@@ -46,15 +46,15 @@ piece_in (Failed reason) p piece = record p { fed = p.fed + length piece }
 abbrev pub with_piece : Pending → List ℕ → Pending
 with_piece p piece = piece_in p.phase p piece
 
--- what is told: that no whole frame is there, a value, or a fault with its place
-pub data Told (X : Type 0) : Type 0 where
-  Nothing : Told X
-  Gives : X → Told X
-  Fails : Reason → ℕ → Told X
+-- what is reported: that no whole frame is there, a value, or a fault with its place
+pub data Reported (X : Type 0) : Type 0 where
+  Nothing : Reported X
+  Gives : X → Reported X
+  Fails : Reason → ℕ → Reported X
 
 -- with these bytes left
-abbrev pub took : Pending → List ℕ → Pending
-took p more = record p { bytes = more; used = p.used + (length p.bytes - length more) }
+abbrev pub consumed : Pending → List ℕ → Pending
+consumed p more = record p { bytes = more; used = p.used + (length p.bytes - length more) }
 
 -- with the used bytes let go, and a block that is too large to be kept
 abbrev pub compacted : Pending → Pending
@@ -66,31 +66,31 @@ emptied p used phase =
     record { bytes = []; used = used; fed = p.fed; held = 0; room = 0; phase = phase }
 
 -- a value is given; where it is the last, all is let go
-abbrev pub next_value : {X : Type 0} → Bool → Pending → X → List ℕ → Told X × Pending
-next_value false p x more = (Gives x, took p more)
+abbrev pub next_value : {X : Type 0} → Bool → Pending → X → List ℕ → Reported X × Pending
+next_value false p x more = (Gives x, consumed p more)
 next_value true p x more =
     (Gives x, emptied p (p.used + (length p.bytes - length more)) Left)
 
 -- by what the bytes begin with
 abbrev pub next_read :
-    {X : Type 0} → Codec X → Pending → Result (X × List ℕ) Reason → Told X × Pending
+    {X : Type 0} → Codec X → Pending → Result (X × List ℕ) Reason → Reported X × Pending
 next_read codec p (Ok (x, more)) = next_value (codec.is_last x) p x more
 next_read codec p (Err Cut) = (Nothing, compacted p)
 next_read codec p (Err reason) = (Fails reason p.used, emptied p p.used (Failed reason))
 
--- the last value is told again and again
-abbrev pub told_again : {X : Type 0} → Option X → Told X
-told_again None = Nothing
-told_again (Some x) = Gives x
+-- the last value is reported again and again
+abbrev pub reported_again : {X : Type 0} → Option X → Reported X
+reported_again None = Nothing
+reported_again (Some x) = Gives x
 
 -- .. in a phase
-abbrev pub next_in : {X : Type 0} → Codec X → Phase → Pending → Told X × Pending
+abbrev pub next_in : {X : Type 0} → Codec X → Phase → Pending → Reported X × Pending
 next_in codec Reading p = next_read codec p (codec.first p.bytes)
-next_in codec Left p = (told_again codec.last, p)
+next_in codec Left p = (reported_again codec.last, p)
 next_in codec (Failed reason) p = (Fails reason p.used, p)
 
 -- what a framer tells next, and what it then keeps
-unfoldable pub next_of : {X : Type 0} → Codec X → Pending → Told X × Pending
+unfoldable pub next_of : {X : Type 0} → Codec X → Pending → Reported X × Pending
 next_of codec p = next_in codec p.phase p
 
 -- the block isn't too large to be kept for a further piece
@@ -101,8 +101,8 @@ HasSmallBlock p = p.room ≤ largest_kept
 abbrev pub KeepsAtMost : ℕ → Pending → Type 0
 KeepsAtMost n p = (p.held ≤ n) × HasSmallBlock p
 
--- where no value was told that others may follow, at most a part of a frame is held
-abbrev pub HoldsLittle : {X : Type 0} → Codec X → Told X × Pending → Type 0
+-- where no value was reported that others may follow, at most a part of a frame is held
+abbrev pub HoldsLittle : {X : Type 0} → Codec X → Reported X × Pending → Type 0
 HoldsLittle codec (Nothing, p) = KeepsAtMost codec.most_left p
 HoldsLittle codec (Gives x, p) = IsTrue (codec.is_last x) → KeepsAtMost codec.most_left p
 HoldsLittle codec (Fails reason offset, p) = KeepsAtMost codec.most_left p

@@ -22,7 +22,7 @@ DecodesReason code r =
     MatchResult r (λ reason. reason_with_code code ≡ Some (reason_meaning reason))
     (λ e. (reason_with_code code ≡ None) × (e.0 ≡ code))
 
--- what is told to people
+-- what is reported to people
 abbrev pub reason_text : Reason → List ℕ
 reason_text Length = codes "a length that no frame has"
 reason_text Kind = codes "a kind that no frame has"

@@ -4,7 +4,7 @@ use Rattle.std.specs.Prelude.{◌∷◌, ◌++◌, flat_map, length}
 use Rattle.bw_model.specs.Wire.{Second, Frame, Bye, Reason, Cut, are_bytes}
 use Rattle.bw_model.specs.Stream.{End, EndOfInput, SaidBye, BadFrame, stream_of}
 use Rattle.bw_wire.specs.Codecs.{Codec, message_codec, reply_codec, spelling_of, Spelled}
-use Rattle.bw_wire.specs.Pending.{Pending, Told, Nothing, Gives, Fails, fresh, with_piece, next_of}
+use Rattle.bw_wire.specs.Pending.{Pending, Reported, Nothing, Gives, Fails, fresh, with_piece, next_of}
 use Rattle.bw_wire.specs.Pending.{cut_off, end_fault}
 
 -- a call: a piece is fed, or the next frame is taken
@@ -26,22 +26,22 @@ pub record Run (X : Type 0) : Type 0 where
   pub given : List X
   pub state : Pending
 
--- the values among what is told, but for the last, which is told again and again
-abbrev pub given_by : {X : Type 0} → Codec X → Told X → List X
+-- the values among what is reported, but for the last, which is reported again and again
+abbrev pub given_by : {X : Type 0} → Codec X → Reported X → List X
 given_by codec Nothing = []
 given_by codec (Gives x) = if codec.is_last x then [] else x ∷ []
 given_by codec (Fails reason offset) = []
 
 -- with an answer more
-abbrev pub with_answer : {X : Type 0} → Codec X → List X → Told X × Pending → Run X
+abbrev pub with_answer : {X : Type 0} → Codec X → List X → Reported X × Pending → Run X
 with_answer codec given x = record { given = given ++ given_by codec x.0; state = x.1 }
 
--- behind one more call
+-- after one more call
 abbrev pub with_call : {X : Type 0} → Codec X → Run X → Call → Run X
 with_call codec r (Feeds piece) = record { given = r.given; state = with_piece r.state piece }
 with_call codec r Takes = with_answer codec r.given (next_of codec r.state)
 
--- behind these calls
+-- after these calls
 abbrev pub with_calls : {X : Type 0} → Codec X → Run X → List Call → Run X
 with_calls codec r [] = r
 with_calls codec r (call ∷ calls) = with_calls codec (with_call codec r call) calls
@@ -52,8 +52,8 @@ framer_run codec calls = with_calls codec (record { given = []; state = fresh })
 
 -- what a run gives of the values that these bytes spell
 pub record Follows (X : Type 0) (codec : Codec X) (bytes : List ℕ) (r : Run X) : Type 0 where
-  -- a front of the values
-  pub front : (rest : List ℕ) × Spelled X codec bytes r.given rest
+  -- a prefix of the values
+  pub prefix : (rest : List ℕ) × Spelled X codec bytes r.given rest
   -- all of them, where nothing more is there
   pub nothing : (next_of codec r.state).0 ≡ Nothing →
       Spelled X codec bytes r.given r.state.bytes × (codec.first r.state.bytes ≡ Err Cut)
@@ -80,8 +80,8 @@ input_end (Some x) = BadFrame x.0 x.1
 
 -- what a run gives of the stream of these bytes
 pub record FollowsStream (bytes : List ℕ) (r : Run Frame) : Type 0 where
-  -- a front of the messages and asks
-  pub front : (later : List Frame) × ((stream_of Second bytes).0 ≡ r.given ++ later)
+  -- a prefix of the messages and asks
+  pub prefix : (later : List Frame) × ((stream_of Second bytes).0 ≡ r.given ++ later)
   -- all of them, where nothing more is there; the end is then that of the input
   pub nothing : (next_of message_codec r.state).0 ≡ Nothing →
       stream_of Second bytes ≡ (r.given, input_end (end_fault r.state))

@@ -1,6 +1,6 @@
-//! The name and the number behind a kind byte, as messages, asks and replies have them.
+//! The name and the number after a kind byte, as messages, asks and replies have them.
 ghost use Rattle.std.specs.Prelude.{◌≡◌, ◌≤◌, IsTrue, not, false, drop, length};
-ghost use Rattle.bw_model.specs.Wire.{Second, last_number, name_in, behind_name as behind};
+ghost use Rattle.bw_model.specs.Wire.{Second, last_number, name_in, after_name as following};
 ghost use Rattle.bw_model.specs.Wire.{number_in, payload_in, is_name_bad, is_number_bad};
 ghost use Rattle.bw_wire.specs.Addresses.{HasName, HasAddress};
 
@@ -10,7 +10,7 @@ use bw_request::Name;
 /// The last number that a message may have.
 pub(crate) const LAST_NUMBER: u32 = 16_777_215;
 
-/// Whether the bytes begin with a name behind its length.
+/// Whether the bytes begin with a name after its length.
 pub(crate) fn has_name(rest: &[u8]) -> bool
     ensures value { result ≡ not (is_name_bad rest.now) }
     ensures named { IsTrue result → HasName rest.now }
@@ -31,11 +31,11 @@ pub(crate) fn has_number(rest: &[u8]) -> bool
     ensures value { result ≡ not (is_number_bad (last_number Second) rest.now) }
     ensures numbered { IsTrue result → HasAddress rest.now }
 {
-    let behind = behind_name(rest);
-    if behind.len() < 4 {
+    let following = after_name(rest);
+    if following.len() < 4 {
         return false;
     }
-    read_u32(behind, 0) <= LAST_NUMBER
+    read_u32(following, 0) <= LAST_NUMBER
 }
 
 /// The name.
@@ -47,9 +47,9 @@ pub(crate) fn name(rest: &[u8]) -> Name
 }
 
 /// What follows the name.
-fn behind_name(rest: &[u8]) -> &[u8]
+fn after_name(rest: &[u8]) -> &[u8]
     requires { HasName rest.now }
-    ensures { result.now ≡ behind rest.now }
+    ensures { result.now ≡ following rest.now }
 {
     &rest[1 + rest[0] as usize..]
 }
@@ -59,7 +59,7 @@ pub(crate) fn number(rest: &[u8]) -> u32
     requires { HasAddress rest.now }
     ensures { result ≡ number_in rest.now }
 {
-    read_u32(behind_name(rest), 0)
+    read_u32(after_name(rest), 0)
 }
 
 /// What follows the number.
@@ -67,11 +67,11 @@ pub(crate) fn payload(rest: &[u8]) -> &[u8]
     requires { HasAddress rest.now }
     ensures { result.now ≡ payload_in rest.now }
 {
-    &behind_name(rest)[4..]
+    &after_name(rest)[4..]
 }
 
 /// What follows the kind byte.
-pub(crate) fn behind_kind(body: &[u8]) -> &[u8]
+pub(crate) fn after_kind(body: &[u8]) -> &[u8]
     requires { 1 ≤ length body.now }
     ensures { result.now ≡ drop 1 body.now }
 {

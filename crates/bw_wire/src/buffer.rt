@@ -6,16 +6,16 @@ use std::alloc::{AllocError, Global};
 use std::marker::Model;
 use std::mem;
 
-/// Behind the whole frames at most so many bytes are left, of a frame that isn't whole.
+/// After the whole frames at most so many bytes are left, of a frame that isn't whole.
 const LONGEST_REST: usize = 32_809;
 
 /// A larger block isn't kept for the next piece. With pieces of at most 64 KiB none is larger: with
 /// what is left of the piece before, it has at most twice 98,345 bytes.
 const LARGEST_KEPT: usize = 262_144;
 
-/// Bytes at the front of a block of memory, which has room for more behind them.
+/// Bytes at the start of a block of memory, which has room for more after them.
 ///
-/// All of the block is written, with zeros behind the bytes: of a `Vec` that grows no contract says
+/// All of the block is written, with zeros after the bytes: of a `Vec` that grows no contract says
 /// how large it may become, but of one that was reserved and filled.
 #[derive(Drop)]
 pub(crate) struct Buffer {
@@ -40,7 +40,7 @@ impl Model for Buffer {
 
 impl Buffer {
     ghost use Rattle.bw_wire.specs.Held.{longest_rest, longest_stream, nothing_held, with_bytes};
-    ghost use Rattle.bw_wire.specs.Held.{with_room, without_front};
+    ghost use Rattle.bw_wire.specs.Held.{with_room, without_prefix};
 
     /// No bytes, and no block.
     pub(crate) fn new(alloc: Global) -> Buffer
@@ -112,11 +112,11 @@ impl Buffer {
         grown
     }
 
-    /// Lets so many bytes at the front go, and with them a block that is too large to be kept.
-    pub(crate) fn drop_front(&mut self, count: usize)
+    /// Lets so many bytes at the start go, and with them a block that is too large to be kept.
+    pub(crate) fn drop_prefix(&mut self, count: usize)
         requires within { count ≤ length self.old.bytes }
         requires short { length self.old.bytes ≤ count + longest_rest }
-        ensures { self.new ≡ without_front self.old count }
+        ensures { self.new ≡ without_prefix self.old count }
     {
         if self.block.len() > LARGEST_KEPT {
             copy_in(&mut self.spare, 0, &self.block[count..self.len]);
@@ -142,13 +142,13 @@ impl Buffer {
     }
 }
 
-/// Makes a block so large, with zeros behind what it has.
+/// Makes a block so large, with zeros after what it has.
 fn fill_up(block: &mut Vec<u8>, size: usize) -> Result<(), AllocError>
     requires full { vec_capacity block.old ≡ vec_len block.old }
     requires larger { vec_len block.old ≤ size }
     ensures len { OnOk result (vec_len block.new ≡ size) }
     ensures capacity { OnOk result (vec_capacity block.new ≡ size) }
-    ensures front { OnOk result (take (vec_len block.old) block.new.items ≡ block.old.items) }
+    ensures prefix { OnOk result (take (vec_len block.old) block.new.items ≡ block.old.items) }
     ensures items { OnErr result (block.new.items ≡ block.old.items) }
     ensures err { OnErr result (vec_capacity block.new ≡ vec_capacity block.old) }
 {
@@ -171,7 +171,7 @@ fn let_go(block: &mut Vec<u8>)
 /// Puts bytes over as many that stand there.
 fn copy_in(block: &mut Vec<u8>, start: usize, bytes: &[u8])
     requires { start + length bytes.now ≤ vec_len block.old }
-    ensures front { take (start + length bytes.now) block.new.items
+    ensures prefix { take (start + length bytes.now) block.new.items
         ≡ take start block.old.items ++ bytes.now }
     ensures len { vec_len block.new ≡ vec_len block.old }
     ensures capacity { vec_capacity block.new ≡ vec_capacity block.old }

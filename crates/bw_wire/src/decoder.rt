@@ -54,7 +54,7 @@ pub fn decode_request(bytes: &[u8]) -> Result<RequestRef<'_>, Reason>
     Ok(request_of(*kind, rest))
 }
 
-/// The first reason why the bytes behind a kind byte spell no message or ask of this kind.
+/// The first reason why the bytes after a kind byte spell no message or ask of this kind.
 fn fault(kind: u8, rest: &[u8]) -> Option<Reason>
     ensures { option_map reason_meaning result ≡ first_that_holds (body_faults Second kind rest.now) }
 {
@@ -73,7 +73,7 @@ fn fault(kind: u8, rest: &[u8]) -> Option<Reason>
     None
 }
 
-/// The end of the exchange, behind whose kind byte nothing stands.
+/// The end of the exchange, after whose kind byte nothing stands.
 fn bye(rest: &[u8]) -> Result<Frame<'_>, Reason>
     ensures { result ≡ (if length rest.now == 0 then Ok Frame.Bye else Err Reason.Payload) }
 {

@@ -2,7 +2,7 @@
 ghost use Rattle.std.specs.Prelude.{◌≡◌, ◌+◌, ◌≤◌, length, IsOk, OnOk, OnErr};
 
 use crate::fault::WireFault;
-use crate::frame_front::{FrameFront, frame_front_of};
+use crate::frame_prefix::{FramePrefix, frame_prefix_of};
 use crate::intake::{Intake, Phase};
 use crate::message::{Ask, Frame, Message};
 use std::alloc::{AllocError, Global};
@@ -38,7 +38,7 @@ impl Framer {
     ghost use Rattle.bw_wire.specs.Held.{longest_rest, longest_piece, longest_stream};
     ghost use Rattle.bw_wire.specs.Pending.{fresh, with_piece, next_of, KeepsAtMost, HasSmallBlock};
     ghost use Rattle.bw_wire.specs.Pending.{HoldsLittle, end_fault, IsOver};
-    ghost use Rattle.bw_wire.specs.Telling.{told_as, end_told};
+    ghost use Rattle.bw_wire.specs.Reporting.{reported_as, end_reported};
 
     /// A framer at the start of a stream.
     pub fn new(alloc: Global) -> Framer
@@ -92,7 +92,7 @@ impl Framer {
     /// fault is returned from then on, as `Bye` is after `Bye`.
     pub fn next_frame(&mut self) -> Result<Option<Frame<'_>>, WireFault>
         ensures* left { sem 𝓛 (Rests the_row self.entry (λ new. new ≡ (next_of message_codec self.old).1)) }
-        ensures told { told_as frame_of result ≡ (next_of message_codec self.old).0 }
+        ensures reported { reported_as frame_of result ≡ (next_of message_codec self.old).0 }
         ensures held { HoldsLittle message_codec (next_of message_codec self.old) }
     {
         let offset = self.intake.used;
@@ -102,26 +102,26 @@ impl Framer {
             Phase::Failed(reason) => return Err(WireFault { reason, offset }),
         }
         let at = self.intake.start + 4;
-        match frame_front_of(self.intake.bytes()) {
-            FrameFront::Partial => {
+        match frame_prefix_of(self.intake.bytes()) {
+            FramePrefix::Partial => {
                 self.intake.compact();
                 Ok(None)
             }
-            FrameFront::Bad(reason) => {
+            FramePrefix::Bad(reason) => {
                 self.intake.finish(Phase::Failed(reason));
                 Err(WireFault { reason, offset })
             }
-            FrameFront::Bye(len) => {
+            FramePrefix::Bye(len) => {
                 self.intake.use_up(len);
                 self.intake.finish(Phase::Left);
                 Ok(Some(Frame::Bye))
             }
-            FrameFront::Message(len) => {
+            FramePrefix::Message(len) => {
                 self.intake.use_up(len);
                 let body = &self.intake.buffer.as_slice()[at..at + len];
                 Ok(Some(Frame::Message(Message { body })))
             }
-            FrameFront::Ask(len) => {
+            FramePrefix::Ask(len) => {
                 self.intake.use_up(len);
                 let body = &self.intake.buffer.as_slice()[at..at + len];
                 Ok(Some(Frame::Ask(Ask { body })))
@@ -132,10 +132,10 @@ impl Framer {
     /// Whether the input may end here.
     ///
     /// # Errors
-    /// The fault that was told, or `Cut` where bytes are left. Its offset is where they begin,
+    /// The fault that was reported, or `Cut` where bytes are left. Its offset is where they begin,
     /// whole frames too.
     pub fn end(&self) -> Result<(), WireFault>
-        ensures { end_told result ≡ end_fault self.now }
+        ensures { end_reported result ≡ end_fault self.now }
     {
         self.intake.end()
     }

@@ -1,10 +1,10 @@
-//! A body behind its length, at the front of a stream's bytes.
+//! A body after its length, at the start of a stream's bytes.
 ghost use Rattle.std.specs.Prelude.{◌<◌, ◌^◌};
 ghost use Rattle.bw_wire.specs.Framings.{IsFraming};
 
 use bw_bytes::read_u32;
 
-/// A body behind its length: not whole yet, of a length that no body has, or of this length.
+/// A body after its length: not whole yet, of a length that no body has, or of this length.
 #[derive(Clone, Copy)]
 pub(crate) enum Framing {
     Partial,
@@ -12,7 +12,7 @@ pub(crate) enum Framing {
     Body(usize),
 }
 
-/// The body at the front, where bodies have at most so many bytes.
+/// The body at the start, where bodies have at most so many bytes.
 pub(crate) fn framing_of(bytes: &[u8], longest: u32) -> Framing
     ensures { IsFraming longest bytes.now result }
 {

@@ -1,11 +1,11 @@
 //! What a framer keeps of its stream, whatever it reads.
 ghost use Rattle.std.specs.Prelude.{◌≡◌, ◌+◌, ◌≤◌, length, drop, IsOk, OnOk, OnErr};
-ghost use Rattle.bw_wire.specs.Held.{nothing_held, without_front, longest_rest, longest_piece};
+ghost use Rattle.bw_wire.specs.Held.{nothing_held, without_prefix, longest_rest, longest_piece};
 ghost use Rattle.bw_wire.specs.Held.{longest_stream};
 ghost use Rattle.bw_wire.specs.Pending.{fresh, with_piece, KeepsAtMost, HasSmallBlock, end_fault};
 ghost use Rattle.bw_wire.specs.Pending.{IsOver};
 ghost use Rattle.bw_wire.specs.Intakes.{pending_in, IsIntake};
-ghost use Rattle.bw_wire.specs.Telling.{end_told};
+ghost use Rattle.bw_wire.specs.Reporting.{end_reported};
 
 use crate::buffer::Buffer;
 use crate::fault::WireFault;
@@ -20,7 +20,7 @@ pub(crate) enum Phase {
     Failed(Reason),
 }
 
-/// The bytes of a stream that aren't used up, behind used ones that weren't let go yet.
+/// The bytes of a stream that aren't used up, after used ones that weren't let go yet.
 #[derive(Drop)]
 pub(crate) struct Intake {
     pub(crate) buffer: Buffer,
@@ -91,11 +91,11 @@ impl Intake {
         requires sound { IsIntake self.old }
         requires short { length self.old.buffer.bytes ≤ self.old.start + longest_rest }
         ensures { self.new ≡ record self.old {
-          buffer = without_front self.old.buffer self.old.start;
+          buffer = without_prefix self.old.buffer self.old.start;
           start = 0;
         } }
     {
-        self.buffer.drop_front(self.start);
+        self.buffer.drop_prefix(self.start);
         self.start = 0;
     }
 
@@ -124,10 +124,10 @@ impl Intake {
     /// Whether the input may end here.
     ///
     /// # Errors
-    /// The fault that was told, or `Cut` where bytes are left.
+    /// The fault that was reported, or `Cut` where bytes are left.
     pub(crate) fn end(&self) -> Result<(), WireFault>
         requires { IsIntake self.now }
-        ensures { end_told result ≡ end_fault (pending_in self.now) }
+        ensures { end_reported result ≡ end_fault (pending_in self.now) }
     {
         match self.phase {
             Phase::Left => Ok(()),

@@ -6,7 +6,7 @@ mod buffer;
 mod decoder;
 mod encoder;
 mod fault;
-mod frame_front;
+mod frame_prefix;
 mod framer;
 mod framing;
 mod intake;
@@ -18,7 +18,7 @@ mod reply;
 mod reply_decoder;
 mod reply_encoder;
 mod reply_framer;
-mod reply_front;
+mod reply_prefix;
 mod request_text;
 
 pub use decoder::{decode, decode_request};

@@ -2,7 +2,7 @@
 ghost use Rattle.std.specs.Prelude.{◌≡◌, ◌≤◌, IsTrue, length};
 ghost use Rattle.bw_wire.specs.Bodies.{is_message_body, is_ask_body};
 
-use crate::address::{behind_kind, name, number, payload};
+use crate::address::{after_kind, name, number, payload};
 use crate::payload::request_of;
 use bw_request::{Name, RequestRef};
 
@@ -23,7 +23,7 @@ impl<'a> Message<'a> {
     pub fn name(&self) -> Name
         ensures { result ≡ (message_of self.now).name }
     {
-        name(behind_kind(self.body))
+        name(after_kind(self.body))
     }
 
     /// The number of the message among those of its name, at most 16,777,215.
@@ -31,7 +31,7 @@ impl<'a> Message<'a> {
         ensures value { result ≡ (message_of self.now).number }
         ensures range { result ≤ last_number Second }
     {
-        number(behind_kind(self.body))
+        number(after_kind(self.body))
     }
 
     /// The request, which borrows from the body.
@@ -39,7 +39,7 @@ impl<'a> Message<'a> {
         ensures value { meaning result ≡ (message_of self.now).request }
         ensures fits { IsTrue (is_request (meaning result)) }
     {
-        request_of(self.body[0], payload(behind_kind(self.body)))
+        request_of(self.body[0], payload(after_kind(self.body)))
     }
 
     /// The whole body, from its kind on, at most 32,806 bytes.
@@ -66,7 +66,7 @@ impl Ask<'_> {
     pub fn name(&self) -> Name
         ensures { result ≡ asked_name self.now }
     {
-        name(behind_kind(self.body))
+        name(after_kind(self.body))
     }
 
     /// The number that the reply repeats, at most 16,777,215.
@@ -74,7 +74,7 @@ impl Ask<'_> {
         ensures value { result ≡ asked_number self.now }
         ensures range { result ≤ last_number Second }
     {
-        number(behind_kind(self.body))
+        number(after_kind(self.body))
     }
 }
 

@@ -6,7 +6,7 @@ ghost use Rattle.bw_wire.specs.Notices.{notice_meaning, DecodesNotice};
 use crate::reason::{Reason, UnknownCode};
 use bw_request::{Name, Verdict};
 
-/// Why a message has no verdict, or what an ask is told.
+/// Why a message has no verdict, or what an ask is reported.
 #[derive(Clone, Copy, Debug, PartialEq, Eq, Hash)]
 pub enum Notice {
     /// The message is kept until those before it have come.

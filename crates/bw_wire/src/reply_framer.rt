@@ -4,7 +4,7 @@ ghost use Rattle.std.specs.Prelude.{◌≡◌, ◌+◌, ◌≤◌, length, IsOk,
 use crate::fault::WireFault;
 use crate::intake::{Intake, Phase};
 use crate::reply::Reply;
-use crate::reply_front::{ReplyFront, reply_front_of};
+use crate::reply_prefix::{ReplyPrefix, reply_prefix_of};
 use std::alloc::{AllocError, Global};
 use std::marker::Model;
 
@@ -35,7 +35,7 @@ impl ReplyFramer {
     ghost use Rattle.bw_wire.specs.Pending.{fresh, with_piece, next_of, KeepsAtMost, HasSmallBlock};
     ghost use Rattle.bw_wire.specs.Pending.{HoldsLittle, end_fault, IsOver};
     ghost use Rattle.bw_wire.specs.Replies.{reply_of};
-    ghost use Rattle.bw_wire.specs.Telling.{told_as, end_told};
+    ghost use Rattle.bw_wire.specs.Reporting.{reported_as, end_reported};
 
     /// A framer at the start of a stream.
     pub fn new(alloc: Global) -> ReplyFramer
@@ -88,7 +88,7 @@ impl ReplyFramer {
     /// frame's offset. Nothing is held then, and the same fault is returned from then on.
     pub fn next_frame(&mut self) -> Result<Option<Reply>, WireFault>
         ensures left { self.new ≡ (next_of reply_codec self.old).1 }
-        ensures told { told_as reply_of result ≡ (next_of reply_codec self.old).0 }
+        ensures reported { reported_as reply_of result ≡ (next_of reply_codec self.old).0 }
         ensures held { HoldsLittle reply_codec (next_of reply_codec self.old) }
     {
         let offset = self.intake.used;
@@ -97,16 +97,16 @@ impl ReplyFramer {
             Phase::Left => return Ok(None),
             Phase::Failed(reason) => return Err(WireFault { reason, offset }),
         }
-        match reply_front_of(self.intake.bytes()) {
-            ReplyFront::Partial => {
+        match reply_prefix_of(self.intake.bytes()) {
+            ReplyPrefix::Partial => {
                 self.intake.compact();
                 Ok(None)
             }
-            ReplyFront::Bad(reason) => {
+            ReplyPrefix::Bad(reason) => {
                 self.intake.finish(Phase::Failed(reason));
                 Err(WireFault { reason, offset })
             }
-            ReplyFront::Whole(reply, len) => {
+            ReplyPrefix::Whole(reply, len) => {
                 self.intake.use_up(len);
                 Ok(Some(reply))
             }
@@ -116,10 +116,10 @@ impl ReplyFramer {
     /// Whether the input may end here.
     ///
     /// # Errors
-    /// The fault that was told, or `Cut` where bytes are left. Its offset is where they begin,
+    /// The fault that was reported, or `Cut` where bytes are left. Its offset is where they begin,
     /// whole frames too.
     pub fn end(&self) -> Result<(), WireFault>
-        ensures { end_told result ≡ end_fault self.now }
+        ensures { end_reported result ≡ end_fault self.now }
     {
         self.intake.end()
     }

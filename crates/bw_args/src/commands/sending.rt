@@ -54,7 +54,7 @@ fn rounds_option<'a>(alloc: Global) -> Arg<'a>
         .help("How many exchanges of at most 16 requests are made, 1 to 1000 [default: 16]")
 }
 
-/// Bad values are told in this order: the address, the name, the rounds, the timeout.
+/// Bad values are reported in this order: the address, the name, the rounds, the timeout.
 pub(crate) fn send_line(options: &ArgMatches<'_>) -> CommandLine
     ensures { IsLineFor (Some (codes "send", rows_of (found_of options.now))) result }
 {

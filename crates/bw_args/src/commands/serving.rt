@@ -132,7 +132,7 @@ fn log_flag<'a>(alloc: Global) -> Arg<'a>
         .help("Tells each connection in a line on standard error")
 }
 
-/// Bad values are told in this order: the address, the folder, the exchanges, the limit, those of
+/// Bad values are reported in this order: the address, the folder, the exchanges, the limit, those of
 /// `recorders_given`, and `--until-stopped` beside a number of exchanges.
 pub(crate) fn serve_line(alloc: Global, options: &ArgMatches<'_>) -> Result<CommandLine, AllocError>
     ensures ok { IfOk result (IsLineFor (Some (codes "serve", rows_of (found_of options.now)))) }

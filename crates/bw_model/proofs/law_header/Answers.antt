@@ -2,4 +2,4 @@ use Rattle.bw_model.proofs.HeaderLaws.{header_of_file, length-header, form_len-f
 use Rattle.bw_model.proofs.law_header.Goals as goal
 
 pub returns : goal.returns
-returns c = record { front = header_of_file; end = length-header; size = form_len-form_size }
+returns c = record { prefix = header_of_file; end = length-header; size = form_len-form_size }

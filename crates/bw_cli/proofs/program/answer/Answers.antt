@@ -11,10 +11,10 @@ returns-in-Err g c =
         did = record { reads_all = true; out = Nothing; faults = l.0; exit = Memory };
         ends = sym c.give_up.ensures.exit;
         gives_all = true;
-        is = record { exit_is = refl; reads = refl; prints = refl; tells = l.1 };
+        is = record { exit_is = refl; reads = refl; prints = refl; reports = l.1 };
         failures = refl;
         reads = refl;
-        writes = record { printed = refl; told = l.2 };
+        writes = record { printed = refl; reported = l.2 };
       };
       unused = refl;
     })

@@ -1,16 +1,16 @@
 use Rattle.std.proofs.Common.{◌∙◌, inr, ap, map, string_bytes, false, refl}
 use Rattle.bw_console.specs.Printing.{Nothing}
-use Rattle.bw_cli.proofs.ProgramLemmas.{told-words}
+use Rattle.bw_cli.proofs.ProgramLemmas.{reported-words}
 use Rattle.bw_cli.proofs.program.obey.Goals as goal
 
 pub returns-in-Ok : goal.returns-in-Ok
-returns-in-Ok g c = told-words _ _ _ _ _ _ _ _ _ _ _ _ _ _ _ _ _ _ _ _ _ _ _ _ _ _ _ _ _ _ _
-    (λ told e. ap (map string_bytes) c.as_slice.ensures.value ∙ c.in-Ok.ensures.ok told e)
+returns-in-Ok g c = reported-words _ _ _ _ _ _ _ _ _ _ _ _ _ _ _ _ _ _ _ _ _ _ _ _ _ _ _ _ _ _ _
+    (λ reported e. ap (map string_bytes) c.as_slice.ensures.value ∙ c.in-Ok.ensures.ok reported e)
     c.in-Ok.ensures.files c.in-Ok.ensures.count c.answer.ensures
 
 pub returns-in-Err : goal.returns-in-Err
 returns-in-Err g c =
-    let l = c.tell_unworded.ensures in
+    let l = c.report_bad_argv.ensures in
     inr (record {
       does = record {
         did = l.0;
@@ -19,7 +19,7 @@ returns-in-Err g c =
         is = (_, l.2);
         failures = c.in-Err.ensures.count;
         reads = rw l.2.reads refl;
-        writes = record { printed = rw l.2.prints refl; told = l.3 };
+        writes = record { printed = rw l.2.prints refl; reported = l.3 };
       };
       unused = refl;
     })

@@ -6,17 +6,17 @@ use Rattle.bw_cli.proofs.program.perform.Goals as goal
 
 pub returns-in-BadValue : goal.returns-in-BadValue
 returns-in-BadValue g c =
-    let l = c.tell.ensures in
-    let told : IsOf (text_of c.in-BadValue.value) l.0 = rw (c.as_bytes.ensures.value, c.text.ensures) at l.1 in
+    let l = c.print_diagnostic.ensures in
+    let reported : IsOf (text_of c.in-BadValue.value) l.0 = rw (c.as_bytes.ensures.value, c.text.ensures) at l.1 in
     rw c.in-BadValue.is (record {
       does = record {
         did = record { reads_all = true; out = Nothing; faults = l.0; exit = Usage };
         ends = refl;
         gives_all = true;
-        is = (record { exit_is = refl; reads = refl; prints = refl; tells = told }, refl);
+        is = (record { exit_is = refl; reads = refl; prints = refl; reports = reported }, refl);
         failures = refl;
         reads = refl;
-        writes = record { printed = refl; told = l.2 };
+        writes = record { printed = refl; reported = l.2 };
       };
       unused = refl;
     })

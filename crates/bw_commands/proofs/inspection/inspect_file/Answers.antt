@@ -11,5 +11,5 @@ returns-in-Ok g c =
       record { reads = refl; reads_file = i.0.reads_all; is = inspected-at _ _ i.0 c.in-Ok.ensures.ok i.2 },
       refl,
       c.in-Ok.ensures.count,
-      record { printed = i.4.printed; told = i.4.told },
+      record { printed = i.4.printed; reported = i.4.reported },
     )

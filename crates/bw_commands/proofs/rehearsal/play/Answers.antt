@@ -12,10 +12,10 @@ returns-in-Ok-clause-prints g c = (
   record {
     text = c.as_slice-2.result.now;
     is = refl;
-    right = λ xs told. record {
-      within = (c.in_ok-events.ensures.ok xs told).0;
+    right = λ xs reported. record {
+      within = (c.in_ok-events.ensures.ok xs reported).0;
       events = map event_meaning c.in_ok-events.events.items;
-      said = (c.in_ok-events.ensures.ok xs told).1;
+      said = (c.in_ok-events.ensures.ok xs reported).1;
       right = subst (IsWorldText c.args.name c.args.limit (map event_meaning c.in_ok-events.events.items))
           (sym c.as_slice-2.ensures.value) (rw c.as_slice.ensures.value at c.in_ok-text.ensures);
     };
@@ -29,10 +29,10 @@ returns-clause-prints g c = (
   record {
     text = c.as_slice-2.result.now;
     is = refl;
-    right = λ xs told. record {
-      within = (c.in_ok-events.ensures.ok xs told).0;
+    right = λ xs reported. record {
+      within = (c.in_ok-events.ensures.ok xs reported).0;
       events = map event_meaning c.in_ok-events.events.items;
-      said = (c.in_ok-events.ensures.ok xs told).1;
+      said = (c.in_ok-events.ensures.ok xs reported).1;
       right = subst (IsWorldText c.args.name c.args.limit (map event_meaning c.in_ok-events.events.items))
           (sym c.as_slice-2.ensures.value) (rw c.as_slice.ensures.value at c.in_ok-text.ensures);
     };

@@ -12,8 +12,8 @@ returns-in-Ok-clause-prints g c = (
   record {
     text = c.as_slice-2.result.now;
     is = refl;
-    right = λ xs told. subst (λ (a : Asked). IsTextFor c.args.limit c.args.fuse a c.as_slice-2.result.now)
-        (sym (c.in_ok-inputs.ensures.ok xs told))
+    right = λ xs reported. subst (λ (a : Asked). IsTextFor c.args.limit c.args.fuse a c.as_slice-2.result.now)
+        (sym (c.in_ok-inputs.ensures.ok xs reported))
         (subst (IsRunText c.args.limit c.args.fuse (map (λ x. x.items) c.in_ok-inputs.inputs.items)) (sym c.as_slice-2.ensures.value)
         (rw c.as_slice.ensures.value at c.in_ok-text.ensures));
   },
@@ -26,8 +26,8 @@ returns-clause-prints g c = (
   record {
     text = c.as_slice-2.result.now;
     is = refl;
-    right = λ xs told. subst (λ (a : Asked). IsTextFor c.args.limit c.args.fuse a c.as_slice-2.result.now)
-        (sym (c.in_ok-inputs.ensures.ok xs told))
+    right = λ xs reported. subst (λ (a : Asked). IsTextFor c.args.limit c.args.fuse a c.as_slice-2.result.now)
+        (sym (c.in_ok-inputs.ensures.ok xs reported))
         (subst (IsRunText c.args.limit c.args.fuse (map (λ x. x.items) c.in_ok-inputs.inputs.items)) (sym c.as_slice-2.ensures.value)
         (rw c.as_slice.ensures.value at c.in_ok-text.ensures));
   },

@@ -9,9 +9,9 @@ returns-in-Ok-clause-did g c =
     let p = c.in-Ok.ensures.prints in (
       record { reads_all = true; out = p.0; faults = Nothing; exit = Done },
       refl,
-      record { outcome = Ok tt; exit_is = refl; reads = refl; prints = p.1; tells = refl },
+      record { outcome = Ok tt; exit_is = refl; reads = refl; prints = p.1; reports = refl },
       c.in-Ok.ensures.count,
-      record { printed = p.2; told = refl },
+      record { printed = p.2; reported = refl },
     )
 
 pub returns-in-Err-clause-did : goal.returns-in-Err-clause-did
@@ -21,7 +21,7 @@ returns-in-Err-clause-did g c =
     let l = c.give_up.ensures.line in (
       record { reads_all = is_readable fault; out = p.0; faults = l.0; exit = exit_on fault },
       sym c.give_up.ensures.exit,
-      record { outcome = Err fault; exit_is = refl; reads = refl; prints = p.1; tells = l.1 },
+      record { outcome = Err fault; exit_is = refl; reads = refl; prints = p.1; reports = l.1 },
       c.in-Err.ensures.count,
-      record { printed = p.2; told = l.2 },
+      record { printed = p.2; reported = l.2 },
     )

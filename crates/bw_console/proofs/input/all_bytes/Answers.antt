@@ -1,19 +1,19 @@
 use Rattle.std.proofs.Common.{arith, ◌∙◌, rules}
 use Rattle.std.proofs.lemmas.Grind.{common_steps}
-use Rattle.bw_console.proofs.InputLemmas.{front-is-all, more-front, read-ahead}
+use Rattle.bw_console.proofs.InputLemmas.{prefix-is-all, more-prefix, read-ahead}
 use Rattle.bw_console.proofs.input.all_bytes.Goals as goal
 
 pub returns-then-count-eq0-clause-reads : goal.returns-then-count-eq0-clause-reads
 returns-then-count-eq0-clause-reads g c b e =
-    let front = c.loop-piece.invariant.front b e in
+    let prefix = c.loop-piece.invariant.prefix b e in
     let within = c.loop-piece.invariant.within in
     let none = c.if-count-eq0.true in
-    read-ahead b _ _ _ _ _ _ front (c.in-Ok.ensures.ok _ front.rest) (omega arith)
+    read-ahead b _ _ _ _ _ _ prefix (c.in-Ok.ensures.ok _ prefix.rest) (omega arith)
 
 pub returns-then-count-eq0-clause-ok : goal.returns-then-count-eq0-clause-ok
 returns-then-count-eq0-clause-ok g c b e =
-    let front = c.loop-piece.invariant.front b e in
-    front-is-all b _ _ _ _ _ _ front (c.in-Ok.ensures.ok _ front.rest) c.if-count-eq0.true (grind (arith, common_steps))
+    let prefix = c.loop-piece.invariant.prefix b e in
+    prefix-is-all b _ _ _ _ _ _ prefix (c.in-Ok.ensures.ok _ prefix.rest) c.if-count-eq0.true (grind (arith, common_steps))
 
 pub loop-piece-preserved : goal.loop-piece-preserved
 loop-piece-preserved g c = record {
@@ -27,17 +27,17 @@ loop-piece-preserved g c = record {
     c.in_ok-extend_from_slice.ensures.items,
     c.in-Ok.ensures.within,
   );
-  front = λ b e.
-      let front = c.loop-piece.invariant.front b e in
+  prefix = λ b e.
+      let prefix = c.loop-piece.invariant.prefix b e in
       rw c.in_ok-extend_from_slice.ensures.items
-      (more-front b _ _ _ _ _ _ _ front (c.in-Ok.ensures.ok _ front.rest)
+      (more-prefix b _ _ _ _ _ _ _ prefix (c.in-Ok.ensures.ok _ prefix.rest)
       (grind (arith, common_steps, c.in-Ok.ensures.within)));
 }
 
 pub returns-in_err-extend_from_slice-clause-reads : goal.returns-in_err-extend_from_slice-clause-reads
 returns-in_err-extend_from_slice-clause-reads g c b e =
-    let front = c.loop-piece.invariant.front b e in
-    read-ahead b _ _ _ _ _ _ front (c.in-Ok.ensures.ok _ front.rest)
+    let prefix = c.loop-piece.invariant.prefix b e in
+    read-ahead b _ _ _ _ _ _ prefix (c.in-Ok.ensures.ok _ prefix.rest)
     (grind (arith, common_steps, c.in-Ok.ensures.within))
 
 pub returns-in_default-clause-count : goal.returns-in_default-clause-count

@@ -2,47 +2,47 @@ use Rattle.std.proofs.Common.{sym}
 use Rattle.bw_wire.specs.Pending.{Nothing, Fails}
 use Rattle.bw_wire.specs.Reasons.{reason_meaning}
 use Rattle.bw_wire.specs.Replies.{reply_of}
-use Rattle.bw_engine.proofs.ReplyRuns.{told_again, gives_shorter}
-use Rattle.bw_engine.proofs.HeardPieces.{as_told, hears-quiet, hears-one}
+use Rattle.bw_engine.proofs.ReplyRuns.{reported_again, gives_shorter}
+use Rattle.bw_engine.proofs.HeardPieces.{as_reported, hears-quiet, hears-one}
 use Rattle.bw_engine.proofs.hearing.hear_next.Goals as goal
 
 pub returns-in-Ok-None-clause-hears : goal.returns-in-Ok-None-clause-hears
 returns-in-Ok-None-clause-hears c =
-    let told = c.in-Ok-None.ensures in
+    let reported = c.in-Ok-None.ensures in
     hears-quiet c.args.sender.now c.args.framer.now c.next_frame.new.self Nothing
-    (as_told c.in-Ok-None.field-0-is told.told) tt told.left
+    (as_reported c.in-Ok-None.field-0-is reported.reported) tt reported.left
 
 pub returns-in-Ok-None-clause-none : goal.returns-in-Ok-None-clause-none
 returns-in-Ok-None-clause-none c _ =
-    let told = c.in-Ok-None.ensures in
-    told_again c.args.framer.now c.next_frame.new.self Nothing
-    (sym (as_told c.in-Ok-None.field-0-is told.told)) told.left tt
+    let reported = c.in-Ok-None.ensures in
+    reported_again c.args.framer.now c.next_frame.new.self Nothing
+    (sym (as_reported c.in-Ok-None.field-0-is reported.reported)) reported.left tt
 
 pub returns-in-Ok-Some-clause-hears : goal.returns-in-Ok-Some-clause-hears
 returns-in-Ok-Some-clause-hears c =
-    let told = c.in-Ok-Some.ensures in
+    let reported = c.in-Ok-Some.ensures in
     hears-one c.args.sender.now c.on_reply.new.self c.args.framer.now c.next_frame.new.self
-    (reply_of c.in-Ok-Some.reply) (as_told c.in-Ok-Some.field-0-is told.told) told.left c.on_reply.ensures.hears
+    (reply_of c.in-Ok-Some.reply) (as_reported c.in-Ok-Some.field-0-is reported.reported) reported.left c.on_reply.ensures.hears
 
 pub returns-in-Ok-Some-clause-some : goal.returns-in-Ok-Some-clause-some
 returns-in-Ok-Some-clause-some c _ =
-    let told = c.in-Ok-Some.ensures in
+    let reported = c.in-Ok-Some.ensures in
     gives_shorter c.args.framer.now c.next_frame.new.self (reply_of c.in-Ok-Some.reply)
-    (sym (as_told c.in-Ok-Some.field-0-is told.told)) told.left
+    (sym (as_reported c.in-Ok-Some.field-0-is reported.reported)) reported.left
 
 pub returns-in-Err-clause-hears : goal.returns-in-Err-clause-hears
 returns-in-Err-clause-hears c =
     let fault = c.in-Err._fault in
-    let told = c.in-Err.ensures in
+    let reported = c.in-Err.ensures in
     hears-quiet c.args.sender.now c.args.framer.now c.next_frame.new.self
-    (Fails (reason_meaning fault.reason) fault.offset) told.told tt told.left
+    (Fails (reason_meaning fault.reason) fault.offset) reported.reported tt reported.left
 
 pub returns-in-Err-clause-bad : goal.returns-in-Err-clause-bad
 returns-in-Err-clause-bad c =
     let fault = c.in-Err._fault in
-    let told = c.in-Err.ensures in (
+    let reported = c.in-Err.ensures in (
       reason_meaning fault.reason,
       fault.offset,
-      told_again c.args.framer.now c.next_frame.new.self (Fails (reason_meaning fault.reason) fault.offset)
-          (sym told.told) told.left tt,
+      reported_again c.args.framer.now c.next_frame.new.self (Fails (reason_meaning fault.reason) fault.offset)
+          (sym reported.reported) reported.left tt,
     )

@@ -1,12 +1,12 @@
 use Rattle.std.proofs.Common.{refl, sym, ◌∙◌, ap, subst, ◌++◌, inl}
-use Rattle.bw_engine.specs.Ingesting.{IngestsInPart, LeavesRun, answered_in, bytes_in}
+use Rattle.bw_engine.specs.Ingesting.{IngestsInPart, LeavesRun, answered_in, input_bytes}
 use Rattle.bw_engine.proofs.StoreRuns.{honest_still, leaves_run, ingests_nothing, ingests_well}
 use Rattle.bw_engine.proofs.ingest.ingest_run.Goals as goal
 
 pub returns-in-Err-clause-err : goal.returns-in-Err-clause-err
 returns-in-Err-clause-err g c =
-    subst (IngestsInPart g.S.TakeStore _ c.args.limit c.args.store (bytes_in c.args.inputs.now))
-    (sym c.in-Err.ensures.back) (ingests_nothing g.S.TakeStore _ c.args.limit c.args.store (bytes_in c.args.inputs.now))
+    subst (IngestsInPart g.S.TakeStore _ c.args.limit c.args.store (input_bytes c.args.inputs.now))
+    (sym c.in-Err.ensures.back) (ingests_nothing g.S.TakeStore _ c.args.limit c.args.store (input_bytes c.args.inputs.now))
 
 pub returns-in-Ok-serve_inputs-clause-honest : goal.returns-in-Ok-serve_inputs-clause-honest
 returns-in-Ok-serve_inputs-clause-honest g c =
@@ -26,7 +26,7 @@ returns-in-Ok-serve_inputs-clause-ok g c =
         store_is = c.in-Ok.ensures.store;
         limit_is = c.in-Ok.ensures.limit;
         new = c.in-Ok.ensures.book;
-        behind = c.serve_inputs.new.server;
+        following = c.serve_inputs.new.server;
         by_server = h.by_server;
         left = c.into_store-store.ensures;
       };
@@ -39,7 +39,7 @@ returns-in-Ok-serve_inputs-clause-ok g c =
 
 pub returns-in-Ok-serve_inputs-clause-in_order : goal.returns-in-Ok-serve_inputs-clause-in_order
 returns-in-Ok-serve_inputs-clause-in_order g c = λ honest well.
-    ingests_well g.S.TakeStore _ c.args.limit c.args.store (bytes_in c.args.inputs.now) _
+    ingests_well g.S.TakeStore _ c.args.limit c.args.store (input_bytes c.args.inputs.now) _
     (returns-in-Ok-serve_inputs-clause-ok g c) honest well
 
 pub returns-in-Err-serve_inputs-clause-honest : goal.returns-in-Err-serve_inputs-clause-honest
@@ -61,7 +61,7 @@ returns-in-Err-serve_inputs-clause-err g c =
         store_is = c.in-Ok.ensures.store;
         limit_is = c.in-Ok.ensures.limit;
         new = c.in-Ok.ensures.book;
-        behind = c.serve_inputs.new.server;
+        following = c.serve_inputs.new.server;
         by_server = h.by_server;
         left = c.into_store.ensures;
       });

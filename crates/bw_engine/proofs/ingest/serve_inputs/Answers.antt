@@ -1,6 +1,6 @@
 use Rattle.std.proofs.Common.{◌+◌, drop, arith, subst}
 use Rattle.bw_layout.proofs.Exits.{on_err}
-use Rattle.bw_engine.specs.Ingesting.{ServesInPart, bytes_in}
+use Rattle.bw_engine.specs.Ingesting.{ServesInPart, input_bytes}
 use Rattle.bw_engine.proofs.InputSteps.{inputs-more, inputs-part, inputs-whole, one_taken, around, one_pushed}
 use Rattle.bw_engine.proofs.ingest.serve_inputs.Goals as goal
 
@@ -10,8 +10,8 @@ returns-in_err-replies-clause-err g c =
     (subst (ServesInPart g.T.Turns.answers c.args.server.now c.serve_input.new.server)
     (around (λ x. x.items) c.args.inputs.now c.loop-input.input-index c.input-item.result c.as_slice.result.now
     (omega arith) c.input-item.is c.as_slice.ensures.value)
-    (inputs-part g.T.Turns.answers c.args.server.now c.loop-input.server c.serve_input.new.server _ c.loop-input.told
-    c.as_slice.result.now (bytes_in (drop (c.loop-input.input-index + 1) c.args.inputs.now))
+    (inputs-part g.T.Turns.answers c.args.server.now c.loop-input.server c.serve_input.new.server _ c.loop-input.reported
+    c.as_slice.result.now (input_bytes (drop (c.loop-input.input-index + 1) c.args.inputs.now))
     c.loop-input.invariant c.in_err-replies.ensures.err))
 
 pub returns-in_err-push-clause-err : goal.returns-in_err-push-clause-err
@@ -20,8 +20,8 @@ returns-in_err-push-clause-err g c =
     (subst (ServesInPart g.T.Turns.answers c.args.server.now c.serve_input.new.server)
     (around (λ x. x.items) c.args.inputs.now c.loop-input.input-index c.input-item.result c.as_slice.result.now
     (omega arith) c.input-item.is c.as_slice.ensures.value)
-    (inputs-whole g.T.Turns.answers c.args.server.now c.loop-input.server c.serve_input.new.server _ c.loop-input.told
-    c.as_slice.result.now _ _ (bytes_in (drop (c.loop-input.input-index + 1) c.args.inputs.now))
+    (inputs-whole g.T.Turns.answers c.args.server.now c.loop-input.server c.serve_input.new.server _ c.loop-input.reported
+    c.as_slice.result.now _ _ (input_bytes (drop (c.loop-input.input-index + 1) c.args.inputs.now))
     c.loop-input.invariant c.in_ok-replies.ensures.ok))
 
 pub returns-in_err-push-2-clause-err : goal.returns-in_err-push-2-clause-err
@@ -30,16 +30,16 @@ returns-in_err-push-2-clause-err g c =
     (subst (ServesInPart g.T.Turns.answers c.args.server.now c.serve_input.new.server)
     (around (λ x. x.items) c.args.inputs.now c.loop-input.input-index c.input-item.result c.as_slice.result.now
     (omega arith) c.input-item.is c.as_slice.ensures.value)
-    (inputs-whole g.T.Turns.answers c.args.server.now c.loop-input.server c.serve_input.new.server _ c.loop-input.told
-    c.as_slice.result.now _ _ (bytes_in (drop (c.loop-input.input-index + 1) c.args.inputs.now))
+    (inputs-whole g.T.Turns.answers c.args.server.now c.loop-input.server c.serve_input.new.server _ c.loop-input.reported
+    c.as_slice.result.now _ _ (input_bytes (drop (c.loop-input.input-index + 1) c.args.inputs.now))
     c.loop-input.invariant c.in_ok-replies.ensures.ok))
 
 pub loop-input-preserved : goal.loop-input-preserved
 loop-input-preserved g c =
     inputs-more g.T.Turns.answers c.args.server.now c.loop-input.server c.serve_input.new.server _ _
-    c.loop-input.told _ c.as_slice.result.now c.in_ok-replies.replies.items c.in_ok-replies.end
+    c.loop-input.reported _ c.as_slice.result.now c.in_ok-replies.replies.items c.in_ok-replies.end
     (one_taken (λ x. x.items) c.args.inputs.now c.loop-input.input-index c.input-item.result c.as_slice.result.now
     (omega arith) c.input-item.is c.as_slice.ensures.value)
-    (one_pushed (λ x. x.items) c.loop-input.told.replies.items c.push.new.self.items c.in_ok-replies.replies
+    (one_pushed (λ x. x.items) c.loop-input.reported.replies.items c.push.new.self.items c.in_ok-replies.replies
     c.in_ok-push.ensures.items)
     c.in_ok-push-2.ensures.items c.loop-input.invariant c.in_ok-replies.ensures.ok

@@ -1,7 +1,7 @@
 use Rattle.std.proofs.Common.{take}
-use Rattle.bw_engine.specs.Ingesting.{ServesInputs, bytes_in}
+use Rattle.bw_engine.specs.Ingesting.{ServesInputs, input_bytes}
 use Rattle.bw_engine.proofs.ingest.serve_inputs.Given as goal
 
 abbrev pub invariant-loop-input : goal.invariant-loop-input
-invariant-loop-input g l = ServesInputs g.T.Turns.answers l.fn.server l.server (bytes_in (take l.input-index l.inputs))
-    l.told
+invariant-loop-input g l = ServesInputs g.T.Turns.answers l.fn.server l.server (input_bytes (take l.input-index l.inputs))
+    l.reported

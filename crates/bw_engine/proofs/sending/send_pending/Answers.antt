@@ -1,6 +1,6 @@
 use Rattle.std.proofs.Common.{rules, sym}
 use Rattle.std.proofs.lemmas.Result.{err_from_is_err_and}
-use Rattle.bw_engine.proofs.Batching.{none_behind, sent-more, sent-cut, sent-all}
+use Rattle.bw_engine.proofs.Batching.{none_after, sent-more, sent-cut, sent-all}
 use Rattle.bw_engine.proofs.sending.send_pending.Goals as goal
 
 pub returns-in_err-send_message-clause-err : goal.returns-in_err-send_message-clause-err
@@ -26,7 +26,7 @@ loop-place-preserved g c = record {
 pub returns-after-loop-place-clause-ok : goal.returns-after-loop-place-clause-ok
 returns-after-loop-place-clause-ok g c s is =
     let place = c.loop-place.place in
-    sent-all place s _ _ (none_behind s c.args.sender.now place is (search rules)) (c.loop-place.invariant.sent s is)
+    sent-all place s _ _ (none_after s c.args.sender.now place is (search rules)) (c.loop-place.invariant.sent s is)
 
 pub returns-in_default-clause-ok : goal.returns-in_default-clause-ok
 returns-in_default-clause-ok g c s is =

@@ -24,7 +24,7 @@ returns-then-count-eq0-clause-fed g c =
 pub returns-clause-fed : goal.returns-clause-fed
 returns-clause-fed g c =
     feeds_next _ _ _ _ _ c.in-Ok.count _ c.read.new.buf c.args.exchange.now _ c.in-Ok.ensures.ok (search rules)
-    (search rules) c.if-count-eq0.false c.in-Ok.ensures.moved c.requires.hungry c.feed_piece.ensures.fed
+    (search rules) c.if-count-eq0.false c.in-Ok.ensures.moved c.requires.wants_read c.feed_piece.ensures.fed
     c.feed_piece.ensures.end
 
 pub returns-clause-stops : goal.returns-clause-stops

@@ -17,7 +17,7 @@ pub loop-read-init : goal.loop-read-init
 loop-read-init g c = record {
   buffer = search rules;
   so_far = so_far-none g.T.Turns.answers c.args.server.now _ _ c.in-Ok.exchange c.in-Ok.ensures.fresh
-      c.in-Ok.ensures.waiting c.in-Ok.ensures.hungry;
+      c.in-Ok.ensures.waiting c.in-Ok.ensures.wants_read;
   reads = refl;
   writes = refl;
   moved = omega arith;

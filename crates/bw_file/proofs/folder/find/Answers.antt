@@ -51,9 +51,9 @@ pub returns : goal.returns
 returns g c =
     let takes = c.args.takes.now in
     let name = c.args.name.now in
-    let told = c.position.ensures.ran in
+    let reported = c.position.ensures.ran in
     let first =
-    IsFirst-from_position _ _ c.position.result (λ take. take.name ≡ name) (λ take. take.name ≡ name → ⊥) told
+    IsFirst-from_position _ _ c.position.result (λ take. take.name ≡ name) (λ take. take.name ≡ name → ⊥) reported
     (YieldsList-from_slice takes cc)
     (λ x q k. search (rules, tests, bytes_eq-Decides))
     (λ x q k. search (rules, tests, bytes_eq-Decides)) in

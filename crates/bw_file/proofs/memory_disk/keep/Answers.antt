@@ -32,7 +32,7 @@ returns-clause-unchanged c =
 
 pub returns-clause-synced : goal.returns-clause-synced
 returns-clause-synced c = record {
-  told = synced_is c
+  reported = synced_is c
       ∙ sym (content_before c.args.files.now.items c.args.path.now c.in-Some.place (old c) (new c) (is c) (was c) refl);
   others = λ other ne. ap synced_of
       (others c.args.files.now.items c.args.path.now c.in-Some.place (old c) (new c) (is c) (was c) refl other ne);

@@ -16,7 +16,7 @@ returns-then-form-bytes-clause-torn g c =
 
 pub returns-then-form-bytes-clause-put : goal.returns-then-form-bytes-clause-put
 returns-then-form-bytes-clause-put g c =
-    λ honest tail stood.
+    λ honest tail existed.
     let h = c.args.heading.now in
     let form = c.form_size-form.ensures.value in
     let small : form_size (length h.history.now) c.args.data_len c.args.cues ≤ h.limit =
@@ -24,7 +24,7 @@ returns-then-form-bytes-clause-put g c =
     let was_small : form_size (length h.history.now) c.args.data_len 0 ≤ h.limit =
     omega (arith, form_cues (length h.history.now) c.args.data_len c.args.cues, small) in
     riff_form h.format h.bext.now h.history.now h.limit c.args.data_len 0 c.args.cues _ _ tail h.widths was_small small
-    stood
+    existed
     (rw (c.to_le_bytes.ensures, form) at (c.in_ok-write_at.ensures.written honest))
 
 pub returns-clause-torn : goal.returns-clause-torn
@@ -36,14 +36,14 @@ returns-clause-torn g c =
 
 pub returns-clause-put : goal.returns-clause-put
 returns-clause-put g c =
-    λ honest tail stood.
+    λ honest tail existed.
     let h = c.args.heading.now in
     let form = c.form_size-form.ensures.value in
     let large : h.limit < form_size (length h.history.now) c.args.data_len c.args.cues =
     omega (arith, form, c.bytes.ensures.value, c.if-form-bytes.false) in
     let was_large = both_above (form_size (length h.history.now) c.args.data_len 0)
     (form_size (length h.history.now) c.args.data_len c.args.cues) h.limit c.requires.kind large in
-    bw64_form h.format h.bext.now h.history.now h.limit c.args.data_len 0 c.args.cues _ _ tail was_large large stood
+    bw64_form h.format h.bext.now h.history.now h.limit c.args.data_len 0 c.args.cues _ _ tail was_large large existed
     (rw (c.to_le_bytes-2.ensures, form) at (c.in_ok-write_at-2.ensures.written honest))
 
 pub returns-in_err-write_at-clause-begun : goal.returns-in_err-write_at-clause-begun

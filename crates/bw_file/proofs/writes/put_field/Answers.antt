@@ -45,13 +45,13 @@ returns-in_default-clause-order g c =
 
 pub returns-in_default-clause-put : goal.returns-in_default-clause-put
 returns-in_default-clause-put g c =
-    λ honest tail stood.
+    λ honest tail existed.
     let halves = two_headers c.args.heading.now c.args.retouched.now c.args.data_len c.data_place.result
     c.bytes.result.now c.split_at.result.0.now c.split_at.result.1.now
     (c.bytes.ensures ∙ c.build_headers.ensures) c.data_place.ensures.value c.split_at.ensures.front
     c.split_at.ensures.back in
     let same = c.in_default.ensures.none c.requires.field.0 (rw (halves.0, halves.1) c.requires.field.1) in
-    stood ∙ ap (λ (l : List ℕ). Some (l ++ tail)) (sym halves.0 ∙ sym same ∙ halves.1)
+    existed ∙ ap (λ (l : List ℕ). Some (l ++ tail)) (sym halves.0 ∙ sym same ∙ halves.1)
 
 pub slice_bounds-write_at-end : goal.slice_bounds-write_at-end
 slice_bounds-write_at-end g c =
@@ -112,7 +112,7 @@ returns-clause-torn g c =
 
 pub returns-clause-put : goal.returns-clause-put
 returns-clause-put g c =
-    λ honest tail stood.
+    λ honest tail existed.
     let halves = two_headers c.args.heading.now c.args.retouched.now c.args.data_len c.data_place.result
     c.bytes.result.now c.split_at.result.0.now c.split_at.result.1.now
     (c.bytes.ensures ∙ c.build_headers.ensures) c.data_place.ensures.value c.split_at.ensures.front
@@ -131,5 +131,5 @@ returns-clause-put g c =
     (omega (arith, whole, c.data_place.ensures.value, c.data_place.ensures.low, end))
     (alike_at c.requires.field.0 _ _ in_split (c.in-Some.place, c.in-Some.len)
     (c.in-Some.ensures.some c.requires.field.0 in_split))
-    (stood ∙ ap (λ (l : List ℕ). Some (l ++ tail)) (sym halves.0)) (c.in_ok-write_at.ensures.written honest)
+    (existed ∙ ap (λ (l : List ℕ). Some (l ++ tail)) (sym halves.0)) (c.in_ok-write_at.ensures.written honest)
     ∙ ap (λ (l : List ℕ). Some (l ++ tail)) halves.1

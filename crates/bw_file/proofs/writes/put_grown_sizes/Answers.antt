@@ -38,7 +38,7 @@ returns-then-form-bytes-clause-torn g c =
 
 pub returns-then-form-bytes-clause-put : goal.returns-then-form-bytes-clause-put
 returns-then-form-bytes-clause-put g c =
-    λ honest tail stood.
+    λ honest tail existed.
     let h = c.args.heading.now in
     let form = c.form_size-form.ensures.value in
     let small : form_size (length h.history.now) c.args.after 0 ≤ h.limit =
@@ -46,7 +46,7 @@ returns-then-form-bytes-clause-put g c =
     let was_small : form_size (length h.history.now) c.args.before 0 ≤ h.limit =
     omega (arith, form_grows (length h.history.now) c.args.before c.args.after c.requires.grows, small) in
     riff_sizes h.format h.bext.now h.history.now h.limit c.args.before c.args.after 0 _ _ _ tail h.widths was_small
-    small stood
+    small existed
     (rw (c.to_le_bytes.ensures, form) at (c.in_ok-write_at.ensures.written honest))
     (rw (c.to_le_bytes-then-form-bytes.ensures, c.data_place.ensures.value) at
     (c.in_ok-write_at-2.ensures.written (c.write_at.ensures.honest ∙ honest)))
@@ -66,14 +66,14 @@ returns-clause-torn g c =
 
 pub returns-clause-put : goal.returns-clause-put
 returns-clause-put g c =
-    λ honest tail stood.
+    λ honest tail existed.
     let h = c.args.heading.now in
     let form = c.form_size-form.ensures.value in
     let large : h.limit < form_size (length h.history.now) c.args.after 0 =
     omega (arith, form, c.bytes.ensures.value, c.if-form-bytes.false) in
     let was_large = both_above (form_size (length h.history.now) c.args.before 0)
     (form_size (length h.history.now) c.args.after 0) h.limit c.requires.kind large in
-    bw64_sizes h.format h.bext.now h.history.now h.limit c.args.before c.args.after 0 _ _ tail was_large large stood
+    bw64_sizes h.format h.bext.now h.history.now h.limit c.args.before c.args.after 0 _ _ tail was_large large existed
     (rw (c.patch_sizes.ensures, form) at (c.in_ok-write_at-3.ensures.written honest))
 
 pub returns-in_err-write_at-clause-begun : goal.returns-in_err-write_at-clause-begun

@@ -3,7 +3,7 @@ use Rattle.std.proofs.lemmas.Result.{err_from_is_err_and}
 use Rattle.bw_model.specs.Reading as reading
 use Rattle.bw_model.specs.Report as report
 use Rattle.bw_layout.specs.Raw.{bext_at}
-use Rattle.bw_inspect.proofs.Contents.{bext_front}
+use Rattle.bw_inspect.proofs.Contents.{bext_prefix}
 use Rattle.bw_inspect.proofs.content.read_bext_chunk.Goals as goal
 
 pub returns-in_err-pass_rest-clause-consumed : goal.returns-in_err-pass_rest-clause-consumed
@@ -31,10 +31,10 @@ pub returns-clause-ok : goal.returns-clause-ok
 returns-clause-ok g c b r =
     let p = c.in_ok-read_part.ensures.ok b r in
     let content = report.content_of b (Some c.args.entry) in
-    let told : c.in-Ok.fields ≡ bext_at content = c.in-Ok.ensures.1 ∙ (ap bext_at p.bytes ∙ bext_front content) in
+    let reported : c.in-Ok.fields ≡ bext_at content = c.in-Ok.ensures.1 ∙ (ap bext_at p.bytes ∙ bext_prefix content) in
     let size : c.entry-2.inside.size - 602 ≡ c.args.entry.size - 602 =
     ap (λ (e : reading.Entry). e.size - 602) c.entry-2.view_is in (
       c.in_ok-pass_rest.ensures.ok b p.to,
-      ap (λ (x : report.RawBext × List ℕ). (x, c.entry-2.inside.size - 602)) told
+      ap (λ (x : report.RawBext × List ℕ). (x, c.entry-2.inside.size - 602)) reported
           ∙ ap (λ (n : ℕ). (bext_at content, n)) size,
     )

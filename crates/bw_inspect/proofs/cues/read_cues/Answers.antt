@@ -23,7 +23,7 @@ returns-clause-ok g c b r =
     record {
       free = rows_free b c.args.entry 4 65536 24 reading.BadCue c.in_ok-count.count _ x.count c.requires.long to.there
           c.in_ok-count.ensures.few c.in_ok-count.ensures.fits;
-      told = c.new.ensures ∙ (rows.rows_are
+      reported = c.new.ensures ∙ (rows.rows_are
           ∙ (rows_points content 4 c.in_ok-count.count ∙ ap (raw_cues content 4) x.count));
       to = to;
     }

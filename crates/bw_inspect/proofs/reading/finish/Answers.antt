@@ -4,7 +4,7 @@ use Rattle.bw_inspect.specs.declared.walk.Samples.{Samples}
 use Rattle.bw_inspect.specs.Known.{bext_kept, facts_of}
 use Rattle.bw_inspect.specs.Walks.{form_by, seen_by}
 use Rattle.bw_inspect.specs.Reports.{bext_by}
-use Rattle.bw_inspect.proofs.Finish.{finished, kept, maps, reserved_told, shown}
+use Rattle.bw_inspect.proofs.Finish.{finished, kept, maps, reserved_reported, shown}
 use Rattle.bw_inspect.proofs.reading.finish.Goals as goal
 
 pub returns-clause-ok : goal.returns-clause-ok
@@ -17,5 +17,5 @@ returns-clause-ok c b e =
     (sym (maps shown bext_kept c.args.walk.known.bext)) c.new.ensures e
     c.in-Some.is samples cues in
     let reserved = sym (maps kept bext_kept c.args.walk.known.bext)
-    ∙ reserved_told b (seen_by c.args.walk) (facts_of c.args.walk.known) e in
-    record { tells = f.tells; reserved = reserved; free = f.free }
+    ∙ reserved_reported b (seen_by c.args.walk) (facts_of c.args.walk.known) e in
+    record { reports = f.reports; reserved = reserved; free = f.free }

@@ -1,6 +1,6 @@
 use Rattle.std.proofs.Common.{◌∙◌, arith}
 use Rattle.std.proofs.lemmas.Result.{err_from_is_err_and, IfOk-weaker}
-use Rattle.bw_inspect.proofs.Whole.{outside_refused, step_refused, end_refused, refused_outside, told, err_both}
+use Rattle.bw_inspect.proofs.Whole.{outside_refused, step_refused, end_refused, refused_outside, reported, err_both}
 use Rattle.bw_inspect.proofs.reading.inspect.Goals as goal
 
 pub returns-in_err-form-clause-err : goal.returns-in_err-form-clause-err
@@ -45,7 +45,7 @@ pub returns-clause-ok : goal.returns-clause-ok
 returns-clause-ok g c = IfOk-weaker c.finish.result _ _ (λ r h b e.
     let s = c.loop-walk.invariant.begins b e in
     let k = c.in_ok-next_chunk.ensures.ok b s.stands in
-    told b c.in_ok-form.form c.next_chunk.new.walk r _ c.in_ok-form.ensures.size
+    reported b c.in_ok-form.form c.next_chunk.new.walk r _ c.in_ok-form.ensures.size
     (record { header = s.header; stands = k.stands }) (k.ends c.if-branch.false) (h b k.stands.facts))
     c.finish.ensures.ok
 

@@ -13,9 +13,9 @@ returns-in_err-row-clause-err g c =
     rw (p.1, p.2) (λ b r.
     let same = c.loop-done.invariant.entry in
     let h = c.loop-done.invariant.rows b r in
-    cut_any b _ c.args.entry (HasGrown b (c.args.entry.place + 8 + c.args.front) g.T.Row.WIDTH c.args.count) _ _ same
+    cut_any b _ c.args.entry (HasGrown b (c.args.entry.place + 8 + c.args.prefix) g.T.Row.WIDTH c.args.count) _ _ same
     (c.in_err-row.ensures.err b
-    (stands_at b c.args.entry _ c.args.front _ _ c.loop-done.done _ c.WIDTH.ensures same h.to)))
+    (stands_at b c.args.entry _ c.args.prefix _ _ c.loop-done.done _ c.WIDTH.ensures same h.to)))
 
 pub returns-in_default-clause-err : goal.returns-in_default-clause-err
 returns-in_default-clause-err g c b r =
@@ -23,14 +23,14 @@ returns-in_default-clause-err g c b r =
     let h = c.loop-done.invariant.rows b r in
     let done = c.loop-done.done in
     let width = g.T.Row.WIDTH in
-    let k = row_at g.T.Row.told b c.args.entry _ c.args.front width _ done _ _ c.WIDTH.ensures same
-    (c.in_ok-row.ensures.ok b (stands_at b c.args.entry _ c.args.front _ _ done _ c.WIDTH.ensures same h.to)) in
+    let k = row_at g.T.Row.reported b c.args.entry _ c.args.prefix width _ done _ _ c.WIDTH.ensures same
+    (c.in_ok-row.ensures.ok b (stands_at b c.args.entry _ c.args.prefix _ _ done _ c.WIDTH.ensures same h.to)) in
     let place : c.entry.inside.place ≡ c.args.entry.place =
     ap (λ (e : reading.Entry). e.place) (c.entry.view_is ∙ same) in
-    row_refused b c.args.entry c.args.front width done c.args.count _ _
+    row_refused b c.args.entry c.args.prefix width done c.args.count _ _
     (subst (λ (n : ℕ). ReadTo b c.args.entry n (g.R.Source.left c.read_next.new.reader))
-    (row_end c.args.front width done) k.to)
-    (omega arith) (row_fits c.args.front width done c.args.count c.args.entry.size (omega arith) c.requires.fits)
+    (row_end c.args.prefix width done) k.to)
+    (omega arith) (row_fits c.args.prefix width done c.args.count c.args.entry.size (omega arith) c.requires.fits)
     (c.fault_at.ensures ∙ rw place refl)
 
 pub loop-done-preserved : goal.loop-done-preserved
@@ -48,9 +48,9 @@ loop-done-preserved g c = record {
       let same = c.loop-done.invariant.entry in
       let h = c.loop-done.invariant.rows b r in
       let done = c.loop-done.done in
-      more_rows g.T.Row.told g.T.Row.WIDTH b c.args.entry c.args.front done c.loop-done.rows.items
+      more_rows g.T.Row.reported g.T.Row.WIDTH b c.args.entry c.args.prefix done c.loop-done.rows.items
       c.push.new.self.items c.in_ok-row.row _ _ h
-      (row_at g.T.Row.told b c.args.entry _ c.args.front g.T.Row.WIDTH _ done _ _ c.WIDTH.ensures same
-      (c.in_ok-row.ensures.ok b (stands_at b c.args.entry _ c.args.front _ _ done _ c.WIDTH.ensures same h.to)))
+      (row_at g.T.Row.reported b c.args.entry _ c.args.prefix g.T.Row.WIDTH _ done _ _ c.WIDTH.ensures same
+      (c.in_ok-row.ensures.ok b (stands_at b c.args.entry _ c.args.prefix _ _ done _ c.WIDTH.ensures same h.to)))
       c.in-Ok.ensures.items;
 }

@@ -9,6 +9,6 @@ invariant-loop-done g l = record {
   all : length l.rows.items ≡ l.done;
   count : g.R.Source.failures l.reader ≡ g.R.Source.failures l.fn.reader;
   moved : g.R.Source.moved l.reader ≤ g.R.Source.moved l.fn.reader + g.T.Row.WIDTH * l.done;
-  rows : (b : List ℕ) → ReadTo b l.fn.entry l.fn.front (g.R.Source.left l.fn.reader) →
-      HasRows g.T.Row.told g.T.Row.WIDTH b l.fn.entry l.fn.front l.done l.rows.items (g.R.Source.left l.reader);
+  rows : (b : List ℕ) → ReadTo b l.fn.entry l.fn.prefix (g.R.Source.left l.fn.reader) →
+      HasRows g.T.Row.reported g.T.Row.WIDTH b l.fn.entry l.fn.prefix l.done l.rows.items (g.R.Source.left l.reader);
 }

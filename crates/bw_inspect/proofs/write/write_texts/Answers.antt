@@ -1,5 +1,5 @@
 use Rattle.bw_layout.proofs.Exits.{on_err}
-use Rattle.bw_inspect.proofs.Writing.{begins_before, begins_behind, writes_behind, writes_none}
+use Rattle.bw_inspect.proofs.Writing.{begins_before, begins_after, writes_after, writes_none}
 use Rattle.bw_inspect.proofs.write.write_texts.Goals as goal
 
 pub returns-in_err-write_line-clause-err : goal.returns-in_err-write_line-clause-err
@@ -12,7 +12,7 @@ returns-in_err-write_line-2-clause-err g c =
     let ok1 = rw c.make_text_line.ensures at c.in_ok-write_line.ensures.ok in
     let err = rw c.make_text_line-2.ensures at c.in_err-write_line-2.ensures.err in
     on_err c.from_residual-in_err-write_line-2.result _
-    (rw (← c.fields.view_is) (begins_behind _ _ ok1 (begins_before _ _ err)))
+    (rw (← c.fields.view_is) (begins_after _ _ ok1 (begins_before _ _ err)))
 
 pub returns-in_err-write_line-3-clause-err : goal.returns-in_err-write_line-3-clause-err
 returns-in_err-write_line-3-clause-err g c =
@@ -20,7 +20,7 @@ returns-in_err-write_line-3-clause-err g c =
     let ok2 = rw c.make_text_line-2.ensures at c.in_ok-write_line-2.ensures.ok in
     let err = rw c.make_text_line-3.ensures at c.in_err-write_line-3.ensures.err in
     on_err c.from_residual-in_err-write_line-3.result _
-    (rw (← c.fields.view_is) (begins_behind _ _ ok1 (begins_behind _ _ ok2 (begins_before _ _ err))))
+    (rw (← c.fields.view_is) (begins_after _ _ ok1 (begins_after _ _ ok2 (begins_before _ _ err))))
 
 pub returns-in_err-write_line-4-clause-err : goal.returns-in_err-write_line-4-clause-err
 returns-in_err-write_line-4-clause-err g c =
@@ -30,7 +30,7 @@ returns-in_err-write_line-4-clause-err g c =
     let err = rw c.make_text_line-4.ensures at c.in_err-write_line-4.ensures.err in
     on_err c.from_residual-in_err-write_line-4.result _
     (rw (← c.fields.view_is)
-    (begins_behind _ _ ok1 (begins_behind _ _ ok2 (begins_behind _ _ ok3 (begins_before _ _ err)))))
+    (begins_after _ _ ok1 (begins_after _ _ ok2 (begins_after _ _ ok3 (begins_before _ _ err)))))
 
 pub returns-in_err-write_line-5-clause-err : goal.returns-in_err-write_line-5-clause-err
 returns-in_err-write_line-5-clause-err g c =
@@ -41,8 +41,8 @@ returns-in_err-write_line-5-clause-err g c =
     let err = rw c.make_text_line-5.ensures at c.in_err-write_line-5.ensures.err in
     on_err c.from_residual-in_err-write_line-5.result _
     (rw (← c.fields.view_is)
-    (begins_behind _ _ ok1 (begins_behind _ _ ok2
-    (begins_behind _ _ ok3 (begins_behind _ _ ok4 (begins_before _ _ err))))))
+    (begins_after _ _ ok1 (begins_after _ _ ok2
+    (begins_after _ _ ok3 (begins_after _ _ ok4 (begins_before _ _ err))))))
 
 pub returns-clause-ok : goal.returns-clause-ok
 returns-clause-ok g c =
@@ -52,5 +52,5 @@ returns-clause-ok g c =
     let ok4 = rw c.make_text_line-4.ensures at c.in_ok-write_line-4.ensures.ok in
     let ok5 = rw c.make_text_line-5.ensures at c.in_ok-write_line-5.ensures.ok in
     rw (← c.fields.view_is)
-    (writes_behind _ _ ok1 (writes_behind _ _ ok2
-    (writes_behind _ _ ok3 (writes_behind _ _ ok4 (writes_behind _ _ ok5 writes_none)))))
+    (writes_after _ _ ok1 (writes_after _ _ ok2
+    (writes_after _ _ ok3 (writes_after _ _ ok4 (writes_after _ _ ok5 writes_none)))))

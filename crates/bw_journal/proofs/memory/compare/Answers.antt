@@ -8,4 +8,4 @@ pub returns-else-is_torn-clause-stands : goal.returns-else-is_torn-clause-stands
 returns-else-is_torn-clause-stands c = λ begins.
     begins_not c.args.header.now c.in-Some.content.now
     (subst (BeginsWith c.args.header.now) (ap option_copied c.in-Some.is) begins)
-    (sym c.has_front_of.ensures ∙ c.if-has_front_of.false)
+    (sym c.has_prefix_of.ensures ∙ c.if-has_prefix_of.false)

@@ -8,8 +8,8 @@ use Rattle.bw_journal.proofs.memory.start.Goals as goal
 pub returns-in-Whole-clause-begun : goal.returns-in-Whole-clause-begun
 returns-in-Whole-clause-begun c = grind (arith, common_steps)
 
-pub returns-in-Front-clause-begun : goal.returns-in-Front-clause-begun
-returns-in-Front-clause-begun c =
+pub returns-in-Prefix-clause-begun : goal.returns-in-Prefix-clause-begun
+returns-in-Prefix-clause-begun c =
     let short : IsShortOf c.args.header.now (content_of c.args.notes.now c.args.name.now) = search rules in
     let put : content_of c.put.new.notes c.args.name.now ≡ Some c.args.header.now →
     Starts c.args.header.now (content_of c.args.notes.now c.args.name.now)

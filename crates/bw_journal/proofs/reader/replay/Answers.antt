@@ -8,7 +8,7 @@ use Rattle.bw_journal.proofs.reader.replay.Goals as goal
 
 pub returns-in-Some-tail_fault-clause-err : goal.returns-in-Some-tail_fault-clause-err
 returns-in-Some-tail_fault-clause-err c = λ f e.
-    refused_tail c.args.limit c.args.bytes.now (header_found (c.in-Some.found, c.in-Some.stood))
+    refused_tail c.args.limit c.args.bytes.now (header_found (c.in-Some.found, c.in-Some.existed))
     (story_of c.in_ok-replayed.replayed) f c.in-Some.ensures.value (omega arith) c.in_ok-replayed.ensures.ok
     (ap tail_fault (sym (take_rest c.args.bytes.now c.in_ok-replayed.replayed.used))
     ∙ sym c.in-Some-tail_fault.ensures.some ∙ e)

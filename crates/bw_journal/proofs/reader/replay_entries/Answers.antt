@@ -12,7 +12,7 @@ loop-step-init c =
     let none : c.unopened-state.result.parts.samples_len ≡ 0 =
     ap (λ (p : Parts). p.samples_len) c.unopened-state.ensures in
     record {
-      known = begins (length c.args.bytes.now - 0) 19 c.args.stood c.args.bytes.now c.unopened-state.result.parts
+      known = begins (length c.args.bytes.now - 0) 19 c.args.existed c.args.bytes.now c.unopened-state.result.parts
           c.new-table.result.items (omega arith) refl c.unopened-state.ensures c.new-table.ensures.items;
       samples = omega arith;
       within = omega arith;

@@ -8,7 +8,7 @@ abbrev pub invariant-loop-step : goal.invariant-loop-step
 invariant-loop-step l = record {
   known : replayed (length l.bytes - l._step) l.bytes
       (record { parts = l.state.parts; table = l.table.items; used = l.used })
-      ≡ replayed_entries l.stood l.bytes;
+      ≡ replayed_entries l.existed l.bytes;
   samples : l.state.parts.samples_len ≤ longest_block * l._step;
   within : l.used ≤ length l.bytes;
   zeros : l.zeros.items ≡ zero_bytes longest_block;

@@ -5,7 +5,7 @@ use Rattle.bw_model.proofs.HeldFiles.{held_files}
 use Rattle.bw_session.specs.Servers.{kept_in}
 use Rattle.bw_store.specs.Memory.{content_under}
 use Rattle.bw_rehearsal.specs.Rehearsing.{LeadsTo, no_contents}
-use Rattle.bw_rehearsal.specs.Staged.{failures_on}
+use Rattle.bw_rehearsal.specs.Simulated.{failures_on}
 use Rattle.bw_rehearsal.specs.declared.event.Event.{Event}
 use Rattle.bw_rehearsal.proofs.Schedules.{leads_on}
 use Rattle.bw_rehearsal.proofs.Staging.{frames_len, replies_len}
@@ -16,9 +16,9 @@ loop-event-preserved c =
     let i = c.loop-event.invariant in
     let p = c.in_ok-play.ensures.ok c.args.limit i.0 i.2 in (
       _,
-      leads_on c.args.name c.args.events.now c.loop-event.event-index c.event-item.result i.0 p.luck _ _ (omega arith)
-          c.event-item.is p.luck_is i.1,
-      p.staged,
+      leads_on c.args.name c.args.events.now c.loop-event.event-index c.event-item.result i.0 p.faults _ _ (omega arith)
+          c.event-item.is p.faults_are i.1,
+      p.simulated,
     )
 
 pub returns : goal.returns
@@ -26,19 +26,19 @@ returns c =
     let i = c.loop-event.invariant in
     let k = i.2 in
     let w = i.0 in
-    let store = c.loop-event.stage.server.stores.store in
+    let store = c.loop-event.simulation.server.stores.store in
     record {
       world = w;
-      led = subst (λ (es : List Event). LeadsTo c.args.name es (failures_on c.loop-event.stage) w)
+      led = subst (λ (es : List Event). LeadsTo c.args.name es (failures_on c.loop-event.simulation) w)
           (take_all c.loop-event.event-index c.args.events.now (omega arith)) i.1;
       offered = k.offered;
-      sent = c.len.ensures ∙ c.loop-event.stage.sent.ok.0 ∙ frames_len w.sent _ k.sent;
-      replies = c.len-2.ensures ∙ c.loop-event.stage.replies.ok.0 ∙ replies_len _ w.replies k.replies;
+      sent = c.len.ensures ∙ c.loop-event.simulation.sent.ok.0 ∙ frames_len w.sent _ k.sent;
+      replies = c.len-2.ensures ∙ c.loop-event.simulation.replies.ok.0 ∙ replies_len _ w.replies k.replies;
       sender = k.sender;
       limited = k.limited;
       held = k.held;
-      files = λ name which. held_files c.loop-event.stage.server.limit
+      files = λ name which. held_files c.loop-event.simulation.server.limit
           (record { contents = content_under store.files; first = no_contents; honest = true })
-          (kept_in c.loop-event.stage.server.sessions) w.book k.held refl name which
+          (kept_in c.loop-event.simulation.server.sessions) w.book k.held refl name which
           ∙ ap (λ (n : ℕ). content_in no_contents n w.book name) k.limited;
     }

@@ -1,10 +1,10 @@
 use Rattle.std.proofs.Common.{take}
 use Rattle.bw_model.specs.World.{World}
 use Rattle.bw_rehearsal.specs.Rehearsing.{LeadsTo}
-use Rattle.bw_rehearsal.specs.Staged.{IsStaged, failures_on}
+use Rattle.bw_rehearsal.specs.Simulated.{IsSimulated, failures_on}
 use Rattle.bw_rehearsal.proofs.rehearsal.rehearse.Given as goal
 
 abbrev pub invariant-loop-event : goal.invariant-loop-event
 invariant-loop-event l =
-    (world : World) × LeadsTo l.fn.name (take l.event-index l.events) (failures_on l.stage) world
-    × IsStaged l.fn.limit world l.stage
+    (world : World) × LeadsTo l.fn.name (take l.event-index l.events) (failures_on l.simulation) world
+    × IsSimulated l.fn.limit world l.simulation

@@ -5,9 +5,9 @@ use Rattle.bw_send.proofs.offering.offer_next.Goals as goal
 pub returns-in-Ok-clause-offered : goal.returns-in-Ok-clause-offered
 returns-in-Ok-clause-offered c = λ x k.
     let copied = c.in_ok-copy.ensures.ok ∙ c.as_ref.ensures.same in
-    let took = c.in-Ok.ensures.ok x.sender k.sender in
+    let consumed = c.in-Ok.ensures.ok x.sender k.sender in
     next_taken x c.in_ok-copy.copy c.args.request.now c.args.dispatch.now c.offer.new.self copied k
-    c.requires.goes_on took.1 took.2
+    c.requires.goes_on consumed.1 consumed.2
 
 pub returns-in_ok-dispatch-in-Err-clause-offered : goal.returns-in_ok-dispatch-in-Err-clause-offered
 returns-in_ok-dispatch-in-Err-clause-offered c = λ x k.

@@ -12,7 +12,7 @@ returns g c = λ s is.
       inr (record {
         counted = c.in-Ok.ensures.count;
         link = c.in-Ok.link;
-        called = c.in-Ok.ensures.came;
+        called = c.in-Ok.ensures.received;
         next = c.in-Ok.ensures.ok;
         exchange = record {
           result = c.send_exchange-ended.result;

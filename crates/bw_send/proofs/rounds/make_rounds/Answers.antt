@@ -3,7 +3,7 @@ use Rattle.std.proofs.lemmas.List.{length-append}
 use Rattle.bw_send.specs.SendState.{hear_in, offer_more}
 use Rattle.bw_send.proofs.OfferSteps.{more_keeps}
 use Rattle.bw_send.proofs.RoundSteps.{heard_dispatch, one_round, settled, unsettled}
-use Rattle.bw_send.proofs.ToldLinks.{rounds_told}
+use Rattle.bw_send.proofs.ReportedLinks.{rounds_reported}
 use Rattle.bw_send.proofs.rounds.make_rounds.Goals as goal
 
 pub loop-round-init : goal.loop-round-init
@@ -36,9 +36,9 @@ returns-then-is_none g c = λ x k from.
       offered,
       record {
         heard = o.heard;
-        behind = o.y;
+        following = o.y;
         went = o.went;
-        told = rounds_told _ _ _ x o.heard o.y _ _ o.went;
+        reported = rounds_reported _ _ _ x o.heard o.y _ _ o.went;
         ends = inr (
           before,
           refl,
@@ -55,5 +55,5 @@ returns g c = λ x k from.
     let past = c.loop-round-test.false in
     let within = c.loop-round.auto.round-end in
     omega (arith, e, past, within) in
-    let told = rounds_told _ _ _ x o.heard o.y _ _ o.went in
-    (o.y, o.is, record { heard = o.heard; behind = o.y; went = o.went; told = told; ends = inl (all, refl) })
+    let reported = rounds_reported _ _ _ x o.heard o.y _ _ o.went in
+    (o.y, o.is, record { heard = o.heard; following = o.y; went = o.went; reported = reported; ends = inl (all, refl) })

@@ -2,8 +2,8 @@ use Rattle.std.proofs.Common.{◌∙◌, ap, length, refl, sym, subst}
 use Rattle.std.proofs.lemmas.Result.{err_from_is_err_and}
 use Rattle.bw_console.specs.Printing.{Nothing, Whole, Part}
 use Rattle.bw_send.specs.RequestLines.{AreRequestsOf}
-use Rattle.bw_send.specs.SendState.{OffersInOrder, exit_for}
-use Rattle.bw_send.proofs.InOrder.{done_stored, made_front}
+use Rattle.bw_send.specs.SendState.{OffersInOrder, exit_for_sender}
+use Rattle.bw_send.proofs.InOrder.{done_stored, made_prefix}
 use Rattle.bw_send.proofs.RoundSteps.{refuses_send, rounds_keep}
 use Rattle.bw_send.proofs.sending.send.Goals as goal
 
@@ -14,14 +14,14 @@ returns-in-Ok-clause-prints g c =
     let exit_is = c.exit_after.ensures sent.0 sent.1
     (c.len.ensures ∙ sym c.as_slice.ensures.len ∙ ap length (sym kept)) in
     let ordered : OffersInOrder sent.0 = record {
-      front = made_front _ _ _ c.args.name c.as_slice.result.now c.args.rounds sent.0 _ _ sent.2;
+      prefix = made_prefix _ _ _ c.args.name c.as_slice.result.now c.args.rounds sent.0 _ _ sent.2;
       within = sent.1.sender.within;
     } in (
       Whole c.as_slice-2.result.now,
       record {
         requests = c.as_slice.result.now;
-        said = λ xs told. subst (AreRequestsOf xs) (sym c.as_slice.ensures.value)
-            (c.in_ok-requests.ensures.ok xs told);
+        said = λ xs reported. subst (AreRequestsOf xs) (sym c.as_slice.ensures.value)
+            (c.in_ok-requests.ensures.ok xs reported);
         last = sent.0;
         went = sent.2;
         is = ap Whole (c.as_slice-2.ensures.value ∙ c.in_ok-text.ensures sent.0.sender sent.1.sender);
@@ -36,16 +36,16 @@ pub returns-clause-prints : goal.returns-clause-prints
 returns-clause-prints g c =
     let sent = c.in_ok-dispatch.ensures in
     let ordered : OffersInOrder sent.0 = record {
-      front = made_front _ _ _ c.args.name c.as_slice.result.now c.args.rounds sent.0 _ _ sent.2;
+      prefix = made_prefix _ _ _ c.args.name c.as_slice.result.now c.args.rounds sent.0 _ _ sent.2;
       within = sent.1.sender.within;
     } in (
       Part c.as_slice-2.result.now,
       (
-        exit_for sent.0,
+        exit_for_sender sent.0,
         record {
           requests = c.as_slice.result.now;
-          said = λ xs told. subst (AreRequestsOf xs) (sym c.as_slice.ensures.value)
-              (c.in_ok-requests.ensures.ok xs told);
+          said = λ xs reported. subst (AreRequestsOf xs) (sym c.as_slice.ensures.value)
+              (c.in_ok-requests.ensures.ok xs reported);
           last = sent.0;
           went = sent.2;
           is = ap Part (c.as_slice-2.ensures.value ∙ c.in_ok-text.ensures sent.0.sender sent.1.sender);

@@ -6,12 +6,12 @@ pub returns-in-Ok-clause-did : goal.returns-in-Ok-clause-did
 returns-in-Ok-clause-did g c =
     let exit = c.in-Ok.exit in
     let p = c.in-Ok.ensures.prints in
-    let l = c.tell_of_exit.ensures.told in (
+    let l = c.report_of_exit.ensures.reported in (
       record { reads_all = true; out = p.0; faults = l.0; exit = exit },
-      sym c.tell_of_exit.ensures.exit,
-      record { outcome = Ok exit; exit_is = refl; reads = refl; prints = p.1; tells = l.1 },
+      sym c.report_of_exit.ensures.exit,
+      record { outcome = Ok exit; exit_is = refl; reads = refl; prints = p.1; reports = l.1 },
       c.in-Ok.ensures.count,
-      record { printed = p.2; told = l.2 },
+      record { printed = p.2; reported = l.2 },
     )
 
 pub returns-in-Err-clause-did : goal.returns-in-Err-clause-did
@@ -21,7 +21,7 @@ returns-in-Err-clause-did g c =
     let l = c.give_up.ensures.line in (
       record { reads_all = is_readable fault; out = p.0; faults = l.0; exit = exit_on fault },
       sym c.give_up.ensures.exit,
-      record { outcome = Err fault; exit_is = refl; reads = refl; prints = p.1; tells = l.1 },
+      record { outcome = Err fault; exit_is = refl; reads = refl; prints = p.1; reports = l.1 },
       c.in-Err.ensures.count,
-      record { printed = p.2; told = l.2 },
+      record { printed = p.2; reported = l.2 },
     )

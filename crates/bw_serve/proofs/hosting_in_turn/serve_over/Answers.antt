@@ -13,7 +13,7 @@ returns g c =
       store_is = c.in-Ok.ensures.store;
       limit_is = c.in-Ok.ensures.limit;
       new = c.in-Ok.ensures.book;
-      behind = _;
+      following = _;
       between = _;
       listens = rw line at c.in-Ok-print.ensures.ok;
       ended = c.serve_run-exit.result;
@@ -23,5 +23,5 @@ returns g c =
           g.E.Sink c.args.serving.now.log c.args.serving.now.limit c.args.store c.in-Ok.server _
           c.args.serving.now.exchanges c.serve_run-exit.result _ _ _ _ _ _ c.in-Ok.ensures.store
           c.in-Ok.ensures.limit c.in-Ok.ensures.book run;
-      tells = c.tell_end.ensures;
+      reports = c.report_end.ensures;
     })

@@ -1,6 +1,6 @@
 use Rattle.std.proofs.Common.{[], refl}
 use Rattle.bw_engine.proofs.StoreRuns.{leaves_run}
-use Rattle.bw_many.specs.Keeping.{all_answered}
+use Rattle.bw_connections.specs.Keeping.{all_answered}
 use Rattle.bw_serve.proofs.laws.law_names.Goals as goal
 
 pub returns : goal.returns
@@ -10,8 +10,8 @@ returns g c limit before old new trace honest begun limited empty answers =
     let run = c.law_runs.ensures.runs _ _ _ [] leaves.book (all_answered trace) leaves.run in
     record {
       leaves = leaves;
-      came = run.came;
+      received = run.received;
       answers = run.answers;
       left = run.left;
-      each = λ name. c.law_isolation.ensures _ name run.came;
+      each = λ name. c.law_isolation.ensures _ name run.received;
     }

@@ -1,23 +1,23 @@
 use Rattle.std.proofs.Common.{◌≡◌, ◌≤◌, ℕ, [], ap, refl, sym, subst, ◌∙◌}
-use Rattle.bw_many.specs.Places.{count_of}
-use Rattle.bw_serve.proofs.Growing.{grown_seats, grows_still, turn_begun, turn_seats}
+use Rattle.bw_connections.specs.Places.{connection_count}
+use Rattle.bw_serve.proofs.Growing.{grown_peer_slots, grows_still, turn_begun, turn_peer_slots}
 use Rattle.bw_layout.proofs.Exits.{on_err}
-use Rattle.bw_serve.specs.Crowds.{InTurn, LetsIn}
+use Rattle.bw_serve.specs.EventLoops.{InTurn, LetsIn}
 use Rattle.bw_serve.specs.Rounds.{IsShut, patience_of}
 use Rattle.bw_serve.proofs.Noticing.{all_still, wakes_none}
-use Rattle.bw_serve.proofs.Rounds.{welcomes_behind, welcomes_none}
+use Rattle.bw_serve.proofs.Rounds.{welcomes_after, welcomes_none}
 use Rattle.bw_serve.proofs.serving.serve_round.Goals as goal
 
 pub returns-in_default-clause-shut : goal.returns-in_default-clause-shut
 returns-in_default-clause-shut g c = record {
-  noticed = c.args.crowd.now;
-  notices = record { grows = grows_still g.B.Link.Link c.args.crowd.now; begun = refl; refused = refl };
-  told = [];
-  wakes = wakes_none c.args.crowd.now;
-  grows = grows_still g.B.Link.Link c.args.crowd.now;
+  noticed = c.args.event_loop.now;
+  notices = record { grows = grows_still g.B.Link.Link c.args.event_loop.now; begun = refl; refused = refl };
+  reported = [];
+  wakes = wakes_none c.args.event_loop.now;
+  grows = grows_still g.B.Link.Link c.args.event_loop.now;
   now = 0;
-  welcomes = welcomes_behind g.B.Lobby 0 0 c.args.lobby.now c.wait.new.self c.wait.new.self c.args.crowd.now
-      c.args.crowd.now refl c.wait.ensures.admitted (welcomes_none g.B.Lobby 0 c.wait.new.self c.args.crowd.now);
+  welcomes = welcomes_after g.B.Reactor 0 0 c.args.reactor.now c.wait.new.self c.wait.new.self c.args.event_loop.now
+      c.args.event_loop.now refl c.wait.ensures.admitted (welcomes_none g.B.Reactor 0 c.wait.new.self c.args.event_loop.now);
   server = refl;
   printed = refl;
   logged = refl;
@@ -25,17 +25,17 @@ returns-in_default-clause-shut g c = record {
 
 pub returns-in_err-welcome-clause-shut : goal.returns-in_err-welcome-clause-shut
 returns-in_err-welcome-clause-shut g c =
-    let shut : IsShut g.B.Lobby g.B.Link.Link c.args.crowd.now c.welcome.new.self c.args.server.now.server
-    c.args.server.now.server c.args.lobby.now c.welcome.new.lobby c.args.out.now c.args.out.now c.args.faults.now
+    let shut : IsShut g.B.Reactor g.B.Link.Link c.args.event_loop.now c.welcome.new.self c.args.server.now.server
+    c.args.server.now.server c.args.reactor.now c.welcome.new.reactor c.args.out.now c.args.out.now c.args.faults.now
     c.args.faults.now = record {
       noticed = c.notice.new.self;
       notices = c.notice.ensures.stays;
-      told = c.notice.ensures.notices.0.told;
+      reported = c.notice.ensures.notices.0.reported;
       wakes = c.notice.ensures.notices.0.each;
       grows = c.welcome.ensures.grows;
       now = c.now-now.result;
-      welcomes = welcomes_behind g.B.Lobby c.now-now.result c.now-now.result c.args.lobby.now c.now-now.new.self
-          c.welcome.new.lobby c.notice.new.self c.welcome.new.self refl (λ xs was. c.now-now.ensures.admitted xs
+      welcomes = welcomes_after g.B.Reactor c.now-now.result c.now-now.result c.args.reactor.now c.now-now.new.self
+          c.welcome.new.reactor c.notice.new.self c.welcome.new.self refl (λ xs was. c.now-now.ensures.admitted xs
           (c.notice.ensures.admitted xs (c.wait.ensures.admitted xs was))) c.welcome.ensures.welcomes;
       server = refl;
       printed = refl;
@@ -46,7 +46,7 @@ returns-in_err-welcome-clause-shut g c =
 pub returns-clause-round : goal.returns-clause-round
 returns-clause-round g c =
     let e = c.serve_each in
-    let at : c.now-now.result ≡ g.B.Lobby.time c.welcome.new.lobby =
+    let at : c.now-now.result ≡ g.B.Reactor.time c.welcome.new.reactor =
     c.now-now.ensures.time ∙ sym c.welcome.ensures.time in
     record {
       waited = c.welcome.ensures.waits ∙ (c.now-now.ensures.waits ∙ (c.notice.ensures.waits ∙ c.in-Ok.ensures.waits));
@@ -54,22 +54,22 @@ returns-clause-round g c =
           ∙ (c.in-Ok.ensures.patience ∙ (c.patience.ensures ∙ ap patience_of c.can_go_on.ensures))));
       noticed = c.notice.new.self;
       notices = c.notice.ensures.stays;
-      links = c.notice.ensures.notices.0.told;
-      were_told = c.welcome.ensures.told _ (c.now-now.ensures.told _ (c.notice.ensures.notices.0.more []
-          c.in-Ok.ensures.told));
-      all = all_still c.args.crowd.now c.notice.ensures.notices.0.told
-          (λ all. c.welcome.ensures.all_told (c.now-now.ensures.all_told all)) c.notice.ensures.notices.1;
+      links = c.notice.ensures.notices.0.reported;
+      were_reported = c.welcome.ensures.reported _ (c.now-now.ensures.reported _ (c.notice.ensures.notices.0.more []
+          c.in-Ok.ensures.reported));
+      all = all_still c.args.event_loop.now c.notice.ensures.notices.0.reported
+          (λ all. c.welcome.ensures.all_reported (c.now-now.ensures.all_reported all)) c.notice.ensures.notices.1;
       wakes = c.notice.ensures.notices.0.each;
       between = c.welcome.new.self;
       grows = c.welcome.ensures.grows;
       lets_in = subst (λ (now : ℕ). LetsIn now c.notice.new.self c.welcome.new.self) at c.welcome.ensures.lets_in;
-      welcomes = welcomes_behind g.B.Lobby c.now-now.result (g.B.Lobby.time c.welcome.new.lobby) c.args.lobby.now
-          c.now-now.new.self c.welcome.new.lobby c.notice.new.self c.welcome.new.self at (λ xs was.
+      welcomes = welcomes_after g.B.Reactor c.now-now.result (g.B.Reactor.time c.welcome.new.reactor) c.args.reactor.now
+          c.now-now.new.self c.welcome.new.reactor c.notice.new.self c.welcome.new.self at (λ xs was.
           c.now-now.ensures.admitted xs (c.notice.ensures.admitted xs (c.wait.ensures.admitted xs was)))
           c.welcome.ensures.welcomes;
       asks = c.in_ok-welcome.ensures.asks (c.now-now.ensures.tried 0 (c.notice.ensures.tried 0 c.in-Ok.ensures.tried));
       in_turn = subst (λ (now : ℕ). InTurn g.B.Link.Link g.T.Turns.answers g.O.Sink g.E.Sink c.args.log now
-          c.args.bounds.now.idle (count_of c.welcome.new.self.many) c.welcome.new.self e.new.self
+          c.args.bounds.now.idle (connection_count c.welcome.new.self.connections) c.welcome.new.self e.new.self
           c.args.server.now.server e.new.server.server c.args.out.now e.new.out c.args.faults.now e.new.faults) at
           e.ensures.in_turn;
     }
@@ -78,16 +78,16 @@ pub returns-clause-begun : goal.returns-clause-begun
 returns-clause-begun g c =
     let e = c.serve_each in
     subst (λ (n : ℕ). n ≤ c.args.bounds.now.exchanges) (sym (turn_begun g.B.Link.Link g.T.Turns.answers g.O.Sink
-    g.E.Sink c.args.log c.now-now.result c.args.bounds.now.idle (count_of c.welcome.new.self.many) c.welcome.new.self
+    g.E.Sink c.args.log c.now-now.result c.args.bounds.now.idle (connection_count c.welcome.new.self.connections) c.welcome.new.self
     e.new.self c.args.server.now.server e.new.server.server c.args.out.now e.new.out c.args.faults.now e.new.faults
     e.ensures.in_turn))
     c.welcome.ensures.most
 
-pub returns-clause-seats : goal.returns-clause-seats
-returns-clause-seats g c =
+pub returns-clause-peer_slots : goal.returns-clause-peer_slots
+returns-clause-peer_slots g c =
     let e = c.serve_each in
-    turn_seats g.B.Link.Link g.T.Turns.answers g.O.Sink g.E.Sink c.args.log c.now-now.result c.args.bounds.now.idle
-    (count_of c.welcome.new.self.many) c.welcome.new.self e.new.self c.args.server.now.server e.new.server.server
+    turn_peer_slots g.B.Link.Link g.T.Turns.answers g.O.Sink g.E.Sink c.args.log c.now-now.result c.args.bounds.now.idle
+    (connection_count c.welcome.new.self.connections) c.welcome.new.self e.new.self c.args.server.now.server e.new.server.server
     c.args.out.now e.new.out c.args.faults.now e.new.faults e.ensures.in_turn
-    (grown_seats g.B.Link.Link c.notice.new.self c.welcome.new.self c.welcome.ensures.grows
-    (grown_seats g.B.Link.Link c.args.crowd.now c.notice.new.self c.notice.ensures.stays.grows c.requires.seats))
+    (grown_peer_slots g.B.Link.Link c.notice.new.self c.welcome.new.self c.welcome.ensures.grows
+    (grown_peer_slots g.B.Link.Link c.args.event_loop.now c.notice.new.self c.notice.ensures.stays.grows c.requires.peer_slots))

@@ -1,7 +1,7 @@
 use Rattle.std.proofs.Common.{◌∙◌, ℕ, List, ap, fold, subst}
-use Rattle.bw_exchange.specs.Answering.{AnswersAll, frames_of}
-use Rattle.bw_exchange.specs.LinkCounts.{Counted, count_of, with_frame}
-use Rattle.bw_exchange.proofs.TallyLemmas.{all_by_server, all_counted}
+use Rattle.bw_exchange.specs.Answering.{AnswersAll, answered_frames}
+use Rattle.bw_exchange.specs.LinkCounts.{Counted, message_count, counting_frame}
+use Rattle.bw_exchange.proofs.LinkStatsLemmas.{all_by_server, all_counted}
 use Rattle.bw_serve.specs.LinkLines.{Logs, peer_line}
 use Rattle.bw_serve.proofs.serving_in_turn.serve_peer.Goals as goal
 
@@ -9,9 +9,9 @@ pub returns : goal.returns
 returns g c =
     let to = c.serve_link-ended.ensures in
     let all = to.serves.by_server in
-    let counted = c.tally.ensures
+    let counted = c.link_stats.ensures
     ∙ all_counted g.T.Turns.answers c.start.new.self to.serves.answered c.serve_link-ended.new.server all
-    ∙ ap (λ x. fold with_frame x (frames_of to.serves.answered)) c.start.ensures.tally in
+    ∙ ap (λ x. fold counting_frame x (answered_frames to.serves.answered)) c.start.ensures.link_stats in
     record {
       end = c.serve_link-ended.result.end;
       r' = _;
@@ -27,7 +27,7 @@ returns g c =
           no_further = to.serves.no_further;
           output = to.serves.output;
           taken = to.serves.taken;
-          front = to.serves.front;
+          prefix = to.serves.prefix;
           spelled = to.serves.spelled;
           by_end = to.serves.by_end;
         };
@@ -41,7 +41,7 @@ returns g c =
         exit_is = to.exit_is;
       };
       logs = subst (λ (n : List ℕ). Logs g.E.Sink c.args.log (peer_line c.args.peer.address n
-          (count_of (frames_of to.serves.answered))) c.args.faults.now c.tell_link.new.faults) c.end_name.ensures.value
+          (message_count (answered_frames to.serves.answered))) c.args.faults.now c.report_link.new.faults) c.end_name.ensures.value
           (subst (λ (x : Counted). Logs g.E.Sink c.args.log (peer_line c.args.peer.address c.end_name.result.now x)
-          c.args.faults.now c.tell_link.new.faults) counted c.tell_link.ensures);
+          c.args.faults.now c.report_link.new.faults) counted c.report_link.ensures);
     }

@@ -12,7 +12,7 @@ returns-in-Ok g c = record {
   print = Whole c.as_bytes.result.now;
   line = inl (ap Whole (c.as_bytes.ensures.value ∙ c.as_str.ensures.value ∙ c.end_line.ensures));
   printed = c.in-Ok.ensures.ok;
-  exit_is = c.exit_told-exit.ensures;
+  exit_is = c.exit_reported-exit.ensures;
 }
 
 pub returns-in-Err : goal.returns-in-Err

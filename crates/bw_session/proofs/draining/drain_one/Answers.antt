@@ -6,21 +6,21 @@ use Rattle.bw_request.specs.Requests.{meaning}
 use Rattle.bw_request.specs.Verdicts.{verdict_meaning}
 use Rattle.bw_file.specs.Growing.{Growing}
 use Rattle.bw_wire.specs.Frames.{message_of}
-use Rattle.bw_session.proofs.DrainForms.{count_front, fits_done, part_waits, part_done}
-use Rattle.bw_session.proofs.NextForms.{front_here}
+use Rattle.bw_session.proofs.DrainForms.{count_prefix, fits_done, part_waits, part_done}
+use Rattle.bw_session.proofs.NextForms.{prefix_here}
 use Rattle.bw_session.specs.Sessions.{kept_with}
 use Rattle.bw_session.proofs.AskForms.{does_first, tries_first}
 use Rattle.bw_session.proofs.draining.drain_one.Goals as goal
 
 pub number_done-requires-clause-room : goal.number_done-requires-clause-room
 number_done-requires-clause-room g c =
-    let count = count_front c.args.window.now c.in-Some.body.now (sym c.in-Some.ensures.value) in
+    let count = count_prefix c.args.window.now c.in-Some.body.now (sym c.in-Some.ensures.value) in
     let enough = c.requires.fits.storable in
     omega (arith, count, enough)
 
 pub number_done-requires-clause-place : goal.number_done-requires-clause-place
 number_done-requires-clause-place g c =
-    let count = count_front c.args.window.now c.in-Some.body.now (sym c.in-Some.ensures.value) in
+    let count = count_prefix c.args.window.now c.in-Some.body.now (sym c.in-Some.ensures.value) in
     let enough = c.requires.fits.keepable in
     omega (arith, count, enough)
 
@@ -40,12 +40,12 @@ returns-in-Ok-clause-drained g c = λ honest first log h.
     let r : Request = meaning c.request-request.result in
     let g0 : Growing = c.args.progress.now.growing in
     let finished : List (List ℕ × Verdict) = c.args.progress.now.ledger.outcomes in
-    let front = front_here first log c.args.progress.now c.args.window.now _ h (message_of c.message-message.result) r
+    let prefix = prefix_here first log c.args.progress.now c.args.window.now _ h (message_of c.message-message.result) r
     c.digest.result.now c.in-Some.body.now (sym c.in-Some.ensures.value) c.message-message.ensures.spelled
     c.request-request.ensures.value c.request-request.ensures.fits c.digest.ensures in
-    let done = c.in-Ok.ensures.done honest first log front.0 front.1 in
+    let done = c.in-Ok.ensures.done honest first log prefix.0 prefix.1 in
     record {
-      told = (ap is_some front.0.here, done.verdict_is);
+      reported = (ap is_some prefix.0.here, done.verdict_is);
       left = part_done first log c.args.progress.now.state.parts finished c.args.window.now g0 _ h
           (verdict_meaning c.in-Ok.verdict) c.number_done.new.self.state.parts c.number_done.new.self.ledger.outcomes
           _ c.number_done.new.self.growing _ (ap (λ (x : Growing). x.name) c.in-Ok.ensures.places.known)
@@ -53,37 +53,37 @@ returns-in-Ok-clause-drained g c = λ honest first log h.
     }
 
 pub returns-in-Ok-clause-noted : goal.returns-in-Ok-clause-noted
-returns-in-Ok-clause-noted g c = λ honest honest_notes first log h stood noted.
+returns-in-Ok-clause-noted g c = λ honest honest_notes first log h existed noted.
     let r : Request = meaning c.request-request.result in
-    let front = front_here first log c.args.progress.now c.args.window.now _ h (message_of c.message-message.result) r
+    let prefix = prefix_here first log c.args.progress.now c.args.window.now _ h (message_of c.message-message.result) r
     c.digest.result.now c.in-Some.body.now (sym c.in-Some.ensures.value) c.message-message.ensures.spelled
     c.request-request.ensures.value c.request-request.ensures.fits c.digest.ensures in
-    c.in-Ok.ensures.noted honest honest_notes first log front.0 front.1 stood noted
+    c.in-Ok.ensures.noted honest honest_notes first log prefix.0 prefix.1 existed noted
 
 pub returns-in-Err-clause-drained : goal.returns-in-Err-clause-drained
 returns-in-Err-clause-drained g c = λ honest first log h.
     let r : Request = meaning c.request-request.result in
     let g0 : Growing = c.args.progress.now.growing in
     let finished : List (List ℕ × Verdict) = c.args.progress.now.ledger.outcomes in
-    let front = front_here first log c.args.progress.now c.args.window.now _ h (message_of c.message-message.result) r
+    let prefix = prefix_here first log c.args.progress.now c.args.window.now _ h (message_of c.message-message.result) r
     c.digest.result.now c.in-Some.body.now (sym c.in-Some.ensures.value) c.message-message.ensures.spelled
     c.request-request.ensures.value c.request-request.ensures.fits c.digest.ensures in
     record {
-      told = ap is_some front.0.here;
+      reported = ap is_some prefix.0.here;
       left = part_waits first log c.args.progress.now.state.parts finished c.args.window.now g0 _ h
           c.number_done.new.self.state.parts c.number_done.new.self.ledger.outcomes r c.number_done.new.self.growing _
-          front.0.here
+          prefix.0.here
           (ap (λ (x : Growing). x.name) c.in-Err.ensures.places.known)
-          (c.in-Err.ensures.done honest first log front.0 front.1);
+          (c.in-Err.ensures.done honest first log prefix.0 prefix.1);
     }
 
 pub returns-in-Err-clause-noted : goal.returns-in-Err-clause-noted
-returns-in-Err-clause-noted g c = λ honest honest_notes first log h stood noted.
+returns-in-Err-clause-noted g c = λ honest honest_notes first log h existed noted.
     let r : Request = meaning c.request-request.result in
-    let front = front_here first log c.args.progress.now c.args.window.now _ h (message_of c.message-message.result) r
+    let prefix = prefix_here first log c.args.progress.now c.args.window.now _ h (message_of c.message-message.result) r
     c.digest.result.now c.in-Some.body.now (sym c.in-Some.ensures.value) c.message-message.ensures.spelled
     c.request-request.ensures.value c.request-request.ensures.fits c.digest.ensures in
-    c.in-Err.ensures.noted honest honest_notes first log front.0 front.1 stood noted
+    c.in-Err.ensures.noted honest honest_notes first log prefix.0 prefix.1 existed noted
 
 pub returns-in-Ok-clause-asked : goal.returns-in-Ok-clause-asked
 returns-in-Ok-clause-asked g c =

@@ -22,7 +22,7 @@ unwrap-format-requires g c =
 pub unwrap-requires : goal.unwrap-requires
 unwrap-requires g c =
     let stored = rw c.in-SetField.is at c.requires.stored in
-    rw (c.set.ensures.told, set_without_fault _ _ _ stored) refl
+    rw (c.set.ensures.reported, set_without_fault _ _ _ stored) refl
 
 pub close-requires : goal.close-requires
 close-requires g c =
@@ -39,7 +39,7 @@ returns-in-OpenTake-clause-file g c = λ honest.
     let same : c.unwrap-format.result ≡ f = search rules in
     rw c.in-OpenTake.is (writes_open c.begin.result p f c.in-OpenTake.history.now c.args.growing.now c.begin.new.self _
     _ stored
-    c.begin.ensures.ok c.begin.ensures.err (c.begin.ensures.name honest) (c.begin.ensures.stood honest)
+    c.begin.ensures.ok c.begin.ensures.err (c.begin.ensures.name honest) (c.begin.ensures.existed honest)
     (rw same at (c.begin.ensures.file honest)))
 
 pub returns-in_ok-append-in-Block-clause-file : goal.returns-in_ok-append-in-Block-clause-file
@@ -70,7 +70,7 @@ pub returns-in_ok-retouch-in-SetField-clause-file : goal.returns-in_ok-retouch-i
 returns-in_ok-retouch-in-SetField-clause-file g c = λ honest.
     let p : Parts = c.args.state.now.parts in
     let stored = rw c.in-SetField.is at c.requires.stored in
-    let told : c.set.result ≡ Ok tt = rw (c.set.ensures.told, set_without_fault _ _ _ stored) refl in
+    let reported : c.set.result ≡ Ok tt = rw (c.set.ensures.reported, set_without_fault _ _ _ stored) refl in
     let set : c.set.new.self ≡ with_field p.fields c.in-SetField.tag c.in-SetField.value.now = search rules in
     rw c.in-SetField.is (writes_ok p
     (SetField c.in-SetField.tag c.in-SetField.value.now) c.args.growing.now c.retouch.new.self _ _
@@ -83,7 +83,7 @@ pub returns-in_err-retouch-in-SetField-clause-file : goal.returns-in_err-retouch
 returns-in_err-retouch-in-SetField-clause-file g c = λ honest.
     let p : Parts = c.args.state.now.parts in
     let stored = rw c.in-SetField.is at c.requires.stored in
-    let told : c.set.result ≡ Ok tt = rw (c.set.ensures.told, set_without_fault _ _ _ stored) refl in
+    let reported : c.set.result ≡ Ok tt = rw (c.set.ensures.reported, set_without_fault _ _ _ stored) refl in
     let set : c.set.new.self ≡ with_field p.fields c.in-SetField.tag c.in-SetField.value.now = search rules in
     let answer = err_from_is_err_and c.from_residual-in_err-retouch-in-SetField.result
     c.from_residual-in_err-retouch-in-SetField.ensures.1 in

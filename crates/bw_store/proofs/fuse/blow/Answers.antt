@@ -7,5 +7,5 @@ returns-clause-spent c =
     filter_same _ (λ (f : ℕ). not (f == c.args.call)) _
     (λ x b f r. search rules) c.args.fuses.now.items c.retain.new.self.items c.retain.ensures.filtered
 
-pub returns-clause-told : goal.returns-clause-told
-returns-clause-told c = search rules
+pub returns-clause-reported : goal.returns-clause-reported
+returns-clause-reported c = search rules

@@ -6,7 +6,7 @@ invariant-loop-block l = record {
   within : vec_len l.block ≤ l.size;
   more : vec_len l.fn.block ≤ vec_len l.block;
   capacity : vec_capacity l.block ≡ l.size;
-  front : take (vec_len l.fn.block) l.block.items ≡ l.fn.block.items;
+  prefix : take (vec_len l.fn.block) l.block.items ≡ l.fn.block.items;
 }
 
 abbrev pub decreases-loop-block : goal.decreases-loop-block

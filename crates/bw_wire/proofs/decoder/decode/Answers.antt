@@ -5,7 +5,7 @@ use Rattle.bw_wire.specs.declared.reason.Reason.TheVariants.{Payload}
 use Rattle.bw_wire.specs.Frames.{frame_read}
 use Rattle.bw_wire.specs.Reasons.{reason_meaning}
 use Rattle.bw_wire.proofs.BodyLaws.{message_body, ask_body}
-use Rattle.bw_wire.proofs.Decoding.{behind, decoded-empty, decoded-bye, decoded-fault, is_ask, is_message}
+use Rattle.bw_wire.proofs.Decoding.{following, decoded-empty, decoded-bye, decoded-fault, is_ask, is_message}
 use Rattle.bw_wire.proofs.decoder.decode.Goals as goal
 
 read_bye : (empty : Bool) →
@@ -19,7 +19,7 @@ returns-in_default-clause-exact c = sym (decoded-empty c.args.body.now c.in_defa
 pub returns-then-kind-eq-BYE-clause-exact : goal.returns-then-kind-eq-BYE-clause-exact
 returns-then-kind-eq-BYE-clause-exact c =
     ap frame_read c.bye.ensures
-    ∙ read_bye (length (behind c.args.body.now) == 0)
+    ∙ read_bye (length (following c.args.body.now) == 0)
     ∙ sym (decoded-bye c.args.body.now c.in-len1-up.len_at_least c.if-kind-eq-BYE.true)
 
 pub returns-in-Some-clause-exact : goal.returns-in-Some-clause-exact

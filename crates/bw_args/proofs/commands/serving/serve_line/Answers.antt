@@ -115,7 +115,7 @@ returns-in_err-folder-clause-err c = on_err c.from_residual.result (inr (
     ends = an_end (found_of c.args.options.now) _ _ _ c.flag_given.ensures c.in-Ok.ensures c.in-Some-end_given.ensures;
     limited = c.in-Some-limit_given.ensures;
     serves = c.in-Ok-recorders_given.ensures.ok;
-    tells = c.flag_given-log.ensures;
+    reports = c.flag_given-log.ensures;
   }),
 ))
 
@@ -127,5 +127,5 @@ returns-clause-ok c = server_asked (found_of c.args.options.now) _ (record {
   ends = an_end (found_of c.args.options.now) _ _ _ c.flag_given.ensures c.in-Ok.ensures c.in-Some-end_given.ensures;
   limited = c.in-Some-limit_given.ensures;
   serves = c.in-Ok-recorders_given.ensures.ok;
-  tells = c.flag_given-log.ensures;
+  reports = c.flag_given-log.ensures;
 })

@@ -17,7 +17,7 @@ use Rattle.bw_exchange.proofs.exchange.Exchange.answer_one.Goals as goal
 
 pub invariant_of-self : goal.invariant_of-self
 invariant_of-self g c =
-    let a = c.in-Hungry.ensures.takes in
+    let a = c.in-WantsRead.ensures.takes in
     let s = c.args.self.now in
     let little = kept_little s.framer c.take_next.new.framer a.comes.0 a.little a.next in record {
       capacity = search rules;
@@ -53,9 +53,9 @@ invariant_of-self-in-Ended-clause-block g c =
     let s = c.args.self.now in
     (held_on most_held s.framer c.take_next.new.framer (omega arith) (s.held, s.block) a.little a.next).1
 
-pub returns-in-Hungry-clause-answers : goal.returns-in-Hungry-clause-answers
-returns-in-Hungry-clause-answers g c =
-    let a = c.in-Hungry.ensures.takes in
+pub returns-in-WantsRead-clause-answers : goal.returns-in-WantsRead-clause-answers
+returns-in-WantsRead-clause-answers g c =
+    let a = c.in-WantsRead.ensures.takes in
     let s = c.args.self.now in
     let q = c.take_next.new.framer in
     let w = c.take_next.new.outgoing.items in

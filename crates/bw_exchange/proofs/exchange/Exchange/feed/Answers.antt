@@ -9,7 +9,7 @@ use Rattle.bw_exchange.proofs.exchange.Exchange.feed.Goals as goal
 pub returns-clause-fed : goal.returns-clause-fed
 returns-clause-fed c fed before gone d =
     let s = c.args.self.now in
-    let none = none_so_far s.end (s.«open» c.requires.hungry) in
+    let none = none_so_far s.end (s.«open» c.requires.wants_read) in
     let piece = c.args.piece.now in
     let q = c.feed.new.self in
     let w = s.outgoing.items in

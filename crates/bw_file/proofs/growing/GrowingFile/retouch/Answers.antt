@@ -22,10 +22,10 @@ returns-in_err-put_retouched_header-clause-file g c =
     let heads = is_heading t c.args.state.now.parts c.heading_of-heading.result c.self.inside.limit same of.format
     of.bext
     of.history of.limit in
-    let told = of.history ∙ sym (ap (λ (p : Parts). p.history) same) in
+    let reported = of.history ∙ sym (ap (λ (p : Parts). p.history) same) in
     let later = with_request t (SetField tag value) in
     let then_heads = is_heading later (parts later) c.with_bext-retouched.result c.self.inside.limit refl
-    (ap Some with.format ∙ sym heads.format) (with.bext ∙ set) (with.history ∙ told) (with.limit ∙ of.limit) in
+    (ap Some with.format ∙ sym heads.format) (with.bext ∙ set) (with.history ∙ reported) (with.limit ∙ of.limit) in
     let is_open = ap (λ (p : Parts). p.closed) same ∙ opened.not_closed in
     let in_all = c.data_len.ensures.value ∙ sym (ap (λ (p : Parts). p.samples_len) same) in
     let answer = err_from_is_err_and c.from_residual.result c.from_residual.ensures.1 in
@@ -42,10 +42,10 @@ returns-clause-file g c =
     let heads = is_heading t c.args.state.now.parts c.heading_of-heading.result c.self.inside.limit same of.format
     of.bext
     of.history of.limit in
-    let told = of.history ∙ sym (ap (λ (p : Parts). p.history) same) in
+    let reported = of.history ∙ sym (ap (λ (p : Parts). p.history) same) in
     let later = with_request t (SetField tag value) in
     let then_heads = is_heading later (parts later) c.with_bext-retouched.result c.self.inside.limit refl
-    (ap Some with.format ∙ sym heads.format) (with.bext ∙ set) (with.history ∙ told) (with.limit ∙ of.limit) in
+    (ap Some with.format ∙ sym heads.format) (with.bext ∙ set) (with.history ∙ reported) (with.limit ∙ of.limit) in
     let is_open = ap (λ (p : Parts). p.closed) same ∙ opened.not_closed in
     let in_all = c.data_len.ensures.value ∙ sym (ap (λ (p : Parts). p.samples_len) same) in
     retouched (the_view c.self.inside) t tag value c.heading_of-heading.result c.with_bext-retouched.result heads

@@ -4,20 +4,20 @@ use Rattle.std.specs.Prelude.{is_some, option_map, option_copied, option_and_the
 use Rattle.bw_request.specs.Verdicts.{verdict_meaning}
 use Rattle.bw_request.specs.declared.verdict.Verdict.{Verdict}
 use Rattle.bw_sender.specs.declared.window.Offered.{Offered}
-use Rattle.bw_sender.specs.Entries.{Entry}
-use Rattle.bw_sender.specs.Offers.{entry_of}
+use Rattle.bw_sender.specs.Entries.{SenderEntry}
+use Rattle.bw_sender.specs.Offers.{sender_entry}
 use Rattle.bw_sender.proofs.EntryLaws.{or_left}
 use Rattle.bw_sender.proofs.SenderLaws.{settles_stored, settles_refused, all_settled, number_is}
 use Rattle.bw_sender.proofs.sender.Sender.settle_one.Goals as goal
 use Rattle.bw_sender.proofs.sender.Sender.settle_one.Goals.{then-self, else-self}
 
-abbrev judged_in : Option Entry → Bool
-judged_in w = is_some (option_and_then (λ (e : Entry). e.verdict) w)
+abbrev judged_in : Option SenderEntry → Bool
+judged_in w = is_some (option_and_then (λ (e : SenderEntry). e.verdict) w)
 
-abbrev lent : Option (Bor Offered) → Option Entry
-lent o = option_map entry_of (option_copied o)
+abbrev lent : Option (Bor Offered) → Option SenderEntry
+lent o = option_map sender_entry (option_copied o)
 
-abbrev with_verdict : Offered → Option Verdict → Option Entry
+abbrev with_verdict : Offered → Option Verdict → Option SenderEntry
 with_verdict o v = Some (record { request = o.request; verdict = option_map verdict_meaning v })
 
 pub returns-in_default-clause-none : goal.returns-in_default-clause-none

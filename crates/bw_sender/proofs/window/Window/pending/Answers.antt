@@ -1,12 +1,12 @@
 use Rattle.std.proofs.Common.{◌≡◌, ℕ, suc, ◌+◌, List, drop, ◌∙◌, ap, sym, arith}
 use Rattle.std.specs.Prelude.{slice_get, option_copied}
 use Rattle.bw_model.specs.Take.{Request}
-use Rattle.bw_sender.specs.Entries.{Entry, pending_entries}
+use Rattle.bw_sender.specs.Entries.{SenderEntry, pending_entries}
 use Rattle.bw_sender.proofs.EntryLaws.{pending_some, pending_none, get_past, get_first}
 use Rattle.bw_sender.proofs.window.Window.pending.Goals as goal
 use Rattle.bw_sender.proofs.window.Window.pending.Goals.{in-Some+else-left-eq0, in_default}
 
-one_more : (w : List Entry) (first slot : ℕ) → pending_entries (suc (first + slot)) (drop (suc slot) w)
+one_more : (w : List SenderEntry) (first slot : ℕ) → pending_entries (suc (first + slot)) (drop (suc slot) w)
     ≡ pending_entries (first + (slot + 1)) (drop (slot + 1) w)
 one_more w first slot =
     let next : suc slot ≡ slot + 1 = omega arith in

@@ -4,7 +4,7 @@ use Rattle.std.proofs.Common.{ap, ◌∙◌, ◌≤◌, inr, rules, ◌≡◌, �
 use Rattle.bw_model.specs.Take.{Parts, Request, Verdict, AreFields}
 use Rattle.bw_request.specs.Requests.{meaning}
 use Rattle.bw_request.specs.Verdicts.{verdict_meaning}
-use Rattle.bw_session.specs.Fronts.{HoldsFront}
+use Rattle.bw_session.specs.Prefixes.{HoldsPrefix}
 use Rattle.bw_session.specs.Numbered.{IsNext, IsDone, noted_of}
 use Rattle.bw_journal.specs.Notes.{NotesInPart}
 use Rattle.bw_session.proofs.NumberForms.{done_again, done_next}
@@ -21,13 +21,13 @@ returns-in_default-clause-done g c = λ honest first log n h.
     let p : Parts = c.carry_out.new.state.parts in
     let finished : List (List ℕ × Verdict) = c.args.self.now.ledger.outcomes in
     let name : c.args.self.now.growing.name ≡ c.args.self.now.name = c.args.self.now.same_name in
-    let carried = c.in_ok-verdict.ensures.front honest first log finished
-    (subst (λ (x : List ℕ). HoldsFront first log c.args.self.now.state.parts finished r c.args.self.now.growing
+    let carried = c.in_ok-verdict.ensures.prefix honest first log finished
+    (subst (λ (x : List ℕ). HoldsPrefix first log c.args.self.now.state.parts finished r c.args.self.now.growing
     (g.S.TakeStore.contents c.args.stores.now.store x)) (sym name) h) in
     let fields : AreFields p.fields = subst AreFields c.bext-bext.ensures.value c.bext-bext.ensures.widths in
-    subst (λ (x : List ℕ). HoldsFront first log p finished r c.mark_written.new.growing
+    subst (λ (x : List ℕ). HoldsPrefix first log p finished r c.mark_written.new.growing
     (g.S.TakeStore.contents c.note.new.self.store x)) name
-    (subst (λ s. HoldsFront first log p finished r c.mark_written.new.growing
+    (subst (λ s. HoldsPrefix first log p finished r c.mark_written.new.growing
     (g.S.TakeStore.contents s c.args.self.now.growing.name)) (sym c.note.ensures.store)
     (done_again first log v p finished r c.carry_out.new.growing c.mark_written.new.growing _ carried
     c.in_ok-verdict.ensures.clean fields c.mark_written.ensures))
@@ -40,8 +40,8 @@ returns-clause-done g c = λ honest first log n h.
     let finished : List (List ℕ × Verdict) = c.args.self.now.ledger.outcomes in
     let name : c.args.self.now.growing.name ≡ c.args.self.now.name = c.args.self.now.same_name in
     let later : c.carry_out.new.growing.name ≡ c.args.self.now.name = search rules in
-    let carried = c.in_ok-verdict.ensures.front honest first log finished
-    (subst (λ (x : List ℕ). HoldsFront first log c.args.self.now.state.parts finished r c.args.self.now.growing
+    let carried = c.in_ok-verdict.ensures.prefix honest first log finished
+    (subst (λ (x : List ℕ). HoldsPrefix first log c.args.self.now.state.parts finished r c.args.self.now.growing
     (g.S.TakeStore.contents c.args.stores.now.store x)) (sym name) h) in
     subst (λ (x : List ℕ). IsDone first log v c.settle.new.state.parts c.settle.new.ledger.outcomes
     c.carry_out.new.growing (g.S.TakeStore.contents c.note.new.self.store x)) name
@@ -52,13 +52,13 @@ returns-clause-done g c = λ honest first log n h.
     c.settle.ensures.keeps))
 
 pub returns-in_err-begin_notes-clause-noted : goal.returns-in_err-begin_notes-clause-noted
-returns-in_err-begin_notes-clause-noted g c = λ honest honest_notes first log n h stood noted.
+returns-in_err-begin_notes-clause-noted g c = λ honest honest_notes first log n h existed noted.
     let answer = err_from_is_err_and c.from_residual.result c.from_residual.ensures.1 in
     rw answer.1 (begun_in_part (g.J.Journal.header c.args.stores.now.journal c.args.self.now.name)
     c.args.self.now.name log c.args.self.now.noted _ _ noted (c.in_err-begin_notes.ensures.failed honest_notes))
 
 pub returns-in_err-verdict-clause-noted : goal.returns-in_err-verdict-clause-noted
-returns-in_err-verdict-clause-noted g c = λ honest honest_notes first log n h stood noted.
+returns-in_err-verdict-clause-noted g c = λ honest honest_notes first log n h existed noted.
     let answer = err_from_is_err_and c.from_residual-in_err-verdict.result c.from_residual-in_err-verdict.ensures.1 in
     let done : c.len.result ≡ log.done = c.len.ensures.value ∙ h.memory.done in
     rw answer.1 (record {
@@ -71,14 +71,14 @@ returns-in_err-verdict-clause-noted g c = λ honest honest_notes first log n h s
     })
 
 pub returns-in_default-clause-noted : goal.returns-in_default-clause-noted
-returns-in_default-clause-noted g c = λ honest honest_notes first log n h stood noted.
+returns-in_default-clause-noted g c = λ honest honest_notes first log n h existed noted.
     let r : Request = meaning c.args.request.now in
     let v : Verdict = verdict_meaning c.in_ok-verdict.verdict in
     let finished : List (List ℕ × Verdict) = c.args.self.now.ledger.outcomes in
     let name : c.args.self.now.growing.name ≡ c.args.self.now.name = c.args.self.now.same_name in
     let later : c.carry_out.new.growing.name ≡ c.args.self.now.name = search rules in
-    let carried = c.in_ok-verdict.ensures.front honest first log finished
-    (subst (λ (x : List ℕ). HoldsFront first log c.args.self.now.state.parts finished r c.args.self.now.growing
+    let carried = c.in_ok-verdict.ensures.prefix honest first log finished
+    (subst (λ (x : List ℕ). HoldsPrefix first log c.args.self.now.state.parts finished r c.args.self.now.growing
     (g.S.TakeStore.contents c.args.stores.now.store x)) (sym name) h) in
     let done : c.len.result ≡ log.done = c.len.ensures.value ∙ h.memory.done in
     let entries = begun_notes (g.J.Journal.header c.args.stores.now.journal c.args.self.now.name)
@@ -91,18 +91,18 @@ returns-in_default-clause-noted g c = λ honest honest_notes first log n h stood
     (g.J.Journal.notes c.note.new.self.journal c.args.self.now.name) =
     let failed = c.in_default.ensures.failed (c.begin_notes.ensures.journal.honest ∙ honest_notes) in search rules in
     carried_in_part first (g.J.Journal.header c.args.stores.now.journal c.args.self.now.name) log v
-    c.carry_out.new.state.parts finished r c.carry_out.new.growing _ c.args.self.now.name c.args.digest.now stood later
+    c.carry_out.new.state.parts finished r c.carry_out.new.growing _ c.args.self.now.name c.args.digest.now existed later
     carried n c.args.self.now.noted _ _ noted.offset_is entries left
 
 pub returns-clause-noted : goal.returns-clause-noted
-returns-clause-noted g c = λ honest honest_notes first log n h stood noted.
+returns-clause-noted g c = λ honest honest_notes first log n h existed noted.
     let r : Request = meaning c.args.request.now in
     let v : Verdict = verdict_meaning c.in_ok-verdict.verdict in
     let finished : List (List ℕ × Verdict) = c.args.self.now.ledger.outcomes in
     let name : c.args.self.now.growing.name ≡ c.args.self.now.name = c.args.self.now.same_name in
     let later : c.carry_out.new.growing.name ≡ c.args.self.now.name = search rules in
-    let carried = c.in_ok-verdict.ensures.front honest first log finished
-    (subst (λ (x : List ℕ). HoldsFront first log c.args.self.now.state.parts finished r c.args.self.now.growing
+    let carried = c.in_ok-verdict.ensures.prefix honest first log finished
+    (subst (λ (x : List ℕ). HoldsPrefix first log c.args.self.now.state.parts finished r c.args.self.now.growing
     (g.S.TakeStore.contents c.args.stores.now.store x)) (sym name) h) in
     let done : c.len.result ≡ log.done = c.len.ensures.value ∙ h.memory.done in
     let entries = begun_notes (g.J.Journal.header c.args.stores.now.journal c.args.self.now.name)
@@ -111,7 +111,7 @@ returns-clause-noted g c = λ honest honest_notes first log n h stood noted.
     (λ some. ap (λ j. g.J.Journal.notes j c.args.self.now.name)
     (c.in_ok-begin_notes.ensures.later (subst (λ (k : ℕ). 1 ≤ k) (sym done) some))) in
     carried_noted first (g.J.Journal.header c.args.stores.now.journal c.args.self.now.name) log v
-    c.carry_out.new.state.parts finished r c.carry_out.new.growing _ c.args.self.now.name c.args.digest.now stood later
+    c.carry_out.new.state.parts finished r c.carry_out.new.growing _ c.args.self.now.name c.args.digest.now existed later
     carried n c.args.self.now.noted c.in-Ok.len _ _ noted.offset_is entries c.in-Ok.ensures.value
     (c.in-Ok.ensures.noted (c.begin_notes.ensures.journal.honest ∙ honest_notes))
 

@@ -1,7 +1,7 @@
 use Rattle.std.proofs.Common.{ℕ, List, Option, ◌∙◌, ap}
 use Rattle.std.specs.Prelude.{unwrap_or}
 use Rattle.bw_model.specs.Replies as model
-use Rattle.bw_session.proofs.TellForms.{asked}
+use Rattle.bw_session.proofs.ReportForms.{asked}
 use Rattle.bw_session.proofs.server.Server.ask.Goals as goal
 
 pub returns-clause-value : goal.returns-clause-value

@@ -9,7 +9,7 @@ use Rattle.std.proofs.lemmas.Result.{err_from_is_err_and}
 use Rattle.bw_model.specs.Wire.{Message}
 use Rattle.bw_model.specs.Book.{Log, no_log, log_of, is_known}
 use Rattle.bw_model.specs.Turn.{is_full, window, most_takes}
-use Rattle.bw_model.specs.CountedTurn.{book_told}
+use Rattle.bw_model.specs.CountedTurn.{book_reported}
 use Rattle.bw_model.proofs.BookLemmas.{unknown_log}
 use Rattle.bw_file.specs.Growing.{Growing}
 use Rattle.bw_store.specs.Stores.{KeepsOthers}
@@ -18,7 +18,7 @@ use Rattle.bw_wire.proofs.BodyLaws.{message_spelled}
 use Rattle.bw_session.specs.Sessions.{CallsFew, HoldsLog, part_of}
 use Rattle.bw_wire.specs.Replies.{reply_of}
 use Rattle.bw_session.specs.Noting.{IsNoted}
-use Rattle.bw_session.specs.Serving.{Serves, log_after}
+use Rattle.bw_session.specs.Serving.{ServesMessage, log_after}
 use Rattle.bw_session.specs.Servers.{store_since, done_in}
 use Rattle.bw_session.specs.Numbered.{KeepsBoth, failed_calls}
 use Rattle.bw_session.specs.declared.session.Session.{Session}
@@ -27,7 +27,7 @@ use Rattle.bw_session.specs.Tables.{session_in}
 use Rattle.bw_session.proofs.ServerForms.{table_set, book_turned, inserted, one_more, unknown_here, put_here}
 use Rattle.bw_session.proofs.AnswerForms.{answers_served, answers_known, none_away}
 use Rattle.bw_session.proofs.RunForms.{noted_then}
-use Rattle.bw_session.proofs.JournalForms.{notes_after, told_here, told_others}
+use Rattle.bw_session.proofs.JournalForms.{notes_after, reported_here, reported_others}
 use Rattle.bw_session.proofs.CountForms.{counted}
 use Rattle.bw_session.specs.Asking.{new_part}
 use Rattle.bw_session.proofs.AskForms.{asks_at}
@@ -135,9 +135,9 @@ returns-clause-turned g c = record {
       (c.in_ok-session.ensures.holds (first m.name))) in
       let after : ℕ = failed_calls (g.S.TakeStore.failures c.serve.new.stores.store)
       (g.J.Journal.failures c.serve.new.stores.journal) in
-      let here = subst (λ (n : List ℕ). Serves (first m.name) no_log m (failures_of g.S.TakeStore g.J.Journal c.args.self.now)
+      let here = subst (λ (n : List ℕ). ServesMessage (first m.name) no_log m (failures_of g.S.TakeStore g.J.Journal c.args.self.now)
       after c.serve.new.out.items (part_of s) (g.S.TakeStore.contents c.serve.new.stores.store n)) owner served in
-      let there = subst (λ (l : Log). Serves (first m.name) l m (failures_of g.S.TakeStore g.J.Journal c.args.self.now)
+      let there = subst (λ (l : Log). ServesMessage (first m.name) l m (failures_of g.S.TakeStore g.J.Journal c.args.self.now)
       after c.serve.new.out.items (part_of s) (g.S.TakeStore.contents c.serve.new.stores.store m.name))
       (sym (unknown_log book m.name unknown)) here in
       let count = counted c.args.self.now.sessions book c.requires.unique h.is_book c.args.self.now.table.few h.names in
@@ -193,18 +193,18 @@ returns-clause-turned g c = record {
       (c.in_ok-serve.ensures.noted honest honest_notes (first m.name) no_log
       (subst (λ (o : Option (List ℕ)). HoldsLog (first m.name) no_log (part_of c.in_ok-session.session) o)
       (sym (ap (g.S.TakeStore.contents c.args.self.now.stores.store) owner ∙ nothing))
-      (c.in_ok-session.ensures.holds (first m.name)))) (n.stood m.name) begun in
+      (c.in_ok-session.ensures.holds (first m.name)))) (n.existed m.name) begun in
       notes_after (g.J.Journal.header c.args.self.now.stores.journal) (g.J.Journal.header c.serve.new.stores.journal)
       (g.J.Journal.notes c.args.self.now.stores.journal) (g.J.Journal.notes c.serve.new.stores.journal) first
       (session_in c.args.self.now.sessions) (session_in c.insert.new.self) book
-      (book_told book m (map reply_of c.serve.new.out.items) (done_in c.insert.new.self m.name)) m.name s
+      (book_reported book m (map reply_of c.serve.new.out.items) (done_in c.insert.new.self m.name)) m.name s
       (log_after no_log m (length s.progress.ledger.outcomes)) n (both.1.headers honest_notes)
       (subst (λ (k : List ℕ). KeepsOthers (g.J.Journal.notes c.args.self.now.stores.journal)
       (g.J.Journal.notes c.serve.new.stores.journal) k) owner (both.1.other_notes honest_notes)) sets
-      (told_here book m (map reply_of c.serve.new.out.items) (done_in c.insert.new.self m.name) near
+      (reported_here book m (map reply_of c.serve.new.out.items) (done_in c.insert.new.self m.name) near
       ∙ ap (λ (b : Bool). cond b (log_of book m.name) (log_after (log_of book m.name) m
-      (done_in c.insert.new.self m.name))) (none_away c.serve.new.out.items c.in_ok-serve.ensures.told)
+      (done_in c.insert.new.self m.name))) (none_away c.serve.new.out.items c.in_ok-serve.ensures.reported)
       ∙ ap (λ (l : Log). log_after l m (done_in c.insert.new.self m.name)) (unknown_log book m.name unknown)
       ∙ ap (log_after no_log m) done)
-      (told_others book m (map reply_of c.serve.new.out.items) (done_in c.insert.new.self m.name) near) noted;
+      (reported_others book m (map reply_of c.serve.new.out.items) (done_in c.insert.new.self m.name) near) noted;
 }

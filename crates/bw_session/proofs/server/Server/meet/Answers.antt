@@ -18,14 +18,14 @@ use Rattle.bw_session.specs.Servers.{kept_in, store_since, done_in}
 use Rattle.bw_session.specs.Tables.{session_in}
 use Rattle.bw_session.proofs.AnswerForms.{served_here}
 use Rattle.bw_session.proofs.ServerForms.{unknown_here}
-use Rattle.bw_session.proofs.JournalForms.{told_away, away_either}
+use Rattle.bw_session.proofs.JournalForms.{reported_away, away_either}
 use Rattle.bw_session.proofs.UseForms.{timely_push, timely_notice}
 use Rattle.std.proofs.Common.{inr}
 use Rattle.bw_session.specs.Servers.{part_in}
 use Rattle.bw_session.proofs.server.Server.meet.Goals as goal
 
 pub returns-in_default-clause-uncalled : goal.returns-in_default-clause-uncalled
-returns-in_default-clause-uncalled g c = λ away. served_here c.try_meet.new.out.items c.in_default.ensures.told away
+returns-in_default-clause-uncalled g c = λ away. served_here c.try_meet.new.out.items c.in_default.ensures.reported away
 
 pub returns-in-Err-clause-both : goal.returns-in-Err-clause-both
 returns-in-Err-clause-both g c =
@@ -51,9 +51,9 @@ pub returns-in-Err-clause-turned : goal.returns-in-Err-clause-turned
 returns-in-Err-clause-turned g c =
     let m : Message = message_of c.args.message.now in
     let e = c.in-Err.ensures in
-    let told : map reply_of c.push.new.self.items ≡ notice m (notice_meaning c.in-Err.code) 0 =
+    let reported : map reply_of c.push.new.self.items ≡ notice m (notice_meaning c.in-Err.code) 0 =
     ap (map reply_of) (c.push.ensures.items
-    ∙ ap (λ (rs : List Reply). rs ++ Notice c.args.name c.number.result c.in-Err.code 0 ∷ []) e.untold)
+    ∙ ap (λ (rs : List Reply). rs ++ Notice c.args.name c.number.result c.in-Err.code 0 ∷ []) e.unreported)
     ∙ ap (λ (x : List ℕ). model.Noticed x c.number.result (notice_meaning c.in-Err.code) 0 ∷ []) (sym c.requires.name)
     ∙ ap (λ (k : ℕ). model.Noticed m.name k (notice_meaning c.in-Err.code) 0 ∷ []) c.number.ensures.value in
     record {
@@ -69,7 +69,7 @@ returns-in-Err-clause-turned g c =
             later = book;
             turned = subst (λ (rs : List model.Reply). IsTurn (λ n. is_some (first n))
                 (failures_of g.S.TakeStore g.J.Journal c.args.self.now)
-                (failures_of g.S.TakeStore g.J.Journal c.try_meet.new.self) book (Says m) rs book) (sym told)
+                (failures_of g.S.TakeStore g.J.Journal c.try_meet.new.self) book (Says m) rs book) (sym reported)
                 (subst (λ (k : ℕ). IsTurn (λ n. is_some (first n)) (failures_of g.S.TakeStore g.J.Journal c.args.self.now) k
                 book (Says m) (notice m (notice_meaning c.in-Err.code) 0) book) (sym quiet) (e.refused honest first book h));
             held = subst (λ (l : ℕ). Holds l (store_since g.S.TakeStore first c.try_meet.new.self.stores.store)
@@ -85,10 +85,10 @@ returns-in-Err-clause-turned g c =
           let unknown = unknown_here c.args.self.now.limit (store_since g.S.TakeStore first c.args.self.now.stores.store)
           (session_in c.args.self.now.sessions) book h honest m.name fresh in
           let away = away_either book m (map reply_of c.push.new.self.items) unknown
-          (ap (λ (rs : List model.Reply). is_turned_away rs || nat_le window m.number) told ∙ e.away) in
+          (ap (λ (rs : List model.Reply). is_turned_away rs || nat_le window m.number) reported ∙ e.away) in
           subst (λ (b : Book). NotesNames (g.J.Journal.header c.try_meet.new.self.stores.journal)
           (g.J.Journal.notes c.try_meet.new.self.stores.journal) first (session_in c.try_meet.new.self.sessions) b)
-          (sym (told_away book m (map reply_of c.push.new.self.items) (done_in c.try_meet.new.self.sessions m.name) away))
+          (sym (reported_away book m (map reply_of c.push.new.self.items) (done_in c.try_meet.new.self.sessions m.name) away))
           (subst (λ (j : _). NotesNames (g.J.Journal.header j) (g.J.Journal.notes j) first
           (session_in c.try_meet.new.self.sessions) book) (sym e.left.journal)
           (subst (λ (t : _). NotesNames (g.J.Journal.header c.args.self.now.stores.journal)

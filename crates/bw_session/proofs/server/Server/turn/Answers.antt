@@ -9,7 +9,7 @@ use Rattle.bw_model.specs.Wire.{Message}
 use Rattle.bw_model.specs.Book.{log_of, is_known}
 use Rattle.bw_model.specs.Turn.{is_full, most_takes, window}
 use Rattle.bw_model.specs.Holds.{Holds}
-use Rattle.bw_model.specs.CountedTurn.{book_told}
+use Rattle.bw_model.specs.CountedTurn.{book_reported}
 use Rattle.bw_file.specs.Growing.{Growing}
 use Rattle.bw_store.specs.Stores.{KeepsOthers}
 use Rattle.bw_wire.specs.Frames.{message_of}
@@ -17,7 +17,7 @@ use Rattle.bw_wire.proofs.BodyLaws.{message_spelled}
 use Rattle.bw_session.specs.Numbered.{KeepsBoth, failed_calls}
 use Rattle.bw_session.specs.Sessions.{CallsFew, HoldsLog, part_of}
 use Rattle.bw_wire.specs.Replies.{reply_of}
-use Rattle.bw_session.specs.Serving.{Answers, log_told}
+use Rattle.bw_session.specs.Serving.{Answers, log_reported}
 use Rattle.bw_session.specs.Servers.{kept_in, store_since, done_in}
 use Rattle.bw_session.specs.Books.{failures_of}
 use Rattle.bw_session.specs.Journaled.{NotesNames}
@@ -25,7 +25,7 @@ use Rattle.bw_session.specs.Tables.{session_in}
 use Rattle.bw_session.specs.declared.session.Session.{Session}
 use Rattle.bw_session.proofs.AnswerForms.{answers_full}
 use Rattle.bw_session.proofs.RunForms.{noted_then}
-use Rattle.bw_session.proofs.JournalForms.{notes_after, told_here, told_others}
+use Rattle.bw_session.proofs.JournalForms.{notes_after, reported_here, reported_others}
 use Rattle.bw_session.proofs.ServerForms.{table_set, book_turned, known_here, part_here, put_here}
 use Rattle.bw_session.proofs.AdmitForms.{no_false}
 use Rattle.bw_session.proofs.UseForms.{same_kept, kept_put}
@@ -195,24 +195,24 @@ returns-in-Some-clause-noted g c = λ honest honest_notes first book h n.
     ap (λ (k : Bool). not k && nat_le window m.number) known in
     let noted = noted_then s.progress.name m.name (g.J.Journal.header c.args.self.now.stores.journal) _ (first m.name)
     (log_of book m.name)
-    (log_told (log_of book m.name) m (map reply_of c.answer.new.out.items) (length s'.progress.ledger.outcomes))
+    (log_reported (log_of book m.name) m (map reply_of c.answer.new.out.items) (length s'.progress.ledger.outcomes))
     s.progress.noted _ (g.J.Journal.notes c.args.self.now.stores.journal)
     (g.J.Journal.notes c.answer.new.stores.journal) named refl
     (c.answer.ensures.noted honest honest_notes (first m.name) (log_of book m.name)
     (subst (λ (n : List ℕ). HoldsLog (first m.name) (log_of book m.name) (part_of s)
-    (g.S.TakeStore.contents c.args.self.now.stores.store n)) (sym named) part)) (n.stood m.name)
+    (g.S.TakeStore.contents c.args.self.now.stores.store n)) (sym named) part)) (n.existed m.name)
     (n.known m.name s found) in
     notes_after (g.J.Journal.header c.args.self.now.stores.journal) (g.J.Journal.header c.answer.new.stores.journal)
     (g.J.Journal.notes c.args.self.now.stores.journal) (g.J.Journal.notes c.answer.new.stores.journal) first
     (session_in c.args.self.now.sessions) (session_in (c.get_mut.follows.lender s')) book
-    (book_told book m (map reply_of c.answer.new.out.items) (done_in (c.get_mut.follows.lender s') m.name)) m.name s'
-    (log_told (log_of book m.name) m (map reply_of c.answer.new.out.items) (length s'.progress.ledger.outcomes)) n
+    (book_reported book m (map reply_of c.answer.new.out.items) (done_in (c.get_mut.follows.lender s') m.name)) m.name s'
+    (log_reported (log_of book m.name) m (map reply_of c.answer.new.out.items) (length s'.progress.ledger.outcomes)) n
     (both.1.headers honest_notes)
     (subst (λ (k : List ℕ). KeepsOthers (g.J.Journal.notes c.args.self.now.stores.journal)
     (g.J.Journal.notes c.answer.new.stores.journal) k) named (both.1.other_notes honest_notes)) sets
-    (told_here book m (map reply_of c.answer.new.out.items) (done_in (c.get_mut.follows.lender s') m.name) near
-    ∙ ap (log_told (log_of book m.name) m (map reply_of c.answer.new.out.items)) done)
-    (told_others book m (map reply_of c.answer.new.out.items) (done_in (c.get_mut.follows.lender s') m.name) near) noted
+    (reported_here book m (map reply_of c.answer.new.out.items) (done_in (c.get_mut.follows.lender s') m.name) near
+    ∙ ap (log_reported (log_of book m.name) m (map reply_of c.answer.new.out.items)) done)
+    (reported_others book m (map reply_of c.answer.new.out.items) (done_in (c.get_mut.follows.lender s') m.name) near) noted
 
 pub returns-in-Some-clause-unmet : goal.returns-in-Some-clause-unmet
 returns-in-Some-clause-unmet g c = λ none.

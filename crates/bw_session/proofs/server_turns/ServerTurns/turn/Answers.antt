@@ -7,7 +7,7 @@ use Rattle.bw_wire.specs.Replies.{reply_of}
 use Rattle.bw_session.specs.Books.{failures_of, NotesBook}
 use Rattle.bw_session.specs.Servers.{store_since, done_in}
 use Rattle.bw_session.specs.Tables.{session_in}
-use Rattle.bw_session.proofs.ServerAnswers.{done_is, later_told}
+use Rattle.bw_session.proofs.ServerAnswers.{done_is, later_reported}
 use Rattle.bw_session.proofs.server_turns.ServerTurns.turn.Goals as goal
 use Rattle.bw_session.proofs.ServerAnswers.{one_failed}
 
@@ -35,7 +35,7 @@ returns-clause-answered g c =
             held = t.held;
             noted = λ honest_notes notes.
                 subst (λ (b : Book). NotesBook g.S.TakeStore g.J.Journal first c.turn.new.self b)
-                (later_told (λ n. is_some (first n)) (failures_of g.S.TakeStore g.J.Journal c.args.self.now)
+                (later_reported (λ n. is_some (first n)) (failures_of g.S.TakeStore g.J.Journal c.args.self.now)
                 (failures_of g.S.TakeStore g.J.Journal c.turn.new.self) book m
                 (map reply_of c.turn.new.out.items) t.later (done_in c.turn.new.self.sessions m.name) t.turned done)
                 (c.turn.ensures.noted honest honest_notes first book h notes);

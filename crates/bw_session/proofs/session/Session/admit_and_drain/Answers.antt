@@ -32,7 +32,7 @@ returns-then-is_held-clause-drained g c = λ honest first log h.
     c.admit.new.self.progress.name c.requires.empty (sym kept.name) (c.in_ok-admit.ensures.ok first log _ h)))
 
 pub returns-then-is_held-clause-noted : goal.returns-then-is_held-clause-noted
-returns-then-is_held-clause-noted g c = λ honest honest_notes first log h stood noted.
+returns-then-is_held-clause-noted g c = λ honest honest_notes first log h existed noted.
     let m : Message = message_of c.args.message.now in
     let kept = c.in_ok-admit.ensures.progress in
     noted_then c.admit.new.self.progress.name c.args.self.now.progress.name
@@ -44,7 +44,7 @@ returns-then-is_held-clause-noted g c = λ honest honest_notes first log h stood
     (starts first log m (part_of c.args.self.now) _ h c.get.ensures.slots (part_of c.admit.new.self)
     c.args.out.now.items (g.S.TakeStore.contents c.args.stores.now.store) c.args.self.now.progress.name
     c.admit.new.self.progress.name c.requires.empty (sym kept.name) (c.in_ok-admit.ensures.ok first log _ h)))
-    stood
+    existed
     (noted_start _ c.args.self.now.progress.name (with_message log m) c.admit.new.self.progress.noted _
     c.args.out.now.items c.requires.empty (c.in_ok-admit.ensures.noted first log _ _ _ h noted))
 
@@ -69,7 +69,7 @@ returns-in-Ok-clause-drained g c = λ honest first log h.
     ∙ sym c.name.ensures) (search rules) (sym take.name) next))
 
 pub returns-in-Ok-clause-noted : goal.returns-in-Ok-clause-noted
-returns-in-Ok-clause-noted g c = λ honest honest_notes first log h stood noted.
+returns-in-Ok-clause-noted g c = λ honest honest_notes first log h existed noted.
     let m : Message = message_of c.args.message.now in
     let take = c.in_ok-verdict.ensures.take in
     let both = c.in_ok-verdict.ensures.both in
@@ -83,7 +83,7 @@ returns-in-Ok-clause-noted g c = λ honest honest_notes first log h stood noted.
     c.args.self.now.progress.name (drained_log (drained_by a) (with_message log m))
     c.do_next.new.self.progress.noted
     (g.J.Journal.notes c.do_next.new.stores.journal c.args.self.now.progress.name)) c.in-Ok.is
-    (c.in_ok-verdict.ensures.noted honest honest_notes first log h stood noted) in
+    (c.in_ok-verdict.ensures.noted honest honest_notes first log h existed noted) in
     noted_then c.do_next.new.self.progress.name c.args.self.now.progress.name
     (g.J.Journal.header c.do_next.new.stores.journal) _ first
     (with_more_done (with_message log m) (length c.push.new.self.items))
@@ -97,7 +97,7 @@ returns-in-Ok-clause-noted g c = λ honest honest_notes first log h stood noted.
     c.do_next.new.self.progress.name c.requires.empty c.push.ensures.items
     (ap (λ (x : Growing). x.name) take.growing ∙ c.args.self.now.progress.same_name ∙ sym c.requires.name
     ∙ sym c.name.ensures) (search rules) (sym take.name) next))
-    stood
+    existed
     (noted_one _ c.args.self.now.progress.name (with_message log m) c.do_next.new.self.progress.noted _ _
     c.push.new.self.items c.args.out.now.items c.requires.empty c.push.ensures.items one)
 
@@ -114,7 +114,7 @@ returns-in-Err-clause-drained g c = λ honest first log h.
     (c.in_ok-verdict.ensures.drained honest first log h))
 
 pub returns-in-Err-clause-noted : goal.returns-in-Err-clause-noted
-returns-in-Err-clause-noted g c = λ honest honest_notes first log h stood noted.
+returns-in-Err-clause-noted g c = λ honest honest_notes first log h existed noted.
     let m : Message = message_of c.args.message.now in
     noted_start _ c.args.self.now.progress.name (with_message log m) c.do_next.new.self.progress.noted _
     c.args.out.now.items c.requires.empty
@@ -123,7 +123,7 @@ returns-in-Err-clause-noted g c = λ honest honest_notes first log h stood noted
     c.args.self.now.progress.name (drained_log (drained_by a) (with_message log m))
     c.do_next.new.self.progress.noted
     (g.J.Journal.notes c.do_next.new.stores.journal c.args.self.now.progress.name)) c.in-Err.is
-    (c.in_ok-verdict.ensures.noted honest honest_notes first log h stood noted))
+    (c.in_ok-verdict.ensures.noted honest honest_notes first log h existed noted))
 
 pub do_next-requires-clause-free : goal.do_next-requires-clause-free
 do_next-requires-clause-free g c = search rules

@@ -34,8 +34,8 @@ returns-in-Err-clause-answers g c = λ honest first log h.
     let e = c.in-Err.ensures in
     let next : length c.serve.new.self.progress.ledger.outcomes ≡ log.done =
     ap length e.refused.left.progress.outcomes ∙ h.memory.done in
-    let told : map reply_of c.push.new.self.items ≡ notice m model.NoRoom log.done =
-    ap (map reply_of) (c.push.ensures.items ∙ ap (λ (rs : List Reply). rs ++ c.notice.result ∷ []) e.untold)
+    let reported : map reply_of c.push.new.self.items ≡ notice m model.NoRoom log.done =
+    ap (map reply_of) (c.push.ensures.items ∙ ap (λ (rs : List Reply). rs ++ c.notice.result ∷ []) e.unreported)
     ∙ ap (λ (r : model.Reply). r ∷ []) (c.notice.ensures.value
     ∙ ap (model.Noticed m.name m.number model.NoRoom) next) in
     let before : ℕ = failed_calls (g.S.TakeStore.failures c.args.stores.now.store)
@@ -47,27 +47,27 @@ returns-in-Err-clause-answers g c = λ honest first log h.
     (g.J.Journal.failures c.args.stores.now.journal)) c.push.new.self.items (part_of c.serve.new.self)
     (g.S.TakeStore.contents s c.args.self.now.progress.name)) (sym e.refused.left.store)
     (answers_refused true false first log m refl refl before c.push.new.self.items (part_of c.serve.new.self) _
-    (e.refused.refused first log _ h) told
+    (e.refused.refused first log _ h) reported
     (same_part first log c.args.self.now c.serve.new.self _ e.refused.left.progress e.refused.left.window h)))
 
 pub returns-in_default-clause-noted : goal.returns-in_default-clause-noted
-returns-in_default-clause-noted g c = λ honest honest_notes first log h stood noted.
+returns-in_default-clause-noted g c = λ honest honest_notes first log h existed noted.
     let m : Message = message_of c.args.message.now in
     subst (λ (b : Bool). IsNoted (g.J.Journal.header c.args.stores.now.journal c.args.self.now.progress.name)
     c.args.self.now.progress.name
     (cond b log (log_after log m (length c.serve.new.self.progress.ledger.outcomes)))
     c.serve.new.self.progress.noted (g.J.Journal.notes c.serve.new.stores.journal c.args.self.now.progress.name))
-    (sym (none_away c.serve.new.out.items c.in_default.ensures.told))
-    (c.in_default.ensures.noted honest honest_notes first log h stood noted)
+    (sym (none_away c.serve.new.out.items c.in_default.ensures.reported))
+    (c.in_default.ensures.noted honest honest_notes first log h existed noted)
 
 pub returns-in-Err-clause-noted : goal.returns-in-Err-clause-noted
-returns-in-Err-clause-noted g c = λ honest honest_notes first log h stood noted.
+returns-in-Err-clause-noted g c = λ honest honest_notes first log h existed noted.
     let m : Message = message_of c.args.message.now in
     let e = c.in-Err.ensures in
-    let told : map reply_of c.push.new.self.items ≡ reply_of c.notice.result ∷ [] =
-    ap (map reply_of) (c.push.ensures.items ∙ ap (λ (rs : List Reply). rs ++ c.notice.result ∷ []) e.untold) in
+    let reported : map reply_of c.push.new.self.items ≡ reply_of c.notice.result ∷ [] =
+    ap (map reply_of) (c.push.ensures.items ∙ ap (λ (rs : List Reply). rs ++ c.notice.result ∷ []) e.unreported) in
     let away : is_turned_away (map reply_of c.push.new.self.items) ≡ true =
-    ap is_turned_away (told ∙ ap (λ (r : model.Reply). r ∷ []) c.notice.ensures.value) in
+    ap is_turned_away (reported ∙ ap (λ (r : model.Reply). r ∷ []) c.notice.ensures.value) in
     subst (λ (b : Bool). IsNoted (g.J.Journal.header c.args.stores.now.journal c.args.self.now.progress.name)
     c.args.self.now.progress.name
     (cond b log (log_after log m (length c.serve.new.self.progress.ledger.outcomes)))
@@ -81,7 +81,7 @@ returns-in-Err-clause-noted g c = λ honest honest_notes first log h stood noted
     (g.J.Journal.notes j c.args.self.now.progress.name)) (sym e.refused.left.journal) noted))
 
 pub returns-in_default-clause-uncalled : goal.returns-in_default-clause-uncalled
-returns-in_default-clause-uncalled g c = λ away. served_here c.serve.new.out.items c.in_default.ensures.told away
+returns-in_default-clause-uncalled g c = λ away. served_here c.serve.new.out.items c.in_default.ensures.reported away
 
 pub returns-in-Err-clause-uncalled : goal.returns-in-Err-clause-uncalled
 returns-in-Err-clause-uncalled g c = λ away. c.in-Err.ensures.refused.left

@@ -14,7 +14,7 @@ use Rattle.bw_wire.proofs.BodyLaws.{message_spelled}
 use Rattle.bw_session.specs.Windows.{count_held}
 use Rattle.bw_session.specs.Ledgers.{Entries}
 use Rattle.bw_session.specs.Carrying.{Touches, judged_plan}
-use Rattle.bw_session.specs.Judging.{judged_by, KeepsJudged}
+use Rattle.bw_session.specs.Judging.{judged_in, KeepsJudged}
 use Rattle.bw_store.specs.StoreSteps.{WasAsked, WasAskedFirst}
 use Rattle.bw_session.specs.Noting.{IsNoted}
 use Rattle.bw_session.specs.Admitting.{with_message}
@@ -22,7 +22,7 @@ use Rattle.bw_session.specs.Draining.{HoldsPart}
 use Rattle.bw_session.specs.Numbered.{with_done}
 use Rattle.bw_session.proofs.AdmitForms.{at-set_same, count_room, said_number, notes_put}
 use Rattle.bw_session.proofs.DrainForms.{part_waits, part_done}
-use Rattle.bw_session.proofs.NextForms.{fits_passed, fits_waiting, passed_slot, held_at, next_front}
+use Rattle.bw_session.proofs.NextForms.{fits_passed, fits_waiting, passed_slot, held_at, next_prefix}
 use Rattle.bw_session.proofs.RunForms.{noted_then}
 use Rattle.bw_session.specs.Sessions.{part_of}
 use Rattle.bw_session.specs.KeptParts.{Part}
@@ -99,14 +99,14 @@ returns-in-Ok-clause-drained g c = λ honest first log h.
     let m : Message = message_of c.args.message.now in
     let w : List (Option (List ℕ)) = c.args.self.now.window in
     let kept = c.in_ok-room.ensures.progress in
-    let here = next_front first log c.args.self.now c.make_room.new.self (g.S.TakeStore.contents c.args.stores.now.store)
+    let here = next_prefix first log c.args.self.now c.make_room.new.self (g.S.TakeStore.contents c.args.stores.now.store)
     m (meaning c.request-request.result) c.args.digest h kept c.requires.name c.requires.next c.requires.free
     c.requires.slots c.request-request.ensures.value c.request-request.ensures.fits c.requires.digest in
     let held = here.0 in
-    let front = here.1 in
-    let done = c.in-Ok.ensures.done honest first (with_message log m) front.0 front.1 in
+    let prefix = here.1 in
+    let done = c.in-Ok.ensures.done honest first (with_message log m) prefix.0 prefix.1 in
     record {
-      told = (ap is_some front.0.here, done.verdict_is);
+      reported = (ap is_some prefix.0.here, done.verdict_is);
       left = held_at first _ _ _ _ _ (g.S.TakeStore.contents c.number_done.new.stores.store) _ _ kept.name
           (part_done first (with_message log m) c.make_room.new.self.progress.state.parts
           c.make_room.new.self.progress.ledger.outcomes (slice_set w 0 (Some (message_body m)))
@@ -119,21 +119,21 @@ returns-in-Ok-clause-drained g c = λ honest first log h.
     }
 
 pub returns-in-Ok-clause-noted : goal.returns-in-Ok-clause-noted
-returns-in-Ok-clause-noted g c = λ honest honest_notes first log h stood noted.
+returns-in-Ok-clause-noted g c = λ honest honest_notes first log h existed noted.
     let m : Message = message_of c.args.message.now in
     let w : List (Option (List ℕ)) = c.args.self.now.window in
     let kept = c.in_ok-room.ensures.progress in
-    let here = next_front first log c.args.self.now c.make_room.new.self (g.S.TakeStore.contents c.args.stores.now.store)
+    let here = next_prefix first log c.args.self.now c.make_room.new.self (g.S.TakeStore.contents c.args.stores.now.store)
     m (meaning c.request-request.result) c.args.digest h kept c.requires.name c.requires.next c.requires.free
     c.requires.slots c.request-request.ensures.value c.request-request.ensures.fits c.requires.digest in
     let held = here.0 in
-    let front = here.1 in
+    let prefix = here.1 in
     let next = c.requires.next in
     noted_then c.make_room.new.self.progress.name c.args.self.now.progress.name
     (g.J.Journal.header c.args.stores.now.journal) _ first (with_message log m) (with_done (with_message log m))
     c.make_room.new.self.progress.noted _ (g.J.Journal.notes c.args.stores.now.journal)
     (g.J.Journal.notes c.number_done.new.stores.journal) kept.name refl
-    (c.in-Ok.ensures.noted honest honest_notes first (with_message log m) front.0 front.1) stood
+    (c.in-Ok.ensures.noted honest honest_notes first (with_message log m) prefix.0 prefix.1) existed
     (subst (λ (n : ℕ). IsNoted (g.J.Journal.header c.args.stores.now.journal c.args.self.now.progress.name)
     c.args.self.now.progress.name (with_message log m) n
     (g.J.Journal.notes c.args.stores.now.journal c.args.self.now.progress.name)) (sym kept.noted)
@@ -146,13 +146,13 @@ returns-in-Err-clause-drained g c = λ honest first log h.
     let m : Message = message_of c.args.message.now in
     let w : List (Option (List ℕ)) = c.args.self.now.window in
     let kept = c.in_ok-room.ensures.progress in
-    let here = next_front first log c.args.self.now c.make_room.new.self (g.S.TakeStore.contents c.args.stores.now.store)
+    let here = next_prefix first log c.args.self.now c.make_room.new.self (g.S.TakeStore.contents c.args.stores.now.store)
     m (meaning c.request-request.result) c.args.digest h kept c.requires.name c.requires.next c.requires.free
     c.requires.slots c.request-request.ensures.value c.request-request.ensures.fits c.requires.digest in
     let held = here.0 in
-    let front = here.1 in
+    let prefix = here.1 in
     record {
-      told = ap is_some front.0.here;
+      reported = ap is_some prefix.0.here;
       left = held_at first _ _ _ _ _ (g.S.TakeStore.contents c.number_done.new.stores.store) _ _ kept.name
           (subst (λ (x : List (Option (List ℕ))). HoldsPart first (with_message log m)
           c.number_done.new.self.state.parts c.number_done.new.self.ledger.outcomes x
@@ -165,26 +165,26 @@ returns-in-Err-clause-drained g c = λ honest first log h.
           c.make_room.new.self.progress.ledger.outcomes (slice_set w 0 (Some (message_body m)))
           c.make_room.new.self.progress.growing _ held c.number_done.new.self.state.parts
           c.number_done.new.self.ledger.outcomes (meaning c.request-request.result) c.number_done.new.self.growing _
-          front.0.here (ap (λ (x : Growing). x.name) c.in-Err.ensures.places.known)
-          (c.in-Err.ensures.done honest first (with_message log m) front.0 front.1)));
+          prefix.0.here (ap (λ (x : Growing). x.name) c.in-Err.ensures.places.known)
+          (c.in-Err.ensures.done honest first (with_message log m) prefix.0 prefix.1)));
     }
 
 pub returns-in-Err-clause-noted : goal.returns-in-Err-clause-noted
-returns-in-Err-clause-noted g c = λ honest honest_notes first log h stood noted.
+returns-in-Err-clause-noted g c = λ honest honest_notes first log h existed noted.
     let m : Message = message_of c.args.message.now in
     let w : List (Option (List ℕ)) = c.args.self.now.window in
     let kept = c.in_ok-room.ensures.progress in
-    let here = next_front first log c.args.self.now c.make_room.new.self (g.S.TakeStore.contents c.args.stores.now.store)
+    let here = next_prefix first log c.args.self.now c.make_room.new.self (g.S.TakeStore.contents c.args.stores.now.store)
     m (meaning c.request-request.result) c.args.digest h kept c.requires.name c.requires.next c.requires.free
     c.requires.slots c.request-request.ensures.value c.request-request.ensures.fits c.requires.digest in
     let held = here.0 in
-    let front = here.1 in
+    let prefix = here.1 in
     let next = c.requires.next in
     noted_then c.make_room.new.self.progress.name c.args.self.now.progress.name
     (g.J.Journal.header c.args.stores.now.journal) _ first (with_message log m) (with_message log m)
     c.make_room.new.self.progress.noted _ (g.J.Journal.notes c.args.stores.now.journal)
     (g.J.Journal.notes c.number_done.new.stores.journal) kept.name refl
-    (c.in-Err.ensures.noted honest honest_notes first (with_message log m) front.0 front.1) stood
+    (c.in-Err.ensures.noted honest honest_notes first (with_message log m) prefix.0 prefix.1) existed
     (subst (λ (n : ℕ). IsNoted (g.J.Journal.header c.args.stores.now.journal c.args.self.now.progress.name)
     c.args.self.now.progress.name (with_message log m) n
     (g.J.Journal.notes c.args.stores.now.journal c.args.self.now.progress.name)) (sym kept.noted)
@@ -226,7 +226,7 @@ returns-in-Ok-clause-asked g c =
     c.in-Ok.ensures.kept.clean
     (subst (λ (p : _). KeepsJudged p (meaning c.request-request.result) c.number_done.new.self.state.parts) kept.parts
     c.in-Ok.ensures.kept.kept)
-    (c.in-Ok.ensures.kept.verdict ∙ ap (λ (p : _). judged_by p (meaning c.request-request.result)
+    (c.in-Ok.ensures.kept.verdict ∙ ap (λ (p : _). judged_in p (meaning c.request-request.result)
     c.number_done.new.self.state.parts.taken) kept.parts)
     (c.in-Ok.ensures.kept.outcomes ∙ ap (λ (x : List (List ℕ × Verdict)).
     x ++ (c.args.digest, verdict_meaning c.in-Ok.verdict) ∷ []) kept.outcomes)

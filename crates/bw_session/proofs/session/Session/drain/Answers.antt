@@ -4,7 +4,7 @@ use Rattle.std.proofs.lemmas.List.{length_push}
 use Rattle.std.proofs.lemmas.List.Elements.{All-append, All-push}
 use Rattle.bw_model.specs.Wire.{Second, last_number}
 use Rattle.bw_file.specs.Growing.{Growing}
-use Rattle.bw_session.specs.Telling.{IsServing, IsTimely}
+use Rattle.bw_session.specs.Reporting.{IsServing, IsTimely}
 use Rattle.bw_session.specs.Noting.{IsNoted}
 use Rattle.bw_session.specs.Numbered.{with_done}
 use Rattle.bw_session.specs.Sessions.{part_of}
@@ -13,7 +13,7 @@ use Rattle.bw_session.proofs.RunForms.{both_then, holds_under, noted_then, drain
 use Rattle.bw_session.proofs.session.Session.drain.Goals as goal
 
 pub returns-in-Idle-clause-noted : goal.returns-in-Idle-clause-noted
-returns-in-Idle-clause-noted g c = λ honest honest_notes first log h stood noted.
+returns-in-Idle-clause-noted g c = λ honest honest_notes first log h existed noted.
     let loop = c.loop-slot.invariant in
     let drained = loop.drained honest first log h in
     noted_then c.loop-slot.self.progress.name c.args.self.now.progress.name
@@ -24,10 +24,10 @@ returns-in-Idle-clause-noted g c = λ honest honest_notes first log h stood note
     (c.in-Idle.ensures.noted (loop.both.honest ∙ honest) (loop.both.honest_notes ∙ honest_notes) first
     (with_more_done log (length c.loop-slot.out.items))
     (holds_under first _ _ (g.S.TakeStore.contents c.loop-slot.stores.store) _ _ (sym loop.take.name) drained.left))
-    stood (loop.noted honest honest_notes first log h stood noted)
+    existed (loop.noted honest honest_notes first log h existed noted)
 
 pub returns-in-Stopped-clause-noted : goal.returns-in-Stopped-clause-noted
-returns-in-Stopped-clause-noted g c = λ honest honest_notes first log h stood noted.
+returns-in-Stopped-clause-noted g c = λ honest honest_notes first log h existed noted.
     let loop = c.loop-slot.invariant in
     let drained = loop.drained honest first log h in
     noted_then c.loop-slot.self.progress.name c.args.self.now.progress.name
@@ -38,7 +38,7 @@ returns-in-Stopped-clause-noted g c = λ honest honest_notes first log h stood n
     (c.in-Stopped.ensures.noted (loop.both.honest ∙ honest) (loop.both.honest_notes ∙ honest_notes) first
     (with_more_done log (length c.loop-slot.out.items))
     (holds_under first _ _ (g.S.TakeStore.contents c.loop-slot.stores.store) _ _ (sym loop.take.name) drained.left))
-    stood (loop.noted honest honest_notes first log h stood noted)
+    existed (loop.noted honest honest_notes first log h existed noted)
 
 pub loop-slot-preserved : goal.loop-slot-preserved
 loop-slot-preserved g c =
@@ -77,9 +77,9 @@ loop-slot-preserved g c =
           (c.copy.ensures ∙ c.in-Done.ensures.name ∙ sym c.loop-slot.self.progress.same_name)
           (let count = c.len-number.ensures.value in let done = drained.left.memory.done in
           omega (arith, count, done, tried))
-          next.told.1 drained.told drained.none_past
+          next.reported.1 drained.reported drained.none_past
           (holds_under first _ _ (g.S.TakeStore.contents c.drain_one.new.stores.store) _ _ loop.take.name next.left);
-      noted = λ honest honest_notes first log h stood noted.
+      noted = λ honest honest_notes first log h existed noted.
           let loop = c.loop-slot.invariant in
           let drained = loop.drained honest first log h in
           let further : suc (log.done + length c.loop-slot.out.items) ≡ log.done + length c.push.new.self.items =
@@ -97,7 +97,7 @@ loop-slot-preserved g c =
           (with_more_done log (length c.loop-slot.out.items))
           (holds_under first _ _ (g.S.TakeStore.contents c.loop-slot.stores.store) _ _ (sym loop.take.name)
           drained.left))
-          stood (loop.noted honest honest_notes first log h stood noted));
+          existed (loop.noted honest honest_notes first log h existed noted));
     }
 
 pub returns-in-Idle-clause-run : goal.returns-in-Idle-clause-run
@@ -164,5 +164,5 @@ loop-slot-init g c = record {
   served = λ all. all;
   timely = λ all. all;
   drained = λ honest first log h. h;
-  noted = λ honest honest_notes first log h stood noted. noted;
+  noted = λ honest honest_notes first log h existed noted. noted;
 }

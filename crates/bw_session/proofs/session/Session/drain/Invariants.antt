@@ -2,9 +2,9 @@ use Rattle.std.proofs.Common.{◌≡◌, ℕ, ◌+◌, List, Option, length, IsT
 use Rattle.std.specs.List.{All}
 use Rattle.bw_model.specs.Book.{Log}
 use Rattle.bw_session.specs.Numbered.{KeepsBoth}
-use Rattle.bw_session.specs.Asking.{DoesInRow}
+use Rattle.bw_session.specs.Asking.{DoesConsecutively}
 use Rattle.bw_session.specs.Noting.{IsNoted}
-use Rattle.bw_session.specs.Telling.{IsServing, IsTimely}
+use Rattle.bw_session.specs.Reporting.{IsServing, IsTimely}
 use Rattle.bw_session.specs.Sessions.{CallsFew, KeepsTake, part_of}
 use Rattle.bw_session.specs.Runs.{with_more_done, HasDrained}
 use Rattle.bw_session.proofs.session.Session.drain.Given as goal
@@ -15,7 +15,7 @@ invariant-loop-slot g l = record {
       l.fn.stores.journal l.stores.journal;
   calls : CallsFew (g.S.TakeStore.calls l.fn.stores.store) (g.S.TakeStore.calls l.stores.store)
       (length l.fn.self.progress.ledger.outcomes) (length l.self.progress.ledger.outcomes) false;
-  asked : (n : ℕ) × DoesInRow g.S.TakeStore n (part_of l.fn.self) l.fn.stores.store (part_of l.self) l.stores.store;
+  asked : (n : ℕ) × DoesConsecutively g.S.TakeStore n (part_of l.fn.self) l.fn.stores.store (part_of l.self) l.stores.store;
   reached : asked.0 + length l.fn.out.items ≡ l._slot;
   take : KeepsTake l.fn.self l.self;
   few : length l.out.items ≡ l._slot;
@@ -27,7 +27,7 @@ invariant-loop-slot g l = record {
   noted : IsTrue (g.S.TakeStore.honest l.fn.stores.store) → IsTrue (g.J.Journal.honest l.fn.stores.journal) →
       (first : Option (List ℕ)) (log : Log) →
       HasDrained first log l.fn.out.items (part_of l.fn.self) (g.S.TakeStore.contents l.fn.stores.store l.fn.self.progress.name) →
-      (g.J.Journal.header l.fn.stores.journal l.fn.self.progress.name).stood ≡ is_some first →
+      (g.J.Journal.header l.fn.stores.journal l.fn.self.progress.name).existed ≡ is_some first →
       IsNoted (g.J.Journal.header l.fn.stores.journal l.fn.self.progress.name) l.fn.self.progress.name
       (with_more_done log (length l.fn.out.items)) l.fn.self.progress.noted
       (g.J.Journal.notes l.fn.stores.journal l.fn.self.progress.name) →

@@ -22,8 +22,8 @@ returns-clause-holds c = IfOk-weaker c.resume.result _ _
 
 pub returns-clause-noted : goal.returns-clause-noted
 returns-clause-noted c = IfOk-weaker c.resume.result _ _
-    (λ s same h found front. subst (λ (p : Progress). IsNoted h c.args.name no_log p.noted found) (sym same)
-    (new_notes h c.args.name found front))
+    (λ s same h found prefix. subst (λ (p : Progress). IsNoted h c.args.name no_log p.noted found) (sym same)
+    (new_notes h c.args.name found prefix))
     c.resume.ensures.progress
 
 pub returns-clause-part : goal.returns-clause-part

@@ -15,9 +15,9 @@ use Rattle.bw_session.proofs.session.Session.reply_to.Goals as goal
 pub returns-then-not-has_admitted-clause-value : goal.returns-then-not-has_admitted-clause-value
 returns-then-not-has_admitted-clause-value c = λ first log drained found h same near.
     let m : Message = message_of c.args.message.now in
-    let told : c.has_admitted.result ≡ false = search rules in
+    let reported : c.has_admitted.result ≡ false = search rules in
     let repeat = sym (c.has_admitted.ensures first (with_more_done log (length drained)) found m h.drained.left
-    c.requires.name (sym c.number-number.ensures.value) c.requires.digest) ∙ told in
+    c.requires.name (sym c.number-number.ensures.value) c.requires.digest) ∙ reported in
     ap (λ (r : model.Reply). r ∷ []) c.notice.ensures.value
     ∙ sym (own_conflict (is_some first) log.admitted c.args.done (length c.args.self.now.progress.ledger.outcomes)
     (run_end log.admitted c.args.done) m near repeat)
@@ -34,9 +34,9 @@ returns-then-len-number-clause-timely c =
 pub returns-then-len-number-clause-value : goal.returns-then-len-number-clause-value
 returns-then-len-number-clause-value c = λ first log drained found h same near.
     let m : Message = message_of c.args.message.now in
-    let told : c.has_admitted.result ≡ true = search rules in
+    let reported : c.has_admitted.result ≡ true = search rules in
     let repeat = sym (c.has_admitted.ensures first (with_more_done log (length drained)) found m h.drained.left
-    c.requires.name (sym c.number-number.ensures.value) c.requires.digest) ∙ told in
+    c.requires.name (sym c.number-number.ensures.value) c.requires.digest) ∙ reported in
     let later : length c.args.self.now.progress.ledger.outcomes ≡ log.done + length drained =
     h.drained.left.memory.done in
     let above : length c.args.self.now.progress.ledger.outcomes ≤ m.number = search rules in
@@ -50,9 +50,9 @@ returns-then-len-number-clause-value c = λ first log drained found h same near.
 pub returns-then-number-done-clause-value : goal.returns-then-number-done-clause-value
 returns-then-number-done-clause-value c = λ first log drained found h same near.
     let m : Message = message_of c.args.message.now in
-    let told : c.has_admitted.result ≡ true = search rules in
+    let reported : c.has_admitted.result ≡ true = search rules in
     let repeat = sym (c.has_admitted.ensures first (with_more_done log (length drained)) found m h.drained.left
-    c.requires.name (sym c.number-number.ensures.value) c.requires.digest) ∙ told in
+    c.requires.name (sym c.number-number.ensures.value) c.requires.digest) ∙ reported in
     let number : c.number-number.result ≡ m.number = c.number-number.ensures.value in
     let below : m.number < c.args.done = search rules in
     let kept = verdict_kept first (with_more_done log (length drained)) (part_of c.args.self.now) found h.drained.left
@@ -68,9 +68,9 @@ returns-then-number-done-clause-value c = λ first log drained found h same near
 pub returns-clause-value : goal.returns-clause-value
 returns-clause-value c = λ first log drained found h same near.
     let m : Message = message_of c.args.message.now in
-    let told : c.has_admitted.result ≡ true = search rules in
+    let reported : c.has_admitted.result ≡ true = search rules in
     let repeat = sym (c.has_admitted.ensures first (with_more_done log (length drained)) found m h.drained.left
-    c.requires.name (sym c.number-number.ensures.value) c.requires.digest) ∙ told in
+    c.requires.name (sym c.number-number.ensures.value) c.requires.digest) ∙ reported in
     let up : c.args.done ≤ m.number = search rules in
     let below : m.number < length c.args.self.now.progress.ledger.outcomes = search rules in
     sym (own_drained (is_some first) log.admitted c.args.done (length c.args.self.now.progress.ledger.outcomes)

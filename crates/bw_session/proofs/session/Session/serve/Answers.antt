@@ -11,7 +11,7 @@ use Rattle.bw_session.specs.Admitting.{with_message}
 use Rattle.bw_session.specs.Noting.{IsNoted}
 use Rattle.bw_session.specs.Sessions.{part_of}
 use Rattle.bw_session.specs.Serving.{log_after}
-use Rattle.bw_session.specs.Telling.{IsTimely}
+use Rattle.bw_session.specs.Reporting.{IsTimely}
 use Rattle.bw_session.proofs.AdmitForms.{outside_not_new, part_same, notes_same}
 use Rattle.bw_session.proofs.ReplyForms.{own_far}
 use Rattle.bw_session.proofs.ServeForms.{starts, serves, noted_start}
@@ -75,7 +75,7 @@ returns-then-done-len-clause-served g c = λ honest first log h.
     c.drain.ensures.run.both.failures
 
 pub returns-then-done-len-clause-noted : goal.returns-then-done-len-clause-noted
-returns-then-done-len-clause-noted g c = λ honest honest_notes first log h stood noted.
+returns-then-done-len-clause-noted g c = λ honest honest_notes first log h existed noted.
     let m : Message = message_of c.args.message.now in
     let long = c.len-done.ensures.value in
     let slots = c.len.ensures.value in
@@ -92,7 +92,7 @@ returns-then-done-len-clause-noted g c = λ honest honest_notes first log h stoo
     (c.drain.ensures.noted honest honest_notes first (with_message log m)
     (starts first log m (part_of c.args.self.now) _ h c.len.ensures.slots (part_of c.args.self.now)
     c.args.out.now.items (g.S.TakeStore.contents c.args.stores.now.store) c.args.self.now.progress.name
-    c.args.self.now.progress.name c.requires.empty refl (part_same first log _ _ _ _ _ h m same)) stood
+    c.args.self.now.progress.name c.requires.empty refl (part_same first log _ _ _ _ _ h m same)) existed
     (noted_start _ c.args.self.now.progress.name (with_message log m) c.args.self.now.progress.noted _
     c.args.out.now.items c.requires.empty
     (notes_same first log _ _ _ _ _ h m _ c.args.self.now.progress.name _ _ same noted)))
@@ -111,7 +111,7 @@ returns-in-Some-clause-served g c = λ honest first log h.
     c.in_ok-stopped.ensures.run.both.failures
 
 pub returns-in-Some-clause-noted : goal.returns-in-Some-clause-noted
-returns-in-Some-clause-noted g c = λ honest honest_notes first log h stood noted.
+returns-in-Some-clause-noted g c = λ honest honest_notes first log h existed noted.
     let m : Message = message_of c.args.message.now in
     let done = c.len-done.ensures.value ∙ h.memory.done in
     let ended = c.in_ok-stopped.ensures.drained honest first log h in
@@ -119,7 +119,7 @@ returns-in-Some-clause-noted g c = λ honest honest_notes first log h stood note
     c.args.self.now.progress.name (log_after log m n) c.admit_and_drain.new.self.progress.noted
     (g.J.Journal.notes c.admit_and_drain.new.stores.journal c.args.self.now.progress.name))
     (sym ended.drained.left.memory.done)
-    (c.in_ok-stopped.ensures.noted honest honest_notes first log h stood noted)
+    (c.in_ok-stopped.ensures.noted honest honest_notes first log h existed noted)
 
 pub returns-in_default-clause-served : goal.returns-in_default-clause-served
 returns-in_default-clause-served g c = λ honest first log h.
@@ -136,7 +136,7 @@ returns-in_default-clause-served g c = λ honest first log h.
     c.in_ok-stopped.ensures.run.both.failures
 
 pub returns-in_default-clause-noted : goal.returns-in_default-clause-noted
-returns-in_default-clause-noted g c = λ honest honest_notes first log h stood noted.
+returns-in_default-clause-noted g c = λ honest honest_notes first log h existed noted.
     let m : Message = message_of c.args.message.now in
     let done = c.len-done.ensures.value ∙ h.memory.done in
     let ended = c.in_ok-stopped.ensures.drained honest first log h in
@@ -144,7 +144,7 @@ returns-in_default-clause-noted g c = λ honest honest_notes first log h stood n
     c.args.self.now.progress.name (log_after log m n) c.admit_and_drain.new.self.progress.noted
     (g.J.Journal.notes c.admit_and_drain.new.stores.journal c.args.self.now.progress.name))
     (sym ended.drained.left.memory.done)
-    (c.in_ok-stopped.ensures.noted honest honest_notes first log h stood noted)
+    (c.in_ok-stopped.ensures.noted honest honest_notes first log h existed noted)
 
 pub returns-then-done-len-clause-asked : goal.returns-then-done-len-clause-asked
 returns-then-done-len-clause-asked g c =

@@ -51,7 +51,7 @@ returns-in-OpenTake-clause-takes c =
 pub unwrap-requires-in-SetField : goal.unwrap-requires-in-SetField
 unwrap-requires-in-SetField c =
     let stored = rw (← c.self.view_is, c.in-SetField.is) at c.requires.stored in
-    rw (c.set.ensures.told, set_without_fault _ _ _ stored) refl
+    rw (c.set.ensures.reported, set_without_fault _ _ _ stored) refl
 
 pub invariant_of-self-in-Block : goal.invariant_of-self-in-Block
 invariant_of-self-in-Block c =

@@ -4,13 +4,13 @@ use Rattle.bw_wire.specs.Bodies.{body_name}
 use Rattle.bw_wire.proofs.BodyLaws.{ask_body}
 use Rattle.bw_wire.proofs.message.Ask.name.Goals as goal
 
-pub behind_kind-requires : goal.behind_kind-requires
-behind_kind-requires c = (ask_body c.args.self.now.body.now c.args.self.now.spells).addressed.some
+pub after_kind-requires : goal.after_kind-requires
+after_kind-requires c = (ask_body c.args.self.now.body.now c.args.self.now.spells).addressed.some
 
 pub name-requires : goal.name-requires
-name-requires c = ap is_name_bad c.behind_kind.ensures
+name-requires c = ap is_name_bad c.after_kind.ensures
     ∙ (ask_body c.args.self.now.body.now c.args.self.now.spells).addressed.named
 
 pub returns : goal.returns
 unfolding body_name
-returns c = c.name.ensures ∙ ap name_in c.behind_kind.ensures
+returns c = c.name.ensures ∙ ap name_in c.after_kind.ensures

@@ -5,19 +5,19 @@ use Rattle.bw_wire.specs.Bodies.{body_number}
 use Rattle.bw_wire.proofs.BodyLaws.{message_body}
 use Rattle.bw_wire.proofs.message.Message.number.Goals as goal
 
-pub behind_kind-requires : goal.behind_kind-requires
-behind_kind-requires c = (message_body c.args.self.now.body.now c.args.self.now.spells).addressed.some
+pub after_kind-requires : goal.after_kind-requires
+after_kind-requires c = (message_body c.args.self.now.body.now c.args.self.now.spells).addressed.some
 
 pub number-requires : goal.number-requires
-number-requires c = subst HasAddress (sym c.behind_kind.ensures)
+number-requires c = subst HasAddress (sym c.after_kind.ensures)
     (message_body c.args.self.now.body.now c.args.self.now.spells).addressed.address
 
 pub returns-clause-value : goal.returns-clause-value
 unfolding body_number
-returns-clause-value c = c.number.ensures ∙ ap number_in c.behind_kind.ensures
+returns-clause-value c = c.number.ensures ∙ ap number_in c.after_kind.ensures
 
 pub returns-clause-range : goal.returns-clause-range
 unfolding body_number
 returns-clause-range c =
-    rw (c.number.ensures, c.behind_kind.ensures)
+    rw (c.number.ensures, c.after_kind.ensures)
     (message_body c.args.self.now.body.now c.args.self.now.spells).addressed.number

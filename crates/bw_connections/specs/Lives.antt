@@ -1,0 +1,332 @@
+-- What a connection has done so far, what a call adds to it, and what is left of one that is over.
+use Rattle.std.specs.Prelude.{◌≡◌, ◌⊎◌, ℕ, ◌+◌, ◌-◌, ◌≤◌, ◌<◌, true, false, Bool, not, ◌||◌, Option, Some, None}
+use Rattle.std.specs.Prelude.{Result, Ok, Err, IfErr, IfSome, IsTrue, OnOk, List, [], ◌∷◌, ◌++◌, length, nat_lt}
+use Rattle.std.specs.Prelude.{if◌then◌else◌, is_some}
+use Rattle.std.specs.declared.net.socket_addr.SocketAddr.{SocketAddr}
+use Rattle.bw_model.specs.Wire.{Cut, Frame, are_bytes}
+use Rattle.bw_model.specs.Replies.{Reply}
+use Rattle.bw_wire.specs.Held.{longest_piece, longest_stream}
+use Rattle.bw_wire.specs.Reasons.{reason_meaning}
+use Rattle.bw_wire.specs.declared.fault.WireFault.{WireFault}
+use Rattle.bw_exchange.specs.declared.exchange.Exchange.{Exchange}
+use Rattle.bw_exchange.specs.declared.serving.ExchangeEnd.TheVariants as ends
+use Rattle.bw_exchange.specs.declared.step.StreamEnd.{StreamEnd}
+use Rattle.bw_exchange.specs.declared.step.StreamEnd.TheVariants as streams
+use Rattle.bw_exchange.specs.Answering.{Answered, AnswersAll}
+use Rattle.bw_exchange.specs.Bounds.{most_before_answer}
+use Rattle.bw_exchange.specs.Done.{DoesMore, HasDone, IsIdle, MustWait}
+use Rattle.bw_exchange.specs.Ends.{IsFinal, end_so_far, end_meaning}
+use Rattle.bw_exchange.specs.Parts.{wants_piece, end_of, waiting_in, pending_of}
+use Rattle.bw_exchange.specs.Served.{ended_by}
+use Rattle.bw_connections.specs.declared.connection.Connection.{Connection}
+use Rattle.bw_connections.specs.declared.connection.ConnectionEnd.{ConnectionEnd}
+use Rattle.bw_connections.specs.declared.connection.ConnectionEnd.TheVariants.{Over, Idle}
+use Rattle.bw_connections.specs.declared.connection.Phase.{Phase}
+use Rattle.bw_connections.specs.declared.connection.Phase.TheVariants as phases
+use Rattle.bw_ports.specs.declared.link.Link.{Ghosts as LinkGhosts}
+use Rattle.bw_connections.specs.Feeding.{fault_to_drain}
+
+-- at most so many frames are answered in a quantum
+abbrev pub quantum : ℕ
+quantum = 64
+
+-- after a bad frame a connection is drained for so many milliseconds
+abbrev pub longest_drain : ℕ
+longest_drain = 2000
+
+-- Bytes that the link gave and the exchange was not fed: none while it is served; after a bad
+-- frame, what still comes.
+abbrev pub IsInPhase : Phase → Exchange → List ℕ → Type 0
+IsInPhase phases.Serving e unread = unread ≡ []
+IsInPhase (phases.Draining fault) e unread =
+    (end_of e ≡ Some (streams.BadFrame fault)) × IsFinal (end_meaning (streams.BadFrame fault))
+    × (waiting_in e ≡ [])
+
+-- the exchange has ended with its stream, and all replies are out
+abbrev pub HasEnded : StreamEnd → Exchange → List ℕ → Type 0
+HasEnded end e unread =
+    (end_of e ≡ Some end) × (waiting_in e ≡ []) × ((unread ≡ []) ⊎ IsFinal (end_meaning end))
+
+-- all whole frames are answered, and all replies are out
+abbrev pub IsUpToDate : Exchange → Type 0
+IsUpToDate e = (wants_piece e ≡ true) × (waiting_in e ≡ [])
+
+-- there are no bytes now: its link told so
+abbrev pub IsDry : {L : Type 0} → LinkGhosts L → Connection L → Type 0
+IsDry G c = (c.readable ≡ false) × G.dry c.link
+
+-- there is no room now: its link told so
+abbrev pub IsFull : {L : Type 0} → LinkGhosts L → Connection L → Type 0
+IsFull G c = (c.writable ≡ false) × G.full c.link
+
+-- whether there may be bytes, and room, is as before, but where the link told that there are none,
+-- or none
+pub record Learns {L : Type 0} (G : LinkGhosts L) (c c' : Connection L) : Type 0 where
+  pub bytes : (c'.readable ≡ c.readable) ⊎ IsDry G c'
+  pub room : (c'.writable ≡ c.writable) ⊎ IsFull G c'
+
+-- what a link told of bytes and room stands still
+pub record StillReported {L : Type 0} (G : LinkGhosts L) (l l' : L) : Type 0 where
+  pub dry : G.dry l → G.dry l'
+  pub full : G.full l → G.full l'
+
+-- what sending comes to: some of the bytes that wait were taken, where there might be room, or the
+-- link told that there is none now
+pub record SendsWaiting {L : Type 0} (G : LinkGhosts L) (c c' : Connection L) : Type 0 where
+  pub bytes : List ℕ
+  pub does : DoesMore c.exchange [] [] bytes c'.exchange
+  -- just these are gone, from the prefix of those that waited
+  pub left : waiting_in c.exchange ≡ bytes ++ waiting_in c'.exchange
+  pub some : c.writable ≡ true → 1 ≤ length (waiting_in c.exchange) →
+      (1 ≤ length bytes) ⊎ IsFull G c'
+  pub wants_read : wants_piece c'.exchange ≡ wants_piece c.exchange
+  pub ended : end_of c'.exchange ≡ end_of c.exchange
+  pub room : (c'.writable ≡ c.writable) ⊎ IsFull G c'
+  pub readable : c'.readable ≡ c.readable
+  pub dry : G.dry c.link → G.dry c'.link
+
+-- what reading comes to: a piece was fed, where one is wanted and there might be bytes, or no more
+-- will come, or the link told that there are none now
+pub record ReadsLink {L : Type 0} (G : LinkGhosts L) (c c' : Connection L) : Type 0 where
+  pub piece : List ℕ
+  pub most : length piece ≤ longest_piece
+  pub does : DoesMore c.exchange piece [] [] c'.exchange
+  pub some : c.readable ≡ true → IsUpToDate c.exchange →
+      (1 ≤ length piece) ⊎ (is_some (end_of c'.exchange) ≡ true) ⊎ IsDry G c'
+  pub reported : (c'.readable ≡ c.readable) ⊎ IsDry G c'
+  -- while replies wait nothing is fed, and the exchange stays as it is
+  pub held : 1 ≤ length (waiting_in c.exchange) → (piece ≡ []) × (c'.exchange ≡ c.exchange)
+  pub writable : c'.writable ≡ c.writable
+  pub full : G.full c.link → G.full c'.link
+
+-- before these bytes were taken nothing more could be answered until a piece was fed or bytes were
+-- taken, or ever
+abbrev pub HadToWait : List ℕ → Exchange → Type 0
+HadToWait bytes e = IsIdle e ⊎ (most_before_answer < length (bytes ++ waiting_in e))
+
+-- What a quantum of one that is served moved: it read, then these frames were answered, then it sent.
+pub record Moved {L : Type 0} (G : LinkGhosts L) (c : Connection L) (answered : List Answered)
+    (c' : Connection L) : Type 0 where
+  pub piece : List ℕ
+  pub bytes : List ℕ
+  pub most : length piece ≤ longest_piece
+  pub does : DoesMore c.exchange piece answered bytes c'.exchange
+  pub reads : c.readable ≡ true → IsUpToDate c.exchange →
+      (1 ≤ length piece) ⊎ (is_some (end_of c'.exchange) ≡ true) ⊎ IsDry G c'
+  -- while replies wait nothing is read
+  pub held : 1 ≤ length (waiting_in c.exchange) → piece ≡ []
+  -- fewer frames than a quantum were answered only where the exchange had to wait
+  pub waits : length answered < quantum → HadToWait bytes c'.exchange
+  -- where there might be room, no replies wait any longer, also none to these frames; or some bytes
+  -- of replies went, or there is no room now
+  pub sends : c.writable ≡ true →
+      (waiting_in c'.exchange ≡ []) ⊎ (1 ≤ length bytes) ⊎ IsFull G c'
+  -- some went where replies waited before, whatever was done before
+  pub sends_waiting : (fed gone : List ℕ) (before : List Answered) →
+      HasDone fed before gone c.exchange → c.writable ≡ true →
+      1 ≤ length (waiting_in c.exchange) → (1 ≤ length bytes) ⊎ IsFull G c'
+
+-- how a connection's exchange stands where it ended so, and what it was not fed of what the link
+-- gave
+abbrev pub EndsAs : ConnectionEnd → Exchange → List ℕ → Type 0
+EndsAs (Over ends.Bye) e unread = HasEnded streams.Bye e unread
+EndsAs (Over ends.EndOfInput) e unread = HasEnded streams.EndOfInput e unread
+EndsAs (Over (ends.BadFrame fault)) e unread = HasEnded (streams.BadFrame fault) e unread
+EndsAs (Over ends.ReadFault) e unread = IsUpToDate e × (unread ≡ [])
+EndsAs (Over ends.WriteFault) e unread = (1 ≤ length (waiting_in e)) × (unread ≡ [])
+EndsAs (Over ends.TurnLimit) e unread = IsUpToDate e × IsTrue (are_bytes unread)
+    × (longest_stream < (pending_of e).fed + length unread)
+EndsAs (Over ends.Memory) e unread = IsUpToDate e × IsTrue (are_bytes unread)
+    × (1 ≤ length unread) × (length unread ≤ longest_piece)
+EndsAs Idle e unread = unread ≡ []
+
+-- it holds of a connection that is drained
+abbrev pub WhereDrained : Phase → Type 0 → Type 0
+WhereDrained phases.Serving holds = Unit {0}
+WhereDrained (phases.Draining fault) holds = holds
+
+-- where it is drained its peer was reported that no more bytes will be sent
+abbrev pub IsFinished : {L : Type 0} → LinkGhosts L → Connection L → Type 0
+IsFinished G c = WhereDrained c.phase (G.finished c.link)
+
+-- and at a bad frame that was more than cut off
+abbrev pub ReportsFinish : ConnectionEnd → Type 0 → Type 0
+ReportsFinish (Over (ends.BadFrame fault)) finished = (reason_meaning fault.reason ≡ Cut) ⊎ finished
+ReportsFinish _ finished = Unit {0}
+
+-- a fault is reported only of a link that failed
+abbrev pub EndsWithFault : ConnectionEnd → Type 0 → Type 0
+EndsWithFault (Over ends.ReadFault) broken = broken
+EndsWithFault (Over ends.WriteFault) broken = broken
+EndsWithFault _ broken = Unit {0}
+
+-- it is not told for silence
+abbrev pub IsNoSilence : ConnectionEnd → Type 0
+IsNoSilence Idle = ⊥
+IsNoSilence (Over end) = Unit {0}
+
+-- How a quantum ends a connection that is served: not for silence, and at a bad frame only where it
+-- was cut off, since after every other one it is drained first.
+abbrev pub EndsServed : ConnectionEnd → Type 0
+EndsServed (Over (ends.BadFrame fault)) = reason_meaning fault.reason ≡ Cut
+EndsServed end = IsNoSilence end
+
+-- what no call but `work` changes
+pub record KeepsConnection {L : Type 0} (c c' : Connection L) : Type 0 where
+  pub number : c'.number ≡ c.number
+  pub phase : c'.phase ≡ c.phase
+  pub since : c'.since ≡ c.since
+
+-- from where a link may be called stays
+abbrev pub KeepsPeer : {L : Type 0} → LinkGhosts L → L → L → Type 0
+KeepsPeer G l l' = (p : SocketAddr) → G.calls_from l p → G.calls_from l' p
+
+-- whether a connection can go on before its link has more bytes, or room
+abbrev pub can_go_on : {L : Type 0} → Connection L → Bool
+can_go_on c = goes c.phase (waiting_in c.exchange)
+  where
+    goes : Phase → List ℕ → Bool
+    goes (phases.Draining fault) waiting = c.readable
+    goes phases.Serving [] = c.readable || not (wants_piece c.exchange)
+    goes phases.Serving (b ∷ bs) = c.writable
+
+-- how a connection that is quiet for so long ends, by its phase: where that is longer than so many
+-- milliseconds, or it was drained for long enough
+abbrev pub expired_by : Phase → ℕ → ℕ → Option ConnectionEnd
+expired_by phases.Serving idle quiet = if nat_lt idle quiet then Some Idle else None
+expired_by (phases.Draining fault) idle quiet =
+    if nat_lt longest_drain quiet then Some (Over (ends.BadFrame fault)) else None
+
+-- how it ends at a time
+abbrev pub expired_at : {L : Type 0} → ℕ → ℕ → Connection L → Option ConnectionEnd
+expired_at now idle c = expired_by c.phase idle (now - c.since)
+
+-- the time since which a connection is quiet: that of the quantum where a frame was answered in it,
+-- or its draining began
+abbrev pub quiet_since : ℕ → ℕ → Phase → Phase → List Answered → ℕ
+quiet_since now since phase phases.Serving [] = since
+quiet_since now since phase phases.Serving (a ∷ answered) = now
+quiet_since now since phases.Serving (phases.Draining fault) answered = now
+quiet_since now since (phases.Draining was) (phases.Draining fault) answered = since
+
+-- it is served only until its stream has ended and all replies are out
+abbrev pub IsOpen : {L : Type 0} → Connection L → Type 0
+IsOpen c = c.phase ≡ phases.Serving → waiting_in c.exchange ≡ [] → end_of c.exchange ≡ None
+
+-- the stream's end is looked at: where it has come and all replies are out, the connection is over
+-- with it, where nothing may come after it, or else drained
+abbrev pub Settles : {L : Type 0} → ℕ → Result (Unit {0}) ConnectionEnd → Connection L →
+    Connection L → Type 0
+Settles now (Ok x) c c' = (c'.number ≡ c.number) × (c'.exchange ≡ c.exchange)
+    × (c'.since ≡ quiet_since now c.since c.phase c'.phase []) × IsOpen c'
+    × (c'.readable ≡ c.readable) × (c'.writable ≡ c.writable)
+Settles now (Err end) c c' = (c'.number ≡ c.number)
+    × ((x : StreamEnd) × (end_of c.exchange ≡ Some x) × (fault_to_drain x ≡ None)
+    × (end ≡ Over (ended_by x)))
+
+module _ {L : Type 0} (G : LinkGhosts L) where
+  -- so far these frames of a connection were answered
+  pub record Lives (c : Connection L) (answered : List Answered) : Type 0 where
+    -- the bytes that its exchange was fed, those that were taken from it, and those that came and
+    -- were let go
+    pub fed : List ℕ
+    pub gone : List ℕ
+    pub unread : List ℕ
+    pub given : G.given c.link (fed ++ unread)
+    pub taken : G.taken c.link gone
+    pub done : HasDone fed answered gone c.exchange
+    -- an end that more bytes could change is reported only where there are no more
+    pub at_end : IfSome (end_so_far (end_of c.exchange)) (λ x. IsFinal x ⊎ G.ended c.link)
+    pub by_phase : IsInPhase c.phase c.exchange unread
+    pub finished : IsFinished G c
+
+  -- a connection over this link ended so, and these are all of its frames that were answered
+  pub record IsOver (end : ConnectionEnd) (link : L) (answered : List Answered) : Type 0 where
+    pub exchange : Exchange
+    pub fed : List ℕ
+    pub gone : List ℕ
+    pub unread : List ℕ
+    pub given : G.given link (fed ++ unread)
+    pub taken : G.taken link gone
+    pub done : HasDone fed answered gone exchange
+    pub at_end : IfSome (end_so_far (end_of exchange)) (λ x. IsFinal x ⊎ G.ended link)
+    pub by_end : EndsAs end exchange unread
+    pub fault : EndsWithFault end (G.broken link)
+    pub finished : ReportsFinish end (G.finished link)
+
+  -- how a quantum ends a connection that is drained: at its fault, once nothing more comes
+  abbrev pub EndsDrained : WireFault → L → ConnectionEnd → Type 0
+  EndsDrained fault link end = (end ≡ Over (ends.BadFrame fault)) × (G.ended link ⊎ G.broken link)
+
+  -- of what comes to one that is drained some was let go, where there might be bytes, or the link
+  -- told that there are none now
+  abbrev pub LetsGo : Connection L → Connection L → Type 0
+  LetsGo c c' = c.readable ≡ true → ((piece : List ℕ) × (1 ≤ length piece)
+      × ((xs : List ℕ) → G.given c.link xs → G.given c'.link (xs ++ piece)))
+      ⊎ IsDry G c'
+
+  -- frames more were answered, and it goes on
+  abbrev pub Steps : Connection L → List Answered → Connection L → Type 0
+  Steps c answered c' = (before : List Answered) → Lives c before → Lives c' (before ++ answered)
+
+  -- frames more were answered, and it goes on, or is over
+  abbrev pub Goes : Result (Unit {0}) ConnectionEnd → Connection L → List Answered →
+      Connection L → Type 0
+  Goes (Ok x) c answered c' = Steps c answered c'
+  Goes (Err end) c answered c' =
+      (before : List Answered) → Lives c before → IsOver end c'.link (before ++ answered)
+
+  -- The server answered so many frames of a connection at this time, and fewer than a quantum only
+  -- where the exchange must wait.
+  pub record AnswersHeld {S : Type 0} (answers : S → Frame → List Reply → S → Type 0) (now : ℕ)
+      (c c' : Connection L) (s s' : S) : Type 0 where
+    pub answered : List Answered
+    pub by_server : AnswersAll answers s answered s'
+    pub most : length answered ≤ quantum
+    pub steps : Steps c answered c'
+    pub does : DoesMore c.exchange [] answered [] c'.exchange
+    -- where its stream has ended nothing is answered
+    pub over : is_some (end_of c.exchange) ≡ true → c'.exchange ≡ c.exchange
+    pub waits : length answered < quantum → MustWait c'.exchange
+    pub link : c'.link ≡ c.link
+    pub readable : c'.readable ≡ c.readable
+    pub writable : c'.writable ≡ c.writable
+    pub number : c'.number ≡ c.number
+    pub phase : c'.phase ≡ c.phase
+    pub since : c'.since ≡ quiet_since now c.since c.phase c.phase answered
+
+  -- A quantum of a connection, at this time: the server answered so many frames of it.
+  pub record Works {S : Type 0} (answers : S → Frame → List Reply → S → Type 0) (now : ℕ)
+      (result : Result (Unit {0}) ConnectionEnd) (c c' : Connection L) (s s' : S) : Type 0 where
+    pub answered : List Answered
+    pub by_server : AnswersAll answers s answered s'
+    pub most : length answered ≤ quantum
+    pub goes : Goes result c answered c'
+    pub peer : KeepsPeer G c.link c'.link
+    pub number : c'.number ≡ c.number
+    pub since : OnOk result (c'.since ≡ quiet_since now c.since c.phase c'.phase answered)
+    pub unended : OnOk result (IsOpen c')
+    pub moved : c.phase ≡ phases.Serving → OnOk result (Moved G c answered c')
+    pub lets_go : (fault : WireFault) → c.phase ≡ phases.Draining fault →
+        OnOk result (LetsGo c c')
+    pub learns : OnOk result (Learns G c c')
+    -- where it is drained after it the peer was reported so, now or before
+    pub finished : IsFinished G c → OnOk result (IsFinished G c')
+    -- where it is over, it ends so
+    pub no_silence : IfErr result IsNoSilence
+    pub served : c.phase ≡ phases.Serving → IfErr result EndsServed
+    pub heard : (fault : WireFault) → c.phase ≡ phases.Draining fault →
+        IfErr result (EndsDrained fault c'.link)
+
+-- a new connection
+pub record BeginsConnection {L : Type 0} (link : L) (number now : ℕ) (c : Connection L) : Type 0 where
+  pub over : c.link ≡ link
+  pub under : c.number ≡ number
+  pub fresh : HasDone [] [] [] c.exchange
+  pub unended : end_of c.exchange ≡ None
+  pub serving : c.phase ≡ phases.Serving
+  pub goes : can_go_on c ≡ true
+  pub since : c.since ≡ now
+  -- there may be bytes, and room
+  pub bytes : c.readable ≡ true
+  pub room : c.writable ≡ true

@@ -1,0 +1,325 @@
+//! A connection: a link, and the exchange over it.
+ghost use Rattle.std.specs.Prelude.{◌≡◌, ◌≤◌, ◌||◌, [], List, length, true, IfErr, IfOk, OnOk};
+ghost use Rattle.bw_wire.specs.Held.{longest_piece};
+ghost use Rattle.bw_exchange.specs.Parts.{wants_piece, waiting_in};
+ghost use Rattle.bw_connections.specs.Feeding.{Feeds, fault_to_drain};
+ghost use Rattle.bw_connections.specs.Lives.{EndsServed};
+
+use bw_exchange::{Exchange, ExchangeEnd, FeedError, StreamEnd, Turns};
+use bw_ports::{Link, Received, Sent};
+use bw_wire::{Reason, WireFault};
+use std::alloc::{AllocError, Global};
+
+/// How many frames of a connection are answered in a quantum.
+const QUANTUM: usize = 64;
+
+/// For how many milliseconds a connection is drained after a bad frame.
+const LONGEST_DRAIN: u64 = 2_000;
+
+/// How a connection ended.
+#[derive(Clone, Copy, Debug, PartialEq, Eq)]
+pub enum ConnectionEnd {
+    /// The exchange over it ended so; with `TurnLimit` where more than 2^62 bytes came.
+    Over(ExchangeEnd),
+    /// No whole frame came for too long.
+    Idle,
+}
+
+/// What a connection is at.
+#[derive(Clone, Copy, Debug, PartialEq, Eq)]
+pub(crate) enum Phase {
+    /// Its frames are answered.
+    Serving,
+    /// A frame was bad, all replies are out, and no more will be sent: what still comes is let go,
+    /// so that the peer can read the replies before the link is closed.
+    Draining(WireFault),
+}
+
+/// A link, and the exchange over it.
+#[derive(Drop)]
+pub(crate) struct Connection<L> {
+    pub(crate) link: L,
+    pub(crate) number: u64,
+    exchange: Exchange,
+    phase: Phase,
+    /// Whether there may be bytes to read: until the link says that there are none.
+    readable: bool,
+    /// Whether there may be room to write: until the link says that there is none.
+    writable: bool,
+    /// When its last whole frame was answered, or since when it drains, in milliseconds.
+    since: u64,
+}
+
+impl<L: Link> Connection<L> {
+    ghost use Rattle.bw_connections.specs.Lives.{BeginsConnection, Goes, KeepsConnection, AnswersHeld, Settles, Works};
+    ghost use Rattle.bw_connections.specs.Lives.{EndsDrained, IsUpToDate, KeepsPeer, ReadsLink, SendsWaiting, can_go_on};
+    ghost use Rattle.bw_connections.specs.Lives.{IsFinished, Learns, LetsGo, StillReported, expired_at};
+
+    /// A connection over this link, which has given and taken nothing yet.
+    ///
+    /// # Errors
+    /// `AllocError` where memory was refused.
+    pub(crate) fn new(
+        alloc: Global,
+        link: L,
+        number: u64,
+        now: u64,
+    ) -> Result<Connection<L>, AllocError>
+    where
+        L: Drop,
+        ensures { IfOk result (BeginsConnection link number now) }
+    {
+        Ok(Connection {
+            link,
+            number,
+            exchange: Exchange::new(alloc)?,
+            phase: Phase::Serving,
+            readable: true,
+            writable: true,
+            since: now,
+        })
+    }
+
+    /// Notes that there may be bytes again, or room.
+    pub(crate) fn wake(&mut self, readable: bool, writable: bool)
+        ensures readable { self.new.readable ≡ self.old.readable || readable }
+        ensures writable { self.new.writable ≡ self.old.writable || writable }
+        ensures link { self.new.link ≡ self.old.link }
+        ensures exchange { self.new.exchange ≡ self.old.exchange }
+        ensures stays { KeepsConnection self.old self.new }
+    {
+        self.readable |= readable;
+        self.writable |= writable;
+    }
+
+    /// Whether it can go on before its link has more bytes, or room.
+    pub(crate) fn can_go_on(&self) -> bool
+        ensures { result ≡ can_go_on self.now }
+    {
+        if let Phase::Draining(_fault) = self.phase {
+            return self.readable;
+        }
+        if self.exchange.outgoing().is_empty() {
+            return self.readable || !self.exchange.wants_read();
+        }
+        self.writable
+    }
+
+    /// How it ends at this time, where nothing has been answered for longer than `idle`
+    /// milliseconds, or it has been drained for long enough.
+    pub(crate) fn expired(&self, now: u64, idle: u64) -> Option<ConnectionEnd>
+        ensures { result ≡ expired_at now idle self.now }
+    {
+        let quiet = now.saturating_sub(self.since);
+        match self.phase {
+            Phase::Serving => (quiet > idle).then_some(ConnectionEnd::Idle),
+            Phase::Draining(fault) => (quiet > LONGEST_DRAIN).then_some(ConnectionEnd::Over(
+                ExchangeEnd::BadFrame(fault),
+            )),
+        }
+    }
+
+    /// One quantum: a piece comes in where one is wanted, frames are answered, and some of the bytes
+    /// that wait go out, so that a reply leaves in the quantum in which it is made. No piece comes in
+    /// before all replies are out: from one who doesn't read its replies nothing more is read.
+    ///
+    /// # Errors
+    /// How the connection ended.
+    pub(crate) fn work<T: Turns>(
+        &mut self,
+        server: &mut T,
+        buffer: &mut [u8],
+        now: u64,
+    ) -> Result<(), ConnectionEnd>
+        requires { length buffer.old ≤ longest_piece }
+        ensures { Works L.Link T.answers now result self.old self.new server.old server.new }
+    {
+        if let Phase::Draining(fault) = self.phase {
+            return self.drain(fault, buffer);
+        }
+        self.receive_piece(buffer)?;
+        self.answer_held(server, now);
+        self.send_waiting()?;
+        self.settle(now)
+    }
+
+    /// Sends some of the bytes that wait, where there may be room.
+    ///
+    /// # Errors
+    /// The link is broken.
+    fn send_waiting(&mut self) -> Result<(), ConnectionEnd>
+        requires { self.old.phase ≡ Phase.Serving }
+        ensures goes { Goes L.Link result self.old [] self.new }
+        ensures peer { KeepsPeer L.Link self.old.link self.new.link }
+        ensures stays { KeepsConnection self.old self.new }
+        ensures served { IfErr result EndsServed }
+        ensures sends { OnOk result (SendsWaiting L.Link self.old self.new) }
+    {
+        let waiting = self.exchange.outgoing();
+        if !self.writable || waiting.is_empty() {
+            return Ok(());
+        }
+        match self.link.send(waiting) {
+            Sent::Bytes(count) => {
+                self.exchange.consumed(count);
+                Ok(())
+            }
+            Sent::Nothing => {
+                self.writable = false;
+                Ok(())
+            }
+            Sent::Failed => Err(ConnectionEnd::Over(ExchangeEnd::WriteFault)),
+        }
+    }
+
+    /// Feeds the next piece, where one is wanted and may be there.
+    ///
+    /// # Errors
+    /// The link is broken, or the piece can't be fed.
+    fn receive_piece(&mut self, buffer: &mut [u8]) -> Result<(), ConnectionEnd>
+        requires serving { self.old.phase ≡ Phase.Serving }
+        requires buffer { length buffer.old ≤ longest_piece }
+        ensures goes { Goes L.Link result self.old [] self.new }
+        ensures peer { KeepsPeer L.Link self.old.link self.new.link }
+        ensures stays { KeepsConnection self.old self.new }
+        ensures served { IfErr result EndsServed }
+        ensures reads { OnOk result (ReadsLink L.Link self.old self.new) }
+    {
+        if !self.readable || !self.is_up_to_date() {
+            return Ok(());
+        }
+        match self.link.receive(buffer) {
+            Received::Bytes(count) => feed_piece(&mut self.exchange, &buffer[..count]),
+            Received::Ended => {
+                self.exchange.finish();
+                Ok(())
+            }
+            Received::Nothing => {
+                self.readable = false;
+                Ok(())
+            }
+            Received::Failed => Err(ConnectionEnd::Over(ExchangeEnd::ReadFault)),
+        }
+    }
+
+    /// Whether all replies are out.
+    fn is_all_out(&self) -> bool
+        ensures all { result ≡ true → waiting_in self.now.exchange ≡ [] }
+        ensures some { waiting_in self.now.exchange ≡ [] → result ≡ true }
+    {
+        self.exchange.outgoing().is_empty()
+    }
+
+    /// Whether all whole frames are answered, and all replies are out.
+    fn is_up_to_date(&self) -> bool
+        ensures yes { result ≡ true → IsUpToDate self.now.exchange }
+        ensures no { IsUpToDate self.now.exchange → result ≡ true }
+    {
+        self.exchange.wants_read() && self.is_all_out()
+    }
+
+    /// Has whole frames answered, and notes the time where there are some.
+    fn answer_held<T: Turns>(&mut self, server: &mut T, now: u64)
+        requires { self.old.phase ≡ Phase.Serving }
+        ensures { AnswersHeld L.Link T.answers now self.old self.new server.old server.new }
+    {
+        if self.exchange.end().is_some() {
+            return;
+        }
+        if self.exchange.answer(server, QUANTUM) == 0 {
+            return;
+        }
+        self.since = now;
+    }
+
+    /// Lets go of what comes.
+    ///
+    /// # Errors
+    /// Nothing more comes.
+    fn drain(&mut self, fault: WireFault, buffer: &mut [u8]) -> Result<(), ConnectionEnd>
+        requires { self.old.phase ≡ Phase.Draining fault }
+        ensures goes { Goes L.Link result self.old [] self.new }
+        ensures peer { KeepsPeer L.Link self.old.link self.new.link }
+        ensures stays { KeepsConnection self.old self.new }
+        ensures heard { IfErr result (EndsDrained L.Link fault self.new.link) }
+        ensures lets_go { OnOk result (LetsGo L.Link self.old self.new) }
+        ensures learns { OnOk result (Learns L.Link self.old self.new) }
+        ensures finished { L.finished self.old.link → L.finished self.new.link }
+    {
+        if !self.readable {
+            return Ok(());
+        }
+        match self.link.receive(buffer) {
+            Received::Bytes(_count) => Ok(()),
+            Received::Nothing => {
+                self.readable = false;
+                Ok(())
+            }
+            Received::Ended => Err(ConnectionEnd::Over(ExchangeEnd::BadFrame(fault))),
+            Received::Failed => Err(ConnectionEnd::Over(ExchangeEnd::BadFrame(fault))),
+        }
+    }
+
+    /// Ends the connection where its stream has ended and all replies are out; after a bad frame
+    /// what still comes is drained first.
+    ///
+    /// # Errors
+    /// How the connection ended.
+    fn settle(&mut self, now: u64) -> Result<(), ConnectionEnd>
+        requires { self.old.phase ≡ Phase.Serving }
+        ensures goes { Goes L.Link result self.old [] self.new }
+        ensures peer { KeepsPeer L.Link self.old.link self.new.link }
+        ensures settles { Settles now result self.old self.new }
+        ensures reported { StillReported L.Link self.old.link self.new.link }
+        ensures finished { OnOk result (IsFinished L.Link self.new) }
+    {
+        if !self.is_all_out() {
+            return Ok(());
+        }
+        let Some(end) = self.exchange.end() else {
+            return Ok(());
+        };
+        let Some(fault) = fault_to_drain(end) else {
+            return Err(ConnectionEnd::Over(ExchangeEnd::from(end)));
+        };
+        self.link.shut();
+        self.phase = Phase::Draining(fault);
+        self.since = now;
+        Ok(())
+    }
+}
+
+/// The fault after which more may come that isn't read: a frame that is bad whatever follows.
+fn fault_to_drain(end: StreamEnd) -> Option<WireFault>
+    ensures { result ≡ fault_to_drain end }
+{
+    match end {
+        StreamEnd::Bye => None,
+        StreamEnd::EndOfInput => None,
+        StreamEnd::BadFrame(fault) => match fault.reason {
+            Reason::Cut => None,
+            Reason::Length => Some(fault),
+            Reason::Kind => Some(fault),
+            Reason::Name => Some(fault),
+            Reason::Number => Some(fault),
+            Reason::Payload => Some(fault),
+        },
+    }
+}
+
+/// Feeds a piece.
+///
+/// # Errors
+/// Why it can't be fed: the exchange is as it was.
+fn feed_piece(exchange: &mut Exchange, piece: &[u8]) -> Result<(), ConnectionEnd>
+    requires wants_read { wants_piece exchange.old ≡ true }
+    requires short { length piece.now ≤ longest_piece }
+    ensures feeds { Feeds piece.now result exchange.old exchange.new }
+    ensures served { IfErr result EndsServed }
+{
+    match exchange.feed(piece) {
+        Ok(()) => Ok(()),
+        Err(FeedError::Memory) => Err(ConnectionEnd::Over(ExchangeEnd::Memory)),
+        Err(FeedError::TooLong) => Err(ConnectionEnd::Over(ExchangeEnd::TurnLimit)),
+    }
+}

@@ -1,0 +1,44 @@
+-- What a command does.
+use Rattle.std.specs.Prelude.{◌≡◌, ℕ, Bool, true, Err}
+use Rattle.bw_console.specs.Faults.{IsReportedBy}
+use Rattle.bw_stream.specs.declared.sink.Sink.{Ghosts as Writer}
+use Rattle.bw_stream.specs.declared.source.Source.{Ghosts as Reader}
+use Rattle.bw_console.specs.Printing.{Print, Nothing, IsPrint, failures_if}
+use Rattle.bw_console.specs.declared.exit.Exit.{Exit}
+use Rattle.bw_console.specs.declared.exit.Exit.TheVariants as exits
+use Rattle.bw_console.specs.declared.fault.Fault.TheVariants as faults
+
+-- what a command did: whether its reads all succeeded, what it printed, what it told of faults, and
+-- how it ended
+pub record Outcome : Type 0 where
+  pub reads_all : Bool
+  pub out : Print
+  pub faults : Print
+  pub exit : Exit
+
+-- this was printed and told
+pub record HasWritten {W E : Type 0} (w : Writer W) (e : Writer E) (did : Outcome)
+    (out out' : W) (faults faults' : E) : Type 0 where
+  pub printed : IsPrint w did.out out out'
+  pub reported : IsPrint e did.faults faults faults'
+
+-- A call did what is asked of it, and ended so: each failure of the system and of the input is
+-- counted, and this was printed and told.
+pub record Does {R W E : Type 0} (reader : Reader R) (out : Writer W) (faults : Writer E)
+    (is_asked : Bool → Outcome → Type 0) (exit : Exit) (system system' : ℕ) (r r' : R)
+    (w w' : W) (e e' : E) : Type 0 where
+  pub did : Outcome
+  pub ends : did.exit ≡ exit
+  -- whether the system gave all that was asked of it
+  pub gives_all : Bool
+  pub is : is_asked gives_all did
+  pub failures : system' ≡ failures_if gives_all system
+  pub reads : reader.failures r' ≡ failures_if did.reads_all (reader.failures r)
+  pub writes : HasWritten out faults did w w' e e'
+
+-- lack of memory ended the program before it printed anything, and the line says so
+pub record IsOutOfMemory (did : Outcome) : Type 0 where
+  pub exit_is : did.exit ≡ exits.Memory
+  pub reads : did.reads_all ≡ true
+  pub prints : did.out ≡ Nothing
+  pub reports : IsReportedBy (Err faults.Memory) did.faults

@@ -1,0 +1,202 @@
+//! A server that counts what it answers over one link.
+ghost use Rattle.std.specs.Prelude.{◌≡◌};
+ghost use Rattle.std.specs.List.{list_any};
+ghost use Rattle.std.specs.Str.{bytes_eq};
+ghost use Rattle.bw_model.specs.Wire.{Says};
+ghost use Rattle.bw_wire.specs.Frames.{message_of};
+ghost use Rattle.bw_exchange.specs.LinkCounts.{none_counted, counting_frame};
+
+use crate::turns::Turns;
+use arrayvec::ArrayVec;
+use bw_request::Name;
+use bw_wire::{Ask, Message, Reply};
+use std::marker::Model;
+use std::mem;
+
+/// How many names a tally keeps.
+const NAMES: usize = 8;
+
+/// The bytes of a name, or of none: a tally has places that wait for one.
+#[derive(Drop)]
+pub struct KnownName {
+    bytes: ArrayVec<u8, 32>,
+}
+
+impl Model for KnownName {
+    ghost use Rattle.std.specs.Prelude.{◌≤◌, ℕ, List, length};
+
+    ghost Value = { List ℕ };
+
+    ghost view = { λ n. n.bytes.items };
+
+    ghost invariant = { λ n. length n.bytes.items ≤ 32 };
+
+    ghost inverse = { λ v. record { bytes = record { items = v } } };
+}
+
+impl Default for KnownName {
+    /// A place without a name.
+    fn default() -> KnownName {
+        KnownName {
+            bytes: ArrayVec::new(),
+        }
+    }
+}
+
+impl KnownName {
+    fn of(name: &Name) -> KnownName
+        ensures { result ≡ name.now }
+    {
+        let mut bytes = ArrayVec::new();
+        let _ = bytes.try_extend_from_slice(name.as_bytes());
+        KnownName { bytes }
+    }
+
+    /// Its bytes, at most 32; none of a place that waits for a name.
+    pub fn as_bytes(&self) -> &[u8]
+        ensures { result.now ≡ self.now }
+    {
+        self.bytes.as_slice()
+    }
+}
+
+/// The messages that came over a link: how many, the bytes of their bodies, and their first eight
+/// names, each once. The counts stay at 2^64 - 1.
+#[derive(Drop)]
+pub struct LinkStats {
+    messages: u64,
+    bytes: u64,
+    names: ArrayVec<KnownName, NAMES>,
+}
+
+impl Model for LinkStats {
+    ghost use Rattle.bw_exchange.specs.LinkCounts.{Counted};
+
+    ghost Value = { Counted };
+
+    ghost view = { λ t. record { messages = t.messages; bytes = t.bytes; names = t.names.items } };
+
+    ghost inverse = { λ c. record {
+      messages = c.messages;
+      bytes = c.bytes;
+      names = record { items = c.names };
+    } };
+}
+
+impl LinkStats {
+    /// No message.
+    pub fn new() -> LinkStats
+        ensures { result ≡ none_counted }
+    {
+        LinkStats {
+            messages: 0,
+            bytes: 0,
+            names: ArrayVec::new(),
+        }
+    }
+
+    /// How many messages came, at most 2^64 - 1.
+    pub fn messages(&self) -> u64
+        ensures { result ≡ self.now.messages }
+    {
+        self.messages
+    }
+
+    /// How many bytes their bodies have, at most 2^64 - 1.
+    pub fn bytes(&self) -> u64
+        ensures { result ≡ self.now.bytes }
+    {
+        self.bytes
+    }
+
+    /// Their first names, each once, in the order in which they came.
+    pub fn names(&self) -> &[KnownName]
+        ensures { result.now ≡ self.now.names }
+    {
+        self.names.as_slice()
+    }
+
+    fn count(&mut self, message: &Message<'_>)
+        ensures { self.new ≡ counting_frame self.old (Says (message_of message.now)) }
+    {
+        let name = message.name();
+        self.messages = self.messages.saturating_add(1);
+        self.bytes = self.bytes.saturating_add(message.body().len() as u64);
+        if !self.has_name(&name) {
+            let _full = self.names.try_push(KnownName::of(&name));
+        }
+    }
+
+    fn has_name(&self, name: &Name) -> bool
+        ensures { result ≡ list_any (λ n. bytes_eq n name.now) self.now.names }
+    {
+        let name = name.as_bytes();
+        self.names.iter().any(|known| known.as_bytes() == name)
+    }
+}
+
+/// A server that counts the messages of each link for itself.
+#[derive(Drop)]
+pub struct Metered<T> {
+    server: T,
+    link_stats: LinkStats,
+}
+
+impl<T> Metered<T> {
+    /// The server, which has counted nothing.
+    pub fn new(server: T) -> Metered<T>
+        ensures server { result.server ≡ server }
+        ensures link_stats { result.link_stats ≡ none_counted }
+    {
+        Metered {
+            server,
+            link_stats: LinkStats::new(),
+        }
+    }
+
+    /// The server itself.
+    pub fn server(&self) -> &T
+        ensures { result.now ≡ self.now.server }
+    {
+        &self.server
+    }
+
+    /// What was counted since the last start.
+    pub fn link_stats(&self) -> &LinkStats
+        ensures { result.now ≡ self.now.link_stats }
+    {
+        &self.link_stats
+    }
+
+    /// Goes on from another count, which is given what was counted so far.
+    pub fn swap_link_stats(&mut self, link_stats: &mut LinkStats)
+        ensures server { self.new.server ≡ self.old.server }
+        ensures link_stats { self.new.link_stats ≡ link_stats.old }
+        ensures given { link_stats.new ≡ self.old.link_stats }
+    {
+        mem::swap(&mut self.link_stats, link_stats);
+    }
+
+    /// Begins to count for another link.
+    pub fn start(&mut self)
+        ensures server { self.new.server ≡ self.old.server }
+        ensures link_stats { self.new.link_stats ≡ none_counted }
+    {
+        self.link_stats = LinkStats::new();
+    }
+}
+
+impl<T: Turns> Turns for Metered<T> {
+    ghost use Rattle.bw_exchange.specs.Metered.{AnswersCounted};
+
+    ghost answers = { AnswersCounted T.answers };
+
+    fn turn(&mut self, message: &Message<'_>, replies: &mut ArrayVec<Reply, 17>) {
+        self.link_stats.count(message);
+        self.server.turn(message, replies);
+    }
+
+    fn ask(&mut self, ask: &Ask<'_>) -> Reply {
+        self.server.ask(ask)
+    }
+}

@@ -1,5 +1,0 @@
-use Rattle.bw_many.proofs.Serving.{serves_each}
-use Rattle.bw_many.proofs.laws.law_many.Goals as goal
-
-pub returns : goal.returns
-returns g c m over trace k = serves_each g.L.Link c.law_exchange.ensures m over trace k

@@ -1,0 +1,200 @@
+//! Where many recorders come over TCP, and what says which of their sockets can go on.
+ghost use Rattle.std.specs.Prelude.{◌≡◌, ◌||◌, ◌+◌, IfOk, ⊤};
+ghost use Rattle.mio.specs.Event.{event_token, is_error, is_readable, is_read_closed};
+ghost use Rattle.mio.specs.Event.{is_writable, is_write_closed};
+ghost use Rattle.mio.specs.Events.{capacity as room_of};
+
+use crate::folder::has_folder;
+use crate::socket::Socket;
+use bw_ports::{Accepted, Reactor, Ready, TryAcceptFault, WaitFault};
+use mio::event::Event;
+use mio::net::{TcpListener, TcpStream};
+use mio::{Events, Interest, Poll, Token};
+use std::io::{self, ErrorKind};
+use std::net::SocketAddr;
+use std::time::{Duration, Instant};
+
+/// The token of the listener; those of the links are their places.
+const LISTENER: Token = Token(usize::MAX);
+
+/// Those who come to an address, while the server's folder stands.
+#[derive(Drop)]
+pub struct TcpReactor<'a> {
+    rt: &'a HostRuntime,
+    /// Where it listens.
+    address: SocketAddr,
+    folder: String,
+    listener: TcpListener,
+    poll: Poll,
+    /// What was ready when it was last waited: there is room for each place, and for the listener.
+    events: Events,
+    /// How many of these were looked at.
+    seen: usize,
+    start: Instant,
+    /// When the time could last be reported, in milliseconds since the start.
+    now: u64,
+    /// For how many milliseconds it was to wait at most the last time.
+    patience: u64,
+    failures: u64,
+    waits: u64,
+}
+
+impl<'a> TcpReactor<'a> {
+    /// Listens at an address for those who come to a server over this folder, at so many places.
+    ///
+    /// # Errors
+    /// Why the system doesn't let it; `OutOfMemory` where memory was refused. The folder's text
+    /// isn't given back.
+    ///
+    /// # Not specified
+    /// - When it fails, and the kind of the error.
+    /// - That its runtime is the one that was given.
+    /// - When a wait ends, who is let in, when `Gone`, `Nobody` and `Closed` are returned, and what
+    ///   time it is.
+    pub fn listen(
+        rt: &'a HostRuntime,
+        address: SocketAddr,
+        folder: String,
+        places: usize,
+    ) -> io::Result<TcpReactor<'a>>
+        ensures address { IfOk result (λ reactor. reactor.address ≡ address) }
+        ensures folder { IfOk result (λ reactor. reactor.folder ≡ folder) }
+        ensures room { IfOk result (λ reactor. room_of reactor.events ≡ places + 1) }
+        ensures failures { IfOk result (λ reactor. reactor.failures ≡ 0) }
+        ensures waits { IfOk result (λ reactor. reactor.waits ≡ 0) }
+    {
+        let Some(room) = places.checked_add(1) else {
+            return Err(io::Error::from(ErrorKind::OutOfMemory));
+        };
+        let events = Events::with_capacity(rt.alloc(), room)?;
+        let poll = Poll::new(rt)?;
+        let mut listener = TcpListener::bind(rt, address)?;
+        poll.registry()
+            .register(&mut listener, LISTENER, Interest::READABLE)?;
+        Ok(TcpReactor {
+            rt,
+            address,
+            folder,
+            listener,
+            poll,
+            events,
+            seen: 0,
+            start: Instant::now(rt)?,
+            now: 0,
+            patience: 0,
+            failures: 0,
+            waits: 0,
+        })
+    }
+}
+
+impl Reactor for TcpReactor<'_> {
+    type Link = Socket;
+
+    ghost failures = { λ l. l.failures };
+
+    ghost waits = { λ l. l.waits };
+
+    ghost time = { λ l. l.now };
+
+    ghost patience = { λ l. l.patience };
+
+    ghost reported = { λ _ _. ⊤ };
+
+    ghost all_reported = { λ _. ⊤ };
+
+    ghost tried = { λ _ _. ⊤ };
+
+    ghost nobody = { λ _. ⊤ };
+
+    ghost admitted = { λ _ _. ⊤ };
+
+    fn wait(&mut self, most: u64) -> Result<(), WaitFault> {
+        self.seen = 0;
+        self.patience = most;
+        let longest = Duration::from_millis(most);
+        match self.poll.poll(&mut self.events, Some(longest)) {
+            // A signal ends a wait, not the server.
+            Err(error) if error.kind() != ErrorKind::Interrupted => {
+                self.failures = self.failures.saturating_add(1);
+                Err(WaitFault)
+            }
+            _ => {
+                self.waits = self.waits.saturating_add(1);
+                Ok(())
+            }
+        }
+    }
+
+    fn next_ready(&mut self) -> Option<Ready> {
+        for event in self.events.iter().skip(self.seen) {
+            self.seen = self.seen.saturating_add(1);
+            if event.token() != LISTENER {
+                return Some(ready_of(event));
+            }
+        }
+        None
+    }
+
+    fn accept(&mut self, place: usize) -> Result<Accepted<Socket>, TryAcceptFault> {
+        let accepted = self.listener.accept();
+        if is_nobody(&accepted) {
+            return Err(TryAcceptFault::Nobody);
+        }
+        // One that comes when the folder is gone isn't heard: its requests wait for another server.
+        if !has_folder(self.rt, self.folder.as_str()) {
+            self.failures = self.failures.saturating_add(1);
+            return Err(TryAcceptFault::Closed);
+        }
+        let Ok((stream, address)) = accepted else {
+            return Err(TryAcceptFault::Gone);
+        };
+        let Ok(link) = self.link_at(place, stream) else {
+            return Err(TryAcceptFault::Gone);
+        };
+        Ok(Accepted { address, link })
+    }
+
+    fn now(&mut self) -> u64 {
+        if let Ok(passed) = self.start.elapsed(self.rt) {
+            self.now = u64::try_from(passed.as_millis()).unwrap_or(u64::MAX);
+        }
+        self.now
+    }
+}
+
+impl TcpReactor<'_> {
+    /// The link over a stream that is reported of under this place. A batch's last bytes go out at once.
+    fn link_at(&self, place: usize, mut stream: TcpStream) -> io::Result<Socket> {
+        stream.set_nodelay(true)?;
+        let both = Interest::READABLE | Interest::WRITABLE;
+        self.poll
+            .registry()
+            .register(&mut stream, Token(place), both)?;
+        Ok(Socket::new(stream))
+    }
+}
+
+/// Whether nobody waits to be let in.
+fn is_nobody(accepted: &io::Result<(TcpStream, SocketAddr)>) -> bool {
+    let Err(error) = accepted else {
+        return false;
+    };
+    matches!(error.kind(), ErrorKind::WouldBlock | ErrorKind::Interrupted)
+}
+
+/// The link that an event tells of: one that has failed or ended can go on both ways, to its end.
+fn ready_of(event: &Event) -> Ready
+    ensures place { result.place ≡ (event_token event.now).0 }
+    ensures readable { result.readable ≡ is_readable event.now || (is_error event.now
+        || is_read_closed event.now || is_write_closed event.now) }
+    ensures writable { result.writable ≡ is_writable event.now || (is_error event.now
+        || is_read_closed event.now || is_write_closed event.now) }
+{
+    let is_over = event.is_error() || event.is_read_closed() || event.is_write_closed();
+    Ready {
+        place: event.token().0,
+        readable: event.is_readable() || is_over,
+        writable: event.is_writable() || is_over,
+    }
+}

@@ -1,6 +1,0 @@
-use Rattle.std.proofs.Common.{◌≡◌, false}
-use Rattle.bw_serve.specs.Crowds.{can_go_on_below}
-use Rattle.bw_serve.proofs.crowd.Crowd.can_go_on.Given as goal
-
-abbrev pub invariant-loop-place : goal.invariant-loop-place
-invariant-loop-place g l = can_go_on_below l.fn.self l.place ≡ false

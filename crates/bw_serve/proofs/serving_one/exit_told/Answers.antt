@@ -1,5 +1,0 @@
-use Rattle.std.proofs.Common.{rules}
-use Rattle.bw_serve.proofs.serving_one.exit_told.Goals as goal
-
-pub returns-in-BadFrame : goal.returns-in-BadFrame
-returns-in-BadFrame c = search rules

@@ -1,0 +1,184 @@
+-- What an event loop's calls come to.
+use Rattle.std.specs.Prelude.{◌≡◌, ◌⊎◌, ℕ, zero, suc, ◌+◌, ◌-◌, ◌<◌, Bool, false, ◌||◌, IfSome}
+use Rattle.std.specs.Prelude.{Option, Some, None, List, [], ◌∷◌, ◌++◌, fold, length, slice_get}
+use Rattle.std.specs.Prelude.{vec_len}
+use Rattle.std.specs.List.{AllByRecursion}
+use Rattle.bw_model.specs.Wire.{Frame}
+use Rattle.bw_model.specs.Replies.{Reply}
+use Rattle.bw_stream.specs.declared.sink.Sink.{Ghosts as Writer}
+use Rattle.bw_exchange.specs.Answering.{AnswersAll, answered_frames}
+use Rattle.bw_connections.specs.declared.connection.Connection.{Connection}
+use Rattle.bw_connections.specs.declared.connection.ConnectionEnd.TheVariants as ends
+use Rattle.bw_ports.specs.declared.link.Link.{Ghosts as LinkGhosts}
+use Rattle.bw_connections.specs.declared.connections.Closed.{Closed}
+use Rattle.bw_connections.specs.declared.connections.Connections.{Connections}
+use Rattle.bw_connections.specs.Keeping.{Adds, Keeps, SetsPlace, HoldsConnectionAt, Tagged}
+use Rattle.bw_connections.specs.Keeping.{all_answered, own, tagged, those}
+use Rattle.bw_connections.specs.Lives.{BeginsConnection, expired_at}
+use Rattle.bw_connections.specs.Places.{begun_of, can_go_on_at, connection_count, end_of_connection, expired_there}
+use Rattle.bw_connections.specs.Working.{IsEmpty, StaysAt, ExistedAt, WorksAt, ExistedUnder}
+use Rattle.bw_exchange.specs.LinkCounts.{up_to_last, counting_frame}
+use Rattle.bw_connections.specs.Places.{refused_of}
+use Rattle.bw_serve.specs.Admissions.{AreOf, HostsMore}
+use Rattle.bw_ports.specs.Reactors.{Admission}
+use Rattle.bw_serve.specs.Lines.{LogsEnds, ReportsEnds, counted_of}
+use Rattle.bw_serve.specs.declared.event_loop.EventLoop.{EventLoop}
+use Rattle.bw_serve.specs.declared.peer_slot.PeerSlot.{PeerSlot}
+
+-- nobody has come yet
+pub record IsNew {L : Type 0} (G : LinkGhosts L) (places : ℕ) (c : EventLoop L) : Type 0 where
+  pub keeps : Keeps G c.connections [] []
+  pub places_are : connection_count c.connections ≡ places
+  pub peer_slots_are : vec_len c.peer_slots ≡ places
+  pub begun : begun_of c.connections ≡ 0
+  pub refused : refused_of c.connections ≡ 0
+  pub ended : c.ended ≡ 0
+
+-- whether a connection at one of the first places can go on before its link has more bytes, or room
+abbrev pub can_go_on_below : {L : Type 0} → EventLoop L → ℕ → Bool
+can_go_on_below c zero = false
+can_go_on_below c (suc n) = can_go_on_below c n || can_go_on_at c.connections n
+
+-- whether any can
+abbrev pub can_go_on_in : {L : Type 0} → EventLoop L → Bool
+can_go_on_in c = can_go_on_below c (connection_count c.connections)
+
+-- there is a slot for each place
+abbrev pub HasPeerSlots : {L : Type 0} → EventLoop L → Type 0
+HasPeerSlots c = vec_len c.peer_slots ≡ connection_count c.connections
+
+-- the slot at a place has the address of this connection, and the count of its part of these frames
+pub record PeerSlotOf {L : Type 0} (G : LinkGhosts L) (c : EventLoop L) (trace : List Tagged) (i : ℕ)
+    (d : Connection L) : Type 0 where
+  pub peer_slot : PeerSlot
+  pub there : slice_get c.peer_slots.items i ≡ Some peer_slot
+  pub link_stats : peer_slot.link_stats ≡ counted_of d.number trace
+  pub peer : G.calls_from d.link peer_slot.address
+
+-- it is so of each that stands
+abbrev pub CountsOwn : {L : Type 0} → LinkGhosts L → EventLoop L → List Tagged → Type 0
+CountsOwn {L} G c trace = (i : ℕ) (d : Connection L) → HoldsConnectionAt c.connections i d → PeerSlotOf G c trace i d
+
+-- none of these frames came over one of these connections
+abbrev pub AreSilent : {L : Type 0} → List (Closed L) → List Tagged → Type 0
+AreSilent over more = AllByRecursion (λ x. own x.number more ≡ []) over
+
+-- nothing was answered, nobody's connection ended, and there are as many places
+pub record Grows {L : Type 0} (G : LinkGhosts L) (c c' : EventLoop L) : Type 0 where
+  pub adds : Adds G c.connections [] [] c'.connections
+  pub places_are : connection_count c'.connections ≡ connection_count c.connections
+  pub peer_slots_are : vec_len c'.peer_slots ≡ vec_len c.peer_slots
+  pub counts : (over : List (Closed L)) (trace : List Tagged) → Keeps G c.connections over trace →
+      CountsOwn G c trace → CountsOwn G c' trace
+  pub ended : c'.ended ≡ c.ended
+
+-- .. and nobody was let in, or refused
+pub record KeepsEventLoop {L : Type 0} (G : LinkGhosts L) (c c' : EventLoop L) : Type 0 where
+  pub grows : Grows G c c'
+  pub begun : begun_of c'.connections ≡ begun_of c.connections
+  pub refused : refused_of c'.connections ≡ refused_of c.connections
+
+-- A connection that begins at this time, over some link and under some number.
+abbrev pub AcceptsPeer : {L : Type 0} → ℕ → Connection L → Type 0
+AcceptsPeer {L} now d = (link : L) × (number : ℕ) × BeginsConnection link number now d
+
+-- who stood at a place stands there, as it is, and each other who stands comes at this time
+pub record LetsIn {L : Type 0} (now : ℕ) (c c' : EventLoop L) : Type 0 where
+  pub stands : (i : ℕ) (d : Connection L) → HoldsConnectionAt c.connections i d → HoldsConnectionAt c'.connections i d
+  pub received : (i : ℕ) (d : Connection L) → HoldsConnectionAt c'.connections i d → HoldsConnectionAt c.connections i d ⊎ AcceptsPeer now d
+
+-- What is done after the quantum at a place: nothing where its connection is over by it; else that
+-- is ended where it was quiet, or drained, for too long, as it stands after its quantum.
+abbrev pub LooksAfter : {L : Type 0} → ℕ → ℕ → ℕ → Option (Closed L) → Connections L →
+    List (Closed L) → Connections L → Type 0
+LooksAfter now idle place (Some x) m closed m' = (closed ≡ x ∷ []) × (m' ≡ m)
+LooksAfter {L} now idle place None m closed m' = (last : Option (Closed L)) × (closed ≡ those last)
+    × (end_of_connection last ≡ expired_there now idle m place) × StaysAt place m m' × ExistedAt place m m'
+    × IfSome last (λ x. IsEmpty place m')
+
+-- the line of each connection that ended was printed, and each was counted
+abbrev pub CountsEnds : {L O : Type 0} → Writer O → EventLoop L → EventLoop L → List (Closed L) → O → O →
+    Type 0
+CountsEnds out c c' closed o o' = (n : ℕ) → c.ended ≡ up_to_last n →
+    ReportsEnds out n closed o o' × (c'.ended ≡ up_to_last (n + length closed))
+
+-- Frames more were answered, none of them over a connection that was over, and connections more are
+-- over: where of each its own frames were counted they still are, and the ends are reported of so.
+abbrev pub ReportsRound : {L E : Type 0} → LinkGhosts L → Writer E → Bool → EventLoop L → List Tagged →
+    List (Closed L) → EventLoop L → E → E → Type 0
+ReportsRound {L} G reported log c more closed c' e e' = (over : List (Closed L)) (trace : List Tagged) →
+    Keeps G c.connections over trace → CountsOwn G c trace →
+    CountsOwn G c' (trace ++ more) × LogsEnds G reported log (trace ++ more) closed e e'
+    × AreSilent over more
+
+module _ {L S : Type 0} (G : LinkGhosts L) (answers : S → Frame → List Reply → S → Type 0) where
+  -- a quantum of the connection at a place, whose frames are counted at its slot
+  pub record WorksCounted (place now : ℕ) (closed : Option (Closed L)) (c c' : EventLoop L) (s s' : S)
+      : Type 0 where
+    pub works : WorksAt G answers place now closed c.connections c'.connections s s'
+    pub peer_slot : PeerSlot
+    pub was : slice_get c.peer_slots.items place ≡ Some peer_slot
+    pub peer_slot' : PeerSlot
+    pub sets : SetsPlace c.peer_slots.items place peer_slot' c'.peer_slots.items
+    pub address : peer_slot'.address ≡ peer_slot.address
+    pub counted : peer_slot'.link_stats ≡ fold counting_frame peer_slot.link_stats (answered_frames works.answered)
+    pub peer_slots_are : vec_len c'.peer_slots ≡ vec_len c.peer_slots
+    pub ended : c'.ended ≡ c.ended
+
+module _ {L S O E : Type 0} (G : LinkGhosts L) (answers : S → Frame → List Reply → S → Type 0)
+    (out : Writer O) (reported : Writer E) (log : Bool) where
+  -- At this time the connection at a place had its quantum, and only after that its silence was
+  -- looked at. Of one that is over the line is printed, and it is reported of.
+  pub record ServesPlace (now idle place : ℕ) (c c' : EventLoop L) (s s' : S) (o o' : O) (e e' : E)
+      : Type 0 where
+    pub first : Option (Closed L)
+    pub between : Connections L
+    pub works : WorksAt G answers place now first c.connections between s s'
+    pub closed : List (Closed L)
+    pub following : LooksAfter now idle place first between closed c'.connections
+    pub adds : Adds G c.connections (tagged works.number works.answered) closed c'.connections
+    pub stays : StaysAt place c.connections c'.connections
+    -- who stands there stood there before, and who is over did
+    pub existed : ExistedUnder G place c.connections c'.connections
+    pub whose : (d : Connection L) → HoldsConnectionAt c.connections place d → AreOf G d closed
+    pub peer_slots_are : vec_len c'.peer_slots ≡ vec_len c.peer_slots
+    -- it ended for its silence only where it answered nothing, for longer than so many milliseconds
+    pub silent : (d : Connection L) → HoldsConnectionAt c.connections place d → AllByRecursion
+        (λ x. x.end ≡ ends.Idle → (works.answered ≡ []) × (idle < now - d.since)) closed
+    -- and goes on only where it was not quiet, or drained, for too long
+    pub in_time : (d : Connection L) → HoldsConnectionAt c'.connections place d → expired_at now idle d ≡ None
+    pub prints : CountsEnds out c c' closed o o'
+    pub reports : ReportsRound G reported log c (tagged works.number works.answered) closed c' e e'
+
+  -- the connections at the first places had a quantum each, one after another
+  abbrev pub InTurn : ℕ → ℕ → ℕ → EventLoop L → EventLoop L → S → S → O → O → E → E →
+      Type 0
+  InTurn now idle zero c c' s s' o o' e e' = (c' ≡ c) × (s' ≡ s) × (o' ≡ o) × (e' ≡ e)
+  InTurn now idle (suc place) c c' s s' o o' e e' = (d : EventLoop L) × (t : S) × (p : O) × (f : E)
+      × InTurn now idle place c d s t o p e f
+      × ServesPlace now idle place d c' t s' p o' f e'
+
+  -- the frames that these quanta answered, after the numbers of their connections
+  abbrev pub frames_in_turn : (now idle n : ℕ) (c c' : EventLoop L) (s s' : S) (o o' : O) (e e' : E) →
+      InTurn now idle n c c' s s' o o' e e' → List Tagged
+  frames_in_turn now idle zero c c' s s' o o' e e' turn = []
+  frames_in_turn now idle (suc n) c c' s s' o o' e e' turn =
+      frames_in_turn now idle n c turn.0 s turn.1 o turn.2 e turn.3 turn.4
+      ++ tagged turn.5.works.number turn.5.works.answered
+
+  -- and the connections that they ended
+  abbrev pub ended_in_turn : (now idle n : ℕ) (c c' : EventLoop L) (s s' : S) (o o' : O) (e e' : E) →
+      InTurn now idle n c c' s s' o o' e e' → List (Closed L)
+  ended_in_turn now idle zero c c' s s' o o' e e' turn = []
+  ended_in_turn now idle (suc n) c c' s s' o o' e e' turn =
+      ended_in_turn now idle n c turn.0 s turn.1 o turn.2 e turn.3 turn.4 ++ turn.5.closed
+
+  -- these frames more were answered, and the lines of these, which are over, printed, and told of;
+  -- and these links more were let in, or refused
+  pub record Advances (more : List Tagged) (closed : List (Closed L)) (links : List (Admission L))
+      (c c' : EventLoop L) (s s' : S) (o o' : O) (e e' : E) : Type 0 where
+    pub by_server : AnswersAll answers s (all_answered more) s'
+    pub adds : Adds G c.connections more closed c'.connections
+    pub prints : CountsEnds out c c' closed o o'
+    pub reports : ReportsRound G reported log c more closed c' e e'
+    pub hosts : HostsMore G c.connections links closed c'.connections

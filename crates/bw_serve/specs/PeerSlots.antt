@@ -1,0 +1,27 @@
+-- What is kept of those who stand at places.
+use Rattle.std.specs.Prelude.{◌≡◌, ℕ, Bool, Some, List, slice_get}
+use Rattle.bw_stream.specs.declared.sink.Sink.{Ghosts as Writer}
+use Rattle.bw_connections.specs.declared.connection.ConnectionEnd.{ConnectionEnd}
+use Rattle.bw_connections.specs.Keeping.{SetsPlace}
+use Rattle.bw_exchange.specs.declared.link_stats.Metered.{Metered}
+use Rattle.bw_serve.specs.LinkLines.{Logs, peer_line}
+use Rattle.bw_serve.specs.Lines.{name_of_connection_end}
+use Rattle.bw_serve.specs.declared.peer_slot.PeerSlot.{PeerSlot}
+
+-- the counts of the one at a place and of the server are in each other's place
+pub record SwapsAt {T : Type 0} (place : ℕ) (xs ys : List PeerSlot) (t t' : Metered T) : Type 0 where
+  pub peer_slot : PeerSlot
+  pub was : slice_get xs place ≡ Some peer_slot
+  pub peer_slot' : PeerSlot
+  pub sets : SetsPlace xs place peer_slot' ys
+  pub address : peer_slot'.address ≡ peer_slot.address
+  pub link_stats : peer_slot'.link_stats ≡ t.link_stats
+  pub given : t'.link_stats ≡ peer_slot.link_stats
+  pub server : t'.server ≡ t.server
+
+-- where lines are asked for the one at a place is reported of, which ended so
+pub record LogsAt {E : Type 0} (reported : Writer E) (log : Bool) (place : ℕ) (end : ConnectionEnd)
+    (peer_slots : List PeerSlot) (e e' : E) : Type 0 where
+  pub peer_slot : PeerSlot
+  pub stands : slice_get peer_slots place ≡ Some peer_slot
+  pub logs : Logs reported log (peer_line peer_slot.address (name_of_connection_end end) peer_slot.link_stats) e e'

@@ -1,0 +1,257 @@
+//! An event loop: many connections, those that come and those that end.
+ghost use Rattle.std.specs.Prelude.{◌≡◌, ◌+◌, ◌≤◌, ◌<◌, ℕ, List, [], ◌∷◌, length, vec_len, IfOk};
+ghost use Rattle.std.specs.Prelude.{OnOk};
+ghost use Rattle.bw_wire.specs.Held.{longest_piece};
+ghost use Rattle.bw_stream.specs.Moves.{failures_after};
+
+use crate::line::print_end;
+use crate::peer_slot::{PeerSlot, empty_peer_slots, put_at, report_at, swap_at};
+use bw_connections::{Closed, Connections};
+use bw_exchange::{Metered, Turns};
+use bw_ports::{Accepted, Link, Reactor, TryAcceptFault};
+use bw_stream::Sink;
+use std::alloc::{AllocError, Global};
+
+/// No more peers are let in.
+#[derive(Clone, Copy, Debug, PartialEq, Eq, Drop)]
+pub(crate) struct Shut;
+
+/// What each quantum of a round goes by.
+#[derive(Clone, Copy)]
+pub(crate) struct Round {
+    /// The time, in milliseconds.
+    pub(crate) now: u64,
+    /// After how many milliseconds without an answered frame a connection is ended.
+    pub(crate) idle: u64,
+    /// Whether each that is over is a line on `faults` too.
+    pub(crate) log: bool,
+}
+
+/// Many connections, who stands at each place, and how many have ended.
+#[derive(Drop)]
+pub(crate) struct EventLoop<L> {
+    connections: Connections<L>,
+    /// One for each place.
+    peer_slots: Vec<PeerSlot>,
+    /// Stays at 2^64 - 1.
+    ended: u64,
+}
+
+impl<L: Link + Drop> EventLoop<L> {
+    ghost use Rattle.bw_connections.specs.Keeping.{IsFree};
+    ghost use Rattle.bw_connections.specs.Places.{begun_of, connection_count};
+    ghost use Rattle.bw_serve.specs.Admissions.{Admits};
+    ghost use Rattle.bw_serve.specs.EventLoops.{CountsEnds, Grows, HasPeerSlots, IsNew, InTurn, LetsIn};
+    ghost use Rattle.bw_serve.specs.EventLoops.{ServesPlace, KeepsEventLoop, WorksCounted, can_go_on_in};
+    ghost use Rattle.bw_serve.specs.Rounds.{AsksIn, NoticesAll, Welcomes};
+    ghost use Rattle.bw_ports.specs.Reactors.{Admission};
+    ghost use Rattle.bw_serve.specs.PeerSlots.{LogsAt};
+    ghost use Rattle.bw_ports.specs.declared.reactor.Ready.{Ready};
+
+    /// Nobody, and so many places.
+    ///
+    /// # Errors
+    /// `AllocError` where memory was refused.
+    pub(crate) fn new(alloc: Global, places: usize) -> Result<EventLoop<L>, AllocError>
+        ensures { IfOk result (IsNew L.Link places) }
+    {
+        Ok(EventLoop {
+            connections: Connections::new(alloc, places)?,
+            peer_slots: empty_peer_slots(alloc, places)?,
+            ended: 0,
+        })
+    }
+
+    /// How many connections have ended.
+    pub(crate) fn ended(&self) -> u64
+        ensures { result ≡ self.now.ended }
+    {
+        self.ended
+    }
+
+    /// Whether a connection can go on before its link has more bytes, or room.
+    pub(crate) fn can_go_on(&self) -> bool
+        ensures { result ≡ can_go_on_in self.now }
+    {
+        for place in 0..self.connections.places() {
+            if self.connections.can_go_on(place) {
+                return true;
+            }
+        }
+        false
+    }
+
+    /// Notes which links can go on.
+    pub(crate) fn notice<B: Reactor>(&mut self, reactor: &mut B)
+        ensures stays { KeepsEventLoop L.Link self.old self.new }
+        ensures failures { B.failures reactor.new ≡ B.failures reactor.old }
+        ensures waits { B.waits reactor.new ≡ B.waits reactor.old }
+        ensures patience { B.patience reactor.new ≡ B.patience reactor.old }
+        ensures notices { NoticesAll B.Reactor reactor.old reactor.new self.old self.new }
+        ensures tried { (n : ℕ) → B.tried reactor.old n → B.tried reactor.new n }
+        ensures admitted { (xs : List (Admission B.Link)) → B.admitted reactor.old xs →
+            B.admitted reactor.new xs }
+    {
+        for _place in 0..=self.connections.places() {
+            let Some(ready) = reactor.next_ready() else {
+                return;
+            };
+            self.connections
+                .wake(ready.place, ready.readable, ready.writable);
+        }
+    }
+
+    /// Lets in those who come, as far as there are places, and no more than so many in all.
+    ///
+    /// # Errors
+    /// `Shut` where no more are let in.
+    pub(crate) fn welcome<B: Reactor<Link = L>>(
+        &mut self,
+        alloc: Global,
+        reactor: &mut B,
+        exchanges: u64,
+        now: u64,
+    ) -> Result<(), Shut>
+        requires begun { begun_of self.old.connections ≤ exchanges }
+        requires peer_slots { HasPeerSlots self.old }
+        ensures grows { Grows L.Link self.old self.new }
+        ensures lets_in { LetsIn now self.old self.new }
+        ensures welcomes { Welcomes B.Reactor now reactor.old reactor.new self.old self.new }
+        ensures most { begun_of self.new.connections ≤ exchanges }
+        ensures count { B.failures reactor.new ≡ failures_after result (B.failures reactor.old) }
+        ensures waits { B.waits reactor.new ≡ B.waits reactor.old }
+        ensures time { B.time reactor.new ≡ B.time reactor.old }
+        ensures patience { B.patience reactor.new ≡ B.patience reactor.old }
+        ensures reported { (rs : List Ready) → B.reported reactor.old rs → B.reported reactor.new rs }
+        ensures all_reported { B.all_reported reactor.old → B.all_reported reactor.new }
+        ensures asks { OnOk result
+            (B.tried reactor.old 0 → AsksIn B.Reactor exchanges reactor.new self.new) }
+    {
+        for _peer in 0..self.connections.places() {
+            if self.connections.begun() >= exchanges {
+                return Ok(());
+            }
+            let Some(place) = self.connections.free_place() else {
+                return Ok(());
+            };
+            match reactor.accept(place) {
+                Ok(accepted) => self.peer_slot(alloc, place, accepted, now),
+                Err(TryAcceptFault::Nobody) => return Ok(()),
+                Err(TryAcceptFault::Gone) => {}
+                Err(TryAcceptFault::Closed) => return Err(Shut),
+            }
+        }
+        Ok(())
+    }
+
+    /// Puts an accepted peer at a free place. Where memory is refused its link is closed and counted, and it
+    /// may come again.
+    fn peer_slot(&mut self, alloc: Global, place: usize, accepted: Accepted<L>, now: u64)
+        requires free { IsFree self.old.connections place }
+        requires place { place < vec_len self.old.peer_slots }
+        requires given { L.given accepted.link [] }
+        requires taken { L.taken accepted.link [] }
+        requires peer { L.calls_from accepted.link accepted.address }
+        ensures grows { Grows L.Link self.old self.new }
+        ensures lets_in { LetsIn now self.old self.new }
+        ensures admits { Admits now place accepted.link self.old self.new }
+        ensures most { begun_of self.new.connections ≤ begun_of self.old.connections + 1 }
+    {
+        let Accepted { address, link } = accepted;
+        // nothing is counted yet of who comes to a place
+        put_at(&mut self.peer_slots, place, PeerSlot::new(address));
+        let _refused = self.connections.begin(alloc, place, link, now);
+    }
+
+    /// One quantum of each connection, in the order of their places.
+    pub(crate) fn serve_each<T: Turns, O: Sink, E: Sink>(
+        &mut self,
+        alloc: Global,
+        server: &mut Metered<T>,
+        buffer: &mut [u8],
+        round: Round,
+        out: &mut O,
+        faults: &mut E,
+    )
+        requires buffer { length buffer.old ≤ longest_piece }
+        requires peer_slots { HasPeerSlots self.old }
+        ensures in_turn { InTurn L.Link T.answers O.Sink E.Sink round.log round.now round.idle
+            (connection_count self.old.connections) self.old self.new server.old.server server.new.server out.old
+            out.new faults.old faults.new }
+    {
+        for place in 0..self.connections.places() {
+            self.serve_place(alloc, place, server, buffer, round, out, faults);
+        }
+    }
+
+    /// One quantum of the connection at a place, which may be over after it, or for its silence.
+    fn serve_place<T: Turns, O: Sink, E: Sink>(
+        &mut self,
+        alloc: Global,
+        place: usize,
+        server: &mut Metered<T>,
+        buffer: &mut [u8],
+        round: Round,
+        out: &mut O,
+        faults: &mut E,
+    )
+        requires place { place < connection_count self.old.connections }
+        requires peer_slots { HasPeerSlots self.old }
+        requires buffer { length buffer.old ≤ longest_piece }
+        ensures { ServesPlace L.Link T.answers O.Sink E.Sink round.log round.now round.idle place
+            self.old self.new server.old.server server.new.server out.old out.new faults.old
+            faults.new }
+    {
+        if let Some(closed) = self.work(place, server, buffer, round.now) {
+            self.end(alloc, place, closed, round.log, out, faults);
+            return;
+        }
+        let Some(closed) = self.connections.expire(place, round.now, round.idle) else {
+            return;
+        };
+        self.end(alloc, place, closed, round.log, out, faults);
+    }
+
+    /// One quantum of the connection at a place, whose messages are counted for it alone.
+    fn work<T: Turns>(
+        &mut self,
+        place: usize,
+        server: &mut Metered<T>,
+        buffer: &mut [u8],
+        now: u64,
+    ) -> Option<Closed<L>>
+        requires place { place < connection_count self.old.connections }
+        requires peer_slots { HasPeerSlots self.old }
+        requires buffer { length buffer.old ≤ longest_piece }
+        ensures { WorksCounted L.Link T.answers place now result self.old self.new
+            server.old.server server.new.server }
+    {
+        swap_at(&mut self.peer_slots, place, server);
+        let closed = self.connections.work(place, server, buffer, now);
+        swap_at(&mut self.peer_slots, place, server);
+        closed
+    }
+
+    /// Prints the line of the connection at a place, which is over, counts it, and tells of it
+    /// where lines are asked for. Its link is closed.
+    fn end<O: Sink, E: Sink>(
+        &mut self,
+        alloc: Global,
+        place: usize,
+        closed: Closed<L>,
+        log: bool,
+        out: &mut O,
+        faults: &mut E,
+    )
+        requires { place < vec_len self.old.peer_slots }
+        ensures connections { self.new.connections ≡ self.old.connections }
+        ensures peer_slots { self.new.peer_slots ≡ self.old.peer_slots }
+        ensures counts { CountsEnds O.Sink self.old self.new (closed ∷ []) out.old out.new }
+        ensures logs { LogsAt E.Sink log place closed.end self.old.peer_slots.items faults.old
+            faults.new }
+    {
+        print_end(self.ended, closed.end, out);
+        self.ended = self.ended.saturating_add(1);
+        report_at(alloc, &self.peer_slots, place, closed.end, log, faults);
+    }
+}

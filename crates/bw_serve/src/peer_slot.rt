@@ -1,0 +1,116 @@
+//! What is kept of who stands at a place.
+ghost use Rattle.std.specs.Prelude.{◌≡◌, ◌<◌, length, vec_len, IfOk};
+ghost use Rattle.bw_connections.specs.Keeping.{SetsPlace};
+ghost use Rattle.bw_exchange.specs.LinkCounts.{none_counted};
+ghost use Rattle.bw_serve.specs.LinkLines.{Logs, peer_line};
+ghost use Rattle.bw_serve.specs.Lines.{name_of_connection_end};
+ghost use Rattle.bw_serve.specs.PeerSlots.{LogsAt, SwapsAt};
+
+use crate::line::name_of;
+use crate::reporting::report_link;
+use bw_connections::ConnectionEnd;
+use bw_exchange::{LinkStats, Metered};
+use bw_stream::Sink;
+use std::alloc::{AllocError, Global};
+use std::net::{Ipv4Addr, SocketAddr};
+
+/// Where the one at a place calls from, and what was counted of it. Before the first one came the
+/// address is 0.0.0.0:0.
+#[derive(Drop)]
+pub(crate) struct PeerSlot {
+    address: SocketAddr,
+    link_stats: LinkStats,
+}
+
+impl PeerSlot {
+    /// Someone of whom nothing is counted.
+    pub(crate) fn new(address: SocketAddr) -> PeerSlot
+        ensures address { result.address ≡ address }
+        ensures link_stats { result.link_stats ≡ none_counted }
+    {
+        PeerSlot {
+            address,
+            link_stats: LinkStats::new(),
+        }
+    }
+
+    /// Lets the server count on for this one, and keeps what it has counted.
+    fn swap<T>(&mut self, server: &mut Metered<T>)
+        ensures address { self.new.address ≡ self.old.address }
+        ensures link_stats { self.new.link_stats ≡ server.old.link_stats }
+        ensures given { server.new.link_stats ≡ self.old.link_stats }
+        ensures server { server.new.server ≡ server.old.server }
+    {
+        server.swap_link_stats(&mut self.link_stats);
+    }
+
+    /// Tells of this one, which ended so, where lines are asked for.
+    fn print_diagnostic<E: Sink>(
+        &self,
+        alloc: Global,
+        end: ConnectionEnd,
+        log: bool,
+        faults: &mut E,
+    )
+        ensures { Logs E.Sink log
+            (peer_line self.now.address (name_of_connection_end end) self.now.link_stats) faults.old
+            faults.new }
+    {
+        report_link(
+            alloc,
+            log,
+            self.address,
+            name_of(end),
+            &self.link_stats,
+            faults,
+        );
+    }
+}
+
+/// So many slots, to which nobody came yet.
+///
+/// # Errors
+/// `AllocError` where memory was refused.
+pub(crate) fn empty_peer_slots(alloc: Global, places: usize) -> Result<Vec<PeerSlot>, AllocError>
+    ensures { IfOk result (λ peer_slots. vec_len peer_slots ≡ places) }
+{
+    let nowhere = SocketAddr::from((Ipv4Addr::UNSPECIFIED, 0));
+    let mut peer_slots = Vec::with_capacity(alloc, places)?;
+    for _place in 0..places {
+        peer_slots.push(PeerSlot::new(nowhere))?;
+    }
+    Ok(peer_slots)
+}
+
+/// Puts someone at a place.
+pub(crate) fn put_at(peer_slots: &mut Vec<PeerSlot>, place: usize, peer_slot: PeerSlot)
+    requires { place < vec_len peer_slots.old }
+    ensures sets { SetsPlace peer_slots.old.items place peer_slot peer_slots.new.items }
+    ensures count { vec_len peer_slots.new ≡ vec_len peer_slots.old }
+{
+    peer_slots[place] = peer_slot;
+}
+
+/// Lets the server count on for the one at a place, and keeps there what it has counted.
+pub(crate) fn swap_at<T>(peer_slots: &mut Vec<PeerSlot>, place: usize, server: &mut Metered<T>)
+    requires { place < vec_len peer_slots.old }
+    ensures swaps { SwapsAt place peer_slots.old.items peer_slots.new.items server.old server.new }
+    ensures count { vec_len peer_slots.new ≡ vec_len peer_slots.old }
+{
+    peer_slots[place].swap(server);
+}
+
+/// Tells of the one at a place, which ended so, where lines are asked for.
+pub(crate) fn report_at<E: Sink>(
+    alloc: Global,
+    peer_slots: &[PeerSlot],
+    place: usize,
+    end: ConnectionEnd,
+    log: bool,
+    faults: &mut E,
+)
+    requires { place < length peer_slots.now }
+    ensures { LogsAt E.Sink log place end peer_slots.now faults.old faults.new }
+{
+    peer_slots[place].print_diagnostic(alloc, end, log, faults);
+}

@@ -1,5 +1,0 @@
-use Rattle.std.proofs.Common.{rules}
-use Rattle.bw_store.proofs.tally.Tally.count.Goals as goal
-
-pub returns-then-fails-clause-calls : goal.returns-then-fails-clause-calls
-returns-then-fails-clause-calls c = search rules

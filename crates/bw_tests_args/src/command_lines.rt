@@ -1,0 +1,489 @@
+//! What no clause says of command lines: that they are taken or refused, by examples, and what
+//! texts they tell.
+use crate::outcomes::{Line, Outcome, comes_to, lines_come_to, parse_words, value_comes_to};
+use bw_args::numbers::number;
+use bw_args::{CommandLine, End, Recorders};
+use std::alloc::{AllocError, Global};
+use std::process::Abort;
+
+static REHEARSALS: [Line; 10] = [
+    (&["--name", "a1"], Outcome::Rehearses(4_294_967_294)),
+    (&["--name=a1"], Outcome::Rehearses(4_294_967_294)),
+    (&["--name", "-a"], Outcome::Rehearses(4_294_967_294)),
+    (
+        &["--limit", "8192", "--name", "a1"],
+        Outcome::Rehearses(8192),
+    ),
+    (&[], Outcome::Refuses),
+    (&["--name"], Outcome::Refuses),
+    (&["--name", "A"], Outcome::Refuses),
+    (&["--name="], Outcome::Refuses),
+    (&["--name=a1", "--name=a2"], Outcome::Refuses),
+    (&["--limit", "8191", "--name", "a1"], Outcome::Refuses),
+];
+
+#[test]
+fn a_rehearsal_has_a_name(rt: HostRuntime) -> Result<(), AllocError> {
+    lines_come_to(&rt, rt.alloc(), &["bwingest", "rehearse"], &REHEARSALS)
+}
+
+static LINES: [Line; 46] = [
+    (&[], Outcome::Refuses),
+    (&["bwingest"], Outcome::Refuses),
+    (&["bwingest", "help"], Outcome::Shows),
+    (&["bwingest", "help", "replay"], Outcome::Shows),
+    (&["bwingest", "--help"], Outcome::Shows),
+    (&["bwingest", "-h"], Outcome::Shows),
+    (&["bwingest", "replay", "--help"], Outcome::Shows),
+    (&["bwingest", "--version"], Outcome::Shows),
+    (&["bwingest", "-V"], Outcome::Shows),
+    (&["bwingest", "help", "play"], Outcome::Refuses),
+    (&["bwingest", "play"], Outcome::Refuses),
+    (&["bwingest", "Replay"], Outcome::Refuses),
+    (&["bwingest", ""], Outcome::Refuses),
+    (&["bwingest", "-"], Outcome::Refuses),
+    (&["bwingest", "--"], Outcome::Refuses),
+    (&["bwingest", "--", "replay"], Outcome::Refuses),
+    (&["bwingest", "--limit", "8192", "replay"], Outcome::Refuses),
+    (&["bwingest", "--fuse", "0", "replay"], Outcome::Refuses),
+    (&["replay"], Outcome::Refuses),
+    (&["bwingest", "replay"], Outcome::Replays(4_294_967_294)),
+    (
+        &["/tmp/other name", "replay"],
+        Outcome::Replays(4_294_967_294),
+    ),
+    (
+        &["bwingest", "replay", "--"],
+        Outcome::Replays(4_294_967_294),
+    ),
+    (
+        &["bwingest", "replay", "--limit", "8192", "--"],
+        Outcome::Replays(8_192),
+    ),
+    (&["bwingest", "replay", "replay"], Outcome::Refuses),
+    (&["bwingest", "replay", "help"], Outcome::Refuses),
+    (&["bwingest", "replay", "8192"], Outcome::Refuses),
+    (&["bwingest", "replay", "--", "x"], Outcome::Refuses),
+    (&["bwingest", "replay", "--version"], Outcome::Refuses),
+    (&["bwingest", "replay", "--limit"], Outcome::Refuses),
+    (&["bwingest", "replay", "--lim", "8192"], Outcome::Refuses),
+    (&["bwingest", "replay", "-l", "8192"], Outcome::Refuses),
+    (
+        &["bwingest", "replay", "--limit", "8192", "x"],
+        Outcome::Refuses,
+    ),
+    (
+        &["bwingest", "replay", "--limit", "8192", "--limit", "8192"],
+        Outcome::Refuses,
+    ),
+    (
+        &["bwingest", "replay", "--limit=8192", "--limit=8192"],
+        Outcome::Refuses,
+    ),
+    (&["bwingest", "inspect", "a.wav"], Outcome::Inspects),
+    (
+        &["bwingest", "inspect", "/tmp/two words"],
+        Outcome::Inspects,
+    ),
+    (&["bwingest", "inspect", "-"], Outcome::Inspects),
+    (&["bwingest", "inspect", "--", "-x"], Outcome::Inspects),
+    (&["bwingest", "inspect", "--help"], Outcome::Shows),
+    (&["bwingest", "help", "inspect"], Outcome::Shows),
+    (&["bwingest", "inspect"], Outcome::Refuses),
+    (&["bwingest", "inspect", "--"], Outcome::Refuses),
+    (&["bwingest", "inspect", "-x"], Outcome::Refuses),
+    (&["bwingest", "inspect", "a.wav", "b.wav"], Outcome::Refuses),
+    (
+        &["bwingest", "inspect", "--limit", "8192", "a.wav"],
+        Outcome::Refuses,
+    ),
+    (
+        &["bwingest", "inspect", "--fuse", "0", "a.wav"],
+        Outcome::Refuses,
+    ),
+];
+
+#[test]
+fn each_line_runs_or_reports(rt: HostRuntime) -> Result<(), AllocError> {
+    lines_come_to(&rt, rt.alloc(), &[], &LINES)
+}
+
+static VALUES: [(&str, Outcome); 28] = [
+    ("8192", Outcome::Replays(8_192)),
+    ("0000008192", Outcome::Replays(8_192)),
+    ("00000008192", Outcome::Refuses),
+    ("8190", Outcome::Refuses),
+    ("8191", Outcome::Refuses),
+    ("8193", Outcome::Refuses),
+    ("8194", Outcome::Replays(8_194)),
+    ("4294967292", Outcome::Replays(4_294_967_292)),
+    ("4294967294", Outcome::Replays(4_294_967_294)),
+    ("4294967295", Outcome::Refuses),
+    ("4294967296", Outcome::Refuses),
+    ("4294975488", Outcome::Refuses),
+    ("9999999998", Outcome::Refuses),
+    ("+5", Outcome::Refuses),
+    ("+8192", Outcome::Refuses),
+    ("-8192", Outcome::Refuses),
+    ("", Outcome::Refuses),
+    (" 8192", Outcome::Refuses),
+    ("8192 ", Outcome::Refuses),
+    ("8 192", Outcome::Refuses),
+    ("8192\n", Outcome::Refuses),
+    ("8,192", Outcome::Refuses),
+    ("8192.0", Outcome::Refuses),
+    ("0x2000", Outcome::Refuses),
+    ("٨١٩٢", Outcome::Refuses),
+    ("none", Outcome::Refuses),
+    ("--", Outcome::Refuses),
+    ("--limit", Outcome::Refuses),
+];
+
+#[test]
+fn a_limit_is_even_and_in_range(rt: HostRuntime) -> Result<(), AllocError> {
+    for (value, wanted) in &VALUES {
+        value_comes_to(&rt, rt.alloc(), "--limit", value, *wanted)?;
+    }
+    Ok(())
+}
+
+static OPTIONS: [Line; 21] = [
+    (&["--fuse", "0"], Outcome::Fuses(4_294_967_294, 0)),
+    (&["--fuse=3"], Outcome::Fuses(4_294_967_294, 3)),
+    (
+        &["--fuse", "4294967295"],
+        Outcome::Fuses(4_294_967_294, 4_294_967_295),
+    ),
+    (&["--fuse", "0000000007"], Outcome::Fuses(4_294_967_294, 7)),
+    (&["--fuse", "1", "--"], Outcome::Fuses(4_294_967_294, 1)),
+    (
+        &["--limit", "8192", "--fuse", "8"],
+        Outcome::Fuses(8_192, 8),
+    ),
+    (
+        &["--fuse", "8", "--limit", "8192"],
+        Outcome::Fuses(8_192, 8),
+    ),
+    (&["--limit=8192", "--fuse=9"], Outcome::Fuses(8_192, 9)),
+    (&["--fuse=9", "--limit=8192"], Outcome::Fuses(8_192, 9)),
+    (&["--limit=8192", "--fuse", "9"], Outcome::Fuses(8_192, 9)),
+    (&["--fuse", "9", "--limit=8192"], Outcome::Fuses(8_192, 9)),
+    (&["--fuse"], Outcome::Refuses),
+    (&["--limit", "8192", "--fuse"], Outcome::Refuses),
+    (&["--fuse", "1", "2"], Outcome::Refuses),
+    (&["--fuse", "1", "--fuse", "1"], Outcome::Refuses),
+    (&["--fuse=1", "--fuse=2"], Outcome::Refuses),
+    (&["--fuse", "--limit", "8192"], Outcome::Refuses),
+    (&["--limit", "1", "--fuse", "1"], Outcome::Refuses),
+    (&["--fus", "1"], Outcome::Refuses),
+    (&["-f", "1"], Outcome::Refuses),
+    (&["--log"], Outcome::Refuses),
+];
+
+#[test]
+fn a_fuse_stands_beside_a_limit(rt: HostRuntime) -> Result<(), AllocError> {
+    lines_come_to(&rt, rt.alloc(), &["bwingest", "replay"], &OPTIONS)
+}
+
+static BAD_FUSES: [&str; 14] = [
+    "x",
+    "-1",
+    "+1",
+    "4294967296",
+    "9999999999",
+    "00000000001",
+    "",
+    " 1",
+    "1 ",
+    "1\n",
+    "1.0",
+    "0x1",
+    "٣",
+    "--fuse",
+];
+
+#[test]
+fn a_fuse_is_a_number(rt: HostRuntime) -> Result<(), AllocError> {
+    for value in &BAD_FUSES {
+        value_comes_to(&rt, rt.alloc(), "--fuse", value, Outcome::Refuses)?;
+    }
+    Ok(())
+}
+
+static SERVERS: [Line; 21] = [
+    (&[], Outcome::Serves(End::Exchanges(1), MOST, ONE_BY_ONE)),
+    (
+        &["--timeout=30", "--limit", "8192", "--exchanges=7"],
+        Outcome::Serves(End::Exchanges(7), 8_192, HALF_A_MINUTE),
+    ),
+    (
+        &["--until-stopped", "--network", "--"],
+        Outcome::Serves(End::UntilStopped, MOST, ONE_BY_ONE),
+    ),
+    (
+        &["--exchanges", "1000000", "--timeout", "86400"],
+        Outcome::Serves(End::Exchanges(1_000_000), MOST, A_DAY),
+    ),
+    (&["--exchanges", "0"], Outcome::Refuses),
+    (&["--exchanges", "1000001"], Outcome::Refuses),
+    (&["--exchanges", "+1"], Outcome::Refuses),
+    (&["--exchanges=1", "--until-stopped"], Outcome::Refuses),
+    (&["--timeout", "0"], Outcome::Refuses),
+    (&["--timeout", "86401"], Outcome::Refuses),
+    (&["--limit", "8191"], Outcome::Refuses),
+    (&["--network", "--network"], Outcome::Refuses),
+    (&["--network=true"], Outcome::Refuses),
+    (
+        &["--log"],
+        Outcome::Logs(End::Exchanges(1), MOST, ONE_BY_ONE),
+    ),
+    (
+        &["--log", "--until-stopped", "--timeout=30", "--network"],
+        Outcome::Logs(End::UntilStopped, MOST, HALF_A_MINUTE),
+    ),
+    (&["--log", "--log"], Outcome::Refuses),
+    (&["--log=true"], Outcome::Refuses),
+    (&["--fuse", "1"], Outcome::Refuses),
+    (&["--folder", "e"], Outcome::Refuses),
+    (&["--listen", "127.0.0.1:1"], Outcome::Refuses),
+    (&["e"], Outcome::Refuses),
+];
+
+const MOST: u64 = 4_294_967_294;
+
+const ONE_BY_ONE: Recorders = Recorders::InTurn { timeout: None };
+
+const HALF_A_MINUTE: Recorders = Recorders::InTurn { timeout: Some(30) };
+
+const A_DAY: Recorders = Recorders::InTurn {
+    timeout: Some(86_400),
+};
+
+/// The words that the lines of a server begin with.
+static SERVE: [&str; 6] = [
+    "bwingest",
+    "serve",
+    "--listen",
+    "127.0.0.1:4100",
+    "--folder",
+    "-d",
+];
+
+#[test]
+fn a_server_takes_its_options_in_any_order(rt: HostRuntime) -> Result<(), AllocError> {
+    lines_come_to(&rt, rt.alloc(), &SERVE, &SERVERS)
+}
+
+static EVENT_LOOPS: [Line; 12] = [
+    (
+        &["--recorders", "16"],
+        Outcome::Serves(
+            End::Exchanges(1),
+            MOST,
+            Recorders::AtOnce { most: 16, idle: 60 },
+        ),
+    ),
+    (
+        &["--idle=86400", "--recorders=256"],
+        Outcome::Serves(
+            End::Exchanges(1),
+            MOST,
+            Recorders::AtOnce {
+                most: 256,
+                idle: 86_400,
+            },
+        ),
+    ),
+    (
+        &["--recorders", "1", "--until-stopped", "--idle", "1"],
+        Outcome::Serves(
+            End::UntilStopped,
+            MOST,
+            Recorders::AtOnce { most: 1, idle: 1 },
+        ),
+    ),
+    (&["--recorders", "0"], Outcome::Refuses),
+    (&["--recorders", "257"], Outcome::Refuses),
+    (&["--recorders", "+1"], Outcome::Refuses),
+    (&["--recorders=2", "--idle", "0"], Outcome::Refuses),
+    (&["--recorders=2", "--idle", "86401"], Outcome::Refuses),
+    (&["--idle", "60"], Outcome::Refuses),
+    (&["--recorders=2", "--timeout", "60"], Outcome::Refuses),
+    (&["--recorders=2", "--recorders=2"], Outcome::Refuses),
+    (&["--recorders"], Outcome::Refuses),
+];
+
+#[test]
+fn a_server_of_many_takes_an_idle_time(rt: HostRuntime) -> Result<(), AllocError> {
+    lines_come_to(&rt, rt.alloc(), &SERVE, &EVENT_LOOPS)
+}
+
+static SENDERS: [Line; 10] = [
+    (&[], Outcome::Sends(16, None)),
+    (
+        &["--timeout", "1", "--rounds=1000"],
+        Outcome::Sends(1000, Some(1)),
+    ),
+    (
+        &["--network", "--rounds", "0000000002"],
+        Outcome::Sends(2, None),
+    ),
+    (&["--rounds", "0"], Outcome::Refuses),
+    (&["--rounds", "1001"], Outcome::Refuses),
+    (&["--timeout=86401"], Outcome::Refuses),
+    (&["--limit", "8192"], Outcome::Refuses),
+    (&["--name", "b"], Outcome::Refuses),
+    (&["--until-stopped"], Outcome::Refuses),
+    (&["--log"], Outcome::Refuses),
+];
+
+/// The words that the lines of a sender begin with.
+static SEND: [&str; 5] = [
+    "bwingest",
+    "send",
+    "--connect=127.0.0.1:4100",
+    "--name",
+    "-a",
+];
+
+#[test]
+fn a_sender_takes_its_options_in_any_order(rt: HostRuntime) -> Result<(), AllocError> {
+    lines_come_to(&rt, rt.alloc(), &SEND, &SENDERS)
+}
+
+/// Addresses, with the outcome without `--network` and with it.
+static ADDRESSES: [(&str, Outcome, Outcome); 20] = [
+    ("127.0.0.1:4100", PLAIN, PLAIN),
+    (
+        "127.0.0.1:1",
+        Outcome::ServesElsewhere,
+        Outcome::ServesElsewhere,
+    ),
+    (
+        "127.0.0.1:65535",
+        Outcome::ServesElsewhere,
+        Outcome::ServesElsewhere,
+    ),
+    ("127.0.0.1:04100", Outcome::Refuses, PLAIN),
+    ("127.0.0.2:4100", Outcome::Refuses, PLAIN),
+    ("0.0.0.0:4100", Outcome::Refuses, PLAIN),
+    ("[::1]:4100", Outcome::Refuses, Outcome::ServesElsewhere),
+    (
+        "[fe80::1%2]:4100",
+        Outcome::Refuses,
+        Outcome::ServesElsewhere,
+    ),
+    ("127.0.0.1:0", Outcome::Refuses, Outcome::Refuses),
+    ("[::1]:0", Outcome::Refuses, Outcome::Refuses),
+    ("127.0.0.1:65536", Outcome::Refuses, Outcome::Refuses),
+    ("127.0.0.1:+4100", Outcome::Refuses, Outcome::Refuses),
+    ("127.0.0.1: 4100", Outcome::Refuses, Outcome::Refuses),
+    ("127.0.0.1:", Outcome::Refuses, Outcome::Refuses),
+    ("127.0.0.1", Outcome::Refuses, Outcome::Refuses),
+    ("127.0.0.01:4100", Outcome::Refuses, Outcome::Refuses),
+    ("localhost:4100", Outcome::Refuses, Outcome::Refuses),
+    ("::1:4100", Outcome::Refuses, Outcome::Refuses),
+    (":4100", Outcome::Refuses, Outcome::Refuses),
+    ("", Outcome::Refuses, Outcome::Refuses),
+];
+
+const PLAIN: Outcome = Outcome::Serves(End::Exchanges(1), MOST, ONE_BY_ONE);
+
+/// Ends the test where a server at an address comes to something else.
+fn address_comes_to(
+    rt: &impl Abort,
+    alloc: Global,
+    address: &str,
+    near: Outcome,
+    far: Outcome,
+) -> Result<(), AllocError> {
+    let listen = format!(in alloc; "--listen={address}")?;
+    let words = [
+        "bwingest",
+        "serve",
+        listen.as_str(),
+        "--folder=-d",
+        "--network",
+    ];
+    comes_to(rt, alloc, &words[..4], near)?;
+    comes_to(rt, alloc, &words, far)
+}
+
+#[test]
+fn an_address_is_local_without_leave_for_the_network(rt: HostRuntime) -> Result<(), AllocError> {
+    for (address, near, far) in &ADDRESSES {
+        address_comes_to(&rt, rt.alloc(), address, *near, *far)?;
+    }
+    Ok(())
+}
+
+static TEXTS: [(&[&str], &str); 10] = [
+    (&["/tmp/x", "--version"], "bwingest 1.0.0\n"),
+    (&["/tmp/x", "--help"], "Usage: bwingest <COMMAND>\n"),
+    (&["/tmp/x"], "Usage: bwingest <COMMAND>\n"),
+    (
+        &["/tmp/x", "replay", "--help"],
+        "Usage: bwingest replay [OPTIONS]\n",
+    ),
+    (&["/tmp/x", "inspect"], "Usage: bwingest inspect <FILE>\n"),
+    (
+        &["/tmp/x", "serve", "--help"],
+        "Example: bwingest serve --listen 127.0.0.1:4100 --folder takes --recorders 16\n",
+    ),
+    (
+        &["/tmp/x", "serve", "--help"],
+        "nothing on the wire is encrypted or signed",
+    ),
+    (
+        &["/tmp/x", "serve", "--help"],
+        "Tells each connection in a line on standard error\n",
+    ),
+    (
+        &["/tmp/x", "send", "--help"],
+        "How long a silent peer is waited for, 1 to 86400 [default: for good]",
+    ),
+    (
+        &["/tmp/x", "send", "--help"],
+        "Example: bwingest send --connect 127.0.0.1:4100 --name a1 < requests.hex\n",
+    ),
+];
+
+/// The text of a line that prints one.
+fn text_of(alloc: Global, words: &[&str]) -> Result<Option<String>, AllocError> {
+    match parse_words(alloc, words)? {
+        CommandLine::Run(_) => Ok(None),
+        CommandLine::BadValue(_) => Ok(None),
+        CommandLine::Report(error) => Ok(Some(format!(in alloc; "{error}")?)),
+    }
+}
+
+/// Ends the test where a line prints no text, or one without this part.
+fn reports(rt: &impl Abort, alloc: Global, words: &[&str], part: &str) -> Result<(), AllocError> {
+    let text = text_of(alloc, words)?;
+    let found = text.as_deref().unwrap_or("no text");
+    assert!(rt; found.contains(part), "{words:?}: {found}");
+    Ok(())
+}
+
+#[test]
+fn texts_name_the_program(rt: HostRuntime) -> Result<(), AllocError> {
+    for (words, part) in &TEXTS {
+        reports(&rt, rt.alloc(), words, part)?;
+    }
+    Ok(())
+}
+
+static NUMBERS: [(&str, Option<u32>); 5] = [
+    ("0", Some(0)),
+    ("4294967295", Some(4_294_967_295)),
+    ("4294967296", None),
+    ("+1", None),
+    ("", None),
+];
+
+#[test]
+fn a_number_has_one_to_ten_digits(rt: HostRuntime) {
+    for (text, wanted) in &NUMBERS {
+        assert_eq!(rt; number(text), *wanted, "of {text:?}");
+    }
+}

@@ -1,0 +1,163 @@
+//! What a command line comes to, in small values, and how tests compare it.
+use bw_args::{CommandLine, End, Recorders, Send, Serve, Task, parse};
+use bw_request::Name;
+use clap::Error;
+use std::alloc::{AllocError, Global};
+use std::process::Abort;
+
+/// The outcome of a command line.
+#[derive(Clone, Copy, Debug, PartialEq, Eq)]
+pub(crate) enum Outcome {
+    /// Replays with this limit, and without a fuse.
+    Replays(u64),
+    /// Replays with this limit and this fuse.
+    Fuses(u64, u32),
+    /// Rehearses with this limit, under the name that the last word ends with.
+    Rehearses(u64),
+    /// Inspects the file that the last word names.
+    Inspects,
+    /// Serves at the address and in the folder that the rows' first words give: until this end, with
+    /// this limit, recorders in this way.
+    Serves(End, u64, Recorders),
+    /// The same, and logs each connection.
+    Logs(End, u64, Recorders),
+    /// Serves at another address or in another folder.
+    ServesElsewhere,
+    /// Sends to the address and under the name that the rows' first words give, in so many rounds at
+    /// most, with this timeout.
+    Sends(u32, Option<u32>),
+    /// Sends to another address.
+    SendsElsewhere,
+    /// Text on standard output, status 0.
+    Shows,
+    /// Text on standard error, status 2.
+    Refuses,
+    /// A stream and a status that don't belong together.
+    Confuses,
+}
+
+/// What these words, of which the first is the program's own name, are read as.
+pub(crate) fn parse_words(alloc: Global, words: &[&str]) -> Result<CommandLine, AllocError> {
+    let mut line = Vec::new(alloc);
+    for word in words {
+        line.push(String::from_str(alloc, word)?)?;
+    }
+    parse(alloc, line.as_slice())
+}
+
+fn outcome_of(alloc: Global, words: &[&str]) -> Result<Outcome, AllocError> {
+    Ok(match parse_words(alloc, words)? {
+        CommandLine::Run(task) => run_outcome(&task, words),
+        CommandLine::BadValue(_) => Outcome::Refuses,
+        CommandLine::Report(error) => reported_outcome(&error),
+    })
+}
+
+fn run_outcome(task: &Task, words: &[&str]) -> Outcome {
+    match task {
+        Task::Replay { limit, fuse: None } => Outcome::Replays(*limit),
+        Task::Replay {
+            limit,
+            fuse: Some(number),
+        } => Outcome::Fuses(*limit, *number),
+        Task::Rehearse { name, limit } if ends_with(words, name) => Outcome::Rehearses(*limit),
+        Task::Rehearse { .. } => Outcome::Confuses,
+        Task::Inspect { file } if words.last() == Some(&file.as_str()) => Outcome::Inspects,
+        Task::Inspect { .. } => Outcome::Confuses,
+        Task::Serve(server) => server_outcome(server),
+        Task::Send(sender) => sender_outcome(sender),
+    }
+}
+
+fn server_outcome(server: &Serve) -> Outcome {
+    if server.listen.port() != 4100 || !server.listen.is_ipv4() || server.folder.as_str() != "-d" {
+        Outcome::ServesElsewhere
+    } else if server.log {
+        Outcome::Logs(server.end, server.limit, server.recorders)
+    } else {
+        Outcome::Serves(server.end, server.limit, server.recorders)
+    }
+}
+
+fn sender_outcome(sender: &Send) -> Outcome {
+    if sender.connect.port() == 4100 && sender.name.as_bytes() == b"-a".as_slice() {
+        Outcome::Sends(sender.rounds, sender.timeout)
+    } else {
+        Outcome::SendsElsewhere
+    }
+}
+
+fn ends_with(words: &[&str], name: &Name) -> bool {
+    match words.last() {
+        Some(word) => word.as_bytes().ends_with(name.as_bytes()),
+        None => false,
+    }
+}
+
+fn reported_outcome(error: &Error) -> Outcome {
+    match (error.use_stderr(), error.exit_code()) {
+        (false, 0) => Outcome::Shows,
+        (true, 2) => Outcome::Refuses,
+        _ => Outcome::Confuses,
+    }
+}
+
+/// Words after those that a table's lines begin with, and what such a line comes to.
+pub(crate) type Line = (&'static [&'static str], Outcome);
+
+fn same_outcome(rt: &impl Abort, words: &[&str], found: Outcome, wanted: Outcome) {
+    assert_eq!(rt; found, wanted, "{words:?}");
+}
+
+/// Ends the test where a line comes to something else.
+pub(crate) fn comes_to(
+    rt: &impl Abort,
+    alloc: Global,
+    words: &[&str],
+    wanted: Outcome,
+) -> Result<(), AllocError> {
+    let found = outcome_of(alloc, words)?;
+    same_outcome(rt, words, found, wanted);
+    Ok(())
+}
+
+/// Ends the test where a line of these first words and these options comes to something else.
+pub(crate) fn options_come_to(
+    rt: &impl Abort,
+    alloc: Global,
+    first: &[&'static str],
+    options: &[&'static str],
+    wanted: Outcome,
+) -> Result<(), AllocError> {
+    let mut words = Vec::new(alloc);
+    words.extend_from_slice(first)?;
+    words.extend_from_slice(options)?;
+    comes_to(rt, alloc, words.as_slice(), wanted)
+}
+
+/// Ends the test where one of these lines comes to something else. Each begins with these words.
+pub(crate) fn lines_come_to(
+    rt: &impl Abort,
+    alloc: Global,
+    first: &[&'static str],
+    lines: &[Line],
+) -> Result<(), AllocError> {
+    for (options, wanted) in lines {
+        options_come_to(rt, alloc, first, options, *wanted)?;
+    }
+    Ok(())
+}
+
+/// Ends the test where a replay with an option comes to something else, be its value a word of its
+/// own or not.
+pub(crate) fn value_comes_to(
+    rt: &impl Abort,
+    alloc: Global,
+    option: &str,
+    value: &str,
+    wanted: Outcome,
+) -> Result<(), AllocError> {
+    comes_to(rt, alloc, &["bwingest", "replay", option, value], wanted)?;
+    let word = format!(in alloc; "{option}={value}")?;
+    comes_to(rt, alloc, &["bwingest", "replay", word.as_str()], wanted)
+}

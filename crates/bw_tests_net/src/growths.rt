@@ -1,0 +1,52 @@
+//! Memory that is refused to an event loop.
+use crate::play::{OTHERS, QUICK, QUICK_OTHER, Received, VERDICTS, try_serve, two_frames};
+use crate::scripted_reactor::{Plan, ReportsRound, Visit};
+use bw_request::Name;
+use bw_serve::Bounds;
+use std::alloc::Global;
+use std::process::Abort;
+use std::test::Fail;
+
+const BOTH: &[Visit] = &[QUICK, QUICK_OTHER];
+
+const TWO: Bounds = Bounds {
+    places: 2,
+    exchanges: 2,
+    idle: 100,
+};
+
+/// Run once more with each growth refused, by `tools/refuse_calls --tests`.
+#[test]
+fn what_was_reported_stands_where_a_growth_is_refused(rt: HostRuntime) -> Result<(), Fail> {
+    let plan = Plan {
+        visits: BOTH,
+        tick: 10,
+        rounds: 100,
+        reports: ReportsRound::Both,
+    };
+    if let Some(received) = try_serve(rt.alloc(), &TWO, true, plan) {
+        assert!(&rt;
+            stands(rt.alloc(), &received, b"a1", VERDICTS),
+            "another file a1"
+        );
+        assert!(&rt;
+            stands(rt.alloc(), &received, b"b2", OTHERS),
+            "another file b2"
+        );
+    }
+    Ok(())
+}
+
+/// Whether the file of two frames stands under a name, if someone was reported that all of it is stored.
+fn stands(alloc: Global, received: &Received, name: &[u8], verdicts: &[u8]) -> bool {
+    if !received.scripted_reactor.has_taken(0, verdicts)
+        && !received.scripted_reactor.has_taken(1, verdicts)
+    {
+        return true;
+    }
+    // where its growth is the refused one the run met none
+    let (Some(name), Ok(file)) = (Name::new(name), two_frames(alloc)) else {
+        return true;
+    };
+    received.server.server().store().content(&name) == Some(file.as_slice())
+}

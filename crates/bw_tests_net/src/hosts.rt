@@ -1,0 +1,105 @@
+//! The whole command: its first line, its lines, and what it says where something can't be used.
+use crate::compare::same;
+use crate::memory_network::{FOLDER, MemoryNetwork, PORT};
+use crate::play::{QUICK, QUICK_OTHER};
+use crate::scripted_reactor::{Plan, ReportsRound, Visit};
+use bw_console::Exit;
+use bw_layout::Limit;
+use bw_serve::{Bounds, Hosting, serve_many};
+use bw_stream::MemorySink;
+use std::alloc::Global;
+use std::net::{Ipv4Addr, SocketAddr};
+use std::process::Abort;
+use std::test::Fail;
+
+const TWO_VISITS: &[Visit] = &[QUICK, QUICK_OTHER];
+
+const PLAN: Plan = Plan {
+    visits: TWO_VISITS,
+    tick: 10,
+    rounds: 100,
+    reports: ReportsRound::Both,
+};
+
+const TWO: Bounds = Bounds {
+    places: 2,
+    exchanges: 2,
+    idle: 60_000,
+};
+
+/// What a call has to come to.
+#[derive(Clone, Copy)]
+struct Wanted {
+    exit: Exit,
+    out: &'static [u8],
+    faults: &'static [u8],
+    failures: u64,
+}
+
+/// Serves two at once over the memory's network, with a log, and compares all that comes of it.
+fn comes_to(rt: &impl Abort, alloc: Global, port: u16, folder: &str, wanted: &Wanted) {
+    let mut memory_network = MemoryNetwork::new(alloc, PLAN);
+    let hosting = Hosting {
+        address: SocketAddr::from((Ipv4Addr::LOCALHOST, port)),
+        folder,
+        bounds: TWO,
+        limit: Limit::default(),
+        log: true,
+    };
+    let mut out = MemorySink::new(Vec::new(alloc));
+    let mut faults = MemorySink::new(Vec::new(alloc));
+    let exit = serve_many(alloc, &mut memory_network, &hosting, &mut out, &mut faults);
+    same(rt, "the exit", &exit, &wanted.exit);
+    same(
+        rt,
+        "the failures",
+        &memory_network.failures(),
+        &wanted.failures,
+    );
+    assert!(rt; out.into_bytes().as_slice() == wanted.out, "other lines");
+    assert!(rt;
+        faults.into_bytes().as_slice() == wanted.faults,
+        "other faults"
+    );
+}
+
+/// The second is over in its first round, with its replies sent, and the first in its second.
+const BOTH: Wanted = Wanted {
+    exit: Exit::Done,
+    out: b"listening 127.0.0.1:4000\nexchange 0 Bye\nexchange 1 EndOfInput\n",
+    faults: b"peer 127.0.0.1:4101 names b2 end Bye messages 3 bytes 46\n\
+        peer 127.0.0.1:4100 names a1 end EndOfInput messages 3 bytes 46\n",
+    failures: 0,
+};
+
+#[test]
+fn two_are_served_after_the_first_line(rt: HostRuntime) -> Result<(), Fail> {
+    comes_to(&rt, rt.alloc(), PORT, FOLDER, &BOTH);
+    Ok(())
+}
+
+const NO_FOLDER: Wanted = Wanted {
+    exit: Exit::Device,
+    out: b"",
+    faults: b"elsewhere can't be opened: entity not found\n",
+    failures: 1,
+};
+
+#[test]
+fn a_folder_that_is_not_there_is_reported(rt: HostRuntime) -> Result<(), Fail> {
+    comes_to(&rt, rt.alloc(), PORT, "elsewhere", &NO_FOLDER);
+    Ok(())
+}
+
+const NO_ADDRESS: Wanted = Wanted {
+    exit: Exit::Device,
+    out: b"",
+    faults: b"127.0.0.1:4001 can't be opened: address in use\n",
+    failures: 1,
+};
+
+#[test]
+fn an_address_that_is_in_use_is_reported(rt: HostRuntime) -> Result<(), Fail> {
+    comes_to(&rt, rt.alloc(), 4001, FOLDER, &NO_ADDRESS);
+    Ok(())
+}

@@ -1,0 +1,144 @@
+//! A network in memory: one folder, and one address at which a reactor opens.
+ghost use Rattle.std.specs.Prelude.{◌≡◌, None};
+ghost use Rattle.bw_stream.specs.Moves.{failures_after};
+
+use crate::scripted_reactor::{Plan, ScriptedReactor};
+use bw_ports::{AcceptFault, Dial, DialFault, Duplex, ListenerSetup, Network, Peer, Peers};
+use bw_store::MemoryStore;
+use bw_stream::{MemorySink, MemorySource};
+use std::alloc::Global;
+use std::io::{self, ErrorKind};
+use std::net::SocketAddr;
+
+/// The folder that is there.
+pub(crate) const FOLDER: &str = "takes";
+
+/// The port to which those of the plan come.
+pub(crate) const PORT: u16 = 4000;
+
+/// A network where nobody comes one after the other, and nothing is dialled.
+#[derive(Drop)]
+pub(crate) struct MemoryNetwork {
+    alloc: Global,
+    plan: Plan,
+    failures: u64,
+}
+
+impl MemoryNetwork {
+    pub(crate) fn new(alloc: Global, plan: Plan) -> MemoryNetwork {
+        MemoryNetwork {
+            alloc,
+            plan,
+            failures: 0,
+        }
+    }
+
+    /// How many calls failed.
+    pub(crate) fn failures(&self) -> u64 {
+        self.failures
+    }
+}
+
+impl Network for MemoryNetwork {
+    type Store = MemoryStore;
+
+    type Peers = Nobody;
+
+    type Dial = Nowhere;
+
+    ghost failures = { λ n. n.failures };
+
+    ghost stores = { λ n folder result n'. n'.failures ≡ failures_after result n.failures };
+
+    ghost listens = { λ n address folder timeout result n'. n'.failures
+        ≡ failures_after result n.failures };
+
+    ghost calls = { λ n address timeout dial. dial.failures ≡ 0 };
+
+    fn store(&mut self, folder: &str) -> io::Result<MemoryStore> {
+        if folder != FOLDER {
+            self.failures = self.failures.saturating_add(1);
+            return Err(io::Error::from(ErrorKind::NotFound));
+        }
+        Ok(MemoryStore::new(self.alloc))
+    }
+
+    fn listen(
+        &mut self,
+        _address: SocketAddr,
+        _folder: &str,
+        _timeout: Option<u32>,
+    ) -> io::Result<Nobody> {
+        Ok(Nobody { failures: 0 })
+    }
+
+    fn dial(&self, _address: SocketAddr, _timeout: Option<u32>) -> Nowhere {
+        Nowhere { failures: 0 }
+    }
+}
+
+impl ListenerSetup for MemoryNetwork {
+    type Reactor = ScriptedReactor;
+
+    ghost failures = { λ n. n.failures };
+
+    ghost opens = { λ n address folder places result n'. n'.failures
+        ≡ failures_after result n.failures };
+
+    fn reactor(
+        &mut self,
+        address: SocketAddr,
+        _folder: &str,
+        _places: usize,
+    ) -> io::Result<ScriptedReactor> {
+        if address.port() != PORT {
+            self.failures = self.failures.saturating_add(1);
+            return Err(io::Error::from(ErrorKind::AddrInUse));
+        }
+        Ok(ScriptedReactor::new(self.alloc, self.plan))
+    }
+}
+
+/// Peers of whom none comes.
+#[derive(Drop)]
+pub(crate) struct Nobody {
+    failures: u64,
+}
+
+impl Peers for Nobody {
+    type Reader = MemorySource<'static>;
+
+    type Writer = MemorySink;
+
+    ghost failures = { λ p. p.failures };
+
+    ghost accepts = { λ p result p'. p'.failures ≡ failures_after result p.failures };
+
+    fn accept(&mut self) -> Result<Peer<MemorySource<'static>, MemorySink>, AcceptFault> {
+        self.failures = self.failures.saturating_add(1);
+        Err(AcceptFault::Closed)
+    }
+}
+
+/// Links of which none is made.
+#[derive(Drop)]
+pub(crate) struct Nowhere {
+    failures: u64,
+}
+
+impl Dial for Nowhere {
+    type Reader = MemorySource<'static>;
+
+    type Writer = MemorySink;
+
+    ghost links = { λ d. None };
+
+    ghost failures = { λ d. d.failures };
+
+    ghost dials = { λ d result d'. d'.failures ≡ failures_after result d.failures };
+
+    fn dial(&mut self) -> Result<Duplex<MemorySource<'static>, MemorySink>, DialFault> {
+        self.failures = self.failures.saturating_add(1);
+        Err(DialFault)
+    }
+}

@@ -1,0 +1,89 @@
+//! More recorders than places, or than are wanted.
+use crate::compare::same;
+use crate::play::{OTHERS, QUICK, QUICK_OTHER, VERDICTS, is_over, is_reported, serve};
+use crate::scripted_reactor::{Plan, ReportsRound, Visit};
+use bw_console::Exit;
+use bw_serve::Bounds;
+use std::test::Fail;
+
+const THREE_VISITS: &[Visit] = &[QUICK, QUICK_OTHER, QUICK];
+
+const PLAN: Plan = Plan {
+    visits: THREE_VISITS,
+    tick: 10,
+    rounds: 100,
+    reports: ReportsRound::Both,
+};
+
+const ONE_PLACE: Bounds = Bounds {
+    places: 1,
+    exchanges: 3,
+    idle: 60_000,
+};
+
+const TWO_WANTED: Bounds = Bounds {
+    places: 4,
+    exchanges: 2,
+    idle: 60_000,
+};
+
+const NONE_WANTED: Bounds = Bounds {
+    places: 4,
+    exchanges: 0,
+    idle: 60_000,
+};
+
+#[test]
+fn the_next_is_let_in_where_a_place_is_free(rt: HostRuntime) -> Result<(), Fail> {
+    let received = serve(rt.alloc(), &ONE_PLACE, PLAN)?;
+    let lines = b"exchange 0 EndOfInput\nexchange 1 Bye\nexchange 2 EndOfInput\n";
+    is_over(&rt, &received, Exit::Done, lines);
+    is_reported(&rt, &received, 1, OTHERS);
+    is_reported(&rt, &received, 2, VERDICTS);
+    // the first is over in its second round, at its end; the second in its first one, at its Bye
+    same(
+        &rt,
+        "the second",
+        &received.scripted_reactor.round_and_place(1),
+        &(3, 0),
+    );
+    same(
+        &rt,
+        "the third",
+        &received.scripted_reactor.round_and_place(2),
+        &(4, 0),
+    );
+    Ok(())
+}
+
+#[test]
+fn no_more_are_let_in_than_are_wanted(rt: HostRuntime) -> Result<(), Fail> {
+    let received = serve(rt.alloc(), &TWO_WANTED, PLAN)?;
+    is_over(
+        &rt,
+        &received,
+        Exit::Done,
+        b"exchange 0 Bye\nexchange 1 EndOfInput\n",
+    );
+    same(
+        &rt,
+        "how many came",
+        &received.scripted_reactor.let_in(),
+        &2,
+    );
+    same(
+        &rt,
+        "the second",
+        &received.scripted_reactor.round_and_place(1),
+        &(1, 1),
+    );
+    Ok(())
+}
+
+#[test]
+fn nobody_is_waited_for_where_none_is_wanted(rt: HostRuntime) -> Result<(), Fail> {
+    let received = serve(rt.alloc(), &NONE_WANTED, PLAN)?;
+    is_over(&rt, &received, Exit::Done, b"");
+    same(&rt, "the time", &received.scripted_reactor.time(), &0);
+    Ok(())
+}

@@ -1,0 +1,162 @@
+//! The bytes of worked takes, and runs over them.
+use crate::compare::same;
+use crate::scripted::{Give, Script, Take};
+use crate::scripted_reactor::{Comes, Plan, ScriptedReactor, Visit};
+use bw_console::Exit;
+use bw_exchange::Metered;
+use bw_layout::Limit;
+use bw_request::Name;
+use bw_serve::{Bounds, run_event_loop};
+use bw_session::Server;
+use bw_store::MemoryStore;
+use bw_stream::MemorySink;
+use std::alloc::{AllocError, Global};
+use std::process::Abort;
+use std::test::Fail;
+
+/// OPEN 0 (48,000 Hz, one channel, 16 bits), BLOCK 1 with two frames, CLOSE 2 with the total 2,
+/// each after its length: 22, 16 and 20 bytes.
+pub(crate) const TAKE: &[u8] = b"\x12\0\0\0\x01\x02a1\0\0\0\0\x80\xbb\0\0\x01\0\x10\0\0\0\
+    \x0c\0\0\0\x02\x02a1\x01\0\0\0\x01\0\x02\0\
+    \x10\0\0\0\x05\x02a1\x02\0\0\0\x02\0\0\0\0\0\0\0";
+
+/// The verdicts that all three are stored, 13 bytes each.
+pub(crate) const VERDICTS: &[u8] = b"\x09\0\0\0\x81\x02a1\0\0\0\0\0\
+    \x09\0\0\0\x81\x02a1\x01\0\0\0\0\
+    \x09\0\0\0\x81\x02a1\x02\0\0\0\0";
+
+/// The verdict of OPEN 0.
+pub(crate) const FIRST: &[u8] = b"\x09\0\0\0\x81\x02a1\0\0\0\0\0";
+
+/// The same take under the name `b2`, and the frame that ends an exchange.
+pub(crate) const OTHER: &[u8] = b"\x12\0\0\0\x01\x02b2\0\0\0\0\x80\xbb\0\0\x01\0\x10\0\0\0\
+    \x0c\0\0\0\x02\x02b2\x01\0\0\0\x01\0\x02\0\
+    \x10\0\0\0\x05\x02b2\x02\0\0\0\x02\0\0\0\0\0\0\0\
+    \x01\0\0\0\x09";
+
+/// The verdicts of its three requests.
+pub(crate) const OTHERS: &[u8] = b"\x09\0\0\0\x81\x02b2\0\0\0\0\0\
+    \x09\0\0\0\x81\x02b2\x01\0\0\0\0\
+    \x09\0\0\0\x81\x02b2\x02\0\0\0\0";
+
+/// The verdict of its OPEN 0.
+pub(crate) const OTHERS_FIRST: &[u8] = b"\x09\0\0\0\x81\x02b2\0\0\0\0\0";
+
+/// Takes all that it is offered.
+pub(crate) const ALL: &[Take] = &[Take::Bytes(4096)];
+
+/// One who sends `TAKE` at once.
+pub(crate) const QUICK: Visit = Visit {
+    round: 1,
+    comes: Comes::Peer(Script {
+        input: TAKE,
+        gives: &[Give::Bytes(58)],
+        takes: ALL,
+    }),
+};
+
+/// One who sends `OTHER` at once.
+pub(crate) const QUICK_OTHER: Visit = Visit {
+    round: 1,
+    comes: Comes::Peer(Script {
+        input: OTHER,
+        gives: &[Give::Bytes(63)],
+        takes: ALL,
+    }),
+};
+
+/// What a run came to.
+#[derive(Drop)]
+pub(crate) struct Received {
+    pub(crate) exit: Exit,
+    pub(crate) out: Vec<u8>,
+    pub(crate) faults: Vec<u8>,
+    pub(crate) scripted_reactor: ScriptedReactor,
+    pub(crate) server: Metered<Server<MemoryStore>>,
+}
+
+/// Serves an event loop with a new server over an empty store in memory, where there is memory for one.
+pub(crate) fn try_serve(alloc: Global, bounds: &Bounds, log: bool, plan: Plan) -> Option<Received> {
+    let Ok(server) = Server::new(alloc, MemoryStore::new(alloc), Limit::default()) else {
+        return None;
+    };
+    let mut server = Metered::new(server);
+    let mut scripted_reactor = ScriptedReactor::new(alloc, plan);
+    let mut out = MemorySink::new(Vec::new(alloc));
+    let mut faults = MemorySink::new(Vec::new(alloc));
+    let exit = run_event_loop(
+        alloc,
+        &mut server,
+        &mut scripted_reactor,
+        bounds,
+        log,
+        &mut out,
+        &mut faults,
+    );
+    Some(Received {
+        exit,
+        out: out.into_bytes(),
+        faults: faults.into_bytes(),
+        scripted_reactor,
+        server,
+    })
+}
+
+/// The same where memory is ample, without a log.
+pub(crate) fn serve(alloc: Global, bounds: &Bounds, plan: Plan) -> Result<Received, Fail> {
+    Ok(try_serve(alloc, bounds, false, plan).ok_or("memory")?)
+}
+
+/// .. and with one.
+pub(crate) fn serve_logged(alloc: Global, bounds: &Bounds, plan: Plan) -> Result<Received, Fail> {
+    Ok(try_serve(alloc, bounds, true, plan).ok_or("memory")?)
+}
+
+/// Compares how a run ended and what it printed.
+pub(crate) fn is_over(rt: &impl Abort, received: &Received, exit: Exit, lines: &[u8]) {
+    same(rt, "the exit", &received.exit, &exit);
+    assert!(rt; received.out.as_slice() == lines, "other lines");
+}
+
+/// Compares the log of a run.
+pub(crate) fn is_logged(rt: &impl Abort, received: &Received, lines: &[u8]) {
+    assert!(rt; received.faults.as_slice() == lines, "another log");
+}
+
+/// Compares the replies to the one with this number.
+pub(crate) fn is_reported(rt: &impl Abort, received: &Received, number: usize, replies: &[u8]) {
+    assert!(rt;
+        received.scripted_reactor.has_taken(number, replies),
+        "other replies to {number}"
+    );
+}
+
+/// Compares what stands under a name with the file of two frames.
+pub(crate) fn has_file(
+    rt: &impl Abort,
+    alloc: Global,
+    received: &Received,
+    name: &[u8],
+) -> Result<(), Fail> {
+    let file = two_frames(alloc)?;
+    let name = Name::new(name).ok_or("a name")?;
+    assert!(rt;
+        received.server.server().store().content(&name) == Some(file.as_slice()),
+        "another file"
+    );
+    Ok(())
+}
+
+/// The RIFF file of two frames at 48,000 Hz, one channel, 16 bits: 694 bytes.
+pub(crate) fn two_frames(alloc: Global) -> Result<Vec<u8>, AllocError> {
+    let mut file = Vec::with_capacity(alloc, 694)?;
+    file.extend_from_slice(b"RIFF\xae\x02\0\0WAVEJUNK\x1c\0\0\0")?;
+    file.resize(48, 0)?;
+    file.extend_from_slice(b"fmt \x10\0\0\0\x01\0\x01\0\x80\xbb\0\0\0\x77\x01\0\x02\0\x10\0")?;
+    file.extend_from_slice(b"bext\x5a\x02\0\0")?;
+    file.resize(426, 0)?;
+    file.push(1)?;
+    file.resize(682, 0)?;
+    file.extend_from_slice(b"data\x04\0\0\0\x01\0\x02\0")?;
+    Ok(file)
+}

@@ -1,0 +1,156 @@
+//! Recorders that send no whole frame, or take no reply, beside another.
+use crate::compare::same;
+use crate::play::{ALL, FIRST, OTHERS, QUICK_OTHER, TAKE, VERDICTS, is_over, is_reported, serve};
+use crate::scripted::{Give, Script, Take};
+use crate::scripted_reactor::{Comes, Plan, ReportsRound, Visit};
+use bw_console::Exit;
+use bw_serve::Bounds;
+use std::alloc::Global;
+use std::process::Abort;
+use std::test::Fail;
+
+/// Silent in the middle of its second frame.
+const SILENT: Visit = Visit {
+    round: 1,
+    comes: Comes::Peer(Script {
+        input: TAKE,
+        gives: &[Give::Bytes(30), Give::Nothing],
+        takes: ALL,
+    }),
+};
+
+/// A byte a round, after its first frame.
+const SLOW: Visit = Visit {
+    round: 1,
+    comes: Comes::Peer(Script {
+        input: TAKE,
+        gives: &[Give::Bytes(22), Give::Bytes(1)],
+        takes: ALL,
+    }),
+};
+
+/// Takes no replies.
+const DEAF: Visit = Visit {
+    round: 1,
+    comes: Comes::Peer(Script {
+        input: TAKE,
+        gives: &[Give::Bytes(22), Give::Bytes(16)],
+        takes: &[Take::Nothing],
+    }),
+};
+
+const BESIDE_SILENT: &[Visit] = &[SILENT, QUICK_OTHER];
+
+const BESIDE_SLOW: &[Visit] = &[SLOW, QUICK_OTHER];
+
+const BESIDE_DEAF: &[Visit] = &[DEAF, QUICK_OTHER];
+
+const TWO: Bounds = Bounds {
+    places: 2,
+    exchanges: 2,
+    idle: 1_000,
+};
+
+const LINES: &[u8] = b"exchange 0 Bye\nexchange 1 Idle\n";
+
+/// One who comes after two seconds, and says nothing at first.
+const LATE: &[Visit] = &[Visit {
+    round: 20,
+    comes: Comes::Peer(Script {
+        input: TAKE,
+        gives: &[Give::Nothing, Give::Bytes(58)],
+        takes: ALL,
+    }),
+}];
+
+/// A frame a round.
+const STEADY: &[Visit] = &[Visit {
+    round: 1,
+    comes: Comes::Peer(Script {
+        input: TAKE,
+        gives: &[Give::Bytes(22), Give::Bytes(16), Give::Bytes(20)],
+        takes: ALL,
+    }),
+}];
+
+/// Compares a run of one of these beside `QUICK_OTHER`: its replies, how many bytes it gave, and
+/// when it was ended.
+fn is_idle(
+    rt: &impl Abort,
+    alloc: Global,
+    visits: &'static [Visit],
+    replies: &[u8],
+    given: usize,
+) -> Result<(), Fail> {
+    let plan = Plan {
+        visits,
+        tick: 100,
+        rounds: 1_000,
+        reports: ReportsRound::Both,
+    };
+    let received = serve(alloc, &TWO, plan)?;
+    is_over(rt, &received, Exit::Done, LINES);
+    is_reported(rt, &received, 0, replies);
+    is_reported(rt, &received, 1, OTHERS);
+    same(
+        rt,
+        "the bytes",
+        &received.scripted_reactor.given_and_shut(0).0,
+        &given,
+    );
+    // its first frame was answered after 100 milliseconds
+    same(rt, "the time", &received.scripted_reactor.time(), &1_200);
+    Ok(())
+}
+
+#[test]
+fn who_is_silent_in_a_frame_is_ended(rt: HostRuntime) -> Result<(), Fail> {
+    is_idle(&rt, rt.alloc(), BESIDE_SILENT, FIRST, 30)
+}
+
+#[test]
+fn who_sends_no_whole_frame_is_ended(rt: HostRuntime) -> Result<(), Fail> {
+    // a byte in each of the rounds 2 to 12
+    is_idle(&rt, rt.alloc(), BESIDE_SLOW, FIRST, 33)
+}
+
+#[test]
+fn who_takes_no_replies_is_not_read(rt: HostRuntime) -> Result<(), Fail> {
+    is_idle(&rt, rt.alloc(), BESIDE_DEAF, b"", 22)
+}
+
+/// Compares a run of one of these, which comes to its end.
+fn is_served(
+    rt: &impl Abort,
+    alloc: Global,
+    visits: &'static [Visit],
+    tick: u64,
+    idle: u64,
+) -> Result<(), Fail> {
+    let plan = Plan {
+        visits,
+        tick,
+        rounds: 100,
+        reports: ReportsRound::Both,
+    };
+    let bounds = Bounds {
+        places: 1,
+        exchanges: 1,
+        idle,
+    };
+    let received = serve(alloc, &bounds, plan)?;
+    is_over(rt, &received, Exit::Done, b"exchange 0 EndOfInput\n");
+    is_reported(rt, &received, 0, VERDICTS);
+    Ok(())
+}
+
+#[test]
+fn who_comes_late_is_quiet_since_then(rt: HostRuntime) -> Result<(), Fail> {
+    is_served(&rt, rt.alloc(), LATE, 100, 1_000)
+}
+
+#[test]
+fn what_comes_is_answered_before_silence_is_looked_for(rt: HostRuntime) -> Result<(), Fail> {
+    // each round comes later than the idle time after the one before
+    is_served(&rt, rt.alloc(), STEADY, 300, 250)
+}

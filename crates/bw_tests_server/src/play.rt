@@ -1,0 +1,113 @@
+//! The messages of a take and their replies, and the file that they leave.
+use crate::compare::same;
+use arrayvec::ArrayVec;
+use bw_journal::Journal;
+use bw_layout::Limit;
+use bw_request::{Name, Verdict};
+use bw_session::Server;
+use bw_store::MemoryStore;
+use bw_wire::{Frame, Notice, Reply, decode};
+use std::alloc::{AllocError, Global};
+use std::process::Abort;
+use std::test::Fail;
+
+/// What a server tells of a number of the name that it was sent.
+#[derive(Clone, Copy, Debug, PartialEq, Eq)]
+pub(crate) enum Reported {
+    /// The number, and its verdict.
+    Judged(u32, Verdict),
+    /// The number, why it has no verdict, and which number comes next.
+    Noticed(u32, Notice, u32),
+}
+
+/// The body of a message, and what its sender is reported.
+#[derive(Clone, Copy)]
+pub(crate) struct Turn {
+    pub(crate) body: &'static [u8],
+    pub(crate) reported: &'static [Reported],
+}
+
+/// The name `a1`.
+pub(crate) fn a1() -> Result<Name, Fail> {
+    Ok(Name::new(b"a1").ok_or("a name")?)
+}
+
+/// A new server over a store in memory and a journal.
+pub(crate) fn noting_server<J: Journal>(
+    alloc: Global,
+    journal: J,
+) -> Result<Server<MemoryStore, J>, Fail> {
+    let store = MemoryStore::new(alloc);
+    match Server::with_journal(alloc, store, journal, Limit::default()) {
+        Ok(server) => Ok(server),
+        Err(_refused) => Err("memory")?,
+    }
+}
+
+/// What a reply tells of a number of this name.
+fn reported_of(reply: &Reply, of: &Name) -> Option<Reported> {
+    match reply {
+        Reply::Verdict {
+            name,
+            number,
+            verdict,
+        } if name == of => Some(Reported::Judged(*number, *verdict)),
+        Reply::Notice {
+            name,
+            number,
+            code,
+            next,
+        } if name == of => Some(Reported::Noticed(*number, *code, *next)),
+        Reply::Verdict { .. } | Reply::Notice { .. } | Reply::BadFrame { .. } => None,
+    }
+}
+
+/// Gives the server a message, and ends the test where its sender is reported anything else.
+pub(crate) fn send<J: Journal>(
+    rt: &impl Abort,
+    of: &str,
+    server: &mut Server<MemoryStore, J>,
+    body: &[u8],
+    reported: &[Reported],
+) -> Result<(), Fail> {
+    let Ok(Frame::Message(message)) = decode(body) else {
+        return Err("no message")?;
+    };
+    let mut replies = ArrayVec::new();
+    server.turn(&message, &mut replies);
+    let name = message.name();
+    same(rt, of, &replies.len(), &reported.len());
+    for (reply, reported) in replies.iter().zip(reported) {
+        same(rt, of, &reported_of(reply, &name), &Some(*reported));
+    }
+    Ok(())
+}
+
+/// Ends the test where a store doesn't hold the file of two frames under a name.
+pub(crate) fn has_file(
+    rt: &impl Abort,
+    alloc: Global,
+    store: &MemoryStore,
+    name: &Name,
+) -> Result<(), Fail> {
+    let file = two_frames(alloc)?;
+    assert!(rt;
+        store.content(name) == Some(file.as_slice()),
+        "another file"
+    );
+    Ok(())
+}
+
+/// The RIFF file of two frames at 48,000 Hz, one channel, 16 bits: 694 bytes.
+fn two_frames(alloc: Global) -> Result<Vec<u8>, AllocError> {
+    let mut file = Vec::with_capacity(alloc, 694)?;
+    file.extend_from_slice(b"RIFF\xae\x02\0\0WAVEJUNK\x1c\0\0\0")?;
+    file.resize(48, 0)?;
+    file.extend_from_slice(b"fmt \x10\0\0\0\x01\0\x01\0\x80\xbb\0\0\0\x77\x01\0\x02\0\x10\0")?;
+    file.extend_from_slice(b"bext\x5a\x02\0\0")?;
+    file.resize(426, 0)?;
+    file.push(1)?;
+    file.resize(682, 0)?;
+    file.extend_from_slice(b"data\x04\0\0\0\x01\0\x02\0")?;
+    Ok(file)
+}
