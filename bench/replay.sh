@@ -34,7 +34,7 @@ fn main(rt: HostRuntime) -> Result<()> {
         let mut journal = Vec::with_capacity(alloc, 48 * entries as usize + 100)?;
         let header = JournalHeader {
             limit: Limit::default(),
-            stood: false,
+            existed: false,
         };
         journal.extend_from_slice(&header.to_bytes())?;
         let opening = RequestRef::OpenTake {

@@ -43,7 +43,7 @@ def crates():
 
 
 def holds_tests(crate):
-    return re.search(r"_rows$|^bw_test", crate) is not None
+    return crate.startswith("bw_tests_")
 
 
 def clauses_of_all():
@@ -274,12 +274,12 @@ def tests_of(crate):
 
 def worked_examples_of(crate):
     """The worked examples of the definitions, which are proved by computation, file by file."""
-    for path in sorted((ROOT / f"crates/{crate}/specs").glob("RowsOf*.antt")):
+    for path in sorted((ROOT / f"crates/{crate}/specs").glob("ExamplesOf*.antt")):
         doc = []
         for line in path.read_text().splitlines():
             if line.startswith("-- "):
                 doc.append(line.removeprefix("-- "))
             else:
-                if found := re.match(r"abbrev pub (\w+Row) ", line):
+                if found := re.match(r"abbrev pub (\w+Example) ", line):
                     yield Test(path.stem, found.group(1), doc)
                 doc = []
