@@ -41,7 +41,7 @@ def module_of(file):
 
 
 def owner_of(line, module, homes):
-    """What stands before the names of the functions of an `impl` or a trait: the module (without a trait that of the
+    """What comes before the names of the functions of an `impl` or a trait: the module (without a trait that of the
     type), and in one word the type, what it is given but for the names that the `impl` itself declares, the trait and
     what that is given. For a type's own functions all that it is given is named, where any of it is no such name, or
     where it is fewer than the type has parameters, as some have a default."""
@@ -71,7 +71,7 @@ def last_of(lines, first):
 
 
 def functions_of(text, module, homes):
-    """The functions of a file: path, first line, with what stands over it, and last line, from 0 on."""
+    """The functions of a file: path, first line, with what is above it, and last line, from 0 on."""
     lines, owner, closes = text.splitlines(), (module, ""), "}"
     for number, line in enumerate(lines):
         if OWNER.match(line) and not line.endswith(("}", ";")):
@@ -86,7 +86,7 @@ def functions_of(text, module, homes):
 
 
 def without_body(lines):
-    """The lines of a function with a body that never ends; as they are where that is `const`, or stands in a line."""
+    """The lines of a function with a body that never ends; as they are if that is `const`, or stands in a line."""
     at = next(number for number, line in enumerate(lines) if FUNCTION.match(line))
     indent = lines[at][: len(lines[at]) - len(lines[at].lstrip())]
     if "const fn" in lines[at] or lines[-1] != indent + "}":
@@ -118,7 +118,7 @@ class Sources:
         return functions_of(self.texts[file] if text is None else text, module_of(file), self.homes)
 
     def place(self, file, at):
-        """The function, or else the item, that stands at a place; neither for a `use` line."""
+        """The function, or else the item, at a place; neither for a `use` line."""
         text = self.texts[file]
         line = text.count("\n", 0, at)
         function = next((path for path, first, last in self.functions(file) if first <= line <= last), None)
@@ -128,7 +128,7 @@ class Sources:
         return None, items[-1] if items else file
 
     def with_bodies(self, bodies):
-        """The texts that the bodies change together, or nothing where one can't be applied beside the others."""
+        """The texts that the bodies change together, or nothing if one can't be applied beside the others."""
         texts = {}
         for file, old, new in (it for body in bodies for it in body.changes):
             text = texts.get(file, self.texts[file])

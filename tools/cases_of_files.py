@@ -103,7 +103,7 @@ SHORT = [
     ),
 ]
 
-# With 7,510 bytes of data the form size is 8,192. A marker 7 stands before the first frame.
+# With 7,510 bytes of data the form size is 8,192. A marker 7 is before the first frame.
 LONG_BLOCK = Step("02" + 7_510 * "11", ["write 690 7510", "write 4 4", "write 686 4"], ["write 690 7510", HEADER])
 EARLY_MARK = Step("030700000000000000")
 DS64 = "42573634ffffffff57415645647336341c000000"
@@ -168,7 +168,7 @@ EDGES = [
     ),
 ]
 
-# A tag and its value, and where the field stands in the file: EBU Tech 3285. A loudness is written from the version on,
+# A tag and its value, and where the field is in the file: EBU Tech 3285. A loudness is written from the version on,
 # which says whether one is given.
 PLACES = [
     ("01" + "5261696e", "80 256"),

@@ -5,7 +5,7 @@ TAKE = bytes.fromhex(OPEN + BLOCK + CLOSE)  # frames of 22, 16 and 20 bytes
 
 
 def cut(count):
-    """The lines of an exchange that ends after so many bytes of the take."""
+    """The lines of an exchange that ends after this many bytes of the take."""
     begins = [at for at in (0, 22, 38, 58) if at <= count]
     replies = stored(*range(len(begins) - 1))
     if count == begins[-1]:

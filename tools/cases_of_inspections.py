@@ -46,7 +46,7 @@ NO_PAD = changed(SMALL_FILE, (686, b"\x03"))[:693]  # three bytes of data, and n
 
 
 def empty_chunks(count):
-    """A RIFF file of so many empty chunks."""
+    """A RIFF file of this many empty chunks."""
     return b"RIFF" + little(4 + 8 * count, 4) + b"WAVE" + count * b"abcd\0\0\0\0"
 
 
@@ -118,7 +118,7 @@ REPORTS = [
 
 
 def fault_of_cut(count):
-    """The fault of the small file of which so many bytes are there: at the chunk that is cut."""
+    """The fault of the small file of which this many bytes are there: at the chunk that is cut."""
     if count < 12:
         return "NotWave at 0"
     chunk = next(at for at in (682, 72, 48, 12) if count >= at)

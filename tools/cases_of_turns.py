@@ -33,7 +33,7 @@ class Case(NamedTuple):
 
 
 def reply(name, number, code, following=None):
-    """A verdict, or a notice where the number that comes next is given."""
+    """A verdict, or a notice if the number that comes next is given."""
     return verdict(name, number, code) if following is None else notice(name, number, code, following)
 
 

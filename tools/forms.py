@@ -70,7 +70,7 @@ def lines_of_bext(content):
 
 
 def parts_of(stored):
-    """The chunks that stored requests make after the first one, or None where no OPEN was stored."""
+    """The chunks that stored requests make after the first one, or None if no OPEN was stored."""
     opening = next((request for request in stored if request[0] == OPEN), None)
     if opening is None:
         return None

@@ -226,7 +226,7 @@ def framed(body):
 
 
 def garbage(chance):
-    """A reason and bytes that are bad for it; any reason where it is None."""
+    """A reason and bytes that are bad for it; any reason if it is None."""
     return chance.choice((bad_length, bad_cut, bad_kind, bad_bye, bad_name, bad_number, bad_payload, any_bytes))(chance)
 
 

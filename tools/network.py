@@ -43,7 +43,7 @@ TALLY = Tally()
 
 
 def prepare_child():
-    """A child is killed when this script ends, however it ends; SIGINT ends it even where the script ignores SIGINT."""
+    """A child is killed when this script ends, however it ends; SIGINT ends it even if the script ignores SIGINT."""
     SYSTEM.prctl(1, signal.SIGKILL)
     signal.signal(signal.SIGINT, signal.SIG_DFL)
 
@@ -150,7 +150,7 @@ def connect(port):
 
 
 def hear(peer, length):
-    """Receives exactly so many bytes of replies."""
+    """Receives exactly this many bytes of replies."""
     heard = b""
     while len(heard) < length:
         piece = peer.recv(length - len(heard))
@@ -317,7 +317,7 @@ def give_up(number, _frame):
 
 
 def run_cases(cases, longest_run):
-    """Runs the cases of a script within so many seconds; its status. Prints what differs, last 'N passed, M failed'."""
+    """Runs a script's cases within this many seconds; its status. Prints what differs, last 'N passed, M failed'."""
     for number in (signal.SIGALRM, signal.SIGTERM, signal.SIGINT, signal.SIGHUP):
         signal.signal(number, give_up)
     signal.alarm(longest_run)

@@ -46,7 +46,7 @@ class File:
         self.segments = [struct.unpack_from("<IIQQQQQQ", self.bytes, headers + 56 * number) for number in range(count)]
 
     def part(self, place, length):
-        """So many bytes at an address, which counts from where the program is loaded."""
+        """This many bytes at an address, which counts from where the program is loaded."""
         loaded = ((it[2], it[3], it[5]) for it in self.segments if it[0] == self.LOAD)
         at = next(offset + place - start for offset, start, size in loaded if start <= place < start + size)
         return self.bytes[at : at + length]
@@ -70,7 +70,7 @@ def entry_and_growths(path):
 
 
 class Refused(Traced):
-    """A running program of which the call of a kind with this number, from 1 on, is refused, or none where it is 0.
+    """A running program of which the call of a kind with this number, from 1 on, is refused, or none if it is 0.
 
     `seen` is the number of its calls of the kind, once it has ended.
     """

@@ -104,7 +104,7 @@ def passed_on(crate):
 def items_of(crate):
     """The public items of a crate, file by file.
 
-    Methods may stand in any module: a type is known by its name alone, and no crate has a private type of a public
+    Methods may be in any module: a type is known by its name alone, and no crate has a private type of a public
     one's name. What is derived (`Clone`, `Debug`, the texts of `thiserror`) is no call here: it has no line of its own.
     """
     root = root_of(crate)
@@ -138,7 +138,7 @@ class FileWalk:
     """A walk over one file: the trait or implementation in which it stands, and the comment above the next item."""
 
     def __init__(self, path, module, seen):
-        """The module is what stands before a function that is seen there, or nothing where none is."""
+        """The module is what comes before a function that is seen there, or nothing if none is."""
         self.path, self.module, self.seen = path, module, seen
         self.lines = path.read_text().splitlines()
         self.trait = self.owner = None
@@ -195,7 +195,7 @@ class FileWalk:
         return self.item("call", name, self.owner, at, [it.removeprefix(found.group(1)) for it in head], labels)
 
     def call_of(self, found):
-        """The name of the call that the line of a `fn` begins, or nothing where it can't be called from outside."""
+        """The name of the call that the line of a `fn` begins, or nothing if it can't be called from outside."""
         indent, public, name = found.group(1), found.group(2) == "pub ", found.group(3)
         # A conversion into a type of std (`From<Verdict> for u8`) is known by what it converts.
         known = self.seen.intersection([self.owner, *re.findall(r"\w+", self.trait or "")[1:]])

@@ -60,7 +60,7 @@ class Take:
         return bytes(content)
 
     def file(self, blocks=None, limit=LARGEST_LIMIT):
-        """Its file with so many of its blocks, still open, or with all of it, closed."""
+        """Its file with this many of its blocks, still open, or with all of it, closed."""
         data = self.samples if blocks is None else b"".join(self.blocks[:blocks])
         points = self.markers if blocks is None else []
         cue = b"".join(

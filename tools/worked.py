@@ -34,7 +34,7 @@ CLOSE = "1000000005026131020000000200000000000000"  # number 2: two frames in al
 ASK = "080000000602613100000000"  # asks under number 0
 BYE = "0100000009"
 
-# Parts of files, in the order in which they stand there.
+# Parts of files, in the order in which they are there.
 FORM_682 = "52494646aa020000574156454a554e4b1c000000"
 FORM_686 = "52494646ae020000574156454a554e4b1c000000"
 FORM_722 = "52494646d2020000574156454a554e4b1c000000"

@@ -74,7 +74,7 @@ wished_good name options wish asked = go wish asked
       ((sender.name, a.1.named), ((a.1.tries.0, a.1.tries.1), ((sender.timeout, a.1.waits), tt))),
     )
 
--- where all are good none is the first that is bad
+-- if all are good none is the first that is bad
 pub good_not_bad : (values : List BadValue) (given : Text → Option Text) (value : BadValue) → AllGood values given
     → ¬ IsFirstBad values given value
 good_not_bad [] given value good bad = bad
@@ -92,7 +92,7 @@ one_bad (first ∷ later) given a b x y = elim x [
   | inr following ↦ elim y [ inl here ↦ absurd (here.0 following.0) | inr too ↦ one_bad later given a b following.1 too.1 ]
 ]
 
--- where a value is the first that is bad, that is the line
+-- if a value is the first that is bad, that is the line
 pub bad_line : (found : Found) (command : Text) (value : BadValue)
     → IsFirstBad (looked_at command) (first_value found) value → IsLineFor (Some (command, rows_of found)) (Bad value)
 bad_line found command value first =
@@ -118,12 +118,12 @@ pub no_limit : (found : Found) → IsLimitGiven (first_value found (codes "limit
     → ¬ IsGood Limit (first_value found)
 no_limit found given good = given good.0 good.1
 
--- where no limit is given that is one, that is the line
+-- if no limit is given that is one, that is the line
 pub no_limit_line : (found : Found) → IsLimitGiven (first_value found (codes "limit")) None
     → IsLineFor (Some (codes "replay", rows_of found)) (Bad Limit)
 no_limit_line found given = bad_line found (codes "replay") Limit (inl (no_limit found given, refl))
 
--- where no fuse is given that is one beside a limit, that is the line
+-- if no fuse is given that is one beside a limit, that is the line
 pub no_fuse_line : (found : Found) (limit : ℕ) → GivesLimit (first_value found (codes "limit")) limit
     → GivesNoFuse (first_value found (codes "fuse")) → IsLineFor (Some (codes "replay", rows_of found)) (Bad Fuse)
 no_fuse_line found limit given burns = bad_line found (codes "replay") Fuse
@@ -139,12 +139,12 @@ given_rehearsed found name limit named given = (
   by_rows found (λ g. GivesLimit (g (codes "limit")) limit) given,
 )
 
--- where no name is given that is one, that is the line
+-- if no name is given that is one, that is the line
 pub no_name_line : (found : Found) → IsNameGiven (first_value found (codes "name")) None
     → IsLineFor (Some (codes "rehearse", rows_of found)) (Bad Name)
 no_name_line found given = bad_line found (codes "rehearse") Name (inl ((λ good. given good.0 good.1), refl))
 
--- where no limit is given that is one beside a name, that is the line
+-- if no limit is given that is one beside a name, that is the line
 pub name_alone_line : (found : Found) (name : Text) → GivesName (first_value found (codes "name")) name
     → IsLimitGiven (first_value found (codes "limit")) None
     → IsLineFor (Some (codes "rehearse", rows_of found)) (Bad Limit)
@@ -174,7 +174,7 @@ pub server_asked : (found : Found) (server : Service) → GivesServer (first_val
     → IsWishOf (Some (codes "serve", rows_of found)) (Serving server)
 server_asked found server given = (refl, by_rows found (λ g. GivesServer g server) given)
 
--- .. and the sender
+-- and the sender
 pub sender_asked : (found : Found) (sender : Sender) → GivesSender (first_value found) sender
     → IsWishOf (Some (codes "send", rows_of found)) (Sending sender)
 sender_asked found sender given = (refl, by_rows found (λ g. GivesSender g sender) given)

@@ -126,7 +126,7 @@ runs_replay words line is = record {
       asked_replays words _ line _ _ is e (turned_asks program limit fuse given burns);
 }
 
--- words with a fault of one kind tell it
+-- words with a fault of one kind report it
 pub reports : (kind : ErrorKind) (words : List Text) (line : CommandLine) → fault_of command_line words ≡ kind ∷ []
     → IsLineRead words line → IsReportedAs kind line
 reports kind words (Run task) fault is = let bad : kind ∷ [] ≡ [] = sym fault ∙ is.taken in cc

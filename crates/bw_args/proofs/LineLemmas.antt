@@ -67,7 +67,7 @@ asks_nothing : (a : App) (words : List Text) (command : Option (Text × List Row
 asks_nothing a words command is found none wish asks =
     none wish (subst (λ o. IsWishOf o wish) (sym (same_command a words command is found)) asks.asked)
 
--- the line that words come to, which `clap` takes
+-- the line that words result in, which `clap` takes
 pub line_asked : (a : App) (words : List Text) (command : Option (Text × List Row)) (line : CommandLine) →
     a ≡ command_line
     → (is_simple_and_free a ≡ true → fault_of a words ≡ [])
@@ -82,7 +82,7 @@ line_asked a words command (Bad value) is free found bad = record {
 }
 line_asked a words command (Report error) is free found given = absurd given
 
--- the line that tells an error, where memory did not run out
+-- the line that reports an error, where memory did not run out
 pub reported_result : (result : Result CommandLine AllocError) (words : List Text) (error : Error)
     → IfOk result (λ line. line ≡ Report error) → (kind_of error ≡ OutOfMemory → IsErr result)
     → (kind_of error ≢ OutOfMemory → IsReportedOf words (kind_of error)) → IfOk result (IsLineRead words)

@@ -14,7 +14,7 @@ use Rattle.bw_args.specs.declared.CommandLine.TheVariants.{Run, BadValue as Bad,
 use Rattle.bw_args.specs.declared.Task.TheVariants.{Inspect, Rehearse, Replay, Send, Serve}
 use Rattle.bw_args.proofs.FormLemmas.{no_hyphen, runs, reports}
 
--- a limit's word is read as it stands
+-- a limit's word is read unchanged
 limit_stays : (d : ℕ) (ds : Text) (rest : List Text) → (d == 45) ≡ false
     → joined (codes "--name") false ((d ∷ ds) ∷ rest) ≡ (d ∷ ds) ∷ joined (codes "--name") false rest
 limit_stays d ds rest value = rw value (refl {a = (d ∷ ds) ∷ joined (codes "--name") false rest})

@@ -277,7 +277,7 @@ by_digit P each d is = subst P (omega arith) (go (d - 48) (omega arith))
     go (suc (suc (suc (suc (suc (suc (suc (suc (suc zero))))))))) below = each.9
     go (suc (suc (suc (suc (suc (suc (suc (suc (suc (suc n)))))))))) below = absurd (omega arith)
 
--- words that come to the same command ask for the same
+-- words that result in the same command ask for the same
 pub same_asks : (words other : List Text) (wish : Wish) → fault_of command_line words ≡ []
     → subcommand_of command_line words ≡ subcommand_of command_line other → AsksFor other wish → AsksFor words wish
 same_asks words other wish taken same asks =

@@ -26,7 +26,7 @@ bad_not_wished None value wish bad asked = bad
 bad_not_wished (Some command) value wish bad asked =
     good_not_bad (looked_at command.0) (given_on_line command.1) value (wished_good command.0 command.1 wish asked) bad
 
--- .. and lacks no other one
+-- and lacks no other one
 one_lacked : (command : Option (Text × List Row)) (a b : BadValue) → HasFirstBad command a → Lacks command b → b ≡ a
 one_lacked None a b bad lacks = absurd bad
 one_lacked (Some command) a b bad lacks = elim lacks [
@@ -34,7 +34,7 @@ one_lacked (Some command) a b bad lacks = elim lacks [
   | inr none ↦ absurd (subst (λ (values : List BadValue). IsFirstBad values (given_on_line command.1) a) none.0 bad)
 ]
 
--- words that `clap` takes, and whose command has a first bad value, tell it
+-- words that `clap` takes, and whose command has a first bad value, report it
 bad_reported : (words : List Text) (line : CommandLine) (value : BadValue) → fault_of command_line words ≡ []
     → HasFirstBad (subcommand_of command_line words) value → IsLineRead words line → line ≡ Bad value
 bad_reported words (Run task) value taken bad is =
@@ -43,7 +43,7 @@ bad_reported words (Bad other) value taken bad is =
     ap Bad (one_lacked (subcommand_of command_line words) value other bad is.lacks)
 bad_reported words (Report error) value taken bad is = absurd (subst (IsAmong (kind_of error)) taken is.reason)
 
--- .. as they are read
+-- as they are read
 pub reported : (words asking : List Text) (line : CommandLine) (value : BadValue) → IsLineOf words line
     → words ≡ asking
     → (fault_of command_line (as_read asking) ≡ []) × HasFirstBad (subcommand_of command_line (as_read asking)) value

@@ -9,7 +9,7 @@ use Rattle.std.specs.Net.Socket.{socket_port}
 abbrev pub local : ℕ → Text
 local port = codes "127.0.0.1:" ++ decimal port
 
--- the text spells this address, which has a port; without leave for the network it is a local one
+-- the text spells this address, which has a port; a local one, unless the network is allowed
 pub record IsAddress (network : Bool) (text : Text) (address : SocketAddr) : Type 0 where
   pub spelled : IsSocketText text address
   pub port : 0 < socket_port address

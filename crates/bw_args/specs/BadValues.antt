@@ -1,4 +1,4 @@
--- What is reported of a value that is none of its kind.
+-- What is reported of an invalid value.
 use Rattle.std.specs.Prelude.{[], ◌∷◌, ◌++◌, codes}
 use Rattle.clap.specs.Walk.{Text}
 use Rattle.bw_args.specs.declared.bad_value.BadValue.{BadValue}
@@ -38,7 +38,7 @@ fault_said Rounds = codes "'--rounds <N>' takes a number from 1 to 1000, in at m
 abbrev pub line_and_gap : Text
 line_and_gap = 10 ∷ 10 ∷ []
 
--- the fault, and where help is to be had
+-- the fault, and how to get help
 abbrev pub text_of : BadValue → Text
 text_of value = codes "error: " ++ fault_said value ++ line_and_gap
     ++ codes "Usage: bwingest <COMMAND>" ++ line_and_gap

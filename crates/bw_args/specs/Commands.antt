@@ -8,7 +8,7 @@ use Rattle.clap.specs.declared.builder.action.ArgAction.TheVariants.{SetTrue}
 abbrev pub option : Text → Rule
 option name = record (new_rule name) { long = Some name; value_names = 1 }
 
--- one that may not be left out
+-- a required one
 abbrev pub required : Text → Rule
 required name = record (option name) { required = true }
 
@@ -86,11 +86,11 @@ serve_where =
     with_rule
     (with_rule (with_rule (new_app (codes "serve")) listen_option) folder_option) exchanges_option
 
--- .. and how peers are treated
+-- and how peers are treated
 abbrev pub serve_how : App
 serve_how = with_rule (with_rule (with_rule serve_where limit_option) timeout_option) network_flag
 
--- .. and many of them at once
+-- and many of them at once
 abbrev pub serve_many : App
 serve_many = with_rule (with_rule serve_how recorders_option) idle_option
 
@@ -116,7 +116,7 @@ send_where = with_rule
 abbrev pub send_command : App
 send_command = with_rule (with_rule send_where timeout_option) network_flag
 
--- the program, which has a version and wants a command
+-- the program, which has a version and requires a command
 abbrev pub program : App
 program = on_top (λ s. record s { has_version = true; subcommand_required = true })
     (new_app (codes "bwingest"))

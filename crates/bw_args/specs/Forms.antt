@@ -1,4 +1,4 @@
--- The forms of the commands, in plain words, and what each comes to.
+-- The forms of the commands, in plain words, and what each results in.
 use Rattle.std.specs.Prelude.{◌≡◌, ◌≢◌, ⊤, List, [], ◌∷◌, ◌++◌, Some, None, codes}
 use Rattle.std.specs.Prelude.{string_bytes}
 use Rattle.clap.specs.Walk.{Text}
@@ -52,7 +52,7 @@ pub record RunsReplay (words : List Text) (line : CommandLine) : Type 0 where
       ∷ codes "--limit" ∷ limit ∷ []
       → line ≡ Run (Replay (number_written limit) (Some (number_written fuse)))
 
--- the line tells an error of this kind
+-- the line reports an error of this kind
 abbrev pub IsReportedAs : ErrorKind → CommandLine → Type 0
 IsReportedAs kind (Run task) = ⊥
 IsReportedAs kind (Bad value) = ⊥

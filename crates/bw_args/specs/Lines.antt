@@ -68,7 +68,7 @@ GivesFuse (Some text) fuse = IsNumber text × (fuse ≡ Some (number_written tex
 abbrev pub GivesNoFuse : Option Text → Type 0
 GivesNoFuse text = (fuse : Option ℕ) → ¬ GivesFuse text fuse
 
--- exactly that number, or none; a fault where the option gives what is no number
+-- exactly that number, or none; a fault if the option gives what is no number
 abbrev pub IsFuseGiven : {E : Type 0} → Option Text → Result (Option ℕ) E → Type 0
 IsFuseGiven text (Ok fuse) = GivesFuse text fuse
 IsFuseGiven text (Err fault) = GivesNoFuse text
@@ -82,7 +82,7 @@ abbrev pub is_set : Option Text → Bool
 is_set None = false
 is_set (Some text) = bytes_eq text (codes "true")
 
--- the address that an option gives, which may be any where there is leave for the network
+-- the address that an option gives, which may be any if the network is allowed
 abbrev pub GivesAddress : Bool → Option Text → SocketAddr → Type 0
 GivesAddress network None address = ⊥
 GivesAddress network (Some text) address = IsAddress network text address
@@ -107,13 +107,13 @@ abbrev pub GivesCount : ℕ → Option Text → Option ℕ → Type 0
 GivesCount most None count = count ≡ None
 GivesCount most (Some text) count = IsCountText most text × (count ≡ Some (number_written text))
 
--- exactly that number, or none; a fault where the option gives what is no such number
+-- exactly that number, or none; a fault if the option gives what is no such number
 abbrev pub IsCountGiven : {E : Type 0} → ℕ → Option Text → Result (Option ℕ) E → Type 0
 IsCountGiven most text (Ok count) = GivesCount most text count
 IsCountGiven most text (Err fault) = (count : Option ℕ) → ¬ GivesCount most text count
 
--- when a server ends: after so many exchanges, one where no number is given, or when it is stopped,
--- where that is asked for; not both
+-- when a server ends: after this many exchanges, one where no number is given, or when it is
+-- stopped, where that is asked for; not both
 abbrev pub IsEnd : Option ℕ → Bool → End → Type 0
 IsEnd None false end = end ≡ when.Exchanges 1
 IsEnd (Some count) false end = end ≡ when.Exchanges count
@@ -158,7 +158,7 @@ abbrev pub GivesRounds : Option Text → ℕ → Type 0
 GivesRounds text rounds = (count : Option ℕ) × GivesCount most_rounds text count
     × (rounds ≡ unwrap_or count default_rounds)
 
--- a server as it is asked for
+-- the server that a command line asks for
 pub record Service : Type 0 where
   pub listen : SocketAddr
   pub folder : Text
@@ -236,7 +236,7 @@ abbrev pub AsksForPath : Option (Text × List Row) → Type 0
 AsksForPath command = ((path : Text) × IsWishOf command (Inspecting path))
     ⊎ ((server : Service) × IsWishOf command (Serving server))
 
--- what is given of this kind is good: a value that is one, or none where there is a default
+-- what is given of this kind is good: a value that is one, or none if there is a default
 abbrev pub IsGood : BadValue → (Text → Option Text) → Type 0
 IsGood Name given = (name : Text) × GivesName (given (codes "name")) name
 IsGood Limit given = (limit : ℕ) × GivesLimit (given (codes "limit")) limit
@@ -282,7 +282,7 @@ Lacks None value = value ≡ Limit
 Lacks (Some command) value = IsFirstBad (looked_at command.0) (given_on_line command.1) value
     ⊎ ((looked_at command.0 ≡ []) × (value ≡ Limit))
 
--- exactly the line that they come to
+-- exactly the line that they result in
 abbrev pub IsLineFor : Option (Text × List Row) → CommandLine → Type 0
 IsLineFor command (Run task) = IsWishOf command (wish_of task)
 IsLineFor command (Bad value) = AsksNothing command × Lacks command value
@@ -293,7 +293,7 @@ pub record AsksFor (words : List Text) (wish : Wish) : Type 0 where
   pub taken : fault_of command_line words ≡ []
   pub asked : IsWishOf (subcommand_of command_line words) wish
 
--- the words ask for nothing by `clap`'s walk over them; lack of memory is never told
+-- the words ask for nothing by `clap`'s walk over them; lack of memory is never reported
 pub record IsReportedOf (words : List Text) (kind : ErrorKind) : Type 0 where
   pub asks_nothing : (wish : Wish) → ¬ AsksFor words wish
   pub not_memory : kind ≢ OutOfMemory
@@ -305,13 +305,13 @@ pub record HasBadValue (value : BadValue) (words : List Text) : Type 0 where
   pub asks_nothing : (wish : Wish) → ¬ AsksFor words wish
   pub lacks : Lacks (subcommand_of command_line words) value
 
--- what the words come to, as `clap` reads them
+-- what the words result in, as `clap` reads them
 abbrev pub IsLineRead : List Text → CommandLine → Type 0
 IsLineRead words (Run task) = AsksFor words (wish_of task)
 IsLineRead words (Bad value) = HasBadValue value words
 IsLineRead words (Report error) = IsReportedOf words (kind_of error)
 
--- what the words come to
+-- what the words result in
 abbrev pub IsLineOf : List Text → CommandLine → Type 0
 IsLineOf words line = IsLineRead (as_read words) line
 
@@ -331,7 +331,7 @@ IsWayWithin (InTurn timeout) = IsWithin most_seconds timeout
 IsWayWithin (AtOnce most idle) = ((1 ≤ most) × (most ≤ most_recorders))
     × ((1 ≤ idle) × (idle ≤ most_seconds))
 
--- where a task runs, its numbers are such as may be asked for
+-- if a task runs, its numbers are in their ranges
 abbrev pub HasNumbersInRange : CommandLine → Type 0
 HasNumbersInRange (Run (Replay limit fuse)) = IsLimitValue limit
 HasNumbersInRange (Run (Rehearse name limit)) = IsLimitValue limit

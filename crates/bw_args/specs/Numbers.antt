@@ -14,7 +14,7 @@ number_written text = digits_value 10 text
 abbrev pub IsLimitValue : ℕ → Type 0
 IsLimitValue n = (n % 2 ≡ 0) × (8192 ≤ n) × (n ≤ 4294967294)
 
--- the limit where none is given: the greatest one
+-- the limit if none is given: the greatest one
 abbrev pub default_limit : ℕ
 default_limit = 4294967294
 
@@ -34,7 +34,7 @@ most_exchanges = 1000000
 abbrev pub most_rounds : ℕ
 most_rounds = 1000
 
--- the rounds where no number is given
+-- the rounds if no number is given
 abbrev pub default_rounds : ℕ
 default_rounds = 16
 
@@ -42,8 +42,8 @@ default_rounds = 16
 abbrev pub most_recorders : ℕ
 most_recorders = 256
 
--- the seconds after which one of many that sends no whole message is let go, where no number is
--- given
+-- the seconds after which one of many that sends no whole message is disconnected, where no number
+-- is given
 abbrev pub default_idle : ℕ
 default_idle = 60
 

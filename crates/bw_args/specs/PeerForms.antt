@@ -1,4 +1,4 @@
--- The forms of `serve` and `send`, in plain words, and what each comes to.
+-- The forms of `serve` and `send`, in plain words, and what each results in.
 use Rattle.std.specs.Prelude.{◌≡◌, ◌≢◌, Bool, true, false, List, [], ◌∷◌, ◌++◌, Some}
 use Rattle.std.specs.Prelude.{None, codes}
 use Rattle.std.specs.declared.net.socket_addr.SocketAddr.{SocketAddr}
@@ -44,7 +44,7 @@ ForServer network words more Holds = (program listen folder : Text) (address : S
     → IsAddress network listen address → folder ≢ [] → words ≡ serving program listen folder more
     → Holds address folder
 
--- the line runs the server that so comes of the plain one
+-- the line runs the plain server with this change
 abbrev pub AsksToServe : CommandLine → (Service → Service) → SocketAddr → Text → Type 0
 AsksToServe line change address folder = RunsFor (Serving (change (plain_server address folder))) line
 
@@ -57,51 +57,51 @@ pub record RunsServer (words : List Text) (line : CommandLine) : Type 0 where
       → IsAddress false listen address → folder ≢ []
       → words ≡ program ∷ codes "serve" ∷ codes "--listen" ∷ listen
       ∷ codes "--folder" ∷ folder ∷ [] → AsksToServe line (λ s. s) address folder
-  -- .. `--exchanges=N`
+  -- with `--exchanges=N`
   pub exchanges : (count : Text) → IsCountText most_exchanges count
       → ForServer false words ((codes "--exchanges=" ++ count) ∷ [])
       (AsksToServe line (λ s. record s { end = when.Exchanges (number_written count) }))
-  -- .. `--exchanges N`
+  -- with `--exchanges N`
   pub exchanges_apart : (count : Text) → IsCountText most_exchanges count
       → ForServer false words (codes "--exchanges" ∷ count ∷ [])
       (AsksToServe line (λ s. record s { end = when.Exchanges (number_written count) }))
-  -- .. `--limit=N`
+  -- with `--limit=N`
   pub limit : (limit : Text) → IsLimitText limit
       → ForServer false words ((codes "--limit=" ++ limit) ∷ [])
       (AsksToServe line (λ s. record s { limit = number_written limit }))
-  -- .. `--limit N`
+  -- with `--limit N`
   pub limit_apart : (limit : Text) → IsLimitText limit
       → ForServer false words (codes "--limit" ∷ limit ∷ [])
       (AsksToServe line (λ s. record s { limit = number_written limit }))
-  -- .. `--timeout=SECONDS`
+  -- with `--timeout=SECONDS`
   pub timeout : (seconds : Text) → IsCountText most_seconds seconds
       → ForServer false words ((codes "--timeout=" ++ seconds) ∷ [])
       (AsksToServe line (λ s. record s { recorders = InTurn (Some (number_written seconds)) }))
-  -- .. `--timeout SECONDS`
+  -- with `--timeout SECONDS`
   pub timeout_apart : (seconds : Text) → IsCountText most_seconds seconds
       → ForServer false words (codes "--timeout" ∷ seconds ∷ [])
       (AsksToServe line (λ s. record s { recorders = InTurn (Some (number_written seconds)) }))
-  -- .. `--recorders=N`
+  -- with `--recorders=N`
   pub recorders : (count : Text) → IsCountText most_recorders count
       → ForServer false words ((codes "--recorders=" ++ count) ∷ [])
       (AsksToServe line (λ s. record s { recorders = AtOnce (number_written count) default_idle }))
-  -- .. `--recorders N`
+  -- with `--recorders N`
   pub recorders_apart : (count : Text) → IsCountText most_recorders count
       → ForServer false words (codes "--recorders" ∷ count ∷ [])
       (AsksToServe line (λ s. record s { recorders = AtOnce (number_written count) default_idle }))
-  -- .. `--recorders=N --idle=SECONDS`
+  -- with `--recorders=N --idle=SECONDS`
   pub idle : (count seconds : Text) → IsCountText most_recorders count
       → IsCountText most_seconds seconds → ForServer false words
       ((codes "--recorders=" ++ count) ∷ (codes "--idle=" ++ seconds) ∷ [])
       (AsksToServe line (λ s. record s {
         recorders = AtOnce (number_written count) (number_written seconds);
       }))
-  -- .. `--network`
+  -- with `--network`
   pub network : ForServer true words (codes "--network" ∷ []) (AsksToServe line (λ s. s))
-  -- .. `--until-stopped`
+  -- with `--until-stopped`
   pub until_stopped : ForServer false words (codes "--until-stopped" ∷ [])
       (AsksToServe line (λ s. record s { end = when.UntilStopped }))
-  -- .. `--log`
+  -- with `--log`
   pub log : ForServer false words (codes "--log" ∷ []) (AsksToServe line (λ s. record s { log = true }))
 
 -- the sender of which only address and name are said
@@ -120,7 +120,7 @@ ForSender network words more Holds = (program connect name : Text) (address : So
     → IsAddress network connect address → IsName name → words ≡ sending program connect name more
     → Holds address name
 
--- the line runs the sender that so comes of the plain one
+-- the line runs the plain sender with this change
 abbrev pub AsksToSend : CommandLine → (Sender → Sender) → SocketAddr → Text → Type 0
 AsksToSend line change address name = RunsFor (Sending (change (plain_sender address name))) line
 
@@ -133,26 +133,26 @@ pub record RunsSender (words : List Text) (line : CommandLine) : Type 0 where
       → IsAddress false connect address → IsName name
       → words ≡ program ∷ codes "send" ∷ codes "--connect" ∷ connect
       ∷ codes "--name" ∷ name ∷ [] → AsksToSend line (λ s. s) address name
-  -- .. `--rounds=N`
+  -- with `--rounds=N`
   pub rounds : (count : Text) → IsCountText most_rounds count
       → ForSender false words ((codes "--rounds=" ++ count) ∷ [])
       (AsksToSend line (λ s. record s { rounds = number_written count }))
-  -- .. `--rounds N`
+  -- with `--rounds N`
   pub rounds_apart : (count : Text) → IsCountText most_rounds count
       → ForSender false words (codes "--rounds" ∷ count ∷ [])
       (AsksToSend line (λ s. record s { rounds = number_written count }))
-  -- .. `--timeout=SECONDS`
+  -- with `--timeout=SECONDS`
   pub timeout : (seconds : Text) → IsCountText most_seconds seconds
       → ForSender false words ((codes "--timeout=" ++ seconds) ∷ [])
       (AsksToSend line (λ s. record s { timeout = Some (number_written seconds) }))
-  -- .. `--timeout SECONDS`
+  -- with `--timeout SECONDS`
   pub timeout_apart : (seconds : Text) → IsCountText most_seconds seconds
       → ForSender false words (codes "--timeout" ∷ seconds ∷ [])
       (AsksToSend line (λ s. record s { timeout = Some (number_written seconds) }))
-  -- .. `--network`
+  -- with `--network`
   pub network : ForSender true words (codes "--network" ∷ []) (AsksToSend line (λ s. s))
 
--- the line tells this value as bad
+-- the line reports this value as bad
 abbrev pub ReportsBad : CommandLine → BadValue → SocketAddr → Text → Type 0
 ReportsBad line value address text = line ≡ Bad value
 
@@ -162,7 +162,7 @@ pub record RefusesPeers (words : List Text) (line : CommandLine) : Type 0 where
   pub listen : (program listen folder : Text)
       → ((address : SocketAddr) → ¬ IsAddress false listen address)
       → words ≡ serving program listen folder [] → line ≡ Bad Listen
-  -- .. `--network`, where it is none at all
+  -- with `--network`, where it is no address at all
   pub listen_far : (program listen folder : Text)
       → ((address : SocketAddr) → ¬ IsAddress true listen address)
       → words ≡ serving program listen folder (codes "--network" ∷ []) → line ≡ Bad Listen
@@ -172,26 +172,26 @@ pub record RefusesPeers (words : List Text) (line : CommandLine) : Type 0 where
   -- `serve` with `--exchanges=N`
   pub exchanges : (count : Text) → ¬ IsCountText most_exchanges count
       → ForServer false words ((codes "--exchanges=" ++ count) ∷ []) (ReportsBad line Exchanges)
-  -- .. with `--limit=N`
+  -- with `--limit=N`
   pub limit : (limit : Text) → ¬ IsLimitText limit
       → ForServer false words ((codes "--limit=" ++ limit) ∷ []) (ReportsBad line Limit)
-  -- .. with `--timeout=SECONDS`
+  -- with `--timeout=SECONDS`
   pub timeout : (seconds : Text) → ¬ IsCountText most_seconds seconds
       → ForServer false words ((codes "--timeout=" ++ seconds) ∷ []) (ReportsBad line Timeout)
-  -- .. with `--recorders=N`
+  -- with `--recorders=N`
   pub recorders : (count : Text) → ¬ IsCountText most_recorders count
       → ForServer false words ((codes "--recorders=" ++ count) ∷ []) (ReportsBad line Recorders)
-  -- .. with `--idle=SECONDS`
+  -- with `--idle=SECONDS`
   pub idle : (seconds : Text) → ¬ IsCountText most_seconds seconds
       → ForServer false words ((codes "--idle=" ++ seconds) ∷ []) (ReportsBad line Idle)
-  -- .. where that is a time, and no number of recorders is given
+  -- where that is a time, and no number of recorders is given
   pub idle_alone : (seconds : Text) → IsCountText most_seconds seconds
       → ForServer false words ((codes "--idle=" ++ seconds) ∷ []) (ReportsBad line Wait)
-  -- .. with `--recorders=N --timeout=SECONDS`
+  -- with `--recorders=N --timeout=SECONDS`
   pub timeout_beside : (count seconds : Text) → IsCountText most_recorders count
       → IsCountText most_seconds seconds → ForServer false words
       ((codes "--recorders=" ++ count) ∷ (codes "--timeout=" ++ seconds) ∷ []) (ReportsBad line Wait)
-  -- .. with `--exchanges=N --until-stopped`
+  -- with `--exchanges=N --until-stopped`
   pub both : (count : Text) → IsCountText most_exchanges count
       → ForServer false words ((codes "--exchanges=" ++ count) ∷ codes "--until-stopped" ∷ [])
       (ReportsBad line UntilStopped)
@@ -199,22 +199,22 @@ pub record RefusesPeers (words : List Text) (line : CommandLine) : Type 0 where
   pub connect : (program connect name : Text)
       → ((address : SocketAddr) → ¬ IsAddress false connect address)
       → words ≡ sending program connect name [] → line ≡ Bad Connect
-  -- .. `--network`, where it is none at all
+  -- with `--network`, where it is no address at all
   pub connect_far : (program connect name : Text)
       → ((address : SocketAddr) → ¬ IsAddress true connect address)
       → words ≡ sending program connect name (codes "--network" ∷ []) → line ≡ Bad Connect
-  -- .. where NAME is none
+  -- where NAME is no name
   pub name : (program connect name : Text) (address : SocketAddr)
       → IsAddress false connect address → ¬ IsName name
       → words ≡ sending program connect name [] → line ≡ Bad Name
   -- `send` with `--rounds=N`
   pub rounds : (count : Text) → ¬ IsCountText most_rounds count
       → ForSender false words ((codes "--rounds=" ++ count) ∷ []) (ReportsBad line Rounds)
-  -- .. with `--timeout=SECONDS`
+  -- with `--timeout=SECONDS`
   pub send_timeout : (seconds : Text) → ¬ IsCountText most_seconds seconds
       → ForSender false words ((codes "--timeout=" ++ seconds) ∷ []) (ReportsBad line Timeout)
 
--- `serve` wants an address and a folder, `send` an address and a name
+-- `serve` requires an address and a folder, `send` an address and a name
 pub record WantsPeers (words : List Text) (line : CommandLine) : Type 0 where
   pub serve : (program : Text) → words ≡ program ∷ codes "serve" ∷ []
       → IsReportedAs MissingRequiredArgument line

@@ -1,5 +1,5 @@
 -- The words of a command line as `clap` reads them. A word that begins with a hyphen isn't taken
--- after an option, so a name, or a folder, stands in the word of its option.
+-- after an option, so a name, or a folder, is in the word of its option.
 use Rattle.std.specs.Prelude.{Bool, true, false, List, [], ◌∷◌, ◌++◌, Option, Some, None, codes}
 use Rattle.std.specs.Prelude.{bytes_eq, ◌||◌, if◌then◌else◌}
 use Rattle.std.specs.Option.{option_map_or}
@@ -25,7 +25,7 @@ abbrev pub first_joined : List Text → Option Text
 first_joined [] = None
 first_joined (command ∷ rest) = option_joined command
 
--- the words with the command's name or folder joined to its option, and all others as they stand
+-- the words with the command's name or folder joined to its option, and all others unchanged
 abbrev pub as_read : List Text → List Text
 as_read [] = []
 as_read (program ∷ rest) =

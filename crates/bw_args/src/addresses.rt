@@ -1,4 +1,4 @@
-//! Addresses as they are written on the command line.
+//! Addresses on the command line.
 ghost use Rattle.std.specs.Prelude.{◌≡◌, false, Some, IfSome};
 ghost use Rattle.std.specs.Net.Text.{socket_text};
 ghost use Rattle.std.specs.Str.{bytes_eq};
@@ -9,8 +9,8 @@ use arrayvec::ArrayString;
 use itoa::Buffer;
 use std::net::SocketAddr;
 
-/// The address and port that a text spells: a local one, or any where there is leave for the
-/// network. Port 0, which would stand for any port, is none.
+/// The address and port that a text spells: a local one, or any if `network` is set. `None` for
+/// port 0, which would mean any port.
 pub fn address(text: &str, network: bool) -> Option<SocketAddr>
     ensures spelled { IsAddressGiven network (Some text.now) result }
     ensures printed { IfSome result (λ a. network ≡ false → socket_text a ≡ text.now) }

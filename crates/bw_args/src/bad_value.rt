@@ -1,15 +1,15 @@
-//! Values of options that are none of their kind, and what is said of them.
+//! Invalid values of options, and what is said of them.
 ghost use Rattle.std.specs.Prelude.{◌≡◌};
 ghost use Rattle.bw_args.specs.BadValues.{text_of};
 
-/// Which value is none of its kind.
+/// Which value is invalid.
 #[derive(Clone, Copy, Debug, PartialEq, Eq)]
 pub enum BadValue {
     /// The take's name.
     Name,
     /// The limit on a RIFF file's form size.
     Limit,
-    /// The number of the store's call that is to fail.
+    /// The number of the store call that is to fail.
     Fuse,
     /// The address at which a server listens.
     Listen,
@@ -17,24 +17,24 @@ pub enum BadValue {
     Folder,
     /// How many exchanges a server serves.
     Exchanges,
-    /// For how long a peer is waited for.
+    /// How long a peer is waited for.
     Timeout,
     /// How many recorders a server serves at once.
     Recorders,
-    /// After how long one of many recorders that sends no whole message is let go.
+    /// After how long one of many recorders that sends no whole message is disconnected.
     Idle,
-    /// `--idle` without `--recorders`, or `--timeout` beside it.
+    /// `--idle` without `--recorders`, or `--timeout` with it.
     Wait,
-    /// That a server goes on until it is stopped, beside a number of exchanges.
+    /// `--until-stopped` together with a number of exchanges.
     UntilStopped,
-    /// The address of the server to which is sent.
+    /// The address of the server that requests are sent to.
     Connect,
     /// How many exchanges a sender makes.
     Rounds,
 }
 
 impl BadValue {
-    /// What is reported of it.
+    /// The text that reports it.
     pub fn text(self) -> &'static str
         ensures { result.now ≡ text_of self }
     {

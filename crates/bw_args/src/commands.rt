@@ -1,4 +1,4 @@
-//! The commands of the program, as `clap` sees them, and what each comes to.
+//! The commands of the program, as `clap` sees them, and what each results in.
 ghost use Rattle.std.specs.Prelude.{◌≡◌, false, codes, Some, IfOk, OnErr};
 ghost use Rattle.clap.specs.Words.{app_of, first_value, found_of, rows_of, rule_of};
 ghost use Rattle.clap.specs.Words.{subcommand_rows_of};
@@ -18,7 +18,7 @@ use bw_request::Name;
 use clap::{Arg, ArgMatches, Command};
 use std::alloc::{AllocError, Global};
 
-/// A text that writes no number of its kind.
+/// A text that is no number of the kind wanted.
 #[derive(Drop)]
 struct NoNumber;
 
@@ -73,8 +73,8 @@ fn rehearse<'a>(alloc: Global) -> Result<Command<'a>, AllocError>
         .arg(limit_option(alloc))
 }
 
-/// A name that begins with a hyphen reaches `clap` in the word of its option (`read_words`): of a
-/// command that takes such a word by itself it says nothing exact.
+/// A name that begins with a hyphen reaches `clap` in the word of its option (`read_words`), since
+/// `clap`'s contract isn't exact for a command that takes such a word by itself.
 fn name_option<'a>(alloc: Global) -> Arg<'a>
     ensures rule { rule_of result ≡ name_option }
     ensures local { result.global ≡ false }
@@ -117,8 +117,8 @@ fn inspect<'a>(alloc: Global) -> Result<Command<'a>, AllocError>
         .arg(file)
 }
 
-/// What parsed words come to. Only the path of a file or a folder takes memory, so that a bad value
-/// is reported whatever is left of it.
+/// What parsed words result in. Only the path of a file or a folder takes memory, so that a bad
+/// value is reported however little is left.
 pub fn line(alloc: Global, matches: &ArgMatches<'_>) -> Result<CommandLine, AllocError>
     ensures ok { IfOk result (IsLineFor (subcommand_rows_of matches.now)) }
     ensures err { OnErr result (AsksForPath (subcommand_rows_of matches.now)) }
@@ -173,14 +173,14 @@ fn inspect_line(alloc: Global, options: &ArgMatches<'_>) -> Result<CommandLine, 
     Ok(CommandLine::Run(Task::Inspect { file }))
 }
 
-/// The name that the options give; none where it is not of its form.
+/// The name that the options give; none if it is malformed.
 fn name_given(options: &ArgMatches<'_>) -> Option<Name>
     ensures { IsNameGiven (first_value (found_of options.now) (codes "name")) result }
 {
     Name::new(options.get_str("name")?.as_bytes())
 }
 
-/// The limit that the options give, or the default; none where it is not of its form.
+/// The limit that the options give, or the default; none if it is malformed.
 fn limit_given(options: &ArgMatches<'_>) -> Option<u64>
     ensures { IsLimitGiven (first_value (found_of options.now) (codes "limit")) result }
 {

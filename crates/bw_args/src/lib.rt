@@ -29,10 +29,10 @@ pub enum Task {
     /// `limit` bytes is written as BW64. With a `fuse`, the call of the store with that number
     /// fails, the first being number 0.
     Replay { limit: u64, fuse: Option<u32> },
-    /// Play a recorder and a server by hand, by the events on standard input: the take has this
-    /// name, and `limit` is that of a replay.
+    /// Play a recorder and a server by hand, by the events on standard input. The take has this
+    /// name; `limit` is as for a replay.
     Rehearse { name: Name, limit: u64 },
-    /// Tell what is in the file of this path.
+    /// Report what is in the file at this path.
     Inspect { file: String },
     /// Serve exchanges over TCP.
     Serve(Serve),
@@ -40,32 +40,32 @@ pub enum Task {
     Send(Send),
 }
 
-/// What a command line comes to.
+/// What a command line results in.
 #[derive(Drop)]
 pub enum CommandLine {
     Run(Task),
-    /// A value that is none of its kind, a usage fault: of several the first that is looked at.
+    /// An invalid value, a usage fault: the first that is looked at.
     BadValue(BadValue),
-    /// Help, the version or another usage fault, and never lack of memory. `Error::use_stderr` says
+    /// Help, the version or another usage fault, but never lack of memory. `Error::use_stderr` says
     /// where its text goes, and `Error::exit_code` is the status, 0 or 2.
     Report(Error),
 }
 
-/// Reads a command line, of which the first word is the program's own name.
+/// Parses a command line, whose first word is the program's own name.
 ///
-/// Which words run a task, and of what kind an error is, is `clap`'s own account of its walk over
-/// them (`line`). In plain terms the contract says of thirty-four forms that they run (`replay`,
+/// Which words run a task, and of what kind an error is, follows from `clap`'s own contract
+/// (`line`). In plain terms the contract says of thirty-four forms that they run (`replay`,
 /// `rehearse`, `inspect`, `serve`, `send`), of twenty-two which value is a fault (`values`,
-/// `peers`) and of thirteen what they tell (`help`, `rehearse`, `inspect`, `wanted`). That options
-/// may be given in any of their forms and orders, and that all else but `--` at the end or before a
-/// file is refused, is tested by examples.
+/// `peers`) and of thirteen what they print (`help`, `rehearse`, `inspect`, `wanted`). Examples
+/// test that options may be given in all their forms and orders, and that all else is refused,
+/// except `--` at the end or before a file.
 ///
 /// # Errors
-/// `AllocError` where memory was refused.
+/// `AllocError` if memory was refused.
 ///
 /// # Not specified
 /// - When memory is refused.
-/// - Most combinations of options in plain terms: of them `line` alone speaks.
+/// - Most combinations of options in plain terms: only `line` covers them.
 /// - What the texts of help, version and usage errors say, and where they go.
 pub fn parse(alloc: Global, words: &[String]) -> Result<CommandLine, AllocError>
     ensures line { IfOk result (IsLineOf (map string_bytes words.now)) }
@@ -88,7 +88,7 @@ pub fn parse(alloc: Global, words: &[String]) -> Result<CommandLine, AllocError>
     }
 }
 
-/// Want of memory is no text for the user: the program has a status of its own for it.
+/// Lack of memory is no text for the user: the program has a status of its own for it.
 fn reported(error: Error) -> Result<CommandLine, AllocError>
     ensures reported { IfOk result (λ line. line ≡ CommandLine.Report error) }
     ensures out_of_memory { IsErr result ↔ (kind_of error ≡ ErrorKind.OutOfMemory) }

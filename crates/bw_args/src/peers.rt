@@ -5,27 +5,27 @@ use std::net::SocketAddr;
 /// When a server ends.
 #[derive(Clone, Copy, Debug, PartialEq, Eq)]
 pub enum End {
-    /// After so many exchanges, 1 to 1,000,000.
+    /// After this many exchanges, 1 to 1,000,000.
     Exchanges(u32),
     /// When it is stopped from outside.
     UntilStopped,
 }
 
-/// How the recorders that come are served.
+/// How recorders are served.
 #[derive(Clone, Copy, Debug, PartialEq, Eq)]
 pub enum Recorders {
-    /// One after the other; each is waited for so many seconds, 1 to 86,400, or for good.
+    /// One after another; each is waited for `timeout` seconds, 1 to 86,400, or without limit.
     InTurn { timeout: Option<u32> },
-    /// Up to so many at once, 1 to 256; one that sends no whole message for `idle` seconds, 1 to
-    /// 86,400, is let go.
+    /// Up to `most` at once, 1 to 256; one that sends no whole message for `idle` seconds, 1 to
+    /// 86,400, is disconnected.
     AtOnce { most: u32, idle: u32 },
 }
 
-/// A server as it is asked for.
+/// The server that a command line asks for.
 #[derive(Debug, PartialEq, Eq, Drop)]
 pub struct Serve {
-    /// Where it listens. Its port isn't 0. Printed, it is what was given, but with leave for the
-    /// network, where an address may have several spellings.
+    /// Where it listens. Its port isn't 0. Printed, it is what was given, except with `--network`,
+    /// with which an address may have several spellings.
     pub listen: SocketAddr,
     /// The path of the folder that keeps the takes' files, as it was given.
     pub folder: String,
@@ -39,15 +39,15 @@ pub struct Serve {
     pub log: bool,
 }
 
-/// A sender as it is asked for.
+/// The sender that a command line asks for.
 #[derive(Debug, PartialEq, Eq, Drop)]
 pub struct Send {
     /// Where the server listens, as for the server itself.
     pub connect: SocketAddr,
     /// The take's name.
     pub name: Name,
-    /// How many exchanges are made at most, 1 to 1,000.
+    /// The most exchanges that are made, 1 to 1,000.
     pub rounds: u32,
-    /// For how many seconds it waits for the server, 1 to 86,400; for good, where there is none.
+    /// How many seconds it waits for the server, 1 to 86,400; without limit if `None`.
     pub timeout: Option<u32>,
 }

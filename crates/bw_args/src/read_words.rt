@@ -6,8 +6,8 @@ ghost use Rattle.bw_args.specs.ReadWords.{as_read, first_joined, joined};
 
 use std::alloc::{AllocError, Global};
 
-/// The words, with a take's name or a server's folder joined to its option: so it may begin with a
-/// hyphen.
+/// The words, with a take's name or a server's folder joined to its option, so that it may begin
+/// with a hyphen.
 pub fn read_words(alloc: Global, words: &[String]) -> Result<Vec<String>, AllocError>
     ensures { IfOk result (λ read.
         map string_bytes read.items ≡ as_read (map string_bytes words.now)) }
@@ -25,7 +25,7 @@ pub fn read_words(alloc: Global, words: &[String]) -> Result<Vec<String>, AllocE
     Ok(read)
 }
 
-/// The option that is joined of the command that the words begin with, if it has one.
+/// The option whose value is joined to it, in the command that the words begin with, if it has one.
 fn first_joined(words: &[String]) -> Option<&'static str>
     ensures { option_map (λ option. option.now) result
         ≡ first_joined (map string_bytes words.now) }
@@ -40,7 +40,7 @@ fn first_joined(words: &[String]) -> Option<&'static str>
     None
 }
 
-/// Adds the words as they stand.
+/// Adds the words unchanged.
 fn push_copies(alloc: Global, read: &mut Vec<String>, words: &[String]) -> Result<(), AllocError>
     ensures { OnOk result (map string_bytes read.new.items
         ≡ map string_bytes read.old.items ++ map string_bytes words.now) }
@@ -72,7 +72,7 @@ fn push_joined(
     Ok(())
 }
 
-/// Adds a word, joined to an option that waits for it, and answers whether one waits now.
+/// Adds a word, joined to an option that waits for it, and returns whether one waits now.
 fn push_word(
     alloc: Global,
     read: &mut Vec<String>,

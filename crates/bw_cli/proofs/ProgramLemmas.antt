@@ -24,7 +24,7 @@ use Rattle.bw_console.specs.declared.exit.Exit.TheVariants as exits
 use Rattle.bw_console.specs.declared.fault.Fault.{Fault}
 use Rattle.bw_console.specs.declared.fault.Fault.TheVariants as faults
 
--- lack of memory ends the telling of any text
+-- lack of memory ends the writing of any text
 pub reported-memory : (kind : TextKind) (reported : Print) → IsReportedBy (Err faults.Memory) reported
     → IsReporting kind (record { reads_all = true; out = Nothing; faults = reported; exit = exits.Memory })
 reported-memory texts.DisplayHelp reported t =
@@ -56,7 +56,7 @@ module _ {X Y P R W L K N D A B I O E : Type 0} (S : StoreGhosts X) (J : Journal
     (peers : PeerGhosts P R W) (reader : Reader R) (writer : Writer W) (reactor : ReactorGhosts L K)
     (link : LinkGhosts K) (network : NetworkGhosts N X P D R W A B) (listener_setup : ListenerSetupGhosts N L K) (dial : DialGhosts D A B)
     (replies : Reader A) (requests : Writer B) (input : Reader I) (out : Writer O) (reported : Writer E) where
-  -- what is done for the words that were found is done for those that the system tells
+  -- what is done for the words that were found is done for those that the system reports
   pub reported-words : (words : Option (List Text)) (found : List Text) (file_at later : Text → Option (List ℕ))
       (exit : Exit) (s m s' : ℕ) (n n' : N) (i i' : I) (o o' : O) (e e' : E) →
       ((reported : List Text) → words ≡ Some reported → found ≡ reported) → later ≡ file_at → m ≡ s

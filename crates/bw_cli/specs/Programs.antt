@@ -83,7 +83,7 @@ IsTaskDone file_at input (Rehearse name limit) gives_all did =
 IsTaskDone file_at input (Serve server) gives_all did = ⊥
 IsTaskDone file_at input (Send sender) gives_all did = ⊥
 
--- .. for a command line
+-- for a command line
 abbrev pub IsLineDone : (Text → Option (List ℕ)) → Option (List ℕ) → CommandLine → Bool →
     Outcome → Type 0
 IsLineDone file_at input (Run task) gives_all did = IsTaskDone file_at input task gives_all did
@@ -92,7 +92,7 @@ IsLineDone file_at input (Bad value) gives_all did =
 IsLineDone file_at input (Report error) gives_all did =
     IsReporting (kind_of error) did × (gives_all ≡ true)
 
--- the words can't be read: where the system fails, that is reported; where it doesn't, memory is wanted
+-- the words can't be read: if the system fails, that is reported; if it doesn't, memory is lacking
 abbrev pub IsUnread : Bool → Outcome → Type 0
 IsUnread true did = IsOutOfMemory did
 IsUnread false did = (kind : ErrorKind) × IsBadArgv kind did
@@ -120,7 +120,7 @@ module _ {X Y P R W L K N D A B I O E : Type 0} (S : StoreGhosts X) (J : Journal
   IsDoneFor file_at line exit s s' n n' i i' o o' e e' =
       DoesAlone (IsLineDone file_at (input.left i) line) exit s s' n n' i i' o o' e e'
 
-  -- the words come to a command line, and this is done for it
+  -- the words result in a command line, and this is done for it
   pub record IsAnswered (given : Given) (exit : Exit) (s s' : ℕ) (n n' : N) (i i' : I) (o o' : O)
       (e e' : E) : Type 0 where
     pub line : CommandLine

@@ -39,8 +39,8 @@ pub record IsServingAs (server : Serve) (timeout : Option ℕ) (serving : Servin
   pub waits : serving.timeout ≡ timeout
   pub logs : serving.log ≡ server.log
 
--- the server of so many recorders at once that a command line asks for: of one of them no frame may
--- be answered for so many seconds
+-- the server of this many recorders at once that a command line asks for: of one of them no frame
+-- may be answered for this many seconds
 pub record IsHosting (server : Serve) (most idle : ℕ) (hosting : Hosting) : Type 0 where
   pub listens : hosting.address ≡ server.listen
   pub keeps : hosting.folder.now ≡ string_bytes server.folder

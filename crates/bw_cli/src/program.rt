@@ -22,12 +22,12 @@ use clap::Error;
 use std::alloc::Global;
 use std::process::ExitCode;
 
-/// Reads the command line, does what it asks for, and answers the program's status, 0 to 4. The
-/// watcher hears how far `send` is.
+/// Reads the command line, does what it asks for, and returns the program's exit status, 0 to 4.
+/// The watcher gets the progress of `send`.
 ///
 /// # Not specified
 /// - When the status 4 is returned.
-/// - Which command line is obeyed where the system reports no words, as `Host` doesn't.
+/// - Which command line is obeyed if the system reports no words, as `Host` doesn't.
 /// - The texts of help, version and usage errors.
 pub fn start<S: System, N: Network + ListenerSetup, R: Source, W: Sink, E: Sink, V: Watch>(
     alloc: Global,

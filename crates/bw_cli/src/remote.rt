@@ -13,7 +13,7 @@ use bw_serve::{Bounds, Hosting, Serving, serve, serve_many};
 use bw_stream::{Sink, Source};
 use std::alloc::Global;
 
-/// Serves as it is asked for.
+/// Serves as the command line asks for.
 pub(crate) fn serve_as<N: Network + ListenerSetup, W: Sink, E: Sink>(
     alloc: Global,
     server: &Serve,
@@ -42,7 +42,7 @@ pub(crate) fn serve_as<N: Network + ListenerSetup, W: Sink, E: Sink>(
     }
 }
 
-/// A server of one recorder after the other.
+/// A server of one recorder after another.
 fn serving_of(server: &Serve, limit: Limit, timeout: Option<u32>) -> Serving<'_>
     requires { limit ≡ server.now.limit }
     ensures { IsServingAs server.now timeout result }
@@ -57,7 +57,7 @@ fn serving_of(server: &Serve, limit: Limit, timeout: Option<u32>) -> Serving<'_>
     }
 }
 
-/// A server of so many recorders at once.
+/// A server of at most `most` recorders at once.
 fn hosting_of(server: &Serve, limit: Limit, most: u32, idle: u32) -> Hosting<'_>
     requires { limit ≡ server.now.limit }
     ensures { IsHosting server.now most idle result }
@@ -76,7 +76,7 @@ fn hosting_of(server: &Serve, limit: Limit, most: u32, idle: u32) -> Hosting<'_>
     }
 }
 
-/// How many exchanges are served: without an end more than there ever can be.
+/// How many exchanges are served; without an end, more than there can ever be.
 fn exchanges(end: End) -> u64
     ensures { result ≡ exchanges_of end }
 {
@@ -86,7 +86,7 @@ fn exchanges(end: End) -> u64
     }
 }
 
-/// Sends as it is asked for, and lets the watcher hear how far it is.
+/// Sends as the command line asks for, and reports the progress to the watcher.
 pub(crate) fn send_as<N: Network, R: Source, W: Sink, E: Sink, V: Watch>(
     alloc: Global,
     sender: &Send,

@@ -20,7 +20,7 @@ use Rattle.bw_commands.specs.OneFuse.{least_calls, SufficeForAll}
 abbrev same : List ℕ → List ℕ → Bool
 same = eq_by_cmp (slice_cmp nat_cmp)
 
--- names that the order tells apart are others
+-- names that the order distinguishes are different
 apart : (x y : List ℕ) → same x y ≡ false → y ≢ x
 apart x y e is = false≢true (sym e ∙ (is_eq-slice_cmp x y ∙ (ap (bytes_eq x) is ∙ name_refl x)))
 
@@ -36,7 +36,7 @@ module _ (f g : List ℕ → ℕ) (name : List ℕ) (others : (other : List ℕ)
       let after = sum_by-cons g x names in
       omega (arith, here, more, before, after)
 
-  -- .. and one over distinct names rises by one at most
+  -- and one over distinct names rises by one at most
   sum_rises : g name ≤ suc (f name) → (names : List (List ℕ)) → IsDistinct same names →
       sum_by g names ≤ suc (sum_by f names)
   unfolding IsDistinct

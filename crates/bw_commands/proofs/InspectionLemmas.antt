@@ -15,7 +15,7 @@ use Rattle.bw_commands.specs.Inspections.{IsInspection, IsPrintOfText, exit_for_
 use Rattle.bw_console.specs.Printing.{IsOf, Nothing, Print, failures_if}
 use Rattle.bw_console.specs.declared.fault.Fault.{Fault}
 
--- an inspection that came to a report
+-- an inspection that resulted in a report
 pub report-reported : (file : Option (List ℕ)) (r : Report) (left : Option (List ℕ)) (outcome : Result (Unit {0}) Fault)
     (out faults : Print) → Of file (λ b. GivesReport b r left) → IsPrintOfText (report_text (reported_by r)) outcome out
     → IsReportedBy outcome faults
@@ -30,7 +30,7 @@ report-reported file r left outcome out faults reports prints reported = inl (re
   reports = reported;
 })
 
--- an inspection that came to a fault
+-- an inspection that resulted in a fault
 pub fault-reported : (file : Option (List ℕ)) (f : InspectFault) (left : Option (List ℕ)) (faults : Print)
     → Of file (λ b. Refuses b f left) → IsOf (fault_line f) faults
     → IsInspection file (record {
@@ -48,7 +48,7 @@ fault-reported file f left faults refuses reported = inr (record {
   reports = reported;
 })
 
--- the reader failed exactly where not all reads succeeded
+-- the reader failed exactly if not all reads succeeded
 pub failures-not : (failed : Bool) (n : ℕ) → (if failed then one_more n else n) ≡ failures_if (not failed) n
 failures-not true n = refl
 failures-not false n = refl

@@ -1,4 +1,4 @@
--- What a replay tells of its run.
+-- What a replay reports of its run.
 use Rattle.std.proofs.Common.{◌≡◌, ◌∙◌, ℕ, ◌≤◌, Bool, List, [], ◌∷◌, ◌++◌, length, map, Option, Some, None, refl}
 use Rattle.std.proofs.Common.{sym, ap, subst, arith, true, false, ◌⊎◌, inl, ◌||◌, ◌<◌, ◌+◌, ◌*◌, nat_lt, cond}
 use Rattle.std.proofs.Math.Path.{fun_ext}
@@ -50,7 +50,7 @@ same_head e = cc
 same_tail : {X : Type 0} {x y : X} {xs ys : List X} → x ∷ xs ≡ y ∷ ys → xs ≡ ys
 same_tail e = cc
 
--- what an input that was served tells
+-- what an input that was served reports
 record GivesReport (x : ServedInput) (t : ReportedExchange) : Type 0 where
   stream : ReportsInput x.input x.answered t
   kept : ReportsExchange x.written x.end t
@@ -72,7 +72,7 @@ reports_one x served short = go (ingested_end x.end) refl served
       },
     )
 
--- what all of them tell
+-- what all of them report
 record ReportAll (went : List ServedInput) (rs : List (Vec ℕ Global)) (es : List ExchangeEnd) : Type 0 where
   reported : List ReportedExchange
   streams : ReportInputs (map (λ x. x.input) went) (map (λ x. x.answered) went) reported
@@ -118,7 +118,7 @@ frames_reported (i ∷ inputs) (a ∷ answered) (t ∷ reported) reports =
     (sym (ap (λ (s : List Frame × End). s.0) reports.0.stream))
     ∙ ap (λ (fs : List Frame). (stream_of Second i).0 ++ fs) (frames_reported inputs answered reported reports.1))
 
--- where no failure is reported, none was answered
+-- if no failure is reported, none was answered
 none_reported : (inputs : List (List ℕ)) (answered : List (List Answered)) (reported : List ReportedExchange) →
     ReportInputs inputs answered reported → list_any reports_failure (replies_reported reported) ≡ false →
     list_any reports_failure (replies_of (joined answered)) ≡ false
@@ -164,7 +164,7 @@ last_not_delayed EndOfInput = refl
 last_not_delayed SaidBye = refl
 last_not_delayed (BadFrame reason place) = refl
 
--- where none was answered, none is reported
+-- if none was answered, none is reported
 delays_reported : (inputs : List (List ℕ)) (answered : List (List Answered)) (reported : List ReportedExchange) →
     ReportInputs inputs answered reported → list_any is_delayed (replies_of (joined answered)) ≡ false →
     list_any is_delayed (replies_reported reported) ≡ false
@@ -197,7 +197,7 @@ one_at_most (Some k) calls = go (nat_lt k calls)
     go true = omega arith
     go false = omega arith
 
--- where the run goes well, they are reported as the definitions' exchanges
+-- if the run goes well, they are reported as the definitions' exchanges
 reported_well : (book : Book) (inputs : List (List ℕ)) (answered : List (List Answered)) (reported : List ReportedExchange)
     (later : Book) → ReportInputs inputs answered reported → GoesWell nothing_stands book (joined answered) later →
     reported ≡ map reported_of (exchanges nothing_stands book inputs)
@@ -233,7 +233,7 @@ short_each (x ∷ inputs) short = (
   short_each inputs (All-tail (λ y. length y.items ≤ longest_input) x inputs short),
 )
 
--- a run over a store that was empty and honest, and what it tells
+-- a run over a store that was empty and honest, and what it reports
 pub record Replayed (limit : ℕ) (inputs : List (List ℕ)) (failures calls : ℕ) (rs : List (Vec ℕ Global))
     (es : List ExchangeEnd) (contents : List ℕ → Option (List ℕ)) : Type 0 where
   pub reported : List ReportedExchange

@@ -79,7 +79,7 @@ one_more : (i : ℕ) (t : ReportedExchange) (ts : List ReportedExchange) →
 unfolding exchanges_text
 one_more i t ts = append_assoc (exchange_line i t.end) (flat_map reply_line t.replies) (exchanges_text (i + 1) ts)
 
--- an end that an exchange's bytes tell is named so
+-- an end that an exchange's bytes show has this name
 named : (e : ExchangeEnd) (end : End) → ingested_end e ≡ Some end → name_of_end e ≡ end_name end
 named ends.Bye end is = ap end_name (some_inj is)
 named ends.EndOfInput end is = ap end_name (some_inj is)

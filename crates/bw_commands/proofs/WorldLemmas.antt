@@ -1,4 +1,4 @@
--- The text of what a rehearsal came to.
+-- The text of a rehearsal's outcome.
 use Rattle.std.proofs.Common.{◌≡◌, ℕ, Bool, true, false, List, ◌++◌, Result, Ok, Err, OnOk, Option, Some, None, refl, sym}
 use Rattle.std.proofs.Common.{◌∙◌, ap, [], ◌∷◌, ◌≤◌, map, subst, inl, arith}
 use Rattle.std.specs.Prelude.{unwrap_or, is_none, slice_get, if◌then◌else◌}

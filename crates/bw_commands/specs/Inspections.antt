@@ -24,7 +24,7 @@ use Rattle.bw_console.specs.declared.fault.Fault.TheVariants as failures
 abbrev pub fault_line : InspectFault → List ℕ
 fault_line f = codes "inspect: " ++ inspect_fault_text f ++ 10 ∷ []
 
--- how an inspection ends on a fault of this kind
+-- how an inspection ends after a fault of this kind
 abbrev pub exit_for_fault : InspectKind → Exit
 exit_for_fault NotWave = Refused
 exit_for_fault Truncated = Refused
@@ -42,8 +42,8 @@ exit_for_fault TooLarge = Refused
 exit_for_fault Read = Device
 exit_for_fault Memory = OutOfMemory
 
--- what is printed of a text: all, a beginning where the writer fails, or nothing where memory was
--- refused before
+-- what is printed of a text: all, a prefix if the writer fails, or nothing if memory was refused
+-- before
 abbrev pub IsPrintOfText : List ℕ → Result (Unit {0}) Failure → Print → Type 0
 IsPrintOfText text (Ok x) print = print ≡ Whole text
 IsPrintOfText text (Err failures.Unwritable) print = print ≡ Part text
@@ -59,7 +59,7 @@ pub record IsReportOf (b text : List ℕ) : Type 0 where
   pub reading_is : HasReading b
   pub is : text ≡ report_text (report_of b reading_is.form reading_is.entries)
 
--- an inspection came to the report of the file's reading
+-- an inspection resulted in the report of the file's reading
 pub record IsReport (file : Option (List ℕ)) (did : Outcome) : Type 0 where
   pub outcome : Result (Unit {0}) Failure
   pub exit_is : did.exit ≡ exit_of outcome
@@ -69,7 +69,7 @@ pub record IsReport (file : Option (List ℕ)) (did : Outcome) : Type 0 where
   pub prints : IsPrintOfText text outcome did.out
   pub reports : IsReportedBy outcome did.faults
 
--- an inspection came to a fault, and a fault of the bytes is the file's first
+-- an inspection resulted in a fault, and a fault of the bytes is the file's first
 pub record IsFinding (file : Option (List ℕ)) (did : Outcome) : Type 0 where
   pub fault : InspectFault
   pub exit_is : did.exit ≡ exit_for_fault fault.kind

@@ -1,4 +1,4 @@
--- What comes of a file that is to be opened and inspected.
+-- The result of opening and inspecting a file.
 use Rattle.std.specs.Prelude.{◌≡◌, ◌⊎◌, ℕ, Bool, true, false, Option, List}
 use Rattle.std.specs.declared.io.ErrorKind.{ErrorKind}
 use Rattle.bw_console.specs.Outcomes.{Outcome, IsOutOfMemory}
@@ -11,7 +11,7 @@ pub record IsInspected (file : Option (List ℕ)) (did : Outcome) : Type 0 where
   pub reads_file : Bool
   pub is : IsInspection file (record did { reads_all = reads_file })
 
--- what comes of a file that is to be inspected, where the system opens it, or not
+-- the result of inspecting a file that the system opens, or not
 abbrev pub IsLook : Option (List ℕ) → List ℕ → Bool → Outcome → Type 0
 IsLook file path true did = IsInspected file did
 IsLook file path false did = ((kind : ErrorKind) × IsUnopened path kind did) ⊎ IsOutOfMemory did

@@ -31,20 +31,20 @@ world_counts_line offered sent replies =
     as_line (codes "offered " ++ decimal offered ++ codes " sent " ++ decimal sent
     ++ codes " replies " ++ decimal replies)
 
--- how far the server and the sender came
+-- how far the server and the sender got
 abbrev pub world_progress_line : ℕ → ℕ → ℕ → List ℕ
 world_progress_line done settled stored =
     as_line (codes "done " ++ decimal done ++ codes " settled " ++ decimal settled
     ++ codes " stored " ++ decimal stored)
 
--- the two lines that tell of a world
+-- the two lines that report a world
 abbrev pub world_lines : model.World → List ℕ
 world_lines w =
     world_counts_line (length w.sender.offered) (length w.sent) (length w.replies)
     ++ world_progress_line (log_of w.book w.sender.name).done (model.settled w.sender)
     (model.stored w.sender)
 
--- a rehearsal came to this world
+-- a rehearsal resulted in this world
 pub record HasWorld (world : model.World) (w : World) : Type 0 where
   pub offered : w.offered ≡ length world.sender.offered
   pub sent : w.sent ≡ length world.sent
@@ -67,11 +67,11 @@ pub record IsWorldText (name : List ℕ) (limit : ℕ) (events : List model.Even
   pub kept_of : List ℕ → Option Kept
   pub held : Holds limit (record { contents = contents; first = no_contents; honest = true })
       kept_of world.book
-  -- .. so each name that is closed, or of which nothing waits, has its take's file
+  -- so each name that is closed, or of which nothing waits, has its take's file
   pub files : (name : List ℕ) → (is_pending (log_of world.book name) ≡ false)
       ⊎ ((take_in false world.book name).closed ≡ true) →
       contents name ≡ content_in no_contents limit world.book name
-  -- .. and each name does where no store call failed
+  -- and each name does where no store call failed
   pub whole : failures ≡ 0 → (name : List ℕ) →
       contents name ≡ content_in no_contents limit world.book name
   pub names : List (List ℕ)
@@ -108,7 +108,7 @@ pub record RefusesWorld (input : Option (List ℕ)) (fault : Fault) (print : Pri
   pub is : print ≡ Nothing
   pub right : Of input (λ xs. RefusesEvents fault xs)
 
--- what is printed of a rehearsal that comes to this
+-- what is printed of a rehearsal that results in this
 abbrev pub IsPrintOfWorld : List ℕ → ℕ → Option (List ℕ) → Result (Unit {0}) Fault → Print →
     Type 0
 IsPrintOfWorld name limit input (Ok x) print = PrintsWorld name limit input Whole print

@@ -26,9 +26,9 @@ pub record IsRunText (limit : ℕ) (fuse : Option ℕ) (inputs : List (List ℕ)
   pub run : IsReplayRun limit inputs failures reported contents
   pub names : List (List ℕ)
   pub ordered : AreNames names contents
-  -- .. each file took the calls that made it and wrote it
+  -- each file took the calls that made it and wrote it
   pub took : SufficeFor contents names calls
-  -- .. and at most four came for each number that was done, and for the one whose call failed
+  -- and at most four came for each number that was done, and for the one whose call failed
   pub most : calls ≤ 4 * (all_done run.book + failures)
   pub is : text ≡ exchanges_text 0 reported ++ files_text contents names
 
@@ -50,7 +50,7 @@ pub record PrintsNothing (input : Option (List ℕ)) (fault : Fault) (print : Pr
   pub is : print ≡ Nothing
   pub right : Of input (λ xs. RefusesInput fault (asked_by xs))
 
--- what is printed of a replay that comes to this
+-- what is printed of a replay that results in this
 abbrev pub IsPrintOf : ℕ → Option ℕ → Option (List ℕ) → Result (Unit {0}) Fault → Print →
     Type 0
 IsPrintOf limit fuse input (Ok x) print = PrintsRun limit fuse input Whole print

@@ -37,6 +37,6 @@ abbrev pub file_text_if : List ℕ → Option (List ℕ) → List ℕ
 file_text_if name None = []
 file_text_if name (Some content) = file_text name content
 
--- the files that stand under these names
+-- the files under these names
 unfoldable pub files_text : (List ℕ → Option (List ℕ)) → List (List ℕ) → List ℕ
 files_text contents names = flat_map (λ name. file_text_if name (contents name)) names

@@ -9,7 +9,7 @@ use bw_console::{Fault, first_line};
 use bw_rehearsal::{Event, event_in};
 use std::alloc::Global;
 
-/// The events that the lines of an input say.
+/// The events that the lines of an input encode.
 pub fn events(alloc: Global, input: &[u8]) -> Result<Vec<Event>, Fault>
     requires { length input.now ≤ longest_input }
     ensures ok { IfOk result (λ found.

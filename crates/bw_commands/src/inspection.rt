@@ -1,4 +1,4 @@
-//! The command `inspect`: what is in a file, also in that of a path.
+//! The command `inspect`: what is in a file, given as a reader or by its path.
 ghost use Rattle.std.specs.Prelude.{◌≡◌, true};
 ghost use Rattle.bw_model.specs.Report.{report_text};
 ghost use Rattle.bw_inspect.specs.Reports.{reported_by};
@@ -18,15 +18,15 @@ use std::alloc::Global;
 
 /// Reads a file, and writes its report, or the line of its first fault to `faults`.
 ///
-/// A line that can't be written to `faults` changes nothing. The report is made whole in memory
-/// before its first byte is written.
+/// A failure to write to `faults` is ignored. The report is made whole in memory before its first
+/// byte is written.
 ///
-/// `Refused` for a fault of the file; `Device` where a read or a write failed; `Memory` where
-/// memory was refused. Nothing is printed then, or a beginning where the writer failed.
+/// `Refused` for a fault of the file; `Device` if a read or a write failed; `Memory` if memory was
+/// refused. Nothing is printed then, or a prefix if the writer failed.
 ///
 /// # Not specified
 /// - When memory is refused.
-/// - How much of the file is read or passed over.
+/// - How much of the file is read or skipped.
 pub fn inspect_run<R: Source, W: Sink, E: Sink>(
     alloc: Global,
     file: &mut R,
@@ -49,16 +49,16 @@ pub fn inspect_run<R: Source, W: Sink, E: Sink>(
     }
 }
 
-/// Tells what is in the file of a path.
+/// Reports what is in the file at a path.
 ///
-/// A line that can't be written to `faults` changes nothing. A file that can't be opened is a line
-/// on `faults`, with the system's own reason.
+/// A failure to write to `faults` is ignored. A file that can't be opened is a line on `faults`,
+/// with the system's own reason.
 ///
-/// It ends as `inspect_run` does; where the file can't be opened, as `Memory` where memory was
-/// refused, else as `Device`.
+/// It ends as `inspect_run` does; if the file can't be opened, with `Memory` if memory was refused,
+/// else with `Device`.
 ///
 /// # Not specified
-/// - When memory is refused, and how much of the file is read or passed over.
+/// - When memory is refused, and how much of the file is read or skipped.
 /// - When a file isn't opened, and the reason in its line.
 /// - Over `Host`, which bytes the report is of.
 /// - Whether the reader, which is dropped, counted a failed read.
@@ -81,7 +81,7 @@ pub fn inspect_file<S: System, W: Sink, E: Sink>(
     }
 }
 
-/// Writes the text of a report, which is made whole before.
+/// Writes the text of a report, which is made whole first.
 fn print_report<W: Sink>(alloc: Global, report: &Report, out: &mut W) -> Result<(), Fault>
     ensures { (print : Print)
         × IsPrintOfText (report_text (reported_by report.now)) result print
@@ -97,7 +97,7 @@ fn print_report<W: Sink>(alloc: Global, report: &Report, out: &mut W) -> Result<
     }
 }
 
-/// The line of a fault. It takes no memory, which may be what is wanting.
+/// The line of a fault. It allocates nothing, since memory may be what is lacking.
 fn line_of(fault: &InspectFault) -> ArrayString<64>
     ensures { result.bytes ≡ fault_line fault.now }
 {
@@ -111,7 +111,7 @@ fn line_of(fault: &InspectFault) -> ArrayString<64>
     line
 }
 
-/// How an inspection ends on a fault of this kind.
+/// How an inspection ends after a fault of this kind.
 fn exit_on(kind: InspectKind) -> Exit
     ensures { result ≡ exit_for_fault kind }
 {

@@ -1,5 +1,5 @@
-//! The commands of `bwingest` that need no network: what each reads, prints and tells, and how it
-//! ends. The words of the command line stand above, in the program.
+//! The commands of `bwingest` that need no network: what each reads, prints and reports, and how it
+//! ends. The words of the command line are read above, in the program.
 #![tactic(auto)]
 
 mod events;

@@ -22,15 +22,15 @@ use bw_request::Name;
 use bw_stream::{Sink, Source};
 use std::alloc::{AllocError, Global};
 
-/// Plays the events that the lines of the input say, with a sender of this name and a server over
-/// an empty store in memory, and writes what came of them as text.
+/// Plays the events that the lines of the input encode, with a sender of this name and a server
+/// over an empty store in memory, and writes the outcome as text.
 ///
-/// A fault's line goes to `faults`; one that can't be written changes nothing. Of the input at most
+/// A fault's line goes to `faults`; a failure to write it is ignored. Of the input at most
 /// 16,777,217 bytes are read.
 ///
-/// `Refused` where the input has more than 16,777,216 bytes, or at its first line that is no event;
-/// `Device` where a read or a write failed; `Memory` where memory was refused. Nothing is printed
-/// then, or a beginning where the writer failed.
+/// `Refused` if the input has more than 16,777,216 bytes, or for its first line that is no event;
+/// `Device` if a read or a write failed; `Memory` if memory was refused. Nothing is printed then,
+/// or a prefix if the writer failed.
 ///
 /// # Not specified
 /// - When memory is refused, and whether the server's store fails a call for that: then a number
@@ -57,7 +57,7 @@ pub fn rehearse_run<R: Source, W: Sink, E: Sink>(
     }
 }
 
-/// Plays the events that the lines of the input say, and writes the text of what came of them.
+/// Plays the events that the lines of the input encode, and writes the outcome as text.
 fn play<R: Source, W: Sink>(
     alloc: Global,
     name: Name,
@@ -79,7 +79,7 @@ fn play<R: Source, W: Sink>(
     }
 }
 
-/// The events that the lines of the input say.
+/// The events that the lines of the input encode.
 fn read_events<R: Source>(alloc: Global, input: &mut R) -> Result<Vec<Event>, Fault>
     ensures within { Of (R.left input.old) (λ xs. IsReadAhead xs (R.left input.new)) }
     ensures most { R.moved input.new ≤ R.moved input.old + (longest_input + 1) }

@@ -21,16 +21,15 @@ use std::alloc::{AllocError, Global};
 /// Runs each line of the input as an exchange, over an empty store in memory, and writes replies
 /// and files as text.
 ///
-/// In a run that is printed no store call failed, so that no reply says so, and each file is that
-/// of its take.
+/// In a run that is printed no store call failed, so that no reply reports one, and each file is
+/// its take's.
 ///
-/// A fault's line goes to `faults`; one that can't be written changes nothing. A file whose RIFF
-/// form would be longer than `limit` bytes is written as BW64. Of the input at most 16,777,217
-/// bytes are read.
+/// A fault's line goes to `faults`; a failure to write it is ignored. A file whose RIFF form would
+/// be longer than `limit` bytes is written as BW64. Of the input at most 16,777,217 bytes are read.
 ///
-/// `Refused` where the input has more than 16,777,216 bytes, or at its first line that isn't hex;
-/// `Device` where a read or a write failed; `Memory` where memory was refused, in the store too.
-/// Nothing is printed then, or a beginning where the writer failed.
+/// `Refused` if the input has more than 16,777,216 bytes, or for its first line that isn't hex;
+/// `Device` if a read or a write failed; `Memory` if memory was refused, in the store too. Nothing
+/// is printed then, or a prefix if the writer failed.
 ///
 /// # Not specified
 /// - When memory is refused.
@@ -51,14 +50,14 @@ pub fn replay<R: Source, W: Sink, E: Sink>(
     replay_over(alloc, limit, None, input, out, faults)
 }
 
-/// `replay` over a store of which the call number `fuse`, counted from 0, fails.
+/// `replay` over a store whose call number `fuse`, counted from 0, fails.
 ///
-/// In a run that is printed one store call failed if more than `fuse` came, else none. A reply says
-/// that one failed only where it did.
+/// In a run that is printed one store call failed if there were more than `fuse` calls, else none.
+/// A reply reports a failed call only if one failed.
 ///
 /// # Not specified
 /// - How many store calls a run makes, between those that its files took and four for each number
-///   that was done or tried: so which reply reports the failed call.
+///   that was done or tried: and so which reply reports the failed call.
 /// - When memory is refused.
 /// - Of a reader that doesn't report its bytes: what is refused, and what the text is of.
 pub fn replay_fused<R: Source, W: Sink, E: Sink>(
@@ -79,7 +78,7 @@ pub fn replay_fused<R: Source, W: Sink, E: Sink>(
     replay_over(alloc, limit, Some(fuse), input, out, faults)
 }
 
-/// `replay` over a store of which the call of this number fails, if there is one.
+/// `replay` over a store whose call of this number fails, if there is one.
 fn replay_over<R: Source, W: Sink, E: Sink>(
     alloc: Global,
     limit: Limit,
@@ -100,8 +99,8 @@ fn replay_over<R: Source, W: Sink, E: Sink>(
     }
 }
 
-/// Runs each line of the input over a store of which the call of this number fails, if there is
-/// one, and writes the run's text.
+/// Runs each line of the input over a store whose call of this number fails, if there is one, and
+/// writes the run's text.
 fn play<R: Source, W: Sink>(
     alloc: Global,
     limit: Limit,
@@ -123,8 +122,8 @@ fn play<R: Source, W: Sink>(
     }
 }
 
-/// The text of the inputs' run over an empty store of which the call of this number fails, if there
-/// is one, and no other.
+/// The text of the inputs' run over an empty store whose call of this number fails, if there is
+/// one, and no other.
 fn run_text(
     alloc: Global,
     limit: Limit,

@@ -1,4 +1,4 @@
-//! The store of a replay: in memory, where one chosen call fails, or none.
+//! The store of a replay: in memory; one chosen call fails, or none.
 ghost use Rattle.std.specs.Prelude.{◌≡◌, ℕ, List, None, IsTrue, IfOk, true};
 ghost use Rattle.bw_store.specs.Memory.{content_under};
 ghost use Rattle.bw_commands.specs.OneFuse.{failures_under, is_at, KeepsFuse, SufficeForAll};
@@ -7,15 +7,15 @@ use bw_request::Name;
 use bw_store::{Created, FuseStore, MemoryStore, StoreFault, TakeStore};
 use std::alloc::{AllocError, Global};
 
-/// A store in memory of which the call number `fuse`, counted from 0, fails, if there is a fuse.
+/// A store in memory whose call number `fuse`, counted from 0, fails, if there is a fuse.
 ///
-/// Another call fails where memory is refused, or for a name that was never made; the store notes
+/// Another call fails if memory is refused, or for a name that was never made; the store notes
 /// that.
 #[derive(Drop)]
 pub(crate) struct ReplayStore {
     store: FuseStore<MemoryStore>,
     fuse: Option<u32>,
-    /// A call failed that is not the fuse's.
+    /// A call other than the fuse's failed.
     failed: bool,
     ghost counts: { KeepsFuse fuse failed store.fuses.items
         store.link_stats.calls store.link_stats.failures },
@@ -23,7 +23,7 @@ pub(crate) struct ReplayStore {
 }
 
 impl ReplayStore {
-    /// An empty store, of which no call came.
+    /// An empty store that has had no call.
     pub(crate) fn new(alloc: Global, fuse: Option<u32>) -> Result<ReplayStore, AllocError>
         ensures failures { IfOk result (λ s. s.store.link_stats.failures ≡ 0) }
         ensures calls { IfOk result (λ s. s.store.link_stats.calls ≡ 0) }

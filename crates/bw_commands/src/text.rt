@@ -89,7 +89,7 @@ fn put_replies(alloc: Global, out: &mut Vec<u8>, frames: &[u8]) -> Result<(), Al
     Ok(())
 }
 
-/// The first frame, and what follows it. What is no whole frame is taken as one.
+/// The first frame, and what follows it. Bytes that are no whole frame are taken as one.
 fn split_frame(bytes: &[u8]) -> (&[u8], &[u8])
     requires { 0 < length bytes.now }
     ensures frame { (body more : List ℕ) → length body < 2 ^ 32 → bytes.now ≡ framed body ++ more →

@@ -1,4 +1,4 @@
-//! The text of what a rehearsal came to.
+//! The text of a rehearsal's outcome.
 ghost use Rattle.std.specs.Prelude.{◌≡◌, ◌++◌, length, IfOk, OnOk};
 ghost use Rattle.bw_model.specs.Book.{log_of};
 ghost use Rattle.bw_model.specs.World.{World as ReportedWorld, settled, stored};
@@ -12,7 +12,7 @@ use bw_rehearsal::World;
 use bw_request::Name;
 use std::alloc::{AllocError, Global};
 
-/// What the world came to, in two lines, and then the store's files in the order of their names.
+/// The outcome in two lines, and then the store's files in the order of their names.
 pub fn text_of_world(alloc: Global, name: &Name, world: &World) -> Result<Vec<u8>, AllocError>
     ensures text { IfOk result (λ text. (w : ReportedWorld) →
         HasWorld w world.now → w.sender.name ≡ name.now →
@@ -39,7 +39,7 @@ fn put_counts(alloc: Global, out: &mut Vec<u8>, world: &World) -> Result<(), All
     Ok(())
 }
 
-/// Adds how far the server and the sender came.
+/// Adds how far the server and the sender got.
 fn put_progress(
     alloc: Global,
     out: &mut Vec<u8>,

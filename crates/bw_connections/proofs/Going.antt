@@ -130,8 +130,8 @@ drained G fault c c' last phase m before l =
       finished = inr (m.finished (subst (λ x. WhereDrained x (G.finished c.link)) phase l.finished));
     }
 
--- a connection that goes on being served: its exchange did more, and its link gave what was fed and
--- took what was taken
+-- a connection that continues being served: its exchange did more, and its link gave what was fed
+-- and took what was taken
 pub steps : {L : Type 0} (G : LinkGhosts L) (c c' : Connection L) (piece bytes : List ℕ) (answered : List Answered) →
     c.phase ≡ phases.Serving → c'.phase ≡ phases.Serving → Moves G piece bytes c.link c'.link →
     DoesMore c.exchange piece answered bytes c'.exchange →
@@ -155,7 +155,7 @@ steps G c c' piece bytes answered serving still m d end before l =
       finished = served_finished G c' still;
     }
 
--- where the end stays
+-- the end stays
 pub same_end : {L : Type 0} (G : LinkGhosts L) (c c' : Connection L) → end_of c'.exchange ≡ end_of c.exchange →
     (G.ended c.link → G.ended c'.link) → IfSome (end_so_far (end_of c.exchange)) (λ x. IsFinal x ⊎ G.ended c.link) →
     IfSome (end_so_far (end_of c'.exchange)) (λ x. IsFinal x ⊎ G.ended c'.link)
@@ -169,7 +169,7 @@ pub steps_on : {L : Type 0} (G : LinkGhosts L) (a b c : Connection L) (xs ys : L
 steps_on G a b c xs ys f g before l =
     subst (Lives G c) (append_assoc before xs ys) (g (before ++ xs) (f before l))
 
--- a step, and what comes of the next
+-- a step, and the result of the next
 pub goes_after : {L : Type 0} (G : LinkGhosts L) (r : Result (Unit {0}) ConnectionEnd) (a b c : Connection L)
     (xs ys : List Answered) → Steps G a xs b → Goes G r b ys c → Goes G r a (xs ++ ys) c
 goes_after G (Ok x) a b c xs ys f g = steps_on G a b c xs ys f g
@@ -203,14 +203,14 @@ ends_well streams.Bye broken = tt
 ends_well streams.EndOfInput broken = tt
 ends_well (streams.BadFrame fault) broken = tt
 
--- the stream has ended, and all replies are out
+-- the stream has ended, and all replies are sent
 pub ends_as : (end : StreamEnd) (e : Exchange) → end_of e ≡ Some end → waiting_in e ≡ [] →
     EndsAs (Over (ended_by end)) e []
 ends_as streams.Bye e is none = (is, none, inl refl)
 ends_as streams.EndOfInput e is none = (is, none, inl refl)
 ends_as (streams.BadFrame fault) e is none = (is, none, inl refl)
 
--- a step, and what comes of a call after it that answers nothing
+-- a step, and the result of a call after it that answers nothing
 pub goes_at_last : {L : Type 0} (G : LinkGhosts L) (r : Result (Unit {0}) ConnectionEnd) (a b c : Connection L)
     (xs : List Answered) → Steps G a xs b → Goes G r b [] c → Goes G r a xs c
 goes_at_last G r a b c xs f g =
@@ -274,7 +274,8 @@ fed_reads G (Ok x) c c' piece writable readable full none some most f = record {
 }
 fed_reads G (Err end) c c' piece writable readable full none some most f = tt
 
--- What was reported of room as a quantum sends, and of bytes before it answers, stands at its end.
+-- What was reported of room as a quantum sends, and of bytes before it answers, still holds at its
+-- end.
 full_still : {L : Type 0} (G : LinkGhosts L) (d e : Connection L) → e.writable ≡ d.writable →
     StillReported G d.link e.link → IsFull G d → IsFull G e
 full_still G d e room reported none = (room ∙ none.0, reported.full none.1)
@@ -425,7 +426,7 @@ finished_still G c c' same keeps h =
     go phases.Serving h = tt
     go (phases.Draining fault) h = keeps h
 
--- bytes that came were let go
+-- bytes that came were discarded
 pub let_go : {L : Type 0} (G : LinkGhosts L) (c c' : Connection L) (piece : List ℕ) → 1 ≤ length piece →
     ((xs : List ℕ) → G.given c.link xs → G.given c'.link (xs ++ piece)) → LetsGo G c c'
 let_go G c c' piece some given bytes = inl (piece, some, given)
@@ -462,7 +463,7 @@ quiet_on now was answered serving c c' (Ok x) phase since s =
     go phases.Serving e (x ∷ xs) h = e ∙ h
     go (phases.Draining fault) e xs h = e
 
--- whatever comes of a call on it, a drained connection stays as quiet as it was
+-- whatever a call on it returns, a drained connection stays as quiet as it was
 pub quiet_drained : {L : Type 0} (now : ℕ) (c c' : Connection L) (fault : _) → c.phase ≡ phases.Draining fault →
     c'.phase ≡ c.phase → c'.since ≡ c.since → c'.since ≡ quiet_since now c.since c.phase c'.phase []
 quiet_drained now c c' fault is same since =
@@ -534,7 +535,7 @@ pub open_left : {L : Type 0} (now : ℕ) (r : Result (Unit {0}) ConnectionEnd) (
 open_left now (Ok x) c c' s = s.3
 open_left now (Err end) c c' s = tt
 
--- the time is reported of one that had the same
+-- the time is that of one that had the same
 pub quiet_as : {L : Type 0} (now later : ℕ) (p : Phase) (answered : List Answered) (c d : Connection L)
     (r : Result (Unit {0}) ConnectionEnd) → c.phase ≡ d.phase → c.since ≡ d.since →
     OnOk r (later ≡ quiet_since now c.since c.phase p answered) →
@@ -604,7 +605,7 @@ answers_none G answers now s c serving over = record {
   since = sym (ap (λ (p : Phase). quiet_since now c.since p p []) serving);
 }
 
--- who may be at the other end stays after a step, and after one more
+-- the possible peer stays the same after a step, and after one more
 pub peer_then : {L : Type 0} (G : LinkGhosts L) (x y z : L) → KeepsPeer G x y → KeepsPeer G y z → KeepsPeer G x z
 peer_then G x y z f g p at = g p (f p at)
 

@@ -1,4 +1,4 @@
--- What connections come to in bytes.
+-- What connections amount to in bytes.
 use Rattle.std.proofs.Common.{◌≡◌, ◌≢◌, ◌<◌, ◌⊎◌, inl, inr, ℕ, true, false, Option, Some, None, List, [], ◌∷◌, ◌++◌}
 use Rattle.std.proofs.Common.{refl, sym, ap, subst, ◌∙◌, arith}
 use Rattle.std.specs.Prelude.{IfSome, IsTrue, is_some}
@@ -120,7 +120,7 @@ module _ {L : Type 0} (G : LinkGhosts L) (law : ExchangesFollowStreams) where
         finished = o.finished;
       }
 
-  -- a connection that stands
+  -- a connection at a place
   serves_so_far : (c : Connection L) (answered : List Answered) → Lives G c answered → ServesLink G c.link answered
   serves_so_far c answered l =
       let x = law l.fed answered l.gone c.exchange l.done in

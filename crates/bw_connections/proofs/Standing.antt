@@ -52,7 +52,7 @@ own-kept n m trace xs other = go (eqb_tells m n)
         ∙ ap (λ (ys : List Answered). own n trace ++ ys) (own-other n m xs z.0)
         ∙ append-nil (own n trace)
 
--- What stands at a place.
+-- What is at a place.
 
 pub some_is : {X : Type 0} (x y : X) → Some x ≡ Some y → x ≡ y
 some_is x y e = ap (λ o. unwrap_or o x) e
@@ -67,7 +67,7 @@ sets_again xs ys zs i x y a b = record {
   elsewhere = λ j other. b.elsewhere j other ∙ a.elsewhere j other;
 }
 
--- a connection that stands after a change of one place is what was put there, or stood before
+-- a connection that is there after a change of one place was put there, or was there before
 abbrev ExistedBefore : {L : Type 0} → Connections L → ℕ → Option (Connection L) → ℕ → Connection L → Type 0
 ExistedBefore m i x j d = ((j ≡ i) × (x ≡ Some d)) ⊎ ((j ≢ i) × HoldsConnectionAt m j d)
 
@@ -124,7 +124,7 @@ module _ {L : Type 0} (G : LinkGhosts L) (m m' : Connections L) (i : ℕ) where
       away j d (inl z) e = h.away i c at (sym (same d z.1) ∙ e)
       away j d (inr z) e = h.away j d z.1 e
 
-  -- the connection at a place answered frames more, and goes on
+  -- the connection at a place answered frames more, and continues
   pub keeps_on : (c d : Connection L) (xs : List Answered) (over : List (Closed L)) (trace : List Tagged) →
       m'.next ≡ m.next → HoldsConnectionAt m i c → SetsPlace m.places.items i (Some d) m'.places.items → d.number ≡ c.number →
       Steps G c xs d → Keeps G m over trace → Keeps G m' over (trace ++ tagged c.number xs)
@@ -234,7 +234,7 @@ module _ {L : Type 0} (G : LinkGhosts L) (m m' : Connections L) (i : ℕ) where
               inr (among_last n over y (same ∙ (ap (λ (g : Connection L). g.number) is ∙ h.3)))
           go (inr z) = inl (h.0, h.1, s.elsewhere h.0 z.1 ∙ h.2, h.3)
 
-  -- nothing stands where nothing stood
+  -- nothing is where nothing was
   pub keeps_free : (over : List (Closed L)) (trace : List Tagged) → m'.next ≡ m.next → IsFree m i →
       SetsPlace m.places.items i None m'.places.items → Keeps G m over trace → Keeps G m' over trace
   keeps_free over trace next free s k = record {
@@ -359,7 +359,7 @@ keeps_new G m next none = record {
   fresh = λ n le. refl;
 }
 
--- no connection stands where there is none
+-- there is no connection at an empty place
 pub all_empty : {L : Type 0} (xs : List (Option (Connection L))) (i : ℕ) (c : Connection L) →
     AllByRecursion (λ x. x ≡ None) xs → slice_get xs i ≡ Some (Some c) → ⊥
 all_empty [] i c h e = not_some (Some c) e

@@ -1,4 +1,4 @@
--- What feeding a piece to a connection's exchange comes to, and how its stream's end is met.
+-- The result of feeding a piece to a connection's exchange, and how its stream's end is handled.
 use Rattle.std.specs.Prelude.{◌≡◌, ◌⊎◌, ℕ, ◌+◌, ◌<◌, Option, Some, None, Result, Ok, Err, List, IsTrue}
 use Rattle.std.specs.Prelude.{[], length}
 use Rattle.bw_model.specs.Wire.{Reason, Cut, are_bytes}

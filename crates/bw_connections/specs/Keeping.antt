@@ -32,15 +32,15 @@ pub record SetsPlace {X : Type 0} (xs : List X) (i : ℕ) (x : X) (ys : List X) 
   pub there : slice_get ys i ≡ Some x
   pub elsewhere : (j : ℕ) → j ≢ i → slice_get ys j ≡ slice_get xs j
 
--- a connection stands at a place
+-- a connection is at a place
 abbrev pub HoldsConnectionAt : {L : Type 0} → Connections L → ℕ → Connection L → Type 0
 HoldsConnectionAt m i c = slice_get m.places.items i ≡ Some (Some c)
 
--- the place is there, and no connection stands at it
+-- the place exists and is free
 abbrev pub IsFree : {L : Type 0} → Connections L → ℕ → Type 0
 IsFree m i = slice_get m.places.items i ≡ Some None
 
--- the connection with this number stands somewhere
+-- the connection with this number is at some place
 abbrev pub HoldsConnection : {L : Type 0} → Connections L → ℕ → Type 0
 HoldsConnection {L} m n = (i : ℕ) × (c : Connection L) × HoldsConnectionAt m i c × (c.number ≡ n)
 
@@ -55,15 +55,16 @@ AreApart [] = Unit {0}
 AreApart (x ∷ xs) = AllByRecursion (λ y. y.number ≢ x.number) xs × AreApart xs
 
 module _ {L : Type 0} (G : LinkGhosts L) where
-  -- a connection is over, and stands no longer: it ended so, with its own part of these frames
+  -- a connection is over, and no longer there: it ended so, with its own part of these frames
   pub record HasLeft (m : Connections L) (trace : List Tagged) (x : Closed L) : Type 0 where
     pub before : x.number < m.next
     pub over : IsOver G x.end x.link (own x.number trace)
     pub away : (i : ℕ) (c : Connection L) → HoldsConnectionAt m i c → c.number ≢ x.number
 
-  -- So far these frames were answered, over connections that stand and over these, which are over.
+  -- So far these frames were answered, over connections that are at places and over these, which
+  -- are over.
   pub record Keeps (m : Connections L) (over : List (Closed L)) (trace : List Tagged) : Type 0 where
-    -- one that stands has answered its own part of them
+    -- one at a place has answered its own part of them
     pub lives : (i : ℕ) (c : Connection L) → HoldsConnectionAt m i c →
         (c.number < m.next) × Lives G c (own c.number trace)
     -- no two places have one number
@@ -71,7 +72,7 @@ module _ {L : Type 0} (G : LinkGhosts L) where
         c.number ≡ d.number → i ≡ j
     pub left : AllByRecursion (HasLeft m trace) over
     pub once : AreApart over
-    -- each that was begun stands, or is over
+    -- each that was begun is at a place, or over
     pub each : (n : ℕ) → n < m.next → HoldsConnection m n ⊎ IsAmong n over
     -- and no other has answered any
     pub fresh : (n : ℕ) → m.next ≤ n → own n trace ≡ []

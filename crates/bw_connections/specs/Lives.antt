@@ -26,11 +26,11 @@ use Rattle.bw_connections.specs.declared.connection.Phase.TheVariants as phases
 use Rattle.bw_ports.specs.declared.link.Link.{Ghosts as LinkGhosts}
 use Rattle.bw_connections.specs.Feeding.{fault_to_drain}
 
--- at most so many frames are answered in a quantum
+-- at most this many frames are answered in a quantum
 abbrev pub quantum : ℕ
 quantum = 64
 
--- after a bad frame a connection is drained for so many milliseconds
+-- after a bad frame a connection is drained for this many milliseconds
 abbrev pub longest_drain : ℕ
 longest_drain = 2000
 
@@ -42,36 +42,36 @@ IsInPhase (phases.Draining fault) e unread =
     (end_of e ≡ Some (streams.BadFrame fault)) × IsFinal (end_meaning (streams.BadFrame fault))
     × (waiting_in e ≡ [])
 
--- the exchange has ended with its stream, and all replies are out
+-- the exchange has ended with its stream, and all replies are sent
 abbrev pub HasEnded : StreamEnd → Exchange → List ℕ → Type 0
 HasEnded end e unread =
     (end_of e ≡ Some end) × (waiting_in e ≡ []) × ((unread ≡ []) ⊎ IsFinal (end_meaning end))
 
--- all whole frames are answered, and all replies are out
+-- all whole frames are answered, and all replies are sent
 abbrev pub IsUpToDate : Exchange → Type 0
 IsUpToDate e = (wants_piece e ≡ true) × (waiting_in e ≡ [])
 
--- there are no bytes now: its link told so
+-- there are no bytes now, as its link reported
 abbrev pub IsDry : {L : Type 0} → LinkGhosts L → Connection L → Type 0
 IsDry G c = (c.readable ≡ false) × G.dry c.link
 
--- there is no room now: its link told so
+-- there is no room now, as its link reported
 abbrev pub IsFull : {L : Type 0} → LinkGhosts L → Connection L → Type 0
 IsFull G c = (c.writable ≡ false) × G.full c.link
 
--- whether there may be bytes, and room, is as before, but where the link told that there are none,
--- or none
+-- whether there may be bytes, and room, is as before, unless the link reported that there are none,
+-- or no room
 pub record Learns {L : Type 0} (G : LinkGhosts L) (c c' : Connection L) : Type 0 where
   pub bytes : (c'.readable ≡ c.readable) ⊎ IsDry G c'
   pub room : (c'.writable ≡ c.writable) ⊎ IsFull G c'
 
--- what a link told of bytes and room stands still
+-- what a link reported of bytes and room still holds
 pub record StillReported {L : Type 0} (G : LinkGhosts L) (l l' : L) : Type 0 where
   pub dry : G.dry l → G.dry l'
   pub full : G.full l → G.full l'
 
--- what sending comes to: some of the bytes that wait were taken, where there might be room, or the
--- link told that there is none now
+-- the result of sending: some of the bytes that wait were taken, where there might be room, or the
+-- link reported that there is none now
 pub record SendsWaiting {L : Type 0} (G : LinkGhosts L) (c c' : Connection L) : Type 0 where
   pub bytes : List ℕ
   pub does : DoesMore c.exchange [] [] bytes c'.exchange
@@ -85,8 +85,8 @@ pub record SendsWaiting {L : Type 0} (G : LinkGhosts L) (c c' : Connection L) : 
   pub readable : c'.readable ≡ c.readable
   pub dry : G.dry c.link → G.dry c'.link
 
--- what reading comes to: a piece was fed, where one is wanted and there might be bytes, or no more
--- will come, or the link told that there are none now
+-- the result of reading: a piece was fed, where one is wanted and there might be bytes, or no more
+-- will come, or the link reported that there are none now
 pub record ReadsLink {L : Type 0} (G : LinkGhosts L) (c c' : Connection L) : Type 0 where
   pub piece : List ℕ
   pub most : length piece ≤ longest_piece
@@ -115,10 +115,10 @@ pub record Moved {L : Type 0} (G : LinkGhosts L) (c : Connection L) (answered : 
       (1 ≤ length piece) ⊎ (is_some (end_of c'.exchange) ≡ true) ⊎ IsDry G c'
   -- while replies wait nothing is read
   pub held : 1 ≤ length (waiting_in c.exchange) → piece ≡ []
-  -- fewer frames than a quantum were answered only where the exchange had to wait
+  -- fewer frames than a quantum were answered only if the exchange had to wait
   pub waits : length answered < quantum → HadToWait bytes c'.exchange
-  -- where there might be room, no replies wait any longer, also none to these frames; or some bytes
-  -- of replies went, or there is no room now
+  -- if there might be room, no replies wait any longer, also none to these frames; or some bytes of
+  -- replies went, or there is no room now
   pub sends : c.writable ≡ true →
       (waiting_in c'.exchange ≡ []) ⊎ (1 ≤ length bytes) ⊎ IsFull G c'
   -- some went where replies waited before, whatever was done before
@@ -126,7 +126,7 @@ pub record Moved {L : Type 0} (G : LinkGhosts L) (c : Connection L) (answered : 
       HasDone fed before gone c.exchange → c.writable ≡ true →
       1 ≤ length (waiting_in c.exchange) → (1 ≤ length bytes) ⊎ IsFull G c'
 
--- how a connection's exchange stands where it ended so, and what it was not fed of what the link
+-- the state of a connection's exchange if it ended so, and what it was not fed of what the link
 -- gave
 abbrev pub EndsAs : ConnectionEnd → Exchange → List ℕ → Type 0
 EndsAs (Over ends.Bye) e unread = HasEnded streams.Bye e unread
@@ -145,7 +145,7 @@ abbrev pub WhereDrained : Phase → Type 0 → Type 0
 WhereDrained phases.Serving holds = Unit {0}
 WhereDrained (phases.Draining fault) holds = holds
 
--- where it is drained its peer was reported that no more bytes will be sent
+-- if it is drained its peer was informed that no more bytes will be sent
 abbrev pub IsFinished : {L : Type 0} → LinkGhosts L → Connection L → Type 0
 IsFinished G c = WhereDrained c.phase (G.finished c.link)
 
@@ -160,12 +160,12 @@ EndsWithFault (Over ends.ReadFault) broken = broken
 EndsWithFault (Over ends.WriteFault) broken = broken
 EndsWithFault _ broken = Unit {0}
 
--- it is not told for silence
+-- it isn't an end for silence
 abbrev pub IsNoSilence : ConnectionEnd → Type 0
 IsNoSilence Idle = ⊥
 IsNoSilence (Over end) = Unit {0}
 
--- How a quantum ends a connection that is served: not for silence, and at a bad frame only where it
+-- How a quantum ends a connection that is served: not for silence, and at a bad frame only if that
 -- was cut off, since after every other one it is drained first.
 abbrev pub EndsServed : ConnectionEnd → Type 0
 EndsServed (Over (ends.BadFrame fault)) = reason_meaning fault.reason ≡ Cut
@@ -177,11 +177,11 @@ pub record KeepsConnection {L : Type 0} (c c' : Connection L) : Type 0 where
   pub phase : c'.phase ≡ c.phase
   pub since : c'.since ≡ c.since
 
--- from where a link may be called stays
+-- the possible peer of a link stays the same
 abbrev pub KeepsPeer : {L : Type 0} → LinkGhosts L → L → L → Type 0
 KeepsPeer G l l' = (p : SocketAddr) → G.calls_from l p → G.calls_from l' p
 
--- whether a connection can go on before its link has more bytes, or room
+-- whether a connection can proceed before its link has more bytes, or room
 abbrev pub can_go_on : {L : Type 0} → Connection L → Bool
 can_go_on c = goes c.phase (waiting_in c.exchange)
   where
@@ -190,8 +190,8 @@ can_go_on c = goes c.phase (waiting_in c.exchange)
     goes phases.Serving [] = c.readable || not (wants_piece c.exchange)
     goes phases.Serving (b ∷ bs) = c.writable
 
--- how a connection that is quiet for so long ends, by its phase: where that is longer than so many
--- milliseconds, or it was drained for long enough
+-- how a connection that is quiet for so long ends, by its phase: where that is longer than this
+-- many milliseconds, or it was drained for long enough
 abbrev pub expired_by : Phase → ℕ → ℕ → Option ConnectionEnd
 expired_by phases.Serving idle quiet = if nat_lt idle quiet then Some Idle else None
 expired_by (phases.Draining fault) idle quiet =
@@ -209,12 +209,12 @@ quiet_since now since phase phases.Serving (a ∷ answered) = now
 quiet_since now since phases.Serving (phases.Draining fault) answered = now
 quiet_since now since (phases.Draining was) (phases.Draining fault) answered = since
 
--- it is served only until its stream has ended and all replies are out
+-- it is served only until its stream has ended and all replies are sent
 abbrev pub IsOpen : {L : Type 0} → Connection L → Type 0
 IsOpen c = c.phase ≡ phases.Serving → waiting_in c.exchange ≡ [] → end_of c.exchange ≡ None
 
--- the stream's end is looked at: where it has come and all replies are out, the connection is over
--- with it, where nothing may come after it, or else drained
+-- the stream's end is checked: if it has come and all replies are sent, the connection is over if
+-- nothing may follow, or else drained
 abbrev pub Settles : {L : Type 0} → ℕ → Result (Unit {0}) ConnectionEnd → Connection L →
     Connection L → Type 0
 Settles now (Ok x) c c' = (c'.number ≡ c.number) × (c'.exchange ≡ c.exchange)
@@ -228,14 +228,14 @@ module _ {L : Type 0} (G : LinkGhosts L) where
   -- so far these frames of a connection were answered
   pub record Lives (c : Connection L) (answered : List Answered) : Type 0 where
     -- the bytes that its exchange was fed, those that were taken from it, and those that came and
-    -- were let go
+    -- were discarded
     pub fed : List ℕ
     pub gone : List ℕ
     pub unread : List ℕ
     pub given : G.given c.link (fed ++ unread)
     pub taken : G.taken c.link gone
     pub done : HasDone fed answered gone c.exchange
-    -- an end that more bytes could change is reported only where there are no more
+    -- an end that more bytes could change is reported only if there are no more
     pub at_end : IfSome (end_so_far (end_of c.exchange)) (λ x. IsFinal x ⊎ G.ended c.link)
     pub by_phase : IsInPhase c.phase c.exchange unread
     pub finished : IsFinished G c
@@ -258,26 +258,26 @@ module _ {L : Type 0} (G : LinkGhosts L) where
   abbrev pub EndsDrained : WireFault → L → ConnectionEnd → Type 0
   EndsDrained fault link end = (end ≡ Over (ends.BadFrame fault)) × (G.ended link ⊎ G.broken link)
 
-  -- of what comes to one that is drained some was let go, where there might be bytes, or the link
-  -- told that there are none now
+  -- a connection that is drained discarded some of what came, where there might be bytes, or the
+  -- link reported that there are none now
   abbrev pub LetsGo : Connection L → Connection L → Type 0
   LetsGo c c' = c.readable ≡ true → ((piece : List ℕ) × (1 ≤ length piece)
       × ((xs : List ℕ) → G.given c.link xs → G.given c'.link (xs ++ piece)))
       ⊎ IsDry G c'
 
-  -- frames more were answered, and it goes on
+  -- frames more were answered, and it continues
   abbrev pub Steps : Connection L → List Answered → Connection L → Type 0
   Steps c answered c' = (before : List Answered) → Lives c before → Lives c' (before ++ answered)
 
-  -- frames more were answered, and it goes on, or is over
+  -- frames more were answered, and it continues, or is over
   abbrev pub Goes : Result (Unit {0}) ConnectionEnd → Connection L → List Answered →
       Connection L → Type 0
   Goes (Ok x) c answered c' = Steps c answered c'
   Goes (Err end) c answered c' =
       (before : List Answered) → Lives c before → IsOver end c'.link (before ++ answered)
 
-  -- The server answered so many frames of a connection at this time, and fewer than a quantum only
-  -- where the exchange must wait.
+  -- The server answered this many frames of a connection at this time, and fewer than a quantum
+  -- only if the exchange must wait.
   pub record AnswersHeld {S : Type 0} (answers : S → Frame → List Reply → S → Type 0) (now : ℕ)
       (c c' : Connection L) (s s' : S) : Type 0 where
     pub answered : List Answered
@@ -285,7 +285,7 @@ module _ {L : Type 0} (G : LinkGhosts L) where
     pub most : length answered ≤ quantum
     pub steps : Steps c answered c'
     pub does : DoesMore c.exchange [] answered [] c'.exchange
-    -- where its stream has ended nothing is answered
+    -- if its stream has ended nothing is answered
     pub over : is_some (end_of c.exchange) ≡ true → c'.exchange ≡ c.exchange
     pub waits : length answered < quantum → MustWait c'.exchange
     pub link : c'.link ≡ c.link
@@ -295,7 +295,7 @@ module _ {L : Type 0} (G : LinkGhosts L) where
     pub phase : c'.phase ≡ c.phase
     pub since : c'.since ≡ quiet_since now c.since c.phase c.phase answered
 
-  -- A quantum of a connection, at this time: the server answered so many frames of it.
+  -- A quantum of a connection, at this time: the server answered this many frames of it.
   pub record Works {S : Type 0} (answers : S → Frame → List Reply → S → Type 0) (now : ℕ)
       (result : Result (Unit {0}) ConnectionEnd) (c c' : Connection L) (s s' : S) : Type 0 where
     pub answered : List Answered
@@ -310,9 +310,9 @@ module _ {L : Type 0} (G : LinkGhosts L) where
     pub lets_go : (fault : WireFault) → c.phase ≡ phases.Draining fault →
         OnOk result (LetsGo c c')
     pub learns : OnOk result (Learns G c c')
-    -- where it is drained after it the peer was reported so, now or before
+    -- if it is drained after it the peer was informed so, now or before
     pub finished : IsFinished G c → OnOk result (IsFinished G c')
-    -- where it is over, it ends so
+    -- if it is over, it ends so
     pub no_silence : IfErr result IsNoSilence
     pub served : c.phase ≡ phases.Serving → IfErr result EndsServed
     pub heard : (fault : WireFault) → c.phase ≡ phases.Draining fault →

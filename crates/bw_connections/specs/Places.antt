@@ -15,15 +15,15 @@ connection_count m = vec_len m.places
 abbrev pub begun_of : {L : Type 0} → Connections L → ℕ
 begun_of m = m.next
 
--- how many links were refused, since no connection could be begun over them
+-- how many links were refused because no connection could be begun over them
 abbrev pub refused_of : {L : Type 0} → Connections L → ℕ
 refused_of m = m.refused
 
--- the first at which no connection stands, if there is one
+-- the first free place, if there is one
 abbrev pub first_free_place : {L : Type 0} → Connections L → Option ℕ
 first_free_place m = position is_none m.places.items
 
--- whether the connection at a place can go on before its link has more bytes, or room
+-- whether the connection at a place can proceed before its link has more bytes, or room
 abbrev pub can_go_on_at : {L : Type 0} → Connections L → ℕ → Bool
 can_go_on_at {L} m place = goes (slice_get m.places.items place)
   where
@@ -31,8 +31,8 @@ can_go_on_at {L} m place = goes (slice_get m.places.items place)
     goes (Some (Some c)) = can_go_on c
     goes _ = false
 
--- how the connection at a place ends at a time, where one stands there and it was quiet for longer
--- than so many milliseconds, or drained for long enough
+-- how the connection at a place ends at a time, if there is one and it was quiet for longer than
+-- this many milliseconds, or drained for long enough
 abbrev pub expired_there : {L : Type 0} → ℕ → ℕ → Connections L → ℕ → Option ConnectionEnd
 expired_there {L} now idle m place = ends (slice_get m.places.items place)
   where
@@ -40,7 +40,7 @@ expired_there {L} now idle m place = ends (slice_get m.places.items place)
     ends (Some (Some c)) = expired_at now idle c
     ends _ = None
 
--- the end of a connection, where one is over
+-- the end of a connection, if one is over
 abbrev pub end_of_connection : {L : Type 0} → Option (Closed L) → Option ConnectionEnd
 end_of_connection None = None
 end_of_connection (Some x) = Some x.end

@@ -1,4 +1,4 @@
--- What many connections come to in bytes: those that each link gave and took.
+-- What many connections amount to in bytes: those that each link gave and took.
 use Rattle.std.specs.Prelude.{◌≡◌, ◌≢◌, ◌⊎◌, ℕ, ◌<◌, ◌≤◌, Option, Some, None, IfSome, IsTrue}
 use Rattle.std.specs.Prelude.{List, [], ◌++◌, length}
 use Rattle.std.specs.List.{AllByRecursion, list_all}
@@ -48,7 +48,7 @@ module _ {L : Type 0} (G : LinkGhosts L) where
   ReachesEnd link stream_end unsent end =
       (stream_end ≡ Some end) × (unsent ≡ []) × (IsFinal end ⊎ G.ended link)
 
-  -- what an end of a connection tells
+  -- what an end of a connection reports
   abbrev pub ReportsEnd : ConnectionEnd → L → Option End → List Answered → List ℕ → List ℕ →
       Type 0
   ReportsEnd (Over ends.Bye) link stream_end answered input unsent =
@@ -79,7 +79,7 @@ module _ {L : Type 0} (G : LinkGhosts L) where
     pub serves : ServesLink link answered
     pub reports : ReportsEnd end link serves.stream_end answered serves.input serves.unsent
     pub fault : EndsWithFault end (G.broken link)
-    -- at a bad frame that was more than cut off the peer was reported that no more will be sent
+    -- at a bad frame that was more than cut off the peer was informed that no more will be sent
     pub finished : ReportsFinish end (G.finished link)
 
   -- Whatever came between them, the frames of each connection are those of its own link, and what
@@ -88,7 +88,7 @@ module _ {L : Type 0} (G : LinkGhosts L) where
     pub each : (n : ℕ) → n < m.next → HoldsConnection m n ⊎ IsAmong n over
     pub stands : (i : ℕ) (c : Connection L) → HoldsConnectionAt m i c → ServesLink c.link (own c.number trace)
     pub ended : AllByRecursion (λ x. EndsLink x.end x.link (own x.number trace)) over
-    -- each that is over was begun, is reported once, and stands no longer
+    -- each that is over was begun, is reported once, and is no longer there
     pub begun : AllByRecursion (λ x. x.number < m.next) over
     pub once : AreApart over
     pub away : AllByRecursion

@@ -21,31 +21,31 @@ pub record LeavesOthers {L : Type 0} (place : ℕ) (m m' : Connections L) : Type
   pub others : (j : ℕ) → j ≢ place → slice_get m'.places.items j ≡ slice_get m.places.items j
   pub count : connection_count m' ≡ connection_count m
 
--- .. and no connection was begun, and no link refused
+-- and no connection was begun, and no link refused
 abbrev pub StaysAt : {L : Type 0} → ℕ → Connections L → Connections L → Type 0
 StaysAt place m m' =
     LeavesOthers place m m' × (begun_of m' ≡ begun_of m) × (refused_of m' ≡ refused_of m)
 
--- who stands there now stood there before, as it is
+-- the connection there now was there before, as it is
 abbrev pub ExistedAt : {L : Type 0} → ℕ → Connections L → Connections L → Type 0
 ExistedAt {L} place m m' = (c : Connection L) → HoldsConnectionAt m' place c → HoldsConnectionAt m place c
 
--- who stands there now stood there before, under the same number, and is called from there still
+-- the connection there now was there before, under the same number and from the same address
 abbrev pub ExistedUnder : {L : Type 0} → LinkGhosts L → ℕ → Connections L → Connections L → Type 0
 ExistedUnder {L} G place m m' = (c' : Connection L) → HoldsConnectionAt m' place c' →
     (c : Connection L) × HoldsConnectionAt m place c × (c'.number ≡ c.number) × KeepsPeer G c.link c'.link
 
--- the connection that is over, where one is, has the number of the one that stood there, and is
--- called from there still
+-- the connection that is over, if one is, has the number of the one that was there, and the same
+-- peer
 abbrev pub EndsIts : {L : Type 0} → LinkGhosts L → ℕ → Option (Closed L) → Connections L → Type 0
 EndsIts {L} G place closed m = (c : Connection L) → HoldsConnectionAt m place c →
     IfSome closed (λ x. (x.number ≡ c.number) × KeepsPeer G c.link x.link)
 
--- no connection stands at a place
+-- no connection is at this place
 abbrev pub IsEmpty : {L : Type 0} → ℕ → Connections L → Type 0
 IsEmpty {L} place m = (c : Connection L) → HoldsConnectionAt m place c → ⊥
 
--- a new connection over this link stands at this place, under the next number
+-- a new connection over this link is at this place, under the next number
 pub record BeginsAt {L : Type 0} (place : ℕ) (link : L) (now : ℕ) (m m' : Connections L) : Type 0 where
   pub connection : Connection L
   pub there : HoldsConnectionAt m' place connection
@@ -67,13 +67,13 @@ pub record Wakes {L : Type 0} (bytes room : Bool) (c c' : Connection L) : Type 0
   pub exchange : c'.exchange ≡ c.exchange
   pub stays : KeepsConnection c c'
 
--- the connection at this place, where one stands there, may have bytes again, or room
+-- the connection at this place, if there is one, may have bytes again, or room
 abbrev pub WakesAt : {L : Type 0} → ℕ → Bool → Bool → Connections L → Connections L → Type 0
 WakesAt {L} place bytes room m m' = (c : Connection L) → HoldsConnectionAt m place c →
     (c' : Connection L) × HoldsConnectionAt m' place c' × Wakes bytes room c c'
 
--- At this time the server answered so many frames of the connection at this place, which may be
--- over after them. It is over, or drained, once its stream has ended and all replies are out.
+-- At this time the server answered this many frames of the connection at this place, which may be
+-- over after them. It is over, or drained, once its stream has ended and all replies are sent.
 pub record WorksAt {L S : Type 0} (G : LinkGhosts L) (answers : S → Frame → List Reply → S → Type 0)
     (place now : ℕ) (closed : Option (Closed L)) (m m' : Connections L) (s s' : S) : Type 0 where
   pub number : ℕ
@@ -83,27 +83,27 @@ pub record WorksAt {L S : Type 0} (G : LinkGhosts L) (answers : S → Frame → 
   pub is_its : (c : Connection L) → HoldsConnectionAt m place c → c.number ≡ number
   pub ends_its : EndsIts G place closed m
   pub existed : ExistedUnder G place m m'
-  -- where nobody stands nothing is answered, and none is over
+  -- at a free place nothing is answered, and no connection is over
   pub nobody : IsEmpty place m → (answered ≡ []) × (closed ≡ None)
   pub adds : Adds G m (tagged number answered) (those closed) m'
   pub others : StaysAt place m m'
   pub unended : (c : Connection L) → HoldsConnectionAt m' place c → IsOpen c
   pub since : (c c' : Connection L) → HoldsConnectionAt m place c → HoldsConnectionAt m' place c' →
       c'.since ≡ quiet_since now c.since c.phase c'.phase answered
-  -- one that goes on was read from and sent to where that was possible, and fewer frames than a
-  -- quantum were answered only where its exchange had to wait
+  -- one that continues was read from and sent to where that was possible, and fewer frames than a
+  -- quantum were answered only if its exchange had to wait
   pub moved : (c c' : Connection L) → HoldsConnectionAt m place c → HoldsConnectionAt m' place c' →
       c.phase ≡ phases.Serving → Moved G c answered c'
   pub lets_go : (c c' : Connection L) (fault : WireFault) → HoldsConnectionAt m place c →
       HoldsConnectionAt m' place c' → c.phase ≡ phases.Draining fault → LetsGo G c c'
   -- that there are no bytes, or no room, is known from its link alone
   pub learns : (c c' : Connection L) → HoldsConnectionAt m place c → HoldsConnectionAt m' place c' → Learns G c c'
-  -- and where it is drained after it, the peer was reported that no more will be sent
+  -- and where it is drained after it, the peer was informed that no more will be sent
   pub finished : (c c' : Connection L) → HoldsConnectionAt m place c → HoldsConnectionAt m' place c' →
       IsFinished G c → IsFinished G c'
-  -- The one that is over stands there no longer. It didn't end for silence; one that was served, at a
-  -- bad frame only where it was cut off, since after every other one it is drained first; and one
-  -- that was drained, once nothing more came.
+  -- The one that is over is no longer there. It didn't end for silence; one that was served, at a
+  -- bad frame only if it was cut off, since after every other one it is drained first; and one that
+  -- was drained, once nothing more came.
   pub left : IfSome closed (λ x. IsEmpty place m')
   pub no_silence : IfSome closed (λ x. IsNoSilence x.end)
   pub served : (c : Connection L) → HoldsConnectionAt m place c → c.phase ≡ phases.Serving →

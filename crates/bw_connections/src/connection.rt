@@ -13,24 +13,24 @@ use std::alloc::{AllocError, Global};
 /// How many frames of a connection are answered in a quantum.
 const QUANTUM: usize = 64;
 
-/// For how many milliseconds a connection is drained after a bad frame.
+/// How long a connection is drained after a bad frame, in milliseconds.
 const LONGEST_DRAIN: u64 = 2_000;
 
 /// How a connection ended.
 #[derive(Clone, Copy, Debug, PartialEq, Eq)]
 pub enum ConnectionEnd {
-    /// The exchange over it ended so; with `TurnLimit` where more than 2^62 bytes came.
+    /// The exchange over it ended like this; with `TurnLimit` if more than 2^62 bytes came.
     Over(ExchangeEnd),
     /// No whole frame came for too long.
     Idle,
 }
 
-/// What a connection is at.
+/// The state of a connection.
 #[derive(Clone, Copy, Debug, PartialEq, Eq)]
 pub(crate) enum Phase {
     /// Its frames are answered.
     Serving,
-    /// A frame was bad, all replies are out, and no more will be sent: what still comes is let go,
+    /// A frame was bad, all replies are sent, and no more will be: what still comes is discarded,
     /// so that the peer can read the replies before the link is closed.
     Draining(WireFault),
 }
@@ -55,10 +55,10 @@ impl<L: Link> Connection<L> {
     ghost use Rattle.bw_connections.specs.Lives.{EndsDrained, IsUpToDate, KeepsPeer, ReadsLink, SendsWaiting, can_go_on};
     ghost use Rattle.bw_connections.specs.Lives.{IsFinished, Learns, LetsGo, StillReported, expired_at};
 
-    /// A connection over this link, which has given and taken nothing yet.
+    /// Creates a connection over this link, which has given and taken nothing yet.
     ///
     /// # Errors
-    /// `AllocError` where memory was refused.
+    /// `AllocError` if memory was refused.
     pub(crate) fn new(
         alloc: Global,
         link: L,
@@ -92,7 +92,7 @@ impl<L: Link> Connection<L> {
         self.writable |= writable;
     }
 
-    /// Whether it can go on before its link has more bytes, or room.
+    /// Whether it can proceed before its link has more bytes, or room.
     pub(crate) fn can_go_on(&self) -> bool
         ensures { result ≡ can_go_on self.now }
     {
@@ -105,8 +105,8 @@ impl<L: Link> Connection<L> {
         self.writable
     }
 
-    /// How it ends at this time, where nothing has been answered for longer than `idle`
-    /// milliseconds, or it has been drained for long enough.
+    /// How it ends at time `now`, if nothing has been answered for longer than `idle` milliseconds,
+    /// or it has been drained for long enough.
     pub(crate) fn expired(&self, now: u64, idle: u64) -> Option<ConnectionEnd>
         ensures { result ≡ expired_at now idle self.now }
     {
@@ -119,9 +119,9 @@ impl<L: Link> Connection<L> {
         }
     }
 
-    /// One quantum: a piece comes in where one is wanted, frames are answered, and some of the bytes
-    /// that wait go out, so that a reply leaves in the quantum in which it is made. No piece comes in
-    /// before all replies are out: from one who doesn't read its replies nothing more is read.
+    /// One quantum: a piece is read if one is wanted, frames are answered, and some of the unsent
+    /// bytes are sent, so that a reply leaves in the quantum in which it is made. No piece is read
+    /// before all replies are sent: from a peer that doesn't read its replies nothing more is read.
     ///
     /// # Errors
     /// How the connection ended.
@@ -143,7 +143,7 @@ impl<L: Link> Connection<L> {
         self.settle(now)
     }
 
-    /// Sends some of the bytes that wait, where there may be room.
+    /// Sends some of the unsent bytes, if there may be room.
     ///
     /// # Errors
     /// The link is broken.
@@ -172,7 +172,7 @@ impl<L: Link> Connection<L> {
         }
     }
 
-    /// Feeds the next piece, where one is wanted and may be there.
+    /// Feeds the next piece, if one is wanted and may be there.
     ///
     /// # Errors
     /// The link is broken, or the piece can't be fed.
@@ -202,7 +202,7 @@ impl<L: Link> Connection<L> {
         }
     }
 
-    /// Whether all replies are out.
+    /// Whether all replies are sent.
     fn is_all_out(&self) -> bool
         ensures all { result ≡ true → waiting_in self.now.exchange ≡ [] }
         ensures some { waiting_in self.now.exchange ≡ [] → result ≡ true }
@@ -210,7 +210,7 @@ impl<L: Link> Connection<L> {
         self.exchange.outgoing().is_empty()
     }
 
-    /// Whether all whole frames are answered, and all replies are out.
+    /// Whether all whole frames are answered, and all replies sent.
     fn is_up_to_date(&self) -> bool
         ensures yes { result ≡ true → IsUpToDate self.now.exchange }
         ensures no { IsUpToDate self.now.exchange → result ≡ true }
@@ -218,7 +218,7 @@ impl<L: Link> Connection<L> {
         self.exchange.wants_read() && self.is_all_out()
     }
 
-    /// Has whole frames answered, and notes the time where there are some.
+    /// Has whole frames answered, and notes the time if there were any.
     fn answer_held<T: Turns>(&mut self, server: &mut T, now: u64)
         requires { self.old.phase ≡ Phase.Serving }
         ensures { AnswersHeld L.Link T.answers now self.old self.new server.old server.new }
@@ -232,7 +232,7 @@ impl<L: Link> Connection<L> {
         self.since = now;
     }
 
-    /// Lets go of what comes.
+    /// Reads and discards what comes.
     ///
     /// # Errors
     /// Nothing more comes.
@@ -260,8 +260,8 @@ impl<L: Link> Connection<L> {
         }
     }
 
-    /// Ends the connection where its stream has ended and all replies are out; after a bad frame
-    /// what still comes is drained first.
+    /// Ends the connection if its stream has ended and all replies are sent; after a bad frame what
+    /// still comes is drained first.
     ///
     /// # Errors
     /// How the connection ended.
@@ -289,7 +289,7 @@ impl<L: Link> Connection<L> {
     }
 }
 
-/// The fault after which more may come that isn't read: a frame that is bad whatever follows.
+/// The fault after which more may come that isn't parsed: a frame that is bad whatever follows.
 fn fault_to_drain(end: StreamEnd) -> Option<WireFault>
     ensures { result ≡ fault_to_drain end }
 {

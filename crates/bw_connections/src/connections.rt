@@ -1,4 +1,4 @@
-//! Many connections over one server, each at a place of its own.
+//! Many connections over one server, each at its own place.
 ghost use Rattle.std.specs.Prelude.{◌≡◌, ◌≤◌, ◌<◌, [], List, length, vec_len, slice_get, Some, None, IfOk};
 ghost use Rattle.std.specs.Prelude.{◌+◌, ◌^◌, Err, OnOk, OnErr, IfSome};
 ghost use Rattle.bw_wire.specs.Held.{longest_piece};
@@ -12,7 +12,7 @@ use thiserror::Error;
 
 /// Why a connection can't be begun.
 ///
-/// It has no number, and no clause says what its text is.
+/// It has no number, and no clause describes its text.
 #[derive(Clone, Copy, Debug, PartialEq, Eq, Error)]
 pub enum BeginError {
     /// Memory was refused.
@@ -70,10 +70,10 @@ impl<L: Link + Drop> Connections<L> {
     ghost use Rattle.bw_connections.specs.Places.{begun_of, connection_count, can_go_on_at, end_of_connection, expired_there};
     ghost use Rattle.bw_connections.specs.Places.{first_free_place, refused_of};
 
-    /// So many places, at none of which a connection stands.
+    /// Creates `count` free places.
     ///
     /// # Errors
-    /// `AllocError` where memory was refused.
+    /// `AllocError` if memory was refused.
     ///
     /// # Not specified
     /// When memory is refused.
@@ -108,15 +108,15 @@ impl<L: Link + Drop> Connections<L> {
         self.next
     }
 
-    /// How many links were refused, since no connection could be begun over them. Stays at
-    /// 2^64 - 1.
+    /// How many links were refused because no connection could be begun over them. Stays at 2^64 -
+    /// 1.
     pub fn refused(&self) -> u64
         ensures { result ≡ refused_of self.now }
     {
         self.refused
     }
 
-    /// The first place at which no connection stands, if there is one.
+    /// The first free place, if there is one.
     pub fn free_place(&self) -> Option<usize>
         ensures first { result ≡ first_free_place self.now }
         ensures free { IfSome result (λ place. IsFree self.now place) }
@@ -124,7 +124,7 @@ impl<L: Link + Drop> Connections<L> {
         self.places.iter().position(|place| place.is_none())
     }
 
-    /// Whether the connection at a place can go on before its link has more bytes, or room.
+    /// Whether the connection at a place can proceed before its link has more bytes, or room.
     pub fn can_go_on(&self, place: usize) -> bool
         ensures { result ≡ can_go_on_at self.now place }
     {
@@ -137,8 +137,8 @@ impl<L: Link + Drop> Connections<L> {
     /// Begins a connection at a free place, at a time in milliseconds.
     ///
     /// # Errors
-    /// `NumbersSpent` after 2^64 - 1 connections; else `Memory`, where memory was refused. The link
-    /// is closed and counted as refused, and nothing else changed.
+    /// `NumbersSpent` after 2^64 - 1 connections; else `Memory`, if memory was refused. The link is
+    /// closed and counted as refused, and nothing else changed.
     ///
     /// # Not specified
     /// When memory is refused.
@@ -190,14 +190,14 @@ impl<L: Link + Drop> Connections<L> {
     }
 
     /// One quantum of the connection at a place, at a time in milliseconds: it reads, then answers,
-    /// then sends. The connection, where it is over.
+    /// then sends. Returns the connection if it is over.
     ///
     /// At most 64 frames are answered. `buffer` has at most 65,536 bytes.
     ///
     /// # Not specified
     /// - How much of what a link has is read, and how much of what waits is offered to it: only
-    ///   that a call is made where the last one didn't report that there is nothing, or no room.
-    /// - That the peer hears of the end of its replies after a bad frame.
+    ///   that a call is made if the last one didn't report that there is nothing, or no room.
+    /// - That the peer learns of the end of its replies after a bad frame.
     pub fn work<T: Turns>(
         &mut self,
         place: usize,
@@ -221,8 +221,8 @@ impl<L: Link + Drop> Connections<L> {
         }
     }
 
-    /// Ends the connection at a place where it was quiet for longer than `idle` milliseconds, or
-    /// drained for longer than 2,000.
+    /// Ends the connection at a place if it was quiet for longer than `idle` milliseconds, or
+    /// drained for longer than 2,000, and returns it.
     pub fn expire(&mut self, place: usize, now: u64, idle: u64) -> Option<Closed<L>>
         requires place { place < connection_count self.old }
         ensures adds { Adds L.Link self.old [] (those result) self.new }
@@ -245,7 +245,7 @@ impl<L: Link + Drop> Connections<L> {
     }
 }
 
-/// What is left of a connection that ended so.
+/// What is left of a connection that ended like this.
 fn close<L: Drop>(connection: Connection<L>, end: ConnectionEnd) -> Closed<L>
     ensures { result ≡ record { link = connection.link; number = connection.number; end = end } }
 {

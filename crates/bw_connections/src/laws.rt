@@ -3,9 +3,9 @@ ghost use Rattle.bw_connections.specs.Served.{EachIsServed};
 
 use bw_ports::Link;
 
-/// Whatever came between its turns, each connection's frames are the first of the bytes that its own
-/// link gave, and what that took is the prefix of their replies: with what is still unsent after it,
-/// exactly these. Of one that is over its end says how far it came, unless it ended for silence.
+/// Whatever came between its turns, each connection's frames are the first of the bytes that its
+/// own link gave, and what the link took is a prefix of their replies: followed by what is still
+/// unsent, exactly these. When it is over its end says how far it got, unless it ended for silence.
 pub fn law_connections<L: Link>()
     ensures { EachIsServed L.Link }
 {

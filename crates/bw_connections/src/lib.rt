@@ -1,5 +1,5 @@
-//! Many exchanges at once over one server, a quantum of each in turn. Links never wait, and sockets
-//! stand above, after `Link`.
+//! Many exchanges at once over one server, a quantum of each in turn. Links never wait; sockets are
+//! in a crate above, behind `Link`.
 #![tactic(auto)]
 
 mod connection;

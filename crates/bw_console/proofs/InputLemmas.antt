@@ -27,7 +27,7 @@ read-ahead xs bytes buf most n left later prefix read small =
       rest = read.rest ∙ ap Some (drop-drop n (length bytes) xs);
     }
 
--- where no byte comes any more, the front is all
+-- if no byte comes any more, the prefix is all
 pub prefix-is-all : (xs bytes buf : List ℕ) (most n : ℕ) (left later : Option (List ℕ)) → HasPrefix xs bytes left
     → IsRead (drop (length bytes) xs) most n buf later → n ≡ 0 → 0 < most → bytes ≡ xs
 prefix-is-all xs bytes buf most n left later prefix read none some =
@@ -35,7 +35,7 @@ prefix-is-all xs bytes buf most n left later prefix read none some =
     sym (append-nil bytes) ∙ (ap (λ (z : List ℕ). bytes ++ z) (sym e)
     ∙ (ap (λ (z : List ℕ). z ++ drop (length bytes) xs) (sym prefix.is) ∙ take-append-drop (length bytes) xs))
 
--- the front with one more piece
+-- the prefix with one more piece
 pub more-prefix : (xs bytes buf got : List ℕ) (most n : ℕ) (left later : Option (List ℕ)) → HasPrefix xs bytes left
     → IsRead (drop (length bytes) xs) most n buf later → got ≡ take n buf → HasPrefix xs (bytes ++ got) later
 more-prefix xs bytes buf got most n left later prefix read e =

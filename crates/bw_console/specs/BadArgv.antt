@@ -8,7 +8,7 @@ use Rattle.bw_console.specs.Text.{as_line}
 use Rattle.bw_console.specs.declared.exit.Exit.{Exit}
 use Rattle.bw_console.specs.declared.exit.Exit.TheVariants as exits
 
--- how the program ends where the words can't be read: one that is no text is a fault of usage
+-- how the program ends if the words can't be read: one that isn't UTF-8 is a usage error
 abbrev pub exit_without_words : ErrorKind → Exit
 exit_without_words kinds.OutOfMemory = exits.Memory
 exit_without_words kinds.InvalidData = exits.Usage

@@ -1,4 +1,4 @@
--- What a fault says of the input, its line, and how the program ends on it.
+-- What a fault says of the input, its line, and how the program ends after it.
 use Rattle.std.specs.Prelude.{◌≡◌, ℕ, ◌++◌, List, Bool, true, false, Result, Ok, Err, codes}
 use Rattle.std.specs.Prelude.{decimal, ◌<◌, length}
 use Rattle.hex.specs.declared.error.FromHexError.{FromHexError}
@@ -62,7 +62,7 @@ input_fault_text Unreadable = codes "the input can't be read"
 input_fault_text Unwritable = codes "the output can't be written"
 input_fault_text Memory = codes "out of memory"
 
--- how the program ends on a fault
+-- how the program ends after a fault
 abbrev pub exit_on : Fault → Exit
 exit_on TooLong = Exit-Refused
 exit_on (NotHex n) = Exit-Refused
@@ -72,7 +72,7 @@ exit_on Unreadable = Exit-Device
 exit_on Unwritable = Exit-Device
 exit_on Memory = Exit-Memory
 
--- how the program ends on what a command comes to
+-- how the program ends after this outcome of a command
 abbrev pub exit_of : Result (Unit {0}) Fault → Exit
 exit_of (Ok x) = Exit-Done
 exit_of (Err fault) = exit_on fault
@@ -87,7 +87,7 @@ is_readable (NotRequest n) = true
 is_readable Unwritable = true
 is_readable Memory = true
 
--- no read failed in what a command comes to
+-- no read failed in this outcome of a command
 abbrev pub is_read : {X : Type 0} → Result X Fault → Bool
 is_read (Ok x) = true
 is_read (Err fault) = is_readable fault

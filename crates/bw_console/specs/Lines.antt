@@ -9,8 +9,8 @@ use Rattle.hex.specs.declared.error.FromHexError.{FromHexError}
 abbrev pub is_line_end : ℕ → Bool
 is_line_end byte = byte == 10
 
--- the lines of bytes after the first bytes of a line. Byte 10 ends a line, and one byte 13 before
--- it goes with it
+-- the lines of bytes after the first bytes of a line. Byte 10 ends a line; a byte 13 right before
+-- it belongs to the line end
 unfoldable pub lines_from : List ℕ → List ℕ → List (List ℕ)
 lines_from line [] = if length line == 0 then [] else line ∷ []
 lines_from line (c ∷ cs) =

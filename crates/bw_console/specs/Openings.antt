@@ -7,7 +7,7 @@ use Rattle.bw_console.specs.Printing.{Nothing, IsOf}
 use Rattle.bw_console.specs.declared.exit.Exit.{Exit}
 use Rattle.bw_console.specs.declared.exit.Exit.TheVariants as exits
 
--- how the program ends where a file can't be opened
+-- how the program ends if a file can't be opened
 abbrev pub exit_unopened : ErrorKind → Exit
 exit_unopened kinds.OutOfMemory = exits.Memory
 exit_unopened _ = exits.Device

@@ -8,22 +8,22 @@ use Rattle.bw_console.specs.declared.exit.Exit.{Exit}
 use Rattle.bw_console.specs.declared.exit.Exit.TheVariants as exits
 use Rattle.bw_console.specs.declared.fault.Fault.TheVariants as faults
 
--- what a command did: whether its reads all succeeded, what it printed, what it told of faults, and
--- how it ended
+-- what a command did: whether its reads all succeeded, what it printed, what it reported of faults,
+-- and how it ended
 pub record Outcome : Type 0 where
   pub reads_all : Bool
   pub out : Print
   pub faults : Print
   pub exit : Exit
 
--- this was printed and told
+-- this was printed and reported
 pub record HasWritten {W E : Type 0} (w : Writer W) (e : Writer E) (did : Outcome)
     (out out' : W) (faults faults' : E) : Type 0 where
   pub printed : IsPrint w did.out out out'
   pub reported : IsPrint e did.faults faults faults'
 
 -- A call did what is asked of it, and ended so: each failure of the system and of the input is
--- counted, and this was printed and told.
+-- counted, and this was printed and reported.
 pub record Does {R W E : Type 0} (reader : Reader R) (out : Writer W) (faults : Writer E)
     (is_asked : Bool → Outcome → Type 0) (exit : Exit) (system system' : ℕ) (r r' : R)
     (w w' : W) (e e' : E) : Type 0 where

@@ -9,7 +9,7 @@ pub record HasPrinted {S : Type 0} (w : Writer S) (text : List ℕ) (old new : S
   pub counted : w.failures new ≡ w.failures old
   pub flushed : w.is_flushed new ≡ true
 
--- the writer failed, and has a beginning of the text after what was there
+-- the writer failed, and has a prefix of the text after what was there
 pub record HasStopped {S : Type 0} (w : Writer S) (text : List ℕ) (old new : S) : Type 0 where
   pub wrote : Begins (w.written old) text (w.written new)
   pub counted : w.failures new ≡ one_more (w.failures old)

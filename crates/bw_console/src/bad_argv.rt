@@ -10,9 +10,8 @@ use crate::print::print_diagnostic;
 use bw_stream::Sink;
 use std::io::{self, ErrorKind};
 
-/// Tells that the words of the command line can't be read, for this error of the system. Answers
-/// how the program ends: `Usage` where a word is no text, `Memory` where memory was refused, else
-/// `Device`.
+/// Reports that the words of the command line can't be read, for this system error. Returns how the
+/// program ends: `Usage` if a word isn't UTF-8, `Memory` if memory was refused, else `Device`.
 pub fn report_bad_argv<E: Sink>(error: &io::Error, faults: &mut E) -> Exit
     ensures { (did : Outcome) × (did.exit ≡ result) × IsBadArgv (error_kind error.now) did
         × IsPrint E.Sink did.faults faults.old faults.new }
@@ -21,7 +20,7 @@ pub fn report_bad_argv<E: Sink>(error: &io::Error, faults: &mut E) -> Exit
     exit_without(error.kind())
 }
 
-/// How the program ends where its words can't be read: one that is no text is a fault of usage.
+/// How the program ends if its words can't be read: one that isn't UTF-8 is a usage error.
 fn exit_without(kind: ErrorKind) -> Exit
     ensures { result ≡ exit_without_words kind }
 {

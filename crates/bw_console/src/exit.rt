@@ -5,11 +5,11 @@ ghost use Rattle.bw_console.specs.Exits.{status_of};
 /// How a command ended.
 #[derive(Clone, Copy, Debug, PartialEq, Eq, Drop)]
 pub enum Exit {
-    /// All that was asked for is done and printed.
+    /// Everything asked for is done and printed.
     Done,
-    /// The input is refused.
+    /// The input was refused.
     Refused,
-    /// The command line is refused.
+    /// The command line was refused.
     Usage,
     /// Something could not be read, written or opened.
     Device,

@@ -28,9 +28,9 @@ pub enum Fault {
 }
 
 impl Fault {
-    /// How the command ends on this fault.
+    /// How the command ends after this fault.
     ///
-    /// `Device` of `Unreadable` and `Unwritable`, `Memory` of `Memory`, and `Refused` of the
+    /// `Device` for `Unreadable` and `Unwritable`, `Memory` for `Memory`, and `Refused` for the
     /// others.
     pub fn exit(&self) -> Exit
         ensures { result ≡ exit_on self.now }
@@ -46,8 +46,8 @@ impl Fault {
         }
     }
 
-    /// The line that tells it, at most 64 bytes, with the byte 10 at its end. It takes no memory,
-    /// which may be what is wanting.
+    /// The line that reports it, at most 64 bytes, ended by a line feed. It allocates nothing,
+    /// since memory may be what is lacking.
     pub fn line(&self) -> ArrayString<64>
         ensures { result.bytes ≡ as_line (input_fault_text self.now) }
     {
@@ -57,7 +57,7 @@ impl Fault {
         line
     }
 
-    /// Puts its text on an empty line.
+    /// Writes its text to an empty line.
     fn put_on(&self, line: &mut ArrayString<64>)
         requires { line.old.bytes ≡ [] }
         ensures text { line.new.bytes ≡ input_fault_text self.now }
@@ -75,7 +75,7 @@ impl Fault {
     }
 }
 
-/// Puts on an empty line what is wrong with the line of this number.
+/// Writes to an empty line what is wrong with the line of this number.
 fn put_line_fault(line: &mut ArrayString<64>, number: u64, wrong: &str)
     requires empty { line.old.bytes ≡ [] }
     requires short { length wrong.now ≤ 15 }

@@ -16,10 +16,10 @@ use bw_stream::Source;
 use hex::FromHexError;
 use std::alloc::Global;
 
-/// The most bytes of standard input.
+/// The most bytes of an input.
 const LONGEST_INPUT: usize = 16_777_216;
 
-/// The bytes of each exchange that an input spells, one line of hex for each.
+/// The bytes of each exchange of an input, which has one line of hex for each.
 pub fn exchanges<R: Source>(alloc: Global, input: &mut R) -> Result<Vec<Vec<u8>>, Fault>
     ensures within { Of (R.left input.old) (λ xs. IsReadAhead xs (R.left input.new)) }
     ensures most { R.moved input.new ≤ R.moved input.old + (longest_input + 1) }
@@ -38,12 +38,12 @@ pub fn exchanges<R: Source>(alloc: Global, input: &mut R) -> Result<Vec<Vec<u8>>
 /// All bytes of an input.
 ///
 /// # Errors
-/// `TooLong` where there are more than 16,777,216; `Unreadable` where the reader failed; `Memory`
-/// where memory was refused. At most 16,777,217 bytes were read.
+/// `TooLong` if there are more than 16,777,216; `Unreadable` if the reader failed; `Memory` if
+/// memory was refused. At most 16,777,217 bytes were read.
 ///
 /// # Not specified
 /// - When memory is refused.
-/// - Of a reader that doesn't report its bytes: that the answer is what it gave, that `TooLong` is
+/// - Of a reader that doesn't report its bytes: that the result is what it gave, that `TooLong` is
 ///   true, and that `NotHex`, `NotEvent` and `NotRequest` don't come.
 pub fn all_bytes<R: Source>(alloc: Global, input: &mut R) -> Result<Vec<u8>, Fault>
     ensures reads { Of (R.left input.old) (λ xs. IsReadAhead xs (R.left input.new)) }
@@ -71,7 +71,7 @@ pub fn all_bytes<R: Source>(alloc: Global, input: &mut R) -> Result<Vec<u8>, Fau
     Err(Fault::TooLong)
 }
 
-/// The bytes that each line spells.
+/// The bytes that each line encodes.
 fn decoded_lines(alloc: Global, input: &[u8]) -> Result<Vec<Vec<u8>>, Fault>
     requires { length input.now ≤ longest_input }
     ensures ok { IfOk result (λ found.
@@ -125,7 +125,7 @@ pub fn first_line(bytes: &[u8]) -> (&[u8], &[u8])
     }
 }
 
-/// Where the first line ends: at its byte 10, or after all bytes.
+/// Where the first line ends: at its line feed, or after all bytes.
 fn line_end(bytes: &[u8]) -> usize
     ensures value { result ≡ position_or_len is_line_end bytes.now }
     ensures within { result ≤ length bytes.now }
@@ -137,7 +137,7 @@ fn line_end(bytes: &[u8]) -> usize
     end
 }
 
-/// A line without the byte 13 at its end.
+/// A line without a carriage return at its end.
 fn without_return(line: &[u8]) -> &[u8]
     ensures value { result.now ≡ strip_last 13 line.now }
     ensures within { length result.now ≤ length line.now }

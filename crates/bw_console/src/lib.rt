@@ -1,4 +1,4 @@
-//! What commands read, print and tell, and how they end.
+//! What commands read, print and report, and how they end.
 #![tactic(auto)]
 
 mod bad_argv;

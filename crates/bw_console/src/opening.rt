@@ -1,4 +1,4 @@
-//! Why what is named can't be opened.
+//! Why something can't be opened.
 ghost use Rattle.std.specs.Prelude.{◌≡◌, ◌⊎◌, ℕ, List, IfOk, string_bytes};
 ghost use Rattle.std.specs.IoError.{error_kind};
 ghost use Rattle.bw_console.specs.Outcomes.{Outcome, IsOutOfMemory};
@@ -12,8 +12,8 @@ use bw_stream::Sink;
 use std::alloc::{AllocError, Global};
 use std::io::{self, ErrorKind};
 
-/// Tells why what is named so can't be opened: `NAME can't be opened: REASON`. Answers `Memory`
-/// where memory was refused, also for this line, which is `out of memory` then; else `Device`.
+/// Reports why something can't be opened: `NAME can't be opened: REASON`. Returns `Memory` if
+/// memory was refused, even for this line, which is `out of memory` then; otherwise `Device`.
 ///
 /// # Not specified
 /// - The reason in the line.

@@ -8,14 +8,14 @@ use crate::exit::Exit;
 use crate::fault::Fault;
 use bw_stream::{IoFailed, Sink, write_all};
 
-/// Writes the whole text, and passes on what the writer held back of it.
+/// Writes the whole text, and flushes the writer.
 ///
 /// # Errors
-/// `IoFailed` where the writer failed: it has a beginning of the text, which may be all of it where
-/// passing it on failed.
+/// `IoFailed` if the writer failed: it has a prefix of the text, which may be all of it if the
+/// flush failed.
 ///
 /// # Not specified
-/// After an error, how many bytes were written, where the writer doesn't report them.
+/// After an error, how many bytes were written, if the writer doesn't report them.
 pub fn print<W: Sink>(out: &mut W, text: &[u8]) -> Result<(), IoFailed>
     ensures ok { OnOk result (HasPrinted W.Sink text.now out.old out.new) }
     ensures err { OnErr result (HasStopped W.Sink text.now out.old out.new) }
@@ -24,7 +24,7 @@ pub fn print<W: Sink>(out: &mut W, text: &[u8]) -> Result<(), IoFailed>
     out.flush()
 }
 
-/// Writes the text of a fault. That it can't be written changes nothing.
+/// Writes the text of a fault. A failure to write it is ignored.
 ///
 /// # Not specified
 /// Whether the text was written: only the writer's count of failures shows it.
@@ -34,10 +34,10 @@ pub fn print_diagnostic<E: Sink>(faults: &mut E, text: &[u8])
     let _ = print(faults, text);
 }
 
-/// Writes the line of a fault, and answers how the program ends on it.
+/// Writes the line of a fault, and returns how the program ends after it.
 ///
 /// # Not specified
-/// By the answer, whether the text was written: only the writer's count of failures shows it.
+/// From the result, whether the text was written: only the writer's count of failures shows it.
 pub fn give_up<E: Sink>(faults: &mut E, fault: &Fault) -> Exit
     ensures exit { result ≡ exit_on fault.now }
     ensures line { (print : Print) × IsOf (as_line (input_fault_text fault.now)) print

@@ -47,7 +47,7 @@ begins-before a b p q f xs e =
       stands = x.stands;
     }
 
--- some bytes were written, and a beginning of those after them
+-- some bytes were written, and a prefix of those after them
 pub begins-after : (a b c : Option (List ℕ)) (p q : List ℕ) → Writes a p b → Begins b q c → Begins a (p ++ q) c
 begins-after a b c p q f g xs e =
     let x = g (xs ++ p) (f xs e) in
@@ -104,7 +104,7 @@ pub record SentTo (place : ℕ) (s : Defined) (written written' : Option (List �
 pub sent-none : (s : Defined) (w : Option (List ℕ)) → SentTo 0 s w w
 sent-none s w = record { sent = []; all = refl; prefix = record { each = refl; taken = writes-none w } }
 
--- a message stands before the others
+-- a message before the others
 one_message : (s : Defined) (place : ℕ) (p : ℕ × Request) → slice_get (waiting s) place ≡ Some p →
     messages_from s place ≡ said s.name p.0 p.1 ∷ messages_from s (place + 1)
 one_message s place p e =
@@ -144,7 +144,7 @@ sent-more place s name w w' w'' p same e f fits taken =
           (subst (λ (x : List ℕ). Writes w' (framed (body (said x p.0 p.1))) w'') same taken);
     }
 
--- a beginning of one more
+-- a prefix of one more
 sent-part : (place : ℕ) (s : Defined) (name : List ℕ) (w w' w'' : Option (List ℕ)) (p : ℕ × Request) →
     name ≡ s.name → slice_get (waiting s) place ≡ Some p → SentTo place s w w' →
     Begins w' (framed (body (said name p.0 p.1))) w'' → Begins w (frames_bytes (pending_messages s)) w''
@@ -234,7 +234,7 @@ batch_sent (Ok x) s a b c f g = record {
   };
 }
 
--- the messages were written, and a beginning of that frame
+-- the messages were written, and a prefix of that frame
 pub batch_begun : (r : Result (Unit {0}) SendFault) (s : Defined) (a b c : Option (List ℕ)) →
     WritesMessages (pending_messages s) a b → OnErr r (Begins b bye_frame c) →
     IfErr r (λ fault. fault ≡ faults.Write) → IfErr r (λ fault. BreaksBytes fault s (batch_bytes s) a c)

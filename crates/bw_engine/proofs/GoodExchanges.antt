@@ -48,7 +48,7 @@ frames_answered (x ∷ went) h short =
     (sym (ap (λ (s : List Frame × End). s.0) one.whole.stream))
     ∙ ap (λ (fs : List Frame). (stream_of Second x.input).0 ++ fs) (frames_answered went h.1 short.1)
 
--- where what was written reports no failure, no reply did
+-- if what was written reports no failure, no reply did
 pub none_wanted : (went : List ServedInput) → AllByRecursion WasServed went →
     AllByRecursion IsShort (map (λ x. x.input) went) → AllByRecursion ReportsNoFailure (map (λ x. x.written) went) →
     list_any reports_failure (replies_of (answered_in went)) ≡ false

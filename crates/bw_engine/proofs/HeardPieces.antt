@@ -59,7 +59,7 @@ hears-on x y z p q r f g = record {
       (g.gives fed (before ++ f.heard) (f.gives fed before d));
 }
 
--- what an answer tells whose value is known
+-- what a known answer reports
 pub as_reported : {a b : Option Answer} {t : Reported Reply} → a ≡ b → reported_as reply_of (Ok a) ≡ t →
     reported_as reply_of (Ok b) ≡ t
 as_reported same reported = ap (λ (o : Option Answer). reported_as reply_of (Ok o)) (sym same) ∙ reported
@@ -121,7 +121,7 @@ no_room left left' count most buf reads within long some fits =
 
 -- ---- so far
 
--- so far a sender and a reader were used so, by so many reads
+-- so far a sender and a reader were used so, by this many reads
 pub record HeardSoFar (reads : ℕ) (x y : Sender) (left left' : Option (List ℕ)) (p : Pending) : Type 0 where
   pub input : List ℕ
   pub given : HasGiven left input left'
@@ -177,7 +177,7 @@ heard-more reads x y z left left' left'' moved moved' p q r f n g quiet =
 
 -- ---- the end
 
--- more bytes stand after the others
+-- more bytes after the others
 spelled-more : (bytes rest more : List ℕ) (rs : List Reply) → Spelled Reply reply_codec bytes rs rest →
     Spelled Reply reply_codec (bytes ++ more) rs (rest ++ more)
 spelled-more bytes rest more rs f = record {
@@ -287,7 +287,7 @@ some_bad [] reason e other = absurd (other (one_fault (first_reply []) e no_byte
     one_fault (Err why) a b = cc
 some_bad (b ∷ rest) reason e other = omega arith
 
--- after the replies of a piece stands what is none
+-- after the replies of a piece comes what is none
 pub bad_reply : (reads : ℕ) (x y z : Sender) (left left' left'' : Option (List ℕ)) (moved moved' : ℕ)
     (p q r : Pending) → HeardSoFar reads x y left left' p → FeedsReplies left' left'' moved moved' p q →
     HearsMore y z q r → ReportsFault r → Hears (Err faults.BadReply) x z left left''
@@ -324,7 +324,7 @@ bad_reply reads x y z left left' left'' moved moved' p q r f n g reported =
       };
     }
 
--- where a reader has none left, what was read is all that it had
+-- if a reader has none left, what was read is all that it had
 all_read : (left left' left'' : Option (List ℕ)) (p q : Pending) (input xs : List ℕ) → HasGiven left input left' →
     EndsReplies left' left'' p q → left ≡ Some xs → input ≡ xs
 all_read left left' left'' p q input xs given n e =
@@ -413,7 +413,7 @@ has_ended moved moved' false e n = n
 
 -- ---- counts
 
--- where no piece was read, no limit was reached
+-- if no piece was read, no limit was reached
 pub unlimited : (fault : SendFault) (left left' : Option (List ℕ)) → StopsHearing fault left left' → (m m' c c' : ℕ) →
     IsHearingLimited (Err fault) m m' c c'
 unlimited faults.Read left left' stops m m' c c' = tt

@@ -92,7 +92,7 @@ module _ {T : Type 0} (answers : T → Frame → List Reply → T → Type 0) wh
     };
   }
 
-  -- the next whole, but what it told is lost
+  -- the next whole, but its replies are lost
   pub inputs-whole : (old mid new : T) (inputs : List (List ℕ)) (reported : Reported) (input bytes : List ℕ)
       (end : ExchangeEnd) (left : List (List ℕ)) → ServesInputs answers old mid inputs reported →
       ServesInput answers mid new input bytes end → ServesInPart answers old new (inputs ++ input ∷ left)

@@ -1,4 +1,4 @@
--- What a framer of replies was fed, what it gave, and what it tells next.
+-- What a framer of replies was fed, what it gave, and what it reports next.
 use Rattle.std.proofs.Common.{◌≡◌, ℕ, ◌+◌, ◌<◌, List, [], ◌∷◌, ◌++◌, length, Result, Ok, Err}
 use Rattle.std.proofs.Common.{refl, sym, ap, subst, ◌∙◌, arith, inl, inr}
 use Rattle.std.specs.Prelude.{IsTrue}
@@ -22,7 +22,7 @@ use Rattle.bw_engine.specs.Hears.{GaveReplies}
 use Rattle.bw_exchange.proofs.Doing.{run_more, fed_in-more}
 use Rattle.bw_exchange.proofs.Lawful.{with_piece-fed}
 
--- what a framer tells, and what it then keeps
+-- what a framer reports, and what it then keeps
 abbrev Answer : Type 0
 Answer = Reported Reply × Pending
 

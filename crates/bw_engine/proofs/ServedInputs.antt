@@ -25,7 +25,7 @@ both_spelled answered end all last =
     list_all-append is_reply (replies_of answered) (last_reply end)
     ∙ and_from (list_all is_reply (replies_of answered)) (list_all is_reply (last_reply end)) all last
 
--- it was served to the end that it told
+-- it was served to the end that it reported
 was_served : (end : ExchangeEnd) (input fed rest output : List ℕ) (left left' : Option (List ℕ))
     (answered : List Answered) → are_bytes input ≡ true → fed ++ rest ≡ input → left ≡ Some input →
     list_all is_reply (replies_of answered) ≡ true →

@@ -46,8 +46,8 @@ rises before after true c = go (nat_lt before last_count) refl
           some = λ _ below. absurd (omega (arith, below, past));
         }
 
--- one of all replies tells of a failed call: one of the first frame's, where a call failed, or one of
--- the others'
+-- one of all replies reports a failed call: one of the first frame's, where a call failed, or one
+-- of the others'
 delays_first : (first rest : List Reply) (failed : Bool) (before mid after : ℕ) → Rises before mid failed →
     mid ≤ after → (list_any is_delayed first ≡ true → failed ≡ true) →
     (mid < last_count → list_any is_delayed rest ≡ true → mid < after) → before < last_count →

@@ -125,7 +125,7 @@ module _ {X : Type 0} (S : StoreGhosts X) where
     leaves = λ honest. leaves_nothing limit store honest;
   }
 
-  -- what is in order goes as the definitions' exchanges go
+  -- inputs in order are served as the definitions' exchanges
   pub ingests_well : {Y : Type 0} (J : JournalGhosts Y) (limit : ℕ) (before : X) (inputs : List (List ℕ)) (run : Run X) →
       Ingests S J limit before inputs run → IsTrue (S.honest before) →
       GoWell inputs (input_bytes run.replies.items) → RunsAsDefined S limit before inputs run

@@ -55,7 +55,7 @@ BreaksBytes faults.Memory s bytes written written' = LacksMemoryToSend s written
 BreaksBytes faults.BadReply s bytes written written' = ⊥
 BreaksBytes faults.TurnLimit s bytes written written' = ⊥
 
--- what is written of a frame that breaks off: nothing where memory was refused
+-- what is written of a frame that breaks off: nothing if memory was refused
 abbrev pub BreaksFrame : SendFault → List ℕ → Option (List ℕ) → Option (List ℕ) → Type 0
 BreaksFrame faults.Read frame written written' = ⊥
 BreaksFrame faults.Write frame written written' = Begins written frame written'
@@ -63,7 +63,7 @@ BreaksFrame faults.Memory frame written written' = Keeps written written'
 BreaksFrame faults.BadReply frame written written' = ⊥
 BreaksFrame faults.TurnLimit frame written written' = ⊥
 
--- a batch breaks off only where the writer failed or memory was refused
+-- a batch breaks off only if the writer failed or memory was refused
 abbrev pub BreaksBatch : SendFault → Type 0
 BreaksBatch faults.Read = ⊥
 BreaksBatch faults.Write = Unit {0}
@@ -71,7 +71,7 @@ BreaksBatch faults.Memory = Unit {0}
 BreaksBatch faults.BadReply = ⊥
 BreaksBatch faults.TurnLimit = ⊥
 
--- the count of a writer's failures: one more exactly where the exchange broke off by one
+-- the count of a writer's failures: one more exactly if the exchange broke off by one
 abbrev pub sends_failed : Result (Unit {0}) SendFault → ℕ → ℕ
 sends_failed (Ok x) n = n
 sends_failed (Err faults.Read) n = n

@@ -46,7 +46,7 @@ pub record HearsToTheEnd (left left' : Option (List ℕ)) (input : List ℕ) (he
   -- so is all that the reader had
   pub all : (xs : List ℕ) → left ≡ Some xs → IsHeardWhole xs heard
 
--- after the replies stands what is none: bad bytes, or the prefix of a reply at the input's end
+-- after the replies comes what is none: bad bytes, or the prefix of a reply at the input's end
 pub record FindsBadReply (left left' : Option (List ℕ)) (input : List ℕ) (heard : List Reply)
     : Type 0 where
   pub reason : Reason
@@ -54,9 +54,9 @@ pub record FindsBadReply (left left' : Option (List ℕ)) (input : List ℕ) (he
   pub spelled : Spelled Reply reply_codec input heard rest
   pub some : 1 ≤ length rest
   pub bad : first_reply rest ≡ Err reason
-  -- nothing is left where only the input's end tells it
+  -- nothing is left if only the input's end shows it
   pub drained : (reason ≢ Cut) ⊎ HasNoneLeft left left'
-  -- so it is with all that the reader had
+  -- the same holds for all that the reader had
   pub all : (xs : List ℕ) → left ≡ Some xs → IsHeardUpTo reason xs heard
 
 -- memory was refused before anything was read: nothing is heard
@@ -109,7 +109,7 @@ pub record Hears (result : Result (Unit {0}) SendFault) (x y : Sender)
   pub counted : CountsAll heard x y
   pub by_end : HearsBy result left left' input heard
 
--- the count of a reader's failures: one more exactly where the exchange broke off by one
+-- the count of a reader's failures: one more exactly if the exchange broke off by one
 abbrev pub hears_failed : Result (Unit {0}) SendFault → ℕ → ℕ
 hears_failed (Ok x) n = n
 hears_failed (Err faults.Read) n = one_more n
@@ -118,8 +118,8 @@ hears_failed (Err faults.Memory) n = n
 hears_failed (Err faults.BadReply) n = n
 hears_failed (Err faults.TurnLimit) n = n
 
--- the limit of reads is reported only where a reader has counted so many bytes more, and so many calls
--- more, or as many as it can count
+-- the limit of reads is reported only if a reader has counted 2^32 more bytes and 2^32 more calls,
+-- or as many as it can count
 abbrev pub IsHearingLimited : Result (Unit {0}) SendFault → ℕ → ℕ → ℕ → ℕ → Type 0
 IsHearingLimited (Ok x) moved moved' calls calls' = Unit {0}
 IsHearingLimited (Err faults.Read) moved moved' calls calls' = Unit {0}
@@ -147,7 +147,7 @@ pub record HearsMore (x y : Sender) (p q : Pending) : Type 0 where
   pub gives : (fed : List ℕ) (before : List Reply) → GaveReplies fed before p →
       GaveReplies fed (before ++ heard) q
 
--- a framer tells a fault
+-- a framer reports a fault
 abbrev pub ReportsFault : Pending → Type 0
 ReportsFault p = (reason : Reason) × (offset : ℕ)
     × ((next_of reply_codec p).0 ≡ Fails reason offset)

@@ -32,7 +32,7 @@ use Rattle.bw_engine.specs.declared.ingest.Reported.{Reported}
 use Rattle.bw_exchange.specs.declared.serving.ExchangeEnd.{ExchangeEnd}
 use Rattle.bw_exchange.specs.declared.serving.ExchangeEnd.TheVariants as ends
 
--- an exchange's end in the definitions' words, where its bytes tell it
+-- an exchange's end in the definitions' words, if its bytes show it
 abbrev pub ingested_end : ExchangeEnd → Option End
 ingested_end ends.Bye = Some SaidBye
 ingested_end ends.EndOfInput = Some EndOfInput
@@ -56,7 +56,7 @@ pub record IsServedWhole (x : ServedInput) (end : End) : Type 0 where
   -- each of which has a spelling
   pub spelled : IsTrue (list_all is_reply (replies_of x.answered ++ last_reply end))
 
--- So many reads were not enough for its bytes: all whole frames of what was read were answered, and
+-- 2^32 reads were not enough for its bytes: all whole frames of what was read were answered, and
 -- the replies written.
 pub record IsCutOff (x : ServedInput) : Type 0 where
   pub end_is : x.end ≡ ends.TurnLimit
@@ -69,12 +69,12 @@ pub record IsCutOff (x : ServedInput) : Type 0 where
   pub spelled : IsTrue (list_all is_reply (replies_of x.answered))
   pub first : AreFirstOf (answered_frames x.answered) x.input
 
--- it was served to the end that its bytes tell, or was cut off
+-- it was served to the end that its bytes show, or was cut off
 abbrev pub IsServedTo : Option End → ServedInput → Type 0
 IsServedTo (Some end) x = IsServedWhole x end
 IsServedTo None x = IsCutOff x
 
--- .. as its end says
+-- as its end says
 abbrev pub WasServed : ServedInput → Type 0
 WasServed x = IsServedTo (ingested_end x.end) x
 
@@ -141,7 +141,7 @@ module _ {T : Type 0} (answers : T → Frame → List Reply → T → Type 0) (o
 module _ {X : Type 0} (S : StoreGhosts X) (limit : ℕ) (before : X) where
   -- These frames were answered in a run from the empty book, beside the store's count of failures,
   -- and the store is as a server leaves it that holds the book after them: each name that is
-  -- closed, or of which nothing waits, has its take's file, or what stood there before.
+  -- closed, or of which nothing waits, has its take's file, or what was there before.
   pub record LeavesRun (answered : List Answered) (after : X) : Type 0 where
     pub book : Book
     pub run : IsRun (λ name. is_some (S.contents before name)) (failed_calls (S.failures before) 0)
@@ -204,7 +204,7 @@ module _ {X Y : Type 0} (S : StoreGhosts X) (J : JournalGhosts Y) (limit : ℕ) 
 abbrev pub IsShort : List ℕ → Type 0
 IsShort input = length input < most_reads
 
--- these bytes spell no reply that tells a want
+-- these bytes spell no reply that reports a failure
 abbrev pub ReportsNoFailure : List ℕ → Type 0
 ReportsNoFailure written = (replies : List Reply) → IsTrue (list_all is_reply replies) →
     written ≡ replies_bytes replies → IsFalse (list_any reports_failure replies)

@@ -13,7 +13,7 @@ use Rattle.bw_engine.specs.Hears.{Hears, hears_failed, IsHearingLimited}
 use Rattle.bw_exchange.specs.Served.{most_reads}
 
 -- how an exchange ends whose batch broke off at a write, by how its hearing did: lack of memory
--- goes before
+-- takes precedence
 abbrev pub after_write : Result (Unit {0}) SendFault → Result (Unit {0}) SendFault
 after_write (Err faults.Memory) = Err faults.Memory
 after_write hearing = Err faults.Write
@@ -36,7 +36,7 @@ module _ {R W : Type 0} (reader : Reader R) (writer : Writer W) where
     pub counted : writer.failures w' ≡ writer.failures w
     pub over : HearsOver result x y r r'
 
-  -- the writer failed after a beginning of the batch, and what came back of it was heard
+  -- the writer failed after a prefix of the batch, and what came back of it was heard
   pub record BreaksAndHears (result : Result (Unit {0}) SendFault) (x y : Sender) (r r' : R)
       (w w' : W) : Type 0 where
     pub cut : (s : Defined) → IsSender s x →
@@ -46,7 +46,7 @@ module _ {R W : Type 0} (reader : Reader R) (writer : Writer W) where
     pub over : HearsOver hearing x y r r'
     pub ends : result ≡ after_write hearing
 
-  -- memory was wanted for the batch: nothing was read, and nothing heard
+  -- memory was refused for the batch: nothing was read, and nothing heard
   pub record LacksBatch (result : Result (Unit {0}) SendFault) (x y : Sender) (r r' : R)
       (w w' : W) : Type 0 where
     pub ends : result ≡ Err faults.Memory

@@ -17,8 +17,8 @@ abbrev pub all_done : Book → ℕ
 all_done book = sum_by (λ entry. entry.1.done) book
 
 module _ {X Y : Type 0} (S : StoreGhosts X) (J : JournalGhosts Y) where
-  -- The frames are answered in a run from this book on; the server holds the later one, and an
-  -- honest journal that had what the book says has what the later one says.
+  -- The frames are answered in a run from this book; the server holds the later one, and an honest
+  -- journal that had what the book says has what the later one says.
   pub record RunsOn (first : List ℕ → Option (List ℕ)) (old new : Server X Y S J) (book : Book)
       (answered : List Answered) : Type 0 where
     pub later : Book
@@ -34,7 +34,7 @@ module _ {X Y : Type 0} (S : StoreGhosts X) (J : JournalGhosts Y) where
         NotesBook S J first new later
 
   -- A server may answer these frames so. Over any store and journal its limit stays, these are as
-  -- honest as they were, each frame has few replies, and none tells of a failed call unless one was
+  -- honest as they were, each frame has few replies, and none reports a failed call unless one was
   -- counted; over an honest store it is a run from every book that the server holds.
   pub record ServerRun (old : Server X Y S J) (answered : List Answered)
       (new : Server X Y S J) : Type 0 where
@@ -50,7 +50,7 @@ module _ {X Y : Type 0} (S : StoreGhosts X) (J : JournalGhosts Y) where
     pub runs : IsTrue (S.honest old.stores.store) → (first : List ℕ → Option (List ℕ))
         (book : Book) → HoldsBook S J first old book → RunsOn first old new book answered
 
-  -- What a server answers, one frame after another, is such a run.
+  -- The answers of a server, one frame after another, are such a run.
   abbrev pub ServersAnswerInRuns : Type 0
   ServersAnswerInRuns = (old new : Server X Y S J) (answered : List Answered) →
       AnswersAll (ServerTurn S J) old answered new → ServerRun old answered new

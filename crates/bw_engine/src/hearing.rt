@@ -1,4 +1,4 @@
-//! The replies of one exchange, heard by a sender.
+//! The replies of one exchange, received by a sender.
 ghost use Rattle.std.specs.Prelude.{◌≡◌, ◌+◌, ◌≤◌, ◌<◌, length, true, false, None, is_some};
 ghost use Rattle.std.specs.Prelude.{IsTrue, IfOk, IfErr, OnOk, OnErr, Err};
 ghost use Rattle.bw_model.specs.Wire.{are_bytes};
@@ -21,14 +21,14 @@ use std::alloc::{AllocError, Global};
 /// Reads replies to the input's end, and has each counted before the next is taken.
 ///
 /// # Errors
-/// `Read` where the reader failed; `BadReply` where bytes are no reply's frame, or the input ended
-/// inside one; `TurnLimit` after 2^32 reads, of 2^32 bytes or more; `Memory` where memory was
-/// refused. The replies that were heard before count.
+/// `Read` if the reader failed; `BadReply` if bytes are no reply's frame, or the input ended inside
+/// one; `TurnLimit` after 2^32 reads, of 2^32 bytes or more; `Memory` if memory was refused. The
+/// replies received before are counted.
 ///
 /// # Not specified
 /// - When memory is refused.
-/// - Where the bad reply stands in the stream, and its reason.
-/// - How many bytes the reader counted, but at `TurnLimit`.
+/// - Where the bad reply is in the stream, and its reason.
+/// - How many bytes the reader counted, except at `TurnLimit`.
 pub fn hear_replies<R: Source>(
     alloc: Global,
     sender: &mut Sender,
@@ -53,7 +53,7 @@ pub fn hear_replies<R: Source>(
     Err(SendFault::TurnLimit)
 }
 
-/// Reads the next piece and feeds it. Whether there was one: else the input has ended.
+/// Reads the next piece and feeds it. Returns whether there was one; if not, the input has ended.
 ///
 /// # Errors
 /// `Read` and `Memory`.
@@ -88,7 +88,7 @@ fn read_piece<R: Source>(
 /// Feeds a piece.
 ///
 /// # Errors
-/// `AllocError` where memory was refused.
+/// `AllocError` if memory was refused.
 fn feed_piece(framer: &mut ReplyFramer, piece: &[u8]) -> Result<(), AllocError>
     requires room { framer.old.fed + length piece.now ≤ longest_stream }
     ensures bytes { IsTrue (are_bytes piece.now) }
@@ -100,7 +100,7 @@ fn feed_piece(framer: &mut ReplyFramer, piece: &[u8]) -> Result<(), AllocError>
 /// Takes out all whole replies, one by one, and has them counted.
 ///
 /// # Errors
-/// `BadReply` where what follows them is none.
+/// `BadReply` if what follows them is no reply.
 fn hear_held(sender: &mut Sender, framer: &mut ReplyFramer) -> Result<(), SendFault>
     ensures hears { HearsMore sender.old sender.new framer.old framer.new }
     ensures none { OnOk result ((next_of reply_codec framer.new).0 ≡ Nothing) }
@@ -111,10 +111,10 @@ fn hear_held(sender: &mut Sender, framer: &mut ReplyFramer) -> Result<(), SendFa
     Ok(())
 }
 
-/// Takes out the next reply, and has it counted. Whether there was one.
+/// Takes out the next reply, and has it counted. Returns whether there was one.
 ///
 /// # Errors
-/// `BadReply` where it is none.
+/// `BadReply` if what is next is no reply.
 fn hear_next(sender: &mut Sender, framer: &mut ReplyFramer) -> Result<bool, SendFault>
     ensures hears { HearsMore sender.old sender.new framer.old framer.new }
     ensures some { IfOk result (λ some. some ≡ true →
@@ -137,7 +137,7 @@ fn hear_next(sender: &mut Sender, framer: &mut ReplyFramer) -> Result<bool, Send
 /// Whether the input may end here.
 ///
 /// # Errors
-/// `BadReply` where it may not.
+/// `BadReply` if it may not.
 fn end_of_input(framer: &ReplyFramer) -> Result<(), SendFault>
     ensures ok { OnOk result (end_fault framer.now ≡ None) }
     ensures bad { OnErr result (is_some (end_fault framer.now) ≡ true) }

@@ -26,7 +26,7 @@ pub struct Run<S: TakeStore> {
 
 /// Why a run stopped.
 ///
-/// No clause says what its text is.
+/// No clause describes its text.
 #[derive(Clone, Copy, Debug, PartialEq, Eq, Hash, Error)]
 pub enum RunFault {
     /// Memory was refused.
@@ -35,7 +35,7 @@ pub enum RunFault {
 }
 
 impl RunFault {
-    /// Its number.
+    /// Its number, 1.
     pub fn code(self) -> u8
         ensures { result ≡ 1 }
     {
@@ -61,25 +61,25 @@ impl<T: Drop> From<AllocFailed<T>> for RunFault {
     }
 }
 
-/// What the exchanges told.
+/// What the exchanges reported.
 #[derive(Drop)]
 struct Reported {
     replies: Vec<Vec<u8>>,
     ends: Vec<ExchangeEnd>,
 }
 
-/// Serves each input as an exchange, one after another, from an empty server over the store on.
+/// Serves each input as an exchange, one after another, starting with an empty server over the
+/// store.
 ///
-/// Whatever store it is, it comes back from the server that took it, and was asked only what the
-/// turns ask.
+/// Any store comes back from the server that took it, and was asked only what the turns ask.
 ///
 /// # Errors
-/// `Memory`, with the store, where memory was refused: the inputs before were served, and first
+/// `Memory`, with the store, if memory was refused: some of the inputs were served, and some first
 /// frames of the next. Their replies are lost.
 ///
 /// # Not specified
 /// - When memory is refused, and at which input.
-/// - What a store that isn't honest has afterwards.
+/// - What a dishonest store has afterwards.
 pub fn ingest_run<S: TakeStore>(
     alloc: Global,
     store: S,
@@ -117,7 +117,7 @@ pub fn ingest_run<S: TakeStore>(
 /// Serves each input as an exchange.
 ///
 /// # Errors
-/// `Memory` where memory was refused.
+/// `Memory` if memory was refused.
 fn serve_inputs<T: Turns>(
     alloc: Global,
     server: &mut T,
@@ -143,7 +143,7 @@ fn serve_inputs<T: Turns>(
 /// Serves an input as an exchange.
 ///
 /// # Errors
-/// `Memory` where memory was refused.
+/// `Memory` if memory was refused.
 fn serve_input<T: Turns>(
     alloc: Global,
     server: &mut T,

@@ -18,7 +18,7 @@ pub enum SendFault {
 }
 
 impl SendFault {
-    /// Its number.
+    /// Its number, 1 to 5.
     pub fn code(self) -> u8
         ensures value { result ≡ send_fault_number self }
         ensures range { result ≤ 5 }

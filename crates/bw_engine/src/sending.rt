@@ -1,4 +1,4 @@
-//! The recorder's side of one exchange: what is sent, and then what is heard.
+//! The recorder's side of one exchange: what is sent, and then what is received.
 ghost use Rattle.std.specs.Prelude.{◌≡◌, ◌≤◌, IsTrue, IfErr, OnOk, OnErr};
 ghost use Rattle.bw_model.specs.Wire.{Second, last_number, is_frame, body, framed};
 ghost use Rattle.bw_model.specs.Stream.{frames_bytes};
@@ -19,19 +19,18 @@ use bw_stream::{Sink, Source, write_all};
 use bw_wire::encode;
 use std::alloc::Global;
 
-/// At most so many requests have no verdict: as many as a sender's window holds.
+/// The most requests without a verdict: as many as a sender's window holds.
 const MOST_PENDING: usize = 16;
 
 /// The frame that ends an exchange.
 const BYE: [u8; 5] = [1, 0, 0, 0, 9];
 
-/// Writes the messages that have no verdict, in the order of their numbers, and that it ends.
+/// Writes the messages that have no verdict, in the order of their numbers, and then `Bye`.
 ///
-/// Each frame is written and let go before the next is made. Bytes that the writer holds back
-/// aren't flushed.
+/// Each frame is written and dropped before the next is made. The writer isn't flushed.
 ///
 /// # Errors
-/// `Write`: a beginning of the frames was written. `Memory`: whole frames of the first messages.
+/// `Write`: a prefix of the frames was written. `Memory`: whole frames of the first messages.
 ///
 /// # Not specified
 /// - When memory is refused, and after how many messages.
@@ -51,7 +50,7 @@ pub fn send_batch<W: Sink>(alloc: Global, sender: &Sender, writer: &mut W) -> Re
 /// Writes the messages that have no verdict, in the order of their numbers.
 ///
 /// # Errors
-/// `Write`: a beginning of their frames was written. `Memory`: whole frames of the first of them.
+/// `Write`: a prefix of their frames was written. `Memory`: whole frames of the first of them.
 fn send_pending<W: Sink>(alloc: Global, sender: &Sender, writer: &mut W) -> Result<(), SendFault>
     ensures ok { (s : Defined) → IsSender s sender.now → OnOk result
         (WritesMessages (pending_messages s) (W.written writer.old) (W.written writer.new)) }
@@ -73,7 +72,7 @@ fn send_pending<W: Sink>(alloc: Global, sender: &Sender, writer: &mut W) -> Resu
 /// Writes a request's message.
 ///
 /// # Errors
-/// `Write`: a beginning of its frame was written. `Memory`: nothing.
+/// `Write`: a prefix of its frame was written. `Memory`: nothing.
 fn send_message<W: Sink>(
     alloc: Global,
     name: &Name,
@@ -100,7 +99,7 @@ fn send_message<W: Sink>(
 /// Writes a whole frame.
 ///
 /// # Errors
-/// `Write`: a beginning of it was written.
+/// `Write`: a prefix of it was written.
 fn write_frame<W: Sink>(writer: &mut W, frame: &[u8]) -> Result<(), SendFault>
     ensures ok { OnOk result (Writes (W.written writer.old) frame.now (W.written writer.new)) }
     ensures err { OnErr result (Begins (W.written writer.old) frame.now (W.written writer.new)) }
@@ -113,19 +112,19 @@ fn write_frame<W: Sink>(writer: &mut W, frame: &[u8]) -> Result<(), SendFault>
     }
 }
 
-/// One exchange of a recorder: what has no verdict is sent, and then the replies are heard.
+/// One exchange of a recorder: what has no verdict is sent, and then the replies are received.
 ///
-/// Where the writer fails, the replies are heard all the same: what came through before has its
-/// verdicts, and over a link that breaks again and again nothing else would ever be settled.
+/// If the writer fails, the replies are still received: what came through before has its verdicts,
+/// and over a link that breaks again and again nothing would ever be settled otherwise.
 ///
 /// # Errors
-/// Why it broke off. What was heard is counted. `Memory` goes before `Write`; where the batch wants
-/// it, nothing is read.
+/// Why it broke off. Received replies are counted. `Memory` takes precedence over `Write`; if
+/// memory was refused for the batch, nothing is read.
 ///
 /// # Not specified
 /// - When memory is refused.
-/// - By the answer, whether anything was sent or heard before: only reader and sender show it.
-/// - Whether `Write` hides how the hearing ended: `BadReply`, `Read` and `TurnLimit` after a failed
+/// - From the result, whether anything was sent or received before: only reader and sender show it.
+/// - Whether `Write` hides how receiving ended: `BadReply`, `Read` and `TurnLimit` after a failed
 ///   write are returned as `Write`.
 pub fn send_exchange<R: Source, W: Sink>(
     alloc: Global,

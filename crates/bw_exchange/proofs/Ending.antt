@@ -165,7 +165,7 @@ write_failed answers reads s mid later left left' left'' w w' w'' moved moved' a
       by_end = reported.1;
     }
 
--- too often was read
+-- the limit of reads was reached
 pub limit_reached : {S : Type 0} (answers : S → Frame → List Reply → S → Type 0) (reads : ℕ) (s later : S)
     (left left' w w' : Option (List ℕ)) (e : Exchange) → SoFar answers reads s later left left' w w' e →
     most_reads ≤ reads → Serves answers ends.TurnLimit s later left left' w w'
@@ -256,7 +256,7 @@ stream_ended answers reads s mid later left left' left'' w w' w'' moved moved' a
 
 -- ---- counts
 
--- where no piece was read, no write failed, and no limit was reached
+-- if no piece was read, no write failed, and no limit was reached
 pub stopped_counts : (end : ExchangeEnd) (left left' : Option (List ℕ)) → StopsReading end left left' →
     (n m m' c c' : ℕ) → (n ≡ writes_failed end n) × IsLimited end m m' c c'
 stopped_counts ends.Bye left left' stops n m m' c c' = absurd stops
@@ -267,7 +267,7 @@ stopped_counts ends.TurnLimit left left' stops n m m' c c' = absurd stops
 stopped_counts ends.ReadFault left left' stops n m m' c c' = (refl, tt)
 stopped_counts ends.Memory left left' stops n m m' c c' = (refl, tt)
 
--- where the stream ended, no call failed
+-- if the stream ended, no call failed
 pub ended_counts : (end : StreamEnd) (n m m' c c' : ℕ) →
     (n ≡ reads_failed (ended_by end) n) × (n ≡ writes_failed (ended_by end) n) × IsLimited (ended_by end) m m' c c'
 ended_counts streams.Bye n m m' c c' = (refl, refl, tt)

@@ -26,7 +26,7 @@ pub none_so_far : (e : Option StreamEnd) → is_some e ≡ false → end_so_far 
 none_so_far None h = refl
 none_so_far (Some end) h = absurd cc
 
--- a framer that told an end is left so that it tells it
+-- a framer that has reported an end reports it again
 reports : (end : StreamEnd) (p q : Pending) → ReportsEnd end (next_of message_codec p).0 → q ≡ (next_of message_codec p).1
     → EndsSo (end_meaning end) q
 reports ends.Bye p q t same = stays p q (Gives Bye) t same tt
@@ -40,7 +40,7 @@ no_turns ends.Bye t e = ap (given_by message_codec) e
 no_turns ends.EndOfInput t e = absurd e
 no_turns (ends.BadFrame fault) t e = ap (given_by message_codec) e
 
--- the framer told the end
+-- the framer reported the end
 pub done_end : (fed : List ℕ) (xs : List Answered) (gone : List ℕ) (p : Pending) (w : List ℕ) (e : Option StreamEnd)
     (end : StreamEnd) (new : List ℕ) (q : Pending) → is_some e ≡ false → ReportsEnd end (next_of message_codec p).0 →
     q ≡ (next_of message_codec p).1 → new ≡ w ++ replies_bytes (last_reply (end_meaning end)) →

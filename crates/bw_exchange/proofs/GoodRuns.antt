@@ -33,7 +33,7 @@ turns_are_runs existed before after book later (a ∷ rest) h =
       left = ap (λ (b : Book). book_after existed b more.received) t.left ∙ more.left;
     }
 
--- Faults that is reported of, or leaves something pending.
+-- Faults that are reported, or leave something pending.
 
 not_refused : (book : Book) (f : Frame) (replies : List Reply) → IsWithoutRoom book f replies →
     list_any reports_failure replies ≡ false → true ≡ false
@@ -105,14 +105,14 @@ order-last before (g ∷ frames) f h next = (
       (subst (λ (fs : List Frame). IsNextOrReceived fs f) (sym (append_assoc before (g ∷ []) frames)) next),
 )
 
--- what came so far, in order and with no want told
+-- what came so far, in order and with no failure reported
 record SoFar (existed : List ℕ → Bool) (received : List (Frame × Faults)) (frames : List Frame) (book : Book) : Type 0 where
   frames_are : map (λ t. t.0) received ≡ frames
   left : book_after existed [] received ≡ book
   near : AreInOrder [] frames
   well : list_any lacks (run existed [] received) ≡ false
 
--- .. and one turn more
+-- and one turn more
 one_more : (existed : List ℕ → Bool) (received : List (Frame × Faults)) (frames : List Frame) (book : Book) (f : Frame)
     (faults : Faults) → SoFar existed received frames book → IsNextOrReceived frames f →
     list_any reports_failure (turn existed book f faults).0 ≡ false →
@@ -166,7 +166,7 @@ goes_well existed before after received frames book (a ∷ rest) later so h near
       more.1,
     )
 
--- .. from the empty book on
+-- from the empty book
 pub in_order_well : (existed : List ℕ → Bool) (before after : ℕ) (answered : List Answered) (later : Book) →
     IsRun existed before after [] answered later → AreInOrder [] (answered_frames answered) →
     list_any reports_failure (replies_of answered) ≡ false →

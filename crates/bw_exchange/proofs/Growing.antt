@@ -1,4 +1,5 @@
--- What more bytes change of a stream that has ended: nothing, unless only the input's end told it.
+-- What more bytes change of a stream that has ended: nothing, unless only the input's end showed
+-- it.
 use Rattle.std.proofs.Common.{◌≡◌, ℕ, suc, true, List, [], ◌∷◌, ◌++◌, length, Some, Result, Ok}
 use Rattle.std.proofs.Common.{Err, refl, sym, ap, ◌∙◌, append_assoc, arith}
 use Rattle.bw_model.specs.Wire.{Second, Frame, Says, Asks, Bye, Reason, body, framed, are_bytes}

@@ -16,7 +16,7 @@ use Rattle.bw_wire.specs.Runs.{given_by}
 use Rattle.bw_wire.proofs.FramerLaws.{next_of-left, next_of-failed, next_of-partial, next_of-bad, next_of-value}
 use Rattle.bw_wire.proofs.FramerLaws.{next_of-last, cut_or_not}
 
--- at most so many bytes are held, in a block that isn't large
+-- at most this many bytes are held, in a block that isn't large
 abbrev pub HoldsUpTo : ℕ → Pending → Type 0
 HoldsUpTo limit q = (q.held ≤ limit) × HasSmallBlock q
 
@@ -82,7 +82,7 @@ first_frame-shorter bytes f more e =
         rest_is (drop (4 + u32_at bytes 0) bytes) (decoded Second (take (u32_at bytes 0) (drop 4 bytes))) h in
         omega (arith, whole, ap (length {A = ℕ}) rest, length-drop (4 + u32_at bytes 0) bytes)
 
--- the frame that is given, where there is one, uses up some of the bytes
+-- the frame that is given, if there is one, uses up some of the bytes
 abbrev IsUsedUp : Pending → Reported Frame × Pending → Type 0
 IsUsedUp p x = length (given_by message_codec x.0) + length x.1.bytes ≤ length p.bytes
 
@@ -115,7 +115,7 @@ used_up p q given same reported =
     (subst (λ (x : List Frame). length x + length (next_of message_codec p).1.bytes ≤ length p.bytes) reported
     (used_up_in p.phase (first_frame Second p.bytes) p refl refl))
 
--- where no frame is whole, little is kept
+-- if no frame is whole, little is kept
 pub kept_little : (p q : Pending) → (next_of message_codec p).0 ≡ Nothing →
     HoldsLittle message_codec (next_of message_codec p) → q ≡ (next_of message_codec p).1 → KeepsAtMost longest_rest q
 kept_little p q none little same =

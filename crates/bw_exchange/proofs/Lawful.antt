@@ -1,4 +1,4 @@
--- What an exchange has done says of the bytes alone.
+-- What an exchange has done, said by the bytes alone.
 use Rattle.std.proofs.Common.{◌≡◌, ℕ, ◌+◌, true, List, [], ◌∷◌, ◌++◌, length, Option, Some, None, Result, Ok, Err}
 use Rattle.std.proofs.Common.{refl, sym, ap, subst, ◌∙◌, arith, inl, inr}
 use Rattle.std.specs.Prelude.{IfSome, IsTrue}
@@ -81,7 +81,7 @@ follows law fed xs gone p w e d =
     (subst (λ (r : Run Frame). FollowsStream (fed_in d.calls) r) d.runs
     (law d.calls (subst (λ (x : List ℕ). IsTrue (are_bytes x)) (sym d.fed_by) d.fits)))
 
--- the end that a framer tells is one that no more bytes can change
+-- the end that a framer reports is one that no more bytes can change
 pub final_end : (fed : List ℕ) (xs : List Answered) (gone : List ℕ) (p : Pending) (w : List ℕ) (e : Option End)
     (end : StreamEnd) → Done fed xs gone p w e → ReportsEnd end (next_of message_codec p).0 → IsFinal (end_meaning end)
 final_end fed xs gone p w e ends.Bye d t = tt
@@ -121,7 +121,7 @@ whole_stream : (bytes : List ℕ) (fs : List Frame) (p : Pending) (e : Option En
 whole_stream bytes fs p None f e = tt
 whole_stream bytes fs p (Some end) f e = ends_stream bytes fs p end f e
 
--- where nothing more is reported, the input's end isn't final
+-- if nothing more is reported, the input's end isn't final
 not_final : (h : Phase) (p : Pending) → p.phase ≡ h → (next_of message_codec p).0 ≡ Nothing →
     IsFinal (input_end (end_in h p)) → ⊥
 not_final Reading p e none final = open_end p.bytes final

@@ -1,4 +1,4 @@
--- What a reader that tells its bytes has given, and what a writer that tells them has taken.
+-- What a reader that reports its bytes has given, and what a writer that reports them has taken.
 use Rattle.std.proofs.Common.{◌≡◌, ℕ, ◌<◌, List, [], ◌++◌, take, drop, Option, Some, None, refl, sym, ap, ◌∙◌}
 use Rattle.std.proofs.Common.{append_assoc}
 use Rattle.std.proofs.lemmas.List.{append-nil, take-append-drop}
@@ -45,14 +45,14 @@ writes-on a b c p q f g ys e = g (ys ++ p) (f ys e) ∙ ap Some (append_assoc ys
 pub writes-none : (a : Option (List ℕ)) → Writes a [] a
 writes-none a ys e = e ∙ ap Some (sym (append-nil ys))
 
--- the beginning that was written
+-- the prefix that was written
 pub record WritesPart (a b : Option (List ℕ)) (bytes : List ℕ) : Type 0 where
   pub part : List ℕ
   pub rest : List ℕ
   pub whole : part ++ rest ≡ bytes
   pub taken : Writes a part b
 
--- of a writer that doesn't tell its bytes, none as well as any
+-- of a writer that doesn't report its bytes, none as well as any
 pub writes-part : (a b : Option (List ℕ)) (bytes : List ℕ) → Begins a bytes b → WritesPart a b bytes
 writes-part None b bytes f = record { part = []; rest = bytes; whole = refl; taken = λ ys e. absurd cc }
 writes-part (Some xs) b bytes f =

@@ -1,4 +1,4 @@
--- What a framer told last it tells again; what it then keeps.
+-- What a framer reported last it reports again; what it then keeps.
 use Rattle.std.proofs.Common.{◌≡◌, ℕ, ◌+◌, ◌-◌, List, length, Result, Ok, Err, refl, sym, ap, subst, ◌∙◌}
 use Rattle.std.proofs.Common.{inl, inr}
 use Rattle.bw_model.specs.Wire.{Second, Frame, Says, Asks, Bye, Reason, Cut}
@@ -17,11 +17,11 @@ IsLast (Gives (Asks name number)) = ⊥
 IsLast (Gives Bye) = Unit {0}
 IsLast (Fails reason place) = Unit {0}
 
--- what a framer tells, and what it then keeps
+-- what a framer reports, and what it then keeps
 abbrev Answer : Type 0
 Answer = Reported Frame × Pending
 
--- what it tells it tells again, where it does so from what it keeps
+-- what it reports it reports again, if it would from what it keeps
 stays_by : (p q : Pending) (t : Reported Frame) → next_of message_codec p ≡ (t, q) → (next_of message_codec q).0 ≡ t →
     (next_of message_codec (next_of message_codec p).1).0 ≡ (next_of message_codec p).0
 stays_by p q t e again =
@@ -53,7 +53,7 @@ stays_in Reading (Err reason) p e f last = elim (cut_or_not reason) [
       (ap (λ (y : Answer). y.0) (next_of-failed message_codec q reason refl))
 ]
 
--- what is reported last stays told
+-- what is reported last is reported again
 pub stays : (p q : Pending) (t : Reported Frame) → (next_of message_codec p).0 ≡ t → q ≡ (next_of message_codec p).1 →
     IsLast t → (next_of message_codec q).0 ≡ t
 stays p q t e same last =

@@ -70,7 +70,7 @@ up_to_more answers n s mid later a b c f goes g =
       | inr l ↦ inr (omega (arith, l))
     ]
 
--- so many frames are answered, and then one or none
+-- this many frames are answered, and then one or none
 some_more : {S : Type 0} (answers : S → Frame → List Reply → S → Type 0) (n k : ℕ) (s mid later : S)
     (a b c : Exchange) → AnswersSome answers n n s mid a b → (MustWait b → ⊥) → AnswersSome answers 1 k mid later b c →
     AnswersSome answers (n + 1) (n + k) s later a c
@@ -123,7 +123,7 @@ some_stopped answers n turns false s mid later a b c is le f goes g =
       omega (arith, len),
     )
 
--- where it is neither idle nor without room, it needn't wait
+-- if it is neither idle nor without room, it needn't wait
 pub goes_on : (e : Exchange) → e.wants_read ≡ false → is_some e.end ≡ false → vec_len e.outgoing ≤ most_before_answer →
     MustWait e → ⊥
 goes_on e fed running room (inl (inl wants_read)) = cc

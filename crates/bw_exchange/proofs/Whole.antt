@@ -20,7 +20,7 @@ use Rattle.bw_exchange.proofs.Going.{answers_append, does_on}
 use Rattle.bw_exchange.proofs.Lawful.{is_exchange}
 use Rattle.bw_exchange.proofs.Reading.{has_given-none, has_given-on, writes-none, writes-on}
 
--- so far a server, a reader and a writer were used so, by so many reads
+-- so far a server, a reader and a writer were used so, by this many reads
 pub record SoFar {S : Type 0} (answers : S → Frame → List Reply → S → Type 0) (reads : ℕ) (s later : S)
     (left left' written written' : Option (List ℕ)) (e : Exchange) : Type 0 where
   pub answered : List Answered
@@ -130,12 +130,12 @@ once_more n = go (nat_lt n (2 ^ 64 - 1)) refl
     go true e = (omega arith, omega arith)
     go false e = (omega arith, let most = ltb-false n (2 ^ 64 - 1) e in omega (arith, most))
 
--- .. and as many calls more, or as many as it can count
+-- and as many calls more, or as many as it can count
 pub called_on : (first calls calls' reads : ℕ) → min (first + reads) (2 ^ 64 - 1) ≤ calls →
     calls' ≡ one_more calls → min (first + (reads + 1)) (2 ^ 64 - 1) ≤ calls'
 called_on first calls calls' reads before e = let m = (once_more calls).1 in omega (arith, before, e, m)
 
--- .. and no more than so many
+-- and no more than this many
 pub called_once : (first calls calls' reads : ℕ) → calls ≤ first + reads → calls' ≡ one_more calls →
     calls' ≤ first + (reads + 1)
 called_once first calls calls' reads before e = let m = (once_more calls).0 in omega (arith, before, e, m)

@@ -30,7 +30,7 @@ use Rattle.bw_exchange.proofs.Turning.{no_end}
 true_false : (b : Bool) → b ≡ true → b ≡ false → ⊥
 true_false b is isnt = cc
 
--- where nothing waits, the bytes that are gone are all replies
+-- if nothing waits, the bytes that are gone are all replies
 pub all_gone : (fed : List ℕ) (xs : List Answered) (gone : List ℕ) (e : Exchange) → HasDone fed xs gone e →
     e.outgoing.items ≡ [] → is_some e.end ≡ false → gone ≡ replies_bytes (replies_of xs)
 all_gone fed xs gone e d none running =

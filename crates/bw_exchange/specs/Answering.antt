@@ -16,8 +16,8 @@ answered_frames answered = map (λ a. a.frame) answered
 abbrev pub replies_of : List Answered → List Reply
 replies_of answered = flat_map (λ a. a.replies) answered
 
--- From the first state a server may answer these frames so, one after another, and go on with the
--- second.
+-- In the first state a server may answer these frames so, one after another, and be in the second
+-- state then.
 abbrev pub AnswersAll : {S : Type 0} → (S → Frame → List Reply → S → Type 0) → S →
     List Answered → S → Type 0
 AnswersAll answers s [] later = later ≡ s

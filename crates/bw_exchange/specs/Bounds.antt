@@ -10,14 +10,14 @@ longest_reply_frame = 64
 abbrev pub longest_answer : ℕ
 longest_answer = 17 * longest_reply_frame
 
--- at most so many bytes of replies wait
+-- at most this many bytes of replies wait
 abbrev pub most_waiting : ℕ
 most_waiting = 65600
 
--- where no more than these wait, there is room for an answer, and for the reply to a bad frame
+-- if no more than these wait, there is room for an answer, and for the reply to a bad frame
 abbrev pub most_before_answer : ℕ
 most_before_answer = most_waiting - longest_reply_frame - longest_answer
 
--- at most so many bytes of frames are held: a rest, and a piece after it
+-- at most this many bytes of frames are held: a rest, and a piece after it
 abbrev pub most_held : ℕ
 most_held = longest_rest + longest_piece

@@ -59,7 +59,7 @@ IsIdle e = (wants_piece e ≡ true) ⊎ (is_some (end_of e) ≡ true)
 abbrev pub MustWait : Exchange → Type 0
 MustWait e = IsIdle e ⊎ (most_before_answer < length (waiting_in e))
 
--- a server answers at most so many frames of an exchange, and fewer only where it must wait
+-- a server answers at most this many frames of an exchange, and fewer only if it must wait
 pub record AnswersUpTo {S : Type 0} (answers : S → Frame → List Reply → S → Type 0) (turns : ℕ)
     (s later : S) (e e' : Exchange) : Type 0 where
   pub answered : List Answered
@@ -67,7 +67,7 @@ pub record AnswersUpTo {S : Type 0} (answers : S → Frame → List Reply → S 
   pub does : DoesMore e [] answered [] e'
   pub most : length answered ≤ turns
   pub stops : length answered < turns → MustWait e'
-  -- the end that it comes to is one that no more bytes can change
+  -- the end that it reaches is one that no more bytes can change
   pub final : is_some (end_of e) ≡ false → (fed : List ℕ) (before : List Answered) (gone : List ℕ) →
       HasDone fed before gone e → IfSome (end_so_far (end_of e')) IsFinal
   -- each frame uses up some of the bytes that are held
@@ -77,7 +77,7 @@ pub record AnswersUpTo {S : Type 0} (answers : S → Frame → List Reply → S 
 abbrev pub AreFirstOf : List Frame → List ℕ → Type 0
 AreFirstOf frames bytes = (later : List Frame) × ((stream_of Second bytes).0 ≡ frames ++ later)
 
--- exactly so many of them
+-- exactly this many of them
 abbrev pub AnswersSome : {S : Type 0} → (S → Frame → List Reply → S → Type 0) → ℕ → ℕ →
     S → S → Exchange → Exchange → Type 0
 AnswersSome answers turns count s later e e' =
@@ -96,7 +96,7 @@ pub record IsExchangeOf (fed : List ℕ) (answered : List Answered) (out : List 
   pub unended : wants_piece e ≡ true → IsFinal (stream_of Second fed).1 → ⊥
   -- they are all where it is over, with this end
   pub whole : IfSome (end_so_far (end_of e)) (λ x. stream_of Second fed ≡ (answered_frames answered, x))
-  -- which is that of all longer input too, unless only the input's end could tell it
+  -- all longer input ends so too, unless only the input's end could show it
   pub settled : IfSome (end_so_far (end_of e)) (λ x. IsFinal x → (more : List ℕ) →
       stream_of Second (fed ++ more) ≡ (answered_frames answered, x))
   -- what came out is exactly their replies
@@ -105,7 +105,7 @@ pub record IsExchangeOf (fed : List ℕ) (answered : List Answered) (out : List 
   pub spelled : IsTrue (list_all is_reply (replies_of answered ++ last_of (end_so_far (end_of e))))
   pub counted : (pending_of e).fed ≡ length fed
 
--- so it is with each exchange
+-- this holds for each exchange
 abbrev pub ExchangesFollowStreams : Type 0
 ExchangesFollowStreams =
     (fed : List ℕ) (answered : List Answered) (gone : List ℕ) (e : Exchange) →

@@ -12,7 +12,7 @@ end_meaning ends.Bye = SaidBye
 end_meaning ends.EndOfInput = EndOfInput
 end_meaning (ends.BadFrame fault) = BadFrame (reason_meaning fault.reason) fault.offset
 
--- the end, where it has come
+-- the end, if it has come
 abbrev pub end_so_far : Option StreamEnd → Option End
 end_so_far None = None
 end_so_far (Some end) = Some (end_meaning end)

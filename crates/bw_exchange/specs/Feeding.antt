@@ -5,8 +5,8 @@ use Rattle.bw_wire.specs.Pending.{Pending}
 use Rattle.bw_exchange.specs.declared.exchange.FeedError.{FeedError}
 use Rattle.bw_exchange.specs.declared.exchange.FeedError.TheVariants.{Memory, TooLong}
 
--- A piece is too long exactly where its stream would be longer than any, and memory is refused only
--- where the block that holds the bytes has no room for it.
+-- A piece is too long exactly if its stream would be longer than any, and memory is refused only if
+-- the block that holds the bytes has no room for it.
 abbrev pub IsFeeding : Pending → List ℕ → Result (Unit {0}) FeedError → Type 0
 IsFeeding p piece (Ok x) = p.fed + length piece ≤ longest_stream
 IsFeeding p piece (Err Memory) =

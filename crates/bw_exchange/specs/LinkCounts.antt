@@ -11,7 +11,7 @@ pub record Counted : Type 0 where
   pub bytes : ℕ
   pub names : List (List ℕ)
 
--- so many names are reported
+-- this many names are reported
 abbrev pub most_names : ℕ
 most_names = 8
 
@@ -19,7 +19,7 @@ most_names = 8
 abbrev pub up_to_last : ℕ → ℕ
 up_to_last n = min n (2 ^ 64 - 1)
 
--- a name after those before it, where it is none of them and there is room
+-- the names with one appended, if it is new and there is room
 abbrev pub with_name : List (List ℕ) → List ℕ → List (List ℕ)
 with_name names name =
     if list_any (λ n. bytes_eq n name) names || nat_le most_names (length names) then names

@@ -8,7 +8,7 @@ use Rattle.bw_exchange.specs.declared.step.StreamEnd.{StreamEnd}
 abbrev pub wants_piece : Exchange → Bool
 wants_piece e = e.wants_read
 
--- how it ended, where it is over
+-- how it ended, if it is over
 abbrev pub end_of : Exchange → Option StreamEnd
 end_of e = e.end
 

@@ -46,7 +46,7 @@ pub record WritesAnswers {S : Type 0} (answers : S → Frame → List Reply → 
   pub none_wait : waiting_in e' ≡ []
   -- an end that has come stays
   pub stays : is_some (end_of e) ≡ true → end_of e' ≡ end_of e
-  -- the end that it comes to is one that no more bytes can change
+  -- the end that it reaches is one that no more bytes can change
   pub final : is_some (end_of e) ≡ false → (fed : List ℕ) (before : List Answered) (gone : List ℕ) →
       HasDone fed before gone e → IfSome (end_so_far (end_of e')) IsFinal
 

@@ -27,34 +27,34 @@ ended_by streams.Bye = ends.Bye
 ended_by streams.EndOfInput = ends.EndOfInput
 ended_by (streams.BadFrame fault) = ends.BadFrame fault
 
--- the count of a reader's failures: one more exactly where the exchange ended by one
+-- the count of a reader's failures: one more exactly if the exchange ended by one
 abbrev pub reads_failed : ExchangeEnd → ℕ → ℕ
 reads_failed ends.ReadFault n = one_more n
 reads_failed end n = n
 
--- the count of a writer's failures: one more exactly where the exchange ended by one
+-- the count of a writer's failures: one more exactly if the exchange ended by one
 abbrev pub writes_failed : ExchangeEnd → ℕ → ℕ
 writes_failed ends.WriteFault n = one_more n
 writes_failed end n = n
 
--- the limit of reads is reported only where a reader has counted so many bytes more, and so many calls
--- more, or as many as it can count
+-- the limit of reads is reported only if a reader has counted 2^32 more bytes and 2^32 more calls,
+-- or as many as it can count
 abbrev pub IsLimited : ExchangeEnd → ℕ → ℕ → ℕ → ℕ → Type 0
 IsLimited ends.TurnLimit moved moved' calls calls' =
     (min (moved + most_reads) (2 ^ 64 - 1) ≤ moved')
     × (min (calls + most_reads) (2 ^ 64 - 1) ≤ calls')
 IsLimited end moved moved' calls calls' = Unit {0}
 
--- a reader that tells its bytes gave these
+-- a reader that reports its bytes gave these
 abbrev pub HasGiven : Option (List ℕ) → List ℕ → Option (List ℕ) → Type 0
 HasGiven left bytes left' = (xs : List ℕ) → left ≡ Some xs →
     (rest : List ℕ) × (left' ≡ Some rest) × (bytes ++ rest ≡ xs)
 
--- a reader that told its bytes has none left
+-- a reader that reported its bytes has none left
 abbrev pub HasNoneLeft : Option (List ℕ) → Option (List ℕ) → Type 0
 HasNoneLeft left left' = (xs : List ℕ) → left ≡ Some xs → left' ≡ Some []
 
--- the exchange came to the end of its stream
+-- the exchange reached the end of its stream
 pub record ReachesEnd (end : End) (left left' : Option (List ℕ)) (answered : List Answered)
     (input output : List ℕ) : Type 0 where
   -- the answered frames are those of what was read
@@ -74,8 +74,8 @@ pub record AnswersAllRead (answered : List Answered) (input output : List ℕ) :
   pub unended : IsFinal (stream_of Second input).1 → ⊥
   pub written : output ≡ replies_bytes (replies_of answered)
 
--- of the replies a beginning is written: those to all frames but the last that was answered, and
--- what more was taken
+-- a prefix of the replies is written: those to all frames but the last that was answered, and what
+-- more was taken
 pub record IsBrokenOff (answered : List Answered) (input output : List ℕ) : Type 0 where
   -- how the stream ends, if that was found: a bad frame has its reply too
   pub end : Option End

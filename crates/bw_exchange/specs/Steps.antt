@@ -1,4 +1,4 @@
--- What comes of the next frame.
+-- The result of the next frame.
 use Rattle.std.specs.Prelude.{◌≡◌, ℕ, IsTrue, List, [], ◌∷◌, ◌++◌}
 use Rattle.std.specs.List.{list_all}
 use Rattle.bw_model.specs.Wire.{Frame, Bye}
@@ -14,7 +14,7 @@ use Rattle.bw_exchange.specs.declared.step.StreamEnd.{StreamEnd}
 use Rattle.bw_exchange.specs.declared.step.StreamEnd.TheVariants as ends
 use Rattle.bw_exchange.specs.Ends.{end_meaning}
 
--- a framer that tells this says that the exchange ends so
+-- a framer that reports this says that the exchange ends so
 abbrev pub ReportsEnd : StreamEnd → Reported Frame → Type 0
 ReportsEnd ends.Bye reported = reported ≡ Gives Bye
 ReportsEnd ends.EndOfInput reported = ⊥
@@ -26,13 +26,13 @@ pub record AnswersFrame {S : Type 0} (answers : S → Frame → List Reply → S
   pub frame : Frame
   pub replies : List Reply
   pub is_reported : reported ≡ Gives frame
-  -- it is none after which nothing is read
+  -- it isn't a frame after which nothing is read
   pub goes_on : given_by message_codec reported ≡ frame ∷ []
   pub answered : answers s frame replies later
   pub waits : waiting' ≡ waiting ++ replies_bytes replies
   pub spelled : IsTrue (list_all is_reply replies)
 
--- what comes of what the framer tells
+-- the result of what the framer reports
 abbrev pub Comes : {S : Type 0} → (S → Frame → List Reply → S → Type 0) → Step → Reported Frame →
     S → S → List ℕ → List ℕ → Type 0
 Comes answers WantsRead reported s later waiting waiting' =
@@ -44,7 +44,7 @@ Comes answers (Ended end) reported s later waiting waiting' =
     × (waiting' ≡ waiting ++ replies_bytes (last_reply (end_meaning end)))
     × IsTrue (list_all is_reply (last_reply (end_meaning end)))
 
--- the next frame is taken: what comes of it, and what the framer keeps
+-- the next frame is taken: its result, and what the framer keeps
 pub record TakesNext {S : Type 0} (answers : S → Frame → List Reply → S → Type 0) (step : Step)
     (s later : S) (p q : Pending) (waiting waiting' : List ℕ) : Type 0 where
   pub comes : Comes answers step (next_of message_codec p).0 s later waiting waiting'

@@ -9,7 +9,7 @@ use Rattle.bw_model.specs.NumberOrder.{AreInOrder, reports_failure}
 use Rattle.bw_exchange.specs.Answering.{Answered, answered_frames, replies_of}
 
 -- A server whose store's failures were counted before and after may answer these frames so, one
--- turn after another, and go on with the later book.
+-- turn after another, and have the later book then.
 abbrev pub IsRun : (List ℕ → Bool) → ℕ → ℕ → Book → List Answered → Book → Type 0
 IsRun existed before after book [] later = (after ≡ before) × (later ≡ book)
 IsRun existed before after book (a ∷ rest) later =
@@ -20,7 +20,7 @@ IsRun existed before after book (a ∷ rest) later =
 abbrev pub answers_in : List Turn → List Answered
 answers_in turns = map (λ t. record { frame = t.frame; replies = t.replies }) turns
 
--- Under some faults at each frame, these are the answers of the definitions' run from this book on,
+-- Under some faults at each frame, these are the answers of the definitions' run from this book,
 -- and the book after it.
 pub record IsRunOf (existed : List ℕ → Bool) (book : Book) (answered : List Answered) (later : Book) :
     Type 0 where
@@ -38,13 +38,13 @@ TurnsAreRuns = (existed : List ℕ → Bool) (before after : ℕ) (book later : 
 abbrev pub run_without_faults : List Frame → List (Frame × Faults)
 run_without_faults frames = map (λ f. (f, good)) frames
 
--- So the frames are answered where memory and store give all that is asked of them.
+-- The frames are answered like this if memory and store give all that is asked of them.
 pub record IsGoodRun (existed : List ℕ → Bool) (book : Book) (answered : List Answered)
     (later : Book) : Type 0 where
   pub answers : answers_in (run existed book (run_without_faults (answered_frames answered))) ≡ answered
   pub left : book_after existed book (run_without_faults (answered_frames answered)) ≡ later
 
--- Where the frames come in order and no failure is reported, replies and book depend on no fault.
+-- If the frames come in order and no failure is reported, replies and book depend on no fault.
 abbrev pub OrderHoldsUnderFaults : Type 0
 OrderHoldsUnderFaults = (existed : List ℕ → Bool) (before after : ℕ) (answered : List Answered)
     (later : Book) → IsRun existed before after [] answered later →

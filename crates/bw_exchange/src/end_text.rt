@@ -4,7 +4,7 @@ ghost use Rattle.bw_exchange.specs.EndNames.{name_of_end};
 
 use crate::serving::ExchangeEnd;
 
-/// The name of an exchange's end, at most 10 bytes.
+/// The name of an exchange's end, at most 10 bytes long.
 pub fn end_name(end: ExchangeEnd) -> &'static str
     ensures value { result.now ≡ name_of_end end }
     ensures short { length result.now ≤ 10 }

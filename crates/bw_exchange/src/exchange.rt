@@ -14,11 +14,11 @@ use crate::turns::Turns;
 use bw_wire::Framer;
 use std::alloc::{AllocError, Global};
 
-/// The most bytes of replies that wait.
+/// The most bytes of unsent replies.
 const MOST_WAITING: usize = 65_600;
 
-/// The most bytes that wait where a frame is still answered: its 17 replies have room after them,
-/// and that to a bad frame. For each 64 bytes are kept; a frame of a reply has at most 47.
+/// The most unsent bytes with which a frame is still answered: its 17 replies fit after them, and
+/// then the reply to a bad frame. Each reply is allotted 64 bytes; its frame has at most 47.
 const MOST_BEFORE_ANSWER: usize = 64_448;
 
 /// The most bytes of a stream.
@@ -36,8 +36,8 @@ pub enum FeedError {
 /// One exchange with a recorder, between the pieces of its bytes.
 ///
 /// It holds at most 98,345 bytes of frames, in a block of at most 262,144, and at most 65,600 bytes
-/// of replies. From one who doesn't take his replies no more frames are answered, and so no more
-/// bytes are wanted.
+/// of replies. While replies aren't taken, no more frames are answered, and so no more bytes are
+/// wanted.
 #[derive(Drop)]
 pub struct Exchange {
     framer: Framer,
@@ -58,10 +58,10 @@ impl Exchange {
     ghost use Rattle.bw_exchange.specs.Parts.{wants_piece, end_of, waiting_in, pending_of};
     ghost use Rattle.bw_exchange.specs.Done.{HasDone, DoesMore, AnswersSome, IsIdle};
 
-    /// An exchange at its start.
+    /// Creates an exchange that has been fed nothing.
     ///
     /// # Errors
-    /// `AllocError` where memory was refused.
+    /// `AllocError` if memory was refused.
     ///
     /// # Not specified
     /// When memory is refused.
@@ -79,7 +79,8 @@ impl Exchange {
         })
     }
 
-    /// Whether a piece may be fed: every whole frame was answered, and the exchange isn't over.
+    /// Whether a piece may be fed: every whole frame has been answered, and the exchange isn't
+    /// over.
     pub fn wants_read(&self) -> bool
         ensures value { result ≡ wants_piece self.now }
         ensures open { result ≡ true → end_of self.now ≡ None }
@@ -87,7 +88,7 @@ impl Exchange {
         self.wants_read
     }
 
-    /// Whether nothing can be answered, with whatever room: until a piece is fed, or ever.
+    /// Whether no frame can be answered, however much room there is, until a piece is fed, or ever.
     pub(crate) fn is_idle(&self) -> bool
         ensures idle { result ≡ true → IsIdle self.now }
         ensures fed { result ≡ false → self.now.wants_read ≡ false }
@@ -96,14 +97,14 @@ impl Exchange {
         self.wants_read || self.end.is_some()
     }
 
-    /// How it ended, where it is over.
+    /// How it ended, or `None` if it isn't over.
     pub fn end(&self) -> Option<StreamEnd>
         ensures { result ≡ end_of self.now }
     {
         self.end
     }
 
-    /// The bytes of replies that wait, at most 65,600.
+    /// The bytes of replies that are still to be sent, at most 65,600.
     pub fn outgoing(&self) -> &[u8]
         ensures value { result.now ≡ waiting_in self.now }
         ensures len { length result.now ≤ most_waiting }
@@ -114,8 +115,8 @@ impl Exchange {
     /// Feeds the next piece, of at most 65,536 bytes, to an exchange that wants to read.
     ///
     /// # Errors
-    /// `TooLong` where more than 2^62 bytes would have been fed; `Memory` where memory was refused,
-    /// never where there is room. Nothing changed.
+    /// `TooLong` if more than 2^62 bytes would have been fed; `Memory` if memory was refused, never
+    /// if there is room. Nothing is changed then.
     ///
     /// # Not specified
     /// When a growth is refused.
@@ -139,11 +140,11 @@ impl Exchange {
         Ok(())
     }
 
-    /// Has whole frames answered: at most so many, and as long as there is room for replies. How
-    /// many were.
+    /// Has up to `turns` whole frames answered, as long as there is room for their replies. Returns
+    /// how many were.
     ///
-    /// Fewer than asked for only where the exchange wants to read or over, or more than 64,448 bytes
-    /// wait.
+    /// Fewer than `turns` only if the exchange wants to read or is over, or more than 64,448 bytes
+    /// are unsent.
     pub fn answer<T: Turns>(&mut self, server: &mut T, turns: usize) -> usize
         ensures { AnswersSome T.answers turns result server.old server.new self.old self.new }
     {
@@ -158,7 +159,7 @@ impl Exchange {
         turns
     }
 
-    /// Has the next frame answered, if it is whole. Whether one was.
+    /// Has the next frame answered, if it is whole. Returns whether one was.
     pub(crate) fn answer_one<T: Turns>(&mut self, server: &mut T) -> bool
         requires room { vec_len self.old.outgoing ≤ most_before_answer }
         requires open { is_some self.old.end ≡ false }
@@ -179,7 +180,7 @@ impl Exchange {
         }
     }
 
-    /// Ends the exchange, which wants to read, and whose input has ended.
+    /// Ends the exchange, whose input has ended and which wants to read.
     pub fn finish(&mut self)
         requires wants_read { wants_piece self.old ≡ true }
         ensures done { DoesMore self.old [] [] [] self.new }
@@ -196,7 +197,7 @@ impl Exchange {
         }
     }
 
-    /// Lets go of so many bytes at the start of those that wait, which were taken.
+    /// Removes the first `count` of the unsent bytes: they were sent.
     pub fn consumed(&mut self, count: usize)
         requires { count ≤ length (waiting_in self.old) }
         ensures done { DoesMore self.old [] [] (take count (waiting_in self.old)) self.new }

@@ -3,15 +3,15 @@ ghost use Rattle.bw_exchange.specs.Done.{ExchangesFollowStreams};
 ghost use Rattle.bw_exchange.specs.TurnRuns.{OrderHoldsUnderFaults, TurnsAreRuns};
 
 /// Whatever was fed and taken so far, the answered frames are the first of the stream of the bytes
-/// fed, and all of them where the exchange wants to read or over; the bytes that were taken and those
-/// that wait are exactly their replies.
+/// fed, and all of them if the exchange wants to read or is over; the bytes that were taken and
+/// those that wait are exactly their replies.
 pub fn law_exchange()
     ensures { ExchangesFollowStreams }
 {
     bw_wire::laws::law_framer();
 }
 
-/// Turns one after another are a run of the definitions, with some faults at each; and where the
+/// Turns one after another are a run of the definitions, with some faults at each; and if the
 /// frames come in number order and no failure is reported, replies and book depend on no fault.
 pub fn law_runs()
     ensures runs { TurnsAreRuns }

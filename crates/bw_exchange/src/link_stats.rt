@@ -16,7 +16,7 @@ use std::mem;
 /// How many names a tally keeps.
 const NAMES: usize = 8;
 
-/// The bytes of a name, or of none: a tally has places that wait for one.
+/// The bytes of a name, or none: an unused place of a tally.
 #[derive(Drop)]
 pub struct KnownName {
     bytes: ArrayVec<u8, 32>,
@@ -35,7 +35,7 @@ impl Model for KnownName {
 }
 
 impl Default for KnownName {
-    /// A place without a name.
+    /// An unused place.
     fn default() -> KnownName {
         KnownName {
             bytes: ArrayVec::new(),
@@ -52,7 +52,7 @@ impl KnownName {
         KnownName { bytes }
     }
 
-    /// Its bytes, at most 32; none of a place that waits for a name.
+    /// The name's bytes, at most 32; empty for an unused place.
     pub fn as_bytes(&self) -> &[u8]
         ensures { result.now ≡ self.now }
     {
@@ -84,7 +84,7 @@ impl Model for LinkStats {
 }
 
 impl LinkStats {
-    /// No message.
+    /// Counts of no messages.
     pub fn new() -> LinkStats
         ensures { result ≡ none_counted }
     {
@@ -143,7 +143,7 @@ pub struct Metered<T> {
 }
 
 impl<T> Metered<T> {
-    /// The server, which has counted nothing.
+    /// Wraps a server; nothing is counted yet.
     pub fn new(server: T) -> Metered<T>
         ensures server { result.server ≡ server }
         ensures link_stats { result.link_stats ≡ none_counted }
@@ -154,21 +154,21 @@ impl<T> Metered<T> {
         }
     }
 
-    /// The server itself.
+    /// The wrapped server.
     pub fn server(&self) -> &T
         ensures { result.now ≡ self.now.server }
     {
         &self.server
     }
 
-    /// What was counted since the last start.
+    /// What was counted since the last `start`.
     pub fn link_stats(&self) -> &LinkStats
         ensures { result.now ≡ self.now.link_stats }
     {
         &self.link_stats
     }
 
-    /// Goes on from another count, which is given what was counted so far.
+    /// Swaps the counts so far with another link's, to continue from those.
     pub fn swap_link_stats(&mut self, link_stats: &mut LinkStats)
         ensures server { self.new.server ≡ self.old.server }
         ensures link_stats { self.new.link_stats ≡ link_stats.old }
@@ -177,7 +177,7 @@ impl<T> Metered<T> {
         mem::swap(&mut self.link_stats, link_stats);
     }
 
-    /// Begins to count for another link.
+    /// Starts counting for another link.
     pub fn start(&mut self)
         ensures server { self.new.server ≡ self.old.server }
         ensures link_stats { self.new.link_stats ≡ none_counted }

@@ -57,7 +57,7 @@ pub(crate) fn put_bad_frame(out: &mut Vec<u8>, fault: WireFault)
     put_reply(out, &reply);
 }
 
-/// Lets so many bytes at the start go.
+/// Removes the first `count` bytes.
 pub(crate) fn drop_prefix(out: &mut Vec<u8>, count: usize)
     requires { count ≤ length out.old.items }
     ensures items { out.new.items ≡ drop count out.old.items }

@@ -26,7 +26,7 @@ pub const MOST_READS: u64 = 1 << 32;
 /// How an exchange ended.
 #[derive(Clone, Copy, Debug, PartialEq, Eq)]
 pub enum ExchangeEnd {
-    /// The recorder said that it ends.
+    /// The recorder sent `Bye`.
     Bye,
     /// The input ended after a frame.
     EndOfInput,
@@ -62,7 +62,7 @@ impl From<StreamEnd> for ExchangeEnd {
 /// Each frame is answered by itself, and its replies are written before the next is taken. Bytes
 /// after `Bye` or a bad frame are ignored.
 ///
-/// `TurnLimit` comes only after 2^32 reads, of 2^32 bytes or more.
+/// `TurnLimit` is returned only after 2^32 reads, of 2^32 bytes or more.
 ///
 /// At `ReadFault` and `TurnLimit` all whole frames that were read are answered, and their replies
 /// written; at `Memory` those before the last piece; at `WriteFault` all but the last frame that
@@ -71,7 +71,7 @@ impl From<StreamEnd> for ExchangeEnd {
 /// # Not specified
 /// - When memory is refused.
 /// - Whether the writer was flushed.
-/// - How many bytes the reader counted, but at `TurnLimit`.
+/// - How many bytes the reader counted, except at `TurnLimit`.
 pub fn serve_exchange<R: Source, W: Sink, T: Turns>(
     alloc: Global,
     server: &mut T,
@@ -106,7 +106,7 @@ pub fn serve_exchange<R: Source, W: Sink, T: Turns>(
     ExchangeEnd::TurnLimit
 }
 
-/// Reads the next piece and feeds it, or ends the exchange where the input has ended.
+/// Reads the next piece and feeds it, or ends the exchange if the input has ended.
 ///
 /// # Errors
 /// `ReadFault` and `Memory`: the exchange is as it was.
@@ -155,7 +155,7 @@ fn feed_piece(exchange: &mut Exchange, piece: &[u8]) -> Result<(), ExchangeEnd>
     match exchange.feed(piece) {
         Ok(()) => Ok(()),
         Err(FeedError::Memory) => Err(ExchangeEnd::Memory),
-        // So many reads of so many bytes are never that long.
+        // 2^32 reads of at most 65,536 bytes never exceed 2^62 bytes.
         Err(FeedError::TooLong) => unreachable!(),
     }
 }
@@ -163,7 +163,7 @@ fn feed_piece(exchange: &mut Exchange, piece: &[u8]) -> Result<(), ExchangeEnd>
 /// Has all whole frames answered, one by one, and writes the replies to each before the next.
 ///
 /// # Errors
-/// `IoFailed` where the writer failed: only a beginning of what waited was written.
+/// `IoFailed` if the writer failed: only a prefix of what waited was written.
 fn answer_held<T: Turns, W: Sink>(
     exchange: &mut Exchange,
     server: &mut T,
@@ -176,7 +176,7 @@ fn answer_held<T: Turns, W: Sink>(
         (W.written writer.old) (W.written writer.new) exchange.old) }
     ensures count { W.failures writer.new ≡ failures_after result (W.failures writer.old) }
 {
-    // Where the input ended inside a frame, the reply to it waits.
+    // If the input ended inside a frame, the reply to it waits.
     write_waiting(exchange, writer)?;
     while !exchange.is_idle() {
         exchange.answer_one(server);
@@ -188,7 +188,7 @@ fn answer_held<T: Turns, W: Sink>(
 /// Writes all that waits.
 ///
 /// # Errors
-/// `IoFailed` where the writer failed: a beginning of what waits was written.
+/// `IoFailed` if the writer failed: a prefix of what waits was written.
 fn write_waiting<W: Sink>(exchange: &mut Exchange, writer: &mut W) -> Result<(), IoFailed>
     ensures done { OnOk result (DoesMore exchange.old [] [] (waiting_in exchange.old)
         exchange.new) }

@@ -11,7 +11,7 @@ use bw_wire::{Frame, Framer, Reply, WireFault};
 /// How the stream of an exchange ended.
 #[derive(Clone, Copy, Debug, PartialEq, Eq)]
 pub enum StreamEnd {
-    /// The recorder said that it ends.
+    /// The recorder sent `Bye`.
     Bye,
     /// The input ended after a frame.
     EndOfInput,
@@ -19,10 +19,10 @@ pub enum StreamEnd {
     BadFrame(WireFault),
 }
 
-/// What came of the next frame.
+/// What happened to the next frame.
 #[derive(Clone, Copy, Debug)]
 pub(crate) enum Step {
-    /// It isn't whole yet.
+    /// No frame is whole yet.
     WantsRead,
     /// It was answered, and its replies wait.
     Answered,

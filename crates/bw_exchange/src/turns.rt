@@ -1,4 +1,4 @@
-//! What answers messages and asks.
+//! Something that answers messages and asks.
 ghost use Rattle.std.specs.Prelude.{[], ◌∷◌, List, map};
 ghost use Rattle.std.specs.List.{All};
 ghost use Rattle.bw_model.specs.Wire.{Frame, Says, Asks};
@@ -9,12 +9,13 @@ ghost use Rattle.bw_wire.specs.Replies.{reply_of, HasWireNumbers};
 use arrayvec::ArrayVec;
 use bw_wire::{Ask, Message, Reply};
 
-/// What answers messages and asks, one after another.
+/// A server that answers messages and asks, one after another.
 pub trait Turns {
-    /// From the first state it may answer this frame so, and go on with the second.
+    /// In the first state it may answer this frame with these replies, and be in the second state
+    /// then.
     ghost answers: { Self → Frame → List ModelReply → Self → Type 0 };
 
-    /// Takes a message, and tells its sender, in `replies`, which is emptied first.
+    /// Takes a message, and puts the replies to its sender into `replies`, which is emptied first.
     ///
     /// # Not specified
     /// What the server is afterwards, and that at least one reply comes: each implementation says

@@ -80,7 +80,7 @@ module _ (g : Growing) (t : Take) (samples : List ℕ) (f : Format) (format : t.
       IsBetween t g.limit (Block samples) c1
   torn_samples c0 c1 ready w = stands_between t g.limit f format (Block samples) c1 tt (body_torn c0 c1 ready w)
 
-  -- .. or the header
+  -- a fault while the header is written
   torn_header : (c0 c1 c2 : Option (List ℕ)) → IsReady g t (Block samples) c0 → MayTear c0 (data_at + d) tail_len c1 →
       MayTear c1 0 data_at c2 → IsBetween t g.limit (Block samples) c2
   torn_header c0 c1 c2 ready w v =
@@ -92,7 +92,7 @@ module _ (g : Growing) (t : Take) (samples : List ℕ) (f : Format) (format : t.
       (prefix ++ samples) ++ (more ++ rest) ≡ prefix ++ ((samples ++ more) ++ rest)
   joined prefix samples more rest = simp append_assoc
 
-  -- the samples after what stood
+  -- the samples after what was there
   with_tail : (prefix rest : List ℕ) (c0 c1 : Option (List ℕ)) → c0 ≡ Some (prefix ++ (t.samples ++ rest)) →
       length prefix ≡ data_at → length rest ≤ tail_len → PutsLast (data_at + d) tail c0 c1 →
       c1 ≡ Some (prefix ++ ((t.samples ++ samples) ++ pad (data_at + d + length samples)))
@@ -118,7 +118,7 @@ module _ (g : Growing) (t : Take) (samples : List ℕ) (f : Format) (format : t.
   length-head : (data_len : ℕ) → length (head_with f t g.limit fields data_len 0) ≡ data_at
   length-head data_len = length-header f t.fields t.history data_len 0 g.limit fields
 
-  -- the data as they stand, after the header where the file is clean
+  -- the data as they are, after the header if the file is clean
   Prefixed : Bool → Option (List ℕ) → Type 0
   Prefixed dirty c0 = (prefix : List ℕ) × (rest : List ℕ) × (c0 ≡ Some (prefix ++ (t.samples ++ rest)))
       × (length prefix ≡ data_at) × (length rest ≤ tail_len)
@@ -158,7 +158,7 @@ module _ (g : Growing) (t : Take) (samples : List ℕ) (f : Format) (format : t.
       (sym (file_open f later g.limit fields is_open)))
       ∙ sym (file_after t g.limit f format (Block samples) tt)
 
--- .. in the words of the call
+-- the file with the block, as the call promises it
 module _ (g : Growing) (t : Take) (samples : List ℕ) (h : Heading) (heads : IsHeading t g.limit h)
     (is_open : t.closed ≡ false) (some : 0 < length samples) (data_at before : ℕ) (at_place : data_at ≡ place_of h)
     (so_far : before ≡ length t.samples) where

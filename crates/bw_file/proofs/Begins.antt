@@ -55,7 +55,7 @@ module _ (t : Take) (limit : ℕ) (f : Format) (history : List ℕ) (no_format :
       subst (λ (u : Take). IsShort u bytes → IsBetween u limit (Open f history) (Some bytes)) has_no_format
       (λ h. h) fits
 
-  -- bytes no more than the header's
+  -- no more bytes than the header has
   pub record Begun (found : Option (List ℕ)) : Type 0 where
     pub bytes : List ℕ
     pub is : found ≡ Some bytes

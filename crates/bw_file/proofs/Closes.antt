@@ -79,7 +79,7 @@ module _ (g : Growing) (t : Take) (total : ℕ) (f : Format) (format : t.format 
       MayTear c0 (data_at + d + d % 2) (length cues) c1 → IsBetween t g.limit (Close total) c1
   torn_cues c0 c1 ready w = stands_between t g.limit f format (Close total) c1 tt (cues_torn c0 c1 ready w)
 
-  -- .. or the header
+  -- a fault while the header is written
   torn_header : (c0 c1 c2 : Option (List ℕ)) → IsReady g t (Close total) c0 →
       MayTear c0 (data_at + d + d % 2) (length cues) c1 → MayTear c1 0 data_at c2 → IsBetween t g.limit (Close total) c2
   torn_header c0 c1 c2 ready w v =
@@ -90,7 +90,7 @@ module _ (g : Growing) (t : Take) (total : ℕ) (f : Format) (format : t.format 
   length-head : (k : ℕ) → length (header k) ≡ data_at
   length-head k = length-header f t.fields t.history d k g.limit fields
 
-  -- the data as they stand, after the header where the file is clean
+  -- the data as they are, after the header if the file is clean
   Prefixed : Bool → Option (List ℕ) → Type 0
   Prefixed dirty c0 = (prefix : List ℕ) × (rest : List ℕ) × (c0 ≡ Some (prefix ++ (samples ++ rest)))
       × (length prefix ≡ data_at) × (length rest ≤ length cues) × (not dirty ≡ true → prefix ≡ header 0)
@@ -124,7 +124,7 @@ module _ (g : Growing) (t : Take) (total : ℕ) (f : Format) (format : t.format 
       ∙ ap Some (sym new_parts)
       ∙ sym (file_after t g.limit f format (Close total) tt)
 
--- .. in the words of the call
+-- the file of the closed take, as the call promises it
 module _ (g : Growing) (t : Take) (total : ℕ) (h : Heading) (heads : IsHeading t g.limit h)
     (is_open : t.closed ≡ false) (data_at data_len : ℕ) (markers : List (ℕ × ℕ)) (at_place : data_at ≡ place_of h)
     (in_all : data_len ≡ length t.samples) (marked : markers ≡ t.markers) where

@@ -1,4 +1,4 @@
--- What a request that is to be stored says of its take.
+-- What a request that is to be stored says about its take.
 use Rattle.std.proofs.Common.{◌≡◌, ℕ, ◌<◌, Bool, true, false, cond, List, length, Option, Some, None, refl, arith}
 use Rattle.std.specs.Prelude.{IsTrue, IsSome}
 use Rattle.bw_model.specs.Take.{Format, Parts, Request, Open, Block, SetField, Close, Stored, Closed}

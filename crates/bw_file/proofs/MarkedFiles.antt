@@ -1,4 +1,4 @@
--- The file of a take, and a marker more.
+-- The file of a take with one more marker.
 use Rattle.std.proofs.Common.{◌≡◌, ℕ, Bool, false, Option, Some, None, refl, sym, subst}
 use Rattle.bw_model.specs.Take.{Take, Format, Mark, with_request}
 use Rattle.bw_model.specs.File.{file_of, file_with, form_of, form_len}

@@ -18,7 +18,7 @@ use Rattle.bw_file.specs.MemoryDisks.{stands_at, content_at, synced_at}
 abbrev pub content_under : Option StoredFile → Option (List ℕ)
 content_under found = option_map (λ (file : StoredFile). file.content.items) found
 
--- .. and what it had when it was last synced
+-- the content that it had when it was last synced
 abbrev pub synced_of : Option StoredFile → Option (List ℕ)
 synced_of found = option_and_then (λ (file : StoredFile). option_map (λ (v : Vec ℕ Global). v.items) file.synced) found
 
@@ -40,13 +40,13 @@ module _ {X : Type 0} (p : X → Bool) where
       let at = position-Some p xs i d e in
       sym (position_or_len_is p xs i d (omega (arith, at.0)) at.2 (λ _. at.1))
 
-  -- what is found is what stands at the place
+  -- what is found is what is at the place
   pub find_place : (xs : List X) (i : ℕ) (d : X) → position p xs ≡ Some i → find p xs ≡ Some (get_or xs i d)
   find_place xs i d e =
       let at = position-Some p xs i d e in
       find_at p xs ∙ ap (slice_get xs) (sym (first_is xs i d e)) ∙ slice_get-get_or xs i d at.0
 
-  -- something is found where there is a place
+  -- something is found if there is a place
   pub find_some : (xs : List X) → is_some (find p xs) ≡ is_some (position p xs)
   find_some xs =
       elim (slice_get_cases xs (position_or_len p xs)).1 as (λ _. is_some (find p xs) ≡ is_some (position p xs)) [
@@ -62,14 +62,14 @@ module _ {X : Type 0} (p : X → Bool) where
       find p (slice_set xs i y) ≡ Some y
   find_changed xs i d y e h = find-set p xs i y (first_is xs i d e) (position-Some p xs i d e).0 h
 
--- a file stands where a place is found
+-- a file is there if a place is found
 pub stands : (files : List StoredFile) (path : List ℕ) →
     is_some (content_at files path) ≡ is_some (position (stands_at path) files)
 stands files path =
     some_map (λ (file : StoredFile). file.content.items) (find (stands_at path) files)
     ∙ find_some (stands_at path) files
 
--- .. and nowhere else
+-- there is none if no place is found
 pub none_stands : (files : List StoredFile) (path : List ℕ) → is_some (position (stands_at path) files) ≡ false →
     is_some (content_at files path) ≡ true → ⊥
 none_stands files path none some = let f : true ≡ false = sym some ∙ stands files path ∙ none in cc
@@ -80,11 +80,11 @@ module _ (files : List StoredFile) (path : List ℕ) (i : ℕ) (old new : Stored
   old_stands : stands_at path old ≡ true
   old_stands = ap (stands_at path) was ∙ (position-Some (stands_at path) files i old is).1
 
-  -- the file that stood
+  -- the old file
   pub before : find (stands_at path) files ≡ Some old
   before = find_place (stands_at path) files i old is ∙ ap (λ (f : StoredFile). Some f) (sym was)
 
-  -- the file that stands
+  -- the new file
   pub after : find (stands_at path) (slice_set files i new) ≡ Some new
   after = find_changed (stands_at path) files i old new is (ap (λ (b : List ℕ). bytes_eq b path) same ∙ old_stands)
 
@@ -107,7 +107,7 @@ module _ (files : List StoredFile) (path : List ℕ) (i : ℕ) (old new : Stored
       find_past (stands_at other) files i new old (ap (stands_at other) (sym was) ∙ out)
       (ap (λ (b : List ℕ). bytes_eq b other) same ∙ out)
 
-  -- what the change leaves of the file is left at each path
+  -- what is at each path after the change
   pub left : {B : Type 0} (part : Option StoredFile → B) → part (Some new) ≡ part (Some old)
       → (other : List ℕ) → part (find (stands_at other) (slice_set files i new)) ≡ part (find (stands_at other) files)
   left part keeps other =

@@ -13,7 +13,7 @@ parts_at l from to ordered =
     (drop-drop (to - from) from l ∙ ap (λ (n : ℕ). drop n l) end) in
     sym (take-append-drop from l) ∙ ap (λ (r : List ℕ). take from l ++ r) middle
 
--- so many elements from a place on
+-- this many elements from a place on
 pub length-range_at : (l : List ℕ) (from count : ℕ) → from + count ≤ length l →
     length (slice_range l from (from + count)) ≡ count
 length-range_at l from count fits =

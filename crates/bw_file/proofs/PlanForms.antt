@@ -1,4 +1,4 @@
--- What is asked of a store, by the cases of a call.
+-- The calls of a store, by the cases of a call of the growing file.
 use Rattle.std.proofs.Common.{◌≡◌, ℕ, ◌+◌, ◌*◌, ◌%◌, ◌<◌, ◌≤◌, Bool, true, false, not, cond, List, [], ◌∷◌, ◌++◌}
 use Rattle.std.proofs.Common.{length, refl, ◌∙◌, ap, arith}
 use Rattle.std.specs.Prelude.{nat_le}
@@ -39,7 +39,7 @@ some_cues name place count some =
     ap (λ (b : Bool). cond b [] (WriteAt name place (12 + 24 * count) ∷ []))
     (ne_eqb count 0 (λ e. omega (arith, e, some)))
 
--- .. in the words of the calls
+-- the same in the words of the calls
 module _ (g : Growing) (p : Parts) (h : Heading) (data_at data_len : ℕ) (history : h.history.now ≡ p.history)
     (limit : h.limit ≡ g.limit) (at_place : data_at ≡ place_of h) (so_far : data_len ≡ p.samples_len) where
   pub append_as : (n : ℕ) →

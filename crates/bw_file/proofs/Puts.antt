@@ -6,7 +6,7 @@ use Rattle.std.proofs.Math.Seq.{drop-append-add}
 use Rattle.bw_store.specs.Stores.{overwritten, Written}
 use Rattle.bw_store.proofs.Tears.{written_is}
 
--- bytes put where others end
+-- bytes written where others end
 overwritten-append : (base rest bytes : List ℕ) (place : ℕ) → length base ≡ place →
     overwritten (base ++ rest) place bytes ≡ base ++ (bytes ++ drop (length bytes) rest)
 overwritten-append base rest [] place e = refl
@@ -25,7 +25,7 @@ pub put_after : (before after : Option (List ℕ)) (base rest bytes : List ℕ) 
 put_after before after base rest bytes place e h w =
     written_is before after (base ++ rest) place bytes e w ∙ ap Some (overwritten-append base rest bytes place h)
 
--- .. over as many
+-- bytes written over as many others
 pub put_over : (before after : Option (List ℕ)) (base old tail bytes : List ℕ) (place : ℕ) →
     before ≡ Some (base ++ (old ++ tail)) → length base ≡ place → length old ≡ length bytes →
     Written before place bytes after → after ≡ Some (base ++ (bytes ++ tail))

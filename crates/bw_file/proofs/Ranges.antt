@@ -11,7 +11,7 @@ use Rattle.bw_file.specs.Plans.{field_plan, range_plan}
 use Rattle.bw_file.specs.OneField.{DiffersInField, IsSameIn}
 use Rattle.bw_file.proofs.Parts.{parts_at}
 
--- what `!=` says of bytes
+-- what `!=` says about bytes
 pub differs : (r : Bool) (xs ys : List ℕ) → r ≡ not (bytes_eq xs ys) → r ≡ true → xs ≡ ys → ⊥
 differs r xs ys is reported same = let alike : r ≡ false = is ∙ ap not ((bytes_eq-Decides xs ys).1 same) in cc
 
@@ -73,7 +73,7 @@ module _ (before after : List ℕ) (now : ℕ) (below : AreSameBelow now before 
             (differ (same (same_where_same tag before after s (below tag s.range less s.known))))
         go (inr (inr more)) = go_on (s.earlier now range (omega arith) is)
 
--- .. and all but the field is the same
+-- all but the field is the same
 pub alike_at : (tag : ℕ) (before after : List ℕ) (s : DiffersInField tag before after) (range : ℕ × ℕ) →
     range_of tag ≡ Some range →
     after ≡ take range.0 before ++ slice_range after range.0 (range.0 + range.1) ++ drop (range.0 + range.1) before
@@ -82,13 +82,13 @@ alike_at tag before after s range is =
     subst (λ (r : ℕ × ℕ). after ≡ take r.0 before ++ slice_range after r.0 (r.0 + r.1) ++ drop (r.0 + r.1) before) one
     s.alike
 
--- nothing is written of a clean file where the bytes are the same
+-- for a clean file nothing is written if the bytes are the same
 pub set_same : (name : List ℕ) (tag : ℕ) (before after : List ℕ) → after ≡ before →
     field_plan name tag before after ≡ []
 set_same name tag before after same =
     ap (λ (b : Bool). cond b [] (range_plan name (range_of tag))) ((bytes_eq-Decides before after).1 (sym same))
 
--- .. and else the field
+-- otherwise the field is written
 pub set_other : (name : List ℕ) (tag : ℕ) (before after : List ℕ) (range : ℕ × ℕ) → (before ≡ after → ⊥) →
     range_of tag ≡ Some range → field_plan name tag before after ≡ WriteAt name range.0 range.1 ∷ []
 set_other name tag before after range other is =

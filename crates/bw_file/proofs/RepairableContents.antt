@@ -1,4 +1,4 @@
--- Contents between two files: the bytes that a request leaves alone stand in them.
+-- Contents between two files: the bytes that a request leaves alone are in them.
 use Rattle.std.proofs.Common.{◌≡◌, ◌⊎◌, inl, inr, ℕ, ◌+◌, ◌-◌, ◌≤◌, ◌<◌, List, ◌++◌, length, take, drop, get_or, refl}
 use Rattle.std.proofs.Common.{sym, ◌∙◌, ap, arith, length-append, length-drop, take-append-drop}
 use Rattle.std.specs.Prelude.{slice_range}
@@ -41,7 +41,8 @@ repairable_torn old new found torn from to place n fits r t apart room =
 pub repairable_old : (old new : List ℕ) (from to : ℕ) → length old ≤ length new → Repairable old new from to old
 repairable_old old new from to h = record { no_shorter = omega arith; no_longer = h; kept = refl }
 
--- the parts of such a content: bytes that may be any, those that stand, and at most so many after them
+-- the parts of such a content: any bytes, those that are left alone, and a bounded number after
+-- them
 pub record Parted (prefix_len : ℕ) (kept : List ℕ) (most : ℕ) (found : List ℕ) : Type 0 where
   pub prefix : List ℕ
   pub rest : List ℕ

@@ -20,7 +20,7 @@ use Rattle.bw_file.proofs.Stands.{stands_torn, ready_stands, ready_clean, stands
 use Rattle.bw_file.proofs.TakeHeadings.{IsHeading}
 use Rattle.bw_file.proofs.Files.{body, place, file_open}
 
--- a part of a header is put over the old one, where the rest is the same
+-- a part of a header is written over the old one, and the rest is the same
 pub part_put : (c0 c1 : Option (List ℕ)) (old new tail : List ℕ) (from to : ℕ) → from ≤ to → to ≤ length old →
     to ≤ length new → new ≡ take from old ++ slice_range new from to ++ drop to old →
     c0 ≡ Some (old ++ tail) → Written c0 from (slice_range new from to) c1 → c1 ≡ Some (new ++ tail)
@@ -151,7 +151,7 @@ module _ (g : Growing) (t : Take) (tag : ℕ) (value : List ℕ) (f : Format) (f
       ∙ ap Some (sym new_parts)
       ∙ sym (file_after t g.limit f format (SetField tag value) tt)
 
--- .. in the words of the call
+-- the file with the field, as the call promises it
 module _ (g : Growing) (t : Take) (tag : ℕ) (value : List ℕ) (h after : Heading) (heads : IsHeading t g.limit h)
     (then_heads : IsHeading (with_request t (SetField tag value)) g.limit after) (same_format : after.format ≡ h.format)
     (is_open : t.closed ≡ false) (data_len : ℕ) (in_all : data_len ≡ length t.samples) where

@@ -1,4 +1,4 @@
--- One field of `bext` is set: which, and where two headers differ then.
+-- One field of `bext` is set: which one, and where two headers differ then.
 use Rattle.std.proofs.Common.{◌≡◌, ◌⊎◌, inl, inr, ℕ, zero, suc, ◌+◌, ◌-◌, ◌<◌, ◌≤◌, Bool, List, ◌++◌, take, drop}
 use Rattle.std.proofs.Common.{slice_range, sym, ap, ◌∙◌, Option, Some, None, slice_get, slice_set, [], nat_le, refl}
 use Rattle.std.proofs.Common.{true, is_some, arith, append_assoc, subst, get_or, get_or-set_other}
@@ -15,7 +15,7 @@ use Rattle.bw_take.proofs.StoredLemmas.{set_without_fault}
 use Rattle.bw_file.proofs.Parts.{parts_at}
 use Rattle.bw_file.proofs.Retouches.{length-heading}
 
--- a field without a fault is one that there is
+-- a field without a fault exists
 shaped : (shape : Option Shape) (value : List ℕ) → shape_fault shape value ≡ None → is_some shape ≡ true
 shaped None value e = cc
 shaped (Some s) value e = refl
@@ -24,7 +24,7 @@ pub is_known : (p : Parts) (tag : ℕ) (value : List ℕ) → judge p (SetField 
     is_some (shape_of tag) ≡ true
 is_known p tag value stored = shaped (shape_of tag) value (set_without_fault p tag value stored)
 
--- a field stays as it is where a later one is set
+-- a field stays as it is if a later one is set
 keeps_earlier : (fields : List (List ℕ)) (tag other : ℕ) (value : List ℕ) → 1 ≤ other → other < tag →
     get_or (with_field fields tag value) (other - 1) [] ≡ get_or fields (other - 1) []
 keeps_earlier fields zero other value low before = refl
@@ -37,7 +37,7 @@ keeps_earlier fields (suc n) other value low before = go (slice_get shapes n)
     go (Some s) = let apart : other - 1 ≡ n → ⊥ =
         λ e. omega arith in get_or-set_other fields n (other - 1) (field_bytes s value) [] apart
 
--- no field is set where there is none
+-- no field is set if there is none
 pub sets_none : (fields : List (List ℕ)) (tag : ℕ) (value : List ℕ) (known : Bool) → is_some (shape_of tag) ≡ known →
     (known ≡ true → ⊥) → with_field fields tag value ≡ fields
 sets_none fields zero value known e none = refl
@@ -116,7 +116,7 @@ module _ (p : Parts) (tag : ℕ) (value : List ℕ) (old new : Heading) (data_le
         earlier = earlier r.0 r.1;
       }
 
-  -- the headers are the same where the field's bytes are
+  -- the headers are the same if the field's bytes are
   pub same_header : field_part tag p.fields ≡ field_part tag new.bext.now → before ≡ after
   same_header same =
       let r = range_known tag known in

@@ -1,4 +1,4 @@
--- What is asked of a store to set a field, by the headers and by the fields.
+-- The calls of a store that set a field, by the headers and by the fields.
 use Rattle.std.proofs.Common.{◌≡◌, ℕ, ◌+◌, ◌≤◌, Option, Some, None, arith, Bool, true, false, not, cond, List, []}
 use Rattle.std.proofs.Common.{length, is_some, refl, sym, ◌∙◌, ap, subst}
 use Rattle.std.specs.Str.{bytes_eq}
@@ -15,14 +15,14 @@ use Rattle.bw_layout.specs.declared.heading.Heading.{Heading}
 use Rattle.bw_store.proofs.Asked.{gets_at_most, first_at_most}
 use Rattle.bw_file.proofs.SetFields.{differs_in_field, sets_none, same_header, same_bytes}
 
--- bytes that are the same where others are ask the same
+-- if the bytes are the same wherever others are, the calls are the same
 as_alike : (is_clean : Bool) (name : List ℕ) (place tag : ℕ) (before after old new : List ℕ) →
     bytes_eq before after ≡ bytes_eq old new →
     set_plan is_clean name place tag before after ≡ set_plan is_clean name place tag old new
 as_alike true name place tag before after old new e = ap (λ (b : Bool). cond b [] (range_plan name (range_of tag))) e
 as_alike false name place tag before after old new e = refl
 
--- where nothing changes, the tag doesn't matter
+-- if nothing changes, the tag doesn't matter
 as_same : (is_clean : Bool) (name : List ℕ) (place first tag : ℕ) (before after old new : List ℕ) → before ≡ after →
     old ≡ new → set_plan is_clean name place first before after ≡ set_plan is_clean name place tag old new
 as_same true name place first tag before after old new same e =
@@ -30,7 +30,7 @@ as_same true name place first tag before after old new same e =
     ∙ sym (ap (λ (b : Bool). cond b [] (range_plan name (range_of tag))) ((bytes_eq-Decides old new).1 e))
 as_same false name place first tag before after old new same e = refl
 
--- it is one call at most
+-- it is at most one call
 length-set_plan : (is_clean : Bool) (name : List ℕ) (place tag : ℕ) (before after : List ℕ) →
     length (set_plan is_clean name place tag before after) ≤ 1
 length-set_plan true name place tag before after = go (bytes_eq before after) (range_of tag)

@@ -1,4 +1,4 @@
--- What stands under a name between two tries of a request.
+-- What a name has between two tries of a request.
 use Rattle.std.proofs.Common.{◌≡◌, ◌⊎◌, ◌∙◌, refl, sym, ap, ℕ, ◌+◌, ◌≤◌, Bool, true, false, List, length, Option, Some}
 use Rattle.std.proofs.Common.{None, subst}
 use Rattle.std.specs.Prelude.{option_map}
@@ -15,7 +15,7 @@ pub record Stands (old new : List ℕ) (from to : ℕ) (found : Option (List ℕ
   pub is : found ≡ Some bytes
   pub repairable : Repairable old new from to bytes
 
--- .. and are so after a write of what the request may change
+-- they are so after a write of what the request may change
 pub stands_torn : (old new : List ℕ) (from to : ℕ) (before after : Option (List ℕ)) (place n : ℕ) → to ≤ length old →
     Stands old new from to before → MayTear before place n after → (place + n ≤ from) ⊎ (to ≤ place) →
     place + n ≤ length new → Stands old new from to after
@@ -121,7 +121,7 @@ module _ (t : Take) (limit : ℕ) (f : Format) (format : t.format ≡ Some f) wh
   ready_stands r false found later grows ready =
       record { bytes = old; is = ready ∙ file_is; repairable = repairable_old old (new r) _ _ grows }
 
-  -- on a clean file it is the old file
+  -- for a clean file it is the old file
   pub ready_clean : (r : Request) (dirty : Bool) (found : Option (List ℕ)) →
       MatchBool dirty (IsBetween t limit r found) (found ≡ file_of t limit) → dirty ≡ false → found ≡ Some old
   ready_clean r true found ready e = cc

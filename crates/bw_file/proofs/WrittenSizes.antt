@@ -1,4 +1,4 @@
--- The sizes in a header, which alone tell two lengths of data apart.
+-- The sizes in a header: for two lengths of data only they differ.
 use Rattle.std.proofs.Common.{◌≡◌, ℕ, ◌+◌, ◌-◌, ◌<◌, ◌≤◌, List, ◌++◌, length, Option, Some, refl, sym, ◌∙◌, ap, arith}
 use Rattle.std.proofs.Common.{append_assoc, length-append}
 use Rattle.std.specs.Prelude.{codes, nat_le}
@@ -58,7 +58,7 @@ module _ (f : Format) (fields : List (List ℕ)) (history : List ℕ) (limit : �
   length-prefix : (data_len cues : ℕ) → limit < form_for data_len cues → length bw64_prefix ≡ 20
   length-prefix data_len cues large = (bw64_sizes_stand f fields history data_len cues limit large).prefix_length
 
-  -- the data size stands in the last four bytes
+  -- the data size is in the last four bytes
   length-between : (data_len cues : ℕ) → AreFields fields → form_for data_len cues ≤ limit →
       8 + length between ≡ data_place (length history) - 4
   length-between data_len cues h small =

@@ -8,6 +8,6 @@ abbrev pub is_dirty : Condition → Bool
 is_dirty Clean = false
 is_dirty Dirty = true
 
--- the whole file stands
+-- the file is whole
 abbrev pub is_clean : Condition → Bool
 is_clean condition = not (is_dirty condition)

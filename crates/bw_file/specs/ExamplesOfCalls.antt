@@ -1,4 +1,4 @@
--- Worked takes: the calls that their files take, from the opening to the close.
+-- Worked takes: the calls that their files make, from opening to closing.
 use Rattle.std.specs.Prelude.{◌≡◌, ℕ, Bool, true, false, List, [], ◌∷◌, ◌++◌, Some, codes}
 use Rattle.bw_model.specs.Take.{Parts, no_fields}
 use Rattle.bw_store.specs.Calls.{StoreCall, Create, WriteAt, Finish}
@@ -21,7 +21,7 @@ row_parts samples_len markers = record {
 abbrev pub row_file : ℕ → Bool → Growing
 row_file limit made = record { name = codes "a1"; limit = limit; made = made; dirty = false }
 
--- the calls where it is opened, gets a block of so many bytes and is closed with these markers
+-- the calls if it is opened, gets a block of this many bytes and is closed with these markers
 abbrev pub row_calls : ℕ → ℕ → List (ℕ × ℕ) → List StoreCall
 row_calls limit n markers =
     begin_plan (row_file limit false) true 0
@@ -40,7 +40,7 @@ SixCallsExample =
     ∷ Finish (codes "a1")
     ∷ []
 
--- as many bytes as a RIFF file of this limit has, and a marker, by which it is BW64: eight calls
+-- as many bytes as a RIFF file of this limit has, and a marker, which makes it BW64: eight calls
 abbrev pub EightCallsExample : Type 0
 EightCallsExample =
     row_calls 8192 7510 ((7, 0) ∷ []) ≡

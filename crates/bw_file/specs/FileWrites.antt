@@ -1,4 +1,4 @@
--- What a write from an offset on does to a file that is written by seeks.
+-- What a write from an offset on does to a file that is written after a seek.
 use Rattle.std.specs.Prelude.{◌≡◌, ◌⊎◌, ℕ, List, Some, IfSome, Result, MatchResult}
 use Rattle.std.specs.Io.KnownBytes.{Keeps, Appends}
 use Rattle.std.specs.Io.Seek.{StaysAt}
@@ -15,7 +15,7 @@ pub record StaysAsItWas {F : Type 0} (K : SeekGhosts F) (old new : F) : Type 0 w
   pub place : StaysAt (K.stream_position old) (K.stream_position new)
   pub bytes : Keeps (K.stream_bytes old) (K.stream_bytes new)
 
--- A file was sought at this offset, and then exactly these bytes were written.
+-- A seek to this offset was made, and then exactly these bytes were written.
 pub record WritesFrom {F : Type 0} (K : SeekGhosts F) (W : WriteGhosts F) (offset : ℕ)
     (bytes : List ℕ) (old new : F) : Type 0 where
   pub sought : F
@@ -27,7 +27,7 @@ abbrev pub FailsFrom : {F : Type 0} → SeekGhosts F → ℕ → F → F → Typ
 FailsFrom K offset old new =
     StaysAsItWas K old new ⊎ ((sought : _) × SeeksTo K offset old sought)
 
--- What succeeds wrote these bytes from the offset on; what fails wrote nothing before the seek.
+-- A success wrote these bytes from the offset on; a failure wrote nothing before the seek.
 abbrev pub PutsFrom : {F T E : Type 0} → SeekGhosts F → WriteGhosts F → ℕ → List ℕ →
     F → F → Result T E → Type 0
 PutsFrom K W offset bytes old new answer =

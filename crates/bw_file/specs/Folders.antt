@@ -1,4 +1,4 @@
--- Where the takes of a folder stand on a disk.
+-- Where the takes of a folder are on a disk.
 use Rattle.std.specs.Prelude.{ℕ, List, [], ◌∷◌, ◌++◌, codes, map, Option, Result, Ok, Err}
 use Rattle.bw_store.specs.declared.store.Created.{Created}
 use Rattle.bw_store.specs.declared.store.Created.TheVariants.{New, Exists}
@@ -8,7 +8,7 @@ use Rattle.bw_file.specs.declared.folder.OpenTake.{OpenTake}
 unfoldable pub take_path : List ℕ → List ℕ → List ℕ
 take_path folder name = folder ++ codes "/" ++ name ++ codes ".wav"
 
--- what stands under a take's name, by what stands at each path
+-- the content of a take's name, by the content of each path
 abbrev pub take_content : (List ℕ → Option (List ℕ)) → List ℕ → List ℕ → Option (List ℕ)
 take_content contents folder name = contents (take_path folder name)
 
@@ -16,7 +16,7 @@ take_content contents folder name = contents (take_path folder name)
 abbrev pub open_names : {F : Type 0} → List (OpenTake F) → List (List ℕ)
 open_names takes = map (λ take. take.name) takes
 
--- .. after a `create`: a name that is made is open
+-- the names of open takes after a `create`: a name that is made is open
 abbrev pub opened_by : {E : Type 0} → Result Created E → List ℕ → List (List ℕ) → List (List ℕ)
 opened_by (Ok New) name names = names ++ name ∷ []
 opened_by (Ok Exists) name names = names

@@ -19,11 +19,11 @@ pub record Growing : Type 0 where
   -- its last call failed
   pub dirty : Bool
 
--- The take's file stands, or on a dirty file what an earlier try of the request may have left.
+-- The take's file is there, or if it is dirty what an earlier try of the request may have left.
 abbrev pub IsReady : Growing → Take → Request → Option (List ℕ) → Type 0
 IsReady g t r found = MatchBool g.dirty (IsBetween t g.limit r found) (found ≡ file_of t g.limit)
 
--- The file of the take with the request stands, or after a fault what another try repairs.
+-- The file of the take with the request is there, or after a fault what another try repairs.
 abbrev pub Leaves : {T E : Type 0} → Result T E → Growing → Take → Request →
     Option (List ℕ) → Type 0
 Leaves answer g t r found =
@@ -43,11 +43,11 @@ pub record SetsOneField (p : Parts) (set : List (List ℕ)) : Type 0 where
   pub stored : judge p (SetField tag value) ≡ Stored
   pub fields : set ≡ with_field p.fields tag value
 
--- a name that `create` made has a beginning of its file
+-- a name that `create` made has a prefix of its file
 abbrev pub IsBegun : Growing → Take → Request → Option (List ℕ) → Type 0
 IsBegun g t r found = IsSome found × IsBetween t g.limit r found
 
--- A name that is made then has the file of the opened take, or after a fault a beginning of it.
+-- A name that is made then has the file of the opened take, or after a fault a prefix of it.
 abbrev pub BeginsFile : {T E : Type 0} → Result T E → Growing → Bool → Take → Request →
     Option (List ℕ) → Option (List ℕ) → Type 0
 BeginsFile answer g made t r before after =
@@ -61,7 +61,7 @@ abbrev pub is_new : Created → Bool
 is_new New = true
 is_new Exists = false
 
--- A name is made where it did not stand, and as long as it isn't made nothing under it changes.
+-- A name is made if it wasn't there, and as long as it isn't made nothing under it changes.
 pub record AsksForName (made_before made_after : Bool) (before after : Option (List ℕ)) :
     Type 0 where
   pub made : IsFalse made_before → IsTrue made_after → before ≡ None

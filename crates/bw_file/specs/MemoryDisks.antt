@@ -1,11 +1,11 @@
--- What stands on a disk in memory.
+-- What is on a disk in memory.
 use Rattle.std.specs.Prelude.{ℕ, List, Option, Bool, string_bytes}
 use Rattle.std.specs.Option.{option_map, option_and_then}
 use Rattle.std.specs.List.{find}
 use Rattle.std.specs.Str.{bytes_eq}
 use Rattle.bw_file.specs.declared.memory_disk.StoredFile.{StoredFile}
 
--- whether a file stands at a path
+-- whether a file is at a path
 abbrev pub stands_at : List ℕ → StoredFile → Bool
 stands_at path file = bytes_eq (string_bytes file.path) path
 

@@ -1,4 +1,4 @@
--- What the calls of a growing file ask of the store, in their order.
+-- Which calls of the store the calls of a growing file make, in their order.
 use Rattle.std.specs.Prelude.{ℕ, ◌+◌, ◌-◌, ◌*◌, ◌%◌, Bool, true, false, not, ◌&&◌, ◌==◌, nat_le}
 use Rattle.std.specs.Prelude.{if◌then◌else◌, Option, Some, None, List, [], ◌∷◌, ◌++◌, length}
 use Rattle.std.specs.Str.{bytes_eq}
@@ -12,7 +12,7 @@ use Rattle.bw_file.specs.Growing.{Growing}
 abbrev pub name_plan : List ℕ → Bool → List StoreCall
 name_plan name made = if made then [] else Create name ∷ []
 
--- samples, and a pad byte where the file's length would be odd
+-- samples, and a pad byte if the file's length would be odd
 abbrev pub samples_plan : List ℕ → ℕ → ℕ → List StoreCall
 samples_plan name place n =
     (WriteAt name place n ∷ [])
@@ -26,12 +26,12 @@ cues_plan name place count = if count == 0 then [] else WriteAt name place (12 +
 abbrev pub header_plan : List ℕ → ℕ → List StoreCall
 header_plan name place = WriteAt name 0 place ∷ []
 
--- both sizes: of RIFF the form's and then the data's, of BW64 the two together
+-- both sizes: for RIFF the form's and then the data's, for BW64 the two together
 abbrev pub sizes_plan : List ℕ → ℕ → Bool → List StoreCall
 sizes_plan name place true = (WriteAt name 4 4 ∷ []) ++ WriteAt name (place - 4) 4 ∷ []
 sizes_plan name place false = WriteAt name 20 16 ∷ []
 
--- the form size alone, where there are cue points
+-- the form size alone, if there are cue points
 abbrev pub form_plan : List ℕ → ℕ → Bool → List StoreCall
 form_plan name count is_riff =
     if count == 0 then [] else if is_riff then WriteAt name 4 4 ∷ [] else WriteAt name 20 8 ∷ []
@@ -41,7 +41,7 @@ abbrev pub stays : Bool → Bool → Bool
 stays true is_riff = is_riff
 stays false is_riff = not is_riff
 
--- what changed in the header of a clean file that stays of its kind, and else the whole header
+-- what changed in the header of a clean file that stays of its kind, else the whole header
 abbrev pub change_plan : Bool → Bool → Bool → List StoreCall → List StoreCall → List StoreCall
 change_plan is_clean was_riff is_riff changed whole =
     if is_clean && stays was_riff is_riff then changed else whole
@@ -51,31 +51,31 @@ abbrev pub grown_plan : Bool → List ℕ → ℕ → Bool → Bool → List Sto
 grown_plan is_clean name place was_riff is_riff =
     change_plan is_clean was_riff is_riff (sizes_plan name place is_riff) (header_plan name place)
 
--- .. of data with cue points after them
+-- the header of data with cue points after them
 abbrev pub closed_plan : Bool → List ℕ → ℕ → Bool → Bool → ℕ → List StoreCall
 closed_plan is_clean name place was_riff is_riff count =
     change_plan is_clean was_riff is_riff (form_plan name count is_riff) (header_plan name place)
 
--- a write in a range, where there is one
+-- a write in a range, if there is one
 abbrev pub range_plan : List ℕ → Option (ℕ × ℕ) → List StoreCall
 range_plan name None = []
 range_plan name (Some range) = WriteAt name range.0 range.1 ∷ []
 
--- the field under a tag, where bytes change
+-- the field under a tag, if bytes change
 abbrev pub field_plan : List ℕ → ℕ → List ℕ → List ℕ → List StoreCall
 field_plan name tag before after =
     if bytes_eq before after then [] else range_plan name (range_of tag)
 
--- the header with that field: of a clean file the field alone, and else the whole header
+-- the header with that field: for a clean file the field alone, else the whole header
 abbrev pub set_plan : Bool → List ℕ → ℕ → ℕ → List ℕ → List ℕ → List StoreCall
 set_plan is_clean name place tag before after =
     if is_clean then field_plan name tag before after else header_plan name place
 
--- the file is RIFF with this much data and so many cue points
+-- the file is RIFF with this much data and this many cue points
 abbrev pub is_riff_at : Growing → Parts → ℕ → ℕ → Bool
 is_riff_at g p data_len count = nat_le (form_size (length p.history) data_len count) g.limit
 
--- to begin: the name, and where it is this file's the header
+-- to begin: the name, and the header if the name is this file's
 abbrev pub begin_plan : Growing → Bool → ℕ → List StoreCall
 begin_plan g is_made history_len =
     name_plan g.name g.made ++ (if is_made then header_plan g.name (data_place history_len) else [])
@@ -89,13 +89,13 @@ append_plan g p n =
     samples_plan g.name (place + p.samples_len) n
     ++ grown_plan (not g.dirty) g.name place was_riff is_riff
 
--- to set a field: its bytes where they change, or the whole header
+-- to set a field: its bytes if they change, or the whole header
 abbrev pub retouch_plan : Growing → Parts → List (List ℕ) → ℕ → List StoreCall
 retouch_plan g p set tag =
     let place = data_place (length p.history) in
     set_plan (not g.dirty) g.name place tag (field_part tag p.fields) (field_part tag set)
 
--- to close: the cue points, then the header, and that the file is complete
+-- to close: the cue points, then the header, then the mark that the file is complete
 abbrev pub close_plan : Growing → Parts → List StoreCall
 close_plan g p =
     let place = data_place (length p.history) in

@@ -12,7 +12,7 @@ use std::marker::Model;
 /// As many bytes as the longest `cue ` chunk has, with 1,024 points; two headers aren't longer.
 const CAPACITY: usize = 24_588;
 
-/// The bytes that are to be written. Their memory is there from the start.
+/// The bytes to be written. Their memory is allocated at the start.
 #[derive(Drop)]
 pub(crate) struct Buffer {
     alloc: Global,

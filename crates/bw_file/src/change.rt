@@ -1,4 +1,4 @@
-//! Where two headers of a take differ, whose `bext` has one field of another value.
+//! Where two headers of a take differ if one field of `bext` has another value.
 ghost use Rattle.std.specs.Prelude.{◌≡◌, ◌+◌, ◌≤◌, ℕ, Some, IfSome, IfNone, length};
 ghost use Rattle.bw_layout.specs.Places.{range_of};
 ghost use Rattle.bw_file.specs.OneField.{DiffersInField, IsSameIn};

@@ -6,14 +6,14 @@ ghost use Rattle.std.specs.Prelude.{◌≡◌};
 pub(crate) enum Condition {
     /// The file of the take, whole.
     Clean,
-    /// What a call left that failed, or that is marked to be tried again.
+    /// What a failed call left, or a file that is marked for another try.
     Dirty,
 }
 
 impl Condition {
     ghost use Rattle.bw_file.specs.Conditions.{is_clean};
 
-    /// Whether it is the whole file.
+    /// Whether the file is whole.
     pub(crate) fn is_clean(self) -> bool
         ensures { result ≡ is_clean self }
     {

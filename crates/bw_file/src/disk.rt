@@ -1,4 +1,4 @@
-//! What a store asks of the system: files by path.
+//! What a store needs of the system: files by path.
 ghost use Rattle.std.specs.Prelude.{◌≡◌, ℕ, List, Bool, Option, IsTrue, IfOk, IfSome, OnOk, OnErr};
 ghost use Rattle.std.specs.Prelude.{is_err, length};
 ghost use Rattle.bw_store.specs.Stores.{Written, MayTear, KeepsOthers};
@@ -15,38 +15,38 @@ pub struct DiskFault;
 
 /// Files by path, which grow by writes.
 ///
-/// A file is written by the one who made it: there is no call that opens one that stands. The
-/// clauses on contents speak of an honest disk: one that keeps the writes that it answered with
-/// success, and whose files nobody else changes.
+/// A file is written by the one who made it: no call opens a file that is there already. The
+/// clauses on contents speak of an honest disk: one that keeps the writes that it reported as
+/// successful, and whose files nobody else changes.
 pub trait Disk: Drop {
     /// An open file.
     type File: Drop;
 
-    /// What stands at each path.
+    /// The content of each path.
     ghost contents: { Self → List ℕ → Option (List ℕ) };
 
-    /// What stood at each path when its file was last synced.
+    /// The content that each path had when its file was last synced.
     ghost synced: { Self → List ℕ → Option (List ℕ) };
 
-    /// Where an open file stands.
+    /// The path of an open file.
     ghost path_of: { Self.File → List ℕ };
 
     /// How many calls failed; the count stays at 2^64 - 1.
     ghost failures: { Self → ℕ };
 
-    /// How many calls came; the count stays at 2^64 - 1.
+    /// How many calls there were; the count stays at 2^64 - 1.
     ghost calls: { Self → ℕ };
 
     /// Whether the disk does what the clauses on contents say.
     ghost honest: { Self → Bool };
 
-    /// Makes an empty file, and answers it, or `None` where something stands at the path.
+    /// Makes an empty file, and returns it, or `None` if something is at the path.
     ///
     /// # Errors
-    /// `DiskFault` where the disk failed: nothing was made then.
+    /// `DiskFault` if the disk failed: nothing was made then.
     ///
     /// # Not specified
-    /// When the disk fails, and why: out of memory isn't told apart.
+    /// When the disk fails, and why: the error doesn't distinguish lack of memory.
     fn create_new(&mut self, path: &str) -> Result<Option<Self::File>, DiskFault>
         ensures call { IsOneCall calls failures self.old self.new (is_err result) }
         ensures honest { honest self.new ≡ honest self.old }
@@ -61,15 +61,15 @@ pub trait Disk: Drop {
         ensures synced { IsTrue (honest self.old) →
             (other : List ℕ) → synced self.new other ≡ synced self.old other };
 
-    /// Puts bytes over what stands in a file from an offset on, and past its end; a gap reads as
+    /// Overwrites a file's bytes from an offset on, and appends past the end; a gap reads as
     /// zeros.
     ///
     /// # Errors
-    /// `DiskFault` where the disk failed: any bytes may stand in the range then.
+    /// `DiskFault` if the disk failed: the range may hold any bytes then.
     ///
     /// # Not specified
-    /// - When the disk fails, and why: out of memory isn't told apart.
-    /// - What the file is good for after an error.
+    /// - When the disk fails, and why: the error doesn't distinguish lack of memory.
+    /// - Whether the file can still be used after an error.
     fn write_at(
         &mut self,
         file: &mut Self::File,
@@ -90,14 +90,14 @@ pub trait Disk: Drop {
         ensures synced { IsTrue (honest self.old) →
             (other : List ℕ) → synced self.new other ≡ synced self.old other };
 
-    /// Asks that what stands in a file outlasts a loss of power.
+    /// Asks that the content of a file survive a loss of power.
     ///
     /// # Errors
-    /// `DiskFault` where the disk failed. Nothing more is synced then.
+    /// `DiskFault` if the disk failed. Nothing more is synced then.
     ///
     /// # Not specified
-    /// - When the disk fails, and why: out of memory isn't told apart.
-    /// - What the file is good for after an error.
+    /// - When the disk fails, and why: the error doesn't distinguish lack of memory.
+    /// - Whether the file can still be used after an error.
     fn sync(&mut self, file: &Self::File) -> Result<(), DiskFault>
         ensures call { IsOneCall calls failures self.old self.new (is_err result) }
         ensures honest { honest self.new ≡ honest self.old }

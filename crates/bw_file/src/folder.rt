@@ -22,8 +22,8 @@ struct OpenTake<F: Drop> {
 
 /// The files `NAME.wav` of one folder.
 ///
-/// Only files that this store made are written: a name that stands is never opened. Over an honest
-/// disk it is an honest store. A call fails where the disk does; `create` also where memory is
+/// Only files that this store made are written: a file that is there already is never opened. Over
+/// an honest disk it is an honest store. A call fails if the disk does; `create` also if memory is
 /// refused, and the others for a name that this store did not make.
 #[derive(Drop)]
 pub struct FolderStore<D: Disk> {
@@ -37,10 +37,10 @@ pub struct FolderStore<D: Disk> {
 }
 
 impl<R: Files + Drop> FolderStore<SystemDisk<R>> {
-    /// The store of a folder of the system, which need not be there yet.
+    /// The store of a folder of the system, which need not exist yet.
     ///
     /// # Errors
-    /// `AllocError` where memory was refused. The runtime isn't given back.
+    /// `AllocError` if memory was refused. The runtime isn't given back.
     ///
     /// # Not specified
     /// - When memory is refused.
@@ -60,7 +60,7 @@ impl<D: Disk> FolderStore<D> {
     /// The store of a folder of a disk.
     ///
     /// # Errors
-    /// `AllocError` where memory was refused. The disk isn't given back.
+    /// `AllocError` if memory was refused. The disk isn't given back.
     ///
     /// # Not specified
     /// When memory is refused.
@@ -121,7 +121,7 @@ impl<D: Disk> FolderStore<D> {
         ensures opened { open_names self.new.takes.items
             ≡ opened_by result name.now (open_names self.old.takes.items) }
     {
-        // All that needs memory comes first, so that a call that fails makes no file.
+        // Whatever needs memory comes first, so that a call that fails makes no file.
         let path = self.path(name)?;
         self.takes.reserve(1).map_err(|_| StoreFault)?;
         let Some(file) = self.disk.create_new(path.as_str()).map_err(|_| StoreFault)? else {
@@ -147,11 +147,11 @@ impl<D: Disk> TakeStore for FolderStore<D> {
     /// Makes the file FOLDER/NAME.wav, by one call of the disk.
     ///
     /// # Errors
-    /// `StoreFault` where that call failed, or where memory was refused before it: no file was
+    /// `StoreFault` if that call failed, or if memory was refused before it: no file was
     /// made.
     ///
     /// # Not specified
-    /// When memory is refused: an error without a call of the disk has no other cause given.
+    /// When memory is refused: an error without a call of the disk has no other cause.
     fn create(&mut self, name: &Name) -> Result<Created, StoreFault>
         ensures failures { Counts self.old.call_counter.failures self.new.call_counter.failures (is_err result) }
         ensures calls { Counts self.old.call_counter.calls self.new.call_counter.calls true }
@@ -180,7 +180,7 @@ impl<D: Disk> TakeStore for FolderStore<D> {
     /// Writes to a file that this store made, by one call of the disk.
     ///
     /// # Errors
-    /// `StoreFault` where that call failed, and for a name that this store didn't make: the disk
+    /// `StoreFault` if that call failed, and for a name that this store didn't make: the disk
     /// isn't called then.
     #[tactic(auto, using(crate::proofs::TakePaths::take_path_injective))]
     fn write_at(&mut self, name: &Name, offset: u64, bytes: &[u8]) -> Result<(), StoreFault>
@@ -220,10 +220,10 @@ impl<D: Disk> TakeStore for FolderStore<D> {
         answer
     }
 
-    /// Asks for the sync of a file that this store made, by one call of the disk.
+    /// Syncs a file that this store made, by one call of the disk.
     ///
     /// # Errors
-    /// `StoreFault` where that call failed, and for a name that this store didn't make: the disk
+    /// `StoreFault` if that call failed, and for a name that this store didn't make: the disk
     /// isn't called then.
     #[tactic(auto, using(crate::proofs::TakePaths::take_path_injective))]
     fn finish(&mut self, name: &Name) -> Result<(), StoreFault>

@@ -25,8 +25,8 @@ use std::marker::Model;
 /// The file of one take, which is whole after each call that succeeds.
 ///
 /// After a call that failed the file is dirty, and the same call may be tried again: it writes the
-/// whole header then, and else what changed in it. The memory in which a header is built is there
-/// from the start.
+/// whole header then, instead of only what changed in it. The memory in which a header is built is
+/// allocated at the start.
 #[derive(Drop)]
 pub struct GrowingFile {
     name: Name,
@@ -51,10 +51,10 @@ impl Model for GrowingFile {
 }
 
 impl GrowingFile {
-    /// The file of a take that isn't opened: nothing stands in a store yet.
+    /// The file of a take that isn't opened: nothing is in a store yet.
     ///
     /// # Errors
-    /// `AllocError` where memory was refused.
+    /// `AllocError` if memory was refused.
     ///
     /// # Not specified
     /// When memory is refused.
@@ -71,11 +71,11 @@ impl GrowingFile {
         })
     }
 
-    /// The file of a take that is open and stands whole in a store, as a server finds it that goes
-    /// on from a journal.
+    /// The file of a take that is open and whole in a store, as a server finds it when it resumes
+    /// from a journal.
     ///
     /// # Errors
-    /// `AllocError` where memory was refused.
+    /// `AllocError` if memory was refused.
     ///
     /// # Not specified
     /// When memory is refused.
@@ -102,7 +102,7 @@ impl GrowingFile {
 
     /// Marks the file for another try of the request that its last call stored.
     ///
-    /// So it is where the store has the request and the journal after it failed.
+    /// This is needed when the store has the request and the journal failed after it.
     pub fn mark_dirty(&mut self)
         ensures { self.new ≡ record self.old { dirty = true } }
     {
@@ -112,10 +112,10 @@ impl GrowingFile {
     /// Makes the name, unless an earlier try made it, and writes the header of a take without data.
     /// The OPEN with this format and history fits and is judged Stored.
     ///
-    /// Where the name stood in the store, it answers Exists, and nothing is written.
+    /// If the name was in the store, it returns Exists, and nothing is written.
     ///
     /// # Errors
-    /// `StoreFault` where a call of the store failed. The file is dirty then, and the same call may
+    /// `StoreFault` if a call of the store failed. The file is dirty then, and the same call may
     /// be tried again.
     ///
     /// # Not specified
@@ -173,7 +173,7 @@ impl GrowingFile {
     /// bytes after it.
     ///
     /// # Errors
-    /// `StoreFault` where a call of the store failed. The file is dirty then, and the same call may
+    /// `StoreFault` if a call of the store failed. The file is dirty then, and the same call may
     /// be tried again.
     ///
     /// # Not specified
@@ -222,7 +222,7 @@ impl GrowingFile {
     /// judged Stored.
     ///
     /// # Errors
-    /// `StoreFault` where a call of the store failed. The file is dirty then, and the same call may
+    /// `StoreFault` if a call of the store failed. The file is dirty then, and the same call may
     /// be tried again.
     ///
     /// # Not specified
@@ -268,11 +268,11 @@ impl GrowingFile {
         Ok(())
     }
 
-    /// Puts the cue points of the markers after the data, and says that the file is complete. The
+    /// Writes the cue points of the markers after the data, and says that the file is complete. The
     /// CLOSE with the take's own frames is judged Stored.
     ///
     /// # Errors
-    /// `StoreFault` where a call of the store failed. The file is dirty then, and the same call may
+    /// `StoreFault` if a call of the store failed. The file is dirty then, and the same call may
     /// be tried again.
     ///
     /// # Not specified
@@ -333,7 +333,7 @@ fn heading_of(state: &TakeState, limit: Limit) -> Heading<'_>
     )
 }
 
-/// Makes the name, unless it is made: `New` where it is then.
+/// Makes the name, unless it is made: `New` if the file is this one's.
 fn make_name<S: TakeStore>(
     made: &mut bool,
     store: &mut S,

@@ -11,7 +11,7 @@ use crate::disk::{Disk, DiskFault};
 use bw_store::{CallCounter, overwrite};
 use std::alloc::Global;
 
-/// What stands at a path, and what stood there when the file was last synced.
+/// The content of a path, and the content that it had when the file was last synced.
 #[derive(Drop)]
 struct StoredFile {
     path: String,
@@ -25,8 +25,8 @@ pub struct MemoryFile {
     path: String,
 }
 
-/// Files in memory, by path. A call fails where memory is refused, and for a file that another disk
-/// made, unless its path stands on this one too.
+/// Files in memory, by path. A call fails if memory is refused, and for a file that another disk
+/// made, unless its path is on this one too.
 ///
 /// It is an honest disk, which shows that the promises of `Disk` can be kept.
 #[derive(Drop)]
@@ -52,7 +52,7 @@ impl MemoryDisk {
         }
     }
 
-    /// What stands at a path; None where nothing does.
+    /// The content of a path; None if there is none.
     pub fn content(&self, path: &str) -> Option<&[u8]>
         ensures { option_copied result ≡ ⟦<MemoryDisk as Disk>⟧.contents self.now path.now }
     {
@@ -78,10 +78,10 @@ impl Disk for MemoryDisk {
 
     ghost honest = { λ d. true };
 
-    /// Makes an empty file, unless something stands at the path.
+    /// Makes an empty file, unless something is at the path.
     ///
     /// # Errors
-    /// `DiskFault` where memory was refused, never where something stands there: all files are as
+    /// `DiskFault` if memory was refused, never if something is there: all files are as
     /// they were.
     ///
     /// # Not specified
@@ -106,11 +106,11 @@ impl Disk for MemoryDisk {
         answer
     }
 
-    /// Puts the bytes into what stands at the file's path.
+    /// Writes the bytes into the content of the file's path.
     ///
     /// # Errors
-    /// `DiskFault` where nothing stands there, or memory was refused, never where the bytes go over
-    /// what stands: all files are as they were, not torn.
+    /// `DiskFault` if nothing is there, or memory was refused, never if the bytes only overwrite
+    /// others: all files are as they were, not torn.
     ///
     /// # Not specified
     /// When memory is refused.
@@ -141,13 +141,13 @@ impl Disk for MemoryDisk {
         answer
     }
 
-    /// Notes that what stands at the file's path is synced.
+    /// Notes that the content of the file's path is synced.
     ///
     /// # Errors
-    /// `DiskFault` where nothing stands there, or memory was refused.
+    /// `DiskFault` if nothing is there, or memory was refused.
     ///
     /// # Not specified
-    /// That it succeeds where the file stands and there is memory.
+    /// That it succeeds if the file is there and there is memory.
     fn sync(&mut self, file: &MemoryFile) -> Result<(), DiskFault>
         ensures failures { Counts self.old.call_counter.failures self.new.call_counter.failures (is_err result) }
         ensures calls { Counts self.old.call_counter.calls self.new.call_counter.calls true }
@@ -173,7 +173,7 @@ fn find(files: &[StoredFile], path: &str) -> Option<usize>
     files.iter().position(|file| file.path.as_str() == path)
 }
 
-/// Makes an empty file, unless one stands.
+/// Makes an empty file, unless there is one.
 fn make(
     files: &mut Vec<StoredFile>,
     alloc: Global,
@@ -205,7 +205,7 @@ fn make(
     Ok(Some(made))
 }
 
-/// Writes into a file, if it stands.
+/// Writes into a file, if it is there.
 fn write(
     files: &mut Vec<StoredFile>,
     path: &str,
@@ -232,7 +232,7 @@ fn write(
     overwrite(&mut files[place].content, offset, bytes).map_err(|_| DiskFault)
 }
 
-/// Keeps what stands in a file as what is synced.
+/// Keeps the content of a file as what is synced.
 fn keep(files: &mut Vec<StoredFile>, alloc: Global, path: &str) -> Result<(), DiskFault>
     ensures unchanged { (other : List ℕ) →
         content_at files.new.items other ≡ content_at files.old.items other }

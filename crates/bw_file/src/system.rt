@@ -11,12 +11,13 @@ use std::io::{ErrorKind, Seek, SeekFrom, Write};
 
 /// The files of the system, by the calls of std.
 ///
-/// Of a write it is proved over each file that reports its position and its bytes: one that succeeds
-/// sought its offset, and then wrote exactly its bytes, once; one that fails wrote nothing before
-/// that seek, and where this failed nothing at all. A file of the system reports neither, so that
-/// this is known of the code alone. No clause of std says what such a file then holds, nor anything
-/// of `create_new` and `sync_all`, so `honest` is false here, and what is proved of honest disks
-/// says nothing of this one: that its calls do what is asked of an honest disk is a premise.
+/// About a write this is proved for each file that reports its position and its bytes: a success
+/// made a seek to the offset, and then wrote exactly its bytes, once; a failure wrote nothing
+/// before that seek, and nothing at all if the seek failed. A file of the system reports neither,
+/// so this is known of the code alone. No clause of std says what such a file then holds, nor
+/// anything about `create_new` and `sync_all`, so `honest` is false here, and what is proved about
+/// honest disks says nothing about this one: that its calls do what an honest disk does is a
+/// premise.
 #[derive(Drop)]
 pub struct SystemDisk<R> {
     rt: R,
@@ -28,7 +29,7 @@ impl<R> SystemDisk<R> {
     ///
     /// # Not specified
     /// That the disk is honest: that is a premise. Of its `create_new` and `sync` only the counts
-    /// are proved: no clause says that they call std, so runs show it.
+    /// are proved: no clause says that they call std; only runs show it.
     pub fn new(rt: R) -> SystemDisk<R>
         ensures rt { result.rt ≡ rt }
         ensures failures { result.call_counter.failures ≡ 0 }
@@ -69,7 +70,7 @@ impl<R: Files + Drop> Disk for SystemDisk<R> {
     /// Seeks to the offset, and then writes exactly these bytes, once.
     ///
     /// # Errors
-    /// `DiskFault` where the seek or the write failed: after a failed seek nothing is written.
+    /// `DiskFault` if the seek or the write failed: after a failed seek nothing is written.
     ///
     /// # Not specified
     /// After a failed write that a seek came before: what the file holds, and its position.

@@ -21,7 +21,7 @@ use bw_layout::{CuePoint, Heading, patch_sizes};
 use bw_request::Name;
 use bw_store::{StoreFault, TakeStore};
 
-/// Puts samples where the data end, and a pad byte where the file's length would be odd.
+/// Writes samples where the data end, and a pad byte if the file's length would be odd.
 pub(crate) fn put_samples<S: TakeStore>(
     store: &mut S,
     name: &Name,
@@ -47,7 +47,7 @@ pub(crate) fn put_samples<S: TakeStore>(
     Ok(())
 }
 
-/// Puts the `cue ` chunk where the data chunk ends, if there are markers.
+/// Writes the `cue ` chunk where the data chunk ends, if there are markers.
 pub(crate) fn put_cues<S: TakeStore>(
     store: &mut S,
     name: &Name,
@@ -75,7 +75,7 @@ pub(crate) fn put_cues<S: TakeStore>(
     Ok(())
 }
 
-/// Puts a whole header, whatever stands before the data.
+/// Writes a whole header, whatever is before the data.
 pub(crate) fn put_header<S: TakeStore>(
     store: &mut S,
     name: &Name,
@@ -102,9 +102,9 @@ pub(crate) fn put_header<S: TakeStore>(
     Ok(())
 }
 
-/// Brings the header of a file without cue points from one length of its data to a longer one.
+/// Updates the header of a file without cue points from one length of its data to a longer one.
 ///
-/// A clean file of the same kind gets its sizes alone.
+/// For a clean file of the same kind only the sizes are written.
 pub(crate) fn put_grown_header<S: TakeStore>(
     condition: Condition,
     store: &mut S,
@@ -136,9 +136,9 @@ pub(crate) fn put_grown_header<S: TakeStore>(
     Ok(())
 }
 
-/// Brings the header of a file to the cue points after its data.
+/// Updates the header of a file for the cue points after its data.
 ///
-/// A clean file of the same kind gets its form size alone, and without cue points nothing.
+/// For a clean file of the same kind only the form size is written, and nothing without cue points.
 pub(crate) fn put_closed_header<S: TakeStore>(
     condition: Condition,
     store: &mut S,
@@ -172,9 +172,9 @@ pub(crate) fn put_closed_header<S: TakeStore>(
     Ok(())
 }
 
-/// Brings the header of a file without cue points to a heading with another `bext`.
+/// Updates the header of a file without cue points to a heading with another `bext`.
 ///
-/// A clean file gets the changed field alone.
+/// For a clean file only the changed field is written.
 pub(crate) fn put_retouched_header<S: TakeStore>(
     condition: Condition,
     store: &mut S,
@@ -214,7 +214,7 @@ pub(crate) fn put_retouched_header<S: TakeStore>(
     Ok(())
 }
 
-/// Puts the sizes of longer data into a header that stays of its kind.
+/// Writes the sizes of longer data into a header that stays of its kind.
 fn put_grown_sizes<S: TakeStore>(
     store: &mut S,
     name: &Name,
@@ -251,7 +251,7 @@ fn put_grown_sizes<S: TakeStore>(
     Ok(())
 }
 
-/// Puts the form size with cue points into a header that stays of its kind.
+/// Writes the form size with cue points into a header that stays of its kind.
 fn put_closed_size<S: TakeStore>(
     store: &mut S,
     name: &Name,
@@ -284,7 +284,7 @@ fn put_closed_size<S: TakeStore>(
     Ok(())
 }
 
-/// Puts the part of a header that another `bext` changes, if it changes any.
+/// Writes the part of a header that another `bext` changes, if it changes any.
 fn put_field<S: TakeStore>(
     store: &mut S,
     name: &Name,

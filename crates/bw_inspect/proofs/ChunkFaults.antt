@@ -1,4 +1,4 @@
--- The faults of a chunk in the parts in which they are found, and what one more chunk tells.
+-- The faults of a chunk in the parts in which they are found, and what one more chunk says.
 use Rattle.std.proofs.Common.{◌≡◌, ℕ, ◌+◌, ◌≤◌, Bool, true, false, cond, List, [], ◌∷◌, ◌++◌, length, Option, Some}
 use Rattle.std.proofs.Common.{None, Result, Ok, Err, refl, sym, ◌∙◌, ap, append_assoc, append-nil}
 use Rattle.std.specs.Prelude.{codes, fold, option_map, is_some, unwrap_or, nat_le}
@@ -141,7 +141,7 @@ joins : (i : List ℕ) (seen : List reading.Entry) (e : reading.Entry) → e.id 
     reading.entry_of i seen ≡ None → reading.entry_of i (seen ++ e ∷ []) ≡ Some e
 joins i seen e n t none = own_push i seen e (ap (λ (z : List ℕ). reading.is_id z i) n ∙ t) none
 
--- what the chunks tell with one more
+-- what the chunks say with one more
 pub facts_push : (b : List ℕ) (seen : List reading.Entry) (e : reading.Entry) (s : ChunkKind) → Named s e.id →
     has_kind s (facts_in b seen) ≡ false → facts_in b (seen ++ e ∷ []) ≡ learned b s e (facts_in b seen)
 facts_push b seen e Fmt n h =

@@ -15,7 +15,7 @@ use Rattle.bw_inspect.specs.Known.{Facts, bext_reported}
 use Rattle.bw_inspect.specs.Contents.{ReadTo, IsFaultless, IsLearned}
 use Rattle.bw_inspect.proofs.PartialReads.{part_at}
 
--- a part of a content stands in all the bytes
+-- a part of a content is in all the bytes
 pub in_content : (b : List ℕ) (e : reading.Entry) (i j : ℕ) → i ≤ j → j ≤ e.size →
     slice_range (report.content_of b (Some e)) i j ≡ slice_range b (e.place + 8 + i) (e.place + 8 + j)
 in_content b e i j h k = part_at b (e.place + 8) e.size i j h k
@@ -25,7 +25,7 @@ cut_faults : (len p count c : ℕ) (s : ChunkKind) (v : Bool) → nat_lt len (p 
     ≡ cond v (Some (record { kind = reading.Truncated; offset = p })) None
 cut_faults len p count c s v e n = rw (n, e) refl
 
--- a content of which nothing but its length can be wrong
+-- a content of which only the length can be wrong
 
 pub plain_whole : (b : List ℕ) (e : reading.Entry) (s : ChunkKind) (left : Option (List ℕ)) → is_cue_kind s ≡ false →
     ReadTo b e e.size left → IsFaultless b s e left
@@ -52,7 +52,7 @@ u32_prefix c n p h = ap (from_le_bytes w32) (range_prefix c n p (p + 4) (omega a
 pub u64_prefix : (c : List ℕ) (n p : ℕ) → p + 8 ≤ n → u64_at (slice_range c 0 n) p ≡ u64_at c p
 u64_prefix c n p h = ap (from_le_bytes w64) (range_prefix c n p (p + 8) (omega arith) h)
 
--- what `fmt ` says stands in its first 16 bytes
+-- what `fmt ` says is in its first 16 bytes
 pub fmt_prefix : (c : List ℕ) → report.raw_fmt (slice_range c 0 16) ≡ report.raw_fmt c
 fmt_prefix c =
     let a = u16_prefix c 16 0 (lit≤ tt) in
@@ -80,7 +80,7 @@ fields_prefix c =
     let l5 = u16_prefix c 602 420 (lit≤ tt) in
     rw (t1, t2, t3, t4, t5, t6, n1, n2, l1, l2, l3, l4, l5) refl
 
--- what `bext` says stands in its first 602 bytes, and so do its reserved bytes
+-- what `bext` says is in its first 602 bytes, and so are its reserved bytes
 pub bext_prefix : (c : List ℕ) → bext_at (slice_range c 0 602) ≡ bext_at c
 bext_prefix c =
     ap (λ (x : report.RawBext). (x, slice_range (slice_range c 0 602) 422 602)) (fields_prefix c)
@@ -99,7 +99,7 @@ pub read_as : (b : List ℕ) (e e' : reading.Entry) (done : ℕ) (left : Option 
     ReadTo b e' done left
 read_as b e e' done left same r = subst (λ (x : reading.Entry). ReadTo b x done left) same r
 
--- what `bext` tells is known
+-- what `bext` says is known
 pub bext_learned : (b : List ℕ) (e : reading.Entry) (x : (report.RawBext × List ℕ) × ℕ) (old : Facts)
     (left : Option (List ℕ)) → ReadTo b e e.size left → x ≡ bext_reported b e →
     IsLearned b Bext e old (record old { bext = Some x }) left

@@ -58,7 +58,7 @@ too_many_rows b e prefix most width bad n f left s r m q = record {
       ∙ (sym (ap bytes_fault q) ∙ h);
 }
 
--- there is no room for the rows
+-- there is no memory for the rows
 pub no_room : (b : List ℕ) (e : reading.Entry) (prefix most width : ℕ) (bad : reading.FaultKind) (n : ℕ)
     (f : InspectFault) (left : Option (List ℕ)) → prefix ≤ e.size → ReadTo b e prefix left → n ≤ most →
     e.size < prefix + width * n →
@@ -83,7 +83,7 @@ stopped_as b most place wants other xs ys f left k e s = record {
   fault = λ g h. sym e ∙ s.fault g h;
 }
 
--- bytes were cut short, where a list may grow too
+-- bytes were cut short, and a list may grow too
 pub cut_any : (b : List ℕ) (e e' : reading.Entry) (wants : ℕ → Type 0) (f : InspectFault) (left : Option (List ℕ)) →
     e ≡ e' → IsCutShort b e e.size Nowhere f left → IsCutShort b e' e'.size wants f left
 unfolding halts_further
@@ -151,7 +151,7 @@ stopped_in_rows b e prefix most width bad n reported f left q l there few room s
     subst (λ (k : ℕ). IsStopped b (e.place + 8 + e.size) e.place (WantsRows b e prefix most width bad k)
     (counted_faults (length b) e prefix most width bad k) f left) q stopped
 
--- all the rows are there, and so is the content
+-- all the rows are there, and the content with them
 pub rows_free : (b : List ℕ) (e : reading.Entry) (prefix most width : ℕ) (bad : reading.FaultKind) (n reported : ℕ) →
     n ≡ reported → prefix ≤ e.size → e.place + 8 + e.size ≤ length b → n ≤ most → prefix + width * n ≤ e.size →
     first_that_holds (counted_faults (length b) e prefix most width bad reported) ≡ None
@@ -160,7 +160,7 @@ rows_free b e prefix most width bad n reported q l there few room =
     (none_of (length b) e prefix most width bad n (le-ltb (length b) (e.place + 8 + prefix) (omega arith))
     (le-ltb most n few) (le-ltb e.size (prefix + width * n) room) (le-ltb (length b) (e.place + 8 + e.size) there))
 
--- the number of rows that the code found is the one that stands there
+-- the number of rows that the code found is the one in the content
 pub stopped_reported : (b : List ℕ) (e : reading.Entry) (prefix most width : ℕ) (bad : reading.FaultKind) (n reported : ℕ)
     (f : InspectFault) (left : Option (List ℕ)) → n ≡ reported →
     IsStopped b (e.place + 8 + e.size) e.place Nowhere (counted_faults (length b) e prefix most width bad n) f left →

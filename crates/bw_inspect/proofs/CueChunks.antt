@@ -16,14 +16,14 @@ use Rattle.bw_inspect.specs.CueContents.{IsCued, WantsCounted, cue_faults}
 use Rattle.bw_inspect.proofs.Contents.{in_content}
 use Rattle.bw_inspect.proofs.Counted.{stopped_as}
 
--- the count stands after the head
+-- the count comes after the head
 count_there : (b : List ℕ) (e : reading.Entry) → 4 ≤ e.size →
     u32_at (report.content_of b (Some e)) 0 ≡ u32_at b (e.place + 8)
 count_there b e h =
     ap (from_le_bytes w32) (in_content b e 0 4 (lit≤ tt) h
     ∙ ap (λ (k : ℕ). slice_range b k (e.place + 8 + 4)) (add-zero (e.place + 8)))
 
--- the faults of the content, by either word, where so many bytes are there
+-- the faults of the content, by either word, if this many bytes are there
 faults_as : (len : ℕ) (b : List ℕ) (e : reading.Entry) → 4 ≤ e.size →
     counted_faults len e 4 65536 24 reading.BadCue (u32_at (report.content_of b (Some e)) 0)
     ≡ content_faults len e.place Cue (u32_at b (e.place + 8)) e.size

@@ -1,4 +1,4 @@
--- Whose fault a fault is.
+-- Which faults are faults of the bytes.
 use Rattle.std.proofs.Common.{◌≡◌, ℕ, ◌+◌, ◌≤◌, arith, Bool, true, false, List, length, drop, Option, Some, None, refl}
 use Rattle.std.proofs.Common.{sym, ◌∙◌, ap}
 use Rattle.std.specs.Prelude.{option_map, is_some, not}
@@ -46,7 +46,7 @@ kind_reported (Some k) n e = (record { kind = k; offset = n }, refl)
 pub reported_fault : (f : InspectFault) → is_of_bytes f.kind ≡ true → (g : reading.Fault) × (bytes_fault f ≡ Some g)
 reported_fault f e = kind_reported (kind_of f.kind) f.offset e
 
--- a call halts where it stands, for a fault of the bytes
+-- a call stops where it is, for a fault of the bytes
 pub halts_by_bytes : (b : List ℕ) (most place reached : ℕ) (wants : ℕ → Type 0) (f : InspectFault)
     (left : Option (List ℕ)) → reached ≤ most → reached ≤ length b → left ≡ Some (drop reached b) →
     is_of_bytes f.kind ≡ true →
@@ -60,7 +60,7 @@ halts_by_bytes b most place reached wants f left w l r k = record {
   memory = λ t. absurd (not_both (is_memory f.kind) (bytes_no_memory f.kind k) t);
 }
 
--- it may have gone further
+-- it may have read further
 unfoldable pub halts_further : (b : List ℕ) (most more place : ℕ) (wants further : ℕ → Type 0) (f : InspectFault)
     (left : Option (List ℕ)) → most ≤ more → ((n : ℕ) → wants n → further n) → Halts b most place wants f left →
     Halts b more place further f left
@@ -80,7 +80,7 @@ missed_no_memory b place n cut f left m k t =
     let x = m.cuts (ap not (memory_no_read f.kind t)) in
     not_both (is_memory f.kind) (ap (λ (z : InspectFault). is_memory z.kind) x.0 ∙ bytes_no_memory cut.kind k) t
 
--- they halt a call
+-- they stop a call
 pub halts_missed : (b : List ℕ) (place n most p : ℕ) (wants : ℕ → Type 0) (cut f : InspectFault)
     (left : Option (List ℕ)) → IsMissed b place n cut f left → is_of_bytes cut.kind ≡ true → place + n ≤ most →
     place ≤ length b →

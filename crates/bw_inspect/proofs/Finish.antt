@@ -8,7 +8,7 @@ use Rattle.bw_model.specs.Report as report
 use Rattle.bw_inspect.specs.Reports.{reserved_in}
 use Rattle.bw_inspect.specs.Known.{Facts, facts_in, fmt_reported, samples_reported, bext_reported, cues_reported}
 
--- the `fmt ` chunk is there, and this is what it tells
+-- the `fmt ` chunk is there, and this is what it says
 record FmtIs (b : List ℕ) (o : Option reading.Entry) (fmt : report.RawFmt) : Type 0 where
   there : is_none o ≡ false
   says : fmt ≡ report.raw_fmt (report.content_of b o)
@@ -65,12 +65,12 @@ cues_is : (b : List ℕ) (o : Option reading.Entry) →
 cues_is b None = refl
 cues_is b (Some x) = refl
 
--- what a finished walk tells is the report
+-- what a finished walk says is the report
 pub record Finished (b : List ℕ) (form : reading.Form) (seen : List reading.Entry) (r : report.Report) : Type 0 where
   pub reports : r ≡ report.report_of b form seen
   pub free : first_that_holds (reading.end_faults (reading.form_end form) seen) ≡ None
 
--- and these are the reserved bytes
+-- these are the reserved bytes
 pub reserved_reported : (b : List ℕ) (seen : List reading.Entry) (k : Facts) → k ≡ facts_in b seen →
     option_map kept k.bext ≡ reserved_in b seen
 reserved_reported b seen k e =

@@ -51,7 +51,7 @@ pub outer_ok : (b : List ℕ) → first_that_holds (reading.outer_faults b) ≡ 
 unfolding reading.outer
 outer_ok b e = rw (reading.outer, e) refl
 
--- memory that is wanted nowhere is wanted by none
+-- `Nowhere` never holds, so anything follows from it
 pub none_wanted : (b : List ℕ) (n : ℕ) → Nowhere n → WantsDs64 b n
 none_wanted b n h = absurd h
 

@@ -63,7 +63,7 @@ more_read b place d n most buf new post left w g l fits r =
       rest = r.rest ∙ ap Some (further b (place + d) n ∙ ap (λ (k : ℕ). drop k b) (add_assoc place d n));
     }
 
--- nothing stands after a place at or past the end
+-- nothing comes after a place at or past the end
 pub ended : (b : List ℕ) (k : ℕ) → drop k b ≡ [] → length b ≤ k
 ended b k e = let l = length-drop k b in let z : length (drop k b) ≡ 0 = ap length e in omega arith
 

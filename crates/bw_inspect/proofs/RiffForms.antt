@@ -48,7 +48,7 @@ unsaid_by : (b : List ℕ) (v : Bool) → (u32_at b 4 == unsaid) ≡ v →
     first_that_holds (reading.riff_faults b) ≡ cond v (Some (record { kind = reading.NoSize; offset = 4 })) None
 unsaid_by b v e = ap (λ (u : Bool). cond u (Some (record { kind = reading.NoSize; offset = 4 })) None) e
 
--- the size isn't told
+-- the size isn't given
 pub unsaid_refused : (b : List ℕ) (h : ChunkHead) (f : InspectFault) (left : Option (List ℕ)) → IsOpened b h left →
     reading.is_riff b ≡ true → (h.size32 == unsaid) ≡ true →
     f ≡ record { kind = NoSize; offset = 4 } → IsOutside b f left
@@ -60,7 +60,7 @@ unsaid_refused b h f left o r u q = record {
       (unsaid_by b true (ap (λ (n : ℕ). n == unsaid) (sym o.reports) ∙ u) ∙ (sym (ap bytes_fault q) ∙ k)));
 }
 
--- the size is reported
+-- the size is given
 pub record IsSaid (b : List ℕ) (h : ChunkHead) : Type 0 where
   pub size_is : reading.form_size_at b ≡ h.size32
   pub wide : reading.is_wide b ≡ false

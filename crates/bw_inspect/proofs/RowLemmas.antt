@@ -61,7 +61,7 @@ row_end prefix width n =
     let more : width * (n + 1) ≡ width * n + width = ap (λ (k : ℕ). width * k) one ∙ mul-suc width n in
     omega arith
 
--- the row after n others stands in the content, where all of them do
+-- the row after n others is in the content, if all of them are
 pub row_fits : (prefix width n count size : ℕ) → n < count → prefix + width * count ≤ size →
     prefix + width * (n + 1) ≤ size
 row_fits prefix width n count size less fits =

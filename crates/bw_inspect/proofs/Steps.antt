@@ -289,7 +289,7 @@ sized form w id kind seen size c k s is free inside = record {
   inside = inside;
 }
 
--- the head that was read is the one that stands there
+-- the head that was read is the one in the bytes
 pub headed : (b : List ℕ) (form : reading.Form) (w : Walk) (head : ChunkHead) (size : Option ℕ)
     (left : Option (List ℕ)) → w.place + 8 ≤ reading.form_end form → length (seen_by w) < 4096 →
     IsHead b w.place head left →

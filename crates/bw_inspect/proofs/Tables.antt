@@ -60,7 +60,7 @@ head_missed b cut f left q m l = record {
       no_head b (lt-ltb (length b) 20 x.1) ∙ (sym (ap bytes_fault (x.0 ∙ q)) ∙ h);
 }
 
--- another chunk stands there
+-- another chunk is there
 pub other_chunk : (b : List ℕ) (head : ChunkHead) (f : InspectFault) (left : Option (List ℕ)) → IsHead b 12 head left →
     reading.is_id head.id (codes "ds64") ≡ false → f ≡ record { kind = NoDs64; offset = 12 } →
     IsStopped b 20 12 Nowhere (ds64_head_faults b) f left
@@ -104,7 +104,7 @@ head_taken b head e left h i s q =
           (h.rest ∙ ap (λ (k : ℕ). Some (drop k b)) (let z : 12 + 8 ≡ e.place + 8 = omega arith in z));
     }
 
--- what stands before the table stands in its first 28 bytes
+-- what comes before the table is in its first 28 bytes
 pub fixed_prefix : (c : List ℕ) → fixed_at (slice_range c 0 28) ≡ fixed_at c
 fixed_prefix c =
     let f = u64_prefix c 28 0 (lit≤ tt) in
@@ -112,7 +112,7 @@ fixed_prefix c =
     let n = u32_prefix c 28 24 (lit≤ tt) in
     cc
 
--- what the code has of the bytes before the table is what stands there
+-- what the code has of the bytes before the table is what the bytes say
 pub record IsFixedPart (b : List ℕ) (e : reading.Entry) (x : Fixed) : Type 0 where
   pub form : x.form ≡ u64_at (content_of b (Some e)) 0
   pub size : x.data_size ≡ u64_at (content_of b (Some e)) 8

@@ -1,4 +1,4 @@
--- The file of a take, as it is answered.
+-- The report of a take's file.
 use Rattle.std.proofs.Common.{ℕ, ◌∙◌, ap}
 use Rattle.bw_model.specs.Take.{Format, Take}
 use Rattle.bw_model.specs.File.{file_with}

@@ -28,7 +28,7 @@ outside_refused b f left o = record {
       inl (record { place_is = m.0; wants = m.1 });
 }
 
--- past the end of the bytes lies the pad byte of the last chunk alone
+-- past the end of the bytes there is only the pad byte of the last chunk
 pad_absent : (b : List ℕ) (form : Form) (w : Walk) (reached : ℕ) (left : Option (List ℕ)) → BeginsForm b form w left →
     length b < reached → reached ≡ reading.next_place (seen_by w) → IsPadAbsent b reached
 pad_absent b form w reached left s past p =

@@ -29,7 +29,7 @@ pub record IsFresh (w : Walk) : Type 0 where
   pub chunks : seen_by w ≡ []
   pub known : facts_of w.known ≡ nothing
 
--- it stands after the outer header
+-- it is after the outer header
 pub fresh_stands : (b : List ℕ) (form : reading.Form) (w : Walk) (left : Option (List ℕ)) → IsFresh w → 4 ≤ form.size →
     12 ≤ length b → left ≡ Some (drop 12 b) → StandsInForm b form w left
 fresh_stands b form w left f s l r = record {
@@ -44,18 +44,18 @@ fresh_stands b form w left f s l r = record {
   next = λ l. r ∙ ap (λ (p : ℕ). Some (drop p b)) (sym f.place);
 }
 
--- a size has no fault where the kind of chunk allows any
+-- a size has no fault if the kind of chunk allows any
 other_free : (end p c : ℕ) (seen : Bool) → c ≤ reading.largest → p + 8 + c ≤ end →
     first_that_holds (size_faults end p Other seen (Some c) c) ≡ None
 other_free end p c seen l w = rw (le-ltb reading.largest c l, le-ltb end (p + 8 + c) w) refl
 
--- a size that the head tells
+-- a size that the head gives
 said_size : (b : List ℕ) (form : reading.Form) (p : ℕ) → (u32_at b (p + 4) == unsaid) ≡ false →
     Some (u32_at b (p + 4)) ≡ reading.size_at b form p
 said_size b form p e = sym
     (ap (λ (v : Bool). cond v (reading.reported_size form.sizes (reading.id_at b p)) (Some (u32_at b (p + 4)))) e)
 
--- the form that the header tells
+-- the form that the header gives
 form_is : (b : List ℕ) (h : ChunkHead) (e : reading.Entry) (x : Ds64) (size : ℕ) (left : Option (List ℕ)) →
     IsOpened b h left → IsWideRead b h e x size →
     reading.form_at b ≡ record { id = h.id; size = size; sizes = Some (sizes_by x) }

@@ -52,7 +52,7 @@ table_there b e p (suc n) h =
     ∙ (ap (λ (k : ℕ). (reading.id_at b at, k) ∷ reading.table_at content (p + 12) n) size
     ∙ ap (λ (t : List (List ℕ × ℕ)). (reading.id_at b at, u64_at b (at + 4)) ∷ t) rest)
 
--- what the content tells is what stands in the bytes
+-- what the content says is what the bytes say
 pub sizes_there : (b : List ℕ) → 28 ≤ u32_at b 16 → 28 + 12 * u32_at b 44 ≤ u32_at b 16 →
     sizes_in (content_of b (Some (ds64_entry b))) ≡ reading.sizes_at b
 sizes_there b long room =

@@ -21,7 +21,7 @@ use Rattle.bw_inspect.proofs.ChunkFaults.{first_none, first_some}
 use Rattle.bw_inspect.proofs.Outers.{last_fault, later_faults, outer_err, outer_ok}
 use Rattle.bw_inspect.proofs.WideForms.{IsHeadFree, after_head, head_free, row_faults, rows_are, sizes_there, wide_by}
 
--- `ds64` was read, and what it tells is known
+-- `ds64` was read, and what it says is known
 pub record IsWideRead (b : List ℕ) (h : ChunkHead) (e : reading.Entry) (x : Ds64) (size : ℕ) : Type 0 where
   pub head : IsHeadFree b
   pub entry : e ≡ ds64_entry b

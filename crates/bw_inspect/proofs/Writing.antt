@@ -16,7 +16,7 @@ writes_after a b first second xs e = second (xs ++ a) (first xs e) ∙ ap Some (
 pub writes_none : {old : Option (List ℕ)} → Writes old [] old
 writes_none xs e = e ∙ ap Some (sym (append-nil xs))
 
--- a beginning of the part after another one
+-- a prefix of the part after another one
 pub begins_after : {old mid new : Option (List ℕ)} (a b : List ℕ) → Writes old a mid → Begins mid b new →
     Begins old (a ++ b) new
 begins_after a b first second xs e =
@@ -28,7 +28,7 @@ begins_after a b first second xs e =
       stands = p.stands ∙ ap Some (append_assoc xs a p.part);
     }
 
--- a beginning of the first part
+-- a prefix of the first part
 pub begins_before : {old new : Option (List ℕ)} (a b : List ℕ) → Begins old a new → Begins old (a ++ b) new
 begins_before a b first xs e =
     let p = first xs e in
@@ -47,7 +47,7 @@ flat_map_around {X} f xs i x h is =
     ap (λ (ys : List X). flat_map f (take i xs) ++ flat_map f ys) (sym d)
     ∙ sym (flat_map-append f (take i xs) (drop i xs)) ∙ ap (flat_map f) (take-append-drop i xs)
 
--- a beginning of an element's part, after those of the elements before it
+-- a prefix of an element's part, after those of the elements before it
 pub begins_within : {X : Type 0} {old mid new : Option (List ℕ)} (f : X → List ℕ) (xs : List X) (i : ℕ) (x : X) →
     i < length xs → x ≡ get_or xs i x → Writes old (flat_map f (take i xs)) mid → Begins mid (f x) new →
     Begins old (flat_map f xs) new

@@ -32,7 +32,7 @@ abbrev pub is_cue_kind : ChunkKind → Bool
 is_cue_kind Cue = true
 is_cue_kind _ = false
 
--- of the chunks that a file may have several times
+-- of the chunks that a file may have more than once
 abbrev pub is_other_kind : ChunkKind → Bool
 is_other_kind Other = true
 is_other_kind _ = false
@@ -41,11 +41,11 @@ is_other_kind _ = false
 abbrev pub size_by : List (List ℕ × ℕ) → List ℕ → Option ℕ
 size_by rows id = option_map (λ row. row.1) (find (λ row. reading.is_id row.0 id) rows)
 
--- what `ds64` tells
+-- what `ds64` says
 abbrev pub sizes_by : Ds64 → reading.Sizes
 sizes_by z = record { form = z.form; «data» = z.data_size; table = z.table }
 
--- the sizes that a `ds64` told, if there was one
+-- the sizes that a `ds64` gave, if there was one
 abbrev pub sizes_of : Option Ds64 → Option reading.Sizes
 sizes_of = option_map sizes_by
 
@@ -56,7 +56,7 @@ start_faults len seen p =
     ∷ reading.line (nat_lt len (p + 8)) reading.Truncated p
     ∷ []
 
--- the faults that a head shows by itself
+-- the faults that can be seen in a head alone
 abbrev pub size_faults : ℕ → ℕ → ChunkKind → Bool → Option ℕ → ℕ →
     List (Bool × reading.Fault)
 size_faults end p kind seen size c =
@@ -69,7 +69,7 @@ size_faults end p kind seen size c =
     ∷ reading.line (is_cue_kind kind && nat_lt c 4) reading.BadCue p
     ∷ []
 
--- the faults after a head; `count` is the number that stands there
+-- the faults after a head; `count` is the number that follows it
 abbrev pub content_faults : ℕ → ℕ → ChunkKind → ℕ → ℕ → List (Bool × reading.Fault)
 content_faults len p kind count c =
     reading.line (is_cue_kind kind && nat_lt len (p + 12)) reading.Truncated p
@@ -78,8 +78,8 @@ content_faults len p kind count c =
     ∷ reading.line (nat_lt len (p + 8 + c)) reading.Truncated p
     ∷ []
 
--- The faults of a content that begins with `prefix` bytes, which tell a number n of rows of so many
--- bytes, at most `most`.
+-- The faults of a content that begins with `prefix` bytes, which give the number n of its rows, at
+-- most `most`; each row has the same width.
 abbrev pub counted_faults : ℕ → reading.Entry → ℕ → ℕ → ℕ → reading.FaultKind → ℕ →
     List (Bool × reading.Fault)
 counted_faults len e prefix most width bad n =

@@ -1,4 +1,4 @@
--- What is read of a chunk's content, and what it tells.
+-- What is read of a chunk's content, and what it says.
 use Rattle.std.specs.Prelude.{◌≡◌, ℕ, ◌+◌, ◌<◌, ◌≤◌, Bool, true, IsTrue, List, drop, length}
 use Rattle.std.specs.Prelude.{slice_range, Option, Some, None}
 use Rattle.bw_model.specs.Reading as reading
@@ -12,13 +12,13 @@ use Rattle.bw_inspect.specs.Places.{Halts, HasGrown}
 use Rattle.bw_inspect.specs.Chunks.{content_faults, counted_faults, is_cue_kind}
 use Rattle.bw_inspect.specs.Known.{Facts, learned}
 
--- so many bytes of a chunk's content were read
+-- this many bytes of a chunk's content were read
 pub record ReadTo (b : List ℕ) (e : reading.Entry) (done : ℕ)
     (left : Option (List ℕ)) : Type 0 where
   pub there : e.place + 8 + done ≤ length b
   pub rest : left ≡ Some (drop (e.place + 8 + done) b)
 
--- so it is of all the bytes, where so many bytes of a chunk's content were read
+-- this holds of all the bytes, if this many bytes of a chunk's content were read
 abbrev pub InContent : Option (List ℕ) → reading.Entry → ℕ → (List ℕ → Type 0) → Type 0
 InContent left e done holds = (b : List ℕ) → ReadTo b e done left → holds b
 
@@ -28,14 +28,14 @@ pub record IsPart (b : List ℕ) (e : reading.Entry) (done n : ℕ) (got : List 
   pub bytes : got ≡ slice_range (content_of b (Some e)) done (done + n)
   pub to : ReadTo b e (done + n) left
 
--- b ends before so many bytes of the chunk's content, or reading was stopped there
+-- b ends before this many bytes of the chunk's content, or reading was stopped there
 pub record IsCutShort (b : List ℕ) (e : reading.Entry) (upto : ℕ) (wants : ℕ → Type 0)
     (f : InspectFault) (left : Option (List ℕ)) : Type 0 where
   pub halts : Halts b (e.place + 8 + upto) e.place wants f left
   pub cut : IsTrue (is_of_bytes f.kind) →
       (f ≡ record { kind = Truncated; offset = e.place }) × (length b < e.place + 8 + upto)
 
--- a call stopped; where that is for the bytes, it is the first fault of these
+-- a call stopped; if that is for the bytes, it is the first fault of these
 pub record IsStopped (b : List ℕ) (most place : ℕ) (wants : ℕ → Type 0)
     (faults : List (Bool × reading.Fault)) (f : InspectFault)
     (left : Option (List ℕ)) : Type 0 where
@@ -51,15 +51,15 @@ IsStoppedIn b wants faults e f left = IsStopped b (e.place + 8 + e.size) e.place
 abbrev pub IsEndOf : reading.Entry → ℕ → Type 0
 IsEndOf e reached = reached ≡ e.place + 8 + e.size
 
--- Some of the n rows were read that a content tells at its start; the content has no fault, but
--- that b may end in it.
+-- Some of the n rows were read, where n is given at the content's start; the content has no fault,
+-- except that b may end in it.
 pub record WantsRows (b : List ℕ) (e : reading.Entry) (prefix most width : ℕ)
     (bad : reading.FaultKind) (n reached : ℕ) : Type 0 where
   pub free : first_that_holds (counted_faults (e.place + 8 + e.size) e prefix most width bad n)
       ≡ None
   pub grown : HasGrown b (e.place + 8 + prefix) width n reached
 
--- some points were read of a `cue ` chunk; its content has no fault, but that b may end in it
+-- some points were read of a `cue ` chunk; its content has no fault, except that b may end in it
 pub record WantsPoints (b : List ℕ) (kind : ChunkKind) (e : reading.Entry)
     (reached : ℕ) : Type 0 where
   pub is : is_cue_kind kind ≡ true

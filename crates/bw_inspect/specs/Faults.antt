@@ -50,7 +50,7 @@ name_of Memory = codes "Memory"
 abbrev pub inspect_fault_text : InspectFault → List ℕ
 inspect_fault_text f = name_of f.kind ++ codes " at " ++ decimal f.offset
 
--- the fault of the bytes that a kind names: a failed read and lack of memory aren't theirs
+-- the fault of the bytes that a kind names: a failed read and lack of memory are none
 abbrev pub kind_of : InspectKind → Option reading.FaultKind
 kind_of NotWave = Some reading.NotWave
 kind_of Truncated = Some reading.Truncated
@@ -91,6 +91,6 @@ abbrev pub stopped : {X : Type 0} → Result X InspectFault → Bool
 stopped (Ok x) = false
 stopped (Err f) = is_failed_read f.kind
 
--- the reader's failures after a call: one more exactly where Read is answered
+-- the reader's failures after a call: one more exactly if Read is returned
 abbrev pub counted : {X : Type 0} → Result X InspectFault → ℕ → ℕ
 counted r n = if stopped r then one_more n else n

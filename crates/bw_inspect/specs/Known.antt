@@ -32,7 +32,7 @@ facts_of k = record {
   cues = k.cues;
 }
 
--- there are no more points than may be
+-- there are no more points than allowed
 abbrev pub HasFewCues : Known → Type 0
 HasFewCues k = length (unwrap_or k.cues []) ≤ most_cues
 
@@ -40,7 +40,7 @@ HasFewCues k = length (unwrap_or k.cues []) ≤ most_cues
 abbrev pub nothing : Facts
 nothing = record { fmt = None; samples = None; bext = None; cues = None }
 
--- what `fmt ` tells
+-- what `fmt ` says
 abbrev pub fmt_reported : List ℕ → reading.Entry → report.RawFmt
 fmt_reported b e = report.raw_fmt (report.content_of b (Some e))
 
@@ -48,16 +48,16 @@ fmt_reported b e = report.raw_fmt (report.content_of b (Some e))
 abbrev pub samples_reported : reading.Entry → ℕ × ℕ
 samples_reported e = (e.place + 8, e.size)
 
--- what `bext` tells, and how long its coding history is
+-- what `bext` says, and how long its coding history is
 abbrev pub bext_reported : List ℕ → reading.Entry → (report.RawBext × List ℕ) × ℕ
 bext_reported b e = (bext_at (report.content_of b (Some e)), e.size - 602)
 
--- the cue points that `cue ` tells
+-- the cue points in `cue `
 abbrev pub cues_reported : List ℕ → reading.Entry → List report.RawCue
 cues_reported b e = report.raw_cues (report.content_of b (Some e)) 4
     (u32_at (report.content_of b (Some e)) 0)
 
--- what the chunks seen tell
+-- what the chunks seen say
 abbrev pub facts_in : List ℕ → List reading.Entry → Facts
 facts_in b seen = record {
   fmt = option_map (fmt_reported b) (reading.entry_of (codes "fmt ") seen);

@@ -1,4 +1,4 @@
--- What is answered of a take's file.
+-- What the report of a take's file says.
 use Rattle.std.specs.Prelude.{◌≡◌, ◌≤◌, ℕ, Bool, false, IsTrue, List, Option, Some}
 use Rattle.std.specs.List.{list_all}
 use Rattle.bw_model.specs.Take.{Request, Format, Take}
@@ -12,19 +12,19 @@ use Rattle.bw_inspect.specs.Faults.{is_of_bytes}
 use Rattle.bw_inspect.specs.Readings.{Refuses, GivesReport}
 use Rattle.bw_inspect.specs.Reports.{reported_by}
 
--- a report of the take's file tells the take, and the file is refused for none of its own faults
+-- a report of the take's file gives the take, and the file is refused for none of its own faults
 pub record ReportsTake (f : Format) (t : Take) (limit : ℕ) : Type 0 where
   pub report : (r : Report) (left : Option (List ℕ)) → GivesReport (file_with f t limit) r left →
       reported_by r ≡ reported_report f t limit
   pub faults : (x : InspectFault) (left : Option (List ℕ)) → Refuses (file_with f t limit) x left →
       is_of_bytes x.kind ≡ false
 
--- of each take within the limits
+-- this holds of each take within the limits
 abbrev pub FilesAreReported : Type 0
 FilesAreReported = (f : Format) (t : Take) (limit : ℕ) → IsWithinLimits f t → limit ≤ 4294967294 →
     ReportsTake f t limit
 
--- of each take that admitted requests make, and whose form is at most 2^62 bytes
+-- this holds of each take that admitted requests make, and whose form is at most 2^62 bytes
 abbrev pub MadeFilesAreReported : Type 0
 MadeFilesAreReported = (taken : Bool) (admitted : List (Option Request)) (n : ℕ) (f : Format)
     (limit : ℕ) →

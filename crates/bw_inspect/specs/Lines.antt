@@ -9,7 +9,7 @@ use Rattle.bw_inspect.specs.declared.report.BextChunk.{BextChunk}
 abbrev pub form_line : List ℕ → ℕ → List ℕ
 form_line id size = words (codes "form" ∷ id ∷ decimal size ∷ [])
 
--- the line of the data, of frames of so many bytes
+-- the line of the data, of frames of this many bytes
 abbrev pub data_line : ℕ → ℕ → ℕ → List ℕ
 data_line place size align = words
     (codes "data" ∷ number_field "at" place ∷ number_field "bytes" size
@@ -35,10 +35,10 @@ abbrev pub lines_of_texts : RawBext × List ℕ → List ℕ
 lines_of_texts fields =
     text_lines ("description" ∷ "originator" ∷ "reference" ∷ "date" ∷ "clock" ∷ []) fields.0.texts
 
--- the line of the loudness, where there is one
+-- the line of the loudness, if there is one
 abbrev pub lines_of_loudness : Option (List ℕ) → List ℕ
 lines_of_loudness levels = loudness_line (unwrap_or levels [])
 
--- the lines of a `bext` chunk, where there is one
+-- the lines of a `bext` chunk, if there is one
 abbrev pub lines_of_bext : Option BextChunk → List ℕ
 lines_of_bext bext = bext_lines (option_map (λ (x : BextChunk). (x.fields.0, x.history_len)) bext)

@@ -42,7 +42,7 @@ pub record IsOpened (b : List ℕ) (h : ChunkHead) (left : Option (List ℕ)) : 
   pub reports : h.size32 ≡ u32_at b 4
   pub rest : left ≡ Some (drop 12 b)
 
--- so it is of all the bytes, where their first 12 were read and are not those of RIFF
+-- this holds of all the bytes, if their first 12 were read and are not those of RIFF
 abbrev pub OnWide : ChunkHead → Option (List ℕ) → (List ℕ → Type 0) → Type 0
 OnWide h left holds = (b : List ℕ) → IsOpened b h left → reading.is_riff b ≡ false → holds b
 
@@ -58,7 +58,7 @@ pub record IsDs64Whole (b : List ℕ) (reached : ℕ) : Type 0 where
   pub header : reading.outer b ≡ Ok form
   pub ends : reached ≡ 20 + u32_at b 16
 
--- `ds64` has no fault, but that b may end in it, and some of its entries were read
+-- `ds64` has no fault, except that b may end in it, and some of its entries were read
 pub record HasReadEntries (b : List ℕ) (reached : ℕ) : Type 0 where
   pub wide : reading.is_wide b ≡ true
   pub opening : first_that_holds (opening_faults b) ≡ None

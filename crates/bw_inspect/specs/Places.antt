@@ -1,10 +1,10 @@
--- What is read at a place, and what is missed there.
+-- What is read at a place, and what is missing there.
 use Rattle.std.specs.Prelude.{◌≡◌, ℕ, ◌+◌, ◌*◌, ◌<◌, ◌≤◌, IsTrue, not, List, length, drop}
 use Rattle.std.specs.Prelude.{slice_range, Option, Some}
 use Rattle.bw_inspect.specs.declared.fault.InspectFault.{InspectFault}
 use Rattle.bw_inspect.specs.Faults.{is_failed_read, is_memory}
 
--- so it is of all the bytes b, where the reader tells those from a place on
+-- this holds of all the bytes b, if the reader reports those from a place on
 abbrev pub AtPlace : Option (List ℕ) → ℕ → (List ℕ → Type 0) → Type 0
 AtPlace left place holds = (b : List ℕ) → left ≡ Some (drop place b) → holds b
 
@@ -34,8 +34,8 @@ pub record IsMissed (b : List ℕ) (place n : ℕ) (cut f : InspectFault)
 abbrev pub Nowhere : ℕ → Type 0
 Nowhere reached = ⊥
 
--- Rows of so many bytes, from a place on, were read and are to be listed: at least one, and at most
--- so many; b has them.
+-- Rows of this width, from a place on, were read and are to be listed: at least one, and at most
+-- `most`; b has them.
 pub record HasGrown (b : List ℕ) (from width most reached : ℕ) : Type 0 where
   pub rows : ℕ
   pub some : 0 < rows
@@ -43,9 +43,9 @@ pub record HasGrown (b : List ℕ) (from width most reached : ℕ) : Type 0 wher
   pub following : reached ≡ from + width * rows
   pub there : reached ≤ length b
 
--- A call stopped with a fault within b, and at most so far into it: a failed read is reported at the
--- next byte that was wanted, lack of memory at a chunk's place, where a list was to grow by what
--- was read up to there.
+-- A call stopped with a fault within b, and at most this far into it: a failed read is reported at
+-- the next byte that was wanted, lack of memory at a chunk's place, if a list was to grow by what
+-- was read so far.
 pub record Halts (b : List ℕ) (most place : ℕ) (wants : ℕ → Type 0) (f : InspectFault)
     (left : Option (List ℕ)) : Type 0 where
   pub reached : ℕ

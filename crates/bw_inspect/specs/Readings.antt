@@ -1,4 +1,4 @@
--- What reading a file answers.
+-- What reading a file returns.
 use Rattle.std.specs.Prelude.{◌≡◌, ℕ, ◌+◌, ◌<◌, ◌≤◌, ◌⊎◌, IsTrue, List, length, drop, Option}
 use Rattle.std.specs.Prelude.{Some, None}
 use Rattle.bw_inspect.specs.ReaderCalls.{longest_end}
@@ -15,7 +15,7 @@ use Rattle.bw_inspect.specs.Walks.{WantsChunk, seen_by}
 use Rattle.bw_inspect.specs.Outers.{WantsDs64}
 use Rattle.bw_inspect.specs.Reports.{reported_by, reserved_by, reserved_in}
 
--- so it is of all the bytes, where the walk knows what its chunks tell
+-- this holds of all the bytes, if the walk knows what its chunks say
 abbrev pub OnFacts : Walk → (List ℕ → Type 0) → Type 0
 OnFacts w holds = (b : List ℕ) → facts_of w.known ≡ facts_in b (seen_by w) → holds b
 
@@ -26,7 +26,7 @@ pub record IsReported (b : List ℕ) (form : reading.Form) (seen : List reading.
   pub reserved : reserved_by r ≡ reserved_in b seen
   pub free : first_that_holds (reading.end_faults (reading.form_end form) seen) ≡ None
 
--- at most so much of all the bytes was read
+-- at most this much of all the bytes was read
 pub record IsReadWithin (b : List ℕ) (most : ℕ) (left : Option (List ℕ)) : Type 0 where
   pub reached : ℕ
   pub within : reached ≤ most
@@ -42,17 +42,17 @@ pub record HasReading (b : List ℕ) : Type 0 where
 pub record GivesReport (b : List ℕ) (r : Report) (left : Option (List ℕ)) : Type 0 where
   pub reading_is : HasReading b
   pub reports : reported_by r ≡ report.report_of b reading_is.form reading_is.entries
-  -- and these are the reserved bytes of its `bext`
+  -- these are the reserved bytes of its `bext`
   pub reserved : reserved_by r ≡ reserved_in b reading_is.entries
   pub within : IsReadWithin b (reading.form_end reading_is.form) left
   pub small : reading_is.form.size ≤ largest
 
--- at this place `ds64` stands, and it or an entry of it is to be listed
+-- `ds64` is at this place, and it or an entry of it is to be listed
 pub record ListsDs64 (b : List ℕ) (place reached : ℕ) : Type 0 where
   pub place_is : place ≡ 12
   pub wants : WantsDs64 b reached
 
--- at this place a further chunk stands, and it or a point of it is to be listed
+-- a further chunk is at this place, and it or a point of it is to be listed
 pub record ListsChunk (b : List ℕ) (place reached : ℕ) : Type 0 where
   pub form : reading.Form
   -- the chunks before it
@@ -75,16 +75,16 @@ pub record IsPadAbsent (b : List ℕ) (reached : ℕ) : Type 0 where
 pub record Refuses (b : List ℕ) (f : InspectFault) (left : Option (List ℕ)) : Type 0 where
   pub fault : (g : reading.Fault) → bytes_fault f ≡ Some g → reading.IsFault b g
   pub within : IsReadWithin b longest_end left
-  -- and none past the end of b, but for the pad byte of its last chunk
+  -- no byte past the end of b, except the pad byte of its last chunk
   pub there : length b < within.reached → IsPadAbsent b within.reached
   -- a failed read is reported at the next byte that was wanted
   pub fails : IsTrue (is_failed_read f.kind) → f.offset ≡ within.reached
-  -- lack of memory at the place of a chunk without fault that is to be listed, or a part of it:
-  -- `ds64` or a further one
+  -- lack of memory is reported at the place of a chunk without fault that is to be listed, or a
+  -- part of it: `ds64` or a further one
   pub memory : IsTrue (is_memory f.kind) →
       ListsDs64 b f.offset within.reached ⊎ ListsChunk b f.offset within.reached
 
--- the lists are no longer than they may be, whatever the reader gave
+-- the lists are no longer than allowed, whatever the reader gave
 pub record IsBounded (r : Report) : Type 0 where
   pub chunks : length r.chunks ≤ most_chunks
   pub cues : length r.cues ≤ most_cues

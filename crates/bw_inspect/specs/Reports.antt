@@ -9,11 +9,11 @@ use Rattle.bw_inspect.specs.declared.report.Report.{Report}
 abbrev pub bext_by : BextChunk → report.RawBext × ℕ
 bext_by x = (x.fields.0, x.history_len)
 
--- the reserved bytes of `bext`, which are kept and not told
+-- the reserved bytes of `bext`, which are kept and not reported
 abbrev pub reserved_by : Report → Option (List ℕ)
 reserved_by r = option_map (λ (x : BextChunk). x.fields.1) r.bext
 
--- the reserved bytes of the `bext` chunk among these, as they stand in b
+-- the reserved bytes of the `bext` chunk among these, as they are in b
 abbrev pub reserved_in : List ℕ → List reading.Entry → Option (List ℕ)
 reserved_in b entries =
     option_map (λ (e : reading.Entry). slice_range (report.content_of b (Some e)) 422 602)

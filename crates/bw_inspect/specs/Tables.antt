@@ -18,7 +18,7 @@ ds64_head_faults b =
     ∷ reading.line (nat_lt (u32_at b 16) 28 || (u32_at b 16 == unsaid)) reading.BadDs64 12
     ∷ []
 
--- the chunk that its head tells
+-- the chunk that its head gives
 abbrev pub ds64_entry : List ℕ → reading.Entry
 ds64_entry b = record { id = reading.id_at b 12; place = 12; size = u32_at b 16 }
 
@@ -38,13 +38,13 @@ abbrev pub WantsEntry : List ℕ → reading.Entry → ℕ → Type 0
 WantsEntry b e reached =
     WantsRows b e 28 most_entries 12 reading.BadDs64 (u32_at (content_of b (Some e)) 24) reached
 
--- what stands before the table was read
+-- what comes before the table was read
 pub record IsFixed (b : List ℕ) (e : reading.Entry) (x : Fixed)
     (left : Option (List ℕ)) : Type 0 where
   pub reported : x ≡ fixed_at (content_of b (Some e))
   pub to : ReadTo b e 28 left
 
--- what a content of `ds64` tells
+-- what a content of `ds64` says
 abbrev pub sizes_in : List ℕ → reading.Sizes
 sizes_in c = record {
   form = u64_at c 0;

@@ -1,4 +1,4 @@
--- Where a walk stands.
+-- Where a walk is.
 use Rattle.std.specs.Prelude.{◌≡◌, ℕ, ◌+◌, ◌≤◌, ◌<◌, ◌⊎◌, Bool, true, false, List, [], length, drop}
 use Rattle.std.specs.Prelude.{Option, Some, None, Ok, Err, IsTrue, unwrap_or}
 use Rattle.bw_model.specs.Limits.{most_chunks}
@@ -21,7 +21,7 @@ form_by f = record { id = f.id; size = f.size; sizes = sizes_of f.sizes }
 abbrev pub seen_by : Walk → List reading.Entry
 seen_by w = w.chunks.items
 
--- the chunks so far are those of b, and the reader stands where the next head is wanted, if one is
+-- the chunks so far are those of b, and the reader is where the next head is wanted, if one is
 pub record StandsInForm (b : List ℕ) (form : reading.Form) (w : Walk)
     (left : Option (List ℕ)) : Type 0 where
   pub chunks : reading.FollowEachOther (reading.next b form) [] (seen_by w)
@@ -35,7 +35,7 @@ pub record StandsInForm (b : List ℕ) (form : reading.Form) (w : Walk)
   pub rest : left ≡ Some (drop reached b)
   pub next : w.place + 8 ≤ reading.form_end form → left ≡ Some (drop w.place b)
 
--- so it is of all the bytes, where a walk over them stands so
+-- this holds of all the bytes, if a walk over them is like this
 abbrev pub OnWalk : reading.Form → Walk → Option (List ℕ) → (List ℕ → Type 0) → Type 0
 OnWalk form w left holds = (b : List ℕ) → StandsInForm b form w left → holds b
 
@@ -46,11 +46,11 @@ pub record IsHead (b : List ℕ) (p : ℕ) (h : ChunkHead) (left : Option (List 
   pub reports : h.size32 ≡ u32_at b (p + 4)
   pub rest : left ≡ Some (drop (p + 8) b)
 
--- where the head after a chunk stands
+-- where the head after a chunk is
 abbrev pub place_after : reading.Entry → ℕ
 place_after e = e.place + 8 + even_up e.size
 
--- a chunk is after the reader, and so is its pad byte where a further head is wanted
+-- a chunk is before the reader, and so is its pad byte if a further head is wanted
 pub record IsPassedOver (b : List ℕ) (end : ℕ) (e : reading.Entry)
     (left : Option (List ℕ)) : Type 0 where
   pub reached : ℕ
@@ -59,12 +59,12 @@ pub record IsPassedOver (b : List ℕ) (end : ℕ) (e : reading.Entry)
   pub rest : left ≡ Some (drop reached b)
   pub next : place_after e + 8 ≤ end → reached ≡ place_after e
 
--- no more chunks and points than may be
+-- no more chunks and points than allowed
 pub record IsSmall (w : Walk) : Type 0 where
   pub chunks : length (seen_by w) ≤ most_chunks
   pub cues : HasFewCues w.known
 
--- one chunk more
+-- one more chunk
 pub record GrowsByOne (old new : List reading.Entry) : Type 0 where
   pub few : length old < most_chunks
   pub one : length new ≡ length old + 1
@@ -80,7 +80,7 @@ abbrev pub end_after : List ℕ → reading.Form → List reading.Entry → ℕ
 end_after b form seen =
     reading.next_place seen + 8 + unwrap_or (reading.size_at b form (reading.next_place seen)) 0
 
--- the faults of the chunk at a place after those seen, where so many bytes of b are there
+-- the faults of the chunk at a place after those seen, if this many bytes of b are there
 abbrev pub faults_at : ℕ → List ℕ → reading.Form → List reading.Entry → ℕ →
     List (Bool × reading.Fault)
 faults_at len b form seen p =
@@ -94,7 +94,7 @@ pub record IsReadWhole (b : List ℕ) (form : reading.Form) (seen : List reading
   pub comes : reading.next b form seen ≡ Ok (Some entry)
   pub ends : reached ≡ entry.place + 8 + entry.size
 
--- the chunk after those seen is a `cue ` chunk without fault, but that b may end in it, and some
+-- the chunk after those seen is a `cue ` chunk without fault, except that b may end in it, and some
 -- points were read
 pub record HasReadPoints (b : List ℕ) (form : reading.Form) (seen : List reading.Entry)
     (reached : ℕ) : Type 0 where

@@ -12,7 +12,7 @@ use bw_layout::ChunkId;
 /// The largest form or chunk that is read, in bytes.
 pub(crate) const LARGEST: u64 = 1 << 62;
 
-/// What a chunk is to the reading of a file.
+/// What kind of chunk it is to the reading of a file.
 #[derive(Clone, Copy, Debug, PartialEq, Eq)]
 pub(crate) enum ChunkKind {
     Fmt,

@@ -20,7 +20,7 @@ use std::alloc::Global;
 /// Reads the content of a chunk, and keeps what is reported of it.
 ///
 /// # Errors
-/// Truncated, and of `cue ` TooMany and BadCue; Read; Memory.
+/// Truncated, and for `cue ` TooMany and BadCue; Read; Memory.
 pub(crate) fn read_content<R: Source>(
     alloc: Global,
     reader: &mut R,

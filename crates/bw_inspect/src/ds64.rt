@@ -18,7 +18,7 @@ use bw_layout::{Ds64, Ds64Fixed, SizeTable, read_ds64_fixed};
 use bw_stream::Source;
 use std::alloc::Global;
 
-/// Where a `ds64` chunk stands: after the outer header.
+/// Where a `ds64` chunk is: after the outer header.
 const PLACE: u64 = 12;
 
 /// The most entries of a table that are read.
@@ -79,7 +79,7 @@ pub(crate) fn read_ds64<R: Source>(
     })
 }
 
-/// Reads what stands before the table.
+/// Reads what comes before the table.
 ///
 /// # Errors
 /// Truncated, TooMany, BadDs64; Read.

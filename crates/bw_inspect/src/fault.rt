@@ -5,18 +5,18 @@ ghost use Rattle.bw_inspect.specs.Faults.{kind_number, inspect_fault_text, name_
 use std::error::Error;
 use std::fmt;
 
-/// What is wrong, or what was missing.
+/// What is wrong, or what is missing.
 #[derive(Clone, Copy, Debug, PartialEq, Eq, Hash)]
 pub enum InspectKind {
-    /// No RIFF, BW64 or RF64 form of type `WAVE`.
+    /// No RIFF, BW64 or RF64 form of type `WAVE`, or one of fewer than 4 bytes.
     NotWave = 1,
-    /// The input, the form or the chunk ends before what is reported of it.
+    /// The input, the form or the chunk ends before the bytes that the sizes call for.
     Truncated = 2,
     /// A BW64 or RF64 file doesn't begin with `ds64`.
     NoDs64 = 3,
-    /// `ds64` has a size that it can't have.
+    /// A `ds64` chunk without a size, or too short for its numbers and its table.
     BadDs64 = 4,
-    /// A size isn't told anywhere.
+    /// A size is given nowhere.
     NoSize = 5,
     /// A second `fmt `, `bext`, `data` or `cue `.
     Twice = 6,
@@ -87,8 +87,8 @@ impl fmt::Display for InspectKind {
 #[derive(Clone, Copy, Debug, PartialEq, Eq, Hash)]
 pub struct InspectFault {
     pub kind: InspectKind,
-    /// In bytes from the file's start: of a chunk that is wrong, the place of its head; of a read
-    /// that failed, that of the next byte that was wanted.
+    /// In bytes from the file's start: for a chunk that is wrong, the place of its head; for a read
+    /// that failed, the place of the next byte that was wanted.
     pub offset: u64,
 }
 

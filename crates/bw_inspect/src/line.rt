@@ -6,8 +6,8 @@ ghost use Rattle.bw_model.specs.Report.{id_byte, text_byte, hex_byte, hex_digit_
 use itoa::Buffer;
 use std::marker::Model;
 
-/// The bytes of a line, at most 1,152: the longest one tells the 256 bytes of a Description, four
-/// bytes each.
+/// The bytes of a line, at most 1,152: the longest one has the 256 bytes of a Description, up to
+/// four bytes for each.
 #[derive(Drop)]
 pub struct Line {
     bytes: [u8; 1152],
@@ -42,7 +42,7 @@ impl Line {
         &self.bytes[..self.len]
     }
 
-    /// Puts a text after what there is: at most 1,152 bytes in all.
+    /// Appends a text: at most 1,152 bytes in all.
     pub fn put(&mut self, text: &[u8])
         requires { length self.old + length text.now ≤ 1152 }
         ensures { self.new ≡ self.old ++ text.now }
@@ -52,7 +52,7 @@ impl Line {
         self.len = end;
     }
 
-    /// Puts the decimal digits of a number.
+    /// Appends the decimal digits of a number.
     pub fn put_number(&mut self, number: u64)
         requires { length self.old ≤ 1112 }
         ensures text { self.new ≡ self.old ++ decimal number }
@@ -62,7 +62,7 @@ impl Line {
         self.put(buffer.format(number).as_bytes());
     }
 
-    /// Puts a blank, a name, `=` and a number.
+    /// Appends a blank, a name, `=` and a number.
     pub fn put_number_field(&mut self, name: &str, number: u64)
         requires { length self.old + length name.now ≤ 1110 }
         ensures text { self.new ≡ self.old ++ 32 ∷ (name.now ++ 61 ∷ decimal number) }
@@ -74,7 +74,7 @@ impl Line {
         self.put_number(number);
     }
 
-    /// Puts a chunk's id, with a full stop for each byte that is not visible ASCII.
+    /// Appends a chunk's id, with a full stop for each byte that is not visible ASCII.
     pub fn put_id(&mut self, id: &[u8; 4])
         requires { length self.old ≤ 1148 }
         ensures text { self.new ≡ self.old ++ map id_byte id.now }
@@ -83,7 +83,7 @@ impl Line {
         self.put(&id.map(|byte| if byte.is_ascii_graphic() { byte } else { b'.' }));
     }
 
-    /// Puts a text, with `\x` and two digits for a backslash and for each byte that is not
+    /// Appends a text, with `\x` and two digits for a backslash and for each byte that is not
     /// printable ASCII.
     pub fn put_text(&mut self, text: &[u8])
         requires { length self.old + 4 * length text.now ≤ 1152 }
@@ -110,7 +110,7 @@ impl Line {
         }
     }
 
-    /// Puts two digits of hex for each byte, in lower case.
+    /// Appends two hex digits for each byte, in lower case.
     pub fn put_hex(&mut self, bytes: &[u8])
         requires { length self.old + 2 * length bytes.now ≤ 1152 }
         ensures text { self.new ≡ self.old ++ flat_map hex_byte bytes.now }
@@ -121,7 +121,7 @@ impl Line {
         }
     }
 
-    /// Puts the signed number of 16 bits, or `unset` for 7FFFh, which means not given.
+    /// Appends the signed 16-bit number, or `unset` for 7FFFh, which means not given.
     pub fn put_level(&mut self, level: u16)
         requires { length self.old ≤ 1111 }
         ensures text { self.new ≡ self.old ++ loudness_text level }
@@ -138,7 +138,7 @@ impl Line {
     }
 }
 
-/// A digit of hex, in lower case.
+/// A hex digit, in lower case.
 fn hex_digit(value: u8) -> u8
     requires { value < 16 }
     ensures { result ≡ hex_digit_of value }

@@ -58,8 +58,8 @@ pub(crate) fn read_outer<R: Source>(
     Ok((form, begin(alloc)))
 }
 
-/// Reads the first 12 bytes of a file: the form's id, its size as far as four bytes tell it, and
-/// `WAVE`.
+/// Reads the first 12 bytes of a file: the form's id, its size as far as four bytes can hold it,
+/// and `WAVE`.
 ///
 /// # Errors
 /// NotWave; Read.
@@ -92,7 +92,7 @@ fn is_form(id: ChunkId) -> bool
     is_named(id, *b"RIFF") || is_named(id, *b"BW64") || is_named(id, *b"RF64")
 }
 
-/// Reads what stands before the second chunk of a BW64 or RF64 file, after its opening.
+/// Reads what comes before the second chunk of a BW64 or RF64 file, after its opening.
 fn read_wide<R: Source>(
     alloc: Global,
     reader: &mut R,
@@ -126,7 +126,7 @@ fn read_wide<R: Source>(
     Ok((form, walk))
 }
 
-/// The size of a form, where `ds64` tells one too: that of the outer header, if it can tell it.
+/// The size of a form if `ds64` gives one too: that of the outer header, if it can hold it.
 fn form_size(size32: u32, reported: u64) -> u64
     ensures { result ≡ (if size32 == unsaid then reported else size32) }
 {

@@ -11,7 +11,7 @@ use bw_stream::{IoFailed, Source};
 /// Fills a buffer with the bytes from a place on.
 ///
 /// # Errors
-/// `cut` where the input ends before; Read.
+/// `cut` if the input ends too early; Read.
 pub(crate) fn read_at<R: Source>(
     reader: &mut R,
     place: u64,
@@ -37,10 +37,10 @@ pub(crate) fn read_at<R: Source>(
     Ok(())
 }
 
-/// Passes over so many bytes from a place on.
+/// Passes over this many bytes from a place on.
 ///
 /// # Errors
-/// `cut` where the input ends before; Read.
+/// `cut` if the input ends too early; Read.
 pub(crate) fn skip_at<R: Source>(
     reader: &mut R,
     place: u64,

@@ -18,18 +18,18 @@ use crate::walk::{Form, Known, Walk, next_chunk};
 use bw_stream::Source;
 use std::alloc::Global;
 
-/// Reads a file once and forward, and says what it holds. Content that isn't told is passed over
-/// and not kept.
+/// Reads a file once and forward, and reports what it holds. Content that isn't reported is passed
+/// over and not kept.
 ///
 /// It lists at most 4,096 chunks and 65,536 cue points.
 ///
 /// # Errors
-/// The first fault of the file, at its place; Read, only where the reader failed in this call, at
+/// The first fault of the file, at its place; Read, only if the reader failed in this call, at
 /// the offset of the next byte that was wanted; Memory, at the place of the chunk that needed it.
 ///
 /// # Not specified
 /// - When memory is refused.
-/// - Of a reader that doesn't report its bytes, that the report is of what it gave.
+/// - If the reader doesn't report its bytes, that the report is of what it gave.
 pub fn inspect<R: Source>(alloc: Global, reader: &mut R) -> Result<Report, InspectFault>
     ensures consumed { Consumes R.Source longest_end result reader.old reader.new }
     ensures within { IfOk result (λ r. R.moved reader.new ≤ R.moved reader.old + (8 + r.size)) }
@@ -45,7 +45,7 @@ pub fn inspect<R: Source>(alloc: Global, reader: &mut R) -> Result<Report, Inspe
     finish(alloc, form, walk)
 }
 
-/// The report of a walk that came to the form's end.
+/// The report of a walk that reached the form's end.
 ///
 /// # Errors
 /// NoFmt, NoData.

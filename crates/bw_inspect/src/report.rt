@@ -8,7 +8,7 @@ use std::marker::Model;
 #[derive(Clone, Copy, Debug, PartialEq, Eq)]
 pub struct ListedChunk {
     pub id: ChunkId,
-    /// Where its head stands, in bytes from the file's start.
+    /// The place of its head, in bytes from the file's start.
     pub place: u64,
     /// The length of its content in bytes, without the pad byte.
     pub size: u64,
@@ -88,7 +88,7 @@ impl Cues {
 #[derive(Debug, Drop)]
 pub struct BextChunk {
     pub fields: RawBext,
-    /// In bytes.
+    /// The coding history's length in bytes.
     pub history_len: u64,
 }
 
@@ -97,7 +97,7 @@ pub struct BextChunk {
 pub struct Report {
     /// `RIFF`, `BW64` or `RF64`.
     pub form: ChunkId,
-    /// The form's size in bytes: the file's length less 8, where nothing follows the form.
+    /// The form's size in bytes: the file's length minus 8, if nothing follows the form.
     pub size: u64,
     pub chunks: Chunks,
     pub fmt: RawFmt,
@@ -106,6 +106,6 @@ pub struct Report {
     /// How many bytes of samples there are.
     pub data_size: u64,
     pub bext: Option<BextChunk>,
-    /// None of them where there is no `cue ` chunk.
+    /// None of them if there is no `cue ` chunk.
     pub cues: Cues,
 }

@@ -1,4 +1,4 @@
-//! The sizes that `ds64` tells for chunks whose heads can't (ITU-R BS.2088).
+//! The sizes that `ds64` gives for chunks whose heads can't (ITU-R BS.2088).
 ghost use Rattle.std.specs.Prelude.{◌≡◌, option_copied, Some, ◌==◌, if◌then◌else◌};
 ghost use Rattle.bw_model.specs.Bytes.{unsaid};
 ghost use Rattle.bw_model.specs.Reading.{reported_size};
@@ -7,7 +7,7 @@ ghost use Rattle.bw_inspect.specs.Chunks.{size_by, sizes_of};
 use crate::chunk::is_named;
 use bw_layout::{ChunkId, Ds64};
 
-/// The size of a chunk's content: that of its head, and where the head can't tell it, that of the
+/// The size of a chunk's content: that of its head or, if the head can't hold it, that of the
 /// form.
 pub(crate) fn size_reported(sizes: &Option<Ds64>, id: ChunkId, size32: u32) -> Option<u64>
     ensures { result ≡
@@ -20,7 +20,7 @@ pub(crate) fn size_reported(sizes: &Option<Ds64>, id: ChunkId, size32: u32) -> O
     }
 }
 
-/// The size that a form tells for the chunks with an id.
+/// The size that a form gives for the chunks with an id.
 fn reported(sizes: &Option<Ds64>, id: ChunkId) -> Option<u64>
     ensures { result ≡ reported_size (sizes_of sizes.now) id }
 {

@@ -23,7 +23,7 @@ const WIDEST: usize = 24;
 pub(crate) trait Row: Copy {
     ghost WIDTH: { ℕ };
 
-    /// What the bytes of a row tell.
+    /// What the bytes of a row say.
     ghost reported: { List ℕ → Self };
 
     /// Its size in bytes.
@@ -32,7 +32,7 @@ pub(crate) trait Row: Copy {
     /// The row at the start of these bytes.
     ///
     /// # Errors
-    /// Short where there are fewer bytes than a row has.
+    /// Short if there are fewer bytes than a row has.
     fn read_row(bytes: &[u8]) -> Result<Self, Short>
         ensures { OkIff result (WIDTH ≤ length bytes.now) (reported bytes.now) };
 
@@ -73,7 +73,7 @@ impl Row for (ChunkId, u64) {
     }
 }
 
-/// Reads so many rows, which begin after `prefix` bytes of a chunk's content.
+/// Reads this many rows, which begin after `prefix` bytes of a chunk's content.
 ///
 /// # Errors
 /// Truncated; Read; Memory.

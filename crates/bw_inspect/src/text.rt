@@ -65,7 +65,7 @@ pub fn make_data_line(place: u64, size: u64, fmt: &RawFmt) -> Line
     line
 }
 
-/// How many whole frames so many bytes are, none where a frame has no bytes.
+/// How many whole frames this many bytes are; 0 if a frame has no bytes.
 fn whole_frames(size: u64, align: u16) -> u64
     ensures { result ≡ frames_of size align }
 {
@@ -113,7 +113,7 @@ fn text_len(field: &[u8]) -> usize
     field.iter().take_while(|c| **c != 0).count()
 }
 
-/// The line of a UMID (SMPTE 330M): its bytes as digits of hex.
+/// The line of a UMID (SMPTE 330M): its bytes as hex digits.
 pub fn make_umid_line(umid: &[u8; 64]) -> Line
     ensures { result ≡ umid_line umid.now }
 {

@@ -29,11 +29,11 @@ const MOST_CHUNKS: usize = 4_096;
 pub(crate) struct Form {
     pub(crate) id: ChunkId,
     pub(crate) size: u64,
-    /// What `ds64` tells, in BW64 and RF64.
+    /// What `ds64` says, in BW64 and RF64.
     pub(crate) sizes: Option<Ds64>,
 }
 
-/// Where the samples stand, in bytes from the file's start, and how many bytes they are.
+/// Where the samples are, in bytes from the file's start, and how many bytes they are.
 #[derive(Clone, Copy, Drop)]
 pub(crate) struct Samples {
     pub(crate) at: u64,
@@ -49,7 +49,7 @@ pub(crate) struct Known {
     pub(crate) cues: Option<Cues>,
 }
 
-/// The chunks so far, what they tell, and where the next head is wanted.
+/// The chunks so far, what they say, and where the next head is wanted.
 #[derive(Drop)]
 pub(crate) struct Walk {
     pub(crate) place: u64,
@@ -123,7 +123,7 @@ pub(crate) fn next_chunk<R: Source>(
 /// Reads the head of the chunk at a place.
 ///
 /// # Errors
-/// `cut` where the input ends before the head's end; Read.
+/// `cut` if the input ends before the head's end; Read.
 pub(crate) fn read_head_at<R: Source>(
     reader: &mut R,
     place: u64,
@@ -145,7 +145,7 @@ pub(crate) fn read_head_at<R: Source>(
     Ok(head)
 }
 
-/// Lists a chunk whose content was read; where a further head is wanted, its pad byte is passed
+/// Lists a chunk whose content was read; if a further head is wanted, its pad byte is passed
 /// over.
 ///
 /// # Errors
@@ -180,7 +180,7 @@ pub(crate) fn list_chunk<R: Source>(
     Ok(())
 }
 
-/// Whether a chunk of a kind was seen, of those that a file has once.
+/// Whether a chunk of a kind was seen, for the kinds that a file has once.
 fn was_seen(known: &Known, kind: ChunkKind) -> bool
     ensures { result ≡ has_kind kind (facts_of known.now) }
 {

@@ -16,7 +16,7 @@ use bw_stream::{IoFailed, Sink, write_all};
 use std::error::Error;
 use std::fmt;
 
-/// The writer failed: a beginning of the text was written.
+/// The writer failed: a prefix of the text was written.
 #[derive(Clone, Copy, Debug, PartialEq, Eq)]
 pub struct WriteFailed;
 
@@ -38,10 +38,11 @@ impl From<IoFailed> for WriteFailed {
     }
 }
 
-/// Writes a report, one line for each thing that it tells. It takes no memory.
+/// Writes a report, one line for each thing that it holds. A line is built without allocating
+/// memory.
 ///
 /// # Errors
-/// `WriteFailed` where the writer failed: a beginning of the text was written.
+/// `WriteFailed` if the writer failed: a prefix of the text was written.
 ///
 /// # Not specified
 /// Whether the writer holds bytes back.
@@ -92,7 +93,7 @@ fn write_cues<W: Sink>(cues: &Cues, writer: &mut W) -> Result<(), WriteFailed>
     Ok(())
 }
 
-/// Writes the lines of a `bext` chunk, where there is one.
+/// Writes the lines of a `bext` chunk, if there is one.
 fn write_bext<W: Sink>(bext: &Option<BextChunk>, writer: &mut W) -> Result<(), WriteFailed>
     ensures count { W.failures writer.new ≡ failures_after result (W.failures writer.old) }
     ensures ok { OnOk result
@@ -141,7 +142,7 @@ fn write_texts<W: Sink>(fields: &RawBext, writer: &mut W) -> Result<(), WriteFai
     Ok(())
 }
 
-/// Writes the line of the loudness, where the version has it.
+/// Writes the line of the loudness, if the version has it.
 fn write_loudness<W: Sink>(loudness: &Option<Loudness>, writer: &mut W) -> Result<(), WriteFailed>
     ensures count { W.failures writer.new ≡ failures_after result (W.failures writer.old) }
     ensures ok { OnOk result

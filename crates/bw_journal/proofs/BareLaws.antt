@@ -1,4 +1,4 @@
--- Without its samples a request is judged alike, and leaves the same parts.
+-- Without its samples a request is judged the same way, and leaves the same parts.
 use Rattle.std.proofs.Common.{◌≡◌, ℕ, ◌+◌, ◌%◌, Bool, true, false, cond, Option, Some, None, List, length, refl, sym}
 use Rattle.std.proofs.Common.{ap, ◌∙◌, length-append}
 use Rattle.std.specs.Prelude.{◌==◌, if◌then◌else◌}

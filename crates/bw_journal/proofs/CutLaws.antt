@@ -62,7 +62,7 @@ up-without_same {X} y up l (entry ∷ book) x e = go (bytes_eq entry.0 x) refl (
         l.step entry (without x book)
         ∙ ap (λ (v : Bool). cond v (l.of entry) (up (without x book))) off ∙ ih
 
--- .. and under the others what was found before
+-- under the other names what was found before
 up-without_other : {X : Type 0} (y : List ℕ) (up : Book → X) → LooksUp X y up → (book : Book) (x : List ℕ) →
     bytes_eq x y ≡ false → up (without x book) ≡ up book
 up-without_other y up l [] x e = refl

@@ -1,4 +1,4 @@
--- Entries are read as they are noted.
+-- Entries are read back as they were noted.
 use Rattle.std.proofs.Common.{◌≡◌, ℕ, zero, suc, ◌+◌, ◌-◌, ◌≤◌, Bool, true, false, cond, not, Option, Some, None, Ok}
 use Rattle.std.proofs.Common.{List, [], ◌∷◌, length, take, drop, refl, sym, ap, subst, ◌∙◌, arith}
 use Rattle.std.specs.Prelude.{slice_index, nat_le, nat_lt, ◌==◌}
@@ -14,7 +14,7 @@ use Rattle.bw_model.proofs.SpellingLaws.{unless_ok}
 use Rattle.bw_journal.specs.Entries.{block_noted, request_in, made_of, entry_in}
 use Rattle.bw_journal.specs.Seals.{opened, check}
 
--- so many zeros in place of samples
+-- this many zeros in place of samples
 pub some_zeros : (n : ℕ) (z : List ℕ) → n ≤ 32768 → z ≡ zeros 32768 → take n z ≡ zeros n
 some_zeros n z few e = ap (take n) e ∙ take-replicate n 32768 0 few
 

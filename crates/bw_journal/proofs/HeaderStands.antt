@@ -1,4 +1,4 @@
--- Where a header is read, its bytes stand.
+-- If a header is read, its bytes are there.
 use Rattle.std.proofs.Common.{◌≡◌, ℕ, zero, suc, ◌+◌, ◌^◌, ◌-◌, Bool, true, false, cond, ◌&&◌, Option, Some, None, List}
 use Rattle.std.proofs.Common.{[], ◌∷◌, ◌++◌, length, take, drop, refl, sym, ap, subst, ◌∙◌, arith}
 use Rattle.std.specs.Prelude.{option_and_then, slice_index, ◌==◌}
@@ -35,7 +35,7 @@ with_parts limit None h e = absurd (none_some e)
 with_parts limit (Some existed) h e =
     (sym (ap (λ (x : Header). x.limit) (some_inj e)), ap (λ (x : Header). Some x.existed) (some_inj e))
 
--- after all but one of its bytes stands the last
+-- after all but one of its bytes comes the last
 last_left : (n : ℕ) (xs : List ℕ) → length xs ≡ suc n → drop n xs ≡ slice_index xs n ∷ []
 last_left zero [] e = absurd (omega (arith, e))
 last_left zero (x ∷ []) e = refl

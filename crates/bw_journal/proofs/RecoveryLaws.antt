@@ -1,4 +1,4 @@
--- A server that goes on holds what the stop left.
+-- A server that resumes holds what the stop left.
 use Rattle.std.proofs.Common.{◌≡◌, ℕ, zero, suc, ◌+◌, ◌≤◌, Bool, true, false, cond, not, ◌&&◌, ◌⊎◌, inl, inr, IsTrue}
 use Rattle.std.proofs.Common.{List, [], ◌∷◌, length, take, Option, Some, None, IsSome, is_some, option_map, refl, sym}
 use Rattle.std.proofs.Common.{◌∙◌, ap, subst, arith}

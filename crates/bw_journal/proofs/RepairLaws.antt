@@ -27,7 +27,7 @@ same_part xs ys a b p n e low high =
     part_of xs a b p n low high ∙ ap (λ (z : List ℕ). drop (p - a) (take (p - a + n) z)) e
     ∙ sym (part_of ys a b p n low high)
 
--- the samples stand in what is between two files
+-- the samples are in what is between two files
 stand : (old new found hd samples rest : List ℕ) (place from to : ℕ) → old ≡ hd ++ (samples ++ rest) →
     length hd ≡ place → from ≤ place → place + length samples ≤ to
     → Repairable old new from to found → (place + length samples ≤ length found)

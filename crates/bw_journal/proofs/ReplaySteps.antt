@@ -21,7 +21,7 @@ begins k used existed bytes p table e prefix is empty =
     ∙ ap (λ (t : List ℕ). replayed (length bytes) bytes
     (record { parts = parts (new_take existed); table = t; used = header_len })) empty
 
--- what is reported by these parts and this table
+-- what these parts and this table say
 pub same_story : (m : ℕ) (bytes : List ℕ) (s : Story) (x : JournalEntry × ℕ) (p : Parts) (table : List ℕ)
     → p ≡ (with_entry s x).parts → table ≡ (with_entry s x).table
     → replayed m bytes (record { parts = p; table = table; used = s.used + x.1 }) ≡ replayed m bytes (with_entry s x)

@@ -175,7 +175,7 @@ reports t name n (Some r ∷ rest) prefix tail table (suc k) h cut enough =
     (length (sealed_entry e) + length later) = omega arith in e')
     ∙ ap (λ (u : ℕ). length prefix + u) (sym (length-append (sealed_entry e) later)))
 
--- an entry has at least a byte
+-- an entry has at least one byte
 many : (t : Take) (name : List ℕ) (n : ℕ) (rest : List (Option Request)) → list_all fits rest ≡ true →
     length rest ≤ length (sealed_entries (entries_by t name n rest))
 many t name n [] h = omega arith
@@ -192,7 +192,7 @@ many t name n (Some r ∷ rest) h =
           (sealed_entries (entries_by (after t r) name (suc n) rest)),
     )
 
--- after the last entry stands a prefix of another, and nothing is wrong with it
+-- after the last entry comes a prefix of another, and nothing is wrong with it
 no_fault : (tail : List ℕ) → IsCut tail → tail_fault tail ≡ None
 unfolding tail_fault
 no_fault tail h =
@@ -206,7 +206,7 @@ no_fault tail h =
     let test : nat_lt 4150 (length tail) ≡ false = le-ltb 4150 (length tail) (omega (arith, most, cut, long)) in
     rw (closed, test) refl
 
--- what the entries tell is reported of the journal
+-- what the entries say is what the journal reports
 reported_after : (h : Header) (prefix es tail : List ℕ) (s : Story) → prefix ≡ header_bytes h → IsHeader h → IsCut tail →
     s.used ≡ length (prefix ++ es) → replayed_entries h.existed ((prefix ++ es) ++ tail) ≡ Ok s →
     replay h.limit ((prefix ++ es) ++ tail) ≡ Ok s

@@ -46,7 +46,7 @@ payload_short (SetField tag value) h =
     omega arith
 payload_short (Close total) h = omega arith
 
--- what stands at the start of sealed bytes
+-- what is at the start of sealed bytes
 pub sealed_parts : (c more : List ℕ) → length c < 2 ^ 16
     → (u16_at (sealed c ++ more) 0 ≡ length c) × (drop 2 (sealed c ++ more) ≡ (c ++ check c) ++ more)
 unfolding sealed
@@ -81,7 +81,7 @@ cut_none : (b : List ℕ) → 2 ≤ length b → length b < 10 + u16_at b 0 → 
 unfolding opened
 cut_none b long h = rw (le-ltb (length b) 2 long, lt-ltb (length b) (10 + u16_at b 0) h) refl
 
--- the number at the start is that of a longer front
+-- the number at the start is that of a longer prefix
 prefix_number : (k : ℕ) (b : List ℕ) → 2 ≤ k → u16_at (take k b) 0 ≡ u16_at b 0
 prefix_number zero b h = absurd (omega arith)
 prefix_number (suc zero) b h = absurd (omega arith)

@@ -1,4 +1,4 @@
--- Where an entry is read, its bytes stand.
+-- If an entry is read, its bytes are there.
 use Rattle.std.proofs.Common.{◌≡◌, ℕ, ◌+◌, ◌-◌, ◌≤◌, ◌^◌, ◌≢◌, Bool, true, false, cond, not, ◌&&◌, Option, Some, None}
 use Rattle.std.proofs.Common.{Result, Ok, Err, List, [], ◌∷◌, ◌++◌, length, take, drop, refl, sym, ap, subst, ◌∙◌}
 use Rattle.std.proofs.Common.{append_assoc, arith}
@@ -36,7 +36,7 @@ chain false true c x y e = absurd (none_some e)
 chain false false true x y e = (refl, refl, refl, some_inj e)
 chain false false false x y e = absurd (none_some e)
 
--- what was opened stands sealed at the start
+-- what was opened is sealed at the start
 pub opened_stands : (bytes c : List ℕ) → are_bytes bytes ≡ true → opened bytes ≡ Some c →
     (take (10 + length c) bytes ≡ sealed c) × (c ≡ take (u16_at bytes 0) (drop 2 bytes))
 unfolding opened sealed

@@ -27,7 +27,7 @@ length-take_whole zero xs = omega arith
 length-take_whole (suc n) [] = omega arith
 length-take_whole (suc n) (x ∷ xs) = let more : length (take n xs) ≤ length xs = length-take_whole n xs in omega arith
 
--- the bytes stand at the start of a content that passed the test
+-- the bytes are at the start of a content that passed the test
 pub prefix_begins : (bytes content : List ℕ) → has_prefix bytes content ≡ true → BeginsWith bytes (Some content)
 prefix_begins bytes content e =
     let tests = and_parts (nat_le (length bytes) (length content)) (bytes_eq (take (length bytes) content) bytes) e in (
@@ -37,7 +37,7 @@ prefix_begins bytes content e =
           (same_name (take (length bytes) content) bytes tests.1)),
     )
 
--- .. and one that they begin passes it
+-- a content that they begin passes it
 pub begins_prefix : (bytes content : List ℕ) → BeginsWith bytes (Some content) → has_prefix bytes content ≡ true
 begins_prefix bytes content (rest, is) =
     let same : content ≡ bytes ++ rest = some_inj is in
@@ -48,7 +48,7 @@ begins_prefix bytes content (rest, is) =
     ∙ ap (λ (x : List ℕ). bytes_eq x bytes) (take_at bytes rest (length bytes) refl)
     ∙ name_refl bytes)
 
--- .. so that none that didn't pass begins so
+-- no content that didn't pass begins with them
 pub begins_not : {P : Type 0} (bytes content : List ℕ) → BeginsWith bytes (Some content) →
     has_prefix bytes content ≡ false → P
 begins_not bytes content begins fails = no_true (sym fails ∙ begins_prefix bytes content begins)
@@ -117,7 +117,7 @@ notes_cut offset bytes before after is = λ base count was long. (
       ∙ ap Some (take_at base (take count bytes) offset long ∙ sym (nothing_more base)),
 )
 
--- a prefix of the bytes that is noted over whatever stood there
+-- a prefix of the bytes that is noted over whatever was there
 notes_prefix : (offset count : ℕ) (bytes : List ℕ) (before after : Option (List ℕ)) →
     NotesOver offset (take count bytes) before after → NotesInPart offset bytes before after
 notes_prefix offset k bytes before after (old, is, fits, new) = λ base count was long. (
@@ -126,7 +126,7 @@ notes_prefix offset k bytes before after (old, is, fits, new) = λ base count wa
       ∙ ap (λ (x : List ℕ). Some (x ++ take k bytes)) (take_at base (take count bytes) offset long),
 )
 
--- .. or that wasn't
+-- a prefix that wasn't noted
 pub either_part : {T E : Type 0} (answer : Result T E) (offset count : ℕ) (bytes : List ℕ)
     (before after : Option (List ℕ)) →
     OnOk answer (NotesOver offset (take count bytes) before after) →

@@ -1,4 +1,4 @@
--- Worlds go on after stops of their servers.
+-- Worlds continue after stops of their servers.
 use Rattle.std.proofs.Common.{◌≡◌, ℕ, ◌<◌, Bool, List, [], ◌∷◌, Some, refl, sym, ◌∙◌, subst}
 use Rattle.bw_model.specs.Bytes.{at}
 use Rattle.bw_model.specs.Take.{Request, Verdict}
@@ -12,7 +12,7 @@ use Rattle.bw_model.proofs.WorldLaws.{event_true, faithful, start}
 use Rattle.bw_journal.specs.Stops.{cut_log, cut_book, Step, Happens, Stops, after_step, after_steps, EachWorldGoesOn}
 use Rattle.bw_journal.proofs.CutLaws.{at-take, at-take_some, verdict-cut, logs_cut}
 
--- what is sound stays so where the log is cut
+-- what is sound stays so if the log is cut
 sound_cut : (offered : List Request) (log : Log) → IsSound offered log → IsSound offered (cut_log log)
 sound_cut offered log h = record {
   admitted = λ n r e. h.admitted n r (at-take_some log.done n log.admitted r e);
@@ -26,7 +26,7 @@ true_cut taken name log r h = record {
   welcome = h.welcome;
 }
 
--- the sender's part of a world stays true where the log is cut
+-- the sender's part of a world stays true if the log is cut
 cut_kept : (existed : List ℕ → Bool) (w : World) → IsKept existed w → IsKept existed (record w { book = cut_book w.book })
 cut_kept existed w k =
     let name = w.sender.name in

@@ -1,4 +1,4 @@
--- A take is taken from its beginning on, or never; and a NameTaken tells it.
+-- A take is taken from its beginning on, or never; and a verdict NameTaken shows it.
 use Rattle.std.proofs.Common.{◌≡◌, ℕ, ◌%◌, Bool, true, false, cond, not, ◌&&◌, List, [], ◌∷◌, length, take, Option}
 use Rattle.std.proofs.Common.{Some, None, refl, sym, ◌∙◌, ap}
 use Rattle.std.specs.Prelude.{fold, is_some, nat_le, nat_lt, ◌==◌}
@@ -41,7 +41,7 @@ other_two : (c : Bool) (v w : Verdict) → is_name_taken v ≡ false → is_name
 other_two true v w a b = a
 other_two false v w a b = b
 
--- a NameTaken is said of a taken take alone
+-- only a taken take gets NameTaken
 untaken_open : (p : Parts) (o : Option Format) (r : Request) → p.taken ≡ false →
     is_name_taken (judge_open p o r) ≡ false
 untaken_open p (Some g) (Open f history) e = refl

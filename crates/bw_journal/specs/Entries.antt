@@ -17,7 +17,7 @@ bare (Mark id frame) = Mark id frame
 bare (SetField tag value) = SetField tag value
 bare (Close total) = Close total
 
--- what is noted of a request after its kind: its payload, and of a block its length
+-- what is noted of a request after its kind: its payload, or for a block its length
 abbrev pub noted_payload : Request → List ℕ
 noted_payload (Block bytes) = le32 (length bytes)
 noted_payload (Open f history) = payload (Open f history)
@@ -43,7 +43,7 @@ content e = verdict_code e.verdict ∷ e.digest ++ noted e.request
 abbrev pub sealed_entry : JournalEntry → List ℕ
 sealed_entry e = sealed (content e)
 
--- an OPEN with the longest history takes so many bytes, and no other request takes more
+-- an OPEN with the longest history takes this many bytes, and no other request takes more
 abbrev pub longest_entry : ℕ
 longest_entry = 4150
 
@@ -51,7 +51,7 @@ longest_entry = 4150
 abbrev pub sealed_entries : List JournalEntry → List ℕ
 sealed_entries es = flat_map sealed_entry es
 
--- the value, if it is one
+-- the value, if there is one
 abbrev pub value_in : {X F : Type 0} → Result X F → Option X
 value_in (Ok x) = Some x
 value_in (Err f) = None
@@ -63,7 +63,7 @@ block_noted p =
     then Some (Block (zeros (u32_at p 0)))
     else None
 
--- the request that is noted so, without samples
+-- the request that these bytes note, without samples
 abbrev pub request_in : List ℕ → Option Request
 request_in [] = None
 request_in (kind ∷ p) =
@@ -86,7 +86,7 @@ entry_in bytes =
 abbrev pub entry_with_len : List ℕ → Option (JournalEntry × ℕ)
 entry_with_len bytes = option_map (λ e. (e, 10 + length bytes)) (entry_in bytes)
 
--- The entry at the start of these bytes, and how many it takes; none where the front is torn or
--- isn't one.
+-- The entry at the start of these bytes, and how many it takes; none if the start is torn or isn't
+-- an entry.
 unfoldable pub first_entry : List ℕ → Option (JournalEntry × ℕ)
 first_entry bytes = option_and_then entry_with_len (opened bytes)

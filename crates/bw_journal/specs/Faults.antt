@@ -5,7 +5,7 @@ use Rattle.bw_journal.specs.Replays.{OtherVerdict, NotAnEntry, LongTail, fault_c
 use Rattle.bw_journal.specs.declared.fault.ReplayFault.{ReplayFault}
 use Rattle.bw_journal.specs.declared.fault.ReplayFault.TheVariants as faults
 
--- what is wrong with the journal; nothing, where memory was refused
+-- what is wrong with the journal; nothing if memory was refused
 abbrev pub fault_meaning : ReplayFault → Option JournalFault
 fault_meaning faults.NotBegun = Some NotBegun
 fault_meaning faults.NotAJournal = Some NotAJournal

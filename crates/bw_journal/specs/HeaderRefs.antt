@@ -7,6 +7,6 @@ use Rattle.bw_journal.specs.declared.header.JournalHeader.{JournalHeader}
 abbrev pub header_said : JournalHeader → Header
 header_said h = record { limit = h.limit; existed = h.existed }
 
--- .. of a limit and a fact that were read
+-- the header of a limit and a fact that were read
 abbrev pub header_found : ℕ × Bool → Header
 header_found x = record { limit = x.0; existed = x.1 }

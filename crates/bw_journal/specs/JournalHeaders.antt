@@ -6,7 +6,7 @@ use Rattle.std.specs.Str.{bytes_eq}
 use Rattle.bw_model.specs.Bytes.{le32, u32_at}
 use Rattle.bw_journal.specs.Seals.{sealed, opened}
 
--- the server's limit, and whether a file of the name stood before its journal
+-- the server's limit, and whether a file of the name existed before its journal
 pub record Header : Type 0 where
   -- the largest form size of a RIFF file
   pub limit : ℕ
@@ -17,7 +17,7 @@ abbrev pub existed_flag : Bool → ℕ
 existed_flag true = 1
 existed_flag false = 0
 
--- by which a journal is reported from other files
+-- the bytes that distinguish a journal from other files
 abbrev pub magic : List ℕ
 magic = codes "BWJ1"
 
@@ -29,7 +29,7 @@ header_content h = magic ++ (le32 h.limit ++ existed_flag h.existed ∷ [])
 abbrev pub header_bytes : Header → List ℕ
 header_bytes h = sealed (header_content h)
 
--- .. which are so many
+-- how many bytes a header has
 abbrev pub header_len : ℕ
 header_len = 19
 
@@ -53,7 +53,7 @@ header_in bytes =
 unfoldable pub first_header : List ℕ → Option Header
 first_header bytes = option_and_then header_in (opened bytes)
 
--- these bytes begin the others, and are fewer
+-- these bytes are a prefix of the others, and fewer
 abbrev pub is_torn : List ℕ → List ℕ → Bool
 is_torn bytes whole =
     nat_lt (length bytes) (length whole) && bytes_eq bytes (take (length bytes) whole)
@@ -63,7 +63,7 @@ abbrev pub has_limit : ℕ → Option Header → Bool
 has_limit limit None = false
 has_limit limit (Some h) = h.limit == limit
 
--- the beginning of a header of this limit, which isn't all of it
+-- a prefix of a header of this limit, which isn't all of it
 abbrev pub is_torn_header : ℕ → List ℕ → Bool
 is_torn_header limit bytes =
     is_torn bytes (header_bytes (record { limit = limit; existed = false }))

@@ -1,4 +1,4 @@
--- The journal of a name, and what may stand of it after a stop.
+-- The journal of a name, and what a stop may leave of it.
 use Rattle.std.specs.Prelude.{◌≡◌, ℕ, suc, ◌<◌, ◌≤◌, ◌^◌, Bool, false, Option, Some, None, Ok, Err}
 use Rattle.std.specs.Prelude.{IsTrue, List, [], ◌∷◌, ◌++◌, length, take, flat_map}
 use Rattle.std.specs.List.{list_all}
@@ -53,7 +53,7 @@ abbrev pub JournalEntriesReadBack : Type 0
 JournalEntriesReadBack = (e : JournalEntry) (more : List ℕ) → IsNotable e →
     first_entry (sealed_entry e ++ more) ≡ Some (bare_entry e, length (sealed_entry e))
 
--- The other way round: where an entry is read from bytes, its own bytes stand at their front.
+-- Conversely, if an entry is read from bytes, they begin with its own bytes.
 abbrev pub ReadEntriesStand : Type 0
 ReadEntriesStand = (bytes : List ℕ) (e : JournalEntry) (n : ℕ) → IsTrue (are_bytes bytes) →
     first_entry bytes ≡ Some (e, n) → take n bytes ≡ sealed_entry e
@@ -67,12 +67,12 @@ abbrev pub HeadersReadBack : Type 0
 HeadersReadBack = (h : Header) (more : List ℕ) → IsHeader h →
     first_header (header_bytes h ++ more) ≡ Some h
 
--- .. and where one is read, its bytes stand
+-- If a header is read, its bytes are there.
 abbrev pub ReadHeadersStand : Type 0
 ReadHeadersStand = (bytes : List ℕ) (h : Header) → IsTrue (are_bytes bytes) →
     first_header bytes ≡ Some h → take header_len bytes ≡ header_bytes h
 
--- a prefix of an entry, which isn't all of it: what a stop leaves of the entry that was written
+-- a prefix of an entry, which isn't all of it: what a stop leaves of the entry being written
 pub record IsCut (tail : List ℕ) : Type 0 where
   pub entry : JournalEntry
   pub notable : IsNotable entry
@@ -84,7 +84,7 @@ pub record IsCut (tail : List ℕ) : Type 0 where
 abbrev pub CutEntriesAreNone : Type 0
 CutEntriesAreNone = (tail : List ℕ) → IsCut tail → first_entry tail ≡ None
 
--- a prefix of a header, which isn't all of it, says that the journal is to be begun
+-- a prefix of a header, which isn't all of it, means that the journal isn't begun
 abbrev pub CutHeadersAreNotBegun : Type 0
 CutHeadersAreNotBegun = (h : Header) (count : ℕ) → IsHeader h → count < header_len →
     replay h.limit (take count (header_bytes h)) ≡ Err NotBegun

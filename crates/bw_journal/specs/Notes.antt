@@ -4,17 +4,17 @@ use Rattle.std.specs.Prelude.{length, take, nat_le}
 use Rattle.std.specs.Str.{bytes_eq}
 use Rattle.bw_journal.specs.JournalHeaders.{Header, header_bytes}
 
--- nothing stands, or a prefix of these bytes
+-- there is nothing, or a prefix of these bytes
 abbrev pub IsPrefixOf : List ℕ → Option (List ℕ) → Type 0
 IsPrefixOf bytes found = (found ≡ None) ⊎ ((count : ℕ) × (found ≡ Some (take count bytes)))
 
--- nothing stands, or a prefix of them that isn't all of them
+-- there is nothing, or a prefix of them that isn't all of them
 abbrev pub IsShortOf : List ℕ → Option (List ℕ) → Type 0
 IsShortOf bytes found =
     (found ≡ None)
     ⊎ ((count : ℕ) × (found ≡ Some (take count bytes)) × (count < length bytes))
 
--- these bytes stand, whatever follows them
+-- these bytes are at the start, whatever follows them
 abbrev pub BeginsWith : List ℕ → Option (List ℕ) → Type 0
 BeginsWith bytes found = (rest : List ℕ) × (found ≡ Some (bytes ++ rest))
 
@@ -23,7 +23,7 @@ abbrev pub has_prefix : List ℕ → List ℕ → Bool
 has_prefix bytes content =
     nat_le (length bytes) (length content) && bytes_eq (take (length bytes) content) bytes
 
--- where these bytes begin a content: they stand whole then, and what stood after them is kept
+-- after these bytes were put at the start: they are there whole, and what followed them is kept
 pub record Starts (bytes : List ℕ) (before after : Option (List ℕ)) : Type 0 where
   pub stands : BeginsWith bytes after
   pub written : IsPrefixOf bytes before → after ≡ Some bytes
@@ -31,7 +31,7 @@ pub record Starts (bytes : List ℕ) (before after : Option (List ℕ)) : Type 0
   -- other bytes are never written over
   pub only : (after ≡ before) ⊎ IsPrefixOf bytes before
 
--- .. or no more than a prefix of them was written, and nothing over all of them
+-- a failed try of that: no more than a prefix of them was written, and nothing over all of them
 pub record StartsInPart (bytes : List ℕ) (before after : Option (List ℕ)) : Type 0 where
   pub prefix : IsPrefixOf bytes before → IsPrefixOf bytes after
   pub kept : BeginsWith bytes before → after ≡ before
@@ -42,25 +42,25 @@ pub record StartsInPart (bytes : List ℕ) (before after : Option (List ℕ)) : 
 abbrev pub BeginsNotes : Header → Option (List ℕ) → Option (List ℕ) → Type 0
 BeginsNotes header before after = Starts (header_bytes header) before after
 
--- .. that fails
+-- after a `begin` that fails
 abbrev pub BeginsInPart : Header → Option (List ℕ) → Option (List ℕ) → Type 0
 BeginsInPart header before after = StartsInPart (header_bytes header) before after
 
--- After a `note` that succeeds: the bytes stand after so many others, in place of a prefix of them.
+-- After a `note` that succeeds: the bytes come after `offset` others, in place of a prefix of them.
 abbrev pub Notes : ℕ → List ℕ → Option (List ℕ) → Option (List ℕ) → Type 0
 Notes offset bytes before after =
     (base : List ℕ) (count : ℕ) →
     before ≡ Some (base ++ take count bytes) → length base ≡ offset →
     after ≡ Some (base ++ bytes)
 
--- .. that fails: a prefix of them stands there
+-- After a `note` that fails: a prefix of them is there
 abbrev pub NotesInPart : ℕ → List ℕ → Option (List ℕ) → Option (List ℕ) → Type 0
 NotesInPart offset bytes before after =
     (base : List ℕ) (count : ℕ) →
     before ≡ Some (base ++ take count bytes) → length base ≡ offset →
     (reached : ℕ) × (after ≡ Some (base ++ take reached bytes))
 
--- the bytes stand after so many others, in place of whatever stood there
+-- the bytes come after this many others, in place of whatever was there
 abbrev pub NotesOver : ℕ → List ℕ → Option (List ℕ) → Option (List ℕ) → Type 0
 NotesOver offset bytes before after =
     (old : List ℕ) × (before ≡ Some old) × (offset ≤ length old)

@@ -1,5 +1,5 @@
--- What a folder has after a stop between two turns, and what a server that goes on over it holds. A
--- stop within a turn is taken for one after a turn in which a call failed.
+-- What a folder has after a stop between two turns, and what a server that resumes over it holds. A
+-- stop within a turn counts as one after a turn in which a call failed.
 use Rattle.std.specs.Prelude.{◌≡◌, ◌⊎◌, ℕ, ◌+◌, ◌≤◌, Bool, true, false, not, ◌&&◌, Option, Some}
 use Rattle.std.specs.Prelude.{None, IsSome, IsTrue, is_some, List, [], ◌++◌, length, take, drop}
 use Rattle.std.specs.Prelude.{nat_lt, if◌then◌else◌}
@@ -14,13 +14,13 @@ use Rattle.bw_model.specs.Holds.{Store, Kept, IsBetween, IsInTheMiddle, Holds, f
 use Rattle.bw_journal.specs.Noted.{AdmitsDone}
 use Rattle.bw_journal.specs.Stops.{cut_book}
 
--- a take's file, or where a request that is to be stored waits, what is between its old and its new
+-- a take's file, or, if a request that is to be stored waits, what is between its old and its new
 -- bytes
 abbrev pub IsOnTheWay : Take → ℕ → Option Request → Option (List ℕ) → Type 0
 IsOnTheWay t limit waits found =
     (found ≡ file_of t limit) ⊎ IsInTheMiddle t limit waits found
 
--- A server's files are so after each turn, whatever it is reported and whichever calls fail.
+-- A server's files are like that after each turn, whatever it receives and whichever calls fail.
 abbrev pub HeldFilesSurvive : Type 0
 HeldFilesSurvive =
     (limit : ℕ) (store : Store) (kept_of : List ℕ → Option Kept) (book : Book) →
@@ -39,7 +39,7 @@ kept_after_stop existed name log found = record {
   dirty = false;
 }
 
--- .. of each name of which something is done
+-- what is kept of each name with a done number
 abbrev pub kept_after : (List ℕ → Option (List ℕ)) → (List ℕ → Option (List ℕ)) → Book →
     List ℕ → Option Kept
 kept_after first contents book name =
@@ -55,7 +55,7 @@ pub record IsRepaired (limit : ℕ) (first contents : List ℕ → Option (List 
       contents name
       ≡ file_of (made false (log_of book name).admitted (log_of book name).done) limit
 
--- After the repair a server that keeps what the journals tell holds the book that the stop left.
+-- After the repair a server that keeps what the journals say holds the book that the stop left.
 abbrev pub RecoveryHolds : Type 0
 RecoveryHolds =
     (limit : ℕ) (first contents : List ℕ → Option (List ℕ)) (honest : Bool) (book : Book) →
@@ -78,14 +78,14 @@ pub record IsRepairedBy (t : Take) (f : Format) (limit : ℕ) (found : List ℕ)
       ++ pad (length t.samples))
       ≡ file_with f t limit
 
--- so it is with the file of each open take that is on the way
+-- this holds of the file of each open take that is between two requests
 abbrev pub FilesAreRepaired : Type 0
 FilesAreRepaired =
     (t : Take) (f : Format) (limit : ℕ) (waits : Option Request) (found : List ℕ) →
     AreFields t.fields → t.format ≡ Some f → t.closed ≡ false →
     IsOnTheWay t limit waits (Some found) → IsRepairedBy t f limit found
 
--- The file with the request is itself such a content: where its journal can't be written, the same
+-- The file with the request is itself between the two: if its journal can't be written, the same
 -- request may be tried again.
 abbrev pub NewFilesAreBetween : Type 0
 NewFilesAreBetween = (t : Take) (limit : ℕ) (r : Request) → AreFields t.fields →

@@ -5,7 +5,7 @@ use Rattle.bw_request.specs.Verdicts.{verdict_meaning}
 use Rattle.bw_journal.specs.Entries.{JournalEntry}
 use Rattle.bw_journal.specs.declared.entry.EntryRef.{EntryRef}
 
--- the entry that is lent
+-- the entry that is borrowed
 abbrev pub entry_said : EntryRef → JournalEntry
 entry_said e =
     record {
@@ -14,7 +14,7 @@ entry_said e =
       digest = e.digest.now;
     }
 
--- .. if one is, and how many bytes it takes
+-- the entry that was found, if there is one, and how many bytes it takes
 abbrev pub entry_found : Option (EntryRef × ℕ) → Option (JournalEntry × ℕ)
 entry_found None = None
 entry_found (Some x) = Some (entry_said x.0, x.1)

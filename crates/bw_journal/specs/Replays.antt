@@ -1,4 +1,4 @@
--- What a journal tells of a take and of its verdicts, and why it may tell nothing.
+-- What a journal says about a take and its verdicts, and why it may say nothing.
 use Rattle.std.specs.Prelude.{ℕ, zero, suc, ◌+◌, Bool, Option, Some, None, is_some, Result, Ok, Err}
 use Rattle.std.specs.Prelude.{List, [], ◌∷◌, ◌++◌, drop, length, nat_lt, ◌==◌, if◌then◌else◌}
 use Rattle.bw_model.specs.Bytes.{first_that_holds, unless}
@@ -18,11 +18,11 @@ pub record Story : Type 0 where
   -- how many bytes of the journal are the header and these entries
   pub used : ℕ
 
--- Why a journal tells nothing.
+-- Why a journal can't be replayed.
 pub data JournalFault : Type 0 where
-  -- a beginning of a header is all that stands
+  -- only a prefix of a header is there
   NotBegun : JournalFault
-  -- no header stands at the start
+  -- there is no header at the start
   NotAJournal : JournalFault
   -- the header has another limit than the server
   OtherLimit : JournalFault
@@ -50,7 +50,7 @@ beginning existed = record { parts = parts (new_take existed); table = []; used 
 abbrev pub parts_after : Parts → Verdict → Request → Parts
 parts_after p v r = if is_stored v then parts_with p r else p
 
--- what is known after one more entry, which takes so many bytes
+-- what is known after one more entry, which takes this many bytes
 abbrev pub with_entry : Story → JournalEntry × ℕ → Story
 with_entry s x = record {
   parts = parts_after s.parts x.0.verdict x.0.request;
@@ -62,7 +62,7 @@ with_entry s x = record {
 abbrev pub is_judged : Parts → JournalEntry → Bool
 is_judged p e = verdict_code (judge p e.request) == verdict_code e.verdict
 
--- what at most so many further entries tell
+-- what at most this many further entries say
 abbrev pub replayed : ℕ → List ℕ → Story → Result Story JournalFault
 replayed zero bytes s = Ok s
 replayed (suc steps) bytes s = elim (first_entry (drop s.used bytes)) [
@@ -71,7 +71,7 @@ replayed (suc steps) bytes s = elim (first_entry (drop s.used bytes)) [
       else Err OtherVerdict
 ]
 
--- what the entries after a header tell, up to the first that is torn
+-- what the entries after a header say, up to the first that is torn
 unfoldable pub replayed_entries : Bool → List ℕ → Result Story JournalFault
 replayed_entries existed bytes = replayed (length bytes) bytes (beginning existed)
 
@@ -83,12 +83,12 @@ tail_fault tail = first_that_holds (
     ∷ (nat_lt longest_entry (length tail), LongTail)
     ∷ [])
 
--- .. where this much is reported
+-- the tail is checked too, if the entries were replayed
 abbrev pub reported_with_tail : List ℕ → Result Story JournalFault → Result Story JournalFault
 reported_with_tail bytes (Ok s) = unless (tail_fault (drop s.used bytes)) s
 reported_with_tail bytes (Err f) = Err f
 
--- what the bytes after this header tell a server of this limit
+-- what the bytes after this header say to a server of this limit
 abbrev pub replayed_after : ℕ → List ℕ → Option Header → Result Story JournalFault
 replayed_after limit bytes None =
     if is_torn_header limit bytes then Err NotBegun else Err NotAJournal
@@ -96,6 +96,6 @@ replayed_after limit bytes (Some h) =
     if h.limit == limit then reported_with_tail bytes (replayed_entries h.existed bytes)
     else Err OtherLimit
 
--- what a journal tells a server of this limit
+-- what a journal says to a server of this limit
 unfoldable pub replay : ℕ → List ℕ → Result Story JournalFault
 replay limit bytes = replayed_after limit bytes (first_header bytes)

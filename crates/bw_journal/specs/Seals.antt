@@ -1,4 +1,4 @@
--- Bytes between their length and a check, so that a torn end is reported from a whole one.
+-- Bytes between their length and a check, so that a torn end can be distinguished from a whole one.
 use Rattle.std.specs.Prelude.{ℕ, ◌+◌, Option, Some, None, List, ◌++◌, length, take, drop, nat_lt}
 use Rattle.std.specs.Prelude.{if◌then◌else◌}
 use Rattle.std.specs.Str.{bytes_eq}

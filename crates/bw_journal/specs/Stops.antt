@@ -17,7 +17,7 @@ cut_log log = record { admitted = take log.done log.admitted; done = log.done }
 abbrev pub without : List ℕ → Book → Book
 without name book = filter (λ entry. not (bytes_eq entry.0 name)) book
 
--- the book that a stop leaves: the names of which something is done
+-- the book that a stop leaves: the names with a done number
 abbrev pub cut_book : Book → Book
 cut_book [] = []
 cut_book (entry ∷ book) =
@@ -29,15 +29,15 @@ pub record IsCutBook (book left : Book) : Type 0 where
   pub logs : (name : List ℕ) → log_of left name ≡ cut_log (log_of book name)
   pub known : (name : List ℕ) → is_known left name ≡ nat_lt 0 (log_of book name).done
 
--- so it is with every book
+-- this holds of every book
 abbrev pub BooksAreCut : Type 0
 BooksAreCut = (book : Book) → IsCutBook book (cut_book book)
 
--- .. and what is left is a book
+-- what is left is a book
 abbrev pub CutBooksAreBooks : Type 0
 CutBooksAreBooks = (book : Book) → IsBook book → IsBook (cut_book book)
 
--- what happens in a world, or its server stops and another goes on over what it left
+-- what happens in a world, or its server stops and another resumes over what it left
 pub data Step : Type 0 where
   Happens : Event → Faults → Step
   Stops : Step
@@ -61,7 +61,7 @@ AnswersStay existed w =
     (n < (log_of w.book w.sender.name).done)
     × (v ≡ verdict_at (existed w.sender.name) (log_of w.book w.sender.name).admitted n)
 
--- So it is in every world, however often its server stops.
+-- This holds of every world, however often its server stops.
 abbrev pub EachWorldGoesOn : Type 0
 EachWorldGoesOn = (existed : List ℕ → Bool) (name : List ℕ) (steps : List Step) →
     IsFaithful existed (after_steps existed (new_world name) steps)

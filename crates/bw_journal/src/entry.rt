@@ -16,12 +16,12 @@ use bw_wire::decode_request;
 /// The kind byte of a block.
 pub(crate) const BLOCK: u8 = 2;
 
-/// A done number as a journal tells it: a block has zeros in place of its samples.
+/// A done number as a journal has it: a block has zeros in place of its samples.
 #[derive(Clone, Copy, Debug)]
 pub struct EntryRef<'a> {
-    /// What its message said.
+    /// The request of its message.
     pub request: RequestRef<'a>,
-    /// What was answered.
+    /// The verdict that was replied.
     pub verdict: Verdict,
     /// The digest of its body (SHA-256, FIPS 180-4).
     pub digest: &'a [u8],
@@ -29,8 +29,8 @@ pub struct EntryRef<'a> {
 
 /// The entry at the start of the bytes, and how many bytes it takes.
 ///
-/// None where the front is torn, or is no entry. `zeros` are 32,768 zero bytes, lent to it in place
-/// of samples.
+/// None if the start is torn, or is no entry. `zeros` are 32,768 zero bytes, which the entry of a
+/// block borrows in place of samples.
 #[tactic(auto, unfolding(crate::specs::Entries::first_entry))]
 pub fn first_entry<'a>(bytes: &'a [u8], zeros: &'a [u8]) -> Option<(EntryRef<'a>, usize)>
     requires { zeros.now ≡ zero_bytes longest_block }
@@ -72,7 +72,7 @@ fn entry_of<'a>(content: &'a [u8], zeros: &'a [u8]) -> Option<EntryRef<'a>>
     })
 }
 
-/// The request that is noted so.
+/// The request that is noted by these bytes.
 fn request_of<'a>(noted: &'a [u8], zeros: &'a [u8]) -> Option<RequestRef<'a>>
     requires { zeros.now ≡ zero_bytes longest_block }
     ensures value { option_map meaning result ≡ request_in noted.now }

@@ -1,31 +1,31 @@
-//! Why a journal tells nothing.
+//! Why a journal can't be replayed.
 ghost use Rattle.std.specs.Prelude.{◌≡◌, ◌≤◌, None};
 ghost use Rattle.bw_journal.specs.Faults.{replay_code};
 
 use std::alloc::{AllocError, AllocFailed};
 use thiserror::Error;
 
-/// Why a journal tells nothing: the first that holds.
+/// Why a journal can't be replayed: the first that holds.
 ///
 /// No clause says what its text is.
 #[derive(Clone, Copy, Debug, PartialEq, Eq, Hash, Error)]
 pub enum ReplayFault {
-    /// A beginning of its header is all that stands: the journal is to be begun again.
+    /// Only a prefix of its header is there: the journal has to be begun again.
     #[error("the journal's header is torn")]
     NotBegun = 1,
-    /// No header stands at its start.
+    /// There is no header at its start.
     #[error("not a journal")]
     NotAJournal = 2,
     /// Its header has another limit than the server.
     #[error("the journal has another limit")]
     OtherLimit = 3,
-    /// An entry has another verdict than the request's judgement: other rules made it.
+    /// An entry's verdict differs from the request's judgement: other rules made it.
     #[error("an entry isn't judged as it says")]
     OtherVerdict = 4,
-    /// The bytes after the last entry are whole, but none that this program writes.
+    /// The bytes after the last entry are whole, but no entry that this program writes.
     #[error("an entry isn't known")]
     NotAnEntry = 5,
-    /// More bytes follow the last entry than one can have: more was lost than one write.
+    /// More bytes follow the last entry than an entry can have: more than one write was lost.
     #[error("what follows the last entry is longer than one")]
     LongTail = 6,
     /// Memory was refused.

@@ -13,9 +13,10 @@ use crate::memory::{MemoryJournal, count};
 use bw_request::Name;
 use bw_store::{StoreFault, blow};
 
-/// A journal after fuses: the calls of chosen numbers, counted from 0, fail, each once.
+/// A journal with fuses: the calls of chosen numbers, counted from 0, fail, each once.
 ///
-/// A `note` that fails so notes the first half of its bytes, rounded down; a `begin` nothing.
+/// A `note` that fails at a fuse notes the first half of its bytes, rounded down; a `begin`
+/// nothing.
 #[derive(Drop)]
 pub struct FuseJournal {
     inner: MemoryJournal,
@@ -40,21 +41,21 @@ impl FuseJournal {
         }
     }
 
-    /// How many calls came, those that failed among them.
+    /// How many calls there were, failed ones included.
     pub fn calls(&self) -> u64
         ensures { result ≡ self.now.calls }
     {
         self.calls
     }
 
-    /// The journal after the fuses.
+    /// The inner journal.
     pub fn inner(&self) -> &MemoryJournal
         ensures { result.now ≡ self.now.inner }
     {
         &self.inner
     }
 
-    /// The journal after the fuses, without them.
+    /// The inner journal, by value.
     pub fn into_inner(self) -> MemoryJournal
         ensures { result ≡ self.inner }
     {
@@ -80,11 +81,11 @@ impl Journal for FuseJournal {
     /// Begins the inner journal, unless a fuse has the call's number.
     ///
     /// # Errors
-    /// `StoreFault` at a fuse, which is spent; else where the inner journal counted a failure: the
+    /// `StoreFault` at a fuse, which is spent; else if the inner journal counted a failure: the
     /// notes are as they were.
     ///
     /// # Not specified
-    /// - Which calls fail once the inner journal's count of failures stands at 2^64 - 1.
+    /// - Which calls fail once the inner journal's count of failures is 2^64 - 1.
     /// - That a call at a fuse leaves that count as it was.
     /// - Without a fuse, that the failure that the inner journal counted is one of its `begin`.
     fn begin(&mut self, name: &Name) -> Result<(), StoreFault>
@@ -117,11 +118,11 @@ impl Journal for FuseJournal {
     /// first half, rounded down.
     ///
     /// # Errors
-    /// `StoreFault` at a fuse, which is spent; else where the inner call failed.
+    /// `StoreFault` at a fuse, which is spent; else if the inner call failed.
     ///
     /// # Not specified
-    /// - Which calls fail once the inner journal's count of failures stands at 2^64 - 1.
-    /// - What an error leaves where other bytes followed the first `offset` ones.
+    /// - Which calls fail once the inner journal's count of failures is 2^64 - 1.
+    /// - What an error leaves if other bytes followed the first `offset` ones.
     /// - At a fuse, whether the inner journal took the half: only its count of failures shows it.
     fn note(&mut self, name: &Name, offset: u64, bytes: &[u8]) -> Result<(), StoreFault>
         ensures failures { Counts self.old.failures self.new.failures (is_err result) }

@@ -18,7 +18,7 @@ const MAGIC: [u8; 4] = *b"BWJ1";
 pub struct JournalHeader {
     /// The server's limit.
     pub limit: Limit,
-    /// Whether a file of the name stood before its journal.
+    /// Whether a file of the name existed before its journal.
     pub existed: bool,
 }
 
@@ -42,7 +42,7 @@ impl JournalHeader {
     }
 }
 
-/// The header at the start of the bytes: its limit, and whether a file of the name stood.
+/// The header at the start of the bytes: its limit, and whether a file of the name existed.
 #[tactic(auto, unfolding(crate::specs::JournalHeaders::first_header))]
 pub(crate) fn first_header(bytes: &[u8]) -> Option<(u32, bool)>
     ensures value { option_map header_found result ≡ first_header_in bytes.now }
@@ -71,7 +71,7 @@ fn header_of(content: &[u8]) -> Option<(u32, bool)>
     }
 }
 
-/// Whether the bytes are the beginning of a header of this limit, and not all of it.
+/// Whether the bytes are a prefix of a header of this limit, and not all of it.
 pub(crate) fn is_torn_header(limit: Limit, bytes: &[u8]) -> bool
     ensures { result ≡ is_torn_header_of limit bytes.now }
 {
@@ -92,7 +92,7 @@ pub(crate) fn is_torn_header(limit: Limit, bytes: &[u8]) -> bool
     )
 }
 
-/// Whether the bytes begin the others, and are fewer.
+/// Whether the bytes are a prefix of the others, and fewer.
 pub(crate) fn is_torn(bytes: &[u8], whole: &[u8]) -> bool
     ensures { result ≡ is_torn_of bytes.now whole.now }
 {

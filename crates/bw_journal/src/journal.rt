@@ -1,4 +1,4 @@
-//! Journals by name, beside a store of takes.
+//! Journals by name, next to a store of takes.
 ghost use Rattle.std.specs.Prelude.{◌≡◌, ℕ, List, Bool, Option, None, false, IsOk, IsTrue, OnOk};
 ghost use Rattle.std.specs.Prelude.{OnErr, is_err};
 ghost use Rattle.bw_model.specs.Counts.{Counts};
@@ -12,14 +12,14 @@ use bw_store::StoreFault;
 
 /// Bytes by name that begin with a header and grow at their end.
 ///
-/// The clauses on notes and headers speak of an honest journal: one that keeps what it answered
-/// with success.
+/// The clauses on notes and headers speak of an honest journal: one that keeps what it reported as
+/// successful.
 pub trait Journal: Drop {
     /// What is noted under each name.
     ghost notes: { Self → List ℕ → Option (List ℕ) };
 
-    /// What a name's journal begins with. Nobody passes it: the journal knows its limit, and
-    /// whether a file of the name stood.
+    /// What a name's journal begins with. No argument passes it: the journal knows its limit, and
+    /// whether a file of the name existed.
     ghost header: { Self → List ℕ → Header };
 
     /// How many calls failed; the count stays at 2^64 - 1.
@@ -28,18 +28,18 @@ pub trait Journal: Drop {
     /// Whether the journal does what the clauses on notes and headers say.
     ghost honest: { Self → Bool };
 
-    /// Writes the header of a name's journal, unless it stands there whole.
+    /// Writes the header of a name's journal, unless it is there whole.
     ///
     /// Bytes that are no prefix of the header are never written over.
     ///
     /// # Errors
-    /// `StoreFault` where the journal failed: a prefix of the header may stand there then, and the
+    /// `StoreFault` if the journal failed: a prefix of the header may be there then, and the
     /// same call may be tried again.
     ///
     /// # Not specified
     /// - When the journal fails.
-    /// - Whether it succeeds where other bytes stand: in an honest journal it can't, and the error
-    ///   isn't told apart from a failure.
+    /// - Whether it succeeds if other bytes are there: in an honest journal it can't, and the error
+    ///   can't be distinguished from a failure.
     fn begin(&mut self, name: &Name) -> Result<(), StoreFault>
         ensures failures { Counts (failures self.old) (failures self.new) (is_err result) }
         ensures honest { honest self.new ≡ honest self.old }
@@ -56,12 +56,12 @@ pub trait Journal: Drop {
     /// left there: a prefix of the same bytes.
     ///
     /// # Errors
-    /// `StoreFault` where the journal failed: a prefix of the bytes may stand there then, and the
+    /// `StoreFault` if the journal failed: a prefix of the bytes may be there then, and the
     /// same call may be tried again.
     ///
     /// # Not specified
     /// - When the journal fails.
-    /// - What stands afterwards where the first `offset` bytes weren't there, or other bytes
+    /// - What is there afterwards if the first `offset` bytes weren't there, or other bytes
     ///   followed them.
     fn note(&mut self, name: &Name, offset: u64, bytes: &[u8]) -> Result<(), StoreFault>
         ensures failures { Counts (failures self.old) (failures self.new) (is_err result) }
@@ -76,7 +76,7 @@ pub trait Journal: Drop {
             KeepsOthers (notes self.old) (notes self.new) name.now };
 }
 
-/// No journal: what is noted is forgotten, and no call fails.
+/// No journal: what is noted is dropped, and no call fails.
 #[derive(Drop)]
 pub struct NoJournal;
 

@@ -6,7 +6,7 @@ ghost use Rattle.bw_journal.specs.Stops.{BooksAreCut, CutBooksAreBooks, EachWorl
 ghost use Rattle.bw_journal.specs.Recovery.{HeldFilesSurvive, FilesAreRepaired, RecoveryHolds};
 ghost use Rattle.bw_journal.specs.Recovery.{ClosedFilesAreWhole, NewFilesAreBetween};
 
-/// An entry is read again from its bytes, whatever follows; where one is read, its bytes stand; and
+/// An entry is read back from its bytes, whatever follows; if one is read, its bytes are there; and
 /// none is read from a prefix of one.
 pub fn law_entries()
     ensures back { JournalEntriesReadBack }
@@ -15,7 +15,7 @@ pub fn law_entries()
     ensures short { EntriesAreShort }
 {}
 
-/// The same of headers: a prefix of one says that the journal is to be begun.
+/// The same of headers: a prefix of one means that the journal isn't begun.
 pub fn law_headers()
     ensures back { HeadersReadBack }
     ensures stand { ReadHeadersStand }
@@ -37,7 +37,7 @@ pub fn law_stops()
 {}
 
 /// After each turn a server's files are those of its done numbers, or between them and the next;
-/// after their repair a server with what the journals tell holds the book that the stop left; and
+/// after their repair a server with what the journals say holds the book that the stop left; and
 /// files of closed takes need no repair.
 pub fn law_recovery()
     ensures survive { HeldFilesSurvive }

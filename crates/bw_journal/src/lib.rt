@@ -1,4 +1,4 @@
-//! Journals: what is noted of each done number, so that a server can go on after a stop.
+//! Journals: what is noted of each done number, so that a server can resume after a stop.
 #![tactic(auto)]
 
 mod entry;

@@ -20,8 +20,8 @@ use bw_store::StoreFault;
 use std::alloc::{AllocError, Global};
 use std::collections::BTreeMap;
 
-/// Journals in memory. A call fails where memory is refused; `begin` where other bytes stand; and
-/// `note` for a name without notes, or with fewer than `offset` bytes of them.
+/// Journals in memory. A call fails if memory is refused; `begin` also if other bytes are there;
+/// and `note` for a name without notes, or with fewer than `offset` bytes of them.
 #[derive(Drop)]
 pub struct MemoryJournal {
     alloc: Global,
@@ -49,10 +49,10 @@ impl MemoryJournal {
         }
     }
 
-    /// Notes that a file of a name stood. That is no call of the journal.
+    /// Notes that a file of a name exists. That is no call of the journal.
     ///
     /// # Errors
-    /// `AllocError` where memory was refused. Nothing changed then.
+    /// `AllocError` if memory was refused. Nothing changed then.
     ///
     /// # Not specified
     /// When memory is refused.
@@ -68,10 +68,10 @@ impl MemoryJournal {
         }
     }
 
-    /// Puts bytes under a name, in place of what stood there. That is no call of the journal.
+    /// Puts bytes under a name, in place of what was there. That is no call of the journal.
     ///
     /// # Errors
-    /// `AllocError` where memory was refused: nothing changed then.
+    /// `AllocError` if memory was refused: nothing changed then.
     ///
     /// # Not specified
     /// When memory is refused.
@@ -87,7 +87,7 @@ impl MemoryJournal {
         put(&mut self.notes, self.alloc, name, bytes)
     }
 
-    /// What is noted under a name; None where nothing is.
+    /// What is noted under a name; None if nothing is.
     pub fn content(&self, name: &Name) -> Option<&[u8]>
         ensures { option_copied result ≡ ⟦<MemoryJournal as Journal>⟧.notes self.now name.now }
     {
@@ -104,11 +104,11 @@ impl Journal for MemoryJournal {
 
     ghost honest = { λ _. true };
 
-    /// Puts the header where no more than a prefix of it stands.
+    /// Writes the header if no more than a prefix of it is there.
     ///
     /// # Errors
-    /// `StoreFault` where bytes stand that neither begin with the header nor are a prefix of it, or
-    /// memory was refused, never where the header stands: the notes are as they were.
+    /// `StoreFault` if there are bytes that neither begin with the header nor are a prefix of it,
+    /// or memory was refused, never if the header is there: the notes are as they were.
     ///
     /// # Not specified
     /// When memory is refused.
@@ -136,7 +136,7 @@ impl Journal for MemoryJournal {
     /// Puts the bytes after the first `offset` ones, in place of whatever followed these.
     ///
     /// # Errors
-    /// `StoreFault` where fewer than `offset` bytes are noted, or memory was refused: the notes are
+    /// `StoreFault` if fewer than `offset` bytes are noted, or memory was refused: the notes are
     /// cut to `offset` bytes.
     ///
     /// # Not specified
@@ -157,7 +157,7 @@ impl Journal for MemoryJournal {
     }
 }
 
-/// Counts one more where it happens, up to the last value.
+/// Adds one to the count if it happens, up to the last value.
 pub(crate) fn count(counted: &mut u64, happens: bool)
     ensures { Counts counted.old counted.new happens }
 {
@@ -173,7 +173,7 @@ fn has_name(names: &[Name], name: &Name) -> bool
     names.iter().any(|x| x == name)
 }
 
-/// What stands under a name.
+/// The content of a name.
 fn content_in<'a>(notes: &'a BTreeMap<Name, Vec<u8>>, name: &Name) -> Option<&'a [u8]>
     ensures { option_copied result ≡ content_of notes.now name.now }
 {
@@ -183,7 +183,7 @@ fn content_in<'a>(notes: &'a BTreeMap<Name, Vec<u8>>, name: &Name) -> Option<&'a
     }
 }
 
-/// Puts bytes under a name, in place of what stood there.
+/// Puts bytes under a name, in place of what was there.
 fn put(
     notes: &mut BTreeMap<Name, Vec<u8>>,
     alloc: Global,
@@ -201,18 +201,18 @@ fn put(
     }
 }
 
-/// What stands of a header under a name.
+/// What a name has of a header.
 #[derive(Clone, Copy, Debug, PartialEq, Eq)]
 enum Standing {
     /// All of it, whatever follows.
     Whole,
-    /// Nothing, or a beginning that isn't all of it.
+    /// Nothing, or a prefix that isn't all of it.
     Prefix,
     /// Other bytes.
     Other,
 }
 
-/// What stands of a header.
+/// What a content has of a header.
 #[tactic(auto, using(crate::proofs::Starts::prefix_begins, crate::proofs::Starts::torn_short))]
 fn compare(found: Option<&[u8]>, header: &[u8]) -> Standing
     ensures whole { result ≡ Standing.Whole → BeginsWith header.now (option_copied found.entry) }
@@ -233,14 +233,14 @@ fn compare(found: Option<&[u8]>, header: &[u8]) -> Standing
     }
 }
 
-/// Whether a header stands at the start of a content.
+/// Whether a header is at the start of a content.
 fn has_prefix_of(content: &[u8], header: &[u8]) -> bool
     ensures { result ≡ has_prefix header.now content.now }
 {
     content.len() >= header.len() && &content[..header.len()] == header
 }
 
-/// Writes a header, unless it stands there whole.
+/// Writes a header, unless it is there whole.
 #[tactic(auto, using(crate::proofs::Starts::starts_whole, crate::proofs::Starts::starts_short))]
 fn start(
     notes: &mut BTreeMap<Name, Vec<u8>>,
@@ -262,7 +262,7 @@ fn start(
     }
 }
 
-/// Notes bytes after the first ones of a name's content, in place of what stood there.
+/// Notes bytes after the first ones of a name's content, in place of what was there.
 fn append(
     notes: &mut BTreeMap<Name, Vec<u8>>,
     name: &Name,
@@ -281,7 +281,7 @@ fn append(
     }
 }
 
-/// Puts bytes after the first ones of a content, in place of what stood there.
+/// Puts bytes after the first ones of a content, in place of what was there.
 fn replace_tail(content: &mut Vec<u8>, offset: u64, bytes: &[u8]) -> Result<(), StoreFault>
     ensures fits { OnOk result (offset ≤ length content.old.items) }
     ensures ok { OnOk result (content.new.items ≡ take offset content.old.items ++ bytes.now) }

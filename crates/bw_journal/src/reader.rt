@@ -1,4 +1,4 @@
-//! What a journal tells of a take and of its verdicts.
+//! What a journal says about a take and its verdicts.
 ghost use Rattle.std.specs.Prelude.{◌≡◌, ◌+◌, ◌^◌, ◌≤◌, ◌++◌, ◌∷◌, [], None, Ok, IsTrue, IsNone};
 ghost use Rattle.std.specs.Prelude.{IfSome, IsSome, IfOk, OnOk, IfErr, length, false};
 ghost use Rattle.bw_model.specs.Bytes.{zeros as zero_bytes};
@@ -26,31 +26,31 @@ use bw_request::LONGEST_BLOCK;
 use bw_take::{TakeState, judge};
 use std::alloc::{AllocError, Global};
 
-/// A sealed entry has at most so many bytes.
+/// A sealed entry has at most this many bytes.
 pub const ENTRY_MAX: usize = 4150;
 
-/// What a journal tells of a take.
+/// What a journal says about a take.
 #[derive(Drop)]
 pub struct Replayed {
-    /// The take without its data, and with whether a file of its name stood.
+    /// The take without its data, and whether a file of its name existed.
     pub state: TakeState,
     /// The digest and the verdict's code of each number, 33 bytes each.
     pub table: Vec<u8>,
     /// How many bytes of the journal are its header and whole entries.
     pub used: usize,
-    /// How many bytes follow: a prefix of an entry, which is to be cut.
+    /// How many bytes follow: a prefix of an entry, which is to be cut off.
     pub torn: usize,
 }
 
-/// What the journal of a name tells a server of this limit.
+/// What the journal of a name says to a server of this limit.
 ///
-/// An entry that is torn at the end is passed over, and told by its length.
+/// An entry that is torn at the end is not replayed; only its length is returned.
 ///
 /// The journal has at most 2^40 bytes.
 ///
 /// # Errors
-/// The first reason why it tells nothing; `Memory` where memory was refused, never where no header
-/// of this limit stands.
+/// The first reason why it can't be replayed; `Memory` if memory was refused, never if there is no
+/// header of this limit.
 ///
 /// # Not specified
 /// When memory is refused.
@@ -95,7 +95,7 @@ fn tail_fault(tail: &[u8]) -> Option<ReplayFault>
     }
 }
 
-/// What the entries after a header tell, up to the first that is torn.
+/// What the entries after a header say, up to the first that is torn.
 fn replay_entries(alloc: Global, existed: bool, bytes: &[u8]) -> Result<Replayed, ReplayFault>
     requires header { header_len ≤ length bytes.now }
     requires few { length bytes.now ≤ 2 ^ 40 }

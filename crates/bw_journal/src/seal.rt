@@ -47,7 +47,7 @@ pub(crate) fn check(content: &[u8]) -> [u8; 32]
     Sha256::digest(content)
 }
 
-/// Appends bytes for which there is room.
+/// Appends bytes; there is room for them.
 pub(crate) fn push(out: &mut Vec<u8>, bytes: &[u8])
     requires { vec_len out.old + length bytes.now ≤ vec_capacity out.old }
     ensures { Gains bytes.now (length bytes.now) out.old out.new }

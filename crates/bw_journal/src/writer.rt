@@ -13,15 +13,15 @@ use crate::seal::{check, push};
 use bw_request::{RequestRef, Verdict};
 use std::alloc::{AllocError, Global};
 
-/// Appends the entry of a done number: of a block its length, and not its samples.
+/// Appends the entry of a done number: for a block its length, and not its samples.
 ///
 /// The request fits, and the entry has at most 4,150 bytes.
 ///
 /// # Errors
-/// `AllocError` where memory was refused, never where there is room: the bytes are as they were.
+/// `AllocError` if memory was refused, never if there is room: the bytes are as they were.
 ///
 /// # Not specified
-/// When a growth is refused, and how much room is made beyond what is needed.
+/// When memory is refused, and how much room is made beyond what is needed.
 #[tactic(auto, using(crate::proofs::Lengths::entry_length), unfolding(crate::specs::Seals::sealed))]
 pub fn put_entry(
     _alloc: Global,
@@ -54,7 +54,7 @@ pub fn put_entry(
     Ok(())
 }
 
-/// Appends an entry's content, for which there is room.
+/// Appends an entry's content; there is room for it.
 #[tactic(auto, unfolding(crate::specs::Entries::content))]
 fn push_content(out: &mut Vec<u8>, verdict: Verdict, digest: &[u8; 32], request: &RequestRef<'_>)
     requires fits { IsTrue (is_request (meaning request.now)) }
@@ -99,7 +99,7 @@ fn kind(request: &RequestRef<'_>) -> u8
     }
 }
 
-/// Appends a request's payload, and of a block its length, for which there is room.
+/// Appends a request's payload, or for a block its length; there is room for it.
 fn push_payload(out: &mut Vec<u8>, request: &RequestRef<'_>)
     requires fits { IsTrue (is_request (meaning request.now)) }
     requires room { vec_len out.old + length (noted_payload (meaning request.now))

@@ -1,4 +1,5 @@
--- A header is a prefix of 80 bytes, the fixed part of `bext`, and a rear, and neither end depends on the fields.
+-- A header is a prefix of 80 bytes, the fixed part of `bext`, and the rest; prefix and rest don't
+-- depend on the fields.
 use Rattle.std.proofs.Common.{◌≡◌, ℕ, ◌+◌, Bool, true, false, cond, List, ◌++◌, length, refl, ◌∙◌, ap, append_assoc}
 use Rattle.std.proofs.Common.{length-append}
 use Rattle.std.specs.Prelude.{codes, nat_le}

@@ -27,7 +27,7 @@ pub length_of_some : (count : ℕ) → 0 < count → cue_chunk_length count ≡ 
 length_of_some count some =
     ap (λ (b : Bool). cond b 0 (12 + 24 * count)) (ne_eqb count 0 (λ e. omega (arith, e, some)))
 
--- a `cue ` chunk has 12 bytes, and 24 a point
+-- a `cue ` chunk has 12 bytes, and 24 for each point
 pub length-cue_chunk : (cues : List (ℕ × ℕ)) → 0 < length cues →
     length (flat_map chunk (cue_chunks cues)) ≡ 12 + 24 * length cues
 length-cue_chunk [] some = absurd (omega (arith, some))

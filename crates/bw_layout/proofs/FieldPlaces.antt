@@ -1,4 +1,4 @@
--- Where the fields of `bext` stand in a header.
+-- Where the fields of `bext` are in a header.
 use Rattle.std.proofs.Common.{◌≡◌, ℕ, zero, suc, ◌+◌, ◌-◌, ◌≤◌, List, ◌++◌, length, take, drop, sym, ◌∙◌, ap, subst}
 use Rattle.std.proofs.Common.{arith, length-append, refl, ◌∷◌}
 use Rattle.std.specs.Prelude.{codes, nat_le, slice_range, slice_set}
@@ -131,7 +131,7 @@ stands_7 = from_seams 7 428 64 (λ p q p-length. by_name (Seams 7 428 64 p q) (�
   new = λ value. cut7 p a b c d e t (version levels) (field_bytes (Maybe 64) value) (loudness levels) (zeros 180) q;
 }))
 
--- the five of the loudness, each by the loudness that it sets
+-- the five loudness fields, each by the loudness that it sets
 abbrev IsLoud : ℕ → ℕ → Type 0
 IsLoud tag k = (a b c d e t u : List ℕ) (levels : List (List ℕ)) (value : List ℕ) →
     with_field (a ∷ b ∷ c ∷ d ∷ e ∷ t ∷ u ∷ levels) tag value

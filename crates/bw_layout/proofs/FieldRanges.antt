@@ -31,7 +31,7 @@ each_range P (suc n) at all e =
     let next : 1 + n ≡ suc n = omega arith in
     subst (λ (t : ℕ). P t at) next (each_from P 1 field_ranges n at all e)
 
--- the field stands in its range
+-- the field is in its range
 pub range_stands : (tag : ℕ) (at : ℕ × ℕ) → range_of tag ≡ Some at → StandsAt tag at.0 at.1
 range_stands tag at e =
     each_range (λ t r. StandsAt t r.0 r.1) tag at (

@@ -27,7 +27,7 @@ record PartWidths (a b c d e t v u l z : List ℕ) : Type 0 where
   l-width : length l ≡ 10
   z-width : length z ≡ 180
 
--- each part stands in its range
+-- each part is in its range
 record Slices (a b c d e t v u l z bytes : List ℕ) : Type 0 where
   a-is : slice_range bytes 0 256 ≡ a
   b-is : slice_range bytes 256 288 ≡ b
@@ -77,7 +77,7 @@ slices a b c d e t v u l z q w = record {
         ap (λ (bytes : List ℕ). slice_range bytes place (place + count)) is
         ∙ range_at_seam before x following place count p k
 
--- the five parts of the loudness stand in theirs
+-- the five parts of the loudness are in theirs
 record Levels (g h i j k bytes : List ℕ) : Type 0 where
   g-is : slice_range bytes 412 414 ≡ g
   h-is : slice_range bytes 414 416 ≡ h
@@ -128,7 +128,7 @@ to_levels : (a b c d e t v u l z q : List ℕ) →
     fixed [] a b c d e t v u l z q ≡ (a ++ b ++ c ++ d ++ e ++ t ++ v ++ u) ++ (l ++ (z ++ q))
 to_levels a b c d e t v u l z q = simp (append_assoc, append-nil)
 
--- with its parts known, what it tells is known
+-- if its parts are known, what it says is known
 reported : (a b c d e t u g h i j k q : List ℕ) (v : Bool) → Widths a b c d e t u (g ∷ h ∷ i ∷ j ∷ k ∷ []) →
     bext_at (chunk_of a b c d e t u g h i j k q v)
     ≡ (let right : RawBext × List ℕ = (

@@ -5,7 +5,7 @@ use Rattle.std.specs.Prelude.{◌&&◌, true}
 use Rattle.bw_model.specs.Take.{matches}
 use Rattle.bw_layout.specs.Fields.{fits_place}
 
--- a text has the form from a place on where the byte there fits and the rest has the rest of the form
+-- a text has the form from a place on if the byte there fits and the rest has the rest of the form
 pub matches_from : (form value : List ℕ) (i : ℕ) → i < length form → i < length value →
     matches (drop i form) (drop i value)
     ≡ (fits_place (get_or form i 0) (get_or value i 0) && matches (drop (i + 1) form) (drop (i + 1) value))

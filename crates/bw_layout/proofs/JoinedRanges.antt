@@ -1,4 +1,4 @@
--- A piece of a joined list: what stands there, and the list with another piece in its place.
+-- A piece of a joined list: its elements, and the list with another piece in its place.
 use Rattle.std.proofs.Common.{◌≡◌, ℕ, ◌+◌, ◌-◌, List, ◌++◌, length, take, drop, sym, ◌∙◌, ap, arith, append_assoc}
 use Rattle.std.proofs.Common.{length-append}
 use Rattle.std.specs.Prelude.{slice_range}

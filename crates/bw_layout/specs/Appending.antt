@@ -3,14 +3,14 @@ use Rattle.std.specs.Prelude.{◌≡◌, ℕ, ◌+◌, ◌≤◌, List, ◌++◌
 use Rattle.std.specs.Prelude.{vec_capacity}
 use Rattle.std.specs.declared.alloc.AllocError.{AllocError}
 
--- the Vec has gained these bytes, so many, at its end
+-- the Vec has gained these bytes, `count` in number, at its end
 pub record Gains {Z : Type 0} (bytes : List ℕ) (count : ℕ) (old new : Vec ℕ Z) : Type 0 where
   pub items : new.items ≡ old.items ++ bytes
   pub len : vec_len new ≡ vec_len old + count
   pub capacity : vec_capacity old ≤ vec_capacity new
 
--- These bytes, so many, are appended, or memory was refused and the items stay; where the Vec has
--- the room it can't be refused.
+-- These bytes, `count` in number, are appended, or memory was refused and the items stay; if the
+-- Vec has the room, it isn't refused.
 pub record Appends {Z : Type 0} (bytes : List ℕ) (count : ℕ)
     (answer : Result (Unit {0}) AllocError) (old new : Vec ℕ Z) : Type 0 where
   pub ok : OnOk answer (new.items ≡ old.items ++ bytes)

@@ -26,15 +26,15 @@ error_text E.Tag = codes "no field has this tag"
 error_text E.Length = codes "the field takes no value of this length"
 error_text E.Text = codes "a byte of the value isn't allowed at its place"
 
--- what a call that may meet a fault answers
+-- what a call that may meet a fault returns
 abbrev pub answer_of : Option FieldFault → Result (Unit {0}) FieldError
 answer_of fault = unless (option_map error_of fault) tt
 
--- where a form has this byte this one may stand
+-- this byte may be at a place where a form has that byte
 abbrev pub fits_place : ℕ → ℕ → Bool
 fits_place form c = if form == 100 then is_ascii_digit c else form == c
 
--- A field of this shape is set: the answer is the value's fault, and without one the field has the
+-- A field of this shape is set: the answer is the value's fault; without a fault the field has the
 -- value.
 pub record SetsField (shape : Shape) (value : List ℕ) (answer : Result (Unit {0}) FieldError)
     (old new : List ℕ) : Type 0 where

@@ -2,6 +2,6 @@
 use Rattle.std.specs.Prelude.{ℕ}
 use Rattle.bw_model.specs.Take.{Format}
 
--- this many frames a second, samples a frame and bits a sample
+-- this many frames per second, samples per frame and bits per sample
 abbrev pub format_of : ℕ → ℕ → ℕ → Format
 format_of rate channels bits = record { rate = rate; channels = channels; bits = bits }

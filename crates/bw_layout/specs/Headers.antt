@@ -13,13 +13,13 @@ middle f fields history = chunk (fmt_chunk f) ++ chunk (bext_chunk fields histor
 unfoldable pub ds64 : ℕ → ℕ → List ℕ
 ds64 form data_len = chunk (ds64_chunk form data_len)
 
--- RIFF: both sizes stand in four bytes
+-- RIFF: both sizes have four bytes
 unfoldable pub riff_header : Format → List (List ℕ) → List ℕ → ℕ → ℕ → List ℕ
 riff_header f fields history form data_len =
     head (codes "RIFF") form ++ codes "WAVE" ++ chunk junk_chunk ++ middle f fields history
     ++ head (codes "data") data_len
 
--- BW64: both stand in `ds64`
+-- BW64: both sizes are in `ds64`
 unfoldable pub bw64_header : Format → List (List ℕ) → List ℕ → ℕ → ℕ → List ℕ
 bw64_header f fields history form data_len =
     head (codes "BW64") unsaid ++ codes "WAVE" ++ ds64 form data_len ++ middle f fields history
@@ -39,7 +39,7 @@ unfoldable pub bw64_rear : Format → List (List ℕ) → List ℕ → List ℕ
 bw64_rear f fields history =
     le64 0 ++ le32 0 ++ middle f fields history ++ head (codes "data") unsaid
 
--- In RIFF the form size stands at 4, the data size after a middle that neither has a say in.
+-- In RIFF the form size is at 4, the data size after a middle that depends on neither.
 pub record RiffSizesStand (f : Format) (fields : List (List ℕ)) (history : List ℕ)
     (data_len cues limit : ℕ) : Type 0 where
   pub whole : header f fields history data_len cues limit
@@ -54,7 +54,7 @@ EachRiffHasItsSizes =
     AreFields fields → form_size (length history) data_len cues ≤ limit →
     RiffSizesStand f fields history data_len cues limit
 
--- In BW64 both stand at 20, between a prefix and a rear that they have no say in.
+-- In BW64 both are at 20, between a prefix and a rest that depend on neither.
 pub record Bw64SizesStand (f : Format) (fields : List (List ℕ)) (history : List ℕ)
     (data_len cues limit : ℕ) : Type 0 where
   pub whole : header f fields history data_len cues limit

@@ -3,7 +3,7 @@ use Rattle.std.specs.Prelude.{ℕ, List, length, Bool, nat_le}
 use Rattle.bw_model.specs.File.{header, form_size, data_place}
 use Rattle.bw_layout.specs.declared.heading.Heading.{Heading}
 
--- the bytes before the data, for this much data and so many cue points
+-- the bytes before the data, for this much data and this many cue points
 abbrev pub header_of : Heading → ℕ → ℕ → List ℕ
 header_of h data_len cues = header h.format h.bext.now h.history.now data_len cues h.limit
 

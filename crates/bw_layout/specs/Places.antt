@@ -1,4 +1,4 @@
--- Where the fields of `bext` stand in a file.
+-- Where the fields of `bext` are in a file.
 use Rattle.std.specs.Prelude.{◌≡◌, ℕ, zero, suc, ◌+◌, ◌-◌, Option, None, List, [], ◌∷◌, ◌++◌, take}
 use Rattle.std.specs.Prelude.{drop, slice_get, slice_range, slice_index_or, nat_le, if◌then◌else◌}
 use Rattle.std.specs.List.{concat}
@@ -7,18 +7,18 @@ use Rattle.bw_model.specs.Take.{Format, AreFields, with_field}
 use Rattle.bw_model.specs.Layout.{is_version_1}
 use Rattle.bw_model.specs.File.{header}
 
--- Version, UMID and what stands for the loudness
+-- Version, UMID and the loudness
 abbrev pub from_version : List (List ℕ) → List ℕ
 from_version fields =
     (if is_version_1 fields then le16 1 else le16 2) ++ slice_index_or fields 6 []
     ++ (if is_version_1 fields then zeros 10 else concat (drop 7 fields))
 
--- the bytes of a header that the field under a tag has a say in
+-- the bytes of a header that depend on the field under a tag
 abbrev pub field_part : ℕ → List (List ℕ) → List ℕ
 field_part tag fields = if nat_le tag 7 then slice_index_or fields (tag - 1) []
     else from_version fields
 
--- The place and the number of the bytes that a field has a say in, by its tag from 1 on.
+-- The place and the number of the bytes that depend on a field, by its tag from 1 on.
 abbrev pub field_ranges : List (ℕ × ℕ)
 field_ranges =
     (80, 256)  -- Description

@@ -15,7 +15,7 @@ ds64_with_table form data_size table =
 abbrev pub entry_at : List ℕ → List ℕ × ℕ
 entry_at b = (slice_range b 0 4, u64_at b 4)
 
--- what stands before the table: form size, data size, the table's length
+-- what comes before the table: form size, data size, the table's length
 pub record Fixed : Type 0 where
   pub form : ℕ
   pub data_size : ℕ

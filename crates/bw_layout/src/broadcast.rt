@@ -65,7 +65,7 @@ impl Bext {
         }
     }
 
-    /// An equal one, without memory from an allocator.
+    /// An equal set of fields, without allocating memory.
     pub fn copy(&self) -> Bext
         ensures same { result ≡ self.now }
         ensures widths { AreFields result }
@@ -87,12 +87,12 @@ impl Bext {
     }
 
     /// Sets a field to a value in the form that it has in the file: a text, the bytes of the UMID,
-    /// or a number, the lowest byte first (the time reference counts samples since midnight, a
-    /// loudness is signed and 100 times the value). An empty value takes the field back, but for
-    /// the time reference.
+    /// or a little-endian number (the time reference counts samples since midnight; a loudness is
+    /// signed and 100 times the value). An empty value unsets the field, except for the time
+    /// reference.
     ///
     /// # Errors
-    /// The first that holds of `Tag` (the tag is none of 1 to 12), `Length` (the field takes no
+    /// The first that holds of `Tag` (the tag isn't one of 1 to 12), `Length` (the field takes no
     /// value of this length) and `Text` (a byte isn't allowed at its place): nothing changed.
     pub fn set(&mut self, tag: u8, value: &[u8]) -> Result<(), FieldError>
         ensures reported { result ≡ answer_of (field_fault tag value.now) }
@@ -117,12 +117,12 @@ impl Bext {
         }
     }
 
-    /// The fields as they are, each of the width that its type gives it.
+    /// The fields as they are, each with the width that its type gives it.
     pub(crate) fn as_wide(&self) -> &Bext
         ensures same { result.now ≡ self.now }
         ensures widths { AreFields result.now }
     {
-        // Without a read of a field nothing tells of their types.
+        // Without a read of a field its type's facts aren't known.
         let _first = &self.description;
         self
     }
@@ -151,10 +151,10 @@ impl Default for Bext {
 /// Appends the content of a `bext` chunk: 602 bytes and the history, which has at most 4,096 bytes.
 ///
 /// # Errors
-/// `AllocError` where memory was refused, never where there is room: the bytes are as they were.
+/// `AllocError` if memory was refused, never if there is room: the bytes are as they were.
 ///
 /// # Not specified
-/// When a growth is refused, and how much room is made beyond what is needed.
+/// When memory is refused, and how much room is made beyond what is needed.
 pub fn put_bext(
     _alloc: Global,
     out: &mut Vec<u8>,

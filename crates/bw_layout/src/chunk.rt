@@ -26,11 +26,11 @@ impl Model for ChunkId {
     ghost inverse = { λ v. record { 0 = v } };
 }
 
-/// What stands before a chunk's content.
+/// What comes before a chunk's content.
 #[derive(Clone, Copy, Debug, PartialEq, Eq, Hash)]
 pub struct ChunkHead {
     pub id: ChunkId,
-    /// The content's length in bytes, without its pad byte, as far as four bytes tell it.
+    /// The content's length in bytes, without its pad byte, as far as four bytes can hold it.
     pub size32: u32,
 }
 
@@ -61,10 +61,10 @@ impl Error for Short {}
 /// Appends a chunk's head of 8 bytes.
 ///
 /// # Errors
-/// `AllocError` where memory was refused, never where there is room: the bytes are as they were.
+/// `AllocError` if memory was refused, never if there is room: the bytes are as they were.
 ///
 /// # Not specified
-/// When a growth is refused, and how much room is made beyond what is needed.
+/// When memory is refused, and how much room is made beyond what is needed.
 pub fn put_head(_alloc: Global, out: &mut Vec<u8>, head: ChunkHead) -> Result<(), AllocError>
     ensures { Appends (head_bytes head.id head.size32) 8 result out.old out.new }
 {
@@ -76,7 +76,7 @@ pub fn put_head(_alloc: Global, out: &mut Vec<u8>, head: ChunkHead) -> Result<()
 /// Reads a chunk's head.
 ///
 /// # Errors
-/// Short where there are fewer than 8 bytes.
+/// Short if there are fewer than 8 bytes.
 pub fn read_head(bytes: &[u8]) -> Result<ChunkHead, Short>
     ensures { OkIff result (8 ≤ length bytes.now) (chunk_head bytes.now) }
 {

@@ -28,14 +28,14 @@ impl Model for CuePoint {
     ghost inverse = { λ v. record { id = v.0; frame = v.1 } };
 }
 
-/// Appends the `cue ` chunk of these points, at most 1,024, in their order; nothing where there are
+/// Appends the `cue ` chunk of these points, at most 1,024, in their order; nothing if there are
 /// none.
 ///
 /// # Errors
-/// `AllocError` where memory was refused, never where there is room: the bytes are as they were.
+/// `AllocError` if memory was refused, never if there is room: the bytes are as they were.
 ///
 /// # Not specified
-/// When a growth is refused, and how much room is made beyond what is needed.
+/// When memory is refused, and how much room is made beyond what is needed.
 #[tactic(auto, using(std::proofs::lemmas::List::append_assoc, crate::proofs::CueChunkBytes::cue_chunk_is, crate::proofs::CueChunkBytes::length_of_some))]
 pub fn put_cue_chunk(_alloc: Global, out: &mut Vec<u8>, cues: &[CuePoint]) -> Result<(), AllocError>
     requires { length cues.now ≤ most_markers }
@@ -56,10 +56,10 @@ pub fn put_cue_chunk(_alloc: Global, out: &mut Vec<u8>, cues: &[CuePoint]) -> Re
 /// It has 4 bytes, and 24 for each point.
 ///
 /// # Errors
-/// `AllocError` where memory was refused, never where there is room: the bytes are as they were.
+/// `AllocError` if memory was refused, never if there is room: the bytes are as they were.
 ///
 /// # Not specified
-/// When a growth is refused, and how much room is made beyond what is needed.
+/// When memory is refused, and how much room is made beyond what is needed.
 pub fn put_cues(_alloc: Global, out: &mut Vec<u8>, cues: &[CuePoint]) -> Result<(), AllocError>
     requires { length cues.now ≤ most_markers }
     ensures { Appends (cue_content cues.now) (4 + 24 * length cues.now) result out.old out.new }

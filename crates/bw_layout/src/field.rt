@@ -1,5 +1,5 @@
 //! One field of `bext` (EBU Tech 3285, Broadcast Audio Extension): which values it takes, and how
-//! they stand in it.
+//! they are stored in it.
 ghost use Rattle.std.specs.Prelude.{◌≡◌, ℕ, ◌-◌, ◌≤◌, ◌++◌, Some, length};
 ghost use Rattle.bw_model.specs.Bytes.{zeros};
 ghost use Rattle.bw_model.specs.Take.{Text, Digits, Whole, Maybe, Level, matches, is_printable};
@@ -62,7 +62,7 @@ pub(crate) fn set_text(field: &mut [u8], value: &[u8]) -> Result<(), FieldError>
     Ok(())
 }
 
-/// Sets nothing, or a text of this form, where `d` stands for a digit.
+/// Sets nothing, or a text of this form, in which `d` is any digit.
 pub(crate) fn set_digits(field: &mut [u8], form: &[u8], value: &[u8]) -> Result<(), FieldError>
     requires { length field.old ≡ length form.now }
     ensures { SetsField (Digits form.now) value.now result field.old field.new }
@@ -144,7 +144,7 @@ fn has_form(form: &[u8], value: &[u8]) -> bool
     true
 }
 
-/// Whether a byte may stand where a form has this byte.
+/// Whether a byte may be at a place where a form has this byte.
 fn fits(form: u8, c: u8) -> bool
     ensures { result ≡ fits_place form c }
 {

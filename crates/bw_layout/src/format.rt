@@ -12,7 +12,7 @@ use std::marker::Model;
 
 /// The format of PCM samples that a take may have.
 ///
-/// 1 to 768,000 Hz; 1 to 64 channels; 16, 24 or 32 bits a sample.
+/// 1 to 768,000 Hz; 1 to 64 channels; 16, 24 or 32 bits per sample.
 #[derive(Clone, Copy, Debug, PartialEq, Eq, Hash)]
 pub struct Fmt {
     rate: u32,
@@ -35,9 +35,10 @@ impl Model for Fmt {
 }
 
 impl Fmt {
-    /// The format, or None where a take may not have it.
+    /// The format, or None if a take may not have it.
     ///
-    /// A take has 1 to 768,000 frames a second, 1 to 64 channels, and 16, 24 or 32 bits a sample.
+    /// A take has 1 to 768,000 frames per second, 1 to 64 channels, and 16, 24 or 32 bits per
+    /// sample.
     pub fn new(rate: u32, channels: u16, bits: u16) -> Option<Fmt>
         ensures { let f = format_of rate channels bits in SomeIff result (IsTrue (is_format f)) f }
     {
@@ -55,7 +56,7 @@ impl Fmt {
         }
     }
 
-    /// Frames a second.
+    /// Frames per second.
     pub fn rate(self) -> u32
         ensures value { result ≡ self.rate }
         ensures positive { 1 ≤ result }
@@ -64,7 +65,7 @@ impl Fmt {
         self.rate
     }
 
-    /// Samples a frame.
+    /// Samples per frame.
     pub fn channels(self) -> u16
         ensures value { result ≡ self.channels }
         ensures positive { 1 ≤ result }
@@ -73,7 +74,7 @@ impl Fmt {
         self.channels
     }
 
-    /// Bits a sample.
+    /// Bits per sample.
     pub fn bits(self) -> u16
         ensures value { result ≡ self.bits }
         ensures positive { 16 ≤ result }
@@ -82,7 +83,7 @@ impl Fmt {
         self.bits
     }
 
-    /// Bytes a frame.
+    /// Bytes per frame.
     pub fn block_align(self) -> u16
         ensures value { result ≡ block_align_of self }
         ensures positive { 2 ≤ result }
@@ -91,7 +92,7 @@ impl Fmt {
         self.channels * (self.bits / 8)
     }
 
-    /// Bytes a second.
+    /// Bytes per second.
     pub fn byte_rate(self) -> u32
         ensures value { result ≡ self.rate * block_align_of self }
     {
@@ -102,10 +103,10 @@ impl Fmt {
 /// Appends the content of a `fmt ` chunk, 16 bytes.
 ///
 /// # Errors
-/// `AllocError` where memory was refused, never where there is room: the bytes are as they were.
+/// `AllocError` if memory was refused, never if there is room: the bytes are as they were.
 ///
 /// # Not specified
-/// When a growth is refused, and how much room is made beyond what is needed.
+/// When memory is refused, and how much room is made beyond what is needed.
 pub fn put_fmt(_alloc: Global, out: &mut Vec<u8>, fmt: &Fmt) -> Result<(), AllocError>
     ensures { Appends (fmt_content fmt.now) 16 result out.old out.new }
 {

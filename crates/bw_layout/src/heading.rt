@@ -17,15 +17,15 @@ use crate::limit::Limit;
 use crate::push::{push_bytes, push_u32, push_u64};
 use std::alloc::{AllocError, Global};
 
-/// What stands for a 32-bit size that `ds64` tells (ITU-R BS.2088).
+/// The placeholder for a 32-bit size that `ds64` gives (ITU-R BS.2088).
 const UNSAID: u32 = 0xffff_ffff;
 
-/// What a header says, but for its sizes; and the largest form size with which it is RIFF.
+/// What a header says, without its sizes, and the largest form size with which it is RIFF.
 #[derive(Clone, Copy)]
 pub struct Heading<'a> {
     pub format: Fmt,
     pub bext: &'a Bext,
-    /// The coding history, which stands after the fields in `bext`.
+    /// The coding history, which follows the fields in `bext`.
     pub history: &'a [u8],
     pub limit: Limit,
     ghost widths: { AreFields bext.now },
@@ -35,7 +35,7 @@ pub struct Heading<'a> {
 impl<'a> Heading<'a> {
     ghost use Rattle.bw_layout.specs.Headings.{header_of, place_of, fits_riff};
 
-    /// A heading that says these. The history has at most 4,096 bytes.
+    /// A heading with these values. The history has at most 4,096 bytes.
     pub fn new(format: Fmt, bext: &'a Bext, history: &'a [u8], limit: Limit) -> Heading<'a>
         requires { length history.now ≤ longest_history }
         ensures format { result.format ≡ format }
@@ -61,8 +61,8 @@ impl<'a> Heading<'a> {
         Heading::new(self.format, bext, self.history, self.limit)
     }
 
-    /// Where the data begin: how many bytes the header has. They are 690, and those of the history
-    /// with its pad byte.
+    /// Where the data begin: the length of the header in bytes. It is 690, plus the history with
+    /// its pad byte.
     pub fn data_place(&self) -> u64
         ensures value { result ≡ place_of self.now }
         ensures low { 690 ≤ result }
@@ -72,7 +72,8 @@ impl<'a> Heading<'a> {
         690 + len + len % 2
     }
 
-    /// The form size for this much data, at most 2^62 bytes, and so many cue points, at most 1,024.
+    /// The form size in bytes for this much data, at most 2^62 bytes, and this many cue points, at
+    /// most 1,024.
     pub fn form_size(&self, data_len: u64, cues: u64) -> u64
         requires samples { data_len ≤ largest }
         requires cues { cues ≤ most_markers }
@@ -82,7 +83,7 @@ impl<'a> Heading<'a> {
         form_size(self.history.len() as u64, data_len, cues)
     }
 
-    /// Whether the file is RIFF then, for as much as `form_size` takes.
+    /// Whether the file is RIFF then; the arguments have the same ranges as those of `form_size`.
     pub fn is_riff(&self, data_len: u64, cues: u64) -> bool
         requires samples { data_len ≤ largest }
         requires cues { cues ≤ most_markers }
@@ -91,15 +92,15 @@ impl<'a> Heading<'a> {
         self.form_size(data_len, cues) <= self.limit.bytes()
     }
 
-    /// Appends the header of a file with this much data, at most 2^62 bytes, and so many cue
+    /// Appends the header of a file with this much data, at most 2^62 bytes, and this many cue
     /// points, at most 1,024.
     ///
     /// # Errors
-    /// `AllocError` where memory was refused, never where there is room: the bytes are as they
+    /// `AllocError` if memory was refused, never if there is room: the bytes are as they
     /// were.
     ///
     /// # Not specified
-    /// When a growth is refused, and how much room is made beyond what is needed.
+    /// When memory is refused, and how much room is made beyond what is needed.
     #[tactic(auto, using(crate::proofs::HeaderKinds::header_riff, crate::proofs::HeaderKinds::header_bw64))]
     pub fn put(
         &self,
@@ -123,7 +124,7 @@ impl<'a> Heading<'a> {
         Ok(())
     }
 
-    /// Appends a RIFF header: both sizes stand in four bytes.
+    /// Appends a RIFF header: both sizes have four bytes.
     #[tactic(auto, using(std::proofs::lemmas::List::append_assoc), unfolding(crate::specs::Headers::riff_header))]
     fn push_riff(&self, out: &mut Vec<u8>, form: u32, data_len: u32)
         requires { vec_len out.old + place_of self.now ≤ vec_capacity out.old }
@@ -138,7 +139,7 @@ impl<'a> Heading<'a> {
         push_head(out, ChunkId(*b"data"), data_len);
     }
 
-    /// Appends a BW64 header: both sizes stand in `ds64`.
+    /// Appends a BW64 header: both sizes are in `ds64`.
     #[tactic(auto, using(std::proofs::lemmas::List::append_assoc), unfolding(crate::specs::Headers::bw64_header))]
     fn push_bw64(&self, out: &mut Vec<u8>, form: u64, data_len: u64)
         requires { vec_len out.old + place_of self.now ≤ vec_capacity out.old }
@@ -167,9 +168,9 @@ impl<'a> Heading<'a> {
     }
 }
 
-/// The form size of a take's file, by the lengths in bytes of its coding history and its data, and
-/// by its number of cue points. The history has at most 4,096 bytes, the data at most 2^62, and the
-/// cue points are at most 1,024.
+/// The form size of a take's file in bytes, from the lengths in bytes of its coding history and its
+/// data, and its number of cue points. The history has at most 4,096 bytes, the data at most 2^62,
+/// and there are at most 1,024 cue points.
 ///
 /// The file is 8 bytes longer.
 pub fn form_size(history_len: u64, data_len: u64, cues: u64) -> u64
@@ -184,13 +185,13 @@ pub fn form_size(history_len: u64, data_len: u64, cues: u64) -> u64
 }
 
 /// Appends the bytes of a take's file before its data. The history has at most 4,096 bytes, the
-/// data at most 2^62, and the cue points are at most 1,024.
+/// data at most 2^62, and there are at most 1,024 cue points.
 ///
 /// # Errors
-/// `AllocError` where memory was refused, never where there is room: the bytes are as they were.
+/// `AllocError` if memory was refused, never if there is room: the bytes are as they were.
 ///
 /// # Not specified
-/// When a growth is refused, and how much room is made beyond what is needed.
+/// When memory is refused, and how much room is made beyond what is needed.
 pub fn header(
     alloc: Global,
     out: &mut Vec<u8>,
@@ -210,7 +211,7 @@ pub fn header(
     Heading::new(*fmt, bext, history, limit).put(alloc, out, data_len, cues)
 }
 
-/// Appends the chunk that keeps the room of `ds64`.
+/// Appends the chunk that reserves the space of `ds64`.
 fn push_junk(out: &mut Vec<u8>)
     requires { vec_len out.old + 36 ≤ vec_capacity out.old }
     ensures { Gains (chunk junk_chunk) 36 out.old out.new }

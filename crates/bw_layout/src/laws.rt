@@ -4,13 +4,13 @@ ghost use Rattle.bw_layout.specs.ReadBack.{HeadsReadBack, FormatsReadBack, Field
 ghost use Rattle.bw_layout.specs.ReadBack.{EntriesReadBack, EachDs64ReadsBack, CuePointsReadBack};
 ghost use Rattle.bw_layout.specs.ReadBack.{EachCueChunkReadsBack};
 
-/// Where a header's two sizes stand, so that headers of one take and one kind differ there alone.
+/// Where a header's two sizes are: headers of one take and one kind differ only there.
 pub fn law_size_places()
     ensures riff { EachRiffHasItsSizes }
     ensures bw64 { EachBw64HasItsSizes }
 {}
 
-/// What the puts append is read back by the reads, whatever bytes follow.
+/// What the writers append is read back by the readers, whatever bytes follow.
 pub fn law_read_back()
     ensures heads { HeadsReadBack }
     ensures formats { FormatsReadBack }

@@ -27,7 +27,7 @@ impl Model for Limit {
 }
 
 impl Limit {
-    /// The limit of so many bytes, or None where that isn't a limit.
+    /// The limit of this many bytes, or None if that isn't a limit.
     ///
     /// A limit is even, and from 8,192 to 4,294,967,294.
     pub fn new(bytes: u64) -> Option<Limit>
@@ -54,7 +54,7 @@ impl Limit {
 impl Default for Limit {
     ghost is_default = { λ l. l ≡ 4294967294 };
 
-    /// The greatest limit, 4,294,967,294 bytes.
+    /// The largest limit: 4,294,967,294 bytes.
     fn default() -> Self {
         Limit {
             bytes: 4_294_967_294,

@@ -1,12 +1,12 @@
-//! Where the fields of `bext` stand in a file.
+//! Where the fields of `bext` are in a file.
 ghost use Rattle.std.specs.Prelude.{◌≡◌, ◌+◌, ◌≤◌, IfSome, is_some};
 ghost use Rattle.bw_model.specs.Take.{shape_of};
 ghost use Rattle.bw_layout.specs.Places.{StandsAt, range_of};
 
-/// The place in a file of the bytes that a field of `bext` has a say in, and how many they are.
-/// None where the tag isn't one of 1 to 12.
+/// The place in a file of the bytes that depend on a field of `bext`, and how many they are. None
+/// if the tag isn't one of 1 to 12.
 ///
-/// For the loudness they are those from Version on, since Version says whether one is given.
+/// For the loudness they are those from Version on, since Version says whether a loudness is given.
 pub fn field_place(tag: u8) -> Option<(u64, u64)>
     ensures place { result ≡ range_of tag }
     ensures known { is_some result ≡ is_some (shape_of tag) }

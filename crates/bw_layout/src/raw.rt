@@ -1,4 +1,4 @@
-//! The contents of chunks as they stand: plain numbers and bytes, whatever the values.
+//! The contents of chunks as they are: plain numbers and bytes, whatever the values.
 ghost use Rattle.std.specs.Prelude.{◌≡◌, ◌+◌, ◌≤◌, length, slice_range, unwrap_or, []};
 ghost use Rattle.std.specs.Result.{OkIff};
 ghost use Rattle.bw_model.specs.Report.{raw_fmt};
@@ -13,12 +13,12 @@ use std::marker::Model;
 pub struct RawFmt {
     pub tag: u16,
     pub channels: u16,
-    /// Frames a second.
+    /// Frames per second.
     pub rate: u32,
     pub bytes_per_second: u32,
-    /// Bytes a frame.
+    /// Bytes per frame.
     pub align: u16,
-    /// Bits a sample.
+    /// Bits per sample.
     pub bits: u16,
 }
 
@@ -46,8 +46,8 @@ impl Model for RawFmt {
     } };
 }
 
-/// The loudness of a `bext` chunk from version 2 on: the 16 bits of a signed number, 100 times the
-/// value, each; 7FFFh means not given.
+/// The loudness of a `bext` chunk from version 2 on: five signed 16-bit numbers by their bits, each
+/// 100 times the value; 7FFFh means not given.
 #[derive(Clone, Copy, Debug, PartialEq, Eq)]
 pub struct Loudness {
     pub value: u16,
@@ -74,7 +74,7 @@ impl Model for Loudness {
     } };
 }
 
-/// A `bext` chunk but for its coding history (EBU Tech 3285): the texts are whole fields.
+/// A `bext` chunk without its coding history (EBU Tech 3285): the texts are whole fields.
 #[derive(Debug, Drop)]
 pub struct RawBext {
     pub description: [u8; 256],
@@ -82,7 +82,7 @@ pub struct RawBext {
     pub originator_reference: [u8; 32],
     pub origination_date: [u8; 10],
     pub origination_time: [u8; 8],
-    /// The first sample's count since midnight.
+    /// The first sample's time, in samples since midnight.
     pub time_reference: u64,
     pub version: u16,
     pub umid: [u8; 64],
@@ -134,7 +134,7 @@ impl Model for RawCue {
 /// Reads the content of a `fmt ` chunk.
 ///
 /// # Errors
-/// Short where there are fewer than 16 bytes.
+/// Short if there are fewer than 16 bytes.
 pub fn read_fmt(bytes: &[u8]) -> Result<RawFmt, Short>
     ensures { OkIff result (16 ≤ length bytes.now) (raw_fmt bytes.now) }
 {
@@ -154,7 +154,7 @@ pub fn read_fmt(bytes: &[u8]) -> Result<RawFmt, Short>
 /// Reads the content of a `bext` chunk before the coding history.
 ///
 /// # Errors
-/// Short where there are fewer than 602 bytes.
+/// Short if there are fewer than 602 bytes.
 pub fn read_bext(bytes: &[u8]) -> Result<RawBext, Short>
     ensures { OkIff result (602 ≤ length bytes.now) (bext_at bytes.now) }
 {
@@ -178,7 +178,7 @@ pub fn read_bext(bytes: &[u8]) -> Result<RawBext, Short>
 /// Reads a cue point: its identifier at 0, its position at 4, its offset at 20.
 ///
 /// # Errors
-/// Short where there are fewer than 24 bytes.
+/// Short if there are fewer than 24 bytes.
 pub fn read_cue(bytes: &[u8]) -> Result<RawCue, Short>
     ensures { OkIff result (24 ≤ length bytes.now) (raw_cue bytes.now) }
 {

@@ -1,4 +1,4 @@
-//! The `ds64` chunk: the sizes that 32 bits can't tell (ITU-R BS.2088).
+//! The `ds64` chunk: the sizes that 32 bits can't hold (ITU-R BS.2088).
 ghost use Rattle.std.specs.Prelude.{◌≡◌, ◌+◌, ◌*◌, ◌≤◌, ◌++◌, length, vec_len, vec_capacity};
 ghost use Rattle.std.specs.Prelude.{flat_map, take};
 ghost use Rattle.std.specs.Result.{OkIff};
@@ -16,7 +16,7 @@ use std::marker::Model;
 /// The content of a `ds64` chunk.
 #[derive(Debug, Drop)]
 pub struct Ds64 {
-    /// The form size in bytes: the file's length less 8.
+    /// The form size in bytes: the file's length minus 8.
     pub form: u64,
     /// The length of the data in bytes, without their pad byte.
     pub data_size: u64,
@@ -52,7 +52,7 @@ impl SizeTable {
         self.entries.as_slice()
     }
 
-    /// Gives the entries back.
+    /// The entries, by value.
     pub fn into_entries(self) -> Vec<(ChunkId, u64)>
         ensures { result.items ≡ self }
     {
@@ -60,7 +60,7 @@ impl SizeTable {
     }
 }
 
-/// What stands in a `ds64` chunk before its table.
+/// What comes before the table of a `ds64` chunk.
 #[derive(Clone, Copy, Debug, PartialEq, Eq)]
 pub struct Ds64Fixed {
     /// The form size, in bytes.
@@ -87,10 +87,10 @@ impl Model for Ds64Fixed {
 /// entry.
 ///
 /// # Errors
-/// `AllocError` where memory was refused, never where there is room: the bytes are as they were.
+/// `AllocError` if memory was refused, never if there is room: the bytes are as they were.
 ///
 /// # Not specified
-/// When a growth is refused, and how much room is made beyond what is needed.
+/// When memory is refused, and how much room is made beyond what is needed.
 #[tactic(auto, using(std::proofs::lemmas::List::append_assoc), unfolding(crate::specs::Tables::ds64_with_table))]
 pub fn put_ds64(_alloc: Global, out: &mut Vec<u8>, sizes: &Ds64) -> Result<(), AllocError>
     requires { length sizes.now.table ≤ most_entries }
@@ -105,10 +105,10 @@ pub fn put_ds64(_alloc: Global, out: &mut Vec<u8>, sizes: &Ds64) -> Result<(), A
     Ok(())
 }
 
-/// Reads what stands before the table at the start of a `ds64` chunk's content.
+/// Reads what comes before the table at the start of a `ds64` chunk's content.
 ///
 /// # Errors
-/// Short where there are fewer than 28 bytes.
+/// Short if there are fewer than 28 bytes.
 pub fn read_ds64_fixed(bytes: &[u8]) -> Result<Ds64Fixed, Short>
     ensures { OkIff result (28 ≤ length bytes.now) (fixed_at bytes.now) }
 {
@@ -125,7 +125,7 @@ pub fn read_ds64_fixed(bytes: &[u8]) -> Result<Ds64Fixed, Short>
 /// Reads an entry of the table: a chunk's id, and its size in bytes.
 ///
 /// # Errors
-/// Short where there are fewer than 12 bytes.
+/// Short if there are fewer than 12 bytes.
 pub fn read_entry(bytes: &[u8]) -> Result<(ChunkId, u64), Short>
     ensures { OkIff result (12 ≤ length bytes.now) (entry_at bytes.now) }
 {

@@ -1,4 +1,4 @@
--- A name and a number after a kind byte: what is read is what was spelled, and the other way round.
+-- A name and a number after a kind byte: what is read is what was spelled, and conversely.
 use Rattle.std.proofs.Common.{◌≡◌, ℕ, suc, ◌+◌, ◌^◌, ◌<◌, ◌≤◌, true, false, not, List, [], ◌∷◌, ◌++◌, length, take}
 use Rattle.std.proofs.Common.{drop, refl, sym, ap, ◌∙◌, arith, one-add}
 use Rattle.std.specs.Prelude.{nat_lt, nat_le}

@@ -1,4 +1,4 @@
--- Each turn leaves a book, and a book's names tell its length.
+-- Each turn leaves a book, and a book's names determine its length.
 use Rattle.std.proofs.Common.{◌≡◌, ℕ, suc, zero, ◌+◌, ◌<◌, ◌≤◌, Bool, true, false, not, cond, ◌&&◌, ◌||◌, List, [], ◌∷◌}
 use Rattle.std.proofs.Common.{length, drop, Option, Some, None, refl, sym, ◌∙◌, ap, subst, arith, rules}
 use Rattle.std.specs.Prelude.{IsTrue, is_some, is_none, nat_le, nat_lt}

@@ -1,4 +1,4 @@
--- Numbers in bytes: what is read is what was written, and what was written is read again.
+-- Numbers in bytes: what is read is what was written, and what was written is read back.
 use Rattle.std.proofs.Common.{◌≡◌, ℕ, zero, suc, ◌+◌, ◌-◌, ◌^◌, ◌<◌, ◌≤◌, true, List, [], ◌∷◌, ◌++◌, length, get_or}
 use Rattle.std.proofs.Common.{take, drop, refl, sym, ap, ◌∙◌, arith}
 use Rattle.std.specs.Prelude.{slice_range}
@@ -19,7 +19,7 @@ IsBytes-from_test [] h i = omega arith
 IsBytes-from_test (b ∷ bs) h zero = ltb-true b 256 (and_parts (is_below 256 b) (are_bytes bs) h).0
 IsBytes-from_test (b ∷ bs) h (suc i) = IsBytes-from_test bs (and_parts (is_below 256 b) (are_bytes bs) h).1 i
 
--- the front and the rest of bytes are bytes
+-- a prefix of bytes and the rest are bytes
 pub are_bytes-parts : (n : ℕ) (bytes : List ℕ) → are_bytes bytes ≡ true →
     (are_bytes (take n bytes) ≡ true) × (are_bytes (drop n bytes) ≡ true)
 are_bytes-parts n bytes h =
@@ -65,7 +65,7 @@ wide64 = record {
 abbrev pub number_at : Width → List ℕ → ℕ → ℕ
 number_at w bytes p = from_le_bytes w (slice_range bytes p (p + byte_len w))
 
--- what stands at a place is a number and what follows it
+-- what is at a place is a number and what follows it
 pub written-number_at : (w : Width) (limit : ℕ) (wide : IsWide w limit) (bytes : List ℕ) (p : ℕ) →
     are_bytes bytes ≡ true → p + byte_len w ≤ length bytes
     → (to_le_bytes w (number_at w bytes p) ++ drop (p + byte_len w) bytes ≡ drop p bytes)
@@ -86,7 +86,7 @@ written-number_at w limit wide bytes p fits long =
       wide.below (take (byte_len w) (drop p bytes)) piece_fits,
     )
 
--- a number in front of other bytes is read again
+-- a number before other bytes is read back
 pub number_at-written : (w : Width) (limit : ℕ) (wide : IsWide w limit) (n : ℕ) (rest : List ℕ) → n < limit →
     number_at w (to_le_bytes w n ++ rest) 0 ≡ n
 number_at-written w limit wide n rest lt =

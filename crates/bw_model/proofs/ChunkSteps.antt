@@ -1,4 +1,4 @@
--- One more chunk is listed exactly where it stands at its place.
+-- One more chunk is listed exactly if it is at its place.
 use Rattle.std.proofs.Common.{◌≡◌, ℕ, ◌+◌, ◌*◌, ◌<◌, ◌≤◌, Bool, true, false, cond, ◌&&◌, ◌||◌, List, [], ◌∷◌, ◌++◌}
 use Rattle.std.proofs.Common.{length, Option, Some, None, Result, Ok, Err, inl, inr, refl, sym, ◌∙◌, ap, subst, arith}
 use Rattle.std.specs.Prelude.{nat_le, nat_lt, codes, find, is_none, is_some, unwrap_or, option_map, ◌==◌}
@@ -81,7 +81,7 @@ row_first (row ∷ before) following id size h = go (is_id row.0 id) h (λ q. ro
     go true h ih = cc
     go false h ih = ih h
 
--- what `ds64` tells
+-- what `ds64` says
 
 reported : (sizes : Option Sizes) (id : List ℕ) (size : ℕ) → reported_size sizes id ≡ Some size → IsSizeGiven sizes id size
 reported None id size e = absurd (none e)
@@ -113,7 +113,7 @@ reports (Some s) id size (inr h) =
     other true p = absurd (h.0 (same_name id (codes "data") p))
     other false p = p
 
--- A chunk that is listed stands at its place.
+-- A chunk that is listed is at its place.
 
 abbrev listed : ℕ → Head → ℕ → Entry
 listed p h c = record { id = h.id; place = p; size = c }
@@ -121,7 +121,7 @@ listed p h c = record { id = h.id; place = p; size = c }
 abbrev lists : Option Entry → Result (Option Entry) Fault
 lists x = Ok x
 
--- the next chunk is listed only where none of its faults holds
+-- the next chunk is listed only if none of its faults holds
 record IsListed (len end : ℕ) (seen : List Entry) (p : ℕ) (h : Head) (e : Entry) : Type 0 where
   faults : NoneHolds (chunk_faults len end seen p h (unwrap_or h.size 0))
   entry : listed p h (unwrap_or h.size 0) ≡ e
@@ -171,7 +171,7 @@ has_size : (size : Option ℕ) → is_none size ≡ false → size ≡ Some (unw
 has_size None h = absurd (false≢true (sym h))
 has_size (Some c) h = refl
 
--- the size that stands or is reported
+-- the size that the head or `ds64` gives
 sized : (b : List ℕ) (form : Form) (p c : ℕ) → size_at b form p ≡ Some c →
     IsSized b form (record { id = id_at b p; place = p; size = c })
 sized b form p c h = go (u32_at b (p + 4) == unsaid) refl h
@@ -238,7 +238,7 @@ steps_to b form seen e n =
     (faultless b form seen p (unwrap_or (size_at b form p) 0) refl
     (has_size (size_at b form p) l.faults.1.1.0) l.faults)
 
--- A chunk that stands at its place is listed.
+-- A chunk at its place is listed.
 
 no_faults : (b : List ℕ) (form : Form) (seen : List Entry) (p c : ℕ) (id : List ℕ) → size_at b form p ≡ Some c →
     length seen < 4096 →

@@ -13,7 +13,7 @@ use Rattle.bw_model.specs.Prefix.{StandsFirst, EndsForm, count_of, ReadingsEndFo
 use Rattle.bw_model.proofs.ChunkSteps.{none_holds, first-none, steps_to}
 use Rattle.bw_model.proofs.PrefixLaws.{none-count, count-none, prefixes}
 
--- no chunk comes where no head fits, and `fmt ` and `data` were seen
+-- no chunk comes if no head fits, and `fmt ` and `data` were seen
 record Ends (form : Form) (seen : List Entry) : Type 0 where
   ends : form_end form < next_place seen + 8
   fmt : is_none (entry_of (codes "fmt ") seen) ≡ false

@@ -10,7 +10,7 @@ use Rattle.bw_model.specs.File.{ds64_chunk}
 use Rattle.bw_model.specs.Reading.{Form, Fault, outer, outer_faults, form_at, largest}
 use Rattle.bw_model.proofs.ChunkSteps.{NoneHolds, first-none}
 
--- bytes none of whose tests faults have the form that stands in them
+-- bytes for which no test of a fault holds have the form that they begin with
 form_of_faultless : (b : List ℕ) → NoneHolds (outer_faults b) → outer b ≡ Ok (form_at b)
 unfolding outer
 form_of_faultless b h =
@@ -48,7 +48,7 @@ riff-outer size rest small some =
     said : u32_at b 4 ≡ size
     said = from_le_bytes-to_le_bytes_4 size (omega arith)
 
--- a BW64 form, whose `ds64` tells the sizes
+-- a BW64 form, whose `ds64` gives the sizes
 pub wide-outer : (size data_size : ℕ) (rest : List ℕ) → 40 ≤ size → size ≤ largest → data_size ≤ largest →
     outer (head (codes "BW64") unsaid ++ (codes "WAVE" ++ (chunk (ds64_chunk size data_size) ++ rest)))
     ≡ Ok (record {

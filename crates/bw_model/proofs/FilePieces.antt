@@ -1,4 +1,4 @@
--- The chunks of a take's file, as pieces that stand one after another.
+-- The chunks of a take's file, as pieces that follow each other.
 use Rattle.std.proofs.Common.{◌≡◌, ℕ, ◌+◌, ◌*◌, ◌<◌, ◌≤◌, ◌^◌, false, inl, List, [], ◌∷◌, ◌++◌, length, refl, sym, ◌∙◌}
 use Rattle.std.proofs.Common.{ap, arith, append_assoc, length-append}
 use Rattle.std.specs.Prelude.{flat_map, codes, map}

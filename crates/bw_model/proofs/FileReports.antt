@@ -1,4 +1,4 @@
--- The report of a take's file tells the take.
+-- The report of a take's file gives the take.
 use Rattle.std.proofs.Common.{◌≡◌, ℕ, ◌+◌, ◌-◌, ◌*◌, ◌≤◌, Bool, true, false, cond, List, [], ◌∷◌, ◌++◌, length, Option}
 use Rattle.std.proofs.Common.{Some, refl, sym, ◌∙◌, ap, arith}
 use Rattle.std.specs.Prelude.{codes, nat_le, map, slice_range, unwrap_or, option_map, IsTrue}
@@ -31,7 +31,7 @@ content-at b p q n c s l place size =
     ∙ ap (λ (r : ℕ). slice_range b (r + 8) (r + 8 + length c.content)) (sym place)
     ∙ content-whole b p (own c) s l
 
--- the cue points that stand from a place on
+-- the cue points from a place on
 cues-reported : (b : List ℕ) (p q : ℕ) (markers : List (ℕ × ℕ)) → AllStand b p (map own (cue_chunks markers)) → p ≡ q →
     length markers ≤ 1024 → IsTrue (list_all is_marker markers) →
     raw_cues (content_of b (entry_of (codes "cue ") (read_cues q markers))) 4
@@ -43,7 +43,7 @@ cues-reported b p q (m ∷ ms) s place few h =
     (record { id = codes "cue "; content = cue_content (m ∷ ms) }) s.0 refl place (length-cue_content (m ∷ ms)))
     ∙ raw-cues (m ∷ ms) (omega arith) h
 
--- the report, where the chunks stand in one of the two forms
+-- the report, if the chunks are in one of the two forms
 report-own : (f : Format) (t : Take) (outer : List ℕ) (first : Chunk) (data_size : ℕ) (form : Form) →
     length outer ≡ 8 → IsWithinLimits f t →
     IsOwnForm f t first data_size form (bytes_of outer f t first data_size) →

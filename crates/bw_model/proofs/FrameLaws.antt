@@ -81,7 +81,7 @@ reply_length (Noticed name number notice next) h =
     (omega arith, omega (arith, addressed_length 0x82 name number (notice_code notice ∷ le32 next) short))
 reply_length (Refused reason offset) h = (omega arith, omega arith)
 
--- bytes at whose front no framing is wrong
+-- bytes that begin without a fault of the framing
 pub record HasBody (longest : ℕ) (bytes : List ℕ) : Type 0 where
   pub head : 4 ≤ length bytes
   pub some : 1 ≤ u32_at bytes 0
@@ -137,7 +137,7 @@ pub first_reply-by : (bytes : List ℕ)
 unfolding first_reply
 first_reply-by bytes = refl
 
--- the first frame of bytes that have a body at their front
+-- the first frame of bytes that begin with a body
 pub first_frame-body : (v : Version) (bytes : List ℕ) → HasBody longest_body bytes
     → first_frame v bytes ≡ before (drop (4 + u32_at bytes 0) bytes) (decoded v (take (u32_at bytes 0) (drop 4 bytes)))
 first_frame-body v bytes h =
@@ -153,7 +153,7 @@ first_reply-body bytes h =
     ∙ ap (first_by (drop (4 + u32_at bytes 0) bytes) (decoded_reply (take (u32_at bytes 0) (drop 4 bytes))))
     (framing_passes longest_reply bytes h)
 
--- the parts of bytes from whose front a value was read
+-- the parts of bytes from whose start a value was read
 pub record ReadsFirst {X : Type 0} (longest : ℕ) (bytes : List ℕ) (read : List ℕ → Result X Reason) (x : X)
     (more : List ℕ) : Type 0 where
   pub has : HasBody longest bytes
@@ -185,7 +185,7 @@ pub reads_reply : (bytes : List ℕ) (r : Reply) (more : List ℕ) → first_rep
     ReadsFirst longest_reply bytes decoded_reply r more
 reads_reply bytes r more e = first_from longest_reply bytes decoded_reply r more (sym (first_reply-by bytes) ∙ e)
 
--- bytes from whose front a value was read begin with its body after its length
+-- bytes from whose start a value was read begin with its body after its length
 stands : {X : Type 0} (longest : ℕ) (bytes : List ℕ) (read : List ℕ → Result X Reason) (x : X)
     (more spelling : List ℕ) → are_bytes bytes ≡ true → ReadsFirst longest bytes read x more
     → take (u32_at bytes 0) (drop 4 bytes) ≡ spelling → bytes ≡ framed spelling ++ more
@@ -205,7 +205,7 @@ stands longest bytes read x more spelling fits r spelled =
 body_fits : (bytes : List ℕ) → are_bytes bytes ≡ true → are_bytes (take (u32_at bytes 0) (drop 4 bytes)) ≡ true
 body_fits bytes fits = (are_bytes-parts (u32_at bytes 0) (drop 4 bytes) (are_bytes-parts 4 bytes fits).1).0
 
--- a frame that was read stands at the start, and what was left is what follows it
+-- a frame that was read is at the start, and what is left follows it
 pub read_frame_stands : (v : Version) (bytes : List ℕ) (f : Frame) (more : List ℕ) → are_bytes bytes ≡ true →
     first_frame v bytes ≡ Ok (f, more)
     → (is_frame v f ≡ true) × (bytes ≡ framed (body f) ++ more)

@@ -69,7 +69,7 @@ joined-form : (wave first fmt bext data_bytes following : List ℕ) → length w
     ≡ 64 + length bext + length data_bytes + length following
 joined-form wave first fmt bext data_bytes following k l m = simp (length-append, append-nil) (omega (arith, k, l, m))
 
--- the form size is the length of what stands after it
+-- the form size is the length of what follows it
 pub form_len-form_size : FormSizesAreLengths
 unfolding form_len form_of
 form_len-form_size f t h =

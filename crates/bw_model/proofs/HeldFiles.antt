@@ -16,7 +16,7 @@ closed_refuses : (t : Take) (r : Request) → t.closed ≡ true → is_stored (v
 unfolding judge
 closed_refuses t r closed = ap (λ (v : Bool). is_stored (cond v Closed (judge_open (parts t) t.format r))) closed
 
--- a file that nothing waits for is whole
+-- a file under whose name nothing waits is whole
 whole_file : (t : Take) (limit : ℕ) (waits : Option Request) (kept : Kept) (found : Option (List ℕ)) →
     HasFile t limit waits kept found →
     (is_some waits ≡ false) ⊎ (t.closed ≡ true) → found ≡ file_of t limit

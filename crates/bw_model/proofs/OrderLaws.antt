@@ -59,8 +59,8 @@ nothing_past s n h = go (at s n) refl
 
 -- One name.
 
--- its log has no gap and nothing pending, and has what came under the name; an unknown one had no place, or nothing
--- came
+-- its log has no gap and nothing pending, and has what came under the name; an unknown name had no
+-- place, or nothing came
 record IsInStep (name : List ℕ) (b : Book) (received : List (Option Request)) : Type 0 where
   whole : IsWhole (log_of b name).admitted
   ended : (log_of b name).done ≡ length (log_of b name).admitted
@@ -84,7 +84,7 @@ drained_most : (done end : ℕ) (stop : Option ℕ) → drained_to done end stop
 drained_most done end None = omega arith
 drained_most done end (Some k) = omega arith
 
--- the own reply to an admitted number that draining did not reach tells a want
+-- the own reply to an admitted number that draining did not reach reports a failure
 own-short : (taken : Bool) (s : List (Option Request)) (done later end : ℕ) (m : Message) →
     at s m.number ≡ Some m.request → done ≤ m.number → m.number < done + window →
     later ≤ m.number → later < end → list_any reports_failure (own_reply taken s done later end m) ≡ true

@@ -16,7 +16,7 @@ use Rattle.bw_model.proofs.BookLemmas.{name_refl, log-with_log_other}
 use Rattle.bw_model.proofs.Elements.{Each, each-append, each-map}
 use Rattle.bw_model.proofs.TrueReplies.{IsSound, IsTrueReply, IsFaithfulStep, notice_true, still}
 
--- replies of another name tell the sender nothing
+-- replies of another name change nothing for the sender
 abbrev pub IsOf : List ℕ → Reply → Type 0
 IsOf name (Judged x n v) = x ≡ name
 IsOf name (Noticed x n code next) = x ≡ name

@@ -1,4 +1,4 @@
--- A prefix is what stands first, and a reading fills its form.
+-- A prefix is what comes first, and a reading fills its form.
 use Rattle.std.proofs.Common.{◌≡◌, ℕ, ◌+◌, ◌<◌, ◌≤◌, Bool, true, false, cond, ◌&&◌, List, [], ◌∷◌, ◌++◌, length, Some}
 use Rattle.std.proofs.Common.{refl, sym, ◌∙◌, ap, subst, arith, append_assoc, length-append}
 use Rattle.std.specs.Prelude.{is_some, fold}
@@ -24,7 +24,7 @@ count-append id es ds = sum_by-append (λ (x : Entry). cond (is_id x.id id) 1 0)
 count-own : (e : Entry) (es : List Entry) → count_of e.id (e ∷ es) ≡ 1 + count_of e.id es
 count-own e es = count-cons e.id e es ∙ ap (λ (v : Bool). cond v 1 0 + count_of e.id es) (name_refl e.id)
 
--- none is found where none is counted
+-- none is found if none is counted
 pub count-none : (id : List ℕ) (es : List Entry) → is_some (entry_of id es) ≡ false → count_of id es ≡ 0
 count-none id [] h = refl
 count-none id (e ∷ es) h = count-cons id e es ∙ go (is_id e.id id) h (count-none id es)
@@ -43,7 +43,7 @@ none-count id (e ∷ es) h = go (is_id e.id id) (sym (count-cons id e es) ∙ h)
     go true h ih = absurd (omega (arith, h))
     go false h ih = ih (let none : count_of id es ≡ 0 = omega (arith, h) in none)
 
--- where the next chunk stands
+-- where the next chunk is
 pub place-push : (q : ℕ) (seen : List Entry) (e : Entry) →
     fold (λ p e. e.place + 8 + even_up e.size) q (seen ++ e ∷ []) ≡ e.place + 8 + even_up e.size
 place-push q [] e = refl
@@ -68,7 +68,7 @@ single-push seen e new h id single =
         let zero : count_of id seen ≡ 0 = ap (λ (i : List ℕ). count_of i seen) (sym own) ∙ count-none e.id seen none in
         omega arith
 
--- the walk from the chunks seen, and where the chunks stand
+-- the walk from the chunks seen, and where the chunks are
 record Stand (b : List ℕ) (form : Form) (seen es : List Entry) : Type 0 where
   chunks : StandFrom b form (next_place seen) es
   single : AreSingle (seen ++ es)

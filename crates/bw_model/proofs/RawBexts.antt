@@ -31,7 +31,7 @@ widths_to ws vs k e = ap (λ (z : List ℕ). sum (take k z)) e
 abbrev prefix_widths : List ℕ
 prefix_widths = 256 ∷ 32 ∷ 32 ∷ 10 ∷ 8 ∷ 8 ∷ 2 ∷ 64 ∷ []
 
--- the five levels, where the version has them
+-- the five levels, if the version has them
 abbrev levels_of : List ℕ → List ℕ
 levels_of c = cond (nat_le 2 (u16_at c 346))
     (u16_at c 412 ∷ u16_at c 414 ∷ u16_at c 416 ∷ u16_at c 418 ∷ u16_at c 420 ∷ []) []

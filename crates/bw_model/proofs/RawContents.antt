@@ -84,7 +84,7 @@ raw-fmt f h =
 
 -- `cue `
 
--- a number that stands after a prefix
+-- a number after a prefix
 shifted : (prefix x : List ℕ) (p i q : ℕ) → p ≡ length prefix → q ≡ p + i →
     u32_at (prefix ++ x) q ≡ from_le_bytes w32 (take 4 (drop i x))
 shifted prefix x p i q e at =

@@ -1,4 +1,4 @@
--- A body is read as a reply exactly where it spells it.
+-- A body is read as a reply exactly if it spells it.
 use Rattle.std.proofs.Common.{◌≡◌, ℕ, ◌+◌, ◌^◌, Bool, true, false, ◌&&◌, cond, List, [], ◌∷◌, ◌++◌, length, Option}
 use Rattle.std.proofs.Common.{Some, None, Ok, Err, refl, sym, ap, subst, ◌∙◌, append_assoc, arith}
 use Rattle.std.specs.Prelude.{nat_le, ◌==◌, find, option_map, ok_or}
@@ -195,7 +195,7 @@ reply_spelled k rest r false false true fits _ _ k-is e =
     (refused_spelled rest r fits (or_fault _ r e))
 reply_spelled k rest r false false false fits _ _ _ e = absurd cc
 
--- what is read is spelled so
+-- what is read is spelled by the bytes
 pub reply_read_is_spelled : (bytes : List ℕ) (r : Reply) → are_bytes bytes ≡ true → decoded_reply bytes ≡ Ok r →
     SpellsReply bytes r
 unfolding decoded_reply
@@ -217,7 +217,7 @@ addressed_reads name number payload reply_by r h given =
     ap (λ (x : List ℕ). addressed_reply (length name ∷ x) reply_by) (append_assoc name (le32 number) payload)
     ∙ rw (q.name_good, number_good, q.name_is, q.number_is, q.payload_is, given) refl
 
--- what is spelled is read so
+-- what the bytes spell is read
 pub spelled_reply_is_read : (r : Reply) → is_reply r ≡ true → decoded_reply (reply_body r) ≡ Ok r
 unfolding decoded_reply
 spelled_reply_is_read (Judged name number verdict) h =

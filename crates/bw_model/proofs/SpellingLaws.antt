@@ -1,4 +1,4 @@
--- A body is read as a frame exactly where it spells it.
+-- A body is read as a frame exactly if it spells it.
 use Rattle.std.proofs.Common.{◌≡◌, ℕ, ◌^◌, ◌<◌, ◌≤◌, ◌≢◌, Bool, true, false, not, ◌&&◌, cond, List, [], ◌∷◌, ◌++◌}
 use Rattle.std.proofs.Common.{length, Option, Some, None, Ok, Err, refl, sym, ap, subst, ◌∙◌, append_assoc, arith}
 use Rattle.std.specs.Prelude.{nat_le, ◌==◌}
@@ -117,7 +117,7 @@ body_spelled v k rest f false fits nine e =
     let parts = unless_ok (first_that_holds (body_faults v k rest)) (frame_in k rest) f e in
     subst (Spells v (k ∷ rest)) parts.1 (frame_spelled v k rest (k == 6) fits (passes_from v k rest parts.0) refl)
 
--- what is read is spelled so
+-- what is read is spelled by the bytes
 pub read_is_spelled : (v : Version) (bytes : List ℕ) (f : Frame) → are_bytes bytes ≡ true → decoded v bytes ≡ Ok f →
     Spells v bytes f
 unfolding decoded
@@ -176,7 +176,7 @@ reads_message v m h =
     more_kinds First h = omega arith
     more_kinds Second h = omega arith
 
--- what is spelled is read so
+-- what the bytes spell is read
 pub spelled_is_read : (v : Version) (f : Frame) → is_frame v f ≡ true → decoded v (body f) ≡ Ok f
 unfolding decoded
 spelled_is_read v (Says m) h = reads_message v m h

@@ -1,4 +1,4 @@
--- Chunks that stand one after another in bytes are read as they stand.
+-- Chunks that follow each other in bytes are read as they are.
 use Rattle.std.proofs.Common.{◌≡◌, ℕ, ◌+◌, ◌-◌, ◌*◌, ◌<◌, ◌≤◌, ◌^◌, ◌⊎◌, inl, inr, List, [], ◌∷◌, ◌++◌, length, take}
 use Rattle.std.proofs.Common.{drop, refl, sym, ◌∙◌, ap, subst, arith, append_assoc, length-append}
 use Rattle.std.specs.Prelude.{flat_map, codes, slice_range}
@@ -11,7 +11,7 @@ use Rattle.bw_model.specs.Reading.{Entry, Form, id_at, form_end, largest}
 use Rattle.bw_model.specs.Prefix.{IsSizeGiven, IsSized, HasRoomForCues, IsChunkAt, StandFrom}
 use Rattle.bw_model.proofs.Widths.{length-chunk_sized}
 
--- n bytes from a place on, of what stands after the front
+-- n bytes from a place on, of what follows the prefix
 pub range-after : (prefix x rest : List ℕ) (p i n : ℕ) → p ≡ length prefix → i + n ≤ length x →
     slice_range (prefix ++ (x ++ rest)) (p + i) (p + i + n) ≡ take n (drop i x)
 range-after prefix x rest p i n e l =
@@ -23,7 +23,7 @@ range-after prefix x rest p i n e l =
     ∙ drop-append-le i x rest here)
     ∙ take-append-le n (drop i x) rest room
 
--- what stands after the front, whole
+-- what follows the prefix, whole
 pub range-whole : (prefix x rest : List ℕ) (p n : ℕ) → p ≡ length prefix → n ≡ length x →
     slice_range (prefix ++ (x ++ rest)) p (p + n) ≡ x
 range-whole prefix x rest p n e l =
@@ -42,7 +42,7 @@ piece_bytes x = chunk_sized x.0 x.1
 abbrev pub piece_size : Piece → ℕ
 piece_size x = length x.1.content
 
--- a piece that stands in bytes, after so many others
+-- a piece of bytes, after this many others
 pub record StandsAt (b : List ℕ) (p : ℕ) (x : Piece) : Type 0 where
   pub prefix : List ℕ
   pub rest : List ℕ
@@ -139,7 +139,7 @@ sized b form p x s l (inl h) =
     )
 sized b form p x s l (inr h) = inr (size-stands b p x s l (let same : x.0 ≡ unsaid = h.0 in omega arith) ∙ h.0, h.1)
 
--- a piece that stands in bytes is a chunk there
+-- a piece of bytes is a chunk there
 piece-stands : (b : List ℕ) (form : Form) (p : ℕ) (x : Piece) → form_end form ≡ length b → StandsAt b p x →
     IsPiece form x → IsChunkAt b form (entry_for p x)
 piece-stands b form p x whole s h =
@@ -175,7 +175,7 @@ abbrev pub ArePieces : Form → List Piece → Type 0
 ArePieces form [] = Unit {0}
 ArePieces form (x ∷ xs) = IsPiece form x × ArePieces form xs
 
--- each stands at its place
+-- each is at its place
 abbrev pub AllStand : List ℕ → ℕ → List Piece → Type 0
 AllStand b p [] = Unit {0}
 AllStand b p (x ∷ xs) = StandsAt b p x × AllStand b (p + 8 + even_up (piece_size x)) xs
@@ -193,7 +193,7 @@ all-stand b form p (x ∷ xs) prefix rest h place bytes =
           (split ∙ sym (append_assoc prefix (piece_bytes x) (flat_map piece_bytes xs ++ rest))),
     )
 
--- pieces that stand in bytes are chunks there
+-- pieces of bytes are chunks there
 pub pieces-stand : (b : List ℕ) (form : Form) (p : ℕ) (xs : List Piece) → form_end form ≡ length b →
     ArePieces form xs → AllStand b p xs → StandFrom b form p (entries_from p xs)
 pieces-stand b form p [] whole h s = tt

@@ -51,7 +51,7 @@ stream_from-by : (steps : ℕ) (v : Version) (place : ℕ) (bytes : List ℕ)
     ≡ ended_or (read_or place (later_from steps v place bytes) (first_frame v bytes)) (end_at v place bytes)
 stream_from-by steps v place bytes = refl
 
--- where a frame comes next, the function goes on after it
+-- if a frame comes next, the function continues after it
 stream_from-frame : (steps : ℕ) (v : Version) (place : ℕ) (bytes : List ℕ) (f : Frame) (more : List ℕ) →
     end_at v place bytes ≡ None → first_frame v bytes ≡ Ok (f, more)
     → stream_from (suc steps) v place bytes
@@ -61,7 +61,7 @@ stream_from-frame steps v place bytes f more e read =
     ∙ ap (ended_or (read_or place (later_from steps v place bytes) (first_frame v bytes))) e
     ∙ ap (read_or place (later_from steps v place bytes)) read
 
--- where the exchange ends, the function ends
+-- if the exchange ends, the function ends
 stream_from-ended : (steps : ℕ) (v : Version) (place : ℕ) (bytes : List ℕ) (end : End) →
     end_at v place bytes ≡ Some end → stream_from (suc steps) v place bytes ≡ ([], end)
 stream_from-ended steps v place bytes end e =
@@ -96,7 +96,7 @@ given (suc steps) v place bytes (f ∷ fs) end enough s =
     stream_from-frame steps v place bytes f more (ap (end_at v place) whole ∙ e) (ap (first_frame v) whole ∙ read)
     ∙ ap (λ (x : List Frame × End). (f ∷ x.0, x.1)) tail
 
--- an exchange goes on only where a frame comes next
+-- an exchange continues only if a frame comes next
 no_end : (v : Version) (place : ℕ) (bytes : List ℕ) (reason : Reason) → end_at v place bytes ≡ None →
     first_frame v bytes ≡ Err reason → ⊥
 no_end v place [] reason e read = cc

@@ -16,12 +16,12 @@ pub record IsSound (offered : List Request) (log : Log) : Type 0 where
   pub admitted : (n : ℕ) (r : Request) → at log.admitted n ≡ Some r → slice_get offered n ≡ Some r
   pub filled : IsFilled log.admitted log.done
 
--- the log goes on, and its verdicts stay
+-- the log grows, and its verdicts stay
 pub record Grows (taken : Bool) (old new : Log) : Type 0 where
   pub done : old.done ≤ new.done
   pub verdicts : (n : ℕ) → n < old.done → verdict_at taken new.admitted n ≡ verdict_at taken old.admitted n
 
--- a reply of this name tells a verdict of the log, and turns nothing down
+-- a reply of this name gives a verdict of the log, and turns nothing down
 pub record IsTrueReply (taken : Bool) (name : List ℕ) (log : Log) (r : Reply) : Type 0 where
   pub judged : (n : ℕ) (v : Verdict) → r ≡ Judged name n v → (n < log.done) × (v ≡ verdict_at taken log.admitted n)
   pub welcome : turns_down name r ≡ false

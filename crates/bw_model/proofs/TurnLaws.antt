@@ -1,4 +1,4 @@
--- What the replies of a turn tell, and the count of the store's failures beside them.
+-- What the replies of a turn and the count of the store's failures determine.
 use Rattle.std.proofs.Common.{◌≡◌, ℕ, suc, zero, ◌+◌, ◌-◌, ◌<◌, ◌≤◌, Bool, true, false, not, cond, ◌&&◌, ◌||◌, List, []}
 use Rattle.std.proofs.Common.{◌∷◌, length, drop, Option, Some, None, refl, sym, ◌∙◌, ap, arith, length-append}
 use Rattle.std.specs.Prelude.{is_some, nat_le, nat_lt}

@@ -27,7 +27,7 @@ use Rattle.bw_model.proofs.TurnLaws.{outcome, replies_report}
 use Rattle.bw_model.proofs.TrueReplies.{Grows, IsTrueReply, judged_true, verdicts_true}
 use Rattle.bw_model.proofs.OtherTurns.{IsOf, other_reply, message_of}
 
--- a verdict that a reply tells of this name is that of a done number
+-- a verdict on this name in a reply is that of a done number
 abbrev ReportsRound : Bool → List ℕ → Log → Reply → Type 0
 ReportsRound taken name log r = (n : ℕ) (v : Verdict) → r ≡ Judged name n v →
     (n < log.done) × (v ≡ verdict_at taken log.admitted n)

@@ -1,4 +1,4 @@
--- What the first version reads whole, the second reads alike.
+-- What the first version reads whole, the second reads the same way.
 use Rattle.std.proofs.Common.{◌≡◌, ℕ, ◌≤◌, Bool, true, false, ◌&&◌, cond, List, [], ◌∷◌, length, take, drop, Some}
 use Rattle.std.proofs.Common.{Result, Ok, Err, refl, sym, ap, ◌∙◌, arith, ◌⊎◌, inl, inr}
 use Rattle.std.specs.Prelude.{nat_le, ◌==◌}
@@ -57,7 +57,7 @@ first_bye_stays bytes more e =
     let r = reads_frame First bytes Bye more e in
     first_frame-body Second bytes r.has ∙ rw (bye_stays (take (u32_at bytes 0) (drop 4 bytes)) r.reads, r.rest) refl
 
--- an exchange said the end only where its frame comes next
+-- an exchange ends with BYE only if its frame comes next
 said_bye : (place : ℕ) (x : Result (Frame × List ℕ) Reason) → end_by place x ≡ Some SaidBye →
     (more : List ℕ) × (x ≡ Ok (Bye, more))
 said_bye place (Ok (Says m, more)) e = absurd cc

@@ -56,7 +56,7 @@ length-bext_fixed fields h = go (is_version_1 fields)
     go true = simp length-append (omega (arith, texts-length, umid-length))
     go false = simp length-append (omega (arith, texts-length, umid-length, levels-length))
 
--- a chunk has 8 bytes before its content, and one after it where that is odd
+-- a chunk has 8 bytes before its content, and one after it if its length is odd
 pub length-chunk_sized : (size : ℕ) (c : Chunk) → length c.id ≡ 4 →
     length (chunk_sized size c) ≡ 8 + even_up (length c.content)
 length-chunk_sized size c l =

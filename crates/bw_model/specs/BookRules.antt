@@ -16,13 +16,13 @@ pub record IsLog (log : Log) : Type 0 where
   pub none_past : length log.admitted ≤ log.done + window
   pub fits : IsTrue (list_all is_admitted log.admitted)
 
--- Each name stands once.
+-- No name is there twice.
 abbrev pub HasEachOnce : Book → Type 0
 HasEachOnce [] = Unit {0}
 HasEachOnce (entry ∷ book) = (is_known book entry.0 ≡ false) × HasEachOnce book
 
--- Each name stands once, under it a log that admitted something; there are no more names than a
--- server takes.
+-- No name is there twice, each has a log that admitted something, and there are no more names than
+-- a server takes.
 pub record IsBook (book : Book) : Type 0 where
   pub once : HasEachOnce book
   pub logs : (name : List ℕ) → IsTrue (is_known book name) → IsLog (log_of book name)
@@ -42,7 +42,7 @@ abbrev pub NoBookHasANameTwice : Type 0
 NoBookHasANameTwice = (entry : List ℕ × Log) (book : Book) → is_known book entry.0 ≡ true →
     IsBook (entry ∷ book) → ⊥
 
--- Books with the same names have as many entries: a table's names say whether it is full.
+-- Books with the same names have as many entries: a table's names determine whether it is full.
 abbrev pub NamesReportTheLength : Type 0
 NamesReportTheLength =
     (a b : Book) → IsBook a → IsBook b → ((name : List ℕ) → is_known a name ≡ is_known b name) →

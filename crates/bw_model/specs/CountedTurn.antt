@@ -1,4 +1,4 @@
--- A turn beside the store's count of failures, and what follows from it.
+-- A turn with the store's count of failures, and what follows from it.
 use Rattle.std.specs.Prelude.{◌≡◌, ℕ, suc, ◌+◌, ◌<◌, ◌≤◌, Bool, true, false, not, ◌&&◌, ◌||◌}
 use Rattle.std.specs.Prelude.{IsTrue, IsFalse, is_some, Option, None, List, length, nat_le}
 use Rattle.std.specs.Prelude.{if◌then◌else◌}
@@ -17,7 +17,7 @@ use Rattle.bw_model.specs.BookRules.{IsBook}
 abbrev pub is_pending : Log → Bool
 is_pending log = is_some (at log.admitted log.done)
 
--- the log that a frame's turn leaves under its name, where the frame is a message that is served
+-- the log that a frame's turn leaves under its name, if the frame is a message that is served
 abbrev pub log_after_frame : (List ℕ → Bool) → Book → Frame → Faults → Option Log
 log_after_frame existed book (Says m) faults =
     (turn_by (existed m.name) (is_known book m.name) (is_full book) (log_of book m.name) m faults).1
@@ -36,20 +36,20 @@ IsWithoutRoom book (Says m) replies =
 IsWithoutRoom book (Asks name n) replies = ⊥
 IsWithoutRoom book Bye replies = ⊥
 
--- A server whose store's failures were counted before and after may answer so, and go on with this
--- book.
+-- A server whose store's failures were counted before and after may answer like this, and continue
+-- with this book.
 pub record IsTurn (existed : List ℕ → Bool) (before after : ℕ) (book : Book) (f : Frame)
     (replies : List Reply) (later : Book) : Type 0 where
   pub faults : Faults
   pub answered : (turn existed book f faults).0 ≡ replies
   pub left : (turn existed book f faults).1 ≡ later
-  -- a growth is refused only where NoRoom is the answer
+  -- a growth is refused only if NoRoom is the answer
   pub room : IsTrue faults.refused → IsWithoutRoom book f replies
-  -- the count rises exactly where draining stops short
+  -- the count rises exactly if draining stops short
   pub count : Counts before after (stops_short existed book f faults)
   pub stop : IsFalse (stops_short existed book f faults) → faults.stop ≡ None
 
--- the book after a message, as the replies and the number of those done then tell it
+-- the book after a message, as the replies and the number of those done then determine it
 abbrev pub book_reported : Book → Message → List Reply → ℕ → Book
 book_reported book m replies done =
     if (not (is_known book m.name) && nat_le window m.number) || is_turned_away replies then book
@@ -79,7 +79,7 @@ RepliesReportTheBook = (existed : List ℕ → Bool) (book : Book) (m : Message)
     let x = turn existed book (Says m) faults in
     x.1 ≡ book_reported book m x.0 (log_of x.1 m.name).done
 
--- DelayedStore is answered only where a store call failed in this very turn.
+-- DelayedStore is answered only if a store call failed in this very turn.
 abbrev pub DelaysAreCounted : Type 0
 DelaysAreCounted =
     (existed : List ℕ →
@@ -87,7 +87,7 @@ DelaysAreCounted =
     IsTurn existed before after book f replies later → before < last_count →
     IsTrue (list_any is_delayed replies) → after ≡ before + 1
 
--- Where no call failed, a message that is served leaves nothing pending under its name.
+-- If no call failed, a message that is served leaves nothing pending under its name.
 abbrev pub QuietTurnsDrain : Type 0
 QuietTurnsDrain =
     (existed : List ℕ →

@@ -5,7 +5,7 @@ use Rattle.std.specs.Prelude.{◌≡◌, ℕ, ◌+◌, ◌<◌, ◌≤◌, Bool,
 abbrev pub last_count : ℕ
 last_count = 18446744073709551615
 
--- A count rises by one in a call where the thing happens, and only there.
+-- A count rises by one in a call if this happens, and only then.
 pub record Counts (before after : ℕ) (happens : Bool) : Type 0 where
   pub quiet : IsFalse happens → after ≡ before
   pub rises : IsTrue happens → before < last_count → after ≡ before + 1

@@ -12,7 +12,7 @@ use Rattle.bw_model.specs.Turn.{Faults, run, book_after}
 use Rattle.bw_model.specs.Exchange.{exchange, content_in, nothing_stands, replies_bytes}
 use Rattle.bw_model.specs.Reading.{Entry, Form}
 
--- the value of a digit of hex
+-- the value of a hex digit
 abbrev pub hex_digit : ℕ → ℕ
 hex_digit c = if nat_lt c 58 then c - 48 else c - 87
 
@@ -97,7 +97,7 @@ open_0 = hex "12000000010261310000000080bb0000010010000000"
 abbrev pub block_1 : List ℕ
 block_1 = hex "0c000000020261310100000001000200"
 
--- .. with other samples
+-- the frame of a BLOCK of other samples, number 1
 abbrev pub other_1 : List ℕ
 other_1 = hex "0c000000020261310100000001000300"
 
@@ -109,7 +109,7 @@ close_2 = hex "1000000005026131020000000200000000000000"
 abbrev pub judged_example : ℕ → ℕ → List ℕ
 judged_example n code = hex "0900000081026131" ++ le32 n ++ code ∷ []
 
--- a notice with a number, a code and what comes next
+-- a notice with a number, a code and the next number
 abbrev pub noticed : ℕ → ℕ → ℕ → List ℕ
 noticed n code next = hex "0d00000082026131" ++ le32 n ++ code ∷ le32 next
 
@@ -121,12 +121,12 @@ file_in book = content_in (λ name. None) example_limit book a1
 abbrev pub ExampleOutcome : Type 0
 ExampleOutcome = List ℕ × End × Option (List ℕ)
 
--- what comes of these bytes on a new server
+-- what these bytes lead to on a new server
 abbrev pub outcome : List ℕ → ExampleOutcome
 outcome input = let x =
     exchange nothing_stands [] input in (replies_bytes x.replies, x.end, file_in x.book)
 
--- a new server answers so, ends so, and leaves this file
+-- a new server answers, ends and leaves the file like this
 abbrev pub AnswersWith : List ℕ → List ℕ → End → Option (List ℕ) → Type 0
 AnswersWith input replies end file = outcome input ≡ (replies, end, file)
 
@@ -136,7 +136,7 @@ AnswersWith input replies end file = outcome input ≡ (replies, end, file)
 abbrev pub says : ℕ → Request → Frame
 says n r = Says (record { name = a1; number = n; request = r })
 
--- a store call fails when so many numbers were drained
+-- a store call fails after this many numbers were drained
 abbrev pub fails_after : ℕ → Faults
 fails_after k = record { refused = false; stop = Some k }
 

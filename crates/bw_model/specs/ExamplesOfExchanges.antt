@@ -74,7 +74,7 @@ ConflictExample = AnswersWith
     (judged_example 0 0 ++ judged_example 1 0 ++ noticed 1 0x22 2)
     EndOfInput (Some small_file)
 
--- so are other bytes under a number that waits, where the first bytes stay
+-- other bytes under a number that waits are a conflict too, and the first bytes stay
 abbrev pub ConflictHeldExample : Type 0
 ConflictHeldExample = AnswersWith
     (block_1 ++ other_1 ++ open_0)
@@ -101,7 +101,7 @@ WindowExample = AnswersWith
     (hex "0d000000820262320f0000002000000000" ++ hex "0d00000082026232100000002100000000")
     EndOfInput None
 
--- a frame or a reply for each of so many numbers, from the first on
+-- a frame or a reply for each of this many numbers, from the first on
 abbrev pub for_each : (ℕ → List ℕ) → ℕ → ℕ → List ℕ
 for_each bytes n zero = []
 for_each bytes n (suc count) = bytes n ++ for_each bytes (suc n) count
@@ -125,7 +125,7 @@ FullWindowExample = AnswersWith
 abbrev pub reported : Exchange → List ℕ × Option (List ℕ)
 reported x = (replies_bytes x.replies, file_in x.book)
 
--- a second exchange goes on where the first ended
+-- a second exchange continues where the first ended
 abbrev pub TwoExchangesExample : Type 0
 TwoExchangesExample =
     map reported (exchanges nothing_stands [] ((open_0 ++ close_2) ∷ block_1 ∷ []))
@@ -155,7 +155,7 @@ WrongTotalExample = AnswersWith
 
 -- Cue points and fields.
 
--- a marker is stored once under its identifier and within the frames, and stands in the closed file
+-- a marker is stored once under its identifier and within the frames, and is in the closed file
 abbrev pub CueExample : Type 0
 CueExample = AnswersWith
     (open_0 ++ block_1 ++ hex "10000000030261310200000007000000" ++ hex "02000000"
@@ -165,7 +165,7 @@ CueExample = AnswersWith
     (judged_example 0 0 ++ judged_example 1 0 ++ judged_example 2 0 ++ judged_example 3 8 ++ judged_example 4 7 ++ judged_example 5 0)
     EndOfInput (Some cue_file)
 
--- a Description stands at its place, and a date of another form is refused
+-- a Description is at its place, and a date of another form is refused
 abbrev pub DescriptionExample : Type 0
 DescriptionExample = AnswersWith
     (open_0 ++ hex "0d0000000402613101000000015261696e" ++ hex "11000000040261310200000004"
@@ -174,7 +174,7 @@ DescriptionExample = AnswersWith
     EndOfInput
     (Some (take 80 empty_file ++ hex "5261696e" ++ drop 84 empty_file))
 
--- a loudness that is given makes the version 2, and the other four stand as not given
+-- a loudness that is given makes the version 2, and the other four are not given
 abbrev pub LoudnessExample : Type 0
 LoudnessExample = AnswersWith
     (open_0 ++ hex "0b00000004026131010000000804f7")
@@ -182,7 +182,7 @@ LoudnessExample = AnswersWith
     (Some (take 426 empty_file ++ hex "0200" ++ drop 428 (take 492 empty_file)
     ++ hex "04f7ff7fff7fff7fff7f" ++ drop 502 empty_file))
 
--- a loudness is taken back by an empty value; there is no tag 13, and one byte is no loudness
+-- a loudness is unset by an empty value; there is no tag 13, and one byte is no loudness
 abbrev pub NoLoudnessExample : Type 0
 NoLoudnessExample = AnswersWith
     (open_0 ++ hex "0b00000004026131010000000804f7" ++ hex "09000000040261310200000008"
@@ -192,7 +192,7 @@ NoLoudnessExample = AnswersWith
 
 -- Asks.
 
--- an unknown name comes next with 0
+-- an unknown name has the next number 0
 abbrev pub AskEmptyExample : Type 0
 AskEmptyExample = AnswersWith
     (hex "080000000602613100000000")
@@ -227,7 +227,7 @@ cut_to n = let x = outcome (take n (open_0 ++ block_1 ++ close_2)) in (x.0, x.1)
 abbrev pub cut_at : ℕ → List ℕ
 cut_at place = hex "0a0000008306" ++ place ∷ hex "00000000000000"
 
--- an exchange cut at its frames' edges and within them: what is whole is answered, and the rest is
+-- an exchange cut between its frames and within them: what is whole is answered, and the rest is
 -- Cut at its place
 abbrev pub CutExchangeExample : Type 0
 CutExchangeExample = map cut_to (0 ∷ 1 ∷ 21 ∷ 22 ∷ 23 ∷ 37 ∷ 38 ∷ 39 ∷ 57 ∷ [])

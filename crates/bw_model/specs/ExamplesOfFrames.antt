@@ -29,7 +29,7 @@ ByeAndMoreExample = AnswersWith
     (hex "0a00000083050000000000000000")
     (BadFrame Payload 0) None
 
--- nor has an ask
+-- an ask has no payload
 abbrev pub AskPayloadExample : Type 0
 AskPayloadExample = AnswersWith
     (hex "09000000060261310000000000")
@@ -77,7 +77,7 @@ RequestKindsExample = map decoded_request ([] ∷ hex "06" ∷ hex "09" ∷ hex 
 abbrev pub LongestBlockExample : Type 0
 LongestBlockExample = take 6 (framed (body (says 1 (Block (replicate 32768 7))))) ≡ hex "088000000202"
 
--- and 32,806, the longest, under a name of 32 bytes
+-- the longest frame length is 32,806, under a name of 32 bytes
 abbrev pub longest : Frame
 longest = Says (record { name = replicate 32 97; number = 1; request = Block (replicate 32768 7) })
 

@@ -59,7 +59,7 @@ rf64_form =
 abbrev pub rf64_entries : List Entry
 rf64_entries = entry "ds64" 12 28 ∷ entry "fmt " 48 18 ∷ entry "LIST" 74 4 ∷ entry "data" 86 4 ∷ []
 
--- an RF64 file, with a chunk that no one knows
+-- an RF64 file with an unknown chunk
 abbrev pub ReadsRf64Example : Type 0
 ReadsRf64Example = ReadsAs rf64 rf64_form rf64_entries
 
@@ -85,7 +85,7 @@ abbrev pub tabled_entries : List Entry
 tabled_entries = entry "ds64" 12 40 ∷ entry "fmt " 60 18 ∷ entry "LIST" 86 4 ∷ entry "data" 98 4
     ∷ []
 
--- a size field that says nothing is reported by the table
+-- the table gives the size that a size field doesn't
 abbrev pub ReadsTabledExample : Type 0
 ReadsTabledExample = ReadsAs tabled tabled_form tabled_entries
 
@@ -129,7 +129,7 @@ WrongFormSizeExample = Faults
 abbrev pub with_data : List ℕ → List ℕ
 with_data size = rf64_with (hex "5a00000000000000") size (hex "00000000") (hex "04000000")
 
--- a data size of more than 2^62 bytes, and one that passes the form
+-- a data size of more than 2^62 bytes, and one that goes past the form
 abbrev pub WrongDataSizeExample : Type 0
 WrongDataSizeExample = Faults
     (with_data (hex "ffffffffffffffff") ∷ with_data (hex "0000000000000040") ∷ [])
@@ -140,24 +140,24 @@ abbrev pub with_table : List ℕ → List ℕ
 with_table entries = rf64_with (hex "5a00000000000000") (hex "0400000000000000") entries
     (hex "04000000")
 
--- a table that its `ds64` has no room for, and one of 4,097 rows
+-- a table that is too long for its `ds64`, and one of 4,097 rows
 abbrev pub WrongTableExample : Type 0
 WrongTableExample = Faults (with_table (hex "01000000") ∷ with_table (hex "01100000") ∷ [])
     ((BadDs64, 12) ∷ (TooMany, 12) ∷ [])
 
--- a size that nothing tells
+-- a size that is given nowhere
 abbrev pub UntoldSizeExample : Type 0
 UntoldSizeExample = Faults
     (rf64_with (hex "5a00000000000000") (hex "0400000000000000") (hex "00000000") (hex "ffffffff")
     ∷ [])
     ((NoSize, 74) ∷ [])
 
--- a RIFF form can't leave its size unsaid
+-- a RIFF form must give its size
 abbrev pub UnsaidRiffExample : Type 0
 UnsaidRiffExample = Faults ((codes "RIFF" ++ hex "ffffffff" ++ drop 8 small_file) ∷ [])
     ((NoSize, 4) ∷ [])
 
--- the file with a cue point: a count that its chunk has no room for, one that is too great, and
+-- the file with a cue point: a count that is too large for its chunk, one that is too great, and
 -- `fmt ` named `data`
 abbrev pub WrongCueExample : Type 0
 WrongCueExample = Faults (
@@ -181,7 +181,7 @@ ShortChunksExample = Faults (
     ∷ [])
     ((BadFmt, 12) ∷ (BadBext, 12) ∷ (BadCue, 12) ∷ (NoData, 36) ∷ [])
 
--- so many empty chunks `abcd`
+-- this many empty chunks `abcd`
 unfoldable pub empty_chunks : ℕ → List ℕ
 empty_chunks zero = []
 empty_chunks (suc n) = hex "6162636400000000" ++ empty_chunks n

@@ -36,7 +36,7 @@ ReportRf64Example = Reports
     (lines ("form RF64 90" ∷ "chunk ds64 12 28" ∷ "chunk fmt. 48 18" ∷ "chunk LIST 74 4"
     ∷ "chunk data 86 4" ∷ mono_line ∷ "data at=94 bytes=4 frames=2" ∷ []))
 
--- a BW64 file: a size that the table tells
+-- a BW64 file: a size that the table gives
 abbrev pub ReportTabledExample : Type 0
 ReportTabledExample = Reports
     tabled tabled_form tabled_entries
@@ -58,7 +58,7 @@ loud_file =
     ++ hex "04f7ff7fff7fff7fff7f"
     ++ drop 502 empty_file
 
--- a loudness that is given is reported by its number, and the others are unset
+-- a loudness that is given is printed as its number, and the others are unset
 abbrev pub ReportLoudnessExample : Type 0
 ReportLoudnessExample = Reports
     loud_file (riff 682)
@@ -74,7 +74,7 @@ abbrev pub marked_file : List ℕ
 marked_file =
     take 80 cue_file ++ hex "415c0a" ++ drop 83 (take 418 cue_file) ++ hex "03" ++ drop 419 cue_file
 
--- a backslash and a line end are reported by their digits, and the cue point by a line
+-- a backslash and a line end are printed by their digits, and the cue point by a line
 abbrev pub ReportMarkedExample : Type 0
 ReportMarkedExample = Reports
     marked_file (riff 722)

@@ -25,11 +25,11 @@ FormatsExample =
     ≡ (Stored ∷ Stored ∷ Stored ∷ [])
     ++ (BadFormat ∷ BadFormat ∷ BadFormat ∷ BadFormat ∷ BadFormat ∷ BadFormat ∷ [])
 
--- .. of a history with this byte
+-- the verdict on an OPEN of a history with this byte
 abbrev pub with_byte : ℕ → Verdict
 with_byte c = verdict (take_of []) (Open mono (65 ∷ c ∷ []))
 
--- a history takes ends of lines and what can be printed in ASCII, and nothing else
+-- a history may have line ends and printable ASCII, and nothing else
 abbrev pub HistoryBytesExample : Type 0
 HistoryBytesExample =
     map with_byte (13 ∷ 10 ∷ 32 ∷ 126 ∷ []) ++ map with_byte (31 ∷ 127 ∷ 9 ∷ 0 ∷ [])
@@ -50,7 +50,7 @@ BeforeAndBehindExample =
     ++ (Closed ∷ Closed ∷ Closed ∷ Closed ∷ Closed ∷ [])
     ++ AlreadyOpen ∷ []
 
--- an open take with so many markers
+-- an open take with this many markers
 abbrev pub marked : ℕ → Take
 marked count = record (take_of (Open mono [] ∷ [])) { markers = replicate count (0, 0) }
 
@@ -88,7 +88,7 @@ FieldBytesExample =
 
 -- The form size at the limit.
 
--- the header for so many data bytes, without history or cue points, at the default limit
+-- the header for this many data bytes, without history or cue points, at the default limit
 abbrev pub header_of_len : ℕ → List ℕ
 header_of_len data_len = header mono no_fields [] data_len 0 example_limit
 
@@ -101,7 +101,7 @@ abbrev pub LargestOddRiffExample : Type 0
 LargestOddRiffExample = header_of_len 4294966611
     ≡ plain_header (hex "feffffff") mono_fmt (hex "53fdffff")
 
--- one byte more makes BW64: both 32-bit sizes say nothing, and `ds64` tells them
+-- one byte more makes BW64: both 32-bit sizes say nothing, and `ds64` gives them
 abbrev pub SmallestWideExample : Type 0
 SmallestWideExample =
     header_of_len 4294966613

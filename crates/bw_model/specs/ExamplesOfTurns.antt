@@ -21,7 +21,7 @@ says_open = says 0 (Open mono [])
 abbrev pub says_block : Frame
 says_block = says 1 (Block two_frames)
 
--- .. with other samples
+-- BLOCK of other samples, number 1
 abbrev pub says_other : Frame
 says_other = says 1 (Block other_frames)
 
@@ -42,7 +42,7 @@ FailedBlockExample = Turns
     ∷ (Noticed a1 1 Conflict 2 ∷ []) ∷ [])
     (Some small_file)
 
--- other bytes are a conflict where the first still waits, and their turn stores the first
+-- other bytes are a conflict if the first still wait, and their turn stores the first
 abbrev pub OtherBehindFailureExample : Type 0
 OtherBehindFailureExample = Turns
     ((says_open, good) ∷ (says_block, fails_after 0) ∷ (says_other, good) ∷ [])
@@ -51,7 +51,7 @@ OtherBehindFailureExample = Turns
     ∷ [])
     (Some small_file)
 
--- of three tries the third is stored, and the frames stand once
+-- of three tries the third is stored, and the frames are there once
 abbrev pub FailedTwiceExample : Type 0
 FailedTwiceExample = Turns
     ((says_open, good) ∷ (says_block, fails_after 0) ∷ (says_block, fails_after 0)
@@ -61,7 +61,7 @@ FailedTwiceExample = Turns
     ∷ (stored 1 ∷ []) ∷ (Noticed a1 1 Conflict 2 ∷ []) ∷ [])
     (Some small_file)
 
--- a drain that stops after OPEN tells its verdict alone, and the next turn goes on
+-- a drain that stops after OPEN gives only its verdict, and the next turn continues
 abbrev pub StoppedDrainExample : Type 0
 StoppedDrainExample = Turns
     ((says_close, good) ∷ (says_block, good) ∷ (says_open, fails_after 1) ∷ (says_block, good) ∷ [])
@@ -69,17 +69,17 @@ StoppedDrainExample = Turns
     ∷ (stored 1 ∷ stored 2 ∷ []) ∷ [])
     (Some small_file)
 
--- BLOCKs of so many numbers from n on, where nothing fails
+-- BLOCKs of this many numbers from n on, if nothing fails
 abbrev pub waiting : ℕ → ℕ → List (Frame × Faults)
 waiting n zero = []
 waiting n (suc count) = (says n (Block two_frames), good) ∷ waiting (suc n) count
 
--- Held for each of so many numbers
+-- Held for each of this many numbers
 abbrev pub held_each : ℕ → ℕ → List (List Reply)
 held_each n zero = []
 held_each n (suc count) = (Noticed a1 n Held 0 ∷ []) ∷ held_each (suc n) count
 
--- Stored for each of so many numbers
+-- Stored for each of this many numbers
 abbrev pub stored_each : ℕ → ℕ → List Reply
 stored_each n zero = []
 stored_each n (suc count) = stored n ∷ stored_each (suc n) count
@@ -93,7 +93,7 @@ SeventeenRepliesExample =
     ≡ held_each 1 15 ++ (Noticed a1 0 DelayedStore 0 ∷ [])
     ∷ (stored_each 0 16 ++ Noticed a1 16 TooFar 16 ∷ []) ∷ []
 
--- a whole take sent twice, where the store fails once, at one of its numbers
+-- a whole take sent twice, while the store fails once, at one of its numbers
 abbrev pub whole : Faults → Faults → Faults → Faults → List (Frame × Faults)
 whole w x y z =
     (says_open, w) ∷ (says_block, x) ∷ (says 2 (SetField 1 (codes "Rain")), y)
@@ -127,14 +127,14 @@ FailedAnywhereExample =
 
 -- Names.
 
--- a table of so many names, each with a BLOCK that waits
+-- a table of this many names, each with a BLOCK that waits
 abbrev pub names_from : ℕ → ℕ → Book
 names_from first zero = []
 names_from first (suc count) =
     (first ∷ [], record { admitted = None ∷ Some (Block two_frames) ∷ []; done = 0 })
     ∷ names_from (suc first) count
 
--- what 256 known names leave a further one
+-- the turn of a further name when 256 names are known
 abbrev pub full_turn : Frame → List Reply × Book
 full_turn f = turn nothing_stands (names_from 0 256) f good
 
@@ -146,7 +146,7 @@ further n = Says (record { name = codes "b2"; number = n; request = Block two_fr
 abbrev pub FullTableExample : Type 0
 FullTableExample = full_turn (further 1) ≡ (Noticed (codes "b2") 1 TableFull 0 ∷ [], names_from 0 256)
 
--- a number past the window is reported so first
+-- a number past the window is reported first
 abbrev pub FullTableTooFarExample : Type 0
 FullTableTooFarExample = full_turn (further 16)
     ≡ (Noticed (codes "b2") 16 TooFar 0 ∷ [], names_from 0 256)
@@ -162,7 +162,7 @@ NoRoomExample =
     turn nothing_stands [] says_open (record { refused = true; stop = None })
     ≡ (Noticed a1 0 NoRoom 0 ∷ [], [])
 
--- a store in which `a1` stood at the start
+-- a store in which `a1` was at the start
 abbrev pub stands : List ℕ → Option (List ℕ)
 stands name = if bytes_eq name a1 then Some (codes "kept") else None
 

@@ -92,7 +92,7 @@ rehearsal =
     Offer (Open mono []) ∷ Offer (Block two_frames) ∷ Offer (Close 2) ∷ Send 2 ∷ Deliver 0 ∷ Send 0
     ∷ Deliver 1 ∷ Bring 0 ∷ Bring 1 ∷ Send 0 ∷ Deliver 2 ∷ Deliver 2 ∷ Bring 3 ∷ []
 
--- the world after these events, where nothing fails
+-- the world after these events, if nothing fails
 abbrev pub rehearsed : List Event → World
 rehearsed events = world_after nothing_stands (new_world a1) (map (λ e. (e, good)) events)
 
@@ -106,8 +106,8 @@ counts w =
 abbrev pub whole : List Event
 whole = rehearsal ++ Bring 4 ∷ []
 
--- before the verdict of number 1 comes, one number is settled; then all are, and the file is that
--- of two frames
+-- before the verdict of number 1 comes, one number is settled; then all are, and the file has two
+-- frames
 abbrev pub RehearsalExample : Type 0
 RehearsalExample =
     (counts (rehearsed rehearsal) ≡ 3 ∷ 3 ∷ 5 ∷ 3 ∷ 1 ∷ 1 ∷ [])

@@ -9,7 +9,7 @@ window = 16
 abbrev pub most_takes : ℕ
 most_takes = 256
 
--- how many markers a take has at most, and so how many cue points its file
+-- how many markers a take has at most, and its file cue points
 abbrev pub most_markers : ℕ
 most_markers = 1024
 
@@ -33,7 +33,7 @@ longest_value = 256
 abbrev pub longest_body : ℕ
 longest_body = 32806
 
--- the largest form, chunk or data that a number tells, in bytes
+-- the largest form, chunk or data, in bytes
 abbrev pub largest : ℕ
 largest = 2 ^ 62
 
@@ -41,7 +41,7 @@ largest = 2 ^ 62
 abbrev pub most_chunks : ℕ
 most_chunks = 4096
 
--- how many sizes the table of `ds64` tells at most
+-- how many sizes the table of `ds64` has at most
 abbrev pub most_entries : ℕ
 most_entries = 4096
 

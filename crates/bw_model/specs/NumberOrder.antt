@@ -12,7 +12,7 @@ use Rattle.bw_model.specs.Book.{log_of}
 use Rattle.bw_model.specs.Turn.{Faults, Turn, run, book_after}
 use Rattle.bw_model.specs.CountedTurn.{is_pending}
 
--- the numbers that came under a name, with one frame more
+-- the numbers that came under a name, with one more frame
 abbrev pub with_frame : List ℕ → List (Option Request) → Frame → List (Option Request)
 with_frame name received (Says m) = if bytes_eq m.name name then put received m.number m.request else received
 with_frame name received (Asks x n) = received
@@ -28,24 +28,24 @@ IsNextOrReceived before (Says m) = m.number ≤ first_free (received_under m.nam
 IsNextOrReceived before (Asks name n) = Unit {0}
 IsNextOrReceived before Bye = Unit {0}
 
--- each frame is so, after all that came before it
+-- this holds of each frame, after all that came before it
 abbrev pub AreInOrder : List Frame → List Frame → Type 0
 AreInOrder before [] = Unit {0}
 AreInOrder before (f ∷ frames) = IsNextOrReceived before f × AreInOrder (before ++ f ∷ []) frames
 
--- the notice says that memory was wanting, or the store
+-- the notice reports a failure: lack of memory, or of the store
 abbrev pub is_out_of_memory : Notice → Bool
 is_out_of_memory NoRoom = true
 is_out_of_memory DelayedStore = true
 is_out_of_memory _ = false
 
--- the reply is such a notice
+-- the reply is one of these notices
 abbrev pub reports_failure : Reply → Bool
 reports_failure (Judged name n v) = false
 reports_failure (Noticed name n code next) = is_out_of_memory code
 reports_failure (Refused reason place) = false
 
--- the turn was answered so
+-- the turn was answered with one of these notices
 abbrev pub lacks : Turn → Bool
 lacks t = list_any reports_failure t.replies
 

@@ -15,14 +15,14 @@ pub record IsFirstRow (table : List (List ℕ × ℕ)) (id : List ℕ) (size : �
   pub whole : table ≡ before ++ (id, size) ∷ following
   pub first : list_any (λ row. is_id row.0 id) before ≡ false
 
--- the size that `ds64` tells: of `data` by a field of its own, of any other chunk by the table
+-- the size that `ds64` gives: for `data` in a field of its own, for any other chunk in the table
 abbrev pub IsSizeGiven : Option Sizes → List ℕ → ℕ → Type 0
 IsSizeGiven None id size = ⊥
 IsSizeGiven (Some sizes) id size =
     ((id ≡ codes "data") × (size ≡ sizes.«data»))
     ⊎ ((id ≢ codes "data") × IsFirstRow sizes.table id size)
 
--- a chunk's size is that of its head; where that says nothing, `ds64` tells it
+-- a chunk's size is that of its head; if the head gives none, `ds64` gives it
 abbrev pub IsSized : List ℕ → Form → Entry → Type 0
 IsSized b form e =
     ((u32_at b (e.place + 4) ≢ unsaid) × (e.size ≡ u32_at b (e.place + 4)))
@@ -34,7 +34,7 @@ pub record HasRoomForCues (b : List ℕ) (e : Entry) : Type 0 where
   pub few : u32_at b (e.place + 8) ≤ most_cues
   pub points : 4 + 24 * u32_at b (e.place + 8) ≤ e.size
 
--- a chunk stands at its place
+-- a chunk is at its place
 pub record IsChunkAt (b : List ℕ) (form : Form) (e : Entry) : Type 0 where
   -- its head spells its id
   pub spelled : id_at b e.place ≡ e.id
@@ -57,19 +57,19 @@ StandFrom b form p (e ∷ es) =
 abbrev pub count_of : List ℕ → List Entry → ℕ
 count_of id entries = count_by (λ e. is_id e.id id) entries
 
--- `fmt `, `bext`, `data` and `cue ` stand at most once
+-- `fmt `, `bext`, `data` and `cue ` are there at most once
 abbrev pub AreSingle : List Entry → Type 0
 AreSingle entries = (id : List ℕ) → IsTrue (list_any (is_id id) single_ids) →
     count_of id entries ≤ 1
 
--- the chunks stand one after another from the outer header on
+-- the chunks follow each other from the outer header on
 pub record StandsFirst (b : List ℕ) (form : Form) (entries : List Entry) : Type 0 where
   pub header : outer b ≡ Ok form
   pub chunks : StandFrom b form 12 entries
   pub single : AreSingle entries
   pub few : length entries ≤ most_chunks
 
--- a prefix is what stands first
+-- a prefix is what comes first
 abbrev pub PrefixesStandFirst : Type 0
 PrefixesStandFirst = (b : List ℕ) (form : Form) (entries : List Entry) →
     IsPrefix b form entries ↔ StandsFirst b form entries
@@ -80,7 +80,7 @@ pub record EndsForm (form : Form) (entries : List Entry) : Type 0 where
   pub fmt : count_of (codes "fmt ") entries ≡ 1
   pub samples : count_of (codes "data") entries ≡ 1
 
--- a reading is what stands first and ends the form
+-- a reading is what comes first and ends the form
 abbrev pub ReadingsEndForms : Type 0
 ReadingsEndForms = (b : List ℕ) (form : Form) (entries : List Entry) →
     IsReading b form entries ↔ (StandsFirst b form entries × EndsForm form entries)

@@ -1,4 +1,4 @@
--- What a take's file reads as: the chunks of its layout, and a report that tells the take.
+-- What a take's file reads as: the chunks of its layout, and a report that gives the take.
 use Rattle.std.specs.Prelude.{◌≡◌, ◌≤◌, ℕ, ◌+◌, ◌*◌, ◌^◌, Bool, true, Option, Some, None, IsTrue}
 use Rattle.std.specs.Prelude.{◌&&◌, List, [], ◌∷◌, length, take, drop, map, slice_index_or, codes}
 use Rattle.std.specs.Prelude.{nat_lt, nat_le, if◌then◌else◌}
@@ -42,7 +42,7 @@ read_form f t limit =
       sizes = Some (record { form = form_len f t; «data» = length t.samples; table = [] });
     }
 
--- the `cue ` chunk, where there are markers
+-- the `cue ` chunk, if there are markers
 abbrev pub read_cues : ℕ → List (ℕ × ℕ) → List Entry
 read_cues place [] = []
 read_cues place (m ∷ ms) =
@@ -95,7 +95,7 @@ reported_bext fields = record {
 abbrev pub reported_cue : (ℕ × ℕ) → RawCue
 reported_cue m = record { id = m.0; position = m.1; offset = m.1 }
 
--- the report that tells the take
+-- the report that gives the take
 abbrev pub reported_report : Format → Take → ℕ → Report
 reported_report f t limit = record {
   form = (read_form f t limit).id;
@@ -108,13 +108,13 @@ reported_report f t limit = record {
   cues = map reported_cue (cues t.closed t.markers);
 }
 
--- the file reads as its chunks, and the report tells the take
+-- the file reads as its chunks, and the report gives the take
 pub record ReadsBack (f : Format) (t : Take) (limit : ℕ) : Type 0 where
   pub reading : IsReading (file_with f t limit) (read_form f t limit) (read_chunks f t limit)
   pub report : report_of (file_with f t limit) (read_form f t limit) (read_chunks f t limit)
       ≡ reported_report f t limit
 
--- so does each file of a take within the limits, whatever size is the last that is RIFF
+-- each file of a take within the limits reads back, whatever the limit of RIFF is
 abbrev pub FilesReadBack : Type 0
 FilesReadBack = (f : Format) (t : Take) (limit : ℕ) → IsWithinLimits f t → limit ≤ 4294967294 →
     ReadsBack f t limit
@@ -126,7 +126,7 @@ abbrev pub is_admitted : Option Request → Bool
 is_admitted None = true
 is_admitted (Some r) = is_request r
 
--- of each take that such requests make, and whose form is at most 2^62 bytes, the file reads back
+-- the file of each take that such requests make, with a form of at most 2^62 bytes, reads back
 abbrev pub MadeFilesReadBack : Type 0
 MadeFilesReadBack = (taken : Bool) (admitted : List (Option Request)) (n : ℕ) (f : Format)
     (limit : ℕ) →

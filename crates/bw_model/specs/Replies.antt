@@ -10,7 +10,7 @@ use Rattle.bw_model.specs.Wire.{Second, last_number, is_name, is_below, are_byte
 use Rattle.bw_model.specs.Wire.{Reason, Length, Kind, Name, Number, Payload, Cut, reason_code}
 use Rattle.bw_model.specs.Wire.{is_name_bad, is_number_bad, name_in, number_in, payload_in}
 
--- what a server says of a message beside a verdict
+-- what a server says about a message besides a verdict
 pub data Notice : Type 0 where
   Held : Notice
   TooFar : Notice
@@ -140,7 +140,7 @@ decoded_reply (kind ∷ rest) =
     else if kind == 0x83 then ok_or (refused_by rest) Payload
     else Err Kind
 
--- a decoder answers a reply exactly where the bytes spell it
+-- a decoder returns a reply exactly if the bytes spell it
 abbrev pub DecodesReplySpellings : Type 0
 DecodesReplySpellings = (bytes : List ℕ) (r : Reply) → IsTrue (are_bytes bytes) →
     (decoded_reply bytes ≡ Ok r) ↔ SpellsReply bytes r

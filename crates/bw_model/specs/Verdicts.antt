@@ -25,7 +25,7 @@ VerdictsStay = (existed : List ℕ → Bool) (book : Book) (ts : List (Frame × 
     × (verdict_at (existed name) later.admitted n
     ≡ verdict_at (existed name) (log_of book name).admitted n)
 
--- Each verdict that a turn tells is that of a number that is done after it.
+-- Each verdict that a turn gives is that of a number that is done after it.
 abbrev pub VerdictsAreTrue : Type 0
 VerdictsAreTrue = (existed : List ℕ → Bool) (book : Book) (f : Frame) (faults : Faults) → IsBook book →
     (name : List ℕ) (n : ℕ) (v : Verdict) →
@@ -33,8 +33,8 @@ VerdictsAreTrue = (existed : List ℕ → Bool) (book : Book) (f : Frame) (fault
     let later = log_of (turn existed book f faults).1 name in
     (n < later.done) × (v ≡ verdict_at (existed name) later.admitted n)
 
--- Whatever turns follow, a message with the body of a done number is reported the verdict that the
--- number had, whatever memory and store do then.
+-- Whatever turns follow, a message with the body of a done number gets the verdict that the
+-- number had, whatever fails then.
 abbrev pub RepeatsAreReported : Type 0
 RepeatsAreReported = (existed : List ℕ → Bool) (book : Book) (ts : List (Frame × Faults)) (m : Message)
     (faults : Faults) → IsBook book →

@@ -3,10 +3,10 @@ use std::alloc::Global;
 use std::fs::{self, File, Files};
 use std::io::{self, ErrorKind};
 
-/// The file by which a folder is tried: no take's name has a dot.
+/// The file by which a folder is tested; no take's name has a dot.
 const PROBE: &str = ".bwingest";
 
-/// Whether a folder stands at a path.
+/// Whether there is a folder at a path.
 ///
 /// # Not specified
 /// Anything: it has no contract.
@@ -17,15 +17,15 @@ pub fn has_folder<R: Files>(rt: &R, folder: &str) -> bool {
     }
 }
 
-/// Tries a folder: a file is made in it, and removed. Where something stands under that file's
-/// name, a link too, it is left alone, and the folder untried.
+/// Tests a folder: a file is made in it, and removed. If something has that file's name already,
+/// even a link, it is left alone, and the folder isn't tested.
 ///
 /// # Errors
-/// Why no file can be made: the folder is missing, none, or closed to this process.
+/// Why no file can be made: the folder is missing, isn't a folder, or is closed to this process.
 ///
 /// # Not specified
-/// Anything: it has no contract. Neither when the folder counts as usable, nor that the file is
-/// gone afterwards, also after an error.
+/// Anything: it has no contract, neither on when the folder is usable, nor that the file is gone
+/// afterwards, even after an error.
 pub fn check_folder<R: Files>(rt: &R, alloc: Global, folder: &str) -> io::Result<()> {
     let path = format!(in alloc; "{folder}/{PROBE}")?;
     match File::create_new(rt, path.as_str()) {

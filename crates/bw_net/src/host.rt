@@ -7,8 +7,8 @@ use bw_stream::SeekSource;
 use std::fs::{File, Metadata};
 use std::{env, io};
 
-/// The system that the process runs on, by the calls of std. It tells neither words nor files: no
-/// clause of std says what they are.
+/// The system that the process runs on, by the calls of std. It reports neither words nor files,
+/// since no clause of std says what they are.
 #[derive(Drop)]
 pub struct Host<'a> {
     rt: &'a HostRuntime,
@@ -67,7 +67,7 @@ fn open(rt: &HostRuntime, path: &str) -> io::Result<SeekSource<File>> {
     Ok(SeekSource::new(file, len))
 }
 
-/// How long a file is: a pipe and a device have no length, and are read forward.
+/// A file's length in bytes. A pipe and a device have none, and are read forward.
 fn known_len(metadata: &Metadata) -> Option<u64>
     ensures file { IsFile (file_type metadata.now) → result ≡ Some (metadata_len metadata.now) }
     ensures other { ¬ IsFile (file_type metadata.now) → result ≡ None }

@@ -12,8 +12,8 @@ use std::io;
 use std::net::{SocketAddr, TcpListener};
 use std::time::Duration;
 
-/// The network and the folders of the machine that the process runs on, by the calls of std. Of what
-/// is in a folder, and of what comes over a socket, no clause of std says anything.
+/// The network and the folders of the machine that the process runs on, by the calls of std. No
+/// clause of std says what is in a folder or what comes over a socket.
 #[derive(Drop)]
 pub struct TcpNetwork<'a> {
     rt: &'a HostRuntime,
@@ -63,7 +63,7 @@ impl<'a> TcpNetwork<'a> {
     }
 }
 
-/// So many seconds, where there is an end.
+/// The duration of a timeout, if there is one.
 fn span(seconds: Option<u32>) -> Option<Duration>
     ensures { option_map as_nanos result ≡ option_map (λ s. s * 1_000_000_000) seconds }
 {

@@ -1,4 +1,4 @@
-//! Where many recorders come over TCP, and what says which of their sockets can go on.
+//! Accepts many recorders over TCP, and says which of their sockets are ready.
 ghost use Rattle.std.specs.Prelude.{◌≡◌, ◌||◌, ◌+◌, IfOk, ⊤};
 ghost use Rattle.mio.specs.Event.{event_token, is_error, is_readable, is_read_closed};
 ghost use Rattle.mio.specs.Event.{is_writable, is_write_closed};
@@ -17,7 +17,7 @@ use std::time::{Duration, Instant};
 /// The token of the listener; those of the links are their places.
 const LISTENER: Token = Token(usize::MAX);
 
-/// Those who come to an address, while the server's folder stands.
+/// Accepts those who connect to an address, as long as the server's folder exists.
 #[derive(Drop)]
 pub struct TcpReactor<'a> {
     rt: &'a HostRuntime,
@@ -26,30 +26,32 @@ pub struct TcpReactor<'a> {
     folder: String,
     listener: TcpListener,
     poll: Poll,
-    /// What was ready when it was last waited: there is room for each place, and for the listener.
+    /// What was ready at the last wait, with room for each place and the listener.
     events: Events,
     /// How many of these were looked at.
     seen: usize,
     start: Instant,
-    /// When the time could last be reported, in milliseconds since the start.
+    /// The time when it could last be read, in milliseconds since the start.
     now: u64,
-    /// For how many milliseconds it was to wait at most the last time.
+    /// The longest time of the last wait, in milliseconds.
     patience: u64,
     failures: u64,
     waits: u64,
 }
 
 impl<'a> TcpReactor<'a> {
-    /// Listens at an address for those who come to a server over this folder, at so many places.
+    /// Listens at an address for those who connect to a server over this folder, with `places`
+    /// places.
     ///
     /// # Errors
-    /// Why the system doesn't let it; `OutOfMemory` where memory was refused. The folder's text
-    /// isn't given back.
+    /// Why the system refuses; `OutOfMemory` if memory was refused. The folder's text isn't given
+    /// back.
     ///
     /// # Not specified
     /// - When it fails, and the kind of the error.
     /// - That its runtime is the one that was given.
-    /// - When a wait ends, who is let in, when `Gone`, `Nobody` and `Closed` are returned, and what
+    /// - When a wait ends, who is accepted, when `Gone`, `Nobody` and `Closed` are returned, and
+    ///   what
     ///   time it is.
     pub fn listen(
         rt: &'a HostRuntime,
@@ -141,7 +143,8 @@ impl Reactor for TcpReactor<'_> {
         if is_nobody(&accepted) {
             return Err(TryAcceptFault::Nobody);
         }
-        // One that comes when the folder is gone isn't heard: its requests wait for another server.
+        // A peer that comes when the folder is gone isn't served: its requests wait for another
+        // server.
         if !has_folder(self.rt, self.folder.as_str()) {
             self.failures = self.failures.saturating_add(1);
             return Err(TryAcceptFault::Closed);
@@ -164,7 +167,8 @@ impl Reactor for TcpReactor<'_> {
 }
 
 impl TcpReactor<'_> {
-    /// The link over a stream that is reported of under this place. A batch's last bytes go out at once.
+    /// The link over a stream that is reported under this place. A batch's last bytes are sent at
+    /// once.
     fn link_at(&self, place: usize, mut stream: TcpStream) -> io::Result<Socket> {
         stream.set_nodelay(true)?;
         let both = Interest::READABLE | Interest::WRITABLE;
@@ -175,7 +179,7 @@ impl TcpReactor<'_> {
     }
 }
 
-/// Whether nobody waits to be let in.
+/// Whether nobody waits to be accepted.
 fn is_nobody(accepted: &io::Result<(TcpStream, SocketAddr)>) -> bool {
     let Err(error) = accepted else {
         return false;
@@ -183,7 +187,8 @@ fn is_nobody(accepted: &io::Result<(TcpStream, SocketAddr)>) -> bool {
     matches!(error.kind(), ErrorKind::WouldBlock | ErrorKind::Interrupted)
 }
 
-/// The link that an event tells of: one that has failed or ended can go on both ways, to its end.
+/// The link that an event reports; one that has failed or ended is ready both ways, so that it is
+/// read to its end.
 fn ready_of(event: &Event) -> Ready
     ensures place { result.place ≡ (event_token event.now).0 }
     ensures readable { result.readable ≡ is_readable event.now || (is_error event.now

@@ -1,4 +1,4 @@
-//! A link over a socket, of which no call waits.
+//! A link over a socket, no call of which waits.
 ghost use Rattle.std.specs.Prelude.{⊤};
 
 use bw_ports::{Link, Received, Sent};
@@ -6,14 +6,14 @@ use mio::net::TcpStream;
 use std::io::{ErrorKind, Read, Write};
 use std::net::Shutdown;
 
-/// How often a call is made that signals interrupt. That a socket is ready is reported only once, so it
-/// can't be put off until that is reported again.
+/// How often a call that signals interrupt is made. A socket's readiness is reported only once, so
+/// the call can't wait for another report.
 const MOST_TRIES: u32 = 16;
 
 /// The link over a recorder's stream. No clause says which bytes it gives and takes.
 ///
-/// Proved is only that it reports no more bytes than there is room for, no more than it was given,
-/// and never none as some.
+/// Only this is proved: it reports no more bytes than there is room for, no more than it was given,
+/// and never 0 as a count of bytes.
 #[derive(Drop)]
 pub struct Socket {
     stream: TcpStream,

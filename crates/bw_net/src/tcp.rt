@@ -10,19 +10,19 @@ use std::io::{Read, Write};
 use std::net::{Net, OpenListener, OpenStream, SocketAddr, TcpListener, TcpStream};
 use std::time::Duration;
 
-/// What opens links to a server. It tells nothing of what they give: no clause of std says what
+/// Opens links to a server. It says nothing of what they give, since no clause of std says what
 /// comes over a socket.
 #[derive(Drop)]
 pub struct TcpDial<'a, R> {
     rt: &'a R,
     address: SocketAddr,
-    /// How long a call may wait, where there is an end to it.
+    /// How long a call may wait, if there is a limit.
     timeout: Option<Duration>,
     failures: u64,
 }
 
 impl<'a, R> TcpDial<'a, R> {
-    /// What opens links to this address, and has not failed yet.
+    /// Opens links to this address; it has not failed yet.
     ///
     /// # Not specified
     /// - That its runtime is the one that was given.
@@ -75,7 +75,7 @@ fn connect<R: Net>(
     link_over(stream, timeout)
 }
 
-/// A link over a stream: two handles of one socket. A batch's last bytes go out at once.
+/// A link over a stream: two handles of one socket. A batch's last bytes are sent at once.
 fn link_over<S: Read + Write + OpenStream + Drop>(
     stream: S,
     timeout: Option<Duration>,
@@ -88,7 +88,7 @@ fn link_over<S: Read + Write + OpenStream + Drop>(
     Ok(Duplex { reader, writer })
 }
 
-/// The peers that knock at an address, while the server's folder stands.
+/// Accepts peers at an address, as long as the server's folder exists.
 #[derive(Drop)]
 pub struct TcpPeers<'a, R, L: Drop> {
     rt: &'a R,
@@ -101,10 +101,10 @@ pub struct TcpPeers<'a, R, L: Drop> {
 }
 
 impl<'a, R: Net> TcpPeers<'a, R, R::Listener> {
-    /// Listens at an address for those who come to a server over this folder.
+    /// Listens at an address for those who connect to a server over this folder.
     ///
     /// # Errors
-    /// Why the system doesn't let it. The folder's text isn't given back.
+    /// Why the system refuses. The folder's text isn't given back.
     ///
     /// # Not specified
     /// - When it fails, and the kind of the error.
@@ -152,7 +152,7 @@ impl<R: Net + Files> Peers for TcpPeers<'_, R, R::Listener> {
 }
 
 impl<R: Net + Files> TcpPeers<'_, R, R::Listener> {
-    /// The next peer. One that comes when the folder is gone isn't heard: its requests wait for
+    /// The next peer. A peer that comes when the folder is gone isn't served: its requests wait for
     /// another server.
     fn next_peer(&self) -> Result<Peer<StdIo<R::Stream>, StdIo<R::Stream>>, AcceptFault> {
         let accepted = self.listener.accept();

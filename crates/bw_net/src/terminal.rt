@@ -3,18 +3,18 @@ use bw_ports::{ProgressReport, Watch};
 use bw_stream::StdIo;
 use std::io::{IsTerminal, Stderr};
 
-/// Standard error where it is a terminal, for the progress of a sender. What a terminal shows, no
-/// clause says.
+/// Standard error if it is a terminal, for a sender's progress. No clause says what a terminal
+/// shows.
 #[derive(Drop)]
 pub struct Terminal {
     screen: Option<StdIo<Stderr>>,
 }
 
 impl Terminal {
-    /// The terminal of this runtime's process: none where its standard error leads elsewhere.
+    /// The terminal of this runtime's process, or none if its standard error leads elsewhere.
     ///
     /// # Not specified
-    /// Anything: it has no contract. What a terminal shows is run, on a pseudo terminal.
+    /// Anything: it has no contract. What a terminal shows is tested on a pseudoterminal.
     pub fn new(rt: &HostRuntime) -> Terminal {
         let faults = rt.stderr();
         let screen = if faults.is_terminal() {

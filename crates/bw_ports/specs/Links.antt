@@ -12,7 +12,7 @@ received receives.Ended buffer = []
 received receives.Nothing buffer = []
 received receives.Failed buffer = []
 
--- where bytes came they are some, and no more than there is room for
+-- if bytes came, at least one did, and no more than there is room for
 abbrev pub IsReceived : Received → ℕ → Type 0
 IsReceived (receives.Bytes n) room = (1 ≤ n) × (n ≤ room)
 IsReceived receives.Ended room = Unit {0}
@@ -25,7 +25,7 @@ sent (sends.Bytes n) bytes = take n bytes
 sent sends.Nothing bytes = []
 sent sends.Failed bytes = []
 
--- where bytes were taken they are some, and no more than were offered
+-- if bytes were taken, at least one was, and no more than were offered
 abbrev pub IsSent : Sent → ℕ → Type 0
 IsSent (sends.Bytes n) offered = (1 ≤ n) × (n ≤ offered)
 IsSent sends.Nothing offered = Unit {0}

@@ -10,7 +10,7 @@ use thiserror::Error;
 
 /// No link could be made.
 ///
-/// It has no number, and no clause says what its text is.
+/// It has no number, and no clause describes its text.
 #[derive(Debug, Drop, Error)]
 #[error("the connection can't be made")]
 pub struct DialFault;
@@ -20,13 +20,13 @@ pub struct DialFault;
 pub struct Duplex<R, W> {
     /// What the server says.
     pub reader: R,
-    /// What is said to it. Bytes are passed on as they are written: nothing flushes them.
+    /// What is said to it. Bytes are sent as they are written: nothing flushes them.
     pub writer: W,
 }
 
-/// What makes links, one after another.
+/// Something that makes links, one after another.
 ///
-/// It may tell beforehand what its links give, as one over recorded replies does. A socket tells
+/// It may say beforehand what its links give, as one over recorded replies does. A socket says
 /// nothing.
 pub trait Dial {
     /// Reads what the server says.
@@ -35,20 +35,20 @@ pub trait Dial {
     /// Takes what is said to the server.
     type Writer: Sink + Drop;
 
-    /// What each of the next links gives, in their order, where that is reported.
+    /// What each of the next links gives, in their order, if that is known.
     ghost links: { Self → Option (List (List ℕ)) };
 
     /// How many calls failed; the count stays at 2^64 - 1.
     ghost failures: { Self → ℕ };
 
-    /// What a call may come to, and what it leaves. Rounds are reported in these words, so that each
-    /// exchange goes over the link that was made for it.
+    /// What a call may return, and the state after it. Rounds are stated by this relation, so that
+    /// each exchange goes over the link that was made for it.
     ghost dials: { Self → Result (Duplex Self.Reader Self.Writer) DialFault → Self → Type 0 };
 
     /// Makes the next link.
     ///
     /// # Errors
-    /// `DialFault` where none could be made: it is still the next one.
+    /// `DialFault` if none could be made: that link is still the next one.
     ///
     /// # Not specified
     /// When no link can be made, and why.

@@ -1,5 +1,5 @@
-//! What the program asks of the outside: links, peers, folders, a clock, files and words. Sockets,
-//! folders and terminals stand above, and tests in memory.
+//! What the program asks of the outside: links, peers, folders, a clock, files and words. Crates
+//! above implement them over sockets, folders and terminals, and tests in memory.
 #![tactic(auto)]
 
 mod dial;

@@ -1,25 +1,25 @@
-//! A link to a recorder, of which no call ever waits.
+//! A link to a recorder, no call of which ever waits.
 ghost use Rattle.std.specs.Prelude.{◌≡◌, ◌++◌, List, ℕ, length};
 ghost use Rattle.std.specs.declared.net.socket_addr.SocketAddr.{SocketAddr};
 ghost use Rattle.bw_ports.specs.Links.{received, sent, IsReceived, IsSent};
 
-/// What came of a call for bytes.
+/// The result of a call for bytes.
 #[derive(Clone, Copy, Debug, PartialEq, Eq)]
 pub enum Received {
-    /// So many bytes came, at least one.
+    /// This many bytes came, at least one.
     Bytes(usize),
     /// No more will come.
     Ended,
-    /// None is there now.
+    /// None are there now.
     Nothing,
     /// The link is broken.
     Failed,
 }
 
-/// What came of a call that offers bytes.
+/// The result of a call that offers bytes.
 #[derive(Clone, Copy, Debug, PartialEq, Eq)]
 pub enum Sent {
-    /// So many bytes at the start were taken, at least one.
+    /// This many bytes, the first ones, were taken, at least one.
     Bytes(usize),
     /// There is room for none now.
     Nothing,
@@ -29,8 +29,8 @@ pub enum Sent {
 
 /// Gives bytes and takes bytes, and never waits.
 ///
-/// What it has given and taken so far is reported by relations, so that one over memory can tell all of
-/// it, and a socket nothing.
+/// What it has given and taken so far is stated by relations, so that a link in memory can say all
+/// of it, and a socket nothing.
 pub trait Link {
     /// These bytes may be all that it has given so far.
     ghost given: { Self → List ℕ → Type 0 };
@@ -50,16 +50,16 @@ pub trait Link {
     /// There may be no room now.
     ghost full: { Self → Type 0 };
 
-    /// The peer may have been told that no more bytes will be sent.
+    /// The peer may have been informed that no more bytes will be sent.
     ghost finished: { Self → Type 0 };
 
-    /// It may be a link to the one who calls from this address.
+    /// It may be a link to the peer at this address.
     ghost calls_from: { Self → SocketAddr → Type 0 };
 
     /// Puts the next bytes at the start of the buffer.
     ///
     /// # Not specified
-    /// When which answer comes.
+    /// Which result is returned when.
     fn receive(&mut self, buffer: &mut [u8]) -> Received
         ensures within { IsReceived result (length buffer.old) }
         ensures given { (xs : List ℕ) → given self.old xs →
@@ -73,10 +73,10 @@ pub trait Link {
         ensures finished { finished self.old → finished self.new }
         ensures peer { (p : SocketAddr) → calls_from self.old p → calls_from self.new p };
 
-    /// Takes bytes at the start of these, which are some.
+    /// Takes some of these bytes, from their start; there is at least one.
     ///
     /// # Not specified
-    /// When which answer comes.
+    /// Which result is returned when.
     fn send(&mut self, bytes: &[u8]) -> Sent
         ensures within { IsSent result (length bytes.now) }
         ensures given { (xs : List ℕ) → given self.old xs → given self.new xs }
@@ -92,7 +92,7 @@ pub trait Link {
     /// Tells the peer that no more bytes will be sent.
     ///
     /// # Not specified
-    /// That the peer hears of it.
+    /// That the peer learns of it.
     fn shut(&mut self)
         ensures given { (xs : List ℕ) → given self.old xs → given self.new xs }
         ensures taken { (ys : List ℕ) → taken self.old ys → taken self.new ys }

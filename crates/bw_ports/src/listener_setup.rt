@@ -1,4 +1,4 @@
-//! What a server of many asks of the system beside its folder's store: a reactor.
+//! What a server of many recorders asks of the system besides its folder's store: a reactor.
 ghost use Rattle.std.specs.Prelude.{◌≡◌, ℕ, List, Result};
 ghost use Rattle.std.specs.declared.io.Error.{Error as IoError};
 ghost use Rattle.std.specs.declared.net.socket_addr.SocketAddr.{SocketAddr};
@@ -8,26 +8,27 @@ use crate::reactor::Reactor;
 use std::io;
 use std::net::SocketAddr;
 
-/// Where a server of many stands, and how often that failed.
+/// Opens the reactor of a server of many recorders, and counts failures.
 pub trait ListenerSetup {
-    /// Lets in those who come to an address, many at once.
+    /// Accepts peers at an address, many at once.
     type Reactor: Reactor + Drop;
 
     /// How many calls failed; the count stays at 2^64 - 1.
     ghost failures: { Self → ℕ };
 
-    /// What a call of `reactor` for this address, folder and number of places may come to, and what
-    /// it leaves.
+    /// What a call of `reactor` for this address, folder and number of places may return, and the
+    /// state after it.
     ghost opens: { Self → SocketAddr → List ℕ → ℕ → Result Self.Reactor IoError → Self → Type 0 };
 
-    /// Those who come to this address from now on, to a server over the folder, at so many places.
+    /// A reactor for those who connect to this address from now on, to a server over the folder, at
+    /// this many places.
     ///
     /// # Errors
-    /// Why nobody can come.
+    /// Why nobody can connect.
     ///
     /// # Not specified
     /// - When it fails, and the kind of the error.
-    /// - What the gathering is afterwards, but for its count of failures.
+    /// - The state of `self` afterwards, except for its count of failures.
     fn reactor(
         &mut self,
         address: SocketAddr,

@@ -10,12 +10,12 @@ use bw_store::TakeStore;
 use std::io;
 use std::net::SocketAddr;
 
-/// Where a server stands and a recorder calls, and how often that failed.
+/// Where a server listens and a recorder connects; counts failures.
 pub trait Network {
     /// Keeps the files of a folder.
     type Store: TakeStore;
 
-    /// Lets in those who come to an address.
+    /// Accepts peers at an address.
     type Peers: Peers + Drop;
 
     /// Makes links to a server.
@@ -24,10 +24,11 @@ pub trait Network {
     /// How many calls failed; the count stays at 2^64 - 1.
     ghost failures: { Self → ℕ };
 
-    /// What a call of `store` for this folder may come to, and what it leaves.
+    /// What a call of `store` for this folder may return, and the state after it.
     ghost stores: { Self → List ℕ → Result Self.Store IoError → Self → Type 0 };
 
-    /// What a call of `listen` for this address, folder and timeout may come to, and what it leaves.
+    /// What a call of `listen` for this address, folder and timeout may return, and the state after
+    /// it.
     ghost listens: { Self → SocketAddr → List ℕ → Option ℕ → Result Self.Peers IoError → Self
         → Type 0 };
 
@@ -41,20 +42,20 @@ pub trait Network {
     ///
     /// # Not specified
     /// - When it fails, and the kind of the error.
-    /// - What the network is afterwards, but for its count of failures.
+    /// - The state of the network afterwards, except for its count of failures.
     fn store(&mut self, folder: &str) -> io::Result<Self::Store>
         ensures received { stores self.old folder.now result self.new }
         ensures count { failures self.new ≡ failures_after result (failures self.old) };
 
-    /// Those who come to this address from now on, to a server over the folder, which waits for each
-    /// of their bytes no longer than so many seconds.
+    /// The peers that connect to this address from now on, to a server over the folder. It waits
+    /// for each of their bytes no longer than `timeout` seconds, if given.
     ///
     /// # Errors
-    /// Why nobody can come.
+    /// Why nobody can connect.
     ///
     /// # Not specified
     /// - When it fails, and the kind of the error.
-    /// - What the network is afterwards, but for its count of failures.
+    /// - The state of the network afterwards, except for its count of failures.
     fn listen(
         &mut self,
         address: SocketAddr,
@@ -64,7 +65,8 @@ pub trait Network {
         ensures received { listens self.old address folder.now timeout result self.new }
         ensures count { failures self.new ≡ failures_after result (failures self.old) };
 
-    /// What makes links to the server at this address, and waits no longer than so many seconds.
+    /// Makes links to the server at this address, and waits no longer than `timeout` seconds, if
+    /// given.
     ///
     /// # Not specified
     /// Anything beyond what each network says of itself.

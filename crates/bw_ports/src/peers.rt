@@ -11,27 +11,27 @@ use thiserror::Error;
 
 /// No link was made.
 ///
-/// It has no number, and no clause says what its text is.
+/// It has no number, and no clause describes its text.
 #[derive(Clone, Copy, Debug, PartialEq, Eq, Error)]
 pub enum AcceptFault {
-    /// A peer went away before it was let in; others may come.
+    /// A peer went away before it was accepted; others may come.
     #[error("a connection can't be accepted")]
     Gone,
-    /// No more peers are let in: what the server keeps can't be reached any longer.
+    /// No more peers are accepted: the server's files can't be reached any longer.
     #[error("the server can't go on")]
     Closed,
 }
 
-/// One who was let in.
+/// A peer that was accepted.
 #[derive(Drop)]
 pub struct Peer<R, W> {
-    /// Where it calls from.
+    /// Its address.
     pub address: SocketAddr,
     /// What it says, and what is said to it.
     pub link: Duplex<R, W>,
 }
 
-/// What lets peers in, and how often it failed.
+/// Accepts peers, and counts its failures.
 pub trait Peers {
     /// Reads what a peer says.
     type Reader: Source + Drop;
@@ -42,8 +42,8 @@ pub trait Peers {
     /// How many calls failed; the count stays at 2^64 - 1.
     ghost failures: { Self → ℕ };
 
-    /// What a call may come to, and what it leaves. A run of exchanges is reported in these words, so
-    /// that each goes over the link of the peer that was let in for it.
+    /// What a call may return, and the state after it. A run of exchanges is stated by this
+    /// relation, so that each goes over the link of the peer that was accepted for it.
     ghost accepts: { Self → Result (Peer Self.Reader Self.Writer) AcceptFault → Self → Type 0 };
 
     /// Waits for the next peer, and makes a link to it.
@@ -53,7 +53,7 @@ pub trait Peers {
     ///
     /// # Not specified
     /// - When `Gone` and when `Closed` is returned.
-    /// - What the peers are afterwards, but for their count of failures.
+    /// - The state of the peers afterwards, except for their count of failures.
     fn accept(&mut self) -> Result<Peer<Self::Reader, Self::Writer>, AcceptFault>
         ensures received { accepts self.old result self.new }
         ensures count { failures self.new ≡ failures_after result (failures self.old) };

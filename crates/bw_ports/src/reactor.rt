@@ -1,4 +1,4 @@
-//! Where many peers come, and what says which of their links can go on.
+//! Accepts many peers, and says which of their links are ready.
 ghost use Rattle.std.specs.Prelude.{◌≡◌, ◌++◌, ◌+◌, ℕ, List, IfOk, OnOk, None, Err, []};
 ghost use Rattle.bw_stream.specs.Moves.{failures_after, one_more};
 ghost use Rattle.bw_ports.specs.Reactors.{closes_after, those};
@@ -9,10 +9,10 @@ use crate::link::Link;
 use std::net::SocketAddr;
 use thiserror::Error;
 
-/// A link that can go on.
+/// A link that is ready.
 #[derive(Clone, Copy, Debug, PartialEq, Eq)]
 pub struct Ready {
-    /// The place under which it was let in.
+    /// The place under which it was accepted.
     pub place: usize,
     /// There may be bytes to read, or the peer has gone.
     pub readable: bool,
@@ -20,79 +20,80 @@ pub struct Ready {
     pub writable: bool,
 }
 
-/// One who was let in.
+/// A peer that was accepted.
 #[derive(Drop)]
 pub struct Accepted<L> {
-    /// Where it calls from.
+    /// Its address.
     pub address: SocketAddr,
     /// What it says, and what is said to it.
     pub link: L,
 }
 
-/// Nothing can be waited for any longer.
+/// Waiting is no longer possible.
 ///
-/// It has no number, and no clause says what its text is.
+/// It has no number, and no clause describes its text.
 #[derive(Clone, Copy, Debug, PartialEq, Eq, Drop, Error)]
 #[error("the server can't wait")]
 pub struct WaitFault;
 
-/// Why no peer was let in.
+/// Why no peer was accepted.
 ///
-/// It has no number, and no clause says what its text is.
+/// It has no number, and no clause describes its text.
 #[derive(Clone, Copy, Debug, PartialEq, Eq, Error)]
 pub enum TryAcceptFault {
     /// Nobody waits.
     #[error("nobody waits")]
     Nobody,
-    /// A peer went away, or couldn't be let in, for lack of files say; others may come.
+    /// A peer went away, or couldn't be accepted, for lack of file descriptors say; others may
+    /// come.
     #[error("a connection can't be accepted")]
     Gone,
-    /// No more peers are let in: what the server keeps can't be reached any longer.
+    /// No more peers are accepted: the server's files can't be reached any longer.
     #[error("the server can't go on")]
     Closed,
 }
 
-/// Where many peers come. No clause says who comes, nor when a link can go on.
+/// Accepts many peers. No clause says who comes, nor when a link is ready.
 pub trait Reactor {
     /// A link to a peer.
     type Link: Link + Drop;
 
-    /// How often it could go no further: nothing could be waited for, or no more peers were let in.
-    /// The count stays at 2^64 - 1.
+    /// How often it failed: waiting was impossible, or no more peers were accepted. The count stays
+    /// at 2^64 - 1.
     ghost failures: { Self → ℕ };
 
-    /// How often it was waited; the count stays at 2^64 - 1.
+    /// How many waits there were; the count stays at 2^64 - 1.
     ghost waits: { Self → ℕ };
 
     /// The time that was reported last, in milliseconds.
     ghost time: { Self → ℕ };
 
-    /// For how many milliseconds it was to wait at most the last time.
+    /// The longest time of the last wait, in milliseconds.
     ghost patience: { Self → ℕ };
 
-    /// These may be all links that it told of since it was last waited.
+    /// These may be all links that it has reported since the last wait.
     ghost reported: { Self → List Ready → Type 0 };
 
-    /// It may have told of each link that could go on when it was last waited.
+    /// It may have reported each link that was ready at the last wait.
     ghost all_reported: { Self → Type 0 };
 
-    /// It may have been asked so often to let someone in since it was last waited.
+    /// `accept` may have been called this often since the last wait.
     ghost tried: { Self → ℕ → Type 0 };
 
-    /// Nobody may wait to be let in.
+    /// There may be nobody who waits to be accepted.
     ghost nobody: { Self → Type 0 };
 
     /// These may be all links that it gave so far, in order, each after the place that it was given
     /// for.
     ghost admitted: { Self → List (Admission Self.Link) → Type 0 };
 
-    /// Waits until a peer comes or a link can go on, no longer than so many milliseconds.
+    /// Waits until a peer comes or a link is ready, at most `most` milliseconds.
     ///
     /// # Errors
-    /// `WaitFault` where that isn't possible any longer.
+    /// `WaitFault` if that isn't possible any longer.
     ///
     /// # Not specified
-    /// When a wait ends or fails, whether someone came, and whether a link can go on.
+    /// When a wait ends or fails, whether someone came, and whether a link is ready.
     fn wait(&mut self, most: u64) -> Result<(), WaitFault>
         ensures count { failures self.new ≡ failures_after result (failures self.old) }
         ensures waits { OnOk result (waits self.new ≡ one_more (waits self.old)) }
@@ -102,10 +103,10 @@ pub trait Reactor {
         ensures admitted { (xs : List (Admission Self.Link)) → admitted self.old xs →
             admitted self.new xs };
 
-    /// The next of the links that could go on when it was last waited, if there is one.
+    /// The next of the links that were ready at the last wait, if there is one.
     ///
     /// # Not specified
-    /// Which link can go on.
+    /// Which link is ready.
     fn next_ready(&mut self) -> Option<Ready>
         ensures failures { failures self.new ≡ failures self.old }
         ensures waits { waits self.new ≡ waits self.old }
@@ -116,7 +117,7 @@ pub trait Reactor {
         ensures admitted { (xs : List (Admission Self.Link)) → admitted self.old xs →
             admitted self.new xs };
 
-    /// Lets in the next peer, under a place by which its link is named from now on.
+    /// Accepts the next peer, under a place by which its link is named from now on.
     ///
     /// # Errors
     /// Why there is none.
@@ -140,7 +141,7 @@ pub trait Reactor {
         ensures admitted { (xs : List (Admission Self.Link)) → admitted self.old xs →
             admitted self.new (xs ++ admitted_by place result) };
 
-    /// The time, in milliseconds since some start. Where it can't be reported, the last one.
+    /// The time, in milliseconds since some start. If it can't be read, the last one.
     ///
     /// # Not specified
     /// What time it is.

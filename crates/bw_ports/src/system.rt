@@ -1,20 +1,20 @@
-//! What the program asks of the system that it runs on, beside its streams.
+//! What the program asks of the system that it runs on, besides its streams.
 ghost use Rattle.std.specs.Prelude.{◌≡◌, ℕ, List, Option, map, string_bytes, IfOk};
 ghost use Rattle.bw_stream.specs.Moves.{failures_after, Keeps};
 
 use bw_stream::Source;
 use std::io;
 
-/// A system: the words of the command line and the bytes at each path, where it tells them, and how
+/// A system: the words of the command line and the bytes at each path, if it reports them, and how
 /// often it failed.
 pub trait System {
     /// Reads an opened file.
     type File: Source + Drop;
 
-    /// The words of the command line, where the system tells them.
+    /// The words of the command line, if the system reports them.
     ghost words: { Self → Option (List (List ℕ)) };
 
-    /// The bytes of the file at each path, where the system tells them.
+    /// The bytes of the file at each path, if the system reports them.
     ghost file_at: { Self → List ℕ → Option (List ℕ) };
 
     /// How many calls failed; the count stays at 2^64 - 1.
@@ -23,7 +23,7 @@ pub trait System {
     /// The words of the command line, the program's own name first.
     ///
     /// # Errors
-    /// Where the system failed: `InvalidData` where a word is no text. Files are as they were.
+    /// If the system failed; `InvalidData` if a word isn't UTF-8. Files are as they were.
     ///
     /// # Not specified
     /// - When it fails, and the kind of the error.
@@ -34,10 +34,10 @@ pub trait System {
         ensures ok { IfOk result (λ found. (reported : List (List ℕ)) →
             words self.old ≡ Some reported → map string_bytes found.items ≡ reported) };
 
-    /// A reader of the file of a path, at its start.
+    /// Opens the file at a path, at its start.
     ///
     /// # Errors
-    /// Where the system failed.
+    /// If the system failed.
     ///
     /// # Not specified
     /// - When it fails, and the kind of the error.

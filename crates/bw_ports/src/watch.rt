@@ -1,8 +1,8 @@
-//! Whoever hears how far a sender is.
+//! Whoever follows a sender's progress.
 use bw_stream::Sink;
 
-/// How far a sender is after a round. No clause here says what its numbers are: that is the sender's
-/// own.
+/// A sender's progress after a round. No clause here says what its numbers are; the sender's own
+/// do.
 pub trait ProgressReport {
     /// The round's number, counted from 1.
     fn round(&self) -> u32;
@@ -13,17 +13,17 @@ pub trait ProgressReport {
     /// How many of the settled requests are stored.
     fn stored(&self) -> u32;
 
-    /// The bytes of samples in the settled requests; 2^64 - 1 where there are more.
+    /// The bytes of samples in the settled requests; 2^64 - 1 if there are more.
     fn bytes(&self) -> u64;
 
-    /// Tells it in a line.
+    /// Writes it as a line.
     fn print_diagnostic<E: Sink>(&self, out: &mut E);
 }
 
-/// Whoever watches a sender. What it does with what it hears, no clause says: it changes nothing of
-/// what is sent.
+/// Watches a sender. No clause says what it does with the reports; it changes nothing of what is
+/// sent.
 pub trait Watch {
-    /// Hears how far the sender is after a round.
+    /// Receives the sender's progress after a round.
     ///
     /// # Not specified
     /// What it does.

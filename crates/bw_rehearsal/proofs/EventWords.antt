@@ -38,7 +38,7 @@ heads line (Bring k) h = ap first h.1
 heads line Ask h = ap first h
 heads line (Foreign f) h = absurd h
 
--- a line says no event, where it says none of each kind
+-- a line is no event if it is none of each kind
 pub says_none : (line : List ℕ) → ((r : Request) → ¬ SaysEvent line (Offer r)) → ((i : ℕ) → ¬ SaysEvent line (Send i)) →
     ((k : ℕ) → ¬ SaysEvent line (Deliver k)) → ((k : ℕ) → ¬ SaysEvent line (Bring k)) → ¬ SaysEvent line Ask →
     (e : Event) → ¬ SaysEvent line e
@@ -49,7 +49,7 @@ says_none line offer send deliver bring ask (Bring k) = bring k
 says_none line offer send deliver bring ask Ask = ask
 says_none line offer send deliver bring ask (Foreign f) = λ h. h
 
--- where its first byte is that of one kind, only that kind needs a look
+-- a line whose first byte differs from an event's doesn't say that event
 apart : (line : List ℕ) (e : Event) (head : ℕ) → first line ≡ head → (head ≡ head_of e → ⊥) → ¬ SaysEvent line e
 apart line e head h differ says = differ (sym h ∙ heads line e says)
 
@@ -81,7 +81,7 @@ begins None line word h = λ rest e.
 pub no_index : (text : List ℕ) → ¬ IsUtf8 text → ¬ IsIndexText text
 no_index text none index = none (IsUtf8-from_ascii text (IsAscii-from_digits text index.0.1))
 
--- no request is spelled, where none is read
+-- no request is spelled if none is read
 pub no_request : (text : List ℕ) (o : Option Request) → o ≡ None →
     MatchOption o ((r : Request) → ¬ IsRequestText text r) (λ r. IsRequestText text r) →
     (r : Request) → ¬ IsRequestText text r

@@ -20,14 +20,14 @@ abbrev pub with_replies : World → List Reply → Book → World
 with_replies w reported book =
     record { sender = w.sender; sent = w.sent; book = book; replies = w.replies ++ reported }
 
--- where the server isn't touched, its counts stay
+-- if the server isn't touched, its counts stay
 untouched : (old later : Simulation) → later.server ≡ old.server → IsUntouched (failures_on old) (failures_on later) good
 untouched old later same = record {
   faults_are = refl;
   count = ap (λ (s : _). failures_of _ _ s) same;
 }
 
--- a turn's faults is reported
+-- a turn's faults are reported
 faults_reported : (before after : ℕ) (m : Message) (reported : List Reply) (book later : Book) →
     (t : IsTurn nothing_stands before after book (Says m) reported later) → AreReported before after book (Says m) t.faults
 faults_reported before after m reported book later t = record {

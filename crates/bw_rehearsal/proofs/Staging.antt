@@ -1,4 +1,4 @@
--- What lies on a simulation, by its place, and what an event changes of it.
+-- What a simulation has, by its place, and what an event changes of it.
 use Rattle.std.proofs.Common.{◌≡◌, ℕ, suc, zero, ◌+◌, ◌<◌, ◌≤◌, Bool, true, false, List, [], ◌∷◌, ◌++◌, length}
 use Rattle.std.proofs.Common.{◌-◌, take, drop, get_or, Option, Some, None, cond, refl, sym, ◌∙◌, ap, subst}
 use Rattle.std.specs.Prelude.{slice_get, is_none, IsSome, Vec, Result, Ok, Err, OnOk, OnErr, map, option_map}
@@ -123,7 +123,7 @@ hearing_offers s (Judged name n v) = go (is_counted s name n)
 hearing_offers s (Noticed name n code next) = refl
 hearing_offers s (Refused reason place) = refl
 
--- What was found in a lent list.
+-- What was found in a borrowed list.
 
 pub found_at : {X : Type 0} (xs ys : List X) (i : ℕ) (x : X) → ys ≡ xs → i < length ys → x ≡ get_or ys i x →
     slice_get xs i ≡ Some x
@@ -149,7 +149,7 @@ replies_more xs ys more w reported e was is =
     ap (map reply_of) e ∙ map-append reply_of xs more ∙ ap (λ (rs : List Reply). rs ++ map reply_of more) was
     ∙ ap (λ (rs : List Reply). w ++ rs) is
 
--- What holds where a call succeeded.
+-- What holds if a call succeeded.
 
 pub on_ok : {X E : Type 0} {P Q : Type 0} (r : Result X E) → OnOk r P → (P → Q) → OnOk r Q
 on_ok (Ok x) p f = f p
@@ -159,7 +159,7 @@ pub on_err : {X E : Type 0} {P : Type 0} (r : Result X E) → P → OnErr r P
 on_err (Ok x) p = tt
 on_err (Err e) p = p
 
--- What a decoder answers to a message's body.
+-- What a decoder returns for a message's body.
 
 pub says_inj : (x : Result Frame Reason) (f : Read) (a : Answered) (m : Message) → f ≡ frames.Message a →
     Ok (frame_of f) ≡ x → x ≡ Ok (Says m) → message_of a ≡ m

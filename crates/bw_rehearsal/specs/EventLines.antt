@@ -8,7 +8,7 @@ use Rattle.bw_wire.specs.RequestTexts.{IsRequestText, IsEven}
 abbrev pub IsIndexText : List ℕ → Type 0
 IsIndexText text = IsNumeral 10 text × (length text ≤ 10) × (digits_value 10 text < 2 ^ 32)
 
--- the number that they write
+-- the number that these digits write
 abbrev pub index_written : List ℕ → ℕ
 index_written text = digits_value 10 text
 
@@ -16,7 +16,7 @@ index_written text = digits_value 10 text
 abbrev pub IsIndex : List ℕ → ℕ → Type 0
 IsIndex text index = IsIndexText text × (index ≡ index_written text)
 
--- the line begins as one that says an offer, and has an even number of digits after it
+-- the line begins like an offer, and has an even number of digits after it
 abbrev pub MayOffer : List ℕ → Type 0
 MayOffer line = (text : List ℕ) × (line ≡ codes "offer " ++ text) × IsEven (length text)
 

@@ -1,4 +1,4 @@
--- What faults the events of a rehearsal meet, and where it is reported.
+-- What faults the events of a rehearsal meet, and where they are reported.
 use Rattle.std.specs.Prelude.{◌≡◌, ℕ, Option, Some, None, IsTrue, IsFalse, List, [], ◌∷◌}
 use Rattle.std.specs.Prelude.{slice_get, map}
 use Rattle.std.specs.List.{list_any}
@@ -11,15 +11,15 @@ use Rattle.bw_model.specs.NumberOrder.{reports_failure}
 use Rattle.bw_model.specs.Exchange.{nothing_stands}
 use Rattle.bw_model.specs.World as model
 
--- Of a turn's faults all is reported, by its answer or by the store's count of failures.
+-- All of a turn's faults are reported, by its answer or by the store's count of failures.
 pub record AreReported (before after : ℕ) (book : Book) (f : Frame) (faults : Faults) : Type 0 where
-  -- a growth is refused only where NoRoom is the answer
+  -- a growth is refused only if NoRoom is the answer
   pub room : IsTrue faults.refused → IsWithoutRoom book f (turn nothing_stands book f faults).0
-  -- the count rises exactly where draining stops short
+  -- the count rises exactly if draining stops short
   pub count : Counts before after (stops_short nothing_stands book f faults)
   pub stop : IsFalse (stops_short nothing_stands book f faults) → faults.stop ≡ None
 
--- nothing is asked of the server's memory and store: there is no fault, and the count stays
+-- the server's memory and store aren't used: there is no fault, and the count stays
 pub record IsUntouched (before after : ℕ) (faults : Faults) : Type 0 where
   pub faults_are : faults ≡ good
   pub count : after ≡ before
@@ -40,14 +40,14 @@ AreFaultsOf before after w (model.Bring k) faults = IsUntouched before after fau
 AreFaultsOf before after w model.Ask faults = IsUntouched before after faults
 AreFaultsOf before after w (model.Foreign f) faults = ⊥
 
--- each event of a schedule meets such faults, one count after another
+-- each event of a schedule meets such faults, and the counts follow each other
 abbrev pub AreFaultsOfRuns : ℕ → ℕ → model.World → List (model.Event × Faults) → Type 0
 AreFaultsOfRuns before after w [] = after ≡ before
 AreFaultsOfRuns before after w (e ∷ es) =
     (between : ℕ) × AreFaultsOf before between w e.0 e.1
     × AreFaultsOfRuns between after (model.happens nothing_stands w e.0 e.1) es
 
--- Where no call of the store failed, and no reply says that memory was wanting, there was no fault.
+-- If no call of the store failed, and no reply reports lack of memory, there was no fault.
 abbrev pub UnreportedFaultsAreNone : Type 0
 UnreportedFaultsAreNone = (w : model.World) (schedule : List (model.Event × Faults)) →
     AreFaultsOfRuns 0 0 w schedule →

@@ -22,7 +22,8 @@ abbrev pub no_contents : List ℕ → Option (List ℕ)
 no_contents name = None
 
 -- From the empty world of this name, over an empty store, just these events lead to this world, one
--- after another, with some faults at each; the faults is reported, and so many calls of the store failed.
+-- after another, with some faults at each; the faults are reported, and this many calls of the
+-- store failed.
 pub record LeadsTo (name : List ℕ) (events_now : List Event) (failures : ℕ)
     (world : model.World) : Type 0 where
   pub schedule : List (model.Event × Faults)
@@ -34,7 +35,7 @@ pub record LeadsTo (name : List ℕ) (events_now : List Event) (failures : ℕ)
 abbrev pub without_faults : List Event → List (model.Event × Faults)
 without_faults events = map (λ e. (event_meaning e, good)) events
 
--- A rehearsal in which no call of the store failed, and no reply says that memory was wanting, has
+-- A rehearsal in which no call of the store failed, and no reply reports lack of memory, has
 -- the world that the events lead to without a fault at any.
 abbrev pub QuietRehearsalsHaveOneWorld : Type 0
 QuietRehearsalsHaveOneWorld = (name : List ℕ) (events : List Event) (world : model.World) →

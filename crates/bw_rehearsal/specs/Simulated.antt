@@ -22,7 +22,8 @@ AreFrames [] (v ∷ vs) = ⊥
 AreFrames (m ∷ ms) [] = ⊥
 AreFrames (m ∷ ms) (v ∷ vs) = IsFrameOf (Says m) v.items × AreFrames ms vs
 
--- The simulation has what this world has, over a store in which nothing stood, with this limit.
+-- The simulation has what this world has, over a store that was empty at the start, with this
+-- limit.
 pub record IsSimulated (limit : ℕ) (w : World) (s : Simulation) : Type 0 where
   pub sender : IsSender w.sender s.sender
   pub offered : s.offered ≡ length w.sender.offered
@@ -35,17 +36,18 @@ pub record IsSimulated (limit : ℕ) (w : World) (s : Simulation) : Type 0 where
 abbrev pub failures_on : Simulation → ℕ
 failures_on s = failures_of _ _ s.server
 
--- After an event the simulation has what the definitions' world has, with some faults, which is reported.
+-- After an event the simulation has what the definitions' world has, with some faults, which are
+-- reported.
 pub record PlaysOn (limit : ℕ) (w : World) (e : Event) (old later : Simulation) : Type 0 where
   pub faults : Faults
   pub simulated : IsSimulated limit (happens nothing_stands w e faults) later
   pub faults_are : AreFaultsOf (failures_on old) (failures_on later) w e faults
 
--- there is no room for so many replies more
+-- there is no room for this many more replies
 abbrev pub LacksRoom : ℕ → Simulation → Type 0
 LacksRoom n s = vec_capacity s.replies < length s.replies.items + n
 
--- playing this event may take memory: that of a reply only where room for it isn't there
+-- playing this event may need memory: for a reply only if there is no room for it
 abbrev pub TakesMemory : Simulation → World → Event → Type 0
 TakesMemory s w (Offer r) = Unit {0}
 TakesMemory s w (Send i) = IsSome (pending w.sender i)

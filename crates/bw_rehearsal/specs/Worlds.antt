@@ -1,4 +1,4 @@
--- What a rehearsal comes to.
+-- What a rehearsal results in.
 use Rattle.std.specs.Prelude.{◌≡◌, ◌⊎◌, ℕ, true, false, List, length}
 use Rattle.bw_model.specs.Book.{log_of}
 use Rattle.bw_model.specs.CountedTurn.{is_pending}
@@ -14,7 +14,7 @@ use Rattle.bw_rehearsal.specs.declared.rehearsal.World.{World}
 -- These events lead to a world of the definitions, and this is what it has.
 pub record WasRehearsed (name : List ℕ) (limit : ℕ) (events : List Event) (w : World) : Type 0 where
   pub world : model.World
-  -- .. with as many failures of the store as its server counted
+  -- the number of failures of the store is the one that its server counted
   pub led : LeadsTo name events (failures_of _ _ w.server) world
   pub offered : w.offered ≡ length world.sender.offered
   pub sent : w.sent ≡ length world.sent
@@ -23,7 +23,7 @@ pub record WasRehearsed (name : List ℕ) (limit : ℕ) (events : List Event) (w
   -- the server holds the world's book, over a store in memory that was empty
   pub limited : w.server.limit ≡ limit
   pub held : HoldsBook _ _ no_contents w.server world.book
-  -- .. so each name that is closed, or of which nothing waits, has its take's file
+  -- so each name that is closed, or under which nothing waits, has its take's file
   pub files : (name : List ℕ) → (is_pending (log_of world.book name) ≡ false)
       ⊎ ((take_in false world.book name).closed ≡ true) →
       content_under w.server.stores.store.files name

@@ -1,4 +1,4 @@
-//! Laws of the definitions that rehearsals rest on.
+//! The laws of the definitions that rehearsals are based on.
 ghost use Rattle.bw_model.specs.World.{EachWorldIsFaithful, FaithfulWorldsHaveNoGap};
 ghost use Rattle.bw_rehearsal.specs.FaultRuns.{UnreportedFaultsAreNone};
 ghost use Rattle.bw_rehearsal.specs.Rehearsing.{QuietRehearsalsHaveOneWorld};
@@ -11,8 +11,8 @@ pub fn law_world()
     bw_model::law_world();
 }
 
-/// Faults that is reported nowhere was good: a rehearsal in which no call of the store failed, and no
-/// reply says that memory was wanting, has just one world.
+/// Faults that are reported nowhere are none: a rehearsal in which no call of the store failed, and
+/// no reply reports lack of memory, has just one world.
 pub fn law_faults()
     ensures unreported { UnreportedFaultsAreNone }
     ensures one { QuietRehearsalsHaveOneWorld }

@@ -14,12 +14,12 @@ use std::alloc::{AllocError, Global};
 /// request, `send I`, `deliver K`, `bring K` or `ask`.
 ///
 /// # Errors
-/// `AllocError` where memory was refused: only a line of `offer ` and an even number of digits takes
-/// some.
+/// `AllocError` if memory was refused: only a line of `offer ` and an even number of digits needs
+/// memory.
 ///
 /// # Not specified
-/// Of an even number of digits, when memory is refused, and that only those that spell a request
-/// are.
+/// For an even number of digits: when memory is refused, and that it is refused only if they spell
+/// a request.
 pub fn event_in(alloc: Global, line: &[u8]) -> Result<Option<Event>, AllocError>
     ensures ok { IfOk result (λ found. MatchOption found ((e : ReportedEvent) → ¬ SaysEvent line.now e)
         (λ event. SaysEvent line.now (event_meaning event))) }
@@ -55,7 +55,7 @@ pub fn event_in(alloc: Global, line: &[u8]) -> Result<Option<Event>, AllocError>
     Ok(None)
 }
 
-/// What a line has after a word, if it begins with it.
+/// The rest of a line after a word, if it begins with it.
 fn following<'a>(word: &[u8], line: &'a [u8]) -> Option<&'a [u8]>
     ensures { MatchOption result ((rest : List ℕ) → line.now ≢ word.now ++ rest)
         (λ rest. line.now ≡ word.now ++ rest.now) }
@@ -76,7 +76,7 @@ fn index(text: &[u8]) -> Option<usize>
 fn number(text: &str) -> Option<usize>
     ensures { SomeIff result (IsIndexText text.now) (index_written text.now) }
 {
-    // `parse` takes a leading plus.
+    // `parse` would accept a leading plus.
     if text.len() > 10 || text.as_bytes().first() == Some(&b'+') {
         return None;
     }

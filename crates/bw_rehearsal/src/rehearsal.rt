@@ -11,7 +11,7 @@ use bw_session::Server;
 use bw_store::MemoryStore;
 use std::alloc::{AllocError, Global};
 
-/// What a rehearsal came to.
+/// What a rehearsal resulted in.
 #[derive(Drop)]
 pub struct World {
     /// How many requests the sender took over.
@@ -27,12 +27,12 @@ pub struct World {
 /// Plays the events, in their order, with a new sender of this name, and a new server over an empty
 /// store in memory.
 ///
-/// All that was ever sent and written stays: what isn't delivered or brought is lost, and what is
+/// All that was ever sent and written stays: what isn't delivered or brought is lost, and the rest
 /// may come again, in any order. Memory that is refused to the server or to its store is a part of
-/// the rehearsal: a reply says so, or the store's count of failures.
+/// the rehearsal: a reply reports it, or the store's count of failures.
 ///
 /// # Errors
-/// `AllocError` where memory was refused to the sender, or for what is said between them. The name
+/// `AllocError` if memory was refused to the sender, or for the messages and replies. The name
 /// isn't given back.
 ///
 /// # Not specified

@@ -40,7 +40,7 @@ impl Simulation {
     /// Before anything happened.
     ///
     /// # Errors
-    /// `AllocError` where memory was refused.
+    /// `AllocError` if memory was refused.
     pub(crate) fn new(alloc: Global, name: Name, limit: Limit) -> Result<Simulation, AllocError>
         ensures simulated { IfOk result (λ s. IsSimulated limit (new_world name) s) }
         ensures failures { IfOk result (λ s. failures_on s ≡ 0) }
@@ -62,7 +62,7 @@ impl Simulation {
     /// Plays an event.
     ///
     /// # Errors
-    /// `AllocError` where memory was refused to the sender or to the network: the server was reported
+    /// `AllocError` if memory was refused to the sender or to the network: the server received
     /// nothing.
     pub(crate) fn play(&mut self, event: &Event) -> Result<(), AllocError>
         ensures ok { (limit : ℕ) (w : World) → IsSimulated limit w self.old →
@@ -86,7 +86,7 @@ impl Simulation {
     /// Offers a copy of the request to the sender.
     ///
     /// # Errors
-    /// `AllocError` where memory was refused.
+    /// `AllocError` if memory was refused.
     fn offer(&mut self, request: &Request) -> Result<(), AllocError>
         ensures ok { (limit : ℕ) (w : World) → IsSimulated limit w self.old →
             OnOk result (PlaysOn limit w (Offer request.now) self.old self.new) }
@@ -105,7 +105,7 @@ impl Simulation {
     /// Sends the pending request at a place.
     ///
     /// # Errors
-    /// `AllocError` where memory was refused.
+    /// `AllocError` if memory was refused.
     fn send(&mut self, place: usize) -> Result<(), AllocError>
         ensures ok { (limit : ℕ) (w : World) → IsSimulated limit w self.old →
             OnOk result (PlaysOn limit w (Send place) self.old self.new) }
@@ -124,7 +124,7 @@ impl Simulation {
     /// Gives the sent message at a place to the server.
     ///
     /// # Errors
-    /// `AllocError` where memory was refused for the replies: the server wasn't told.
+    /// `AllocError` if memory was refused for the replies: the server did not receive it.
     fn deliver(&mut self, place: usize) -> Result<(), AllocError>
         ensures ok { (limit : ℕ) (w : World) → IsSimulated limit w self.old →
             OnOk result (PlaysOn limit w (Deliver place) self.old self.new) }
@@ -160,7 +160,7 @@ impl Simulation {
     /// Asks the server for the sender's name.
     ///
     /// # Errors
-    /// `AllocError` where memory was refused.
+    /// `AllocError` if memory was refused.
     fn ask(&mut self) -> Result<(), AllocError>
         ensures ok { (limit : ℕ) (w : World) → IsSimulated limit w self.old →
             OnOk result (PlaysOn limit w Ask self.old self.new) }
@@ -173,10 +173,10 @@ impl Simulation {
     }
 }
 
-/// Goes on where the sender refused an offer by itself.
+/// Continues after an offer that the sender refused by its rules.
 ///
 /// # Errors
-/// `AllocError` where it was for lack of memory.
+/// `AllocError` if the cause was lack of memory.
 fn unless_memory(error: OfferError) -> Result<(), AllocError>
     ensures ok { OnOk result (IsSome (fault_of error)) }
     ensures err { OnErr result (fault_of error ≡ None) }
@@ -205,7 +205,7 @@ fn message_in(frame: &[u8]) -> Option<Message<'_>>
     }
 }
 
-/// Puts the replies of a turn after the others, in room that is there.
+/// Adds the replies of a turn after the others; there is room for them.
 fn append(replies: &mut Vec<Reply>, reported: ArrayVec<Reply, 17>)
     requires { length replies.old.items + length reported.items ≤ vec_capacity replies.old }
     ensures { replies.new.items ≡ replies.old.items ++ reported.items }

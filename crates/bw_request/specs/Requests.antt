@@ -16,7 +16,7 @@ meaning (MarkRef id frame) = Mark id frame
 meaning (SetFieldRef tag value) = SetField tag value.now
 meaning (CloseTake frames) = Close frames
 
--- the bytes that a request carries beside its numbers
+-- the bytes that a request carries besides its numbers
 abbrev pub carried_bytes : Request → List ℕ
 carried_bytes (Open f history) = history
 carried_bytes (Block bytes) = bytes

@@ -1,4 +1,4 @@
--- What verdicts mean, their codes, and the text for a code that is none.
+-- What verdicts mean, their codes, and the text for a code that no verdict has.
 use Rattle.std.specs.Prelude.{◌≡◌, ℕ, List, ◌++◌, codes, decimal, Some, None, Result, MatchResult}
 use Rattle.bw_model.specs.Take as model
 use Rattle.bw_model.specs.Replies.{verdict_of}
@@ -30,6 +30,6 @@ DecodesVerdict code r =
     MatchResult r (λ v. verdict_of code ≡ Some (verdict_meaning v))
     (λ e. (verdict_of code ≡ None) × (e.0 ≡ code))
 
--- what is reported to people of a code that no verdict has
+-- the text for people about a code that no verdict has
 abbrev pub unknown_text : UnknownVerdict → List ℕ
 unknown_text u = codes "no verdict has code " ++ decimal u.0

@@ -30,7 +30,7 @@ impl Model for Name {
 }
 
 impl Name {
-    /// The name of these bytes, 1 to 32 of `a-z`, `0-9`, `-` and `_`; None where they are none.
+    /// The name of these bytes, 1 to 32 of `a-z`, `0-9`, `-` and `_`; None for other bytes.
     pub fn new(bytes: &[u8]) -> Option<Name>
         ensures { SomeIff result (IsTrue (is_name bytes.now)) bytes.now }
     {
@@ -54,7 +54,7 @@ impl Name {
         self.bytes.as_slice()
     }
 
-    /// An equal name, without memory from an allocator.
+    /// An equal name, without allocating memory.
     pub fn copy(&self) -> Name
         ensures { result ≡ self.now }
     {

@@ -19,7 +19,7 @@ pub const LONGEST_VALUE: usize = 256;
 /// A request that borrows its bytes.
 #[derive(Clone, Copy, Debug, PartialEq, Eq)]
 pub enum RequestRef<'a> {
-    /// Gives the take its format (Hz, samples a frame, bits a sample) and its coding history.
+    /// Gives the take its format (Hz, samples per frame, bits per sample) and its coding history.
     OpenTake {
         rate: u32,
         channels: u16,
@@ -40,7 +40,7 @@ pub enum RequestRef<'a> {
         tag: u8,
         value: &'a [u8],
     },
-    /// Closes the take, which has so many frames.
+    /// Closes the take, which must have this many frames.
     CloseTake {
         frames: u64,
     },
@@ -74,7 +74,7 @@ impl RequestRef<'_> {
     /// An owned copy of a request that fits.
     ///
     /// # Errors
-    /// `AllocError` where memory was refused, never of a request that carries no bytes.
+    /// `AllocError` if memory was refused, never for a request that carries no bytes.
     ///
     /// # Not specified
     /// When memory is refused.
@@ -154,7 +154,7 @@ impl Model for Request {
 }
 
 impl Request {
-    /// The same request, lent.
+    /// The same request, borrowed.
     pub fn as_ref(&self) -> RequestRef<'_>
         ensures same { meaning result ≡ self.now }
         ensures fits { IsTrue (is_request (meaning result)) }
@@ -187,7 +187,7 @@ impl Request {
     }
 }
 
-/// Whether there are at most so many bytes.
+/// Whether there are at most this many bytes.
 #[tactic(auto, using(crate::proofs::Ranges::are_bytes_lem))]
 fn has_at_most(bytes: &[u8], most: usize) -> bool
     ensures { result ≡ (nat_le (length bytes.now) most && are_bytes bytes.now) }

@@ -1,4 +1,4 @@
-//! What a server says of a request.
+//! What a server says about a request.
 ghost use Rattle.std.specs.Prelude.{◌≡◌, ◌≤◌, ◌↔◌, IsTrue, Some};
 ghost use Rattle.bw_model.specs.Take.{Stored, is_stored as is_stored_verdict};
 ghost use Rattle.bw_model.specs.Replies.{verdict_code};
@@ -12,7 +12,7 @@ use std::fmt;
 pub enum Verdict {
     /// The request is part of the take.
     Stored = 0,
-    /// The take's name stood in the store when the server began.
+    /// The take's name was in the store when the server began.
     NameTaken = 1,
     /// The take has a format already.
     AlreadyOpen = 2,
@@ -22,7 +22,7 @@ pub enum Verdict {
     Closed = 4,
     /// The format or a byte of the coding history isn't allowed.
     BadFormat = 5,
-    /// The block doesn't end with a frame.
+    /// The block doesn't end at the end of a frame.
     BadBlock = 6,
     /// The marker's frame is greater than the number of frames so far.
     BadMarker = 7,
@@ -37,7 +37,7 @@ pub enum Verdict {
 }
 
 impl Verdict {
-    /// The byte that tells it in a reply.
+    /// The byte that stands for it in a reply.
     pub fn code(self) -> u8
         ensures value { result ≡ verdict_code (verdict_meaning self) }
         ensures range { result ≤ 11 }
@@ -75,7 +75,7 @@ impl TryFrom<u8> for Verdict {
     /// The verdict that has this code.
     ///
     /// # Errors
-    /// `UnknownVerdict`, with the code, from 12 on.
+    /// `UnknownVerdict`, with the code, for codes from 12 on.
     fn try_from(code: u8) -> Result<Verdict, UnknownVerdict> {
         match code {
             0 => Ok(Verdict::Stored),

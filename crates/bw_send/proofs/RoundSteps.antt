@@ -74,7 +74,7 @@ unsettled None p e is = absurd (cc)
 unsettled (Some x) p e is = λ none. absurd (cc)
 
 module _ {D R W : Type 0} (dial : DialGhosts D R W) (reader : Reader R) (writer : Writer W) where
-  -- from x on so many rounds were made
+  -- from x on this many rounds were made
   pub record RoundsOn (requests : List Request) (x : Sending) (p : Dispatch) (count : ℕ) (d d' : D) : Type 0 where
     pub heard : List (List Reply)
     pub y : Sending

@@ -19,7 +19,7 @@ use Rattle.bw_ports.specs.declared.dial.Dial.{Ghosts as DialGhosts}
 use Rattle.bw_ports.specs.declared.dial.DialFault.{DialFault}
 use Rattle.bw_ports.specs.declared.dial.Duplex.{Duplex}
 
--- the replies that were heard in an exchange: none where its batch wanted memory
+-- the replies that were heard in an exchange: none if its batch lacked memory
 abbrev pub heard_over : {R W : Type 0} → {reader : Reader R} → {writer : Writer W} →
     {result : Result (Unit {0}) SendFault} → {x y : Sender} → {r r' : R} → {w w' : W} →
     Exchanges reader writer result x y r r' w w' → List Reply
@@ -32,7 +32,7 @@ abbrev pub BeginWith : List ℕ → List Reply → Type 0
 BeginWith bytes heard = (rest : List ℕ) × Spelled Reply reply_codec bytes heard rest
 
 -- Of links that give these bytes, one after another, this was heard in rounds: in each what the
--- bytes of its link begin with, and nothing where it had none.
+-- bytes of its link begin with, and nothing if it had none.
 abbrev pub AreHeardFrom : List (List Reply) → List (List ℕ) → Type 0
 AreHeardFrom [] links = Unit {0}
 AreHeardFrom (heard ∷ more) links =
@@ -41,8 +41,8 @@ AreHeardFrom (heard ∷ more) links =
     × AreHeardFrom more rest)
 
 module _ {D R W : Type 0} (dial : DialGhosts D R W) (reader : Reader R) (writer : Writer W) where
-  -- An exchange of the sender over this link: what has no verdict was written, or a beginning of
-  -- it, and these replies were heard. Memory was there.
+  -- An exchange of the sender over this link: what has no verdict was written, or a prefix of it,
+  -- and these replies were heard. Memory was there.
   pub record IsExchange (s : Defined) (heard : List Reply) (link : Duplex R W) : Type 0 where
     pub result : Result (Unit {0}) SendFault
     pub goes_on : result ≢ Err Memory
@@ -75,14 +75,14 @@ module _ {D R W : Type 0} (dial : DialGhosts D R W) (reader : Reader R) (writer 
   IsRound s heard d d' = MakesNoLink heard d d' ⊎ MakesLink s heard d d'
 
   -- Rounds, in each of which these replies were heard. Before each of them more is offered, as far
-  -- as the window goes, and something has no verdict.
+  -- as the window has room, and something has no verdict.
   abbrev pub AreRounds : Sending → List (List Reply) → Sending → D → D → Type 0
   AreRounds x [] y d d' = (y ≡ x) × (d' ≡ d)
   AreRounds x (heard ∷ more) y d d' =
       (mid : D) × (¬ IsSettled (offer_more x)) × IsRound (offer_more x).sender heard d mid
       × AreRounds (hear_in (offer_more x) heard) more y mid d'
 
-  -- So many rounds were made, or fewer, after which nothing more can be offered and all that was
+  -- This many rounds were made, or fewer, after which nothing more can be offered and all that was
   -- offered has its verdict.
   pub record MakesRounds (rounds : ℕ) (x y : Sending) (d d' : D) : Type 0 where
     pub heard : List (List Reply)

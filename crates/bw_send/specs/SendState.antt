@@ -38,7 +38,7 @@ abbrev pub offer_next : Sending → Request → Sending
 offer_next x r =
     record x { sender = offer x.sender r; is_stopped = is_last_offer (offer_fault x.sender r) }
 
--- .. after these were, in their order, up to the first that is refused
+-- after these were, in their order, up to the first that is refused
 unfoldable pub offer_all : Sending → List Request → Sending
 offer_all x [] = x
 offer_all x (r ∷ rs) =
@@ -48,11 +48,11 @@ offer_all x (r ∷ rs) =
 abbrev pub unoffered : Sending → List Request
 unoffered x = drop (length x.sender.offered) x.requests
 
--- the sending after more was offered, as far as the window goes
+-- the sending after more was offered, as far as the window has room
 unfoldable pub offer_more : Sending → Sending
 offer_more x = if x.is_stopped then x else offer_all x (unoffered x)
 
--- .. after these replies were heard
+-- after these replies were heard
 abbrev pub hear_in : Sending → List Reply → Sending
 hear_in x heard = record x { sender = hear_all x.sender heard }
 
@@ -64,7 +64,7 @@ IsSettled x = pending x.sender 0 ≡ None
 abbrev pub has_refused : Sending → Bool
 has_refused x = x.is_stopped || not (length (refused x.sender) == 0)
 
--- how the command ends: `Done` where each line's request is settled and stored
+-- how the command ends: `Done` if each line's request is settled and stored
 abbrev pub exit_for_sender : Sending → Exit
 exit_for_sender x =
     if has_refused x then Refused

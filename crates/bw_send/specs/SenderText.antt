@@ -1,4 +1,4 @@
--- The text of what a sender came to.
+-- The text of a sender's outcome.
 use Rattle.std.specs.Prelude.{ℕ, ◌++◌, List, flat_map, codes, decimal}
 use Rattle.bw_model.specs.Take.{Verdict, Stored, NameTaken, AlreadyOpen, NotOpen, Closed}
 use Rattle.bw_model.specs.Take.{BadFormat, BadBlock, BadMarker, DuplicateMarker, TooManyMarkers}

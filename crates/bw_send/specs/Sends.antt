@@ -19,7 +19,7 @@ use Rattle.bw_send.specs.SendState.{Sending, OffersInOrder, EachIsStored, exit_f
 use Rattle.bw_send.specs.SendState.{new_sending}
 use Rattle.bw_ports.specs.declared.dial.Dial.{Ghosts as DialGhosts}
 
--- how the command ends on what it comes to
+-- how the command ends after this outcome
 abbrev pub exit_of_send : Result Exit Fault → Exit
 exit_of_send (Ok exit) = exit
 exit_of_send (Err fault) = exit_on fault
@@ -33,14 +33,14 @@ abbrev pub ReportsOfExit : Exit → Print → Type 0
 ReportsOfExit Device reported = IsOf unsettled_line reported
 ReportsOfExit exit reported = reported ≡ Nothing
 
--- what is reported on what the command comes to
+-- what is reported of the command's outcome
 abbrev pub ReportsOfSend : Result Exit Fault → Print → Type 0
 ReportsOfSend (Ok exit) reported = ReportsOfExit exit reported
 ReportsOfSend (Err fault) reported = IsReportedBy (Err fault) reported
 
 module _ {D R W : Type 0} (dial : DialGhosts D R W) (reader : Reader R) (writer : Writer W) where
-  -- The input's requests were sent in rounds by a new sender of this name, and the text of what the
-  -- sender came to was to be printed.
+  -- The input's requests were sent in rounds by a new sender of this name, and the text of the
+  -- sender's outcome was to be printed.
   pub record PrintsSender (name : List ℕ) (rounds : ℕ) (input : Option (List ℕ)) (d d' : D)
       (printed : List ℕ → Print) (exit : Exit) (print : Print) : Type 0 where
     pub requests : List Request
@@ -59,7 +59,7 @@ module _ {D R W : Type 0} (dial : DialGhosts D R W) (reader : Reader R) (writer 
     pub right : Of input (λ xs. RefusesRequests fault xs)
     pub unsent : d' ≡ d
 
-  -- what is printed by the command that comes to this
+  -- what is printed by the command that results in this
   abbrev pub IsPrintOfSend : List ℕ → ℕ → Option (List ℕ) → D → D → Result Exit Fault →
       Print → Type 0
   IsPrintOfSend name rounds input d d' (Ok exit) print =

@@ -1,4 +1,4 @@
--- How far a sender is after a round, as its line tells it.
+-- How far a sender is after a round, as its line reports it.
 use Rattle.std.specs.Prelude.{ℕ, ◌-◌, ◌^◌, min, List, ◌++◌, take, sum_by, codes, decimal}
 use Rattle.bw_model.specs.Take.{Request}
 use Rattle.bw_model.specs.World.{Sender, settled, stored}
@@ -9,7 +9,7 @@ use Rattle.bw_console.specs.Text.{as_line}
 abbrev pub counted_bytes : List Request → ℕ
 counted_bytes requests = min (sum_by samples_in requests) (2 ^ 64 - 1)
 
--- .. in those of an input that are settled: they are its first
+-- in those of an input that are settled: they are its first
 abbrev pub settled_bytes : Sender → List Request → ℕ
 settled_bytes s requests = counted_bytes (take (settled s) requests)
 

@@ -9,13 +9,13 @@ use bw_sender::Sender;
 #[derive(Drop)]
 pub(crate) struct Dispatch {
     pub(crate) sender: Sender,
-    /// How many requests were offered and taken over.
+    /// How many requests were offered and accepted.
     pub(crate) offered: usize,
-    /// A request was refused when it was offered: no more are.
+    /// A request was refused when it was offered: no more are offered.
     pub(crate) is_stopped: bool,
 }
 
-/// How the command ends where it has got so far with so many requests.
+/// How the command ends when this is how far it has got with `requests` requests.
 pub(crate) fn exit_after(dispatch: &Dispatch, requests: usize) -> Exit
     ensures { (x : Sending) → IsSending x dispatch.now → requests ≡ length x.requests →
         result ≡ exit_for_sender x }

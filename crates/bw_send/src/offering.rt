@@ -1,4 +1,4 @@
-//! Requests are offered to a sender, as far as its window goes.
+//! Requests are offered to a sender, as long as its window has room.
 ghost use Rattle.std.specs.Prelude.{◌≡◌, ◌≢◌, ◌+◌, ◌<◌, ◌^◌, None, true, false, is_none};
 ghost use Rattle.std.specs.Prelude.{IfOk, OnErr, OnOk};
 ghost use Rattle.bw_model.specs.World.{offer_fault};
@@ -14,7 +14,7 @@ use std::alloc::{AllocError, Global};
 /// Offers copies of the requests that weren't offered yet, up to the first that is refused.
 ///
 /// # Errors
-/// `AllocError` where memory was refused.
+/// `AllocError` if memory was refused.
 pub(crate) fn offer_more_of(
     alloc: Global,
     dispatch: &mut Dispatch,
@@ -31,10 +31,10 @@ pub(crate) fn offer_more_of(
     Ok(())
 }
 
-/// Offers a copy of a request. Whether it was taken over.
+/// Offers a copy of a request. Returns whether it was accepted.
 ///
 /// # Errors
-/// `AllocError` where memory was refused.
+/// `AllocError` if memory was refused.
 fn offer_next(alloc: Global, dispatch: &mut Dispatch, request: &Request) -> Result<bool, AllocError>
     requires room { dispatch.old.offered < 2 ^ 63 }
     requires goes_on { dispatch.old.is_stopped ≡ false }
@@ -57,10 +57,10 @@ fn offer_next(alloc: Global, dispatch: &mut Dispatch, request: &Request) -> Resu
     }
 }
 
-/// Whether no more is offered after an offer that is refused so.
+/// Whether nothing more is offered after this refusal.
 ///
 /// # Errors
-/// `AllocError` where memory was refused.
+/// `AllocError` if memory was refused.
 fn is_last(error: OfferError) -> Result<bool, AllocError>
     ensures ok { IfOk result (λ last.
         (fault_of error ≢ None) × (last ≡ is_last_offer (fault_of error))) }

@@ -15,7 +15,7 @@ use bw_stream::Source;
 use bw_wire::request_from_hex;
 use std::alloc::Global;
 
-/// The requests that the lines of the input say, each in hex.
+/// The requests in the lines of the input, each in hex.
 pub(crate) fn read_requests<R: Source>(alloc: Global, input: &mut R) -> Result<Vec<Request>, Fault>
     ensures within { Of (R.left input.old) (λ xs. IsReadAhead xs (R.left input.new)) }
     ensures most { R.moved input.new ≤ R.moved input.old + (longest_input + 1) }
@@ -28,7 +28,7 @@ pub(crate) fn read_requests<R: Source>(alloc: Global, input: &mut R) -> Result<V
     requests(alloc, bytes.as_slice())
 }
 
-/// The requests that the lines of an input say.
+/// The requests in the lines of an input.
 fn requests(alloc: Global, input: &[u8]) -> Result<Vec<Request>, Fault>
     requires { length input.now ≤ longest_input }
     ensures ok { IfOk result (λ found. SayRequests (lines_of input.now) found.items) }

@@ -17,11 +17,11 @@ use bw_request::Request;
 use bw_sender::Sender;
 use std::alloc::{AllocError, Global};
 
-/// Offers requests and makes exchanges, one a round and at most so many, until all that was offered
-/// is settled and no more can be offered. The watcher hears of each round.
+/// Offers requests and makes exchanges, one a round and in at most `rounds` rounds, until all that
+/// was offered is settled and no more can be offered. Each round is reported to the watcher.
 ///
 /// # Errors
-/// `AllocError` where memory was refused.
+/// `AllocError` if memory was refused.
 pub(crate) fn make_rounds<D: Dial, V: Watch>(
     alloc: Global,
     rounds: u32,
@@ -46,11 +46,11 @@ pub(crate) fn make_rounds<D: Dial, V: Watch>(
     Ok(())
 }
 
-/// Sends over a new link what has no verdict, and hears the replies. Where no link can be made, or
-/// the exchange breaks off, the round ends, and what was heard counts.
+/// Sends over a new link what has no verdict, and receives the replies. If no link can be made, or
+/// the exchange breaks off, the round ends; the replies received count.
 ///
 /// # Errors
-/// `AllocError` where memory was refused.
+/// `AllocError` if memory was refused.
 fn make_round<D: Dial>(alloc: Global, sender: &mut Sender, dial: &mut D) -> Result<(), AllocError>
     ensures { (s : Defined) → IsSender s sender.old → OnOk result ((heard : List Reply)
         × IsSender (hear_all s heard) sender.new
@@ -64,7 +64,7 @@ fn make_round<D: Dial>(alloc: Global, sender: &mut Sender, dial: &mut D) -> Resu
 }
 
 /// # Errors
-/// `AllocError` where memory was refused to the exchange.
+/// `AllocError` if memory was refused to the exchange.
 fn unless_memory(ended: Result<(), SendFault>) -> Result<(), AllocError>
     ensures ok { OnOk result (ended ≢ Err Memory) }
     ensures err { OnErr result (ended ≡ Err Memory) }

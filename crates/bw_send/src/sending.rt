@@ -22,19 +22,19 @@ use bw_sender::Sender;
 use bw_stream::{Sink, Source};
 use std::alloc::{AllocError, Global};
 
-/// What is reported of a sender that isn't done.
+/// The report on a sender that isn't done.
 const UNSETTLED: &str = "not every request has its verdict yet\n";
 
-/// Sends the requests that the lines of the input say, as a recorder of this name, and writes as
-/// text what came of them.
+/// Sends the requests in the lines of the input, as a recorder of this name, and writes the outcome
+/// as text.
 ///
-/// All lines are read before the first link is made. `Done` where each line's request is settled
-/// and stored; `Refused` where one is refused, or the input is. A fault's line goes to `faults`;
-/// one that can't be written changes nothing. Of the input at most 16,777,217 bytes are read.
+/// All lines are read before the first link is made. `Done` if each line's request is settled and
+/// stored; `Refused` if one is refused, or the input is. A fault's line goes to `faults`; a failure
+/// to write it is ignored. Of the input at most 16,777,217 bytes are read.
 ///
-/// `Device` where not all is settled in its rounds, or where a read of the input or a write of the
-/// text failed. Where the text can't be written all rounds were made; where memory was refused
-/// nothing is printed.
+/// `Device` if not all is settled in its rounds, or if a read of the input or a write of the text
+/// failed. If the text can't be written, all rounds were made; if memory was refused, nothing is
+/// printed.
 ///
 /// # Not specified
 /// - When memory is refused, and what was sent and settled before it: nothing is printed of that.
@@ -59,11 +59,11 @@ pub fn send_run<D: Dial, R: Source, W: Sink, E: Sink>(
     send_watched(alloc, name, rounds, dial, input, out, faults, &mut NoWatch)
 }
 
-/// Sends as `send_run` does, and lets a watcher hear how far it is after each round.
+/// Sends as `send_run` does, and reports its progress to a watcher after each round.
 ///
 /// # Not specified
 /// - What `send_run` leaves open.
-/// - That the watcher hears of each round, with its number.
+/// - That the watcher gets a report of each round, with its number.
 pub fn send_watched<D: Dial, R: Source, W: Sink, E: Sink, V: Watch>(
     alloc: Global,
     name: Name,
@@ -88,7 +88,7 @@ pub fn send_watched<D: Dial, R: Source, W: Sink, E: Sink, V: Watch>(
     }
 }
 
-/// Tells where the sender isn't done. That it can't be written changes nothing.
+/// Reports it if the sender isn't done. A failure to write it is ignored.
 fn report_of_exit<E: Sink>(exit: Exit, faults: &mut E) -> Exit
     ensures exit { result ≡ exit }
     ensures reported { (print : Print) × ReportsOfExit exit print
@@ -101,7 +101,7 @@ fn report_of_exit<E: Sink>(exit: Exit, faults: &mut E) -> Exit
     exit
 }
 
-/// Sends the requests that the lines of the input say, and writes the text of what came of them.
+/// Sends the requests in the lines of the input, and writes the outcome as text.
 fn send<D: Dial, R: Source, W: Sink, V: Watch>(
     alloc: Global,
     name: Name,
@@ -128,10 +128,10 @@ fn send<D: Dial, R: Source, W: Sink, V: Watch>(
     }
 }
 
-/// Sends the requests in rounds, as a new sender of this name. How far it got.
+/// Sends the requests in rounds, as a new sender of this name. Returns how far it got.
 ///
 /// # Errors
-/// `AllocError` where memory was refused.
+/// `AllocError` if memory was refused.
 fn send_requests<D: Dial, V: Watch>(
     alloc: Global,
     name: Name,

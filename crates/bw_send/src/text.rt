@@ -1,4 +1,4 @@
-//! The text of what a sender came to.
+//! The text of a sender's outcome.
 ghost use Rattle.std.specs.Prelude.{◌≡◌, ◌++◌, flat_map, map, IfOk, OnOk};
 ghost use Rattle.bw_model.specs.World.{Sender as Defined};
 ghost use Rattle.bw_request.specs.Verdicts.{verdict_meaning};

@@ -1,4 +1,4 @@
-//! How far a sender is after each round, for whoever watches it.
+//! A sender's progress after each round, for whoever watches it.
 ghost use Rattle.std.specs.Prelude.{◌≡◌, ◌≤◌, ◌+◌, ◌++◌, decimal, length};
 ghost use Rattle.bw_model.specs.World.{Sender as Defined, settled as settled_of};
 ghost use Rattle.bw_model.specs.World.{stored as stored_of};
@@ -16,7 +16,7 @@ use bw_sender::Sender;
 use bw_stream::Sink;
 use itoa::Buffer;
 
-/// How far a sender is with the requests of an input, after a round.
+/// A sender's progress with the requests of an input, after a round.
 #[derive(Clone, Copy)]
 pub struct Progress<'a> {
     round: u32,
@@ -58,8 +58,8 @@ impl<'a> Progress<'a> {
         self.sender.stored()
     }
 
-    /// The bytes of samples in the settled requests, which are the first of the input; 2^64 - 1
-    /// where there are more. They are summed by this call.
+    /// The bytes of samples in the settled requests, which are the first of the input; 2^64 - 1 if
+    /// there are more. They are summed by this call.
     pub fn bytes(&self) -> u64
         ensures { (s : Defined) → IsSender s self.now.sender.now →
             result ≡ settled_bytes s self.now.requests.now }
@@ -68,7 +68,7 @@ impl<'a> Progress<'a> {
         counted_bytes(&self.requests[..settled])
     }
 
-    /// Tells it in a line. It takes no memory.
+    /// Writes it as a line. It allocates nothing.
     pub fn print_diagnostic<E: Sink>(&self, out: &mut E)
         ensures { (s : Defined) → IsSender s self.now.sender.now → (print : Print)
             × IsOf (progress_line self.now.round s self.now.requests.now) print
@@ -119,7 +119,7 @@ fn line_of(round: u32, settled: u32, stored: u32, bytes: u64) -> ArrayString<128
     line
 }
 
-/// Adds a count after what it is called.
+/// Adds a count after its name.
 fn put_count(line: &mut ArrayString<128>, name: &str, count: u64)
     requires { length line.old.bytes + length name.now ≤ 100 }
     ensures text { line.new.bytes ≡ line.old.bytes ++ name.now ++ decimal count }
@@ -129,7 +129,7 @@ fn put_count(line: &mut ArrayString<128>, name: &str, count: u64)
     line.push_str(Buffer::new().format(count));
 }
 
-/// The bytes of samples in these requests; 2^64 - 1 where there are more.
+/// The bytes of samples in these requests; 2^64 - 1 if there are more.
 fn counted_bytes(requests: &[Request]) -> u64
     ensures { result ≡ counted_bytes requests.now }
 {
@@ -140,7 +140,7 @@ fn counted_bytes(requests: &[Request]) -> u64
     bytes
 }
 
-/// How many bytes of samples a request brings.
+/// How many bytes of samples a request has.
 fn samples_len(request: &Request) -> u64
     ensures { result ≡ samples_in request.now }
 {

@@ -252,7 +252,7 @@ drop_past k [] e = drop_none k [] (omega arith)
 drop_past zero (y ∷ ys) e = absurd (no_some (sym e))
 drop_past (suc k) (y ∷ ys) e = drop_past k ys e
 
--- what is pending from a slot on, where its request is pending
+-- what is pending from a slot on, if its request is pending
 pub pending_some : (slot n : ℕ) (es : List SenderEntry) (r : Request) → pending_at es slot ≡ Some r →
     pending_entries n (drop slot es) ≡ (n, r) ∷ pending_entries (suc n) (drop (suc slot) es)
 pending_some slot n [] r h = absurd (no_some h)
@@ -265,7 +265,7 @@ pending_some zero n (e ∷ es) r h = go e.verdict h
     go (Some v) h = absurd (no_some h)
 pending_some (suc slot) n (e ∷ es) r h = pending_some slot n es r h
 
--- .. and where it isn't
+-- what is pending if it isn't
 pub pending_none : (slot n : ℕ) (es : List SenderEntry) → pending_at es slot ≡ None →
     pending_entries n (drop slot es) ≡ pending_entries (suc n) (drop (suc slot) es)
 pending_none slot n [] h =

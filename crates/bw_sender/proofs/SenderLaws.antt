@@ -26,7 +26,7 @@ use Rattle.bw_sender.proofs.EntryLaws.{pending_in, pending_after, judged_prefix,
 use Rattle.bw_sender.proofs.EntryLaws.{stored_more, refused_more, closed_more, closed_in, entries_more}
 use Rattle.bw_sender.proofs.EntryLaws.{judged_at, judged_put, judged_drop, put_within}
 
--- how many are settled and stand in the window are all
+-- those settled and those in the window are all
 pub counted : (k : ℕ) (s : Defined) (x : Sender) → KeepsFrom k s x → k + length x.window ≡ x.offered
 counted k s x f =
     let all = length_entries s.offered s.verdicts in
@@ -40,7 +40,7 @@ number_is k n s x f e = let c = counted k s x f in omega (arith, c, e)
 pub refused_reported : (s : Defined) (x : Sender) → IsSender s x → x.refused.numbers ≡ refused_from 0 s.verdicts
 refused_reported s x f = f.refused ∙ refused_prefix 0 s.verdicts
 
--- the first of the window is let go with its verdict
+-- the first of the window is released with its verdict
 pub settles_one : (k : ℕ) (s : Defined) (x y : Sender) (r : Request) (v : Verdict) → KeepsFrom k s x →
     slice_get x.window 0 ≡ Some (record { request = r; verdict = Some v }) →
     y.name ≡ x.name → y.offered ≡ x.offered → y.window ≡ drop 1 x.window →
@@ -69,7 +69,7 @@ settles_one k s x y r v f prefix name offered window stored refused closed =
           ∙ sym (closed_more s.offered s.verdicts k r v reported.0 reported.1);
     }
 
--- the first of the window has no verdict, or none stands there
+-- the first of the window has no verdict, or there is none
 pub all_settled : (k : ℕ) (s : Defined) (x : Sender) → KeepsFrom k s x → is_judged_at x.window 0 ≡ false → k ≡ settled s
 all_settled k s x f none =
     not_judged s.offered s.verdicts k f.within f.prefix
@@ -78,7 +78,7 @@ all_settled k s x f none =
     ∙ sym (get_dropped k 0 (entries s.offered s.verdicts))
     ∙ ap (λ (w : List SenderEntry). slice_get w 0) (sym f.window)) ∙ none)
 
--- .. which is stored
+-- a verdict Stored
 pub settles_stored : (k : ℕ) (s : Defined) (x y : Sender) (r : Request) (v : Verdict) → KeepsFrom k s x →
     slice_get x.window 0 ≡ Some (record { request = r; verdict = Some v }) → is_stored v ≡ true →
     y.name ≡ x.name → y.offered ≡ x.offered → y.window ≡ drop 1 x.window → y.stored ≡ x.stored + 1 →
@@ -91,7 +91,7 @@ settles_stored k s x y r v f prefix is name offered window stored refused closed
     (closed ∙ ap (λ (b : Bool). x.closed || b) (sym (and-true (is_close r))
     ∙ ap (λ (b : Bool). is_close r && b) (sym is)))
 
--- .. which isn't
+-- any other verdict
 pub settles_refused : (k : ℕ) (s : Defined) (x y : Sender) (r : Request) (v : Verdict) → KeepsFrom k s x →
     slice_get x.window 0 ≡ Some (record { request = r; verdict = Some v }) → is_stored v ≡ false →
     y.name ≡ x.name → y.offered ≡ x.offered → y.window ≡ drop 1 x.window → y.stored ≡ x.stored →
@@ -126,7 +126,7 @@ closed_reported s x f =
     ∙ ap (λ (b : Bool). b || list_any closes (drop (settled s) (entries s.offered s.verdicts))) (sym f.closed)
     ∙ ap (λ (w : List SenderEntry). x.closed || list_any closes w) (sym f.window)
 
--- the last cause is what is left where the others don't hold
+-- the last cause is what is left if the others don't hold
 pub last_fault : (s : Defined) (r : Request) (full : Bool) → nat_lt (last_number Second) (length s.offered) ≡ false →
     ((length s.offered == 0) && not (is_open r)) ≡ false → has_closed_from s.offered s.verdicts ≡ false →
     nat_le (settled s + window) (length s.offered) ≡ full → offer_fault s r ≡ (if full then Some WindowFull else None)
@@ -142,7 +142,7 @@ last_fault s r full spent early closed at_end =
     else if nat_le (settled s + window) (length s.offered) then Some WindowFull else None) closed
     ∙ ap (λ (b : Bool). if b then Some WindowFull else None) at_end
 
--- one more request stands after the others
+-- one more request comes after the others
 pub offers_one : (s : Defined) (x y : Sender) (r : Request) → IsSender s x → offer_fault s r ≡ None →
     y.name ≡ x.name → y.offered ≡ x.offered + 1 → y.window ≡ x.window ++ unjudged r ∷ [] → y.stored ≡ x.stored →
     y.refused.numbers ≡ x.refused.numbers → y.closed ≡ x.closed → IsSender (offer s r) y
@@ -206,7 +206,7 @@ counted_heard s name n v own none = (
     first : is_counted s name n ≡ true
     first = ap (λ (b : Bool). b && is_none (at s.verdicts n)) own ∙ ap is_none none
 
--- and stands in the window until it is settled
+-- it is in the window until it is settled
 pub judges_one : (s : Defined) (x y : Sender) (n slot : ℕ) (v : Verdict) → IsSender s x → n < length s.offered →
     settled s + slot ≡ n → at s.verdicts n ≡ None → y.name ≡ x.name → y.offered ≡ x.offered →
     y.window ≡ judged x.window slot v → y.stored ≡ x.stored → y.refused.numbers ≡ x.refused.numbers →
@@ -228,7 +228,7 @@ judges_one s x y n slot v f offered_n place none name offered window stored refu
     same : take (settled s) (put s.verdicts n v) ≡ take (settled s) s.verdicts
     same = take-put s.verdicts n (settled s) v (omega (arith, place)) (first_free_len s.verdicts)
 
--- a slot of the window has its verdict exactly where the number has
+-- a slot of the window has its verdict exactly if the number has
 pub slot_judged : (s : Defined) (x : Sender) (n slot : ℕ) → IsSender s x → n < length s.offered →
     settled s + slot ≡ n → is_judged_at x.window slot ≡ is_some (at s.verdicts n)
 slot_judged s x n slot f offered_n place =

@@ -1,10 +1,10 @@
--- What a sender offered, beside what came of it.
+-- What a sender offered, with the verdicts.
 use Rattle.std.specs.Prelude.{ℕ, zero, suc, Bool, true, ◌&&◌, Option, Some, None, is_some, List}
 use Rattle.std.specs.Prelude.{[], ◌∷◌, slice_get, option_and_then, if◌then◌else◌}
 use Rattle.bw_model.specs.Take.{Request, Verdict, is_stored}
 use Rattle.bw_model.specs.World.{is_close}
 
--- an offered request, with its first verdict where that came
+-- an offered request, with its first verdict if that came
 pub record SenderEntry : Type 0 where
   pub request : Request
   pub verdict : Option Verdict
@@ -13,7 +13,7 @@ pub record SenderEntry : Type 0 where
 abbrev pub unjudged : Request → SenderEntry
 unjudged r = record { request = r; verdict = None }
 
--- the offered requests, each beside its verdict
+-- the offered requests, each with its verdict
 abbrev pub entries : List Request → List (Option Verdict) → List SenderEntry
 entries [] vs = []
 entries (r ∷ rs) [] = unjudged r ∷ entries rs []
@@ -34,14 +34,14 @@ may_be_stored (Some v) = is_stored v
 abbrev pub closes : SenderEntry → Bool
 closes e = is_close e.request && may_be_stored e.verdict
 
--- those without a verdict, each with its number, where the first has this one
+-- the entries without a verdict, each with its number; the first entry has this number
 abbrev pub pending_entries : ℕ → List SenderEntry → List (ℕ × Request)
 pending_entries n [] = []
 pending_entries n (e ∷ es) =
     if is_some e.verdict then pending_entries (suc n) es
     else (n, e.request) ∷ pending_entries (suc n) es
 
--- the request at a place, where it has no verdict
+-- the request at a place, if it has no verdict
 abbrev pub pending_at : List SenderEntry → ℕ → Option Request
 pending_at es i =
     option_and_then (λ e. if is_some e.verdict then None else Some e.request) (slice_get es i)

@@ -9,11 +9,11 @@ use Rattle.bw_sender.specs.declared.offer.OfferError.TheVariants as errors
 use Rattle.bw_sender.specs.declared.window.Offered.{Offered}
 use Rattle.bw_sender.specs.Entries.{SenderEntry}
 
--- an offered request, beside its verdict
+-- an offered request, with its verdict
 abbrev pub sender_entry : Offered → SenderEntry
 sender_entry o = record { request = o.request; verdict = option_map verdict_meaning o.verdict }
 
--- why an offer is refused: lack of memory is no cause of the definitions
+-- why an offer is refused: lack of memory is no cause in the definitions
 abbrev pub fault_of : OfferError → Option model.OfferFault
 fault_of errors.NumbersSpent = Some model.NumbersSpent
 fault_of errors.BeforeOpen = Some model.BeforeOpen
@@ -21,7 +21,7 @@ fault_of errors.AfterClose = Some model.AfterClose
 fault_of errors.WindowFull = Some model.WindowFull
 fault_of errors.Memory = None
 
--- a request that is lent, with its number
+-- a borrowed request, with its number
 abbrev pub lent_pending : ℕ × Bor Request → ℕ × Request
 lent_pending x = (x.0, x.1.now)
 
@@ -30,7 +30,7 @@ abbrev pub checked_fault : Result (Unit {0}) OfferError → Option model.OfferFa
 checked_fault (Ok x) = None
 checked_fault (Err e) = fault_of e
 
--- the number of a refusal, in the order in which they are looked at
+-- the number of a refusal, in the order in which they are checked
 abbrev pub refusal_number : OfferError → ℕ
 refusal_number errors.NumbersSpent = 1
 refusal_number errors.BeforeOpen = 2

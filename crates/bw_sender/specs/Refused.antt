@@ -13,7 +13,7 @@ pub record Refused : Type 0 where
   pub numbers : List (ℕ × model.Verdict)
   pub room : ℕ
 
--- the most room that there is where room for so many was asked for: what there was, or what was
+-- the most room that there is after room for this many was asked for: what there was, or what was
 -- asked for, or that for sixteen, or for as many as are there
 abbrev pub most_room : Refused → ℕ → ℕ
 most_room r count = max r.room (max count (max 16 (length r.numbers)))

@@ -17,9 +17,9 @@ pub record KeepsFrom (k : ℕ) (s : Defined) (x : Sender) : Type 0 where
   -- only what was offered has a verdict, and the first k all have theirs
   pub within : length s.verdicts ≤ length s.offered
   pub prefix : k ≤ first_free s.verdicts
-  -- the others stand in the window
+  -- the others are in the window
   pub window : x.window ≡ drop k (entries s.offered s.verdicts)
-  -- the first k are counted, or told with their verdicts
+  -- the first k are counted, or listed with their verdicts
   pub stored : x.stored ≡ count_by is_some_stored (take k s.verdicts)
   pub refused : x.refused.numbers ≡ refused_from 0 (take k s.verdicts)
   pub closed : x.closed ≡ has_closed_from (take k s.offered) (take k s.verdicts)
@@ -28,6 +28,6 @@ pub record KeepsFrom (k : ℕ) (s : Defined) (x : Sender) : Type 0 where
 abbrev pub IsSender : Defined → Sender → Type 0
 IsSender s x = KeepsFrom (settled s) s x
 
--- a refusal of each request that it holds, and of one more, has its room already
+-- there is room already for a refusal of each request that it holds, and of one more
 abbrev pub HasRoom : Sender → Type 0
 HasRoom x = length x.window < x.refused.room

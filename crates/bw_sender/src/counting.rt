@@ -1,4 +1,4 @@
-//! What a sender checks of an offer, and what it counts of a reply.
+//! What a sender checks in an offer, and what it counts in a reply.
 ghost use Rattle.std.specs.Prelude.{◌≡◌, ◌≢◌, ◌≤◌, ◌<◌, ◌&&◌, ℕ, suc, length, true, false, OnOk};
 ghost use Rattle.std.specs.Prelude.{nat_lt, ◌==◌, not, IfErr, IsSome};
 ghost use Rattle.std.specs.Str.{bytes_eq};
@@ -25,7 +25,7 @@ const NUMBERS: u32 = 16_777_216;
 impl Sender {
     ghost use Rattle.bw_sender.specs.Senders.{IsSender, KeepsFrom};
 
-    /// Whether a request may be offered, where there is memory.
+    /// Whether a request may be offered, lack of memory aside.
     ///
     /// # Errors
     /// The first cause that holds.
@@ -111,14 +111,14 @@ impl Sender {
         *name == self.name && number < self.offered
     }
 
-    /// Lets the first requests go that have their verdicts, and counts them.
+    /// Releases the first requests as long as they have their verdicts, and counts them.
     fn settle(&mut self)
         ensures { (k : ℕ) (s : Defined) → KeepsFrom k s self.old → IsSender s self.new }
     {
         while self.settle_one() {}
     }
 
-    /// Lets the first request go where it has its verdict, and counts it.
+    /// Releases the first request if it has its verdict, and counts it.
     fn settle_one(&mut self) -> bool
         ensures one { result ≡ true → (k : ℕ) (s : Defined) → KeepsFrom k s self.old →
             KeepsFrom (suc k) s self.new }

@@ -7,11 +7,11 @@ ghost use Rattle.bw_sender.specs.Hearing.{heard_number};
 pub enum Heard {
     /// The first verdict of an offered request.
     Counted = 1,
-    /// A verdict of a request that has one.
+    /// A verdict on a request that has one.
     Known = 2,
-    /// A notice of an offered request, or the answer to an ask for the sender's name.
+    /// A notice on an offered request, or the answer to an ask for the sender's name.
     Noted = 3,
-    /// A reply to another name, or of a number that wasn't offered, or to a bad frame.
+    /// A reply to another name, or to a number that wasn't offered, or to a bad frame.
     Stranger = 4,
 }
 

@@ -1,4 +1,4 @@
-//! Why a request isn't taken over by a sender.
+//! Why a sender refuses a request.
 ghost use Rattle.std.specs.Prelude.{◌≡◌, ◌≤◌};
 ghost use Rattle.bw_sender.specs.Offers.{refusal_number};
 
@@ -7,7 +7,7 @@ ghost use Rattle.bw_sender.specs.Offers.{refusal_number};
 pub enum OfferError {
     /// 16,777,216 requests were offered.
     NumbersSpent = 1,
-    /// The first request is to be an OPEN.
+    /// The first request must be an OPEN.
     BeforeOpen = 2,
     /// A CLOSE was offered that has no verdict yet, or is stored.
     AfterClose = 3,

@@ -38,11 +38,11 @@ impl Refusals {
         }
     }
 
-    /// Makes room for so many more. Where it grows there is room for at least sixteen, and for as
+    /// Makes room for this many more. When it grows, there is room for at least sixteen, and for as
     /// many as are there, so that they are not copied over and over.
     ///
     /// # Errors
-    /// `AllocError` where the growth was refused.
+    /// `AllocError` if the growth was refused.
     pub(crate) fn reserve(&mut self, count: usize) -> Result<(), AllocError>
         ensures numbers { self.new.numbers ≡ self.old.numbers }
         ensures ok { OnOk result (count ≤ self.new.room) }
@@ -60,7 +60,7 @@ impl Refusals {
         self.entries.reserve_exact(room.max(count))
     }
 
-    /// Notes a number after the others, in room that is there.
+    /// Adds a number after the others; there is room for it.
     pub(crate) fn push(&mut self, number: u32, verdict: Verdict)
         requires { 1 ≤ self.old.room }
         ensures numbers { self.new.numbers ≡

@@ -1,4 +1,4 @@
-//! A sender: what a recorder offered, and what came of it.
+//! A sender: what a recorder offered, and the verdicts that came.
 ghost use Rattle.std.specs.Prelude.{◌≡◌, ◌≢◌, ◌≤◌, ◌<◌, ◌+◌, length, map, IfOk, IfErr, OnOk, OnErr};
 ghost use Rattle.std.specs.Prelude.{None, IfSome, IsSome, option_map};
 ghost use Rattle.bw_model.specs.Wire.{Second, last_number};
@@ -46,7 +46,7 @@ impl Sender {
     /// A sender of a name, to which nothing was offered.
     ///
     /// # Errors
-    /// `AllocError` where memory was refused. The name isn't given back.
+    /// `AllocError` if memory was refused. The name isn't given back.
     ///
     /// # Not specified
     /// When memory is refused.
@@ -70,14 +70,14 @@ impl Sender {
         &self.name
     }
 
-    /// Takes over a request, and gives its number, the next one from 0 on.
+    /// Takes over a request, and returns its number, the next one from 0 on.
     ///
     /// # Errors
     /// Why it wasn't taken over, with the request: the first of `NumbersSpent`, `BeforeOpen`,
     /// `AfterClose`, `WindowFull` and `Memory` that holds. Nothing changed.
     ///
     /// # Not specified
-    /// When memory is refused, where there is no room for the refusals.
+    /// When memory is refused, if there is no room for the refusals.
     pub fn offer(&mut self, request: Request) -> Result<u32, (OfferError, Request)>
         ensures ok { (s : Defined) → IsSender s self.old → IfOk result (λ n.
             (n ≡ length s.offered) × (offer_fault s request ≡ None)
@@ -91,7 +91,7 @@ impl Sender {
         if let Err(error) = self.check_offer(&request) {
             return Err((error, request));
         }
-        // The room for a later entry is had now, so that hearing takes none.
+        // The room for a later refusal is made now, so that hearing allocates nothing.
         let Ok(()) = self.refused.reserve(self.window.len() + 1) else {
             return Err((OfferError::Memory, request));
         };
@@ -113,7 +113,7 @@ impl Sender {
 
     /// Counts a verdict, if it is the first of an offered request, and says what the reply is.
     ///
-    /// Every other reply changes nothing: also Conflict and TooFar, which are final, are `Noted`,
+    /// No other reply changes anything: even Conflict and TooFar, which are final, are `Noted`,
     /// as Held is.
     pub fn on_reply(&mut self, reply: &Reply) -> Heard
         ensures heard { (s : Defined) → IsSender s self.old →
@@ -141,7 +141,7 @@ impl Sender {
         }
     }
 
-    /// How many numbers have their verdicts, up to the first that has none; at most 16,777,216.
+    /// How many numbers are settled: those before the first without a verdict; at most 16,777,216.
     pub fn settled(&self) -> u32
         ensures value { (s : Defined) → IsSender s self.now → result ≡ settled_of s }
         ensures rest { result + length self.now.window ≡ self.now.offered }
@@ -157,7 +157,7 @@ impl Sender {
         self.stored
     }
 
-    /// The other settled numbers with their verdicts, in their order.
+    /// The settled numbers that aren't stored, with their verdicts, in their order.
     pub fn refused(&self) -> &[(u32, Verdict)]
         ensures { (s : Defined) → IsSender s self.now → map refusal_of result.now ≡ refused_of s }
     {

@@ -18,7 +18,7 @@ use std::marker::Model;
 /// How many requests may be offered from the first without a verdict on.
 pub(crate) const SLOTS: usize = 16;
 
-/// An offered request, with its verdict where that came.
+/// An offered request, with its verdict if that came.
 #[derive(Drop)]
 pub(crate) struct Offered {
     pub(crate) request: Request,
@@ -47,7 +47,7 @@ impl Window {
     /// A window to which nothing was offered.
     ///
     /// # Errors
-    /// `AllocError` where the slots were refused.
+    /// `AllocError` if memory for the slots was refused.
     pub(crate) fn new(alloc: Global) -> Result<Window, AllocError>
         ensures { IfOk result (λ w. w ≡ []) }
     {
@@ -55,7 +55,7 @@ impl Window {
         Ok(Window { slots })
     }
 
-    /// How many requests stand in it.
+    /// How many requests are in it.
     pub(crate) fn len(&self) -> usize
         ensures value { result ≡ length self.now }
         ensures few { result ≤ 16 }
@@ -81,7 +81,7 @@ impl Window {
         }
     }
 
-    /// Puts a request after the others, for which there is a slot.
+    /// Adds a request after the others; there is a slot for it.
     pub(crate) fn push(&mut self, request: Request)
         requires { length self.old < 16 }
         ensures { self.new ≡ self.old ++ unjudged request ∷ [] }
@@ -102,7 +102,7 @@ impl Window {
         place.verdict = Some(verdict);
     }
 
-    /// Lets the first request go.
+    /// Removes the first request.
     pub(crate) fn pop(&mut self)
         ensures { self.new ≡ drop 1 self.old }
     {
@@ -123,8 +123,8 @@ impl Window {
         false
     }
 
-    /// The request at a place among those without a verdict, with its number, where the first of
-    /// the window has this one.
+    /// The request at a place among those without a verdict, with its number; `first` is the number
+    /// of the window's first request.
     pub(crate) fn pending(&self, first: u32, place: usize) -> Option<(u32, &Request)>
         requires { first ≤ last_number Second + 1 }
         ensures value { option_map lent_pending result ≡
@@ -143,7 +143,7 @@ impl Window {
         None
     }
 
-    /// The request of a slot, where it has no verdict.
+    /// The request of a slot, if it has no verdict.
     fn request_pending(&self, slot: usize) -> Option<&Request>
         ensures { option_copied result ≡ pending_at self.now slot }
     {

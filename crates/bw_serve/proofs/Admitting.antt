@@ -29,7 +29,7 @@ pub begins_or_not : {L : Type 0} (place now : ℕ) (link : L) (m m' : Connection
 begins_or_not place now link m m' (Ok x) begins refuses = inl begins
 begins_or_not place now link m m' (Err x) begins refuses = inr refuses
 
--- some more are let in
+-- some more are accepted
 pub admits_then : {L : Type 0} (now : ℕ) (xs ys : List (Admission L)) (a b c : EventLoop L) → AdmitsEach now xs a b →
     AdmitsEach now ys b c → AdmitsEach now (xs ++ ys) a c
 admits_then now [] ys a b c f g = subst (λ (d : EventLoop _). AdmitsEach now ys d c) f g
@@ -53,7 +53,7 @@ module _ {L : Type 0} (G : LinkGhosts L) where
       inl (f.0, hosts_then m over xs ys (suc n) r k q n' r' f.1 g)
   hosts_then m over (x ∷ xs) ys n r k q n' r' (inr f) g = inr (hosts_then m over xs ys n (one_more r) k q n' r' f g)
 
-  -- where nobody came, and each that stood or was over still does
+  -- if no peer came, and each that was there or over still is
   pub hosts_all : (m m' : Connections L) (over over' : List (Closed L)) (xs : List (Admission L)) →
       begun_of m' ≡ begun_of m → refused_of m' ≡ refused_of m →
       ((k : ℕ) (x : Admission L) → IsHosted G m over k x → IsHosted G m' over' k x) →
@@ -107,7 +107,7 @@ module _ {L : Type 0} (G : LinkGhosts L) where
       subst (λ (ys : List (Admission L)). HostsAll G b.connections over ys) (append_assoc xs (x ∷ []) more)
       (hosts_admitted_each now more s.0 b over (xs ++ x ∷ []) s.2 (hosts_admitted now x a s.0 over xs s.1 h))
 
-  -- Who may have bytes or room is reported so.
+  -- What may have bytes or room is reported so.
   pub hosts_woken : (reported : List Ready) (a b : EventLoop L) (over : List (Closed L)) (xs : List (Admission L)) →
       begun_of b.connections ≡ begun_of a.connections → refused_of b.connections ≡ refused_of a.connections → WakesEach reported a b →
       HostsAll G a.connections over xs → HostsAll G b.connections over xs
@@ -133,7 +133,7 @@ module _ {L : Type 0} (G : LinkGhosts L) where
   ended_back n link [] ys h = h
   ended_back n link (x ∷ xs) ys h = inr (ended_back n link xs ys h)
 
-  -- one who stood at a place isn't among those who were over before
+  -- a connection at a place isn't among those that were over before
   not_over : (m : Connections L) (trace : List Tagged) (place : ℕ) (d : Connection L) (over : List (Closed L)) →
       HoldsConnectionAt m place d → AllByRecursion (HasLeft G m trace) over → IsAmong d.number over → ⊥
   not_over m trace place d [] at left h = h
@@ -214,14 +214,14 @@ module _ {L : Type 0} (G : LinkGhosts L) where
       (subst (λ (l : List (Admission L)). HostsAll G c ((over ++ us) ++ vs) l) (append_assoc links xs ys)
       (g (over ++ us) (trace ++ more) (links ++ xs) (adds over trace k) (f over trace links k h)))
 
-  -- A step in which nobody ended.
+  -- A step in which no connection ended.
   pub hosts_more : (a b : Connections L) (xs : List (Admission L)) →
       ((over : List (Closed L)) (links : List (Admission L)) → HostsAll G a over links → HostsAll G b over (links ++ xs)) →
       HostsMore G a xs [] b
   hosts_more a b xs f over trace links k h =
       subst (λ (o : List (Closed L)). HostsAll G b o (links ++ xs)) (sym (append-nil over)) (f over links h)
 
-  -- one in which nobody came
+  -- one in which no peer came
   pub hosts_more_still : (m m' : Connections L) (closed : List (Closed L)) →
       ((over : List (Closed L)) (trace : List Tagged) (links : List (Admission L)) → Keeps G m over trace →
       HostsAll G m over links → HostsAll G m' (over ++ closed) links) → HostsMore G m [] closed m'

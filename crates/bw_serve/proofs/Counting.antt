@@ -1,4 +1,4 @@
--- What is counted of each connection, and told of its end.
+-- What is counted of each connection, and reported at its end.
 use Rattle.std.proofs.Common.{◌≡◌, ◌≢◌, ◌⊎◌, inl, inr, ℕ, ◌==◌, Bool, true, false, Option, Some, None, List, [], ◌∷◌, ◌++◌}
 use Rattle.std.proofs.Common.{fold, refl, sym, ap, subst, ◌∙◌, append_assoc, arith}
 use Rattle.std.specs.Prelude.{Result, Ok, Err, OnOk, OnErr, slice_get}
@@ -56,7 +56,7 @@ silent_prefix [] vs ys h = (tt, h)
 silent_prefix (u ∷ us) vs ys h = let rest = silent_prefix us vs ys h.1 in ((h.0, rest.0), rest.1)
 
 module _ {L E : Type 0} (G : LinkGhosts L) (reported : Writer E) (log : Bool) where
-  -- what was reported of ends stays right after frames of others
+  -- what was logged of ends stays right after frames of others
   pub logs_still : (over : List (Closed L)) (trace more : List Tagged) (e f : E) → AreSilent over more →
       LogsEnds G reported log trace over e f → LogsEnds G reported log (trace ++ more) over e f
   logs_still [] trace more e f silent h = h
@@ -82,7 +82,7 @@ module _ {L E : Type 0} (G : LinkGhosts L) (reported : Writer E) (log : Bool) wh
       logs_unasked xs trace h.0 f unasked h.4
       ∙ subst (λ b. Logs reported b (peer_line h.1 (name_of_connection_end x.end) (counted_of x.number trace)) e h.0) unasked h.3
 
-  -- those that one slot tells of, whose number it has
+  -- those that one slot reports, whose number it has
   pub logs_own : (n : ℕ) (trace : List Tagged) (x : PeerSlot) → x.link_stats ≡ counted_of n trace → (y : Closed L) (e f : E) →
       y.number ≡ n → G.calls_from y.link x.address →
       Logs reported log (peer_line x.address (name_of_connection_end y.end) x.link_stats) e f →
@@ -120,7 +120,7 @@ module _ {L E : Type 0} (G : LinkGhosts L) (reported : Writer E) (log : Bool) wh
         silent_then over xs ys first.2 silent.0,
       )
 
--- someone stands at a place, or nobody does
+-- a place has a connection, or is free
 pub stands_or_not : {L : Type 0} (m : Connections L) (place : ℕ) →
     ((d : Connection L) × HoldsConnectionAt m place d) ⊎ IsEmpty place m
 stands_or_not {L} m place = go (slice_get m.places.items place) refl
@@ -141,7 +141,7 @@ peer_slot_as G a b trace i c d same number peer x = record {
   peer = peer x.peer_slot.address x.peer;
 }
 
--- where slots stay, and those who stand stood there under their numbers
+-- where slots stay, and the connections there were there under their numbers
 pub counts_existed : {L : Type 0} (G : LinkGhosts L) (place : ℕ) (a b : EventLoop L) (trace : List Tagged) →
     b.peer_slots ≡ a.peer_slots → ExistedUnder G place a.connections b.connections → LeavesOthers place a.connections b.connections → CountsOwn G a trace →
     CountsOwn G b trace
@@ -154,7 +154,7 @@ counts_existed {L} G place a b trace same existed others c i d at = go (eqb_tell
     go (inr z) =
         peer_slot_as G a b trace i d d same refl (λ p from. from) (c i d (sym (others.others i z.1) ∙ at))
 
--- who was let in has answered none yet
+-- of a peer just accepted no frame is answered yet
 pub counts_in_slots : {L : Type 0} (G : LinkGhosts L) (place now : ℕ) (link : L) (a b : EventLoop L) (x : PeerSlot)
     (r : Result (Unit {0}) BeginError) → SetsPlace a.peer_slots.items place x b.peer_slots.items → x.link_stats ≡ none_counted →
     G.calls_from link x.address → IsFree a.connections place → OnOk r (BeginsAt place link now a.connections b.connections) →

@@ -116,7 +116,7 @@ grows_then {L} G a b c f g = record {
 pub grown_peer_slots : {L : Type 0} (G : LinkGhosts L) (a b : EventLoop L) → Grows G a b → HasPeerSlots a → HasPeerSlots b
 grown_peer_slots G a b g peer_slots = g.peer_slots_are ∙ (peer_slots ∙ sym g.places_are)
 
--- who may have bytes or room is reported so
+-- what may have bytes or room is reported so
 pub stays_woken : {L : Type 0} (G : LinkGhosts L) (place : ℕ) (a b : EventLoop L) → Adds G a.connections [] [] b.connections →
     ExistedUnder G place a.connections b.connections → StaysAt place a.connections b.connections → b.peer_slots ≡ a.peer_slots → b.ended ≡ a.ended → KeepsEventLoop G a b
 stays_woken G place a b adds existed stays peer_slots ended = record {
@@ -140,7 +140,7 @@ stays_then G a b c f g = record {
 
 module _ {L S O E : Type 0} (G : LinkGhosts L) (answers : S → Frame → List Reply → S → Type 0) (out : Writer O)
     (reported : Writer E) (log : Bool) where
-  -- nothing was answered, and nobody's connection ended
+  -- nothing was answered, and no connection ended
   pub advances_grown : (links : List (Admission L)) (a b : EventLoop L) (s : S) (o : O) (e : E) → Grows G a b →
       HostsMore G a.connections links [] b.connections → Advances G answers out reported log [] [] links a b s s o o e e
   advances_grown links a b s o e g hosts = record {
@@ -197,7 +197,7 @@ module _ {L S O E : Type 0} (G : LinkGhosts L) (answers : S → Frame → List R
       let next : suc n ≡ n + 1 = omega arith in
       subst (λ (k : ℕ). InTurn G answers out reported log now idle k a c s u o q e g) next (b, t, p, f, x, y)
 
-  -- nobody is let in by quanta
+  -- quanta accept no peer
   pub turn_begun : (now idle n : ℕ) (a b : EventLoop L) (s t : S) (o p : O) (e f : E) →
       InTurn G answers out reported log now idle n a b s t o p e f → begun_of b.connections ≡ begun_of a.connections
   turn_begun now idle zero a b s t o p e f x = ap (λ (c : EventLoop L). begun_of c.connections) x.0

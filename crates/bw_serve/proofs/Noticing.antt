@@ -1,4 +1,4 @@
--- Who may have bytes again, or room.
+-- Which connections may have bytes again, or room.
 use Rattle.std.proofs.Common.{◌≡◌, ◌≢◌, ◌⊎◌, inl, inr, ℕ, ◌==◌, Bool, true, false, ◌||◌, List, [], ◌∷◌, ◌++◌}
 use Rattle.std.proofs.Common.{refl, sym, ap, subst, ◌∙◌, append_assoc, length, suc, ◌+◌}
 use Rattle.std.specs.Prelude.{◌&&◌}
@@ -24,7 +24,7 @@ or_then false true z = refl
 or_then false false true = refl
 or_then false false false = refl
 
--- nobody was reported of
+-- no link was reported
 pub wakes_none : {L : Type 0} (c : EventLoop L) → WakesEach [] c c
 wakes_none c i d at = (
   d,
@@ -70,7 +70,7 @@ wakes_then i reported r d e f v w = record {
   };
 }
 
--- one more was reported of
+-- one more link was reported
 notices_more : {B K L : Type 0} (reactor : ReactorGhosts B K) (b x y : B) (r : Ready) (c d e : EventLoop L) →
     Notices reactor b x c d → ((rs : List Ready) → reactor.reported x rs → reactor.reported y (rs ++ r ∷ [])) →
     WakesAt r.place r.readable r.writable d.connections e.connections → LeavesOthers r.place d.connections e.connections → Notices reactor b y c e
@@ -109,7 +109,7 @@ notices_more {B} {K} {L} reactor b x y r c d e n next wakes others = record {
               })),
         )
 
--- .. and so many were
+-- and this many were
 abbrev pub Noticed : {B K L : Type 0} → ReactorGhosts B K → ℕ → B → B → EventLoop L → EventLoop L → Type 0
 Noticed reactor count b x c d = (n : Notices reactor b x c d) × (length n.reported ≡ count)
 
@@ -132,7 +132,7 @@ pub noticed_most : {B K L : Type 0} (reactor : ReactorGhosts B K) (count : ℕ) 
     Noticed reactor count b x c d → count ≡ suc (connection_count c.connections) → NoticesAll reactor b x c d
 noticed_most reactor count b x c d n is = (n.0, inr (n.1 ∙ is))
 
--- what a reactor has told of is all still
+-- what a reactor has reported is still all
 pub all_still : {L P Q : Type 0} (c : EventLoop L) (links : List Ready) → (P → Q) → IsAll c links P → IsAll c links Q
 all_still c links keep (inl all) = inl (keep all)
 all_still c links keep (inr as_many) = inr as_many

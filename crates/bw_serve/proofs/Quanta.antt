@@ -1,4 +1,4 @@
--- What a quantum at a place leaves counted and told.
+-- What a quantum at a place leaves counted and reported.
 use Rattle.std.proofs.Common.{◌≡◌, ◌≢◌, ◌⊎◌, inl, inr, ℕ, ◌-◌, ◌<◌, ◌==◌, Bool, true, false, Option, Some, None, List, [], ◌∷◌, ◌++◌}
 use Rattle.std.proofs.Common.{fold, vec_len, refl, sym, ap, subst, ◌∙◌}
 use Rattle.std.specs.Prelude.{slice_get}
@@ -29,7 +29,7 @@ use Rattle.bw_serve.specs.declared.peer_slot.PeerSlot.{PeerSlot}
 use Rattle.bw_serve.proofs.Counting.{counted_more, counted_still, logs_own, stands_or_not}
 use Rattle.bw_serve.proofs.Growing.{adds_then}
 
--- those that one quantum ends are the connection that stood at its place, which its slot tells of
+-- those that one quantum ends are the connection that was at its place, which its slot reports
 abbrev pub ReportsThose : {L E : Type 0} → LinkGhosts L → Writer E → Bool → ℕ → Connections L → List PeerSlot →
     List (Closed L) → E → E → Type 0
 ReportsThose G reported log place m peer_slots [] e f = f ≡ e
@@ -37,7 +37,7 @@ ReportsThose G reported log place m peer_slots (y ∷ []) e f =
     EndsIts G place (Some y) m × (IsEmpty place m → ⊥) × LogsAt reported log place y.end peer_slots e f
 ReportsThose G reported log place m peer_slots (y ∷ z ∷ zs) e f = ⊥
 
--- each of those is who stood there
+-- each of those is the connection that was there
 pub whose_are : {L E : Type 0} (G : LinkGhosts L) (reported : Writer E) (log : Bool) (place : ℕ) (m : Connections L)
     (peer_slots : List PeerSlot) (closed : List (Closed L)) (e f : E) → ReportsThose G reported log place m peer_slots closed e f →
     (d : Connection L) → HoldsConnectionAt m place d → AreOf G d closed
@@ -45,7 +45,7 @@ whose_are G reported log place m peer_slots [] e f h d at = tt
 whose_are G reported log place m peer_slots (y ∷ []) e f h d at = (h.0 d at, tt)
 whose_are G reported log place m peer_slots (y ∷ z ∷ zs) e f h d at = absurd h
 
--- who ends for its silence stands there
+-- a connection that ends for its silence is there
 pub expired_stands : {L : Type 0} (now idle place : ℕ) (m : Connections L) (y : Closed L) →
     end_of_connection (Some y) ≡ expired_there now idle m place → (d : Connection L) × HoldsConnectionAt m place d
 expired_stands {L} now idle place m y is = go (stands_or_not m place)
@@ -61,7 +61,7 @@ expired_stands {L} now idle place m y is = go (stands_or_not m place)
     go (inr empty) =
         absurd (not_some y.end (sym (none (slice_get m.places.items place) refl empty) ∙ sym is))
 
--- .. as who stood there before the quantum
+-- as the connection there before the quantum
 pub silence_ends : {L : Type 0} (G : LinkGhosts L) (now idle place : ℕ) (a m : Connections L) (y : Closed L) →
     ExistedUnder G place a m → EndsIts G place (Some y) m → end_of_connection (Some y) ≡ expired_there now idle m place →
     EndsIts G place (Some y) a × (IsEmpty place a → ⊥)
@@ -85,16 +85,16 @@ module _ {L S E : Type 0} (G : LinkGhosts L) (answers : S → Frame → List Rep
   abbrev more : List Tagged
   more = tagged w.works.number w.works.answered
 
-  -- where nobody stood nothing was answered
+  -- at a free place nothing was answered
   still : IsEmpty place a.connections → more ≡ []
   still empty = ap (tagged w.works.number) (w.works.nobody empty).0
 
-  -- the slot of who stood there
+  -- the slot of the connection that was there
   peer_slot_is : (d : Connection L) (at : HoldsConnectionAt a.connections place d) → (own_counted place d at).peer_slot ≡ w.peer_slot
   peer_slot_is d at =
       let h = own_counted place d at in some_is h.peer_slot w.peer_slot (sym h.there ∙ w.was)
 
-  -- .. has counted all its frames
+  -- has counted all its frames
   its_own : (d : Connection L) → HoldsConnectionAt a.connections place d → w.peer_slot'.link_stats ≡ counted_of d.number (trace ++ more)
   its_own d at =
       w.counted
@@ -103,7 +103,7 @@ module _ {L S E : Type 0} (G : LinkGhosts L) (answers : S → Frame → List Rep
       ∙ (sym (counted_more d.number trace w.works.answered)
       ∙ ap (λ n. counted_of d.number (trace ++ tagged n w.works.answered)) (w.works.is_its d at))))
 
-  -- .. and has its address still
+  -- and has its address still
   its_peer : (d : Connection L) → HoldsConnectionAt a.connections place d → G.calls_from d.link w.peer_slot'.address
   its_peer d at =
       subst (G.calls_from d.link) (ap (λ (c : PeerSlot). c.address) (peer_slot_is d at) ∙ sym w.address)

@@ -1,4 +1,4 @@
--- Who is let in, and rounds.
+-- Which peers are accepted, and rounds.
 use Rattle.std.proofs.Common.{◌≡◌, ◌≢◌, ◌⊎◌, inl, inr, ℕ, suc, ◌==◌, ◌<◌, Bool, true, false, Some, None, List}
 use Rattle.std.proofs.Common.{[], ◌∷◌, ◌++◌, refl, sym, ap, subst, ◌∙◌, append_assoc}
 use Rattle.std.specs.Prelude.{Result, Ok, Err, OnOk, OnErr, slice_get}
@@ -24,7 +24,7 @@ use Rattle.bw_ports.specs.declared.reactor.Reactor.{Ghosts as ReactorGhosts}
 use Rattle.bw_serve.proofs.Growing.{advances_then, grows_then, turn_advances, advances_grown}
 use Rattle.bw_serve.proofs.Admitting.{admits_then, hosts_admitted_each, hosts_more, hosts_woken}
 
--- nobody comes
+-- no peer comes
 pub lets_in_none : {L : Type 0} (now : ℕ) (c : EventLoop L) → LetsIn now c c
 lets_in_none now c = record { stands = λ i d at. at; received = λ i d at. inl at }
 
@@ -38,7 +38,7 @@ lets_in_then {L} now a b c f g = record {
     before i d (inl at) = f.received i d at
     before i d (inr comes) = inr comes
 
--- one comes to a free place, unless memory is refused
+-- a peer comes and gets a free place, unless memory is refused
 pub in_slots : {L : Type 0} (place now : ℕ) (link : L) (a b : EventLoop L) (r : Result (Unit {0}) BeginError) →
     IsFree a.connections place → OnOk r (BeginsAt place link now a.connections b.connections) → OnErr r (RefusesLink a.connections b.connections) →
     LeavesOthers place a.connections b.connections → LetsIn now a b
@@ -64,7 +64,7 @@ in_slots {L} place now link a b r free begins refused others = record {
     received (Ok x) n same i d at (inr z) = inl (sym (others.others i z.1) ∙ at)
     received (Err x) n same i d at w = inl (ap (λ p. slice_get p.items i) (sym same.places) ∙ at)
 
--- nobody was asked for yet
+-- no peer was asked for yet
 pub welcomes_none : {B L : Type 0} (reactor : ReactorGhosts B L) (now : ℕ) (b : B) (c : EventLoop L) → Welcomes reactor now b b c c
 welcomes_none reactor now b c = record {
   links = [];
@@ -72,7 +72,7 @@ welcomes_none reactor now b c = record {
   admits = refl;
 }
 
--- nobody came
+-- no peer came
 pub welcomes_on : {B L : Type 0} (reactor : ReactorGhosts B L) (now : ℕ) (b x y : B) (a c : EventLoop L) →
     Welcomes reactor now b x a c → ((xs : List (Admission L)) → reactor.admitted x xs → reactor.admitted y (xs ++ [])) →
     Welcomes reactor now b y a c
@@ -94,7 +94,7 @@ welcomes_more reactor now place link b x y a c d w one admits = record {
   admits = admits_then now w.links ((place, link) ∷ []) a c d w.admits (d, admits, refl);
 }
 
--- what was done before lets in nobody
+-- what was done before accepts no peer
 pub welcomes_after : {B L : Type 0} (reactor : ReactorGhosts B L) (now later : ℕ) (b x y : B) (a c : EventLoop L) →
     now ≡ later → ((xs : List (Admission L)) → reactor.admitted b xs → reactor.admitted x xs) →
     Welcomes reactor now x y a c → Welcomes reactor later b y a c

@@ -44,7 +44,7 @@ all_ended exchanges c over is all = omega (arith, is, all)
 
 module _ {L S O E : Type 0} (G : LinkGhosts L) (answers : S → Frame → List Reply → S → Type 0) (out : Writer O)
     (reported : Writer E) (log : Bool) where
-  -- what a run has come to
+  -- what a run has resulted in
   pub record SoFar (trace : List Tagged) (over : List (Closed L)) (links : List (Admission L)) (c : EventLoop L) (s s' : S)
       (o o' : O) (e e' : E) : Type 0 where
     pub by_server : AnswersAll answers s (all_answered trace) s'
@@ -89,7 +89,7 @@ module _ {L S O E : Type 0} (G : LinkGhosts L) (answers : S → Frame → List R
 
 module _ {B L S O E : Type 0} (reactor : ReactorGhosts B L) (G : LinkGhosts L)
     (answers : S → Frame → List Reply → S → Type 0) (out : Writer O) (reported : Writer E) (log : Bool) where
-  -- what rounds have come to, one after another
+  -- what rounds have resulted in, one after another
   pub record Runs (places idle exchanges : ℕ) (c : EventLoop L) (s s' : S) (b b' : B) (o o' : O) (e e' : E)
       : Type 0 where
     pub rounds : ServesInRounds reactor G answers out reported log places idle exchanges c s s' b b' o o' e e'
@@ -165,7 +165,7 @@ module _ {B L S O E : Type 0} (reactor : ReactorGhosts B L) (G : LinkGhosts L)
     ends = ends _ r.so_far.ended;
   }
 
-  -- .. where no more are let in
+  -- a run that ends because no more are accepted
   pub runs_shut : EachIsServed G → (bounds : Bounds) (exit : Exit) (c d : EventLoop L) (s t u : S) (b x y : B) (o p q : O)
       (e f g : E) → Runs bounds.places bounds.idle bounds.exchanges c s t b x o p e f →
       IsShut reactor G c d t u x y p q f g → begun_of d.connections ≤ bounds.exchanges →

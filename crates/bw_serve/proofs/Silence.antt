@@ -1,4 +1,4 @@
--- Who is ended for its silence, and who isn't.
+-- Which connections are ended for silence, and which aren't.
 use Rattle.std.proofs.Common.{◌≡◌, ℕ, ◌-◌, ◌<◌, Bool, true, false, Option, Some, None, List, [], ◌∷◌}
 use Rattle.std.proofs.Common.{refl, sym, ap, subst, ◌∙◌, arith, nat_lt, if◌then◌else◌}
 use Rattle.std.proofs.lemmas.Bool.{ltb-true}
@@ -18,12 +18,12 @@ use Rattle.bw_connections.specs.Places.{end_of_connection, expired_there}
 use Rattle.bw_connections.proofs.Standing.{not_some}
 use Rattle.bw_serve.proofs.Quanta.{expired_stands}
 
--- what is looked at is the connection that stands there
+-- what is looked at is the connection there
 expired_is : {L : Type 0} (now idle place : ℕ) (m : Connections L) (d : Connection L) → HoldsConnectionAt m place d →
     expired_there now idle m place ≡ expired_at now idle d
 expired_is now idle place m d at = rw at refl
 
--- one that stands after it isn't quiet for too long
+-- one that is there after it isn't quiet for too long
 pub not_expired : {L : Type 0} (now idle place : ℕ) (m : Connections L) → end_of_connection {L = L} None ≡ expired_there now idle m place →
     (d : Connection L) → HoldsConnectionAt m place d → expired_at now idle d ≡ None
 not_expired now idle place m is d at = sym (is ∙ expired_is now idle place m d at)

@@ -26,11 +26,11 @@ AdmitsEach now [] c c' = c' ≡ c
 AdmitsEach {L} now (x ∷ xs) c c' = (d : EventLoop L) × Admits now x.0 x.1 c d × AdmitsEach now xs d c'
 
 module _ {L : Type 0} (G : LinkGhosts L) where
-  -- these, which are over, are this connection, called from where it was
+  -- these, which are over, are this connection, with the same peer
   abbrev pub AreOf : Connection L → List (Closed L) → Type 0
   AreOf d closed = AllByRecursion (λ x. (x.number ≡ d.number) × KeepsPeer G d.link x.link) closed
 
-  -- the connection with this number stands at the place for which its link was given
+  -- the connection with this number is at the place for which its link was given
   abbrev pub StandsFor : Connections L → ℕ → Admission L → Type 0
   StandsFor m n x =
       (d : Connection L) × HoldsConnectionAt m x.0 d × (d.number ≡ n) × KeepsPeer G x.1 d.link
@@ -43,8 +43,8 @@ module _ {L : Type 0} (G : LinkGhosts L) where
   abbrev pub IsHosted : Connections L → List (Closed L) → ℕ → Admission L → Type 0
   IsHosted m over n x = StandsFor m n x ⊎ EndedAs n x.1 over
 
-  -- Each of these links, in order, got the next number, and under it stands at its place or is over;
-  -- or it was refused, which was counted. With so many begun and refused before, so many are after.
+  -- Each of these links, in order, got the next number, and under it is at its place or over; or it
+  -- was refused, which was counted. The counts of links begun and refused rise accordingly.
   abbrev pub Hosts : Connections L → List (Closed L) → ℕ → ℕ → List (Admission L) → ℕ → ℕ → Type 0
   Hosts m over begun refused [] begun' refused' = (begun' ≡ begun) × (refused' ≡ refused)
   Hosts m over begun refused (x ∷ xs) begun' refused' =

@@ -1,4 +1,4 @@
--- What an event loop's calls come to.
+-- The results of an event loop's calls.
 use Rattle.std.specs.Prelude.{◌≡◌, ◌⊎◌, ℕ, zero, suc, ◌+◌, ◌-◌, ◌<◌, Bool, false, ◌||◌, IfSome}
 use Rattle.std.specs.Prelude.{Option, Some, None, List, [], ◌∷◌, ◌++◌, fold, length, slice_get}
 use Rattle.std.specs.Prelude.{vec_len}
@@ -25,7 +25,7 @@ use Rattle.bw_serve.specs.Lines.{LogsEnds, ReportsEnds, counted_of}
 use Rattle.bw_serve.specs.declared.event_loop.EventLoop.{EventLoop}
 use Rattle.bw_serve.specs.declared.peer_slot.PeerSlot.{PeerSlot}
 
--- nobody has come yet
+-- no peer has come yet
 pub record IsNew {L : Type 0} (G : LinkGhosts L) (places : ℕ) (c : EventLoop L) : Type 0 where
   pub keeps : Keeps G c.connections [] []
   pub places_are : connection_count c.connections ≡ places
@@ -34,7 +34,8 @@ pub record IsNew {L : Type 0} (G : LinkGhosts L) (places : ℕ) (c : EventLoop L
   pub refused : refused_of c.connections ≡ 0
   pub ended : c.ended ≡ 0
 
--- whether a connection at one of the first places can go on before its link has more bytes, or room
+-- whether a connection at one of the first places can proceed before its link has more bytes, or
+-- room
 abbrev pub can_go_on_below : {L : Type 0} → EventLoop L → ℕ → Bool
 can_go_on_below c zero = false
 can_go_on_below c (suc n) = can_go_on_below c n || can_go_on_at c.connections n
@@ -55,7 +56,7 @@ pub record PeerSlotOf {L : Type 0} (G : LinkGhosts L) (c : EventLoop L) (trace :
   pub link_stats : peer_slot.link_stats ≡ counted_of d.number trace
   pub peer : G.calls_from d.link peer_slot.address
 
--- it is so of each that stands
+-- this holds for each connection that is there
 abbrev pub CountsOwn : {L : Type 0} → LinkGhosts L → EventLoop L → List Tagged → Type 0
 CountsOwn {L} G c trace = (i : ℕ) (d : Connection L) → HoldsConnectionAt c.connections i d → PeerSlotOf G c trace i d
 
@@ -63,7 +64,7 @@ CountsOwn {L} G c trace = (i : ℕ) (d : Connection L) → HoldsConnectionAt c.c
 abbrev pub AreSilent : {L : Type 0} → List (Closed L) → List Tagged → Type 0
 AreSilent over more = AllByRecursion (λ x. own x.number more ≡ []) over
 
--- nothing was answered, nobody's connection ended, and there are as many places
+-- nothing was answered, no connection ended, and there are as many places
 pub record Grows {L : Type 0} (G : LinkGhosts L) (c c' : EventLoop L) : Type 0 where
   pub adds : Adds G c.connections [] [] c'.connections
   pub places_are : connection_count c'.connections ≡ connection_count c.connections
@@ -72,7 +73,7 @@ pub record Grows {L : Type 0} (G : LinkGhosts L) (c c' : EventLoop L) : Type 0 w
       CountsOwn G c trace → CountsOwn G c' trace
   pub ended : c'.ended ≡ c.ended
 
--- .. and nobody was let in, or refused
+-- and no peer was accepted, or refused
 pub record KeepsEventLoop {L : Type 0} (G : LinkGhosts L) (c c' : EventLoop L) : Type 0 where
   pub grows : Grows G c c'
   pub begun : begun_of c'.connections ≡ begun_of c.connections
@@ -82,13 +83,14 @@ pub record KeepsEventLoop {L : Type 0} (G : LinkGhosts L) (c c' : EventLoop L) :
 abbrev pub AcceptsPeer : {L : Type 0} → ℕ → Connection L → Type 0
 AcceptsPeer {L} now d = (link : L) × (number : ℕ) × BeginsConnection link number now d
 
--- who stood at a place stands there, as it is, and each other who stands comes at this time
+-- each connection that was at a place is still there, as it was, and each other one was accepted at
+-- this time
 pub record LetsIn {L : Type 0} (now : ℕ) (c c' : EventLoop L) : Type 0 where
   pub stands : (i : ℕ) (d : Connection L) → HoldsConnectionAt c.connections i d → HoldsConnectionAt c'.connections i d
   pub received : (i : ℕ) (d : Connection L) → HoldsConnectionAt c'.connections i d → HoldsConnectionAt c.connections i d ⊎ AcceptsPeer now d
 
--- What is done after the quantum at a place: nothing where its connection is over by it; else that
--- is ended where it was quiet, or drained, for too long, as it stands after its quantum.
+-- What is done after the quantum at a place: nothing if its connection ended in it; else that is
+-- ended if, after its quantum, it was quiet, or drained, for too long.
 abbrev pub LooksAfter : {L : Type 0} → ℕ → ℕ → ℕ → Option (Closed L) → Connections L →
     List (Closed L) → Connections L → Type 0
 LooksAfter now idle place (Some x) m closed m' = (closed ≡ x ∷ []) × (m' ≡ m)
@@ -103,7 +105,7 @@ CountsEnds out c c' closed o o' = (n : ℕ) → c.ended ≡ up_to_last n →
     ReportsEnds out n closed o o' × (c'.ended ≡ up_to_last (n + length closed))
 
 -- Frames more were answered, none of them over a connection that was over, and connections more are
--- over: where of each its own frames were counted they still are, and the ends are reported of so.
+-- over: if the frames of each were counted they still are, and the ends are logged so.
 abbrev pub ReportsRound : {L E : Type 0} → LinkGhosts L → Writer E → Bool → EventLoop L → List Tagged →
     List (Closed L) → EventLoop L → E → E → Type 0
 ReportsRound {L} G reported log c more closed c' e e' = (over : List (Closed L)) (trace : List Tagged) →
@@ -128,7 +130,7 @@ module _ {L S : Type 0} (G : LinkGhosts L) (answers : S → Frame → List Reply
 module _ {L S O E : Type 0} (G : LinkGhosts L) (answers : S → Frame → List Reply → S → Type 0)
     (out : Writer O) (reported : Writer E) (log : Bool) where
   -- At this time the connection at a place had its quantum, and only after that its silence was
-  -- looked at. Of one that is over the line is printed, and it is reported of.
+  -- checked. The line of one that is over is printed, and it is logged.
   pub record ServesPlace (now idle place : ℕ) (c c' : EventLoop L) (s s' : S) (o o' : O) (e e' : E)
       : Type 0 where
     pub first : Option (Closed L)
@@ -138,14 +140,14 @@ module _ {L S O E : Type 0} (G : LinkGhosts L) (answers : S → Frame → List R
     pub following : LooksAfter now idle place first between closed c'.connections
     pub adds : Adds G c.connections (tagged works.number works.answered) closed c'.connections
     pub stays : StaysAt place c.connections c'.connections
-    -- who stands there stood there before, and who is over did
+    -- the connection there was there before, and so was the one that is over
     pub existed : ExistedUnder G place c.connections c'.connections
     pub whose : (d : Connection L) → HoldsConnectionAt c.connections place d → AreOf G d closed
     pub peer_slots_are : vec_len c'.peer_slots ≡ vec_len c.peer_slots
-    -- it ended for its silence only where it answered nothing, for longer than so many milliseconds
+    -- it ended for its silence only if it answered nothing, for longer than this many milliseconds
     pub silent : (d : Connection L) → HoldsConnectionAt c.connections place d → AllByRecursion
         (λ x. x.end ≡ ends.Idle → (works.answered ≡ []) × (idle < now - d.since)) closed
-    -- and goes on only where it was not quiet, or drained, for too long
+    -- and continues only if it was not quiet, or drained, for too long
     pub in_time : (d : Connection L) → HoldsConnectionAt c'.connections place d → expired_at now idle d ≡ None
     pub prints : CountsEnds out c c' closed o o'
     pub reports : ReportsRound G reported log c (tagged works.number works.answered) closed c' e e'
@@ -173,8 +175,8 @@ module _ {L S O E : Type 0} (G : LinkGhosts L) (answers : S → Frame → List R
   ended_in_turn now idle (suc n) c c' s s' o o' e e' turn =
       ended_in_turn now idle n c turn.0 s turn.1 o turn.2 e turn.3 turn.4 ++ turn.5.closed
 
-  -- these frames more were answered, and the lines of these, which are over, printed, and told of;
-  -- and these links more were let in, or refused
+  -- these frames more were answered, and the lines of these, which are over, printed, and reported;
+  -- and these links more were accepted, or refused
   pub record Advances (more : List Tagged) (closed : List (Closed L)) (links : List (Admission L))
       (c c' : EventLoop L) (s s' : S) (o o' : O) (e e' : E) : Type 0 where
     pub by_server : AnswersAll answers s (all_answered more) s'

@@ -28,11 +28,11 @@ use Rattle.bw_ports.specs.declared.network.Network.{Ghosts as NetworkGhosts}
 use Rattle.bw_serve.specs.declared.hosting_in_turn.Serving.{Serving}
 use Rattle.bw_ports.specs.declared.peers.Peers.{Ghosts as PeerGhosts}
 
--- the first line, from which on peers may come
+-- the first line, after which peers may come
 abbrev pub listening_line : SocketAddr → List ℕ
 listening_line address = as_line (codes "listening " ++ socket_text address)
 
--- what is reported where no more peers are let in
+-- what is reported where no more peers are accepted
 abbrev pub gone_line : List ℕ
 gone_line = as_line (codes "the server can't go on: its folder is gone, or nothing can be waited for")
 
@@ -44,7 +44,7 @@ pub record GivesUp {E : Type 0} (reported : Writer E) (fault : Fault) (exit : Ex
   pub line : IsOf (as_line (input_fault_text fault)) print
   pub reports : IsPrint reported print e e'
 
--- it is reported that no more peers are let in
+-- it is reported that no more peers are accepted
 pub record ReportsGone {E : Type 0} (reported : Writer E) (exit : Exit) (e e' : E) : Type 0 where
   pub exit_is : exit ≡ exits.Device
   pub print : Print
@@ -57,8 +57,8 @@ ReportsExit reported exits.Done exit e e' = (exit ≡ exits.Done) × (e' ≡ e)
 ReportsExit reported exits.Memory exit e e' = GivesUp reported faults.Memory exit e e'
 ReportsExit reported _ exit e e' = ReportsGone reported exit e e'
 
--- it is reported that what is named so can't be opened, for an error of this kind, and the command ends
--- so
+-- it is reported that what has this name can't be opened, for an error of this kind, and the
+-- command ends so
 pub record ReportsUnopened {E : Type 0} (reported : Writer E) (what : List ℕ) (kind : ErrorKind)
     (exit : Exit) (e e' : E) : Type 0 where
   pub did : Outcome
@@ -102,7 +102,7 @@ module _ {X Y P R W O E : Type 0} (S : StoreGhosts X) (J : JournalGhosts Y)
     pub printed : HasStopped out (listening_line serving.address) o o'
     pub reports : GivesUp reported faults.Unwritable exit e e'
 
-  -- what comes of a server over this store
+  -- the result of a server over this store
   abbrev pub HostsOver : Serving → Exit → X → P → P → O → O → E → E → Type 0
   HostsOver serving exit store p p' o o' e e' =
       HostsRun serving exit store p p' o o' e e'

@@ -77,7 +77,7 @@ module _ {X Y B L O E : Type 0} (S : StoreGhosts X) (J : JournalGhosts Y) (react
     pub printed : HasStopped out (listening_line hosting.address) o o'
     pub reports : GivesUp reported faults.Unwritable exit e e'
 
-  -- what comes of a server over this store
+  -- the result of a server over this store
   abbrev pub HostsManyOver : Hosting → Exit → X → B → B → O → O → E → E → Type 0
   HostsManyOver hosting exit store b b' o o' e e' =
       HostsManyRun hosting exit store b b' o o' e e'

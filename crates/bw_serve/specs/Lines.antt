@@ -35,9 +35,9 @@ ReportsEnds {L} {O} out index (x ∷ xs) o o' = (mid : O) × (print : Print)
 abbrev pub counted_of : ℕ → List Tagged → Counted
 counted_of number trace = message_count (answered_frames (own number trace))
 
--- Where lines are asked for, that of each of these connections was reported, one after another, with
--- the address from which its link was called, its end and what is counted of its own frames, or left
--- out where memory was refused for it.
+-- If a log is asked for, the line of each of these connections was written, one after another, with
+-- the address from which its link was called, its end and what is counted of its own frames, or
+-- left out if memory was refused for it.
 abbrev pub LogsEnds : {L E : Type 0} → LinkGhosts L → Writer E → Bool → List Tagged →
     List (Closed L) → E → E → Type 0
 LogsEnds G reported log trace [] e e' = e' ≡ e

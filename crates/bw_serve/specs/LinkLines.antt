@@ -1,4 +1,4 @@
--- The line of a link, where lines are asked for.
+-- The log line of a link.
 use Rattle.std.specs.Prelude.{◌≡◌, ◌⊎◌, ℕ, Bool, true, false, List, ◌++◌, flat_map, codes, decimal}
 use Rattle.std.specs.Net.Text.{socket_text}
 use Rattle.std.specs.declared.net.socket_addr.SocketAddr.{SocketAddr}
@@ -13,7 +13,7 @@ use Rattle.bw_exchange.specs.LinkCounts.{Counted}
 abbrev pub name_after : List ℕ → List ℕ
 name_after name = codes " " ++ name
 
--- who came, and under which names
+-- the peer's address, and its names
 abbrev pub peer_text : SocketAddr → List (List ℕ) → List ℕ
 peer_text peer names = codes "peer " ++ socket_text peer ++ codes " names" ++ flat_map name_after names
 
@@ -31,7 +31,7 @@ peer_line peer end c = peer_text peer c.names ++ counts_text end c.messages c.by
 abbrev pub link_line : SocketAddr → ExchangeEnd → Counted → List ℕ
 link_line peer end c = peer_line peer (name_of_end end) c
 
--- where lines are asked for this one is reported, unless memory is refused for it
+-- this line is logged if a log is asked for, unless memory is refused for it
 abbrev pub Logs : {E : Type 0} → Writer E → Bool → List ℕ → E → E → Type 0
 Logs reported false line e e' = e' ≡ e
 Logs reported true line e e' = (e' ≡ e) ⊎ ((print : Print) × IsOf line print × IsPrint reported print e e')

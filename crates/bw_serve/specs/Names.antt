@@ -1,4 +1,4 @@
--- What many connections come to in takes: each name's own are not changed by the others.
+-- What many connections amount to in takes: the others change nothing of a name's own.
 use Rattle.std.specs.Prelude.{◌≡◌, ℕ, is_some, IsTrue, List, []}
 use Rattle.bw_model.specs.Wire.{Frame}
 use Rattle.bw_model.specs.Turn.{IsolatesNames, Faults, book_after, run}
@@ -24,8 +24,8 @@ module _ {X Y : Type 0} (S : StoreGhosts X) (J : JournalGhosts Y) where
     -- of which each name's turns are a run of their own
     pub each : (name : List ℕ) → IsolatesNames (λ n. is_some (S.contents before n)) name received
 
-  -- So it is for a new server over an honest store, in whatever order the turns of its connections
-  -- came.
+  -- This holds for a new server over an honest store, in whatever order the turns of its
+  -- connections came.
   abbrev pub NamesStandApart : Type 0
   NamesStandApart = (limit : ℕ) (before : X) (old new : Server X Y S J) (trace : List Tagged) →
       IsTrue (S.honest before) → old.stores.store ≡ before → old.limit ≡ limit →

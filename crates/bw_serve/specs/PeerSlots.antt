@@ -1,4 +1,4 @@
--- What is kept of those who stand at places.
+-- What is kept of the peers at places.
 use Rattle.std.specs.Prelude.{◌≡◌, ℕ, Bool, Some, List, slice_get}
 use Rattle.bw_stream.specs.declared.sink.Sink.{Ghosts as Writer}
 use Rattle.bw_connections.specs.declared.connection.ConnectionEnd.{ConnectionEnd}
@@ -19,7 +19,7 @@ pub record SwapsAt {T : Type 0} (place : ℕ) (xs ys : List PeerSlot) (t t' : Me
   pub given : t'.link_stats ≡ peer_slot.link_stats
   pub server : t'.server ≡ t.server
 
--- where lines are asked for the one at a place is reported of, which ended so
+-- the peer at a place, whose exchange ended so, is logged if a log is asked for
 pub record LogsAt {E : Type 0} (reported : Writer E) (log : Bool) (place : ℕ) (end : ConnectionEnd)
     (peer_slots : List PeerSlot) (e e' : E) : Type 0 where
   pub peer_slot : PeerSlot

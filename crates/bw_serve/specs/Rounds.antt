@@ -20,12 +20,12 @@ use Rattle.bw_serve.specs.declared.event_loop.EventLoop.{EventLoop}
 use Rattle.bw_ports.specs.declared.reactor.Reactor.{Ghosts as ReactorGhosts}
 use Rattle.bw_ports.specs.declared.reactor.Ready.{Ready}
 
--- for how many milliseconds is waited at most: for none where one can go on
+-- the longest wait in milliseconds: none if a connection can proceed
 abbrev pub patience_of : Bool → ℕ
 patience_of true = 0
 patience_of false = 250
 
--- whether one of these tells of bytes at a place
+-- whether one of these reports bytes at a place
 abbrev pub reports_bytes : ℕ → List Ready → Bool
 reports_bytes place reported = list_any (λ r. (r.place == place) && r.readable) reported
 
@@ -33,43 +33,43 @@ reports_bytes place reported = list_any (λ r. (r.place == place) && r.readable)
 abbrev pub reports_room : ℕ → List Ready → Bool
 reports_room place reported = list_any (λ r. (r.place == place) && r.writable) reported
 
--- each that stands at a place stands there still, and may have bytes, or room, where one of these
--- tells of that place so
+-- each connection at a place is still there, and may have bytes, or room, if one of these reports
+-- that of the place
 abbrev pub WakesEach : {L : Type 0} → List Ready → EventLoop L → EventLoop L → Type 0
 WakesEach {L} reported c c' = (i : ℕ) (d : Connection L) → HoldsConnectionAt c.connections i d →
     (d' : Connection L) × HoldsConnectionAt c'.connections i d'
     × Wakes (reports_bytes i reported) (reports_room i reported) d d'
 
--- so it is with those that a reactor has told of more
+-- the same for more links that a reactor has reported
 pub record Notices {B K L : Type 0} (reactor : ReactorGhosts B K) (b b' : B) (c c' : EventLoop L)
     : Type 0 where
   pub reported : List Ready
   pub more : (rs : List Ready) → reactor.reported b rs → reactor.reported b' (rs ++ reported)
   pub each : WakesEach reported c c'
 
--- it has told of each link that could go on, or of one more than there are places
+-- it has reported each link that was ready, or one more than there are places
 abbrev pub IsAll : {L : Type 0} → EventLoop L → List Ready → Type 0 → Type 0
 IsAll c reported all_reported = all_reported ⊎ (length reported ≡ suc (connection_count c.connections))
 
--- .. and with no fewer than that
+-- and with no fewer than that
 abbrev pub NoticesAll : {B K L : Type 0} → ReactorGhosts B K → B → B → EventLoop L → EventLoop L → Type 0
 NoticesAll reactor b b' c c' =
     (n : Notices reactor b b' c c') × IsAll c n.reported (reactor.all_reported b')
 
--- as many were begun as may be, or no place is free, or nobody waits to be let in, or it was asked as
--- often as there are places
+-- as many were begun as may be, or no place is free, or nobody waits to be accepted, or it was
+-- asked as often as there are places
 abbrev pub AsksIn : {B K L : Type 0} → ReactorGhosts B K → ℕ → B → EventLoop L → Type 0
 AsksIn reactor exchanges b c = (exchanges ≤ begun_of c.connections) ⊎ (first_free_place c.connections ≡ None)
     ⊎ reactor.nobody b ⊎ reactor.tried b (connection_count c.connections)
 
--- these links, and no others, the reactor gave; and each of them was let in, or refused
+-- these links, and no others, the reactor gave; and each of them was accepted, or refused
 pub record Welcomes {B L : Type 0} (reactor : ReactorGhosts B L) (now : ℕ) (b b' : B) (c c' : EventLoop L)
     : Type 0 where
   pub links : List (Admission L)
   pub gave : (xs : List (Admission L)) → reactor.admitted b xs → reactor.admitted b' (xs ++ links)
   pub admits : AdmitsEach now links c c'
 
--- some were perhaps let in, after those who were reported of, and nothing else was done
+-- some were perhaps accepted, after the reported links were noted, and nothing else was done
 pub record IsShut {B L S O E : Type 0} (reactor : ReactorGhosts B L) (G : LinkGhosts L) (c c' : EventLoop L)
     (s s' : S) (b b' : B) (o o' : O) (e e' : E) : Type 0 where
   pub noticed : EventLoop L
@@ -86,15 +86,16 @@ pub record IsShut {B L S O E : Type 0} (reactor : ReactorGhosts B L) (G : LinkGh
 module _ {B L S O E : Type 0} (reactor : ReactorGhosts B L) (G : LinkGhosts L)
     (answers : S → Frame → List Reply → S → Type 0) (out : Writer O) (reported : Writer E)
     (log : Bool) where
-  -- A round: it was waited, and not where one could go on; who could go on after that was noticed;
-  -- some were perhaps let in, at the time that the reactor told; then each place had its quantum.
+  -- A round: the reactor waited, but not at all if a connection could proceed; the links that were
+  -- ready after that were noted; some were perhaps accepted, at the time that the reactor reported;
+  -- then each place had its quantum.
   pub record ServesRound (idle exchanges : ℕ) (c c' : EventLoop L) (s s' : S) (b b' : B) (o o' : O)
       (e e' : E) : Type 0 where
     pub waited : reactor.waits b' ≡ one_more (reactor.waits b)
     pub patience : reactor.patience b' ≡ patience_of (can_go_on_in c)
     pub noticed : EventLoop L
     pub notices : KeepsEventLoop G c noticed
-    -- of these links the reactor told after the wait
+    -- the reactor reported these links after the wait
     pub links : List Ready
     pub were_reported : reactor.reported b' links
     pub all : IsAll c links (reactor.all_reported b')
@@ -120,7 +121,7 @@ module _ {B L S O E : Type 0} (reactor : ReactorGhosts B L) (G : LinkGhosts L)
       ended_in_turn G answers out reported log (reactor.time b') idle (connection_count round.between.connections)
       round.between c' s s' o o' e e' round.in_turn
 
-  -- so many rounds, one after another, each begun where fewer were over than are asked for
+  -- this many rounds, one after another, each begun where fewer were over than are asked for
   abbrev pub ServesRounds : ℕ → ℕ → ℕ → EventLoop L → EventLoop L → S → S → B → B →
       O → O → E → E → Type 0
   ServesRounds idle exchanges zero c c' s s' b b' o o' e e' =
@@ -151,7 +152,7 @@ module _ {B L S O E : Type 0} (reactor : ReactorGhosts B L) (G : LinkGhosts L)
       ++ ended_in_round idle exchanges rounds.0 c' rounds.1 s' rounds.2 b' rounds.3 o' rounds.4 e'
       rounds.7
 
-  -- rounds from an empty event loop on, in which a silent one is ended after so many milliseconds
+  -- rounds from an empty event loop, in which a silent one is ended after this many milliseconds
   pub record ServesInRounds (places idle exchanges : ℕ) (c : EventLoop L) (s s' : S) (b b' : B)
       (o o' : O) (e e' : E) : Type 0 where
     pub empty : EventLoop L
@@ -159,7 +160,7 @@ module _ {B L S O E : Type 0} (reactor : ReactorGhosts B L) (G : LinkGhosts L)
     pub count : ℕ
     pub each : ServesRounds idle exchanges count empty c s s' b b' o o' e e'
 
-  -- their frames, and whom they ended
+  -- their frames, and the connections that they ended
   abbrev pub frames_of_run : (places idle exchanges : ℕ) (c : EventLoop L) (s s' : S) (b b' : B)
       (o o' : O) (e e' : E) → ServesInRounds places idle exchanges c s s' b b' o o' e e' →
       List Tagged

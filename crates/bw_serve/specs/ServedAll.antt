@@ -1,4 +1,4 @@
--- What serving exchanges one after another comes to.
+-- The result of serving exchanges one after another.
 use Rattle.std.specs.Prelude.{◌≡◌, ℕ, Bool, suc, Option, Some, None, Ok, Err, List, [], ◌∷◌, length}
 use Rattle.std.specs.Prelude.{◌≤◌, ◌++◌}
 use Rattle.bw_model.specs.Wire.{Frame}
@@ -18,8 +18,8 @@ use Rattle.bw_ports.specs.declared.peers.AcceptFault.TheVariants as accepting
 use Rattle.bw_ports.specs.declared.peers.Peer.{Peer}
 use Rattle.bw_ports.specs.declared.peers.Peers.{Ghosts as PeerGhosts}
 
--- what came of the next peer: its exchange was served and ended so, it went away, or no more are
--- let in
+-- what happened to the next peer: its exchange was served and ended so, it went away, or no more
+-- are accepted
 pub data ServedOutcome : Type 0 where
   Served : Exit → ServedOutcome
   Gone : ServedOutcome
@@ -34,7 +34,7 @@ exit_now Closed = Some Device
 
 module _ {T R W O E : Type 0} (answers : T → Frame → List Reply → T → Type 0) (reader : Reader R)
     (writer : Writer W) (out : Writer O) (reported : Writer E) (log : Bool) where
-  -- one exchange was served over a peer's link, and told of where that is asked for
+  -- one exchange was served over a peer's link, and logged if that is asked for
   pub record ServesPeer (index : ℕ) (exit : Exit) (peer : Peer R W) (t t' : T) (o o' : O)
       (e e' : E) : Type 0 where
     pub end : ExchangeEnd
@@ -48,7 +48,7 @@ module _ {T R W O E : Type 0} (answers : T → Frame → List Reply → T → Ty
 module _ {T P R W O E : Type 0} (answers : T → Frame → List Reply → T → Type 0)
     (peers : PeerGhosts P R W) (reader : Reader R) (writer : Writer W) (out : Writer O)
     (reported : Writer E) (log : Bool) where
-  -- a peer was let in, and its exchange served, with this number
+  -- a peer was accepted, and its exchange served, with this number
   pub record ServesLink (index : ℕ) (exit : Exit) (t t' : T) (p p' : P) (o o' : O) (e e' : E)
       : Type 0 where
     pub peer : Peer R W
@@ -56,7 +56,7 @@ module _ {T P R W O E : Type 0} (answers : T → Frame → List Reply → T → 
     pub counted : peers.failures p' ≡ peers.failures p
     pub served : ServesPeer answers reader writer out reported log index exit peer t t' o o' e e'
 
-  -- no peer was let in, for this reason: the server and what is written are as they were
+  -- no peer was accepted, for this reason: the server and what is written are as they were
   pub record ServesNone (fault : AcceptFault) (t t' : T) (p p' : P) (o o' : O) (e e' : E)
       : Type 0 where
     pub refused : peers.accepts p (Err fault) p'
@@ -65,7 +65,7 @@ module _ {T P R W O E : Type 0} (answers : T → Frame → List Reply → T → 
     pub printed : o' ≡ o
     pub logged : e' ≡ e
 
-  -- the next peer, by what came of it
+  -- the next peer, by its result
   abbrev pub ServesNext : ℕ → ServedOutcome → T → T → P → P → O → O → E → E → Type 0
   ServesNext index (Served exit) t t' p p' o o' e e' = ServesLink index exit t t' p p' o o' e e'
   ServesNext index Gone t t' p p' o o' e e' = ServesNone accepting.Gone t t' p p' o o' e e'
@@ -93,13 +93,13 @@ module _ {T P R W O E : Type 0} (answers : T → Frame → List Reply → T → 
     pub next : ServesNext (length before) last m t' q p' n o' f e'
     pub ends : exit_now last ≡ Some exit
 
-  -- so many peers came, and none of them ended the run
+  -- this many peers came, and none of them ended the run
   pub record ServesAll (exchanges : ℕ) (t t' : T) (p p' : P) (o o' : O) (e e' : E) : Type 0 where
     pub outcomes : List ServedOutcome
     pub all : length outcomes ≡ exchanges
     pub each : ServesEach 0 outcomes t t' p p' o o' e e'
 
-  -- a run of so many exchanges: Done where none of them ended it
+  -- a run of this many exchanges: Done if none of them ended it
   abbrev pub ServesRun : ℕ → Exit → T → T → P → P → O → O → E → E → Type 0
   ServesRun exchanges Done t t' p p' o o' e e' = ServesAll exchanges t t' p p' o o' e e'
   ServesRun exchanges exit t t' p p' o o' e e' = EndsEarly exchanges exit t t' p p' o o' e e'
@@ -111,7 +111,7 @@ module _ {T P R W O E : Type 0} (answers : T → Frame → List Reply → T → 
   answered_next index Gone t t' p p' o o' e e' next = []
   answered_next index Closed t t' p p' o o' e e' next = []
 
-  -- .. of the frames of these peers, one after another
+  -- of the frames of these peers, one after another
   abbrev pub answered_each : (index : ℕ) (xs : List ServedOutcome) (t t' : T) (p p' : P) (o o' : O)
       (e e' : E) → ServesEach index xs t t' p p' o o' e e' → List Answered
   answered_each index [] t t' p p' o o' e e' each = []
@@ -119,14 +119,14 @@ module _ {T P R W O E : Type 0} (answers : T → Frame → List Reply → T → 
       answered_next index x t each.0 p each.1 o each.2 e each.3 each.4
       ++ answered_each (suc index) xs each.0 t' each.1 p' each.2 o' each.3 e' each.6
 
-  -- .. where one of them ended the run
+  -- if one of them ended the run
   abbrev pub answered_early : (exchanges : ℕ) (exit : Exit) (t t' : T) (p p' : P) (o o' : O)
       (e e' : E) → EndsEarly exchanges exit t t' p p' o o' e e' → List Answered
   answered_early exchanges exit t t' p p' o o' e e' run =
       answered_each 0 run.before t run.m p run.q o run.n e run.f run.each
       ++ answered_next (length run.before) run.last run.m t' run.q p' run.n o' run.f e' run.next
 
-  -- .. in a whole run
+  -- in a whole run
   abbrev pub answered_in_run : (exchanges : ℕ) (exit : Exit) (t t' : T) (p p' : P) (o o' : O)
       (e e' : E) → ServesRun exchanges exit t t' p p' o o' e e' → List Answered
   answered_in_run exchanges Done t t' p p' o o' e e' run =

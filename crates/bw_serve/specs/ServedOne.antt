@@ -1,4 +1,4 @@
--- What serving one exchange comes to.
+-- The result of serving one exchange.
 use Rattle.std.specs.Prelude.{◌≡◌, ℕ, ◌+◌, ◌≤◌, ◌++◌, List, codes, decimal}
 use Rattle.bw_model.specs.Wire.{Frame}
 use Rattle.bw_model.specs.Replies.{Reply}
@@ -18,7 +18,7 @@ abbrev pub exchange_end_line : ℕ → ExchangeEnd → List ℕ
 exchange_end_line index end =
     as_line (codes "exchange " ++ decimal index ++ codes " " ++ name_of_end end)
 
--- how the call ends on this end of the exchange
+-- how the call ends after this end of the exchange
 abbrev pub exit_of_end : ExchangeEnd → Exit
 exit_of_end ends.Bye = Done
 exit_of_end ends.EndOfInput = Done
@@ -28,7 +28,7 @@ exit_of_end ends.WriteFault = Device
 exit_of_end ends.TurnLimit = Device
 exit_of_end ends.Memory = Memory
 
--- how it ends where the line can't be written: lack of memory goes before
+-- how it ends if the line can't be written: lack of memory takes precedence
 abbrev pub exit_unreported : ExchangeEnd → Exit
 exit_unreported ends.Memory = Memory
 exit_unreported _ = Device

@@ -1,4 +1,4 @@
--- What serving an event loop comes to.
+-- The result of serving an event loop.
 use Rattle.std.specs.Prelude.{◌≡◌, ◌⊎◌, ℕ, ◌-◌, ◌^◌, ◌≤◌, Bool, false, List, ◌++◌, length}
 use Rattle.bw_model.specs.Wire.{Frame}
 use Rattle.bw_model.specs.Replies.{Reply}
@@ -21,13 +21,13 @@ use Rattle.bw_serve.specs.Rounds.{ServesInRounds, ended_of_run, frames_of_run}
 use Rattle.bw_serve.specs.Lines.{LogsEnds, ReportsEnds}
 use Rattle.bw_ports.specs.declared.reactor.Reactor.{Ghosts as ReactorGhosts}
 
--- the reactor could not go on once, or was waited as often as it counts
+-- the reactor failed once, or has waited as often as it counts
 abbrev pub GoesNoFurther : {B L : Type 0} → ReactorGhosts B L → B → B → Type 0
 GoesNoFurther reactor b b' =
     (reactor.failures b' ≡ one_more (reactor.failures b)) ⊎ (2 ^ 64 - 1 ≤ reactor.waits b')
 
--- why the run ends so: as many connections have ended as were asked for, and the reactor could always
--- go on; or it could go no further
+-- why the run ends so: as many connections have ended as were asked for, and the reactor never
+-- failed; or it could continue no longer
 abbrev pub EndsAt : {B L : Type 0} → ReactorGhosts B L → Exit → ℕ → ℕ → B → B → Type 0
 EndsAt reactor exits.Done exchanges ended b b' =
     (exchanges ≤ ended) × (reactor.failures b' ≡ reactor.failures b)
@@ -37,18 +37,19 @@ EndsAt reactor _ exchanges ended b b' = ⊥
 module _ {B L S O E : Type 0} (reactor : ReactorGhosts B L) (G : LinkGhosts L)
     (answers : S → Frame → List Reply → S → Type 0) (out : Writer O) (reported : Writer E)
     (log : Bool) where
-  -- The server answered these frames, over connections of which these are over and others stand:
-  -- each one's own are those of its link, whatever came between them. The line of each that is
-  -- over, and no other, was printed, in the order in which they ended; and in that order they were
-  -- told of, where that was asked for.
+  -- The server answered these frames, over connections of which these are over and others are at
+  -- places: each one's own are those of its link, whatever came between them. The line of each that
+  -- is over, and no other, was printed, in the order in which they ended; and in that order they
+  -- were logged, if that was asked for.
   pub record HasServed (bounds : Bounds) (exit : Exit) (s s' : S) (b b' : B) (o o' : O) (e e' : E)
       : Type 0 where
-    -- in rounds, after the last of which some were perhaps let in still
+    -- in rounds, after the last of which some were perhaps still accepted
     pub following : EventLoop L
     pub reactor_after : B
     pub in_rounds : ServesInRounds reactor G answers out reported log bounds.places bounds.idle
         bounds.exchanges following s s' b reactor_after o o' e e'
-    -- what their quanta took from the connections, in their order, and whom they ended
+    -- what their quanta took from the connections, in their order, and the connections that they
+    -- ended
     pub trace : List Tagged
     pub taken : trace ≡ frames_of_run reactor G answers out reported log bounds.places bounds.idle
         bounds.exchanges following s s' b reactor_after o o' e e' in_rounds
@@ -58,19 +59,19 @@ module _ {B L S O E : Type 0} (reactor : ReactorGhosts B L) (G : LinkGhosts L)
         bounds.exchanges following s s' b reactor_after o o' e e' in_rounds
     pub event_loop : EventLoop L
     pub last : Grows G following event_loop
-    -- each link that the reactor gave stands at its place, or is over, or was refused
+    -- each link that the reactor gave is at its place, or over, or was refused
     pub links : List (Admission L)
     pub gave : (xs : List (Admission L)) → reactor.admitted b xs → reactor.admitted b' (xs ++ links)
     pub hosts : HostsAll G event_loop.connections over links
     pub each : ServesEach G event_loop.connections over trace
-    -- no more were let in than were asked for
+    -- no more were accepted than were asked for
     pub most : begun_of event_loop.connections ≤ bounds.exchanges
     pub printed : ReportsEnds out 0 over o o'
     pub logged : LogsEnds G reported log trace over e e'
     pub unasked : log ≡ false → e' ≡ e
     pub ends : EndsAt reactor exit bounds.exchanges (length over) b b'
 
-  -- so a run ends; where memory was refused, before the first was let in
+  -- so a run ends; if memory was refused, before the first was accepted
   abbrev pub RunsEventLoop : Bounds → Exit → S → S → B → B → O → O → E → E → Type 0
   RunsEventLoop bounds exits.Memory s s' b b' o o' e e' =
       (s' ≡ s) × (b' ≡ b) × (o' ≡ o) × (e' ≡ e)

@@ -1,4 +1,4 @@
-//! An event loop: many connections, those that come and those that end.
+//! An event loop: many connections, as they come and end.
 ghost use Rattle.std.specs.Prelude.{◌≡◌, ◌+◌, ◌≤◌, ◌<◌, ℕ, List, [], ◌∷◌, length, vec_len, IfOk};
 ghost use Rattle.std.specs.Prelude.{OnOk};
 ghost use Rattle.bw_wire.specs.Held.{longest_piece};
@@ -12,22 +12,22 @@ use bw_ports::{Accepted, Link, Reactor, TryAcceptFault};
 use bw_stream::Sink;
 use std::alloc::{AllocError, Global};
 
-/// No more peers are let in.
+/// No more peers are accepted.
 #[derive(Clone, Copy, Debug, PartialEq, Eq, Drop)]
 pub(crate) struct Shut;
 
-/// What each quantum of a round goes by.
+/// What each quantum of a round is given.
 #[derive(Clone, Copy)]
 pub(crate) struct Round {
     /// The time, in milliseconds.
     pub(crate) now: u64,
     /// After how many milliseconds without an answered frame a connection is ended.
     pub(crate) idle: u64,
-    /// Whether each that is over is a line on `faults` too.
+    /// Whether each connection that is over is a line on `faults` too.
     pub(crate) log: bool,
 }
 
-/// Many connections, who stands at each place, and how many have ended.
+/// Many connections, the peer at each place, and how many have ended.
 #[derive(Drop)]
 pub(crate) struct EventLoop<L> {
     connections: Connections<L>,
@@ -48,10 +48,10 @@ impl<L: Link + Drop> EventLoop<L> {
     ghost use Rattle.bw_serve.specs.PeerSlots.{LogsAt};
     ghost use Rattle.bw_ports.specs.declared.reactor.Ready.{Ready};
 
-    /// Nobody, and so many places.
+    /// Creates `places` free places.
     ///
     /// # Errors
-    /// `AllocError` where memory was refused.
+    /// `AllocError` if memory was refused.
     pub(crate) fn new(alloc: Global, places: usize) -> Result<EventLoop<L>, AllocError>
         ensures { IfOk result (IsNew L.Link places) }
     {
@@ -69,7 +69,7 @@ impl<L: Link + Drop> EventLoop<L> {
         self.ended
     }
 
-    /// Whether a connection can go on before its link has more bytes, or room.
+    /// Whether a connection can proceed before its link has more bytes, or room.
     pub(crate) fn can_go_on(&self) -> bool
         ensures { result ≡ can_go_on_in self.now }
     {
@@ -81,7 +81,7 @@ impl<L: Link + Drop> EventLoop<L> {
         false
     }
 
-    /// Notes which links can go on.
+    /// Notes which links are ready.
     pub(crate) fn notice<B: Reactor>(&mut self, reactor: &mut B)
         ensures stays { KeepsEventLoop L.Link self.old self.new }
         ensures failures { B.failures reactor.new ≡ B.failures reactor.old }
@@ -101,10 +101,10 @@ impl<L: Link + Drop> EventLoop<L> {
         }
     }
 
-    /// Lets in those who come, as far as there are places, and no more than so many in all.
+    /// Accepts peers as long as there are free places, and no more than `exchanges` in all.
     ///
     /// # Errors
-    /// `Shut` where no more are let in.
+    /// `Shut` if no more are accepted.
     pub(crate) fn welcome<B: Reactor<Link = L>>(
         &mut self,
         alloc: Global,
@@ -144,8 +144,8 @@ impl<L: Link + Drop> EventLoop<L> {
         Ok(())
     }
 
-    /// Puts an accepted peer at a free place. Where memory is refused its link is closed and counted, and it
-    /// may come again.
+    /// Puts an accepted peer at a free place. If memory is refused, its link is closed and counted;
+    /// the peer may connect again.
     fn peer_slot(&mut self, alloc: Global, place: usize, accepted: Accepted<L>, now: u64)
         requires free { IsFree self.old.connections place }
         requires place { place < vec_len self.old.peer_slots }
@@ -158,7 +158,7 @@ impl<L: Link + Drop> EventLoop<L> {
         ensures most { begun_of self.new.connections ≤ begun_of self.old.connections + 1 }
     {
         let Accepted { address, link } = accepted;
-        // nothing is counted yet of who comes to a place
+        // nothing is counted yet of the new peer at a place
         put_at(&mut self.peer_slots, place, PeerSlot::new(address));
         let _refused = self.connections.begin(alloc, place, link, now);
     }
@@ -184,7 +184,7 @@ impl<L: Link + Drop> EventLoop<L> {
         }
     }
 
-    /// One quantum of the connection at a place, which may be over after it, or for its silence.
+    /// One quantum of the connection at a place, which may end in it, or for its silence.
     fn serve_place<T: Turns, O: Sink, E: Sink>(
         &mut self,
         alloc: Global,
@@ -232,8 +232,8 @@ impl<L: Link + Drop> EventLoop<L> {
         closed
     }
 
-    /// Prints the line of the connection at a place, which is over, counts it, and tells of it
-    /// where lines are asked for. Its link is closed.
+    /// Prints the line of the connection at a place, which is over, counts it, and logs it if a log
+    /// is asked for. Its link is closed.
     fn end<O: Sink, E: Sink>(
         &mut self,
         alloc: Global,

@@ -18,36 +18,37 @@ use bw_stream::Sink;
 use std::alloc::Global;
 use std::net::SocketAddr;
 
-/// What a server of many recorders is asked for.
+/// What a server of many recorders is asked to do.
 #[derive(Clone, Copy)]
 pub struct Hosting<'a> {
-    /// Where recorders come.
+    /// The address that recorders connect to.
     pub address: SocketAddr,
     /// The folder of its files, as it was given.
     pub folder: &'a str,
-    /// How many are served.
+    /// How many exchanges are served, how many at once, and how long a connection may be silent.
     pub bounds: Bounds,
-    /// The greatest form size of a RIFF file.
+    /// The greatest form size of a RIFF file, in bytes.
     pub limit: Limit,
-    /// Whether each connection is reported in a line.
+    /// Whether each connection is logged.
     pub log: bool,
 }
 
-/// Serves so many exchanges, many at once, over a new server and the folder's store.
+/// Serves a number of exchanges, many at once, over a new server and the folder's store.
 ///
-/// What can't be used is a line on `faults` before anything is printed. Then `listening ADDRESS`
-/// and a line for each exchange are, as `run_event_loop` says; where the first can't be, nothing is
-/// served. Where a log is asked for, each connection is a line on `faults`, as it says too.
+/// A folder or an address that can't be used is a line on `faults` before anything is printed. Then
+/// `listening ADDRESS` is printed, and a line for each exchange, as `run_event_loop` says; if the
+/// first can't be printed, nothing is served. If a log is asked for, each connection is a line on
+/// `faults`, as `run_event_loop` says too.
 ///
-/// `Done` after the last exchange; `Device` where folder or address can't be used, the first line
-/// can't be written or no more are let in; `Memory` where memory was refused before the first
-/// connection, or to a fault's line.
+/// `Done` after the last exchange; `Device` if folder or address can't be used, the first line
+/// can't be written, or the event loop can't continue; `Memory` if memory was refused before the
+/// first connection, or to a fault's line.
 ///
 /// # Not specified
 /// - When memory is refused before the first line.
 /// - The reason in the line of a folder or an address that can't be used.
 /// - The state of the reactor after the run, which is dropped.
-/// - What a store that isn't honest has then.
+/// - What a dishonest store has then.
 /// - What `run_event_loop` leaves open.
 pub fn serve_many<N: Network + ListenerSetup, O: Sink, E: Sink>(
     alloc: Global,
@@ -70,7 +71,7 @@ pub fn serve_many<N: Network + ListenerSetup, O: Sink, E: Sink>(
     }
 }
 
-/// Serves so many exchanges, many at once, over a new server and this store.
+/// Serves a number of exchanges, many at once, over a new server and this store.
 fn serve_over<S: TakeStore, B: Reactor, O: Sink, E: Sink>(
     alloc: Global,
     store: S,

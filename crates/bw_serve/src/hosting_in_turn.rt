@@ -19,37 +19,37 @@ use std::alloc::{AllocError, Global};
 use std::io;
 use std::net::SocketAddr;
 
-/// What a server is asked for.
+/// What a server is asked to do.
 #[derive(Clone, Copy)]
 pub struct Serving<'a> {
-    /// Where peers come.
+    /// The address that peers connect to.
     pub address: SocketAddr,
     /// The folder of its files, as it was given.
     pub folder: &'a str,
     /// How many exchanges it serves.
     pub exchanges: u64,
-    /// The greatest form size of a RIFF file.
+    /// The greatest form size of a RIFF file, in bytes.
     pub limit: Limit,
-    /// For how many seconds it waits for a peer; for good, where there is none.
+    /// How many seconds it waits for a peer; without limit if `None`.
     pub timeout: Option<u32>,
-    /// Whether each link is reported in a line.
+    /// Whether each link is logged.
     pub log: bool,
 }
 
-/// What is reported where no more peers are let in.
+/// What is reported if no more peers are accepted.
 const GONE: &str = "the server can't go on: its folder is gone, or nothing can be waited for\n";
 
-/// Serves so many exchanges over a new server and the folder's store.
+/// Serves a number of exchanges over a new server and the folder's store.
 ///
-/// What can't be used is a line on `faults` before anything is printed. Then `listening ADDRESS`
-/// and a line for each exchange are; where the first can't be, nothing is served. Where a log is
-/// asked for, each link is a line on `faults`, as `serve_run` says.
+/// A folder or an address that can't be used is a line on `faults` before anything is printed. Then
+/// `listening ADDRESS` is printed, and a line for each exchange; if the first can't be printed,
+/// nothing is served. If a log is asked for, each link is a line on `faults`, as `serve_run` says.
 ///
 /// # Not specified
 /// - When memory is refused before the first line.
 /// - The reason in the line of a folder or an address that can't be used.
 /// - The state of the peers after the run, which are dropped.
-/// - What a store that isn't honest has then.
+/// - What a dishonest store has then.
 pub fn serve<N: Network, O: Sink, E: Sink>(
     alloc: Global,
     network: &mut N,
@@ -71,7 +71,7 @@ pub fn serve<N: Network, O: Sink, E: Sink>(
     }
 }
 
-/// Tells why nobody can come to an address.
+/// Reports why nobody can connect to an address.
 ///
 /// # Not specified
 /// - The reason in the line.
@@ -91,7 +91,7 @@ pub fn report_unbound<E: Sink>(
     report_unopened(alloc, text.as_str(), error, faults)
 }
 
-/// Serves so many exchanges over a new server and this store.
+/// Serves a number of exchanges over a new server and this store.
 fn serve_over<S: TakeStore, P: Peers, O: Sink, E: Sink>(
     alloc: Global,
     store: S,
@@ -122,7 +122,7 @@ fn serve_over<S: TakeStore, P: Peers, O: Sink, E: Sink>(
 /// The first line of a server at an address.
 ///
 /// # Errors
-/// `AllocError` where memory was refused.
+/// `AllocError` if memory was refused.
 ///
 /// # Not specified
 /// When memory is refused.
@@ -132,10 +132,10 @@ pub fn format_listening(alloc: Global, address: SocketAddr) -> Result<String, Al
     format!(in alloc; "listening {address}\n")
 }
 
-/// Tells why a run ended, where that wasn't after its last exchange.
+/// Reports why a run ended, if it didn't end after its last exchange.
 ///
-/// Nothing is reported of `Done`; of `Memory` it is `out of memory`; else the folder is gone, or
-/// nothing can be waited for, and the answer is `Device`.
+/// Nothing is reported for `Done`; `out of memory` for `Memory`; otherwise the folder is gone, or
+/// waiting is impossible, and the result is `Device`.
 pub fn report_end<E: Sink>(exit: Exit, faults: &mut E) -> Exit
     ensures { ReportsExit E.Sink exit result faults.old faults.new }
 {

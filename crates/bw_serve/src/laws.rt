@@ -5,8 +5,8 @@ use bw_file::TakeStore;
 use bw_journal::{Journal, NoJournal};
 
 /// Over an honest store a new server leaves the files of all that came, in whatever order the turns
-/// of its connections came; and the replies and the requests of each name follow from its own
-/// messages alone, whatever the others send.
+/// of its connections came; and the replies and requests of each name follow from its own messages
+/// alone, whatever others send.
 pub fn law_names<S: TakeStore>()
     ensures { NamesStandApart S.TakeStore ⟦<NoJournal as Journal>⟧ }
 {

@@ -1,6 +1,6 @@
-//! Servers of recorders: one after the other, or many at once, where who comes is let in, each
-//! connection gets a quantum a round, and each that ends its line. Sockets stand above, after
-//! `Peers` and `Reactor`.
+//! Servers of recorders, one after another or many at once: peers are accepted, each connection
+//! gets a quantum a round, and each that ends is printed as a line. Sockets are in a crate above,
+//! behind `Peers` and `Reactor`.
 #![tactic(auto)]
 
 mod event_loop;

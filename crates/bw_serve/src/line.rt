@@ -10,8 +10,8 @@ use bw_exchange::end_name;
 use bw_stream::Sink;
 use itoa::Buffer;
 
-/// Prints the line of the connection that ended as the one with this number. That it can't be
-/// written changes nothing.
+/// Prints the line of the connection with number `index`, counted by their ends. A failure to write
+/// it is ignored.
 pub(crate) fn print_end<O: Sink>(index: u64, end: ConnectionEnd, out: &mut O)
     ensures { (print : Print) × IsOf (connection_line index end) print
         × IsPrint O.Sink print out.old out.new }

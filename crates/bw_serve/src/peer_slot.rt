@@ -1,4 +1,4 @@
-//! What is kept of who stands at a place.
+//! What is kept of the peer at a place.
 ghost use Rattle.std.specs.Prelude.{◌≡◌, ◌<◌, length, vec_len, IfOk};
 ghost use Rattle.bw_connections.specs.Keeping.{SetsPlace};
 ghost use Rattle.bw_exchange.specs.LinkCounts.{none_counted};
@@ -14,7 +14,7 @@ use bw_stream::Sink;
 use std::alloc::{AllocError, Global};
 use std::net::{Ipv4Addr, SocketAddr};
 
-/// Where the one at a place calls from, and what was counted of it. Before the first one came the
+/// The address of the peer at a place, and what was counted of it. Before the first peer the
 /// address is 0.0.0.0:0.
 #[derive(Drop)]
 pub(crate) struct PeerSlot {
@@ -23,7 +23,7 @@ pub(crate) struct PeerSlot {
 }
 
 impl PeerSlot {
-    /// Someone of whom nothing is counted.
+    /// A peer of which nothing is counted.
     pub(crate) fn new(address: SocketAddr) -> PeerSlot
         ensures address { result.address ≡ address }
         ensures link_stats { result.link_stats ≡ none_counted }
@@ -34,7 +34,7 @@ impl PeerSlot {
         }
     }
 
-    /// Lets the server count on for this one, and keeps what it has counted.
+    /// Makes the server continue this peer's counts, and keeps those that it had.
     fn swap<T>(&mut self, server: &mut Metered<T>)
         ensures address { self.new.address ≡ self.old.address }
         ensures link_stats { self.new.link_stats ≡ server.old.link_stats }
@@ -44,7 +44,7 @@ impl PeerSlot {
         server.swap_link_stats(&mut self.link_stats);
     }
 
-    /// Tells of this one, which ended so, where lines are asked for.
+    /// Logs this peer, whose exchange ended so, if a log is asked for.
     fn print_diagnostic<E: Sink>(
         &self,
         alloc: Global,
@@ -67,10 +67,10 @@ impl PeerSlot {
     }
 }
 
-/// So many slots, to which nobody came yet.
+/// Creates `places` slots that have had no peer.
 ///
 /// # Errors
-/// `AllocError` where memory was refused.
+/// `AllocError` if memory was refused.
 pub(crate) fn empty_peer_slots(alloc: Global, places: usize) -> Result<Vec<PeerSlot>, AllocError>
     ensures { IfOk result (λ peer_slots. vec_len peer_slots ≡ places) }
 {
@@ -82,7 +82,7 @@ pub(crate) fn empty_peer_slots(alloc: Global, places: usize) -> Result<Vec<PeerS
     Ok(peer_slots)
 }
 
-/// Puts someone at a place.
+/// Puts a peer at a place.
 pub(crate) fn put_at(peer_slots: &mut Vec<PeerSlot>, place: usize, peer_slot: PeerSlot)
     requires { place < vec_len peer_slots.old }
     ensures sets { SetsPlace peer_slots.old.items place peer_slot peer_slots.new.items }
@@ -91,7 +91,7 @@ pub(crate) fn put_at(peer_slots: &mut Vec<PeerSlot>, place: usize, peer_slot: Pe
     peer_slots[place] = peer_slot;
 }
 
-/// Lets the server count on for the one at a place, and keeps there what it has counted.
+/// Makes the server continue the counts of the peer at a place, and keeps there those that it had.
 pub(crate) fn swap_at<T>(peer_slots: &mut Vec<PeerSlot>, place: usize, server: &mut Metered<T>)
     requires { place < vec_len peer_slots.old }
     ensures swaps { SwapsAt place peer_slots.old.items peer_slots.new.items server.old server.new }
@@ -100,7 +100,7 @@ pub(crate) fn swap_at<T>(peer_slots: &mut Vec<PeerSlot>, place: usize, server: &
     peer_slots[place].swap(server);
 }
 
-/// Tells of the one at a place, which ended so, where lines are asked for.
+/// Logs the peer at a place, whose exchange ended so, if a log is asked for.
 pub(crate) fn report_at<E: Sink>(
     alloc: Global,
     peer_slots: &[PeerSlot],

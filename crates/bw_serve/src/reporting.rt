@@ -1,4 +1,4 @@
-//! The line of a link, where lines are asked for.
+//! The log line of a link.
 ghost use Rattle.std.specs.Prelude.{◌≡◌, ◌++◌, [], flat_map, IfOk, OnOk};
 ghost use Rattle.bw_serve.specs.LinkLines.{Logs, counts_text, name_after, peer_line};
 ghost use Rattle.bw_serve.specs.LinkLines.{peer_text};
@@ -9,8 +9,8 @@ use bw_stream::Sink;
 use std::alloc::{AllocError, Global};
 use std::net::SocketAddr;
 
-/// Tells in a line who came, what the end of its exchange is called and what was counted of it,
-/// where lines are asked for. Where memory is refused for the line, it is left out.
+/// Logs a peer's address, the name of its exchange's end and what was counted of it, if a log is
+/// asked for. If memory is refused for the line, it is left out.
 ///
 /// # Not specified
 /// When the line is left out: only a refused growth should do it.
@@ -53,7 +53,7 @@ fn line_of_link(
     Ok(line)
 }
 
-/// Adds who came, up to the names.
+/// Adds the peer's address, up to the names.
 fn put_peer(alloc: Global, out: &mut Vec<u8>, peer: SocketAddr) -> Result<(), AllocError>
     ensures { OnOk result (out.new.items ≡ out.old.items ++ peer_text peer []) }
 {
@@ -64,7 +64,7 @@ fn put_peer(alloc: Global, out: &mut Vec<u8>, peer: SocketAddr) -> Result<(), Al
     Ok(())
 }
 
-/// Adds what the end of the exchange is called, how many messages came, and their bytes.
+/// Adds the name of the exchange's end, how many messages came, and their bytes.
 fn put_counts(
     alloc: Global,
     out: &mut Vec<u8>,

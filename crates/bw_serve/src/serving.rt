@@ -14,39 +14,40 @@ use bw_ports::Reactor;
 use bw_stream::Sink;
 use std::alloc::Global;
 
-/// The longest piece that is read.
+/// The longest piece that is read, in bytes.
 const PIECE: usize = 65_536;
 
-/// The longest wait, in milliseconds: so much later than its time a silent connection may be ended.
+/// The longest wait, in milliseconds: a silent connection may be ended this much later than its
+/// time.
 const LONGEST_WAIT: u64 = 250;
 
-/// How many are served.
+/// How many exchanges are served, how many at once, and how long a connection may be silent.
 #[derive(Clone, Copy, Debug, PartialEq, Eq)]
 pub struct Bounds {
-    /// How many at once; with none, nobody is ever let in.
+    /// How many at once; with 0, nobody is ever accepted.
     pub places: usize,
     /// How many in all.
     pub exchanges: u64,
-    /// A connection of which no frame was answered for longer than so many milliseconds is ended.
+    /// A connection of which no frame was answered for longer than this, in milliseconds, is ended.
     pub idle: u64,
 }
 
-/// Serves so many exchanges, many at once, and prints the line `exchange INDEX END` of each as it
-/// ends.
+/// Serves a number of exchanges, many at once, and prints the line `exchange INDEX END` for each as
+/// it ends.
 ///
-/// Where there is no free place nobody is let in; a connection that sends no whole frame for too
-/// long is ended. `Done` after the last one; `Memory` where memory was refused before the first;
-/// `Device` where no more peers are let in, or nothing can be waited for, or after 2^64 - 1 rounds.
+/// While there is no free place nobody is accepted; a connection that sends no whole frame for too
+/// long is ended. `Done` after the last one; `Memory` if memory was refused before the first;
+/// `Device` if no more peers are accepted, if waiting is impossible, or after 2^64 - 1 rounds.
 ///
-/// Each link that the reactor gives stands at the place for which it was given, or is over; one for
-/// which memory is refused is closed and counted.
+/// Each link that the reactor gives is at the place for which it was given, or over; one for which
+/// memory is refused is closed and counted.
 ///
-/// With `log` each that is over is a line on `faults` too: `peer ADDRESS names NAME.. end END
-/// messages N bytes N`, with the first eight names of its messages. Where memory is refused for the
-/// line, it is left out.
+/// With `log` each connection that is over is a line on `faults` too: `peer ADDRESS names NAME..
+/// end END messages N bytes N`, with the first eight names of its messages. If memory is refused
+/// for the line, it is left out.
 ///
 /// # Not specified
-/// - That each was reported of under its own place.
+/// - That each was reported under its own place.
 /// - When memory is refused.
 /// - With `log`, when a line is missing.
 pub fn run_event_loop<B: Reactor, T: Turns, O: Sink, E: Sink>(
@@ -90,17 +91,17 @@ pub fn run_event_loop<B: Reactor, T: Turns, O: Sink, E: Sink>(
     Exit::Device
 }
 
-/// For how many milliseconds is waited at most, if one can go on or not.
+/// The longest wait in milliseconds, by whether a connection can proceed.
 fn patience(can_go_on: bool) -> u64
     ensures { result ≡ patience_of can_go_on }
 {
     if can_go_on { 0 } else { LONGEST_WAIT }
 }
 
-/// Waits until someone comes or a connection can go on, and gives each a quantum.
+/// Waits until someone comes or a connection is ready, and gives each a quantum.
 ///
 /// # Errors
-/// `Shut` where no more peers are let in, or nothing can be waited for.
+/// `Shut` if no more peers are accepted, or waiting is impossible.
 fn serve_round<B: Reactor, T: Turns, O: Sink, E: Sink>(
     alloc: Global,
     event_loop: &mut EventLoop<B::Link>,

@@ -11,12 +11,12 @@ use bw_ports::{AcceptFault, Peer, Peers};
 use bw_stream::{Sink, Source};
 use std::alloc::Global;
 
-/// Serves so many exchanges, one after another, each over a link of its own, and says how each
-/// ended in a line.
+/// Serves a number of exchanges, one after another, each over its own link, and prints a line that
+/// says how each ended.
 ///
 /// An exchange that breaks off, whose line can't be written or whose peer goes away before it is
-/// let in, is the end of that exchange alone, and counts. `Done` after the last one; `Memory` where
-/// memory was refused to one; `Device` where no more peers are let in.
+/// accepted, ends that exchange alone, and counts. `Done` after the last one; `Memory` if memory
+/// was refused to one; `Device` if no more peers are accepted.
 ///
 /// With `log` each link is a line on `faults` too: `peer ADDRESS names NAME.. end END messages N
 /// bytes N`, with the first eight names of its messages.
@@ -45,7 +45,7 @@ pub fn serve_run<P: Peers, T: Turns, O: Sink, E: Sink>(
     Exit::Done
 }
 
-/// Serves the exchange of the next peer. How the run ends, where it ends after it.
+/// Serves the exchange of the next peer. Returns how the run ends, if it ends after it.
 fn serve_next<P: Peers, T: Turns, O: Sink, E: Sink>(
     alloc: Global,
     server: &mut Metered<T>,
@@ -69,7 +69,7 @@ fn serve_next<P: Peers, T: Turns, O: Sink, E: Sink>(
     end_after(exit)
 }
 
-/// Serves the exchange of a peer, and tells of it where lines are asked for.
+/// Serves the exchange of a peer, and logs it if a log is asked for.
 fn serve_peer<R: Source + Drop, W: Sink + Drop, T: Turns, O: Sink, E: Sink>(
     alloc: Global,
     server: &mut Metered<T>,
@@ -103,8 +103,8 @@ fn serve_peer<R: Source + Drop, W: Sink + Drop, T: Turns, O: Sink, E: Sink>(
     ended.exit
 }
 
-/// How the run ends after an exchange that ended so, where it ends there: lack of memory would end
-/// the next one too.
+/// How the run ends after this exit, if it ends there: lack of memory would end the next exchange
+/// too.
 fn end_after(exit: Exit) -> Option<Exit>
     ensures { result ≡ exit_now (Served exit) }
 {

@@ -11,11 +11,11 @@ use bw_stream::{Sink, Source};
 use itoa::Buffer;
 use std::alloc::Global;
 
-/// Serves one exchange, and says how it ended in a line: `exchange INDEX END`.
+/// Serves one exchange, and prints how it ended: `exchange INDEX END`.
 ///
-/// `Done` where it came to the end of its stream, a bad frame among these; `Device` where it broke
-/// off, or the line can't be written; `Memory` where memory was refused, whatever becomes of the
-/// line. The line itself takes no memory.
+/// `Done` if it reached the end of its stream, which a bad frame is too; `Device` if it broke off,
+/// or the line can't be written; `Memory` if memory was refused, whether or not the line is
+/// written. The line itself allocates nothing.
 ///
 /// # Not specified
 /// - When memory is refused.
@@ -62,7 +62,7 @@ pub(crate) fn serve_link<R: Source, W: Sink, T: Turns, O: Sink>(
     Ended { end, exit }
 }
 
-/// The line of an exchange that ended so.
+/// The line of an exchange that ended like this.
 fn end_line(index: u64, end: ExchangeEnd) -> ArrayString<64>
     ensures { result.bytes ≡ exchange_end_line index end }
 {
@@ -76,7 +76,7 @@ fn end_line(index: u64, end: ExchangeEnd) -> ArrayString<64>
     line
 }
 
-/// How the call ends where the line is written.
+/// How the call ends if the line is written.
 fn exit_reported(end: ExchangeEnd) -> Exit
     ensures { result ≡ exit_of_end end }
 {
@@ -91,7 +91,7 @@ fn exit_reported(end: ExchangeEnd) -> Exit
     }
 }
 
-/// How the call ends where the line can't be written.
+/// How the call ends if the line can't be written.
 fn exit_unwritten(end: ExchangeEnd) -> Exit
     ensures { result ≡ exit_unreported end }
 {

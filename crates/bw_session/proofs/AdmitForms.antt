@@ -61,7 +61,7 @@ at-set_other (x ∷ xs) (suc i) (suc k) o h = at-set_other xs i k o (λ e. h (ap
 abbrev as_count : Option (List ℕ) → ℕ
 as_count slot = cond (is_some slot) 1 0
 
--- where a body is put into a free slot, one more is held
+-- if a body is put into a free slot, one more is held
 pub count_set : (w : List (Option (List ℕ))) (i : ℕ) (b : List ℕ) → at w i ≡ None → i < length w →
     count_held (slice_set w i (Some b)) ≡ count_held w + 1
 count_set w i b e h =
@@ -70,7 +70,7 @@ count_set w i b e h =
     let free : as_count (get_or w i None) ≡ 0 = ap as_count (sym (at-slot w i h) ∙ e) in
     omega (arith, sums, free)
 
--- .. so there is room for it
+-- so there is room for it
 pub count_room : (w : List (Option (List ℕ))) (i : ℕ) → at w i ≡ None → i < length w → count_held w + 1 ≤ length w
 count_room w i e h =
     let one = count_set w i [] e h in
@@ -116,13 +116,13 @@ pub said_request : (m : Message) → is_message Second m ≡ true → is_request
 said_request m e =
     (and_parts (is_name m.name && nat_le m.number (last_number Second)) (is_request m.request) e).1
 
--- .. and a number of the wire's
+-- and a number of the wire's
 pub said_number : (m : Message) → is_message Second m ≡ true → m.number ≤ last_number Second
 said_number m e =
     leb-true m.number (last_number Second) (and_parts (is_name m.name) (nat_le m.number (last_number Second))
     (and_parts (is_name m.name && nat_le m.number (last_number Second)) (is_request m.request) e).0).1
 
--- what is kept of so many numbers says that they are in the log
+-- what is kept of this many numbers says that they are in the log
 filled_prefix : (existed : Bool) (whole : List (Option Request)) (name : List ℕ) (n count : ℕ) (s : List (Option Request))
     (k : ℕ) → k < length (finished_from existed whole name n (take count s)) → (r : Request) × (at s k ≡ Some r)
 filled_prefix existed whole name n zero s k h = absurd (omega (arith, h))
@@ -132,7 +132,7 @@ filled_prefix existed whole name n (suc count) (Some r ∷ s) zero h = (r, refl)
 filled_prefix existed whole name n (suc count) (Some r ∷ s) (suc k) h =
     filled_prefix existed whole name (suc n) count s k (omega (arith, h))
 
--- .. where their verdicts are the same
+-- where their verdicts are the same
 finished_same : (existed : Bool) (s s' : List (Option Request)) (name : List ℕ) (n end : ℕ)
     (xs : List (Option Request)) → ((k : ℕ) → k < end → verdict_at existed s' k ≡ verdict_at existed s k) →
     n + length xs ≤ end → finished_from existed s' name n xs ≡ finished_from existed s name n xs
@@ -203,7 +203,7 @@ module _ (first : Option (List ℕ)) (log : Log) (p : Parts) (finished : List (L
       ap (λ (b : Bool). is_none (at log.admitted n) && b) (le-ltb n (log.done + window) late)
       ∙ and_no (is_none (at log.admitted n))
 
-  -- what stands in a slot says what the log has under its number
+  -- what a slot holds says what the log has under its number
   slot_free : (n slot : ℕ) → n ≡ length finished + slot → at w slot ≡ None → at log.admitted n ≡ None
   slot_free n slot place none =
       let done = h.memory.done in
@@ -259,7 +259,7 @@ module _ (first : Option (List ℕ)) (log : Log) (p : Parts) (finished : List (L
         NameStands first (record log { admitted = put log.admitted n r }) g.limit (kept_as p finished w' g) found
     put_file w' = stands first h.file
       where
-        -- where a request waits, it isn't the one that is put
+        -- if a request waits, it isn't the one that is put
         waits : (d : Bool) (t : Take) → MatchBool d (IsInTheMiddle t g.limit (at log.admitted log.done) found)
             (found ≡ file_of t g.limit) →
             MatchBool d (IsInTheMiddle t g.limit (at (put log.admitted n r) log.done) found)

@@ -91,7 +91,7 @@ same_part first log s s' found k same h =
     (subst (λ (x : Parts). HoldsPart first log x s.progress.ledger.outcomes s.window s.progress.growing found)
     (sym k.parts) h)))
 
--- .. and the name is known then
+-- and the name is known then
 pub answers_known : (known full : Bool) (first : Option (List ℕ)) (log : Log) (m : Message)
     (near : (not known && nat_le window m.number) ≡ false) (fits : (not known && full) ≡ false)
     (before after : ℕ) (replies : List Reply) (p : Part) (found : Option (List ℕ))
@@ -102,7 +102,7 @@ unfolding answers_served
 answers_known known full first log m near fits before after replies p found s =
     ap (λ (x : List ModelReply × Option Log). is_some x.1) (by_serving known full first log m near fits s.stop)
 
--- where the name is known it doesn't matter whether the table is full
+-- if the name is known it doesn't matter whether the table is full
 pub answers_full : (full : Bool) (first : Option (List ℕ)) (log : Log) (m : Message) (before after : ℕ)
     (replies : List Reply) (p : Part) (found : Option (List ℕ)) →
     Answers true false first log m before after replies p found →

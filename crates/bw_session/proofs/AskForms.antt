@@ -57,7 +57,7 @@ module _ (p q s : Parts) (r : Request) (v : Verdict) (known : q ≡ record p { t
   verdict_by =
       judged ∙ ap (λ (x : Parts). judge x r) known ∙ ap (λ (b : Bool). judge (record p { taken = b }) r) (sym taken_is)
 
-  -- .. and so is what is kept
+  -- and so is what is kept
   pub keeps_judged : KeepsJudged p r s
   keeps_judged =
       kept ∙ ap (λ (x : Verdict). parts_under x q r) verdict_by
@@ -89,7 +89,7 @@ module _ {X : Type 0} (S : StoreGhosts X) where
     window = window;
   }
 
-  -- .. or tried
+  -- or tried
   pub tries_first : (a b : Part) (x y : X) (body : List ℕ) (r : Request) →
       at a.window 0 ≡ Some body → r ≡ (message_in body).request →
       (made : Bool) × WasAskedFirst S (judged_plan a.growing a.parts r made) x y →
@@ -103,7 +103,7 @@ module _ {X : Type 0} (S : StoreGhosts X) where
     window = window;
   }
 
-  -- one number, and then so many
+  -- one number, and then this many more
   pub row_after : (n : ℕ) (a b c : Part) (x y z : X) → DoesFirst S a x b y → DoesConsecutively S n b y c z →
       DoesConsecutively S (suc n) a x c z
   row_after zero a b c x y z first none = (
@@ -127,7 +127,7 @@ module _ {X : Type 0} (S : StoreGhosts X) where
     all = λ whole. one_further run.last run.count most (run.all whole);
   }
 
-  -- where no reply was given yet sixteen numbers may be done, and after one reply fifteen
+  -- if no reply was given yet sixteen numbers may be done, and after one reply fifteen
   pub run_from_none : {A : Type 0} (reported : List A) (stopped : Bool) (a b : Part) (x y : X) → reported ≡ [] →
       DoesRun S (16 - length reported) stopped a x b y → DoesRun S 16 stopped a x b y
   run_from_none {A} reported stopped a b x y none run =
@@ -151,7 +151,7 @@ module _ {X : Type 0} (S : StoreGhosts X) where
     all = λ whole. absurd cc;
   }
 
--- where a message stands that is the next and isn't held
+-- the place of a message that is the next and isn't held
 pub window_next : (w : List (Option (List ℕ))) (done : ℕ) (m : Message) → m.number ≡ done → at w 0 ≡ None →
     window_with w done m ≡ slice_set w 0 (Some (message_body m))
 window_next w done m same free =
@@ -191,7 +191,7 @@ pub if_both : {T E : Type 0} {P Q R : T → Type 0} (r : Result T E) → ((x : T
 if_both (Ok x) f p q = f x p q
 if_both (Err e) f p q = tt
 
--- the part of a name that stands in a table, and of one that doesn't
+-- the part of a name that is in a table, and of one that isn't
 abbrev part_at : Option Session → List ℕ → ℕ → Part
 part_at o name limit = option_map_or part_of o (new_part name limit)
 

@@ -1,4 +1,4 @@
--- What judging a request and carrying it out leaves, by what came of it.
+-- What judging a request and carrying it out leaves, by its result.
 use Rattle.std.proofs.Common.{◌≡◌, Bool, true, false, cond, not, ◌&&◌, List, ℕ, Option, Some, None, Ok, Err, refl, sym}
 use Rattle.std.proofs.Common.{◌∙◌, ap, subst}
 use Rattle.std.specs.Prelude.{IsTrue}
@@ -35,7 +35,7 @@ same_judged p false (Mark id frame) s = refl
 same_judged p false (SetField tag value) s = refl
 same_judged p false (Close total) s = refl
 
--- Of an unopened take, a request that is refused is refused so too where the name is known to stand.
+-- Of an unopened take, a request that is refused is refused so too if the name is known to exist.
 pub taken_same : (p : Parts) (r : Request) → p.format ≡ None → is_stored (judge p r) ≡ false →
     judge p r ≡ judge (record p { taken = true }) r
 unfolding judge

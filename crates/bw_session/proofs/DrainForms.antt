@@ -1,4 +1,4 @@
--- What is held of a name, where its next number is done or waits on.
+-- What is held of a name, where its next number is done or still waits.
 use Rattle.std.proofs.Common.{◌≡◌, ℕ, zero, suc, ◌+◌, ◌≤◌, Bool, true, false, List, [], ◌∷◌, ◌++◌, length, drop}
 use Rattle.std.proofs.Common.{Option, Some, None, refl, sym, ◌∙◌, ap, subst, arith, length-append}
 use Rattle.std.specs.Prelude.{is_some, option_map}
@@ -68,7 +68,7 @@ at-tail : (w : List (Option (List ℕ))) (i : ℕ) → at (drop 1 w) i ≡ at w 
 at-tail [] i = refl
 at-tail (x ∷ xs) i = refl
 
--- where the first slot is let go
+-- the slots after the first is dropped
 pub next_slot : (w : List (Option (List ℕ))) (i : ℕ) → at (drop 1 w ++ None ∷ []) i ≡ at w (suc i)
 next_slot w i = at-push (drop 1 w) i ∙ at-tail w i
 
@@ -175,7 +175,7 @@ module _ (first : Option (List ℕ)) (log : Log) (p : Parts) (finished : List (L
       (held_next m digest (e ∙ ap Some spelled) (ap is_request (sym is) ∙ fits) (d ∙ ap sha256 spelled)) in
       (subst (λ (x : List ℕ). IsNext x log r digest) same next, prefix_of r next.here)
 
-  -- the number waits on
+  -- the number still waits
   pub part_waits : (q : Parts) (later : List (List ℕ × Verdict)) (r : Request) (g' : Growing)
       (found' : Option (List ℕ)) →
       at log.admitted log.done ≡ Some r → g'.name ≡ g.name → HoldsPrefix first log q later r g' found' →

@@ -71,7 +71,7 @@ module _ (header header' : List ℕ → Header) (notes notes' first : List ℕ �
           (subst (λ (z : Option (List ℕ)). IsPrefixOf (header_bytes (header n)) z) (sym (note_other n b))
           (h.unknown n (sym (there n b) ∙ e)))
 
--- the book that a message's replies tell
+-- the book that a message's replies report
 module _ (book : Book) (m : Message) (replies : List ModelReply) (done : ℕ)
     (near : (not (is_known book m.name) && nat_le window m.number) ≡ false) where
   pub reported_here : log_of (book_reported book m replies done) m.name ≡ log_reported (log_of book m.name) m replies done
@@ -99,7 +99,7 @@ pub reported_away : (book : Book) (m : Message) (replies : List ModelReply) (don
 reported_away book m replies done away =
     ap (λ (b : Bool). cond b book (with_log book m.name (log_after (log_of book m.name) m done))) away
 
--- who is too far, or turned away, leaves the book
+-- a message that is too far, or turned away, leaves the book
 pub away_either : (book : Book) (m : Message) (replies : List ModelReply) → is_known book m.name ≡ false →
     (is_turned_away replies || nat_le window m.number) ≡ true →
     ((not (is_known book m.name) && nat_le window m.number) || is_turned_away replies) ≡ true

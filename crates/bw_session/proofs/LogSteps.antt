@@ -40,7 +40,7 @@ taken-with t (Mark id frame) = refl
 taken-with t (SetField tag value) = refl
 taken-with t (Close total) = refl
 
--- no request changes whether the name stood
+-- no request changes whether the name existed
 pub taken-after : (t : Take) (r : Request) → (after t r).taken ≡ t.taken
 taken-after t r = go (is_stored (verdict t r))
   where

@@ -23,7 +23,7 @@ use Rattle.bw_session.specs.declared.session.Session.{Session}
 use Rattle.bw_session.proofs.AdmitForms.{at-set_same, at-set_other, count_set, near_or_not, no_false, part_put}
 use Rattle.bw_session.proofs.DrainForms.{next_slot, held_prefix}
 
--- where the first slot is free, as many bodies are held after it
+-- if the first slot is free, as many bodies are held after it
 count_free : (w : List (Option (List ℕ))) → at w 0 ≡ None → count_held (drop 1 w ++ None ∷ []) ≡ count_held w
 count_free [] e = refl
 count_free (x ∷ xs) e = let none : is_some x ≡ false = ap is_some e in grind (arith, common_steps)
@@ -46,7 +46,7 @@ fits_passed g g' p q done later room room' room'' places places' places'' w w' f
       again = λ dirty. no_false (sym clean ∙ dirty);
     })
 
--- it waits on, in the first slot
+-- it still waits, in the first slot
 pub fits_waiting : (g g' : Growing) (p q : Parts) (done later room room' places places' : ℕ)
     (w w' : List (Option (List ℕ))) (b : List ℕ) → Fits g p done room places w → at w 0 ≡ None → 0 < length w →
     w' ≡ slice_set w 0 (Some b) → later ≡ done → count_held w + 1 ≤ room' → count_held w + 1 ≤ places' →
@@ -69,7 +69,7 @@ fits_waiting g g' p q done later room room' places places' w w' b f none there s
     by_slot i some (inl e) = omega (arith, number, e)
     by_slot i some (inr apart) = f.numbers i (ap is_some (sym (at-set_other w 0 i (Some b) apart)) ∙ some)
 
--- what is let go after a body that was never held
+-- what is dropped after a body that was never held
 pub passed_slot : (w : List (Option (List ℕ))) (b : List ℕ) → drop 1 (slice_set w 0 (Some b)) ≡ drop 1 w
 passed_slot [] b = refl
 passed_slot (x ∷ xs) b = refl
@@ -94,7 +94,7 @@ next_held first log p q finished later w g g' contents n name m h named fits nex
     (part_put first log p finished w g (contents n) h m 0 (slice_set w 0 (Some (message_body m))) (message_body m)
     q later named fits (omega (arith, next)) (omega arith) there none refl refl same' same''))
 
--- .. and the message as the next number of the log that admits it, on what is kept once there is room
+-- and the message as the next number of the log that admits it, on what is kept once there is room
 pub next_prefix : (first : Option (List ℕ)) (log : Log) (s s' : Session) (contents : List ℕ → Option (List ℕ))
     (m : Message) (r : Request) (digest : List ℕ) → HoldsLog first log (part_of s) (contents s.progress.name) →
     KeepsProgress s.progress s'.progress → m.name ≡ s.progress.name → m.number ≡ length s.progress.ledger.outcomes →
@@ -117,7 +117,7 @@ next_prefix first log s s' contents m r digest h kept name next free slots read 
           s'.progress.same_name (at-set_same s.window 0 (Some (message_body m)) there) refl read fits summed,
     )
 
--- .. of a message that is held in the first slot
+-- of a message that is held in the first slot
 pub prefix_here : (first : Option (List ℕ)) (log : Log) (p : Progress) (w : List (Option (List ℕ)))
     (found : Option (List ℕ)) → HoldsLog first log (kept_with p w) found → (m : Message) (r : Request)
     (digest b : List ℕ) → at w 0 ≡ Some b → b ≡ message_body m → r ≡ m.request → is_request r ≡ true →

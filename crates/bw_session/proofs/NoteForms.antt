@@ -48,7 +48,7 @@ begun_notes h name log offset before found noted starts same = by_number log.don
     by_number (suc n) e (inl prefix) = let none = prefix.0 in absurd (omega (arith, e, none))
     by_number (suc n) e (inr entries) = (entries.0, same (omega (arith, e)) ∙ entries.1)
 
--- .. that fails
+-- that fails
 pub begun_in_part : (h : Header) (name : List ℕ) (log : Log) (offset : ℕ) (before found : Option (List ℕ)) →
     IsNoted h name log offset before → StartsInPart (header_bytes h) before found → IsNoted h name log offset found
 begun_in_part h name log offset before found noted starts = record {
@@ -133,7 +133,7 @@ noted_next h name log offset len before found finished v r digest place stands d
       );
     }
 
--- .. that fails
+-- that fails
 noted_in_part : (h : Header) (name : List ℕ) (log : Log) (offset : ℕ) (before found : Option (List ℕ))
     (v : Verdict) (r : Request) (digest : List ℕ) →
     offset ≡ length (journal_of h name log) → HasEntries h name log before → IsNext name log r digest →

@@ -1,4 +1,4 @@
--- What doing a number leaves, by what came of it.
+-- What doing a number leaves, by its result.
 use Rattle.std.proofs.Common.{◌≡◌, ℕ, Bool, true, false, not, ◌||◌, List, Option, Some}
 use Rattle.std.proofs.Common.{None, refl, sym, ◌∙◌, ap, subst}
 use Rattle.std.specs.Prelude.{is_some}
@@ -99,7 +99,7 @@ again t r v g found is fields clean h = record { whole = go (is_written v r) ref
         (sym clean)
         (h.whole ∙ unwritten_same t g.limit r (ap (λ (x : Verdict). is_written x r) (sym is) ∙ unwritten))
 
--- The number waits on: over the file that has its request the same request may be tried again.
+-- The number still waits: over the file that has its request the same request may be tried again.
 pub done_again : (first : Option (List ℕ)) (log : Log) (v : Verdict) (p : Parts) (finished : List (List ℕ × Verdict))
     (r : Request) (g g' : Growing) (found : Option (List ℕ)) → Carried first log v p finished r g found →
     g.dirty ≡ false → AreFields p.fields → g' ≡ record g { dirty = is_written v r || g.dirty } →

@@ -1,4 +1,4 @@
--- What the calls of a growing file leave under a name that did not stand at the start.
+-- What the calls of a growing file leave under a name that did not exist at the start.
 use Rattle.std.proofs.Common.{◌≡◌, ℕ, Bool, true, false, List, Option, Some, None, refl}
 use Rattle.std.proofs.Common.{sym, ◌∙◌, ap, subst}
 use Rattle.std.specs.Prelude.{IsTrue, IsSome, is_some}
@@ -14,7 +14,7 @@ use Rattle.bw_session.specs.Writing.{HasOwnFile, HasWholeFile}
 abbrev of_format : Take → Option Format → Take
 of_format t o = record t { format = o }
 
--- a take's file stands where it has a format
+-- a take's file exists if it has a format
 file-some : (t : Take) (limit : ℕ) → is_some (file_of t limit) ≡ is_some t.format
 file-some t limit = go t.format
   where
@@ -22,7 +22,7 @@ file-some t limit = go t.format
     go None = refl
     go (Some f) = refl
 
--- what is between two files of an open take stands
+-- a file between two files of an open take exists
 none_between : (t : Take) (f : Format) (limit : ℕ) (r : Request) → IsBetween (of_format t (Some f)) limit r None → ⊥
 none_between t f limit (Open g history) b = b
 none_between t f limit (Block bytes) b = b
@@ -45,7 +45,7 @@ ready t r g found h = go g.dirty h.whole
     go true m = subst (λ (x : Request). IsBetween t g.limit x found) (some_inj (sym m.waiting)) m.between
     go false whole = whole
 
--- the file of an open take stands
+-- the file of an open take exists
 stands : (t : Take) (f : Format) (r : Request) (g : Growing) (found : Option (List ℕ)) → t.format ≡ Some f →
     HasOwnFile t r g found → is_some found ≡ true
 stands t f r g found e h = go g.dirty (ready t r g found h)
@@ -64,7 +64,7 @@ whole_after t f r g g' before after e e' known h now = record {
       ∙ sym (ap is_some now ∙ file-some (with_request t r) g.limit ∙ e');
 }
 
--- .. that failed
+-- that failed
 pub own_after : (t : Take) (f : Format) (r : Request) (g g' : Growing) (before after : Option (List ℕ)) →
     t.format ≡ Some f → is_stored (verdict t r) ≡ true → g' ≡ record g { dirty = true } →
     HasOwnFile t r g before → IsBetween t g.limit r after → HasOwnFile t r g' after
@@ -114,7 +114,7 @@ module _ (t : Take) (f : Format) (history : List ℕ) (g g' : Growing) (before a
     made_here = ap (λ (x : Growing). x.made) known ∙ sym (ap is_some now);
   }
 
-  -- its own name can't stand already
+  -- its own name can't exist already
   pub never_existed : {A : Type 0} → g'.made ≡ false → IsSome before → A
   never_existed unmade existed = no_false (sym unmade ∙ name.keeps (h.made_here ∙ existed))
 
@@ -150,7 +150,7 @@ module _ (t : Take) (f : Format) (history : List ℕ) (g g' : Growing) (before a
             made_here = sym (ap is_some none);
           }
 
--- A name that stood and isn't made is left as it was.
+-- A name that existed and isn't made is left as it was.
 pub left_alone : (g g' : Growing) (before after : Option (List ℕ)) → AsksForName g.made g'.made before after →
     g.made ≡ false → IsSome before → (after ≡ before) × (g'.made ≡ false)
 left_alone g g' before after name unmade existed = (name.untouched (still g'.made refl), still g'.made refl)

@@ -19,7 +19,7 @@ use Rattle.bw_session.proofs.LogSteps.{taken-after}
 no_false : {A : Type 0} → false ≡ true → A
 no_false e = cc
 
--- The take of a name that stood stays as it began.
+-- The take of a name that existed stays as it began.
 
 never_opened : (ok : Bool) → is_stored (cond (not ok) BadFormat NameTaken) ≡ false
 never_opened true = refl
@@ -54,7 +54,7 @@ made-taken : (existed : Bool) (s : List (Option Request)) (n : ℕ) → (made ex
 unfolding made
 made-taken existed s n = fold-taken (new_take existed) (take n s)
 
--- that the name stood is known by now
+-- that the name existed is known by now
 keeps_taken : (name : List ℕ) (log : Log) (p q : Parts) (finished : List (List ℕ × Verdict)) →
     KeepsDone true name log p finished → q ≡ record p { taken = q.taken } → (IsTrue p.taken → IsTrue q.taken) →
     KeepsDone true name log q finished
@@ -66,7 +66,7 @@ keeps_taken name log p q finished k e more = record {
   reported = λ n below is. more (k.reported n below is);
 }
 
--- the state of a name that did not stand
+-- the state of a name that did not exist
 pub own_parts : (name : List ℕ) (log : Log) (p : Parts) (finished : List (List ℕ × Verdict)) →
     KeepsDone false name log p finished → parts (made false log.admitted log.done) ≡ p
 own_parts name log p finished k =
@@ -77,7 +77,7 @@ own_parts name log p finished k =
     untaken true e = no_false (k.taken e)
     untaken false e = e
 
--- the state of a name that stood, once that is known
+-- the state of a name that existed, once that is known
 existed_parts : (name : List ℕ) (log : Log) (p : Parts) (finished : List (List ℕ × Verdict)) →
     KeepsDone true name log p finished → record p { taken = true } ≡ parts (made true log.admitted log.done)
 existed_parts name log p finished k =
@@ -90,7 +90,7 @@ unopened : (name : List ℕ) (log : Log) (p : Parts) (finished : List (List ℕ 
 unopened name log p finished k =
     ap (λ (x : Parts). x.format) k.state_is ∙ ap (λ (t : Take). t.format) (existed_is_new log.admitted log.done)
 
--- by whether the name stood, and what was answered
+-- by whether the name existed, and what was answered
 pub carries_prefix : (answer : Result Judgement StoreFault) (first : Option (List ℕ)) (log : Log) (p q : Parts)
     (finished : List (List ℕ × Verdict)) (r : Request) (g g' : Growing) (before found : Option (List ℕ)) →
     Carries answer r p q g g' before found → q ≡ record p { taken = q.taken } → (IsTrue p.taken → IsTrue q.taken) →

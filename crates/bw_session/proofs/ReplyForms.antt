@@ -138,7 +138,7 @@ free_past (None ∷ s) (suc k) h = let x = h 0 (omega arith) in absurd_none x.1
 free_past (Some r ∷ s) (suc k) h =
     let rest = free_past s k (λ i below. h (suc i) (omega (arith, below))) in omega (arith, rest)
 
--- up to a number that is reached, the run goes on
+-- up to a number that is reached, the run continues
 pub run_past : (s : List (Option Request)) (done k : ℕ) → IsFilled s (done + k) → done + k ≤ run_end s done
 run_past s done k h =
     let rest = free_past (drop done s) k (λ i below.
@@ -165,7 +165,7 @@ run_goes s done k r here h =
     go i (inl less) below = h i less
     go i (inr past) below = let same : i ≡ done + k = omega (arith, past, below) in (r, ap (at s) same ∙ here)
 
--- a fault stopped draining exactly where the run goes on
+-- a fault stopped draining exactly if the run continues
 pub stops_short : (s : List (Option Request)) (done k : ℕ) (stopped : Bool) → is_some (at s (done + k)) ≡ stopped →
     IsFilled s (done + k) → nat_lt (done + k) (run_end s done) ≡ stopped
 stops_short s done k stopped end h = go (at s (done + k)) refl stopped end
@@ -177,7 +177,7 @@ stops_short s done k stopped end h = go (at s (done + k)) refl stopped end
         ∙ sym (ap is_some is) ∙ e
     go (Some r) is v e = lt-ltb (done + k) (run_end s done) (run_goes s done k r is h) ∙ sym (ap is_some is) ∙ e
 
--- .. told by the number of the done ones
+-- by the number of the done ones
 pub short_at : (first : Option (List ℕ)) (log : Log) (stopped : Bool) (replies : List Reply) (p : Part)
     (found : Option (List ℕ)) (done : ℕ) → EndsDraining first log stopped replies p found → log.done ≡ done →
     nat_lt (length p.outcomes) (run_end log.admitted done) ≡ stopped

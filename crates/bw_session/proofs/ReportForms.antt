@@ -1,4 +1,4 @@
--- What a server tells of a name.
+-- What a server reports of a name.
 use Rattle.std.proofs.Common.{◌≡◌, ℕ, zero, suc, ◌+◌, Bool, true, false, cond, ◌&&◌, List, [], ◌∷◌, length, drop}
 use Rattle.std.proofs.Common.{Option, Some, None, refl, sym, ◌∙◌, ap, arith}
 use Rattle.std.specs.Prelude.{is_some, option_map, unwrap_or, count_by}
@@ -88,7 +88,7 @@ module _ (limit : ℕ) (store : Store) (sessions : List ℕ → Option Session) 
   pub unknown_reported : sessions name ≡ None → is_known book name ≡ false
   unknown_reported none = h.names name ∙ ap (λ (o : Option Session). is_some (option_map kept_by o)) none
 
--- an ask of a name that isn't known is reported 0
+-- an ask for an unknown name is answered with 0
 pub asked : (book : Book) (name : List ℕ) → unwrap_or (of_known book name (λ log. log.done)) 0 ≡ (log_of book name).done
 asked book name = go (is_known book name) refl
   where

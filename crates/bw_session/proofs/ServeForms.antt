@@ -77,7 +77,7 @@ module _ (first : Option (List ℕ)) (log : Log) (m : Message) (p : Part) (befor
         none_past = still_none;
       }))
 
-  -- .. and its number was done at once
+  -- and its number was done at once
   pub starts_done : (number : ℕ) (v : Judgement) (owner : List ℕ) (all out : List Reply) (q : Part)
       (contents : List ℕ → Option (List ℕ)) (n name : List ℕ) → out ≡ [] →
       all ≡ out ++ Verdict owner number v ∷ [] → q.growing.name ≡ owner → number ≡ length p.outcomes → n ≡ name →
@@ -94,7 +94,7 @@ module _ (first : Option (List ℕ)) (log : Log) (m : Message) (p : Part) (befor
       (subst (λ (k : ℕ). HoldsLog first (with_done (record (with_message log m) { done = k })) q (contents n)) here
       d.left))
 
-  -- .. or a fault stopped it
+  -- or a fault stopped it
   pub stops_at_once : (out : List Reply) (q : Part) (contents : List ℕ → Option (List ℕ)) (n name : List ℕ) →
       out ≡ [] → n ≡ name →
       DrainsNext Stopped first (with_message log m) q.parts q.outcomes q.window q.growing (contents n) →
@@ -126,7 +126,7 @@ noted_one h name log offset notes r all out none is noted =
     let here : suc log.done ≡ log.done + length all = omega (arith, one) in
     subst (λ (k : ℕ). IsNoted h name (record log { done = k }) offset notes) here noted
 
--- where the fault stopped draining, if one did
+-- where a fault stopped draining, if one did
 abbrev stop_of : Bool → ℕ → Option ℕ
 stop_of false count = None
 stop_of true count = Some count

@@ -31,7 +31,7 @@ done_is limit store sessions book h name = go (sessions name) refl
     go None e = ap (λ (l : Log). l.done) (unknown_log book name (unknown_reported limit store sessions book h name e))
     go (Some s) e = sym (done_reported limit store sessions book h name s e)
 
--- the later book, as the replies tell it
+-- the later book, as the replies report it
 pub later_reported : (existed : List ℕ → Bool) (before after : ℕ) (book : Book) (m : Message) (replies : List Reply)
     (later : Book) (done : ℕ) → IsTurn existed before after book (Says m) replies later →
     (log_of later m.name).done ≡ done → book_reported book m replies done ≡ later
@@ -42,7 +42,7 @@ later_reported existed before after book m replies later done t e =
     (sym t.answered)
     ∙ sym (replies_report existed book m t.faults) ∙ t.left
 
--- where a reply tells of a failed call, one failed
+-- if a reply reports a failed call, one failed
 pub one_failed : (failed : Bool) (replies : List Reported) → All (IsTimely failed) replies →
     list_any is_delayed (map reply_of replies) ≡ true → failed ≡ true
 one_failed failed [] timely reported = absurd cc
@@ -71,11 +71,11 @@ asked_turn existed failures book name n reply is = record {
     no_faults : false ≡ true → ⊥
     no_faults e = cc
 
--- where nothing failed a count stays
+-- if nothing failed, a count stays
 pub quiet_count : (n : ℕ) → Counts n n false
 quiet_count n = record { quiet = λ e. refl; rises = λ e. absurd cc; stays = λ e. refl }
 
--- the answer to an ask tells of no failed call
+-- the answer to an ask reports no failed call
 pub next_not_delayed : (name : List ℕ) (n next : ℕ) (reply : Reply) → reply ≡ Noticed name n Next next →
     list_any is_delayed (reply ∷ []) ≡ true → false ≡ true
 next_not_delayed name n next reply is reported =

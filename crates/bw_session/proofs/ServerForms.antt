@@ -40,7 +40,7 @@ some_kept e = cc
 pub apart_names : (x y : List ℕ) → bytes_eq x y ≡ false → y ≢ x
 apart_names x y e same = no_false (sym e ∙ ap (bytes_eq x) same ∙ name_refl x)
 
--- what stands under a name where a session was put
+-- what is under a name where a session was put
 pub put_here : (sessions sessions' : List ℕ → Option Session) (name : List ℕ) (s : Session) →
     ((n : List ℕ) → sessions' n ≡ cond (bytes_eq name n) (Some s) (sessions n)) → sessions' name ≡ Some s
 put_here sessions sessions' name s sets =

@@ -19,7 +19,7 @@ no_request e = cc
 no_false : {A : Type 0} → true ≡ false → A
 no_false e = cc
 
--- where nothing waits, the run ends at once
+-- if nothing waits, the run ends at once
 run_settled : (s : List (Option Request)) (done : ℕ) → is_some (at s done) ≡ false → run_end s done ≡ done
 run_settled s done quiet = go (cases_lt 0 (first_free (drop done s)))
   where
@@ -30,7 +30,7 @@ run_settled s done quiet = go (cases_lt 0 (first_free (drop done s)))
         no_false (sym (ap is_some (sym (at-drop done 0 done s place) ∙ x.1)) ∙ quiet)
     go (inr none) = omega (arith, none)
 
--- .. and draining at once, whatever the store does
+-- and draining at once, whatever the store does
 drained_settled : (s : List (Option Request)) (done : ℕ) (stop : Option ℕ) → is_some (at s done) ≡ false →
     drained_to done (run_end s done) stop ≡ done
 drained_settled s done None quiet = run_settled s done quiet

@@ -7,7 +7,7 @@ use Rattle.std.proofs.lemmas.List.Sums.{count_by_more_no, count_by_more_yes}
 use Rattle.bw_model.specs.Bytes.{at}
 use Rattle.bw_session.specs.Windows.{count_held}
 
--- what stands in a slot that there is
+-- what an existing slot holds
 pub at-slot : (slots : List (Option (List ℕ))) (i : ℕ) → i < length slots → at slots i ≡ get_or slots i None
 at-slot slots i h = ap (option_and_then (λ x. x)) (slice_get-get_or slots i None h)
 

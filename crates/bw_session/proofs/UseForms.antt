@@ -1,4 +1,4 @@
--- What a turn asks of store and journal, what it may tell of them, and what it keeps.
+-- What a turn asks of store and journal, what it may report of them, and what it keeps.
 use Rattle.std.proofs.Common.{◌≡◌, ◌++◌, ◌∷◌, ℕ, Bool, true, false, cond, List, [], Option, Some}
 use Rattle.std.proofs.Common.{refl, sym, ◌∙◌, ap, subst, arith}
 use Rattle.std.specs.Prelude.{option_map}
@@ -48,7 +48,7 @@ pub timely_push : (failed : Bool) (rs rs' : List Reply) (r : Reply) → rs' ≡ 
     IsTimely failed r → All (IsTimely failed) rs'
 timely_push failed rs rs' r e all one = subst (All (IsTimely failed)) (sym e) (All-push (IsTimely failed) rs r all one)
 
--- where nothing was asked, and nothing told yet
+-- if nothing was asked, and nothing reported yet
 pub uses_none : {X Y : Type 0} (S : StoreGhosts X) (J : JournalGhosts Y) (name : List ℕ) (s s' : X) (j j' : Y)
     (done later : ℕ) (rs : List Reply) → s' ≡ s → j' ≡ j → later ≡ done → rs ≡ [] →
     UsesBoth S J name s s' j j' done later rs
@@ -77,7 +77,7 @@ same_kept s s' k same =
     ∙ ap (λ (x : List (List ℕ × Verdict)). kept_as s'.progress.state.parts x s.window s.progress.growing) k.outcomes
     ∙ ap (λ (x : Parts). kept_as x s.progress.ledger.outcomes s.window s.progress.growing) k.parts
 
--- .. and so does its table
+-- and so does its table
 pub kept_put : (before after : List ℕ → Option Session) (k : List ℕ) (s s' : Session) → before k ≡ Some s →
     ((n : List ℕ) → after n ≡ cond (bytes_eq k n) (Some s') (before n)) → kept_by s' ≡ kept_by s →
     (n : List ℕ) → option_map kept_by (after n) ≡ option_map kept_by (before n)

@@ -57,13 +57,13 @@ AsksNext S Idle a x b y = HoldsNoNext a × DoesNothing a x b y
 AsksNext S (Done v) a x b y = DoesFirst S a x b y
 AsksNext S Stopped a x b y = TriesFirst S a x b y
 
--- So many numbers were done, one after another.
+-- This many numbers were done, one after another.
 abbrev pub DoesConsecutively : {X : Type 0} → StoreGhosts X → ℕ → Part → X → Part → X → Type 0
 DoesConsecutively S zero a x b y = DoesNothing a x b y
 DoesConsecutively {X} S (suc n) a x b y =
     (mid : Part) × (z : X) × DoesConsecutively S n a x mid z × DoesFirst S mid z b y
 
--- Numbers were done one after another, at most so many, and where that stopped the next one was
+-- Numbers were done one after another, at most this many, and where that stopped the next one was
 -- tried.
 pub record DoesRun {X : Type 0} (S : StoreGhosts X) (most : ℕ) (stopped : Bool) (a : Part) (x : X)
     (b : Part) (y : X) : Type 0 where
@@ -73,7 +73,7 @@ pub record DoesRun {X : Type 0} (S : StoreGhosts X) (most : ℕ) (stopped : Bool
   pub reached : X
   pub done : DoesConsecutively S count a x last reached
   pub end : MatchBool stopped (TriesFirst S last reached b y) (DoesNothing last reached b y)
-  -- where none stopped it, no number that could be done is left
+  -- if none stopped it, no number that could be done is left
   pub all : IsFalse stopped → HoldsNoNext last ⊎ (count ≡ most)
 
 -- a window with a message's body in its slot, where the message is new in it

@@ -1,4 +1,4 @@
--- What a server has to do with the book that it was reported.
+-- What a server has to do with a book that it may hold.
 use Rattle.std.specs.Prelude.{◌≡◌, ℕ, Option, Some, None, is_some, IsTrue, List, map, drop, count_by}
 use Rattle.std.specs.Prelude.{if◌then◌else◌}
 use Rattle.bw_model.specs.Wire.{Message, Says}
@@ -23,7 +23,7 @@ module _ {X Y : Type 0} (S : StoreGhosts X) (J : JournalGhosts Y) where
   abbrev pub failures_of : Server X Y S J → ℕ
   failures_of s = failed_calls (S.failures s.stores.store) (J.failures s.stores.journal)
 
-  -- the server holds the book, over a store in which this stood at the start
+  -- the server holds the book, over a store with these contents at the start
   abbrev pub HoldsBook : (List ℕ → Option (List ℕ)) → Server X Y S J → Book → Type 0
   HoldsBook first s book =
       Holds s.limit (store_since S first s.stores.store) (kept_in s.sessions) book
@@ -49,7 +49,8 @@ module _ {X Y : Type 0} (S : StoreGhosts X) (J : JournalGhosts Y) where
       (first : List ℕ → Option (List ℕ)) (book : Book) → HoldsBook first old book →
       TurnsBook first old new book m replies
 
-  -- An honest journal that has of each name what such a book says has then what the later one says.
+  -- If an honest journal has of each name what such a book says, it has what the later one says
+  -- afterwards.
   abbrev pub NotesBooks : Server X Y S J → Server X Y S J → Message → List Reply → Type 0
   NotesBooks old new m replies = IsTrue (S.honest old.stores.store) →
       IsTrue (J.honest old.stores.journal) →
@@ -99,7 +100,7 @@ module _ {X Y : Type 0} (S : StoreGhosts X) (J : JournalGhosts Y) where
     -- an honest journal has of each name what the later book says
     pub noted : NotesBooks old new m replies
 
--- what a known name's log tells
+-- what a known name's log says
 abbrev pub of_known : {A : Type 0} → Book → List ℕ → (Log → A) → Option A
 of_known book name f = if is_known book name then Some (f (log_of book name)) else None
 

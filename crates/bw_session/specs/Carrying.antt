@@ -16,22 +16,22 @@ pub record Touches (p : Parts) (r : Request) : Type 0 where
   pub stored : judge p r ≡ Stored
   pub unmarked : is_mark r ≡ false
 
--- what the store is asked for a request that is judged first: nothing, where it is refused
+-- what the store is asked for a request that is judged first: nothing if it is refused
 abbrev pub judged_plan : Growing → Parts → Request → Bool → List StoreCall
 judged_plan g p r is_made = if is_stored (judge p r) then request_plan g p r is_made else []
 
 -- What a store was asked for a request that is judged first.
 pub record AsksJudged {X : Type 0} (S : StoreGhosts X) (answer : Result Verdict StoreFault)
     (g : Growing) (p : Parts) (r : Request) (made tried : Bool) (old new : X) : Type 0 where
-  -- nothing, where it is refused
+  -- nothing if it is refused
   pub refused : is_stored (judge p r) ≡ false → new ≡ old
   -- after a success all that the judged request asks
   pub order : OnOk answer (WasAsked S (judged_plan g p r made) old new)
   -- after a fault the first of it
   pub begun : OnErr answer (WasAskedFirst S (judged_plan g p r tried) old new)
 
--- What stands after a request was judged and written. The name of an unopened take that stood is
--- left as it was, and tells the verdict.
+-- What is there after a request was judged and written. If the name of an unopened take existed,
+-- its file is left as it was, and the request is judged as for a taken name.
 pub record Carries (answer : Result Verdict StoreFault) (r : Request) (p q : Parts)
     (old new : Growing) (before found : Option (List ℕ)) : Type 0 where
   pub own : (t : Take) → parts t ≡ p → HasOwnFile t r old before →

@@ -42,8 +42,8 @@ kept_as p finished window g = record {
   dirty = g.dirty;
 }
 
--- What an honest store has of a name: of one that stood what stood, else the take's file, or what
--- an earlier try of the next request may have left.
+-- What an honest store has of a name: of one that existed what was there, else the take's file, or
+-- what an earlier try of the next request may have left.
 abbrev pub NameStands : Option (List ℕ) → Log → ℕ → Kept → Option (List ℕ) → Type 0
 NameStands None log limit kept found =
     HasFile (made false log.admitted log.done) limit (at log.admitted log.done) kept found
@@ -85,7 +85,7 @@ drained_count Idle = 0
 drained_count (Done v) = 1
 drained_count Stopped = 0
 
--- so many calls of the store at most
+-- at most this many calls of the store
 abbrev pub call_bound : Drained → ℕ
 call_bound Idle = 0
 call_bound (Done v) = 4
@@ -97,7 +97,7 @@ IsTried Idle number = Unit {0}
 IsTried (Done v) number = number ≤ last_number Second
 IsTried Stopped number = number ≤ last_number Second
 
--- Nothing was held; or the number has its verdict; or it waits on.
+-- Nothing was held; or the number has its verdict; or it still waits.
 abbrev pub ReportsNext : Drained → Bool → Log → Type 0
 ReportsNext Idle existed log = at log.admitted log.done ≡ None
 ReportsNext (Done v) existed log =
@@ -112,7 +112,7 @@ pub record DrainsNext (answer : Drained) (first : Option (List ℕ)) (log : Log)
   pub reported : ReportsNext answer (is_some first) log
   pub left : HoldsPart first (drained_log answer log) p finished window g found
 
--- .. of what is kept and held
+-- of what is kept and held
 abbrev pub DrainsPart : Drained → Option (List ℕ) → Log → Part → Option (List ℕ) → Type 0
 DrainsPart answer first log p found =
     DrainsNext answer first log p.parts p.outcomes p.window p.growing found

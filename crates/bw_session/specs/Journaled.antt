@@ -7,7 +7,7 @@ use Rattle.bw_session.specs.Noting.{IsNoted}
 use Rattle.bw_session.specs.declared.session.Session.{Session}
 
 -- Of each name that is known it has what its log says, and of each other no more than a prefix of
--- the header; each header says whether the name stood.
+-- the header; each header says whether the name existed.
 pub record NotesNames (header : List ℕ → Header) (notes : List ℕ → Option (List ℕ))
     (first : List ℕ → Option (List ℕ)) (sessions : List ℕ → Option Session) (book : Book) :
     Type 0 where

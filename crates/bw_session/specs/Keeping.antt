@@ -4,7 +4,7 @@ use Rattle.bw_model.specs.Take.{Parts, Verdict, NameTaken, parts}
 use Rattle.bw_model.specs.Book.{Log, made, verdict_at}
 use Rattle.bw_model.specs.Holds.{finished_from}
 
--- Digests, verdicts and state are those of the numbers below `done`; that the name stood is known
+-- Digests, verdicts and state are those of the numbers below `done`; that the name existed is known
 -- once the store was asked.
 pub record KeepsDone (existed : Bool) (name : List ℕ) (log : Log) (state : Parts)
     (finished : List (List ℕ × Verdict)) : Type 0 where

@@ -10,7 +10,7 @@ pub record Part : Type 0 where
   pub window : List (Option (List ℕ))
   pub growing : Growing
 
--- .. from its pieces
+-- from its pieces
 abbrev pub part : Parts → List (List ℕ × Verdict) → List (Option (List ℕ)) → Growing → Part
 part p outcomes window g = record {
   parts = p;

@@ -27,15 +27,15 @@ abbrev pub HasEntries : Header → List ℕ → Log → Option (List ℕ) → Ty
 HasEntries h name log found =
     (count : ℕ) × (found ≡ Some (journal_of h name log ++ take count (next_entry h.existed name log)))
 
--- So much of a name's journal is its header and the entries of its done numbers, and no more than a
--- prefix of the next entry follows. Before number 0 the header may be missing, or cut.
+-- This much of a name's journal is its header and the entries of its done numbers, and no more than
+-- a prefix of the next entry follows. Before number 0 the header may be missing, or cut.
 pub record IsNoted (h : Header) (name : List ℕ) (log : Log) (offset : ℕ)
     (found : Option (List ℕ)) : Type 0 where
   pub offset_is : offset ≡ length (journal_of h name log)
   pub stands : ((log.done ≡ 0) × IsPrefixOf (header_bytes h) found) ⊎ HasEntries h name log found
 
--- A journal that has of the name what one log says, and whose header says whether the name stood,
--- has then what the other log says.
+-- If a journal has of the name what one log says, with a header that says whether the name existed,
+-- it has what the other log says afterwards.
 abbrev pub NotesOn : {Y : Type 0} → JournalGhosts Y → List ℕ → Option (List ℕ) → Y → Log → ℕ →
     Y → Log → ℕ → Type 0
 NotesOn J name first old log noted new log' noted' =
@@ -43,13 +43,13 @@ NotesOn J name first old log noted new log' noted' =
     IsNoted (J.header old name) name log noted (J.notes old name) →
     IsNoted (J.header old name) name log' noted' (J.notes new name)
 
--- Nothing is noted of a number: before number 0 the header is put where it doesn't stand, and later
+-- Nothing is noted of a number: before number 0 the header is written if it is missing, and later
 -- nothing is written.
 pub record OnlyBegins (h : Header) (done : ℕ) (before found : Option (List ℕ)) : Type 0 where
   pub begun : done ≡ 0 → BeginsNotes h before found
   pub later : 1 ≤ done → found ≡ before
 
--- the log after a number that is done, or waits on
+-- the log after a number that is done, or still waits
 abbrev pub log_left : Result Verdict StoreFault → Log → Log
 log_left (Ok v) log = with_done log
 log_left (Err fault) log = log

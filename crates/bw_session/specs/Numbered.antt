@@ -23,7 +23,7 @@ use Rattle.bw_session.specs.Writing.{is_mark}
 use Rattle.bw_session.specs.Keeping.{KeepsDone}
 use Rattle.bw_session.specs.Prefixes.{take_done, FileFollows, HoldsPrefix}
 
--- how many calls of a store and of its journal failed; the count stays at its last value
+-- how many calls of a store and of its journal failed; the count stays at 2^64 - 1
 abbrev pub failed_calls : ℕ → ℕ → ℕ
 failed_calls of_store of_journal = min (of_store + of_journal) last_count
 
@@ -81,7 +81,7 @@ pub record IsDone (first : Option (List ℕ)) (log : Log) (v : Verdict) (p : Par
   pub memory : KeepsDone (is_some first) g.name (with_done log) p finished
   pub file : FileFollows first (take_done first (with_done log)) g found
 
--- It is done, or waits on.
+-- It is done, or still waits.
 abbrev pub DoesNext : Result Judgement StoreFault → Option (List ℕ) → Log → Parts →
     List (List ℕ × Verdict) → Request → Growing → Option (List ℕ) → Type 0
 DoesNext answer first log p finished r g found =

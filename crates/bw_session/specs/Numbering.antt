@@ -49,7 +49,7 @@ module _ {X Y : Type 0} (S : StoreGhosts X) (J : JournalGhosts Y) where
       (after : Progress) (new : Stores X Y S J) : Type 0 where
     -- digests and verdicts are as they were, and the memory for more
     pub ledger : after.ledger ≡ before.ledger
-    -- so much of the journal is header and entries as before
+    -- as much of the journal is header and entries as before
     pub noted : after.noted ≡ before.noted
     -- the memory for requests is as it was
     pub room : after.state.room ≡ before.state.room
@@ -57,12 +57,12 @@ module _ {X Y : Type 0} (S : StoreGhosts X) (J : JournalGhosts Y) where
     pub parts : after.state.parts ≡ record before.state.parts { taken = after.state.parts.taken }
     -- a dirty file waits for this request
     pub again : MayTry after r
-    -- where the store failed, nothing is noted of the number
+    -- if the store failed, nothing is noted of the number
     pub unnoted : IsTrue (J.honest old.journal) → S.failures new.store ≢ S.failures old.store →
         OnlyBegins (J.header old.journal before.name) (length before.ledger.outcomes)
         (J.notes old.journal before.name) (J.notes new.journal before.name)
 
-  -- Over an honest store this is so for each log whose next number the request is.
+  -- Over an honest store this holds for each log whose next number the request is.
   abbrev pub ForNext : Progress → Request → List ℕ → Stores X Y S J →
       (Option (List ℕ) → Log → Type 0) → Type 0
   ForNext p r digest stores Says = IsTrue (S.honest stores.store) →
@@ -70,8 +70,8 @@ module _ {X Y : Type 0} (S : StoreGhosts X) (J : JournalGhosts Y) where
       HoldsPrefix first log p.state.parts p.ledger.outcomes r p.growing
       (S.contents stores.store p.name) → Says first log
 
-  -- An honest journal that has the entries of such a log has then that of the number too, if it is
-  -- done.
+  -- If an honest journal has the entries of such a log, it has the number's entry too afterwards,
+  -- if the number is done.
   abbrev pub NotesNext : Result Judgement StoreFault → Progress → Stores X Y S J → Request →
       List ℕ → Progress → Stores X Y S J → Type 0
   NotesNext answer before old r digest after new = IsTrue (S.honest old.store) →

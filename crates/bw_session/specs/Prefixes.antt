@@ -13,13 +13,13 @@ use Rattle.bw_session.specs.Keeping.{KeepsDone}
 abbrev pub take_done : Option (List ℕ) → Log → Take
 take_done first log = made (is_some first) log.admitted log.done
 
--- What an honest store has while this request waits: of a name that stood what stood, else the
--- take's file, or what an earlier try may have left.
+-- What an honest store has while this request waits: of a name that existed what was there, else
+-- the take's file, or what an earlier try may have left.
 abbrev pub FileStands : Option (List ℕ) → Take → Request → Growing → Option (List ℕ) → Type 0
 FileStands None t waits g found = HasOwnFile t waits g found
 FileStands (Some bytes) t waits g found = (found ≡ Some bytes) × (g.made ≡ false)
 
--- .. once it is done: what stood, else the take's file
+-- once it is done: what was there, else the take's file
 abbrev pub FileFollows : Option (List ℕ) → Take → Growing → Option (List ℕ) → Type 0
 FileFollows None t g found = HasWholeFile t g found
 FileFollows (Some bytes) t g found = (found ≡ Some bytes) × (g.made ≡ false)
@@ -39,7 +39,7 @@ pub record Carried (first : Option (List ℕ)) (log : Log) (v : Verdict) (p : Pa
   pub memory : KeepsDone (is_some first) g.name log p finished
   pub file : FileFollows first (after (take_done first log) r) g found
 
--- It is carried out, or waits on.
+-- It is carried out, or still waits.
 abbrev pub CarriesPrefix : Result Judgement StoreFault → Option (List ℕ) → Log → Parts →
     List (List ℕ × Verdict) → Request → Growing → Option (List ℕ) → Type 0
 CarriesPrefix answer first log p finished r g found =
@@ -47,7 +47,7 @@ CarriesPrefix answer first log p finished r g found =
     (λ v. Carried first log (verdict_meaning v) p finished r g found)
     (λ _. HoldsPrefix first log p finished r g found)
 
--- For each log whose next number the request is, it is carried out, or waits on.
+-- For each log whose next number the request is, it is carried out, or still waits.
 abbrev pub CarriesNext : Result Judgement StoreFault → Request → Parts → Parts → Growing →
     Growing → Option (List ℕ) → Option (List ℕ) → Type 0
 CarriesNext answer r p q g g' before found =

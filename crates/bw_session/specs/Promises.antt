@@ -29,13 +29,13 @@ module _ {X Y : Type 0} (S : StoreGhosts X) (J : JournalGhosts Y) where
   KeepsStores fails name old new =
       KeepsBoth S J fails name old.store new.store old.journal new.journal
 
-  -- Over an honest store this is so for each log that the part of the name holds.
+  -- Over an honest store this holds for each log that the part of the name holds.
   abbrev pub ForLogs : List ℕ → Part → Stores X Y S J → (Option (List ℕ) → Log → Type 0) → Type 0
   ForLogs name p stores Says = IsTrue (S.honest stores.store) →
       (first : Option (List ℕ)) (log : Log) → HoldsLog first log p (S.contents stores.store name) →
       Says first log
 
-  -- An honest journal that has the entries of such a log has then those of the later one.
+  -- If an honest journal has the entries of such a log, it has those of the later one afterwards.
   abbrev pub KeepsNotes : List ℕ → Part → ℕ → Stores X Y S J → ℕ → Stores X Y S J →
       (Log → Log) → Type 0
   KeepsNotes name p noted old noted' new later = IsTrue (S.honest old.store) →
@@ -43,11 +43,11 @@ module _ {X Y : Type 0} (S : StoreGhosts X) (J : JournalGhosts Y) where
       HoldsLog first log p (S.contents old.store name) →
       NotesOn J name first old.journal log noted new.journal (later log) noted'
 
-  -- .. that a session holds
+  -- that a session holds
   abbrev pub ForSessionLogs : Session → Stores X Y S J → (Option (List ℕ) → Log → Type 0) → Type 0
   ForSessionLogs s stores Says = ForLogs s.progress.name (part_of s) stores Says
 
-  -- .. of a session's name
+  -- of a session's name
   abbrev pub KeepsSessionNotes : Session → Stores X Y S J → Session → Stores X Y S J →
       (Log → Log) → Type 0
   KeepsSessionNotes before old after new later =
@@ -75,11 +75,11 @@ module _ {X Y : Type 0} (S : StoreGhosts X) (J : JournalGhosts Y) where
     -- each log that the session held admits the message
     pub refused : IsAdmissible before m
 
-  -- Numbers of a name were done in a row, from this part on: at most so many, to their end, or to a
+  -- Numbers of a name were done in a row, from this part: at most this many, to their end, or to a
   -- fault.
   pub record RunsNumbers (most : ℕ) (stopped : Bool) (a : Part) (before : Session) (old : Stores X Y S J)
       (after : Session) (new : Stores X Y S J) : Type 0 where
-    -- a failure is counted where a fault stopped it, and all else is kept
+    -- a failure is counted if a fault stopped it, and all else is kept
     pub both : KeepsStores stopped before.progress.name old new
     -- the store was called a few times for each number that was done
     pub calls : CallsFew (S.calls old.store) (S.calls new.store)
@@ -87,7 +87,7 @@ module _ {X Y : Type 0} (S : StoreGhosts X) (J : JournalGhosts Y) where
     -- it was asked what the judged requests of these numbers ask
     pub asked : DoesRun S most stopped a old.store (part_of after) new.store
 
-  -- What a turn asks of store and journal, and that no reply tells of a failure that didn't come.
+  -- What a turn asks of store and journal, and that no reply reports a failure that didn't come.
   abbrev pub UsesStores : Session → Stores X Y S J → Session → Stores X Y S J → List Reply → Type 0
   UsesStores before old after new replies =
       UsesBoth S J before.progress.name old.store new.store old.journal new.journal

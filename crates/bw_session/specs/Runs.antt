@@ -8,11 +8,11 @@ use Rattle.bw_wire.specs.declared.reply.Reply.{Reply}
 use Rattle.bw_wire.specs.Replies.{reply_of}
 use Rattle.bw_session.specs.Sessions.{Part, HoldsLog}
 
--- the log with so many more numbers done
+-- the log with this many more numbers done
 abbrev pub with_more_done : Log → ℕ → Log
 with_more_done log count = record log { done = log.done + count }
 
--- As many numbers of the log as there are replies were drained, and these tell their verdicts.
+-- As many numbers of the log as there are replies were drained, and these report their verdicts.
 pub record HasDrained (first : Option (List ℕ)) (log : Log) (replies : List Reply) (p : Part)
     (found : Option (List ℕ)) : Type 0 where
   pub left : HoldsLog first (with_more_done log (length replies)) p found

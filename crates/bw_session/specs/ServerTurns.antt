@@ -14,13 +14,13 @@ use Rattle.bw_session.specs.Servers.{done_in}
 use Rattle.bw_session.specs.Sessions.{CallsFew}
 use Rattle.bw_session.specs.declared.server.Server.{Server}
 
--- at most so many replies to a frame
+-- at most this many replies to a frame
 abbrev pub most_replies : ℕ
 most_replies = 17
 
 module _ {X Y : Type 0} (S : StoreGhosts X) (J : JournalGhosts Y) where
-  -- The frame is answered in a turn of the definitions, from this book on; the server holds the
-  -- later one, and an honest journal that had what the book says has what the later one says.
+  -- The frame is answered in a turn of the definitions, from this book; the server holds the later
+  -- one, and an honest journal that had what the book says has what the later one says.
   pub record TurnsOn (first : List ℕ → Option (List ℕ)) (old new : Server X Y S J) (book : Book)
       (frame : Frame) (replies : List Reply) : Type 0 where
     pub later : Book
@@ -37,15 +37,15 @@ module _ {X Y : Type 0} (S : StoreGhosts X) (J : JournalGhosts Y) where
     pub few : CallsFew (S.calls old.stores.store) (S.calls new.stores.store)
         (done_in old.sessions m.name) (done_in new.sessions m.name) failed
 
-  -- .. for a frame: an ask changes nothing, and the last frame is answered by none
+  -- for a frame: an ask changes nothing, and the last frame is answered by none
   abbrev pub AsksFor : Frame → Bool → Server X Y S J → Server X Y S J → Type 0
   AsksFor (Says m) failed old new = AsksForMessage m failed old new
   AsksFor (Asks name n) failed old new = new ≡ old
   AsksFor Bye failed old new = ⊥
 
-  -- A server may answer the frame so. Over any store and journal its limit stays, these are as honest
-  -- as they were, the replies are few, and none tells of a failed call where none failed; over an
-  -- honest store it is a turn on every book that the server holds.
+  -- A server may answer the frame so. Over any store and journal its limit stays, these are as
+  -- honest as they were, the replies are few, and none reports a failed call where none failed;
+  -- over an honest store it is a turn on every book that the server holds.
   pub record ServerTurn (old : Server X Y S J) (frame : Frame) (replies : List Reply)
       (new : Server X Y S J) : Type 0 where
     pub limit : new.limit ≡ old.limit

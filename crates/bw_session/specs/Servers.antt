@@ -18,7 +18,7 @@ kept_by s = kept_as s.progress.state.parts s.progress.ledger.outcomes s.window s
 abbrev pub kept_in : {H : Type 0} → Table H → List ℕ → Option Kept
 kept_in sessions name = option_map kept_by (session_in sessions name)
 
--- a store, beside what stood in it at the start
+-- a store, and what was in it at the start
 abbrev pub store_since : {X : Type 0} → StoreGhosts X → (List ℕ → Option (List ℕ)) → X → Store
 store_since S first store = record {
   contents = S.contents store;

@@ -18,7 +18,7 @@ use Rattle.bw_session.specs.Numbered.{KeepsBoth}
 use Rattle.bw_session.specs.Reporting.{IsTimely}
 use Rattle.bw_session.specs.Sessions.{Part, HoldsLog, CallsFew}
 
--- the log with the message admitted, where it is new in the window, and so many numbers done
+-- the log with the message admitted, if it is new in the window, and this many numbers done
 abbrev pub log_after : Log → Message → ℕ → Log
 log_after log m done = record { admitted = admitted_after log m; done = done }
 
@@ -26,8 +26,8 @@ log_after log m done = record { admitted = admitted_after log m; done = done }
 abbrev pub log_reported : Log → Message → List ModelReply → ℕ → Log
 log_reported log m replies done = if is_turned_away replies then log else log_after log m done
 
--- The message is served as the definitions serve it, where draining stops after so many numbers,
--- or goes to its end: it stops short exactly where a failure was counted.
+-- The message is served as the definitions serve it, where draining stops after this many numbers,
+-- or goes to its end: it stops short exactly if a failure was counted.
 pub record ServesMessage (first : Option (List ℕ)) (log : Log) (m : Message) (before after : ℕ)
     (replies : List Reply) (p : Part) (found : Option (List ℕ)) : Type 0 where
   pub stop : Option ℕ
@@ -36,8 +36,8 @@ pub record ServesMessage (first : Option (List ℕ)) (log : Log) (m : Message) (
   pub count : Counts before after (is_pending (served (is_some first) log m stop).1)
   pub whole : IsFalse (is_pending (served (is_some first) log m stop).1) → stop ≡ None
 
--- The message is turned as the definitions turn it, with some faults: a growth is refused only where
--- NoRoom is the answer, and a failure is counted exactly where draining stops short.
+-- The message is turned as the definitions turn it, with some faults: a growth is refused only if
+-- NoRoom is the answer, and a failure is counted exactly if draining stops short.
 pub record Answers (known full : Bool) (first : Option (List ℕ)) (log : Log) (m : Message)
     (before after : ℕ) (replies : List Reply) (p : Part) (found : Option (List ℕ)) : Type 0 where
   pub faults : Faults
@@ -53,7 +53,7 @@ pub record Answers (known full : Bool) (first : Option (List ℕ)) (log : Log) (
 
 -- What a turn asks of store and journal, over any of them, where a call of them failed or none did:
 -- that failure is counted, all else is kept as KeepsBoth says, the store is called a few times for
--- each number that was done, and no reply tells of a failure that didn't come.
+-- each number that was done, and no reply reports a failure that didn't come.
 abbrev pub UsesBoth : {X Y : Type 0} → StoreGhosts X → JournalGhosts Y → List ℕ → X → X →
     Y → Y → ℕ → ℕ → List Reply → Type 0
 UsesBoth S J name store store' journal journal' done later replies =

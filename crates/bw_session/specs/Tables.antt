@@ -13,7 +13,7 @@ Table H = HashMap (List ℕ) Session H
 abbrev pub session_in : {H : Type 0} → Table H → List ℕ → Option Session
 session_in sessions name = get bytes_eq sessions name
 
--- There are no more sessions than names that a server takes, and room for as many; each stands under
+-- There are no more sessions than names that a server takes, and room for as many; each is under
 -- its name, and has the server's limit.
 pub record IsTable {H : Type 0} (sessions : Table H) (limit : ℕ) : Type 0 where
   pub few : hash_map_len sessions ≤ most_takes

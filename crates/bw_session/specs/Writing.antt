@@ -22,7 +22,7 @@ is_mark (SetField tag value) = false
 is_mark (Close total) = false
 
 -- What a request that is to be stored asks of the store, in this order: to open a take whose name
--- stood, only for that name, and for a marker nothing.
+-- existed, only for that name, and for a marker nothing.
 abbrev pub request_plan : Growing → Parts → Request → Bool → List StoreCall
 request_plan g p (Open f history) is_made = begin_plan g is_made (length history)
 request_plan g p (Block bytes) is_made = append_plan g p (length bytes)
@@ -31,7 +31,7 @@ request_plan g p (SetField tag value) is_made =
     retouch_plan g p (with_field p.fields tag value) tag
 request_plan g p (Close total) is_made = close_plan g p
 
--- The file of a name that did not stand: the take's, or on a dirty file what an earlier try of the
+-- The file of a name that did not exist: the take's, or on a dirty file what an earlier try of the
 -- request that waits may have left.
 pub record HasOwnFile (t : Take) (waits : Request) (g : Growing) (found : Option (List ℕ)) :
     Type 0 where
@@ -55,8 +55,8 @@ pub record Knows (answer : Result Created StoreFault) (r : Request) (old new : G
   pub clean : OnOk answer (new.dirty ≡ false)
   pub dirty : OnErr answer ((new.dirty ≡ true) × (is_mark r ≡ false))
 
--- What stands after a request was written. The name of an unopened take that stood is left as it
--- was.
+-- What is there after a request was written. The name of an unopened take that existed is left as
+-- it was.
 pub record WritesRequest (answer : Result Created StoreFault) (r : Request) (p : Parts)
     (old new : Growing) (before after : Option (List ℕ)) : Type 0 where
   pub own : (t : Take) → parts t ≡ p → HasOwnFile t r old before →

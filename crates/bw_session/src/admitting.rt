@@ -22,10 +22,10 @@ use std::alloc::{AllocError, Global};
 impl Session {
     ghost use Rattle.bw_session.specs.Sessions.{HoldsLog, KeepsProgress, part_of};
 
-    /// Makes each growth that one more message can need, and answers the room for its body.
+    /// Makes each growth that one more message can need, and returns a buffer for its body.
     ///
     /// # Errors
-    /// `AllocError` where a growth was refused.
+    /// `AllocError` if a growth was refused.
     pub(crate) fn make_room(
         &mut self,
         alloc: Global,
@@ -51,11 +51,11 @@ impl Session {
         Ok(room)
     }
 
-    /// Holds a message of the name, where it is new in the window. Each growth is made before
-    /// anything changes.
+    /// Holds a message of the name, if it is new in the window. Each growth is made before anything
+    /// changes.
     ///
     /// # Errors
-    /// `AllocError` where a growth was refused: the message isn't held.
+    /// `AllocError` if a growth was refused: the message isn't held.
     pub(crate) fn admit(
         &mut self,
         alloc: Global,

@@ -27,7 +27,7 @@ impl Model for HeldBody {
 }
 
 impl HeldBody {
-    /// Copies a message's body to room that is there.
+    /// Copies a message's body into a buffer that has room for it.
     pub(crate) fn copy_to(room: Vec<u8>, message: &Message<'_>, digest: [u8; 32]) -> HeldBody
         requires empty { room.items ≡ [] }
         requires room { length (message_body (message_of message.now)) ≤ vec_capacity room }
@@ -39,7 +39,7 @@ impl HeldBody {
         HeldBody { bytes, digest }
     }
 
-    /// The message that it spells.
+    /// The message that it encodes.
     pub(crate) fn message(&self) -> Message<'_>
         ensures value { message_of result ≡ message_in self.now }
         ensures spelled { self.now ≡ message_body (message_of result) }

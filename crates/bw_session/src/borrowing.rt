@@ -23,12 +23,12 @@ impl Session {
     ghost use Rattle.bw_session.specs.Promises.{KeepsStores, RefusesMessage};
     ghost use Rattle.bw_session.specs.Promises.{ForSessionLogs, KeepsSessionNotes};
 
-    /// Does the number of a message that is the next and isn't held. Its body is copied, to room
-    /// that was had before, only where a call failed.
+    /// Does the number of a message that is the next and isn't held. Its body is copied, into a
+    /// buffer allocated before, only if a call failed.
     ///
     /// # Errors
-    /// `AllocError` where a growth was refused; inside, `StoreFault` where the store or the
-    /// journal failed: the message is held.
+    /// `AllocError` if a growth was refused; inside, `StoreFault` if the store or the journal
+    /// failed: the message is held then.
     pub(crate) fn do_next<S: TakeStore, J: Journal>(
         &mut self,
         stores: &mut Stores<S, J>,

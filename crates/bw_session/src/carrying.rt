@@ -19,13 +19,14 @@ use bw_request::{RequestRef, Verdict};
 use bw_store::{Created, StoreFault, TakeStore};
 use bw_take::{TakeState, judge};
 
-/// Judges a request, and writes it to the file where it is to be stored; the state is as it was.
+/// Judges a request, and writes it to the file if it is to be stored; the state doesn't keep it
+/// yet.
 ///
-/// Where the take's name stood in the store, which only a request to open it finds out, the state
-/// knows it afterwards, and the request is judged by that.
+/// If the take's name already existed in the store, which only a request to open it finds out, the
+/// state records that, and the request is judged by it.
 ///
 /// # Errors
-/// `StoreFault` where a call of the store failed: nothing but the file changed.
+/// `StoreFault` if a call of the store failed: nothing but the file changed.
 pub(crate) fn carry_out<S: TakeStore>(
     store: &mut S,
     growing: &mut GrowingFile,

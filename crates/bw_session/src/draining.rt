@@ -1,4 +1,4 @@
-//! Draining: the next number of a name is done where its message came.
+//! Draining: the next number of a name is done if its message has come.
 ghost use Rattle.std.specs.Prelude.{◌≡◌, ◌+◌, ◌≤◌, ℕ, List, Option, length, IsTrue, false, ◌-◌};
 ghost use Rattle.std.specs.List.{All};
 ghost use Rattle.bw_model.specs.Book.{Log};
@@ -19,18 +19,18 @@ use bw_request::Verdict;
 use bw_store::TakeStore;
 use bw_wire::Reply;
 
-/// What draining one number came to.
+/// What draining one number resulted in.
 #[derive(Clone, Copy, Drop)]
 pub(crate) enum Drained {
-    /// The next message didn't come yet.
+    /// The next message hasn't come yet.
     Idle,
     /// The next number is done, with this verdict.
     Done(Verdict),
-    /// A call of the store or of the journal failed: the message waits on.
+    /// A call of the store or of the journal failed: the message still waits.
     Stopped,
 }
 
-/// Drains the next number: it is done, where its message is held.
+/// Does the next number, if its message is held.
 pub(crate) fn drain_one<S: TakeStore, J: Journal>(
     progress: &mut Progress,
     window: &mut Window,
@@ -76,8 +76,8 @@ impl Session {
     ghost use Rattle.bw_session.specs.Promises.{RunsNumbers};
     ghost use Rattle.bw_session.specs.Runs.{with_more_done, HasDrained, EndsDraining};
 
-    /// Drains the numbers whose messages are held in a row, sixteen at most with those of which
-    /// `out` tells already, and appends their verdicts; answers whether a fault stopped it.
+    /// Does the numbers whose messages are held in a row, at most sixteen with those that `out`
+    /// already reports, and appends their verdicts; returns whether a fault stopped it.
     pub(crate) fn drain<S: TakeStore, J: Journal>(
         &mut self,
         stores: &mut Stores<S, J>,

@@ -55,18 +55,18 @@ impl Ledger {
         self.bytes.len() / ENTRY_LEN
     }
 
-    /// How many bytes are kept of them.
+    /// How many bytes they take.
     pub(crate) fn byte_count(&self) -> u64
         ensures { result ≡ 33 * length self.now.outcomes }
     {
         self.bytes.len() as u64
     }
 
-    /// Makes room for so many more. Where it grows there is room after it for as many as are
-    /// there, so that long takes are not copied over and over.
+    /// Makes room for `count` more. A growth leaves room for at least as many as there are, so that
+    /// long takes are not copied over and over.
     ///
     /// # Errors
-    /// `AllocError` where the growth was refused.
+    /// `AllocError` if the growth was refused.
     pub(crate) fn reserve(&mut self, count: usize) -> Result<(), AllocError>
         requires { count ≤ 16 }
         ensures outcomes { self.new.outcomes ≡ self.old.outcomes }
@@ -86,7 +86,7 @@ impl Ledger {
         self.bytes.reserve_exact(wanted.max(self.bytes.len()))
     }
 
-    /// Notes the next number as done, in room that is there.
+    /// Notes the next number as done, in room that was reserved.
     pub(crate) fn push(&mut self, digest: &[u8; 32], verdict: Verdict)
         requires { 1 ≤ self.old.room }
         ensures outcomes { self.new.outcomes ≡
@@ -136,7 +136,7 @@ fn digest_at(bytes: &[u8], number: usize) -> &[u8]
     &bytes[start..start + DIGEST_LEN]
 }
 
-/// The verdict with a code that one has.
+/// The verdict with this code, which is a verdict's.
 fn verdict_with(code: u8) -> Verdict
     requires { IsSome (verdict_with_code code) }
     ensures { verdict_with_code code ≡ Some (verdict_meaning result) }

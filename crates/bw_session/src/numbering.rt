@@ -46,11 +46,11 @@ pub(crate) struct Stores<S: TakeStore, J: Journal> {
 }
 
 impl<S: TakeStore, J: Journal> Stores<S, J> {
-    /// Notes a done number under a name after the first bytes, and answers how many bytes its
-    /// entry has.
+    /// Notes a done number under a name after the first bytes, and returns the length of its entry
+    /// in bytes.
     ///
     /// # Errors
-    /// `StoreFault` where the journal failed: the same call may be tried again.
+    /// `StoreFault` if the journal failed: the same call may be tried again.
     fn note(
         &mut self,
         name: &Name,
@@ -83,7 +83,7 @@ impl<S: TakeStore, J: Journal> Stores<S, J> {
 /// Begins a name's journal before its first number.
 ///
 /// # Errors
-/// `StoreFault` where the journal failed: the same call may be tried again.
+/// `StoreFault` if the journal failed: the same call may be tried again.
 fn begin_notes<J: Journal>(journal: &mut J, name: &Name, done: usize) -> Result<(), StoreFault>
     ensures journal { KeepsJournal J.Journal (is_err result) name.now journal.old journal.new }
     ensures begun { done ≡ 0 → IsTrue (J.honest journal.old) →
@@ -131,11 +131,11 @@ impl Progress {
     ghost use Rattle.bw_session.specs.Numbering.{ForNext, NotesNext};
 
     /// Does the next number: its request is carried out in the file, then noted in the journal,
-    /// and then kept.
+    /// then kept in memory.
     ///
     /// # Errors
-    /// `StoreFault` where the store or the journal failed: the number isn't done, and the same
-    /// request may be tried again.
+    /// `StoreFault` if the store or the journal failed: the number isn't done, and the same request
+    /// may be tried again.
     pub(crate) fn number_done<S: TakeStore, J: Journal>(
         &mut self,
         stores: &mut Stores<S, J>,

@@ -1,4 +1,4 @@
-//! What a message is reported itself, beside the verdicts of the numbers that were drained.
+//! The reply to a message itself, next to the verdicts of the numbers that were drained.
 ghost use Rattle.std.specs.Prelude.{◌≡◌, ◌+◌, ◌<◌, ℕ, List, Option, length, is_some, IfSome};
 ghost use Rattle.std.specs.Prelude.{option_map, option_to_list, if◌then◌else◌};
 ghost use Rattle.sha2.specs.Sha256.{sha256};
@@ -20,7 +20,7 @@ impl Session {
     ghost use Rattle.bw_session.specs.Reporting.{IsServing, IsTimely};
 
     /// The reply to a message whose number is in the window or below it, once the numbers from
-    /// `done` on were drained: none where its own was among them.
+    /// `done` on were drained: none if its own was among them.
     pub(crate) fn reply_to(
         &self,
         message: &Message<'_>,

@@ -34,12 +34,12 @@ use bw_wire::{Message, Notice, Reply};
 use std::alloc::{AllocError, Global};
 use std::collections::HashMap;
 
-/// How many names a server takes.
+/// The most names that a server takes.
 const NAMES: usize = 256;
 
-/// A server over a store, and over a journal where there is one.
+/// A server over a store, and optionally a journal.
 ///
-/// No call lends its journal or gives it back.
+/// No call lends or returns its journal.
 #[derive(Drop)]
 pub struct Server<S: TakeStore, J: Journal = NoJournal> {
     sessions: HashMap<Name, Session>,
@@ -51,10 +51,10 @@ pub struct Server<S: TakeStore, J: Journal = NoJournal> {
 impl<S: TakeStore> Server<S> {
     ghost use Rattle.bw_session.specs.Books.{HoldsBook};
 
-    /// A server that knows no name, over a store alone.
+    /// Creates a server that knows no name, over a store alone.
     ///
     /// # Errors
-    /// `AllocError`, with the store, where memory was refused.
+    /// `AllocError`, with the store, if memory was refused.
     ///
     /// # Not specified
     /// When memory is refused.
@@ -78,13 +78,13 @@ impl<S: TakeStore, J: Journal> Server<S, J> {
     ghost use Rattle.bw_session.specs.Books.{SameStores, Turned};
     ghost use Rattle.bw_session.specs.Books.{of_known, count_waiting};
 
-    /// A server that knows no name, over a store and a journal.
+    /// Creates a server that knows no name, over a store and a journal.
     ///
-    /// The journal notes the empty book where it has no more than prefixes of headers that say which
-    /// names stood.
+    /// The journal notes the empty book if it has no more than prefixes of headers that say which
+    /// names existed.
     ///
     /// # Errors
-    /// `AllocError`, with the store and the journal, where memory was refused.
+    /// `AllocError`, with the store and the journal, if memory was refused.
     ///
     /// # Not specified
     /// When memory is refused.
@@ -122,15 +122,15 @@ impl<S: TakeStore, J: Journal> Server<S, J> {
         })
     }
 
-    /// Takes a message, and tells its sender, in `out`, which is emptied first: the verdicts of the
-    /// numbers of its name that are done by it, in their order, at most sixteen, and after them
-    /// what is said of the message itself, where its verdict isn't among these.
+    /// Takes a message, and puts the replies to its sender into `out`, which is emptied first: the
+    /// verdicts of the numbers of its name that are done by it, in order, at most sixteen; then the
+    /// reply to the message itself, if its verdict isn't among these.
     ///
-    /// Whatever store it is, for each number that is done it is asked all that its judged request
-    /// asks, in that order, and for one whose store call failed the first of these.
+    /// Any store is asked, for each number that is done, all that its judged request asks, in that
+    /// order; for one whose store call failed, the first of these calls.
     ///
-    /// A message that is held is done when those before it have come; after a failure of the store
-    /// or the journal, when the next message of its name comes.
+    /// A held message is done when those before it have come; after a failure of the store or the
+    /// journal, when the next message of its name comes.
     ///
     /// # Not specified
     /// - When a growth is refused, as NoRoom reports it.
@@ -138,7 +138,7 @@ impl<S: TakeStore, J: Journal> Server<S, J> {
     ///   for their number, their range and DelayedStore; that `out` was emptied; and what the
     ///   server then holds, so also what `ask`, `done`, `frames`, `is_closed`, `held` and
     ///   `kept_bytes` return after it.
-    /// - Whether store or journal failed, and which of both DelayedStore reports.
+    /// - Whether the store or the journal failed, and which of them DelayedStore reports.
     pub fn turn(&mut self, message: &Message<'_>, out: &mut ArrayVec<Reply, 17>)
         ensures few { length out.new.items ≤ 17 }
         ensures numbers { All HasWireNumbers out.new.items }
@@ -196,10 +196,10 @@ impl<S: TakeStore, J: Journal> Server<S, J> {
         }
     }
 
-    /// Serves the first message of a name, where there is room for both.
+    /// Serves the first message of a name, if there is room for both.
     ///
     /// # Errors
-    /// Why it is turned away: nothing changed.
+    /// Why it is turned away; nothing is changed.
     fn try_meet(
         &mut self,
         name: &Name,
@@ -241,7 +241,7 @@ impl<S: TakeStore, J: Journal> Server<S, J> {
     /// Serves the first message of a name, which is known afterwards.
     ///
     /// # Errors
-    /// `AllocError` where a growth was refused: nothing changed.
+    /// `AllocError` if a growth was refused: nothing changed.
     fn begin(
         &mut self,
         name: &Name,
@@ -276,11 +276,11 @@ impl<S: TakeStore, J: Journal> Server<S, J> {
         }
     }
 
-    /// The answer to an ask: how many numbers of the name have their verdicts, 0 of one that isn't
-    /// known. The number that was asked with is repeated.
+    /// The reply to an ask: how many numbers of the name have their verdicts, 0 for an unknown
+    /// name. The number in the ask is repeated.
     ///
     /// # Not specified
-    /// After a turn over a store that isn't honest: how many it tells.
+    /// How many it reports after a turn over a store that isn't honest.
     pub fn ask(&self, name: &Name, number: u32) -> Reply
         ensures value { (first : List ℕ → Option (List ℕ)) (book : Book) →
             HoldsBook S.TakeStore J.Journal first self.now book →
@@ -296,8 +296,7 @@ impl<S: TakeStore, J: Journal> Server<S, J> {
         }
     }
 
-    /// How many numbers of a name have their verdicts, at most 16,777,216; None where it isn't
-    /// known.
+    /// How many numbers of a name have their verdicts, at most 16,777,216; None if it isn't known.
     ///
     /// # Not specified
     /// Anything after a turn over a store that isn't honest.
@@ -311,7 +310,7 @@ impl<S: TakeStore, J: Journal> Server<S, J> {
         Some(session.progress.ledger.len() as u32)
     }
 
-    /// How many whole frames a name's take has, none without a format; None where the name isn't
+    /// How many whole sample frames a name's take has, 0 without a format; None if the name isn't
     /// known.
     ///
     /// # Not specified
@@ -326,7 +325,7 @@ impl<S: TakeStore, J: Journal> Server<S, J> {
         Some(session.progress.state.frames())
     }
 
-    /// Whether a name's take is closed; false too of a name that isn't known.
+    /// Whether a name's take is closed; false for an unknown name too.
     ///
     /// # Not specified
     /// Anything after a turn over a store that isn't honest.
@@ -342,8 +341,8 @@ impl<S: TakeStore, J: Journal> Server<S, J> {
         }
     }
 
-    /// How many admitted messages of a name have no verdict yet, at most 16; None where the name
-    /// isn't known.
+    /// How many admitted messages of a name have no verdict yet, at most 16; None if the name isn't
+    /// known.
     ///
     /// # Not specified
     /// Anything after a turn over a store that isn't honest.
@@ -357,8 +356,8 @@ impl<S: TakeStore, J: Journal> Server<S, J> {
         Some(session.window.count())
     }
 
-    /// How many bytes are kept of the done numbers of a name: 33 for each; None where the name
-    /// isn't known.
+    /// How many bytes are kept of the done numbers of a name: 33 for each; None if the name isn't
+    /// known.
     ///
     /// # Not specified
     /// Anything after a turn over a store that isn't honest.
@@ -378,7 +377,7 @@ impl<S: TakeStore, J: Journal> Server<S, J> {
         &self.stores.store
     }
 
-    /// The store, which the server lets go.
+    /// Consumes the server and returns its store.
     pub fn into_store(self) -> S
         ensures { result ≡ self.stores.store }
     {

@@ -1,5 +1,5 @@
 //! A message of a name that a session is kept of: it is admitted, what is held in a row is done,
-//! and its sender is reported.
+//! and its sender gets the replies.
 ghost use Rattle.std.specs.Prelude.{◌≡◌, ◌≤◌, [], IsTrue, IfOk, OnOk, OnErr};
 ghost use Rattle.std.specs.Prelude.{is_some, length, map, true, false};
 ghost use Rattle.std.specs.List.{All};
@@ -29,7 +29,7 @@ impl Session {
     ghost use Rattle.bw_session.specs.Reporting.{IsServing, IsTimely};
     ghost use Rattle.bw_session.specs.Serving.{Answers, ServesMessage, log_after, log_reported};
 
-    /// Takes a message of the name, and tells its sender, in `out`, which is empty.
+    /// Takes a message of the name, and puts the replies to its sender into `out`, which is empty.
     pub(crate) fn answer<S: TakeStore, J: Journal>(
         &mut self,
         stores: &mut Stores<S, J>,
@@ -61,11 +61,10 @@ impl Session {
         }
     }
 
-    /// Takes a message of the name: what its sender is reported is put into `out`, which is empty.
+    /// Takes a message of the name, and puts the replies to its sender into `out`, which is empty.
     ///
     /// # Errors
-    /// `AllocError` where a growth was refused: nothing was asked of the store, and nothing is
-    /// told.
+    /// `AllocError` if a growth was refused: nothing was asked of the store, and there is no reply.
     pub(crate) fn serve<S: TakeStore, J: Journal>(
         &mut self,
         stores: &mut Stores<S, J>,
@@ -108,11 +107,11 @@ impl Session {
         Ok(())
     }
 
-    /// Admits a message and does the numbers whose messages are there in a row; answers whether
-    /// a fault stopped that.
+    /// Admits a message and does the numbers whose messages are there in a row; returns whether a
+    /// fault stopped that.
     ///
     /// # Errors
-    /// `AllocError` where a growth was refused: nothing was asked of the store.
+    /// `AllocError` if a growth was refused: nothing was asked of the store.
     fn admit_and_drain<S: TakeStore, J: Journal>(
         &mut self,
         stores: &mut Stores<S, J>,

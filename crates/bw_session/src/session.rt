@@ -32,10 +32,10 @@ impl Session {
     ghost use Rattle.bw_session.specs.Sessions.{part_of};
     ghost use Rattle.bw_session.specs.Asking.{new_part};
 
-    /// A name of which nothing came yet.
+    /// Creates the session of a name of which nothing has come.
     ///
     /// # Errors
-    /// `AllocError` where memory was refused.
+    /// `AllocError` if memory was refused.
     pub(crate) fn new(alloc: Global, name: Name, limit: Limit) -> Result<Session, AllocError>
         ensures name { IfOk result (λ s. s.progress.name ≡ name) }
         ensures growing { IfOk result (λ s. s.progress.growing ≡
@@ -57,10 +57,10 @@ impl Session {
         Session::resume(alloc, progress)
     }
 
-    /// A name of which nothing waits, from what is kept of its done numbers.
+    /// Creates a session of which nothing waits, from what is kept of its done numbers.
     ///
     /// # Errors
-    /// `AllocError` where memory was refused.
+    /// `AllocError` if memory was refused.
     pub(crate) fn resume(alloc: Global, progress: Progress) -> Result<Session, AllocError>
         requires { progress.growing.dirty ≡ false }
         ensures progress { IfOk result (λ s. s.progress ≡ progress) }

@@ -21,7 +21,7 @@ use bw_take::TakeState;
 /// Keeps a number as done: its request in the state, its body's digest and its verdict
 /// in the ledger.
 ///
-/// It takes no memory from an allocator and can't fail.
+/// It allocates nothing and can't fail.
 pub(crate) fn settle(
     state: &mut TakeState,
     ledger: &mut Ledger,

@@ -12,7 +12,7 @@ use std::marker::Model;
 /// How many numbers may be admitted ahead of the last verdict.
 pub(crate) const SLOTS: usize = 16;
 
-/// The bodies of the next sixteen numbers, where they came (a sliding window).
+/// The bodies of the next sixteen numbers, as far as they have come (a sliding window).
 ///
 /// Slot 0 is that of the least number without a verdict.
 #[derive(Drop)]
@@ -34,7 +34,7 @@ impl Window {
     /// An empty window.
     ///
     /// # Errors
-    /// `AllocError` where the slots were refused.
+    /// `AllocError` if the slots were refused.
     pub(crate) fn new(alloc: Global) -> Result<Window, AllocError>
         ensures { IfOk result (λ w. w ≡ replicate 16 None) }
     {
@@ -73,7 +73,7 @@ impl Window {
         *place = Some(body);
     }
 
-    /// Lets the first slot go, and has an empty one after the others.
+    /// Drops the first slot, and adds an empty one after the others.
     pub(crate) fn advance(&mut self)
         ensures { self.new ≡ drop 1 self.old ++ None ∷ [] }
     {

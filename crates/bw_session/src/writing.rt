@@ -15,11 +15,11 @@ use bw_request::RequestRef;
 use bw_store::{Created, StoreFault, TakeStore};
 use bw_take::TakeState;
 
-/// Writes a request that is to be stored to the file: `Exists` where it would open a take whose
-/// name stood in the store. A marker waits in memory for the take's end.
+/// Writes a request that is to be stored to the file; `Exists` if it would open a take whose name
+/// already existed in the store. A marker waits in memory for the take's end.
 ///
 /// # Errors
-/// `StoreFault` where a call of the store failed: the same request may be written again.
+/// `StoreFault` if a call of the store failed: the same request may be written again.
 pub(crate) fn write_request<S: TakeStore>(
     store: &mut S,
     growing: &mut GrowingFile,

@@ -46,7 +46,7 @@ gets_then {p = p} {q = q} {a = a} {b = b} {c = c} first second =
           };
     }
 
--- .. and then the first of those
+-- these calls, and then the first of those
 pub gets_then_first : {p q : List StoreCall} {a b c : ℕ} {x y z : Option (List StoreCall)} → Gets p a b x y →
     GetsFirst q b c y z → GetsFirst (p ++ q) a c x z
 gets_then_first {p = p} {q = q} {a = a} {c = c} {x = x} {z = z} first second =
@@ -78,7 +78,7 @@ gets_before {p = p} {a = a} {b = b} {x = x} {y = y} q first =
           (sym (take-append-le first.count p q first.within)) first.gets;
     }
 
--- the same calls, told otherwise
+-- the same calls, written otherwise
 pub gets_as : {p q : List StoreCall} {a b : ℕ} {x y : Option (List StoreCall)} → p ≡ q → Gets q a b x y → Gets p a b x y
 gets_as {a = a} {b = b} {x = x} {y = y} e h = subst (λ (l : List StoreCall). Gets l a b x y) (sym e) h
 

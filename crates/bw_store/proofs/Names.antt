@@ -41,7 +41,7 @@ same_by_order a b = subst (λ (r : Bool). Decides r (a ≡ b)) (sym (is_eq-slice
 is_some-map : (o : Option (Vec ℕ Global)) → is_some (option_map (λ (v : Vec ℕ Global). v.items) o) ≡ is_some o
 is_some-map o = grind arith
 
--- a name stands where it is among the keys
+-- a name is in the store if it is among the keys
 pub stands_iff : (files : BTreeMap (List ℕ) (Vec ℕ Global)) (name : List ℕ) →
     is_some (get (slice_cmp nat_cmp) files name) ≡ is_member (eq_by_cmp (slice_cmp nat_cmp)) (keys files) name →
     IsSome (content_under files name) ↔ Contains (keys files) name

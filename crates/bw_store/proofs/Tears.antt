@@ -1,4 +1,4 @@
--- What stands under a name after writes that may have failed.
+-- What a name has after writes that may have failed.
 use Rattle.std.proofs.Common.{◌≡◌, ◌∙◌, sym, ap, ℕ, ◌+◌, ◌≤◌, List, length, Option, Some, None, Result, Ok, Err, arith}
 use Rattle.std.specs.Prelude.{OnOk, OnErr}
 use Rattle.bw_store.specs.Stores.{Written, MayTear, overwritten}
@@ -28,7 +28,7 @@ written_tears before after place n bytes h w = (
   ),
 )
 
--- .. in a wider range
+-- a torn content in a wider range
 pub tears_wider : (before after : Option (List ℕ)) (place n first m : ℕ) → first ≤ place → place + n ≤ first + m →
     MayTear before place n after → MayTear before first m after
 tears_wider before after place n first m low high w = (
@@ -36,7 +36,7 @@ tears_wider before after place n first m low high w = (
   λ old e. let t = w.1 old e in (t.0, t.1, torn_wider old t.0 place n first m low high t.2),
 )
 
--- .. twice
+-- a content torn twice
 pub tears_twice : (before middle after : Option (List ℕ)) (place n : ℕ) → MayTear before place n middle →
     MayTear middle place n after → MayTear before place n after
 tears_twice before middle after place n first second = (

@@ -3,7 +3,7 @@ use Rattle.std.proofs.Common.{ℕ, ◌+◌, ◌≤◌, List, length, arith, ◌�
 use Rattle.std.proofs.lemmas.List.{places}
 use Rattle.bw_store.specs.Stores.{overwritten, Torn}
 
--- a whole write, and one of fewer bytes, are such
+-- a whole write, and one of fewer bytes, give torn contents
 pub overwritten_torn : (old bytes : List ℕ) (place n : ℕ) → length bytes ≤ n →
     Torn old place n (overwritten old place bytes)
 overwritten_torn old bytes place n h =

@@ -2,7 +2,7 @@
 use Rattle.std.specs.Prelude.{◌≡◌, ℕ, ◌≤◌, List, ◌++◌, length, take, Option, Some}
 use Rattle.bw_store.specs.Stores.{raised}
 
--- a call on a name; of a write its offset and how many bytes
+-- a call on a name; for a write, its offset and how many bytes
 pub data StoreCall : Type 0 where
   Create : List ℕ → StoreCall
   WriteAt : List ℕ → ℕ → ℕ → StoreCall
@@ -14,7 +14,7 @@ pub record Ends (plan all : List StoreCall) (before : Option (List StoreCall)) :
   pub were : before ≡ Some noted
   pub are : all ≡ noted ++ plan
 
--- Where the store has noted all its calls, these came last.
+-- If the store has noted all its calls, these came last.
 abbrev pub Asks : List StoreCall → Option (List StoreCall) → Option (List StoreCall) → Type 0
 Asks plan before after = (all : List StoreCall) → after ≡ Some all → Ends plan all before
 

@@ -1,4 +1,4 @@
--- Which calls of a store after fuses fail.
+-- Which calls of a store with fuses fail.
 use Rattle.std.specs.Prelude.{◌≡◌, ◌<◌, ℕ, ◌/◌, Bool, true, false, IsTrue, IsFalse, List, [], length, take}
 use Rattle.std.specs.Prelude.{◌==◌, Option, None, if◌then◌else◌}
 use Rattle.std.specs.List.{list_any}
@@ -12,12 +12,12 @@ use Rattle.bw_store.specs.declared.store.TakeStore.{Ghosts}
 abbrev pub has_fuse : List ℕ → ℕ → Bool
 has_fuse fuses call = list_any (λ f. f == call) fuses
 
--- A call fails at its fuse; without one it fails exactly where the inner store's call fails.
+-- A call fails at its fuse; without one it fails exactly if the inner store's call fails.
 pub record Blows (fused fails : Bool) (inner_before inner_after : ℕ) : Type 0 where
   pub at_fuse : IsTrue fused → IsTrue fails
   pub elsewhere : IsFalse fused → Counts inner_before inner_after fails
 
--- what a store after fuses notes: what the inner one does, as long as no fuse has blown
+-- what a store with fuses notes: what the inner one does, as long as no fuse has blown
 abbrev pub passed_on : Bool → Option (List StoreCall) → Option (List StoreCall)
 passed_on true noted = None
 passed_on false noted = noted

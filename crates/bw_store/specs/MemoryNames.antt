@@ -11,7 +11,7 @@ use Rattle.bw_store.specs.declared.memory.MemoryStore.{MemoryStore}
 abbrev pub names_of : MemoryStore → List (List ℕ)
 names_of s = keys s.files
 
--- these are the names that stand, each once, in the order of their bytes
+-- these are the names that are in the store, each once, in the order of their bytes
 pub record AreNames (names : List (List ℕ)) (contents : List ℕ → Option (List ℕ)) : Type 0 where
   pub ordered : IsStrictlySortedBy (slice_cmp nat_cmp) names
   pub each : (name : List ℕ) → IsSome (contents name) ↔ Contains names name

@@ -16,18 +16,18 @@ pub record Shared {X : Type 0} (S : Ghosts X) (fails : Bool) (name : List ℕ) (
 abbrev pub WasAsked : {X : Type 0} → Ghosts X → List StoreCall → X → X → Type 0
 WasAsked S plan old new = Gets plan (S.calls old) (S.calls new) (S.asked old) (S.asked new)
 
--- .. or the first of these, up to one that failed
+-- the store got the first of these calls, up to one that failed
 abbrev pub WasAskedFirst : {X : Type 0} → Ghosts X → List StoreCall → X → X → Type 0
 WasAskedFirst S plan old new =
     GetsFirst plan (S.calls old) (S.calls new) (S.asked old) (S.asked new)
 
--- Over an honest store the content of a name changes in these n bytes from a place on, and nowhere
+-- In an honest store the content of a name changes in these n bytes from a place on, and nowhere
 -- else.
 abbrev pub TearsIn : {X : Type 0} → Ghosts X → List ℕ → ℕ → ℕ → X → X → Type 0
 TearsIn S name place n old new =
     IsTrue (S.honest old) → MayTear (S.contents old name) place n (S.contents new name)
 
--- What a success changes of a name in an honest store.
+-- What a success changes under a name in an honest store.
 abbrev pub PutsIn : {X T E : Type 0} → Ghosts X → Result T E → List ℕ →
     (Option (List ℕ) → Option (List ℕ) → Type 0) → X → X → Type 0
 PutsIn S answer name Changes old new =

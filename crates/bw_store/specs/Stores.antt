@@ -6,7 +6,7 @@ pub use Rattle.bw_model.specs.Counts.{Counts, last_count}
 use Rattle.bw_store.specs.declared.store.Created.{Created}
 use Rattle.bw_store.specs.declared.store.Created.TheVariants.{New, Exists}
 
--- a count that rose by so many, and stays at its last value
+-- a count that rose by this many, and stays at its last value
 abbrev pub raised : ℕ → ℕ → ℕ
 raised count n = max count (min (count + n) last_count)
 
@@ -22,7 +22,7 @@ overwritten old place (byte ∷ rest) =
     let bytes = byte ∷ rest in
     take place old ++ zeros (place - length old) ++ bytes ++ drop (place + length bytes) old
 
--- .. after a `write_at` that succeeds: the name stands
+-- what a name has before and after a `write_at` that succeeds: the name is there
 abbrev pub Written : Option (List ℕ) → ℕ → List ℕ → Option (List ℕ) → Type 0
 Written before place bytes after =
     (old : List ℕ) × (before ≡ Some old) × (after ≡ Some (overwritten old place bytes))
@@ -34,7 +34,7 @@ pub record Torn (old : List ℕ) (place n : ℕ) (new : List ℕ) : Type 0 where
   pub before : (k : ℕ) → k < place → slice_index new k ≡ slice_index old k
   pub following : (k : ℕ) → place + n ≤ k → slice_index new k ≡ slice_index old k
 
--- .. after a `write_at` of n bytes that fails: no name is made
+-- what a name has before and after a `write_at` of n bytes that fails: no name is made
 abbrev pub MayTear : Option (List ℕ) → ℕ → ℕ → Option (List ℕ) → Type 0
 MayTear before place n after =
     (before ≡ None → after ≡ None)

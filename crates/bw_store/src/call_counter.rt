@@ -10,7 +10,7 @@ pub struct CallCounter {
 }
 
 impl CallCounter {
-    /// No call came.
+    /// No call yet.
     pub fn new() -> CallCounter
         ensures { result ≡ record { calls = 0; failures = 0 } }
     {
@@ -20,7 +20,7 @@ impl CallCounter {
         }
     }
 
-    /// How many calls came; the count stays at 2^64 - 1.
+    /// How many calls there were; the count stays at 2^64 - 1.
     pub fn calls(&self) -> u64
         ensures { result ≡ self.now.calls }
     {

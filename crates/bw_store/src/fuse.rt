@@ -12,9 +12,9 @@ use crate::call_counter::CallCounter;
 use crate::store::{Created, StoreFault, TakeStore};
 use bw_request::Name;
 
-/// A store after fuses: the calls of chosen numbers, counted from 0, fail, each once.
+/// A store with fuses: the calls of chosen numbers, counted from 0, fail, each once.
 ///
-/// A `write_at` that fails so writes the first half of its bytes, rounded down.
+/// A `write_at` that fails at a fuse writes the first half of its bytes, rounded down.
 #[derive(Drop)]
 pub struct FuseStore<S: TakeStore> {
     inner: S,
@@ -44,7 +44,7 @@ impl<S: TakeStore> FuseStore<S> {
         }
     }
 
-    /// How many calls came, those that failed among them.
+    /// How many calls there were, failed ones included.
     pub fn calls(&self) -> u64
         ensures { result ≡ self.now.call_counter.calls }
     {
@@ -65,14 +65,14 @@ impl<S: TakeStore> FuseStore<S> {
         self.blown
     }
 
-    /// The store after the fuses.
+    /// The inner store.
     pub fn inner(&self) -> &S
         ensures { result.now ≡ self.now.inner }
     {
         &self.inner
     }
 
-    /// The store after the fuses, without them.
+    /// The inner store, by value.
     pub fn into_inner(self) -> S
         ensures { result ≡ self.inner }
     {
@@ -101,12 +101,12 @@ impl<S: TakeStore> TakeStore for FuseStore<S> {
     /// Makes the name in the inner store, unless a fuse has the call's number.
     ///
     /// # Errors
-    /// `StoreFault` at a fuse, which is spent, without a call of the inner store; else where the
+    /// `StoreFault` at a fuse, which is spent, without a call of the inner store; else if the
     /// inner call failed.
     ///
     /// # Not specified
     /// Whether a call without a fuse fails as the inner one does, once the inner store's count of
-    /// failures stands at 2^64 - 1.
+    /// failures is 2^64 - 1.
     fn create(&mut self, name: &Name) -> Result<Created, StoreFault>
         ensures failures { Counts self.old.call_counter.failures self.new.call_counter.failures (is_err result) }
         ensures calls { Counts self.old.call_counter.calls self.new.call_counter.calls true }
@@ -147,11 +147,11 @@ impl<S: TakeStore> TakeStore for FuseStore<S> {
     /// the bytes, rounded down.
     ///
     /// # Errors
-    /// `StoreFault` at a fuse, which is spent; else where the inner call failed.
+    /// `StoreFault` at a fuse, which is spent; else if the inner call failed.
     ///
     /// # Not specified
     /// - Whether a call without a fuse fails as the inner one does, once the inner store's count of
-    ///   failures stands at 2^64 - 1.
+    ///   failures is 2^64 - 1.
     /// - At a fuse, whether the inner store took the half: only its count of failures shows it.
     fn write_at(&mut self, name: &Name, offset: u64, bytes: &[u8]) -> Result<(), StoreFault>
         ensures failures { Counts self.old.call_counter.failures self.new.call_counter.failures (is_err result) }
@@ -200,12 +200,12 @@ impl<S: TakeStore> TakeStore for FuseStore<S> {
     /// Finishes the name in the inner store, unless a fuse has the call's number.
     ///
     /// # Errors
-    /// `StoreFault` at a fuse, which is spent, without a call of the inner store; else where the
+    /// `StoreFault` at a fuse, which is spent, without a call of the inner store; else if the
     /// inner call failed.
     ///
     /// # Not specified
     /// Whether a call without a fuse fails as the inner one does, once the inner store's count of
-    /// failures stands at 2^64 - 1.
+    /// failures is 2^64 - 1.
     fn finish(&mut self, name: &Name) -> Result<(), StoreFault>
         ensures failures { Counts self.old.call_counter.failures self.new.call_counter.failures (is_err result) }
         ensures calls { Counts self.old.call_counter.calls self.new.call_counter.calls true }

@@ -1,4 +1,4 @@
-//! Stores of takes: contents by name, in memory or after fuses.
+//! Stores of takes: contents by name, in memory or with fuses.
 #![tactic(auto)]
 
 mod call_counter;

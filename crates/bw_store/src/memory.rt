@@ -12,7 +12,7 @@ use bw_request::Name;
 use std::alloc::{AllocError, Global};
 use std::collections::BTreeMap;
 
-/// Takes in memory. A call fails where memory is refused, and for a name that was never made.
+/// Takes in memory. A call fails if memory is refused, and for a name that was never made.
 #[derive(Drop)]
 pub struct MemoryStore {
     alloc: Global,
@@ -37,10 +37,10 @@ impl MemoryStore {
         }
     }
 
-    /// Puts a name with contents, in place of what stood there. That is no call of the store.
+    /// Puts a name with contents, in place of what it had. That is no call of the store.
     ///
     /// # Errors
-    /// `AllocError` where memory was refused: nothing changed then.
+    /// `AllocError` if memory was refused: nothing changed then.
     ///
     /// # Not specified
     /// When memory is refused.
@@ -59,7 +59,7 @@ impl MemoryStore {
         }
     }
 
-    /// What stands under a name; None where it doesn't stand.
+    /// The content of a name; None if the name isn't in the store.
     pub fn content(&self, name: &Name) -> Option<&[u8]>
         ensures { option_copied result ≡ ⟦<MemoryStore as TakeStore>⟧.contents self.now name.now }
     {
@@ -69,7 +69,7 @@ impl MemoryStore {
         }
     }
 
-    /// How many names stand.
+    /// How many names are in the store.
     pub fn name_count(&self) -> usize
         ensures count { result ≡ length (names_of self.now) }
         ensures names { AreNames (names_of self.now) (content_under self.now.files) }
@@ -77,7 +77,8 @@ impl MemoryStore {
         self.files.keys().len()
     }
 
-    /// The names that stand, by place from 0 on, in the order of their bytes; None after the last.
+    /// The names in the store, by place from 0 on, in the order of their bytes; None after the
+    /// last.
     pub fn name_at(&self, place: usize) -> Option<&Name>
         ensures name { option_copied result ≡ slice_get (names_of self.now) place }
         ensures names { AreNames (names_of self.now) (content_under self.now.files) }
@@ -95,10 +96,10 @@ impl TakeStore for MemoryStore {
 
     ghost honest = { λ s. true };
 
-    /// Makes the name, unless it stands.
+    /// Makes the name, unless it is there.
     ///
     /// # Errors
-    /// `StoreFault` where memory was refused, never where the name stands: contents are as they
+    /// `StoreFault` if memory was refused, never if the name is there: contents are as they
     /// were.
     ///
     /// # Not specified
@@ -120,11 +121,11 @@ impl TakeStore for MemoryStore {
         answer
     }
 
-    /// Puts the bytes into the contents of a name that stands.
+    /// Writes the bytes into the content of a name that is there.
     ///
     /// # Errors
-    /// `StoreFault` where the name doesn't stand, or memory was refused, never where the bytes go
-    /// over what stands: contents are as they were, not torn.
+    /// `StoreFault` if the name isn't there, or memory was refused, never if the bytes only
+    /// overwrite others: contents are as they were, not torn.
     ///
     /// # Not specified
     /// When memory is refused.
@@ -148,7 +149,7 @@ impl TakeStore for MemoryStore {
     /// Counts the call, and changes no contents.
     ///
     /// # Errors
-    /// `StoreFault` where the name doesn't stand.
+    /// `StoreFault` if the name isn't there.
     fn finish(&mut self, name: &Name) -> Result<(), StoreFault>
         ensures failures { Counts self.old.call_counter.failures self.new.call_counter.failures (is_err result) }
         ensures calls { Counts self.old.call_counter.calls self.new.call_counter.calls true }
@@ -161,11 +162,11 @@ impl TakeStore for MemoryStore {
     }
 }
 
-/// Puts bytes over what stands from an offset on, and past its end; a gap reads as zeros. The bytes
+/// Overwrites bytes from an offset on, and appends past the end; a gap reads as zeros. The bytes
 /// must end below 2^64.
 ///
 /// # Errors
-/// `AllocError` where memory was refused, never where the bytes go over what stands. Nothing changed
+/// `AllocError` if memory was refused, never if the bytes only overwrite others. Nothing changed
 /// then.
 ///
 /// # Not specified
@@ -192,7 +193,7 @@ pub fn overwrite(content: &mut Vec<u8>, offset: u64, bytes: &[u8]) -> Result<(),
     Ok(())
 }
 
-/// Makes a file, unless it stands.
+/// Makes a file, unless it is there.
 fn make(
     files: &mut BTreeMap<Name, Vec<u8>>,
     alloc: Global,
@@ -214,7 +215,7 @@ fn make(
     }
 }
 
-/// Writes into a file, if it stands.
+/// Writes into a file, if it is there.
 fn write(
     files: &mut BTreeMap<Name, Vec<u8>>,
     name: &Name,
@@ -239,7 +240,7 @@ fn write(
     }
 }
 
-/// Puts bytes over as many that stand there.
+/// Overwrites as many bytes as are given.
 fn copy_in(content: &mut [u8], start: usize, bytes: &[u8])
     requires { start + length bytes.now ≤ length content.old }
     ensures { content.new ≡ overwritten content.old start bytes.now }

@@ -10,9 +10,9 @@ use thiserror::Error;
 /// What `create` found.
 #[derive(Clone, Copy, Debug, PartialEq, Eq)]
 pub enum Created {
-    /// The name did not stand in the store. It stands now, with empty contents.
+    /// The name was not in the store. It is now, with empty contents.
     New,
-    /// The name stood in the store already. It is as it was.
+    /// The name was in the store already. It is as it was.
     Exists,
 }
 
@@ -25,31 +25,32 @@ pub struct StoreFault;
 
 /// Contents by name, which grow by writes.
 ///
-/// The clauses on contents speak of an honest store: one that keeps the writes that it answered
-/// with success.
+/// The clauses on contents speak of an honest store: one that keeps the writes that it reported
+/// as successful.
 pub trait TakeStore: Drop {
-    /// What stands under each name.
+    /// The content of each name.
     ghost contents: { Self → List ℕ → Option (List ℕ) };
 
     /// How many calls failed; the count stays at 2^64 - 1.
     ghost failures: { Self → ℕ };
 
-    /// How many calls came; the count stays at 2^64 - 1.
+    /// How many calls there were; the count stays at 2^64 - 1.
     ghost calls: { Self → ℕ };
 
-    /// Which calls came, in their order, where the store notes them.
+    /// Which calls there were, in their order, if the store notes them.
     ghost asked: { Self → Option (List StoreCall) } = { λ _. None };
 
     /// Whether the store does what the clauses on contents say.
     ghost honest: { Self → Bool };
 
-    /// Makes a name with empty contents, unless it stands already.
+    /// Makes a name with empty contents, unless it is there already.
     ///
     /// # Errors
-    /// `StoreFault` where the store failed: nothing was made then.
+    /// `StoreFault` if the store failed: nothing was made then.
     ///
     /// # Not specified
-    /// When the store fails, and why: out of memory, the name and the device aren't told apart.
+    /// When the store fails, and why: the error doesn't distinguish lack of memory, the name and
+    /// the device.
     fn create(&mut self, name: &Name) -> Result<Created, StoreFault>
         ensures failures { Counts (failures self.old) (failures self.new) (is_err result) }
         ensures calls { Counts (calls self.old) (calls self.new) true }
@@ -62,14 +63,15 @@ pub trait TakeStore: Drop {
         ensures others { IsTrue (honest self.old) →
             KeepsOthers (contents self.old) (contents self.new) name.now };
 
-    /// Puts bytes over what stands from an offset on, and past its end; a gap reads as zeros.
+    /// Overwrites bytes from an offset on, and appends past the end; a gap reads as zeros.
     ///
     /// # Errors
-    /// `StoreFault` where the store failed: any bytes may stand in the range then. No name is made
+    /// `StoreFault` if the store failed: the range may hold any bytes then. No name is made
     /// then.
     ///
     /// # Not specified
-    /// When the store fails, and why: out of memory, the name and the device aren't told apart.
+    /// When the store fails, and why: the error doesn't distinguish lack of memory, the name and
+    /// the device.
     fn write_at(&mut self, name: &Name, offset: u64, bytes: &[u8]) -> Result<(), StoreFault>
         ensures failures { Counts (failures self.old) (failures self.new) (is_err result) }
         ensures calls { Counts (calls self.old) (calls self.new) true }
@@ -86,10 +88,11 @@ pub trait TakeStore: Drop {
     /// Says that the content of a name is complete.
     ///
     /// # Errors
-    /// `StoreFault` where the store failed. Contents are as they were then.
+    /// `StoreFault` if the store failed. Contents are as they were then.
     ///
     /// # Not specified
-    /// - When the store fails, and why: out of memory, the name and the device aren't told apart.
+    /// - When the store fails, and why: the error doesn't distinguish lack of memory, the name and
+    ///   the device.
     /// - What success guarantees: no clause says what a complete file means to the store.
     fn finish(&mut self, name: &Name) -> Result<(), StoreFault>
         ensures failures { Counts (failures self.old) (failures self.new) (is_err result) }

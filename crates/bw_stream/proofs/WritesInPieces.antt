@@ -9,6 +9,6 @@ pub append-take-drop : (ys xs : List ℕ) (d n : ℕ) → (ys ++ take d xs) ++ t
 append-take-drop ys xs d n =
     append_assoc ys (take d xs) (take n (drop d xs)) ∙ ap (λ (zs : List ℕ). ys ++ zs) (sym (take-add d n xs))
 
--- the first d of the bytes are a beginning
+-- the first d of the bytes are a prefix
 pub begun-take : (ys xs : List ℕ) (d : ℕ) (w : Option (List ℕ)) → w ≡ Some (ys ++ take d xs) → IsWrittenInPart ys xs w
 begun-take ys xs d w e = record { part = take d xs; rest = drop d xs; whole = take-append-drop d xs; stands = e }

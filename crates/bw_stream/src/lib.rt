@@ -1,4 +1,4 @@
-//! The readers and writers that bytes come from and go to, with a count of their failures.
+//! Readers and writers of bytes, with a count of their failures.
 #![tactic(auto)]
 
 mod memory;

@@ -57,7 +57,7 @@ impl<'a> Source for MemorySource<'a> {
     }
 }
 
-/// Writes after the bytes of a `Vec`, and fails only where its growth is refused.
+/// Appends to the bytes of a `Vec`, and fails only if memory for its growth is refused.
 #[derive(Drop)]
 pub struct MemorySink {
     bytes: Vec<u8>,
@@ -65,7 +65,7 @@ pub struct MemorySink {
 }
 
 impl MemorySink {
-    /// A writer after these bytes.
+    /// A writer that appends to these bytes.
     pub fn new(bytes: Vec<u8>) -> MemorySink
         ensures bytes { result.bytes.items ≡ bytes.items }
         ensures failures { result.failures ≡ 0 }
@@ -73,7 +73,7 @@ impl MemorySink {
         MemorySink { bytes, failures: 0 }
     }
 
-    /// All that was written, after the bytes from the start.
+    /// All bytes: those from the start, then those that were written.
     pub fn into_bytes(self) -> Vec<u8>
         ensures { result.items ≡ self.bytes.items }
     {
@@ -91,8 +91,8 @@ impl Sink for MemorySink {
     /// Appends all the bytes, or none.
     ///
     /// # Errors
-    /// `IoFailed` where the growth was refused, never where there is room: the bytes are as they
-    /// were.
+    /// `IoFailed` if memory for the growth was refused, never if there is room: the bytes are as
+    /// they were.
     ///
     /// # Not specified
     /// When a growth is refused.

@@ -1,4 +1,4 @@
-//! A file as a `Source` that seeks over what it passes by.
+//! A file as a `Source` that passes over bytes by seeking.
 ghost use Rattle.std.specs.Prelude.{◌≡◌, ◌≤◌, None, unwrap_or, length, IfOk, OnOk, OnErr};
 ghost use Rattle.std.specs.Io.Seek.{MovesTo};
 ghost use Rattle.bw_stream.specs.Moves.{one_more, failures_after, moved_after, Keeps, Reads, ReadsOn};
@@ -8,30 +8,29 @@ use crate::source::{IoFailed, Source};
 use crate::std_io::StdIo;
 use std::io::{Read, Seek, SeekFrom};
 
-/// A reader of std that seeks over what is passed by, as far as its length is known, and reads on
-/// from there.
+/// A std reader that seeks over the bytes to pass over, as far as its length is known, and reads
+/// beyond that.
 ///
-/// It tells no bytes, since nothing says what a reader gives after a seek, nor where one stands
-/// after a read: what it reads is what the reader itself gives next. Its own place counts what was
-/// read and passed over, and a seek goes to the place that this makes.
+/// It reports no bytes, since no contract says what a reader gives after a seek, or what its
+/// position is after a read: what it reads is what the reader itself gives next. Its own place
+/// counts the bytes read and passed over, and a seek goes to the place that results.
 #[derive(Drop)]
 pub struct SeekSource<T> {
     std_io: StdIo<T>,
     place: u64,
-    /// 0 where it isn't known.
+    /// 0 if it isn't known.
     len: u64,
-    /// What is dropped of a pipe is read into it: a new one for each piece would be cleared each
-    /// time.
+    /// What is dropped from a pipe is read into this block: a new one for each piece would have to
+    /// be cleared each time.
     piece: [u8; 65_536],
 }
 
 impl<T: Drop> SeekSource<T> {
-    /// A reader that stands at its start and has `len` bytes, where that is known, as it isn't of a
-    /// pipe.
+    /// A reader at its start, with `len` bytes; None if the length isn't known, as for a pipe.
     ///
     /// # Not specified
-    /// Which bytes it has: it reports none, so nothing that is proved of a file's bytes covers one
-    /// that is read through it.
+    /// Which bytes it has: it reports none, so nothing that is proved about a file's bytes covers
+    /// one that is read through it.
     pub fn new(inner: T, len: Option<u64>) -> SeekSource<T>
         ensures inner { result.std_io.inner ≡ inner }
         ensures calls { result.std_io.calls ≡ 0 }
@@ -49,7 +48,7 @@ impl<T: Drop> SeekSource<T> {
 }
 
 impl<T: Seek> SeekSource<T> {
-    /// Seeks to a place, counted from the start.
+    /// Seeks to a place, counted in bytes from the start.
     fn seek_to(&mut self, place: u64) -> Result<(), IoFailed>
         ensures calls { self.new.std_io.calls ≡ one_more self.old.std_io.calls }
         ensures count { self.new.std_io.failures ≡ failures_after result self.old.std_io.failures }
@@ -80,7 +79,7 @@ impl<T: Read + Seek> Source for SeekSource<T> {
     /// Reads the next bytes of its reader, and moves the place by as many.
     ///
     /// # Errors
-    /// `IoFailed` where the reader failed: the place stays.
+    /// `IoFailed` if the reader failed: the place stays.
     ///
     /// # Not specified
     /// - When the reader fails.
@@ -101,13 +100,13 @@ impl<T: Read + Seek> Source for SeekSource<T> {
         Ok(count)
     }
 
-    /// Seeks over what is left of the known length, at most `most` bytes, and reads on after it.
+    /// Seeks over what is left of the known length, at most `most` bytes, and reads after it.
     ///
     /// # Errors
-    /// `IoFailed` where the reader failed: the place stays.
+    /// `IoFailed` if the reader failed: the place stays.
     ///
     /// # Not specified
-    /// - When the reader fails, and where it stands after a read.
+    /// - When the reader fails, and its position after a read.
     /// - That 0 is returned only at the end.
     fn skip(&mut self, most: u64) -> Result<u64, IoFailed>
         ensures calls { self.new.std_io.calls ≡ one_more self.old.std_io.calls }

@@ -1,14 +1,14 @@
-//! What bytes are written to, with a count of the failures.
+//! Where bytes are written, with a count of failures.
 ghost use Rattle.std.specs.Prelude.{◌≡◌, ℕ, ◌≤◌, ◌<◌, Bool, true, List, length, take, Option, IfOk};
 ghost use Rattle.std.specs.Prelude.{OnOk, OnErr};
 ghost use Rattle.bw_stream.specs.Moves.{failures_after, Keeps, Writes, Begins};
 
 use crate::source::IoFailed;
 
-/// A writer: the bytes written so far, where it tells them, how often it failed, and whether none
-/// of them is held back.
+/// A writer: the bytes written so far, if it reports them, how often it failed, and whether it
+/// holds none of them back.
 pub trait Sink {
-    /// All bytes written so far, where the writer tells them.
+    /// All bytes written so far, if the writer reports them.
     ghost written: { Self → Option (List ℕ) };
 
     /// How many calls failed; the count stays at 2^64 - 1.
@@ -17,10 +17,10 @@ pub trait Sink {
     /// Whether none of the bytes is held back.
     ghost is_flushed: { Self → Bool };
 
-    /// Writes some of the first bytes, at least one where there are any.
+    /// Writes some of the first bytes, at least one if there are any.
     ///
     /// # Errors
-    /// `IoFailed` where the writer failed: no byte was written.
+    /// `IoFailed` if the writer failed: no byte was written.
     ///
     /// # Not specified
     /// When the writer fails, and whether it holds bytes back then.
@@ -32,10 +32,10 @@ pub trait Sink {
             Writes (written self.old) (take n bytes.now) (written self.new)) }
         ensures err { OnErr result (Keeps (written self.old) (written self.new)) };
 
-    /// Passes on what was held back of the bytes written so far.
+    /// Passes on the written bytes that were held back.
     ///
     /// # Errors
-    /// `IoFailed` where the writer failed: some bytes may still be held back.
+    /// `IoFailed` if the writer failed: some bytes may still be held back.
     ///
     /// # Not specified
     /// - When the writer fails, and what it holds back then.
@@ -49,11 +49,11 @@ pub trait Sink {
 /// Writes all the bytes, in as many pieces as the writer takes.
 ///
 /// # Errors
-/// `IoFailed` where the writer failed: a beginning of the bytes was written.
+/// `IoFailed` if the writer failed: a prefix of the bytes was written.
 ///
 /// # Not specified
-/// - That it succeeds where there are no bytes to write.
-/// - After an error, how many bytes were written, where the writer doesn't report them.
+/// - That it succeeds if there are no bytes to write.
+/// - After an error, how many bytes were written, if the writer doesn't report them.
 pub fn write_all<W: Sink>(writer: &mut W, bytes: &[u8]) -> Result<(), IoFailed>
     ensures count { W.failures writer.new ≡ failures_after result (W.failures writer.old) }
     ensures ok { OnOk result (Writes (W.written writer.old) bytes.now (W.written writer.new)) }

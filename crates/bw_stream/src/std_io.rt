@@ -7,15 +7,15 @@ use crate::sink::Sink;
 use crate::source::{IoFailed, Source};
 use std::io::{Read, Write};
 
-/// A reader or a writer of std, with a count of its failures, of the reads, and of the bytes that
-/// were read.
+/// A std reader or writer, with a count of its failures, of the reads, and of the bytes that were
+/// read.
 ///
-/// A write of no byte of a piece that has some counts as a failure.
+/// A write that takes no byte of a piece that has some counts as a failure.
 #[derive(Drop)]
 pub struct StdIo<T> {
     pub(crate) inner: T,
     pub(crate) moved: u64,
-    /// How often something was read or passed over; the count stays at 2^64 - 1.
+    /// How many calls read or passed over bytes; the count stays at 2^64 - 1.
     pub(crate) calls: u64,
     pub(crate) failures: u64,
     /// No byte was written since the last flush.
@@ -69,7 +69,7 @@ impl<T: Read> StdIo<T> {
         Ok(count)
     }
 
-    /// Reads some of the next bytes, at most `most`, into a piece, and drops them.
+    /// Reads some of the next bytes, at most `most`, into a block, and drops them.
     pub(crate) fn read_past(&mut self, piece: &mut [u8], most: u64) -> Result<u64, IoFailed>
         requires { 0 < length piece.old }
         ensures calls { self.new.calls ≡ one_more self.old.calls }
@@ -116,10 +116,10 @@ impl<T: Write> Sink for StdIo<T> {
     /// error.
     ///
     /// # Errors
-    /// `IoFailed` where that call failed, or wrote none of some bytes.
+    /// `IoFailed` if that call failed, or wrote none of some bytes.
     ///
     /// # Not specified
-    /// What std's writer holds after an error, where it doesn't report its contents.
+    /// What std's writer holds after an error, if it doesn't report its contents.
     fn write(&mut self, bytes: &[u8]) -> Result<usize, IoFailed>
         ensures count { self.new.failures ≡ failures_after result self.old.failures }
         ensures within { IfOk result (λ n. n ≤ length bytes.now) }

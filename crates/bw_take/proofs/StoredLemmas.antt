@@ -1,4 +1,4 @@
--- What a verdict Stored tells of the take and of the request, and that it leaves the take sound.
+-- What a verdict Stored says about the take and the request, and that it leaves the take sound.
 use Rattle.std.proofs.Common.{◌≡◌, ℕ, ◌+◌, ◌<◌, ◌≤◌, Bool, true, false, not, ◌&&◌, if◌then◌else◌, Option, Some}
 use Rattle.std.proofs.Common.{None, is_some, List, [], ◌∷◌, length, IsTrue, refl, ◌∙◌, ap, arith, length-append, nat_le}
 use Rattle.std.proofs.lemmas.Bool.Decides.{nat_tests}
@@ -11,7 +11,7 @@ use Rattle.bw_model.specs.Wire.{is_request}
 use Rattle.bw_request.specs.Requests.{samples_in}
 use Rattle.bw_take.specs.States.{IsSound, parts_with, FollowsTakes}
 
--- a request is stored only where the take isn't closed
+-- a request is stored only if the take isn't closed
 not_closed : (closed : Bool) (v : Verdict) → (if closed then Closed else v) ≡ Stored → v ≡ Stored
 not_closed true v stored = cc
 not_closed false v stored = stored
@@ -89,7 +89,7 @@ pub history_fits : (f : Format) (history : List ℕ) → IsTrue (is_request (Ope
     length history ≤ longest_history
 history_fits f history fits = grind (arith, nat_tests, fits)
 
--- a value that is there exactly under a fact is there where the fact holds
+-- a value that is there exactly if a fact holds is there if the fact holds
 pub some_where : {T : Type 0} (o : Option T) (P : Type 0) (v : T) → SomeIff o P v → P → o ≡ Some v
 some_where None P v none holds = absurd (none holds)
 some_where (Some x) P v some holds = ap Some some.1

@@ -17,7 +17,7 @@ parts_of s = record {
   closed = s.closed;
 }
 
--- .. with the room that is left
+-- a take with the room that is left
 abbrev pub state_of : Inside → State
 state_of s = record { parts = parts_of s; room = s.room }
 

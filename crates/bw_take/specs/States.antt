@@ -7,12 +7,12 @@ use Rattle.bw_model.specs.Take.{parts, after, is_format, with_field, AreFields}
 
 -- a take without its data, and the room for more requests
 pub record State : Type 0 where
-  -- the take, but for its data
+  -- the take without its data
   pub parts : Parts
-  -- how many more requests can be stored without memory
+  -- how many more requests can be stored without allocating memory
   pub room : ℕ
 
--- what stands of each take that is kept
+-- what holds of each take that is kept
 pub record IsSound (p : Parts) : Type 0 where
   pub format : IfSome p.format (λ f. IsTrue (is_format f))
   pub fields : AreFields p.fields
@@ -21,7 +21,7 @@ pub record IsSound (p : Parts) : Type 0 where
   pub markers : length p.markers ≤ most_markers
   pub unopened : p.format ≡ None → p ≡ parts (new_take p.taken)
 
--- the parts with what the request says
+-- the parts after the request
 abbrev pub parts_with : Parts → Request → Parts
 parts_with p (Open f history) = record p { format = Some f; history = history }
 parts_with p (Block bytes) = record p { samples_len = p.samples_len + length bytes }

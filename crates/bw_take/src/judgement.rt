@@ -11,10 +11,10 @@ use crate::state::TakeState;
 use bw_layout::{CuePoint, Fmt};
 use bw_request::{RequestRef, Verdict};
 
-/// A take has at most so many markers.
+/// A take has at most this many markers.
 const MARKERS_MAX: usize = 1024;
 
-/// The verdict on a request: the first case that holds, without memory from an allocator.
+/// The verdict on a request: the first case that holds. No memory is allocated.
 #[tactic(auto, unfolding(bw_model::specs::Take::judge))]
 pub fn judge(state: &TakeState, request: &RequestRef<'_>) -> Verdict
     ensures { verdict_meaning result ≡ verdict_on state.now.parts (meaning request.now) }
@@ -28,7 +28,7 @@ pub fn judge(state: &TakeState, request: &RequestRef<'_>) -> Verdict
     }
 }
 
-/// The verdict where the take isn't opened.
+/// The verdict if the take isn't open.
 fn judge_unopened(state: &TakeState, request: &RequestRef<'_>) -> Verdict
     ensures { verdict_meaning result ≡ judged state.now.parts None (meaning request.now) }
 {
@@ -50,7 +50,7 @@ fn judge_unopened(state: &TakeState, request: &RequestRef<'_>) -> Verdict
     }
 }
 
-/// The verdict where the take is open.
+/// The verdict if the take is open.
 fn judge_opened(state: &TakeState, format: Fmt, request: &RequestRef<'_>) -> Verdict
     ensures { verdict_meaning result ≡ judged state.now.parts (Some format) (meaning request.now) }
 {
@@ -66,14 +66,14 @@ fn judge_opened(state: &TakeState, format: Fmt, request: &RequestRef<'_>) -> Ver
     }
 }
 
-/// Whether a block ends with a frame.
+/// Whether a block ends at the end of a frame.
 fn has_whole_frames(format: Fmt, bytes: &[u8]) -> bool
     ensures { result ≡ (length bytes.now % block_align_of format == 0) }
 {
     bytes.len() % usize::from(format.block_align()) == 0
 }
 
-/// The verdict on a marker where the take is open.
+/// The verdict on a marker if the take is open.
 fn judge_mark(state: &TakeState, id: u32, frame: u32) -> Verdict
     ensures { (f : Format) → verdict_meaning result ≡ judged state.now.parts (Some f) (Mark id frame) }
 {

@@ -14,7 +14,7 @@ use bw_request::{LONGEST_HISTORY, RequestRef};
 use std::alloc::{AllocError, Global};
 use std::marker::Model;
 
-/// A take without its data, of which it keeps the length, and room for the requests to come.
+/// A take without its data, whose length it keeps, and room for the requests to come.
 #[derive(Debug, Drop)]
 pub struct TakeState {
     format: Option<Fmt>,
@@ -57,7 +57,7 @@ impl TakeState {
         }
     }
 
-    /// Notes that the take's name stood in the store when the server began.
+    /// Notes that the take's name was in the store when the server began.
     pub fn set_taken(&mut self)
         ensures parts { self.new.parts ≡ record self.old.parts { taken = true } }
         ensures room { self.new.room ≡ self.old.room }
@@ -65,7 +65,7 @@ impl TakeState {
         self.taken = true;
     }
 
-    /// The format, or None where the take isn't opened.
+    /// The format, or None if the take isn't opened.
     pub fn format(&self) -> Option<Fmt>
         ensures value { result ≡ self.now.parts.format }
         ensures allowed { IfSome result (λ f. IsTrue (is_format f)) }
@@ -98,7 +98,7 @@ impl TakeState {
         self.data_len
     }
 
-    /// How many whole frames the data have; none without a format.
+    /// How many whole frames the data have; 0 without a format.
     pub fn frames(&self) -> u64
         ensures { result ≡ frames_of self.now.parts }
     {
@@ -116,7 +116,7 @@ impl TakeState {
         self.markers.as_slice()
     }
 
-    /// Whether the take's name stood in the store when the server began.
+    /// Whether the take's name was in the store when the server began.
     pub fn is_taken(&self) -> bool
         ensures { result ≡ self.now.parts.taken }
     {
@@ -131,21 +131,21 @@ impl TakeState {
         self.closed
     }
 
-    /// How many more requests can be stored without memory.
+    /// How many more requests can be stored without allocating memory.
     pub fn room(&self) -> usize
         ensures { result ≡ self.now.room }
     {
         self.room
     }
 
-    /// Makes room for so many requests to be stored, at most 16.
+    /// Makes room to store this many requests, at most 16.
     ///
     /// # Errors
-    /// `AllocError` where a growth was refused: nothing changed. It is never so where there is
+    /// `AllocError` if memory was refused: nothing changed. It is never refused if there is
     /// room.
     ///
     /// # Not specified
-    /// When a growth is refused, and how much room is made beyond what was asked for.
+    /// When memory is refused, and how much room is made beyond what was asked for.
     pub fn reserve_for(&mut self, requests: usize) -> Result<(), AllocError>
         requires { requests ≤ window }
         ensures parts { self.new.parts ≡ self.old.parts }
@@ -165,8 +165,8 @@ impl TakeState {
         Ok(())
     }
 
-    /// Stores a request, without memory from an allocator. It fits and is judged Stored, there is
-    /// room for one, and the data have at most 2^62 bytes after it.
+    /// Stores a request, without allocating memory. It must fit and be judged Stored, there must be
+    /// room for one, and the data may have at most 2^62 bytes after it.
     pub fn commit(&mut self, request: &RequestRef<'_>)
         requires fits { IsTrue (is_request (meaning request.now)) }
         requires stored { verdict_on self.old.parts (meaning request.now) ≡ Stored }

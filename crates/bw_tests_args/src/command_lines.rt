@@ -1,5 +1,5 @@
-//! What no clause says of command lines: that they are taken or refused, by examples, and what
-//! texts they tell.
+//! What no clause says of command lines: that they are accepted or refused, by examples, and what
+//! texts they print.
 use crate::outcomes::{Line, Outcome, comes_to, lines_come_to, parse_words, value_comes_to};
 use bw_args::numbers::number;
 use bw_args::{CommandLine, End, Recorders};
@@ -389,7 +389,7 @@ static ADDRESSES: [(&str, Outcome, Outcome); 20] = [
 
 const PLAIN: Outcome = Outcome::Serves(End::Exchanges(1), MOST, ONE_BY_ONE);
 
-/// Ends the test where a server at an address comes to something else.
+/// Fails the test if a server at an address has another outcome.
 fn address_comes_to(
     rt: &impl Abort,
     alloc: Global,
@@ -457,7 +457,7 @@ fn text_of(alloc: Global, words: &[&str]) -> Result<Option<String>, AllocError> 
     }
 }
 
-/// Ends the test where a line prints no text, or one without this part.
+/// Fails the test if a line prints no text, or one without this part.
 fn reports(rt: &impl Abort, alloc: Global, words: &[&str], part: &str) -> Result<(), AllocError> {
     let text = text_of(alloc, words)?;
     let found = text.as_deref().unwrap_or("no text");

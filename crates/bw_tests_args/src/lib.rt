@@ -1,4 +1,4 @@
-//! Command lines by examples: which are taken, and what the others tell.
+//! Command lines by examples: which are accepted, and what the others report.
 #![tactic(auto)]
 
 #[cfg(test)]

@@ -1,4 +1,4 @@
-//! What a command line comes to, in small values, and how tests compare it.
+//! The outcomes of command lines, in small values, and how tests compare them.
 use bw_args::{CommandLine, End, Recorders, Send, Serve, Task, parse};
 use bw_request::Name;
 use clap::Error;
@@ -23,8 +23,8 @@ pub(crate) enum Outcome {
     Logs(End, u64, Recorders),
     /// Serves at another address or in another folder.
     ServesElsewhere,
-    /// Sends to the address and under the name that the rows' first words give, in so many rounds at
-    /// most, with this timeout.
+    /// Sends to the address and under the name that the rows' first words give, in at most this
+    /// many rounds, with this timeout.
     Sends(u32, Option<u32>),
     /// Sends to another address.
     SendsElsewhere,
@@ -102,14 +102,14 @@ fn reported_outcome(error: &Error) -> Outcome {
     }
 }
 
-/// Words after those that a table's lines begin with, and what such a line comes to.
+/// Words after those that a table's lines begin with, and the outcome of such a line.
 pub(crate) type Line = (&'static [&'static str], Outcome);
 
 fn same_outcome(rt: &impl Abort, words: &[&str], found: Outcome, wanted: Outcome) {
     assert_eq!(rt; found, wanted, "{words:?}");
 }
 
-/// Ends the test where a line comes to something else.
+/// Fails the test if a line has another outcome.
 pub(crate) fn comes_to(
     rt: &impl Abort,
     alloc: Global,
@@ -121,7 +121,7 @@ pub(crate) fn comes_to(
     Ok(())
 }
 
-/// Ends the test where a line of these first words and these options comes to something else.
+/// Fails the test if a line of these first words and these options has another outcome.
 pub(crate) fn options_come_to(
     rt: &impl Abort,
     alloc: Global,
@@ -135,7 +135,7 @@ pub(crate) fn options_come_to(
     comes_to(rt, alloc, words.as_slice(), wanted)
 }
 
-/// Ends the test where one of these lines comes to something else. Each begins with these words.
+/// Fails the test if one of these lines has another outcome. Each begins with these words.
 pub(crate) fn lines_come_to(
     rt: &impl Abort,
     alloc: Global,
@@ -148,8 +148,8 @@ pub(crate) fn lines_come_to(
     Ok(())
 }
 
-/// Ends the test where a replay with an option comes to something else, be its value a word of its
-/// own or not.
+/// Fails the test if a replay with an option has another outcome, whether its value is a word of
+/// its own or not.
 pub(crate) fn value_comes_to(
     rt: &impl Abort,
     alloc: Global,

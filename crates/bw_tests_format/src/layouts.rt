@@ -108,7 +108,7 @@ fn an_odd_history_has_a_pad_byte(rt: HostRuntime) -> Result<(), Fail> {
     Ok(())
 }
 
-/// Two bytes, at the second attempt where the first is refused memory.
+/// Two bytes, at the second attempt if the first is refused memory.
 fn two_bytes(alloc: Global) -> Result<Vec<u8>, AllocError> {
     match [7, 8].to_vec(alloc) {
         Ok(bytes) => Ok(bytes),
@@ -171,7 +171,7 @@ fn a_loudness_that_is_taken_back_leaves_no_trace(rt: HostRuntime) -> Result<(), 
     Ok(())
 }
 
-/// The tag of a field, a value, and why it is none.
+/// The tag of a field, a value, and why it is invalid.
 static VALUES: [(u8, &[u8], Option<FieldError>); 14] = [
     (1, b"Rain", None),
     (2, b"", None),

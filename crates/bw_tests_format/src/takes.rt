@@ -17,7 +17,7 @@ const MONO: RequestRef<'static> = RequestRef::OpenTake {
     history: b"",
 };
 
-/// Judges a request, and stores it where that is its verdict.
+/// Judges a request, and stores it if that is its verdict.
 fn apply(state: &mut TakeState, request: RequestRef<'_>) -> Result<Verdict, AllocError> {
     state.reserve_for(1)?;
     let verdict = judge(state, &request);
@@ -172,7 +172,7 @@ fn a_take_has_1024_markers(rt: HostRuntime) -> Result<(), Fail> {
 
 static BLANKS: [u8; 32_769] = [b' '; 32_769];
 
-/// A copy of a request, at the second attempt where the first is refused memory.
+/// A copy of a request, at the second attempt if the first is refused memory.
 fn copied(alloc: Global, request: &RequestRef<'_>) -> Result<Request, AllocError>
     requires { IsTrue (is_request (meaning request.now)) }
 {
@@ -182,7 +182,7 @@ fn copied(alloc: Global, request: &RequestRef<'_>) -> Result<Request, AllocError
     }
 }
 
-/// Ends the test where a request fits otherwise, or its copy is another.
+/// Fails the test if a request fits otherwise, or its copy is another.
 fn fits(
     rt: &impl Abort,
     alloc: Global,
@@ -241,7 +241,7 @@ fn the_largest_numbers_fit(rt: HostRuntime) -> Result<(), Fail> {
     Ok(())
 }
 
-/// Makes room, at the second attempt where the first is refused a growth.
+/// Makes room, at the second attempt if the first is refused a growth.
 fn reserve(rt: &impl Abort, state: &mut TakeState, requests: usize) -> Result<(), AllocError>
     requires { requests ≤ 16 }
 {

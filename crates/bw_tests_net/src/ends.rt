@@ -81,7 +81,7 @@ const ALONE: &[Visit] = &[QUICK];
 
 const GONE_FIRST: &[Visit] = &[GONE, QUICK, GONE];
 
-/// Compares a run of so many rounds at most, in which one is let in and comes to its end.
+/// Compares a run of at most this many rounds, in which one peer is accepted and reaches its end.
 fn ends_so(
     rt: &impl Abort,
     alloc: Global,

@@ -57,7 +57,7 @@ const ONE: Bounds = Bounds {
     idle: 60_000,
 };
 
-/// Serves one who sends a bad frame, and compares what every such run comes to; then how many bytes
+/// Serves a peer that sends a bad frame, and compares the outcome of the run; then how many bytes
 /// it gave, and when it was ended.
 fn is_bad(
     rt: &impl Abort,

@@ -37,14 +37,14 @@ fn what_was_reported_stands_where_a_growth_is_refused(rt: HostRuntime) -> Result
     Ok(())
 }
 
-/// Whether the file of two frames stands under a name, if someone was reported that all of it is stored.
+/// Whether the file of two frames is under a name, if a peer was told that all of it is stored.
 fn stands(alloc: Global, received: &Received, name: &[u8], verdicts: &[u8]) -> bool {
     if !received.scripted_reactor.has_taken(0, verdicts)
         && !received.scripted_reactor.has_taken(1, verdicts)
     {
         return true;
     }
-    // where its growth is the refused one the run met none
+    // if the refused growth is this one's, the run met none
     let (Some(name), Ok(file)) = (Name::new(name), two_frames(alloc)) else {
         return true;
     };

@@ -1,4 +1,4 @@
-//! The whole command: its first line, its lines, and what it says where something can't be used.
+//! The whole command: its first line, its lines, and what it reports if something can't be used.
 use crate::compare::same;
 use crate::memory_network::{FOLDER, MemoryNetwork, PORT};
 use crate::play::{QUICK, QUICK_OTHER};
@@ -27,7 +27,7 @@ const TWO: Bounds = Bounds {
     idle: 60_000,
 };
 
-/// What a call has to come to.
+/// The wanted outcome of a call.
 #[derive(Clone, Copy)]
 struct Wanted {
     exit: Exit,
@@ -36,7 +36,7 @@ struct Wanted {
     failures: u64,
 }
 
-/// Serves two at once over the memory's network, with a log, and compares all that comes of it.
+/// Serves two at once over the memory's network, with a log, and compares the whole outcome.
 fn comes_to(rt: &impl Abort, alloc: Global, port: u16, folder: &str, wanted: &Wanted) {
     let mut memory_network = MemoryNetwork::new(alloc, PLAN);
     let hosting = Hosting {

@@ -13,10 +13,10 @@ use std::net::SocketAddr;
 /// The folder that is there.
 pub(crate) const FOLDER: &str = "takes";
 
-/// The port to which those of the plan come.
+/// The port that the plan's peers connect to.
 pub(crate) const PORT: u16 = 4000;
 
-/// A network where nobody comes one after the other, and nothing is dialled.
+/// A network that has no peers one after another, and no links to dial.
 #[derive(Drop)]
 pub(crate) struct MemoryNetwork {
     alloc: Global,
@@ -99,7 +99,7 @@ impl ListenerSetup for MemoryNetwork {
     }
 }
 
-/// Peers of whom none comes.
+/// Peers, none of which come.
 #[derive(Drop)]
 pub(crate) struct Nobody {
     failures: u64,
@@ -120,7 +120,7 @@ impl Peers for Nobody {
     }
 }
 
-/// Links of which none is made.
+/// Links, none of which is made.
 #[derive(Drop)]
 pub(crate) struct Nowhere {
     failures: u64,

@@ -45,7 +45,7 @@ pub(crate) const OTHERS_FIRST: &[u8] = b"\x09\0\0\0\x81\x02b2\0\0\0\0\0";
 /// Takes all that it is offered.
 pub(crate) const ALL: &[Take] = &[Take::Bytes(4096)];
 
-/// One who sends `TAKE` at once.
+/// A peer that sends `TAKE` at once.
 pub(crate) const QUICK: Visit = Visit {
     round: 1,
     comes: Comes::Peer(Script {
@@ -55,7 +55,7 @@ pub(crate) const QUICK: Visit = Visit {
     }),
 };
 
-/// One who sends `OTHER` at once.
+/// A peer that sends `OTHER` at once.
 pub(crate) const QUICK_OTHER: Visit = Visit {
     round: 1,
     comes: Comes::Peer(Script {
@@ -65,7 +65,7 @@ pub(crate) const QUICK_OTHER: Visit = Visit {
     }),
 };
 
-/// What a run came to.
+/// The outcome of a run.
 #[derive(Drop)]
 pub(crate) struct Received {
     pub(crate) exit: Exit,
@@ -75,7 +75,8 @@ pub(crate) struct Received {
     pub(crate) server: Metered<Server<MemoryStore>>,
 }
 
-/// Serves an event loop with a new server over an empty store in memory, where there is memory for one.
+/// Serves an event loop with a new server over an empty store in memory, if there is memory for
+/// one.
 pub(crate) fn try_serve(alloc: Global, bounds: &Bounds, log: bool, plan: Plan) -> Option<Received> {
     let Ok(server) = Server::new(alloc, MemoryStore::new(alloc), Limit::default()) else {
         return None;
@@ -102,12 +103,12 @@ pub(crate) fn try_serve(alloc: Global, bounds: &Bounds, log: bool, plan: Plan) -
     })
 }
 
-/// The same where memory is ample, without a log.
+/// The same with ample memory and without a log.
 pub(crate) fn serve(alloc: Global, bounds: &Bounds, plan: Plan) -> Result<Received, Fail> {
     Ok(try_serve(alloc, bounds, false, plan).ok_or("memory")?)
 }
 
-/// .. and with one.
+/// The same with a log.
 pub(crate) fn serve_logged(alloc: Global, bounds: &Bounds, plan: Plan) -> Result<Received, Fail> {
     Ok(try_serve(alloc, bounds, true, plan).ok_or("memory")?)
 }
@@ -131,7 +132,7 @@ pub(crate) fn is_reported(rt: &impl Abort, received: &Received, number: usize, r
     );
 }
 
-/// Compares what stands under a name with the file of two frames.
+/// Compares the file under a name with the file of two frames.
 pub(crate) fn has_file(
     rt: &impl Abort,
     alloc: Global,

@@ -1,4 +1,4 @@
-//! What a reactor tells of links: as soon as there may be bytes, or room, and not again.
+//! What a reactor reports of links: as soon as there may be bytes, or room, and only once.
 use crate::play::{ALL, OTHERS, QUICK, QUICK_OTHER, TAKE, VERDICTS, is_over, is_reported, serve};
 use crate::scripted::{Give, Script, Take};
 use crate::scripted_reactor::{Comes, Plan, ReportsRound, Visit};
@@ -47,7 +47,7 @@ const fn plan(visits: &'static [Visit], reports: ReportsRound) -> Plan {
     }
 }
 
-/// Compares a run of one of whom this alone is reported.
+/// Compares a run of one peer of which only this is reported.
 fn is_served(
     rt: &impl Abort,
     alloc: Global,

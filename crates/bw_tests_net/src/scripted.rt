@@ -9,7 +9,7 @@ use std::rc::Rc;
 /// What a call for bytes gives.
 #[derive(Clone, Copy)]
 pub(crate) enum Give {
-    /// So many of the input's next bytes, or the end after the last.
+    /// This many of the input's next bytes, or the end after the last.
     Bytes(usize),
     Nothing,
     Failed,
@@ -18,7 +18,7 @@ pub(crate) enum Give {
 /// What a call that offers bytes takes.
 #[derive(Clone, Copy)]
 pub(crate) enum Take {
-    /// So many bytes.
+    /// This many bytes.
     Bytes(usize),
     Nothing,
     Failed,
@@ -35,7 +35,7 @@ pub(crate) struct Script {
 /// What a test reads of a link, also when it is closed.
 #[derive(Drop)]
 pub(crate) struct Record {
-    /// In which round it was let in.
+    /// In which round it was accepted.
     pub(crate) round: u64,
     /// Under which place.
     pub(crate) place: usize,
@@ -203,7 +203,7 @@ fn note_shut(record: &RefCell<Record>) {
 /// Nothing given, nothing taken, and not shut.
 ///
 /// # Errors
-/// `AllocError` where memory was refused.
+/// `AllocError` if memory was refused.
 pub(crate) fn new_record(
     alloc: Global,
     round: u64,

@@ -1,4 +1,4 @@
-//! A reactor to which peers come by a plan, with a clock that each wait puts on.
+//! A reactor to which peers come by a plan, with a clock that each wait advances.
 ghost use Rattle.std.specs.Prelude.{◌≡◌, [], IfOk, ⊤};
 ghost use Rattle.bw_ports.specs.Reactors.{closes_after};
 
@@ -9,7 +9,7 @@ use std::cell::RefCell;
 use std::net::{Ipv4Addr, SocketAddr};
 use std::rc::Rc;
 
-/// Who comes, or what is met in place of a peer.
+/// A peer that comes, or what happens instead.
 #[derive(Clone, Copy)]
 pub(crate) enum Comes {
     Peer(Script),
@@ -17,7 +17,7 @@ pub(crate) enum Comes {
     Closed,
 }
 
-/// Someone who comes in this round, counted from 1, or as soon as there is a place.
+/// A peer that comes in this round, counted from 1, or as soon as there is a place.
 #[derive(Clone, Copy)]
 pub(crate) struct Visit {
     pub(crate) round: u64,
@@ -53,18 +53,18 @@ pub(crate) struct ScriptedReactor {
     round: u64,
     /// How many of the visits were met.
     met: usize,
-    /// How many links were reported of since the last wait.
+    /// How many links were reported since the last wait.
     reported: usize,
-    /// From where the next one calls: each from the port after that of the one before.
+    /// The next peer's port; each peer has the port after the previous one's.
     port: u16,
-    /// For how many milliseconds it was to wait at most the last time.
+    /// The longest time of the last wait, in milliseconds.
     patience: u64,
     failures: u64,
     waits: u64,
     records: Vec<Rc<RefCell<Record>>>,
 }
 
-/// For how many places a link is reported of after each wait.
+/// For how many places a link is reported after each wait.
 const MOST_PLACES: usize = 4;
 
 impl ScriptedReactor {
@@ -89,17 +89,17 @@ impl ScriptedReactor {
         self.now
     }
 
-    /// How often it could go no further.
+    /// How often it failed.
     pub(crate) fn failures(&self) -> u64 {
         self.failures
     }
 
-    /// How many were let in.
+    /// How many peers were accepted.
     pub(crate) fn let_in(&self) -> usize {
         self.records.len()
     }
 
-    /// Whether the one with this number took exactly these bytes.
+    /// Whether the link with this number took exactly these bytes.
     pub(crate) fn has_taken(&self, number: usize, bytes: &[u8]) -> bool {
         match self.records.get(number) {
             Some(record) => has_taken(record, bytes),
@@ -107,7 +107,8 @@ impl ScriptedReactor {
         }
     }
 
-    /// How many bytes the one with this number gave, and after how many of its replies it was shut.
+    /// How many bytes the link with this number gave, and after how many of its replies it was
+    /// shut.
     pub(crate) fn given_and_shut(&self, number: usize) -> (usize, Option<usize>) {
         match self.records.get(number) {
             Some(record) => given_and_shut(record),
@@ -115,7 +116,7 @@ impl ScriptedReactor {
         }
     }
 
-    /// In which round the one with this number was let in, and at which place.
+    /// In which round the peer with this number was accepted, and at which place.
     pub(crate) fn round_and_place(&self, number: usize) -> (u64, usize) {
         match self.records.get(number) {
             Some(record) => round_and_place(record),
@@ -123,7 +124,7 @@ impl ScriptedReactor {
         }
     }
 
-    /// Lets in the next one.
+    /// Accepts the next peer.
     fn admit(&mut self, script: Script, place: usize) -> Result<Accepted<Scripted>, TryAcceptFault>
         ensures given { IfOk result (λ accepted. ⟦<Scripted as Link>⟧.given accepted.link []) }
         ensures taken { IfOk result (λ accepted. ⟦<Scripted as Link>⟧.taken accepted.link []) }
@@ -140,7 +141,7 @@ impl ScriptedReactor {
         Ok(Accepted { address, link })
     }
 
-    /// Makes the link of the next one.
+    /// Makes the link of the next peer.
     fn meet(&mut self, script: Script, place: usize) -> Result<Scripted, AllocError>
         ensures given { IfOk result (λ link. ⟦<Scripted as Link>⟧.given link []) }
         ensures taken { IfOk result (λ link. ⟦<Scripted as Link>⟧.taken link []) }

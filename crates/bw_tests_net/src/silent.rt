@@ -53,7 +53,7 @@ const TWO: Bounds = Bounds {
 
 const LINES: &[u8] = b"exchange 0 Bye\nexchange 1 Idle\n";
 
-/// One who comes after two seconds, and says nothing at first.
+/// A peer that comes after two seconds, and sends nothing at first.
 const LATE: &[Visit] = &[Visit {
     round: 20,
     comes: Comes::Peer(Script {
@@ -119,7 +119,7 @@ fn who_takes_no_replies_is_not_read(rt: HostRuntime) -> Result<(), Fail> {
     is_idle(&rt, rt.alloc(), BESIDE_DEAF, b"", 22)
 }
 
-/// Compares a run of one of these, which comes to its end.
+/// Compares a run of one of these, which reaches its end.
 fn is_served(
     rt: &impl Abort,
     alloc: Global,

@@ -1,9 +1,9 @@
-//! How a test compares.
+//! How tests compare.
 
 use std::fmt::{Debug, Display};
 use std::process::Abort;
 
-/// Ends the test where a value isn't the one wanted. A call of it is far cheaper to check than
+/// Fails the test if a value isn't the one wanted. A call of this is far cheaper to prove than
 /// `assert_eq!`.
 pub(crate) fn same<T: PartialEq + Debug, L: Display + Copy>(
     rt: &impl Abort,

@@ -1,4 +1,4 @@
-//! Worked journals, byte by byte; that their calls succeed; what a damaged journal tells.
+//! Worked journals, byte by byte; that their calls succeed; what a damaged journal yields.
 ghost use Rattle.std.specs.Prelude.{IsTrue};
 ghost use Rattle.bw_model.specs.Wire.{is_request};
 ghost use Rattle.bw_request.specs.Requests.{meaning};
@@ -68,7 +68,7 @@ static UNKNOWN: [u8; 130] = [
 /// Where the header and each entry of `JOURNAL` end.
 static ENDS: [usize; 7] = [19, 78, 126, 174, 226, 273, 325];
 
-/// What a replay told in numbers: the bytes used and torn, or the fault's.
+/// What a replay yields in numbers: the bytes used and torn, or the fault's.
 fn reported(replayed: Result<Replayed, ReplayFault>) -> Result<(usize, usize, usize), u8> {
     match replayed {
         Ok(r) => Ok((r.used, r.torn, r.table.len())),
@@ -76,7 +76,7 @@ fn reported(replayed: Result<Replayed, ReplayFault>) -> Result<(usize, usize, us
     }
 }
 
-/// Ends the test where a journal isn't refused for this fault.
+/// Fails the test if a journal isn't refused for this fault.
 fn refused(rt: &impl Abort, alloc: Global, bytes: &[u8], fault: ReplayFault) {
     assert!(rt; bytes.len() < 1_000_000, "too long");
     let found = reported(replay(alloc, Limit::default(), bytes));
@@ -87,7 +87,7 @@ fn refused(rt: &impl Abort, alloc: Global, bytes: &[u8], fault: ReplayFault) {
     );
 }
 
-/// Ends the test where a journal doesn't tell this much.
+/// Fails the test if a journal doesn't yield this much.
 fn reports(rt: &impl Abort, alloc: Global, bytes: &[u8], used: usize, entries: usize) {
     assert!(rt; bytes.len() < 1_000_000, "too long");
     let found = reported(replay(alloc, Limit::default(), bytes));
@@ -100,7 +100,7 @@ fn reports(rt: &impl Abort, alloc: Global, bytes: &[u8], used: usize, entries: u
     );
 }
 
-/// A body of `a1`, and what it says and came to.
+/// A body of `a1`, with its meaning and outcome.
 struct Noted {
     body: &'static [u8],
     verdict: Verdict,
@@ -243,7 +243,7 @@ fn planted(alloc: Global, bytes: &[u8]) -> Result<MemoryJournal, Fail> {
     Ok(memory)
 }
 
-/// Ends the test where the journal of `a1` has other bytes.
+/// Fails the test if the journal of `a1` has other bytes.
 fn has(rt: &impl Abort, memory: &MemoryJournal, bytes: &[u8]) -> Result<(), Fail> {
     let found = memory.content(&a1()?).ok_or("a content")?;
     assert!(rt; found == bytes, "other bytes");

@@ -35,7 +35,7 @@ static MESSAGES: [(&[u8], Reported); 6] = [
 ];
 
 /// A journal that takes the bytes of `JOURNAL` after its header, each once and in their order, and
-/// fails where it is reported others.
+/// fails if it is given others.
 #[derive(Drop)]
 struct Expecting {
     /// How many bytes of it are noted; none before it is begun.

@@ -11,7 +11,7 @@ use std::alloc::{AllocError, Global};
 use std::process::Abort;
 use std::test::Fail;
 
-/// What a server tells of a number of the name that it was sent.
+/// What a server reports of a number of the name that it was sent.
 #[derive(Clone, Copy, Debug, PartialEq, Eq)]
 pub(crate) enum Reported {
     /// The number, and its verdict.
@@ -20,7 +20,7 @@ pub(crate) enum Reported {
     Noticed(u32, Notice, u32),
 }
 
-/// The body of a message, and what its sender is reported.
+/// The body of a message, and the reply to its sender.
 #[derive(Clone, Copy)]
 pub(crate) struct Turn {
     pub(crate) body: &'static [u8],
@@ -44,7 +44,7 @@ pub(crate) fn noting_server<J: Journal>(
     }
 }
 
-/// What a reply tells of a number of this name.
+/// What a reply reports of a number of this name.
 fn reported_of(reply: &Reply, of: &Name) -> Option<Reported> {
     match reply {
         Reply::Verdict {
@@ -62,7 +62,7 @@ fn reported_of(reply: &Reply, of: &Name) -> Option<Reported> {
     }
 }
 
-/// Gives the server a message, and ends the test where its sender is reported anything else.
+/// Gives the server a message, and fails the test if its sender gets any other reply.
 pub(crate) fn send<J: Journal>(
     rt: &impl Abort,
     of: &str,
@@ -83,7 +83,7 @@ pub(crate) fn send<J: Journal>(
     Ok(())
 }
 
-/// Ends the test where a store doesn't hold the file of two frames under a name.
+/// Fails the test if a store doesn't hold the file of two frames under a name.
 pub(crate) fn has_file(
     rt: &impl Abort,
     alloc: Global,

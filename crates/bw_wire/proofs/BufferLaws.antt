@@ -1,4 +1,4 @@
--- What is held once bytes at the start are let go.
+-- What is held once bytes at the start are released.
 use Rattle.std.proofs.Common.{◌≡◌, ℕ, ◌+◌, ◌-◌, ◌<◌, ◌≤◌, List, ◌++◌, length, take, drop, sym, ap, ◌∙◌, arith}
 use Rattle.std.specs.Prelude.{nat_le, if◌then◌else◌}
 use Rattle.std.proofs.lemmas.Bool.Decides.{nat_tests}
@@ -6,7 +6,7 @@ use Rattle.std.proofs.lemmas.List.{drop-take, length-drop, length-take}
 use Rattle.std.proofs.Math.Seq.{take-append_seam}
 use Rattle.bw_wire.specs.Held.{largest_kept, longest_rest, room_kept, Held}
 
--- a large block is let go, and another is kept
+-- a large block is released, and another is kept
 pub room_kept-small : (room : ℕ) → room ≤ largest_kept → room_kept room ≡ room
 room_kept-small room small = grind (arith, nat_tests)
 
@@ -25,7 +25,7 @@ drop-prefix count len items h =
     let all : len ≡ count + (len - count) = omega arith in
     ap (λ (n : ℕ). drop count (take n items)) all ∙ drop-take count (len - count) items
 
--- what is left was copied to the prefix of another block
+-- what is left was copied to the start of another block
 pub moved : (count len : ℕ) (items seen spare block : List ℕ) → count ≤ len → len ≤ length items → seen ≡ items
     → take (0 + length (take (len - count) (drop count seen))) block
     ≡ take 0 spare ++ take (len - count) (drop count seen)
@@ -37,7 +37,7 @@ moved count len items seen spare block h within same copied =
     ∙ (copied
     ∙ (ap (λ (x : List ℕ). take (len - count) (drop count x)) same ∙ sym (drop-prefix count len items h)))
 
--- what is left was copied to the prefix of its block
+-- what is left was copied to the start of its block
 pub shifted : (count len : ℕ) (items block : List ℕ) → count ≤ len → len ≤ length items
     → block ≡ take 0 items ++ take (len - count) (drop count items) ++ drop (0 + (len - count)) items
     → take (len - count) block ≡ drop count (take len items)
@@ -55,7 +55,7 @@ pub held-parts : (bytes : List ℕ) (room : ℕ) (h : Held) → bytes ≡ h.byte
 held-parts bytes room h e f =
     ap (λ (x : List ℕ). record { bytes = x; room = room }) e ∙ ap (λ (n : ℕ). record { bytes = h.bytes; room = n }) f
 
--- no more than the bytes is let go
+-- no more than the bytes is released
 pub within_prefix : (count len : ℕ) (items : List ℕ) → count ≤ length (take len items) → len ≤ length items
     → count ≤ len
 within_prefix count len items h within = omega (arith, length-take len items)

@@ -22,12 +22,12 @@ use Rattle.bw_wire.proofs.FramerLaws.{next_of-last}
 room_kept-bound : (room : ℕ) → room_kept room ≤ largest_kept
 room_kept-bound room = grind (arith, nat_tests)
 
--- where all was let go, nothing is kept
+-- if everything was released, nothing is kept
 nothing_kept : (n : ℕ) (held : Held) → held ≡ nothing_held → (length held.bytes ≤ n) × (held.room ≤ largest_kept)
 nothing_kept n held gone =
     subst (λ (h : Held). (length h.bytes ≤ n) × (h.room ≤ largest_kept)) (sym gone) (omega arith, omega arith)
 
--- a framer with p that tells t and keeps q
+-- a framer with p that reports t and keeps q
 pub record Steps (X : Type 0) (codec : Codec X) (p q : Pending) (t : Reported X) : Type 0 where
   pub next : q ≡ (next_of codec p).1
   pub reported : t ≡ (next_of codec p).0
@@ -143,7 +143,7 @@ value_steps {X} codec i later len x other e used whole first =
     true_or_false : (b : Bool) → b ≡ true → b ≡ false → ⊥
     true_or_false b is isnt = cc
 
--- the body that is lent
+-- the body that is borrowed
 pub lent_body : (buffer items : List ℕ) (start len : ℕ) → buffer ≡ items →
     take (start + 4 + len - (start + 4)) (drop (start + 4) buffer) ≡ body_at_prefix len (drop start items)
 lent_body buffer items start len e =

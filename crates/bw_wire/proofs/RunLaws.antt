@@ -1,4 +1,4 @@
--- A framer's run gives the values that the bytes spell that it was fed.
+-- The values that a framer's run gives are those that its bytes spell.
 use Rattle.std.proofs.Common.{◌≡◌, ◌≢◌, ℕ, ◌+◌, ◌-◌, Bool, true, false, ◌&&◌, if◌then◌else◌, List, [], ◌∷◌, ◌++◌}
 use Rattle.std.proofs.Common.{length}
 use Rattle.std.proofs.Common.{Some, Result, Ok, Err, refl, sym, ap, subst, ◌∙◌, append_assoc, arith, inl, inr}
@@ -85,7 +85,7 @@ feeds_sound codec is bytes piece r s =
 
 -- ---- the next frame
 
--- where nothing is given, only the state is another
+-- if nothing is given, only the state changes
 same_given : {X : Type 0} (codec : Codec X) (bytes : List ℕ) (given none : List X) (p : Pending) → none ≡ [] →
     Sound X codec bytes (record { given = given; state = p })
     → Sound X codec bytes (record { given = given ++ none; state = p })

@@ -7,7 +7,7 @@ use Rattle.bw_wire.specs.Held.{Held, longest_rest, largest_kept}
 abbrev pub held_in : Inside → Held
 held_in b = record { bytes = take b.len b.block.items; room = vec_capacity b.block }
 
--- both blocks are written to their end; the spare one is there where the other is too large to be
+-- both blocks are written to their end; the spare one is there if the other is too large to be
 -- kept
 pub record IsBuffer (b : Inside) : Type 0 where
   pub within : b.len ≤ vec_len b.block

@@ -1,4 +1,4 @@
--- What stands in the body of a frame.
+-- What is in the body of a frame.
 use Rattle.std.specs.Prelude.{ℕ, Bool, true, false, ◌&&◌, Result, Ok, Err, List, drop, slice_index}
 use Rattle.bw_model.specs.Take.{Request}
 use Rattle.bw_model.specs.Wire.{Second, Message, Frame, Says, Asks, Bye, Reason, name_in, number_in}
@@ -16,7 +16,7 @@ body_number bytes = number_in (drop 1 bytes)
 unfoldable pub body_request : List ℕ → Request
 body_request bytes = request_of (slice_index bytes 0) (payload_in (drop 1 bytes))
 
--- the message that a body spells, where it spells one
+-- the message that a body spells, if it spells one
 abbrev pub message_in : List ℕ → Message
 message_in bytes = record {
   name = body_name bytes;

@@ -13,13 +13,13 @@ pub record Codec (X : Type 0) : Type 0 where
   pub first : List ℕ → Result (X × List ℕ) Reason
   -- the frame of a value
   pub frame : X → List ℕ
-  -- a value that is handed on
+  -- a value that is given to the caller
   pub is_given : X → Bool
   -- a value after which nothing is read
   pub is_last : X → Bool
-  -- that value, where there is one
+  -- that value, if there is one
   pub last : Option X
-  -- bytes that aren't a whole frame are at most so many
+  -- bytes that aren't a whole frame are at most this many
   pub most_left : ℕ
 
 -- the frame that ends an exchange
@@ -54,7 +54,7 @@ reply_codec = record {
 abbrev pub spelling_of : {X : Type 0} → Codec X → List X → List ℕ
 spelling_of codec xs = flat_map codec.frame xs
 
--- the bytes are the frames of these values, and then these bytes
+-- the bytes are the frames of these values, followed by the rest
 pub record Spelled (X : Type 0) (codec : Codec X) (bytes : List ℕ) (xs : List X) (rest : List ℕ)
     : Type 0 where
   pub each : IsTrue (list_all codec.is_given xs)

@@ -1,4 +1,4 @@
--- What stands at the start of a stream's bytes.
+-- What is at the start of a stream's bytes.
 use Rattle.std.specs.Prelude.{◌≡◌, ◌≢◌, ℕ, ◌+◌, ◌≤◌, IsTrue, Ok, Err, List, length, drop}
 use Rattle.bw_model.specs.Wire.{Second, Says, Asks, Bye, Cut}
 use Rattle.bw_model.specs.Stream.{first_frame}
@@ -16,7 +16,7 @@ pub record IsMessagePrefix (bytes : List ℕ) (len : ℕ) : Type 0 where
   pub first : first_frame Second bytes
       ≡ Ok (Says (message_in (body_at_prefix len bytes)), drop (4 + len) bytes)
 
--- .. of an ask
+-- the bytes begin with the frame of an ask, whose body has this length
 pub record IsAskPrefix (bytes : List ℕ) (len : ℕ) : Type 0 where
   pub whole : 4 + len ≤ length bytes
   pub spelled : IsTrue (is_ask_body (body_at_prefix len bytes))
@@ -26,12 +26,12 @@ pub record IsAskPrefix (bytes : List ℕ) (len : ℕ) : Type 0 where
         drop (4 + len) bytes,
       )
 
--- .. of the end of an exchange
+-- the bytes begin with the frame that ends an exchange, whose body has this length
 pub record IsByePrefix (bytes : List ℕ) (len : ℕ) : Type 0 where
   pub whole : 4 + len ≤ length bytes
   pub first : first_frame Second bytes ≡ Ok (Bye, drop (4 + len) bytes)
 
--- the bytes begin so
+-- what the bytes begin with
 abbrev pub IsFramePrefix : List ℕ → FramePrefix → Type 0
 IsFramePrefix bytes prefixes.Partial =
     (first_frame Second bytes ≡ Err Cut) × (length bytes ≤ longest_rest)

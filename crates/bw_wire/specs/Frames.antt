@@ -30,7 +30,7 @@ frame_of (frames.Message m) = model.Says (message_of m)
 frame_of (frames.Ask a) = model.Asks (asked_name a) (asked_number a)
 frame_of frames.Bye = model.Bye
 
--- what a decoder answers
+-- what a decoder returns
 abbrev pub frame_read : Result Frame Reason → Result model.Frame model.Reason
 frame_read (Ok f) = Ok (frame_of f)
 frame_read (Err reason) = Err (reason_meaning reason)

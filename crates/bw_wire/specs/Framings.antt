@@ -1,4 +1,4 @@
--- What stands after a length at the start of a stream's bytes.
+-- What follows a length at the start of a stream's bytes.
 use Rattle.std.specs.Prelude.{◌≡◌, ℕ, ◌+◌, ◌≤◌, Some, None, List, length, take, drop}
 use Rattle.bw_model.specs.Bytes.{u32_at, first_that_holds}
 use Rattle.bw_model.specs.Wire.{Length, Cut}
@@ -10,14 +10,14 @@ use Rattle.bw_wire.specs.declared.framing.Framing.TheVariants as framings
 abbrev pub body_at_prefix : ℕ → List ℕ → List ℕ
 body_at_prefix len bytes = take len (drop 4 bytes)
 
--- a body of this length stands at the start
+-- a body of this length is at the start
 pub record HasPrefix (longest : ℕ) (bytes : List ℕ) (len : ℕ) : Type 0 where
   pub framed : first_that_holds (framing_faults longest bytes) ≡ None
   pub len_is : len ≡ u32_at bytes 0
   pub short : len ≤ longest
   pub whole : 4 + len ≤ length bytes
 
--- so the bytes begin, by their length field and the length that is there
+-- what the bytes begin with, by their length field and the number of bytes that are there
 abbrev pub IsFraming : ℕ → List ℕ → Framing → Type 0
 IsFraming longest bytes framings.Partial =
     first_that_holds (framing_faults longest bytes) ≡ Some Cut

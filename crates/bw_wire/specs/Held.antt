@@ -3,19 +3,19 @@ use Rattle.std.specs.Prelude.{ℕ, ◌+◌, ◌*◌, ◌^◌, List, [], ◌++◌
 use Rattle.std.specs.Prelude.{if◌then◌else◌}
 use Rattle.bw_model.specs.Limits.{longest_body}
 
--- all bytes of a frame but the last, where its body has so many after their length
+-- the size of a frame without its last byte, if its body has this length
 abbrev pub rest_below : ℕ → ℕ
 rest_below longest = longest + 3
 
--- so many bytes, at most, are left after the whole frames
+-- at most this many bytes are left after the whole frames
 abbrev pub longest_rest : ℕ
 longest_rest = rest_below longest_body
 
--- a stream has at most so many bytes
+-- a stream has at most this many bytes
 abbrev pub longest_stream : ℕ
 longest_stream = 2 ^ 62
 
--- pieces of at most so many bytes leave no block that is too large to be kept
+-- pieces of at most this many bytes leave no block that is too large to be kept
 abbrev pub longest_piece : ℕ
 longest_piece = 65536
 
@@ -34,11 +34,11 @@ pub record Held : Type 0 where
 abbrev pub nothing_held : Held
 nothing_held = record { bytes = []; room = 0 }
 
--- the room of a block once it has room for so many bytes: where it grows, at least twice its size
+-- the room of a block once it has room for this many bytes: if it grows, at least twice its size
 abbrev pub room_for : ℕ → ℕ → ℕ
 room_for needed room = if nat_le needed room then room else max needed (2 * room)
 
--- the room of the block that is kept after the whole frames: a large one is let go
+-- the room of the block that is kept after the whole frames: a large one is released
 abbrev pub room_kept : ℕ → ℕ
 room_kept room = if nat_le room largest_kept then room else longest_rest
 
@@ -46,13 +46,13 @@ room_kept room = if nat_le room largest_kept then room else longest_rest
 abbrev pub with_room : Held → ℕ → Held
 with_room h room = record h { room = room }
 
--- with bytes more
+-- with more bytes at the end
 abbrev pub with_bytes : Held → List ℕ → Held
 with_bytes h bytes = record {
   bytes = h.bytes ++ bytes;
   room = room_for (length h.bytes + length bytes) h.room;
 }
 
--- without so many bytes at the start
+-- without this many bytes at the start
 abbrev pub without_prefix : Held → ℕ → Held
 without_prefix h count = record { bytes = drop count h.bytes; room = room_kept h.room }

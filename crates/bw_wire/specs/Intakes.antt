@@ -13,7 +13,7 @@ phase_of Reading = pending.Reading
 phase_of Left = pending.Left
 phase_of (Failed reason) = pending.Failed (reason_meaning reason)
 
--- what is kept, without the used bytes that weren't let go yet
+-- what is kept, without the used bytes that weren't released yet
 abbrev pub pending_in : Intake → pending.Pending
 pending_in i = record {
   bytes = drop i.start i.buffer.bytes;
@@ -24,7 +24,7 @@ pending_in i = record {
   phase = phase_of i.phase;
 }
 
--- at the end all bytes are let go
+-- at the end all bytes are released
 abbrev pub LetsGo : Phase → Held → Type 0
 LetsGo Reading held = Unit {0}
 LetsGo Left held = held ≡ nothing_held

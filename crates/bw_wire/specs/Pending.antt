@@ -1,4 +1,4 @@
--- What a framer keeps of a stream, what it tells next, and what it then keeps.
+-- What a framer keeps of a stream, what it reports next, and what it keeps then.
 use Rattle.std.specs.Prelude.{ℕ, ◌+◌, ◌-◌, ◌≤◌, Bool, true, false, Option, Some, None, Result, Ok}
 use Rattle.std.specs.Prelude.{Err}
 use Rattle.std.specs.Prelude.{IsTrue, List, [], ◌∷◌, ◌++◌, length}
@@ -23,7 +23,7 @@ pub record Pending : Type 0 where
   pub fed : ℕ
   -- how many are held in memory, used ones counted
   pub held : ℕ
-  -- how many the block of memory has room for that holds them
+  -- how many bytes the block of memory that holds them has room for
   pub room : ℕ
   pub phase : Phase
 
@@ -31,7 +31,7 @@ pub record Pending : Type 0 where
 abbrev pub fresh : Pending
 fresh = record { bytes = []; used = 0; fed = 0; held = 0; room = 0; phase = Reading }
 
--- with a piece more, which is dropped where nothing is read anymore
+-- with one more piece, which is dropped if nothing is read anymore
 abbrev pub piece_in : Phase → Pending → List ℕ → Pending
 piece_in Reading p piece = record p {
   bytes = p.bytes ++ piece;
@@ -42,7 +42,7 @@ piece_in Reading p piece = record p {
 piece_in Left p piece = record p { fed = p.fed + length piece }
 piece_in (Failed reason) p piece = record p { fed = p.fed + length piece }
 
--- with a piece more
+-- with one more piece
 abbrev pub with_piece : Pending → List ℕ → Pending
 with_piece p piece = piece_in p.phase p piece
 
@@ -56,22 +56,22 @@ pub data Reported (X : Type 0) : Type 0 where
 abbrev pub consumed : Pending → List ℕ → Pending
 consumed p more = record p { bytes = more; used = p.used + (length p.bytes - length more) }
 
--- with the used bytes let go, and a block that is too large to be kept
+-- with the used bytes released, and a block that is too large to be kept
 abbrev pub compacted : Pending → Pending
 compacted p = record p { held = length p.bytes; room = room_kept p.room }
 
--- at the end, with all bytes and the block let go
+-- at the end, with all bytes and the block released
 abbrev pub emptied : Pending → ℕ → Phase → Pending
 emptied p used phase =
     record { bytes = []; used = used; fed = p.fed; held = 0; room = 0; phase = phase }
 
--- a value is given; where it is the last, all is let go
+-- a value is given; if it is the last, everything is released
 abbrev pub next_value : {X : Type 0} → Bool → Pending → X → List ℕ → Reported X × Pending
 next_value false p x more = (Gives x, consumed p more)
 next_value true p x more =
     (Gives x, emptied p (p.used + (length p.bytes - length more)) Left)
 
--- by what the bytes begin with
+-- what is reported and kept, by what the bytes begin with
 abbrev pub next_read :
     {X : Type 0} → Codec X → Pending → Result (X × List ℕ) Reason → Reported X × Pending
 next_read codec p (Ok (x, more)) = next_value (codec.is_last x) p x more
@@ -83,13 +83,13 @@ abbrev pub reported_again : {X : Type 0} → Option X → Reported X
 reported_again None = Nothing
 reported_again (Some x) = Gives x
 
--- .. in a phase
+-- what is reported and kept in a phase
 abbrev pub next_in : {X : Type 0} → Codec X → Phase → Pending → Reported X × Pending
 next_in codec Reading p = next_read codec p (codec.first p.bytes)
 next_in codec Left p = (reported_again codec.last, p)
 next_in codec (Failed reason) p = (Fails reason p.used, p)
 
--- what a framer tells next, and what it then keeps
+-- what a framer reports next, and what it keeps then
 unfoldable pub next_of : {X : Type 0} → Codec X → Pending → Reported X × Pending
 next_of codec p = next_in codec p.phase p
 
@@ -97,11 +97,11 @@ next_of codec p = next_in codec p.phase p
 abbrev pub HasSmallBlock : Pending → Type 0
 HasSmallBlock p = p.room ≤ largest_kept
 
--- at most so many bytes are held, in a block that may be kept
+-- at most this many bytes are held, in a block that may be kept
 abbrev pub KeepsAtMost : ℕ → Pending → Type 0
 KeepsAtMost n p = (p.held ≤ n) × HasSmallBlock p
 
--- where no value was reported that others may follow, at most a part of a frame is held
+-- unless a value that others may follow was reported, at most a part of a frame is held
 abbrev pub HoldsLittle : {X : Type 0} → Codec X → Reported X × Pending → Type 0
 HoldsLittle codec (Nothing, p) = KeepsAtMost codec.most_left p
 HoldsLittle codec (Gives x, p) = IsTrue (codec.is_last x) → KeepsAtMost codec.most_left p
@@ -117,7 +117,7 @@ IsOverIn (Failed reason) = Unit {0}
 abbrev pub IsOver : Pending → Type 0
 IsOver p = IsOverIn p.phase
 
--- the fault where the input ends with these bytes, with its place
+-- the fault if the input ends with these bytes, with its place
 abbrev pub cut_off : List ℕ → ℕ → Option (Reason × ℕ)
 cut_off [] used = None
 cut_off (b ∷ bs) used = Some (Cut, used)

@@ -22,7 +22,7 @@ DecodesReason code r =
     MatchResult r (λ reason. reason_with_code code ≡ Some (reason_meaning reason))
     (λ e. (reason_with_code code ≡ None) × (e.0 ≡ code))
 
--- what is reported to people
+-- the text for people
 abbrev pub reason_text : Reason → List ℕ
 reason_text Length = codes "a length that no frame has"
 reason_text Kind = codes "a kind that no frame has"
@@ -31,6 +31,6 @@ reason_text Number = codes "no number"
 reason_text Payload = codes "a payload of another kind"
 reason_text Cut = codes "cut off"
 
--- and of a code that no reason has
+-- the text for people about a code that no reason has
 abbrev pub unknown_code_text : UnknownCode → List ℕ
 unknown_code_text u = decimal u.0 ++ codes " is no code"

@@ -15,14 +15,14 @@ reply_of (Verdict name number verdict) = model.Judged name number (verdict_meani
 reply_of (Notice name number code next) = model.Noticed name number (notice_meaning code) next
 reply_of (BadFrame reason offset) = model.Refused (reason_meaning reason) offset
 
--- its numbers are those of messages
+-- its numbers are in the ranges of the wire format
 abbrev pub HasWireNumbers : Reply → Type 0
 HasWireNumbers (Verdict name number verdict) = number ≤ last_number Second
 HasWireNumbers (Notice name number code next) =
     (number ≤ last_number Second) × (next ≤ last_number Second + 1)
 HasWireNumbers (BadFrame reason offset) = Unit {0}
 
--- what a decoder answers
+-- what a decoder returns
 abbrev pub reply_read : Result Reply Reason → Result model.Reply ModelReason
 reply_read (Ok r) = Ok (reply_of r)
 reply_read (Err reason) = Err (reason_meaning reason)

@@ -1,4 +1,4 @@
--- What stands at the start of a stream's bytes, where replies are read.
+-- What is at the start of a stream's bytes, where replies are read.
 use Rattle.std.specs.Prelude.{◌≡◌, ◌≢◌, ℕ, ◌+◌, ◌≤◌, Ok, Err, List, length, drop}
 use Rattle.bw_model.specs.Wire.{Cut}
 use Rattle.bw_model.specs.Stream.{first_reply, longest_reply}
@@ -14,7 +14,7 @@ pub record IsWholeReply (bytes : List ℕ) (reply : Reply) (len : ℕ) : Type 0 
   pub whole : 4 + len ≤ length bytes
   pub first : first_reply bytes ≡ Ok (reply_of reply, drop (4 + len) bytes)
 
--- the bytes begin so
+-- what the bytes begin with
 abbrev pub IsReplyPrefix : List ℕ → ReplyPrefix → Type 0
 IsReplyPrefix bytes Partial =
     (first_reply bytes ≡ Err Cut) × (length bytes ≤ rest_below longest_reply)

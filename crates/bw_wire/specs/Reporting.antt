@@ -1,11 +1,11 @@
--- What a framer's answers tell.
+-- What a framer's answers mean.
 use Rattle.std.specs.Prelude.{ℕ, Option, Some, None, Result, Ok, Err}
 use Rattle.bw_model.specs.Wire as model
 use Rattle.bw_wire.specs.declared.fault.WireFault.{WireFault}
 use Rattle.bw_wire.specs.Pending.{Reported, Nothing, Gives, Fails}
 use Rattle.bw_wire.specs.Reasons.{reason_meaning}
 
--- what is reported by a framer's answer, whose values mean this
+-- what a framer reports by an answer whose values mean this
 abbrev pub reported_as : {A X : Type 0} → (A → X) → Result (Option A) WireFault → Reported X
 reported_as meaning (Ok None) = Nothing
 reported_as meaning (Ok (Some a)) = Gives (meaning a)

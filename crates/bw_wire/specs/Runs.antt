@@ -26,13 +26,13 @@ pub record Run (X : Type 0) : Type 0 where
   pub given : List X
   pub state : Pending
 
--- the values among what is reported, but for the last, which is reported again and again
+-- the values among what is reported, without the last, which is reported again and again
 abbrev pub given_by : {X : Type 0} → Codec X → Reported X → List X
 given_by codec Nothing = []
 given_by codec (Gives x) = if codec.is_last x then [] else x ∷ []
 given_by codec (Fails reason offset) = []
 
--- with an answer more
+-- with one more answer
 abbrev pub with_answer : {X : Type 0} → Codec X → List X → Reported X × Pending → Run X
 with_answer codec given x = record { given = given ++ given_by codec x.0; state = x.1 }
 
@@ -54,7 +54,7 @@ framer_run codec calls = with_calls codec (record { given = []; state = fresh })
 pub record Follows (X : Type 0) (codec : Codec X) (bytes : List ℕ) (r : Run X) : Type 0 where
   -- a prefix of the values
   pub prefix : (rest : List ℕ) × Spelled X codec bytes r.given rest
-  -- all of them, where nothing more is there
+  -- all of them, if nothing more is there
   pub nothing : (next_of codec r.state).0 ≡ Nothing →
       Spelled X codec bytes r.given r.state.bytes × (codec.first r.state.bytes ≡ Err Cut)
   -- the end is then that of the input
@@ -65,15 +65,15 @@ pub record Follows (X : Type 0) (codec : Codec X) (bytes : List ℕ) (r : Run X)
   pub fault : (reason : Reason) (offset : ℕ) → (next_of codec r.state).0 ≡ Fails reason offset
       → (rest : List ℕ) × Spelled X codec bytes r.given rest × (codec.first rest ≡ Err reason)
       × (offset ≡ length (spelling_of codec r.given))
-  -- that the input is cut is never told before its end
+  -- before its end the input is never reported as cut
   pub not_cut : (offset : ℕ) → (next_of codec r.state).0 ≢ Fails Cut offset
 
--- so it is with each run over bytes
+-- this holds of each run over bytes
 abbrev pub RunsFollow : {X : Type 0} → Codec X → Type 0
 RunsFollow {X} codec = (calls : List Call) → IsTrue (are_bytes (fed_in calls)) →
     Follows X codec (fed_in calls) (framer_run codec calls)
 
--- the end of an exchange whose input ends so
+-- the end of an exchange whose input ends with this fault, or with none
 abbrev pub input_end : Option (Reason × ℕ) → End
 input_end None = EndOfInput
 input_end (Some x) = BadFrame x.0 x.1
@@ -82,7 +82,7 @@ input_end (Some x) = BadFrame x.0 x.1
 pub record FollowsStream (bytes : List ℕ) (r : Run Frame) : Type 0 where
   -- a prefix of the messages and asks
   pub prefix : (later : List Frame) × ((stream_of Second bytes).0 ≡ r.given ++ later)
-  -- all of them, where nothing more is there; the end is then that of the input
+  -- all of them, if nothing more is there; the end is then that of the input
   pub nothing : (next_of message_codec r.state).0 ≡ Nothing →
       stream_of Second bytes ≡ (r.given, input_end (end_fault r.state))
   pub bye : (next_of message_codec r.state).0 ≡ Gives Bye →
@@ -90,14 +90,14 @@ pub record FollowsStream (bytes : List ℕ) (r : Run Frame) : Type 0 where
   pub fault : (reason : Reason) (offset : ℕ) →
       (next_of message_codec r.state).0 ≡ Fails reason offset →
       stream_of Second bytes ≡ (r.given, BadFrame reason offset)
-  -- that the input is cut is never told before its end
+  -- before its end the input is never reported as cut
   pub not_cut : (offset : ℕ) → (next_of message_codec r.state).0 ≢ Fails Cut offset
 
--- so it is with each run of a framer of messages
+-- this holds of each run of a framer of messages
 abbrev pub RunsFollowStreams : Type 0
 RunsFollowStreams = (calls : List Call) → IsTrue (are_bytes (fed_in calls)) →
     FollowsStream (fed_in calls) (framer_run message_codec calls)
 
--- and so with each run of a framer of replies
+-- this holds of each run of a framer of replies
 abbrev pub ReplyRunsFollowReplies : Type 0
 ReplyRunsFollowReplies = RunsFollow reply_codec

@@ -6,7 +6,7 @@ use std::alloc::{AllocError, Global};
 use std::marker::Model;
 use std::mem;
 
-/// After the whole frames at most so many bytes are left, of a frame that isn't whole.
+/// After the whole frames at most this many bytes are left, of a frame that isn't whole.
 const LONGEST_REST: usize = 32_809;
 
 /// A larger block isn't kept for the next piece. With pieces of at most 64 KiB none is larger: with
@@ -15,14 +15,14 @@ const LARGEST_KEPT: usize = 262_144;
 
 /// Bytes at the start of a block of memory, which has room for more after them.
 ///
-/// All of the block is written, with zeros after the bytes: of a `Vec` that grows no contract says
-/// how large it may become, but of one that was reserved and filled.
+/// The whole block is written, with zeros after the bytes: no contract says how large a `Vec` that
+/// grows may become, but one says it of a `Vec` that was reserved and filled.
 #[derive(Drop)]
 pub(crate) struct Buffer {
     block: Vec<u8>,
     len: usize,
-    /// Where the block is too large to be kept, another for what is left: there may be no memory
-    /// for it then.
+    /// If the block is too large to be kept, another one for what is left: there may be no memory
+    /// for it later.
     spare: Vec<u8>,
 }
 
@@ -78,7 +78,7 @@ impl Buffer {
     /// Appends bytes.
     ///
     /// # Errors
-    /// `AllocError` where memory was refused: nothing changed.
+    /// `AllocError` if memory was refused: nothing changed.
     pub(crate) fn append(&mut self, bytes: &[u8]) -> Result<(), AllocError>
         requires { length self.old.bytes + length bytes.now ≤ longest_stream }
         ensures ok { OnOk result (self.new ≡ with_bytes self.old bytes.now) }
@@ -96,7 +96,7 @@ impl Buffer {
         Ok(())
     }
 
-    /// Makes the block so large.
+    /// Makes the block this large.
     fn grow(&mut self, size: usize) -> Result<(), AllocError>
         requires { self.old.room < size }
         ensures ok { OnOk result (self.new ≡ with_room self.old size) }
@@ -112,7 +112,7 @@ impl Buffer {
         grown
     }
 
-    /// Lets so many bytes at the start go, and with them a block that is too large to be kept.
+    /// Releases this many bytes at the start, and a block that is too large to be kept.
     pub(crate) fn drop_prefix(&mut self, count: usize)
         requires within { count ≤ length self.old.bytes }
         requires short { length self.old.bytes ≤ count + longest_rest }
@@ -132,7 +132,7 @@ impl Buffer {
         self.len -= count;
     }
 
-    /// Lets all bytes and the block go.
+    /// Releases all bytes and the block.
     pub(crate) fn clear(&mut self)
         ensures { self.new ≡ nothing_held }
     {
@@ -142,7 +142,7 @@ impl Buffer {
     }
 }
 
-/// Makes a block so large, with zeros after what it has.
+/// Makes a block this large, with zeros after what it has.
 fn fill_up(block: &mut Vec<u8>, size: usize) -> Result<(), AllocError>
     requires full { vec_capacity block.old ≡ vec_len block.old }
     requires larger { vec_len block.old ≤ size }
@@ -159,7 +159,7 @@ fn fill_up(block: &mut Vec<u8>, size: usize) -> Result<(), AllocError>
     Ok(())
 }
 
-/// Lets a block go.
+/// Releases a block.
 fn let_go(block: &mut Vec<u8>)
     ensures items { block.new.items ≡ [] }
     ensures capacity { vec_capacity block.new ≡ 0 }
@@ -168,7 +168,7 @@ fn let_go(block: &mut Vec<u8>)
     block.shrink_to_fit();
 }
 
-/// Puts bytes over as many that stand there.
+/// Overwrites as many bytes as are given.
 fn copy_in(block: &mut Vec<u8>, start: usize, bytes: &[u8])
     requires { start + length bytes.now ≤ vec_len block.old }
     ensures prefix { take (start + length bytes.now) block.new.items

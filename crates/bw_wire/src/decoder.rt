@@ -38,7 +38,7 @@ pub fn decode(body: &[u8]) -> Result<Frame<'_>, Reason>
 /// The request that a kind byte and a payload spell. It borrows its bytes.
 ///
 /// # Errors
-/// `Kind` where the kind is no request's, and else `Payload` where the rest isn't one of this kind.
+/// `Kind` if no request has this kind, else `Payload` if the rest is no payload of this kind.
 pub fn decode_request(bytes: &[u8]) -> Result<RequestRef<'_>, Reason>
     ensures { request_read result ≡ decoded_request bytes.now }
 {
@@ -73,7 +73,7 @@ fn fault(kind: u8, rest: &[u8]) -> Option<Reason>
     None
 }
 
-/// The end of the exchange, after whose kind byte nothing stands.
+/// The end of the exchange, whose body is its kind byte alone.
 fn bye(rest: &[u8]) -> Result<Frame<'_>, Reason>
     ensures { result ≡ (if length rest.now == 0 then Ok Frame.Bye else Err Reason.Payload) }
 {

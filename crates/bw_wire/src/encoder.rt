@@ -14,7 +14,7 @@ use std::alloc::{AllocError, Global};
 /// The frame of a message, with a number of at most 16,777,215 and a request that fits.
 ///
 /// # Errors
-/// `AllocError` where memory was refused.
+/// `AllocError` if memory was refused.
 ///
 /// # Not specified
 /// - When memory is refused.
@@ -37,7 +37,7 @@ pub fn encode(
 /// The frame of an ask, with a number of at most 16,777,215. The reply repeats the number.
 ///
 /// # Errors
-/// `AllocError` where memory was refused.
+/// `AllocError` if memory was refused.
 ///
 /// # Not specified
 /// - When memory is refused.
@@ -49,7 +49,7 @@ pub fn encode_ask(alloc: Global, name: &Name, number: u32) -> Result<Vec<u8>, Al
     begin(alloc, ASK, name, number, 0)
 }
 
-/// A frame up to its payload, which is to have so many bytes, with room for all of it.
+/// A frame up to its payload, which will have this many bytes, with room for all of it.
 fn begin(
     alloc: Global,
     kind: u8,

@@ -1,4 +1,4 @@
-//! A stream that goes wrong.
+//! Faults of a stream.
 ghost use Rattle.std.specs.Prelude.{Some};
 ghost use Rattle.bw_wire.specs.Faults.{fault_text};
 
@@ -6,7 +6,7 @@ use crate::reason::Reason;
 use std::error::Error;
 use std::fmt;
 
-/// Bytes that are no frame: why, and how many bytes of the stream stand before them.
+/// Bytes that are no frame: why, and how many bytes of the stream come before them.
 #[derive(Clone, Copy, Debug, PartialEq, Eq, Hash)]
 pub struct WireFault {
     pub reason: Reason,

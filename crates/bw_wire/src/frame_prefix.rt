@@ -1,4 +1,4 @@
-//! What stands at the start of a stream's bytes.
+//! What is at the start of a stream's bytes.
 ghost use Rattle.bw_wire.specs.FramePrefixes.{IsFramePrefix};
 
 use crate::decoder::decode;
@@ -6,7 +6,7 @@ use crate::framing::{Framing, framing_of};
 use crate::message::Frame;
 use crate::reason::Reason;
 
-/// The longest body of a frame: a block of 32,768 bytes under a name of 32.
+/// The longest body of a frame: a block of 32,768 bytes under a name of 32 bytes.
 const LONGEST_BODY: u32 = 32_806;
 
 /// What the first bytes of a stream are, with the length of the body.

@@ -10,7 +10,7 @@ use std::marker::Model;
 
 /// Takes the frames of an exchange out of its bytes, which come in pieces of any size.
 ///
-/// Take out all frames before feeding the next piece, so that little is held: at most 32,809 bytes,
+/// If all frames are taken out before the next piece is fed, little is held: at most 32,809 bytes,
 /// in a block of at most 262,144.
 #[derive(Drop)]
 pub struct Framer {
@@ -60,11 +60,11 @@ impl Framer {
     /// Adds a piece of the stream, which has at most 2^62 bytes in all. After the end of the
     /// exchange or a fault the piece is dropped.
     ///
-    /// Where at most 32,809 bytes are held, as between two pieces, a piece of at most 65,536 bytes
+    /// If at most 32,809 bytes are held, as between two pieces, a piece of at most 65,536 bytes
     /// makes no block larger than 262,144.
     ///
     /// # Errors
-    /// `AllocError` where memory was refused: nothing changed. It is never so where there is room,
+    /// `AllocError` if memory was refused: nothing changed. It is never refused if there is room,
     /// the piece is empty, or the stream is over.
     ///
     /// # Not specified
@@ -82,12 +82,12 @@ impl Framer {
         self.intake.feed(piece)
     }
 
-    /// The first frame of the bytes that are left, which is used up; None where it isn't whole yet.
+    /// The first frame of the bytes that are left, which is used up; None if it isn't whole yet.
     ///
     /// Between two pieces at most 32,809 bytes are held, in a block of at most 262,144.
     ///
     /// # Errors
-    /// `WireFault` where the bytes are no frame: the first reason that holds of `Length`, `Kind`,
+    /// `WireFault` if the bytes are no frame: the first reason that holds of `Length`, `Kind`,
     /// `Name`, `Number` and `Payload`, and the frame's offset. Nothing is held then, and the same
     /// fault is returned from then on, as `Bye` is after `Bye`.
     pub fn next_frame(&mut self) -> Result<Option<Frame<'_>>, WireFault>
@@ -132,8 +132,8 @@ impl Framer {
     /// Whether the input may end here.
     ///
     /// # Errors
-    /// The fault that was reported, or `Cut` where bytes are left. Its offset is where they begin,
-    /// whole frames too.
+    /// The fault that was reported, or `Cut` if bytes are left, even whole frames. Its offset is
+    /// where those bytes begin.
     pub fn end(&self) -> Result<(), WireFault>
         ensures { end_reported result ≡ end_fault self.now }
     {

@@ -12,7 +12,7 @@ pub(crate) enum Framing {
     Body(usize),
 }
 
-/// The body at the start, where bodies have at most so many bytes.
+/// The body at the start, if bodies have at most this many bytes.
 pub(crate) fn framing_of(bytes: &[u8], longest: u32) -> Framing
     ensures { IsFraming longest bytes.now result }
 {

@@ -20,7 +20,7 @@ pub(crate) enum Phase {
     Failed(Reason),
 }
 
-/// The bytes of a stream that aren't used up, after used ones that weren't let go yet.
+/// The bytes of a stream that aren't used up, after used ones that weren't released yet.
 #[derive(Drop)]
 pub(crate) struct Intake {
     pub(crate) buffer: Buffer,
@@ -48,10 +48,10 @@ impl Intake {
         }
     }
 
-    /// Adds a piece of the stream, or drops it where nothing is read anymore.
+    /// Adds a piece of the stream, or drops it if nothing is read anymore.
     ///
     /// # Errors
-    /// `AllocError` where memory was refused: nothing changed.
+    /// `AllocError` if memory was refused: nothing changed.
     pub(crate) fn feed(&mut self, piece: &[u8]) -> Result<(), AllocError>
         requires sound { IsIntake self.old }
         requires few { self.old.fed + length piece.now ≤ longest_stream }
@@ -86,7 +86,7 @@ impl Intake {
         self.buffer.bytes_from(self.start)
     }
 
-    /// Lets the used bytes go, and with them a block that is too large to be kept.
+    /// Releases the used bytes, and a block that is too large to be kept.
     pub(crate) fn compact(&mut self)
         requires sound { IsIntake self.old }
         requires short { length self.old.buffer.bytes ≤ self.old.start + longest_rest }
@@ -99,7 +99,7 @@ impl Intake {
         self.start = 0;
     }
 
-    /// Lets all bytes go: nothing is read anymore.
+    /// Releases all bytes: nothing is read anymore.
     pub(crate) fn finish(&mut self, phase: Phase)
         ensures { self.new ≡ record self.old { buffer = nothing_held; start = 0; phase = phase } }
     {
@@ -108,7 +108,7 @@ impl Intake {
         self.phase = phase;
     }
 
-    /// Uses up a length and a body of so many bytes.
+    /// Uses up a length and a body of this many bytes.
     pub(crate) fn use_up(&mut self, len: usize)
         requires sound { IsIntake self.old }
         requires whole { self.old.start + 4 + len ≤ length self.old.buffer.bytes }
@@ -124,7 +124,7 @@ impl Intake {
     /// Whether the input may end here.
     ///
     /// # Errors
-    /// The fault that was reported, or `Cut` where bytes are left.
+    /// The fault that was reported, or `Cut` if bytes are left.
     pub(crate) fn end(&self) -> Result<(), WireFault>
         requires { IsIntake self.now }
         ensures { end_reported result ≡ end_fault (pending_in self.now) }

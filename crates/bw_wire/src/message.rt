@@ -62,7 +62,7 @@ impl Ask<'_> {
     ghost use Rattle.bw_model.specs.Wire.{Second, last_number};
     ghost use Rattle.bw_wire.specs.Frames.{asked_name, asked_number};
 
-    /// The name that is asked for.
+    /// The name that the ask is about.
     pub fn name(&self) -> Name
         ensures { result ≡ asked_name self.now }
     {

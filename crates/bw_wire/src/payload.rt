@@ -34,7 +34,7 @@ pub(crate) fn is_payload(kind: u8, payload: &[u8]) -> bool
     }
 }
 
-/// Whether a coding history of the length that is reported follows the format.
+/// Whether a coding history of the length that the payload gives follows the format.
 fn is_opening(payload: &[u8]) -> bool
     ensures { result ≡ is_payload_of 1 payload.now }
 {

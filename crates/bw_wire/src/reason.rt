@@ -9,7 +9,7 @@ use std::fmt;
 /// Why bytes are no frame: the first that holds.
 #[derive(Clone, Copy, Debug, PartialEq, Eq, Hash)]
 pub enum Reason {
-    /// The body's length is 0 or greater than any frame has.
+    /// The body's length is 0 or greater than that of any frame.
     Length = 1,
     /// No frame has this kind.
     Kind = 2,
@@ -17,14 +17,14 @@ pub enum Reason {
     Name = 3,
     /// The number is missing or too large.
     Number = 4,
-    /// What follows is none of this kind.
+    /// The payload isn't one of this kind.
     Payload = 5,
     /// The input ends inside the frame.
     Cut = 6,
 }
 
 impl Reason {
-    /// The byte that tells it in a reply.
+    /// The byte that stands for it in a reply.
     pub fn code(self) -> u8
         ensures value { result ≡ reason_code (reason_meaning self) }
         ensures range { result ≤ 6 }
@@ -58,7 +58,7 @@ impl TryFrom<u8> for Reason {
     /// The reason that has this code.
     ///
     /// # Errors
-    /// `UnknownCode`, with the code, where none has it.
+    /// `UnknownCode`, with the code, if no reason has it.
     fn try_from(code: u8) -> Result<Reason, UnknownCode> {
         match code {
             1 => Ok(Reason::Length),

@@ -1,4 +1,4 @@
-//! Replies: what a server says of messages and asks, and of bytes that are none.
+//! Replies: what a server says about messages, asks, and bytes that are no frames.
 ghost use Rattle.std.specs.Prelude.{◌≡◌, ◌≤◌};
 ghost use Rattle.bw_model.specs.Replies.{notice_code};
 ghost use Rattle.bw_wire.specs.Notices.{notice_meaning, DecodesNotice};
@@ -6,10 +6,10 @@ ghost use Rattle.bw_wire.specs.Notices.{notice_meaning, DecodesNotice};
 use crate::reason::{Reason, UnknownCode};
 use bw_request::{Name, Verdict};
 
-/// Why a message has no verdict, or what an ask is reported.
+/// Why a message has no verdict, or the answer to an ask.
 #[derive(Clone, Copy, Debug, PartialEq, Eq, Hash)]
 pub enum Notice {
-    /// The message is kept until those before it have come.
+    /// The message is kept until all messages before it have come.
     Held = 32,
     /// Its number is 16 or more past the least one without a verdict.
     TooFar = 33,
@@ -26,7 +26,7 @@ pub enum Notice {
 }
 
 impl Notice {
-    /// The byte that tells it in a reply.
+    /// The byte that stands for it in a reply.
     pub fn code(self) -> u8
         ensures value { result ≡ notice_code (notice_meaning self) }
         ensures range { result ≤ 39 }
@@ -43,7 +43,7 @@ impl TryFrom<u8> for Notice {
     /// The notice that has this code.
     ///
     /// # Errors
-    /// `UnknownCode`, with the code, where none has it.
+    /// `UnknownCode`, with the code, if no notice has it.
     fn try_from(code: u8) -> Result<Notice, UnknownCode> {
         match code {
             32 => Ok(Notice::Held),
@@ -61,7 +61,7 @@ impl TryFrom<u8> for Notice {
 /// A reply to a message, to an ask, or to a bad frame.
 #[derive(Debug, Drop, PartialEq, Eq)]
 pub enum Reply {
-    /// The verdict of a message.
+    /// The verdict on a message.
     Verdict {
         name: Name,
         number: u32,
@@ -75,7 +75,7 @@ pub enum Reply {
         code: Notice,
         next: u32,
     },
-    /// Why bytes were no frame, and how many bytes of the exchange stand before them.
+    /// Why bytes were no frame, and how many bytes of the exchange come before them.
     BadFrame {
         reason: Reason,
         offset: u64,

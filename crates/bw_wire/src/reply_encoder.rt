@@ -12,8 +12,8 @@ use crate::reply_decoder::{BAD_FRAME, NOTICE, VERDICT};
 use arrayvec::ArrayVec;
 use bw_request::Name;
 
-/// Puts a reply's whole frame in place of what was there. Its number is at most 16,777,215, and the
-/// next one that it tells at most 16,777,216.
+/// Replaces the contents by a reply's whole frame. Its number is at most 16,777,215, and the next
+/// one that it gives at most 16,777,216.
 pub fn encode_reply(reply: &Reply, out: &mut ArrayVec<u8, 64>)
     requires { HasWireNumbers reply.now }
     ensures frame { out.new.items ≡ framed (reply_body (reply_of reply.now)) }
@@ -47,7 +47,7 @@ pub fn encode_reply(reply: &Reply, out: &mut ArrayVec<u8, 64>)
     }
 }
 
-/// Appends the length of a body, and its kind, name and number. So many bytes follow.
+/// Appends the length of a body, and its kind, name and number. This many bytes follow.
 fn put_address(out: &mut ArrayVec<u8, 64>, kind: u8, name: &Name, number: u32, more: u32)
     requires empty { out.old.items ≡ [] }
     requires more { more ≤ 5 }

@@ -1,4 +1,4 @@
-//! What stands at the start of a stream's bytes, where replies are read.
+//! What is at the start of a stream's bytes, where replies are read.
 ghost use Rattle.bw_wire.specs.ReplyPrefixes.{IsReplyPrefix};
 
 use crate::framing::{Framing, framing_of};
@@ -6,7 +6,7 @@ use crate::reason::Reason;
 use crate::reply::Reply;
 use crate::reply_decoder::decode_reply;
 
-/// The longest body of a reply: a notice under a name of 32.
+/// The longest body of a reply: a notice under a name of 32 bytes.
 const LONGEST_REPLY: u32 = 43;
 
 /// What the first bytes of a stream are, a reply with the length of its body.

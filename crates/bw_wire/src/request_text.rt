@@ -12,11 +12,11 @@ use std::alloc::{AllocError, Global};
 /// The request whose kind byte and payload a text spells in hex, if it spells one.
 ///
 /// # Errors
-/// `AllocError` where memory was refused: only a text of an even length takes some.
+/// `AllocError` if memory was refused: only a text of an even length needs memory.
 ///
 /// # Not specified
-/// Of an even number of digits, when memory is refused, and that only those that spell a request
-/// are.
+/// For an even number of digits: when memory is refused, and that it is refused only if they spell
+/// a request.
 pub fn request_from_hex(alloc: Global, text: &[u8]) -> Result<Option<Request>, AllocError>
     ensures ok { IfOk result (λ found. MatchOption found
         ((r : Requested) → ¬ IsRequestText text.now r) (λ r. IsRequestText text.now r)) }
@@ -34,7 +34,7 @@ pub fn request_from_hex(alloc: Global, text: &[u8]) -> Result<Option<Request>, A
 /// The request that a kind byte and a payload spell, if they spell one.
 ///
 /// # Errors
-/// `AllocError` where memory was refused: only a request takes some.
+/// `AllocError` if memory was refused: only a request needs memory.
 fn request_in(alloc: Global, bytes: &[u8]) -> Result<Option<Request>, AllocError>
     ensures ok { IfOk result (λ found. MatchOption found
         ((r : Requested) → decoded_request bytes.now ≢ Ok r)

@@ -41,7 +41,7 @@ pub(crate) fn flag_given(options: &ArgMatches<'_>, flag: &str) -> bool
     }
 }
 
-/// The address that the option of this name gives; none where it is not of its form.
+/// The address that the option of this name gives; none if it is malformed.
 pub(crate) fn address_given(
     options: &ArgMatches<'_>,
     option: &str,
@@ -52,7 +52,7 @@ pub(crate) fn address_given(
     address(options.get_str(option)?, network)
 }
 
-/// The number from 1 to the most that the option of this name gives, or none.
+/// The number from 1 to `most` that the option of this name gives, or none.
 pub(crate) fn count_given(
     options: &ArgMatches<'_>,
     option: &str,

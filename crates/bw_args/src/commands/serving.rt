@@ -132,8 +132,8 @@ fn log_flag<'a>(alloc: Global) -> Arg<'a>
         .help("Tells each connection in a line on standard error")
 }
 
-/// Bad values are reported in this order: the address, the folder, the exchanges, the limit, those of
-/// `recorders_given`, and `--until-stopped` beside a number of exchanges.
+/// Bad values are reported in this order: the address, the folder, the exchanges, the limit, those
+/// of `recorders_given`, and `--until-stopped` with a number of exchanges.
 pub(crate) fn serve_line(alloc: Global, options: &ArgMatches<'_>) -> Result<CommandLine, AllocError>
     ensures ok { IfOk result (IsLineFor (Some (codes "serve", rows_of (found_of options.now)))) }
     ensures err { OnErr result
@@ -171,8 +171,7 @@ pub(crate) fn serve_line(alloc: Global, options: &ArgMatches<'_>) -> Result<Comm
     })))
 }
 
-/// The path that the options give; none where it is empty, as an unset variable of a shell leaves
-/// it.
+/// The path that the options give; none if it is empty, as an unset shell variable leaves it.
 fn folder_given<'a>(options: &ArgMatches<'a>) -> Option<&'a str>
     ensures { IsFolderGiven (first_value (found_of options.now) (codes "folder"))
         (option_map (λ path. path.now) result) }
@@ -185,7 +184,7 @@ fn folder_given<'a>(options: &ArgMatches<'a>) -> Option<&'a str>
 ///
 /// # Errors
 /// The first of these that is bad: the timeout, the recorders, the idle time, and one of the two
-/// times beside the other way to serve.
+/// times given with the other way to serve.
 fn recorders_given(options: &ArgMatches<'_>) -> Result<Recorders, BadValue>
     ensures ok { IfOk result (GivesRecorders (first_value (found_of options.now))) }
     ensures err { IfErr result (IsFirstBad looked_at_waiting (first_value (found_of options.now))) }
@@ -205,7 +204,7 @@ fn recorders_given(options: &ArgMatches<'_>) -> Result<Recorders, BadValue>
     }
 }
 
-/// How recorders are served; none where a time is given for the other way.
+/// How recorders are served; none if a time is given for the other way.
 fn served_as(timeout: Option<u32>, most: Option<u32>, idle: Option<u32>) -> Option<Recorders>
     ensures { IsRecordersGiven timeout most idle result }
 {
@@ -221,7 +220,7 @@ fn served_as(timeout: Option<u32>, most: Option<u32>, idle: Option<u32>) -> Opti
     }
 }
 
-/// When the server ends; none where two options say it.
+/// When the server ends; none if two options say it.
 fn end_given(count: Option<u32>, until_stopped: bool) -> Option<End>
     ensures { IsEndGiven count until_stopped result }
 {

@@ -2,7 +2,7 @@ use Rattle.std.proofs.Common.{◌∙◌, ap, true}
 use Rattle.clap.specs.Simple.{App, app_of_fields, on_top}
 use Rattle.bw_args.proofs.commands.program.Goals as goal
 
--- what the two calls that tell in the shape make of it
+-- what the two calls that report in the shape make of it
 abbrev commanded : App → App
 commanded = on_top (λ s. record s { subcommand_required = true })
 
