@@ -33,7 +33,7 @@ use Rattle.bw_ports.specs.declared.dial.Dial.{Ghosts as DialGhosts}
 use Rattle.bw_ports.specs.declared.network.Network.{Ghosts as NetworkGhosts}
 use Rattle.bw_ports.specs.declared.peers.Peers.{Ghosts as PeerGhosts}
 use Rattle.bw_ports.specs.declared.listener_setup.ListenerSetup.{Ghosts as ListenerSetupGhosts}
-use Rattle.bw_cli.specs.Remote.{Sends, Serves}
+use Rattle.bw_cli.specs.Remote.{Sends, ServesWith}
 
 -- help or the version is printed
 pub record IsHelp (did : Outcome) : Type 0 where
@@ -112,7 +112,7 @@ module _ {X Y P R W L K N D A B I O E : Type 0} (S : StoreGhosts X) (J : Journal
   abbrev pub IsDoneFor : (Text → Option (List ℕ)) → CommandLine → Exit → ℕ → ℕ → N → N →
       I → I → O → O → E → E → Type 0
   IsDoneFor file_at (Run (Serve server)) exit s s' n n' i i' o o' e e' =
-      Serves S J peers reader writer reactor link out reported network listener_setup server exit n n' o o' e e'
+      ServesWith S J peers reader writer reactor link out reported network listener_setup server exit n n' o o' e e'
       × (s' ≡ s) × (i' ≡ i)
   IsDoneFor file_at (Run (Send sender)) exit s s' n n' i i' o o' e e' =
       Sends network dial replies requests input out reported sender exit n i i' o o' e e'

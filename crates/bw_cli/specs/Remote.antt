@@ -75,8 +75,8 @@ module _ {X Y P R W L K O E N D A B : Type 0} (S : StoreGhosts X) (J : JournalGh
   ServesAs (recorders.AtOnce most idle) server exit n n' o o' e e' =
       ServesAtOnce server most idle exit n n' o o' e e'
 
-  abbrev pub Serves : Serve → Exit → N → N → O → O → E → E → Type 0
-  Serves server exit n n' o o' e e' = ServesAs server.recorders server exit n n' o o' e e'
+  abbrev pub ServesWith : Serve → Exit → N → N → O → O → E → E → Type 0
+  ServesWith server exit n n' o o' e e' = ServesAs server.recorders server exit n n' o o' e e'
 
 module _ {N X P R W D A B I O E : Type 0} (network : NetworkGhosts N X P D R W A B)
     (dial : DialGhosts D A B) (replies : Reader A) (requests : Writer B) (input : Reader I)

@@ -1,7 +1,7 @@
 //! The commands that use the network, as a command line asks for them.
 ghost use Rattle.std.specs.Prelude.{◌≡◌};
 ghost use Rattle.bw_layout.specs.Limits.{IsLimit};
-ghost use Rattle.bw_cli.specs.Remote.{IsHosting, IsServingAs, Sends, Serves, exchanges_of};
+ghost use Rattle.bw_cli.specs.Remote.{IsHosting, IsServingAs, Sends, ServesWith, exchanges_of};
 
 use bw_args::{End, Recorders, Send, Serve};
 use bw_console::Exit;
@@ -22,7 +22,7 @@ pub(crate) fn serve_as<N: Network + ListenerSetup, W: Sink, E: Sink>(
     faults: &mut E,
 ) -> Exit
     requires { IsLimit server.now.limit }
-    ensures { Serves N.Store.TakeStore ⟦<NoJournal as Journal>⟧ N.Peers.Peers
+    ensures { ServesWith N.Store.TakeStore ⟦<NoJournal as Journal>⟧ N.Peers.Peers
         N.Peers.Reader.Source N.Peers.Writer.Sink N.Reactor.Reactor N.Reactor.Link.Link W.Sink E.Sink
         N.Network N.ListenerSetup server.now result network.old network.new out.old out.new faults.old
         faults.new }

@@ -29,8 +29,9 @@ use Rattle.bw_connections.specs.declared.connection.Phase.{Phase}
 use Rattle.bw_connections.specs.declared.connection.Phase.TheVariants as phases
 use Rattle.bw_ports.specs.declared.link.Link.{Ghosts as LinkGhosts}
 use Rattle.bw_connections.specs.Feeding.{Feeds, fault_to_drain, unless_cut}
-use Rattle.bw_connections.specs.Lives.{EndsDrained, EndsServed, IsNoSilence, IsUpToDate, LetsGo, Moved, ReadsLink, SendsWaiting, EndsWithFault}
-use Rattle.bw_connections.specs.Lives.{EndsAs, Goes, IsInPhase, IsOpen, IsOver, KeepsPeer, Lives, Settles, Steps}
+use Rattle.bw_connections.specs.Lives.{EndsDrained, EndsServed, IsNoSilence, IsUpToDate, DropsSent}
+use Rattle.bw_connections.specs.Lives.{Moved, ReadsLink, SendsWaiting, EndsWithFault}
+use Rattle.bw_connections.specs.Lives.{EndsAs, Proceeds, IsInPhase, IsOpen, IsConnectionOver, KeepsPeer, Lives, Settles, Steps}
 use Rattle.bw_connections.specs.Lives.{AnswersHeld, BeginsConnection, expired_at, expired_by, longest_drain, quantum, quiet_since}
 use Rattle.bw_connections.specs.Lives.{HadToWait, IsDry, IsFinished, IsFull, Learns, StillReported, ReportsFinish, WhereDrained}
 
@@ -92,7 +93,7 @@ served_unfinished Idle finished h = tt
 -- a connection that was served is over, and these bytes came last
 pub over : {L : Type 0} (G : LinkGhosts L) (end : ConnectionEnd) (c c' : Connection L) (last : List ℕ) →
     c.phase ≡ phases.Serving → c'.exchange ≡ c.exchange → Moves G last [] c.link c'.link →
-    EndsAs end c.exchange last → EndsWithFault end (G.broken c'.link) → EndsServed end → Goes G (Err end) c [] c'
+    EndsAs end c.exchange last → EndsWithFault end (G.broken c'.link) → EndsServed end → Proceeds G (Err end) c [] c'
 over G end c c' last serving exchange m e fault served before l =
     let none = none_unread c l.unread serving l.by_phase in
     record {
@@ -113,7 +114,7 @@ over G end c c' last serving exchange m e fault served before l =
 -- one that was drained is over
 pub drained : {L : Type 0} (G : LinkGhosts L) (fault : _) (c c' : Connection L) (last : List ℕ) →
     c.phase ≡ phases.Draining fault → Moves G last [] c.link c'.link →
-    Goes G (Err (Over (ends.BadFrame fault))) c [] c'
+    Proceeds G (Err (Over (ends.BadFrame fault))) c [] c'
 drained G fault c c' last phase m before l =
     let in_phase = subst (λ x. IsInPhase x c.exchange l.unread) phase l.by_phase in
     record {
@@ -171,29 +172,29 @@ steps_on G a b c xs ys f g before l =
 
 -- a step, and the result of the next
 pub goes_after : {L : Type 0} (G : LinkGhosts L) (r : Result (Unit {0}) ConnectionEnd) (a b c : Connection L)
-    (xs ys : List Answered) → Steps G a xs b → Goes G r b ys c → Goes G r a (xs ++ ys) c
+    (xs ys : List Answered) → Steps G a xs b → Proceeds G r b ys c → Proceeds G r a (xs ++ ys) c
 goes_after G (Ok x) a b c xs ys f g = steps_on G a b c xs ys f g
 goes_after G (Err end) a b c xs ys f g =
-    λ before l. subst (IsOver G end c.link) (append_assoc before xs ys) (g (before ++ xs) (f before l))
+    λ before l. subst (IsConnectionOver G end c.link) (append_assoc before xs ys) (g (before ++ xs) (f before l))
 
 -- a piece came, and was fed or not
 pub fed_or_over : {L : Type 0} (G : LinkGhosts L) (r : Result (Unit {0}) ConnectionEnd) (c c' : Connection L)
     (piece : List ℕ) → c.phase ≡ phases.Serving → c'.phase ≡ phases.Serving → wants_piece c.exchange ≡ true →
     waiting_in c.exchange ≡ [] → 1 ≤ length piece → length piece ≤ longest_piece → Moves G piece [] c.link c'.link →
-    Feeds piece r c.exchange c'.exchange → Goes G r c [] c'
+    Feeds piece r c.exchange c'.exchange → Proceeds G r c [] c'
 fed_or_over G (Ok x) c c' piece serving still wants_read none some short m f =
     steps G c c' piece [] [] serving still m f.0 (λ before fed gone d h. same_end G c c' f.1 m.ended h)
 fed_or_over G (Err end) c c' piece serving still wants_read none some short m f = go f.2
   where
     ends_so : (x : ConnectionEnd) → end ≡ x → EndsAs x c.exchange piece → EndsWithFault x (G.broken c'.link) →
-        EndsServed x → Goes G (Err end) c [] c'
+        EndsServed x → Proceeds G (Err end) c [] c'
     ends_so x e k t served =
         over G end c c' piece serving f.0 m (subst (λ y. EndsAs y c.exchange piece) (sym e) k)
         (subst (λ y. EndsWithFault y (G.broken c'.link)) (sym e) t) (subst EndsServed (sym e) served)
 
     go : (end ≡ Over ends.Memory)
         ⊎ ((end ≡ Over ends.TurnLimit) × (longest_stream < (pending_of c.exchange).fed + length piece)) →
-        Goes G (Err end) c [] c'
+        Proceeds G (Err end) c [] c'
     go (inl e) = ends_so (Over ends.Memory) e ((wants_read, none), f.1, some, short) tt tt
     go (inr e) = ends_so (Over ends.TurnLimit) e.0 ((wants_read, none), f.1, e.1) tt tt
 
@@ -212,9 +213,9 @@ ends_as (streams.BadFrame fault) e is none = (is, none, inl refl)
 
 -- a step, and the result of a call after it that answers nothing
 pub goes_at_last : {L : Type 0} (G : LinkGhosts L) (r : Result (Unit {0}) ConnectionEnd) (a b c : Connection L)
-    (xs : List Answered) → Steps G a xs b → Goes G r b [] c → Goes G r a xs c
+    (xs : List Answered) → Steps G a xs b → Proceeds G r b [] c → Proceeds G r a xs c
 goes_at_last G r a b c xs f g =
-    subst (λ (x : List Answered). Goes G r a x c) (append-nil xs) (goes_after G r a b c xs [] f g)
+    subst (λ (x : List Answered). Proceeds G r a x c) (append-nil xs) (goes_after G r a b c xs [] f g)
 
 -- some were taken of some
 pub some_taken : (xs : List ℕ) (n : ℕ) → 1 ≤ n → 1 ≤ length xs → 1 ≤ length (take n xs)
@@ -428,14 +429,14 @@ finished_still G c c' same keeps h =
 
 -- bytes that came were discarded
 pub let_go : {L : Type 0} (G : LinkGhosts L) (c c' : Connection L) (piece : List ℕ) → 1 ≤ length piece →
-    ((xs : List ℕ) → G.given c.link xs → G.given c'.link (xs ++ piece)) → LetsGo G c c'
+    ((xs : List ℕ) → G.given c.link xs → G.given c'.link (xs ++ piece)) → DropsSent G c c'
 let_go G c c' piece some given bytes = inl (piece, some, given)
 
 pub let_go_at : {L : Type 0} (G : LinkGhosts L) (fault : WireFault) (was c new c' : Connection L) → was ≡ c → new ≡ c' →
-    (was.phase ≡ phases.Draining fault → LetsGo G was new) → c.phase ≡ phases.Draining fault → LetsGo G c c'
+    (was.phase ≡ phases.Draining fault → DropsSent G was new) → c.phase ≡ phases.Draining fault → DropsSent G c c'
 let_go_at G fault was c new c' is to h =
-    subst (λ x. c.phase ≡ phases.Draining fault → LetsGo G c x) to
-    (subst (λ x. x.phase ≡ phases.Draining fault → LetsGo G x new) is h)
+    subst (λ x. c.phase ≡ phases.Draining fault → DropsSent G c x) to
+    (subst (λ x. x.phase ≡ phases.Draining fault → DropsSent G x new) is h)
 
 -- of the same connections
 pub moved_at : {L : Type 0} (G : LinkGhosts L) (was c new c' : Connection L) (answered : List Answered) → was ≡ c →
@@ -686,7 +687,7 @@ expired_finished (phases.Draining fault) idle quiet end finished is h =
 
 -- a connection whose time is up is over
 pub expires : {L : Type 0} (G : LinkGhosts L) (now idle : ℕ) (c : Connection L) (end : ConnectionEnd) →
-    expired_at now idle c ≡ Some end → (before : List Answered) → Lives G c before → IsOver G end c.link (before ++ [])
+    expired_at now idle c ≡ Some end → (before : List Answered) → Lives G c before → IsConnectionOver G end c.link (before ++ [])
 expires G now idle c end is before l = record {
   exchange = c.exchange;
   fed = l.fed;

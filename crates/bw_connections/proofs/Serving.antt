@@ -22,9 +22,9 @@ use Rattle.bw_connections.specs.declared.connection.Phase.TheVariants as phases
 use Rattle.bw_ports.specs.declared.link.Link.{Ghosts as LinkGhosts}
 use Rattle.bw_connections.specs.declared.connections.Closed.{Closed}
 use Rattle.bw_connections.specs.declared.connections.Connections.{Connections}
-use Rattle.bw_connections.specs.Keeping.{HasLeft, Keeps, HoldsConnectionAt, Tagged, own}
-use Rattle.bw_connections.specs.Lives.{HasEnded, IsInPhase, IsOver, Lives}
-use Rattle.bw_connections.specs.Served.{EndsLink, ReachesEnd, ServesEach, ServesLink, ReportsEnd}
+use Rattle.bw_connections.specs.Keeping.{HasLeft, KeepsConnections, HoldsConnectionAt, Tagged, own}
+use Rattle.bw_connections.specs.Lives.{HasEnded, IsInPhase, IsConnectionOver, Lives}
+use Rattle.bw_connections.specs.Served.{EndsLink, ConnectionReachesEnd, ServesEachConnection, ServesConnection, ConnectionReportsEnd}
 use Rattle.bw_connections.proofs.Standing.{all_left}
 
 -- What bytes that weren't fed leave of what is known: nothing was, or none could change it.
@@ -78,7 +78,7 @@ not_fed e answered fed out unread x wants_read bytes = record {
 module _ {L : Type 0} (G : LinkGhosts L) (law : ExchangesFollowStreams) where
   serves_link : (link : L) (e : Exchange) (fed gone unread : List ℕ) (answered : List Answered) →
       IsExchangeOf fed answered (gone ++ waiting_in e) e → G.given link (fed ++ unread) → G.taken link gone →
-      Unchanged e answered fed unread → ServesLink G link answered
+      Unchanged e answered fed unread → ServesConnection G link answered
   serves_link link e fed gone unread answered x given taken u = record {
     stream_end = end_so_far (end_of e);
     input = fed ++ unread;
@@ -94,9 +94,9 @@ module _ {L : Type 0} (G : LinkGhosts L) (law : ExchangesFollowStreams) where
     };
   }
 
-  ends_with : (end : ConnectionEnd) (link : L) (answered : List Answered) (o : IsOver G end link answered) →
+  ends_with : (end : ConnectionEnd) (link : L) (answered : List Answered) (o : IsConnectionOver G end link answered) →
       Unchanged o.exchange answered o.fed o.unread →
-      ReportsEnd G end link (end_so_far (end_of o.exchange)) answered (o.fed ++ o.unread) (waiting_in o.exchange) →
+      ConnectionReportsEnd G end link (end_so_far (end_of o.exchange)) answered (o.fed ++ o.unread) (waiting_in o.exchange) →
       EndsLink G end link answered
   ends_with end link answered o u reports =
       let x = law o.fed answered o.gone o.exchange o.done in
@@ -121,7 +121,7 @@ module _ {L : Type 0} (G : LinkGhosts L) (law : ExchangesFollowStreams) where
       }
 
   -- a connection at a place
-  serves_so_far : (c : Connection L) (answered : List Answered) → Lives G c answered → ServesLink G c.link answered
+  serves_so_far : (c : Connection L) (answered : List Answered) → Lives G c answered → ServesConnection G c.link answered
   serves_so_far c answered l =
       let x = law l.fed answered l.gone c.exchange l.done in
       serves_link c.link c.exchange l.fed l.gone l.unread answered x l.given l.taken (by_phase c.phase l.by_phase)
@@ -135,25 +135,25 @@ module _ {L : Type 0} (G : LinkGhosts L) (law : ExchangesFollowStreams) where
           (law l.fed answered l.gone c.exchange l.done) h.0 h.1
 
   -- one that is over
-  ends_link : (end : ConnectionEnd) (link : L) (answered : List Answered) → IsOver G end link answered →
+  ends_link : (end : ConnectionEnd) (link : L) (answered : List Answered) → IsConnectionOver G end link answered →
       EndsLink G end link answered
   ends_link end link answered o = by_end end o
     where
-      follows : (z : ConnectionEnd) (p : IsOver G z link answered) →
+      follows : (z : ConnectionEnd) (p : IsConnectionOver G z link answered) →
           IsExchangeOf p.fed answered (p.gone ++ waiting_in p.exchange) p.exchange
       follows z p = law p.fed answered p.gone p.exchange p.done
 
-      all_in : (z : ConnectionEnd) (p : IsOver G z link answered) → p.unread ≡ [] →
+      all_in : (z : ConnectionEnd) (p : IsConnectionOver G z link answered) → p.unread ≡ [] →
           Unchanged p.exchange answered p.fed p.unread
       all_in z p none =
           all_fed p.exchange answered p.fed (p.gone ++ waiting_in p.exchange) p.unread (follows z p) none
 
-      last_out : (z : ConnectionEnd) (p : IsOver G z link answered) → wants_piece p.exchange ≡ true →
+      last_out : (z : ConnectionEnd) (p : IsConnectionOver G z link answered) → wants_piece p.exchange ≡ true →
           IsTrue (are_bytes p.unread) → Unchanged p.exchange answered p.fed p.unread
       last_out z p wants_read bytes =
           not_fed p.exchange answered p.fed (p.gone ++ waiting_in p.exchange) p.unread (follows z p) wants_read bytes
 
-      ended : (y : StreamEnd) (z : ConnectionEnd) (p : IsOver G z link answered) → HasEnded y p.exchange p.unread →
+      ended : (y : StreamEnd) (z : ConnectionEnd) (p : IsConnectionOver G z link answered) → HasEnded y p.exchange p.unread →
           Unchanged p.exchange answered p.fed p.unread
       ended y z p h = go h.2
         where
@@ -162,15 +162,15 @@ module _ {L : Type 0} (G : LinkGhosts L) (law : ExchangesFollowStreams) where
           go (inr final) =
               final_end p.exchange answered p.fed (p.gone ++ waiting_in p.exchange) p.unread y (follows z p) h.0 final
 
-      reached : (y : StreamEnd) (z : ConnectionEnd) (p : IsOver G z link answered) → HasEnded y p.exchange p.unread →
-          ReachesEnd G link (end_so_far (end_of p.exchange)) (waiting_in p.exchange) (end_meaning y)
+      reached : (y : StreamEnd) (z : ConnectionEnd) (p : IsConnectionOver G z link answered) → HasEnded y p.exchange p.unread →
+          ConnectionReachesEnd G link (end_so_far (end_of p.exchange)) (waiting_in p.exchange) (end_meaning y)
       reached y z p h = (
         ap end_so_far h.0,
         h.1,
         subst (λ (e : Option StreamEnd). IfSome (end_so_far e) (λ x. IsFinal x ⊎ G.ended link)) h.0 p.at_end,
       )
 
-      by_end : (z : ConnectionEnd) → IsOver G z link answered → EndsLink G z link answered
+      by_end : (z : ConnectionEnd) → IsConnectionOver G z link answered → EndsLink G z link answered
       by_end (Over ends.Bye) p =
           ends_with (Over ends.Bye) link answered p (ended streams.Bye _ p p.by_end) (reached streams.Bye _ p p.by_end)
       by_end (Over ends.EndOfInput) p =
@@ -219,8 +219,8 @@ module _ {L : Type 0} (G : LinkGhosts L) (law : ExchangesFollowStreams) where
   over_each m trace [] h = tt
   over_each m trace (y ∷ ys) h = (ends_link y.end y.link (own y.number trace) h.0.over, over_each m trace ys h.1)
 
-  pub serves_each : (m : Connections L) (over : List (Closed L)) (trace : List Tagged) → Keeps G m over trace →
-      ServesEach G m over trace
+  pub serves_each : (m : Connections L) (over : List (Closed L)) (trace : List Tagged) → KeepsConnections G m over trace →
+      ServesEachConnection G m over trace
   serves_each m over trace k = record {
     each = k.each;
     stands = λ i c at. serves_so_far c (own c.number trace) (k.lives i c at).1;

@@ -13,9 +13,11 @@ use Rattle.bw_connections.specs.declared.connection.Connection.{Connection}
 use Rattle.bw_ports.specs.declared.link.Link.{Ghosts as LinkGhosts}
 use Rattle.bw_connections.specs.declared.connections.Closed.{Closed}
 use Rattle.bw_connections.specs.declared.connections.Connections.{Connections}
-use Rattle.bw_connections.specs.Keeping.{Tagged, tagged, all_answered, own, SetsPlace, HoldsConnectionAt, IsFree, HoldsConnection, IsAmong, AreApart}
-use Rattle.bw_connections.specs.Keeping.{HasLeft, Keeps, Adds}
-use Rattle.bw_connections.specs.Lives.{Lives, IsOver, Steps}
+use Rattle.bw_connections.specs.Keeping.{Tagged, tagged, all_answered, own, SetsPlace}
+use Rattle.bw_connections.specs.Keeping.{HoldsConnectionAt, IsFree, HoldsConnection, IsAmong}
+use Rattle.bw_connections.specs.Keeping.{AreApart}
+use Rattle.bw_connections.specs.Keeping.{HasLeft, KeepsConnections, Adds}
+use Rattle.bw_connections.specs.Lives.{Lives, IsConnectionOver, Steps}
 
 -- Frames under a number.
 
@@ -116,7 +118,7 @@ module _ {L : Type 0} (G : LinkGhosts L) (m m' : Connections L) (i : ℕ) where
       HasLeft G m' (trace ++ tagged c.number xs) y
   still_left n c x xs trace next s at same y h = record {
     before = subst (λ (k : ℕ). y.number < k) (sym next) h.before;
-    over = subst (IsOver G y.end y.link) (sym (own-kept y.number c.number trace xs (h.away i c at))) h.over;
+    over = subst (IsConnectionOver G y.end y.link) (sym (own-kept y.number c.number trace xs (h.away i c at))) h.over;
     away = λ j d there. away j d (existed m m' i x s j d there);
   }
     where
@@ -127,7 +129,7 @@ module _ {L : Type 0} (G : LinkGhosts L) (m m' : Connections L) (i : ℕ) where
   -- the connection at a place answered frames more, and continues
   pub keeps_on : (c d : Connection L) (xs : List Answered) (over : List (Closed L)) (trace : List Tagged) →
       m'.next ≡ m.next → HoldsConnectionAt m i c → SetsPlace m.places.items i (Some d) m'.places.items → d.number ≡ c.number →
-      Steps G c xs d → Keeps G m over trace → Keeps G m' over (trace ++ tagged c.number xs)
+      Steps G c xs d → KeepsConnections G m over trace → KeepsConnections G m' over (trace ++ tagged c.number xs)
   keeps_on c d xs over trace next at s same steps k = record {
     lives = λ j e h. lives j e (existed m m' i (Some d) s j e h);
     apart = λ j l e f hj hl num.
@@ -181,8 +183,8 @@ module _ {L : Type 0} (G : LinkGhosts L) (m m' : Connections L) (i : ℕ) where
   -- the connection at a place answered frames more, and is over
   pub keeps_closed : (c : Connection L) (y : Closed L) (xs : List Answered) (over : List (Closed L))
       (trace : List Tagged) → m'.next ≡ m.next → HoldsConnectionAt m i c → SetsPlace m.places.items i None m'.places.items →
-      y.number ≡ c.number → ((before : List Answered) → Lives G c before → IsOver G y.end y.link (before ++ xs)) →
-      Keeps G m over trace → Keeps G m' (over ++ y ∷ []) (trace ++ tagged c.number xs)
+      y.number ≡ c.number → ((before : List Answered) → Lives G c before → IsConnectionOver G y.end y.link (before ++ xs)) →
+      KeepsConnections G m over trace → KeepsConnections G m' (over ++ y ∷ []) (trace ++ tagged c.number xs)
   keeps_closed c y xs over trace next at s same ends k = record {
     lives = λ j e h. lives j e (existed m m' i None s j e h);
     apart = λ j l e f hj hl num.
@@ -215,8 +217,8 @@ module _ {L : Type 0} (G : LinkGhosts L) (m m' : Connections L) (i : ℕ) where
       last = record {
         before = subst (λ (n : ℕ). n < m'.next) (sym same)
             (subst (λ (b : ℕ). c.number < b) (sym next) (k.lives i c at).0);
-        over = subst (λ (n : ℕ). IsOver G y.end y.link (own n (trace ++ tagged c.number xs))) (sym same)
-            (subst (IsOver G y.end y.link) (sym (own-more c.number trace xs))
+        over = subst (λ (n : ℕ). IsConnectionOver G y.end y.link (own n (trace ++ tagged c.number xs))) (sym same)
+            (subst (IsConnectionOver G y.end y.link) (sym (own-more c.number trace xs))
             (ends (own c.number trace) (k.lives i c at).1));
         away = λ j e h num.
             (let z = before j e (existed m m' i None s j e h) in z.0 (k.apart j i e c z.1 at (num ∙ same)));
@@ -236,7 +238,7 @@ module _ {L : Type 0} (G : LinkGhosts L) (m m' : Connections L) (i : ℕ) where
 
   -- nothing is where nothing was
   pub keeps_free : (over : List (Closed L)) (trace : List Tagged) → m'.next ≡ m.next → IsFree m i →
-      SetsPlace m.places.items i None m'.places.items → Keeps G m over trace → Keeps G m' over trace
+      SetsPlace m.places.items i None m'.places.items → KeepsConnections G m over trace → KeepsConnections G m' over trace
   keeps_free over trace next free s k = record {
     lives = λ j e h. (let was = k.lives j e (before j e (existed m m' i None s j e h)) in
         (subst (λ (b : ℕ). e.number < b) (sym next) was.0, was.1));
@@ -266,7 +268,7 @@ module _ {L : Type 0} (G : LinkGhosts L) (m m' : Connections L) (i : ℕ) where
   -- a connection is begun at a free place
   pub keeps_begun : (c : Connection L) (over : List (Closed L)) (trace : List Tagged) → m'.next ≡ m.next + 1 →
       IsFree m i → SetsPlace m.places.items i (Some c) m'.places.items → c.number ≡ m.next → Lives G c [] →
-      Keeps G m over trace → Keeps G m' over trace
+      KeepsConnections G m over trace → KeepsConnections G m' over trace
   keeps_begun c over trace next free s number starts k = record {
     lives = λ j e h. lives j e (existed m m' i (Some c) s j e h);
     apart = λ j l e f hj hl num.
@@ -326,30 +328,30 @@ pub adds_on : {L : Type 0} (G : LinkGhosts L) (m m' : Connections L) (i : ℕ) (
     SetsPlace m.places.items i (Some d) m'.places.items → d.number ≡ c.number → Steps G c xs d →
     Adds G m (tagged n xs) [] m'
 adds_on G m m' i c d n xs is next at s same steps over trace k =
-    subst (λ (l : ℕ). Keeps G m' (over ++ []) (trace ++ tagged l xs)) is
-    (subst (λ (o : List (Closed _)). Keeps G m' o (trace ++ tagged c.number xs)) (sym (append-nil over))
+    subst (λ (l : ℕ). KeepsConnections G m' (over ++ []) (trace ++ tagged l xs)) is
+    (subst (λ (o : List (Closed _)). KeepsConnections G m' o (trace ++ tagged c.number xs)) (sym (append-nil over))
     (keeps_on G m m' i c d xs over trace next at s same steps k))
 
 pub adds_closed : {L : Type 0} (G : LinkGhosts L) (m m' : Connections L) (i : ℕ) (c : Connection L) (y : Closed L) (n : ℕ)
     (xs : List Answered) → c.number ≡ n → m'.next ≡ m.next → HoldsConnectionAt m i c →
     SetsPlace m.places.items i None m'.places.items → y.number ≡ c.number →
-    ((before : List Answered) → Lives G c before → IsOver G y.end y.link (before ++ xs)) →
+    ((before : List Answered) → Lives G c before → IsConnectionOver G y.end y.link (before ++ xs)) →
     Adds G m (tagged n xs) (y ∷ []) m'
 adds_closed G m m' i c y n xs is next at s same ends over trace k =
-    subst (λ (l : ℕ). Keeps G m' (over ++ y ∷ []) (trace ++ tagged l xs)) is
+    subst (λ (l : ℕ). KeepsConnections G m' (over ++ y ∷ []) (trace ++ tagged l xs)) is
     (keeps_closed G m m' i c y xs over trace next at s same ends k)
 
 -- nothing was answered, and none is over
 pub adds_none : {L : Type 0} (G : LinkGhosts L) (m m' : Connections L) →
-    ((over : List (Closed L)) (trace : List Tagged) → Keeps G m over trace → Keeps G m' over trace) →
+    ((over : List (Closed L)) (trace : List Tagged) → KeepsConnections G m over trace → KeepsConnections G m' over trace) →
     Adds G m [] [] m'
 adds_none G m m' f over trace k =
-    subst (λ (o : List (Closed _)). Keeps G m' o (trace ++ [])) (sym (append-nil over))
-    (subst (λ (t : List Tagged). Keeps G m' over t) (sym (append-nil trace)) (f over trace k))
+    subst (λ (o : List (Closed _)). KeepsConnections G m' o (trace ++ [])) (sym (append-nil over))
+    (subst (λ (t : List Tagged). KeepsConnections G m' over t) (sym (append-nil trace)) (f over trace k))
 
 -- no connection was begun
 pub keeps_new : {L : Type 0} (G : LinkGhosts L) (m : Connections L) → m.next ≡ 0 →
-    ((i : ℕ) (c : Connection L) → HoldsConnectionAt m i c → ⊥) → Keeps G m [] []
+    ((i : ℕ) (c : Connection L) → HoldsConnectionAt m i c → ⊥) → KeepsConnections G m [] []
 keeps_new G m next none = record {
   lives = λ i c at. absurd (none i c at);
   apart = λ i j c d at there e. absurd (none i c at);

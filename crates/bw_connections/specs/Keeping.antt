@@ -8,7 +8,7 @@ use Rattle.bw_connections.specs.declared.connection.Connection.{Connection}
 use Rattle.bw_ports.specs.declared.link.Link.{Ghosts as LinkGhosts}
 use Rattle.bw_connections.specs.declared.connections.Closed.{Closed}
 use Rattle.bw_connections.specs.declared.connections.Connections.{Connections}
-use Rattle.bw_connections.specs.Lives.{Lives, IsOver}
+use Rattle.bw_connections.specs.Lives.{Lives, IsConnectionOver}
 pub use Rattle.bw_ports.specs.Reactors.{those}
 
 -- a frame that was answered, after the number of the connection that it came over
@@ -58,12 +58,12 @@ module _ {L : Type 0} (G : LinkGhosts L) where
   -- a connection is over, and no longer there: it ended so, with its own part of these frames
   pub record HasLeft (m : Connections L) (trace : List Tagged) (x : Closed L) : Type 0 where
     pub before : x.number < m.next
-    pub over : IsOver G x.end x.link (own x.number trace)
+    pub over : IsConnectionOver G x.end x.link (own x.number trace)
     pub away : (i : ℕ) (c : Connection L) → HoldsConnectionAt m i c → c.number ≢ x.number
 
   -- So far these frames were answered, over connections that are at places and over these, which
   -- are over.
-  pub record Keeps (m : Connections L) (over : List (Closed L)) (trace : List Tagged) : Type 0 where
+  pub record KeepsConnections (m : Connections L) (over : List (Closed L)) (trace : List Tagged) : Type 0 where
     -- one at a place has answered its own part of them
     pub lives : (i : ℕ) (c : Connection L) → HoldsConnectionAt m i c →
         (c.number < m.next) × Lives G c (own c.number trace)
@@ -79,5 +79,5 @@ module _ {L : Type 0} (G : LinkGhosts L) where
 
   -- frames more are answered, and connections more are over
   abbrev pub Adds : Connections L → List Tagged → List (Closed L) → Connections L → Type 0
-  Adds m more closed m' = (over : List (Closed L)) (trace : List Tagged) → Keeps m over trace →
-      Keeps m' (over ++ closed) (trace ++ more)
+  Adds m more closed m' = (over : List (Closed L)) (trace : List Tagged) → KeepsConnections m over trace →
+      KeepsConnections m' (over ++ closed) (trace ++ more)

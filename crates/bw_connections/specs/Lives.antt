@@ -241,7 +241,7 @@ module _ {L : Type 0} (G : LinkGhosts L) where
     pub finished : IsFinished G c
 
   -- a connection over this link ended so, and these are all of its frames that were answered
-  pub record IsOver (end : ConnectionEnd) (link : L) (answered : List Answered) : Type 0 where
+  pub record IsConnectionOver (end : ConnectionEnd) (link : L) (answered : List Answered) : Type 0 where
     pub exchange : Exchange
     pub fed : List ℕ
     pub gone : List ℕ
@@ -260,8 +260,8 @@ module _ {L : Type 0} (G : LinkGhosts L) where
 
   -- a connection that is drained discarded some of what came, where there might be bytes, or the
   -- link reported that there are none now
-  abbrev pub LetsGo : Connection L → Connection L → Type 0
-  LetsGo c c' = c.readable ≡ true → ((piece : List ℕ) × (1 ≤ length piece)
+  abbrev pub DropsSent : Connection L → Connection L → Type 0
+  DropsSent c c' = c.readable ≡ true → ((piece : List ℕ) × (1 ≤ length piece)
       × ((xs : List ℕ) → G.given c.link xs → G.given c'.link (xs ++ piece)))
       ⊎ IsDry G c'
 
@@ -270,11 +270,11 @@ module _ {L : Type 0} (G : LinkGhosts L) where
   Steps c answered c' = (before : List Answered) → Lives c before → Lives c' (before ++ answered)
 
   -- frames more were answered, and it continues, or is over
-  abbrev pub Goes : Result (Unit {0}) ConnectionEnd → Connection L → List Answered →
+  abbrev pub Proceeds : Result (Unit {0}) ConnectionEnd → Connection L → List Answered →
       Connection L → Type 0
-  Goes (Ok x) c answered c' = Steps c answered c'
-  Goes (Err end) c answered c' =
-      (before : List Answered) → Lives c before → IsOver end c'.link (before ++ answered)
+  Proceeds (Ok x) c answered c' = Steps c answered c'
+  Proceeds (Err end) c answered c' =
+      (before : List Answered) → Lives c before → IsConnectionOver end c'.link (before ++ answered)
 
   -- The server answered this many frames of a connection at this time, and fewer than a quantum
   -- only if the exchange must wait.
@@ -301,14 +301,14 @@ module _ {L : Type 0} (G : LinkGhosts L) where
     pub answered : List Answered
     pub by_server : AnswersAll answers s answered s'
     pub most : length answered ≤ quantum
-    pub goes : Goes result c answered c'
+    pub goes : Proceeds result c answered c'
     pub peer : KeepsPeer G c.link c'.link
     pub number : c'.number ≡ c.number
     pub since : OnOk result (c'.since ≡ quiet_since now c.since c.phase c'.phase answered)
     pub unended : OnOk result (IsOpen c')
     pub moved : c.phase ≡ phases.Serving → OnOk result (Moved G c answered c')
     pub lets_go : (fault : WireFault) → c.phase ≡ phases.Draining fault →
-        OnOk result (LetsGo c c')
+        OnOk result (DropsSent c c')
     pub learns : OnOk result (Learns G c c')
     -- if it is drained after it the peer was informed so, now or before
     pub finished : IsFinished G c → OnOk result (IsFinished G c')

@@ -20,7 +20,8 @@ use Rattle.bw_ports.specs.declared.link.Link.{Ghosts as LinkGhosts}
 use Rattle.bw_connections.specs.declared.connections.Closed.{Closed}
 use Rattle.bw_connections.specs.declared.connections.Connections.{Connections}
 use Rattle.bw_connections.specs.Lives.{EndsWithFault, ReportsFinish}
-use Rattle.bw_connections.specs.Keeping.{Tagged, AreApart, IsAmong, Keeps, HoldsConnection, HoldsConnectionAt, own}
+use Rattle.bw_connections.specs.Keeping.{Tagged, AreApart, IsAmong, KeepsConnections}
+use Rattle.bw_connections.specs.Keeping.{HoldsConnection, HoldsConnectionAt, own}
 
 -- all whole frames that came are answered and their replies sent, and the stream has not ended
 pub record IsUpTo (stream_end : Option End) (answered : List Answered) (input unsent : List ℕ)
@@ -44,30 +45,30 @@ module _ {L : Type 0} (G : LinkGhosts L) where
     pub spelled : IsTrue (list_all is_reply (replies_of answered ++ last_of stream_end))
 
   -- the stream has ended so, which no more bytes can change, or there are no more; all is sent
-  abbrev pub ReachesEnd : L → Option End → List ℕ → End → Type 0
-  ReachesEnd link stream_end unsent end =
+  abbrev pub ConnectionReachesEnd : L → Option End → List ℕ → End → Type 0
+  ConnectionReachesEnd link stream_end unsent end =
       (stream_end ≡ Some end) × (unsent ≡ []) × (IsFinal end ⊎ G.ended link)
 
   -- what an end of a connection reports
-  abbrev pub ReportsEnd : ConnectionEnd → L → Option End → List Answered → List ℕ → List ℕ →
+  abbrev pub ConnectionReportsEnd : ConnectionEnd → L → Option End → List Answered → List ℕ → List ℕ →
       Type 0
-  ReportsEnd (Over ends.Bye) link stream_end answered input unsent =
-      ReachesEnd link stream_end unsent SaidBye
-  ReportsEnd (Over ends.EndOfInput) link stream_end answered input unsent =
-      ReachesEnd link stream_end unsent EndOfInput
-  ReportsEnd (Over (ends.BadFrame fault)) link stream_end answered input unsent =
-      ReachesEnd link stream_end unsent (BadFrame (reason_meaning fault.reason) fault.offset)
-  ReportsEnd (Over ends.ReadFault) link stream_end answered input unsent =
+  ConnectionReportsEnd (Over ends.Bye) link stream_end answered input unsent =
+      ConnectionReachesEnd link stream_end unsent SaidBye
+  ConnectionReportsEnd (Over ends.EndOfInput) link stream_end answered input unsent =
+      ConnectionReachesEnd link stream_end unsent EndOfInput
+  ConnectionReportsEnd (Over (ends.BadFrame fault)) link stream_end answered input unsent =
+      ConnectionReachesEnd link stream_end unsent (BadFrame (reason_meaning fault.reason) fault.offset)
+  ConnectionReportsEnd (Over ends.ReadFault) link stream_end answered input unsent =
       IsUpTo stream_end answered input unsent
-  ReportsEnd (Over ends.WriteFault) link stream_end answered input unsent = 1 ≤ length unsent
-  ReportsEnd (Over ends.TurnLimit) link stream_end answered input unsent =
+  ConnectionReportsEnd (Over ends.WriteFault) link stream_end answered input unsent = 1 ≤ length unsent
+  ConnectionReportsEnd (Over ends.TurnLimit) link stream_end answered input unsent =
       (stream_end ≡ None) × (unsent ≡ []) × (longest_stream < length input)
-  ReportsEnd (Over ends.Memory) link stream_end answered input unsent =
+  ConnectionReportsEnd (Over ends.Memory) link stream_end answered input unsent =
       (stream_end ≡ None) × (unsent ≡ []) × LacksMemory answered input
-  ReportsEnd Idle link stream_end answered input unsent = Unit {0}
+  ConnectionReportsEnd Idle link stream_end answered input unsent = Unit {0}
 
   -- a connection over this link, so far
-  pub record ServesLink (link : L) (answered : List Answered) : Type 0 where
+  pub record ServesConnection (link : L) (answered : List Answered) : Type 0 where
     pub stream_end : Option End
     pub input : List ℕ
     pub output : List ℕ
@@ -76,17 +77,17 @@ module _ {L : Type 0} (G : LinkGhosts L) where
 
   -- a connection over this link, which ended so
   pub record EndsLink (end : ConnectionEnd) (link : L) (answered : List Answered) : Type 0 where
-    pub serves : ServesLink link answered
-    pub reports : ReportsEnd end link serves.stream_end answered serves.input serves.unsent
+    pub serves : ServesConnection link answered
+    pub reports : ConnectionReportsEnd end link serves.stream_end answered serves.input serves.unsent
     pub fault : EndsWithFault end (G.broken link)
     -- at a bad frame that was more than cut off the peer was informed that no more will be sent
     pub finished : ReportsFinish end (G.finished link)
 
   -- Whatever came between them, the frames of each connection are those of its own link, and what
   -- that took is exactly their replies.
-  pub record ServesEach (m : Connections L) (over : List (Closed L)) (trace : List Tagged) : Type 0 where
+  pub record ServesEachConnection (m : Connections L) (over : List (Closed L)) (trace : List Tagged) : Type 0 where
     pub each : (n : ℕ) → n < m.next → HoldsConnection m n ⊎ IsAmong n over
-    pub stands : (i : ℕ) (c : Connection L) → HoldsConnectionAt m i c → ServesLink c.link (own c.number trace)
+    pub stands : (i : ℕ) (c : Connection L) → HoldsConnectionAt m i c → ServesConnection c.link (own c.number trace)
     pub ended : AllByRecursion (λ x. EndsLink x.end x.link (own x.number trace)) over
     -- each that is over was begun, is reported once, and is no longer there
     pub begun : AllByRecursion (λ x. x.number < m.next) over
@@ -96,5 +97,5 @@ module _ {L : Type 0} (G : LinkGhosts L) where
     pub none : (n : ℕ) → m.next ≤ n → own n trace ≡ []
 
   abbrev pub EachIsServed : Type 0
-  EachIsServed = (m : Connections L) (over : List (Closed L)) (trace : List Tagged) → Keeps G m over trace →
-      ServesEach m over trace
+  EachIsServed = (m : Connections L) (over : List (Closed L)) (trace : List Tagged) → KeepsConnections G m over trace →
+      ServesEachConnection m over trace

@@ -51,9 +51,11 @@ pub(crate) struct Connection<L> {
 }
 
 impl<L: Link> Connection<L> {
-    ghost use Rattle.bw_connections.specs.Lives.{BeginsConnection, Goes, KeepsConnection, AnswersHeld, Settles, Works};
-    ghost use Rattle.bw_connections.specs.Lives.{EndsDrained, IsUpToDate, KeepsPeer, ReadsLink, SendsWaiting, can_go_on};
-    ghost use Rattle.bw_connections.specs.Lives.{IsFinished, Learns, LetsGo, StillReported, expired_at};
+    ghost use Rattle.bw_connections.specs.Lives.{BeginsConnection, Proceeds, KeepsConnection};
+    ghost use Rattle.bw_connections.specs.Lives.{AnswersHeld, Settles, Works};
+    ghost use Rattle.bw_connections.specs.Lives.{EndsDrained, IsUpToDate, KeepsPeer, ReadsLink};
+    ghost use Rattle.bw_connections.specs.Lives.{SendsWaiting, can_go_on};
+    ghost use Rattle.bw_connections.specs.Lives.{IsFinished, Learns, DropsSent, StillReported, expired_at};
 
     /// Creates a connection over this link, which has given and taken nothing yet.
     ///
@@ -149,7 +151,7 @@ impl<L: Link> Connection<L> {
     /// The link is broken.
     fn send_waiting(&mut self) -> Result<(), ConnectionEnd>
         requires { self.old.phase ≡ Phase.Serving }
-        ensures goes { Goes L.Link result self.old [] self.new }
+        ensures goes { Proceeds L.Link result self.old [] self.new }
         ensures peer { KeepsPeer L.Link self.old.link self.new.link }
         ensures stays { KeepsConnection self.old self.new }
         ensures served { IfErr result EndsServed }
@@ -179,7 +181,7 @@ impl<L: Link> Connection<L> {
     fn receive_piece(&mut self, buffer: &mut [u8]) -> Result<(), ConnectionEnd>
         requires serving { self.old.phase ≡ Phase.Serving }
         requires buffer { length buffer.old ≤ longest_piece }
-        ensures goes { Goes L.Link result self.old [] self.new }
+        ensures goes { Proceeds L.Link result self.old [] self.new }
         ensures peer { KeepsPeer L.Link self.old.link self.new.link }
         ensures stays { KeepsConnection self.old self.new }
         ensures served { IfErr result EndsServed }
@@ -238,11 +240,11 @@ impl<L: Link> Connection<L> {
     /// Nothing more comes.
     fn drain(&mut self, fault: WireFault, buffer: &mut [u8]) -> Result<(), ConnectionEnd>
         requires { self.old.phase ≡ Phase.Draining fault }
-        ensures goes { Goes L.Link result self.old [] self.new }
+        ensures goes { Proceeds L.Link result self.old [] self.new }
         ensures peer { KeepsPeer L.Link self.old.link self.new.link }
         ensures stays { KeepsConnection self.old self.new }
         ensures heard { IfErr result (EndsDrained L.Link fault self.new.link) }
-        ensures lets_go { OnOk result (LetsGo L.Link self.old self.new) }
+        ensures lets_go { OnOk result (DropsSent L.Link self.old self.new) }
         ensures learns { OnOk result (Learns L.Link self.old self.new) }
         ensures finished { L.finished self.old.link → L.finished self.new.link }
     {
@@ -267,7 +269,7 @@ impl<L: Link> Connection<L> {
     /// How the connection ended.
     fn settle(&mut self, now: u64) -> Result<(), ConnectionEnd>
         requires { self.old.phase ≡ Phase.Serving }
-        ensures goes { Goes L.Link result self.old [] self.new }
+        ensures goes { Proceeds L.Link result self.old [] self.new }
         ensures peer { KeepsPeer L.Link self.old.link self.new.link }
         ensures settles { Settles now result self.old self.new }
         ensures reported { StillReported L.Link self.old.link self.new.link }

@@ -64,10 +64,11 @@ pub struct Connections<L> {
 }
 
 impl<L: Link + Drop> Connections<L> {
-    ghost use Rattle.bw_connections.specs.Keeping.{Keeps, Adds, IsFree, those};
+    ghost use Rattle.bw_connections.specs.Keeping.{KeepsConnections, Adds, IsFree, those};
     ghost use Rattle.bw_connections.specs.Working.{BeginsAt, EndsIts, IsEmpty, LeavesOthers, RefusesLink, StaysAt};
     ghost use Rattle.bw_connections.specs.Working.{ExistedAt, ExistedUnder, WakesAt, WorksAt};
-    ghost use Rattle.bw_connections.specs.Places.{begun_of, connection_count, can_go_on_at, end_of_connection, expired_there};
+    ghost use Rattle.bw_connections.specs.Places.{begun_of, connection_count, can_go_on_at};
+    ghost use Rattle.bw_connections.specs.Places.{end_of_connection, expired_there};
     ghost use Rattle.bw_connections.specs.Places.{first_free_place, refused_of};
 
     /// Creates `count` free places.
@@ -78,7 +79,7 @@ impl<L: Link + Drop> Connections<L> {
     /// # Not specified
     /// When memory is refused.
     pub fn new(alloc: Global, count: usize) -> Result<Connections<L>, AllocError>
-        ensures keeps { IfOk result (λ m. Keeps L.Link m [] []) }
+        ensures keeps { IfOk result (λ m. KeepsConnections L.Link m [] []) }
         ensures count { IfOk result (λ m. connection_count m ≡ count) }
         ensures begun { IfOk result (λ m. begun_of m ≡ 0) }
         ensures refused { IfOk result (λ m. refused_of m ≡ 0) }

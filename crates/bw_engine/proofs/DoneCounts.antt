@@ -18,7 +18,7 @@ use Rattle.bw_session.specs.Sessions.{CallsFew}
 use Rattle.bw_session.specs.Tables.{session_in}
 use Rattle.bw_session.specs.declared.server.Server.{Server}
 use Rattle.bw_engine.specs.ServerRuns.{all_done}
-use Rattle.bw_session.specs.ServerTurns.{AsksFor}
+use Rattle.bw_session.specs.ServerTurns.{AsksStoreFor}
 use Rattle.bw_session.proofs.ServerAnswers.{done_is}
 
 done-cons : (e : List ℕ × Log) (book : Book) → all_done (e ∷ book) ≡ e.1.done + all_done book
@@ -86,7 +86,7 @@ pub record CalledFor (called called' done done' : ℕ) (failed : Bool) : Type 0 
 module _ {X Y : Type 0} (S : StoreGhosts X) (J : JournalGhosts Y) where
   pub called_for : (first : List ℕ → Option (List ℕ)) (existed : List ℕ → Bool) (old new : Server X Y S J)
       (book later : Book) (frame : Frame) (replies : List Reply) (failed : Bool) →
-      AsksFor S J frame failed old new → HoldsBook S J first old book → HoldsBook S J first new later →
+      AsksStoreFor S J frame failed old new → HoldsBook S J first old book → HoldsBook S J first new later →
       IsTurn existed (failures_of S J old) (failures_of S J new) book frame replies later →
       CalledFor (S.calls old.stores.store) (S.calls new.stores.store) (all_done book) (all_done later) failed
   called_for first existed old new book later (Says m) replies failed asks held held' t =

@@ -3,7 +3,9 @@ use Rattle.std.proofs.Common.{refl}
 use Rattle.bw_model.proofs.Computing.{computing}
 use Rattle.bw_model.specs.ExamplesOfExchanges.{OpenAloneExample, InOrderExample, EmptyTakeExample, OddDataExample, OddHistoryExample}
 use Rattle.bw_model.specs.ExamplesOfExchanges.{FileLengthsExample, AnyOrderExample, RepeatedExample, ConflictExample, ConflictHeldExample}
-use Rattle.bw_model.specs.ExamplesOfExchanges.{ConflictOfClosesExample, WindowExample, FullWindowExample, TwoExchangesExample, BadBlockExample}
+use Rattle.bw_model.specs.ExamplesOfExchanges.{ConflictOfClosesExample, WindowExample}
+use Rattle.bw_model.specs.ExamplesOfExchanges.{FullWindowExample, TwoExchangesExample}
+use Rattle.bw_model.specs.ExamplesOfExchanges.{BadBlockExample}
 use Rattle.bw_model.specs.ExamplesOfExchanges.{WrongTotalExample, CueExample, DescriptionExample, LoudnessExample, NoLoudnessExample}
 use Rattle.bw_model.specs.ExamplesOfExchanges.{AskEmptyExample, AskExample, AskAheadExample, ByeExample, CutExchangeExample}
 

@@ -3,7 +3,9 @@ use Rattle.std.proofs.Common.{refl}
 use Rattle.bw_model.proofs.Computing.{computing}
 use Rattle.bw_model.specs.ExamplesOfFrames.{ZeroLengthExample, TooLongExample, CutLengthExample, ByeAndMoreExample, AskPayloadExample}
 use Rattle.bw_model.specs.ExamplesOfFrames.{LargeNumberExample, TooLargeNumberExample, MisspeltExample, KindsExample, RequestKindsExample}
-use Rattle.bw_model.specs.ExamplesOfFrames.{LongestBlockExample, LongestFrameExample, LongestBlockReadExample, BlockTooLongExample, NextExample}
+use Rattle.bw_model.specs.ExamplesOfFrames.{LongestBlockExample, LongestFrameExample}
+use Rattle.bw_model.specs.ExamplesOfFrames.{LongestBlockReadExample, BlockTooLongExample}
+use Rattle.bw_model.specs.ExamplesOfFrames.{NextExample}
 use Rattle.bw_model.specs.ExamplesOfFrames.{CodesExample}
 
 pub zero_length : ZeroLengthExample

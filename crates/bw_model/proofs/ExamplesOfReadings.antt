@@ -1,8 +1,12 @@
 -- The worked rows compute: forms that are read, and forms that are refused.
 use Rattle.std.proofs.Common.{refl}
 use Rattle.bw_model.proofs.Computing.{computing}
-use Rattle.bw_model.specs.ExamplesOfReadings.{ReadsSmallExample, ReadsWithoutPadExample, ReadsRf64Example, ReadsTabledExample, CutOuterExample}
-use Rattle.bw_model.specs.ExamplesOfReadings.{CutChunksExample, NoDs64Example, WrongFormSizeExample, WrongDataSizeExample, WrongTableExample}
+use Rattle.bw_model.specs.ExamplesOfReadings.{ReadsSmallExample, ReadsWithoutPadExample}
+use Rattle.bw_model.specs.ExamplesOfReadings.{ReadsRf64Example, ReadsTabledExample}
+use Rattle.bw_model.specs.ExamplesOfReadings.{CutOuterExample}
+use Rattle.bw_model.specs.ExamplesOfReadings.{CutChunksExample, NoDs64Example}
+use Rattle.bw_model.specs.ExamplesOfReadings.{WrongFormSizeExample, WrongDataSizeExample}
+use Rattle.bw_model.specs.ExamplesOfReadings.{WrongTableExample}
 use Rattle.bw_model.specs.ExamplesOfReadings.{UntoldSizeExample, UnsaidRiffExample, WrongCueExample, ShortChunksExample}
 
 pub reads_small : ReadsSmallExample

@@ -162,7 +162,8 @@ CueExample = AnswersWith
     ++ hex "1000000003026131030000000700000001000000"
     ++ hex "1000000003026131040000000800000003000000"
     ++ hex "1000000005026131050000000200000000000000")
-    (judged_example 0 0 ++ judged_example 1 0 ++ judged_example 2 0 ++ judged_example 3 8 ++ judged_example 4 7 ++ judged_example 5 0)
+    (judged_example 0 0 ++ judged_example 1 0 ++ judged_example 2 0 ++ judged_example 3 8 ++ judged_example 4 7 ++
+    judged_example 5 0)
     EndOfInput (Some cue_file)
 
 -- a Description is at its place, and a date of another form is refused

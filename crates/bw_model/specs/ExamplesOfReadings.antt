@@ -13,8 +13,8 @@ abbrev pub ReadsAs : List ℕ → Form → List Entry → Type 0
 ReadsAs b form entries = read b ≡ Ok (form, entries)
 
 -- the faults of these bytes
-abbrev pub Faults : List (List ℕ) → List (FaultKind × ℕ) → Type 0
-Faults inputs faults = map read inputs ≡ map (λ f. Err (record { kind = f.0; offset = f.1 })) faults
+abbrev pub FaultsOfExample : List (List ℕ) → List (FaultKind × ℕ) → Type 0
+FaultsOfExample inputs faults = map read inputs ≡ map (λ f. Err (record { kind = f.0; offset = f.1 })) faults
 
 -- Forms that are read.
 
@@ -93,13 +93,13 @@ ReadsTabledExample = ReadsAs tabled tabled_form tabled_entries
 
 -- fewer than 12 bytes are no form
 abbrev pub CutOuterExample : Type 0
-CutOuterExample = Faults
+CutOuterExample = FaultsOfExample
     (map (λ n. take n small_file) (0 ∷ 1 ∷ 11 ∷ []))
     ((NotWave, 0) ∷ (NotWave, 0) ∷ (NotWave, 0) ∷ [])
 
 -- the file of two frames cut within each of its chunks is cut at that chunk
 abbrev pub CutChunksExample : Type 0
-CutChunksExample = Faults
+CutChunksExample = FaultsOfExample
     (map (λ n. take n small_file) (12 ∷ 47 ∷ 48 ∷ 71 ∷ 72 ∷ 681 ∷ 682 ∷ 693 ∷ []))
     ((Truncated, 12) ∷ (Truncated, 12) ∷ (Truncated, 48) ∷ (Truncated, 48) ∷ (Truncated, 72)
     ∷ (Truncated, 72) ∷ (Truncated, 682) ∷ (Truncated, 682) ∷ [])
@@ -108,7 +108,7 @@ CutChunksExample = Faults
 
 -- a BW64 form whose first chunk is not `ds64`
 abbrev pub NoDs64Example : Type 0
-NoDs64Example = Faults
+NoDs64Example = FaultsOfExample
     ((codes "BW64" ++ hex "ffffffff" ++ codes "WAVE" ++ codes "fmt " ++ hex "10000000" ++ mono_fmt)
     ∷ [])
     ((NoDs64, 12) ∷ [])
@@ -120,7 +120,7 @@ with_form size = rf64_with size (hex "0400000000000000") (hex "00000000") (hex "
 -- a form of more than 2^62 bytes, less than `WAVE`, less than its `ds64`, and no more than its
 -- `ds64`
 abbrev pub WrongFormSizeExample : Type 0
-WrongFormSizeExample = Faults
+WrongFormSizeExample = FaultsOfExample
     (with_form (hex "0000000000000080") ∷ with_form (hex "0300000000000000")
     ∷ with_form (hex "2700000000000000") ∷ with_form (hex "2800000000000000") ∷ [])
     ((TooLarge, 4) ∷ (NotWave, 4) ∷ (Truncated, 12) ∷ (NoFmt, 48) ∷ [])
@@ -131,7 +131,7 @@ with_data size = rf64_with (hex "5a00000000000000") size (hex "00000000") (hex "
 
 -- a data size of more than 2^62 bytes, and one that goes past the form
 abbrev pub WrongDataSizeExample : Type 0
-WrongDataSizeExample = Faults
+WrongDataSizeExample = FaultsOfExample
     (with_data (hex "ffffffffffffffff") ∷ with_data (hex "0000000000000040") ∷ [])
     ((TooLarge, 86) ∷ (Truncated, 86) ∷ [])
 
@@ -142,25 +142,25 @@ with_table entries = rf64_with (hex "5a00000000000000") (hex "0400000000000000")
 
 -- a table that is too long for its `ds64`, and one of 4,097 rows
 abbrev pub WrongTableExample : Type 0
-WrongTableExample = Faults (with_table (hex "01000000") ∷ with_table (hex "01100000") ∷ [])
+WrongTableExample = FaultsOfExample (with_table (hex "01000000") ∷ with_table (hex "01100000") ∷ [])
     ((BadDs64, 12) ∷ (TooMany, 12) ∷ [])
 
 -- a size that is given nowhere
 abbrev pub UntoldSizeExample : Type 0
-UntoldSizeExample = Faults
+UntoldSizeExample = FaultsOfExample
     (rf64_with (hex "5a00000000000000") (hex "0400000000000000") (hex "00000000") (hex "ffffffff")
     ∷ [])
     ((NoSize, 74) ∷ [])
 
 -- a RIFF form must give its size
 abbrev pub UnsaidRiffExample : Type 0
-UnsaidRiffExample = Faults ((codes "RIFF" ++ hex "ffffffff" ++ drop 8 small_file) ∷ [])
+UnsaidRiffExample = FaultsOfExample ((codes "RIFF" ++ hex "ffffffff" ++ drop 8 small_file) ∷ [])
     ((NoSize, 4) ∷ [])
 
 -- the file with a cue point: a count that is too large for its chunk, one that is too great, and
 -- `fmt ` named `data`
 abbrev pub WrongCueExample : Type 0
-WrongCueExample = Faults (
+WrongCueExample = FaultsOfExample (
     (take 702 cue_file ++ hex "02000000" ++ drop 706 cue_file)
     ∷ (take 702 cue_file ++ hex "01000100" ++ drop 706 cue_file)
     ∷ (take 48 cue_file ++ codes "data" ++ drop 52 cue_file)
@@ -173,7 +173,7 @@ one_chunk id size n = codes "RIFF" ++ hex "00100000" ++ codes "WAVE" ++ id ++ si
 
 -- chunks that are one byte too short, and a form without `data`
 abbrev pub ShortChunksExample : Type 0
-ShortChunksExample = Faults (
+ShortChunksExample = FaultsOfExample (
     one_chunk (codes "fmt ") (hex "0f000000") 15
     ∷ one_chunk (codes "bext") (hex "59020000") 601
     ∷ one_chunk (codes "cue ") (hex "03000000") 3

@@ -30,15 +30,15 @@ abbrev pub says_close : Frame
 says_close = says 2 (Close 2)
 
 -- the verdict Stored on a number
-abbrev pub stored : ℕ → Reply
-stored n = Judged a1 n Stored
+abbrev pub stored_reply : ℕ → Reply
+stored_reply n = Judged a1 n Stored
 
 -- a block whose store call fails is delayed and stored when it comes again; other bytes under its
 -- number are a conflict then
 abbrev pub FailedBlockExample : Type 0
 FailedBlockExample = Turns
     ((says_open, good) ∷ (says_block, fails_after 0) ∷ (says_block, good) ∷ (says_other, good) ∷ [])
-    ((stored 0 ∷ []) ∷ (Noticed a1 1 DelayedStore 1 ∷ []) ∷ (stored 1 ∷ [])
+    ((stored_reply 0 ∷ []) ∷ (Noticed a1 1 DelayedStore 1 ∷ []) ∷ (stored_reply 1 ∷ [])
     ∷ (Noticed a1 1 Conflict 2 ∷ []) ∷ [])
     (Some small_file)
 
@@ -46,8 +46,8 @@ FailedBlockExample = Turns
 abbrev pub OtherBehindFailureExample : Type 0
 OtherBehindFailureExample = Turns
     ((says_open, good) ∷ (says_block, fails_after 0) ∷ (says_other, good) ∷ [])
-    ((stored 0 ∷ []) ∷ (Noticed a1 1 DelayedStore 1 ∷ [])
-    ∷ (stored 1 ∷ Noticed a1 1 Conflict 2 ∷ [])
+    ((stored_reply 0 ∷ []) ∷ (Noticed a1 1 DelayedStore 1 ∷ [])
+    ∷ (stored_reply 1 ∷ Noticed a1 1 Conflict 2 ∷ [])
     ∷ [])
     (Some small_file)
 
@@ -57,16 +57,16 @@ FailedTwiceExample = Turns
     ((says_open, good) ∷ (says_block, fails_after 0) ∷ (says_block, fails_after 0)
     ∷ (says_block, good)
     ∷ (says_other, good) ∷ [])
-    ((stored 0 ∷ []) ∷ (Noticed a1 1 DelayedStore 1 ∷ []) ∷ (Noticed a1 1 DelayedStore 1 ∷ [])
-    ∷ (stored 1 ∷ []) ∷ (Noticed a1 1 Conflict 2 ∷ []) ∷ [])
+    ((stored_reply 0 ∷ []) ∷ (Noticed a1 1 DelayedStore 1 ∷ []) ∷ (Noticed a1 1 DelayedStore 1 ∷ [])
+    ∷ (stored_reply 1 ∷ []) ∷ (Noticed a1 1 Conflict 2 ∷ []) ∷ [])
     (Some small_file)
 
 -- a drain that stops after OPEN gives only its verdict, and the next turn continues
 abbrev pub StoppedDrainExample : Type 0
 StoppedDrainExample = Turns
     ((says_close, good) ∷ (says_block, good) ∷ (says_open, fails_after 1) ∷ (says_block, good) ∷ [])
-    ((Noticed a1 2 Held 0 ∷ []) ∷ (Noticed a1 1 Held 0 ∷ []) ∷ (stored 0 ∷ [])
-    ∷ (stored 1 ∷ stored 2 ∷ []) ∷ [])
+    ((Noticed a1 2 Held 0 ∷ []) ∷ (Noticed a1 1 Held 0 ∷ []) ∷ (stored_reply 0 ∷ [])
+    ∷ (stored_reply 1 ∷ stored_reply 2 ∷ []) ∷ [])
     (Some small_file)
 
 -- BLOCKs of this many numbers from n on, if nothing fails
@@ -82,7 +82,7 @@ held_each n (suc count) = (Noticed a1 n Held 0 ∷ []) ∷ held_each (suc n) cou
 -- Stored for each of this many numbers
 abbrev pub stored_each : ℕ → ℕ → List Reply
 stored_each n zero = []
-stored_each n (suc count) = stored n ∷ stored_each (suc n) count
+stored_each n (suc count) = stored_reply n ∷ stored_each (suc n) count
 
 -- fifteen numbers wait while OPEN's store call fails; a sixteenth then drains all: sixteen verdicts
 -- and its own TooFar
@@ -94,8 +94,8 @@ SeventeenRepliesExample =
     ∷ (stored_each 0 16 ++ Noticed a1 16 TooFar 16 ∷ []) ∷ []
 
 -- a whole take sent twice, while the store fails once, at one of its numbers
-abbrev pub whole : Faults → Faults → Faults → Faults → List (Frame × Faults)
-whole w x y z =
+abbrev pub whole_turns : Faults → Faults → Faults → Faults → List (Frame × Faults)
+whole_turns w x y z =
     (says_open, w) ∷ (says_block, x) ∷ (says 2 (SetField 1 (codes "Rain")), y)
     ∷ (says 3 (Mark 7 2), good) ∷ (says 4 (Close 2), z) ∷ []
 
@@ -108,7 +108,7 @@ delayed_in (r ∷ rs) = delayed_in rs
 -- the numbers that were answered DelayedStore, and the file
 abbrev pub sent_twice : Faults → Faults → Faults → Faults → List ℕ × Option (List ℕ)
 sent_twice w x y z =
-    let ts = whole w x y z ++ whole good good good good in
+    let ts = whole_turns w x y z ++ whole_turns good good good good in
     (flat_map delayed_in (answers_to ts), file_in (book_after nothing_stands [] ts))
 
 -- the file with a cue point, and `Rain` as its Description

@@ -103,16 +103,16 @@ counts w =
     ∷ settled w.sender ∷ stored w.sender ∷ []
 
 -- all is settled once the verdict of number 1 comes
-abbrev pub whole : List Event
-whole = rehearsal ++ Bring 4 ∷ []
+abbrev pub whole_world : List Event
+whole_world = rehearsal ++ Bring 4 ∷ []
 
 -- before the verdict of number 1 comes, one number is settled; then all are, and the file has two
 -- frames
 abbrev pub RehearsalExample : Type 0
 RehearsalExample =
     (counts (rehearsed rehearsal) ≡ 3 ∷ 3 ∷ 5 ∷ 3 ∷ 1 ∷ 1 ∷ [])
-    × (counts (rehearsed whole) ≡ 3 ∷ 3 ∷ 5 ∷ 3 ∷ 3 ∷ 3 ∷ [])
-    × (file_in (rehearsed whole).book ≡ Some small_file)
+    × (counts (rehearsed whole_world) ≡ 3 ∷ 3 ∷ 5 ∷ 3 ∷ 3 ∷ 3 ∷ [])
+    × (file_in (rehearsed whole_world).book ≡ Some small_file)
 
 -- the replies in the order in which they were written
 abbrev pub RehearsalRepliesExample : Type 0
@@ -123,7 +123,7 @@ RehearsalRepliesExample =
 
 -- the world after an ask whose reply came
 abbrev pub asked : World
-asked = rehearsed (whole ++ Ask ∷ Bring 5 ∷ [])
+asked = rehearsed (whole_world ++ Ask ∷ Bring 5 ∷ [])
 
 -- an ask adds a reply, and bringing it changes nothing
 abbrev pub RehearsalAskExample : Type 0

@@ -11,12 +11,12 @@ use Rattle.bw_ports.specs.declared.link.Link.{Ghosts as LinkGhosts}
 use Rattle.bw_connections.specs.declared.connections.BeginError.{BeginError}
 use Rattle.bw_connections.specs.declared.connections.Closed.{Closed}
 use Rattle.bw_connections.specs.declared.connections.Connections.{Connections}
-use Rattle.bw_connections.specs.Keeping.{HasLeft, IsAmong, Keeps, HoldsConnection, HoldsConnectionAt, Tagged}
+use Rattle.bw_connections.specs.Keeping.{HasLeft, IsAmong, KeepsConnections, HoldsConnection, HoldsConnectionAt, Tagged}
 use Rattle.bw_connections.specs.Lives.{KeepsPeer}
 use Rattle.bw_connections.specs.Places.{begun_of, refused_of}
 use Rattle.bw_connections.specs.Working.{BeginsAt, IsEmpty, RefusesLink, StaysAt, ExistedUnder}
 use Rattle.bw_connections.proofs.Standing.{not_some, some_is}
-use Rattle.bw_serve.specs.Admissions.{Admits, AdmitsEach, AreOf, EndedAs, Hosts, HostsAll, HostsMore, IsHosted}
+use Rattle.bw_serve.specs.Admissions.{Admits, AdmitsEach, AreOf, EndedAs, HostsLinks, HostsAll, HostsMore, IsHosted}
 use Rattle.bw_ports.specs.Reactors.{Admission}
 use Rattle.bw_serve.specs.Rounds.{WakesEach}
 use Rattle.bw_serve.specs.declared.event_loop.EventLoop.{EventLoop}
@@ -39,16 +39,16 @@ module _ {L : Type 0} (G : LinkGhosts L) where
   -- What becomes of each is still so where it is of any.
   pub hosts_map : (m m' : Connections L) (over over' : List (Closed L)) (xs : List (Admission L)) (n r n' r' : ℕ) →
       ((k : ℕ) (x : Admission L) → IsHosted G m over k x → IsHosted G m' over' k x) →
-      Hosts G m over n r xs n' r' → Hosts G m' over' n r xs n' r'
+      HostsLinks G m over n r xs n' r' → HostsLinks G m' over' n r xs n' r'
   hosts_map m m' over over' [] n r n' r' f h = h
   hosts_map m m' over over' (x ∷ xs) n r n' r' f (inl h) =
       inl (f n x h.0, hosts_map m m' over over' xs (suc n) r n' r' f h.1)
   hosts_map m m' over over' (x ∷ xs) n r n' r' f (inr h) = inr (hosts_map m m' over over' xs n (one_more r) n' r' f h)
 
   pub hosts_then : (m : Connections L) (over : List (Closed L)) (xs ys : List (Admission L)) (n r k q n' r' : ℕ) →
-      Hosts G m over n r xs k q → Hosts G m over k q ys n' r' → Hosts G m over n r (xs ++ ys) n' r'
+      HostsLinks G m over n r xs k q → HostsLinks G m over k q ys n' r' → HostsLinks G m over n r (xs ++ ys) n' r'
   hosts_then m over [] ys n r k q n' r' f g =
-      subst (λ (j : ℕ). Hosts G m over j r ys n' r') f.0 (subst (λ (j : ℕ). Hosts G m over k j ys n' r') f.1 g)
+      subst (λ (j : ℕ). HostsLinks G m over j r ys n' r') f.0 (subst (λ (j : ℕ). HostsLinks G m over k j ys n' r') f.1 g)
   hosts_then m over (x ∷ xs) ys n r k q n' r' (inl f) g =
       inl (f.0, hosts_then m over xs ys (suc n) r k q n' r' f.1 g)
   hosts_then m over (x ∷ xs) ys n r k q n' r' (inr f) g = inr (hosts_then m over xs ys n (one_more r) k q n' r' f g)
@@ -59,8 +59,8 @@ module _ {L : Type 0} (G : LinkGhosts L) where
       ((k : ℕ) (x : Admission L) → IsHosted G m over k x → IsHosted G m' over' k x) →
       HostsAll G m over xs → HostsAll G m' over' xs
   hosts_all m m' over over' xs begun refused f h =
-      subst (λ (n : ℕ). Hosts G m' over' 0 0 xs n (refused_of m')) (sym begun)
-      (subst (λ (r : ℕ). Hosts G m' over' 0 0 xs (begun_of m) r) (sym refused)
+      subst (λ (n : ℕ). HostsLinks G m' over' 0 0 xs n (refused_of m')) (sym begun)
+      (subst (λ (r : ℕ). HostsLinks G m' over' 0 0 xs (begun_of m) r) (sym refused)
       (hosts_map m m' over over' xs 0 0 (begun_of m) (refused_of m) f h))
 
   -- One more comes.
@@ -82,7 +82,8 @@ module _ {L : Type 0} (G : LinkGhosts L) where
               (sym s.free ∙ subst (λ j. HoldsConnectionAt a.connections j stands.0) e stands.1))
 
       last : BeginsAt x.0 x.1 now a.connections b.connections ⊎ RefusesLink a.connections b.connections →
-          Hosts G b.connections over (begun_of a.connections) (refused_of a.connections) (x ∷ []) (begun_of b.connections) (refused_of b.connections)
+          HostsLinks G b.connections over (begun_of a.connections) (refused_of a.connections) (x ∷ []) (begun_of
+          b.connections) (refused_of b.connections)
       last (inl n) =
           let next = n.next in
           inl (
@@ -154,8 +155,8 @@ module _ {L : Type 0} (G : LinkGhosts L) where
   -- A quantum at a place.
   pub hosts_served : (place : ℕ) (m m' : Connections L) (closed over : List (Closed L)) (trace more : List Tagged)
       (xs : List (Admission L)) → StaysAt place m m' → ExistedUnder G place m m' →
-      ((d : Connection L) → HoldsConnectionAt m place d → AreOf G d closed) → Keeps G m over trace →
-      Keeps G m' (over ++ closed) (trace ++ more) → HostsAll G m over xs → HostsAll G m' (over ++ closed) xs
+      ((d : Connection L) → HoldsConnectionAt m place d → AreOf G d closed) → KeepsConnections G m over trace →
+      KeepsConnections G m' (over ++ closed) (trace ++ more) → HostsAll G m over xs → HostsAll G m' (over ++ closed) xs
   hosts_served place m m' closed over trace more xs stays existed whose k k' h =
       hosts_all m m' over (over ++ closed) xs stays.1 stays.2 still h
     where
@@ -206,8 +207,8 @@ module _ {L : Type 0} (G : LinkGhosts L) where
 
   -- One step after another.
   pub hosts_more_then : (a b c : Connections L) (xs ys : List (Admission L)) (us vs : List (Closed L)) (more : List Tagged) →
-      ((over : List (Closed L)) (trace : List Tagged) → Keeps G a over trace →
-      Keeps G b (over ++ us) (trace ++ more)) → HostsMore G a xs us b → HostsMore G b ys vs c →
+      ((over : List (Closed L)) (trace : List Tagged) → KeepsConnections G a over trace →
+      KeepsConnections G b (over ++ us) (trace ++ more)) → HostsMore G a xs us b → HostsMore G b ys vs c →
       HostsMore G a (xs ++ ys) (us ++ vs) c
   hosts_more_then a b c xs ys us vs more adds f g over trace links k h =
       subst (λ (o : List (Closed L)). HostsAll G c o (links ++ (xs ++ ys))) (append_assoc over us vs)
@@ -223,7 +224,7 @@ module _ {L : Type 0} (G : LinkGhosts L) where
 
   -- one in which no peer came
   pub hosts_more_still : (m m' : Connections L) (closed : List (Closed L)) →
-      ((over : List (Closed L)) (trace : List Tagged) (links : List (Admission L)) → Keeps G m over trace →
+      ((over : List (Closed L)) (trace : List Tagged) (links : List (Admission L)) → KeepsConnections G m over trace →
       HostsAll G m over links → HostsAll G m' (over ++ closed) links) → HostsMore G m [] closed m'
   hosts_more_still m m' closed f over trace links k h =
       subst (λ (l : List (Admission L)). HostsAll G m' (over ++ closed) l) (sym (append-nil links))

@@ -73,7 +73,8 @@ module _ {X Y P R W O E : Type 0} (S : StoreGhosts X) (J : JournalGhosts Y) (qui
       HoldsBook S J (S.contents store) old [] →
       (run : ServesRun (ServerTurn S J) peers reader writer out reported log exchanges exit old new p p' o o' e e') →
       IsTrue (S.honest store) →
-      LeavesRun S limit store (answered_in_run (ServerTurn S J) peers reader writer out reported log exchanges exit old new p p' o o' e e' run)
+      LeavesRun S limit store (answered_in_run (ServerTurn S J) peers reader writer out reported log exchanges exit
+      old new p p' o o' e e' run)
       new.stores.store
   run_leaves limit store old new exchanges exit p p' o o' e e' begun limited empty run honest =
       leaves_run S J quiet limit store old new begun limited empty honest

@@ -12,7 +12,7 @@ use Rattle.bw_ports.specs.declared.link.Link.{Ghosts as LinkGhosts}
 use Rattle.bw_connections.specs.declared.connections.BeginError.{BeginError}
 use Rattle.bw_connections.specs.declared.connections.Closed.{Closed}
 use Rattle.bw_connections.specs.declared.connections.Connections.{Connections}
-use Rattle.bw_connections.specs.Keeping.{Adds, IsFree, Keeps, SetsPlace, HoldsConnectionAt, Tagged, own, tagged}
+use Rattle.bw_connections.specs.Keeping.{Adds, IsFree, KeepsConnections, SetsPlace, HoldsConnectionAt, Tagged, own, tagged}
 use Rattle.bw_connections.specs.Lives.{KeepsPeer}
 use Rattle.bw_connections.specs.Working.{BeginsAt, IsEmpty, LeavesOthers, RefusesLink, ExistedUnder}
 use Rattle.bw_connections.proofs.Standing.{not_some, own-append, own-more, some_is}
@@ -143,7 +143,8 @@ peer_slot_as G a b trace i c d same number peer x = record {
 
 -- where slots stay, and the connections there were there under their numbers
 pub counts_existed : {L : Type 0} (G : LinkGhosts L) (place : ℕ) (a b : EventLoop L) (trace : List Tagged) →
-    b.peer_slots ≡ a.peer_slots → ExistedUnder G place a.connections b.connections → LeavesOthers place a.connections b.connections → CountsOwn G a trace →
+    b.peer_slots ≡ a.peer_slots → ExistedUnder G place a.connections b.connections →
+    LeavesOthers place a.connections b.connections → CountsOwn G a trace →
     CountsOwn G b trace
 counts_existed {L} G place a b trace same existed others c i d at = go (eqb_tells i place)
   where
@@ -158,8 +159,9 @@ counts_existed {L} G place a b trace same existed others c i d at = go (eqb_tell
 pub counts_in_slots : {L : Type 0} (G : LinkGhosts L) (place now : ℕ) (link : L) (a b : EventLoop L) (x : PeerSlot)
     (r : Result (Unit {0}) BeginError) → SetsPlace a.peer_slots.items place x b.peer_slots.items → x.link_stats ≡ none_counted →
     G.calls_from link x.address → IsFree a.connections place → OnOk r (BeginsAt place link now a.connections b.connections) →
-    OnErr r (RefusesLink a.connections b.connections) → LeavesOthers place a.connections b.connections → (over : List (Closed L)) (trace : List Tagged) →
-    Keeps G a.connections over trace → CountsOwn G a trace → CountsOwn G b trace
+    OnErr r (RefusesLink a.connections b.connections) → LeavesOthers place a.connections b.connections →
+    (over : List (Closed L)) (trace : List Tagged) →
+    KeepsConnections G a.connections over trace → CountsOwn G a trace → CountsOwn G b trace
 counts_in_slots {L} G place now link a b x r sets none from free begins refused others over trace k c i d at =
     go (eqb_tells i place)
   where

@@ -11,7 +11,7 @@ use Rattle.bw_exchange.proofs.Going.{answers_append}
 use Rattle.bw_ports.specs.declared.link.Link.{Ghosts as LinkGhosts}
 use Rattle.bw_connections.specs.declared.connections.Closed.{Closed}
 use Rattle.bw_connections.specs.declared.connections.Connections.{Connections}
-use Rattle.bw_connections.specs.Keeping.{Adds, Keeps, Tagged, all_answered, tagged}
+use Rattle.bw_connections.specs.Keeping.{Adds, KeepsConnections, Tagged, all_answered, tagged}
 use Rattle.bw_connections.specs.Places.{begun_of, can_go_on_at}
 use Rattle.bw_connections.specs.Working.{StaysAt, ExistedAt, ExistedUnder}
 use Rattle.bw_exchange.specs.LinkCounts.{up_to_last}
@@ -49,14 +49,14 @@ one_can c place (suc n) below h =
 pub adds_then : {L : Type 0} (G : LinkGhosts L) (a b c : Connections L) (xs ys : List Tagged) (us vs : List (Closed L)) →
     Adds G a xs us b → Adds G b ys vs c → Adds G a (xs ++ ys) (us ++ vs) c
 adds_then G a b c xs ys us vs f g over trace k =
-    subst (λ (o : List (Closed _)). Keeps G c o (trace ++ (xs ++ ys))) (append_assoc over us vs)
-    (subst (λ (t : List Tagged). Keeps G c ((over ++ us) ++ vs) t) (append_assoc trace xs ys)
+    subst (λ (o : List (Closed _)). KeepsConnections G c o (trace ++ (xs ++ ys))) (append_assoc over us vs)
+    (subst (λ (t : List Tagged). KeepsConnections G c ((over ++ us) ++ vs) t) (append_assoc trace xs ys)
     (g (over ++ us) (trace ++ xs) (f over trace k)))
 
 pub adds_still : {L : Type 0} (G : LinkGhosts L) (a : Connections L) → Adds G a [] [] a
 adds_still G a over trace k =
-    subst (λ (o : List (Closed _)). Keeps G a o (trace ++ [])) (sym (append-nil over))
-    (subst (λ (t : List Tagged). Keeps G a over t) (sym (append-nil trace)) k)
+    subst (λ (o : List (Closed _)). KeepsConnections G a o (trace ++ [])) (sym (append-nil over))
+    (subst (λ (t : List Tagged). KeepsConnections G a over t) (sym (append-nil trace)) k)
 
 pub stays_still : {L : Type 0} (place : ℕ) (m : Connections L) → StaysAt place m m
 stays_still place m = (record { others = λ j other. refl; count = refl }, refl, refl)
@@ -107,8 +107,8 @@ grows_then {L} G a b c f g = record {
   places_are = g.places_are ∙ f.places_are;
   peer_slots_are = g.peer_slots_are ∙ f.peer_slots_are;
   counts = λ over trace k own. g.counts over trace
-      (subst (λ (o : List (Closed L)). Keeps G b.connections o trace) (append-nil over)
-      (subst (λ (t : List Tagged). Keeps G b.connections (over ++ []) t) (append-nil trace) (f.adds over trace k)))
+      (subst (λ (o : List (Closed L)). KeepsConnections G b.connections o trace) (append-nil over)
+      (subst (λ (t : List Tagged). KeepsConnections G b.connections (over ++ []) t) (append-nil trace) (f.adds over trace k)))
       (f.counts over trace k own);
   ended = g.ended ∙ f.ended;
 }
@@ -118,7 +118,8 @@ grown_peer_slots G a b g peer_slots = g.peer_slots_are ∙ (peer_slots ∙ sym g
 
 -- what may have bytes or room is reported so
 pub stays_woken : {L : Type 0} (G : LinkGhosts L) (place : ℕ) (a b : EventLoop L) → Adds G a.connections [] [] b.connections →
-    ExistedUnder G place a.connections b.connections → StaysAt place a.connections b.connections → b.peer_slots ≡ a.peer_slots → b.ended ≡ a.ended → KeepsEventLoop G a b
+    ExistedUnder G place a.connections b.connections → StaysAt place a.connections b.connections → b.peer_slots
+    ≡ a.peer_slots → b.ended ≡ a.ended → KeepsEventLoop G a b
 stays_woken G place a b adds existed stays peer_slots ended = record {
   grows = record {
     adds = adds;

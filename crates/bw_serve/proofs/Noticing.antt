@@ -73,7 +73,8 @@ wakes_then i reported r d e f v w = record {
 -- one more link was reported
 notices_more : {B K L : Type 0} (reactor : ReactorGhosts B K) (b x y : B) (r : Ready) (c d e : EventLoop L) →
     Notices reactor b x c d → ((rs : List Ready) → reactor.reported x rs → reactor.reported y (rs ++ r ∷ [])) →
-    WakesAt r.place r.readable r.writable d.connections e.connections → LeavesOthers r.place d.connections e.connections → Notices reactor b y c e
+    WakesAt r.place r.readable r.writable d.connections e.connections →
+    LeavesOthers r.place d.connections e.connections → Notices reactor b y c e
 notices_more {B} {K} {L} reactor b x y r c d e n next wakes others = record {
   reported = n.reported ++ r ∷ [];
   more = λ rs was. subst (reactor.reported y) (append_assoc rs n.reported (r ∷ [])) (next (rs ++ n.reported) (n.more rs was));

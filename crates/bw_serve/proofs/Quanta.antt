@@ -14,7 +14,7 @@ use Rattle.bw_connections.specs.declared.connection.ConnectionEnd.TheVariants.{I
 use Rattle.bw_ports.specs.declared.link.Link.{Ghosts as LinkGhosts}
 use Rattle.bw_connections.specs.declared.connections.Closed.{Closed}
 use Rattle.bw_connections.specs.declared.connections.Connections.{Connections}
-use Rattle.bw_connections.specs.Keeping.{Adds, HasLeft, Keeps, HoldsConnectionAt, Tagged, own, tagged, those}
+use Rattle.bw_connections.specs.Keeping.{Adds, HasLeft, KeepsConnections, HoldsConnectionAt, Tagged, own, tagged, those}
 use Rattle.bw_connections.specs.Lives.{KeepsPeer, expired_at}
 use Rattle.bw_connections.specs.Places.{end_of_connection, expired_there}
 use Rattle.bw_connections.specs.Working.{EndsIts, IsEmpty, StaysAt, ExistedAt, ExistedUnder}
@@ -81,7 +81,7 @@ module _ {L S E : Type 0} (G : LinkGhosts L) (answers : S → Frame → List Rep
     (log : Bool) (place now : ℕ) (first : Option (Closed L)) (a mid b : EventLoop L) (s t : S)
     (w : WorksCounted G answers place now first a mid s t) (stays : StaysAt place mid.connections b.connections)
     (existed : ExistedAt place mid.connections b.connections) (peer_slots : b.peer_slots ≡ mid.peer_slots) (over : List (Closed L))
-    (trace : List Tagged) (k : Keeps G a.connections over trace) (own_counted : CountsOwn G a trace) where
+    (trace : List Tagged) (k : KeepsConnections G a.connections over trace) (own_counted : CountsOwn G a trace) where
   abbrev more : List Tagged
   more = tagged w.works.number w.works.answered
 
@@ -174,7 +174,8 @@ module _ {L S E : Type 0} (G : LinkGhosts L) (answers : S → Frame → List Rep
       go (inr empty) = absurd (h.1 empty)
   reported_so (y ∷ z ∷ zs) e f h = absurd h
 
-  pub place_counts : (closed : List (Closed L)) (e f : E) → ReportsThose G reported log place a.connections mid.peer_slots.items closed e f →
+  pub place_counts : (closed : List (Closed L)) (e f : E) →
+      ReportsThose G reported log place a.connections mid.peer_slots.items closed e f →
       CountsOwn G b (trace ++ more) × LogsEnds G reported log (trace ++ more) closed e f × AreSilent over more
   place_counts closed e f h = (counts_own, reported_so closed e f h, silent over k.left)
 

@@ -34,13 +34,15 @@ lets_in_then {L} now a b c f g = record {
   received = λ i d at. before i d (g.received i d at);
 }
   where
-    before : (i : ℕ) (d : Connection L) → HoldsConnectionAt b.connections i d ⊎ AcceptsPeer now d → HoldsConnectionAt a.connections i d ⊎ AcceptsPeer now d
+    before : (i : ℕ) (d : Connection L) → HoldsConnectionAt b.connections i d ⊎ AcceptsPeer now d →
+        HoldsConnectionAt a.connections i d ⊎ AcceptsPeer now d
     before i d (inl at) = f.received i d at
     before i d (inr comes) = inr comes
 
 -- a peer comes and gets a free place, unless memory is refused
 pub in_slots : {L : Type 0} (place now : ℕ) (link : L) (a b : EventLoop L) (r : Result (Unit {0}) BeginError) →
-    IsFree a.connections place → OnOk r (BeginsAt place link now a.connections b.connections) → OnErr r (RefusesLink a.connections b.connections) →
+    IsFree a.connections place → OnOk r (BeginsAt place link now a.connections b.connections) →
+    OnErr r (RefusesLink a.connections b.connections) →
     LeavesOthers place a.connections b.connections → LetsIn now a b
 in_slots {L} place now link a b r free begins refused others = record {
   stands = λ i d at. stands i d at (eqb_tells i place);

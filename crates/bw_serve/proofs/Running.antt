@@ -1,5 +1,7 @@
 -- A run, so far.
-use Rattle.std.proofs.Common.{◌≡◌, ℕ, ◌+◌, ◌-◌, ◌^◌, ◌<◌, ◌≤◌, Bool, true, false, nat_lt, if◌then◌else◌, ltb-false, List, [], ◌++◌, length, refl, sym, ap, subst, ◌∙◌, arith}
+use Rattle.std.proofs.Common.{◌≡◌, ℕ, ◌+◌, ◌-◌, ◌^◌, ◌<◌, ◌≤◌, Bool, true, false, nat_lt}
+use Rattle.std.proofs.Common.{if◌then◌else◌, ltb-false, List, [], ◌++◌, length, refl, sym, ap}
+use Rattle.std.proofs.Common.{subst, ◌∙◌, arith}
 use Rattle.std.proofs.Common.{append_assoc}
 use Rattle.std.proofs.lemmas.List.{append-nil, length-append, map-append}
 use Rattle.bw_model.specs.Wire.{Frame}
@@ -11,7 +13,7 @@ use Rattle.bw_exchange.proofs.Going.{answers_append}
 use Rattle.bw_console.specs.declared.exit.Exit.{Exit}
 use Rattle.bw_ports.specs.declared.link.Link.{Ghosts as LinkGhosts}
 use Rattle.bw_connections.specs.declared.connections.Closed.{Closed}
-use Rattle.bw_connections.specs.Keeping.{Keeps, Tagged, all_answered}
+use Rattle.bw_connections.specs.Keeping.{KeepsConnections, Tagged, all_answered}
 use Rattle.bw_connections.specs.Places.{begun_of}
 use Rattle.bw_connections.specs.Served.{EachIsServed}
 use Rattle.bw_exchange.specs.LinkCounts.{up_to_last}
@@ -48,7 +50,7 @@ module _ {L S O E : Type 0} (G : LinkGhosts L) (answers : S → Frame → List R
   pub record SoFar (trace : List Tagged) (over : List (Closed L)) (links : List (Admission L)) (c : EventLoop L) (s s' : S)
       (o o' : O) (e e' : E) : Type 0 where
     pub by_server : AnswersAll answers s (all_answered trace) s'
-    pub keeps : Keeps G c.connections over trace
+    pub keeps : KeepsConnections G c.connections over trace
     pub counts : CountsOwn G c trace
     pub printed : ReportsEnds out 0 over o o'
     pub logged : LogsEnds G reported log trace over e e'
@@ -181,7 +183,8 @@ module _ {B L S O E : Type 0} (reactor : ReactorGhosts B L) (G : LinkGhosts L)
       let received = shut.welcomes.links in
       let grows = grows_then G c shut.noticed d shut.notices.grows shut.grows in
       let now = more_so_far G answers out reported log trace [] over [] r.links received c d s u u o q q e g g r.so_far
-      (advances_grown G answers out reported log received c d u q g grows (hosts_more G c.connections d.connections received (λ over links h.
+      (advances_grown G answers out reported log received c d u q g grows (hosts_more G c.connections d.connections
+      received (λ over links h.
       hosts_admitted_each G shut.now received shut.noticed d over links shut.welcomes.admits
       (hosts_woken G shut.reported c shut.noticed over links shut.notices.begun shut.notices.refused shut.wakes h)))) in
       record {

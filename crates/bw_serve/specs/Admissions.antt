@@ -6,7 +6,7 @@ use Rattle.bw_connections.specs.declared.connection.Connection.{Connection}
 use Rattle.bw_ports.specs.declared.link.Link.{Ghosts as LinkGhosts}
 use Rattle.bw_connections.specs.declared.connections.Closed.{Closed}
 use Rattle.bw_connections.specs.declared.connections.Connections.{Connections}
-use Rattle.bw_connections.specs.Keeping.{IsFree, Keeps, HoldsConnectionAt, Tagged}
+use Rattle.bw_connections.specs.Keeping.{IsFree, KeepsConnections, HoldsConnectionAt, Tagged}
 use Rattle.bw_connections.specs.Lives.{KeepsPeer}
 use Rattle.bw_connections.specs.Places.{begun_of, refused_of}
 use Rattle.bw_connections.specs.Working.{BeginsAt, LeavesOthers, RefusesLink}
@@ -45,18 +45,18 @@ module _ {L : Type 0} (G : LinkGhosts L) where
 
   -- Each of these links, in order, got the next number, and under it is at its place or over; or it
   -- was refused, which was counted. The counts of links begun and refused rise accordingly.
-  abbrev pub Hosts : Connections L → List (Closed L) → ℕ → ℕ → List (Admission L) → ℕ → ℕ → Type 0
-  Hosts m over begun refused [] begun' refused' = (begun' ≡ begun) × (refused' ≡ refused)
-  Hosts m over begun refused (x ∷ xs) begun' refused' =
-      (IsHosted m over begun x × Hosts m over (suc begun) refused xs begun' refused')
-      ⊎ Hosts m over begun (one_more refused) xs begun' refused'
+  abbrev pub HostsLinks : Connections L → List (Closed L) → ℕ → ℕ → List (Admission L) → ℕ → ℕ → Type 0
+  HostsLinks m over begun refused [] begun' refused' = (begun' ≡ begun) × (refused' ≡ refused)
+  HostsLinks m over begun refused (x ∷ xs) begun' refused' =
+      (IsHosted m over begun x × HostsLinks m over (suc begun) refused xs begun' refused')
+      ⊎ HostsLinks m over begun (one_more refused) xs begun' refused'
 
   -- these are all links that ever came
   abbrev pub HostsAll : Connections L → List (Closed L) → List (Admission L) → Type 0
-  HostsAll m over links = Hosts m over 0 0 links (begun_of m) (refused_of m)
+  HostsAll m over links = HostsLinks m over 0 0 links (begun_of m) (refused_of m)
 
   -- links more come, and connections more are over
   abbrev pub HostsMore : Connections L → List (Admission L) → List (Closed L) → Connections L → Type 0
   HostsMore m more closed m' = (over : List (Closed L)) (trace : List Tagged)
-      (links : List (Admission L)) → Keeps G m over trace → HostsAll m over links →
+      (links : List (Admission L)) → KeepsConnections G m over trace → HostsAll m over links →
       HostsAll m' (over ++ closed) (links ++ more)

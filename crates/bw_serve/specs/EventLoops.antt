@@ -12,7 +12,7 @@ use Rattle.bw_connections.specs.declared.connection.ConnectionEnd.TheVariants as
 use Rattle.bw_ports.specs.declared.link.Link.{Ghosts as LinkGhosts}
 use Rattle.bw_connections.specs.declared.connections.Closed.{Closed}
 use Rattle.bw_connections.specs.declared.connections.Connections.{Connections}
-use Rattle.bw_connections.specs.Keeping.{Adds, Keeps, SetsPlace, HoldsConnectionAt, Tagged}
+use Rattle.bw_connections.specs.Keeping.{Adds, KeepsConnections, SetsPlace, HoldsConnectionAt, Tagged}
 use Rattle.bw_connections.specs.Keeping.{all_answered, own, tagged, those}
 use Rattle.bw_connections.specs.Lives.{BeginsConnection, expired_at}
 use Rattle.bw_connections.specs.Places.{begun_of, can_go_on_at, connection_count, end_of_connection, expired_there}
@@ -27,7 +27,7 @@ use Rattle.bw_serve.specs.declared.peer_slot.PeerSlot.{PeerSlot}
 
 -- no peer has come yet
 pub record IsNew {L : Type 0} (G : LinkGhosts L) (places : ℕ) (c : EventLoop L) : Type 0 where
-  pub keeps : Keeps G c.connections [] []
+  pub keeps : KeepsConnections G c.connections [] []
   pub places_are : connection_count c.connections ≡ places
   pub peer_slots_are : vec_len c.peer_slots ≡ places
   pub begun : begun_of c.connections ≡ 0
@@ -69,7 +69,7 @@ pub record Grows {L : Type 0} (G : LinkGhosts L) (c c' : EventLoop L) : Type 0 w
   pub adds : Adds G c.connections [] [] c'.connections
   pub places_are : connection_count c'.connections ≡ connection_count c.connections
   pub peer_slots_are : vec_len c'.peer_slots ≡ vec_len c.peer_slots
-  pub counts : (over : List (Closed L)) (trace : List Tagged) → Keeps G c.connections over trace →
+  pub counts : (over : List (Closed L)) (trace : List Tagged) → KeepsConnections G c.connections over trace →
       CountsOwn G c trace → CountsOwn G c' trace
   pub ended : c'.ended ≡ c.ended
 
@@ -87,7 +87,8 @@ AcceptsPeer {L} now d = (link : L) × (number : ℕ) × BeginsConnection link nu
 -- this time
 pub record LetsIn {L : Type 0} (now : ℕ) (c c' : EventLoop L) : Type 0 where
   pub stands : (i : ℕ) (d : Connection L) → HoldsConnectionAt c.connections i d → HoldsConnectionAt c'.connections i d
-  pub received : (i : ℕ) (d : Connection L) → HoldsConnectionAt c'.connections i d → HoldsConnectionAt c.connections i d ⊎ AcceptsPeer now d
+  pub received : (i : ℕ) (d : Connection L) → HoldsConnectionAt c'.connections i d →
+      HoldsConnectionAt c.connections i d ⊎ AcceptsPeer now d
 
 -- What is done after the quantum at a place: nothing if its connection ended in it; else that is
 -- ended if, after its quantum, it was quiet, or drained, for too long.
@@ -109,7 +110,7 @@ CountsEnds out c c' closed o o' = (n : ℕ) → c.ended ≡ up_to_last n →
 abbrev pub ReportsRound : {L E : Type 0} → LinkGhosts L → Writer E → Bool → EventLoop L → List Tagged →
     List (Closed L) → EventLoop L → E → E → Type 0
 ReportsRound {L} G reported log c more closed c' e e' = (over : List (Closed L)) (trace : List Tagged) →
-    Keeps G c.connections over trace → CountsOwn G c trace →
+    KeepsConnections G c.connections over trace → CountsOwn G c trace →
     CountsOwn G c' (trace ++ more) × LogsEnds G reported log (trace ++ more) closed e e'
     × AreSilent over more
 

@@ -86,7 +86,7 @@ module _ {X Y B L O E : Type 0} (S : StoreGhosts X) (J : JournalGhosts Y) (react
   module _ {N P R W D A C : Type 0} (network : NetworkGhosts N X P D R W A C)
       (listener_setup : ListenerSetupGhosts N B L) where
     -- the folder can't be used: nothing else is asked for, and nothing is printed
-    pub record CantStore (hosting : Hosting) (exit : Exit) (n n' : N) (o o' : O) (e e' : E)
+    pub record CantStoreMany (hosting : Hosting) (exit : Exit) (n n' : N) (o o' : O) (e e' : E)
         : Type 0 where
       pub error : IoError
       pub refused : network.stores n hosting.folder.now (Err error) n'
@@ -95,7 +95,7 @@ module _ {X Y B L O E : Type 0} (S : StoreGhosts X) (J : JournalGhosts Y) (react
       pub reports : ReportsUnopened reported hosting.folder.now (error_kind error) exit e e'
 
     -- the folder can be used, and the address can't: nothing is printed
-    pub record CantGather (hosting : Hosting) (exit : Exit) (n n' : N) (o o' : O) (e e' : E)
+    pub record CantListenMany (hosting : Hosting) (exit : Exit) (n n' : N) (o o' : O) (e e' : E)
         : Type 0 where
       pub store : X
       pub between : N
@@ -126,4 +126,4 @@ module _ {X Y B L O E : Type 0} (S : StoreGhosts X) (J : JournalGhosts Y) (react
     abbrev pub HostsMany : Hosting → Exit → N → N → O → O → E → E → Type 0
     HostsMany hosting exit n n' o o' e e' =
         HostsManyAt hosting exit n n' o o' e e'
-        ⊎ (CantStore hosting exit n n' o o' e e' ⊎ CantGather hosting exit n n' o o' e e')
+        ⊎ (CantStoreMany hosting exit n n' o o' e e' ⊎ CantListenMany hosting exit n n' o o' e e')

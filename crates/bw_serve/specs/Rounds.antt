@@ -105,7 +105,8 @@ module _ {B L S O E : Type 0} (reactor : ReactorGhosts B L) (G : LinkGhosts L)
     pub lets_in : LetsIn (reactor.time b') noticed between
     pub welcomes : Welcomes reactor (reactor.time b') b b' noticed between
     pub asks : AsksIn reactor exchanges b' between
-    pub in_turn : InTurn G answers out reported log (reactor.time b') idle (connection_count between.connections) between
+    pub in_turn : InTurn G answers out reported log (reactor.time b') idle (connection_count between.connections)
+        between
         c' s s' o o' e e'
 
   -- what it took from the connections, and ended

@@ -11,7 +11,7 @@ use Rattle.bw_ports.specs.declared.link.Link.{Ghosts as LinkGhosts}
 use Rattle.bw_connections.specs.declared.connections.Closed.{Closed}
 use Rattle.bw_connections.specs.Keeping.{Tagged, all_answered}
 use Rattle.bw_connections.specs.Places.{begun_of}
-use Rattle.bw_connections.specs.Served.{ServesEach}
+use Rattle.bw_connections.specs.Served.{ServesEachConnection}
 use Rattle.bw_serve.specs.declared.event_loop.EventLoop.{EventLoop}
 use Rattle.bw_serve.specs.declared.serving.Bounds.{Bounds}
 use Rattle.bw_serve.specs.Admissions.{HostsAll}
@@ -63,7 +63,7 @@ module _ {B L S O E : Type 0} (reactor : ReactorGhosts B L) (G : LinkGhosts L)
     pub links : List (Admission L)
     pub gave : (xs : List (Admission L)) → reactor.admitted b xs → reactor.admitted b' (xs ++ links)
     pub hosts : HostsAll G event_loop.connections over links
-    pub each : ServesEach G event_loop.connections over trace
+    pub each : ServesEachConnection G event_loop.connections over trace
     -- no more were accepted than were asked for
     pub most : begun_of event_loop.connections ≤ bounds.exchanges
     pub printed : ReportsEnds out 0 over o o'

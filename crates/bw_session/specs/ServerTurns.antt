@@ -38,10 +38,10 @@ module _ {X Y : Type 0} (S : StoreGhosts X) (J : JournalGhosts Y) where
         (done_in old.sessions m.name) (done_in new.sessions m.name) failed
 
   -- for a frame: an ask changes nothing, and the last frame is answered by none
-  abbrev pub AsksFor : Frame → Bool → Server X Y S J → Server X Y S J → Type 0
-  AsksFor (Says m) failed old new = AsksForMessage m failed old new
-  AsksFor (Asks name n) failed old new = new ≡ old
-  AsksFor Bye failed old new = ⊥
+  abbrev pub AsksStoreFor : Frame → Bool → Server X Y S J → Server X Y S J → Type 0
+  AsksStoreFor (Says m) failed old new = AsksForMessage m failed old new
+  AsksStoreFor (Asks name n) failed old new = new ≡ old
+  AsksStoreFor Bye failed old new = ⊥
 
   -- A server may answer the frame so. Over any store and journal its limit stays, these are as
   -- honest as they were, the replies are few, and none reports a failed call where none failed;
@@ -57,7 +57,7 @@ module _ {X Y : Type 0} (S : StoreGhosts X) (J : JournalGhosts Y) where
     pub failed : Bool
     pub counted : Counts (failures_of S J old) (failures_of S J new) failed
     pub delays : IsTrue (list_any is_delayed replies) → IsTrue failed
-    pub asks : AsksFor frame failed old new
+    pub asks : AsksStoreFor frame failed old new
     -- the message that is turned away for lack of room asks for nothing
     pub away : IsTrue (is_turned_away replies) → SameStores S J old new
     pub turned : IsTrue (S.honest old.stores.store) → (first : List ℕ → Option (List ℕ))

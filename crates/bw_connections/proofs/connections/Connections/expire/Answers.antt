@@ -1,6 +1,6 @@
 use Rattle.std.proofs.Common.{◌≡◌, ap, refl, ◌∙◌, subst, sym, List, Some, None, [], ◌++◌}
 use Rattle.bw_exchange.specs.Answering.{Answered}
-use Rattle.bw_connections.specs.Lives.{IsOver, KeepsPeer, Lives}
+use Rattle.bw_connections.specs.Lives.{IsConnectionOver, KeepsPeer, Lives}
 use Rattle.bw_connections.proofs.Going.{expires, woken}
 use Rattle.bw_connections.proofs.Standing.{adds_closed, adds_none, adds_on, keeps_free, not_some, sets_again, some_is}
 use Rattle.bw_connections.proofs.connections.Connections.expire.Goals as goal
@@ -18,7 +18,7 @@ returns-in-Some-expired-clause-adds g c =
     let is = c.close.ensures in
     adds_closed g.L.Link c.args.self.now _ c.args.place was c.close.result was.number [] refl refl t.was t.sets
     (ap (λ y. y.number) is)
-    (subst (λ y. (before : List Answered) → Lives g.L.Link was before → IsOver g.L.Link y.end y.link (before ++ []))
+    (subst (λ y. (before : List Answered) → Lives g.L.Link was before → IsConnectionOver g.L.Link y.end y.link (before ++ []))
     (sym is) (expires g.L.Link _ _ was c.in-Some-expired.end (sym c.expired.ensures ∙ c.in-Some-expired.is)))
 
 pub returns-in-None-clause-adds : goal.returns-in-None-clause-adds

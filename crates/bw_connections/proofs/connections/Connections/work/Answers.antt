@@ -1,7 +1,7 @@
 use Rattle.std.proofs.Common.{ap, arith, refl, subst, sym, ◌∙◌, List, Some, None, [], ◌++◌, ◌≡◌}
 use Rattle.bw_exchange.specs.Answering.{Answered}
 use Rattle.bw_connections.specs.declared.connection.Phase.TheVariants as phases
-use Rattle.bw_connections.specs.Lives.{EndsDrained, EndsServed, IsNoSilence, IsOpen, IsOver, KeepsPeer, Lives}
+use Rattle.bw_connections.specs.Lives.{EndsDrained, EndsServed, IsNoSilence, IsOpen, IsConnectionOver, KeepsPeer, Lives}
 use Rattle.bw_connections.proofs.Going.{finished_at, learns_at, let_go_at, moved_at, quiet_at}
 use Rattle.bw_connections.proofs.Standing.{adds_closed, adds_none, adds_on, keeps_free, not_some, sets_again, some_is}
 use Rattle.bw_connections.proofs.connections.Connections.work.Goals as goal
@@ -105,7 +105,7 @@ returns-in-Err g c =
       adds = adds_closed g.L.Link c.args.self.now _ c.args.place was c.close.result was.number w.answered refl refl t.was
           t.sets (ap (λ y. y.number) is ∙ w.number)
           (subst (λ y. (before : List Answered) → Lives g.L.Link was before →
-          IsOver g.L.Link y.end y.link (before ++ w.answered)) (sym is) w.goes);
+          IsConnectionOver g.L.Link y.end y.link (before ++ w.answered)) (sym is) w.goes);
       others = (record { others = t.sets.elsewhere; count = t.count }, refl, refl);
       unended = λ d at. absurd (not_some d (some_is None (Some d) (sym t.sets.there ∙ at)));
       since = λ d e at there. absurd (not_some e (some_is None (Some e) (sym t.sets.there ∙ there)));
