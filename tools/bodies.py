@@ -6,7 +6,7 @@ import pathlib
 import re
 from dataclasses import dataclass
 
-from sources import ROOT
+from repository import ROOT
 
 PUB = r"(?:pub(?:\([a-z]+\))? )?"
 FUNCTION = re.compile(rf" *{PUB}(?:const |unsafe |final )*fn (\w+)")

@@ -4,8 +4,8 @@ The program is the first argument of the script, or the one of this repository.
 """
 import contextlib
 import ctypes
+import math
 import os
-import pathlib
 import random
 import select
 import signal
@@ -17,7 +17,9 @@ import tempfile
 import threading
 import time
 
-from takes import LARGEST_LIMIT, Take
+from processes import end_after
+from repository import program
+from takes import ASK, BYE_FRAME, LARGEST_LIMIT, message, Take
 from tally import Tally
 from tracer import Traced
 
@@ -78,8 +80,27 @@ def run(*words, given=b""):
 
 
 def send(port, take, *options):
-    words = ("send", "--connect", f"{LOCAL}:{port}", "--name", take.name, *options)
-    return run(*words, given=take.lines())
+    return run(*send_words(port, take, *options), given=take.lines())
+
+
+def send_words(port, take, *options):
+    return ("send", "--connect", f"{LOCAL}:{port}", "--name", take.name, *options)
+
+
+def send_all(port, takes, *options):
+    """Runs a sender for each take, all at once; the status, output and standard error of each."""
+    senders = [start_with_pipes(*send_words(port, take, *options)) for take in takes]
+    outputs = {}
+
+    def feed(at):
+        outputs[at] = finish(senders[at], takes[at].lines(), "send")
+
+    threads = [threading.Thread(target=feed, args=(at,)) for at in range(len(takes))]
+    for thread in threads:
+        thread.start()
+    for thread in threads:
+        thread.join(3 * LONGEST_WAIT)
+    return [outputs.get(at) for at in range(len(takes))]
 
 
 def free_port():
@@ -149,6 +170,18 @@ def connect(port):
     return socket.create_connection((LOCAL, port), LONGEST_WAIT)
 
 
+MANY_ASKS = message("a" * 32, 0, bytes([ASK])) * 2_000
+
+
+def connect_deaf(port, wait):
+    """A connection with room for few replies, for a peer that sends asks and reads no reply; its waits are so long."""
+    peer = socket.socket()
+    peer.setsockopt(socket.SOL_SOCKET, socket.SO_RCVBUF, 4_096)
+    peer.settimeout(wait)
+    peer.connect((LOCAL, port))
+    return peer
+
+
 def hear(peer, length):
     """Receives exactly this many bytes of replies."""
     heard = b""
@@ -164,6 +197,23 @@ def hear_all(peer):
     """Receives all replies, up to the end of the connection."""
     heard = b""
     while piece := peer.recv(65_536):
+        heard += piece
+    return heard
+
+
+def hear_until_it_breaks(peer):
+    """Receives all replies, up to the end of the connection or to where it breaks."""
+    heard = b""
+    with contextlib.suppress(ConnectionError):
+        while piece := peer.recv(65_536):
+            heard += piece
+    return heard
+
+
+def hear_batch(peer, most=math.inf):
+    """Receives what a sender says: this many bytes, or all up to BYE or to the end of the connection."""
+    heard = b""
+    while len(heard) < most and not heard.endswith(BYE_FRAME) and (piece := peer.recv(65_536)):
         heard += piece
     return heard
 
@@ -259,6 +309,12 @@ def stopped(name, server, number=signal.SIGTERM):
     TALLY.same(name, server.stop(number), (-number, [], ""))
 
 
+def ends_by_signal(name, server):
+    """Stops the server, which may have printed more lines; the signal alone ends it, and it reports no fault."""
+    status, _lines, faults = server.stop()
+    TALLY.same(f"{name}: the server", (status, faults), (-signal.SIGTERM, ""))
+
+
 def same_file(name, folder, take, blocks=None, limit=LARGEST_LIMIT):
     """Compares the take's file byte for byte, and the sizes that `inspect` reports."""
     path = folder / f"{take.name}.wav"
@@ -293,6 +349,14 @@ def same_replay(name, take, limit):
     TALLY.same(f"{name}: the replayed file", bytes.fromhex(text), wanted)
 
 
+def same_port_in_use(folder, *options):
+    """A server whose port is in use says so, and nothing else."""
+    with socket.create_server((LOCAL, 0)) as listener:
+        address = f"{LOCAL}:{listener.getsockname()[1]}"
+        output = run("serve", "--listen", address, "--folder", str(folder), *options)
+    TALLY.same("a port in use", output, (3, "", f"{address} can't be opened: {reason(98)}\n"))
+
+
 def reason(number):
     """The reason as the program prints it."""
     return f"{os.strerror(number)} (os error {number})"
@@ -302,36 +366,15 @@ def reason(number):
 
 
 def run_case(case):
-    name = case.__name__.removeprefix("case_").replace("_", " ")
-    with tempfile.TemporaryDirectory() as folder:
-        try:
-            case(pathlib.Path(folder))
-        except (Fault, OSError, AttributeError, ValueError) as fault:
-            TALLY.holds(name, False, f"{type(fault).__name__}: {fault}")
-        finally:
-            end_all()
-
-
-def give_up(number, _frame):
-    sys.exit(f"stopped by signal {number}")
+    TALLY.try_case(case, (Fault, OSError, AttributeError, ValueError), end_all)
 
 
 def run_cases(cases, longest_run):
     """Runs a script's cases within this many seconds; its status. Prints what differs, last 'N passed, M failed'."""
-    for number in (signal.SIGALRM, signal.SIGTERM, signal.SIGINT, signal.SIGHUP):
-        signal.signal(number, give_up)
-    signal.alarm(longest_run)
+    end_after(longest_run)
     for case in cases:
         run_case(case)
-    print(f"{TALLY.passed} passed, {TALLY.failed} failed")
-    return 1 if TALLY.failed else 0
+    return TALLY.end()
 
 
-def program():
-    if len(sys.argv) > 1:
-        return str(pathlib.Path(sys.argv[1]).resolve())
-    here = pathlib.Path(__file__).resolve().parent
-    return subprocess.run([here / "program"], stdout=subprocess.PIPE, text=True, check=True).stdout.strip()
-
-
-PROGRAM = program()
+PROGRAM = program(sys.argv[1:])

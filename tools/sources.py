@@ -2,11 +2,11 @@
 
 They are read line by line, as `rt fmt` lays them out: an item begins at its indentation, a clause on a line of its own.
 """
-import pathlib
 import re
 from dataclasses import dataclass
 
-ROOT = pathlib.Path(__file__).resolve().parent.parent
+from repository import ROOT
+
 # Of an implementation of these each method is a call, with the meaning that it gives to the trait's contract as
 # its clauses; of one of the project's own traits only a method with clauses of its own.
 STD_TRAITS = ("Default", "Display", "From", "TryFrom")
@@ -36,10 +36,15 @@ class Test:
     doc: list
 
 
+def edges():
+    """The crates in the order of crates.txt, each with what it may use."""
+    lines = [it for it in (ROOT / "crates.txt").read_text().splitlines() if it and not it.startswith("#")]
+    return {name: below.split() for name, _, below in (line.partition(":") for line in lines)}
+
+
 def crates():
     """The crates in the order of crates.txt, without those of tests."""
-    lines = [it for it in (ROOT / "crates.txt").read_text().splitlines() if not it.startswith("#")]
-    return [it for it in (line.split(":")[0] for line in lines) if not holds_tests(it)]
+    return [it for it in edges() if not holds_tests(it)]
 
 
 def holds_tests(crate):
