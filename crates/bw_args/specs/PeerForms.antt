@@ -28,7 +28,7 @@ plain_server address folder = record {
   folder = folder;
   end = when.Exchanges 1;
   limit = default_limit;
-  recorders_of_form = InTurn None;
+  recorders = InTurn None;
   log = false;
 }
 
@@ -76,25 +76,25 @@ pub record RunsServer (words : List Text) (line : CommandLine) : Type 0 where
   -- with `--timeout=SECONDS`
   pub timeout : (seconds : Text) → IsCountText most_seconds seconds
       → ForServer false words ((codes "--timeout=" ++ seconds) ∷ [])
-      (AsksToServe line (λ s. record s { recorders_of_form = InTurn (Some (number_written seconds)) }))
+      (AsksToServe line (λ s. record s { recorders = InTurn (Some (number_written seconds)) }))
   -- with `--timeout SECONDS`
   pub timeout_apart : (seconds : Text) → IsCountText most_seconds seconds
       → ForServer false words (codes "--timeout" ∷ seconds ∷ [])
-      (AsksToServe line (λ s. record s { recorders_of_form = InTurn (Some (number_written seconds)) }))
-  -- with `--recorders_of_form=N`
-  pub recorders_of_form : (count : Text) → IsCountText most_recorders count
+      (AsksToServe line (λ s. record s { recorders = InTurn (Some (number_written seconds)) }))
+  -- with `--recorders=N`
+  pub recorders : (count : Text) → IsCountText most_recorders count
       → ForServer false words ((codes "--recorders=" ++ count) ∷ [])
-      (AsksToServe line (λ s. record s { recorders_of_form = AtOnce (number_written count) default_idle }))
-  -- with `--recorders_of_form N`
+      (AsksToServe line (λ s. record s { recorders = AtOnce (number_written count) default_idle }))
+  -- with `--recorders N`
   pub recorders_apart : (count : Text) → IsCountText most_recorders count
       → ForServer false words (codes "--recorders" ∷ count ∷ [])
-      (AsksToServe line (λ s. record s { recorders_of_form = AtOnce (number_written count) default_idle }))
-  -- with `--recorders_of_form=N --idle=SECONDS`
+      (AsksToServe line (λ s. record s { recorders = AtOnce (number_written count) default_idle }))
+  -- with `--recorders=N --idle=SECONDS`
   pub idle : (count seconds : Text) → IsCountText most_recorders count
       → IsCountText most_seconds seconds → ForServer false words
       ((codes "--recorders=" ++ count) ∷ (codes "--idle=" ++ seconds) ∷ [])
       (AsksToServe line (λ s. record s {
-        recorders_of_form = AtOnce (number_written count) (number_written seconds);
+        recorders = AtOnce (number_written count) (number_written seconds);
       }))
   -- with `--network`
   pub network : ForServer true words (codes "--network" ∷ []) (AsksToServe line (λ s. s))
@@ -178,8 +178,8 @@ pub record RefusesPeers (words : List Text) (line : CommandLine) : Type 0 where
   -- with `--timeout=SECONDS`
   pub timeout : (seconds : Text) → ¬ IsCountText most_seconds seconds
       → ForServer false words ((codes "--timeout=" ++ seconds) ∷ []) (ReportsBad line Timeout)
-  -- with `--recorders_of_form=N`
-  pub recorders_of_form : (count : Text) → ¬ IsCountText most_recorders count
+  -- with `--recorders=N`
+  pub recorders : (count : Text) → ¬ IsCountText most_recorders count
       → ForServer false words ((codes "--recorders=" ++ count) ∷ []) (ReportsBad line Recorders)
   -- with `--idle=SECONDS`
   pub idle : (seconds : Text) → ¬ IsCountText most_seconds seconds
@@ -187,7 +187,7 @@ pub record RefusesPeers (words : List Text) (line : CommandLine) : Type 0 where
   -- where that is a time, and no number of recorders is given
   pub idle_alone : (seconds : Text) → IsCountText most_seconds seconds
       → ForServer false words ((codes "--idle=" ++ seconds) ∷ []) (ReportsBad line Wait)
-  -- with `--recorders_of_form=N --timeout=SECONDS`
+  -- with `--recorders=N --timeout=SECONDS`
   pub timeout_beside : (count seconds : Text) → IsCountText most_recorders count
       → IsCountText most_seconds seconds → ForServer false words
       ((codes "--recorders=" ++ count) ∷ (codes "--timeout=" ++ seconds) ∷ []) (ReportsBad line Wait)

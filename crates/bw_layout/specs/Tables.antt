@@ -8,8 +8,8 @@ entry_bytes e = e.0 ++ le64 e.1
 
 -- form and data size, no sample count, the table's length and the table
 unfoldable pub ds64_with_table : ℕ → ℕ → List (List ℕ × ℕ) → List ℕ
-ds64_with_table form table_data_size table =
-    le64 form ++ le64 table_data_size ++ le64 0 ++ le32 (length table) ++ flat_map entry_bytes table
+ds64_with_table form data_size table =
+    le64 form ++ le64 data_size ++ le64 0 ++ le32 (length table) ++ flat_map entry_bytes table
 
 -- the entry at the start of these bytes
 abbrev pub entry_at : List ℕ → List ℕ × ℕ
@@ -18,9 +18,9 @@ entry_at b = (slice_range b 0 4, u64_at b 4)
 -- what comes before the table: form size, data size, the table's length
 pub record Fixed : Type 0 where
   pub form : ℕ
-  pub table_data_size : ℕ
+  pub data_size : ℕ
   pub table_len : ℕ
 
 -- the fixed part at the start of the bytes
 abbrev pub fixed_at : List ℕ → Fixed
-fixed_at b = record { form = u64_at b 0; table_data_size = u64_at b 8; table_len = u32_at b 24 }
+fixed_at b = record { form = u64_at b 0; data_size = u64_at b 8; table_len = u32_at b 24 }
