@@ -32,6 +32,7 @@ OTHER_BLOCK = "0203000400", lambda name: sum((written(name, *it) for it in [(690
 DESCRIBE = "04015261696e", lambda name: written(name, 80, "5261696e" + 252 * "00")
 MARK = "030700000002000000", lambda name: []
 CLOSE = "050200000000000000", lambda name: [f"sync {name}.wav"]
+CLOSE_EMPTY = "050000000000000000", CLOSE[1]
 CLOSE_MARKED = CLOSE[0], lambda name: [*written(name, 694, MARKER), *written(name, 4, "d2020000"), f"sync {name}.wav"]
 
 

@@ -7,7 +7,7 @@ import contextlib
 import io
 import os
 import struct
-from errno import EAGAIN, ECONNABORTED, EINTR, EIO
+from errno import EAGAIN, ECONNABORTED, EEXIST, EINTR, EIO
 
 import network
 from network import run_case, TALLY
@@ -17,6 +17,7 @@ WRITE, POLL, SEEK, CONNECT, SEND, RECEIVE, SHUTDOWN, BIND, SET = 1, 7, 8, 42, 44
 SYNC, TRUNCATE, REMOVE, EXIT, WAIT, REGISTER, OPEN, ACCEPT, STAT = 74, 77, 87, 231, 232, 233, 257, 288, 332
 NODELAY, RECEIVE_TIMEOUT, SEND_TIMEOUT = (6, 1), (1, 20), (1, 21)  # level and number of an option
 WITHOUT_END = -1
+SYNC_DATA = 75
 FIRST_FILE = 3  # the descriptors below it are the process's streams
 FOLDER_MODE, PIPE_MODE = 0o040755, 0o010644
 MODE_AT, IP_AT, TOKEN_AT = 28, 4, 4  # the places in what statx gives, in an address, in an event
@@ -97,6 +98,10 @@ def cut_in_place_of_seek(call):
     call.become(TRUNCATE)
 
 
+def sync_data_alone(call):
+    call.become(SYNC_DATA)
+
+
 def seem_done(call):
     call.result = max(call.result, 0)
 
@@ -140,6 +145,10 @@ def opened_over(flags):
     return flags & ~os.O_EXCL | os.O_TRUNC
 
 
+def opened_at_its_end(flags):
+    return flags | os.O_APPEND
+
+
 def none(_word):
     return 0
 
@@ -152,6 +161,10 @@ BODIES = [
     Body("no sync", "in_turn", left_out(SYNC)),
     Body("no sync, of many", "many", left_out(SYNC)),
     Body("a sync of another file", "in_turn", with_word(SYNC, 0, FirstSynced())),
+    Body("a sync of the bytes alone", "in_turn", when(SYNC, sync_data_alone)),
+    Body("a failed sync is taken for a done one", "refused_disk", after=when(SYNC, seem_done)),
+    Body("each write goes to the end of its file", "in_turn", with_word(OPEN, 2, opened_at_its_end)),
+    Body("a failed opening is taken for a name that stood", "refused_disk", after=when(OPEN, taken_for(EIO, EEXIST))),
     Body("an existing file is opened, and cut", "in_turn", with_word(OPEN, 2, opened_over)),
     Body("a file is cut where it is written", "in_turn", when(SEEK, cut_in_place_of_seek, is_file)),
     Body("the probe of a folder is left", "in_turn", left_out(REMOVE)),

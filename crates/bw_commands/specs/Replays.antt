@@ -1,5 +1,5 @@
 -- What a replay reads and writes, and how it ends.
-use Rattle.std.specs.Prelude.{◌≡◌, ℕ, Option, List, ◌++◌, Result, Ok, Err, ◌*◌}
+use Rattle.std.specs.Prelude.{◌≡◌, ◌≤◌, ◌+◌, ◌*◌, ◌++◌, ℕ, Option, List, Result, Ok, Err}
 use Rattle.bw_store.specs.MemoryNames.{AreNames}
 use Rattle.bw_stream.specs.Readers.{Of}
 use Rattle.bw_console.specs.Outcomes.{Outcome}

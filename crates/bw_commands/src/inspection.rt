@@ -1,5 +1,5 @@
 //! The command `inspect`: what is in a file, given as a reader or by its path.
-ghost use Rattle.std.specs.Prelude.{◌≡◌, true};
+ghost use Rattle.std.specs.Prelude.{◌≡◌, Bool, true};
 ghost use Rattle.bw_model.specs.Report.{report_text};
 ghost use Rattle.bw_inspect.specs.Reports.{reported_by};
 ghost use Rattle.bw_console.specs.Outcomes.{Outcome, HasWritten};
