@@ -103,15 +103,17 @@ bad_line found command value first =
       inl bad,
     )
 
+-- the limit that is given is the one on the line
+limit_on_line : (found : Found) (limit : ℕ) → GivesLimit (first_value found (codes "limit")) limit
+    → GivesLimit (given_on_line (rows_of found) (codes "limit")) limit
+limit_on_line found limit given = by_rows found (λ g. GivesLimit (g (codes "limit")) limit) given
+
 -- what is given is what is asked for
 pub given_asked : (found : Found) (limit : ℕ) (fuse : Option ℕ)
     → GivesLimit (first_value found (codes "limit")) limit → GivesFuse (first_value found (codes "fuse")) fuse
     → IsWishOf (Some (codes "replay", rows_of found)) (Replaying limit fuse)
-given_asked found limit fuse given burns = (
-  refl,
-  by_rows found (λ g. GivesLimit (g (codes "limit")) limit) given,
-  by_rows found (λ g. GivesFuse (g (codes "fuse")) fuse) burns,
-)
+given_asked found limit fuse given burns =
+    (refl, limit_on_line found limit given, by_rows found (λ g. GivesFuse (g (codes "fuse")) fuse) burns)
 
 -- no limit that is one
 pub no_limit : (found : Found) → IsLimitGiven (first_value found (codes "limit")) None
@@ -133,11 +135,8 @@ no_fuse_line found limit given burns = bad_line found (codes "replay") Fuse
 pub given_rehearsed : (found : Found) (name : Text) (limit : ℕ)
     → GivesName (first_value found (codes "name")) name → GivesLimit (first_value found (codes "limit")) limit
     → IsWishOf (Some (codes "rehearse", rows_of found)) (Rehearsing name limit)
-given_rehearsed found name limit named given = (
-  refl,
-  by_rows found (λ g. GivesName (g (codes "name")) name) named,
-  by_rows found (λ g. GivesLimit (g (codes "limit")) limit) given,
-)
+given_rehearsed found name limit named given =
+    (refl, by_rows found (λ g. GivesName (g (codes "name")) name) named, limit_on_line found limit given)
 
 -- if no name is given that is one, that is the line
 pub no_name_line : (found : Found) → IsNameGiven (first_value found (codes "name")) None

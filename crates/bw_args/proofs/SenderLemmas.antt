@@ -1,8 +1,7 @@
 -- The forms of `send`, at values that are not known.
-use Rattle.std.proofs.Common.{List, [], ◌∷◌, ◌++◌, true, false, Some, None, ◌<◌}
+use Rattle.std.proofs.Common.{List, [], ◌∷◌, ◌++◌, true, false, Some, None}
 use Rattle.std.proofs.Common.{codes}
-use Rattle.std.proofs.Common.{refl, subst, sym, arith}
-use Rattle.std.proofs.lemmas.Str.Parse.{digit_from_value}
+use Rattle.std.proofs.Common.{refl, subst, sym}
 use Rattle.std.specs.declared.net.socket_addr.SocketAddr.{SocketAddr}
 use Rattle.std.specs.Net.Socket.{socket_port}
 use Rattle.clap.specs.Words.{Text}
@@ -12,11 +11,11 @@ use Rattle.bw_args.specs.Numbers.{IsCountText, IsNumber, most_rounds}
 use Rattle.bw_args.specs.Numbers.{most_seconds}
 use Rattle.bw_args.specs.Numbers.{number_written}
 use Rattle.bw_args.specs.ReadWords.{as_read}
-use Rattle.bw_args.specs.Lines.{AsksFor, IsLineOf, IsName, Sending, Wish}
+use Rattle.bw_args.specs.Lines.{AsksFor, IsLineOf, IsName, Sending}
 use Rattle.bw_args.specs.PeerForms.{RunsSender, plain_sender}
 use Rattle.bw_args.specs.PeerForms.{sending}
 use Rattle.bw_args.specs.declared.CommandLine.{CommandLine}
-use Rattle.bw_args.proofs.ServerLemmas.{asked_runs, by_digit, same_asks}
+use Rattle.bw_args.proofs.ServerLemmas.{IsReadApart, asked_runs, asks_apart, by_number}
 
 alone_asks : (program connect name : Text) (address : SocketAddr) → IsAddress false connect address → IsName name
     → AsksFor (as_read (sending program connect name [])) (Sending (plain_sender address name))
@@ -108,46 +107,39 @@ apart_asks program connect name address at named =
     (Sending (plain_sender address name))) (sym (at.near refl))
     (apart_near program name address (subst (λ t. IsAddress false t address) (at.near refl) at) named)
 
--- what is asked for in one word is asked for in two
-rounds_apart : (program connect name count : Text) (wish : Wish) → IsNumber count
-    → AsksFor (as_read (sending program connect name ((codes "--rounds=" ++ count) ∷ []))) wish
-    → AsksFor (as_read (sending program connect name (codes "--rounds" ∷ count ∷ []))) wish
+rounds_apart : (program connect name text : Text) → IsNumber text
+    → IsReadApart (sending program connect name) (codes "--rounds") text
 unfolding clap_on_literals
-rounds_apart program connect name [] wish number asks = let bad : 0 < 0 = number.0.0 in absurd (omega arith)
-rounds_apart program connect name (d ∷ ds) wish number asks = by_digit
-    (λ c. AsksFor (as_read (sending program connect name ((codes "--rounds=" ++ (c ∷ ds)) ∷ []))) wish
-    → AsksFor (as_read (sending program connect name (codes "--rounds" ∷ (c ∷ ds) ∷ []))) wish) (
-      same_asks _ _ wish refl refl,
-      same_asks _ _ wish refl refl,
-      same_asks _ _ wish refl refl,
-      same_asks _ _ wish refl refl,
-      same_asks _ _ wish refl refl,
-      same_asks _ _ wish refl refl,
-      same_asks _ _ wish refl refl,
-      same_asks _ _ wish refl refl,
-      same_asks _ _ wish refl refl,
-      same_asks _ _ wish refl refl,
-    ) d (digit_from_value d number.0.1.0) asks
+rounds_apart program connect name =
+    by_number (IsReadApart (sending program connect name) (codes "--rounds")) (λ ds. (
+      (refl, refl),
+      (refl, refl),
+      (refl, refl),
+      (refl, refl),
+      (refl, refl),
+      (refl, refl),
+      (refl, refl),
+      (refl, refl),
+      (refl, refl),
+      (refl, refl),
+    ))
 
-timeout_apart : (program connect name count : Text) (wish : Wish) → IsNumber count
-    → AsksFor (as_read (sending program connect name ((codes "--timeout=" ++ count) ∷ []))) wish
-    → AsksFor (as_read (sending program connect name (codes "--timeout" ∷ count ∷ []))) wish
+timeout_apart : (program connect name text : Text) → IsNumber text
+    → IsReadApart (sending program connect name) (codes "--timeout") text
 unfolding clap_on_literals
-timeout_apart program connect name [] wish number asks = let bad : 0 < 0 = number.0.0 in absurd (omega arith)
-timeout_apart program connect name (d ∷ ds) wish number asks = by_digit
-    (λ c. AsksFor (as_read (sending program connect name ((codes "--timeout=" ++ (c ∷ ds)) ∷ []))) wish
-    → AsksFor (as_read (sending program connect name (codes "--timeout" ∷ (c ∷ ds) ∷ []))) wish) (
-      same_asks _ _ wish refl refl,
-      same_asks _ _ wish refl refl,
-      same_asks _ _ wish refl refl,
-      same_asks _ _ wish refl refl,
-      same_asks _ _ wish refl refl,
-      same_asks _ _ wish refl refl,
-      same_asks _ _ wish refl refl,
-      same_asks _ _ wish refl refl,
-      same_asks _ _ wish refl refl,
-      same_asks _ _ wish refl refl,
-    ) d (digit_from_value d number.0.1.0) asks
+timeout_apart program connect name =
+    by_number (IsReadApart (sending program connect name) (codes "--timeout")) (λ ds. (
+      (refl, refl),
+      (refl, refl),
+      (refl, refl),
+      (refl, refl),
+      (refl, refl),
+      (refl, refl),
+      (refl, refl),
+      (refl, refl),
+      (refl, refl),
+      (refl, refl),
+    ))
 
 pub runs_sender : (words : List Text) (line : CommandLine) → IsLineOf words line → RunsSender words line
 runs_sender words line is = record {
@@ -155,9 +147,13 @@ runs_sender words line is = record {
   apart = λ p c n a at named e. asked_runs words _ line _ is e (apart_asks p c n a at named);
   rounds = λ t given p c n a at named e. asked_runs words _ line _ is e (rounds_asks p c n a t at named given);
   rounds_apart = λ t given p c n a at named e.
-      asked_runs words _ line _ is e (rounds_apart p c n t _ given.0 (rounds_asks p c n a t at named given));
+      asked_runs words _ line _ is e
+      (asks_apart (sending p c n) (codes "--rounds") t _ (rounds_apart p c n t given.0)
+      (rounds_asks p c n a t at named given));
   timeout = λ t given p c n a at named e. asked_runs words _ line _ is e (timeout_asks p c n a t at named given);
   timeout_apart = λ t given p c n a at named e.
-      asked_runs words _ line _ is e (timeout_apart p c n t _ given.0 (timeout_asks p c n a t at named given));
+      asked_runs words _ line _ is e
+      (asks_apart (sending p c n) (codes "--timeout") t _ (timeout_apart p c n t given.0)
+      (timeout_asks p c n a t at named given));
   network = λ p c n a at named e. asked_runs words _ line _ is e (network_asks p c n a at named);
 }

@@ -259,7 +259,7 @@ apart_asks program listen folder address at full =
     (apart_near program folder address (subst (λ t. IsAddress false t address) (at.near refl) at) full)
 
 -- what holds of each of the ten digits holds of a digit
-pub by_digit : (P : ℕ → Type 0)
+by_digit : (P : ℕ → Type 0)
     → P 48 × P 49 × P 50 × P 51 × P 52 × P 53 × P 54 × P 55 × P 56 × P 57
     → (d : ℕ) → IsInRange 48 57 d → P d
 by_digit P each d is = subst P (omega arith) (go (d - 48) (omega arith))
@@ -277,92 +277,95 @@ by_digit P each d is = subst P (omega arith) (go (d - 48) (omega arith))
     go (suc (suc (suc (suc (suc (suc (suc (suc (suc zero))))))))) below = each.9
     go (suc (suc (suc (suc (suc (suc (suc (suc (suc (suc n)))))))))) below = absurd (omega arith)
 
--- words that result in the same command ask for the same
-pub same_asks : (words other : List Text) (wish : Wish) → fault_of command_line words ≡ []
-    → subcommand_of command_line words ≡ subcommand_of command_line other → AsksFor other wish → AsksFor words wish
-same_asks words other wish taken same asks =
-    record { taken = taken; asked = subst (λ o. IsWishOf o wish) (sym same) asks.asked }
+-- a number begins with a digit
+pub by_number : (P : Text → Type 0)
+    → ((ds : Text) → P (48 ∷ ds) × P (49 ∷ ds) × P (50 ∷ ds) × P (51 ∷ ds) × P (52 ∷ ds)
+    × P (53 ∷ ds) × P (54 ∷ ds) × P (55 ∷ ds) × P (56 ∷ ds) × P (57 ∷ ds))
+    → (text : Text) → IsNumber text → P text
+by_number P each [] number = let bad : 0 < 0 = number.0.0 in absurd (omega arith)
+by_number P each (d ∷ ds) number = by_digit (λ c. P (c ∷ ds)) (each ds) d (digit_from_value d number.0.1.0)
 
--- what is asked for in one word is asked for in two
-exchanges_apart : (program listen folder count : Text) (wish : Wish) → IsNumber count
-    → AsksFor (as_read (serving program listen folder ((codes "--exchanges=" ++ count) ∷ []))) wish
-    → AsksFor (as_read (serving program listen folder (codes "--exchanges" ∷ count ∷ []))) wish
-unfolding clap_on_literals
-exchanges_apart program listen folder [] wish number asks = let bad : 0 < 0 = number.0.0 in absurd (omega arith)
-exchanges_apart program listen folder (d ∷ ds) wish number asks = by_digit
-    (λ c. AsksFor (as_read (serving program listen folder ((codes "--exchanges=" ++ (c ∷ ds)) ∷ []))) wish
-    → AsksFor (as_read (serving program listen folder (codes "--exchanges" ∷ (c ∷ ds) ∷ []))) wish) (
-      same_asks _ _ wish refl refl,
-      same_asks _ _ wish refl refl,
-      same_asks _ _ wish refl refl,
-      same_asks _ _ wish refl refl,
-      same_asks _ _ wish refl refl,
-      same_asks _ _ wish refl refl,
-      same_asks _ _ wish refl refl,
-      same_asks _ _ wish refl refl,
-      same_asks _ _ wish refl refl,
-      same_asks _ _ wish refl refl,
-    ) d (digit_from_value d number.0.1.0) asks
+-- a value in the word after its option is taken, and read as one in the word of its option
+abbrev pub IsReadApart : (List Text → List Text) → Text → Text → Type 0
+IsReadApart before option value =
+    (fault_of command_line (as_read (before (option ∷ value ∷ []))) ≡ [])
+    × (subcommand_of command_line (as_read (before (option ∷ value ∷ [])))
+    ≡ subcommand_of command_line (as_read (before ((option ++ codes "=" ++ value) ∷ []))))
 
-limit_apart : (program listen folder count : Text) (wish : Wish) → IsNumber count
-    → AsksFor (as_read (serving program listen folder ((codes "--limit=" ++ count) ∷ []))) wish
-    → AsksFor (as_read (serving program listen folder (codes "--limit" ∷ count ∷ []))) wish
-unfolding clap_on_literals
-limit_apart program listen folder [] wish number asks = let bad : 0 < 0 = number.0.0 in absurd (omega arith)
-limit_apart program listen folder (d ∷ ds) wish number asks = by_digit
-    (λ c. AsksFor (as_read (serving program listen folder ((codes "--limit=" ++ (c ∷ ds)) ∷ []))) wish
-    → AsksFor (as_read (serving program listen folder (codes "--limit" ∷ (c ∷ ds) ∷ []))) wish) (
-      same_asks _ _ wish refl refl,
-      same_asks _ _ wish refl refl,
-      same_asks _ _ wish refl refl,
-      same_asks _ _ wish refl refl,
-      same_asks _ _ wish refl refl,
-      same_asks _ _ wish refl refl,
-      same_asks _ _ wish refl refl,
-      same_asks _ _ wish refl refl,
-      same_asks _ _ wish refl refl,
-      same_asks _ _ wish refl refl,
-    ) d (digit_from_value d number.0.1.0) asks
+-- and asks for the same
+pub asks_apart : (before : List Text → List Text) (option value : Text) (wish : Wish) → IsReadApart before option value
+    → AsksFor (as_read (before ((option ++ codes "=" ++ value) ∷ []))) wish
+    → AsksFor (as_read (before (option ∷ value ∷ []))) wish
+asks_apart before option value wish same asks =
+    record { taken = same.0; asked = subst (λ o. IsWishOf o wish) (sym same.1) asks.asked }
 
-timeout_apart : (program listen folder count : Text) (wish : Wish) → IsNumber count
-    → AsksFor (as_read (serving program listen folder ((codes "--timeout=" ++ count) ∷ []))) wish
-    → AsksFor (as_read (serving program listen folder (codes "--timeout" ∷ count ∷ []))) wish
+exchanges_apart : (program listen folder text : Text) → IsNumber text
+    → IsReadApart (serving program listen folder) (codes "--exchanges") text
 unfolding clap_on_literals
-timeout_apart program listen folder [] wish number asks = let bad : 0 < 0 = number.0.0 in absurd (omega arith)
-timeout_apart program listen folder (d ∷ ds) wish number asks = by_digit
-    (λ c. AsksFor (as_read (serving program listen folder ((codes "--timeout=" ++ (c ∷ ds)) ∷ []))) wish
-    → AsksFor (as_read (serving program listen folder (codes "--timeout" ∷ (c ∷ ds) ∷ []))) wish) (
-      same_asks _ _ wish refl refl,
-      same_asks _ _ wish refl refl,
-      same_asks _ _ wish refl refl,
-      same_asks _ _ wish refl refl,
-      same_asks _ _ wish refl refl,
-      same_asks _ _ wish refl refl,
-      same_asks _ _ wish refl refl,
-      same_asks _ _ wish refl refl,
-      same_asks _ _ wish refl refl,
-      same_asks _ _ wish refl refl,
-    ) d (digit_from_value d number.0.1.0) asks
+exchanges_apart program listen folder =
+    by_number (IsReadApart (serving program listen folder) (codes "--exchanges")) (λ ds. (
+      (refl, refl),
+      (refl, refl),
+      (refl, refl),
+      (refl, refl),
+      (refl, refl),
+      (refl, refl),
+      (refl, refl),
+      (refl, refl),
+      (refl, refl),
+      (refl, refl),
+    ))
 
-recorders_apart : (program listen folder count : Text) (wish : Wish) → IsNumber count
-    → AsksFor (as_read (serving program listen folder ((codes "--recorders=" ++ count) ∷ []))) wish
-    → AsksFor (as_read (serving program listen folder (codes "--recorders" ∷ count ∷ []))) wish
+limit_apart : (program listen folder text : Text) → IsNumber text
+    → IsReadApart (serving program listen folder) (codes "--limit") text
 unfolding clap_on_literals
-recorders_apart program listen folder [] wish number asks = let bad : 0 < 0 = number.0.0 in absurd (omega arith)
-recorders_apart program listen folder (d ∷ ds) wish number asks = by_digit
-    (λ c. AsksFor (as_read (serving program listen folder ((codes "--recorders=" ++ (c ∷ ds)) ∷ []))) wish
-    → AsksFor (as_read (serving program listen folder (codes "--recorders" ∷ (c ∷ ds) ∷ []))) wish) (
-      same_asks _ _ wish refl refl,
-      same_asks _ _ wish refl refl,
-      same_asks _ _ wish refl refl,
-      same_asks _ _ wish refl refl,
-      same_asks _ _ wish refl refl,
-      same_asks _ _ wish refl refl,
-      same_asks _ _ wish refl refl,
-      same_asks _ _ wish refl refl,
-      same_asks _ _ wish refl refl,
-      same_asks _ _ wish refl refl,
-    ) d (digit_from_value d number.0.1.0) asks
+limit_apart program listen folder =
+    by_number (IsReadApart (serving program listen folder) (codes "--limit")) (λ ds. (
+      (refl, refl),
+      (refl, refl),
+      (refl, refl),
+      (refl, refl),
+      (refl, refl),
+      (refl, refl),
+      (refl, refl),
+      (refl, refl),
+      (refl, refl),
+      (refl, refl),
+    ))
+
+timeout_apart : (program listen folder text : Text) → IsNumber text
+    → IsReadApart (serving program listen folder) (codes "--timeout") text
+unfolding clap_on_literals
+timeout_apart program listen folder =
+    by_number (IsReadApart (serving program listen folder) (codes "--timeout")) (λ ds. (
+      (refl, refl),
+      (refl, refl),
+      (refl, refl),
+      (refl, refl),
+      (refl, refl),
+      (refl, refl),
+      (refl, refl),
+      (refl, refl),
+      (refl, refl),
+      (refl, refl),
+    ))
+
+recorders_apart : (program listen folder text : Text) → IsNumber text
+    → IsReadApart (serving program listen folder) (codes "--recorders") text
+unfolding clap_on_literals
+recorders_apart program listen folder =
+    by_number (IsReadApart (serving program listen folder) (codes "--recorders")) (λ ds. (
+      (refl, refl),
+      (refl, refl),
+      (refl, refl),
+      (refl, refl),
+      (refl, refl),
+      (refl, refl),
+      (refl, refl),
+      (refl, refl),
+      (refl, refl),
+      (refl, refl),
+    ))
 
 -- words that ask for this run it
 pub asked_runs : (words asking : List Text) (line : CommandLine) (wish : Wish) → IsLineOf words line → words ≡ asking
@@ -376,16 +379,24 @@ runs_server words line is = record {
   apart = λ p l f a at full e. asked_runs words _ line _ is e (apart_asks p l f a at full);
   exchanges = λ n given p l f a at full e. asked_runs words _ line _ is e (exchanges_asks p l f a n at full given);
   exchanges_apart = λ n given p l f a at full e.
-      asked_runs words _ line _ is e (exchanges_apart p l f n _ given.0 (exchanges_asks p l f a n at full given));
+      asked_runs words _ line _ is e
+      (asks_apart (serving p l f) (codes "--exchanges") n _ (exchanges_apart p l f n given.0)
+      (exchanges_asks p l f a n at full given));
   limit = λ n given p l f a at full e. asked_runs words _ line _ is e (limit_asks p l f a n at full given);
   limit_apart = λ n given p l f a at full e.
-      asked_runs words _ line _ is e (limit_apart p l f n _ given.0 (limit_asks p l f a n at full given));
+      asked_runs words _ line _ is e
+      (asks_apart (serving p l f) (codes "--limit") n _ (limit_apart p l f n given.0)
+      (limit_asks p l f a n at full given));
   timeout = λ n given p l f a at full e. asked_runs words _ line _ is e (timeout_asks p l f a n at full given);
   timeout_apart = λ n given p l f a at full e.
-      asked_runs words _ line _ is e (timeout_apart p l f n _ given.0 (timeout_asks p l f a n at full given));
+      asked_runs words _ line _ is e
+      (asks_apart (serving p l f) (codes "--timeout") n _ (timeout_apart p l f n given.0)
+      (timeout_asks p l f a n at full given));
   recorders = λ n given p l f a at full e. asked_runs words _ line _ is e (recorders_asks p l f a n at full given);
   recorders_apart = λ n given p l f a at full e.
-      asked_runs words _ line _ is e (recorders_apart p l f n _ given.0 (recorders_asks p l f a n at full given));
+      asked_runs words _ line _ is e
+      (asks_apart (serving p l f) (codes "--recorders") n _ (recorders_apart p l f n given.0)
+      (recorders_asks p l f a n at full given));
   idle = λ n s given idles p l f a at full e.
       asked_runs words _ line _ is e (idle_asks p l f a n s at full given idles);
   network = λ p l f a at full e. asked_runs words _ line _ is e (network_asks p l f a at full);

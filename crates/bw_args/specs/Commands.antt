@@ -1,8 +1,20 @@
 -- The command line as `clap` sees it.
-use Rattle.std.specs.Prelude.{Some, true, codes}
+use Rattle.std.specs.Prelude.{◌≡◌, Some, true, false, codes}
+use Rattle.clap.specs.Words.{app_of, rule_of}
 use Rattle.clap.specs.Walk.{Rule, Text}
 use Rattle.clap.specs.Simple.{App, new_app, new_rule, on_top, with_rule, with_subcommand}
 use Rattle.clap.specs.declared.builder.action.ArgAction.TheVariants.{SetTrue}
+use Rattle.clap.specs.declared.builder.arg.Arg.{Arg}
+use Rattle.clap.specs.declared.builder.Command.{Command}
+use Rattle.clap.specs.declared.builder.Command.TheViews.{out-Command}
+
+-- the option has this rule, and is one of its own command alone
+abbrev pub IsOption : Rule → Arg → Type 0
+IsOption rule a = (rule_of a ≡ rule) × (a.global ≡ false)
+
+-- the command is this one, and each of its options is its own
+abbrev pub IsCommand : App → Command → Type 0
+IsCommand app c = (app_of c ≡ app) × ((out-Command c).has_globals ≡ false)
 
 -- an option with a value, `--limit N`
 abbrev pub option : Text → Rule

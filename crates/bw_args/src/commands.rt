@@ -1,21 +1,21 @@
 //! The commands of the program, as `clap` sees them, and what each results in.
-ghost use Rattle.std.specs.Prelude.{◌≡◌, false, codes, Some, IfOk, OnErr};
-ghost use Rattle.clap.specs.Words.{app_of, first_value, found_of, rows_of, rule_of};
-ghost use Rattle.clap.specs.Words.{subcommand_rows_of};
-ghost use Rattle.clap.specs.declared.builder.Command.TheViews.{out-Command};
-ghost use Rattle.bw_args.specs.Commands.{command_line, fuse_option, inspect_command, limit_option};
-ghost use Rattle.bw_args.specs.Commands.{name_option, offline, program, rehearse_command};
-ghost use Rattle.bw_args.specs.Commands.{replay_command};
+ghost use Rattle.std.specs.Prelude.{◌≡◌, codes, Some, IfOk, OnErr};
+ghost use Rattle.clap.specs.Simple.{new_app};
+ghost use Rattle.clap.specs.Words.{app_of, first_value, found_of, rows_of, subcommand_rows_of};
+ghost use Rattle.bw_args.specs.Commands.{IsCommand, command_line, inspect_command, offline, program};
+ghost use Rattle.bw_args.specs.Commands.{rehearse_command, replay_command};
 ghost use Rattle.bw_args.specs.Lines.{AsksForPath, IsFuseGiven, IsLimitGiven, IsLineFor};
 ghost use Rattle.bw_args.specs.Lines.{IsNameGiven};
 
 mod network;
+mod options;
 mod sending;
 mod serving;
 
 use crate::{BadValue, CommandLine, Task, numbers};
 use bw_request::Name;
-use clap::{Arg, ArgMatches, Command};
+use clap::{ArgMatches, Command};
+use options::{file_argument, fuse_option, limit_option, name_option};
 use std::alloc::{AllocError, Global};
 
 /// A text that is no number of the kind wanted.
@@ -53,68 +53,46 @@ fn program<'a>(alloc: Global) -> Result<Command<'a>, AllocError>
     Ok(command)
 }
 
-fn replay<'a>(alloc: Global) -> Result<Command<'a>, AllocError>
-    ensures shape { IfOk result (λ c. app_of c ≡ replay_command) }
-    ensures local { IfOk result (λ c. (out-Command c).has_globals ≡ false) }
+/// A command without options, and what it does.
+fn named<'a>(alloc: Global, name: &'a str, about: &'a str) -> Command<'a>
+    ensures { IsCommand (new_app name.now) result }
 {
-    Command::new(alloc, "replay")
-        .about("Runs each line of standard input as an exchange, and prints replies and files")
-        .arg(limit_option(alloc))?
-        .arg(fuse_option(alloc))
+    Command::new(alloc, name).about(about)
+}
+
+fn replay<'a>(alloc: Global) -> Result<Command<'a>, AllocError>
+    ensures { IfOk result (IsCommand replay_command) }
+{
+    named(
+        alloc,
+        "replay",
+        "Runs each line of standard input as an exchange, and prints replies and files",
+    )
+    .arg(limit_option(alloc))?
+    .arg(fuse_option(alloc))
 }
 
 fn rehearse<'a>(alloc: Global) -> Result<Command<'a>, AllocError>
-    ensures shape { IfOk result (λ c. app_of c ≡ rehearse_command) }
-    ensures local { IfOk result (λ c. (out-Command c).has_globals ≡ false) }
+    ensures { IfOk result (IsCommand rehearse_command) }
 {
-    Command::new(alloc, "rehearse")
-        .about("Plays a recorder and a server by hand, by the events on standard input")
-        .arg(name_option(alloc))?
-        .arg(limit_option(alloc))
-}
-
-/// A name that begins with a hyphen reaches `clap` in the word of its option (`read_words`), since
-/// `clap`'s contract isn't exact for a command that takes such a word by itself.
-fn name_option<'a>(alloc: Global) -> Arg<'a>
-    ensures rule { rule_of result ≡ name_option }
-    ensures local { result.global ≡ false }
-{
-    Arg::new(alloc, "name")
-        .long("name")
-        .value_name("NAME")
-        .required(true)
-        .help("The take's name")
-}
-
-fn limit_option<'a>(alloc: Global) -> Arg<'a>
-    ensures rule { rule_of result ≡ limit_option }
-    ensures local { result.global ≡ false }
-{
-    Arg::new(alloc, "limit").long("limit").value_name("N").help(
-        "The greatest form size of a RIFF file, in bytes, even, from 8192 [default: 4294967294]",
+    named(
+        alloc,
+        "rehearse",
+        "Plays a recorder and a server by hand, by the events on standard input",
     )
-}
-
-fn fuse_option<'a>(alloc: Global) -> Arg<'a>
-    ensures rule { rule_of result ≡ fuse_option }
-    ensures local { result.global ≡ false }
-{
-    Arg::new(alloc, "fuse").long("fuse").value_name("K").help(
-        "The one call of the store that fails, counted from 0 [default: none]",
-    )
+    .arg(name_option(alloc))?
+    .arg(limit_option(alloc))
 }
 
 fn inspect<'a>(alloc: Global) -> Result<Command<'a>, AllocError>
-    ensures shape { IfOk result (λ c. app_of c ≡ inspect_command) }
-    ensures local { IfOk result (λ c. (out-Command c).has_globals ≡ false) }
+    ensures { IfOk result (IsCommand inspect_command) }
 {
-    let file = Arg::new(alloc, "file")
-        .value_name("FILE")
-        .required(true)
-        .help("A RIFF WAVE, BW64 or RF64 file");
-    Command::new(alloc, "inspect")
-        .about("Tells what is in a file, or its first fault and where that is")
-        .arg(file)
+    named(
+        alloc,
+        "inspect",
+        "Tells what is in a file, or its first fault and where that is",
+    )
+    .arg(file_argument(alloc))
 }
 
 /// What parsed words result in. Only the path of a file or a folder takes memory, so that a bad

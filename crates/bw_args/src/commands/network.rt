@@ -1,35 +1,13 @@
 //! What `serve` and `send` have in common, and how their values are read.
-ghost use Rattle.std.specs.Prelude.{◌≡◌, false};
-ghost use Rattle.clap.specs.Words.{first_value, found_of, rule_of};
-ghost use Rattle.bw_args.specs.Commands.{network_flag, timeout_option};
+ghost use Rattle.std.specs.Prelude.{◌≡◌};
+ghost use Rattle.clap.specs.Words.{first_value, found_of};
 ghost use Rattle.bw_args.specs.Lines.{IsAddressGiven, IsCountGiven, is_set};
 
 use super::NoNumber;
 use crate::addresses::address;
 use crate::numbers;
-use clap::{Arg, ArgAction, ArgMatches};
-use std::alloc::Global;
+use clap::ArgMatches;
 use std::net::SocketAddr;
-
-pub(crate) fn timeout_option<'a>(alloc: Global) -> Arg<'a>
-    ensures rule { rule_of result ≡ timeout_option }
-    ensures local { result.global ≡ false }
-{
-    Arg::new(alloc, "timeout")
-        .long("timeout")
-        .value_name("SECONDS")
-        .help("How long a silent peer is waited for, 1 to 86400 [default: for good]")
-}
-
-pub(crate) fn network_flag<'a>(alloc: Global) -> Arg<'a>
-    ensures rule { rule_of result ≡ network_flag }
-    ensures local { result.global ≡ false }
-{
-    Arg::new(alloc, "network")
-        .long("network")
-        .action(ArgAction::SetTrue)
-        .help("Takes any address; nothing on the wire is encrypted or signed")
-}
 
 /// Whether the flag of this name is given.
 pub(crate) fn flag_given(options: &ArgMatches<'_>, flag: &str) -> bool

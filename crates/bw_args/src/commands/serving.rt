@@ -1,22 +1,22 @@
 //! The command `serve`.
-ghost use Rattle.std.specs.Prelude.{◌≡◌, false, codes, Some, IfOk, IfErr, OnErr, option_map};
-ghost use Rattle.clap.specs.Words.{app_of, first_value, found_of, rows_of, rule_of};
-ghost use Rattle.clap.specs.declared.builder.Command.TheViews.{out-Command};
-ghost use Rattle.bw_args.specs.Commands.{exchanges_option, folder_option, listen_option, log_flag};
-ghost use Rattle.bw_args.specs.Commands.{idle_option, recorders_option, serve_command, serve_how};
-ghost use Rattle.bw_args.specs.Commands.{serve_many, serve_where, until_stopped_flag};
+ghost use Rattle.std.specs.Prelude.{codes, Some, IfOk, IfErr, OnErr, option_map};
+ghost use Rattle.clap.specs.Words.{first_value, found_of, rows_of};
+ghost use Rattle.bw_args.specs.Commands.{IsCommand, serve_command, serve_how, serve_many, serve_where};
 ghost use Rattle.bw_args.specs.Lines.{AsksForPath, GivesRecorders, IsEndGiven, IsFirstBad};
 ghost use Rattle.bw_args.specs.Lines.{IsFolderGiven, IsLineFor, IsRecordersGiven, looked_at_waiting};
 
-use super::network::{address_given, count_given, flag_given, network_flag, timeout_option};
-use super::{limit_given, limit_option};
+use super::network::{address_given, count_given, flag_given};
+use super::options::{
+    exchanges_option, folder_option, idle_option, limit_option, listen_option, log_flag,
+    network_flag, recorders_option, timeout_option, until_stopped_flag,
+};
+use super::{limit_given, named};
 use crate::{BadValue, CommandLine, End, Recorders, Serve, Task, numbers};
-use clap::{Arg, ArgAction, ArgMatches, Command};
+use clap::{ArgMatches, Command};
 use std::alloc::{AllocError, Global};
 
 pub(crate) fn serve<'a>(alloc: Global) -> Result<Command<'a>, AllocError>
-    ensures shape { IfOk result (λ c. app_of c ≡ serve_command) }
-    ensures local { IfOk result (λ c. (out-Command c).has_globals ≡ false) }
+    ensures { IfOk result (IsCommand serve_command) }
 {
     serve_many(alloc)?
         .arg(until_stopped_flag(alloc))?
@@ -25,8 +25,7 @@ pub(crate) fn serve<'a>(alloc: Global) -> Result<Command<'a>, AllocError>
 
 /// The command with these and the options for many recorders at once.
 fn serve_many<'a>(alloc: Global) -> Result<Command<'a>, AllocError>
-    ensures shape { IfOk result (λ c. app_of c ≡ serve_many) }
-    ensures local { IfOk result (λ c. (out-Command c).has_globals ≡ false) }
+    ensures { IfOk result (IsCommand serve_many) }
 {
     serve_how(alloc)?
         .arg(recorders_option(alloc))?
@@ -35,8 +34,7 @@ fn serve_many<'a>(alloc: Global) -> Result<Command<'a>, AllocError>
 
 /// The command with these and the options that say how peers are treated.
 fn serve_how<'a>(alloc: Global) -> Result<Command<'a>, AllocError>
-    ensures shape { IfOk result (λ c. app_of c ≡ serve_how) }
-    ensures local { IfOk result (λ c. (out-Command c).has_globals ≡ false) }
+    ensures { IfOk result (IsCommand serve_how) }
 {
     serve_where(alloc)?
         .arg(limit_option(alloc))?
@@ -46,90 +44,17 @@ fn serve_how<'a>(alloc: Global) -> Result<Command<'a>, AllocError>
 
 /// The command with the options that say what is served, and where.
 fn serve_where<'a>(alloc: Global) -> Result<Command<'a>, AllocError>
-    ensures shape { IfOk result (λ c. app_of c ≡ serve_where) }
-    ensures local { IfOk result (λ c. (out-Command c).has_globals ≡ false) }
+    ensures { IfOk result (IsCommand serve_where) }
 {
-    Command::new(alloc, "serve")
-        .about("Serves exchanges over TCP, and keeps each take's file")
-        .after_help("Example: bwingest serve --listen 127.0.0.1:4100 --folder takes --recorders 16")
-        .arg(listen_option(alloc))?
-        .arg(folder_option(alloc))?
-        .arg(exchanges_option(alloc))
-}
-
-fn listen_option<'a>(alloc: Global) -> Arg<'a>
-    ensures rule { rule_of result ≡ listen_option }
-    ensures local { result.global ≡ false }
-{
-    Arg::new(alloc, "listen")
-        .long("listen")
-        .value_name("ADDR")
-        .required(true)
-        .help("Where the server listens: 127.0.0.1:PORT, or any address with --network")
-}
-
-/// A folder that begins with a hyphen reaches `clap` in the word of its option, as a name does.
-fn folder_option<'a>(alloc: Global) -> Arg<'a>
-    ensures rule { rule_of result ≡ folder_option }
-    ensures local { result.global ≡ false }
-{
-    Arg::new(alloc, "folder")
-        .long("folder")
-        .value_name("DIR")
-        .required(true)
-        .help("The folder that keeps the takes' files")
-}
-
-fn exchanges_option<'a>(alloc: Global) -> Arg<'a>
-    ensures rule { rule_of result ≡ exchanges_option }
-    ensures local { result.global ≡ false }
-{
-    Arg::new(alloc, "exchanges")
-        .long("exchanges")
-        .value_name("N")
-        .help("How many exchanges are served, 1 to 1000000 [default: 1]")
-}
-
-fn recorders_option<'a>(alloc: Global) -> Arg<'a>
-    ensures rule { rule_of result ≡ recorders_option }
-    ensures local { result.global ≡ false }
-{
-    Arg::new(alloc, "recorders")
-        .long("recorders")
-        .value_name("N")
-        .help("Up to how many recorders are served at once, 1 to 256 [default: one by one]")
-}
-
-fn idle_option<'a>(alloc: Global) -> Arg<'a>
-    ensures rule { rule_of result ≡ idle_option }
-    ensures local { result.global ≡ false }
-{
-    Arg::new(alloc, "idle")
-        .long("idle")
-        .value_name("SECONDS")
-        .help(
-            "With --recorders: when who sends no whole message is let go, 1 to 86400 [default: 60]",
-        )
-}
-
-fn until_stopped_flag<'a>(alloc: Global) -> Arg<'a>
-    ensures rule { rule_of result ≡ until_stopped_flag }
-    ensures local { result.global ≡ false }
-{
-    Arg::new(alloc, "until-stopped")
-        .long("until-stopped")
-        .action(ArgAction::SetTrue)
-        .help("Serves exchanges until the program is stopped, in place of --exchanges")
-}
-
-fn log_flag<'a>(alloc: Global) -> Arg<'a>
-    ensures rule { rule_of result ≡ log_flag }
-    ensures local { result.global ≡ false }
-{
-    Arg::new(alloc, "log")
-        .long("log")
-        .action(ArgAction::SetTrue)
-        .help("Tells each connection in a line on standard error")
+    named(
+        alloc,
+        "serve",
+        "Serves exchanges over TCP, and keeps each take's file",
+    )
+    .after_help("Example: bwingest serve --listen 127.0.0.1:4100 --folder takes --recorders 16")
+    .arg(listen_option(alloc))?
+    .arg(folder_option(alloc))?
+    .arg(exchanges_option(alloc))
 }
 
 /// Bad values are reported in this order: the address, the folder, the exchanges, the limit, those

@@ -1,27 +1,9 @@
-use Rattle.std.proofs.Common.{IfOk, codes}
-use Rattle.std.proofs.lemmas.Result.{IfOk-weaker}
-use Rattle.clap.specs.Simple.{new_app}
-use Rattle.bw_args.specs.Commands.{send_where}
-use Rattle.bw_args.proofs.BuilderLemmas.{IsCommand, command_about, command_after_help, command_arg}
+use Rattle.bw_args.proofs.BuilderLemmas.{command_after_help, command_arg, two_options}
 use Rattle.bw_args.proofs.commands.sending.send_where.Goals as goal
 
--- the command as the calls leave it
-made : (c : goal.After-arg-3) → IfOk c.arg-3.result (IsCommand send_where)
-made c =
-    let new : IsCommand (new_app (codes "send")) c.new.result = (c.new.ensures.app, c.new.ensures.local) in
-    let about = command_about c.new.result c.about.result _ _ new c.about.ensures in
-    let after_help = command_after_help c.about.result c.after_help.result _ _ about c.after_help.ensures in
-    let connect = command_arg c.after_help.result c.in_ok-arg.field-0 c.connect_option.result _ _ after_help
-    (c.connect_option.ensures.rule, c.connect_option.ensures.local) c.in_ok-arg.ensures in
-    let name = command_arg c.in_ok-arg.field-0 c.in_ok-arg-2.field-0 c.name_option.result _ _ connect
-    (c.name_option.ensures.rule, c.name_option.ensures.local) c.in_ok-arg-2.ensures in
-    IfOk-weaker c.arg-3.result _ _
-    (λ d. command_arg c.in_ok-arg-2.field-0 d c.rounds_option.result _ _ name
-    (c.rounds_option.ensures.rule, c.rounds_option.ensures.local))
-    c.arg-3.ensures
-
-pub returns-clause-shape : goal.returns-clause-shape
-returns-clause-shape c = IfOk-weaker c.arg-3.result _ _ (λ d is. is.0) (made c)
-
-pub returns-clause-local : goal.returns-clause-local
-returns-clause-local c = IfOk-weaker c.arg-3.result _ _ (λ d is. is.1) (made c)
+pub returns : goal.returns
+returns c = two_options c.in_ok-arg.field-0 c.in_ok-arg-2.field-0 c.arg-3.result c.name_option.result
+    c.rounds_option.result _ _ _ (command_arg c.after_help.result c.in_ok-arg.field-0 c.connect_option.result _ _
+    (command_after_help c.named.result c.after_help.result _ _ c.named.ensures c.after_help.ensures)
+    c.connect_option.ensures c.in_ok-arg.ensures) c.name_option.ensures c.in_ok-arg-2.ensures
+    c.rounds_option.ensures c.arg-3.ensures

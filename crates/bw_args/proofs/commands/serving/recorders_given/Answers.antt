@@ -1,6 +1,4 @@
 use Rattle.std.proofs.Common.{inl, inr, refl}
-use Rattle.clap.specs.Words.{found_of}
-use Rattle.bw_args.proofs.Asked.{no_way}
 use Rattle.bw_args.proofs.commands.serving.recorders_given.Goals as goal
 
 pub returns-in_default-clause-err : goal.returns-in_default-clause-err

@@ -1,0 +1,148 @@
+//! The options of the commands. Each is one of its own command alone.
+ghost use Rattle.bw_args.specs.Commands.{IsOption, connect_option, exchanges_option, file_argument};
+ghost use Rattle.bw_args.specs.Commands.{flag, folder_option, fuse_option, idle_option};
+ghost use Rattle.bw_args.specs.Commands.{limit_option, listen_option, log_flag, name_option};
+ghost use Rattle.bw_args.specs.Commands.{network_flag, option, recorders_option, required};
+ghost use Rattle.bw_args.specs.Commands.{rounds_option, timeout_option, until_stopped_flag};
+
+use clap::{Arg, ArgAction};
+use std::alloc::Global;
+
+/// An option with a value, which the help calls `value`.
+fn value_option<'a>(alloc: Global, name: &'a str, value: &'a str, help: &'a str) -> Arg<'a>
+    ensures { IsOption (option name.now) result }
+{
+    Arg::new(alloc, name)
+        .long(name)
+        .value_name(value)
+        .help(help)
+}
+
+/// Such an option that has to be given.
+fn required_option<'a>(alloc: Global, name: &'a str, value: &'a str, help: &'a str) -> Arg<'a>
+    ensures { IsOption (required name.now) result }
+{
+    value_option(alloc, name, value, help).required(true)
+}
+
+/// An option without a value.
+fn flag_option<'a>(alloc: Global, name: &'a str, help: &'a str) -> Arg<'a>
+    ensures { IsOption (flag name.now) result }
+{
+    Arg::new(alloc, name)
+        .long(name)
+        .action(ArgAction::SetTrue)
+        .help(help)
+}
+
+/// A name that begins with a hyphen reaches `clap` in the word of its option (`read_words`), since
+/// `clap`'s contract isn't exact for a command that takes such a word by itself.
+pub(crate) fn name_option<'a>(alloc: Global) -> Arg<'a>
+    ensures { IsOption name_option result }
+{
+    let help = "The take's name";
+    required_option(alloc, "name", "NAME", help)
+}
+
+pub(crate) fn limit_option<'a>(alloc: Global) -> Arg<'a>
+    ensures { IsOption limit_option result }
+{
+    let help =
+        "The greatest form size of a RIFF file, in bytes, even, from 8192 [default: 4294967294]";
+    value_option(alloc, "limit", "N", help)
+}
+
+pub(crate) fn fuse_option<'a>(alloc: Global) -> Arg<'a>
+    ensures { IsOption fuse_option result }
+{
+    let help = "The one call of the store that fails, counted from 0 [default: none]";
+    value_option(alloc, "fuse", "K", help)
+}
+
+pub(crate) fn file_argument<'a>(alloc: Global) -> Arg<'a>
+    ensures { IsOption file_argument result }
+{
+    Arg::new(alloc, "file")
+        .value_name("FILE")
+        .required(true)
+        .help("A RIFF WAVE, BW64 or RF64 file")
+}
+
+pub(crate) fn timeout_option<'a>(alloc: Global) -> Arg<'a>
+    ensures { IsOption timeout_option result }
+{
+    let help = "How long a silent peer is waited for, 1 to 86400 [default: for good]";
+    value_option(alloc, "timeout", "SECONDS", help)
+}
+
+pub(crate) fn network_flag<'a>(alloc: Global) -> Arg<'a>
+    ensures { IsOption network_flag result }
+{
+    let help = "Takes any address; nothing on the wire is encrypted or signed";
+    flag_option(alloc, "network", help)
+}
+
+pub(crate) fn listen_option<'a>(alloc: Global) -> Arg<'a>
+    ensures { IsOption listen_option result }
+{
+    let help = "Where the server listens: 127.0.0.1:PORT, or any address with --network";
+    required_option(alloc, "listen", "ADDR", help)
+}
+
+/// A folder that begins with a hyphen reaches `clap` in the word of its option, as a name does.
+pub(crate) fn folder_option<'a>(alloc: Global) -> Arg<'a>
+    ensures { IsOption folder_option result }
+{
+    let help = "The folder that keeps the takes' files";
+    required_option(alloc, "folder", "DIR", help)
+}
+
+pub(crate) fn exchanges_option<'a>(alloc: Global) -> Arg<'a>
+    ensures { IsOption exchanges_option result }
+{
+    let help = "How many exchanges are served, 1 to 1000000 [default: 1]";
+    value_option(alloc, "exchanges", "N", help)
+}
+
+pub(crate) fn recorders_option<'a>(alloc: Global) -> Arg<'a>
+    ensures { IsOption recorders_option result }
+{
+    let help = "Up to how many recorders are served at once, 1 to 256 [default: one by one]";
+    value_option(alloc, "recorders", "N", help)
+}
+
+pub(crate) fn idle_option<'a>(alloc: Global) -> Arg<'a>
+    ensures { IsOption idle_option result }
+{
+    let help =
+        "With --recorders: when who sends no whole message is let go, 1 to 86400 [default: 60]";
+    value_option(alloc, "idle", "SECONDS", help)
+}
+
+pub(crate) fn until_stopped_flag<'a>(alloc: Global) -> Arg<'a>
+    ensures { IsOption until_stopped_flag result }
+{
+    let help = "Serves exchanges until the program is stopped, in place of --exchanges";
+    flag_option(alloc, "until-stopped", help)
+}
+
+pub(crate) fn log_flag<'a>(alloc: Global) -> Arg<'a>
+    ensures { IsOption log_flag result }
+{
+    let help = "Tells each connection in a line on standard error";
+    flag_option(alloc, "log", help)
+}
+
+pub(crate) fn connect_option<'a>(alloc: Global) -> Arg<'a>
+    ensures { IsOption connect_option result }
+{
+    let help = "Where the server listens: 127.0.0.1:PORT, or any address with --network";
+    required_option(alloc, "connect", "ADDR", help)
+}
+
+pub(crate) fn rounds_option<'a>(alloc: Global) -> Arg<'a>
+    ensures { IsOption rounds_option result }
+{
+    let help = "How many exchanges of at most 16 requests are made, 1 to 1000 [default: 16]";
+    value_option(alloc, "rounds", "N", help)
+}
