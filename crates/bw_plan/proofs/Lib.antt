@@ -1,0 +1,15 @@
+pub mod Computing
+pub mod ExamplesOfPlans
+pub mod PlanSteps
+pub mod PlanLaws
+pub mod Dates
+pub mod FaultLists
+pub mod Entries
+pub mod Parts
+pub mod PlanCounts
+pub mod NextRequests
+pub mod NextFields
+pub mod PlanStarts
+pub mod CleanParts
+pub mod WholeRecordings
+pub mod PlanRuns

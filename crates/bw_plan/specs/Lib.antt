@@ -1,0 +1,15 @@
+pub mod Cleaning
+pub mod Recordings
+pub mod Plans
+pub mod PlanLaws
+pub mod ExamplesOfPlans
+pub mod Faults
+pub mod OwnedSettings
+pub mod Settings
+pub mod Notes
+pub mod Progress
+pub mod Steps
+pub mod AllowedSettings
+pub mod SettingTexts
+pub mod Warnings
+pub mod ReportedWarnings

@@ -1,0 +1,19 @@
+-- What warnings mean.
+use Rattle.std.specs.Prelude.{List, map}
+use Rattle.bw_plan.specs.Warnings as warnings
+use Rattle.bw_plan.specs.declared.warning.Warning.{Warning}
+use Rattle.bw_plan.specs.declared.warning.Warning.TheVariants.{FieldCleaned, FieldLeftOut, HistoryCleaned}
+use Rattle.bw_plan.specs.declared.warning.Warning.TheVariants.{CuesLeftOut, MaskLeftOut, ChunkLeftOut}
+
+-- what a warning says
+abbrev pub warning_meaning : Warning → warnings.Warning
+warning_meaning (FieldCleaned tag) = warnings.FieldCleaned tag
+warning_meaning (FieldLeftOut tag) = warnings.FieldLeftOut tag
+warning_meaning HistoryCleaned = warnings.HistoryCleaned
+warning_meaning (CuesLeftOut count) = warnings.CuesLeftOut count
+warning_meaning MaskLeftOut = warnings.MaskLeftOut
+warning_meaning (ChunkLeftOut chunk) = warnings.ChunkLeftOut chunk
+
+-- .. all of them
+abbrev pub told : List Warning → List warnings.Warning
+told ws = map warning_meaning ws

@@ -1,0 +1,69 @@
+-- What a recording loses of its file: what was cleaned, and what was left out.
+use Rattle.std.specs.Prelude.{ℕ, suc, ◌-◌, Bool, not, ◌&&◌, ◌||◌, ◌==◌, List, [], ◌∷◌, ◌++◌, length, fold}
+use Rattle.std.specs.Prelude.{codes, is_none, nat_lt, if◌then◌else◌}
+use Rattle.std.specs.Str.{bytes_eq}
+use Rattle.bw_model.specs.Take.{field_fault}
+use Rattle.bw_model.specs.Reading.{Entry}
+use Rattle.bw_plan.specs.Cleaning.{text_cleaned_of, is_like, is_history_kept}
+use Rattle.bw_plan.specs.Recordings.{FileNotes, Outline, bext_texts, extensible}
+
+pub data Warning : Type 0 where
+  -- bytes of the field with this tag became others
+  FieldCleaned : ℕ → Warning
+  -- the field with this tag is left out: a date or a time of another form
+  FieldLeftOut : ℕ → Warning
+  -- bytes of the coding history became others, or it was cut
+  HistoryCleaned : Warning
+  -- so many cue points are left out
+  CuesLeftOut : ℕ → Warning
+  -- the channel mask of an extensible format is left out
+  MaskLeftOut : Warning
+  -- a chunk that isn't carried
+  ChunkLeftOut : Entry → Warning
+
+-- one more warning, where the test holds
+abbrev pub warned : List Warning → Bool → Warning → List Warning
+warned ws holds w = if holds then ws ++ w ∷ [] else ws
+
+-- the text is a date or a time of another form
+abbrev pub is_other_form : ℕ → List ℕ → Bool
+is_other_form tag text =
+    ((tag == 4) && not (is_like (codes "dddd-dd-dd") text))
+    || ((tag == 5) && not (is_like (codes "dd:dd:dd") text))
+
+-- the warning of a text that may not stay as it stands
+abbrev pub loss : ℕ → List ℕ → Warning
+loss tag text = if is_other_form tag text then FieldLeftOut tag else FieldCleaned tag
+
+-- the warnings with that of a field
+abbrev pub field_warned : List Warning → ℕ → List ℕ → List Warning
+field_warned ws tag bytes =
+    warned ws (not (is_none (field_fault tag (text_cleaned_of bytes)))) (loss tag (text_cleaned_of bytes))
+
+-- .. of each of these fields, from a tag on
+abbrev pub texts_warned : List Warning → ℕ → List (List ℕ) → List Warning
+texts_warned ws tag [] = ws
+texts_warned ws tag (bytes ∷ fields) = texts_warned (field_warned ws tag bytes) (suc tag) fields
+
+-- the chunk is carried, or tells sizes alone
+abbrev pub is_carried : List ℕ → Bool
+is_carried id =
+    bytes_eq id (codes "fmt ") || bytes_eq id (codes "bext") || bytes_eq id (codes "data")
+    || bytes_eq id (codes "cue ") || bytes_eq id (codes "ds64")
+
+-- the warnings with that of a chunk
+abbrev pub chunk_warned : List Warning → Entry → List Warning
+chunk_warned ws e = warned ws (not (is_carried e.id)) (ChunkLeftOut e)
+
+-- the warnings of what isn't a chunk: the texts by tag, the history, the cue points, the mask
+abbrev pub content_warnings : FileNotes → Outline → List Warning
+content_warnings n r =
+    let texts = texts_warned [] 1 (bext_texts n.report.bext) in
+    let history = warned texts (not (is_history_kept n.history)) HistoryCleaned in
+    let lost = length n.report.cues - length r.markers in
+    let cues = warned history (nat_lt 0 lost) (CuesLeftOut lost) in
+    warned cues (n.report.fmt.tag == extensible) MaskLeftOut
+
+-- all warnings of a recording, the chunks at last
+abbrev pub warnings_of : FileNotes → Outline → List Warning
+warnings_of n r = fold chunk_warned (content_warnings n r) n.report.chunks

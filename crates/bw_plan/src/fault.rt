@@ -1,0 +1,78 @@
+//! Why no recording is made of a file.
+ghost use Rattle.std.specs.Prelude.{◌≡◌, Some};
+ghost use Rattle.bw_plan.specs.Faults.{kind_text, recording_fault_text};
+
+use bw_inspect::InspectKind;
+use std::error::Error;
+use std::fmt;
+
+/// What is wrong with a file.
+#[derive(Clone, Copy, Debug, PartialEq, Eq, Hash)]
+pub enum RecordingKind {
+    /// It isn't read.
+    Unread(InspectKind),
+    /// The samples aren't PCM.
+    NotPcm,
+    /// Not 16, 24 or 32 bits a sample.
+    Bits,
+    /// Fewer bits are valid than a sample has.
+    ValidBits,
+    /// A frame has more or fewer bytes than its samples.
+    Align,
+    /// Not 1 to 768,000 Hz.
+    Rate,
+    /// Not 1 to 64 channels.
+    Channels,
+    /// The data end inside a frame.
+    PartFrame,
+    /// Something has to be cleaned, and may not be.
+    Unclean,
+    /// More than 16,777,216 requests.
+    TooLong,
+}
+
+/// A fault, and where it was met.
+#[derive(Clone, Copy, Debug, PartialEq, Eq, Hash)]
+pub struct RecordingFault {
+    pub kind: RecordingKind,
+    /// In bytes from the file's start: the head of the chunk that is wrong.
+    pub offset: u64,
+}
+
+impl RecordingKind {
+    /// Its name, as it is printed.
+    pub fn name(self) -> &'static str
+        ensures { result.now ≡ kind_text self }
+    {
+        match self {
+            RecordingKind::Unread(kind) => kind.name(),
+            RecordingKind::NotPcm => "NotPcm",
+            RecordingKind::Bits => "Bits",
+            RecordingKind::ValidBits => "ValidBits",
+            RecordingKind::Align => "Align",
+            RecordingKind::Rate => "Rate",
+            RecordingKind::Channels => "Channels",
+            RecordingKind::PartFrame => "PartFrame",
+            RecordingKind::Unclean => "Unclean",
+            RecordingKind::TooLong => "TooLong",
+        }
+    }
+}
+
+impl fmt::Display for RecordingFault {
+    ghost output = { λ f. Some (recording_fault_text f) };
+
+    /// Writes `KIND at OFFSET`.
+    fn fmt<W: fmt::Write>(&self, f: &mut fmt::Formatter<W>) -> fmt::Result {
+        write!(f, "{} at {}", self.kind.name(), self.offset)
+    }
+}
+
+impl Error for RecordingFault {}
+
+/// A fault at a place.
+pub(crate) fn fault_at(kind: RecordingKind, offset: u64) -> RecordingFault
+    ensures { result ≡ record { kind = kind; offset = offset } }
+{
+    RecordingFault { kind, offset }
+}

@@ -1,0 +1,63 @@
+//! The requests of a recording, as a function of a file's bytes and of what is asked for beside
+//! them.
+#![tactic(auto)]
+
+mod block_reader;
+mod cleaning;
+mod fault;
+mod format;
+mod kept;
+mod markers;
+mod options;
+mod outline;
+mod places;
+mod plan;
+mod reading;
+mod recording;
+mod setting;
+mod setting_text;
+mod values;
+mod warning;
+
+ghost use Rattle.bw_plan.specs.PlanLaws.{PlansHaveTheirCount, PlansMakeTakes, RecordingsAreWhole};
+ghost use Rattle.bw_plan.specs.Progress.{RunsGivePlans};
+ghost use Rattle.bw_plan.specs.ExamplesOfPlans.{SmallPlanExample, LargeBlockPlanExample, CuePlanExample, ExtensiblePlanExample};
+ghost use Rattle.bw_plan.specs.ExamplesOfPlans.{TextPlanExample, DatePlanExample, TimePlanExample, SettingsPlanExample, RefusedPlanExample};
+ghost use Rattle.bw_plan.specs.ExamplesOfPlans.{SettingTextPlanExample, BadSettingPlanExample};
+
+pub use fault::{RecordingFault, RecordingKind};
+pub use options::Options;
+pub use outline::Outline;
+pub use plan::Plan;
+pub use reading::{read_extension, read_history};
+pub use recording::{block_frames, outline_of};
+pub use setting::{Setting, SettingRef};
+pub use setting_text::read_setting;
+pub use values::Values;
+pub use warning::{Warning, warnings};
+
+/// Whatever the size of the blocks, each request of a recording's plan is stored, and together they
+/// make the recording's take. A plan has as many requests as `outline_of` counts. Each recording of
+/// a file is one of these, whatever the file's bytes, where what is set is allowed. What `Plan`
+/// gives from its start to its end is the plan.
+pub fn law_plan()
+    ensures takes { PlansMakeTakes }
+    ensures count { PlansHaveTheirCount }
+    ensures whole { RecordingsAreWhole }
+    ensures runs { RunsGivePlans }
+{}
+
+/// Worked rows: files, their requests, and what is refused.
+pub fn examples_of_plans()
+    ensures small { SmallPlanExample }
+    ensures large_block { LargeBlockPlanExample }
+    ensures cue { CuePlanExample }
+    ensures extensible { ExtensiblePlanExample }
+    ensures text { TextPlanExample }
+    ensures date { DatePlanExample }
+    ensures time { TimePlanExample }
+    ensures settings { SettingsPlanExample }
+    ensures refused { RefusedPlanExample }
+    ensures setting_text { SettingTextPlanExample }
+    ensures bad_setting { BadSettingPlanExample }
+{}
