@@ -6,7 +6,7 @@ use Rattle.bw_plan.specs.Recordings.{FileNotes, Options, FaultAt, outline_of}
 use Rattle.bw_plan.specs.Faults.{recording_fault_meaning}
 use Rattle.bw_plan.specs.declared.fault.RecordingFault.{RecordingFault}
 
--- what a report tells, with what is read of `fmt ` and `bext` beside it
+-- what a report gives, with what is read of `fmt ` and `bext` beside it
 abbrev pub notes_by : Report → List ℕ → List ℕ → FileNotes
 notes_by report extension history = record {
   report = reported_by report;

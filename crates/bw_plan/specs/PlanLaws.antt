@@ -72,7 +72,7 @@ PlansHaveTheirCount = (frames : ℕ) (r : Recording) → r.outline.samples_len �
     length (plan frames r) ≡ request_count frames r.outline
 
 -- the recording of a file's bytes, with settings that are allowed, may be stored, and has all the
--- samples that its outline tells
+-- samples that its outline counts
 pub record IsWhole (r : Recording) : Type 0 where
   pub clean : IsClean r
   pub samples : r.outline.samples_len ≡ length r.samples

@@ -106,8 +106,8 @@ abbrev pub IsSoundPlan : Stage → Type 0
 IsSoundPlan (AtFault f) = ⊥
 IsSoundPlan _ = Unit {0}
 
--- these requests were told one after the other, each where the giver stood after the one before,
--- and after the last one none was told
+-- these requests were given one after the other, each where the giver stood after the one before,
+-- and after the last one none was given
 abbrev pub IsPlanRun : List ℕ → Progress → List (Request × Progress) → Type 0
 IsPlanRun b p [] = next_step_of (remaining p b) ≡ None
 IsPlanRun b p (x ∷ xs) =

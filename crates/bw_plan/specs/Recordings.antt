@@ -83,7 +83,7 @@ pub record FaultAt : Type 0 where
 abbrev pub chain_line : Bool → RecordingFault → ℕ → Bool × FaultAt
 chain_line holds kind offset = (holds, record { kind = kind; offset = offset })
 
--- what a file tells of its recording, but for the samples
+-- what a file gives of its recording, but for the samples
 pub record FileNotes : Type 0 where
   pub report : Report
   -- what an extensible `fmt ` chunk has after its first 16 bytes

@@ -45,7 +45,7 @@ abbrev pub texts_warned : List Warning → ℕ → List (List ℕ) → List Warn
 texts_warned ws tag [] = ws
 texts_warned ws tag (bytes ∷ fields) = texts_warned (field_warned ws tag bytes) (suc tag) fields
 
--- the chunk is carried, or tells sizes alone
+-- the chunk is carried, or holds only sizes
 abbrev pub is_carried : List ℕ → Bool
 is_carried id =
     bytes_eq id (codes "fmt ") || bytes_eq id (codes "bext") || bytes_eq id (codes "data")

@@ -40,7 +40,7 @@ impl Model for Outline {
 }
 
 impl Outline {
-    /// The recording that a report tells, where its format is allowed: cleaned, and without
+    /// The recording that a report gives, if its format is allowed: cleaned, and without
     /// settings.
     ///
     /// # Errors

@@ -26,7 +26,7 @@ use std::alloc::{AllocError, Global};
 /// A sender has the numbers 0 to 16,777,215.
 const REQUESTS_MAX: u64 = 16_777_216;
 
-/// The recording that a report tells but for its samples, with `extension` of `fmt ` and `history`
+/// The recording that a report gives but for its samples, with `extension` of `fmt ` and `history`
 /// of `bext`, as they stand in the file.
 ///
 /// # Errors

@@ -154,7 +154,7 @@ fn warn_of_chunks(out: &mut Vec<Warning>, chunks: &[ListedChunk]) -> Result<(), 
     Ok(())
 }
 
-/// Whether a chunk is carried, or tells sizes alone.
+/// Whether a chunk is carried, or holds only sizes.
 fn is_carried(id: ChunkId) -> bool
     ensures { result ≡ is_carried_id id }
 {
