@@ -4,7 +4,7 @@ The sources are read line by line, as `rt fmt` lays them out.
 """
 import pathlib
 import re
-from dataclasses import dataclass
+from dataclasses import dataclass, replace
 
 from repository import ROOT
 
@@ -12,6 +12,7 @@ PUB = r"(?:pub(?:\([a-z]+\))? )?"
 FUNCTION = re.compile(rf" *{PUB}(?:const |unsafe |final )*fn (\w+)")
 OWNER = re.compile(r" *(?:unsafe )?impl\b| *" + PUB + r"trait\b")
 ITEM = re.compile(rf"(?m)^ *{PUB}(?:const|static|enum|struct) (\w+)")
+MOST = 48  # bodies of a batch, so that their check stays small
 UNNAMED = "()"  # a type without a name, as a tuple: what a check names its functions by isn't known
 
 
@@ -19,17 +20,25 @@ UNNAMED = "()"  # a type without a name, as a tuple: what a check names its func
 class Body:
     """A wrong body: its file, what it changes, as (file, old, new), and the functions that must refuse it.
 
-    changed are the functions whose text it changes, items the constants and enums."""
+    changed are the functions whose text it changes, items the constants and enums. Where it stands in a copy of its
+    function, beside other bodies of that, copy_of is the function, and the copy is what it changes."""
 
     path: pathlib.Path
     changes: tuple
     refused: frozenset
     changed: frozenset
     items: frozenset
+    copy_of: str = ""
 
     @property
     def functions(self):
         return self.changed | self.refused
+
+    def in_copy(self, number):
+        """The body in a copy of its function, whose name ends with a number."""
+        (function,) = self.changed
+        copy = frozenset([f"{function}_{number}"])
+        return replace(self, refused=copy, changed=copy, copy_of=function)
 
     def __str__(self):
         return f"{self.path.parent.parent.name}/{self.path.stem}"
@@ -95,6 +104,10 @@ def without_body(lines):
     return [*lines[: opens + 1], f"{indent}    loop {{}}", lines[-1]]
 
 
+def name_of(path):
+    return path.split("::")[-1]
+
+
 def function_of(path):
     """The function itself, or the one that a closure stands in."""
     return re.sub(r"(^|::)fn::(\w+).*", r"\1\2", path)
@@ -130,16 +143,50 @@ class Sources:
     def with_bodies(self, bodies):
         """The texts that the bodies change together, or nothing if one can't be applied beside the others."""
         texts = {}
-        for file, old, new in (it for body in bodies for it in body.changes):
+        for file, old, new in (it for body in bodies if not body.copy_of for it in body.changes):
             text = texts.get(file, self.texts[file])
             if text.count(old) != 1:
                 return None
             texts[file] = text.replace(old, new)
+        for body in (it for it in bodies if it.copy_of):
+            file = self.files[body.copy_of]
+            texts[file] = self.with_copy(file, texts.get(file, self.texts[file]), body)
         return texts
+
+    def with_copy(self, file, text, body):
+        """The text of a file with a copy of the body's function after the function, in which the body stands."""
+        (copy,) = body.changed
+        made = self.text_of(body.copy_of)
+        for _, old, new in body.changes:
+            made = made.replace(old, new)
+        made = re.sub(rf"\bfn {name_of(body.copy_of)}\b", f"fn {name_of(copy)}", made, count=1)
+        last = next(last for path, _, last in self.functions(file, text) if path == body.copy_of)
+        lines = text.splitlines()
+        return "\n".join([*lines[: last + 1], "", made, *lines[last + 1 :]]) + "\n"
+
+    def text_of(self, path):
+        """The text of a function, with what is above it."""
+        file = self.files[path]
+        first, last = next(at[1:] for at in self.functions(file) if at[0] == path)
+        return "\n".join(self.texts[file].splitlines()[first : last + 1])
+
+    def can_be_copied(self, body):
+        """Whether a copy of the function that a body changes can stand beside it, and be what refuses the body: not of
+        a trait's method, nor where the function calls itself."""
+        if body.items or body.refused != body.changed or len(body.changed) != 1:
+            return False
+        (path,) = body.changed
+        text, name = self.text_of(path), name_of(path)
+        above = self.texts[self.files[path]].partition(text)[0].splitlines()
+        owner = next((it for it in reversed(above) if OWNER.match(it) and not it.endswith(("}", ";"))), "")
+        if text.endswith(" }") and re.search(r"\btrait\b| for ", owner) or re.search(rf"(?<!fn )\b{name}\(", text):
+            return False
+        return all(text.count(old) == 1 for _, old, _ in body.changes)
 
     def names(self, body, items):
         """Whether a file of the body's functions has the name of one of the items."""
-        texts = [self.texts[self.files[it]] for it in body.functions if it in self.files]
+        paths = {body.copy_of} if body.copy_of else body.functions
+        texts = [self.texts[self.files[it]] for it in paths if it in self.files]
         return any(re.search(rf"\b{item}\b", text) for item in items for text in texts)
 
     def can_stand(self, body, others):
@@ -179,15 +226,19 @@ def read(path, sources):
 
 
 def batches_of(bodies, sources):
-    """Batches, each body in the first that can hold it, those with the most rivals first."""
+    """Batches, each body in the first that can hold it, itself or in a copy of its function; first those that can't
+    stand in a copy, and then those with the most rivals."""
     rivals = {body: sum(not sources.can_stand(body, [it]) for it in bodies) for body in bodies}
+    copied = {body: sources.can_be_copied(body) for body in bodies}
     batches = []
-    for body in sorted(bodies, key=lambda it: (-rivals[it], it.path)):
-        batch = next((it for it in batches if sources.can_stand(body, it)), None)
-        if batch is None:
-            batches.append([body])
+    for body in sorted(bodies, key=lambda it: (copied[it], -rivals[it], it.path)):
+        for batch in (it for it in batches if len(it) < MOST):
+            copies = [body.in_copy(len(batch) + 1)] if copied[body] else []
+            if placed := next((it for it in [body, *copies] if sources.can_stand(it, batch)), None):
+                batch.append(placed)
+                break
         else:
-            batch.append(body)
+            batches.append([body])
     return batches
 
 
@@ -210,6 +261,6 @@ def bodies_of(folder, names=()):
 
 def named(body):
     """Whether a wrong body's name begins with what it changes, in lower case."""
-    words = {it.split("::")[-1] for it in body.changed}
+    words = {name_of(it) for it in body.changed}
     words |= {it if it.isupper() else re.sub(r"(?<=[a-z])(?=[A-Z])", "_", it) for it in body.items}
     return body.path.stem.split("-")[0] in {it.lower() for it in words}
