@@ -1,4 +1,6 @@
 """What scripts that start processes share: when the script itself ends, and what its children cost."""
+import os
+import pathlib
 import resource
 import signal
 import sys
@@ -19,3 +21,9 @@ def seconds_of_children():
     """The processor seconds of the children that have ended, with those of theirs."""
     used = resource.getrusage(resource.RUSAGE_CHILDREN)
     return used.ru_utime + used.ru_stime
+
+
+def seconds_of(process):
+    """The processor seconds of a process that runs, by its number, with those of its children that have ended."""
+    fields = pathlib.Path(f"/proc/{process}/stat").read_text().rpartition(")")[2].split()
+    return sum(map(int, fields[11:15])) / os.sysconf("SC_CLK_TCK")
