@@ -20,6 +20,7 @@ mod walk;
 mod write;
 
 pub use fault::{InspectFault, InspectKind};
+pub use places::{read_at, skip_at};
 pub use reading::inspect;
 pub use report::{BextChunk, Chunks, Cues, ListedChunk, Report};
 pub use write::{WriteFailed, write_report};

@@ -12,7 +12,7 @@ use bw_stream::{IoFailed, Source};
 ///
 /// # Errors
 /// `cut` if the input ends too early; Read.
-pub(crate) fn read_at<R: Source>(
+pub fn read_at<R: Source>(
     reader: &mut R,
     place: u64,
     buf: &mut [u8],
@@ -41,7 +41,7 @@ pub(crate) fn read_at<R: Source>(
 ///
 /// # Errors
 /// `cut` if the input ends too early; Read.
-pub(crate) fn skip_at<R: Source>(
+pub fn skip_at<R: Source>(
     reader: &mut R,
     place: u64,
     count: u64,

@@ -5,8 +5,7 @@ ghost use Rattle.bw_inspect.specs.Faults.{is_of_bytes};
 ghost use Rattle.bw_inspect.specs.Places.{AtPlace};
 ghost use Rattle.bw_plan.specs.Progress.{IsNextBlock, IsBlockMissed};
 
-use crate::places::read_at;
-use bw_inspect::{InspectFault, InspectKind};
+use bw_inspect::{InspectFault, InspectKind, read_at};
 use bw_stream::Source;
 use std::alloc::{AllocError, Global};
 use std::marker::Model;

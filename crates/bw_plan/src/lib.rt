@@ -10,7 +10,6 @@ mod kept;
 mod markers;
 mod options;
 mod outline;
-mod places;
 mod plan;
 mod reading;
 mod recording;

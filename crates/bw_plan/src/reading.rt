@@ -6,9 +6,8 @@ ghost use Rattle.bw_stream.specs.Readers.{Of};
 ghost use Rattle.bw_plan.specs.Recordings.{extension_at, history_at};
 
 use crate::block_reader::zeros;
-use crate::places::{read_at, skip_at};
 use crate::recording::find_chunk;
-use bw_inspect::{InspectFault, InspectKind, ListedChunk, Report};
+use bw_inspect::{InspectFault, InspectKind, ListedChunk, Report, read_at, skip_at};
 use bw_layout::ChunkId;
 use bw_request::LONGEST_HISTORY;
 use bw_stream::Source;
