@@ -179,7 +179,8 @@ class Sources:
         text, name = self.text_of(path), name_of(path)
         above = self.texts[self.files[path]].partition(text)[0].splitlines()
         owner = next((it for it in reversed(above) if OWNER.match(it) and not it.endswith(("}", ";"))), "")
-        if text.endswith(" }") and re.search(r"\btrait\b| for ", owner) or re.search(rf"(?<!fn )\b{name}\(", text):
+        calls_itself = re.search(rf"(?:\bself\.|\bSelf::|(?<!fn )(?<![\w.:])){name}\(", text)
+        if calls_itself or text.endswith(" }") and re.search(r"\btrait\b| for ", owner):
             return False
         return all(text.count(old) == 1 for _, old, _ in body.changes)
 
