@@ -13,13 +13,14 @@ use Rattle.bw_model.specs.File.{file_of, file_with, header, data_place, form_siz
 use Rattle.bw_model.proofs.HeaderLaws.{header_of_file, length-header, form_len-form_size}
 use Rattle.bw_model.proofs.FileLaws.{file_len as length-file}
 use Rattle.bw_model.proofs.BookLemmas.{name_refl}
-use Rattle.bw_start.specs.Files.{data_end, header_by, file_len as whole, longest_rest, FileFault, LostFile}
-use Rattle.bw_start.specs.Files.{ChangedFile, LongFile, is_unchanged, opened_fault, file_fault, fault_by_format}
+use Rattle.bw_start.specs.Files.{data_end, header_by, file_len as whole, longest_rest}
+use Rattle.bw_start.specs.Files.{is_unchanged, opened_fault, file_fault, fault_by_format}
 use Rattle.bw_start.specs.Files.{mended, mended_by_format, file_after}
+use Rattle.bw_start.specs.declared.fault.FileFault.TheVariants.{Lost, Changed, Long}
 use Rattle.bw_start.specs.Left.{IsMendable, IsLeftOpen, IsLeftFile, IsMended, LeftFilesAreMended}
 
 no_line : (a b c : Bool) → a ≡ false → b ≡ false → c ≡ false →
-    first_that_holds ((a, LostFile) ∷ (b, ChangedFile) ∷ (c, LongFile) ∷ []) ≡ None
+    first_that_holds ((a, Lost) ∷ (b, Changed) ∷ (c, Long) ∷ []) ≡ None
 no_line true b c x y z = absurd cc
 no_line false true c x y z = absurd cc
 no_line false false true x y z = absurd cc
@@ -104,10 +105,10 @@ stood_stays : (limit : ℕ) (p : Parts) (found : Option (List ℕ)) (stood : Lis
 stood_stays limit p found stood taken e = (rw (taken, e) refl, rw (taken, e) refl)
 
 -- of a name that was free, by its format
-fault_fresh : (limit : ℕ) (p : Parts) (o : Option Format) (found : Option (List ℕ)) → p.taken ≡ false → p.format ≡ o →
+pub fault_fresh : (limit : ℕ) (p : Parts) (o : Option Format) (found : Option (List ℕ)) → p.taken ≡ false → p.format ≡ o →
     file_fault limit p found ≡ fault_by_format limit p o found
 fault_fresh limit p o found free e =
-    ap (λ (v : Bool). cond v (cond (is_some found) None (Some LostFile)) (fault_by_format limit p p.format found)) free
+    ap (λ (v : Bool). cond v (cond (is_some found) None (Some Lost)) (fault_by_format limit p p.format found)) free
     ∙ ap (λ (x : Option Format). fault_by_format limit p x found) e
 
 after_open : (limit : ℕ) (p : Parts) (o : Option Format) (found : Option (List ℕ)) → p.taken ≡ false →

@@ -1,1 +1,3 @@
 pub mod FileLemmas
+pub mod MendingLemmas
+pub mod JudgedFiles

@@ -1,12 +1,14 @@
 -- What a start finds of a take's file, what may be wrong with it, and what becomes of it.
 use Rattle.std.specs.Prelude.{◌≡◌, ℕ, ◌+◌, ◌%◌, ◌≤◌, Bool, not, ◌&&◌, ◌||◌, Option, Some, None}
 use Rattle.std.specs.Prelude.{is_some, option_map, List, ◌++◌, length, take, drop, nat_lt, ◌==◌}
-use Rattle.std.specs.Prelude.{if◌then◌else◌, []  , ◌∷◌}
+use Rattle.std.specs.Prelude.{if◌then◌else◌, [], ◌∷◌}
 use Rattle.std.specs.Str.{bytes_eq}
 use Rattle.bw_model.specs.Bytes.{first_that_holds}
 use Rattle.bw_model.specs.Take.{Format, Parts}
 use Rattle.bw_model.specs.File.{header, data_place, form_size, cues}
 use Rattle.bw_model.specs.Layout.{pad}
+use Rattle.bw_start.specs.declared.fault.FileFault.{FileFault}
+use Rattle.bw_start.specs.declared.fault.FileFault.TheVariants.{Lost, Changed, Long}
 
 -- where the samples end
 abbrev pub data_end : Parts → ℕ
@@ -24,15 +26,6 @@ file_len p = 8 + form_size (length p.history) p.samples_len (length (cues p.clos
 abbrev pub longest_rest : ℕ
 longest_rest = 32769
 
--- Why a take's file can't be adopted.
-pub data FileFault : Type 0 where
-  -- it is gone, or its samples aren't all there
-  LostFile : FileFault
-  -- its take is closed, and it has another length or another header
-  ChangedFile : FileFault
-  -- more follows it than a killed call leaves
-  LongFile : FileFault
-
 -- it has the length and the header of its take
 abbrev pub is_unchanged : ℕ → Parts → Format → List ℕ → Bool
 is_unchanged limit p f found =
@@ -42,22 +35,22 @@ is_unchanged limit p f found =
 -- what is wrong with the file of a take of this format: the first that holds
 unfoldable pub opened_fault : ℕ → Parts → Format → List ℕ → Option FileFault
 opened_fault limit p f found = first_that_holds (
-    (nat_lt (length found) (data_end p), LostFile)
-    ∷ (p.closed && not (is_unchanged limit p f found), ChangedFile)
-    ∷ (nat_lt (file_len p + longest_rest) (length found), LongFile)
+    (nat_lt (length found) (data_end p), Lost)
+    ∷ (p.closed && not (is_unchanged limit p f found), Changed)
+    ∷ (nat_lt (file_len p + longest_rest) (length found), Long)
     ∷ [])
 
 -- the same of a take that may have no format, and a file that may be missing
 abbrev pub fault_by_format : ℕ → Parts → Option Format → Option (List ℕ) → Option FileFault
 fault_by_format limit p None found = None
-fault_by_format limit p (Some f) None = Some LostFile
+fault_by_format limit p (Some f) None = Some Lost
 fault_by_format limit p (Some f) (Some found) = opened_fault limit p f found
 
 -- what is wrong with what stands under a name: a file that stood before its journal must still be
 -- there, and a take that is opened must have its file
 abbrev pub file_fault : ℕ → Parts → Option (List ℕ) → Option FileFault
 file_fault limit p found =
-    if p.taken then (if is_some found then None else Some LostFile)
+    if p.taken then (if is_some found then None else Some Lost)
     else fault_by_format limit p p.format found
 
 -- A mended file: the header of its take, the samples as they are, and a pad byte.

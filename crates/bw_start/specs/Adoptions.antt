@@ -1,0 +1,67 @@
+-- What is read of a take's file at a start, and what is done with it.
+use Rattle.std.specs.Prelude.{◌≡◌, ◌<◌, ℕ, ◌+◌, not, Bool, true, false, Option, Some, None, IsSome}
+use Rattle.std.specs.Prelude.{IfSome, option_map, List, [], ◌∷◌, ◌++◌, length, take, drop, slice_get}
+use Rattle.std.specs.Str.{bytes_eq}
+use Rattle.bw_model.specs.Take.{Parts, Format}
+use Rattle.bw_model.specs.File.{data_place}
+use Rattle.bw_start.specs.Files.{data_end, header_by}
+use Rattle.bw_start.specs.declared.adoption.FileFacts.{FileFacts}
+use Rattle.bw_start.specs.declared.adoption.Mending.{Mending}
+use Rattle.bw_start.specs.declared.adoption.Adoption.{Adoption}
+use Rattle.bw_start.specs.declared.adoption.Adoption.TheVariants.{Keep, SetAside, Mend}
+
+-- these are the bytes of a take's file before its samples
+pub record IsFileHeader (limit : ℕ) (p : Parts) (f : Format) (bytes : List ℕ) : Type 0 where
+  pub value : bytes ≡ header_by limit p f
+  pub len : length bytes ≡ data_place (length p.history)
+
+-- this was read of a take's file
+pub record IsSeen (p : Parts) (found : List ℕ) (facts : FileFacts) : Type 0 where
+  pub len : facts.len ≡ length found
+  pub front : facts.front.now ≡ take (data_place (length p.history)) found
+  pub after : facts.after ≡ slice_get found (data_end p)
+
+-- this was read of what stands under a take's name, if anything does
+abbrev pub Sees : Parts → Option (List ℕ) → Option FileFacts → Type 0
+Sees p None None = Unit {0}
+Sees p None (Some facts) = ⊥
+Sees p (Some found) None = ⊥
+Sees p (Some found) (Some facts) = IsSeen p found facts
+
+-- with this header in place of as many bytes, if it is to be written
+abbrev pub with_header : Bool → List ℕ → List ℕ → List ℕ
+with_header true header found = header ++ drop (length header) found
+with_header false header found = found
+
+-- no longer than this, if it is to be cut
+abbrev pub cut_to : Option ℕ → List ℕ → List ℕ
+cut_to None found = found
+cut_to (Some len) found = take len found
+
+-- with a zero byte at its end, if that is to be appended
+abbrev pub with_pad : Bool → List ℕ → List ℕ
+with_pad true found = found ++ 0 ∷ []
+with_pad false found = found
+
+-- a file after this mending
+abbrev pub patched : Mending → List ℕ → List ℕ → List ℕ
+patched m header found = with_pad m.pad (cut_to m.cut (with_header m.header header found))
+
+-- what stands under the name after this
+abbrev pub adopted : Adoption → List ℕ → Option (List ℕ) → Option (List ℕ)
+adopted Keep header found = found
+adopted SetAside header found = None
+adopted (Mend m) header found = option_map (patched m header) found
+
+-- Only what differs is written: another header, the bytes past an end, and a pad byte that isn't
+-- there.
+pub record IsLeast (p : Parts) (m : Mending) (header found : List ℕ) : Type 0 where
+  pub front : m.header ≡ not (bytes_eq (take (data_place (length p.history)) found) header)
+  pub cut : IfSome m.cut (λ len. len < length found)
+  pub pad : m.pad ≡ true → slice_get found (data_end p) ≡ Some 0 → ⊥
+
+-- the least is done: a file is set aside only if one is there, and mended as little as it needs
+abbrev pub DoesLeast : Parts → Adoption → List ℕ → Option (List ℕ) → Type 0
+DoesLeast p Keep header found = Unit {0}
+DoesLeast p SetAside header found = IsSome found
+DoesLeast p (Mend m) header found = IfSome found (IsLeast p m header)
