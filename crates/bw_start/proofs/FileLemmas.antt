@@ -13,7 +13,7 @@ use Rattle.bw_model.specs.File.{file_of, file_with, header, data_place, form_siz
 use Rattle.bw_model.proofs.HeaderLaws.{header_of_file, length-header, form_len-form_size}
 use Rattle.bw_model.proofs.FileLaws.{file_len as length-file}
 use Rattle.bw_model.proofs.BookLemmas.{name_refl}
-use Rattle.bw_start.specs.Files.{data_end, header_by, file_len as whole, longest_rest}
+use Rattle.bw_start.specs.Files.{data_end, header_by, file_len as whole, longest_excess}
 use Rattle.bw_start.specs.Files.{is_unchanged, opened_fault, file_fault, fault_by_format}
 use Rattle.bw_start.specs.Files.{mended, mended_by_format, file_after}
 use Rattle.bw_start.specs.declared.fault.FileFault.TheVariants.{Lost, Changed, Long}
@@ -32,12 +32,12 @@ unchanged true same h = ap not (h refl)
 
 -- nothing is wrong with a file of the right lengths, which is unchanged if its take is closed
 nothing_wrong : (limit : ℕ) (p : Parts) (f : Format) (found : List ℕ) → data_end p ≤ length found →
-    (p.closed ≡ true → is_unchanged limit p f found ≡ true) → length found ≤ whole p + longest_rest →
+    (p.closed ≡ true → is_unchanged limit p f found ≡ true) → length found ≤ whole p + longest_excess →
     opened_fault limit p f found ≡ None
 unfolding opened_fault
 nothing_wrong limit p f found long same short =
     no_line _ _ _ (le-ltb (length found) (data_end p) long) (unchanged p.closed _ same)
-    (le-ltb (whole p + longest_rest) (length found) short)
+    (le-ltb (whole p + longest_excess) (length found) short)
 
 -- how many bytes the file of a take has
 length-whole : (t : Take) (f : Format) (limit : ℕ) → AreFields t.fields → length (file_with f t limit) ≡ whole (parts t)

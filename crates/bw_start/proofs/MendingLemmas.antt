@@ -10,7 +10,7 @@ use Rattle.std.proofs.Math.Seq.{take-append-add, take-suc}
 use Rattle.bw_model.specs.Bytes.{zeros}
 use Rattle.bw_model.specs.Layout.{pad}
 use Rattle.bw_model.proofs.BookLemmas.{same_name}
-use Rattle.bw_start.specs.Adoptions.{with_header, cut_to, with_pad}
+use Rattle.bw_start.specs.Adoptions.{with_header, shortened, with_pad}
 
 not_true : (b : Bool) → false ≡ not b → b ≡ true
 not_true true e = refl
@@ -79,13 +79,13 @@ pub patches : (hd found : List ℕ) (place n kept : ℕ) (h padded lacks : Bool)
     (IsTrue padded ↔ (n % 2 ≡ 1) × (slice_get found (place + n) ≡ Some 0)) →
     (IsTrue lacks ↔ (n % 2 ≡ 1) × (slice_get found (place + n) ≡ Some 0 → ⊥)) →
     kept ≡ place + n + cond padded 1 0 →
-    ((file : List ℕ) → length found ≡ length file → cut_to cut file ≡ take kept file) →
-    with_pad lacks (cut_to cut (with_header h hd found)) ≡ hd ++ (take n (drop place found) ++ pad n)
+    ((file : List ℕ) → length found ≡ length file → shortened cut file ≡ take kept file) →
+    with_pad lacks (shortened cut (with_header h hd found)) ≡ hd ++ (take n (drop place found) ++ pad n)
 patches hd found place n kept h padded lacks cut l long e p q k c =
     let rest = drop place found in
     let len : length found ≡ length (hd ++ rest) =
     (let a = length-append hd rest in let b = length-drop place found in omega (arith, a, b, l, long)) in
-    ap (λ (z : List ℕ). with_pad lacks (cut_to cut z)) (headed h hd found place l e)
+    ap (λ (z : List ℕ). with_pad lacks (shortened cut z)) (headed h hd found place l e)
     ∙ ap (with_pad lacks) (c (hd ++ rest) len ∙ ap (λ (m : ℕ). take m (hd ++ rest)) k
     ∙ take_past hd rest place n (cond padded 1 0) l)
     ∙ ended (n % 2) padded lacks found place n refl (omega arith) p q hd

@@ -34,9 +34,9 @@ with_header true header found = header ++ drop (length header) found
 with_header false header found = found
 
 -- no longer than this, if it is to be cut
-abbrev pub cut_to : Option ℕ → List ℕ → List ℕ
-cut_to None found = found
-cut_to (Some len) found = take len found
+abbrev pub shortened : Option ℕ → List ℕ → List ℕ
+shortened None found = found
+shortened (Some len) found = take len found
 
 -- with a zero byte at its end, if that is to be appended
 abbrev pub with_pad : Bool → List ℕ → List ℕ
@@ -45,7 +45,7 @@ with_pad false found = found
 
 -- a file after this mending
 abbrev pub patched : Mending → List ℕ → List ℕ → List ℕ
-patched m header found = with_pad m.pad (cut_to m.cut (with_header m.header header found))
+patched m header found = with_pad m.pad (shortened m.cut (with_header m.header header found))
 
 -- what stands under the name after this
 abbrev pub adopted : Adoption → List ℕ → Option (List ℕ) → Option (List ℕ)

@@ -23,8 +23,8 @@ abbrev pub file_len : Parts → ℕ
 file_len p = 8 + form_size (length p.history) p.samples_len (length (cues p.closed p.markers))
 
 -- the most bytes that a killed call leaves after a file: a block and a pad byte
-abbrev pub longest_rest : ℕ
-longest_rest = 32769
+abbrev pub longest_excess : ℕ
+longest_excess = 32769
 
 -- it has the length and the header of its take
 abbrev pub is_unchanged : ℕ → Parts → Format → List ℕ → Bool
@@ -37,7 +37,7 @@ unfoldable pub opened_fault : ℕ → Parts → Format → List ℕ → Option F
 opened_fault limit p f found = first_that_holds (
     (nat_lt (length found) (data_end p), Lost)
     ∷ (p.closed && not (is_unchanged limit p f found), Changed)
-    ∷ (nat_lt (file_len p + longest_rest) (length found), Long)
+    ∷ (nat_lt (file_len p + longest_excess) (length found), Long)
     ∷ [])
 
 -- the same of a take that may have no format, and a file that may be missing

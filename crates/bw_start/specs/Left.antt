@@ -5,13 +5,13 @@ use Rattle.std.specs.Bool.{MatchBool}
 use Rattle.bw_model.specs.Take.{Take, Format, AreFields, parts}
 use Rattle.bw_model.specs.File.{file_of, file_with, data_place}
 use Rattle.bw_model.specs.Limits.{longest_history}
-use Rattle.bw_start.specs.Files.{longest_rest, file_fault, file_after}
+use Rattle.bw_start.specs.Files.{longest_excess, file_fault, file_after}
 
 -- The samples are at their place, and no more follows the file than a killed call leaves.
 pub record IsMendable (t : Take) (f : Format) (limit : ℕ) (found : List ℕ) : Type 0 where
   pub long : data_place (length t.history) + length t.samples ≤ length found
   pub samples : take (length t.samples) (drop (data_place (length t.history)) found) ≡ t.samples
-  pub short : length found ≤ length (file_with f t limit) + longest_rest
+  pub short : length found ≤ length (file_with f t limit) + longest_excess
 
 -- the file of a take whose name was free: there is none without a format, or the beginning of one;
 -- an open one is mendable

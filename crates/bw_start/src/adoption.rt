@@ -6,7 +6,7 @@ ghost use Rattle.bw_model.specs.Take.{Format};
 ghost use Rattle.bw_model.specs.File.{data_place as place_after, cues};
 ghost use Rattle.bw_start.specs.Files.{data_end as end_of, file_len as len_of, header_by, file_fault};
 ghost use Rattle.bw_start.specs.Files.{opened_fault as fault_of, is_unchanged, mended, file_after};
-ghost use Rattle.bw_start.specs.Adoptions.{IsFileHeader, IsSeen, Sees, adopted, patched, cut_to, DoesLeast, IsLeast};
+ghost use Rattle.bw_start.specs.Adoptions.{IsFileHeader, IsSeen, Sees, adopted, patched, shortened, DoesLeast, IsLeast};
 ghost use Rattle.bw_start.specs.declared.adoption.Adoption.TheVariants.{Keep, SetAside};
 
 use crate::fault::FileFault;
@@ -269,7 +269,7 @@ fn kept_len(end: u64, padded: bool) -> u64
 
 /// Where a file of this length is cut to keep so many bytes, if it has more.
 fn cut(len: u64, kept: u64) -> Option<u64>
-    ensures value { (file : List ℕ) → len ≡ length file → cut_to result file ≡ take kept file }
+    ensures value { (file : List ℕ) → len ≡ length file → shortened result file ≡ take kept file }
     ensures least { IfSome result (λ n. n < len) }
 {
     if len > kept { Some(kept) } else { None }
