@@ -1,15 +1,15 @@
 -- Files that a stop left, and what becomes of them.
-use Rattle.std.proofs.Common.{◌≡◌, ℕ, ◌+◌, ◌≤◌, Bool, true, false, not, ◌&&◌, ◌||◌, cond, List, [], ◌∷◌, ◌++◌, length, take, drop}
-use Rattle.std.proofs.Common.{Option, Some, None, is_some, option_map, refl, sym, ◌∙◌, ap, subst, arith, append_assoc, length-append}
+use Rattle.std.proofs.Common.{◌≡◌, ℕ, ◌+◌, ◌≤◌, Bool, true, false, not, ◌&&◌, ◌||◌, cond, List, [], ◌∷◌, ◌++◌, length, take}
+use Rattle.std.proofs.Common.{Option, Some, None, is_some, option_map, refl, sym, ◌∙◌, ap, arith, append_assoc}
 use Rattle.std.proofs.Common.{le-ltb, eq-eqb}
-use Rattle.std.specs.Prelude.{nat_lt, flat_map, ◌==◌}
+use Rattle.std.specs.Prelude.{flat_map}
 use Rattle.std.specs.Bool.{MatchBool}
 use Rattle.std.specs.Str.{bytes_eq}
-use Rattle.std.proofs.lemmas.List.{take_at, drop_at, append-nil}
+use Rattle.std.proofs.lemmas.List.{take_at, append-nil}
 use Rattle.bw_model.specs.Bytes.{first_that_holds}
 use Rattle.bw_model.specs.Layout.{pad, chunk}
 use Rattle.bw_model.specs.Take.{Take, Parts, Format, AreFields, parts}
-use Rattle.bw_model.specs.File.{file_of, file_with, header, data_place, form_size, cues, chunks_after, cue_chunks}
+use Rattle.bw_model.specs.File.{file_of, file_with, data_place, cues, chunks_after, cue_chunks}
 use Rattle.bw_model.proofs.HeaderLaws.{header_of_file, length-header, form_len-form_size}
 use Rattle.bw_model.proofs.FileLaws.{file_len as length-file}
 use Rattle.bw_model.proofs.BookLemmas.{name_refl}
@@ -17,7 +17,7 @@ use Rattle.bw_start.specs.Files.{data_end, header_by, file_len as whole, longest
 use Rattle.bw_start.specs.Files.{is_unchanged, opened_fault, file_fault, fault_by_format}
 use Rattle.bw_start.specs.Files.{mended, mended_by_format, file_after}
 use Rattle.bw_start.specs.declared.fault.FileFault.TheVariants.{Lost, Changed, Long}
-use Rattle.bw_start.specs.Left.{IsMendable, IsLeftOpen, IsLeftFile, IsMended, LeftFilesAreMended}
+use Rattle.bw_start.specs.Left.{IsMendable, IsLeftOpen, LeftFilesAreMended}
 
 no_line : (a b c : Bool) → a ≡ false → b ≡ false → c ≡ false →
     first_that_holds ((a, Lost) ∷ (b, Changed) ∷ (c, Long) ∷ []) ≡ None

@@ -1,5 +1,5 @@
 -- What is judged of a file that was read.
-use Rattle.std.proofs.Common.{◌≡◌, ℕ, Bool, true, false, List, Option, Some, None, is_some, Result, refl, sym, ◌∙◌, ap, subst}
+use Rattle.std.proofs.Common.{◌≡◌, ℕ, true, false, List, Option, Some, None, is_some, Result, refl, sym, ◌∙◌, ap, subst}
 use Rattle.std.specs.Prelude.{IfOk, IfErr}
 use Rattle.bw_model.specs.Take.{Parts, Format}
 use Rattle.bw_start.specs.Files.{opened_fault, file_fault}

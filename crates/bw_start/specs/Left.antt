@@ -1,5 +1,5 @@
 -- What a stop leaves of a take's file.
-use Rattle.std.specs.Prelude.{◌≡◌, ◌⊎◌, ℕ, ◌+◌, ◌≤◌, Bool, true, false, Option, Some, None, is_some}
+use Rattle.std.specs.Prelude.{◌≡◌, ℕ, ◌+◌, ◌≤◌, true, Option, Some, None, is_some}
 use Rattle.std.specs.Prelude.{IfSome, List, length, take, drop}
 use Rattle.std.specs.Bool.{MatchBool}
 use Rattle.bw_model.specs.Take.{Take, Format, AreFields, parts}

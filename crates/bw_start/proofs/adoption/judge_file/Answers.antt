@@ -1,4 +1,4 @@
-use Rattle.std.proofs.Common.{◌≡◌, ◌∙◌, Option, Some, is_some, sym, ap}
+use Rattle.std.proofs.Common.{◌∙◌, is_some, sym, ap}
 use Rattle.bw_start.proofs.JudgedFiles.{judged_ok, judged_err}
 use Rattle.bw_start.proofs.adoption.judge_file.Goals as goal
 

@@ -1,4 +1,4 @@
-use Rattle.std.proofs.Common.{◌≡◌, ℕ, ◌+◌, ◌%◌, ◌∙◌, ◌↔◌, ◌++◌, List, cond, not, IsTrue, Option, Some, sym, ap, subst, refl}
+use Rattle.std.proofs.Common.{◌≡◌, ℕ, ◌+◌, ◌%◌, ◌∙◌, ◌↔◌, ◌++◌, List, cond, not, IsTrue, Option, Some, ap, subst}
 use Rattle.std.proofs.Common.{take, drop, length}
 use Rattle.std.specs.Str.{bytes_eq}
 use Rattle.bw_model.specs.Layout.{pad}
