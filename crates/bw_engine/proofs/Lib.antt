@@ -8,3 +8,5 @@ mod ServedInputs
 mod ReplyRuns
 mod Batching
 mod HeardPieces
+mod SayingSteps
+mod ListeningSteps

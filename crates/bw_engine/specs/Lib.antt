@@ -4,3 +4,7 @@ pub mod Batches
 pub mod Hears
 pub mod Sent
 pub mod SendFaults
+pub mod Stops
+pub mod Saying
+pub mod Listening
+pub mod Talks

@@ -57,7 +57,7 @@ pub fn hear_replies<R: Source>(
 ///
 /// # Errors
 /// `Read` and `Memory`.
-fn read_piece<R: Source>(
+pub(crate) fn read_piece<R: Source>(
     framer: &mut ReplyFramer,
     reader: &mut R,
     buffer: &mut [u8],
@@ -138,7 +138,7 @@ fn hear_next(sender: &mut Sender, framer: &mut ReplyFramer) -> Result<bool, Send
 ///
 /// # Errors
 /// `BadReply` if it may not.
-fn end_of_input(framer: &ReplyFramer) -> Result<(), SendFault>
+pub(crate) fn end_of_input(framer: &ReplyFramer) -> Result<(), SendFault>
     ensures ok { OnOk result (end_fault framer.now ≡ None) }
     ensures bad { OnErr result (is_some (end_fault framer.now) ≡ true) }
     ensures why { IfErr result (λ fault. fault ≡ BadReply) }

@@ -20,10 +20,10 @@ use bw_wire::encode;
 use std::alloc::Global;
 
 /// The most requests without a verdict: as many as a sender's window holds.
-const MOST_PENDING: usize = 16;
+pub(crate) const MOST_PENDING: usize = 16;
 
 /// The frame that ends an exchange.
-const BYE: [u8; 5] = [1, 0, 0, 0, 9];
+pub(crate) const BYE: [u8; 5] = [1, 0, 0, 0, 9];
 
 /// Writes the messages that have no verdict, in the order of their numbers, and then `Bye`.
 ///
@@ -73,7 +73,7 @@ fn send_pending<W: Sink>(alloc: Global, sender: &Sender, writer: &mut W) -> Resu
 ///
 /// # Errors
 /// `Write`: a prefix of its frame was written. `Memory`: nothing.
-fn send_message<W: Sink>(
+pub(crate) fn send_message<W: Sink>(
     alloc: Global,
     name: &Name,
     number: u32,
@@ -100,7 +100,7 @@ fn send_message<W: Sink>(
 ///
 /// # Errors
 /// `Write`: a prefix of it was written.
-fn write_frame<W: Sink>(writer: &mut W, frame: &[u8]) -> Result<(), SendFault>
+pub(crate) fn write_frame<W: Sink>(writer: &mut W, frame: &[u8]) -> Result<(), SendFault>
     ensures ok { OnOk result (Writes (W.written writer.old) frame.now (W.written writer.new)) }
     ensures err { OnErr result (Begins (W.written writer.old) frame.now (W.written writer.new)) }
     ensures why { IfErr result (λ fault. fault ≡ Write) }

@@ -1,3 +1,4 @@
 pub mod EntryLaws
 pub mod SenderLaws
 pub mod Offering
+pub mod Resumed

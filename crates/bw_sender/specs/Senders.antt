@@ -1,5 +1,9 @@
 -- What a sender keeps of all that was offered and heard.
-use Rattle.std.specs.Prelude.{◌≡◌, ◌<◌, ◌≤◌, ℕ, List, [], length, take, drop, count_by}
+use Rattle.std.specs.Prelude.{◌≡◌, ◌<◌, ◌≤◌, ℕ, List, [], length, take, drop, count_by, map, Some}
+use Rattle.std.specs.Prelude.{false}
+use Rattle.std.specs.List.{list_any}
+use Rattle.bw_model.specs.Take.{Stored}
+use Rattle.bw_model.specs.World.{is_close}
 use Rattle.bw_model.specs.Bytes.{first_free}
 use Rattle.bw_model.specs.World.{Sender as Defined, settled, refused_from}
 use Rattle.bw_model.specs.World.{has_closed_from, is_some_stored}
@@ -9,6 +13,13 @@ use Rattle.bw_sender.specs.declared.sender.Sender.{Sender}
 -- a sender of this name to which nothing was offered
 abbrev pub new_sender : List ℕ → Defined
 new_sender name = record { name = name; offered = []; verdicts = [] }
+
+-- a sender of this name to which so many requests were offered, all of them stored and none a CLOSE
+pub record HasStored (name : List ℕ) (count : ℕ) (s : Defined) : Type 0 where
+  pub name_is : s.name ≡ name
+  pub offered : length s.offered ≡ count
+  pub stored : s.verdicts ≡ map (λ r. Some Stored) s.offered
+  pub unclosed : list_any is_close s.offered ≡ false
 
 -- The sender keeps what these definitions say of it, with the first k numbers settled.
 pub record KeepsFrom (k : ℕ) (s : Defined) (x : Sender) : Type 0 where

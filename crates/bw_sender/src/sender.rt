@@ -1,6 +1,7 @@
 //! A sender: what a recorder offered, and the verdicts that came.
 ghost use Rattle.std.specs.Prelude.{◌≡◌, ◌≢◌, ◌≤◌, ◌<◌, ◌+◌, length, map, IfOk, IfErr, OnOk, OnErr};
-ghost use Rattle.std.specs.Prelude.{None, IfSome, IsSome, option_map};
+ghost use Rattle.std.specs.Prelude.{None, IfSome, IsSome, option_map, nat_le};
+ghost use Rattle.bw_model.specs.Turn.{window};
 ghost use Rattle.bw_model.specs.Wire.{Second, last_number};
 ghost use Rattle.bw_model.specs.World.{Sender as Defined, settled as settled_of};
 ghost use Rattle.bw_model.specs.World.{stored as stored_of};
@@ -14,7 +15,7 @@ ghost use Rattle.bw_sender.specs.declared.heard.Heard.TheVariants.{Counted};
 use crate::heard::Heard;
 use crate::offer::OfferError;
 use crate::refusals::Refusals;
-use crate::window::Window;
+use crate::window::{SLOTS, Window};
 use bw_request::{Name, Request, Verdict};
 use bw_wire::Reply;
 use std::alloc::{AllocError, Global};
@@ -40,7 +41,7 @@ pub struct Sender {
 }
 
 impl Sender {
-    ghost use Rattle.bw_sender.specs.Senders.{new_sender, IsSender, HasRoom};
+    ghost use Rattle.bw_sender.specs.Senders.{new_sender, HasStored, IsSender, HasRoom};
     ghost use Rattle.bw_sender.specs.Refused.{refusal_of};
 
     /// A sender of a name, to which nothing was offered.
@@ -58,6 +59,28 @@ impl Sender {
             window: Window::new(alloc)?,
             offered: 0,
             stored: 0,
+            refused: Refusals::new(alloc),
+            closed: false,
+        })
+    }
+
+    /// A sender of a name whose first requests, `count` of them, were all stored, and none of
+    /// them a CLOSE. At most 16,777,216.
+    ///
+    /// # Errors
+    /// `AllocError` if memory was refused. The name isn't given back.
+    ///
+    /// # Not specified
+    /// When memory is refused.
+    pub fn resume(alloc: Global, name: Name, count: u32) -> Result<Sender, AllocError>
+        requires { count ≤ last_number Second + 1 }
+        ensures { (s : Defined) → HasStored name count s → IfOk result (λ x. IsSender s x) }
+    {
+        Ok(Sender {
+            name,
+            window: Window::new(alloc)?,
+            offered: count,
+            stored: count,
             refused: Refusals::new(alloc),
             closed: false,
         })
@@ -148,6 +171,22 @@ impl Sender {
         ensures range { result ≤ last_number Second + 1 }
     {
         self.offered - self.window.len() as u32
+    }
+
+    /// How many requests were offered and accepted; at most 16,777,216.
+    pub fn offered(&self) -> u32
+        ensures { (s : Defined) → IsSender s self.now → result ≡ length s.offered }
+    {
+        self.offered
+    }
+
+    /// Whether sixteen requests were offered from the first without a verdict on: none can be
+    /// offered before a verdict comes.
+    pub fn is_full(&self) -> bool
+        ensures { (s : Defined) → IsSender s self.now →
+            result ≡ nat_le (settled_of s + window) (length s.offered) }
+    {
+        self.window.len() == SLOTS
     }
 
     /// How many of the settled requests are stored.
