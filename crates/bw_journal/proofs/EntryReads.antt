@@ -12,7 +12,7 @@ use Rattle.bw_model.specs.Replies.{verdict_of}
 use Rattle.bw_model.proofs.Payloads.{payload_from_test}
 use Rattle.bw_model.proofs.SpellingLaws.{unless_ok}
 use Rattle.bw_journal.specs.Entries.{block_noted, request_in, made_of, entry_in}
-use Rattle.bw_journal.specs.Seals.{opened, check}
+use Rattle.bw_journal.specs.Seals.{opened, check, has_length}
 
 -- this many zeros in place of samples
 pub some_zeros : (n : ℕ) (z : List ℕ) → n ≤ 32768 → z ≡ zeros 32768 → take n z ≡ zeros n
@@ -58,24 +58,23 @@ entry_reads bytes v r long code request =
     ∙ ap (made_of (Some v) (take 32 (drop 1 bytes))) (ap request_in (sym (take_rest bytes 33)) ∙ sym request)
     )
 
-pub opened_reads : (bytes : List ℕ) (n a b : ℕ) → n ≡ u16_at bytes 0 → 2 ≤ length bytes → 10 + n ≤ length bytes →
-    a ≡ n → b ≡ 8
-    → bytes_eq (take b (drop (2 + n) bytes)) (check (take a (drop 2 bytes))) ≡ true →
-    Some (take a (drop 2 bytes)) ≡ opened bytes
+pub opened_reads : (bytes : List ℕ) (n a b : ℕ) → n ≡ u16_at bytes 0 → 4 ≤ length bytes → has_length bytes ≡ true →
+    12 + n ≤ length bytes → a ≡ n → b ≡ 8
+    → bytes_eq (take b (drop (4 + n) bytes)) (check (take a (drop 4 bytes))) ≡ true →
+    Some (take a (drop 4 bytes)) ≡ opened bytes
 unfolding opened
-opened_reads bytes n a b is long whole ea eb good =
-    let m = u16_at bytes 0 in
-    let first : nat_lt (length bytes) 2 ≡ false = le-ltb (length bytes) 2 long in
-    let second : nat_lt (length bytes) (10 + u16_at bytes 0) ≡ false =
-    le-ltb (length bytes) (10 + u16_at bytes 0) (omega arith) in
+opened_reads bytes n a b is long sound whole ea eb good =
+    let first : nat_lt (length bytes) 4 ≡ false = le-ltb (length bytes) 4 long in
+    let second : nat_lt (length bytes) (12 + u16_at bytes 0) ≡ false =
+    le-ltb (length bytes) (12 + u16_at bytes 0) (omega arith) in
     let ea' : a ≡ u16_at bytes 0 = omega arith in
-    let found : bytes_eq (take 8 (drop (2 + u16_at bytes 0) bytes)) (check (take (u16_at bytes 0) (drop 2 bytes))) ≡
+    let found : bytes_eq (take 8 (drop (4 + u16_at bytes 0) bytes)) (check (take (u16_at bytes 0) (drop 4 bytes))) ≡
     true =
-    subst (λ (k : ℕ). bytes_eq (take 8 (drop (2 + k) bytes)) (check (take (u16_at bytes 0) (drop 2 bytes))) ≡ true) is
-    (subst (λ (k : ℕ). bytes_eq (take 8 (drop (2 + n) bytes)) (check (take k (drop 2 bytes))) ≡ true) ea'
-    (subst (λ (k : ℕ). bytes_eq (take k (drop (2 + n) bytes)) (check (take a (drop 2 bytes))) ≡ true) eb good)) in
-    ap (λ (k : ℕ). Some (take k (drop 2 bytes))) ea'
-    ∙ sym (rw (first, second, found) refl)
+    subst (λ (k : ℕ). bytes_eq (take 8 (drop (4 + k) bytes)) (check (take (u16_at bytes 0) (drop 4 bytes))) ≡ true) is
+    (subst (λ (k : ℕ). bytes_eq (take 8 (drop (4 + n) bytes)) (check (take k (drop 4 bytes))) ≡ true) ea'
+    (subst (λ (k : ℕ). bytes_eq (take k (drop (4 + n) bytes)) (check (take a (drop 4 bytes))) ≡ true) eb good)) in
+    ap (λ (k : ℕ). Some (take k (drop 4 bytes))) ea'
+    ∙ sym (rw (first, sound, second, found) refl)
 
 pub entry_missing : (bytes : List ℕ) (v : Verdict) → 34 ≤ length bytes → verdict_of (slice_index bytes 0) ≡ Some v →
     None ≡ request_in (take (length bytes - 33) (drop 33 bytes)) → None ≡ entry_in bytes

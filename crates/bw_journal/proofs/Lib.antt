@@ -1,9 +1,13 @@
 pub mod EntryReads
 pub mod Lengths
 pub mod ReplaySteps
+pub mod RowLaws
 pub mod SealLaws
+pub mod TornLaws
 pub mod HeaderReads
+pub mod HeaderWrites
 pub mod SpeltLaws
+pub mod ShortEntries
 pub mod HeaderStands
 pub mod BareLaws
 pub mod ReportLaws

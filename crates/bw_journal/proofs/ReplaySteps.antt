@@ -3,10 +3,13 @@ use Rattle.std.proofs.Common.{◌≡◌, ℕ, suc, ◌+◌, Bool, true, false, c
 use Rattle.std.proofs.Common.{drop, refl, sym, ap, ◌∙◌}
 use Rattle.bw_model.specs.Take.{Parts, new_take, parts}
 use Rattle.bw_journal.specs.Entries.{JournalEntry, first_entry}
+use Rattle.std.specs.Prelude.{◌==◌}
+use Rattle.std.specs.Str.{bytes_eq}
 use Rattle.std.proofs.lemmas.Bool.{eq-eqb}
+use Rattle.bw_journal.specs.Seals.{check}
 use Rattle.bw_model.specs.Bytes.{unless}
 use Rattle.bw_journal.specs.JournalHeaders.{Header, header_len, first_header}
-use Rattle.bw_journal.specs.Replays.{Story, JournalFault, OtherLimit, OtherVerdict, with_entry, is_judged, replayed}
+use Rattle.bw_journal.specs.Replays.{Story, JournalFault, OtherName, OtherLimit, OtherVerdict, with_entry, is_judged, replayed}
 use Rattle.bw_journal.specs.Replays.{replayed_entries, tail_fault, reported_with_tail, replayed_after, replay}
 
 -- nothing is reported yet
@@ -52,14 +55,17 @@ pub ends : (k : ℕ) (bytes : List ℕ) (s : Story) → k ≡ 0 → replayed k b
 ends k bytes s e = ap (λ (n : ℕ). replayed n bytes s) e
 
 -- what follows the entries isn't a prefix of one
-pub refused_tail : (limit : ℕ) (bytes : List ℕ) (h : Header) (s : Story) (f : JournalFault) →
-    Some h ≡ first_header bytes →
-    h.limit ≡ limit → replayed_entries h.existed bytes ≡ Ok s → tail_fault (drop s.used bytes) ≡ Some f →
-    replay limit bytes ≡ Err f
+pub refused_tail : (limit : ℕ) (name bytes : List ℕ) (x : Header × List ℕ) (s : Story) (f : JournalFault) →
+    Some x ≡ first_header bytes → bytes_eq x.1 (check name) ≡ true →
+    x.0.limit ≡ limit → replayed_entries x.0.existed bytes ≡ Ok s → tail_fault (drop s.used bytes) ≡ Some f →
+    replay limit name bytes ≡ Err f
 unfolding replay
-refused_tail limit bytes h s f found is reported wrong =
-    ap (replayed_after limit bytes) (sym found)
-    ∙ ap (λ (v : Bool). cond v (reported_with_tail bytes (replayed_entries h.existed bytes)) (Err OtherLimit))
-    (eq-eqb h.limit limit is)
+refused_tail limit name bytes x s f found named is reported wrong =
+    ap (replayed_after limit name bytes) (sym found)
+    ∙ ap (λ (v : Bool). cond v
+    (cond (x.0.limit == limit) (reported_with_tail bytes (replayed_entries x.0.existed bytes)) (Err OtherLimit))
+    (Err OtherName)) named
+    ∙ ap (λ (v : Bool). cond v (reported_with_tail bytes (replayed_entries x.0.existed bytes)) (Err OtherLimit))
+    (eq-eqb x.0.limit limit is)
     ∙ ap (reported_with_tail bytes) reported
     ∙ ap (λ (o : Option JournalFault). unless o s) wrong

@@ -1,10 +1,10 @@
 -- A journal says what the server kept.
 use Rattle.std.proofs.Common.{◌≡◌, ℕ, zero, suc, ◌+◌, ◌≤◌, Bool, true, false, cond, Option, Some, None, Ok, Err, List}
 use Rattle.std.proofs.Common.{[], ◌∷◌, ◌++◌, length, take, drop, refl, sym, ap, ◌∙◌, append_assoc, arith}
-use Rattle.std.specs.Prelude.{fold, nat_lt}
+use Rattle.std.specs.Prelude.{fold, ◌==◌}
 use Rattle.std.specs.List.{list_all}
-use Rattle.std.proofs.lemmas.Bool.{and_parts, eq-eqb, le-ltb}
-use Rattle.std.proofs.lemmas.List.{drop_at, length-append, length-take-le, take-append-drop}
+use Rattle.std.proofs.lemmas.Bool.{and_parts, eq-eqb}
+use Rattle.std.proofs.lemmas.List.{drop_at, length-append, take-append-drop}
 use Rattle.std.proofs.lemmas.List.Sums.{fold-append}
 use Rattle.sha2.specs.Sha256.{sha256}
 use Rattle.sha2.proofs.Facts256.{length-sha256}
@@ -15,17 +15,19 @@ use Rattle.bw_model.specs.Replies.{verdict_code}
 use Rattle.bw_model.specs.Book.{Log, made, step, verdict_at, verdict_by}
 use Rattle.bw_model.specs.Holds.{body_of, finished_from}
 use Rattle.bw_model.proofs.MapLemmas.{at-drop}
-use Rattle.bw_journal.specs.Entries.{JournalEntry, sealed_entry, sealed_entries, first_entry, content}
-use Rattle.bw_journal.specs.Seals.{opened}
+use Rattle.bw_journal.specs.Entries.{JournalEntry, sealed_entry, sealed_entries, first_entry, content, is_torn_entry}
+use Rattle.bw_journal.specs.Seals.{check, opened}
 use Rattle.bw_journal.specs.JournalHeaders.{Header, header_bytes, header_len, first_header}
-use Rattle.bw_journal.specs.Replays.{Story, JournalFault, OtherLimit, replayed, replay, replayed_after}
+use Rattle.bw_journal.specs.Replays.{Story, JournalFault, OtherName, OtherLimit, replayed, replay, replayed_after}
 use Rattle.bw_journal.specs.Replays.{replayed_entries}
 use Rattle.bw_journal.specs.Replays.{reported_with_tail, tail_fault, beginning}
 use Rattle.bw_journal.specs.Noted.{IsNotable, IsHeader, bare_entry, IsCut, AdmitsDone, fits, entries_from, packed}
 use Rattle.bw_journal.specs.Noted.{journal_of, story_of_log, JournalsReportLogs}
 use Rattle.bw_journal.proofs.ReplaySteps.{goes_on, stops}
 use Rattle.bw_journal.proofs.Lengths.{sealed-length, length-header_bytes}
-use Rattle.bw_journal.proofs.SealLaws.{content-length, opened-cut, entries_read_back, entries_are_short}
+use Rattle.bw_journal.proofs.SealLaws.{content-length, opened-cut, entries_read_back}
+use Rattle.bw_journal.proofs.TornLaws.{cut_entries_are_torn}
+use Rattle.bw_model.proofs.BookLemmas.{name_refl}
 use Rattle.bw_journal.proofs.SealLaws.{cut_entries_are_none}
 use Rattle.bw_journal.proofs.HeaderReads.{headers_read_back}
 use Rattle.bw_journal.proofs.BareLaws.{parts_alike, entry_judged}
@@ -196,28 +198,28 @@ many t name n (Some r ∷ rest) h =
 no_fault : (tail : List ℕ) → IsCut tail → tail_fault tail ≡ None
 unfolding tail_fault
 no_fault tail h =
-    let whole = length (sealed_entry h.entry) in
-    let most : whole ≤ 4150 = entries_are_short h.entry h.notable in
-    let cut = h.short in
-    let long : length tail ≡ h.count =
-    ap length h.prefix ∙ length-take-le h.count (sealed_entry h.entry) (omega (arith, cut)) in
     let closed : opened tail ≡ None =
     ap opened h.prefix ∙ opened-cut (content h.entry) h.count (content-length h.entry h.notable).1 h.short in
-    let test : nat_lt 4150 (length tail) ≡ false = le-ltb 4150 (length tail) (omega (arith, most, cut, long)) in
-    rw (closed, test) refl
+    let torn : is_torn_entry tail ≡ true =
+    ap is_torn_entry h.prefix ∙ cut_entries_are_torn h.entry h.count h.notable h.short in
+    rw (closed, torn) refl
 
 -- what the entries say is what the journal reports
-reported_after : (h : Header) (prefix es tail : List ℕ) (s : Story) → prefix ≡ header_bytes h → IsHeader h → IsCut tail →
+reported_after : (name : List ℕ) (h : Header) (prefix es tail : List ℕ) (s : Story) → prefix ≡ header_bytes name h →
+    IsHeader h → IsCut tail →
     s.used ≡ length (prefix ++ es) → replayed_entries h.existed ((prefix ++ es) ++ tail) ≡ Ok s →
-    replay h.limit ((prefix ++ es) ++ tail) ≡ Ok s
+    replay h.limit name ((prefix ++ es) ++ tail) ≡ Ok s
 unfolding replay
-reported_after h prefix es tail s is small cut used reported =
+reported_after name h prefix es tail s is small cut used reported =
     let bytes = (prefix ++ es) ++ tail in
-    let found : first_header bytes ≡ Some h =
+    let found : first_header bytes ≡ Some (h, check name) =
     ap first_header (append_assoc prefix es tail ∙ ap (λ (x : List ℕ). x ++ (es ++ tail)) is)
-    ∙ headers_read_back h (es ++ tail) small in
+    ∙ headers_read_back name h (es ++ tail) small in
     let rest : drop s.used bytes ≡ tail = ap (λ (n : ℕ). drop n bytes) used ∙ drop_at (prefix ++ es) tail _ refl in
-    ap (replayed_after h.limit bytes) found
+    ap (replayed_after h.limit name bytes) found
+    ∙ ap (λ (v : Bool). cond v
+    (cond (h.limit == h.limit) (reported_with_tail bytes (replayed_entries h.existed bytes)) (Err OtherLimit))
+    (Err OtherName)) (name_refl (check name))
     ∙ ap (λ (v : Bool). cond v (reported_with_tail bytes (replayed_entries h.existed bytes)) (Err OtherLimit))
     (eq-eqb h.limit h.limit refl)
     ∙ ap (reported_with_tail bytes) reported
@@ -230,8 +232,8 @@ entries_report h name log tail whole cut =
     let existed = h.existed in
     let s = log.admitted in
     let rest = take log.done s in
-    let prefix = header_bytes h in
-    let prefix_long : length prefix ≡ header_len = length-header_bytes h in
+    let prefix = header_bytes name h in
+    let prefix_long : length prefix ≡ header_len = length-header_bytes name h in
     let parted : drop 0 s ≡ rest ++ drop log.done s = sym (take-append-drop log.done s) in
     let t = new_take existed in
     let es = sealed_entries (entries_by t name 0 rest) in
@@ -261,6 +263,6 @@ entries_report h name log tail whole cut =
 
 pub journals_report_logs : JournalsReportLogs
 journals_report_logs h name log tail small whole cut =
-    reported_after h (header_bytes h)
+    reported_after name h (header_bytes name h)
     (sealed_entries (entries_from h.existed log.admitted name 0 (take log.done log.admitted))) tail
     (story_of_log h name log) refl small cut refl (entries_report h name log tail whole cut)

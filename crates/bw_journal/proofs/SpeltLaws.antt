@@ -28,44 +28,55 @@ use Rattle.bw_journal.proofs.Lengths.{sealed-length}
 none_some : {X : Type 0} {x : X} → None ≡ Some x → ⊥
 none_some e = cc
 
--- three tests that passed
-chain : {X : Type 0} (a b c : Bool) (x y : X) → cond a None (cond b None (cond c (Some x) None)) ≡ Some y →
-    (a ≡ false) × (b ≡ false) × (c ≡ true) × (x ≡ y)
-chain true b c x y e = absurd (none_some e)
-chain false true c x y e = absurd (none_some e)
-chain false false true x y e = (refl, refl, refl, some_inj e)
-chain false false false x y e = absurd (none_some e)
+-- four tests that passed
+chain : {X : Type 0} (a s b c : Bool) (x y : X) →
+    cond a None (cond (not s) None (cond b None (cond c (Some x) None))) ≡ Some y →
+    (a ≡ false) × (s ≡ true) × (b ≡ false) × (c ≡ true) × (x ≡ y)
+chain true s b c x y e = absurd (none_some e)
+chain false false b c x y e = absurd (none_some e)
+chain false true true c x y e = absurd (none_some e)
+chain false true false true x y e = (refl, refl, refl, refl, some_inj e)
+chain false true false false x y e = absurd (none_some e)
 
 -- what was opened is sealed at the start
 pub opened_stands : (bytes c : List ℕ) → are_bytes bytes ≡ true → opened bytes ≡ Some c →
-    (take (10 + length c) bytes ≡ sealed c) × (c ≡ take (u16_at bytes 0) (drop 2 bytes))
+    (take (12 + length c) bytes ≡ sealed c) × (c ≡ take (u16_at bytes 0) (drop 4 bytes))
 unfolding opened sealed
 opened_stands bytes c fits e =
     let n = u16_at bytes 0 in
-    let d = drop 2 bytes in
-    let t = chain (nat_lt (length bytes) 2) (nat_lt (length bytes) (10 + n))
-    (bytes_eq (take 8 (drop (2 + n) bytes)) (check (take n d))) (take n d) c e in
+    let m = u16_at bytes 2 in
+    let d = drop 4 bytes in
+    let t = chain (nat_lt (length bytes) 4) (n + m == 65535) (nat_lt (length bytes) (12 + n))
+    (bytes_eq (take 8 (drop (4 + n) bytes)) (check (take n d))) (take n d) c e in
     let long = ltb-false _ _ t.0 in
-    let whole = ltb-false _ _ t.1 in
-    let d_len : length d ≡ length bytes - 2 = length-drop 2 bytes in
-    let c_len : length c ≡ n = sym (ap length t.3) ∙ length-take-le n d (omega arith) in
-    let number : le16 n ++ d ≡ bytes = (written-number_at w16 (2 ^ 16) wide16 bytes 0 fits long).0 in
-    let chk = take 8 (drop (2 + n) bytes) in
+    let sum : n + m ≡ 65535 = eqb-true _ _ t.1 in
+    let whole = ltb-false _ _ t.2 in
+    let is = t.4 in
+    let d_len : length d ≡ length bytes - 4 = length-drop 4 bytes in
+    let c_len : length c ≡ n = sym (ap length is) ∙ length-take-le n d (omega arith) in
+    let number : le16 n ++ drop 2 bytes ≡ bytes =
+    (written-number_at w16 (2 ^ 16) wide16 bytes 0 fits (omega (arith, long))).0 in
+    let second : le16 m ++ d ≡ drop 2 bytes =
+    (written-number_at w16 (2 ^ 16) wide16 bytes 2 fits (omega (arith, long))).0 in
+    let chk = take 8 (drop (4 + n) bytes) in
     let rest = drop 8 (drop n d) in
-    let following : drop (2 + n) bytes ≡ drop n d = sym (drop-drop n 2 bytes) in
+    let following : drop (4 + n) bytes ≡ drop n d = sym (drop-drop n 4 bytes) in
     let good : take 8 (drop n d) ≡ check c =
-    ap (take 8) (sym following) ∙ same_name chk (check (take n d)) t.2 ∙ ap check t.3 in
-    let parted : bytes ≡ (le16 (length c) ++ c ++ check c) ++ rest =
+    ap (take 8) (sym following) ∙ same_name chk (check (take n d)) t.3 ∙ ap check is in
+    let sealed_here : d ≡ (c ++ check c) ++ rest =
+    sym (take-append-drop n d) ∙ ap (λ (x : List ℕ). x ++ drop n d) is
+    ∙ ap (λ (x : List ℕ). c ++ x) (sym (take-append-drop 8 (drop n d)) ∙ ap (λ (x : List ℕ). x ++ rest) good)
+    ∙ sym (append_assoc c (check c) rest) in
+    let other : m ≡ 65535 - length c = omega (arith, sum, c_len) in
+    let parted : bytes ≡ (le16 (length c) ++ le16 (65535 - length c) ++ c ++ check c) ++ rest =
     sym number
-    ∙ ap (λ (k : ℕ). le16 k ++ d) (sym c_len)
-    ∙ ap (λ (x : List ℕ). le16 (length c) ++ x) (sym (take-append-drop n d) ∙ ap (λ (x : List ℕ). x ++ drop n d) t.3
-    ∙ ap (λ (x : List ℕ). c ++ x) (sym (take-append-drop 8 (drop n d)) ∙ ap (λ (x : List ℕ). x ++ rest) good))
-    ∙ ap (λ (x : List ℕ). le16 (length c) ++ x) (sym (append_assoc c (check c) rest))
-    ∙ sym (append_assoc (le16 (length c)) (c ++ check c) rest)
-    ∙ ap (λ (x : List ℕ). x ++ rest) (sym (append_assoc (le16 (length c)) c (check c))) in (
-      ap (take (10 + length c)) parted
-          ∙ take_at (le16 (length c) ++ c ++ check c) rest (10 + length c) (sealed-length c),
-      sym t.3,
+    ∙ ap (λ (k : ℕ). le16 k ++ drop 2 bytes) (sym c_len)
+    ∙ ap (λ (x : List ℕ). le16 (length c) ++ x) (sym second)
+    ∙ ap (λ (k : ℕ). le16 (length c) ++ (le16 k ++ d)) other
+    ∙ ap (λ (x : List ℕ). le16 (length c) ++ (le16 (65535 - length c) ++ x)) sealed_here in (
+      ap (take (12 + length c)) parted
+          ∙ take_at (le16 (length c) ++ le16 (65535 - length c) ++ c ++ check c) rest (12 + length c) (sealed-length c),
+      sym is,
     )
 
 found_passes : {X : Type 0} (test : X → Bool) (xs : List X) (x : X) → find test xs ≡ Some x → test x ≡ true
@@ -158,7 +169,7 @@ made_parts (Some v) d (Some r) e h = (
 )
 
 -- the content is the entry's
-content_stands : (c : List ℕ) (e : JournalEntry) → are_bytes c ≡ true → entry_in c ≡ Some e → content e ≡ c
+pub content_stands : (c : List ℕ) (e : JournalEntry) → are_bytes c ≡ true → entry_in c ≡ Some e → content e ≡ c
 unfolding entry_in content
 content_stands [] e fits h = absurd (none_some h)
 content_stands (k ∷ b) e fits h = go (nat_lt (length (k ∷ b)) 34) h
@@ -186,13 +197,13 @@ read_entries_stand bytes e n fits h = go (opened bytes) refl h
     go (Some c) p h = found (entry_in c) refl h
       where
         found : (x : Option JournalEntry) → entry_in c ≡ x →
-            option_map {U = JournalEntry × ℕ} (λ y. (y, 10 + length c)) x ≡ Some (e, n) → take n bytes ≡ sealed_entry e
+            option_map {U = JournalEntry × ℕ} (λ y. (y, 12 + length c)) x ≡ Some (e, n) → take n bytes ≡ sealed_entry e
         found None q h = absurd (none_some h)
         found (Some y) q h =
-            let pair : (y, 10 + length c) ≡ (e, n) = some_inj h in
+            let pair : (y, 12 + length c) ≡ (e, n) = some_inj h in
             let s = opened_stands bytes c fits p in
             let c_fits : are_bytes c ≡ true =
             subst (λ (x : List ℕ). are_bytes x ≡ true) (sym s.1)
-            (are_bytes-parts (u16_at bytes 0) (drop 2 bytes) (are_bytes-parts 2 bytes fits).1).0 in
+            (are_bytes-parts (u16_at bytes 0) (drop 4 bytes) (are_bytes-parts 4 bytes fits).1).0 in
             ap (λ (k : ℕ). take k bytes) (sym (ap (λ (z : JournalEntry × ℕ). z.1) pair)) ∙ s.0
             ∙ ap sealed (sym (content_stands c y c_fits q)) ∙ ap (λ (z : JournalEntry × ℕ). sealed_entry z.0) pair

@@ -1,13 +1,14 @@
 -- What a journal has of a done number.
-use Rattle.std.specs.Prelude.{ℕ, ◌+◌, ◌&&◌, Option, Some, None, option_map, option_and_then, Result}
+use Rattle.std.specs.Prelude.{ℕ, ◌+◌, ◌&&◌, ◌||◌, Bool, true, Option, Some, None, option_map}
+use Rattle.std.specs.Prelude.{option_and_then, Result}
 use Rattle.std.specs.Prelude.{Ok, Err, List, [], ◌∷◌, ◌++◌, length, take, drop, flat_map}
-use Rattle.std.specs.Prelude.{slice_index, nat_lt, ◌==◌, if◌then◌else◌}
-use Rattle.bw_model.specs.Bytes.{le32, u32_at, zeros, is_within}
+use Rattle.std.specs.Prelude.{slice_index, nat_le, nat_lt, ◌==◌, if◌then◌else◌}
+use Rattle.bw_model.specs.Bytes.{le32, u16_at, u32_at, zeros, is_within}
 use Rattle.bw_model.specs.Limits.{longest_block}
 use Rattle.bw_model.specs.Take.{Request, Open, Block, Mark, SetField, Close, Verdict}
 use Rattle.bw_model.specs.Wire.{kind, payload, decoded_request}
 use Rattle.bw_model.specs.Replies.{verdict_code, verdict_of}
-use Rattle.bw_journal.specs.Seals.{sealed, opened}
+use Rattle.bw_journal.specs.Seals.{sealed, opened, is_cut_short}
 
 -- the request with zeros in place of its samples
 abbrev pub bare : Request → Request
@@ -45,7 +46,20 @@ sealed_entry e = sealed (content e)
 
 -- an OPEN with the longest history takes this many bytes, and no other request takes more
 abbrev pub longest_entry : ℕ
-longest_entry = 4150
+longest_entry = 4152
+
+-- a content of an entry of this kind may have this length: of a BLOCK, a MARK and a CLOSE only one
+abbrev pub may_have_length : ℕ → ℕ → Bool
+may_have_length kind n =
+    if kind == 2 then n == 38 else if (kind == 3) || (kind == 5) then n == 42 else true
+
+-- What a stop leaves of an entry that was being written: it is cut short, its length is no more
+-- than an entry's, and the one of its kind, which the byte after length, verdict and digest tells.
+unfoldable pub is_torn_entry : List ℕ → Bool
+is_torn_entry bytes =
+    is_cut_short bytes
+    && (nat_lt (length bytes) 4 || nat_le (12 + u16_at bytes 0) longest_entry)
+    && (nat_lt (length bytes) 38 || may_have_length (slice_index bytes 37) (u16_at bytes 0))
 
 -- the bytes of whole entries
 abbrev pub sealed_entries : List JournalEntry → List ℕ
@@ -84,7 +98,7 @@ entry_in bytes =
 
 -- the entry, and how many bytes it takes
 abbrev pub entry_with_len : List ℕ → Option (JournalEntry × ℕ)
-entry_with_len bytes = option_map (λ e. (e, 10 + length bytes)) (entry_in bytes)
+entry_with_len bytes = option_map (λ e. (e, 12 + length bytes)) (entry_in bytes)
 
 -- The entry at the start of these bytes, and how many it takes; none if the start is torn or isn't
 -- an entry.

@@ -1,7 +1,7 @@
 -- The faults of a journal as the code has them.
 use Rattle.std.specs.Prelude.{◌≡◌, ℕ, Option, Some, None, Result, Err}
-use Rattle.bw_journal.specs.Replays.{Story, JournalFault, NotBegun, NotAJournal, OtherLimit}
-use Rattle.bw_journal.specs.Replays.{OtherVerdict, NotAnEntry, LongTail, fault_code}
+use Rattle.bw_journal.specs.Replays.{Story, JournalFault, NotBegun, NotAJournal, OtherName}
+use Rattle.bw_journal.specs.Replays.{OtherLimit, OtherVerdict, NotAnEntry, Damaged, fault_code}
 use Rattle.bw_journal.specs.declared.fault.ReplayFault.{ReplayFault}
 use Rattle.bw_journal.specs.declared.fault.ReplayFault.TheVariants as faults
 
@@ -9,15 +9,16 @@ use Rattle.bw_journal.specs.declared.fault.ReplayFault.TheVariants as faults
 abbrev pub fault_meaning : ReplayFault → Option JournalFault
 fault_meaning faults.NotBegun = Some NotBegun
 fault_meaning faults.NotAJournal = Some NotAJournal
+fault_meaning faults.OtherName = Some OtherName
 fault_meaning faults.OtherLimit = Some OtherLimit
 fault_meaning faults.OtherVerdict = Some OtherVerdict
 fault_meaning faults.NotAnEntry = Some NotAnEntry
-fault_meaning faults.LongTail = Some LongTail
+fault_meaning faults.Damaged = Some Damaged
 fault_meaning faults.Memory = None
 
 -- the number of a lack of memory
 abbrev pub memory_code : ℕ
-memory_code = 7
+memory_code = 8
 
 -- the number of a fault, or of a lack of memory
 abbrev pub code_by : Option JournalFault → ℕ

@@ -9,5 +9,6 @@ pub mod HeaderRefs
 pub mod Faults
 pub mod Stories
 pub mod Noted
+pub mod Rows
 pub mod Stops
 pub mod Recovery

@@ -8,6 +8,7 @@ use Rattle.bw_model.specs.Wire.{is_request, are_bytes}
 use Rattle.bw_model.specs.Replies.{verdict_code}
 use Rattle.bw_model.specs.Book.{Log, made, verdict_at}
 use Rattle.bw_model.specs.Holds.{body_of, finished_from}
+use Rattle.bw_journal.specs.Seals.{check}
 use Rattle.bw_journal.specs.JournalHeaders.{Header, header_bytes, header_len, first_header}
 use Rattle.bw_journal.specs.Entries.{JournalEntry, bare, sealed_entry, sealed_entries, first_entry}
 use Rattle.bw_journal.specs.Entries.{longest_entry}
@@ -29,7 +30,7 @@ entries_from existed s name n (Some r ∷ rest) =
 -- the journal of a name: its header, and an entry for each done number, in order
 abbrev pub journal_of : Header → List ℕ → Log → List ℕ
 journal_of h name log =
-    header_bytes h
+    header_bytes name h
     ++ sealed_entries (entries_from h.existed log.admitted name 0 (take log.done log.admitted))
 
 -- what digests and verdicts are kept as: 33 bytes each
@@ -64,13 +65,13 @@ EntriesAreShort = (e : JournalEntry) → IsNotable e → length (sealed_entry e)
 
 -- a header is read again from its bytes, whatever follows
 abbrev pub HeadersReadBack : Type 0
-HeadersReadBack = (h : Header) (more : List ℕ) → IsHeader h →
-    first_header (header_bytes h ++ more) ≡ Some h
+HeadersReadBack = (name : List ℕ) (h : Header) (more : List ℕ) → IsHeader h →
+    first_header (header_bytes name h ++ more) ≡ Some (h, check name)
 
 -- If a header is read, its bytes are there.
 abbrev pub ReadHeadersStand : Type 0
-ReadHeadersStand = (bytes : List ℕ) (h : Header) → IsTrue (are_bytes bytes) →
-    first_header bytes ≡ Some h → take header_len bytes ≡ header_bytes h
+ReadHeadersStand = (bytes name : List ℕ) (h : Header) → IsTrue (are_bytes bytes) →
+    first_header bytes ≡ Some (h, check name) → take header_len bytes ≡ header_bytes name h
 
 -- a prefix of an entry, which isn't all of it: what a stop leaves of the entry being written
 pub record IsCut (tail : List ℕ) : Type 0 where
@@ -86,8 +87,8 @@ CutEntriesAreNone = (tail : List ℕ) → IsCut tail → first_entry tail ≡ No
 
 -- a prefix of a header, which isn't all of it, means that the journal isn't begun
 abbrev pub CutHeadersAreNotBegun : Type 0
-CutHeadersAreNotBegun = (h : Header) (count : ℕ) → IsHeader h → count < header_len →
-    replay h.limit (take count (header_bytes h)) ≡ Err NotBegun
+CutHeadersAreNotBegun = (name : List ℕ) (h : Header) (count : ℕ) → IsHeader h →
+    count < header_len → replay h.limit name (take count (header_bytes name h)) ≡ Err NotBegun
 
 -- there is a request, and a message may carry it
 abbrev pub fits : Option Request → Bool
@@ -111,4 +112,4 @@ story_of_log h name log = record {
 abbrev pub JournalsReportLogs : Type 0
 JournalsReportLogs = (h : Header) (name : List ℕ) (log : Log) (tail : List ℕ) →
     IsHeader h → AdmitsDone log → IsCut tail →
-    replay h.limit (journal_of h name log ++ tail) ≡ Ok (story_of_log h name log)
+    replay h.limit name (journal_of h name log ++ tail) ≡ Ok (story_of_log h name log)

@@ -39,12 +39,12 @@ pub record StartsInPart (bytes : List ℕ) (before after : Option (List ℕ)) : 
   pub only : (after ≡ before) ⊎ IsPrefixOf bytes before
 
 -- after a `begin` that succeeds
-abbrev pub BeginsNotes : Header → Option (List ℕ) → Option (List ℕ) → Type 0
-BeginsNotes header before after = Starts (header_bytes header) before after
+abbrev pub BeginsNotes : List ℕ → Header → Option (List ℕ) → Option (List ℕ) → Type 0
+BeginsNotes name header before after = Starts (header_bytes name header) before after
 
 -- after a `begin` that fails
-abbrev pub BeginsInPart : Header → Option (List ℕ) → Option (List ℕ) → Type 0
-BeginsInPart header before after = StartsInPart (header_bytes header) before after
+abbrev pub BeginsInPart : List ℕ → Header → Option (List ℕ) → Option (List ℕ) → Type 0
+BeginsInPart name header before after = StartsInPart (header_bytes name header) before after
 
 -- After a `note` that succeeds: the bytes come after `offset` others, in place of a prefix of them.
 abbrev pub Notes : ℕ → List ℕ → Option (List ℕ) → Option (List ℕ) → Type 0

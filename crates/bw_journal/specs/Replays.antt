@@ -1,13 +1,14 @@
 -- What a journal says about a take and its verdicts, and why it may say nothing.
-use Rattle.std.specs.Prelude.{ℕ, zero, suc, ◌+◌, Bool, Option, Some, None, is_some, Result, Ok, Err}
-use Rattle.std.specs.Prelude.{List, [], ◌∷◌, ◌++◌, drop, length, nat_lt, ◌==◌, if◌then◌else◌}
+use Rattle.std.specs.Prelude.{ℕ, zero, suc, ◌+◌, Bool, not, Option, Some, None, is_some, Result, Ok}
+use Rattle.std.specs.Prelude.{Err, List, [], ◌∷◌, ◌++◌, drop, length, ◌==◌, if◌then◌else◌}
+use Rattle.std.specs.Str.{bytes_eq}
 use Rattle.bw_model.specs.Bytes.{first_that_holds, unless}
 use Rattle.bw_model.specs.Take.{Parts, Request, Verdict, judge, new_take, parts, is_stored}
 use Rattle.bw_model.specs.Replies.{verdict_code}
 use Rattle.bw_take.specs.States.{parts_with}
-use Rattle.bw_journal.specs.Seals.{opened}
+use Rattle.bw_journal.specs.Seals.{check, opened}
 use Rattle.bw_journal.specs.JournalHeaders.{Header, header_len, first_header, is_torn_header}
-use Rattle.bw_journal.specs.Entries.{JournalEntry, first_entry, longest_entry}
+use Rattle.bw_journal.specs.Entries.{JournalEntry, first_entry, is_torn_entry}
 
 -- what is known after some entries
 pub record Story : Type 0 where
@@ -24,23 +25,26 @@ pub data JournalFault : Type 0 where
   NotBegun : JournalFault
   -- there is no header at the start
   NotAJournal : JournalFault
+  -- the header is that of another name's journal
+  OtherName : JournalFault
   -- the header has another limit than the server
   OtherLimit : JournalFault
   -- an entry has another verdict than the request's judgement
   OtherVerdict : JournalFault
   -- bytes after the last entry are whole, but no entry
   NotAnEntry : JournalFault
-  -- more bytes follow the last entry than an entry may have
-  LongTail : JournalFault
+  -- bytes after the last entry are neither whole nor torn: no stop leaves such
+  Damaged : JournalFault
 
 -- the number of a fault
 abbrev pub fault_code : JournalFault → ℕ
 fault_code NotBegun = 1
 fault_code NotAJournal = 2
-fault_code OtherLimit = 3
-fault_code OtherVerdict = 4
-fault_code NotAnEntry = 5
-fault_code LongTail = 6
+fault_code OtherName = 3
+fault_code OtherLimit = 4
+fault_code OtherVerdict = 5
+fault_code NotAnEntry = 6
+fault_code Damaged = 7
 
 -- before any entry
 abbrev pub beginning : Bool → Story
@@ -80,7 +84,7 @@ replayed_entries existed bytes = replayed (length bytes) bytes (beginning existe
 unfoldable pub tail_fault : List ℕ → Option JournalFault
 tail_fault tail = first_that_holds (
     (is_some (opened tail), NotAnEntry)
-    ∷ (nat_lt longest_entry (length tail), LongTail)
+    ∷ (not (is_torn_entry tail), Damaged)
     ∷ [])
 
 -- the tail is checked too, if the entries were replayed
@@ -88,14 +92,17 @@ abbrev pub reported_with_tail : List ℕ → Result Story JournalFault → Resul
 reported_with_tail bytes (Ok s) = unless (tail_fault (drop s.used bytes)) s
 reported_with_tail bytes (Err f) = Err f
 
--- what the bytes after this header say to a server of this limit
-abbrev pub replayed_after : ℕ → List ℕ → Option Header → Result Story JournalFault
-replayed_after limit bytes None =
-    if is_torn_header limit bytes then Err NotBegun else Err NotAJournal
-replayed_after limit bytes (Some h) =
-    if h.limit == limit then reported_with_tail bytes (replayed_entries h.existed bytes)
+-- what the bytes after this header say of a name to a server of this limit
+abbrev pub replayed_after : ℕ → List ℕ → List ℕ → Option (Header × List ℕ) →
+    Result Story JournalFault
+replayed_after limit name bytes None =
+    if is_torn_header limit name bytes then Err NotBegun else Err NotAJournal
+replayed_after limit name bytes (Some x) =
+    if bytes_eq x.1 (check name)
+    then if x.0.limit == limit then reported_with_tail bytes (replayed_entries x.0.existed bytes)
     else Err OtherLimit
+    else Err OtherName
 
--- what a journal says to a server of this limit
-unfoldable pub replay : ℕ → List ℕ → Result Story JournalFault
-replay limit bytes = replayed_after limit bytes (first_header bytes)
+-- what a name's journal says to a server of this limit
+unfoldable pub replay : ℕ → List ℕ → List ℕ → Result Story JournalFault
+replay limit name bytes = replayed_after limit name bytes (first_header bytes)

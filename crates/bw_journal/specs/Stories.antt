@@ -1,6 +1,6 @@
 -- What the code knows after a replay.
 use Rattle.bw_journal.specs.Replays.{Story}
-use Rattle.bw_journal.specs.declared.reader.Replayed.{Replayed}
+use Rattle.bw_journal.specs.declared.story.Replayed.{Replayed}
 
 -- the story, in the definitions' words
 abbrev pub story_of : Replayed → Story

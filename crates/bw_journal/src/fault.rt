@@ -16,28 +16,32 @@ pub enum ReplayFault {
     /// There is no header at its start.
     #[error("not a journal")]
     NotAJournal = 2,
+    /// Its header is that of another name's journal: the file was renamed.
+    #[error("the journal is another name's")]
+    OtherName = 3,
     /// Its header has another limit than the server.
     #[error("the journal has another limit")]
-    OtherLimit = 3,
+    OtherLimit = 4,
     /// An entry's verdict differs from the request's judgement: other rules made it.
     #[error("an entry isn't judged as it says")]
-    OtherVerdict = 4,
+    OtherVerdict = 5,
     /// The bytes after the last entry are whole, but no entry that this program writes.
     #[error("an entry isn't known")]
-    NotAnEntry = 5,
-    /// More bytes follow the last entry than an entry can have: more than one write was lost.
-    #[error("what follows the last entry is longer than one")]
-    LongTail = 6,
+    NotAnEntry = 6,
+    /// The bytes after the last entry are neither whole nor what a stop leaves of an entry: some of
+    /// them changed.
+    #[error("the journal is damaged")]
+    Damaged = 7,
     /// Memory was refused.
     #[error("out of memory")]
-    Memory = 7,
+    Memory = 8,
 }
 
 impl ReplayFault {
     /// Its number.
     pub fn code(self) -> u8
         ensures value { result ≡ replay_code self }
-        ensures range { result ≤ 7 }
+        ensures range { result ≤ 8 }
     {
         self as u8
     }

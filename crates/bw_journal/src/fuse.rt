@@ -92,7 +92,7 @@ impl Journal for FuseJournal {
         ensures failures { Counts self.old.failures self.new.failures (is_err result) }
         ensures calls { Counts self.old.calls self.new.calls true }
         ensures headers { KeepsHeaders (header_for self.old.inner) (header_for self.new.inner) }
-        ensures begun { OnOk result (BeginsNotes (header_for self.old.inner name.now)
+        ensures begun { OnOk result (BeginsNotes name.now (header_for self.old.inner name.now)
             (content_of self.old.inner.notes name.now)
             (content_of self.new.inner.notes name.now)) }
         ensures failed { OnErr result (content_of self.new.inner.notes name.now

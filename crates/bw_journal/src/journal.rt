@@ -46,8 +46,9 @@ pub trait Journal: Drop {
         ensures headers { IsTrue (honest self.old) →
             KeepsHeaders (header self.old) (header self.new) }
         ensures begun { IsTrue (honest self.old) → OnOk result
-            (BeginsNotes (header self.old name.now) (notes self.old name.now) (notes self.new name.now)) }
-        ensures failed { IsTrue (honest self.old) → OnErr result (BeginsInPart
+            (BeginsNotes name.now (header self.old name.now)
+            (notes self.old name.now) (notes self.new name.now)) }
+        ensures failed { IsTrue (honest self.old) → OnErr result (BeginsInPart name.now
             (header self.old name.now) (notes self.old name.now) (notes self.new name.now)) }
         ensures others { IsTrue (honest self.old) →
             KeepsOthers (notes self.old) (notes self.new) name.now };

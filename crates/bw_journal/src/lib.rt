@@ -10,13 +10,15 @@ pub mod laws;
 mod memory;
 mod reader;
 mod seal;
+mod story;
 mod writer;
 
-pub use entry::{EntryRef, first_entry};
+pub use entry::{ENTRY_MAX, EntryRef, first_entry};
 pub use fault::ReplayFault;
 pub use fuse::FuseJournal;
-pub use header::JournalHeader;
+pub use header::{JournalHeader, header_limit};
 pub use journal::{Journal, NoJournal};
 pub use memory::MemoryJournal;
-pub use reader::{ENTRY_MAX, Replayed, replay};
+pub use reader::replay;
+pub use story::Replayed;
 pub use writer::put_entry;

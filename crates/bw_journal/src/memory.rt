@@ -115,11 +115,11 @@ impl Journal for MemoryJournal {
     fn begin(&mut self, name: &Name) -> Result<(), StoreFault>
         ensures failures { Counts self.old.failures self.new.failures (is_err result) }
         ensures headers { KeepsHeaders (header_for self.old) (header_for self.new) }
-        ensures begun { OnOk result (BeginsNotes (header_for self.old name.now)
+        ensures begun { OnOk result (BeginsNotes name.now (header_for self.old name.now)
             (content_of self.old.notes name.now) (content_of self.new.notes name.now)) }
         ensures failed { OnErr result
             (content_of self.new.notes name.now ≡ content_of self.old.notes name.now) }
-        ensures stands { BeginsWith (header_bytes (header_for self.old name.now))
+        ensures stands { BeginsWith (header_bytes name.now (header_for self.old name.now))
             (content_of self.old.notes name.now) → IsOk result }
         ensures others { KeepsOthers
             (content_of self.old.notes) (content_of self.new.notes) name.now }
@@ -128,7 +128,7 @@ impl Journal for MemoryJournal {
             limit: self.limit,
             existed: has_name(self.existed.as_slice(), name),
         };
-        let answer = start(&mut self.notes, self.alloc, name, &header.to_bytes());
+        let answer = start(&mut self.notes, self.alloc, name, &header.to_bytes(name));
         count(&mut self.failures, answer.is_err());
         answer
     }

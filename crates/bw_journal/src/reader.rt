@@ -8,7 +8,7 @@ ghost use Rattle.bw_model.specs.Replies.{verdict_code};
 ghost use Rattle.bw_model.specs.Wire.{is_request};
 ghost use Rattle.bw_request.specs.Requests.{meaning};
 ghost use Rattle.bw_request.specs.Verdicts.{verdict_meaning};
-ghost use Rattle.bw_journal.specs.JournalHeaders.{header_len, has_limit};
+ghost use Rattle.bw_journal.specs.JournalHeaders.{header_len, is_header_of};
 ghost use Rattle.bw_journal.specs.JournalHeaders.{first_header as first_header_in};
 ghost use Rattle.bw_journal.specs.Replays.{OtherVerdict as other_verdict, replay as replay_of};
 ghost use Rattle.bw_journal.specs.Replays.{replayed_entries, tail_fault as tail_fault_of};
@@ -17,63 +17,57 @@ ghost use Rattle.bw_journal.specs.Refs.{entry_said};
 ghost use Rattle.bw_journal.specs.Stories.{story_of};
 ghost use Rattle.bw_journal.specs.Faults.{IsJournalFault, fault_meaning};
 
-use crate::entry::{EntryRef, first_entry};
+use crate::entry::{EntryRef, first_entry, is_torn_entry};
 use crate::fault::ReplayFault;
-use crate::header::{JournalHeader, first_header, is_torn_header};
+use crate::header::{JournalHeader, first_header, is_torn_header, names};
 use crate::seal::opened;
+use crate::story::Replayed;
 use bw_layout::Limit;
-use bw_request::LONGEST_BLOCK;
+use bw_request::{LONGEST_BLOCK, Name};
 use bw_take::{TakeState, judge};
 use std::alloc::{AllocError, Global};
 
-/// A sealed entry has at most this many bytes.
-pub const ENTRY_MAX: usize = 4150;
-
-/// What a journal says about a take.
-#[derive(Drop)]
-pub struct Replayed {
-    /// The take without its data, and whether a file of its name existed.
-    pub state: TakeState,
-    /// The digest and the verdict's code of each number, 33 bytes each.
-    pub table: Vec<u8>,
-    /// How many bytes of the journal are its header and whole entries.
-    pub used: usize,
-    /// How many bytes follow: a prefix of an entry, which is to be cut off.
-    pub torn: usize,
-}
-
 /// What the journal of a name says to a server of this limit.
 ///
-/// An entry that is torn at the end is not replayed; only its length is returned.
+/// An entry that is torn at the end, so that fewer bytes of it are there than its length says, is
+/// not replayed; only its length is returned. All else at the end is a fault.
 ///
 /// The journal has at most 2^40 bytes.
 ///
 /// # Errors
 /// The first reason why it can't be replayed; `Memory` if memory was refused, never if there is no
-/// header of this limit.
+/// header of this name and limit.
 ///
 /// # Not specified
 /// When memory is refused.
 #[tactic(auto, unfolding(crate::specs::Replays::replay))]
-pub fn replay(alloc: Global, limit: Limit, bytes: &[u8]) -> Result<Replayed, ReplayFault>
+pub fn replay(
+    alloc: Global,
+    limit: Limit,
+    name: &Name,
+    bytes: &[u8],
+) -> Result<Replayed, ReplayFault>
     requires { length bytes.now ≤ 2 ^ 40 }
-    ensures ok { IfOk result (λ r. replay_of limit bytes.now ≡ Ok (story_of r)) }
+    ensures ok { IfOk result (λ r. replay_of limit name.now bytes.now ≡ Ok (story_of r)) }
     ensures torn { IfOk result (λ r. r.used + r.torn ≡ length bytes.now) }
-    ensures err { IfErr result (λ e. IsJournalFault e (replay_of limit bytes.now)) }
-    ensures header { has_limit limit (first_header_in bytes.now) ≡ false →
+    ensures err { IfErr result (λ e. IsJournalFault e (replay_of limit name.now bytes.now)) }
+    ensures header { is_header_of limit name.now (first_header_in bytes.now) ≡ false →
         IfErr result (λ e. IsSome (fault_meaning e)) }
 {
-    let Some((found, existed)) = first_header(bytes) else {
-        return Err(if is_torn_header(limit, bytes) {
+    let Some(header) = first_header(bytes) else {
+        return Err(if is_torn_header(limit, name, bytes) {
             ReplayFault::NotBegun
         } else {
             ReplayFault::NotAJournal
         });
     };
-    if u64::from(found) != limit.bytes() {
+    if !names(header.digest, name) {
+        return Err(ReplayFault::OtherName);
+    }
+    if u64::from(header.limit) != limit.bytes() {
         return Err(ReplayFault::OtherLimit);
     }
-    let replayed = replay_entries(alloc, existed, bytes)?;
+    let replayed = replay_entries(alloc, header.existed, bytes)?;
     match tail_fault(&bytes[replayed.used..]) {
         Some(fault) => Err(fault),
         None => Ok(replayed),
@@ -88,8 +82,8 @@ fn tail_fault(tail: &[u8]) -> Option<ReplayFault>
 {
     if opened(tail).is_some() {
         Some(ReplayFault::NotAnEntry)
-    } else if tail.len() > ENTRY_MAX {
-        Some(ReplayFault::LongTail)
+    } else if !is_torn_entry(tail) {
+        Some(ReplayFault::Damaged)
     } else {
         None
     }

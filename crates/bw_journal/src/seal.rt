@@ -1,9 +1,12 @@
 //! Bytes between their length and a check.
-ghost use Rattle.std.specs.Prelude.{◌≡◌, ◌+◌, ◌≤◌, IfSome, option_map, length, take, vec_len};
-ghost use Rattle.std.specs.Prelude.{vec_capacity};
+ghost use Rattle.std.specs.Prelude.{◌≡◌, ◌+◌, ◌-◌, ◌^◌, ◌<◌, ◌≤◌, ◌++◌, ℕ, IfSome, option_map, length};
+ghost use Rattle.std.specs.Prelude.{take, vec_len, vec_capacity};
 ghost use Rattle.std.specs.Str.{bytes_eq};
+ghost use Rattle.bw_model.specs.Bytes.{le16};
 ghost use Rattle.bw_layout.specs.Appending.{Gains};
 ghost use Rattle.bw_journal.specs.Seals.{opened as opened_in, check as check_of};
+ghost use Rattle.bw_journal.specs.Seals.{has_length as is_length_sound};
+ghost use Rattle.bw_journal.specs.Seals.{is_cut_short as is_cut_short_of};
 
 use bw_bytes::read_u16;
 use sha2::{Digest, Sha256};
@@ -12,17 +15,20 @@ use sha2::{Digest, Sha256};
 #[tactic(auto, unfolding(crate::specs::Seals::opened))]
 pub(crate) fn opened(bytes: &[u8]) -> Option<&[u8]>
     ensures value { option_map (λ c. c.now) result ≡ opened_in bytes.now }
-    ensures within { IfSome result (λ c. 10 + length c.now ≤ length bytes.now) }
+    ensures within { IfSome result (λ c. 12 + length c.now ≤ length bytes.now) }
 {
-    if bytes.len() < 2 {
+    if bytes.len() < 4 {
+        return None;
+    }
+    if !has_length(bytes) {
         return None;
     }
     let len = usize::from(read_u16(bytes, 0));
-    if bytes.len() < 10 + len {
+    if bytes.len() < 12 + len {
         return None;
     }
-    let content = &bytes[2..2 + len];
-    let found = &bytes[2 + len..10 + len];
+    let content = &bytes[4..4 + len];
+    let found = &bytes[4 + len..12 + len];
     if is_check(found, content) {
         Some(content)
     } else {
@@ -30,9 +36,28 @@ pub(crate) fn opened(bytes: &[u8]) -> Option<&[u8]>
     }
 }
 
+/// Whether the complement of their length follows it at the start of four bytes or more.
+fn has_length(bytes: &[u8]) -> bool
+    requires { 4 ≤ length bytes.now }
+    ensures { result ≡ is_length_sound bytes.now }
+{
+    u32::from(read_u16(bytes, 0)) + u32::from(read_u16(bytes, 2)) == 0xffff
+}
+
+/// Whether these are fewer bytes than a length and its complement have, or fewer than a sound
+/// length says.
+pub(crate) fn is_cut_short(bytes: &[u8]) -> bool
+    ensures { result ≡ is_cut_short_of bytes.now }
+{
+    if bytes.len() < 4 {
+        return true;
+    }
+    has_length(bytes) && bytes.len() < 12 + usize::from(read_u16(bytes, 0))
+}
+
 /// Whether these bytes are the check of a content.
 #[tactic(auto, unfolding(crate::specs::Seals::check))]
-fn is_check(found: &[u8], content: &[u8]) -> bool
+pub(crate) fn is_check(found: &[u8], content: &[u8]) -> bool
     ensures { result ≡ bytes_eq found.now (check_of content.now) }
 {
     let digest = Sha256::digest(content);
@@ -45,6 +70,17 @@ pub(crate) fn check(content: &[u8]) -> [u8; 32]
     ensures { take 8 result ≡ check_of content.now }
 {
     Sha256::digest(content)
+}
+
+/// Appends a length below 2^16 and its complement; there is room for them.
+pub(crate) fn push_length(out: &mut Vec<u8>, len: usize)
+    requires short { len < 2 ^ 16 }
+    requires room { vec_len out.old + 4 ≤ vec_capacity out.old }
+    ensures { Gains (le16 len ++ le16 (65535 - len)) 4 out.old out.new }
+{
+    let len = len as u16;
+    push(out, &len.to_le_bytes());
+    push(out, &(0xffff - len).to_le_bytes());
 }
 
 /// Appends bytes; there is room for them.

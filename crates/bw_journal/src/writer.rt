@@ -9,13 +9,13 @@ ghost use Rattle.bw_journal.specs.Entries.{JournalEntry, noted as noted_of, note
 ghost use Rattle.bw_journal.specs.Entries.{content as content_of, sealed_entry, longest_entry};
 
 use crate::entry::BLOCK;
-use crate::seal::{check, push};
+use crate::seal::{check, push, push_length};
 use bw_request::{RequestRef, Verdict};
 use std::alloc::{AllocError, Global};
 
 /// Appends the entry of a done number: for a block its length, and not its samples.
 ///
-/// The request fits, and the entry has at most 4,150 bytes.
+/// The request fits, and the entry has at most 4,152 bytes.
 ///
 /// # Errors
 /// `AllocError` if memory was refused, never if there is room: the bytes are as they were.
@@ -45,8 +45,8 @@ pub fn put_entry(
         length (sealed_entry e) ≤ longest_entry }
 {
     let len = 33 + noted_len(request);
-    out.reserve(10 + len)?;
-    push(out, &(len as u16).to_le_bytes());
+    out.reserve(12 + len)?;
+    push_length(out, len);
     let start = out.len();
     push_content(out, verdict, digest, request);
     let check = check(&out[start..]);

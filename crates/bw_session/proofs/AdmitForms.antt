@@ -147,7 +147,7 @@ finished_same existed s s' name n end (Some r ∷ xs) same h =
 abbrev entry_with : List ℕ → ℕ → Request → Verdict → JournalEntry
 entry_with name n r v = record { request = r; verdict = v; digest = sha256 (body_of name n r) }
 
-entries_same : (existed : Bool) (s s' : List (Option Request)) (name : List ℕ) (n end : ℕ)
+pub entries_same : (existed : Bool) (s s' : List (Option Request)) (name : List ℕ) (n end : ℕ)
     (xs : List (Option Request)) → ((k : ℕ) → k < end → verdict_at existed s' k ≡ verdict_at existed s k) →
     n + length xs ≤ end → entries_from existed s' name n xs ≡ entries_from existed s name n xs
 entries_same existed s s' name n end [] same h = refl
@@ -290,7 +290,7 @@ module _ (first : Option (List ℕ)) (log : Log) (p : Parts) (finished : List (L
         journal_of hd name (record log { admitted = put log.admitted n r }) ≡ journal_of hd name log
     journal_put hd name =
         let short = take-short log.done log.admitted in
-        ap (λ (es : List JournalEntry). header_bytes hd ++ sealed_entries es)
+        ap (λ (es : List JournalEntry). header_bytes name hd ++ sealed_entries es)
         (ap (entries_from hd.existed (put log.admitted n r) name 0) (take_put log.admitted n r log.done filled none)
         ∙ entries_same hd.existed log.admitted (put log.admitted n r) name 0 log.done (take log.done log.admitted)
         (λ k below. verdict-put hd.existed log.admitted n r log.done k filled none below) (omega (arith, short)))

@@ -64,11 +64,11 @@ module _ (header header' : List ℕ → Header) (notes notes' first : List ℕ �
           (sym (note_other n b)) (h.known n x (sym (there n b) ∙ e))))
 
       unknown : (n : List ℕ) → sessions' n ≡ None → (b : Bool) → bytes_eq name n ≡ b →
-          IsPrefixOf (header_bytes (header' n)) (notes' n)
+          IsPrefixOf (header_bytes n (header' n)) (notes' n)
       unknown n e true b = never (sym (here n b) ∙ e)
       unknown n e false b =
-          subst (λ (z : Header). IsPrefixOf (header_bytes z) (notes' n)) (sym (headers n))
-          (subst (λ (z : Option (List ℕ)). IsPrefixOf (header_bytes (header n)) z) (sym (note_other n b))
+          subst (λ (z : Header). IsPrefixOf (header_bytes n z) (notes' n)) (sym (headers n))
+          (subst (λ (z : Option (List ℕ)). IsPrefixOf (header_bytes n (header n)) z) (sym (note_other n b))
           (h.unknown n (sym (there n b) ∙ e)))
 
 -- the book that a message's replies report

@@ -19,7 +19,7 @@ use Rattle.bw_session.specs.Keeping.{KeepsDone}
 use Rattle.bw_session.specs.Prefixes.{take_done, FileFollows}
 use Rattle.bw_session.specs.Draining.{kept_as, NameStands, HoldsPart, IsAllDone}
 
-at-empty : (n i : ℕ) → at {X = List ℕ} (replicate n None) i ≡ None
+pub at-empty : (n i : ℕ) → at {X = List ℕ} (replicate n None) i ≡ None
 at-empty zero i = refl
 at-empty (suc n) zero = refl
 at-empty (suc n) (suc i) = at-empty n i
@@ -89,9 +89,9 @@ new_done existed name p finished state none =
     (subst (λ (x : List (List ℕ × Verdict)). KeepsDone existed name no_log (parts (new_take false)) x) (sym none)
     (nothing_kept existed name))
 
-pub new_notes : (h : Header) (name : List ℕ) (found : Option (List ℕ)) → IsPrefixOf (header_bytes h) found →
+pub new_notes : (h : Header) (name : List ℕ) (found : Option (List ℕ)) → IsPrefixOf (header_bytes name h) found →
     IsNoted h name no_log header_len found
 new_notes h name found prefix = record {
-  offset_is = sym (ap length (append-nil (header_bytes h)) ∙ length-header_bytes h);
+  offset_is = sym (ap length (append-nil (header_bytes name h)) ∙ length-header_bytes name h);
   stands = inl (refl, prefix);
 }

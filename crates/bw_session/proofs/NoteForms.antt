@@ -19,25 +19,25 @@ use Rattle.bw_session.proofs.LogSteps.{take_next, finished-short, take-short, ve
 
 -- before number 0 a journal is its header
 start : (h : Header) (name : List ℕ) (s : List (Option Request)) (n : ℕ) → n ≡ 0 →
-    journal_of h name (record { admitted = s; done = n }) ≡ header_bytes h
+    journal_of h name (record { admitted = s; done = n }) ≡ header_bytes name h
 start h name s n e =
-    ap (λ (k : ℕ). journal_of h name (record { admitted = s; done = k })) e ∙ append-nil (header_bytes h)
+    ap (λ (k : ℕ). journal_of h name (record { admitted = s; done = k })) e ∙ append-nil (header_bytes name h)
 
 begins : (h : Header) (name : List ℕ) (log : Log) (found : Option (List ℕ)) → HasEntries h name log found →
-    BeginsWith (header_bytes h) found
+    BeginsWith (header_bytes name h) found
 begins h name log found (count, e) = (
   _,
-  e ∙ ap Some (append_assoc (header_bytes h) _ (take count (next_entry h.existed name log))),
+  e ∙ ap Some (append_assoc (header_bytes name h) _ (take count (next_entry h.existed name log))),
 )
 
 -- after a `begin` that succeeds, where one is made
 pub begun_notes : (h : Header) (name : List ℕ) (log : Log) (offset : ℕ) (before found : Option (List ℕ)) →
-    IsNoted h name log offset before → (log.done ≡ 0 → Starts (header_bytes h) before found) →
+    IsNoted h name log offset before → (log.done ≡ 0 → Starts (header_bytes name h) before found) →
     (1 ≤ log.done → found ≡ before) → HasEntries h name log found
 begun_notes h name log offset before found noted starts same = by_number log.done refl noted.stands
   where
     by_number : (n : ℕ) → log.done ≡ n →
-        ((log.done ≡ 0) × IsPrefixOf (header_bytes h) before) ⊎ HasEntries h name log before →
+        ((log.done ≡ 0) × IsPrefixOf (header_bytes name h) before) ⊎ HasEntries h name log before →
         HasEntries h name log found
     by_number zero e (inl prefix) = (
       0,
@@ -50,7 +50,7 @@ begun_notes h name log offset before found noted starts same = by_number log.don
 
 -- that fails
 pub begun_in_part : (h : Header) (name : List ℕ) (log : Log) (offset : ℕ) (before found : Option (List ℕ)) →
-    IsNoted h name log offset before → StartsInPart (header_bytes h) before found → IsNoted h name log offset found
+    IsNoted h name log offset before → StartsInPart (header_bytes name h) before found → IsNoted h name log offset found
 begun_in_part h name log offset before found noted starts = record {
   offset_is = noted.offset_is;
   stands = elim noted.stands [
@@ -90,12 +90,12 @@ journal_next h name log r finished done finished_are here =
     let whole : length (finished_from h.existed s name 0 prefix) ≡ length prefix = omega (arith, long, few, small) in
     let place : 0 + length prefix ≡ n = omega (arith, long, few, small) in
     let e : JournalEntry = done_entry h.existed s name n r in
-    ap (λ (xs : List (Option Request)). header_bytes h ++ sealed_entries (entries_from h.existed s name 0 xs))
+    ap (λ (xs : List (Option Request)). header_bytes name h ++ sealed_entries (entries_from h.existed s name 0 xs))
     (take_next s n r here)
-    ∙ ap (λ (es : List JournalEntry). header_bytes h ++ sealed_entries es)
+    ∙ ap (λ (es : List JournalEntry). header_bytes name h ++ sealed_entries es)
     (entries_push h.existed s name 0 prefix r whole
     ∙ ap (λ (k : ℕ). entries_from h.existed s name 0 prefix ++ done_entry h.existed s name k r ∷ []) place)
-    ∙ sym (flat_map_more sealed_entry (header_bytes h) (entries_from h.existed s name 0 prefix) e)
+    ∙ sym (flat_map_more sealed_entry (header_bytes name h) (entries_from h.existed s name 0 prefix) e)
     ∙ ap (λ (o : Option Request). journal_of h name log ++ entry_if h.existed name s n o) (sym here)
 
 -- what is noted of the next number is its entry

@@ -14,5 +14,5 @@ pub record NotesNames (header : List ℕ → Header) (notes : List ℕ → Optio
   pub known : (name : List ℕ) (s : Session) → sessions name ≡ Some s →
       IsNoted (header name) name (log_of book name) s.progress.noted (notes name)
   pub unknown : (name : List ℕ) → sessions name ≡ None →
-      IsPrefixOf (header_bytes (header name)) (notes name)
+      IsPrefixOf (header_bytes name (header name)) (notes name)
   pub existed : (name : List ℕ) → (header name).existed ≡ is_some (first name)

@@ -32,7 +32,7 @@ HasEntries h name log found =
 pub record IsNoted (h : Header) (name : List ℕ) (log : Log) (offset : ℕ)
     (found : Option (List ℕ)) : Type 0 where
   pub offset_is : offset ≡ length (journal_of h name log)
-  pub stands : ((log.done ≡ 0) × IsPrefixOf (header_bytes h) found) ⊎ HasEntries h name log found
+  pub stands : ((log.done ≡ 0) × IsPrefixOf (header_bytes name h) found) ⊎ HasEntries h name log found
 
 -- If a journal has of the name what one log says, with a header that says whether the name existed,
 -- it has what the other log says afterwards.
@@ -45,8 +45,9 @@ NotesOn J name first old log noted new log' noted' =
 
 -- Nothing is noted of a number: before number 0 the header is written if it is missing, and later
 -- nothing is written.
-pub record OnlyBegins (h : Header) (done : ℕ) (before found : Option (List ℕ)) : Type 0 where
-  pub begun : done ≡ 0 → BeginsNotes h before found
+pub record OnlyBegins (name : List ℕ) (h : Header) (done : ℕ) (before found : Option (List ℕ)) :
+    Type 0 where
+  pub begun : done ≡ 0 → BeginsNotes name h before found
   pub later : 1 ≤ done → found ≡ before
 
 -- the log after a number that is done, or still waits

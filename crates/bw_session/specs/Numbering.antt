@@ -59,8 +59,8 @@ module _ {X Y : Type 0} (S : StoreGhosts X) (J : JournalGhosts Y) where
     pub again : MayTry after r
     -- if the store failed, nothing is noted of the number
     pub unnoted : IsTrue (J.honest old.journal) → S.failures new.store ≢ S.failures old.store →
-        OnlyBegins (J.header old.journal before.name) (length before.ledger.outcomes)
-        (J.notes old.journal before.name) (J.notes new.journal before.name)
+        OnlyBegins before.name (J.header old.journal before.name)
+        (length before.ledger.outcomes) (J.notes old.journal before.name) (J.notes new.journal before.name)
 
   -- Over an honest store this holds for each log whose next number the request is.
   abbrev pub ForNext : Progress → Request → List ℕ → Stores X Y S J →

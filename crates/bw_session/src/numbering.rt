@@ -87,10 +87,10 @@ impl<S: TakeStore, J: Journal> Stores<S, J> {
 fn begin_notes<J: Journal>(journal: &mut J, name: &Name, done: usize) -> Result<(), StoreFault>
     ensures journal { KeepsJournal J.Journal (is_err result) name.now journal.old journal.new }
     ensures begun { done ≡ 0 → IsTrue (J.honest journal.old) →
-        OnOk result (BeginsNotes (J.header journal.old name.now)
+        OnOk result (BeginsNotes name.now (J.header journal.old name.now)
         (J.notes journal.old name.now) (J.notes journal.new name.now)) }
     ensures failed { IsTrue (J.honest journal.old) →
-        OnErr result (BeginsInPart (J.header journal.old name.now)
+        OnErr result (BeginsInPart name.now (J.header journal.old name.now)
         (J.notes journal.old name.now) (J.notes journal.new name.now)) }
     ensures first { OnErr result (done ≡ 0) }
     ensures later { 1 ≤ done → journal.new ≡ journal.old }

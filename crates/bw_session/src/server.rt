@@ -42,9 +42,9 @@ const NAMES: usize = 256;
 /// No call lends or returns its journal.
 #[derive(Drop)]
 pub struct Server<S: TakeStore, J: Journal = NoJournal> {
-    sessions: HashMap<Name, Session>,
-    stores: Stores<S, J>,
-    limit: Limit,
+    pub(crate) sessions: HashMap<Name, Session>,
+    pub(crate) stores: Stores<S, J>,
+    pub(crate) limit: Limit,
     ghost table: { IsTable sessions limit },
 }
 
@@ -100,7 +100,7 @@ impl<S: TakeStore, J: Journal> Server<S, J> {
         ensures book { IfOk result (λ s.
             HoldsBook S.TakeStore J.Journal (S.contents store) s []) }
         ensures notes { IfOk result (λ s. ((name : List ℕ) →
-            IsPrefixOf (header_bytes (J.header journal name)) (J.notes journal name)) →
+            IsPrefixOf (header_bytes name (J.header journal name)) (J.notes journal name)) →
             ((name : List ℕ) → (J.header journal name).existed ≡ is_some (S.contents store name)) →
             NotesBook S.TakeStore J.Journal (S.contents store) s []) }
         ensures store_back { IfErr result (λ e. e.1 ≡ store) }
@@ -388,7 +388,7 @@ impl<S: TakeStore, J: Journal> Server<S, J> {
 }
 
 /// Room for the sessions of all names, and for one entry of the journal.
-fn tables(alloc: Global) -> Result<(HashMap<Name, Session>, Vec<u8>), AllocError>
+pub(crate) fn tables(alloc: Global) -> Result<(HashMap<Name, Session>, Vec<u8>), AllocError>
     ensures empty { IfOk result (λ t. t.0.entries ≡ []) }
     ensures room { IfOk result (λ t. most_takes ≤ spare t.0) }
     ensures entry { IfOk result (λ t. longest_entry ≤ vec_capacity t.1) }

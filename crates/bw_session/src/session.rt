@@ -45,7 +45,7 @@ impl Session {
             HoldsPart first no_log s.progress.state.parts s.progress.ledger.outcomes s.window
             s.progress.growing first) }
         ensures noted { IfOk result (λ s. (h : Header) (found : Option (List ℕ)) →
-            IsPrefixOf (header_bytes h) found → IsNoted h name no_log s.progress.noted found) }
+            IsPrefixOf (header_bytes name h) found → IsNoted h name no_log s.progress.noted found) }
     {
         let progress = Progress {
             growing: GrowingFile::new(alloc, name.copy(), limit)?,

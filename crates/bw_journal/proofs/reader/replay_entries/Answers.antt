@@ -4,6 +4,7 @@ use Rattle.bw_model.specs.Take.{Parts}
 use Rattle.bw_journal.specs.Entries.{JournalEntry, first_entry}
 use Rattle.bw_journal.specs.Replays.{Story}
 use Rattle.bw_journal.specs.Refs.{entry_said}
+use Rattle.bw_journal.proofs.RowLaws.{no_rows, one_more_row}
 use Rattle.bw_journal.proofs.ReplaySteps.{begins, goes_on, same_story, stops, differs, ends}
 use Rattle.bw_journal.proofs.reader.replay_entries.Goals as goal
 
@@ -12,10 +13,11 @@ loop-step-init c =
     let none : c.unopened-state.result.parts.samples_len ≡ 0 =
     ap (λ (p : Parts). p.samples_len) c.unopened-state.ensures in
     record {
-      known = begins (length c.args.bytes.now - 0) 19 c.args.existed c.args.bytes.now c.unopened-state.result.parts
+      known = begins (length c.args.bytes.now - 0) 29 c.args.existed c.args.bytes.now c.unopened-state.result.parts
           c.new-table.result.items (omega arith) refl c.unopened-state.ensures c.new-table.ensures.items;
       samples = omega arith;
       within = omega arith;
+      rows = no_rows c.unopened-state.result.parts c.new-table.result.items 29 none c.new-table.ensures.items (omega arith);
       zeros = c.in_ok-zeros.ensures;
     }
 
@@ -62,6 +64,10 @@ loop-step-preserved c =
           ∙ c.loop-step.invariant.known;
       samples = omega (arith, c.in_default-apply.ensures.samples);
       within = omega arith;
+      rows = one_more_row c.loop-step.state.parts c.apply.new.state.parts c.loop-step.table.items
+          c.apply.new.table.items c.loop-step.used c.in-Some.len _ _ c.loop-step.invariant.rows
+          c.in_default-apply.ensures.table c.in-Some.ensures.digest c.in_default-apply.ensures.samples
+          c.in-Some.ensures.short;
       zeros = c.loop-step.invariant.zeros;
     }
 

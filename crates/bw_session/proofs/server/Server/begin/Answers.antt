@@ -17,6 +17,8 @@ use Rattle.bw_wire.specs.Frames.{message_of}
 use Rattle.bw_wire.proofs.BodyLaws.{message_spelled}
 use Rattle.bw_session.specs.Sessions.{CallsFew, HoldsLog, part_of}
 use Rattle.bw_wire.specs.Replies.{reply_of}
+use Rattle.bw_journal.specs.JournalHeaders.{header_bytes}
+use Rattle.bw_journal.specs.Notes.{IsPrefixOf}
 use Rattle.bw_session.specs.Noting.{IsNoted}
 use Rattle.bw_session.specs.Serving.{ServesMessage, log_after}
 use Rattle.bw_session.specs.Servers.{store_since, done_in}
@@ -185,7 +187,10 @@ returns-clause-turned g c = record {
       c.in_ok-session.session.progress.noted (g.J.Journal.notes c.args.self.now.stores.journal m.name))
       (c.copy.ensures ∙ sym c.requires.name)
       (c.in_ok-session.ensures.noted (g.J.Journal.header c.args.self.now.stores.journal m.name)
-      (g.J.Journal.notes c.args.self.now.stores.journal m.name) (n.unknown m.name fresh)) in
+      (g.J.Journal.notes c.args.self.now.stores.journal m.name)
+      (subst (λ (k : List ℕ). IsPrefixOf (header_bytes k (g.J.Journal.header c.args.self.now.stores.journal m.name))
+      (g.J.Journal.notes c.args.self.now.stores.journal m.name)) (sym (c.copy.ensures ∙ sym c.requires.name))
+      (n.unknown m.name fresh))) in
       let noted = noted_then c.in_ok-session.session.progress.name m.name
       (g.J.Journal.header c.args.self.now.stores.journal) _ (first m.name) no_log
       (log_after no_log m (length s.progress.ledger.outcomes)) c.in_ok-session.session.progress.noted _
