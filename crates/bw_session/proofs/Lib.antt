@@ -24,3 +24,4 @@ pub mod UseForms
 pub mod AskForms
 pub mod ServerAnswers
 pub mod PromiseForms
+pub mod ResumeForms

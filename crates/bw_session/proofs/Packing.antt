@@ -1,12 +1,14 @@
 -- How the digests and verdicts of done numbers lie in their bytes.
 use Rattle.std.proofs.Common.{◌≡◌, ℕ, zero, suc, ◌+◌, ◌*◌, ◌/◌, ◌%◌, ◌<◌, ◌≤◌, List, [], ◌∷◌, ◌++◌, length, take, drop}
-use Rattle.std.proofs.Common.{Some, refl, ap, ◌∙◌, subst, arith}
-use Rattle.std.specs.Prelude.{slice_index, slice_index_or, IsSome}
+use Rattle.std.proofs.Common.{Some, true, refl, ap, ◌∙◌, subst, arith}
+use Rattle.std.specs.Prelude.{slice_index, slice_index_or, IsSome, is_some}
+use Rattle.std.proofs.lemmas.Bool.{and_parts}
 use Rattle.std.proofs.lemmas.List.{nil_from_length, take-append-le, drop-append-le, get_or_append_left, length-drop}
 use Rattle.std.proofs.lemmas.List.{drop-drop, get_or-drop, take_at, get_or_at}
 use Rattle.bw_model.specs.Take.{Verdict, Stored, NameTaken, AlreadyOpen, NotOpen, Closed, BadFormat, BadBlock}
 use Rattle.bw_model.specs.Take.{BadMarker, DuplicateMarker, TooManyMarkers, BadField, WrongTotal}
 use Rattle.bw_model.specs.Replies.{verdict_code, verdict_of}
+use Rattle.bw_journal.specs.Rows.{have_codes}
 use Rattle.bw_session.specs.Ledgers.{verdict_coded, entries_in, HaveCodes, IsPacked}
 
 pub length-entries : (n : ℕ) (bytes : List ℕ) → length (entries_in n bytes) ≡ n
@@ -62,6 +64,14 @@ codes_push (suc n) bytes d v e h c =
     let more : List ℕ = d ++ verdict_code v ∷ [] in
     rw (get_or_append_left bytes more 0 32 below, drop-append-le 33 bytes more long)
     (c.0, codes_push n (drop 33 bytes) d v rest h c.1)
+
+-- the codes of a table that passed the test
+pub codes_hold : (n : ℕ) (table : List ℕ) → have_codes n table ≡ true → HaveCodes n table
+unfolding HaveCodes have_codes
+codes_hold zero table h = tt
+codes_hold (suc n) table h =
+    let parts = and_parts (is_some (verdict_of (slice_index table 32))) (have_codes n (drop 33 table)) h in
+    (parts.0, codes_hold n (drop 33 table) parts.1)
 
 -- the entry of a number
 pub entries_at : (n j : ℕ) (bytes : List ℕ) (o : List ℕ × Verdict) → j < n →

@@ -15,6 +15,7 @@ pub mod Runs
 pub mod Serving
 pub mod Tables
 pub mod Servers
+pub mod Resumed
 pub mod Journaled
 pub mod Books
 pub mod ServerTurns

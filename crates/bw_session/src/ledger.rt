@@ -1,11 +1,13 @@
 //! What is kept of the numbers that are done.
-ghost use Rattle.std.specs.Prelude.{◌≡◌, ◌+◌, ◌*◌, ◌^◌, ◌<◌, ◌≤◌, ℕ, List, [], ◌∷◌, ◌++◌, length};
+ghost use Rattle.std.specs.Prelude.{◌≡◌, ◌+◌, ◌*◌, ◌%◌, IsTrue, ◌^◌, ◌<◌, ◌≤◌, ℕ, List, [], ◌∷◌, ◌++◌, length};
 ghost use Rattle.std.specs.Prelude.{take, drop, vec_len, vec_capacity, slice_index_or, Some, OnOk};
 ghost use Rattle.std.specs.Prelude.{max, ◌⊎◌, IsSome, IsOk, OnErr};
 ghost use Rattle.std.specs.Str.{bytes_eq};
 ghost use Rattle.bw_model.specs.Take.{Verdict as Judgement};
 ghost use Rattle.bw_model.specs.Replies.{verdict_code, verdict_of as verdict_with_code};
 ghost use Rattle.bw_request.specs.Verdicts.{verdict_meaning};
+ghost use Rattle.bw_journal.specs.Rows.{have_codes, row_count};
+ghost use Rattle.bw_session.specs.Ledgers.{entries_in};
 
 use bw_request::Verdict;
 use std::alloc::{AllocError, Global};
@@ -45,6 +47,15 @@ impl Ledger {
         Ledger {
             bytes: Vec::new(alloc),
         }
+    }
+
+    /// What is kept of the numbers of a table, 33 bytes for each.
+    pub(crate) fn resume(table: Vec<u8>) -> Ledger
+        requires whole { length table.items % 33 ≡ 0 }
+        requires coded { IsTrue (have_codes (row_count table.items) table.items) }
+        ensures { result.outcomes ≡ entries_in (row_count table.items) table.items }
+    {
+        Ledger { bytes: table }
     }
 
     /// How many numbers are done.

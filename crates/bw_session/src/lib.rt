@@ -6,10 +6,12 @@ mod body;
 mod borrowing;
 mod carrying;
 mod draining;
+mod kept_take;
 pub mod laws;
 mod ledger;
 mod numbering;
 mod replying;
+mod resuming;
 mod server;
 mod server_turns;
 mod serving;
@@ -18,4 +20,5 @@ mod settling;
 mod window;
 mod writing;
 
+pub use kept_take::KeptTake;
 pub use server::Server;

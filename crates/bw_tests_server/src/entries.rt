@@ -69,7 +69,7 @@ static UNKNOWN: [u8; 144] = [
 ];
 
 /// Where the header and each entry of `JOURNAL` end.
-static ENDS: [usize; 7] = [29, 90, 140, 190, 244, 293, 347];
+pub(crate) static ENDS: [usize; 7] = [29, 90, 140, 190, 244, 293, 347];
 
 /// What a replay yields in numbers: the bytes used and torn, or the fault's.
 fn reported(replayed: Result<Replayed, ReplayFault>) -> Result<(usize, usize, usize), u8> {

@@ -2,15 +2,18 @@
 //! store.
 ghost use Rattle.std.specs.Prelude.{None, false};
 
-use crate::entries::JOURNAL;
+use crate::entries::{ENDS, JOURNAL};
 use crate::play::Reported::{Judged, Noticed};
 use crate::play::{Reported, Turn, a1, has_file, noting_server, send};
-use bw_journal::{FuseJournal, Journal, MemoryJournal};
+use bw_journal::{FuseJournal, Journal, MemoryJournal, replay};
 use bw_layout::Limit;
 use bw_request::Name;
 use bw_request::Verdict::{BadBlock, Stored};
-use bw_store::{CallCounter, StoreFault};
+use bw_session::{KeptTake, Server};
+use bw_store::{CallCounter, MemoryStore, StoreFault};
 use bw_wire::Notice::{Conflict, DelayedStore, Held};
+use std::alloc::Global;
+use std::process::Abort;
 use std::test::Fail;
 
 /// OPEN 0 of `a1`: 48,000 Hz, one channel, 16 bits; BLOCK 1 with two frames.
@@ -136,4 +139,59 @@ fn a_fault_of_the_journal_delays_a_number(rt: HostRuntime) -> Result<(), Fail> {
     let b2 = Name::new(b"b2").ok_or("a name")?;
     has_file(&rt, rt.alloc(), server.store(), &a1()?)?;
     has_file(&rt, rt.alloc(), server.store(), &b2)
+}
+
+/// A server that noted the first of the messages of `JOURNAL`, each once.
+fn played(
+    rt: &impl Abort,
+    alloc: Global,
+    count: usize,
+) -> Result<Server<MemoryStore, Expecting>, Fail> {
+    let journal = Expecting {
+        noted: 0,
+        call_counter: CallCounter::new(),
+    };
+    let mut server = noting_server(alloc, journal)?;
+    for (body, reported) in MESSAGES.iter().take(count) {
+        send(rt, "a message", &mut server, body, &[*reported])?;
+    }
+    Ok(server)
+}
+
+/// A server that resumes over this store, from the first bytes of `JOURNAL`.
+fn resumed(
+    alloc: Global,
+    store: MemoryStore,
+    noted: usize,
+) -> Result<Server<MemoryStore, Expecting>, Fail> {
+    let journal = Expecting {
+        noted,
+        call_counter: CallCounter::new(),
+    };
+    let bytes = JOURNAL.get(..noted).ok_or("a prefix")?;
+    let Ok(replayed) = replay(alloc, Limit::default(), &a1()?, bytes) else {
+        return Err("a fault")?;
+    };
+    let mut kept = Vec::new(alloc);
+    kept.push(KeptTake::new(a1()?, replayed, true).ok_or("few numbers")?)?;
+    match Server::resume(alloc, store, journal, Limit::default(), kept) {
+        Ok(server) => Ok(server),
+        Err(_refused) => Err("memory")?,
+    }
+}
+
+#[test]
+fn a_server_that_resumes_keeps_the_verdicts_and_goes_on(rt: HostRuntime) -> Result<(), Fail> {
+    let alloc = rt.alloc();
+    let whole = played(&rt, alloc, 6)?;
+    for done in 1..7usize {
+        let store = played(&rt, alloc, done)?.into_store();
+        let mut server = resumed(alloc, store, ENDS[done])?;
+        for (body, reported) in &MESSAGES {
+            send(&rt, "a message", &mut server, body, &[*reported])?;
+        }
+        let same = server.store().content(&a1()?) == whole.store().content(&a1()?);
+        assert!(&rt; same, "another file after {} numbers", done);
+    }
+    Ok(())
 }
