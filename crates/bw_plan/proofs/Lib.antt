@@ -13,3 +13,4 @@ pub mod PlanStarts
 pub mod CleanParts
 pub mod WholeRecordings
 pub mod PlanRuns
+pub mod Openings

@@ -67,11 +67,11 @@ comes b o r h = go (read b) refl h
     go (Ok z) q h = inner z.0 z.1 q (outline_of o (notes_of b z.0 z.1)) refl h
 
 -- no fault, and the outline that the notes tell
-record Outlines (o : Options) (n : FileNotes) (r : Outline) : Type 0 where
-  free : first_that_holds (recording_faults o n) ≡ None
-  is : set_outline o n ≡ r
+pub record Outlines (o : Options) (n : FileNotes) (r : Outline) : Type 0 where
+  pub free : first_that_holds (recording_faults o n) ≡ None
+  pub is : set_outline o n ≡ r
 
-outlines : (o : Options) (n : FileNotes) (r : Outline) → outline_of o n ≡ Ok r → Outlines o n r
+pub outlines : (o : Options) (n : FileNotes) (r : Outline) → outline_of o n ≡ Ok r → Outlines o n r
 unfolding outline_of
 outlines o n r h = go (first_that_holds (recording_faults o n)) refl h
   where
@@ -86,11 +86,11 @@ each_stands : (b : List ℕ) (form : Form) (p : ℕ) (es : List Entry) → Stand
 each_stands b form p [] h = tt
 each_stands b form p (e ∷ es) h = (h.1, each_stands b form (e.place + 8 + even_up e.size) es h.2)
 
-record Stands (b : List ℕ) (form : Form) (id : List ℕ) (e : Entry) : Type 0 where
-  chunk : IsChunkAt b form e
-  named : e.id ≡ id
+pub record Stands (b : List ℕ) (form : Form) (id : List ℕ) (e : Entry) : Type 0 where
+  pub chunk : IsChunkAt b form e
+  pub named : e.id ≡ id
 
-found_stands : (b : List ℕ) (form : Form) (id : List ℕ) (es : List Entry) (e : Entry) → Each (IsChunkAt b form) es →
+pub found_stands : (b : List ℕ) (form : Form) (id : List ℕ) (es : List Entry) (e : Entry) → Each (IsChunkAt b form) es →
     entry_of id es ≡ Some e → Stands b form id e
 found_stands b form id [] e h q = absurd (none q)
   where
@@ -104,7 +104,7 @@ found_stands b form id (x ∷ xs) e h q = go (is_id x.id id) refl q (found_stand
         subst (Stands b form id) (some_inj q) (record { chunk = h.0; named = same_name x.id id s })
     go false s q rest = rest q
 
-chunks_of : (b : List ℕ) (form : Form) (es : List Entry) → read b ≡ Ok (form, es) → Each (IsChunkAt b form) es
+pub chunks_of : (b : List ℕ) (form : Form) (es : List Entry) → read b ≡ Ok (form, es) → Each (IsChunkAt b form) es
 chunks_of b form es q =
     let whole = (readings b form es).0 ((reads b).reading form es q) in each_stands b form 12 es whole.0.chunks
 
@@ -113,7 +113,7 @@ range_long b p n h =
     let d = length-drop p b in length-take (p + n - p) (drop p b) ∙ omega (arith, d, h)
 
 -- the data that a report tells are there
-data_there : (b : List ℕ) (form : Form) (es : List Entry) → Each (IsChunkAt b form) es →
+pub data_there : (b : List ℕ) (form : Form) (es : List Entry) → Each (IsChunkAt b form) es →
     length (samples_of b (report_of b form es)) ≡ (report_of b form es).data_size
 unfolding report_of
 data_there b form es h = go (entry_of (codes "data") es) refl

@@ -13,3 +13,4 @@ pub mod AllowedSettings
 pub mod SettingTexts
 pub mod Warnings
 pub mod ReportedWarnings
+pub mod Outside

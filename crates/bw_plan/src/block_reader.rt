@@ -98,6 +98,7 @@ impl BlockReader {
     pub(crate) fn read_next<R: Source>(&mut self, reader: &mut R) -> Result<(), InspectFault>
         requires { 0 < self.old.left }
         ensures consumed { Consumes R.Source self.old.size result reader.old reader.new }
+        ensures end { self.new.place + self.new.left ≡ self.old.place + self.old.left }
         ensures ok { OnOk result (AtPlace (R.left reader.old) self.old.place (λ b.
             IsNextBlock b self.old self.new (R.left reader.new))) }
         ensures err { IfErr result (λ f. AtPlace (R.left reader.old) self.old.place (λ b.

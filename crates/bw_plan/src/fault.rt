@@ -1,5 +1,5 @@
 //! Why no recording is made of a file.
-ghost use Rattle.std.specs.Prelude.{◌≡◌, Some};
+ghost use Rattle.std.specs.Prelude.{◌≡◌, ◌≤◌, length, Some};
 ghost use Rattle.bw_plan.specs.Faults.{kind_text, recording_fault_text};
 
 use bw_inspect::InspectKind;
@@ -40,9 +40,10 @@ pub struct RecordingFault {
 }
 
 impl RecordingKind {
-    /// Its name, as it is printed.
+    /// Its name, as it is printed, at most 9 bytes.
     pub fn name(self) -> &'static str
-        ensures { result.now ≡ kind_text self }
+        ensures value { result.now ≡ kind_text self }
+        ensures short { length result.now ≤ 9 }
     {
         match self {
             RecordingKind::Unread(kind) => kind.name(),

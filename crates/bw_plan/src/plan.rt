@@ -1,6 +1,8 @@
 //! The requests that bring a recording, given one after the other.
 ghost use Rattle.std.specs.Prelude.{◌≡◌, ℕ, ◌+◌, ◌*◌, ◌^◌, ◌≤◌, List, IsTrue, length, slice_range, Some};
+ghost use Rattle.std.specs.Prelude.{◌<◌, ◌⊎◌, drop};
 ghost use Rattle.std.specs.Prelude.{[], ◌∷◌, option_map, IfOk, IfErr, OnOk, MatchOption};
+ghost use Rattle.bw_stream.specs.Readers.{Of};
 ghost use Rattle.bw_model.specs.Take.{block_align, SetField};
 ghost use Rattle.bw_request.specs.Requests.{meaning};
 ghost use Rattle.bw_inspect.specs.ReaderCalls.{Consumes};
@@ -16,7 +18,7 @@ ghost use Rattle.bw_plan.specs.Steps.{stage_of};
 use crate::block_reader::BlockReader;
 use crate::outline::Outline;
 use crate::values::Values;
-use bw_inspect::InspectFault;
+use bw_inspect::{InspectFault, InspectKind, skip_at};
 use bw_request::RequestRef;
 use bw_stream::Source;
 use std::alloc::Global;
@@ -80,6 +82,9 @@ impl Plan {
         requires some { 1 ≤ frames }
         requires fits { frames * block_align outline.format ≤ 32768 }
         ensures place { IfOk result (λ p. p.samples.place ≡ place) }
+        ensures end { IfOk result (λ p.
+            p.samples.place + p.samples.left ≡ place + outline.samples_len) }
+        ensures sound { IfOk result (λ p. IsSoundPlan p.stage) }
         ensures plan { IfOk result (λ p. (b : List ℕ) →
             let samples = slice_range b place (place + outline.samples_len) in
             outline.samples_len ≡ length samples →
@@ -94,6 +99,45 @@ impl Plan {
             samples,
             step: Step::Open,
         })
+    }
+
+    /// The plan of a recording whose samples begin at a place of its file, as `new` makes it. The
+    /// reader stands at the file's start, and goes on to that place.
+    ///
+    /// # Errors
+    /// Memory; TooLarge where the samples would end past 2^64 - 1; Truncated, with the place, where
+    /// the input ends before it; Read.
+    ///
+    /// # Not specified
+    /// When memory is refused.
+    pub fn begin<R: Source>(
+        alloc: Global,
+        reader: &mut R,
+        outline: Outline,
+        frames: u32,
+        place: u64,
+    ) -> Result<Plan, InspectFault>
+        requires some { 1 ≤ frames }
+        requires fits { frames * block_align outline.format ≤ 32768 }
+        ensures place { IfOk result (λ p. p.samples.place ≡ place) }
+        ensures end { IfOk result (λ p.
+            p.samples.place + p.samples.left ≡ place + outline.samples_len) }
+        ensures sound { IfOk result (λ p. IsSoundPlan p.stage) }
+        ensures stands { IfOk result (λ p. Of (R.left reader.old) (λ b.
+            R.left reader.new ≡ Some (drop place b))) }
+        ensures plan { IfOk result (λ p. (b : List ℕ) →
+            let samples = slice_range b place (place + outline.samples_len) in
+            outline.samples_len ≡ length samples →
+            remaining p b ≡ plan frames (record { outline = outline; samples = samples })) }
+        ensures cut { IfErr result (λ f. IsTrue (is_of_bytes f.kind) →
+            Of (R.left reader.old) (λ b. (length b < place) ⊎ (2 ^ 64 ≤ place + outline.samples_len))) }
+    {
+        let cut = InspectFault {
+            kind: InspectKind::Truncated,
+            offset: place,
+        };
+        skip_at(reader, 0, place, cut)?;
+        Plan::new(alloc, outline, frames, place)
     }
 
     /// The next request; None after CLOSE, and after an error.
@@ -145,6 +189,9 @@ impl Plan {
             AtPlace (R.left reader.old) self.old.samples.place (λ b.
             IsBlockMissed b self.old.samples f (R.left reader.new))) }
         ensures failed { IfErr result (λ f. self.new.stage ≡ AtFault f) }
+        ensures sound { OnOk result (IsSoundPlan self.new.stage) }
+        ensures end { self.new.samples.place + self.new.samples.left
+            ≡ self.old.samples.place + self.old.samples.left }
         ensures again { (f : InspectFault) → self.old.stage ≡ AtFault f → result ≡ Err f }
     {
         match self.step {
@@ -181,6 +228,9 @@ impl Plan {
             AtPlace (R.left reader.old) self.old.samples.place (λ b.
             IsBlockMissed b self.old.samples f (R.left reader.new))) }
         ensures failed { IfErr result (λ f. self.new.stage ≡ AtFault f) }
+        ensures sound { OnOk result (IsSoundPlan self.new.stage) }
+        ensures end { self.new.samples.place + self.new.samples.left
+            ≡ self.old.samples.place + self.old.samples.left }
     {
         match given_after(self.outline.values(), tag) {
             Some(tag) => {
@@ -204,6 +254,9 @@ impl Plan {
             AtPlace (R.left reader.old) self.old.samples.place (λ b.
             IsBlockMissed b self.old.samples f (R.left reader.new))) }
         ensures failed { IfErr result (λ f. self.new.stage ≡ AtFault f) }
+        ensures sound { OnOk result (IsSoundPlan self.new.stage) }
+        ensures end { self.new.samples.place + self.new.samples.left
+            ≡ self.old.samples.place + self.old.samples.left }
     {
         if self.samples.is_at_end() {
             self.step = mark_step(&self.outline, 0);
@@ -241,8 +294,9 @@ fn given_after(values: &Values, after: u8) -> Option<u8>
 
 /// The step at a marker, or at CLOSE after the last one.
 fn mark_step(outline: &Outline, place: usize) -> Step
-    ensures { (s : Samples) (b : List ℕ) →
+    ensures requests { (s : Samples) (b : List ℕ) →
         requests_at outline.now s b (stage_of result) ≡ marks_from outline.now place }
+    ensures sound { IsSoundPlan (stage_of result) }
 {
     match outline.markers().get(place) {
         Some(marker) => Step::Mark {

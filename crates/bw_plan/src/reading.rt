@@ -1,9 +1,11 @@
 //! What a report doesn't keep of a file: the prefix of an extensible format, and the coding history.
-ghost use Rattle.std.specs.Prelude.{◌≡◌, ◌+◌, ◌≤◌, codes, length, slice_range, Some, IfOk, OnOk};
-ghost use Rattle.bw_model.specs.Reading.{entry_of};
+ghost use Rattle.std.specs.Prelude.{◌≡◌, ◌⊎◌, ◌+◌, ◌<◌, ◌≤◌, codes, length, slice_range, Some, IsTrue, IfOk, IfErr, OnOk};
+ghost use Rattle.bw_model.specs.Reading.{Entry, entry_of};
 ghost use Rattle.bw_model.specs.Report.{content_of};
 ghost use Rattle.bw_stream.specs.Readers.{Of};
+ghost use Rattle.bw_inspect.specs.Faults.{is_of_bytes};
 ghost use Rattle.bw_plan.specs.Recordings.{extension_at, history_at};
+ghost use Rattle.bw_plan.specs.Outside.{IsOutOfBytes, HasNoHistory};
 
 use crate::block_reader::zeros;
 use crate::recording::find_chunk;
@@ -26,8 +28,11 @@ pub fn read_extension<R: Source>(
     reader: &mut R,
     report: &Report,
 ) -> Result<Vec<u8>, InspectFault>
-    ensures { IfOk result (λ v. Of (R.left reader.old) (λ b.
+    ensures ok { IfOk result (λ v. Of (R.left reader.old) (λ b.
         v.items ≡ extension_at b (entry_of (codes "fmt ") report.now.chunks))) }
+    ensures cut { IfErr result (λ f. IsTrue (is_of_bytes f.kind) → (e : Entry)
+        × (entry_of (codes "fmt ") report.now.chunks ≡ Some e)
+        × Of (R.left reader.old) (λ b. IsOutOfBytes b e)) }
 {
     let Some(chunk) = find_chunk(report.chunks.as_slice(), ChunkId(*b"fmt ")) else {
         return Ok(Vec::new(alloc));
@@ -48,8 +53,11 @@ pub fn read_history<R: Source>(
     reader: &mut R,
     report: &Report,
 ) -> Result<Vec<u8>, InspectFault>
-    ensures { IfOk result (λ v. Of (R.left reader.old) (λ b.
+    ensures ok { IfOk result (λ v. Of (R.left reader.old) (λ b.
         v.items ≡ history_at b (entry_of (codes "bext") report.now.chunks))) }
+    ensures cut { IfErr result (λ f. IsTrue (is_of_bytes f.kind) → (e : Entry)
+        × (entry_of (codes "bext") report.now.chunks ≡ Some e)
+        × Of (R.left reader.old) (λ b. HasNoHistory b e)) }
 {
     let Some(chunk) = find_chunk(report.chunks.as_slice(), ChunkId(*b"bext")) else {
         return Ok(Vec::new(alloc));
@@ -83,8 +91,10 @@ fn read_part<R: Source>(
 ) -> Result<Vec<u8>, InspectFault>
     requires within { from + len ≤ chunk.size }
     requires few { len ≤ 4097 }
-    ensures { IfOk result (λ v. Of (R.left reader.old) (λ b.
+    ensures ok { IfOk result (λ v. Of (R.left reader.old) (λ b.
         v.items ≡ slice_range (content_of b (Some chunk)) from (from + len))) }
+    ensures cut { IfErr result (λ f. IsTrue (is_of_bytes f.kind) →
+        Of (R.left reader.old) (λ b. IsOutOfBytes b chunk)) }
 {
     if chunk.place > LARGEST || chunk.size > LARGEST {
         return Err(cut(chunk));
