@@ -1,0 +1,5 @@
+pub mod OpeningSteps
+pub mod PutSteps
+pub mod Lists
+pub mod RequestHex
+pub mod PackSteps

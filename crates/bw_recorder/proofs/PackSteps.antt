@@ -1,0 +1,83 @@
+-- What the command did, from what its steps did.
+use Rattle.std.proofs.Common.{◌≡◌, ℕ, Bool, true, List, Option, Some, Result, inl, inr, refl, subst}
+use Rattle.bw_stream.specs.Readers.{Of}
+use Rattle.bw_model.specs.Take.{Request}
+use Rattle.bw_console.specs.Printing.{Print, Nothing}
+use Rattle.bw_console.specs.declared.exit.Exit.{Exit}
+use Rattle.bw_plan.specs.Recordings.{Options}
+use Rattle.bw_plan.specs.Progress.{Progress, IsSoundPlan, remaining}
+use Rattle.std.specs.Prelude.{codes}
+use Rattle.bw_recorder.specs.declared.fault.OpenFault.{OpenFault}
+use Rattle.bw_recorder.specs.declared.packing.PackFault.{PackFault}
+use Rattle.bw_recorder.specs.Openings.{IsOpenedAt, RefusesAs, is_well_at}
+use Rattle.bw_recorder.specs.Puts.{GivesRequests, Stands}
+use Rattle.bw_recorder.specs.SettingLists.{options_of}
+use Rattle.bw_recorder.specs.Packs.{IsOpenReport, IsPack, IsPrintOfPack, IsReportedText, ReportsPack, pack_exit}
+
+-- the file is opened
+pub packs : (file : Option (List ℕ)) (path : List ℕ) (texts : List (List ℕ)) (strict : Bool) (frames : Option ℕ)
+    (o : Options) → options_of texts strict frames ≡ Some o → (p : Progress) (text : List ℕ) (left : Option (List ℕ))
+    (outcome : Result (Unit {0}) PackFault) (given : List Request) (warned printed reported : Print) (exit : Exit) →
+    Of file (λ b. IsOpenedAt b o p text left) → IsSoundPlan p.stage →
+    ((b : List ℕ) → Stands b p left → GivesRequests (remaining p b) given outcome) → IsReportedText text warned →
+    IsPrintOfPack given outcome printed → ReportsPack outcome reported → exit ≡ pack_exit outcome →
+    IsPack file path texts strict frames (record {
+      is_system_well = true;
+      warned = warned;
+      out = printed;
+      faults = reported;
+      exit = exit;
+    })
+packs file path texts strict frames o asked p text left outcome given warned printed reported exit opens sound gives
+    warns prints reports ends = inr (inr (
+      o,
+      (
+        asked,
+        inr (record {
+          outcome = outcome;
+          given = given;
+          text = text;
+          right = λ b e.
+              let x = opens b e in
+              record {
+                recording = x.recording;
+                is = x.is;
+                gives = subst (λ (rs : List Request). GivesRequests rs given outcome) x.requests
+                    (gives b (record { sound = sound; at = x.stands; there = x.there }));
+                says = x.says;
+              };
+          warns = warns;
+          prints = prints;
+          well = refl;
+          exit_is = ends;
+          reports = reports;
+        }),
+      ),
+    ))
+
+-- it isn't
+pub opens_nothing : (file : Option (List ℕ)) (path : List ℕ) (texts : List (List ℕ)) (strict : Bool) (frames : Option ℕ)
+    (o : Options) → options_of texts strict frames ≡ Some o → (fault : OpenFault) (reported : Print) (exit : Exit) →
+    Of file (λ b. RefusesAs b o fault) → IsOpenReport (codes "pack") path fault exit reported →
+    IsPack file path texts strict frames (record {
+      is_system_well = is_well_at fault;
+      warned = Nothing;
+      out = Nothing;
+      faults = reported;
+      exit = exit;
+    })
+opens_nothing file path texts strict frames o asked fault reported exit right reports =
+    inr (inr (
+      o,
+      (
+        asked,
+        inl (record {
+          fault = fault;
+          right = right;
+          well = refl;
+          warned = refl;
+          prints = refl;
+          reports = reports;
+        }),
+      ),
+    ))

@@ -1,0 +1,10 @@
+use Rattle.std.proofs.Common.{sym, subst}
+use Rattle.bw_recorder.specs.Openings.{RefusesAs}
+use Rattle.bw_recorder.proofs.OpeningSteps.{extension_again}
+use Rattle.bw_recorder.proofs.opening.extension_at_path.Goals as goal
+
+pub returns-clause-err : goal.returns-clause-err
+returns-clause-err g c = λ o b e h.
+    subst (RefusesAs b o) (sym c.read_again.ensures)
+    (extension_again b o c.args.report.now c.in-Err-read_extension.fault _ h (c.in-Ok.ensures.ok b e)
+    c.in-Err-read_extension.ensures.cut)

@@ -1,0 +1,76 @@
+//! Why the requests of a recording aren't all given, and what is reported of that.
+ghost use Rattle.std.specs.Prelude.{◌≡◌, ◌≤◌, length};
+ghost use Rattle.bw_recorder.specs.Openings.{recording_line, changed_line, exit_on_kind};
+
+use arrayvec::ArrayString;
+use bw_console::Exit;
+use bw_inspect::{InspectFault, InspectKind};
+use bw_plan::{RecordingFault, RecordingKind};
+use itoa::Buffer;
+use std::io;
+
+/// Why a recording's file isn't opened.
+#[derive(Drop)]
+pub(crate) enum OpenFault {
+    /// The system can't open it, or say how it stands.
+    Unopened(io::Error),
+    /// It has this fault, or it isn't read to its end.
+    Refused(RecordingFault),
+    /// It isn't the file any more that it was.
+    Changed,
+}
+
+/// The fault of a recording whose file has this one.
+pub(crate) fn unread(fault: InspectFault) -> RecordingFault
+    ensures { result ≡ record { kind = RecordingKind.Unread fault.kind; offset = fault.offset } }
+{
+    RecordingFault {
+        kind: RecordingKind::Unread(fault.kind),
+        offset: fault.offset,
+    }
+}
+
+/// Memory was refused before the samples were read.
+pub(crate) const NO_MEMORY: RecordingFault = RecordingFault {
+    kind: RecordingKind::Unread(InspectKind::Memory),
+    offset: 0,
+};
+
+/// The line of a fault: the command's name, of at most 4 bytes, the kind, the place. It allocates
+/// nothing, since memory may be what is lacking.
+pub(crate) fn line_of(command: &str, fault: &RecordingFault) -> ArrayString<64>
+    requires { length command.now ≤ 4 }
+    ensures { result.bytes ≡ recording_line command.now fault.now }
+{
+    let mut digits = Buffer::new();
+    let mut line = ArrayString::new();
+    line.push_str(command);
+    line.push_str(": ");
+    line.push_str(fault.kind.name());
+    line.push_str(" at ");
+    line.push_str(digits.format(fault.offset));
+    line.push_str("\n");
+    line
+}
+
+/// The line of a file that has changed.
+pub(crate) fn changed(command: &str) -> ArrayString<64>
+    requires { length command.now ≤ 4 }
+    ensures { result.bytes ≡ changed_line command.now }
+{
+    let mut line = ArrayString::new();
+    line.push_str(command);
+    line.push_str(": Changed\n");
+    line
+}
+
+/// How a command ends after a fault of this kind.
+pub(crate) fn exit_on(kind: RecordingKind) -> Exit
+    ensures { result ≡ exit_on_kind kind }
+{
+    match kind {
+        RecordingKind::Unread(InspectKind::Read) => Exit::Device,
+        RecordingKind::Unread(InspectKind::Memory) => Exit::Memory,
+        _ => Exit::Refused,
+    }
+}

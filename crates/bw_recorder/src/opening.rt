@@ -1,0 +1,250 @@
+//! A recording's file is read, up to where its samples begin.
+ghost use Rattle.std.specs.Prelude.{◌≡◌, codes, IfOk, IfErr};
+ghost use Rattle.bw_console.specs.Printing.{failures_if};
+ghost use Rattle.bw_plan.specs.Progress.{IsSoundPlan};
+ghost use Rattle.bw_inspect.specs.Faults.{is_of_bytes};
+ghost use Rattle.bw_model.specs.Reading.{entry_of};
+ghost use Rattle.bw_plan.specs.Notes.{notes_by};
+ghost use Rattle.bw_plan.specs.Recordings.{Options as OptionsOf, extension_at, history_at};
+ghost use Rattle.bw_plan.specs.Warnings.{warnings_of};
+ghost use Rattle.bw_recorder.specs.WarningTexts.{warning_lines};
+ghost use Rattle.bw_stream.specs.Readers.{Of};
+ghost use Rattle.bw_recorder.specs.FileReports.{HasExtras, HasReport};
+ghost use Rattle.bw_recorder.specs.Openings.{IsOpenedAt, IsOutlined, RefusesAs, fault_again, is_system_well};
+
+use crate::fault::{NO_MEMORY, OpenFault, unread};
+use crate::warning_text::warning_text;
+use bw_inspect::{InspectFault, InspectKind, Report, inspect};
+use bw_plan::{
+    Options, Outline, Plan, block_frames, outline_of, read_extension, read_history, warnings,
+};
+use bw_ports::RecordingFiles;
+use std::alloc::{AllocError, Global};
+
+/// A recording's file at its samples.
+#[derive(Drop)]
+pub(crate) struct Opened<R> {
+    /// Gives the requests of the recording.
+    pub(crate) plan: Plan,
+    /// Stands where the next block does.
+    pub(crate) reader: R,
+    /// A line for each thing that the recording loses of its file.
+    pub(crate) warnings: Vec<u8>,
+}
+
+/// What a report doesn't keep of a file.
+#[derive(Drop)]
+pub(crate) struct Extras {
+    /// Of an extensible format.
+    extension: Vec<u8>,
+    /// The coding history.
+    history: Vec<u8>,
+}
+
+/// Opens the recording in the file at a path. The file is opened four times.
+///
+/// # Errors
+/// Why there is none.
+///
+/// # Not specified
+/// - When memory is refused, and when the system fails.
+/// - Of a file whose bytes aren't reported: that they are the same each time.
+pub(crate) fn open_recording<F: RecordingFiles>(
+    alloc: Global,
+    files: &mut F,
+    path: &str,
+    options: &Options,
+) -> Result<Opened<F::File>, OpenFault>
+    ensures ok { IfOk result (λ x. Of (F.file_at files.old path.now) (λ b.
+        IsOpenedAt b options.now x.plan x.warnings.items (F.File.left x.reader))) }
+    ensures sound { IfOk result (λ x. IsSoundPlan x.plan.stage) }
+    ensures err { IfErr result (λ e. Of (F.file_at files.old path.now) (λ b.
+        RefusesAs b options.now e)) }
+    ensures files { F.file_at files.new ≡ F.file_at files.old }
+    ensures stamps { F.stamp_at files.new ≡ F.stamp_at files.old }
+    ensures count { F.failures files.new ≡ failures_if (is_system_well result) (F.failures files.old) }
+{
+    let report = read_report(alloc, files, path)?;
+    let extras = read_extras(alloc, files, path, &report)?;
+    let outline = match outline_of(
+        alloc,
+        &report,
+        extras.extension.as_slice(),
+        extras.history.as_slice(),
+        options,
+    ) {
+        Ok(outline) => outline,
+        Err(fault) => return Err(OpenFault::Refused(fault)),
+    };
+    begin(alloc, files, path, options, &report, &extras, outline)
+}
+
+/// The report of the file at a path.
+fn read_report<F: RecordingFiles>(
+    alloc: Global,
+    files: &mut F,
+    path: &str,
+) -> Result<Report, OpenFault>
+    ensures ok { IfOk result (λ r. Of (F.file_at files.old path.now) (λ b. HasReport b r)) }
+    ensures err { (o : OptionsOf) → IfErr result (λ e.
+        Of (F.file_at files.old path.now) (λ b. RefusesAs b o e)) }
+    ensures files { F.file_at files.new ≡ F.file_at files.old }
+    ensures stamps { F.stamp_at files.new ≡ F.stamp_at files.old }
+    ensures count { F.failures files.new ≡ failures_if (is_system_well result) (F.failures files.old) }
+{
+    let mut file = match files.open(path) {
+        Ok(file) => file,
+        Err(error) => return Err(OpenFault::Unopened(error)),
+    };
+    match inspect(alloc, &mut file) {
+        Ok(report) => Ok(report),
+        Err(fault) => Err(OpenFault::Refused(unread(fault))),
+    }
+}
+
+/// What the report of the file at a path doesn't keep of it.
+fn read_extras<F: RecordingFiles>(
+    alloc: Global,
+    files: &mut F,
+    path: &str,
+    report: &Report,
+) -> Result<Extras, OpenFault>
+    ensures ok { IfOk result (λ x. Of (F.file_at files.old path.now) (λ b.
+        HasExtras b report.now x)) }
+    ensures err { (o : OptionsOf) → IfErr result (λ e.
+        Of (F.file_at files.old path.now) (λ b. HasReport b report.now → RefusesAs b o e)) }
+    ensures files { F.file_at files.new ≡ F.file_at files.old }
+    ensures stamps { F.stamp_at files.new ≡ F.stamp_at files.old }
+    ensures count { F.failures files.new ≡ failures_if (is_system_well result) (F.failures files.old) }
+{
+    let extension = extension_at_path(alloc, files, path, report)?;
+    let history = history_at_path(alloc, files, path, report)?;
+    Ok(Extras { extension, history })
+}
+
+/// What the file at a path has of an extensible format.
+fn extension_at_path<F: RecordingFiles>(
+    alloc: Global,
+    files: &mut F,
+    path: &str,
+    report: &Report,
+) -> Result<Vec<u8>, OpenFault>
+    ensures ok { IfOk result (λ v. Of (F.file_at files.old path.now) (λ b.
+        v.items ≡ extension_at b (entry_of (codes "fmt ") report.now.chunks))) }
+    ensures err { (o : OptionsOf) → IfErr result (λ e.
+        Of (F.file_at files.old path.now) (λ b. HasReport b report.now → RefusesAs b o e)) }
+    ensures files { F.file_at files.new ≡ F.file_at files.old }
+    ensures stamps { F.stamp_at files.new ≡ F.stamp_at files.old }
+    ensures count { F.failures files.new ≡ failures_if (is_system_well result) (F.failures files.old) }
+{
+    let mut file = match files.open(path) {
+        Ok(file) => file,
+        Err(error) => return Err(OpenFault::Unopened(error)),
+    };
+    match read_extension(alloc, &mut file, report) {
+        Ok(extension) => Ok(extension),
+        Err(fault) => Err(read_again(fault)),
+    }
+}
+
+/// The coding history in the file at a path.
+fn history_at_path<F: RecordingFiles>(
+    alloc: Global,
+    files: &mut F,
+    path: &str,
+    report: &Report,
+) -> Result<Vec<u8>, OpenFault>
+    ensures ok { IfOk result (λ v. Of (F.file_at files.old path.now) (λ b.
+        v.items ≡ history_at b (entry_of (codes "bext") report.now.chunks))) }
+    ensures err { (o : OptionsOf) → IfErr result (λ e.
+        Of (F.file_at files.old path.now) (λ b. HasReport b report.now → RefusesAs b o e)) }
+    ensures files { F.file_at files.new ≡ F.file_at files.old }
+    ensures stamps { F.stamp_at files.new ≡ F.stamp_at files.old }
+    ensures count { F.failures files.new ≡ failures_if (is_system_well result) (F.failures files.old) }
+{
+    let mut file = match files.open(path) {
+        Ok(file) => file,
+        Err(error) => return Err(OpenFault::Unopened(error)),
+    };
+    match read_history(alloc, &mut file, report) {
+        Ok(history) => Ok(history),
+        Err(fault) => Err(read_again(fault)),
+    }
+}
+
+/// Goes on to the samples of a recording with this outline.
+fn begin<F: RecordingFiles>(
+    alloc: Global,
+    files: &mut F,
+    path: &str,
+    options: &Options,
+    report: &Report,
+    extras: &Extras,
+    outline: Outline,
+) -> Result<Opened<F::File>, OpenFault>
+    ensures ok { IfOk result (λ x. Of (F.file_at files.old path.now) (λ b.
+        IsOutlined b options.now report.now extras.now outline →
+        IsOpenedAt b options.now x.plan x.warnings.items (F.File.left x.reader))) }
+    ensures sound { IfOk result (λ x. IsSoundPlan x.plan.stage) }
+    ensures err { IfErr result (λ e. Of (F.file_at files.old path.now) (λ b.
+        IsOutlined b options.now report.now extras.now outline → RefusesAs b options.now e)) }
+    ensures files { F.file_at files.new ≡ F.file_at files.old }
+    ensures stamps { F.stamp_at files.new ≡ F.stamp_at files.old }
+    ensures count { F.failures files.new ≡ failures_if (is_system_well result) (F.failures files.old) }
+{
+    let Ok(text) = lines_of_losses(alloc, report, extras, &outline) else {
+        return Err(OpenFault::Refused(NO_MEMORY));
+    };
+    let frames = block_frames(options, outline.format());
+    let mut reader = match files.open(path) {
+        Ok(reader) => reader,
+        Err(error) => return Err(OpenFault::Unopened(error)),
+    };
+    match Plan::begin(alloc, &mut reader, outline, frames, report.data_at) {
+        Ok(plan) => Ok(Opened {
+            plan,
+            reader,
+            warnings: text,
+        }),
+        Err(fault) => Err(read_again(fault)),
+    }
+}
+
+/// A line for each thing that a recording loses of its file.
+///
+/// # Errors
+/// `AllocError` where memory was refused.
+fn lines_of_losses(
+    alloc: Global,
+    report: &Report,
+    extras: &Extras,
+    outline: &Outline,
+) -> Result<Vec<u8>, AllocError>
+    ensures { IfOk result (λ v. v.items ≡ warning_lines (warnings_of
+        (notes_by report.now extras.now.extension.items extras.now.history.items) outline.now)) }
+{
+    let losses = warnings(alloc, report, extras.history.as_slice(), outline)?;
+    warning_text(alloc, losses.as_slice())
+}
+
+/// What a fault means in a file that was read already: where it is one of its bytes, these have
+/// changed.
+fn read_again(fault: InspectFault) -> OpenFault
+    ensures { result ≡ fault_again fault }
+{
+    if is_of_file(fault.kind) {
+        return OpenFault::Changed;
+    }
+    OpenFault::Refused(unread(fault))
+}
+
+/// Whether a fault of this kind is one of the bytes.
+fn is_of_file(kind: InspectKind) -> bool
+    ensures { result ≡ is_of_bytes kind }
+{
+    match kind {
+        InspectKind::Read => false,
+        InspectKind::Memory => false,
+        _ => true,
+    }
+}

@@ -1,0 +1,79 @@
+//! Requests as lines of hex.
+ghost use Rattle.std.specs.Prelude.{◌≡◌, ◌∷◌, ◌++◌, [], length, IfOk, OnOk, IsTrue};
+ghost use Rattle.bw_console.specs.Text.{as_line};
+ghost use Rattle.bw_model.specs.Wire.{is_request, kind as kind_of_request, payload};
+ghost use Rattle.bw_request.specs.Requests.{meaning};
+ghost use Rattle.bw_recorder.specs.RequestLines.{LinesAreRead, request_hex};
+
+use bw_request::RequestRef;
+use std::alloc::{AllocError, Global};
+
+/// What is printed of a request is read as that request.
+pub fn law_request_lines()
+    ensures { LinesAreRead }
+{}
+
+/// The line of a request that a message may carry: its kind byte and its payload in hex.
+///
+/// # Errors
+/// `AllocError` where memory was refused.
+pub(crate) fn line_of_request(
+    alloc: Global,
+    request: &RequestRef<'_>,
+) -> Result<Vec<u8>, AllocError>
+    requires { IsTrue (is_request (meaning request.now)) }
+    ensures { IfOk result (λ v. v.items ≡ as_line (request_hex (meaning request.now))) }
+{
+    let bytes = body(alloc, request)?;
+    let text = hex::encode(alloc, bytes.as_slice())?;
+    let mut line = Vec::new(alloc);
+    line.extend_from_slice(text.as_str().as_bytes())?;
+    line.extend_from_slice(b"\n")?;
+    Ok(line)
+}
+
+/// A request's kind byte and its payload.
+///
+/// # Errors
+/// `AllocError` where memory was refused.
+fn body(alloc: Global, request: &RequestRef<'_>) -> Result<Vec<u8>, AllocError>
+    requires { IsTrue (is_request (meaning request.now)) }
+    ensures { IfOk result (λ v. v.items
+        ≡ kind_of_request (meaning request.now) ∷ payload (meaning request.now)) }
+{
+    let mut out = Vec::new(alloc);
+    match *request {
+        RequestRef::OpenTake {
+            rate,
+            channels,
+            bits,
+            history,
+        } => {
+            out.push(1)?;
+            out.extend_from_slice(&rate.to_le_bytes())?;
+            out.extend_from_slice(&channels.to_le_bytes())?;
+            out.extend_from_slice(&bits.to_le_bytes())?;
+            out.extend_from_slice(&(history.len() as u16).to_le_bytes())?;
+            out.extend_from_slice(history)?;
+        }
+        RequestRef::Block { bytes } => {
+            out.push(2)?;
+            out.extend_from_slice(bytes)?;
+        }
+        RequestRef::Mark { id, frame } => {
+            out.push(3)?;
+            out.extend_from_slice(&id.to_le_bytes())?;
+            out.extend_from_slice(&frame.to_le_bytes())?;
+        }
+        RequestRef::SetField { tag, value } => {
+            out.push(4)?;
+            out.push(tag)?;
+            out.extend_from_slice(value)?;
+        }
+        RequestRef::CloseTake { frames } => {
+            out.push(5)?;
+            out.extend_from_slice(&frames.to_le_bytes())?;
+        }
+    }
+    Ok(out)
+}

@@ -1,0 +1,96 @@
+//! The lines of what a recording loses of its file.
+ghost use Rattle.std.specs.Prelude.{◌≡◌, ◌+◌, ◌≤◌, ◌++◌, [], map, length, IfOk, OnOk};
+ghost use Rattle.bw_console.specs.Text.{as_line};
+ghost use Rattle.bw_model.specs.Report.{id_byte};
+ghost use Rattle.bw_plan.specs.ReportedWarnings.{told, warning_meaning};
+ghost use Rattle.bw_plan.specs.Warnings.{CuesLeftOut, ChunkLeftOut};
+ghost use Rattle.bw_recorder.specs.WarningTexts.{key_of, warning_line, warning_lines};
+
+use bw_inspect::ListedChunk;
+use bw_layout::ChunkId;
+use bw_plan::Warning;
+use itoa::Buffer;
+use std::alloc::{AllocError, Global};
+
+/// A line for each warning.
+///
+/// # Errors
+/// `AllocError` where memory was refused.
+pub(crate) fn warning_text(alloc: Global, warnings: &[Warning]) -> Result<Vec<u8>, AllocError>
+    ensures { IfOk result (λ v. v.items ≡ warning_lines (told warnings.now)) }
+{
+    let mut text = Vec::new(alloc);
+    for (_i, warning) in warnings.iter().enumerate() {
+        put_warning(&mut text, *warning)?;
+    }
+    Ok(text)
+}
+
+/// Appends the line of a warning.
+///
+/// # Errors
+/// `AllocError` where memory was refused.
+fn put_warning(text: &mut Vec<u8>, warning: Warning) -> Result<(), AllocError>
+    ensures { OnOk result (text.new.items
+        ≡ text.old.items ++ warning_line (warning_meaning warning)) }
+{
+    match warning {
+        Warning::FieldCleaned { tag } => put_words(text, b"cleaned: ", key(tag)),
+        Warning::FieldLeftOut { tag } => put_words(text, b"left out: ", key(tag)),
+        Warning::HistoryCleaned => put_words(text, b"cleaned: history", b""),
+        Warning::CuesLeftOut { count } => put_count(text, count as u64),
+        Warning::MaskLeftOut => put_words(text, b"left out: channel mask", b""),
+        Warning::ChunkLeftOut { chunk } => put_chunk(text, chunk),
+    }
+}
+
+fn put_words(text: &mut Vec<u8>, first: &[u8], second: &[u8]) -> Result<(), AllocError>
+    ensures { OnOk result (text.new.items ≡ text.old.items ++ as_line (first.now ++ second.now)) }
+{
+    text.extend_from_slice(first)?;
+    text.extend_from_slice(second)?;
+    text.extend_from_slice(b"\n")
+}
+
+fn put_count(text: &mut Vec<u8>, count: u64) -> Result<(), AllocError>
+    ensures { OnOk result (text.new.items
+        ≡ text.old.items ++ warning_line (CuesLeftOut count)) }
+{
+    let mut digits = Buffer::new();
+    put_words(
+        text,
+        b"left out: cue points ",
+        digits.format(count).as_bytes(),
+    )
+}
+
+fn put_chunk(text: &mut Vec<u8>, chunk: ListedChunk) -> Result<(), AllocError>
+    ensures { OnOk result (text.new.items
+        ≡ text.old.items ++ warning_line (ChunkLeftOut chunk)) }
+{
+    let mut digits = Buffer::new();
+    let id = printed(chunk.id);
+    text.extend_from_slice(b"left out: ")?;
+    text.extend_from_slice(&id)?;
+    put_words(text, b" ", digits.format(chunk.size).as_bytes())
+}
+
+/// A chunk's id, with a full stop for each byte that isn't visible.
+fn printed(id: ChunkId) -> [u8; 4]
+    ensures { result ≡ map id_byte id }
+{
+    id.0.map(|byte| { if byte.is_ascii_graphic() { byte } else { b'.' } })
+}
+
+/// The key of the text field of `bext` with this tag.
+fn key(tag: u8) -> &'static [u8]
+    ensures { result.now ≡ key_of tag }
+{
+    match tag {
+        1 => b"description",
+        2 => b"originator",
+        3 => b"reference",
+        4 => b"date",
+        _ => b"clock",
+    }
+}
