@@ -1,6 +1,6 @@
 -- A recording from what is read of its file.
-use Rattle.std.proofs.Common.{◌≡◌, ℕ, ◌+◌, List, [], ◌∷◌, Option, Some, None, Result, Ok, Err, refl, sym, ◌∙◌, ap, subst, inl, inr, arith}
-use Rattle.std.specs.Prelude.{◌≤◌, codes, length, fold, slice_range, option_map, unwrap_or}
+use Rattle.std.proofs.Common.{◌≡◌, ℕ, ◌+◌, List, [], ◌∷◌, Option, Some, None, Result, Ok, Err, refl, sym, ◌∙◌, ap, inl, inr, arith}
+use Rattle.std.specs.Prelude.{◌≤◌, codes, length, fold, option_map, unwrap_or}
 use Rattle.bw_model.specs.Reading as reading
 use Rattle.bw_model.specs.Limits.{largest}
 use Rattle.bw_model.specs.Reading.{Form, Entry, IsReading, IsFault, entry_of, read}

@@ -1,6 +1,6 @@
-use Rattle.std.proofs.Common.{ap, arith, ℕ, ◌≡◌, ◌∙◌, ◌+◌, ◌<◌, drop, length, Some, inl}
+use Rattle.std.proofs.Common.{ap, arith, ℕ, ◌∙◌, ◌+◌, ◌<◌, drop, length, Some, inl}
 use Rattle.std.specs.Prelude.{not}
-use Rattle.std.proofs.lemmas.Result.{err_from_is_err_and, IfOk-at_ok, IfOk-weaker}
+use Rattle.std.proofs.lemmas.Result.{err_from_is_err_and, IfOk-weaker}
 use Rattle.bw_inspect.proofs.Faults.{bytes_no_read}
 use Rattle.bw_plan.proofs.plan.Plan.begin.Goals as goal
 
