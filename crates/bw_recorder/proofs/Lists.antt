@@ -1,5 +1,5 @@
 -- Lists that are gone through.
-use Rattle.std.proofs.Common.{◌≡◌, ℕ, List, map}
+use Rattle.std.proofs.Common.{ℕ, List, map}
 use Rattle.std.specs.Prelude.{flat_map}
 use Rattle.bw_plan.specs.declared.warning.Warning.{Warning}
 use Rattle.bw_plan.specs.ReportedWarnings.{warning_meaning}

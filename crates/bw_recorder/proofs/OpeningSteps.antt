@@ -2,7 +2,6 @@
 use Rattle.std.proofs.Common.{◌≡◌, ℕ, ◌+◌, ◌<◌, ◌≤◌, ◌⊎◌, inl, inr, arith, Bool, true, false, cond, List, [], Option, Some, None, Result, Ok, Err, refl, sym, ◌∙◌, ap, subst}
 use Rattle.std.specs.Prelude.{◌^◌, option_map, codes, length, drop, slice_range}
 use Rattle.bw_stream.specs.Readers.{Of}
-use Rattle.bw_model.specs.Limits.{largest}
 use Rattle.bw_model.specs.Reading as reading
 use Rattle.bw_model.specs.Reading.{Form, Entry, IsFault, entry_of, read}
 use Rattle.bw_model.specs.Report as report
@@ -26,7 +25,6 @@ use Rattle.bw_plan.proofs.Openings.{reads_as, faults_as, unread_as, not_outside,
 use Rattle.bw_plan.proofs.Openings.{recorded_as, refused_as, samples_len_is, samples_there}
 use Rattle.bw_recorder.specs.declared.opening.Extras.{Extras}
 use Rattle.bw_recorder.specs.WarningTexts.{warning_lines}
-use Rattle.bw_recorder.specs.declared.fault.OpenFault.{OpenFault}
 use Rattle.bw_recorder.specs.declared.fault.OpenFault.TheVariants.{Refused, Changed}
 use Rattle.bw_recorder.specs.FileReports.{HasReport, HasExtras}
 use Rattle.bw_recorder.specs.Openings.{IsFaultOf, IsOpenedAt, IsOutlined, RefusesAs, fault_again}

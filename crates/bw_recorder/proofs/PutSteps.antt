@@ -1,19 +1,18 @@
 -- What is written of requests, one after another.
 use Rattle.std.proofs.Common.{◌≡◌, ℕ, ◌+◌, ◌<◌, ◌≤◌, Bool, true, false, List, [], ◌∷◌, ◌++◌, length, Option, Some, None, Result, Ok, Err}
-use Rattle.std.proofs.Common.{OnOk, OnErr, inl, inr, refl, sym, ◌∙◌, ap, subst, arith, append_assoc, append-nil, length-append}
+use Rattle.std.proofs.Common.{inl, inr, refl, sym, ◌∙◌, ap, subst, arith, append_assoc, append-nil, length-append}
 use Rattle.std.proofs.Math.Nat.{min-le_left}
-use Rattle.std.specs.Prelude.{flat_map, min, not, drop}
+use Rattle.std.specs.Prelude.{min, not}
 use Rattle.std.proofs.lemmas.Grind.{flat_map-append}
-use Rattle.bw_stream.specs.Moves.{Begins, Keeps, Writes, failures_after, one_more}
+use Rattle.bw_stream.specs.Moves.{Keeps, one_more}
 use Rattle.bw_stream.specs.declared.sink.Sink.{Ghosts as Writer}
 use Rattle.bw_model.specs.Take.{Request}
-use Rattle.bw_model.specs.Wire.{is_request}
 use Rattle.bw_inspect.specs.declared.fault.InspectFault.{InspectFault}
 use Rattle.bw_inspect.specs.declared.fault.InspectKind.{InspectKind}
 use Rattle.bw_inspect.specs.declared.fault.InspectKind.TheVariants as kinds
 use Rattle.bw_inspect.specs.Faults.{is_failed_read}
-use Rattle.bw_inspect.proofs.Writing.{writes_after, writes_none, begins_after, begins_before}
-use Rattle.bw_console.specs.Printing.{Print, Whole, Part, IsOf, IsPrint, HasPrinted, HasStopped}
+use Rattle.bw_inspect.proofs.Writing.{writes_after, writes_none, begins_after}
+use Rattle.bw_console.specs.Printing.{Whole, Part}
 use Rattle.bw_console.specs.Text.{as_line}
 use Rattle.bw_plan.specs.Progress.{Progress, Samples, GoesOn, IsBlockMissed, IsSoundPlan, next_step_of, after_next, remaining}
 use Rattle.bw_recorder.specs.RequestLines.{request_hex, request_lines}

@@ -1,14 +1,13 @@
 -- What is printed of a request is read as that request.
-use Rattle.std.proofs.Common.{◌≡◌, ℕ, zero, suc, Bool, true, false, cond, List, [], ◌∷◌, ◌++◌, length, Result, Ok, refl, sym, ◌∙◌, ap, arith}
-use Rattle.std.specs.Prelude.{nat_le, not, ◌&&◌}
+use Rattle.std.proofs.Common.{◌≡◌, ℕ, zero, suc, true, List, ◌∷◌, ◌++◌, length, Ok, refl, ◌∙◌, ap, arith}
 use Rattle.std.specs.Int.{byte_at, bytes_low_first}
 use Rattle.std.proofs.Math.Nat.{mod-lt}
 use Rattle.std.proofs.lemmas.Bool.{and_from, and_parts, lt-ltb}
 use Rattle.std.proofs.lemmas.List.Folds.{list_all-append}
 use Rattle.hex.proofs.HexLemmas.{decode_of-encode_lower}
-use Rattle.bw_model.specs.Bytes.{le16, le32, le64, is_within}
+use Rattle.bw_model.specs.Bytes.{le16, le32}
 use Rattle.bw_model.specs.Take.{Request, Open, Block, Mark, SetField, Close}
-use Rattle.bw_model.specs.Wire.{are_bytes, is_below, is_payload, is_request, request_of, kind, payload, decoded_request}
+use Rattle.bw_model.specs.Wire.{are_bytes, is_below, is_request, kind, payload, decoded_request}
 use Rattle.bw_model.proofs.ByteNumbers.{IsBytes-from_test}
 use Rattle.bw_model.proofs.Payloads.{reads_request}
 use Rattle.bw_recorder.specs.RequestLines.{LinesAreRead}

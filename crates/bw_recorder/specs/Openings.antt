@@ -11,7 +11,7 @@ use Rattle.bw_console.specs.declared.exit.Exit.TheVariants as exits
 use Rattle.bw_plan.specs.Recordings.{Options, Outline, Recording, FaultAt, recording_of, block_frames, outline_of}
 use Rattle.bw_plan.specs.Notes.{notes_by}
 use Rattle.bw_plan.specs.Plans.{plan}
-use Rattle.bw_plan.specs.Progress.{Progress, IsSoundPlan, remaining}
+use Rattle.bw_plan.specs.Progress.{Progress, remaining}
 use Rattle.bw_plan.specs.Faults.{recording_fault_text, recording_fault_meaning}
 use Rattle.bw_plan.specs.declared.fault.RecordingKind.{RecordingKind}
 use Rattle.bw_plan.specs.declared.fault.RecordingKind.TheVariants.{Unread}

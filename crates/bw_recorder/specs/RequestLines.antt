@@ -1,5 +1,5 @@
 -- Requests as lines of hex.
-use Rattle.std.specs.Prelude.{◌≡◌, ℕ, List, ◌∷◌, ◌++◌, flat_map, IsTrue}
+use Rattle.std.specs.Prelude.{ℕ, List, ◌∷◌, flat_map, IsTrue}
 use Rattle.hex.specs.Hex.{encode_lower}
 use Rattle.bw_model.specs.Take.{Request}
 use Rattle.bw_model.specs.Wire.{kind, payload, is_request}

@@ -1,4 +1,4 @@
-use Rattle.std.proofs.Common.{◌∷◌, [], List, sym, refl}
+use Rattle.std.proofs.Common.{◌∷◌, [], sym, refl}
 use Rattle.std.proofs.lemmas.Result.{err_from_is_err_and}
 use Rattle.bw_model.specs.Take.{Request}
 use Rattle.bw_request.specs.Requests.{meaning}

@@ -1,4 +1,4 @@
-use Rattle.std.proofs.Common.{rules, ◌≡◌, ℕ, Option, List, subst}
+use Rattle.std.proofs.Common.{rules, ◌≡◌, ℕ, subst}
 use Rattle.std.proofs.lemmas.Result.{err_from_is_err_and}
 use Rattle.bw_recorder.proofs.PutSteps.{SoFar, all_put, so_far_more, some_put, too_many_put}
 use Rattle.bw_recorder.proofs.packing.put_requests.Goals as goal
