@@ -1,8 +1,8 @@
 -- A server that resumes holds the book that its journals and files say.
-use Rattle.std.proofs.Common.{◌≡◌, ℕ, zero, suc, ◌+◌, ◌*◌, ◌/◌, ◌≤◌, Bool, true, false, cond, not, ◌&&◌, ◌⊎◌, inl, inr}
-use Rattle.std.proofs.Common.{IsTrue, List, [], ◌∷◌, ◌++◌, length, take, drop, Option, Some, None, refl, sym, ◌∙◌, ap}
+use Rattle.std.proofs.Common.{◌≡◌, ℕ, zero, suc, ◌+◌, ◌*◌, ◌/◌, ◌≤◌, Bool, true, false, cond, inr}
+use Rattle.std.proofs.Common.{IsTrue, List, [], ◌∷◌, ◌++◌, length, take, Option, Some, None, refl, sym, ◌∙◌, ap}
 use Rattle.std.proofs.Common.{subst, arith, length-append, append_assoc}
-use Rattle.std.specs.Prelude.{is_some, option_map, nat_lt, find, slice_index, slice_index_or, replicate}
+use Rattle.std.specs.Prelude.{is_some, option_map, nat_lt, slice_index_or}
 use Rattle.std.specs.Option.{option_or}
 use Rattle.std.specs.Bool.{MatchBool}
 use Rattle.std.specs.List.{AllByRecursion, list_all, remove}
@@ -17,22 +17,21 @@ use Rattle.bw_model.specs.Wire.{is_request}
 use Rattle.bw_model.specs.ReadBack.{is_admitted}
 use Rattle.bw_model.specs.File.{file_of}
 use Rattle.bw_model.specs.Replies.{verdict_code}
-use Rattle.bw_model.specs.Book.{Log, Book, no_log, log_of, is_known, made}
+use Rattle.bw_model.specs.Book.{Log, Book, log_of, is_known, made}
 use Rattle.bw_model.specs.BookRules.{IsBook}
 use Rattle.bw_model.specs.Holds.{Store, Kept, Holds, HoldsName, HasFile, IsInTheMiddle, body_of, finished_from}
 use Rattle.bw_model.proofs.BookLemmas.{same_name, unknown_log}
 use Rattle.bw_file.specs.Growing.{Growing}
 use Rattle.bw_journal.specs.Entries.{JournalEntry, sealed_entries}
 use Rattle.bw_journal.specs.JournalHeaders.{Header, header_bytes}
-use Rattle.bw_journal.specs.Noted.{AdmitsDone, fits, packed, entries_from, journal_of, story_of_log}
+use Rattle.bw_journal.specs.Noted.{AdmitsDone, fits, packed, entries_from, journal_of}
 use Rattle.bw_journal.specs.Replays.{Story}
 use Rattle.bw_journal.specs.Recovery.{kept_after, kept_after_stop}
 use Rattle.bw_journal.specs.Rows.{row_count}
 use Rattle.bw_journal.specs.Stops.{cut_log, cut_book}
-use Rattle.bw_journal.specs.Stories.{story_of}
 use Rattle.bw_journal.proofs.CutLaws.{books_are_cut, logs_cut, verdict-cut}
 use Rattle.bw_journal.proofs.RecoveryLaws.{recovery_holds}
-use Rattle.bw_session.specs.Ledgers.{verdict_coded, entries_in}
+use Rattle.bw_session.specs.Ledgers.{entries_in}
 use Rattle.bw_session.specs.Journaled.{NotesNames}
 use Rattle.bw_session.specs.Noting.{IsNoted}
 use Rattle.bw_session.specs.Resumed.{kept_under, RecoversBook, HasDoneNotes, ResumesFrom, Resumes, AddsKept}

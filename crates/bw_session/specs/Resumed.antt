@@ -1,5 +1,5 @@
 -- What a server that resumes is given of each name, and what it makes of that.
-use Rattle.std.specs.Prelude.{◌≡◌, ◌&&◌, ℕ, not, Bool, true, false, Option, Some, None, is_some}
+use Rattle.std.specs.Prelude.{◌≡◌, ◌&&◌, ℕ, not, true, false, Option, Some, None, is_some}
 use Rattle.std.specs.Prelude.{find, replicate, List}
 use Rattle.std.specs.Str.{bytes_eq}
 use Rattle.bw_model.specs.Book.{Book, log_of, is_known}

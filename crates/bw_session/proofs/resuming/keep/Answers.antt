@@ -1,4 +1,4 @@
-use Rattle.std.proofs.Common.{◌≡◌, ◌<◌, None, ap, ◌∙◌, sym, arith}
+use Rattle.std.proofs.Common.{◌<◌, ap, ◌∙◌, sym, arith}
 use Rattle.std.specs.HashMap.{spare}
 use Rattle.bw_file.specs.Growing.{Growing}
 use Rattle.bw_session.specs.Tables.{session_in}

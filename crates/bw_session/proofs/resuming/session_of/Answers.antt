@@ -1,4 +1,4 @@
-use Rattle.std.proofs.Common.{◌≡◌, ◌≤◌, ◌+◌, ◌*◌, ◌/◌, ℕ, length, List, ap, ◌∙◌, arith}
+use Rattle.std.proofs.Common.{◌≡◌, ◌≤◌, ◌/◌, ℕ, length, List, ap, ◌∙◌, arith}
 use Rattle.bw_model.specs.Take.{Verdict}
 use Rattle.bw_file.specs.Growing.{Growing}
 use Rattle.bw_journal.specs.Rows.{row_count}
