@@ -1,3 +1,5 @@
 pub mod FileLemmas
 pub mod MendingLemmas
 pub mod JudgedFiles
+pub mod MadeLemmas
+pub mod NameLemmas

@@ -1,7 +1,14 @@
 //! Laws of what a stop leaves. Each function's contract is one; nothing runs.
 ghost use Rattle.bw_start.specs.Left.{LeftFilesAreMended};
+ghost use Rattle.bw_start.specs.LeftNames.{LeftNamesAreResumed};
 
 /// Nothing is wrong with a file that a stop left, and what becomes of it is the file of its take.
 pub fn law_left_files()
     ensures { LeftFilesAreMended }
+{}
+
+/// Nothing is wrong with a name that a stop left: its journal says what the server kept of the done
+/// numbers, and journal and file are those of its log afterwards.
+pub fn law_left_names()
+    ensures { LeftNamesAreResumed }
 {}
