@@ -3,17 +3,21 @@
 #![tactic(auto)]
 
 mod folder;
+mod followed;
 mod host;
 mod network;
 mod reactor;
+mod recordings;
 mod socket;
 mod tcp;
 mod terminal;
 
 pub use folder::{check_folder, has_folder};
+pub use followed::FollowedFile;
 pub use host::Host;
 pub use network::TcpNetwork;
 pub use reactor::TcpReactor;
+pub use recordings::HostRecordings;
 pub use socket::Socket;
 pub use tcp::{TcpDial, TcpPeers};
 pub use terminal::Terminal;
