@@ -1,0 +1,6 @@
+mod ChainSteps
+mod TurnSteps
+mod FillSteps
+mod Lifting
+mod VisitSteps
+mod LinkSteps

@@ -1,0 +1,339 @@
+-- What a piece does to a conversation.
+use Rattle.std.proofs.Common.{◌≡◌, ◌≢◌, ℕ, ◌+◌, ◌≤◌, true, false, List, [], ◌∷◌, ◌++◌, length, Option, Some, None}
+use Rattle.std.proofs.Common.{Result, Ok, Err, refl, sym, ap, subst, ◌∙◌, arith, inl, inr}
+use Rattle.std.proofs.lemmas.List.{length-append}
+use Rattle.bw_model.specs.Wire.{Reason, Cut}
+use Rattle.bw_model.specs.Replies.{Reply}
+use Rattle.bw_stream.specs.Moves.{one_more}
+use Rattle.bw_stream.specs.declared.sink.Sink.{Ghosts as Writer}
+use Rattle.bw_stream.specs.declared.source.Source.{Ghosts as Reader}
+use Rattle.bw_sender.specs.Senders.{IsSender}
+use Rattle.bw_sender.specs.declared.sender.Sender.{Sender}
+use Rattle.bw_exchange.specs.Served.{HasGiven, HasNoneLeft}
+use Rattle.bw_engine.specs.Hears.{hear_all, IsHeardUpTo}
+use Rattle.bw_engine.specs.Stops.{first_stop}
+use Rattle.bw_engine.specs.Talks.{HasHeard, Listens, HearsPiece, HearsBadPiece}
+use Rattle.bw_engine.specs.declared.send_fault.SendFault.{SendFault}
+use Rattle.bw_engine.specs.declared.send_fault.SendFault.TheVariants as faults
+use Rattle.bw_engine.specs.declared.stop.Stop.{Stop}
+use Rattle.bw_engine.specs.declared.talk.Listened.{Listened}
+use Rattle.bw_engine.specs.declared.talk.Listened.TheVariants as listens
+use Rattle.bw_engine.specs.declared.talk.Talk.{Talk}
+use Rattle.bw_ports.specs.declared.dial.Duplex.{Duplex}
+use Rattle.bw_upload.specs.Chains.{Chain}
+use Rattle.bw_upload.specs.Conversing.{Conversing, TalkEvent, Hears, Says, Breaks, TalkStep, MayHear, HearsReplies}
+use Rattle.bw_upload.specs.Turns.{IsLine, IsTalking, HeardBy, HearsTurn, TurnBy, TakesTurn, HearsOut, turn_end}
+use Rattle.bw_upload.proofs.ChainSteps.{chain_on}
+use Rattle.bw_model.specs.Stream.{frames_bytes}
+use Rattle.bw_model.specs.World.{pending}
+use Rattle.bw_stream.specs.Moves.{Begins}
+use Rattle.bw_wire.specs.Codecs.{reply_codec}
+use Rattle.bw_wire.specs.Pending.{Pending, next_of}
+use Rattle.bw_engine.specs.Batches.{WritesMessages}
+use Rattle.bw_engine.specs.Hears.{GaveReplies}
+use Rattle.bw_engine.specs.Saying.{unsaid_messages}
+use Rattle.std.specs.Prelude.{is_some}
+use Rattle.bw_upload.specs.declared.observer.LinkEnd.{LinkEnd}
+use Rattle.bw_upload.specs.declared.observer.LinkEnd.TheVariants as ends
+
+module _ {R W : Type 0} (reader : Reader R) (writer : Writer W) where
+  -- after these replies of a piece
+  abbrev after_piece : Conversing R W → R → List ℕ → List Reply → Conversing R W
+  after_piece x r' piece heard = record {
+    sender = hear_all x.sender heard;
+    line = record x.line {
+      reader = r';
+      input = x.line.input ++ piece;
+      heard = x.line.heard ++ heard;
+      stop = first_stop x.sender heard;
+    };
+  }
+
+  -- the step of a piece
+  piece_step : (x : Conversing R W) (r r' : R) (piece : List ℕ) (heard : List Reply) (reason : Reason) →
+      x.line.reader ≡ r → MayHear reader writer x → 1 ≤ length piece → HasGiven (reader.left r) piece (reader.left r')
+      → IsHeardUpTo reason (x.line.input ++ piece) (x.line.heard ++ heard) →
+      HearsReplies reader writer heard x (after_piece x r' piece heard)
+  piece_step x r r' piece heard reason at may some given prefix = record {
+    may = may;
+    piece = piece;
+    some = some;
+    given = subst (λ (z : R). HasGiven (reader.left z) piece (reader.left r')) (sym at) given;
+    reason = reason;
+    prefix = prefix;
+    is = refl;
+  }
+
+  -- nothing was heard, and the link is left
+  quiet_turn : (end : Option LinkEnd) (x : Conversing R W) (sender sender' : Sender) (talk' : Talk)
+      (link' : Duplex R W) → IsSender x.sender sender → sender' ≡ sender →
+      HeardBy reader writer end (length x.line.input) x talk' link' →
+      HearsTurn reader writer end x sender' talk' link'
+  quiet_turn end x sender sender' talk' link' is same by = record {
+    events = [];
+    after = x;
+    went = refl;
+    sender_is = subst (IsSender x.sender) (sym same) is;
+    broken = refl;
+    by = by;
+  }
+
+  piece_heard : (stop : Option Stop) (x : Conversing R W) (sender sender' : Sender) (talk talk' : Talk)
+      (link : Duplex R W) (r' : R) → IsTalking x sender talk link → MayHear reader writer x →
+      talk'.next ≡ talk.next →
+      HearsPiece stop talk talk' sender sender' (reader.left link.reader) (reader.left r') →
+      HearsTurn reader writer (turn_end (Ok (listens.Heard stop))) x sender' talk' (record link { reader = r' })
+  piece_heard stop x sender sender' talk talk' link r' is may said h =
+      let has = h.follows x.line.input x.line.heard is.line_is.heard in
+      let y = after_piece x r' h.piece h.heard in
+      let step = piece_step x link.reader r' h.piece h.heard Cut is.line_is.reader may h.some h.given has.all in
+      let line : IsLine y.line talk' (record link { reader = r' }) =
+      record { reader = refl; writer = is.line_is.writer; next = said ∙ is.line_is.next; heard = has } in
+      let len = length-append x.line.input h.piece in
+      record {
+        events = Hears h.heard ∷ [];
+        after = y;
+        went = (y, step, refl);
+        sender_is = h.counted x.sender is.sender_is;
+        broken = refl;
+        by = by stop line (omega (arith, len, h.some)) (sym (h.stop_is x.sender is.sender_is));
+      }
+    where
+      by : (o : Option Stop) →
+          IsLine (after_piece x r' h.piece h.heard).line talk' (record link { reader = r' }) →
+          length x.line.input + 1 ≤ length (x.line.input ++ h.piece) → first_stop x.sender h.heard ≡ o →
+          HeardBy reader writer (turn_end (Ok (listens.Heard o))) (length x.line.input)
+          (after_piece x r' h.piece h.heard) talk' (record link { reader = r' })
+      by None line long e = (line, long)
+      by (Some s) line long e = (line, e)
+
+  piece_bad : (x : Conversing R W) (sender sender' : Sender) (talk talk' : Talk) (link : Duplex R W) (r' : R) →
+      IsTalking x sender talk link → MayHear reader writer x →
+      HearsBadPiece talk sender sender' (reader.left link.reader) (reader.left r') →
+      HearsTurn reader writer (Some (ends.Broken faults.BadReply)) x sender' talk' (record link { reader = r' })
+  piece_bad x sender sender' talk talk' link r' is may h =
+      let bad = h.follows x.line.input x.line.heard is.line_is.heard in
+      let y = after_piece x r' h.piece h.heard in
+      record {
+        events = Hears h.heard ∷ [];
+        after = y;
+        went = (y, piece_step x link.reader r' h.piece h.heard bad.0 is.line_is.reader may h.some h.given bad.2, refl);
+        sender_is = h.counted x.sender is.sender_is;
+        broken = refl;
+        by = inl (bad.0, bad.1, bad.2);
+      }
+
+  none_left : (x : Conversing R W) (r r' : R) → x.line.reader ≡ r → HasNoneLeft (reader.left r) (reader.left r') →
+      HasNoneLeft (reader.left x.line.reader) (reader.left r')
+  none_left x r r' at none = subst (λ (z : R). HasNoneLeft (reader.left z) (reader.left r')) (sym at) none
+
+  pub listened : (result : Result Listened SendFault) (x : Conversing R W) (sender sender' : Sender)
+      (talk talk' : Talk) (link : Duplex R W) (r' : R) → IsTalking x sender talk link → MayHear reader writer x →
+      talk'.next ≡ talk.next → Listens reader result talk talk' sender sender' link.reader r' →
+      HearsTurn reader writer (turn_end result) x sender' talk' (record link { reader = r' })
+  listened (Ok (listens.Heard None)) x sender sender' talk talk' link r' is may said l =
+      piece_heard None x sender sender' talk talk' link r' is may said l.by_result
+  listened (Ok (listens.Heard (Some stop))) x sender sender' talk talk' link r' is may said l =
+      piece_heard (Some stop) x sender sender' talk talk' link r' is may said l.by_result
+  listened (Ok listens.Ended) x sender sender' talk talk' link r' is may said l =
+      quiet_turn (Some ends.Ended) x sender sender' talk' (record link { reader = r' }) is.sender_is
+      l.by_result.unheard (r', none_left x link.reader r' is.line_is.reader l.by_result.drained)
+  listened (Err faults.Read) x sender sender' talk talk' link r' is may said l =
+      quiet_turn (Some (ends.Broken faults.Read)) x sender sender' talk' (record link { reader = r' }) is.sender_is
+      l.by_result.1 (
+        r',
+        l.counted ∙ ap (λ (z : R). one_more (reader.failures z)) (sym is.line_is.reader),
+      )
+  listened (Err faults.Write) x sender sender' talk talk' link r' is may said l = absurd l.by_result
+  listened (Err faults.Memory) x sender sender' talk talk' link r' is may said l =
+      quiet_turn (Some (ends.Broken faults.Memory)) x sender sender' talk' (record link { reader = r' }) is.sender_is
+      l.by_result tt
+  listened (Err faults.BadReply) x sender sender' talk talk' link r' is may said l = elim l.by_result [
+    | inl bad ↦ piece_bad x sender sender' talk talk' link r' is may bad
+    | inr ended ↦ quiet_turn (Some (ends.Broken faults.BadReply)) x sender sender' talk'
+        (record link { reader = r' }) is.sender_is ended.unheard
+        (inr (r', none_left x link.reader r' is.line_is.reader ended.drained))
+  ]
+  listened (Err faults.TurnLimit) x sender sender' talk talk' link r' is may said l =
+      let fed = is.line_is.heard.fed in
+      quiet_turn (Some (ends.Broken faults.TurnLimit)) x sender sender' talk' (record link { reader = r' })
+      is.sender_is l.by_result.1 (omega (arith, l.by_result.0, fed))
+
+  -- ---- all that comes
+
+  -- so far this was heard, and the link can be used
+  pub record OutSoFar (x : Conversing R W) (sender : Sender) (talk : Talk) (link : Duplex R W) : Type 0 where
+    pub events : List TalkEvent
+    pub after : Conversing R W
+    pub went : Chain (TalkStep reader writer) events x after
+    pub is : IsTalking after sender talk link
+    pub broken : after.line.is_broken ≡ x.line.is_broken
+
+  pub out_none : (x : Conversing R W) (sender : Sender) (talk : Talk) (link : Duplex R W) →
+      IsTalking x sender talk link → OutSoFar x sender talk link
+  out_none x sender talk link is = record { events = []; after = x; went = refl; is = is; broken = refl }
+
+  pub out_over : (x : Conversing R W) (sender : Sender) (talk : Talk) (link : Duplex R W) →
+      OutSoFar x sender talk link → HearsOut reader writer x sender talk link
+  out_over x sender talk link f = record {
+    events = f.events;
+    after = f.after;
+    went = f.went;
+    sender_is = f.is.sender_is;
+    broken = f.broken;
+  }
+
+  pub out_end : (x : Conversing R W) (sender sender' : Sender) (talk talk' : Talk) (link link' : Duplex R W)
+      (end : Option LinkEnd) → x.line.is_broken ≡ true → OutSoFar x sender talk link →
+      ((y : Conversing R W) → IsTalking y sender talk link → MayHear reader writer y →
+      HearsTurn reader writer end y sender' talk' link') → HearsOut reader writer x sender' talk' link'
+  out_end x sender sender' talk talk' link link' end broken f hears =
+      let h = hears f.after f.is (inl (f.broken ∙ broken)) in
+      record {
+        events = f.events ++ h.events;
+        after = h.after;
+        went = chain_on (TalkStep reader writer) f.events h.events x f.after h.after f.went h.went;
+        sender_is = h.sender_is;
+        broken = h.broken ∙ f.broken;
+      }
+
+  pub out_more : (x : Conversing R W) (sender sender' : Sender) (talk talk' : Talk) (link link' : Duplex R W)
+      (end : Option LinkEnd) → x.line.is_broken ≡ true → OutSoFar x sender talk link → is_some end ≡ false →
+      ((y : Conversing R W) → IsTalking y sender talk link → MayHear reader writer y →
+      HearsTurn reader writer end y sender' talk' link') → OutSoFar x sender' talk' link'
+  out_more x sender sender' talk talk' link link' (Some end) broken f none hears = absurd cc
+  out_more x sender sender' talk talk' link link' None broken f none hears =
+      let h = hears f.after f.is (inl (f.broken ∙ broken)) in
+      record {
+        events = f.events ++ h.events;
+        after = h.after;
+        went = chain_on (TalkStep reader writer) f.events h.events x f.after h.after f.went h.went;
+        is = record { sender_is = h.sender_is; line_is = h.by.0 };
+        broken = h.broken ∙ f.broken;
+      }
+
+  -- ---- a turn
+
+  -- what is pending was said
+  pub said_and_heard : (end : Option LinkEnd) (x : Conversing R W) (sender sender' : Sender) (talk talk' talk'' : Talk)
+      (link link' : Duplex R W) (w' : W) → IsTalking x sender talk link → x.line.is_broken ≡ false →
+      pending x.sender 0 ≢ None →
+      WritesMessages (unsaid_messages x.sender talk.next) (writer.written link.writer) (writer.written w') →
+      talk'.next ≡ length x.sender.offered → talk'.framer ≡ talk.framer →
+      ((y : Conversing R W) → IsTalking y sender talk' (record link { writer = w' }) → MayHear reader writer y →
+      HearsTurn reader writer end y sender' talk'' link') → TakesTurn reader writer end x sender' talk'' link'
+  said_and_heard end x sender sender' talk talk' talk'' link link' w' is whole some said next same hears =
+      let y : Conversing R W = record {
+        sender = x.sender;
+        line = record x.line { writer = w'; next = length x.sender.offered };
+      } in
+      let h = hears y (record {
+        sender_is = is.sender_is;
+        line_is = record {
+          reader = is.line_is.reader;
+          writer = refl;
+          next = next;
+          heard = same_heard x.line.input x.line.heard talk talk' same is.line_is.heard;
+        };
+      }) (inr (refl, some)) in
+      record {
+        events = Says ∷ h.events;
+        after = h.after;
+        went = (
+          y,
+          record {
+            whole = whole;
+            said = subst (λ (z : W). WritesMessages (unsaid_messages x.sender x.line.next) (writer.written z) (writer.written w'))
+                (sym is.line_is.writer)
+                (subst (λ (n : ℕ). WritesMessages (unsaid_messages x.sender n) (writer.written link.writer) (writer.written w'))
+                is.line_is.next said);
+            is = refl;
+          },
+          h.went,
+        );
+        sender_is = h.sender_is;
+        by = as_turn end h.after talk'' link' (h.broken ∙ whole) h.by;
+      }
+    where
+      same_heard : (input : List ℕ) (heard : List Reply) (t t' : Talk) → t'.framer ≡ t.framer → HasHeard input heard t →
+          HasHeard input heard t'
+      same_heard input heard t t' e h = record {
+        gave = subst (λ (p : Pending). GaveReplies input heard p) (sym e) h.gave;
+        quiet = ap (λ (p : Pending). (next_of reply_codec p).0) e ∙ h.quiet;
+        all = h.all;
+        fed = ap (λ (p : Pending). p.fed) e ∙ h.fed;
+      }
+
+      as_turn : (end : Option LinkEnd) (y : Conversing R W) (talk : Talk) (link : Duplex R W) →
+          y.line.is_broken ≡ false → HeardBy reader writer end (length x.line.input) y talk link →
+          TurnBy reader writer end (length x.line.input) y talk link
+      as_turn None y talk link b h = (h.0, h.1, b)
+      as_turn (Some ends.Ended) y talk link b h = h
+      as_turn (Some (ends.Broken faults.Read)) y talk link b h = h
+      as_turn (Some (ends.Broken faults.Write)) y talk link b h = absurd h
+      as_turn (Some (ends.Broken faults.Memory)) y talk link b h = tt
+      as_turn (Some (ends.Broken faults.BadReply)) y talk link b h = h
+      as_turn (Some (ends.Broken faults.TurnLimit)) y talk link b h = h
+      as_turn (Some (ends.Stopped stop)) y talk link b h = h.1
+      as_turn (Some ends.Refused) y talk link b h = absurd h
+      as_turn (Some ends.Done) y talk link b h = absurd h
+
+  -- the writer failed
+  pub broke_and_heard : (x : Conversing R W) (sender sender' : Sender) (talk talk' talk'' : Talk)
+      (link link' : Duplex R W) (w' : W) → IsTalking x sender talk link → x.line.is_broken ≡ false →
+      Begins (writer.written link.writer) (frames_bytes (unsaid_messages x.sender talk.next)) (writer.written w') →
+      writer.failures w' ≡ one_more (writer.failures link.writer) →
+      talk'.framer ≡ talk.framer →
+      ((y : Conversing R W) → IsTalking y sender talk' (record link { writer = w' }) → y.line.is_broken ≡ true →
+      HearsOut reader writer y sender' talk'' link') →
+      TakesTurn reader writer (Some (ends.Broken faults.Write)) x sender' talk'' link'
+  broke_and_heard x sender sender' talk talk' talk'' link link' w' is whole begun failed same hears =
+      let y : Conversing R W = record {
+        sender = x.sender;
+        line = record x.line { writer = w'; next = talk'.next; is_broken = true };
+      } in
+      let h = hears y (record {
+        sender_is = is.sender_is;
+        line_is = record {
+          reader = is.line_is.reader;
+          writer = refl;
+          next = refl;
+          heard = record {
+            gave = subst (λ (p : Pending). GaveReplies x.line.input x.line.heard p) (sym same) is.line_is.heard.gave;
+            quiet = ap (λ (p : Pending). (next_of reply_codec p).0) same ∙ is.line_is.heard.quiet;
+            all = is.line_is.heard.all;
+            fed = ap (λ (p : Pending). p.fed) same ∙ is.line_is.heard.fed;
+          };
+        };
+      }) refl in
+      record {
+        events = Breaks ∷ h.events;
+        after = h.after;
+        went = (
+          y,
+          record {
+            whole = whole;
+            begun = subst (λ (z : W). Begins (writer.written z) (frames_bytes (unsaid_messages x.sender x.line.next)) (writer.written w'))
+                (sym is.line_is.writer)
+                (subst (λ (n : ℕ). Begins (writer.written link.writer) (frames_bytes (unsaid_messages x.sender n)) (writer.written w'))
+                is.line_is.next begun);
+            failed = failed ∙ ap (λ (z : W). one_more (writer.failures z)) (sym is.line_is.writer);
+            is = refl;
+          },
+          h.went,
+        );
+        sender_is = h.sender_is;
+        by = h.broken;
+      }
+
+  -- memory was refused
+  pub lacks_memory : (x : Conversing R W) (sender : Sender) (talk talk' : Talk) (link link' : Duplex R W) →
+      IsTalking x sender talk link →
+      TakesTurn reader writer (Some (ends.Broken faults.Memory)) x sender talk' link'
+  lacks_memory x sender talk talk' link link' is = record {
+    events = [];
+    after = x;
+    went = refl;
+    sender_is = is.sender_is;
+    by = tt;
+  }

@@ -1,0 +1,12 @@
+pub mod Feeds
+pub mod Backoff
+pub mod Chains
+pub mod Filling
+pub mod Conversing
+pub mod Courses
+pub mod Stopping
+pub mod Supplies
+pub mod Turns
+pub mod Visits
+pub mod Links
+pub mod Uploading

@@ -1,0 +1,38 @@
+//! Where requests come from.
+ghost use Rattle.std.specs.Prelude.{◌≡◌, List, Option, Result};
+ghost use Rattle.bw_model.specs.Take.{Request as Message};
+ghost use Rattle.bw_upload.specs.Feeds.{GivesRequest};
+ghost use Rattle.bw_upload.specs.declared.feed.Given.{Given};
+
+use bw_request::Request;
+
+/// What a feed gave.
+#[derive(Drop)]
+pub enum Given {
+    /// The next request.
+    Request(Request),
+    /// There is none yet; there may be one later.
+    NotYet,
+    /// There are no more.
+    End,
+}
+
+/// Gives requests, one after another, as they come.
+pub trait Feed {
+    /// Why it can give no more, though it hasn't ended.
+    type Fault: Drop;
+
+    /// The requests that are still to come, if that is known.
+    ghost left: { Self → Option (List Message) };
+
+    /// What a call may return, and the state after it.
+    ghost gives: { Self → Result Given Self.Fault → Self → Type 0 };
+
+    /// The next request, if it is there.
+    ///
+    /// # Errors
+    /// Why it can give no more.
+    fn next(&mut self) -> Result<Given, Self::Fault>
+        ensures received { gives self.old result self.new }
+        ensures left { GivesRequest (left self.old) result (left self.new) };
+}

@@ -1,0 +1,75 @@
+//! Turns over a link: what is pending is said, and a piece is heard.
+ghost use Rattle.std.specs.Prelude.{◌≡◌, ◌≢◌, true, false, None};
+ghost use Rattle.bw_model.specs.World.{pending};
+ghost use Rattle.bw_upload.specs.Conversing.{Conversing, MayHear};
+ghost use Rattle.bw_upload.specs.Turns.{IsTalking, HearsTurn, HearsOut, TakesTurn};
+ghost use Rattle.bw_upload.specs.Turns.{turn_end as end_of_turn};
+
+use crate::observer::LinkEnd;
+use bw_engine::{Listened, SendFault, Talk};
+use bw_exchange::MOST_READS;
+use bw_ports::Duplex;
+use bw_sender::Sender;
+use bw_stream::{Sink, Source};
+use std::alloc::Global;
+
+/// Says what is pending and wasn't said, and hears a piece. If the writer fails, hears what
+/// still comes: what came through before has its verdicts. Returns why the link isn't used any
+/// more, if it isn't: `Memory` if memory was refused.
+pub(crate) fn take_turn<R: Source, W: Sink>(
+    alloc: Global,
+    sender: &mut Sender,
+    talk: &mut Talk,
+    link: &mut Duplex<R, W>,
+) -> Option<LinkEnd>
+    ensures { (x : Conversing R W) → IsTalking x sender.old talk.old link.old →
+        x.line.is_broken ≡ false → pending x.sender 0 ≢ None →
+        TakesTurn R.Source W.Sink result x sender.new talk.new link.new }
+{
+    match talk.say(alloc, sender, &mut link.writer) {
+        Ok(()) => hear(sender, talk, link),
+        Err(SendFault::Write) => {
+            hear_out(sender, talk, link);
+            Some(LinkEnd::Broken(SendFault::Write))
+        }
+        Err(_memory) => Some(LinkEnd::Broken(SendFault::Memory)),
+    }
+}
+
+/// Hears a piece. Returns why the link isn't used any more, if it isn't: `Memory` if memory was
+/// refused.
+fn hear<R: Source, W: Sink>(
+    sender: &mut Sender,
+    talk: &mut Talk,
+    link: &mut Duplex<R, W>,
+) -> Option<LinkEnd>
+    ensures { (x : Conversing R W) → IsTalking x sender.old talk.old link.old →
+        MayHear R.Source W.Sink x →
+        HearsTurn R.Source W.Sink result x sender.new talk.new link.new }
+{
+    turn_end(talk.listen(sender, &mut link.reader))
+}
+
+fn turn_end(listened: Result<Listened, SendFault>) -> Option<LinkEnd>
+    ensures { result ≡ end_of_turn listened }
+{
+    match listened {
+        Ok(Listened::Heard(None)) => None,
+        Ok(Listened::Heard(Some(stop))) => Some(LinkEnd::Stopped(stop)),
+        Ok(Listened::Ended) => Some(LinkEnd::Ended),
+        Err(fault) => Some(LinkEnd::Broken(fault)),
+    }
+}
+
+/// Hears what still comes, up to a reply that stops the talk.
+fn hear_out<R: Source, W: Sink>(sender: &mut Sender, talk: &mut Talk, link: &mut Duplex<R, W>)
+    ensures { (x : Conversing R W) → IsTalking x sender.old talk.old link.old →
+        x.line.is_broken ≡ true →
+        HearsOut R.Source W.Sink x sender.new talk.new link.new }
+{
+    for _read in 0..MOST_READS {
+        if hear(sender, talk, link).is_some() {
+            return;
+        }
+    }
+}
