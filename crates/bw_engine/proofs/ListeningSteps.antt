@@ -1,8 +1,8 @@
 -- Replies are heard over a link that is kept, one by one and piece by piece.
-use Rattle.std.proofs.Common.{◌≡◌, ◌≢◌, ℕ, ◌+◌, ◌≤◌, Bool, true, false, List, [], ◌∷◌, ◌++◌, length, Option, Some, None}
-use Rattle.std.proofs.Common.{Result, Ok, Err, refl, sym, ap, subst, ◌∙◌, append_assoc, arith, inl, inr}
-use Rattle.std.specs.Prelude.{IfOk, IfErr, OnErr, OnOk}
-use Rattle.std.proofs.lemmas.List.{append-nil, length-append}
+use Rattle.std.proofs.Common.{◌≡◌, ◌≢◌, ℕ, List, [], ◌∷◌, ◌++◌, Option, Some, None}
+use Rattle.std.proofs.Common.{Result, Ok, Err, refl, sym, ap, subst, ◌∙◌, append_assoc, inl, inr}
+use Rattle.std.specs.Prelude.{IfOk, IfErr}
+use Rattle.std.proofs.lemmas.List.{append-nil}
 use Rattle.bw_model.specs.Wire.{Reason, Cut}
 use Rattle.bw_model.specs.Replies.{Reply}
 use Rattle.bw_model.specs.World.{Sender as Defined, hear, heard}
@@ -11,7 +11,7 @@ use Rattle.bw_sender.specs.declared.sender.Sender.{Sender}
 use Rattle.bw_wire.specs.Codecs.{reply_codec}
 use Rattle.bw_wire.specs.Pending.{Pending, Reported, Nothing, Gives, Fails, fresh, next_of}
 use Rattle.bw_wire.specs.Runs.{given_by}
-use Rattle.bw_engine.specs.Hears.{hear_all, CountsAll, IsAllHeard, IsHeardUpTo, GaveReplies, FeedsReplies}
+use Rattle.bw_engine.specs.Hears.{hear_all, CountsAll, GaveReplies, FeedsReplies}
 use Rattle.bw_engine.specs.Hears.{EndsReplies, ReportsFault, StopsHearing, hears_failed}
 use Rattle.bw_engine.specs.Listening.{HearsThese, NotesStop, HearsNext}
 use Rattle.bw_engine.specs.Stops.{stop_by, first_of, first_stop}

@@ -1,5 +1,5 @@
 -- Messages are said over a link one by one.
-use Rattle.std.proofs.Common.{◌≡◌, ℕ, zero, suc, ◌+◌, ◌<◌, ◌≤◌, Bool, true, false, List, [], ◌∷◌, ◌++◌, length, drop, filter}
+use Rattle.std.proofs.Common.{◌≡◌, ℕ, zero, suc, ◌+◌, ◌<◌, ◌≤◌, Bool, true, false, List, [], ◌∷◌, ◌++◌, length, drop}
 use Rattle.std.proofs.Common.{Option, Some, None, refl, sym, ap, subst, ◌∙◌, append_assoc, arith}
 use Rattle.std.specs.Prelude.{Result, Ok, Err, IsTrue, IfErr, OnOk, slice_get, nat_le, cond}
 use Rattle.std.specs.List.{list_all}
@@ -11,16 +11,14 @@ use Rattle.bw_model.specs.Take.{Request}
 use Rattle.bw_model.specs.Wire.{Second, Frame, is_frame, body, framed}
 use Rattle.bw_model.specs.Stream.{is_turn, frames_bytes}
 use Rattle.bw_model.specs.World.{Sender as Defined}
-use Rattle.bw_stream.specs.Moves.{Keeps, Writes, Begins}
-use Rattle.bw_sender.specs.Senders.{IsSender}
-use Rattle.bw_sender.specs.declared.sender.Sender.{Sender}
+use Rattle.bw_stream.specs.Moves.{Writes, Begins}
 use Rattle.bw_sender.proofs.EntryLaws.{drop_at, drop_none}
 use Rattle.bw_wire.specs.Encoded.{said}
 use Rattle.bw_engine.specs.declared.send_fault.SendFault.{SendFault}
 use Rattle.bw_engine.specs.declared.send_fault.SendFault.TheVariants as faults
 use Rattle.bw_engine.specs.Batches.{messages, WritesMessages, BreaksFrame}
-use Rattle.bw_engine.specs.Saying.{numbered_from, unsaid_messages, LacksMemoryToSay, BreaksOffSaying}
-use Rattle.bw_engine.proofs.Batching.{begins-none, begins-before, begins-after, waiting, none_after}
+use Rattle.bw_engine.specs.Saying.{numbered_from, unsaid_messages, BreaksOffSaying}
+use Rattle.bw_engine.proofs.Batching.{begins-before, begins-after, waiting}
 use Rattle.bw_exchange.proofs.Reading.{writes-none, writes-on}
 
 -- the bytes of some messages and of others

@@ -1,6 +1,6 @@
 use Rattle.std.proofs.lemmas.Result.{err_from_is_err_and}
-use Rattle.bw_engine.proofs.HeardPieces.{has_ended, has_fed}
-use Rattle.bw_engine.proofs.ListeningSteps.{listens_heard, listens_bad, listens_ended, listens_stopped}
+use Rattle.bw_engine.proofs.HeardPieces.{has_fed}
+use Rattle.bw_engine.proofs.ListeningSteps.{listens_heard, listens_bad, listens_stopped}
 use Rattle.bw_engine.proofs.talk.Talk.listen.Goals as goal
 
 pub returns-in_err-read_piece-clause-listens : goal.returns-in_err-read_piece-clause-listens
