@@ -39,7 +39,8 @@ pub trait Observer {
     /// What it does.
     fn link(&mut self, event: LinkEvent, sender: &Sender);
 
-    /// A piece was read, after which the sender has more settled numbers than before.
+    /// A turn over the link is over; so far is the sender. It may have no more settled numbers than
+    /// before.
     ///
     /// # Not specified
     /// What it does.
