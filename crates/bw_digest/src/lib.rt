@@ -1,0 +1,5 @@
+//! SHA-256 (FIPS 180-4) of eight messages at once, a lane of vectors for each.
+#![tactic(auto)]
+
+mod block;
+mod constants;
