@@ -135,12 +135,7 @@ fn sixteen_rounds(window: &mut [u32x8; 16], v: [u32x8; 8], turn: usize) -> [u32x
 
 /// Round `16 * turn + place`, from the sixteenth on, which makes its word.
 #[inline(always)]
-fn next_round(
-    window: &mut [u32x8; 16],
-    v: [u32x8; 8],
-    turn: usize,
-    place: usize,
-) -> [u32x8; 8]
+fn next_round(window: &mut [u32x8; 16], v: [u32x8; 8], turn: usize, place: usize) -> [u32x8; 8]
     requires low { 1 ≤ turn }
     requires high { turn < 4 }
     requires place { place < 16 }
@@ -153,12 +148,7 @@ fn next_round(
 }
 
 #[inline(always)]
-fn four_rounds(
-    window: &mut [u32x8; 16],
-    v: [u32x8; 8],
-    turn: usize,
-    place: usize,
-) -> [u32x8; 8]
+fn four_rounds(window: &mut [u32x8; 16], v: [u32x8; 8], turn: usize, place: usize) -> [u32x8; 8]
     requires low { 1 ≤ turn }
     requires high { turn < 4 }
     requires place { place + 4 ≤ 16 }
@@ -183,7 +173,10 @@ fn next_word(window: &mut [u32x8; 16], place: usize) -> u32x8
         small_sigma1(window[(place + 14) % 16]),
         window[(place + 9) % 16],
     );
-    let word = add(add(sum, small_sigma0(window[(place + 1) % 16])), window[place]);
+    let word = add(
+        add(sum, small_sigma0(window[(place + 1) % 16])),
+        window[place],
+    );
     window[place] = word;
     word
 }

@@ -3,3 +3,7 @@
 
 mod block;
 mod constants;
+mod message;
+mod sha256;
+
+pub use sha256::digests;
