@@ -3,8 +3,8 @@
 use crate::recorder::{Call, Recorder};
 use bw_disk::MemoryDisk;
 use bw_folder::FolderStore;
-use bw_store::{MemoryStore, TakeStore};
 use bw_request::Name;
+use bw_store::{MemoryStore, TakeStore};
 use std::test::Fail;
 
 fn a1() -> Result<Name, Fail> {
