@@ -126,7 +126,8 @@ fn answer<
     ensures { IsProgram N.Store.TakeStore ⟦<NoJournal as Journal>⟧ N.Peers.Peers
         N.Peers.Reader.Source N.Peers.Writer.Sink N.Reactor.Reactor N.Reactor.Link.Link N.Network
         N.ListenerSetup N.Dial.Dial N.Dial.Reader.Source N.Dial.Writer.Sink R.Source W.Sink E.Sink
-        (given_to_program (Some (map string_bytes words.now)) (S.file_at system.old) (F.file_at files.old)) result
+        (given_to_program (Some (map string_bytes words.now)) (S.file_at system.old)
+        (F.file_at files.old)) result
         (S.failures system.old) (S.failures system.new) (F.failures files.old)
         (F.failures files.new) network.old network.new input.old input.new out.old out.new
         faults.old faults.new }
