@@ -3,3 +3,5 @@ pub mod MendingLemmas
 pub mod JudgedFiles
 pub mod MadeLemmas
 pub mod NameLemmas
+pub mod Refusals
+pub mod Lists

@@ -1,5 +1,10 @@
 pub mod Files
 pub mod Left
 pub mod Adoptions
+pub mod Changes
 pub mod Names
 pub mod LeftNames
+pub mod FilesRead
+pub mod Paths
+pub mod Findings
+pub mod FoundNames

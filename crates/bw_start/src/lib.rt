@@ -3,9 +3,20 @@
 
 mod adoption;
 mod fault;
+mod finding;
 pub mod laws;
+mod listing;
+mod mending;
+mod paths;
+mod reading;
+mod resuming;
 
 pub use adoption::{
     Adoption, FileFacts, Mending, data_end, data_place, file_len, header_of, judge_file,
 };
 pub use fault::FileFault;
+pub use finding::{Begun, Finding, NameFault, look};
+pub use listing::{FoundName, look_at_all};
+pub use mending::mend;
+pub use reading::{FileRead, read_take};
+pub use resuming::{adopt_file, cut_journal, restore_name};

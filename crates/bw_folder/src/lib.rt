@@ -1,0 +1,6 @@
+//! What a server keeps in a folder: the files of takes.
+#![tactic(auto)]
+
+mod folder;
+
+pub use folder::FolderStore;

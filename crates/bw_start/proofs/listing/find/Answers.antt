@@ -1,0 +1,54 @@
+use Rattle.std.proofs.Common.{◌≡◌, ◌<◌, ℕ, List, [], ◌∷◌, Option, Some, None, length, get_or, refl, rules, tests, sym}
+use Rattle.std.proofs.Common.{◌∙◌, arith}
+use Rattle.std.specs.Prelude.{IsSome, IfSome, ◌↔◌}
+use Rattle.std.specs.Option.{MatchOption}
+use Rattle.std.specs.List.{AllWithin, Contains, HoldsAt}
+use Rattle.std.proofs.lemmas.Iterator.{YieldsList-from_slice, IsFirst-from_position}
+use Rattle.std.proofs.lemmas.List.{get_or-map, length-map}
+use Rattle.std.proofs.lemmas.Slice.Eq.{bytes_eq-Decides}
+use Rattle.bw_start.specs.declared.listing.FoundName.{FoundName}
+use Rattle.bw_start.specs.FoundNames.{names_of}
+use Rattle.bw_start.proofs.listing.find.Goals as goal
+
+module _ (takes : List FoundName) (name : List ℕ) where
+  -- the first take of this name is at this place, or there is none
+  abbrev IsFirst : Option ℕ → Type 0
+  IsFirst r =
+      MatchOption r
+      (AllWithin (λ (take : FoundName). take.name ≡ name → ⊥) takes 0 (length takes))
+      (λ i. (i < length takes)
+      × HoldsAt (λ (take : FoundName). take.name ≡ name) takes i
+      × AllWithin (λ (take : FoundName). take.name ≡ name → ⊥) takes 0 i)
+
+  some_take : (all : List FoundName) (k : ℕ) → k < length all → FoundName
+  some_take [] k h = absurd (omega arith)
+  some_take (take ∷ rest) k h = take
+
+  named : (k : ℕ) (d : FoundName) → k < length takes → get_or (names_of takes) k name ≡ (get_or takes k d).name
+  named k d h = get_or-map (λ (take : FoundName). take.name) takes k d name h
+
+  within : (k : ℕ) → k < length (names_of takes) → k < length takes
+  within k h = rw length-map at h
+
+  contains : (r : Option ℕ) → IsFirst r → IsSome r ↔ Contains (names_of takes) name
+  contains None none = (
+    λ some. cc,
+    λ among.
+        let small = within among.0 among.1 in
+        let d = some_take takes among.0 small in
+        absurd (none among.0 d (omega arith) small (sym (named among.0 d small) ∙ among.2)),
+  )
+  contains (Some i) found =
+      let d = some_take takes i found.0 in
+      (λ some. (i, rw length-map found.0, named i d found.0 ∙ found.1 d), λ among. refl)
+
+pub returns : goal.returns
+returns c =
+    let takes = c.args.found.now in
+    let name = c.args.name.now in
+    let reported = c.position.ensures.ran in
+    contains takes name c.position.result
+    (IsFirst-from_position _ _ c.position.result (λ take. take.name ≡ name) (λ take. take.name ≡ name → ⊥) reported
+    (YieldsList-from_slice takes cc)
+    (λ x q k. search (rules, tests, bytes_eq-Decides))
+    (λ x q k. search (rules, tests, bytes_eq-Decides)))
