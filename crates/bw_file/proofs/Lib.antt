@@ -14,6 +14,4 @@ pub mod Retouches
 pub mod SetFields
 pub mod SetPlans
 pub mod Ranges
-pub mod TakePaths
-pub mod MemoryDisks
 pub mod MarkedFiles

@@ -5,12 +5,8 @@ pub use Rattle.bw_store.specs.Fuses
 pub use Rattle.bw_store.specs.Memory
 pub use Rattle.bw_store.specs.MemoryNames
 pub mod Conditions
-pub mod MemoryDisks
 pub mod Growing
 pub mod Headers
 pub mod Plans
 pub mod OneField
 pub mod ExamplesOfCalls
-pub mod Disks
-pub mod FileWrites
-pub mod Folders

@@ -1,7 +1,9 @@
 //! Stores in memory, with calls that no run of the program makes, and of which no clause says that
 //! they succeed.
 use crate::recorder::{Call, Recorder};
-use bw_file::{FolderStore, MemoryDisk, MemoryStore, TakeStore};
+use bw_disk::MemoryDisk;
+use bw_folder::FolderStore;
+use bw_store::{MemoryStore, TakeStore};
 use bw_request::Name;
 use std::test::Fail;
 

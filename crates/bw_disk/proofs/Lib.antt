@@ -1,0 +1,4 @@
+pub mod MemoryDisks
+pub mod Cuts
+pub mod PrefixReads
+pub mod DiskChains

@@ -1,0 +1,33 @@
+use Rattle.std.proofs.Common.{rules, arith, ◌≡◌, ◌≤◌, ◌+◌, ◌-◌, ℕ, List, Option, IsTrue, length, take, sym, ap, ◌∙◌, subst}
+use Rattle.bw_disk.specs.DiskSteps.{StaysWhole}
+use Rattle.bw_disk.specs.Volumes.{ReadsFrom}
+use Rattle.bw_disk.proofs.PrefixReads.{IsReadTo, read_more}
+use Rattle.bw_disk.proofs.DiskChains.{stays_twice}
+use Rattle.bw_disk.proofs.reading.read_prefix.Goals as goal
+
+pub loop-count-preserved : goal.loop-count-preserved
+loop-count-preserved g c =
+    let was = c.loop-count.invariant in
+    let stays : StaysWhole g.D.Disk c.loop-count.disk c.read_at.new.self = record {
+      honest = c.read_at.ensures.honest;
+      contents = c.read_at.ensures.contents;
+      synced = c.read_at.ensures.synced;
+    } in
+    let len : length c.read_at.new.room ≡ length c.loop-count.room - c.loop-count.count = search rules in
+    let fits : c.in_ok-more.more ≤ length c.loop-count.room - c.loop-count.count = search rules in
+    let small = was.0 in (
+      grind (arith, len, fits, small),
+      grind (arith, len, fits, small, was.1),
+      c.read_at.ensures.path ∙ was.2,
+      search rules,
+      stays_twice g.D.Disk c.args.disk.now c.loop-count.disk c.read_at.new.self was.4 stays,
+      λ honest.
+          let now = subst IsTrue (sym was.4.honest) honest in
+          let same : g.D.Disk.contents c.loop-count.disk (g.D.Disk.path_of c.loop-count.file)
+          ≡ g.D.Disk.contents c.args.disk.now (g.D.Disk.path_of c.args.file.now) =
+          ap (g.D.Disk.contents c.loop-count.disk) was.2
+          ∙ was.4.contents honest (g.D.Disk.path_of c.args.file.now) in
+          read_more (g.D.Disk.contents c.args.disk.now (g.D.Disk.path_of c.args.file.now)) _ c.loop-count.room
+          c.read_at.new.room _ c.loop-count.count c.in_ok-more.more _ small (omega (arith, len, fits)) (was.5 honest)
+          same (c.in_ok-more.ensures.read now),
+    )

@@ -1,0 +1,32 @@
+-- What calls leave of a disk, whatever disk it is.
+use Rattle.std.specs.Prelude.{◌≡◌, ◌<◌, ◌≤◌, ℕ, Bool, IsTrue, List, take, true}
+use Rattle.bw_store.specs.Stores.{Written, KeepsOthers, last_count}
+use Rattle.bw_disk.specs.Disks.{IsOneCall}
+use Rattle.bw_disk.specs.Volumes.{KeepsEach}
+use Rattle.bw_disk.specs.declared.disk.Disk.{Ghosts}
+
+-- The disk is as honest as it was, and holds and has synced what it had.
+pub record StaysWhole {D F : Type 0} (G : Ghosts D F) (old new : D) : Type 0 where
+  pub honest : G.honest new ≡ G.honest old
+  pub contents : IsTrue (G.honest old) → KeepsEach (G.contents old) (G.contents new)
+  pub synced : IsTrue (G.honest old) → KeepsEach (G.synced old) (G.synced new)
+
+-- The disk is as honest as it was, nothing more is synced, and each other path has what it had.
+pub record ChangesAt {D F : Type 0} (G : Ghosts D F) (path : List ℕ) (old new : D) : Type 0 where
+  pub honest : G.honest new ≡ G.honest old
+  pub others : IsTrue (G.honest old) → KeepsOthers (G.contents old) (G.contents new) path
+  pub synced : IsTrue (G.honest old) → KeepsEach (G.synced old) (G.synced new)
+
+-- A disk that dies in its call of the number `life`, counted from 0: an earlier call is one of the
+-- inner disk, that call and each later one fails, and the later ones change nothing.
+pub record LivesUntil {D F : Type 0} (G : Ghosts D F) (life calls : ℕ) (fails : Bool)
+    (old new : D) : Type 0 where
+  pub alive : calls < life → IsOneCall G.calls G.failures old new fails
+  pub dies : life ≤ calls → IsTrue fails
+  pub dead : life < calls → new ≡ old
+
+-- The call in which it dies writes this many of the bytes, or all, if the inner disk doesn't fail.
+abbrev pub WritesItsShare : {D F : Type 0} → Ghosts D F → List ℕ → ℕ → List ℕ → ℕ → D → D → Type 0
+WritesItsShare G path offset bytes reached old new =
+    IsTrue (G.honest old) → G.failures old < last_count → G.failures new ≡ G.failures old →
+    Written (G.contents old path) offset (take reached bytes) (G.contents new path)

@@ -1,0 +1,6 @@
+pub mod Disks
+pub mod MemoryDisks
+pub mod FileWrites
+pub mod Volumes
+pub mod DiskSteps
+pub mod ReadFaults

@@ -1,0 +1,17 @@
+//! Files by path: of the system, in memory, and on a disk that dies.
+#![tactic(auto)]
+
+mod disk;
+mod memory_disk;
+mod mortal;
+mod reading;
+mod system;
+mod system_volume;
+mod volume;
+
+pub use disk::{Disk, DiskFault};
+pub use memory_disk::{MemoryDisk, MemoryFile};
+pub use mortal::MortalDisk;
+pub use reading::{ReadFault, read_file, read_prefix};
+pub use system::SystemDisk;
+pub use volume::Volume;

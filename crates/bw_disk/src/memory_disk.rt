@@ -1,0 +1,254 @@
+//! A disk in memory.
+ghost use Rattle.std.specs.Prelude.{◌≡◌, ◌≤◌, ◌+◌, ℕ, List, None, true, IsTrue, IsOk, IfOk, IsSome};
+ghost use Rattle.std.specs.Prelude.{IfSome, OnOk, OnErr, is_err, string_bytes, length};
+ghost use Rattle.std.specs.Option.{option_copied};
+ghost use Rattle.std.specs.List.{position};
+ghost use Rattle.bw_store.specs.Stores.{Counts, Written, MayTear, KeepsOthers};
+ghost use Rattle.bw_disk.specs.Disks.{Makes, Syncs};
+ghost use Rattle.bw_disk.specs.MemoryDisks.{stands_at, content_at, synced_at};
+
+use crate::disk::{Disk, DiskFault};
+use bw_store::{CallCounter, overwrite};
+use std::alloc::Global;
+
+/// The content of a path, and the content that it had when the file was last synced.
+#[derive(Drop)]
+struct StoredFile {
+    path: String,
+    content: Vec<u8>,
+    synced: Option<Vec<u8>>,
+}
+
+/// An open file of a disk in memory.
+#[derive(Drop)]
+pub struct MemoryFile {
+    path: String,
+}
+
+/// Files in memory, by path. A call fails if memory is refused, and for a file that another disk
+/// made, unless its path is on this one too.
+///
+/// It is an honest disk, which shows that the promises of `Disk` can be kept.
+#[derive(Drop)]
+pub struct MemoryDisk {
+    alloc: Global,
+    files: Vec<StoredFile>,
+    call_counter: CallCounter,
+}
+
+impl MemoryDisk {
+    /// An empty disk.
+    pub fn new(alloc: Global) -> MemoryDisk
+        ensures honest { IsTrue (⟦<MemoryDisk as Disk>⟧.honest result) }
+        ensures empty { (path : List ℕ) → ⟦<MemoryDisk as Disk>⟧.contents result path ≡ None }
+        ensures synced { (path : List ℕ) → ⟦<MemoryDisk as Disk>⟧.synced result path ≡ None }
+        ensures failures { ⟦<MemoryDisk as Disk>⟧.failures result ≡ 0 }
+        ensures calls { ⟦<MemoryDisk as Disk>⟧.calls result ≡ 0 }
+    {
+        MemoryDisk {
+            alloc,
+            files: Vec::new(alloc),
+            call_counter: CallCounter::new(),
+        }
+    }
+
+    /// The content of a path; None if there is none.
+    pub fn content(&self, path: &str) -> Option<&[u8]>
+        ensures { option_copied result ≡ ⟦<MemoryDisk as Disk>⟧.contents self.now path.now }
+    {
+        match find(&self.files, path) {
+            Some(place) => Some(self.files[place].content.as_slice()),
+            None => None,
+        }
+    }
+}
+
+impl Disk for MemoryDisk {
+    type File = MemoryFile;
+
+    ghost contents = { λ d path. content_at d.files.items path };
+
+    ghost synced = { λ d path. synced_at d.files.items path };
+
+    ghost path_of = { λ file. string_bytes file.path };
+
+    ghost failures = { λ d. d.call_counter.failures };
+
+    ghost calls = { λ d. d.call_counter.calls };
+
+    ghost honest = { λ d. true };
+
+    /// Makes an empty file, unless something is at the path.
+    ///
+    /// # Errors
+    /// `DiskFault` if memory was refused, never if something is there: all files are as
+    /// they were.
+    ///
+    /// # Not specified
+    /// When memory is refused.
+    fn create_new(&mut self, path: &str) -> Result<Option<MemoryFile>, DiskFault>
+        ensures failures { Counts self.old.call_counter.failures self.new.call_counter.failures (is_err result) }
+        ensures calls { Counts self.old.call_counter.calls self.new.call_counter.calls true }
+        ensures path { IfOk result (λ made.
+            IfSome made (λ file. string_bytes file.path ≡ path.now)) }
+        ensures made { IfOk result (λ made. Makes made
+            (content_at self.old.files.items path.now)
+            (content_at self.new.files.items path.now)) }
+        ensures failed { OnErr result (self.new.files.items ≡ self.old.files.items) }
+        ensures others { KeepsOthers
+            (content_at self.old.files.items) (content_at self.new.files.items) path.now }
+        ensures synced { (other : List ℕ) →
+            synced_at self.new.files.items other ≡ synced_at self.old.files.items other }
+        ensures stands { IsSome (content_at self.old.files.items path.now) → IsOk result }
+    {
+        let answer = make(&mut self.files, self.alloc, path);
+        self.call_counter.count(answer.is_err());
+        answer
+    }
+
+    /// Writes the bytes into the content of the file's path.
+    ///
+    /// # Errors
+    /// `DiskFault` if nothing is there, or memory was refused, never if the bytes only overwrite
+    /// others: all files are as they were, not torn.
+    ///
+    /// # Not specified
+    /// When memory is refused.
+    fn write_at(
+        &mut self,
+        file: &mut MemoryFile,
+        offset: u64,
+        bytes: &[u8],
+    ) -> Result<(), DiskFault>
+        ensures failures { Counts self.old.call_counter.failures self.new.call_counter.failures (is_err result) }
+        ensures calls { Counts self.old.call_counter.calls self.new.call_counter.calls true }
+        ensures path { file.new ≡ file.old }
+        ensures written { OnOk result (Written
+            (content_at self.old.files.items (string_bytes file.old.path)) offset bytes.now
+            (content_at self.new.files.items (string_bytes file.old.path))) }
+        ensures failed { OnErr result
+            (content_at self.new.files.items (string_bytes file.old.path)
+            ≡ content_at self.old.files.items (string_bytes file.old.path)) }
+        ensures others { KeepsOthers (content_at self.old.files.items)
+            (content_at self.new.files.items) (string_bytes file.old.path) }
+        ensures synced { (other : List ℕ) →
+            synced_at self.new.files.items other ≡ synced_at self.old.files.items other }
+        ensures over { IfSome (content_at self.old.files.items (string_bytes file.old.path))
+            (λ old. offset + length bytes.now ≤ length old → IsOk result) }
+    {
+        let answer = write(&mut self.files, file.path.as_str(), offset, bytes);
+        self.call_counter.count(answer.is_err());
+        answer
+    }
+
+    /// Notes that the content of the file's path is synced.
+    ///
+    /// # Errors
+    /// `DiskFault` if nothing is there, or memory was refused.
+    ///
+    /// # Not specified
+    /// That it succeeds if the file is there and there is memory.
+    fn sync(&mut self, file: &MemoryFile) -> Result<(), DiskFault>
+        ensures failures { Counts self.old.call_counter.failures self.new.call_counter.failures (is_err result) }
+        ensures calls { Counts self.old.call_counter.calls self.new.call_counter.calls true }
+        ensures unchanged { (other : List ℕ) →
+            content_at self.new.files.items other ≡ content_at self.old.files.items other }
+        ensures synced { Syncs result
+            (content_at self.old.files.items (string_bytes file.now.path))
+            (synced_at self.old.files.items) (synced_at self.new.files.items)
+            (string_bytes file.now.path) }
+        ensures stands { OnOk result
+            (IsSome (content_at self.old.files.items (string_bytes file.now.path))) }
+    {
+        let answer = keep(&mut self.files, self.alloc, file.path.as_str());
+        self.call_counter.count(answer.is_err());
+        answer
+    }
+}
+
+/// The place of the file at a path.
+fn find(files: &[StoredFile], path: &str) -> Option<usize>
+    ensures { result ≡ position (stands_at path.now) files.now }
+{
+    files.iter().position(|file| file.path.as_str() == path)
+}
+
+/// Makes an empty file, unless there is one.
+fn make(
+    files: &mut Vec<StoredFile>,
+    alloc: Global,
+    path: &str,
+) -> Result<Option<MemoryFile>, DiskFault>
+    ensures path { IfOk result (λ made.
+        IfSome made (λ file. string_bytes file.path ≡ path.now)) }
+    ensures made { IfOk result (λ made. Makes made
+        (content_at files.old.items path.now) (content_at files.new.items path.now)) }
+    ensures failed { OnErr result (files.new.items ≡ files.old.items) }
+    ensures others { KeepsOthers
+        (content_at files.old.items) (content_at files.new.items) path.now }
+    ensures synced { (other : List ℕ) →
+        synced_at files.new.items other ≡ synced_at files.old.items other }
+    ensures stands { IsSome (content_at files.old.items path.now) → IsOk result }
+{
+    if find(files, path).is_some() {
+        return Ok(None);
+    }
+    let made = MemoryFile {
+        path: String::from_str(alloc, path).map_err(|_| DiskFault)?,
+    };
+    let stored = StoredFile {
+        path: String::from_str(alloc, path).map_err(|_| DiskFault)?,
+        content: Vec::new(alloc),
+        synced: None,
+    };
+    files.push(stored).map_err(|_| DiskFault)?;
+    Ok(Some(made))
+}
+
+/// Writes into a file, if it is there.
+fn write(
+    files: &mut Vec<StoredFile>,
+    path: &str,
+    offset: u64,
+    bytes: &[u8],
+) -> Result<(), DiskFault>
+    ensures written { OnOk result (Written (content_at files.old.items path.now)
+        offset bytes.now (content_at files.new.items path.now)) }
+    ensures failed { OnErr result
+        (content_at files.new.items path.now ≡ content_at files.old.items path.now) }
+    ensures others { KeepsOthers
+        (content_at files.old.items) (content_at files.new.items) path.now }
+    ensures synced { (other : List ℕ) →
+        synced_at files.new.items other ≡ synced_at files.old.items other }
+    ensures over { IfSome (content_at files.old.items path.now) (λ old.
+        offset + length bytes.now ≤ length old → IsOk result) }
+{
+    if offset > u64::MAX - bytes.len() as u64 {
+        return Err(DiskFault);
+    }
+    let Some(place) = find(files, path) else {
+        return Err(DiskFault);
+    };
+    overwrite(&mut files[place].content, offset, bytes).map_err(|_| DiskFault)
+}
+
+/// Keeps the content of a file as what is synced.
+fn keep(files: &mut Vec<StoredFile>, alloc: Global, path: &str) -> Result<(), DiskFault>
+    ensures unchanged { (other : List ℕ) →
+        content_at files.new.items other ≡ content_at files.old.items other }
+    ensures synced { Syncs result (content_at files.old.items path.now)
+        (synced_at files.old.items) (synced_at files.new.items) path.now }
+    ensures stands { OnOk result (IsSome (content_at files.old.items path.now)) }
+{
+    let Some(place) = find(files, path) else {
+        return Err(DiskFault);
+    };
+    let file = &mut files[place];
+    let content = file
+        .content
+        .as_slice()
+        .to_vec(alloc)
+        .map_err(|_| DiskFault)?;
+    file.synced = Some(content);
+    Ok(())
+}

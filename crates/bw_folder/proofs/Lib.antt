@@ -1,0 +1,6 @@
+pub mod TakePaths
+pub mod Appended
+pub mod Headings
+pub mod JournalPaths
+pub mod Existences
+pub mod HeaderKeeping

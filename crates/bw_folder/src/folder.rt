@@ -1,0 +1,311 @@
+//! A store in a folder.
+ghost use Rattle.std.specs.Prelude.{◌≡◌, ◌<◌, ℕ, List, [], true, IsTrue, IsErr, IfOk, OnOk, OnErr};
+ghost use Rattle.std.specs.Prelude.{IsSome, IfSome, ◌↔◌, is_err, string_bytes, length};
+ghost use Rattle.std.specs.List.{All, Contains, HoldsAt};
+ghost use Rattle.bw_store.specs.Stores.{Counts, Creates, Written, MayTear, KeepsOthers};
+ghost use Rattle.bw_disk.specs.Disks.{IsOneCall, AsksOnce, Syncs};
+ghost use Rattle.bw_disk.specs.DiskSteps.{StaysWhole};
+ghost use Rattle.bw_folder.specs.Folders.{take_path, take_content, open_names, opened_by, found_by};
+
+use bw_disk::{Disk, SystemDisk, Volume};
+use bw_request::Name;
+use bw_store::{CallCounter, Created, StoreFault, TakeStore};
+use std::alloc::{AllocError, Global};
+use std::fs::Files;
+
+/// A take's file, which stays open.
+#[derive(Drop)]
+struct OpenTake<F: Drop> {
+    name: Name,
+    file: F,
+}
+
+/// The files `NAME.wav` of one folder.
+///
+/// Only files that this store made are written: a file that is there already is never opened. Over
+/// an honest disk it is an honest store. A call fails if the disk does; `create` also if memory is
+/// refused, and the others for a name that this store did not make.
+#[derive(Drop)]
+pub struct FolderStore<D: Disk> {
+    disk: D,
+    alloc: Global,
+    folder: String,
+    takes: Vec<OpenTake<D::File>>,
+    call_counter: CallCounter,
+    ghost paths: { IsTrue (D.honest disk) → All
+        (λ take. D.path_of take.file ≡ take_path (string_bytes folder) take.name) takes.items },
+}
+
+impl<R: Files + Drop> FolderStore<SystemDisk<R>> {
+    /// The store of a folder of the system, which need not exist yet.
+    ///
+    /// # Errors
+    /// `AllocError` if memory was refused. The runtime isn't given back.
+    ///
+    /// # Not specified
+    /// - When memory is refused.
+    /// - What the folder holds: by contract this store isn't honest.
+    pub fn new(rt: R, alloc: Global, folder: &str) -> Result<FolderStore<SystemDisk<R>>, AllocError>
+        ensures rt { IfOk result (λ s. s.disk.rt ≡ rt) }
+        ensures folder { IfOk result (λ s. string_bytes s.folder ≡ folder.now) }
+        ensures takes { IfOk result (λ s. s.takes.items ≡ []) }
+        ensures failures { IfOk result (λ s. s.call_counter.failures ≡ 0) }
+        ensures calls { IfOk result (λ s. s.call_counter.calls ≡ 0) }
+    {
+        FolderStore::over(SystemDisk::new(rt), alloc, folder)
+    }
+}
+
+impl<D: Disk> FolderStore<D> {
+    /// The store of a folder of a disk.
+    ///
+    /// # Errors
+    /// `AllocError` if memory was refused. The disk isn't given back.
+    ///
+    /// # Not specified
+    /// When memory is refused.
+    pub fn over(disk: D, alloc: Global, folder: &str) -> Result<FolderStore<D>, AllocError>
+        ensures disk { IfOk result (λ s. s.disk ≡ disk) }
+        ensures folder { IfOk result (λ s. string_bytes s.folder ≡ folder.now) }
+        ensures takes { IfOk result (λ s. s.takes.items ≡ []) }
+        ensures failures { IfOk result (λ s. s.call_counter.failures ≡ 0) }
+        ensures calls { IfOk result (λ s. s.call_counter.calls ≡ 0) }
+    {
+        Ok(FolderStore {
+            disk,
+            alloc,
+            folder: String::from_str(alloc, folder)?,
+            takes: Vec::new(alloc),
+            call_counter: CallCounter::new(),
+        })
+    }
+
+    /// The disk of the folder.
+    pub fn disk(&self) -> &D
+        ensures { result.now ≡ self.now.disk }
+    {
+        &self.disk
+    }
+
+    /// The disk of the folder, by value.
+    pub fn into_disk(self) -> D
+        ensures { result ≡ self.disk }
+    {
+        let FolderStore {
+            disk,
+            alloc: _,
+            folder: _,
+            takes: _,
+            call_counter: _,
+        } = self;
+        disk
+    }
+
+    #[tactic(auto, unfolding(crate::specs::Folders::take_path))]
+    fn path(&self, name: &Name) -> Result<String, StoreFault>
+        ensures { IfOk result (λ p.
+            string_bytes p ≡ take_path (string_bytes self.now.folder) name.now) }
+    {
+        let Ok(text) = std::str::from_utf8(name.as_bytes()) else {
+            return Err(StoreFault);
+        };
+        match format!(in self.alloc; "{}/{text}.wav", self.folder) {
+            Ok(path) => Ok(path),
+            Err(_) => Err(StoreFault),
+        }
+    }
+
+    #[tactic(auto, using(crate::proofs::TakePaths::take_path_injective))]
+    fn make(&mut self, name: &Name) -> Result<Created, StoreFault>
+        ensures call_counter { self.new.call_counter ≡ self.old.call_counter }
+        ensures folder { self.new.folder ≡ self.old.folder }
+        ensures honest { D.honest self.new.disk ≡ D.honest self.old.disk }
+        ensures created { IsTrue (D.honest self.old.disk) → IfOk result (λ c. Creates c
+            (take_content (D.contents self.old.disk) (string_bytes self.old.folder) name.now)
+            (take_content (D.contents self.new.disk) (string_bytes self.old.folder) name.now)) }
+        ensures failed { IsTrue (D.honest self.old.disk) → OnErr result
+            (take_content (D.contents self.new.disk) (string_bytes self.old.folder) name.now
+            ≡ take_content (D.contents self.old.disk) (string_bytes self.old.folder) name.now) }
+        ensures others { IsTrue (D.honest self.old.disk) → KeepsOthers
+            (take_content (D.contents self.old.disk) (string_bytes self.old.folder))
+            (take_content (D.contents self.new.disk) (string_bytes self.old.folder)) name.now }
+        ensures synced { IsTrue (D.honest self.old.disk) →
+            (path : List ℕ) → D.synced self.new.disk path ≡ D.synced self.old.disk path }
+        ensures asks { AsksOnce D.calls D.failures self.old.disk self.new.disk result }
+        ensures opened { open_names self.new.takes.items
+            ≡ opened_by result name.now (open_names self.old.takes.items) }
+    {
+        // Whatever needs memory comes first, so that a call that fails makes no file.
+        let path = self.path(name)?;
+        self.takes.reserve(1).map_err(|_| StoreFault)?;
+        let Some(file) = self.disk.create_new(path.as_str()).map_err(|_| StoreFault)? else {
+            return Ok(Created::Exists);
+        };
+        let name = name.copy();
+        self.takes
+            .push(OpenTake { name, file })
+            .map_err(|_| StoreFault)?;
+        Ok(Created::New)
+    }
+}
+
+impl<D: Volume> FolderStore<D> {
+    /// Opens the file of a take that an earlier server made, by one call of the disk, so that it
+    /// can be written from then on. That is no call of the store. It returns false if nothing is
+    /// there.
+    ///
+    /// # Errors
+    /// `StoreFault` if that call failed, or if memory was refused before it.
+    ///
+    /// # Not specified
+    /// When memory is refused: an error without a call of the disk has no other cause.
+    pub fn adopt(&mut self, name: &Name) -> Result<bool, StoreFault>
+        ensures call_counter { self.new.call_counter ≡ self.old.call_counter }
+        ensures folder { self.new.folder ≡ self.old.folder }
+        ensures disk { StaysWhole D.Disk self.old.disk self.new.disk }
+        ensures found { IsTrue (D.honest self.old.disk) → IfOk result (λ found. IsTrue found
+            ↔ IsSome (take_content (D.contents self.old.disk) (string_bytes self.old.folder) name.now)) }
+        ensures asks { AsksOnce D.calls D.failures self.old.disk self.new.disk result }
+        ensures opened { open_names self.new.takes.items
+            ≡ found_by result name.now (open_names self.old.takes.items) }
+    {
+        let found = self.path(name)?;
+        self.takes.reserve_exact(1).map_err(|_| StoreFault)?;
+        let Some(file) = self.disk.open(found.as_str()).map_err(|_| StoreFault)? else {
+            return Ok(false);
+        };
+        let name = name.copy();
+        self.takes
+            .push(OpenTake { name, file })
+            .map_err(|_| StoreFault)?;
+        Ok(true)
+    }
+}
+
+impl<D: Disk> TakeStore for FolderStore<D> {
+    ghost contents = { λ s name. take_content (D.contents s.disk) (string_bytes s.folder) name };
+
+    ghost failures = { λ s. s.call_counter.failures };
+
+    ghost calls = { λ s. s.call_counter.calls };
+
+    ghost honest = { λ s. D.honest s.disk };
+
+    /// Makes the file FOLDER/NAME.wav, by one call of the disk.
+    ///
+    /// # Errors
+    /// `StoreFault` if that call failed, or if memory was refused before it: no file was
+    /// made.
+    ///
+    /// # Not specified
+    /// When memory is refused: an error without a call of the disk has no other cause.
+    fn create(&mut self, name: &Name) -> Result<Created, StoreFault>
+        ensures failures { Counts self.old.call_counter.failures self.new.call_counter.failures (is_err result) }
+        ensures calls { Counts self.old.call_counter.calls self.new.call_counter.calls true }
+        ensures folder { self.new.folder ≡ self.old.folder }
+        ensures honest { D.honest self.new.disk ≡ D.honest self.old.disk }
+        ensures created { IsTrue (D.honest self.old.disk) → IfOk result (λ c. Creates c
+            (take_content (D.contents self.old.disk) (string_bytes self.old.folder) name.now)
+            (take_content (D.contents self.new.disk) (string_bytes self.new.folder) name.now)) }
+        ensures failed { IsTrue (D.honest self.old.disk) → OnErr result
+            (take_content (D.contents self.new.disk) (string_bytes self.new.folder) name.now
+            ≡ take_content (D.contents self.old.disk) (string_bytes self.old.folder) name.now) }
+        ensures others { IsTrue (D.honest self.old.disk) → KeepsOthers
+            (take_content (D.contents self.old.disk) (string_bytes self.old.folder))
+            (take_content (D.contents self.new.disk) (string_bytes self.new.folder)) name.now }
+        ensures synced { IsTrue (D.honest self.old.disk) →
+            (path : List ℕ) → D.synced self.new.disk path ≡ D.synced self.old.disk path }
+        ensures asks { AsksOnce D.calls D.failures self.old.disk self.new.disk result }
+        ensures opened { open_names self.new.takes.items
+            ≡ opened_by result name.now (open_names self.old.takes.items) }
+    {
+        let answer = self.make(name);
+        self.call_counter.count(answer.is_err());
+        answer
+    }
+
+    /// Writes to a file that this store made, by one call of the disk.
+    ///
+    /// # Errors
+    /// `StoreFault` if that call failed, and for a name that this store didn't make: the disk
+    /// isn't called then.
+    #[tactic(auto, using(crate::proofs::TakePaths::take_path_injective))]
+    fn write_at(&mut self, name: &Name, offset: u64, bytes: &[u8]) -> Result<(), StoreFault>
+        ensures failures { Counts self.old.call_counter.failures self.new.call_counter.failures (is_err result) }
+        ensures calls { Counts self.old.call_counter.calls self.new.call_counter.calls true }
+        ensures folder { self.new.folder ≡ self.old.folder }
+        ensures honest { D.honest self.new.disk ≡ D.honest self.old.disk }
+        ensures written { IsTrue (D.honest self.old.disk) → OnOk result (Written
+            (take_content (D.contents self.old.disk) (string_bytes self.old.folder) name.now)
+            offset bytes.now
+            (take_content (D.contents self.new.disk) (string_bytes self.new.folder) name.now)) }
+        ensures failed { IsTrue (D.honest self.old.disk) → OnErr result (MayTear
+            (take_content (D.contents self.old.disk) (string_bytes self.old.folder) name.now)
+            offset (length bytes.now)
+            (take_content (D.contents self.new.disk) (string_bytes self.new.folder) name.now)) }
+        ensures others { IsTrue (D.honest self.old.disk) → KeepsOthers
+            (take_content (D.contents self.old.disk) (string_bytes self.old.folder))
+            (take_content (D.contents self.new.disk) (string_bytes self.new.folder)) name.now }
+        ensures synced { IsTrue (D.honest self.old.disk) →
+            (path : List ℕ) → D.synced self.new.disk path ≡ D.synced self.old.disk path }
+        ensures own { Contains (open_names self.old.takes.items) name.now →
+            IsOneCall D.calls D.failures self.old.disk self.new.disk (is_err result) }
+        ensures foreign { (Contains (open_names self.old.takes.items) name.now → ⊥) →
+            IsErr result × (self.new.disk ≡ self.old.disk) }
+        ensures opened { open_names self.new.takes.items ≡ open_names self.old.takes.items }
+    {
+        let Some(place) = find(&self.takes, name) else {
+            self.call_counter.count(true);
+            return Err(StoreFault);
+        };
+        let take = &mut self.takes[place];
+        let answer = self
+            .disk
+            .write_at(&mut take.file, offset, bytes)
+            .map_err(|_| StoreFault);
+        self.call_counter.count(answer.is_err());
+        answer
+    }
+
+    /// Syncs a file that this store made, by one call of the disk.
+    ///
+    /// # Errors
+    /// `StoreFault` if that call failed, and for a name that this store didn't make: the disk
+    /// isn't called then.
+    #[tactic(auto, using(crate::proofs::TakePaths::take_path_injective))]
+    fn finish(&mut self, name: &Name) -> Result<(), StoreFault>
+        ensures failures { Counts self.old.call_counter.failures self.new.call_counter.failures (is_err result) }
+        ensures calls { Counts self.old.call_counter.calls self.new.call_counter.calls true }
+        ensures folder { self.new.folder ≡ self.old.folder }
+        ensures takes { self.new.takes ≡ self.old.takes }
+        ensures honest { D.honest self.new.disk ≡ D.honest self.old.disk }
+        ensures unchanged { IsTrue (D.honest self.old.disk) →
+            (path : List ℕ) → D.contents self.new.disk path ≡ D.contents self.old.disk path }
+        ensures synced { IsTrue (D.honest self.old.disk) → Syncs result
+            (take_content (D.contents self.old.disk) (string_bytes self.old.folder) name.now)
+            (take_content (D.synced self.old.disk) (string_bytes self.old.folder))
+            (take_content (D.synced self.new.disk) (string_bytes self.new.folder)) name.now }
+        ensures own { Contains (open_names self.old.takes.items) name.now →
+            IsOneCall D.calls D.failures self.old.disk self.new.disk (is_err result) }
+        ensures foreign { (Contains (open_names self.old.takes.items) name.now → ⊥) →
+            IsErr result × (self.new.disk ≡ self.old.disk) }
+    {
+        let Some(place) = find(&self.takes, name) else {
+            self.call_counter.count(true);
+            return Err(StoreFault);
+        };
+        let take = &self.takes[place];
+        let answer = self.disk.sync(&take.file).map_err(|_| StoreFault);
+        self.call_counter.count(answer.is_err());
+        answer
+    }
+}
+
+/// The place of a name among the open takes.
+fn find<F: Drop>(takes: &[OpenTake<F>], name: &Name) -> Option<usize>
+    ensures open { IsSome result ↔ Contains (open_names takes.now) name.now }
+    ensures place { IfSome result (λ place. (place < length takes.now)
+        × HoldsAt (λ take. take.name ≡ name.now) takes.now place) }
+{
+    takes.iter().position(|take| take.name == *name)
+}
