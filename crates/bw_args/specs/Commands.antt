@@ -3,7 +3,7 @@ use Rattle.std.specs.Prelude.{◌≡◌, Some, true, false, codes}
 use Rattle.clap.specs.Words.{app_of, rule_of}
 use Rattle.clap.specs.Walk.{Rule, Text}
 use Rattle.clap.specs.Simple.{App, new_app, new_rule, on_top, with_rule, with_subcommand}
-use Rattle.clap.specs.declared.builder.action.ArgAction.TheVariants.{SetTrue}
+use Rattle.clap.specs.declared.builder.action.ArgAction.TheVariants.{Append, SetTrue}
 use Rattle.clap.specs.declared.builder.arg.Arg.{Arg}
 use Rattle.clap.specs.declared.builder.Command.{Command}
 use Rattle.clap.specs.declared.builder.Command.TheViews.{out-Command}
@@ -27,6 +27,10 @@ required name = record (option name) { required = true }
 -- a flag, `--network`
 abbrev pub flag : Text → Rule
 flag name = record (new_rule name) { long = Some name; action = Some SetTrue }
+
+-- one that may be given more than once, `--set KEY=VALUE`
+abbrev pub repeated : Text → Rule
+repeated name = record (option name) { action = Some Append }
 
 -- `--limit N`
 abbrev pub limit_option : Rule
@@ -118,15 +122,45 @@ connect_option = required (codes "connect")
 abbrev pub rounds_option : Rule
 rounds_option = option (codes "rounds")
 
--- `send` with the options that say what is sent, and where
+-- `--file FILE`
+abbrev pub file_option : Rule
+file_option = option (codes "file")
+
+-- `--set KEY=VALUE`
+abbrev pub set_option : Rule
+set_option = repeated (codes "set")
+
+-- `--strict`
+abbrev pub strict_flag : Rule
+strict_flag = flag (codes "strict")
+
+-- `--fruitless N`
+abbrev pub fruitless_option : Rule
+fruitless_option = option (codes "fruitless")
+
+-- `send` with the options that say where to, and under which name
 abbrev pub send_where : App
 send_where = with_rule
     (with_rule (with_rule (new_app (codes "send")) connect_option) name_option)
     rounds_option
 
--- `send`, with its five options
+-- and how long, and whether over the network
+abbrev pub send_how : App
+send_how = with_rule (with_rule send_where timeout_option) network_flag
+
+-- and the recording that is sent
+abbrev pub send_source : App
+send_source = with_rule (with_rule (with_rule send_how file_option) set_option) strict_flag
+
+-- `send`, with its nine options
 abbrev pub send_command : App
-send_command = with_rule (with_rule send_where timeout_option) network_flag
+send_command = with_rule send_source fruitless_option
+
+-- `pack`, with the file and its two options
+abbrev pub pack_command : App
+pack_command = with_rule
+    (with_rule (with_rule (new_app (codes "pack")) file_argument) set_option)
+    strict_flag
 
 -- the program, which has a version and requires a command
 abbrev pub program : App
@@ -137,8 +171,10 @@ program = on_top (λ s. record s { has_version = true; subcommand_required = tru
 abbrev pub offline : App
 offline =
     with_subcommand
+    (with_subcommand
     (with_subcommand (with_subcommand program replay_command.top) rehearse_command.top)
-    inspect_command.top
+    inspect_command.top)
+    pack_command.top
 
 -- the whole
 abbrev pub command_line : App

@@ -31,6 +31,10 @@ pub enum BadValue {
     Connect,
     /// How many exchanges a sender makes.
     Rounds,
+    /// After how many links that settle nothing a sender gives up.
+    Fruitless,
+    /// An option for a recording without `--file`, or `--rounds` with it.
+    Mixed,
 }
 
 impl BadValue {
@@ -52,6 +56,8 @@ impl BadValue {
             BadValue::UntilStopped => BAD_UNTIL_STOPPED,
             BadValue::Connect => BAD_CONNECT,
             BadValue::Rounds => BAD_ROUNDS,
+            BadValue::Fruitless => BAD_FRUITLESS,
+            BadValue::Mixed => BAD_MIXED,
         }
     }
 }
@@ -154,6 +160,22 @@ For more information, try '--help'.
 
 const BAD_ROUNDS: &str = "\
 error: '--rounds <N>' takes a number from 1 to 1000, in at most ten digits
+
+Usage: bwingest <COMMAND>
+
+For more information, try '--help'.
+";
+
+const BAD_FRUITLESS: &str = "\
+error: '--fruitless <N>' takes a number from 1 to 1000000, in at most ten digits
+
+Usage: bwingest <COMMAND>
+
+For more information, try '--help'.
+";
+
+const BAD_MIXED: &str = "\
+error: '--set', '--strict' and '--fruitless' are for '--file <FILE>', and '--rounds <N>' for a sender without it
 
 Usage: bwingest <COMMAND>
 

@@ -45,7 +45,7 @@ impl System for Host<'_> {
     }
 
     fn open(&mut self, path: &str) -> io::Result<SeekSource<File>> {
-        let opened = open(self.rt, path);
+        let opened = open_source(self.rt, path);
         if opened.is_err() {
             self.failures = self.failures.saturating_add(1);
         }
@@ -61,7 +61,8 @@ fn words(rt: &HostRuntime) -> io::Result<Vec<String>> {
     Ok(words)
 }
 
-fn open(rt: &HostRuntime, path: &str) -> io::Result<SeekSource<File>> {
+/// The file at a path, read forward, or by seeks where its length is known.
+pub(crate) fn open_source(rt: &HostRuntime, path: &str) -> io::Result<SeekSource<File>> {
     let file = File::open(rt, path)?;
     let len = known_len(&file.metadata()?);
     Ok(SeekSource::new(file, len))

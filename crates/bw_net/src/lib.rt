@@ -3,17 +3,25 @@
 #![tactic(auto)]
 
 mod folder;
+mod followed;
 mod host;
 mod network;
+mod pause;
 mod reactor;
+mod recordings;
 mod socket;
+mod state;
 mod tcp;
 mod terminal;
 
 pub use folder::{check_folder, has_folder};
+pub use followed::FollowedFile;
 pub use host::Host;
 pub use network::TcpNetwork;
+pub use pause::ClockPause;
 pub use reactor::TcpReactor;
+pub use recordings::HostRecordings;
 pub use socket::Socket;
+pub use state::HostState;
 pub use tcp::{TcpDial, TcpPeers};
 pub use terminal::Terminal;

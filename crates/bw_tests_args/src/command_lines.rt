@@ -1,6 +1,6 @@
 //! What no clause says of command lines: that they are accepted or refused, by examples, and what
 //! texts they print.
-use crate::outcomes::{Line, Outcome, comes_to, lines_come_to, parse_words, value_comes_to};
+use crate::outcomes::{Line, Outcome, Said, comes_to, lines_come_to, parse_words, value_comes_to};
 use bw_args::numbers::number;
 use bw_args::{CommandLine, End, Recorders};
 use std::alloc::{AllocError, Global};
@@ -337,6 +337,45 @@ static SENDERS: [Line; 10] = [
     (&["--log"], Outcome::Refuses),
 ];
 
+const PLAINLY: Said = Said::Nothing { is_strict: false };
+
+static FILE_SENDERS: [Line; 19] = [
+    (&["--file=-f"], Outcome::SendsFile(30, 10, PLAINLY)),
+    (
+        &["--strict", "--file=-f"],
+        Outcome::SendsFile(30, 10, Said::Nothing { is_strict: true }),
+    ),
+    (
+        &["--file=-f", "--set", "umid="],
+        Outcome::SendsFile(30, 10, Said::Umid { is_strict: false }),
+    ),
+    (
+        &["--set", "value=-23.00", "--file=-f", "--strict", "--set=umid="],
+        Outcome::SendsFile(30, 10, Said::ValueThenUmid { is_strict: true }),
+    ),
+    (
+        &["--timeout", "86400", "--fruitless=1", "--file=-f"],
+        Outcome::SendsFile(86_400, 1, PLAINLY),
+    ),
+    (
+        &["--file=-f", "--fruitless", "1000000", "--network", "--timeout=1"],
+        Outcome::SendsFile(1, 1_000_000, PLAINLY),
+    ),
+    (&["--file=-f", "--fruitless", "0"], Outcome::Refuses),
+    (&["--file=-f", "--fruitless", "1000001"], Outcome::Refuses),
+    (&["--file=-f", "--fruitless", "-1"], Outcome::Refuses),
+    (&["--file=-f", "--timeout", "0"], Outcome::Refuses),
+    (&["--file=-f", "--rounds", "16"], Outcome::Refuses),
+    (&["--file=-f", "--rounds", "0"], Outcome::Refuses),
+    (&["--file=-f", "--file=-f"], Outcome::Refuses),
+    (&["--file=-f", "--strict", "--strict"], Outcome::Refuses),
+    (&["--file=-f", "-f"], Outcome::Refuses),
+    (&["--file"], Outcome::Refuses),
+    (&["--set", "umid="], Outcome::Refuses),
+    (&["--strict"], Outcome::Refuses),
+    (&["--fruitless", "10"], Outcome::Refuses),
+];
+
 /// The words that the lines of a sender begin with.
 static SEND: [&str; 5] = [
     "bwingest",
@@ -349,6 +388,36 @@ static SEND: [&str; 5] = [
 #[test]
 fn a_sender_takes_its_options_in_any_order(rt: HostRuntime) -> Result<(), AllocError> {
     lines_come_to(&rt, rt.alloc(), &SEND, &SENDERS)
+}
+
+#[test]
+fn a_sender_of_a_recording_takes_its_options_in_any_order(
+    rt: HostRuntime,
+) -> Result<(), AllocError> {
+    lines_come_to(&rt, rt.alloc(), &SEND, &FILE_SENDERS)
+}
+
+static PACKS: [Line; 9] = [
+    (&["--", "-f"], Outcome::Packs(PLAINLY)),
+    (
+        &["--set", "value=-23.00", "--set=umid=", "--", "-f"],
+        Outcome::Packs(Said::ValueThenUmid { is_strict: false }),
+    ),
+    (
+        &["--set=umid=", "--strict", "--", "-f"],
+        Outcome::Packs(Said::Umid { is_strict: true }),
+    ),
+    (&[], Outcome::Refuses),
+    (&["-f"], Outcome::Refuses),
+    (&["--", "-f", "-f"], Outcome::Refuses),
+    (&["--name", "a1", "--", "-f"], Outcome::Refuses),
+    (&["--fruitless", "1", "--", "-f"], Outcome::Refuses),
+    (&["--strict=true", "--", "-f"], Outcome::Refuses),
+];
+
+#[test]
+fn a_pack_takes_a_file_and_its_settings(rt: HostRuntime) -> Result<(), AllocError> {
+    lines_come_to(&rt, rt.alloc(), &["bwingest", "pack"], &PACKS)
 }
 
 /// Addresses, with the outcome without `--network` and with it.
@@ -417,7 +486,7 @@ fn an_address_is_local_without_leave_for_the_network(rt: HostRuntime) -> Result<
     Ok(())
 }
 
-static TEXTS: [(&[&str], &str); 10] = [
+static TEXTS: [(&[&str], &str); 13] = [
     (&["/tmp/x", "--version"], "bwingest 1.0.0\n"),
     (&["/tmp/x", "--help"], "Usage: bwingest <COMMAND>\n"),
     (&["/tmp/x"], "Usage: bwingest <COMMAND>\n"),
@@ -440,8 +509,17 @@ static TEXTS: [(&[&str], &str); 10] = [
     ),
     (
         &["/tmp/x", "send", "--help"],
-        "How long a silent peer is waited for, 1 to 86400 [default: for good]",
+        "How long a silent server is waited for, 1 to 86400 [default: for good; with --file 30]",
     ),
+    (
+        &["/tmp/x", "send", "--help"],
+        "Example: bwingest send --connect 127.0.0.1:4100 --name a1 --file take.wav\n",
+    ),
+    (
+        &["/tmp/x", "pack", "--help"],
+        "Example: bwingest pack take.wav --set description='River at dawn' > take.hex\n",
+    ),
+    (&["/tmp/x", "pack"], "Usage: bwingest pack "),
     (
         &["/tmp/x", "send", "--help"],
         "Example: bwingest send --connect 127.0.0.1:4100 --name a1 < requests.hex\n",

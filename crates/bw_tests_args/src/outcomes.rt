@@ -1,5 +1,5 @@
 //! The outcomes of command lines, in small values, and how tests compare them.
-use bw_args::{CommandLine, End, Recorders, Send, Serve, Task, parse};
+use bw_args::{CommandLine, End, FileSender, Recorders, Send, Serve, SourceFile, Task, parse};
 use bw_request::Name;
 use clap::Error;
 use std::alloc::{AllocError, Global};
@@ -28,12 +28,28 @@ pub(crate) enum Outcome {
     Sends(u32, Option<u32>),
     /// Sends to another address.
     SendsElsewhere,
+    /// Sends the recording `-f` to the address and under the name that the rows' first words give,
+    /// with this timeout, until so many links settle nothing.
+    SendsFile(u32, u32, Said),
+    /// Packs the recording `-f`.
+    Packs(Said),
     /// Text on standard output, status 0.
     Shows,
     /// Text on standard error, status 2.
     Refuses,
     /// A stream and a status that don't belong together.
     Confuses,
+}
+
+/// What is said about a recording's file.
+#[derive(Clone, Copy, Debug, PartialEq, Eq)]
+pub(crate) enum Said {
+    /// No setting.
+    Nothing { is_strict: bool },
+    /// `umid=`.
+    Umid { is_strict: bool },
+    /// `value=-23.00`, then `umid=`.
+    ValueThenUmid { is_strict: bool },
 }
 
 /// What these words, of which the first is the program's own name, are read as.
@@ -66,6 +82,11 @@ fn run_outcome(task: &Task, words: &[&str]) -> Outcome {
         Task::Inspect { .. } => Outcome::Confuses,
         Task::Serve(server) => server_outcome(server),
         Task::Send(sender) => sender_outcome(sender),
+        Task::SendFile(sender) => file_sender_outcome(sender),
+        Task::Pack(source) => match said_of(source) {
+            Some(said) => Outcome::Packs(said),
+            None => Outcome::Confuses,
+        },
     }
 }
 
@@ -84,6 +105,33 @@ fn sender_outcome(sender: &Send) -> Outcome {
         Outcome::Sends(sender.rounds, sender.timeout)
     } else {
         Outcome::SendsElsewhere
+    }
+}
+
+fn file_sender_outcome(sender: &FileSender) -> Outcome {
+    if sender.connect.port() != 4100 || sender.name.as_bytes() != b"-a".as_slice() {
+        return Outcome::SendsElsewhere;
+    }
+    match said_of(&sender.source) {
+        Some(said) => Outcome::SendsFile(sender.timeout, sender.fruitless, said),
+        None => Outcome::Confuses,
+    }
+}
+
+/// What is said about the file `-f`: which of the settings of the tests are given, in this order,
+/// and whether it is to be strict. None for another file or other settings.
+fn said_of(source: &SourceFile) -> Option<Said> {
+    if source.path.as_str() != "-f" {
+        return None;
+    }
+    let is_strict = source.strict;
+    match source.settings.as_slice() {
+        [] => Some(Said::Nothing { is_strict }),
+        [one] if one.as_str() == "umid=" => Some(Said::Umid { is_strict }),
+        [one, two] if one.as_str() == "value=-23.00" && two.as_str() == "umid=" => {
+            Some(Said::ValueThenUmid { is_strict })
+        }
+        _ => None,
     }
 }
 

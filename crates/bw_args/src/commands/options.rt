@@ -3,7 +3,8 @@ ghost use Rattle.bw_args.specs.Commands.{IsOption, connect_option, exchanges_opt
 ghost use Rattle.bw_args.specs.Commands.{flag, folder_option, fuse_option, idle_option};
 ghost use Rattle.bw_args.specs.Commands.{limit_option, listen_option, log_flag, name_option};
 ghost use Rattle.bw_args.specs.Commands.{network_flag, option, recorders_option, required};
-ghost use Rattle.bw_args.specs.Commands.{rounds_option, timeout_option, until_stopped_flag};
+ghost use Rattle.bw_args.specs.Commands.{file_option, fruitless_option, repeated, set_option};
+ghost use Rattle.bw_args.specs.Commands.{rounds_option, strict_flag, timeout_option, until_stopped_flag};
 
 use clap::{Arg, ArgAction};
 use std::alloc::Global;
@@ -23,6 +24,13 @@ fn required_option<'a>(alloc: Global, name: &'a str, value: &'a str, help: &'a s
     ensures { IsOption (required name.now) result }
 {
     value_option(alloc, name, value, help).required(true)
+}
+
+/// An option with a value that may be given more than once.
+fn repeated_option<'a>(alloc: Global, name: &'a str, value: &'a str, help: &'a str) -> Arg<'a>
+    ensures { IsOption (repeated name.now) result }
+{
+    value_option(alloc, name, value, help).action(ArgAction::Append)
 }
 
 /// An option without a value.
@@ -72,6 +80,15 @@ pub(crate) fn timeout_option<'a>(alloc: Global) -> Arg<'a>
     ensures { IsOption timeout_option result }
 {
     let help = "How long a silent peer is waited for, 1 to 86400 [default: for good]";
+    value_option(alloc, "timeout", "SECONDS", help)
+}
+
+/// The same option of a sender, which has a default with `--file`.
+pub(crate) fn patience_option<'a>(alloc: Global) -> Arg<'a>
+    ensures { IsOption timeout_option result }
+{
+    let help =
+        "How long a silent server is waited for, 1 to 86400 [default: for good; with --file 30]";
     value_option(alloc, "timeout", "SECONDS", help)
 }
 
@@ -145,4 +162,33 @@ pub(crate) fn rounds_option<'a>(alloc: Global) -> Arg<'a>
 {
     let help = "How many exchanges of at most 16 requests are made, 1 to 1000 [default: 16]";
     value_option(alloc, "rounds", "N", help)
+}
+
+pub(crate) fn file_option<'a>(alloc: Global) -> Arg<'a>
+    ensures { IsOption file_option result }
+{
+    let help = "A recording to send in place of standard input: a RIFF WAVE, BW64 or RF64 file";
+    value_option(alloc, "file", "FILE", help)
+}
+
+pub(crate) fn set_option<'a>(alloc: Global) -> Arg<'a>
+    ensures { IsOption set_option result }
+{
+    let help = "Sets a field of the recording in place of the file's; may be given more than once";
+    repeated_option(alloc, "set", "KEY=VALUE", help)
+}
+
+pub(crate) fn strict_flag<'a>(alloc: Global) -> Arg<'a>
+    ensures { IsOption strict_flag result }
+{
+    let help = "Refuses a recording whose fields would have to be cleaned";
+    flag_option(alloc, "strict", help)
+}
+
+pub(crate) fn fruitless_option<'a>(alloc: Global) -> Arg<'a>
+    ensures { IsOption fruitless_option result }
+{
+    let help =
+        "With --file: gives up after N links in a row that settle nothing, 1 to 1000000 [default: 10]";
+    value_option(alloc, "fruitless", "N", help)
 }

@@ -1,0 +1,30 @@
+//! Recordings as a command line asks for them.
+use bw_request::Name;
+use std::net::SocketAddr;
+
+/// The file of a recording, and what a command line says about it.
+#[derive(Debug, PartialEq, Eq, Drop)]
+pub struct SourceFile {
+    /// Its path, as it was given.
+    pub path: String,
+    /// What is set in place of what the file has, each as it was given, in this order. Whether they
+    /// are settings isn't looked at here.
+    pub settings: Vec<String>,
+    /// Whether a recording that would be cleaned is refused.
+    pub strict: bool,
+}
+
+/// The sender of a recording that a command line asks for.
+#[derive(Debug, PartialEq, Eq, Drop)]
+pub struct FileSender {
+    /// Where the server listens, as for the server itself.
+    pub connect: SocketAddr,
+    /// The take's name.
+    pub name: Name,
+    /// The recording.
+    pub source: SourceFile,
+    /// How many seconds it waits for the server, 1 to 86,400.
+    pub timeout: u32,
+    /// After how many links in a row that settle nothing it gives up, 1 to 1,000,000.
+    pub fruitless: u32,
+}
