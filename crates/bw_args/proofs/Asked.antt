@@ -1,6 +1,6 @@
 -- What the getters of `clap` say of the task.
 use Rattle.std.proofs.Common.{◌≡◌, ℕ, ◌<◌, ◌≤◌, Bool, true, false, List, [], ◌∷◌, ◌++◌, Option, Some, None, Result, Ok, Err}
-use Rattle.std.proofs.Common.{OnErr, codes, refl, subst, sym, ◌∙◌, arith, inl, inr, unwrap_or}
+use Rattle.std.proofs.Common.{OnErr, ap, codes, refl, subst, sym, ◌∙◌, arith, inl, inr, unwrap_or}
 use Rattle.std.proofs.Math.Path.{fun_ext}
 use Rattle.std.specs.Prelude.{⊤}
 use Rattle.std.specs.declared.net.socket_addr.SocketAddr.{SocketAddr}
@@ -8,22 +8,27 @@ use Rattle.std.specs.Net.Socket.{socket_port}
 use Rattle.clap.specs.Words.{Row, Text, first_of, first_value, rows_of}
 use Rattle.clap.specs.declared.parser.matches.Found.{Found}
 use Rattle.clap.proofs.WalkLemmas.{first_value-rows}
-use Rattle.bw_args.specs.Lines.{AsksNothing, GivesAddress, GivesCount, GivesEnd, GivesFuse, GivesLimit, GivesName}
-use Rattle.bw_args.specs.Lines.{GivesNoFuse, IsAddressGiven, IsEndGiven, is_set}
-use Rattle.bw_args.specs.Lines.{GivesRecorders, GivesSender, GivesServer, HasNumbersInRange, IsEnd, IsEndWithin, IsFirstBad}
-use Rattle.bw_args.specs.Lines.{IsGood, IsLimitGiven, IsRecorders, IsRecordersGiven, IsWayWithin, looked_at_waiting}
-use Rattle.bw_args.specs.Lines.{IsNameGiven, IsLineFor, IsWishOf, IsWithin, Service, Wish, given_on_line, looked_at}
-use Rattle.bw_args.specs.Lines.{Replaying, Rehearsing, Inspecting, Sending, Serving}
-use Rattle.bw_args.specs.Numbers.{IsLimitValue, default_rounds, most_exchanges, most_recorders, most_rounds, most_seconds}
+use Rattle.bw_args.specs.Given.{GivesAddress, GivesCount, GivesEnd, GivesFuse, GivesLimit, GivesName}
+use Rattle.bw_args.specs.Given.{GivesNoFuse, GivesRecorders, IsAddressGiven, IsEnd, IsEndGiven, IsLimitGiven, IsNameGiven}
+use Rattle.bw_args.specs.Given.{IsJournaling, IsJournalingGiven, IsRecorders, IsRecordersGiven, given_on_line, is_set}
+use Rattle.bw_args.specs.Sources.{GivesSource, PlainSource, settings_on_line}
+use Rattle.bw_args.specs.Lines.{AsksNothing, GivesSender, GivesServer, HasNumbersInRange}
+use Rattle.bw_args.specs.Lines.{IsEndWithin, IsFirstBad, IsGood, IsLineFor, IsWayWithin, IsWishOf, IsWithin, Service}
+use Rattle.bw_args.specs.Lines.{Wish, looked_at, looked_at_waiting}
+use Rattle.bw_args.specs.Lines.{Replaying, Rehearsing, Inspecting, Packing, Sending, Serving}
+use Rattle.bw_args.specs.Numbers.{IsLimitValue, default_rounds, most_exchanges, most_recorders, most_rounds}
+use Rattle.bw_args.specs.Numbers.{most_seconds}
 use Rattle.bw_args.specs.declared.CommandLine.{CommandLine}
 use Rattle.bw_args.specs.declared.CommandLine.TheVariants.{Run, BadValue as Bad, Report}
 use Rattle.bw_args.specs.declared.Task.TheVariants.{Replay, Rehearse, Inspect, Serve, Send}
-use Rattle.bw_args.proofs.WishLemmas.{one_count, same_way}
+use Rattle.bw_args.specs.declared.Task.TheVariants.{Pack}
+use Rattle.bw_args.proofs.WishLemmas.{one_count, other_name, same_way}
 use Rattle.bw_args.specs.declared.peers.End.{End}
+use Rattle.bw_args.specs.declared.peers.Journaling.{Journaling}
 use Rattle.bw_args.specs.declared.peers.Recorders.{Recorders as Way}
 use Rattle.bw_args.specs.declared.peers.Send.{Send as Sender}
 use Rattle.bw_args.specs.declared.bad_value.BadValue.{BadValue}
-use Rattle.bw_args.specs.declared.bad_value.BadValue.TheVariants.{Name, Limit, Fuse, UntilStopped, Wait}
+use Rattle.bw_args.specs.declared.bad_value.BadValue.TheVariants.{Name, Limit, Fuse, UntilStopped, Sync, Wait}
 
 -- what the getters give of the options, by their rows
 by_rows : (found : Found) (P : (Text → Option Text) → Type 0) → P (first_value found) → P (given_on_line (rows_of found))
@@ -61,7 +66,7 @@ wished_good name options wish asked = go wish asked
                 (a.1.serves.most, a.1.serves.serves),
                 (
                   (a.1.serves.idle, a.1.serves.idles),
-                  ((server.recorders, a.1.serves), ((server.end, a.1.ends), tt)),
+                  ((server.recorders, a.1.serves), ((server.end, a.1.ends), ((server.journal, a.1.journals), tt))),
                 ),
               ),
             ),
@@ -73,6 +78,7 @@ wished_good name options wish asked = go wish asked
       (sender.connect, a.1.connects),
       ((sender.name, a.1.named), ((a.1.tries.0, a.1.tries.1), ((sender.timeout, a.1.waits), tt))),
     )
+    go (Packing source) a = at (codes "pack") a.0 tt
 
 -- if all are good none is the first that is bad
 pub good_not_bad : (values : List BadValue) (given : Text → Option Text) (value : BadValue) → AllGood values given
@@ -161,12 +167,49 @@ pub no_file_line : (found : Found) → None ≡ first_value found (codes "file")
 no_file_line found given = (nothing, inr (refl, refl))
   where
     nothing : AsksNothing (Some (codes "inspect", rows_of found))
-    nothing (Replaying n k) asked = let bad : codes "inspect" ≡ codes "replay" = asked.0 in cc
-    nothing (Rehearsing name n) asked = let bad : codes "inspect" ≡ codes "rehearse" = asked.0 in cc
-    nothing (Serving server) asked = let bad : codes "inspect" ≡ codes "serve" = asked.0 in cc
-    nothing (Sending sender) asked = let bad : codes "inspect" ≡ codes "send" = asked.0 in cc
+    nothing (Replaying n k) asked = other_name (codes "inspect") (codes "replay") refl _ refl asked.0
+    nothing (Rehearsing name n) asked = other_name (codes "inspect") (codes "rehearse") refl _ refl asked.0
+    nothing (Serving server) asked = other_name (codes "inspect") (codes "serve") refl _ refl asked.0
+    nothing (Sending sender) asked = other_name (codes "inspect") (codes "send") refl _ refl asked.0
+    nothing (Packing source) asked = other_name (codes "inspect") (codes "pack") refl _ refl asked.0
     nothing (Inspecting path) asked =
         let bad : None ≡ Some path = given ∙ first_value-rows found (codes "file") ∙ asked.1 in cc
+
+-- the file to pack that is given is the one that is asked for
+pub source_asked : (found : Found) (path : Text) (source : PlainSource) → Some path ≡ first_value found (codes "file")
+    → source.path ≡ path → source.settings ≡ settings_on_line (rows_of found)
+    → source.strict ≡ is_set (first_value found (codes "strict")) → GivesSource (rows_of found) source
+source_asked found path source given at sets strict = record {
+  from = sym (ap Some at ∙ given ∙ first_value-rows found (codes "file"));
+  sets = sets;
+  refuses = by_rows found (λ g. source.strict ≡ is_set (g (codes "strict"))) strict;
+}
+
+-- the file of this path, with what else is given
+abbrev pub found_source : Found → Text → PlainSource
+found_source found path = record {
+  path = path;
+  settings = settings_on_line (rows_of found);
+  strict = is_set (first_value found (codes "strict"));
+}
+
+-- no file's path is given, and one
+no_path : {P : Type 0} (path : Text) → None ≡ Some path → P
+no_path path none = let bad : None ≡ Some path = none in cc
+
+-- without one, nothing is asked for, and no value is looked at
+pub no_packed_line : (found : Found) → None ≡ first_value found (codes "file")
+    → IsLineFor (Some (codes "pack", rows_of found)) (Bad Limit)
+no_packed_line found given = (nothing, inr (refl, refl))
+  where
+    nothing : AsksNothing (Some (codes "pack", rows_of found))
+    nothing (Replaying n k) asked = other_name (codes "pack") (codes "replay") refl _ refl asked.0
+    nothing (Rehearsing name n) asked = other_name (codes "pack") (codes "rehearse") refl _ refl asked.0
+    nothing (Inspecting path) asked = other_name (codes "pack") (codes "inspect") refl _ refl asked.0
+    nothing (Serving server) asked = other_name (codes "pack") (codes "serve") refl _ refl asked.0
+    nothing (Sending sender) asked = other_name (codes "pack") (codes "send") refl _ refl asked.0
+    nothing (Packing source) asked =
+        no_path source.path (given ∙ first_value-rows found (codes "file") ∙ asked.1.from)
 
 -- the server that is given is the one that is asked for
 pub server_asked : (found : Found) (server : Service) → GivesServer (first_value found) server
@@ -207,6 +250,22 @@ no_end found until_stopped count is given none good =
     one_count most_exchanges (first_value found (codes "exchanges")) good.1.0 count good.1.1 given in
     none good.0 (subst (λ u. IsEnd count u good.0) (sym is)
     (subst (λ c. IsEnd c (is_set (first_value found (codes "until-stopped"))) good.0) same good.1.2))
+
+-- whether journals are kept, where the flags were read before
+pub a_journaling : (found : Found) (is_kept is_synced : Bool) (journal : Journaling)
+    → is_kept ≡ is_set (first_value found (codes "journal")) → is_synced ≡ is_set (first_value found (codes "sync"))
+    → IsJournaling is_kept is_synced journal → IsJournaling (is_set (first_value found (codes "journal")))
+    (is_set (first_value found (codes "sync"))) journal
+a_journaling found is_kept is_synced journal kept synced is =
+    subst (λ s. IsJournaling (is_set (first_value found (codes "journal"))) s journal) synced
+    (subst (λ k. IsJournaling k is_synced journal) kept is)
+
+pub no_journaling : (found : Found) (is_kept is_synced : Bool)
+    → is_kept ≡ is_set (first_value found (codes "journal")) → is_synced ≡ is_set (first_value found (codes "sync"))
+    → IsJournalingGiven is_kept is_synced None → ¬ IsGood Sync (first_value found)
+no_journaling found is_kept is_synced kept synced none good =
+    none good.0 (subst (λ s. IsJournaling is_kept s good.0) (sym synced)
+    (subst (λ k. IsJournaling k (is_set (first_value found (codes "sync"))) good.0) (sym kept) good.1))
 
 -- the ways that were looked at are the only ones
 pub no_way : (found : Found) (timeout most idle : Option ℕ)
@@ -260,10 +319,10 @@ given_way None (Some most) None way t m i is = subst IsWayWithin (sym is) (m, (o
 given_way None (Some most) (Some idle) way t m i is = subst IsWayWithin (sym is) (m, i)
 given_way (Some timeout) (Some most) idle way t m i is = absurd is
 
-given_rounds : (count : Option ℕ) (rounds : ℕ) → IsWithin most_rounds count → rounds ≡ unwrap_or count default_rounds
-    → (1 ≤ rounds) × (rounds ≤ most_rounds)
-given_rounds None rounds within is = rw is (omega arith, omega arith)
-given_rounds (Some count) rounds within is = rw is within
+given_number : (default most : ℕ) (count : Option ℕ) (n : ℕ) → 1 ≤ default → default ≤ most → IsWithin most count
+    → n ≡ unwrap_or count default → (1 ≤ n) × (n ≤ most)
+given_number default most None n least fits within is = rw is (least, fits)
+given_number default most (Some count) n least fits within is = rw is within
 
 -- the numbers of a task that is asked for are in their ranges
 pub line_limit : (command : Option (Text × List Row)) (line : CommandLine) → IsLineFor command line → HasNumbersInRange line
@@ -281,9 +340,11 @@ line_limit (Some command) (Run (Serve server)) asked = (
 )
 line_limit (Some command) (Run (Send sender)) asked = (
   given_port _ _ sender.connect asked.1.connects,
-  given_rounds _ sender.rounds (given_count _ _ _ asked.1.tries.1) asked.1.tries.2,
+  given_number default_rounds most_rounds asked.1.tries.0 sender.rounds (omega arith) (omega arith)
+      (given_count _ _ _ asked.1.tries.1) asked.1.tries.2,
   given_count _ _ sender.timeout asked.1.waits,
 )
+line_limit (Some command) (Run (Pack source)) asked = tt
 line_limit None (Run task) asked = absurd asked
 line_limit command (Bad value) asked = tt
 line_limit command (Report error) asked = tt

@@ -9,3 +9,4 @@ pub mod RehearsalLemmas
 pub mod ServerLemmas
 pub mod SenderLemmas
 pub mod PeerValueLemmas
+pub mod FileLemmas

@@ -3,7 +3,7 @@ use Rattle.std.specs.Prelude.{◌≡◌, Some, true, false, codes}
 use Rattle.clap.specs.Words.{app_of, rule_of}
 use Rattle.clap.specs.Walk.{Rule, Text}
 use Rattle.clap.specs.Simple.{App, new_app, new_rule, on_top, with_rule, with_subcommand}
-use Rattle.clap.specs.declared.builder.action.ArgAction.TheVariants.{SetTrue}
+use Rattle.clap.specs.declared.builder.action.ArgAction.TheVariants.{Append, SetTrue}
 use Rattle.clap.specs.declared.builder.arg.Arg.{Arg}
 use Rattle.clap.specs.declared.builder.Command.{Command}
 use Rattle.clap.specs.declared.builder.Command.TheViews.{out-Command}
@@ -27,6 +27,10 @@ required name = record (option name) { required = true }
 -- a flag, `--network`
 abbrev pub flag : Text → Rule
 flag name = record (new_rule name) { long = Some name; action = Some SetTrue }
+
+-- one that may be given more than once, `--set KEY=VALUE`
+abbrev pub repeated : Text → Rule
+repeated name = record (option name) { action = Some Append }
 
 -- `--limit N`
 abbrev pub limit_option : Rule
@@ -92,6 +96,14 @@ until_stopped_flag = flag (codes "until-stopped")
 abbrev pub log_flag : Rule
 log_flag = flag (codes "log")
 
+-- `--journal`
+abbrev pub journal_flag : Rule
+journal_flag = flag (codes "journal")
+
+-- `--sync`
+abbrev pub sync_flag : Rule
+sync_flag = flag (codes "sync")
+
 -- `serve` with the options that say what is served and where
 abbrev pub serve_where : App
 serve_where =
@@ -106,9 +118,13 @@ serve_how = with_rule (with_rule (with_rule serve_where limit_option) timeout_op
 abbrev pub serve_many : App
 serve_many = with_rule (with_rule serve_how recorders_option) idle_option
 
--- `serve`, with its ten options
+-- and when it ends, and what it reports
+abbrev pub serve_ends : App
+serve_ends = with_rule (with_rule serve_many until_stopped_flag) log_flag
+
+-- `serve`, with its twelve options
 abbrev pub serve_command : App
-serve_command = with_rule (with_rule serve_many until_stopped_flag) log_flag
+serve_command = with_rule (with_rule serve_ends journal_flag) sync_flag
 
 -- `--connect ADDR`
 abbrev pub connect_option : Rule
@@ -117,6 +133,14 @@ connect_option = required (codes "connect")
 -- `--rounds N`
 abbrev pub rounds_option : Rule
 rounds_option = option (codes "rounds")
+
+-- `--set KEY=VALUE`
+abbrev pub set_option : Rule
+set_option = repeated (codes "set")
+
+-- `--strict`
+abbrev pub strict_flag : Rule
+strict_flag = flag (codes "strict")
 
 -- `send` with the options that say what is sent, and where
 abbrev pub send_where : App
@@ -128,6 +152,12 @@ send_where = with_rule
 abbrev pub send_command : App
 send_command = with_rule (with_rule send_where timeout_option) network_flag
 
+-- `pack`, with the file and its two options
+abbrev pub pack_command : App
+pack_command = with_rule
+    (with_rule (with_rule (new_app (codes "pack")) file_argument) set_option)
+    strict_flag
+
 -- the program, which has a version and requires a command
 abbrev pub program : App
 program = on_top (λ s. record s { has_version = true; subcommand_required = true })
@@ -137,8 +167,10 @@ program = on_top (λ s. record s { has_version = true; subcommand_required = tru
 abbrev pub offline : App
 offline =
     with_subcommand
+    (with_subcommand
     (with_subcommand (with_subcommand program replay_command.top) rehearse_command.top)
-    inspect_command.top
+    inspect_command.top)
+    pack_command.top
 
 -- the whole
 abbrev pub command_line : App

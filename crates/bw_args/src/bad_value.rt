@@ -27,6 +27,8 @@ pub enum BadValue {
     Wait,
     /// `--until-stopped` together with a number of exchanges.
     UntilStopped,
+    /// `--sync` without `--journal`.
+    Sync,
     /// The address of the server that requests are sent to.
     Connect,
     /// How many exchanges a sender makes.
@@ -50,6 +52,7 @@ impl BadValue {
             BadValue::Idle => BAD_IDLE,
             BadValue::Wait => BAD_WAIT,
             BadValue::UntilStopped => BAD_UNTIL_STOPPED,
+            BadValue::Sync => BAD_SYNC,
             BadValue::Connect => BAD_CONNECT,
             BadValue::Rounds => BAD_ROUNDS,
         }
@@ -138,6 +141,14 @@ For more information, try '--help'.
 
 const BAD_UNTIL_STOPPED: &str = "\
 error: '--until-stopped' can't be given beside '--exchanges <N>'
+
+Usage: bwingest <COMMAND>
+
+For more information, try '--help'.
+";
+
+const BAD_SYNC: &str = "\
+error: '--sync' is for '--journal'
 
 Usage: bwingest <COMMAND>
 

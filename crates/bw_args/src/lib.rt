@@ -7,6 +7,7 @@ ghost use Rattle.bw_args.specs.Lines.{HasNumbersInRange, IsLineOf};
 ghost use Rattle.bw_args.specs.Forms.{RefusesValues, RunsInspect, RunsRehearsal, RunsReplay};
 ghost use Rattle.bw_args.specs.Forms.{ReportsHelp};
 ghost use Rattle.bw_args.specs.PeerForms.{RefusesPeers, RunsSender, RunsServer, WantsPeers};
+ghost use Rattle.bw_args.specs.FileForms.{RunsPack};
 
 mod addresses;
 mod bad_value;
@@ -14,12 +15,14 @@ mod commands;
 pub mod numbers;
 mod peers;
 mod read_words;
+mod recordings;
 
 pub use bad_value::BadValue;
 use bw_request::Name;
 use clap::Error;
 use clap::error::ErrorKind;
-pub use peers::{End, Recorders, Send, Serve};
+pub use peers::{End, Journaling, Recorders, Send, Serve};
+pub use recordings::SourceFile;
 use std::alloc::{AllocError, Global};
 
 /// What a command line asks the program to do.
@@ -38,6 +41,8 @@ pub enum Task {
     Serve(Serve),
     /// Send the requests on standard input to a server.
     Send(Send),
+    /// Print the requests of a recording.
+    Pack(SourceFile),
 }
 
 /// What a command line results in.
@@ -78,6 +83,7 @@ pub fn parse(alloc: Global, words: &[String]) -> Result<CommandLine, AllocError>
     ensures send { IfOk result (RunsSender (map string_bytes words.now)) }
     ensures peers { IfOk result (RefusesPeers (map string_bytes words.now)) }
     ensures wanted { IfOk result (WantsPeers (map string_bytes words.now)) }
+    ensures pack { IfOk result (RunsPack (map string_bytes words.now)) }
     ensures help { IfOk result (ReportsHelp (map string_bytes words.now)) }
 {
     let read = read_words::read_words(alloc, words)?;

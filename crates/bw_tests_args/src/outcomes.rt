@@ -1,5 +1,5 @@
 //! The outcomes of command lines, in small values, and how tests compare them.
-use bw_args::{CommandLine, End, Recorders, Send, Serve, Task, parse};
+use bw_args::{CommandLine, End, Journaling, Recorders, Send, Serve, SourceFile, Task, parse};
 use bw_request::Name;
 use clap::Error;
 use std::alloc::{AllocError, Global};
@@ -21,6 +21,8 @@ pub(crate) enum Outcome {
     Serves(End, u64, Recorders),
     /// The same, and logs each connection.
     Logs(End, u64, Recorders),
+    /// Serves there, and keeps these journals.
+    Keeps(Journaling),
     /// Serves at another address or in another folder.
     ServesElsewhere,
     /// Sends to the address and under the name that the rows' first words give, in at most this
@@ -28,12 +30,25 @@ pub(crate) enum Outcome {
     Sends(u32, Option<u32>),
     /// Sends to another address.
     SendsElsewhere,
+    /// Packs the recording `-f`.
+    Packs(Said),
     /// Text on standard output, status 0.
     Shows,
     /// Text on standard error, status 2.
     Refuses,
     /// A stream and a status that don't belong together.
     Confuses,
+}
+
+/// What is said about a recording's file.
+#[derive(Clone, Copy, Debug, PartialEq, Eq)]
+pub(crate) enum Said {
+    /// No setting.
+    Nothing { is_strict: bool },
+    /// `umid=`.
+    Umid { is_strict: bool },
+    /// `value=-23.00`, then `umid=`.
+    ValueThenUmid { is_strict: bool },
 }
 
 /// What these words, of which the first is the program's own name, are read as.
@@ -66,12 +81,18 @@ fn run_outcome(task: &Task, words: &[&str]) -> Outcome {
         Task::Inspect { .. } => Outcome::Confuses,
         Task::Serve(server) => server_outcome(server),
         Task::Send(sender) => sender_outcome(sender),
+        Task::Pack(source) => match said_of(source) {
+            Some(said) => Outcome::Packs(said),
+            None => Outcome::Confuses,
+        },
     }
 }
 
 fn server_outcome(server: &Serve) -> Outcome {
     if server.listen.port() != 4100 || !server.listen.is_ipv4() || server.folder.as_str() != "-d" {
         Outcome::ServesElsewhere
+    } else if server.journal != Journaling::Without {
+        Outcome::Keeps(server.journal)
     } else if server.log {
         Outcome::Logs(server.end, server.limit, server.recorders)
     } else {
@@ -84,6 +105,23 @@ fn sender_outcome(sender: &Send) -> Outcome {
         Outcome::Sends(sender.rounds, sender.timeout)
     } else {
         Outcome::SendsElsewhere
+    }
+}
+
+/// What is said about the file `-f`: which of the settings of the tests are given, in this order,
+/// and whether it is to be strict. None for another file or other settings.
+fn said_of(source: &SourceFile) -> Option<Said> {
+    if source.path.as_str() != "-f" {
+        return None;
+    }
+    let is_strict = source.strict;
+    match source.settings.as_slice() {
+        [] => Some(Said::Nothing { is_strict }),
+        [one] if one.as_str() == "umid=" => Some(Said::Umid { is_strict }),
+        [one, two] if one.as_str() == "value=-23.00" && two.as_str() == "umid=" => {
+            Some(Said::ValueThenUmid { is_strict })
+        }
+        _ => None,
     }
 }
 

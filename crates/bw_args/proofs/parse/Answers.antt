@@ -2,6 +2,7 @@ use Rattle.std.proofs.Common.{◌≡◌, map, rules, string_bytes}
 use Rattle.std.proofs.lemmas.Result.{IfOk-weaker}
 use Rattle.bw_args.specs.ReadWords.{as_read}
 use Rattle.bw_args.proofs.Asked.{line_limit}
+use Rattle.bw_args.proofs.FileLemmas.{runs_pack}
 use Rattle.bw_args.proofs.FormLemmas.{runs_inspect, runs_replay, reports_help}
 use Rattle.bw_args.proofs.LineLemmas.{line_asked, line_of_read, reported_line, reported_result}
 use Rattle.bw_args.proofs.RehearsalLemmas.{runs_rehearsal}
@@ -82,3 +83,9 @@ returns-in-Ok-clause-wanted c = IfOk-weaker c.line.result _ _ (wants_peers _) (r
 
 pub returns-clause-wanted : goal.returns-clause-wanted
 returns-clause-wanted c = IfOk-weaker c.reported.result _ _ (wants_peers _) (returns-clause-line c)
+
+pub returns-in-Ok-clause-pack : goal.returns-in-Ok-clause-pack
+returns-in-Ok-clause-pack c = IfOk-weaker c.line.result _ _ (runs_pack _) (returns-in-Ok-clause-line c)
+
+pub returns-clause-pack : goal.returns-clause-pack
+returns-clause-pack c = IfOk-weaker c.reported.result _ _ (runs_pack _) (returns-clause-line c)
