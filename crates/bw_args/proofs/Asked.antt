@@ -1,6 +1,6 @@
 -- What the getters of `clap` say of the task.
 use Rattle.std.proofs.Common.{◌≡◌, ℕ, ◌<◌, ◌≤◌, Bool, true, false, List, [], ◌∷◌, ◌++◌, Option, Some, None, Result, Ok, Err}
-use Rattle.std.proofs.Common.{OnErr, codes, refl, subst, sym, ◌∙◌, arith, inl, inr, unwrap_or}
+use Rattle.std.proofs.Common.{OnErr, ap, codes, refl, subst, sym, ◌∙◌, arith, inl, inr, unwrap_or}
 use Rattle.std.proofs.Math.Path.{fun_ext}
 use Rattle.std.specs.Prelude.{⊤}
 use Rattle.std.specs.declared.net.socket_addr.SocketAddr.{SocketAddr}
@@ -8,22 +8,29 @@ use Rattle.std.specs.Net.Socket.{socket_port}
 use Rattle.clap.specs.Words.{Row, Text, first_of, first_value, rows_of}
 use Rattle.clap.specs.declared.parser.matches.Found.{Found}
 use Rattle.clap.proofs.WalkLemmas.{first_value-rows}
-use Rattle.bw_args.specs.Lines.{AsksNothing, GivesAddress, GivesCount, GivesEnd, GivesFuse, GivesLimit, GivesName}
-use Rattle.bw_args.specs.Lines.{GivesNoFuse, IsAddressGiven, IsEndGiven, is_set}
-use Rattle.bw_args.specs.Lines.{GivesRecorders, GivesSender, GivesServer, HasNumbersInRange, IsEnd, IsEndWithin, IsFirstBad}
-use Rattle.bw_args.specs.Lines.{IsGood, IsLimitGiven, IsRecorders, IsRecordersGiven, IsWayWithin, looked_at_waiting}
-use Rattle.bw_args.specs.Lines.{IsNameGiven, IsLineFor, IsWishOf, IsWithin, Service, Wish, given_on_line, looked_at}
-use Rattle.bw_args.specs.Lines.{Replaying, Rehearsing, Inspecting, Sending, Serving}
-use Rattle.bw_args.specs.Numbers.{IsLimitValue, default_rounds, most_exchanges, most_recorders, most_rounds, most_seconds}
+use Rattle.bw_args.specs.Given.{GivesAddress, GivesCount, GivesEnd, GivesFuse, GivesLimit, GivesName}
+use Rattle.bw_args.specs.Given.{GivesNoFuse, GivesRecorders, IsAddressGiven, IsEnd, IsEndGiven, IsLimitGiven, IsNameGiven}
+use Rattle.bw_args.specs.Given.{IsRecorders, IsRecordersGiven, given_on_line, is_set}
+use Rattle.bw_args.specs.Given.{GivesAction, GivesNameIfAny, IsAction, IsActionGiven}
+use Rattle.bw_args.specs.Sources.{GivesSource, PlainSource, settings_on_line}
+use Rattle.bw_args.specs.Lines.{AsksNothing, GivesSender, GivesServer, HasNumbersInRange}
+use Rattle.bw_args.specs.Lines.{IsEndWithin, IsFirstBad, IsGood, IsLineFor, IsWayWithin, IsWishOf, IsWithin, Service}
+use Rattle.bw_args.specs.Lines.{GivesTakes, PlainTakes}
+use Rattle.bw_args.specs.Lines.{Wish, looked_at, looked_at_waiting}
+use Rattle.bw_args.specs.Lines.{Replaying, Rehearsing, Inspecting, Listing, Packing, Sending, Serving}
+use Rattle.bw_args.specs.Numbers.{IsLimitValue, default_rounds, most_exchanges, most_recorders, most_rounds}
+use Rattle.bw_args.specs.Numbers.{most_seconds}
 use Rattle.bw_args.specs.declared.CommandLine.{CommandLine}
 use Rattle.bw_args.specs.declared.CommandLine.TheVariants.{Run, BadValue as Bad, Report}
 use Rattle.bw_args.specs.declared.Task.TheVariants.{Replay, Rehearse, Inspect, Serve, Send}
-use Rattle.bw_args.proofs.WishLemmas.{one_count, same_way}
+use Rattle.bw_args.specs.declared.Task.TheVariants.{Pack, Takes}
+use Rattle.bw_args.proofs.WishLemmas.{one_count, one_given_up, other_name, same_way}
+use Rattle.bw_args.specs.declared.folder_takes.TakesAction.{TakesAction}
 use Rattle.bw_args.specs.declared.peers.End.{End}
 use Rattle.bw_args.specs.declared.peers.Recorders.{Recorders as Way}
 use Rattle.bw_args.specs.declared.peers.Send.{Send as Sender}
 use Rattle.bw_args.specs.declared.bad_value.BadValue.{BadValue}
-use Rattle.bw_args.specs.declared.bad_value.BadValue.TheVariants.{Name, Limit, Fuse, UntilStopped, Wait}
+use Rattle.bw_args.specs.declared.bad_value.BadValue.TheVariants.{Name, Limit, Fuse, UntilStopped, Wait, Check}
 
 -- what the getters give of the options, by their rows
 by_rows : (found : Found) (P : (Text → Option Text) → Type 0) → P (first_value found) → P (given_on_line (rows_of found))
@@ -73,6 +80,9 @@ wished_good name options wish asked = go wish asked
       (sender.connect, a.1.connects),
       ((sender.name, a.1.named), ((a.1.tries.0, a.1.tries.1), ((sender.timeout, a.1.waits), tt))),
     )
+    go (Packing source) a = at (codes "pack") a.0 tt
+    go (Listing takes) a = at (codes "takes") a.0
+        ((takes.folder, a.1.keeps), ((a.1.does.0, a.1.does.1), ((takes.action, a.1.does), tt)))
 
 -- if all are good none is the first that is bad
 pub good_not_bad : (values : List BadValue) (given : Text → Option Text) (value : BadValue) → AllGood values given
@@ -161,12 +171,51 @@ pub no_file_line : (found : Found) → None ≡ first_value found (codes "file")
 no_file_line found given = (nothing, inr (refl, refl))
   where
     nothing : AsksNothing (Some (codes "inspect", rows_of found))
-    nothing (Replaying n k) asked = let bad : codes "inspect" ≡ codes "replay" = asked.0 in cc
-    nothing (Rehearsing name n) asked = let bad : codes "inspect" ≡ codes "rehearse" = asked.0 in cc
-    nothing (Serving server) asked = let bad : codes "inspect" ≡ codes "serve" = asked.0 in cc
-    nothing (Sending sender) asked = let bad : codes "inspect" ≡ codes "send" = asked.0 in cc
+    nothing (Replaying n k) asked = other_name (codes "inspect") (codes "replay") refl _ refl asked.0
+    nothing (Rehearsing name n) asked = other_name (codes "inspect") (codes "rehearse") refl _ refl asked.0
+    nothing (Serving server) asked = other_name (codes "inspect") (codes "serve") refl _ refl asked.0
+    nothing (Sending sender) asked = other_name (codes "inspect") (codes "send") refl _ refl asked.0
+    nothing (Packing source) asked = other_name (codes "inspect") (codes "pack") refl _ refl asked.0
+    nothing (Listing takes) asked = other_name (codes "inspect") (codes "takes") refl _ refl asked.0
     nothing (Inspecting path) asked =
         let bad : None ≡ Some path = given ∙ first_value-rows found (codes "file") ∙ asked.1 in cc
+
+-- the file to pack that is given is the one that is asked for
+pub source_asked : (found : Found) (path : Text) (source : PlainSource) → Some path ≡ first_value found (codes "file")
+    → source.path ≡ path → source.settings ≡ settings_on_line (rows_of found)
+    → source.strict ≡ is_set (first_value found (codes "strict")) → GivesSource (rows_of found) source
+source_asked found path source given at sets strict = record {
+  from = sym (ap Some at ∙ given ∙ first_value-rows found (codes "file"));
+  sets = sets;
+  refuses = by_rows found (λ g. source.strict ≡ is_set (g (codes "strict"))) strict;
+}
+
+-- the file of this path, with what else is given
+abbrev pub found_source : Found → Text → PlainSource
+found_source found path = record {
+  path = path;
+  settings = settings_on_line (rows_of found);
+  strict = is_set (first_value found (codes "strict"));
+}
+
+-- no file's path is given, and one
+no_path : {P : Type 0} (path : Text) → None ≡ Some path → P
+no_path path none = let bad : None ≡ Some path = none in cc
+
+-- without one, nothing is asked for, and no value is looked at
+pub no_packed_line : (found : Found) → None ≡ first_value found (codes "file")
+    → IsLineFor (Some (codes "pack", rows_of found)) (Bad Limit)
+no_packed_line found given = (nothing, inr (refl, refl))
+  where
+    nothing : AsksNothing (Some (codes "pack", rows_of found))
+    nothing (Replaying n k) asked = other_name (codes "pack") (codes "replay") refl _ refl asked.0
+    nothing (Rehearsing name n) asked = other_name (codes "pack") (codes "rehearse") refl _ refl asked.0
+    nothing (Inspecting path) asked = other_name (codes "pack") (codes "inspect") refl _ refl asked.0
+    nothing (Serving server) asked = other_name (codes "pack") (codes "serve") refl _ refl asked.0
+    nothing (Sending sender) asked = other_name (codes "pack") (codes "send") refl _ refl asked.0
+    nothing (Listing takes) asked = other_name (codes "pack") (codes "takes") refl _ refl asked.0
+    nothing (Packing source) asked =
+        no_path source.path (given ∙ first_value-rows found (codes "file") ∙ asked.1.from)
 
 -- the server that is given is the one that is asked for
 pub server_asked : (found : Found) (server : Service) → GivesServer (first_value found) server
@@ -177,6 +226,27 @@ server_asked found server given = (refl, by_rows found (λ g. GivesServer g serv
 pub sender_asked : (found : Found) (sender : Sender) → GivesSender (first_value found) sender
     → IsWishOf (Some (codes "send", rows_of found)) (Sending sender)
 sender_asked found sender given = (refl, by_rows found (λ g. GivesSender g sender) given)
+
+-- and the takes in a folder
+pub takes_asked : (found : Found) (takes : PlainTakes) → GivesTakes (first_value found) takes
+    → IsWishOf (Some (codes "takes", rows_of found)) (Listing takes)
+takes_asked found takes given = (refl, by_rows found (λ g. GivesTakes g takes) given)
+
+-- what is done with them, where the options were read before
+pub an_action : (found : Found) (is_checked : Bool) (name : Option Text) (action : TakesAction)
+    → is_checked ≡ is_set (first_value found (codes "check"))
+    → GivesNameIfAny (first_value found (codes "give-up")) name → IsAction name is_checked action
+    → GivesAction (first_value found (codes "give-up")) (is_set (first_value found (codes "check"))) action
+an_action found is_checked name action is given does = (name, given, subst (λ u. IsAction name u action) is does)
+
+pub no_action : (found : Found) (is_checked : Bool) (name : Option Text)
+    → is_checked ≡ is_set (first_value found (codes "check"))
+    → GivesNameIfAny (first_value found (codes "give-up")) name → IsActionGiven name is_checked None
+    → ¬ IsGood Check (first_value found)
+no_action found is_checked name is given none good =
+    let same : good.1.0 ≡ name = one_given_up (first_value found (codes "give-up")) good.1.0 name good.1.1 given in
+    none good.0 (subst (λ u. IsAction name u good.0) (sym is)
+    (subst (λ n. IsAction n (is_set (first_value found (codes "check"))) good.0) same good.1.2))
 
 -- addresses and ends, where a flag was read before
 pub an_address : (found : Found) (option : Text) (network : Bool) (address : SocketAddr)
@@ -260,10 +330,10 @@ given_way None (Some most) None way t m i is = subst IsWayWithin (sym is) (m, (o
 given_way None (Some most) (Some idle) way t m i is = subst IsWayWithin (sym is) (m, i)
 given_way (Some timeout) (Some most) idle way t m i is = absurd is
 
-given_rounds : (count : Option ℕ) (rounds : ℕ) → IsWithin most_rounds count → rounds ≡ unwrap_or count default_rounds
-    → (1 ≤ rounds) × (rounds ≤ most_rounds)
-given_rounds None rounds within is = rw is (omega arith, omega arith)
-given_rounds (Some count) rounds within is = rw is within
+given_number : (default most : ℕ) (count : Option ℕ) (n : ℕ) → 1 ≤ default → default ≤ most → IsWithin most count
+    → n ≡ unwrap_or count default → (1 ≤ n) × (n ≤ most)
+given_number default most None n least fits within is = rw is (least, fits)
+given_number default most (Some count) n least fits within is = rw is within
 
 -- the numbers of a task that is asked for are in their ranges
 pub line_limit : (command : Option (Text × List Row)) (line : CommandLine) → IsLineFor command line → HasNumbersInRange line
@@ -281,9 +351,12 @@ line_limit (Some command) (Run (Serve server)) asked = (
 )
 line_limit (Some command) (Run (Send sender)) asked = (
   given_port _ _ sender.connect asked.1.connects,
-  given_rounds _ sender.rounds (given_count _ _ _ asked.1.tries.1) asked.1.tries.2,
+  given_number default_rounds most_rounds asked.1.tries.0 sender.rounds (omega arith) (omega arith)
+      (given_count _ _ _ asked.1.tries.1) asked.1.tries.2,
   given_count _ _ sender.timeout asked.1.waits,
 )
+line_limit (Some command) (Run (Pack source)) asked = tt
+line_limit (Some command) (Run (Takes takes)) asked = tt
 line_limit None (Run task) asked = absurd asked
 line_limit command (Bad value) asked = tt
 line_limit command (Report error) asked = tt

@@ -9,3 +9,5 @@ pub mod RehearsalLemmas
 pub mod ServerLemmas
 pub mod SenderLemmas
 pub mod PeerValueLemmas
+pub mod FileLemmas
+pub mod TakesLemmas

@@ -1,14 +1,19 @@
 -- A command asks for one task.
 use Rattle.std.proofs.Common.{◌≡◌, ℕ, List, Bool, true, false, Option, Some, None, codes, sym, ◌∙◌, ap, subst}
-use Rattle.std.proofs.Common.{unwrap_or}
+use Rattle.std.proofs.Common.{refl, unwrap_or}
+use Rattle.std.specs.Str.{bytes_eq}
+use Rattle.std.proofs.lemmas.Slice.Eq.{bytes_eq-Decides}
 use Rattle.std.specs.declared.net.socket_addr.SocketAddr.{SocketAddr}
 use Rattle.std.proofs.NetLemmas.Theorems.{IsSocketText_unique}
 use Rattle.clap.specs.Words.{Row, Text, first_of}
-use Rattle.bw_args.specs.Lines.{GivesAddress, GivesCount, GivesEnd, GivesFolder, GivesFuse, GivesLimit, GivesName}
-use Rattle.bw_args.specs.Lines.{GivesRecorders, GivesRounds, GivesSender, GivesServer, IsEnd, IsRecorders, IsWishOf}
-use Rattle.bw_args.specs.Lines.{Service, Wish}
-use Rattle.bw_args.specs.Lines.{Inspecting, Rehearsing, Replaying, Sending, Serving}
-use Rattle.bw_args.specs.Numbers.{most_exchanges, most_recorders, most_rounds, most_seconds}
+use Rattle.bw_args.specs.Given.{GivesAddress, GivesCount, GivesCountOr, GivesEnd, GivesFolder, GivesFuse, GivesLimit}
+use Rattle.bw_args.specs.Given.{GivesName, GivesRecorders, IsEnd, IsRecorders}
+use Rattle.bw_args.specs.Given.{GivesAction, GivesNameIfAny, IsAction}
+use Rattle.bw_args.specs.Sources.{GivesSource, PlainSource}
+use Rattle.bw_args.specs.Lines.{GivesSender, GivesServer, GivesTakes, IsWishOf, PlainTakes, Service, Wish}
+use Rattle.bw_args.specs.Lines.{Inspecting, Listing, Packing, Rehearsing, Replaying, Sending, Serving}
+use Rattle.bw_args.specs.Numbers.{most_exchanges, most_recorders, most_seconds}
+use Rattle.bw_args.specs.declared.folder_takes.TakesAction.{TakesAction}
 use Rattle.bw_args.specs.declared.peers.End.{End}
 use Rattle.bw_args.specs.declared.peers.Recorders.{Recorders as Way}
 use Rattle.bw_args.specs.declared.peers.Send.{Send as Sender}
@@ -53,10 +58,11 @@ ends_once text until_stopped a b x y =
     let same : x.0 ≡ y.0 = one_count most_exchanges text x.0 y.0 x.1 y.1 in
     one_end y.0 until_stopped a b (subst (λ c. IsEnd c until_stopped a) same x.2) y.2
 
-one_round : (text : Option Text) (a b : ℕ) → GivesRounds text a → GivesRounds text b → a ≡ b
-one_round text a b x y =
-    let same : x.0 ≡ y.0 = one_count most_rounds text x.0 y.0 x.1 y.1 in
-    x.2 ∙ ap (λ c. unwrap_or c 16) same ∙ sym y.2
+one_count_or : (default most : ℕ) (text : Option Text) (a b : ℕ) → GivesCountOr default most text a
+    → GivesCountOr default most text b → a ≡ b
+one_count_or default most text a b x y =
+    let same : x.0 ≡ y.0 = one_count most text x.0 y.0 x.1 y.1 in
+    x.2 ∙ ap (λ c. unwrap_or c default) same ∙ sym y.2
 
 -- what is given of the times and numbers says the way
 pub same_way : (given : Text → Option Text) (way : Way) (timeout most idle : Option ℕ)
@@ -105,9 +111,46 @@ one_sender : (given : Text → Option Text) (a b : Sender) → GivesSender given
 one_sender given a b x y =
     let connects = one_address _ _ a.connect b.connect x.connects y.connects in
     let named = one_name _ a.name b.name x.named y.named in
-    let tries = one_round _ a.rounds b.rounds x.tries y.tries in
+    let tries = one_count_or _ _ _ a.rounds b.rounds x.tries y.tries in
     let waits = one_count _ _ a.timeout b.timeout x.waits y.waits in
     λ i. record { connect = connects i; name = named i; rounds = tries i; timeout = waits i }
+
+one_source : (options : List Row) (a b : PlainSource) → GivesSource options a → GivesSource options b → a ≡ b
+one_source options a b x y =
+    let from : Some a.path ≡ Some b.path = sym x.from ∙ y.from in
+    let path : a.path ≡ b.path = cc in
+    let sets = x.sets ∙ sym y.sets in
+    let refuses = x.refuses ∙ sym y.refuses in
+    λ i. record { path = path i; settings = sets i; strict = refuses i }
+
+one_action : (name : Option Text) (is_checked : Bool) (a b : TakesAction) → IsAction name is_checked a
+    → IsAction name is_checked b → a ≡ b
+one_action None false a b x y = x ∙ sym y
+one_action None true a b x y = x ∙ sym y
+one_action (Some name) false a b x y = x ∙ sym y
+one_action (Some name) true a b x y = absurd x
+
+pub one_given_up : (text : Option Text) (a b : Option Text) → GivesNameIfAny text a → GivesNameIfAny text b → a ≡ b
+one_given_up None a b x y = x ∙ sym y
+one_given_up (Some text) a b x y = x.1 ∙ sym y.1
+
+does_once : (text : Option Text) (is_checked : Bool) (a b : TakesAction) → GivesAction text is_checked a
+    → GivesAction text is_checked b → a ≡ b
+does_once text is_checked a b x y =
+    let same : x.0 ≡ y.0 = one_given_up text x.0 y.0 x.1 y.1 in
+    one_action y.0 is_checked a b (subst (λ n. IsAction n is_checked a) same x.2) y.2
+
+one_listing : (given : Text → Option Text) (a b : PlainTakes) → GivesTakes given a → GivesTakes given b → a ≡ b
+one_listing given a b x y =
+    let keeps = one_folder _ a.folder b.folder x.keeps y.keeps in
+    let does = does_once _ _ a.action b.action x.does y.does in
+    λ i. record { folder = keeps i; action = does i }
+
+-- a command doesn't have two names
+pub other_name : {P : Type 0} (a b : Text) → bytes_eq a b ≡ false → (name : Text) → name ≡ a → name ≡ b → P
+other_name a b apart name is also =
+    let same : bytes_eq a b ≡ true = (bytes_eq-Decides a b).1 (sym is ∙ also) in
+    let bad : true ≡ false = sym same ∙ apart in cc
 
 -- a command has one name, and so one kind of task
 pub one_wish : (command : Option (Text × List Row)) (a b : Wish) → IsWishOf command a → IsWishOf command b → a ≡ b
@@ -122,43 +165,47 @@ one_wish (Some command) (Inspecting a) (Inspecting b) x y =
     let same : Some a ≡ Some b = sym x.1 ∙ y.1 in cc
 one_wish (Some command) (Serving a) (Serving b) x y = ap Serving (one_server _ a b x.1 y.1)
 one_wish (Some command) (Sending a) (Sending b) x y = ap Sending (one_sender _ a b x.1 y.1)
-one_wish (Some command) (Replaying a k) (Rehearsing b m) x y =
-    let bad : codes "replay" ≡ codes "rehearse" = sym x.0 ∙ y.0 in cc
-one_wish (Some command) (Replaying a k) (Inspecting b) x y =
-    let bad : codes "replay" ≡ codes "inspect" = sym x.0 ∙ y.0 in cc
-one_wish (Some command) (Replaying a k) (Serving b) x y =
-    let bad : codes "replay" ≡ codes "serve" = sym x.0 ∙ y.0 in cc
-one_wish (Some command) (Replaying a k) (Sending b) x y =
-    let bad : codes "replay" ≡ codes "send" = sym x.0 ∙ y.0 in cc
-one_wish (Some command) (Rehearsing a n) (Replaying b j) x y =
-    let bad : codes "rehearse" ≡ codes "replay" = sym x.0 ∙ y.0 in cc
-one_wish (Some command) (Rehearsing a n) (Inspecting b) x y =
-    let bad : codes "rehearse" ≡ codes "inspect" = sym x.0 ∙ y.0 in cc
-one_wish (Some command) (Rehearsing a n) (Serving b) x y =
-    let bad : codes "rehearse" ≡ codes "serve" = sym x.0 ∙ y.0 in cc
-one_wish (Some command) (Rehearsing a n) (Sending b) x y =
-    let bad : codes "rehearse" ≡ codes "send" = sym x.0 ∙ y.0 in cc
-one_wish (Some command) (Inspecting a) (Replaying b j) x y =
-    let bad : codes "inspect" ≡ codes "replay" = sym x.0 ∙ y.0 in cc
-one_wish (Some command) (Inspecting a) (Rehearsing b m) x y =
-    let bad : codes "inspect" ≡ codes "rehearse" = sym x.0 ∙ y.0 in cc
-one_wish (Some command) (Inspecting a) (Serving b) x y =
-    let bad : codes "inspect" ≡ codes "serve" = sym x.0 ∙ y.0 in cc
-one_wish (Some command) (Inspecting a) (Sending b) x y =
-    let bad : codes "inspect" ≡ codes "send" = sym x.0 ∙ y.0 in cc
-one_wish (Some command) (Serving a) (Replaying b j) x y =
-    let bad : codes "serve" ≡ codes "replay" = sym x.0 ∙ y.0 in cc
-one_wish (Some command) (Serving a) (Rehearsing b m) x y =
-    let bad : codes "serve" ≡ codes "rehearse" = sym x.0 ∙ y.0 in cc
-one_wish (Some command) (Serving a) (Inspecting b) x y =
-    let bad : codes "serve" ≡ codes "inspect" = sym x.0 ∙ y.0 in cc
-one_wish (Some command) (Serving a) (Sending b) x y =
-    let bad : codes "serve" ≡ codes "send" = sym x.0 ∙ y.0 in cc
-one_wish (Some command) (Sending a) (Replaying b j) x y =
-    let bad : codes "send" ≡ codes "replay" = sym x.0 ∙ y.0 in cc
-one_wish (Some command) (Sending a) (Rehearsing b m) x y =
-    let bad : codes "send" ≡ codes "rehearse" = sym x.0 ∙ y.0 in cc
-one_wish (Some command) (Sending a) (Inspecting b) x y =
-    let bad : codes "send" ≡ codes "inspect" = sym x.0 ∙ y.0 in cc
-one_wish (Some command) (Sending a) (Serving b) x y =
-    let bad : codes "send" ≡ codes "serve" = sym x.0 ∙ y.0 in cc
+one_wish (Some command) (Packing a) (Packing b) x y = ap Packing (one_source command.1 a b x.1 y.1)
+one_wish (Some command) (Listing a) (Listing b) x y = ap Listing (one_listing _ a b x.1 y.1)
+one_wish (Some command) (Replaying a k) (Rehearsing b m) x y = other_name (codes "replay") (codes "rehearse") refl command.0 x.0 y.0
+one_wish (Some command) (Replaying a k) (Inspecting b) x y = other_name (codes "replay") (codes "inspect") refl command.0 x.0 y.0
+one_wish (Some command) (Replaying a k) (Serving b) x y = other_name (codes "replay") (codes "serve") refl command.0 x.0 y.0
+one_wish (Some command) (Replaying a k) (Sending b) x y = other_name (codes "replay") (codes "send") refl command.0 x.0 y.0
+one_wish (Some command) (Replaying a k) (Packing b) x y = other_name (codes "replay") (codes "pack") refl command.0 x.0 y.0
+one_wish (Some command) (Rehearsing a n) (Replaying b j) x y = other_name (codes "rehearse") (codes "replay") refl command.0 x.0 y.0
+one_wish (Some command) (Rehearsing a n) (Inspecting b) x y = other_name (codes "rehearse") (codes "inspect") refl command.0 x.0 y.0
+one_wish (Some command) (Rehearsing a n) (Serving b) x y = other_name (codes "rehearse") (codes "serve") refl command.0 x.0 y.0
+one_wish (Some command) (Rehearsing a n) (Sending b) x y = other_name (codes "rehearse") (codes "send") refl command.0 x.0 y.0
+one_wish (Some command) (Rehearsing a n) (Packing b) x y = other_name (codes "rehearse") (codes "pack") refl command.0 x.0 y.0
+one_wish (Some command) (Inspecting a) (Replaying b j) x y = other_name (codes "inspect") (codes "replay") refl command.0 x.0 y.0
+one_wish (Some command) (Inspecting a) (Rehearsing b m) x y = other_name (codes "inspect") (codes "rehearse") refl command.0 x.0 y.0
+one_wish (Some command) (Inspecting a) (Serving b) x y = other_name (codes "inspect") (codes "serve") refl command.0 x.0 y.0
+one_wish (Some command) (Inspecting a) (Sending b) x y = other_name (codes "inspect") (codes "send") refl command.0 x.0 y.0
+one_wish (Some command) (Inspecting a) (Packing b) x y = other_name (codes "inspect") (codes "pack") refl command.0 x.0 y.0
+one_wish (Some command) (Serving a) (Replaying b j) x y = other_name (codes "serve") (codes "replay") refl command.0 x.0 y.0
+one_wish (Some command) (Serving a) (Rehearsing b m) x y = other_name (codes "serve") (codes "rehearse") refl command.0 x.0 y.0
+one_wish (Some command) (Serving a) (Inspecting b) x y = other_name (codes "serve") (codes "inspect") refl command.0 x.0 y.0
+one_wish (Some command) (Serving a) (Sending b) x y = other_name (codes "serve") (codes "send") refl command.0 x.0 y.0
+one_wish (Some command) (Serving a) (Packing b) x y = other_name (codes "serve") (codes "pack") refl command.0 x.0 y.0
+one_wish (Some command) (Sending a) (Replaying b j) x y = other_name (codes "send") (codes "replay") refl command.0 x.0 y.0
+one_wish (Some command) (Sending a) (Rehearsing b m) x y = other_name (codes "send") (codes "rehearse") refl command.0 x.0 y.0
+one_wish (Some command) (Sending a) (Inspecting b) x y = other_name (codes "send") (codes "inspect") refl command.0 x.0 y.0
+one_wish (Some command) (Sending a) (Serving b) x y = other_name (codes "send") (codes "serve") refl command.0 x.0 y.0
+one_wish (Some command) (Sending a) (Packing b) x y = other_name (codes "send") (codes "pack") refl command.0 x.0 y.0
+one_wish (Some command) (Packing a) (Replaying b j) x y = other_name (codes "pack") (codes "replay") refl command.0 x.0 y.0
+one_wish (Some command) (Packing a) (Rehearsing b m) x y = other_name (codes "pack") (codes "rehearse") refl command.0 x.0 y.0
+one_wish (Some command) (Packing a) (Inspecting b) x y = other_name (codes "pack") (codes "inspect") refl command.0 x.0 y.0
+one_wish (Some command) (Packing a) (Serving b) x y = other_name (codes "pack") (codes "serve") refl command.0 x.0 y.0
+one_wish (Some command) (Packing a) (Sending b) x y = other_name (codes "pack") (codes "send") refl command.0 x.0 y.0
+one_wish (Some command) (Replaying a k) (Listing b) x y = other_name (codes "replay") (codes "takes") refl command.0 x.0 y.0
+one_wish (Some command) (Rehearsing a n) (Listing b) x y = other_name (codes "rehearse") (codes "takes") refl command.0 x.0 y.0
+one_wish (Some command) (Inspecting a) (Listing b) x y = other_name (codes "inspect") (codes "takes") refl command.0 x.0 y.0
+one_wish (Some command) (Serving a) (Listing b) x y = other_name (codes "serve") (codes "takes") refl command.0 x.0 y.0
+one_wish (Some command) (Sending a) (Listing b) x y = other_name (codes "send") (codes "takes") refl command.0 x.0 y.0
+one_wish (Some command) (Packing a) (Listing b) x y = other_name (codes "pack") (codes "takes") refl command.0 x.0 y.0
+one_wish (Some command) (Listing a) (Replaying b j) x y = other_name (codes "takes") (codes "replay") refl command.0 x.0 y.0
+one_wish (Some command) (Listing a) (Rehearsing b m) x y = other_name (codes "takes") (codes "rehearse") refl command.0 x.0 y.0
+one_wish (Some command) (Listing a) (Inspecting b) x y = other_name (codes "takes") (codes "inspect") refl command.0 x.0 y.0
+one_wish (Some command) (Listing a) (Serving b) x y = other_name (codes "takes") (codes "serve") refl command.0 x.0 y.0
+one_wish (Some command) (Listing a) (Sending b) x y = other_name (codes "takes") (codes "send") refl command.0 x.0 y.0
+one_wish (Some command) (Listing a) (Packing b) x y = other_name (codes "takes") (codes "pack") refl command.0 x.0 y.0

@@ -3,7 +3,7 @@ use Rattle.std.specs.Prelude.{◌≡◌, Some, true, false, codes}
 use Rattle.clap.specs.Words.{app_of, rule_of}
 use Rattle.clap.specs.Walk.{Rule, Text}
 use Rattle.clap.specs.Simple.{App, new_app, new_rule, on_top, with_rule, with_subcommand}
-use Rattle.clap.specs.declared.builder.action.ArgAction.TheVariants.{SetTrue}
+use Rattle.clap.specs.declared.builder.action.ArgAction.TheVariants.{Append, SetTrue}
 use Rattle.clap.specs.declared.builder.arg.Arg.{Arg}
 use Rattle.clap.specs.declared.builder.Command.{Command}
 use Rattle.clap.specs.declared.builder.Command.TheViews.{out-Command}
@@ -27,6 +27,10 @@ required name = record (option name) { required = true }
 -- a flag, `--network`
 abbrev pub flag : Text → Rule
 flag name = record (new_rule name) { long = Some name; action = Some SetTrue }
+
+-- one that may be given more than once, `--set KEY=VALUE`
+abbrev pub repeated : Text → Rule
+repeated name = record (option name) { action = Some Append }
 
 -- `--limit N`
 abbrev pub limit_option : Rule
@@ -118,6 +122,14 @@ connect_option = required (codes "connect")
 abbrev pub rounds_option : Rule
 rounds_option = option (codes "rounds")
 
+-- `--set KEY=VALUE`
+abbrev pub set_option : Rule
+set_option = repeated (codes "set")
+
+-- `--strict`
+abbrev pub strict_flag : Rule
+strict_flag = flag (codes "strict")
+
 -- `send` with the options that say what is sent, and where
 abbrev pub send_where : App
 send_where = with_rule
@@ -128,6 +140,12 @@ send_where = with_rule
 abbrev pub send_command : App
 send_command = with_rule (with_rule send_where timeout_option) network_flag
 
+-- `pack`, with the file and its two options
+abbrev pub pack_command : App
+pack_command = with_rule
+    (with_rule (with_rule (new_app (codes "pack")) file_argument) set_option)
+    strict_flag
+
 -- the program, which has a version and requires a command
 abbrev pub program : App
 program = on_top (λ s. record s { has_version = true; subcommand_required = true })
@@ -137,9 +155,27 @@ program = on_top (λ s. record s { has_version = true; subcommand_required = tru
 abbrev pub offline : App
 offline =
     with_subcommand
+    (with_subcommand
     (with_subcommand (with_subcommand program replay_command.top) rehearse_command.top)
-    inspect_command.top
+    inspect_command.top)
+    pack_command.top
+
+-- `--check`
+abbrev pub check_flag : Rule
+check_flag = flag (codes "check")
+
+-- `--give-up NAME`
+abbrev pub give_up_option : Rule
+give_up_option = option (codes "give-up")
+
+-- `takes`, with its three options
+abbrev pub takes_command : App
+takes_command = with_rule
+    (with_rule (with_rule (new_app (codes "takes")) folder_option) check_flag)
+    give_up_option
 
 -- the whole
 abbrev pub command_line : App
-command_line = with_subcommand (with_subcommand offline serve_command.top) send_command.top
+command_line = with_subcommand
+    (with_subcommand (with_subcommand offline serve_command.top) send_command.top)
+    takes_command.top

@@ -3,6 +3,10 @@ pub mod Addresses
 pub mod Commands
 pub mod ReadWords
 pub mod BadValues
+pub mod Given
+pub mod Sources
 pub mod Lines
 pub mod Forms
 pub mod PeerForms
+pub mod FileForms
+pub mod TakesForms

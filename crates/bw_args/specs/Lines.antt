@@ -1,4 +1,10 @@
 -- What a command line asks for.
+pub use Rattle.bw_args.specs.Given.{IsName, GivesName, IsNameGiven, GivesLimit, IsLimitGiven}
+pub use Rattle.bw_args.specs.Given.{GivesFuse, GivesNoFuse, IsFuseGiven, given_on_line, is_set}
+pub use Rattle.bw_args.specs.Given.{GivesAddress, IsAddressGiven, GivesFolder, IsFolderGiven}
+pub use Rattle.bw_args.specs.Given.{GivesCount, IsCountGiven, IsEnd, IsEndGiven, GivesEnd}
+pub use Rattle.bw_args.specs.Given.{IsRecorders, IsRecordersGiven, GivesRecorders, GivesNameIfAny}
+pub use Rattle.bw_args.specs.Given.{GivesAction, GivesCountOr, GivesRounds}
 use Rattle.std.specs.Prelude.{◌≡◌, ◌≢◌, ◌⊎◌, ⊤, ℕ, ◌<◌, ◌≤◌, Bool, true}
 use Rattle.std.specs.Prelude.{false, List, [], ◌∷◌, ◌++◌}
 use Rattle.std.specs.Prelude.{Option, Some, None, unwrap_or, Result, Ok, Err, string_bytes, codes}
@@ -13,12 +19,10 @@ use Rattle.clap.specs.Kinds.{IsAmong}
 use Rattle.clap.specs.Values.{kind_of}
 use Rattle.clap.specs.declared.error.ErrorKind.{ErrorKind}
 use Rattle.clap.specs.declared.error.ErrorKind.TheVariants.{OutOfMemory}
-use Rattle.bw_model.specs.Wire.{is_name}
-use Rattle.bw_args.specs.Addresses.{IsAddress}
-use Rattle.bw_args.specs.Numbers.{IsCountText, IsLimitValue, IsLimitText, IsNumber, default_limit}
-use Rattle.bw_args.specs.Numbers.{default_idle, default_rounds, most_exchanges, most_recorders}
-use Rattle.bw_args.specs.Numbers.{most_rounds, most_seconds, number_written}
+use Rattle.bw_args.specs.Numbers.{IsLimitValue, most_exchanges, most_recorders, most_rounds}
+use Rattle.bw_args.specs.Numbers.{most_seconds}
 use Rattle.bw_args.specs.Commands.{command_line}
+use Rattle.bw_args.specs.Sources.{GivesSource, PlainSource, in_plain}
 use Rattle.bw_args.specs.ReadWords.{as_read}
 use Rattle.bw_args.specs.declared.CommandLine.{CommandLine}
 use Rattle.bw_args.specs.declared.CommandLine.TheVariants.{Run, BadValue as Bad, Report}
@@ -27,6 +31,8 @@ use Rattle.bw_args.specs.declared.bad_value.BadValue.TheVariants.{Name, Limit, F
 use Rattle.bw_args.specs.declared.bad_value.BadValue.TheVariants.{Folder, Exchanges, Timeout}
 use Rattle.bw_args.specs.declared.bad_value.BadValue.TheVariants.{Recorders, Idle, Wait}
 use Rattle.bw_args.specs.declared.bad_value.BadValue.TheVariants.{UntilStopped, Connect, Rounds}
+use Rattle.bw_args.specs.declared.bad_value.BadValue.TheVariants.{GiveUp, Check}
+use Rattle.bw_args.specs.declared.folder_takes.TakesAction.{TakesAction}
 use Rattle.bw_args.specs.declared.peers.End.{End}
 use Rattle.bw_args.specs.declared.peers.End.TheVariants as when
 use Rattle.bw_args.specs.declared.peers.Recorders.{Recorders as Way}
@@ -34,129 +40,7 @@ use Rattle.bw_args.specs.declared.peers.Recorders.TheVariants.{InTurn, AtOnce}
 use Rattle.bw_args.specs.declared.peers.Send.{Send as Sender}
 use Rattle.bw_args.specs.declared.Task.{Task}
 use Rattle.bw_args.specs.declared.Task.TheVariants.{Replay, Rehearse, Inspect, Serve, Send}
-
--- the bytes are a take's name
-abbrev pub IsName : Text → Type 0
-IsName text = IsTrue (is_name text)
-
--- the name that an option gives
-abbrev pub GivesName : Option Text → Text → Type 0
-GivesName None name = ⊥
-GivesName (Some text) name = IsName text × (name ≡ text)
-
--- exactly that name
-abbrev pub IsNameGiven : Option Text → Option Text → Type 0
-IsNameGiven text (Some name) = GivesName text name
-IsNameGiven text None = (name : Text) → ¬ GivesName text name
-
--- the limit that an option gives, or the default
-abbrev pub GivesLimit : Option Text → ℕ → Type 0
-GivesLimit None limit = limit ≡ default_limit
-GivesLimit (Some text) limit = IsLimitText text × (limit ≡ number_written text)
-
--- exactly that limit
-abbrev pub IsLimitGiven : Option Text → Option ℕ → Type 0
-IsLimitGiven text (Some limit) = GivesLimit text limit
-IsLimitGiven text None = (limit : ℕ) → ¬ GivesLimit text limit
-
--- the number of the call that is to fail, as an option gives it, or none
-abbrev pub GivesFuse : Option Text → Option ℕ → Type 0
-GivesFuse None fuse = fuse ≡ None
-GivesFuse (Some text) fuse = IsNumber text × (fuse ≡ Some (number_written text))
-
--- the option gives what is no number
-abbrev pub GivesNoFuse : Option Text → Type 0
-GivesNoFuse text = (fuse : Option ℕ) → ¬ GivesFuse text fuse
-
--- exactly that number, or none; a fault if the option gives what is no number
-abbrev pub IsFuseGiven : {E : Type 0} → Option Text → Result (Option ℕ) E → Type 0
-IsFuseGiven text (Ok fuse) = GivesFuse text fuse
-IsFuseGiven text (Err fault) = GivesNoFuse text
-
--- what the options of a command give, by their names
-abbrev pub given_on_line : List Row → Text → Option Text
-given_on_line options id = first_of id options
-
--- the flag is given
-abbrev pub is_set : Option Text → Bool
-is_set None = false
-is_set (Some text) = bytes_eq text (codes "true")
-
--- the address that an option gives, which may be any if the network is allowed
-abbrev pub GivesAddress : Bool → Option Text → SocketAddr → Type 0
-GivesAddress network None address = ⊥
-GivesAddress network (Some text) address = IsAddress network text address
-
--- exactly that address
-abbrev pub IsAddressGiven : Bool → Option Text → Option SocketAddr → Type 0
-IsAddressGiven network text (Some address) = GivesAddress network text address
-IsAddressGiven network text None = (address : SocketAddr) → ¬ GivesAddress network text address
-
--- the folder's path that an option gives
-abbrev pub GivesFolder : Option Text → Text → Type 0
-GivesFolder None folder = ⊥
-GivesFolder (Some text) folder = (text ≢ []) × (folder ≡ text)
-
--- exactly that path
-abbrev pub IsFolderGiven : Option Text → Option Text → Type 0
-IsFolderGiven text (Some folder) = GivesFolder text folder
-IsFolderGiven text None = (folder : Text) → ¬ GivesFolder text folder
-
--- the number from 1 to the most that an option gives, or none
-abbrev pub GivesCount : ℕ → Option Text → Option ℕ → Type 0
-GivesCount most None count = count ≡ None
-GivesCount most (Some text) count = IsCountText most text × (count ≡ Some (number_written text))
-
--- exactly that number, or none; a fault if the option gives what is no such number
-abbrev pub IsCountGiven : {E : Type 0} → ℕ → Option Text → Result (Option ℕ) E → Type 0
-IsCountGiven most text (Ok count) = GivesCount most text count
-IsCountGiven most text (Err fault) = (count : Option ℕ) → ¬ GivesCount most text count
-
--- when a server ends: after this many exchanges, one where no number is given, or when it is
--- stopped, where that is asked for; not both
-abbrev pub IsEnd : Option ℕ → Bool → End → Type 0
-IsEnd None false end = end ≡ when.Exchanges 1
-IsEnd (Some count) false end = end ≡ when.Exchanges count
-IsEnd None true end = end ≡ when.UntilStopped
-IsEnd (Some count) true end = ⊥
-
--- exactly that end
-abbrev pub IsEndGiven : Option ℕ → Bool → Option End → Type 0
-IsEndGiven count until_stopped (Some end) = IsEnd count until_stopped end
-IsEndGiven count until_stopped None = (end : End) → ¬ IsEnd count until_stopped end
-
--- when a server ends, by the two options that say it
-abbrev pub GivesEnd : Option Text → Bool → End → Type 0
-GivesEnd text until_stopped end =
-    (count : Option ℕ) × GivesCount most_exchanges text count × IsEnd count until_stopped end
-
--- how recorders are served: many at once, where their number is given, and one after the other where
--- it isn't; each way has a time of its own, of which only the first has a default
-abbrev pub IsRecorders : Option ℕ → Option ℕ → Option ℕ → Way → Type 0
-IsRecorders timeout None None way = way ≡ InTurn timeout
-IsRecorders timeout None (Some idle) way = ⊥
-IsRecorders None (Some most) idle way = way ≡ AtOnce most (unwrap_or idle default_idle)
-IsRecorders (Some timeout) (Some most) idle way = ⊥
-
--- exactly that way
-abbrev pub IsRecordersGiven : Option ℕ → Option ℕ → Option ℕ → Option Way → Type 0
-IsRecordersGiven timeout most idle (Some way) = IsRecorders timeout most idle way
-IsRecordersGiven timeout most idle None = (way : Way) → ¬ IsRecorders timeout most idle way
-
--- how recorders are served, by the three options that say it
-pub record GivesRecorders (given : Text → Option Text) (way : Way) : Type 0 where
-  pub timeout : Option ℕ
-  pub most : Option ℕ
-  pub idle : Option ℕ
-  pub waits : GivesCount most_seconds (given (codes "timeout")) timeout
-  pub serves : GivesCount most_recorders (given (codes "recorders")) most
-  pub idles : GivesCount most_seconds (given (codes "idle")) idle
-  pub is : IsRecorders timeout most idle way
-
--- the rounds that an option gives, or the default
-abbrev pub GivesRounds : Option Text → ℕ → Type 0
-GivesRounds text rounds = (count : Option ℕ) × GivesCount most_rounds text count
-    × (rounds ≡ unwrap_or count default_rounds)
+use Rattle.bw_args.specs.declared.Task.TheVariants.{Pack, Takes}
 
 -- the server that a command line asks for
 pub record Service : Type 0 where
@@ -167,15 +51,22 @@ pub record Service : Type 0 where
   pub recorders : Way
   pub log : Bool
 
+-- the takes in a folder that a command line asks about
+pub record PlainTakes : Type 0 where
+  pub folder : Text
+  pub action : TakesAction
+
 -- what may be asked for: a replay with this limit, in which the call of this number fails, or none;
 -- a rehearsal of the take of this name, with this limit; to inspect the file of this path; a server
--- or a sender
+-- or a sender; the requests of a recording; the takes in a folder
 pub data Wish : Type 0 where
   Replaying : ℕ → Option ℕ → Wish
   Rehearsing : Text → ℕ → Wish
   Inspecting : Text → Wish
   Serving : Service → Wish
   Sending : Sender → Wish
+  Packing : PlainSource → Wish
+  Listing : PlainTakes → Wish
 
 -- what a task is about
 abbrev pub wish_of : Task → Wish
@@ -191,6 +82,9 @@ wish_of (Serve server) = Serving (record {
   log = server.log;
 })
 wish_of (Send sender) = Sending sender
+wish_of (Pack source) = Packing (in_plain source)
+wish_of (Takes takes) =
+    Listing (record { folder = string_bytes takes.folder; action = takes.action })
 
 -- what is given is this server
 pub record GivesServer (given : Text → Option Text) (server : Service) : Type 0 where
@@ -211,6 +105,11 @@ pub record GivesSender (given : Text → Option Text) (sender : Sender) : Type 0
   pub tries : GivesRounds (given (codes "rounds")) sender.rounds
   pub waits : GivesCount most_seconds (given (codes "timeout")) sender.timeout
 
+-- what is given are these takes
+pub record GivesTakes (given : Text → Option Text) (takes : PlainTakes) : Type 0 where
+  pub keeps : GivesFolder (given (codes "folder")) takes.folder
+  pub does : GivesAction (given (codes "give-up")) (is_set (given (codes "check"))) takes.action
+
 -- the command and its options ask for this
 abbrev pub IsWishOf : Option (Text × List Row) → Wish → Type 0
 IsWishOf None wish = ⊥
@@ -226,15 +125,28 @@ IsWishOf (Some command) (Serving server) =
     (command.0 ≡ codes "serve") × GivesServer (given_on_line command.1) server
 IsWishOf (Some command) (Sending sender) =
     (command.0 ≡ codes "send") × GivesSender (given_on_line command.1) sender
+IsWishOf (Some command) (Packing source) =
+    (command.0 ≡ codes "pack") × GivesSource command.1 source
+IsWishOf (Some command) (Listing takes) =
+    (command.0 ≡ codes "takes") × GivesTakes (given_on_line command.1) takes
 
 -- they ask for nothing
 abbrev pub AsksNothing : Option (Text × List Row) → Type 0
 AsksNothing command = (wish : Wish) → ¬ IsWishOf command wish
 
--- they ask for a file or a server, of which a path is kept
+-- a path is kept of what this is
+abbrev pub HasPath : Wish → Type 0
+HasPath (Replaying limit fuse) = ⊥
+HasPath (Rehearsing name limit) = ⊥
+HasPath (Inspecting path) = ⊤
+HasPath (Serving server) = ⊤
+HasPath (Sending sender) = ⊥
+HasPath (Packing source) = ⊤
+HasPath (Listing takes) = ⊤
+
+-- they ask for something of which a path is kept
 abbrev pub AsksForPath : Option (Text × List Row) → Type 0
-AsksForPath command = ((path : Text) × IsWishOf command (Inspecting path))
-    ⊎ ((server : Service) × IsWishOf command (Serving server))
+AsksForPath command = (wish : Wish) × HasPath wish × IsWishOf command wish
 
 -- what is given of this kind is good: a value that is one, or none if there is a default
 abbrev pub IsGood : BadValue → (Text → Option Text) → Type 0
@@ -256,6 +168,9 @@ IsGood UntilStopped given = (end : End)
 IsGood Connect given = (address : SocketAddr)
     × GivesAddress (is_set (given (codes "network"))) (given (codes "connect")) address
 IsGood Rounds given = (count : Option ℕ) × GivesCount most_rounds (given (codes "rounds")) count
+IsGood GiveUp given = (name : Option Text) × GivesNameIfAny (given (codes "give-up")) name
+IsGood Check given = (action : TakesAction)
+    × GivesAction (given (codes "give-up")) (is_set (given (codes "check"))) action
 
 -- the values that say how recorders are served, in the order in which they are looked at
 abbrev pub looked_at_waiting : List BadValue
@@ -267,7 +182,9 @@ looked_at command = if bytes_eq command (codes "replay") then Limit ∷ Fuse ∷
     else (if bytes_eq command (codes "rehearse") then Name ∷ Limit ∷ []
     else (if bytes_eq command (codes "serve")
     then Listen ∷ Folder ∷ Exchanges ∷ Limit ∷ (looked_at_waiting ++ UntilStopped ∷ [])
-    else (if bytes_eq command (codes "send") then Connect ∷ Name ∷ Rounds ∷ Timeout ∷ [] else [])))
+    else (if bytes_eq command (codes "send")
+    then Connect ∷ Name ∷ Rounds ∷ Timeout ∷ []
+    else (if bytes_eq command (codes "takes") then Folder ∷ GiveUp ∷ Check ∷ [] else []))))
 
 -- of these values, in this order, it is the first that is bad
 abbrev pub IsFirstBad : List BadValue → (Text → Option Text) → BadValue → Type 0
@@ -341,5 +258,7 @@ HasNumbersInRange (Run (Serve server)) = (0 < socket_port server.listen) × IsEn
 HasNumbersInRange (Run (Send sender)) = (0 < socket_port sender.connect)
     × ((1 ≤ sender.rounds) × (sender.rounds ≤ most_rounds))
     × IsWithin most_seconds sender.timeout
+HasNumbersInRange (Run (Pack source)) = ⊤
+HasNumbersInRange (Run (Takes takes)) = ⊤
 HasNumbersInRange (Bad value) = ⊤
 HasNumbersInRange (Report error) = ⊤

@@ -31,6 +31,10 @@ pub enum BadValue {
     Connect,
     /// How many exchanges a sender makes.
     Rounds,
+    /// The name of the take that is given up.
+    GiveUp,
+    /// `--check` together with `--give-up`.
+    Check,
 }
 
 impl BadValue {
@@ -52,6 +56,8 @@ impl BadValue {
             BadValue::UntilStopped => BAD_UNTIL_STOPPED,
             BadValue::Connect => BAD_CONNECT,
             BadValue::Rounds => BAD_ROUNDS,
+            BadValue::GiveUp => BAD_GIVE_UP,
+            BadValue::Check => BAD_CHECK,
         }
     }
 }
@@ -154,6 +160,22 @@ For more information, try '--help'.
 
 const BAD_ROUNDS: &str = "\
 error: '--rounds <N>' takes a number from 1 to 1000, in at most ten digits
+
+Usage: bwingest <COMMAND>
+
+For more information, try '--help'.
+";
+
+const BAD_GIVE_UP: &str = "\
+error: '--give-up <NAME>' takes 1 to 32 bytes of a-z, 0-9, '-' and '_'
+
+Usage: bwingest <COMMAND>
+
+For more information, try '--help'.
+";
+
+const BAD_CHECK: &str = "\
+error: '--check' can't be given beside '--give-up <NAME>'
 
 Usage: bwingest <COMMAND>
 

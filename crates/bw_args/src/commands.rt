@@ -9,8 +9,11 @@ ghost use Rattle.bw_args.specs.Lines.{IsNameGiven};
 
 mod network;
 mod options;
+mod packing;
 mod sending;
 mod serving;
+mod sources;
+mod taking;
 
 use crate::{BadValue, CommandLine, Task, numbers};
 use bw_request::Name;
@@ -28,7 +31,8 @@ pub fn bwingest<'a>(alloc: Global) -> Result<Command<'a>, AllocError>
 {
     offline(alloc)?
         .subcommand(serving::serve(alloc)?)?
-        .subcommand(sending::send(alloc)?)
+        .subcommand(sending::send(alloc)?)?
+        .subcommand(taking::takes(alloc)?)
 }
 
 /// The program with the commands that use no network.
@@ -38,7 +42,8 @@ fn offline<'a>(alloc: Global) -> Result<Command<'a>, AllocError>
     program(alloc)?
         .subcommand(replay(alloc)?)?
         .subcommand(rehearse(alloc)?)?
-        .subcommand(inspect(alloc)?)
+        .subcommand(inspect(alloc)?)?
+        .subcommand(packing::pack(alloc)?)
 }
 
 /// The program without its commands.
@@ -95,8 +100,8 @@ fn inspect<'a>(alloc: Global) -> Result<Command<'a>, AllocError>
     .arg(file_argument(alloc))
 }
 
-/// What parsed words result in. Only the path of a file or a folder takes memory, so that a bad
-/// value is reported however little is left.
+/// What parsed words result in. Only paths and settings take memory, so that a bad value is
+/// reported however little is left.
 pub fn line(alloc: Global, matches: &ArgMatches<'_>) -> Result<CommandLine, AllocError>
     ensures ok { IfOk result (IsLineFor (subcommand_rows_of matches.now)) }
     ensures err { OnErr result (AsksForPath (subcommand_rows_of matches.now)) }
@@ -107,6 +112,8 @@ pub fn line(alloc: Global, matches: &ArgMatches<'_>) -> Result<CommandLine, Allo
         Some(("inspect", options)) => inspect_line(alloc, options),
         Some(("serve", options)) => serving::serve_line(alloc, options),
         Some(("send", options)) => Ok(sending::send_line(options)),
+        Some(("pack", options)) => packing::pack_line(alloc, options),
+        Some(("takes", options)) => taking::takes_line(alloc, options),
         // `clap` refuses words without a command of ours.
         _ => Ok(CommandLine::BadValue(BadValue::Limit)),
     }

@@ -7,19 +7,25 @@ ghost use Rattle.bw_args.specs.Lines.{HasNumbersInRange, IsLineOf};
 ghost use Rattle.bw_args.specs.Forms.{RefusesValues, RunsInspect, RunsRehearsal, RunsReplay};
 ghost use Rattle.bw_args.specs.Forms.{ReportsHelp};
 ghost use Rattle.bw_args.specs.PeerForms.{RefusesPeers, RunsSender, RunsServer, WantsPeers};
+ghost use Rattle.bw_args.specs.FileForms.{RunsPack};
+ghost use Rattle.bw_args.specs.TakesForms.{RunsTakes};
 
 mod addresses;
 mod bad_value;
 mod commands;
+mod folder_takes;
 pub mod numbers;
 mod peers;
 mod read_words;
+mod recordings;
 
 pub use bad_value::BadValue;
 use bw_request::Name;
 use clap::Error;
 use clap::error::ErrorKind;
+pub use folder_takes::{FolderTakes, TakesAction};
 pub use peers::{End, Recorders, Send, Serve};
+pub use recordings::SourceFile;
 use std::alloc::{AllocError, Global};
 
 /// What a command line asks the program to do.
@@ -38,6 +44,10 @@ pub enum Task {
     Serve(Serve),
     /// Send the requests on standard input to a server.
     Send(Send),
+    /// Print the requests of a recording.
+    Pack(SourceFile),
+    /// List the takes in a server's folder, or give one up.
+    Takes(FolderTakes),
 }
 
 /// What a command line results in.
@@ -78,6 +88,8 @@ pub fn parse(alloc: Global, words: &[String]) -> Result<CommandLine, AllocError>
     ensures send { IfOk result (RunsSender (map string_bytes words.now)) }
     ensures peers { IfOk result (RefusesPeers (map string_bytes words.now)) }
     ensures wanted { IfOk result (WantsPeers (map string_bytes words.now)) }
+    ensures pack { IfOk result (RunsPack (map string_bytes words.now)) }
+    ensures takes { IfOk result (RunsTakes (map string_bytes words.now)) }
     ensures help { IfOk result (ReportsHelp (map string_bytes words.now)) }
 {
     let read = read_words::read_words(alloc, words)?;

@@ -57,21 +57,23 @@ module _ {X Y P R W L K N D A B I O E : Type 0} (S : StoreGhosts X) (J : Journal
     (link : LinkGhosts K) (network : NetworkGhosts N X P D R W A B) (listener_setup : ListenerSetupGhosts N L K) (dial : DialGhosts D A B)
     (replies : Reader A) (requests : Writer B) (input : Reader I) (out : Writer O) (reported : Writer E) where
   -- what is done for the words that were found is done for those that the system reports
-  pub reported-words : (words : Option (List Text)) (found : List Text) (file_at later : Text → Option (List ℕ))
-      (exit : Exit) (s m s' : ℕ) (n n' : N) (i i' : I) (o o' : O) (e e' : E) →
+  pub reported-words : (words : Option (List Text)) (found : List Text)
+      (file_at later recording_at : Text → Option (List ℕ)) (exit : Exit) (s m s' f f' : ℕ) (n n' : N) (i i' : I)
+      (o o' : O) (e e' : E) →
       ((reported : List Text) → words ≡ Some reported → found ≡ reported) → later ≡ file_at → m ≡ s
       → IsProgram S J peers reader writer reactor link network listener_setup dial replies requests input out reported
-      (record { words = Some found; file_at = later }) exit m s' n n' i i' o o' e e'
+      (record { words = Some found; file_at = later; recording_at = recording_at }) exit m s' f f' n n' i i' o o' e e'
       → IsProgram S J peers reader writer reactor link network listener_setup dial replies requests input out reported
-      (record { words = words; file_at = file_at }) exit s s' n n' i i' o o' e e'
-  reported-words words found file_at later exit s m s' n n' i i' o o' e e' same files counts (inl a) = inl (record {
-    line = a.line;
-    comes = λ reported e. subst (λ (w : List Text). IsLineOf w a.line) (same reported e) (a.comes found refl);
-    done = subst (λ (f : Text → Option (List ℕ)). IsDoneFor S J peers reader writer reactor link network listener_setup dial
-        replies requests input out reported f a.line exit s s' n n' i i' o o' e e') files
-        (subst (λ (k : ℕ). IsDoneFor S J peers reader writer reactor link network listener_setup dial replies requests
-        input out reported later a.line exit k s' n n' i i' o o' e e') counts a.done);
-  })
-  reported-words words found file_at later exit s m s' n n' i i' o o' e e' same files counts (inr w) =
-      inr (subst (λ (k : ℕ). DoesAlone S J peers reader writer reactor link network listener_setup dial replies requests input out
-      reported IsUnread exit k s' n n' i i' o o' e e') counts w)
+      (record { words = words; file_at = file_at; recording_at = recording_at }) exit s s' f f' n n' i i' o o' e e'
+  reported-words words found file_at later recording_at exit s m s' f f' n n' i i' o o' e e' same files counts (inl a) =
+      inl (record {
+        line = a.line;
+        comes = λ reported e. subst (λ (w : List Text). IsLineOf w a.line) (same reported e) (a.comes found refl);
+        done = subst (λ (g : Text → Option (List ℕ)). IsDoneFor S J peers reader writer reactor link network listener_setup
+            dial replies requests input out reported g recording_at a.line exit s s' f f' n n' i i' o o' e e') files
+            (subst (λ (k : ℕ). IsDoneFor S J peers reader writer reactor link network listener_setup dial replies requests
+            input out reported later recording_at a.line exit k s' f f' n n' i i' o o' e e') counts a.done);
+      })
+  reported-words words found file_at later recording_at exit s m s' f f' n n' i i' o o' e e' same files counts (inr w) =
+      inr (subst (λ (k : ℕ). DoesAlone S J peers reader writer reactor link network listener_setup dial replies requests
+      input out reported IsUnread exit k s' f f' n n' i i' o o' e e') counts w)

@@ -11,7 +11,7 @@ use Rattle.bw_args.specs.BadValues.{text_of}
 use Rattle.bw_args.specs.declared.CommandLine.{CommandLine}
 use Rattle.bw_args.specs.declared.CommandLine.TheVariants.{Run, BadValue as Bad, Report}
 use Rattle.bw_args.specs.declared.Task.{Task}
-use Rattle.bw_args.specs.declared.Task.TheVariants.{Replay, Inspect, Rehearse, Serve, Send}
+use Rattle.bw_args.specs.declared.Task.TheVariants.{Replay, Inspect, Rehearse, Serve, Send, Pack}
 use Rattle.bw_stream.specs.declared.sink.Sink.{Ghosts as Writer}
 use Rattle.bw_stream.specs.declared.source.Source.{Ghosts as Reader}
 use Rattle.bw_store.specs.declared.store.TakeStore.{Ghosts as StoreGhosts}
@@ -33,6 +33,7 @@ use Rattle.bw_ports.specs.declared.dial.Dial.{Ghosts as DialGhosts}
 use Rattle.bw_ports.specs.declared.network.Network.{Ghosts as NetworkGhosts}
 use Rattle.bw_ports.specs.declared.peers.Peers.{Ghosts as PeerGhosts}
 use Rattle.bw_ports.specs.declared.listener_setup.ListenerSetup.{Ghosts as ListenerSetupGhosts}
+use Rattle.bw_cli.specs.Packed.{Packs}
 use Rattle.bw_cli.specs.Remote.{Sends, ServesWith}
 
 -- help or the version is printed
@@ -65,13 +66,15 @@ IsReporting texts.DisplayHelp did = IsHelp did
 IsReporting texts.DisplayVersion did = IsHelp did
 IsReporting _ did = IsUsage did ⊎ IsOutOfMemory did
 
--- what the system gives: the words of the command line, and the bytes at each path
+-- what the system gives: the words of the command line, the bytes at each path, and those of
+-- recordings
 pub record Given : Type 0 where
   pub words : Option (List Text)
   pub file_at : Text → Option (List ℕ)
+  pub recording_at : Text → Option (List ℕ)
 
 -- what is done for a task over these files and this input, where the system gives what is asked of
--- it, or not; those that use the network are reported elsewhere
+-- it, or not; those that use the network or recordings are reported elsewhere
 abbrev pub IsTaskDone : (Text → Option (List ℕ)) → Option (List ℕ) → Task → Bool →
     Outcome → Type 0
 IsTaskDone file_at input (Replay limit fuse) gives_all did =
@@ -82,6 +85,7 @@ IsTaskDone file_at input (Rehearse name limit) gives_all did =
     IsRehearsal name limit input did × (gives_all ≡ true)
 IsTaskDone file_at input (Serve server) gives_all did = ⊥
 IsTaskDone file_at input (Send sender) gives_all did = ⊥
+IsTaskDone file_at input (Pack source) gives_all did = ⊥
 
 -- for a command line
 abbrev pub IsLineDone : (Text → Option (List ℕ)) → Option (List ℕ) → CommandLine → Bool →
@@ -102,34 +106,37 @@ module _ {X Y P R W L K N D A B I O E : Type 0} (S : StoreGhosts X) (J : Journal
     (link : LinkGhosts K) (network : NetworkGhosts N X P D R W A B) (listener_setup : ListenerSetupGhosts N L K)
     (dial : DialGhosts D A B) (replies : Reader A) (requests : Writer B) (input : Reader I)
     (out : Writer O) (reported : Writer E) where
-  -- this is done without the network
-  pub record DoesAlone (is_asked : Bool → Outcome → Type 0) (exit : Exit) (s s' : ℕ) (n n' : N)
+  -- this is done without the network, and without recordings
+  pub record DoesAlone (is_asked : Bool → Outcome → Type 0) (exit : Exit) (s s' f f' : ℕ) (n n' : N)
       (i i' : I) (o o' : O) (e e' : E) : Type 0 where
     pub does : Does input out reported is_asked exit s s' i i' o o' e e'
     pub unused : n' ≡ n
+    pub unread : f' ≡ f
 
   -- what is done for a command line, and how the program ends
-  abbrev pub IsDoneFor : (Text → Option (List ℕ)) → CommandLine → Exit → ℕ → ℕ → N → N →
-      I → I → O → O → E → E → Type 0
-  IsDoneFor file_at (Run (Serve server)) exit s s' n n' i i' o o' e e' =
+  abbrev pub IsDoneFor : (Text → Option (List ℕ)) → (Text → Option (List ℕ)) → CommandLine → Exit →
+      ℕ → ℕ → ℕ → ℕ → N → N → I → I → O → O → E → E → Type 0
+  IsDoneFor file_at recording_at (Run (Serve server)) exit s s' f f' n n' i i' o o' e e' =
       ServesWith S J peers reader writer reactor link out reported network listener_setup server exit n n' o o' e e'
-      × (s' ≡ s) × (i' ≡ i)
-  IsDoneFor file_at (Run (Send sender)) exit s s' n n' i i' o o' e e' =
+      × (s' ≡ s) × (f' ≡ f) × (i' ≡ i)
+  IsDoneFor file_at recording_at (Run (Send sender)) exit s s' f f' n n' i i' o o' e e' =
       Sends network dial replies requests input out reported sender exit n i i' o o' e e'
-      × (s' ≡ s) × (n' ≡ n)
-  IsDoneFor file_at line exit s s' n n' i i' o o' e e' =
-      DoesAlone (IsLineDone file_at (input.left i) line) exit s s' n n' i i' o o' e e'
+      × (s' ≡ s) × (f' ≡ f) × (n' ≡ n)
+  IsDoneFor file_at recording_at (Run (Pack source)) exit s s' f f' n n' i i' o o' e e' =
+      Packs out reported recording_at source exit f f' o o' e e' × (s' ≡ s) × (n' ≡ n) × (i' ≡ i)
+  IsDoneFor file_at recording_at line exit s s' f f' n n' i i' o o' e e' =
+      DoesAlone (IsLineDone file_at (input.left i) line) exit s s' f f' n n' i i' o o' e e'
 
   -- the words result in a command line, and this is done for it
-  pub record IsAnswered (given : Given) (exit : Exit) (s s' : ℕ) (n n' : N) (i i' : I) (o o' : O)
-      (e e' : E) : Type 0 where
+  pub record IsAnswered (given : Given) (exit : Exit) (s s' f f' : ℕ) (n n' : N) (i i' : I)
+      (o o' : O) (e e' : E) : Type 0 where
     pub line : CommandLine
     pub comes : (words : List Text) → given.words ≡ Some words → IsLineOf words line
-    pub done : IsDoneFor given.file_at line exit s s' n n' i i' o o' e e'
+    pub done : IsDoneFor given.file_at given.recording_at line exit s s' f f' n n' i i' o o' e e'
 
   -- what the program does
-  abbrev pub IsProgram : Given → Exit → ℕ → ℕ → N → N → I → I → O → O →
+  abbrev pub IsProgram : Given → Exit → ℕ → ℕ → ℕ → ℕ → N → N → I → I → O → O →
       E → E → Type 0
-  IsProgram given exit s s' n n' i i' o o' e e' =
-      IsAnswered given exit s s' n n' i i' o o' e e'
-      ⊎ DoesAlone IsUnread exit s s' n n' i i' o o' e e'
+  IsProgram given exit s s' f f' n n' i i' o o' e e' =
+      IsAnswered given exit s s' f f' n n' i i' o o' e e'
+      ⊎ DoesAlone IsUnread exit s s' f f' n n' i i' o o' e e'

@@ -8,6 +8,7 @@ ghost use Rattle.bw_console.specs.declared.exit.Exit.{Exit};
 ghost use Rattle.bw_console.specs.Exits.{status_of};
 ghost use Rattle.bw_cli.specs.Programs.{Given, IsDoneFor, IsProgram, IsReporting};
 
+use crate::recordings::pack_as;
 use crate::remote::{send_as, serve_as};
 use bw_args::{CommandLine, Task, parse};
 use bw_commands::replay::{replay, replay_fused};
@@ -16,7 +17,7 @@ use bw_console::print::{give_up, print, print_diagnostic};
 use bw_console::{Exit, Fault, report_bad_argv};
 use bw_journal::{Journal, NoJournal};
 use bw_layout::Limit;
-use bw_ports::{ListenerSetup, Network, System, Watch};
+use bw_ports::{ListenerSetup, Network, RecordingFiles, System, Watch};
 use bw_stream::{Sink, Source};
 use clap::Error;
 use std::alloc::Global;
@@ -29,9 +30,10 @@ use std::process::ExitCode;
 /// - When the status 4 is returned.
 /// - Which command line is obeyed if the system reports no words, as `Host` doesn't.
 /// - The texts of help, version and usage errors.
-pub fn start<S: System, N: Network + ListenerSetup, R: Source, W: Sink, E: Sink, V: Watch>(
+pub fn start<S: System, F: RecordingFiles, N: Network + ListenerSetup, R: Source, W: Sink, E: Sink, V: Watch>(
     alloc: Global,
     system: &mut S,
+    files: &mut F,
     network: &mut N,
     input: &mut R,
     out: &mut W,
@@ -41,21 +43,24 @@ pub fn start<S: System, N: Network + ListenerSetup, R: Source, W: Sink, E: Sink,
     ensures { let given : Given = record {
       words = S.words system.old;
       file_at = S.file_at system.old;
+      recording_at = F.file_at files.old;
     } in
         (exit : Exit) × (exit_status result ≡ status_of exit)
         × IsProgram N.Store.TakeStore ⟦<NoJournal as Journal>⟧ N.Peers.Peers
         N.Peers.Reader.Source N.Peers.Writer.Sink N.Reactor.Reactor N.Reactor.Link.Link N.Network
         N.ListenerSetup N.Dial.Dial N.Dial.Reader.Source N.Dial.Writer.Sink R.Source W.Sink E.Sink given
-        exit (S.failures system.old) (S.failures system.new) network.old network.new input.old
+        exit (S.failures system.old) (S.failures system.new)
+        (F.failures files.old) (F.failures files.new) network.old network.new input.old
         input.new out.old out.new faults.old faults.new }
 {
-    ExitCode::from(obey(alloc, system, network, input, out, faults, watch).status())
+    ExitCode::from(obey(alloc, system, files, network, input, out, faults, watch).status())
 }
 
 /// Reads the command line, and does what it asks for.
-fn obey<S: System, N: Network + ListenerSetup, R: Source, W: Sink, E: Sink, V: Watch>(
+fn obey<S: System, F: RecordingFiles, N: Network + ListenerSetup, R: Source, W: Sink, E: Sink, V: Watch>(
     alloc: Global,
     system: &mut S,
+    files: &mut F,
     network: &mut N,
     input: &mut R,
     out: &mut W,
@@ -65,11 +70,13 @@ fn obey<S: System, N: Network + ListenerSetup, R: Source, W: Sink, E: Sink, V: W
     ensures { let given : Given = record {
       words = S.words system.old;
       file_at = S.file_at system.old;
+      recording_at = F.file_at files.old;
     } in
         IsProgram N.Store.TakeStore ⟦<NoJournal as Journal>⟧ N.Peers.Peers
         N.Peers.Reader.Source N.Peers.Writer.Sink N.Reactor.Reactor N.Reactor.Link.Link N.Network
         N.ListenerSetup N.Dial.Dial N.Dial.Reader.Source N.Dial.Writer.Sink R.Source W.Sink E.Sink given
-        result (S.failures system.old) (S.failures system.new) network.old network.new input.old
+        result (S.failures system.old) (S.failures system.new)
+        (F.failures files.old) (F.failures files.new) network.old network.new input.old
         input.new out.old out.new faults.old faults.new }
 {
     match system.words() {
@@ -77,6 +84,7 @@ fn obey<S: System, N: Network + ListenerSetup, R: Source, W: Sink, E: Sink, V: W
             alloc,
             words.as_slice(),
             system,
+            files,
             network,
             input,
             out,
@@ -88,10 +96,11 @@ fn obey<S: System, N: Network + ListenerSetup, R: Source, W: Sink, E: Sink, V: W
 }
 
 /// Does what these words ask for.
-fn answer<S: System, N: Network + ListenerSetup, R: Source, W: Sink, E: Sink, V: Watch>(
+fn answer<S: System, F: RecordingFiles, N: Network + ListenerSetup, R: Source, W: Sink, E: Sink, V: Watch>(
     alloc: Global,
     words: &[String],
     system: &mut S,
+    files: &mut F,
     network: &mut N,
     input: &mut R,
     out: &mut W,
@@ -101,24 +110,27 @@ fn answer<S: System, N: Network + ListenerSetup, R: Source, W: Sink, E: Sink, V:
     ensures { let given : Given = record {
       words = Some (map string_bytes words.now);
       file_at = S.file_at system.old;
+      recording_at = F.file_at files.old;
     } in
         IsProgram N.Store.TakeStore ⟦<NoJournal as Journal>⟧ N.Peers.Peers
         N.Peers.Reader.Source N.Peers.Writer.Sink N.Reactor.Reactor N.Reactor.Link.Link N.Network
         N.ListenerSetup N.Dial.Dial N.Dial.Reader.Source N.Dial.Writer.Sink R.Source W.Sink E.Sink given
-        result (S.failures system.old) (S.failures system.new) network.old network.new input.old
+        result (S.failures system.old) (S.failures system.new)
+        (F.failures files.old) (F.failures files.new) network.old network.new input.old
         input.new out.old out.new faults.old faults.new }
 {
     match parse(alloc, words) {
-        Ok(line) => perform(alloc, &line, system, network, input, out, faults, watch),
+        Ok(line) => perform(alloc, &line, system, files, network, input, out, faults, watch),
         Err(_) => give_up(faults, &Fault::Memory),
     }
 }
 
 /// Does what a command line asks for.
-fn perform<S: System, N: Network + ListenerSetup, R: Source, W: Sink, E: Sink, V: Watch>(
+fn perform<S: System, F: RecordingFiles, N: Network + ListenerSetup, R: Source, W: Sink, E: Sink, V: Watch>(
     alloc: Global,
     line: &CommandLine,
     system: &mut S,
+    files: &mut F,
     network: &mut N,
     input: &mut R,
     out: &mut W,
@@ -129,11 +141,11 @@ fn perform<S: System, N: Network + ListenerSetup, R: Source, W: Sink, E: Sink, V
     ensures { IsDoneFor N.Store.TakeStore ⟦<NoJournal as Journal>⟧ N.Peers.Peers
         N.Peers.Reader.Source N.Peers.Writer.Sink N.Reactor.Reactor N.Reactor.Link.Link N.Network
         N.ListenerSetup N.Dial.Dial N.Dial.Reader.Source N.Dial.Writer.Sink R.Source W.Sink E.Sink
-        (S.file_at system.old) line.now result (S.failures system.old) (S.failures system.new)
-        network.old network.new input.old input.new out.old out.new faults.old faults.new }
+        (S.file_at system.old) (F.file_at files.old) line.now result (S.failures system.old)
+        (S.failures system.new) (F.failures files.old) (F.failures files.new) network.old network.new input.old input.new out.old out.new faults.old faults.new }
 {
     match line {
-        CommandLine::Run(task) => run(alloc, task, system, network, input, out, faults, watch),
+        CommandLine::Run(task) => run(alloc, task, system, files, network, input, out, faults, watch),
         CommandLine::BadValue(value) => {
             print_diagnostic(faults, value.text().as_bytes());
             Exit::Usage
@@ -143,10 +155,11 @@ fn perform<S: System, N: Network + ListenerSetup, R: Source, W: Sink, E: Sink, V
 }
 
 /// Runs a task.
-fn run<S: System, N: Network + ListenerSetup, R: Source, W: Sink, E: Sink, V: Watch>(
+fn run<S: System, F: RecordingFiles, N: Network + ListenerSetup, R: Source, W: Sink, E: Sink, V: Watch>(
     alloc: Global,
     task: &Task,
     system: &mut S,
+    files: &mut F,
     network: &mut N,
     input: &mut R,
     out: &mut W,
@@ -157,8 +170,8 @@ fn run<S: System, N: Network + ListenerSetup, R: Source, W: Sink, E: Sink, V: Wa
     ensures { IsDoneFor N.Store.TakeStore ⟦<NoJournal as Journal>⟧ N.Peers.Peers
         N.Peers.Reader.Source N.Peers.Writer.Sink N.Reactor.Reactor N.Reactor.Link.Link N.Network
         N.ListenerSetup N.Dial.Dial N.Dial.Reader.Source N.Dial.Writer.Sink R.Source W.Sink E.Sink
-        (S.file_at system.old) (CommandLine.Run task.now) result (S.failures system.old)
-        (S.failures system.new) network.old network.new input.old input.new out.old out.new
+        (S.file_at system.old) (F.file_at files.old) (CommandLine.Run task.now) result (S.failures system.old)
+        (S.failures system.new) (F.failures files.old) (F.failures files.new) network.old network.new input.old input.new out.old out.new
         faults.old faults.new }
 {
     match task {
@@ -174,6 +187,7 @@ fn run<S: System, N: Network + ListenerSetup, R: Source, W: Sink, E: Sink, V: Wa
         },
         Task::Serve(server) => serve_as(alloc, server, network, out, faults),
         Task::Send(sender) => send_as(alloc, sender, network, input, out, faults, watch),
+        Task::Pack(source) => pack_as(alloc, source, files, out, faults),
     }
 }
 

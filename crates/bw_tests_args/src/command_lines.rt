@@ -1,6 +1,6 @@
 //! What no clause says of command lines: that they are accepted or refused, by examples, and what
 //! texts they print.
-use crate::outcomes::{Line, Outcome, comes_to, lines_come_to, parse_words, value_comes_to};
+use crate::outcomes::{Line, Outcome, Said, comes_to, lines_come_to, parse_words, value_comes_to};
 use bw_args::numbers::number;
 use bw_args::{CommandLine, End, Recorders};
 use std::alloc::{AllocError, Global};
@@ -337,6 +337,8 @@ static SENDERS: [Line; 10] = [
     (&["--log"], Outcome::Refuses),
 ];
 
+const PLAINLY: Said = Said::Nothing { is_strict: false };
+
 /// The words that the lines of a sender begin with.
 static SEND: [&str; 5] = [
     "bwingest",
@@ -349,6 +351,52 @@ static SEND: [&str; 5] = [
 #[test]
 fn a_sender_takes_its_options_in_any_order(rt: HostRuntime) -> Result<(), AllocError> {
     lines_come_to(&rt, rt.alloc(), &SEND, &SENDERS)
+}
+
+static PACKS: [Line; 9] = [
+    (&["--", "-f"], Outcome::Packs(PLAINLY)),
+    (
+        &["--set", "value=-23.00", "--set=umid=", "--", "-f"],
+        Outcome::Packs(Said::ValueThenUmid { is_strict: false }),
+    ),
+    (
+        &["--set=umid=", "--strict", "--", "-f"],
+        Outcome::Packs(Said::Umid { is_strict: true }),
+    ),
+    (&[], Outcome::Refuses),
+    (&["-f"], Outcome::Refuses),
+    (&["--", "-f", "-f"], Outcome::Refuses),
+    (&["--name", "a1", "--", "-f"], Outcome::Refuses),
+    (&["--fruitless", "1", "--", "-f"], Outcome::Refuses),
+    (&["--strict=true", "--", "-f"], Outcome::Refuses),
+];
+
+#[test]
+fn a_pack_takes_a_file_and_its_settings(rt: HostRuntime) -> Result<(), AllocError> {
+    lines_come_to(&rt, rt.alloc(), &["bwingest", "pack"], &PACKS)
+}
+
+static TAKES: [Line; 12] = [
+    (&["--folder", "-d"], Outcome::Lists),
+    (&["--folder=-d"], Outcome::Lists),
+    (&["--check", "--folder", "-d"], Outcome::Checks),
+    (&["--folder", "-d", "--give-up=-a"], Outcome::GivesUp),
+    (&["--folder", "-d", "--give-up", "A"], Outcome::Refuses),
+    (&["--folder", "-d", "--give-up="], Outcome::Refuses),
+    (
+        &["--folder", "-d", "--check", "--give-up=-a"],
+        Outcome::Refuses,
+    ),
+    (&["--folder", "-d", "--check", "--check"], Outcome::Refuses),
+    (&["--folder", ""], Outcome::Refuses),
+    (&["--folder"], Outcome::Refuses),
+    (&[], Outcome::Refuses),
+    (&["-d"], Outcome::Refuses),
+];
+
+#[test]
+fn takes_are_those_of_a_folder(rt: HostRuntime) -> Result<(), AllocError> {
+    lines_come_to(&rt, rt.alloc(), &["bwingest", "takes"], &TAKES)
 }
 
 /// Addresses, with the outcome without `--network` and with it.
@@ -417,7 +465,7 @@ fn an_address_is_local_without_leave_for_the_network(rt: HostRuntime) -> Result<
     Ok(())
 }
 
-static TEXTS: [(&[&str], &str); 10] = [
+static TEXTS: [(&[&str], &str); 12] = [
     (&["/tmp/x", "--version"], "bwingest 1.0.0\n"),
     (&["/tmp/x", "--help"], "Usage: bwingest <COMMAND>\n"),
     (&["/tmp/x"], "Usage: bwingest <COMMAND>\n"),
@@ -442,6 +490,11 @@ static TEXTS: [(&[&str], &str); 10] = [
         &["/tmp/x", "send", "--help"],
         "How long a silent peer is waited for, 1 to 86400 [default: for good]",
     ),
+    (
+        &["/tmp/x", "pack", "--help"],
+        "Example: bwingest pack take.wav --set description='River at dawn' > take.hex\n",
+    ),
+    (&["/tmp/x", "pack"], "Usage: bwingest pack "),
     (
         &["/tmp/x", "send", "--help"],
         "Example: bwingest send --connect 127.0.0.1:4100 --name a1 < requests.hex\n",

@@ -1,5 +1,7 @@
 //! The outcomes of command lines, in small values, and how tests compare them.
-use bw_args::{CommandLine, End, Recorders, Send, Serve, Task, parse};
+use bw_args::{
+    CommandLine, End, FolderTakes, Recorders, Send, Serve, SourceFile, TakesAction, Task, parse,
+};
 use bw_request::Name;
 use clap::Error;
 use std::alloc::{AllocError, Global};
@@ -28,12 +30,31 @@ pub(crate) enum Outcome {
     Sends(u32, Option<u32>),
     /// Sends to another address.
     SendsElsewhere,
+    /// Packs the recording `-f`.
+    Packs(Said),
+    /// Lists the takes in the folder `-d`.
+    Lists,
+    /// The same, and checks them.
+    Checks,
+    /// Gives up the take `-a` in the folder `-d`.
+    GivesUp,
     /// Text on standard output, status 0.
     Shows,
     /// Text on standard error, status 2.
     Refuses,
     /// A stream and a status that don't belong together.
     Confuses,
+}
+
+/// What is said about a recording's file.
+#[derive(Clone, Copy, Debug, PartialEq, Eq)]
+pub(crate) enum Said {
+    /// No setting.
+    Nothing { is_strict: bool },
+    /// `umid=`.
+    Umid { is_strict: bool },
+    /// `value=-23.00`, then `umid=`.
+    ValueThenUmid { is_strict: bool },
 }
 
 /// What these words, of which the first is the program's own name, are read as.
@@ -66,6 +87,11 @@ fn run_outcome(task: &Task, words: &[&str]) -> Outcome {
         Task::Inspect { .. } => Outcome::Confuses,
         Task::Serve(server) => server_outcome(server),
         Task::Send(sender) => sender_outcome(sender),
+        Task::Takes(takes) => takes_outcome(takes),
+        Task::Pack(source) => match said_of(source) {
+            Some(said) => Outcome::Packs(said),
+            None => Outcome::Confuses,
+        },
     }
 }
 
@@ -84,6 +110,35 @@ fn sender_outcome(sender: &Send) -> Outcome {
         Outcome::Sends(sender.rounds, sender.timeout)
     } else {
         Outcome::SendsElsewhere
+    }
+}
+
+/// What is said about the file `-f`: which of the settings of the tests are given, in this order,
+/// and whether it is to be strict. None for another file or other settings.
+fn said_of(source: &SourceFile) -> Option<Said> {
+    if source.path.as_str() != "-f" {
+        return None;
+    }
+    let is_strict = source.strict;
+    match source.settings.as_slice() {
+        [] => Some(Said::Nothing { is_strict }),
+        [one] if one.as_str() == "umid=" => Some(Said::Umid { is_strict }),
+        [one, two] if one.as_str() == "value=-23.00" && two.as_str() == "umid=" => {
+            Some(Said::ValueThenUmid { is_strict })
+        }
+        _ => None,
+    }
+}
+
+fn takes_outcome(takes: &FolderTakes) -> Outcome {
+    if takes.folder.as_str() != "-d" {
+        return Outcome::Confuses;
+    }
+    match &takes.action {
+        TakesAction::List => Outcome::Lists,
+        TakesAction::Check => Outcome::Checks,
+        TakesAction::GiveUp(name) if name.as_bytes() == b"-a".as_slice() => Outcome::GivesUp,
+        TakesAction::GiveUp(_) => Outcome::Confuses,
     }
 }
 

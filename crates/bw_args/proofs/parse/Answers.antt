@@ -2,6 +2,7 @@ use Rattle.std.proofs.Common.{◌≡◌, map, rules, string_bytes}
 use Rattle.std.proofs.lemmas.Result.{IfOk-weaker}
 use Rattle.bw_args.specs.ReadWords.{as_read}
 use Rattle.bw_args.proofs.Asked.{line_limit}
+use Rattle.bw_args.proofs.FileLemmas.{runs_pack}
 use Rattle.bw_args.proofs.FormLemmas.{runs_inspect, runs_replay, reports_help}
 use Rattle.bw_args.proofs.LineLemmas.{line_asked, line_of_read, reported_line, reported_result}
 use Rattle.bw_args.proofs.RehearsalLemmas.{runs_rehearsal}
@@ -9,6 +10,7 @@ use Rattle.bw_args.proofs.ValueLemmas.{refuses_values}
 use Rattle.bw_args.proofs.PeerValueLemmas.{refuses_peers, wants_peers}
 use Rattle.bw_args.proofs.SenderLemmas.{runs_sender}
 use Rattle.bw_args.proofs.ServerLemmas.{runs_server}
+use Rattle.bw_args.proofs.TakesLemmas.{runs_takes}
 use Rattle.bw_args.proofs.parse.Goals as goal
 
 pub returns-in-Ok-clause-line : goal.returns-in-Ok-clause-line
@@ -82,3 +84,15 @@ returns-in-Ok-clause-wanted c = IfOk-weaker c.line.result _ _ (wants_peers _) (r
 
 pub returns-clause-wanted : goal.returns-clause-wanted
 returns-clause-wanted c = IfOk-weaker c.reported.result _ _ (wants_peers _) (returns-clause-line c)
+
+pub returns-in-Ok-clause-pack : goal.returns-in-Ok-clause-pack
+returns-in-Ok-clause-pack c = IfOk-weaker c.line.result _ _ (runs_pack _) (returns-in-Ok-clause-line c)
+
+pub returns-clause-pack : goal.returns-clause-pack
+returns-clause-pack c = IfOk-weaker c.reported.result _ _ (runs_pack _) (returns-clause-line c)
+
+pub returns-in-Ok-clause-takes : goal.returns-in-Ok-clause-takes
+returns-in-Ok-clause-takes c = IfOk-weaker c.line.result _ _ (runs_takes _) (returns-in-Ok-clause-line c)
+
+pub returns-clause-takes : goal.returns-clause-takes
+returns-clause-takes c = IfOk-weaker c.reported.result _ _ (runs_takes _) (returns-clause-line c)

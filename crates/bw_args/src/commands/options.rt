@@ -3,7 +3,9 @@ ghost use Rattle.bw_args.specs.Commands.{IsOption, connect_option, exchanges_opt
 ghost use Rattle.bw_args.specs.Commands.{flag, folder_option, fuse_option, idle_option};
 ghost use Rattle.bw_args.specs.Commands.{limit_option, listen_option, log_flag, name_option};
 ghost use Rattle.bw_args.specs.Commands.{network_flag, option, recorders_option, required};
-ghost use Rattle.bw_args.specs.Commands.{rounds_option, timeout_option, until_stopped_flag};
+ghost use Rattle.bw_args.specs.Commands.{repeated, rounds_option, set_option, strict_flag};
+ghost use Rattle.bw_args.specs.Commands.{check_flag, give_up_option, timeout_option};
+ghost use Rattle.bw_args.specs.Commands.{until_stopped_flag};
 
 use clap::{Arg, ArgAction};
 use std::alloc::Global;
@@ -23,6 +25,13 @@ fn required_option<'a>(alloc: Global, name: &'a str, value: &'a str, help: &'a s
     ensures { IsOption (required name.now) result }
 {
     value_option(alloc, name, value, help).required(true)
+}
+
+/// An option with a value that may be given more than once.
+fn repeated_option<'a>(alloc: Global, name: &'a str, value: &'a str, help: &'a str) -> Arg<'a>
+    ensures { IsOption (repeated name.now) result }
+{
+    value_option(alloc, name, value, help).action(ArgAction::Append)
 }
 
 /// An option without a value.
@@ -133,6 +142,20 @@ pub(crate) fn log_flag<'a>(alloc: Global) -> Arg<'a>
     flag_option(alloc, "log", help)
 }
 
+pub(crate) fn check_flag<'a>(alloc: Global) -> Arg<'a>
+    ensures { IsOption check_flag result }
+{
+    let help = "Compares each file with its journal";
+    flag_option(alloc, "check", help)
+}
+
+pub(crate) fn give_up_option<'a>(alloc: Global) -> Arg<'a>
+    ensures { IsOption give_up_option result }
+{
+    let help = "Gives the files of this take another name, so that a server starts without it";
+    value_option(alloc, "give-up", "NAME", help)
+}
+
 pub(crate) fn connect_option<'a>(alloc: Global) -> Arg<'a>
     ensures { IsOption connect_option result }
 {
@@ -145,4 +168,18 @@ pub(crate) fn rounds_option<'a>(alloc: Global) -> Arg<'a>
 {
     let help = "How many exchanges of at most 16 requests are made, 1 to 1000 [default: 16]";
     value_option(alloc, "rounds", "N", help)
+}
+
+pub(crate) fn set_option<'a>(alloc: Global) -> Arg<'a>
+    ensures { IsOption set_option result }
+{
+    let help = "Sets a field of the recording in place of the file's; may be given more than once";
+    repeated_option(alloc, "set", "KEY=VALUE", help)
+}
+
+pub(crate) fn strict_flag<'a>(alloc: Global) -> Arg<'a>
+    ensures { IsOption strict_flag result }
+{
+    let help = "Refuses a recording whose fields would have to be cleaned";
+    flag_option(alloc, "strict", help)
 }

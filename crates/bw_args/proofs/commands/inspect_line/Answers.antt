@@ -1,5 +1,6 @@
-use Rattle.std.proofs.Common.{Some, ap, ◌∙◌, inl}
+use Rattle.std.proofs.Common.{Some, ap, ◌∙◌}
 use Rattle.clap.specs.Words.{found_of}
+use Rattle.bw_args.specs.Lines.{Inspecting}
 use Rattle.bw_args.proofs.Asked.{file_asked, no_file_line, on_err}
 use Rattle.bw_args.proofs.commands.inspect_line.Goals as goal
 
@@ -11,4 +12,4 @@ returns-clause-ok c = file_asked (found_of c.args.options.now) _ (ap Some c.in_o
 
 pub returns-in_err-file-clause-err : goal.returns-in_err-file-clause-err
 returns-in_err-file-clause-err c =
-    on_err c.from_residual.result (inl (_, file_asked (found_of c.args.options.now) _ c.in-Some.ensures))
+    on_err c.from_residual.result (Inspecting _, tt, file_asked (found_of c.args.options.now) _ c.in-Some.ensures)

@@ -17,4 +17,5 @@ returns-in-Err g c =
         writes = record { printed = refl; reported = l.2 };
       };
       unused = refl;
+      unread = refl;
     })

@@ -19,4 +19,5 @@ returns-in-BadValue g c =
         writes = record { printed = refl; reported = l.2 };
       };
       unused = refl;
+      unread = refl;
     })

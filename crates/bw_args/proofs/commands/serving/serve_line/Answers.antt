@@ -1,6 +1,6 @@
 use Rattle.std.proofs.Common.{[], ◌∷◌, codes, inl, inr, refl, subst, sym}
 use Rattle.clap.specs.Words.{first_value, found_of}
-use Rattle.bw_args.specs.Lines.{GivesFolder, looked_at_waiting}
+use Rattle.bw_args.specs.Lines.{GivesFolder, Serving, looked_at_waiting}
 use Rattle.bw_args.specs.declared.bad_value.BadValue.TheVariants.{Listen, Folder, Exchanges, Limit}
 use Rattle.bw_args.specs.declared.bad_value.BadValue.TheVariants.{UntilStopped}
 use Rattle.bw_args.proofs.Asked.{an_address, an_end, bad_line, first_then, no_address, no_end, on_err, server_asked}
@@ -99,15 +99,16 @@ returns-in_default-end_given-clause-ok c = bad_line (found_of c.args.options.now
 ))
 
 pub returns-in_err-folder-clause-err : goal.returns-in_err-folder-clause-err
-returns-in_err-folder-clause-err c = on_err c.from_residual.result (inr (
-  record {
+returns-in_err-folder-clause-err c = on_err c.from_residual.result (
+  Serving (record {
     listen = c.in-Some.listen;
     folder = c.in-Some-folder_given.path.now;
     end = c.in-Some-end_given.end;
     limit = c.in-Some-limit_given.limit;
     recorders = c.in-Ok-recorders_given.recorders;
     log = c.flag_given-log.result;
-  },
+  }),
+  tt,
   server_asked (found_of c.args.options.now) _ (record {
     listens = an_address (found_of c.args.options.now) (codes "listen") _ _
         c.flag_given-network.ensures c.in-Some.ensures;
@@ -117,7 +118,7 @@ returns-in_err-folder-clause-err c = on_err c.from_residual.result (inr (
     serves = c.in-Ok-recorders_given.ensures.ok;
     reports = c.flag_given-log.ensures;
   }),
-))
+)
 
 pub returns-clause-ok : goal.returns-clause-ok
 returns-clause-ok c = server_asked (found_of c.args.options.now) _ (record {

@@ -1,0 +1,51 @@
+//! The file of a recording, as `pack` takes it.
+ghost use Rattle.std.specs.Prelude.{◌≡◌, codes, map, string_bytes, IfOk};
+ghost use Rattle.clap.specs.Words.{first_value, found_of, rows_of};
+ghost use Rattle.bw_args.specs.Given.{is_set};
+ghost use Rattle.bw_args.specs.Sources.{settings_on_line};
+
+use super::network::flag_given;
+use crate::SourceFile;
+use clap::ArgMatches;
+use std::alloc::{AllocError, Global};
+
+/// The file at this path, with what the options say about it.
+pub(crate) fn source_given(
+    alloc: Global,
+    options: &ArgMatches<'_>,
+    path: &str,
+) -> Result<SourceFile, AllocError>
+    ensures { IfOk result (λ source.
+        (string_bytes source.path ≡ path.now)
+        × (map string_bytes source.settings.items ≡ settings_on_line (rows_of (found_of options.now)))
+        × (source.strict ≡ is_set (first_value (found_of options.now) (codes "strict")))) }
+{
+    Ok(SourceFile {
+        path: String::from_str(alloc, path)?,
+        settings: settings_given(alloc, options)?,
+        strict: flag_given(options, "strict"),
+    })
+}
+
+/// What the options set, in their order.
+fn settings_given(alloc: Global, options: &ArgMatches<'_>) -> Result<Vec<String>, AllocError>
+    ensures { IfOk result (λ settings.
+        map string_bytes settings.items ≡ settings_on_line (rows_of (found_of options.now))) }
+{
+    match options.get_raw("set") {
+        Some(texts) => copies_of(alloc, texts),
+        None => Ok(Vec::new(alloc)),
+    }
+}
+
+/// A copy of each text.
+fn copies_of(alloc: Global, texts: &[&str]) -> Result<Vec<String>, AllocError>
+    ensures { IfOk result (λ copies.
+        map string_bytes copies.items ≡ map (λ text. text.now) texts.now) }
+{
+    let mut copies = Vec::new(alloc);
+    for text in texts {
+        copies.push(String::from_str(alloc, text)?)?;
+    }
+    Ok(copies)
+}

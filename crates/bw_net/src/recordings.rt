@@ -1,0 +1,83 @@
+//! The files of recordings, by the calls of std.
+ghost use Rattle.std.specs.Prelude.{◌≡◌, None, false};
+
+use crate::host::open_source;
+use bw_ports::{FileStamp, GrowingFile, RecordingFiles};
+use bw_stream::{IoFailed, SeekSource};
+use std::fs::{self, File};
+use std::io::{self, ErrorKind, Read, Seek, SeekFrom};
+use std::time::UNIX_EPOCH;
+
+/// The files of recordings on this machine. It reports neither their bytes nor their stamps, since
+/// no clause of std says what they are.
+#[derive(Drop)]
+pub struct HostRecordings<'a> {
+    rt: &'a HostRuntime,
+    failures: u64,
+}
+
+impl<'a> HostRecordings<'a> {
+    /// The files of this runtime's system, which has not failed yet.
+    ///
+    /// # Not specified
+    /// What the files hold, and when they were changed: no clause of std says it.
+    pub fn new(rt: &'a HostRuntime) -> HostRecordings<'a>
+        ensures { result.failures ≡ 0 }
+    {
+        HostRecordings { rt, failures: 0 }
+    }
+}
+
+impl<'a> RecordingFiles for HostRecordings<'a> {
+    type File = SeekSource<File>;
+
+    type Growing = FollowedFile<'a>;
+
+    ghost file_at = { λ s path. None };
+
+    ghost stamp_at = { λ s path. None };
+
+    ghost failures = { λ s. s.failures };
+
+    fn open(&mut self, path: &str) -> io::Result<SeekSource<File>> {
+        let opened = open_source(self.rt, path);
+        if opened.is_err() {
+            self.failures = self.failures.saturating_add(1);
+        }
+        opened
+    }
+
+    fn follow(
+        &mut self,
+        path: &str,
+        skip: u64,
+        until: Option<&str>,
+    ) -> io::Result<FollowedFile<'a>> {
+        let followed = FollowedFile::open(self.rt, path, skip, until);
+        if followed.is_err() {
+            self.failures = self.failures.saturating_add(1);
+        }
+        followed
+    }
+
+    fn stamp(&mut self, path: &str) -> io::Result<FileStamp> {
+        let stamp = stamp_of(self.rt, path);
+        if stamp.is_err() {
+            self.failures = self.failures.saturating_add(1);
+        }
+        stamp
+    }
+}
+
+/// The stamp of the file at a path. A pipe and a device have a length of 0.
+fn stamp_of(rt: &HostRuntime, path: &str) -> io::Result<FileStamp> {
+    let found = fs::metadata(rt, path)?;
+    let since = match found.modified()?.duration_since(UNIX_EPOCH) {
+        Ok(since) => since.as_nanos(),
+        Err(_) => 0,
+    };
+    Ok(FileStamp {
+        len: found.len(),
+        changed: u64::try_from(since).unwrap_or(u64::MAX),
+    })
+}
