@@ -74,7 +74,7 @@ def last_of(lines, first):
     indent = len(lines[first]) - len(lines[first].lstrip())
     for number in range(first + 1, len(lines)) if not lines[first].endswith("}") else ():
         text = lines[number].lstrip()
-        if text and len(lines[number]) - len(text) <= indent and not text.startswith(("{", ")", "where")):
+        if text and len(lines[number]) - len(text) <= indent and not text.startswith(("{", ")", ">", "where")):
             return number if text.startswith("}") and len(lines[number]) - len(text) == indent else number - 1
     return first
 

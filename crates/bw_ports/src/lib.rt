@@ -11,6 +11,7 @@ mod pause;
 mod peers;
 mod reactor;
 mod recording_files;
+mod starts;
 mod system;
 mod watch;
 
@@ -23,5 +24,6 @@ pub use pause::Pause;
 pub use peers::{AcceptFault, Peer, Peers};
 pub use reactor::{Accepted, Reactor, Ready, TryAcceptFault, WaitFault};
 pub use recording_files::{FileStamp, RecordingFiles};
+pub use starts::{StartRefusal, Starts};
 pub use system::System;
 pub use watch::{NoWatch, ProgressReport, Watch};

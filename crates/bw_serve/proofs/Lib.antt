@@ -7,5 +7,7 @@ mod Leaving
 mod Quanta
 mod Running
 mod Silence
+mod HeldRuns
+mod NewServers
 pub mod RunSteps
 pub mod AnsweredRuns

@@ -10,3 +10,6 @@ pub mod LinkLines
 pub mod ServedOne
 pub mod ServedAll
 pub mod Hosted
+pub mod HostedFrom
+pub mod Refusals
+pub mod HostedResumed

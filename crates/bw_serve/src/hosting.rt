@@ -1,6 +1,7 @@
 //! The command `serve` for many recorders at once: a server over a folder, from its first line to its
 //! end.
 ghost use Rattle.std.specs.Prelude.{◌≡◌};
+ghost use Rattle.bw_serve.specs.HostedFrom.{HostsManyFrom};
 ghost use Rattle.bw_serve.specs.HostedMany.{HostsMany, HostsManyOver};
 
 use crate::hosting_in_turn::{format_listening, report_end, report_unbound};
@@ -8,6 +9,7 @@ use crate::laws::law_names;
 use crate::serving::{Bounds, run_event_loop};
 use bw_console::print::{give_up, print};
 use bw_console::{Exit, Fault, report_unopened};
+use bw_engine::laws::law_server_runs;
 use bw_exchange::Metered;
 use bw_journal::{Journal, NoJournal};
 use bw_layout::Limit;
@@ -89,12 +91,52 @@ fn serve_over<S: TakeStore, B: Reactor, O: Sink, E: Sink>(
     let Ok(line) = format_listening(alloc, hosting.address) else {
         return give_up(faults, &Fault::Memory);
     };
-    let Ok(()) = print(out, line.as_str().as_bytes()) else {
+    law_names::<S>();
+    let (bounds, log) = (&hosting.bounds, hosting.log);
+    serve_many_from(
+        alloc,
+        server,
+        line.as_str(),
+        reactor,
+        bounds,
+        log,
+        out,
+        faults,
+    )
+}
+
+/// Prints the opening lines, and serves a number of exchanges, many at once, from the books that the
+/// server holds.
+///
+/// A line for each exchange is printed, and with `log` each connection is a line on `faults`, as
+/// `run_event_loop` says; if the opening can't be printed, nothing is served. The run is one from
+/// each book that the server holds over an honest store, and an honest journal that notes the book
+/// notes the book after the run.
+///
+/// `Done` after the last exchange; `Device` if the opening can't be written or the event loop can't
+/// continue; `Memory` if memory was refused before the first connection.
+///
+/// # Not specified
+/// - What `run_event_loop` leaves open.
+/// - What a dishonest store has after the run.
+pub fn serve_many_from<S: TakeStore, J: Journal, B: Reactor, O: Sink, E: Sink>(
+    alloc: Global,
+    server: Server<S, J>,
+    opening: &str,
+    reactor: &mut B,
+    bounds: &Bounds,
+    log: bool,
+    out: &mut O,
+    faults: &mut E,
+) -> Exit
+    ensures { HostsManyFrom S.TakeStore J.Journal B.Reactor B.Link.Link O.Sink E.Sink opening.now
+        bounds.now log result server reactor.old reactor.new out.old out.new faults.old faults.new }
+{
+    let Ok(()) = print(out, opening.as_bytes()) else {
         return give_up(faults, &Fault::Unwritable);
     };
-    law_names::<S>();
+    law_server_runs::<S, J>();
     let mut server = Metered::new(server);
-    let (bounds, log) = (&hosting.bounds, hosting.log);
     let exit = run_event_loop(alloc, &mut server, reactor, bounds, log, out, faults);
     report_end(exit, faults)
 }

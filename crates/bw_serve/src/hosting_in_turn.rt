@@ -4,10 +4,12 @@ ghost use Rattle.std.specs.IoError.{error_kind};
 ghost use Rattle.std.specs.Net.Text.{socket_text};
 ghost use Rattle.bw_serve.specs.Hosted.{Hosts, HostsOver, ReportsExit, ReportsUnopened};
 ghost use Rattle.bw_serve.specs.Hosted.{listening_line};
+ghost use Rattle.bw_serve.specs.HostedFrom.{HostsFrom};
 
 use crate::serving_in_turn::serve_run;
 use bw_console::print::{give_up, print, print_diagnostic};
 use bw_console::{Exit, Fault, report_unopened};
+use bw_engine::laws::law_server_runs;
 use bw_exchange::Metered;
 use bw_journal::{Journal, NoJournal};
 use bw_layout::Limit;
@@ -110,11 +112,51 @@ fn serve_over<S: TakeStore, P: Peers, O: Sink, E: Sink>(
     let Ok(line) = format_listening(alloc, serving.address) else {
         return give_up(faults, &Fault::Memory);
     };
-    let Ok(()) = print(out, line.as_str().as_bytes()) else {
+    let (exchanges, log) = (serving.exchanges, serving.log);
+    serve_from(
+        alloc,
+        server,
+        line.as_str(),
+        peers,
+        exchanges,
+        log,
+        out,
+        faults,
+    )
+}
+
+/// Prints the opening lines, and serves a number of exchanges from the books that the server holds.
+///
+/// A line for each exchange is printed, and with `log` each link is a line on `faults`, as
+/// `serve_run` says; if the opening can't be printed, nothing is served. The run is one from each
+/// book that the server holds over an honest store, and an honest journal that notes the book notes
+/// the book after the run.
+///
+/// `Done` after the last exchange; `Device` if the opening can't be written or no more peers are
+/// accepted; `Memory` if memory was refused to an exchange.
+///
+/// # Not specified
+/// - What `serve_run` leaves open.
+/// - What a dishonest store has after the run.
+pub fn serve_from<S: TakeStore, J: Journal, P: Peers, O: Sink, E: Sink>(
+    alloc: Global,
+    server: Server<S, J>,
+    opening: &str,
+    peers: &mut P,
+    exchanges: u64,
+    log: bool,
+    out: &mut O,
+    faults: &mut E,
+) -> Exit
+    ensures { HostsFrom S.TakeStore J.Journal P.Peers P.Reader.Source P.Writer.Sink O.Sink E.Sink
+        opening.now exchanges log result server peers.old peers.new out.old out.new faults.old
+        faults.new }
+{
+    let Ok(()) = print(out, opening.as_bytes()) else {
         return give_up(faults, &Fault::Unwritable);
     };
+    law_server_runs::<S, J>();
     let mut server = Metered::new(server);
-    let (exchanges, log) = (serving.exchanges, serving.log);
     let exit = serve_run(alloc, &mut server, peers, exchanges, log, out, faults);
     report_end(exit, faults)
 }

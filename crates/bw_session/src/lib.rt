@@ -5,6 +5,7 @@ mod admitting;
 mod body;
 mod borrowing;
 mod carrying;
+mod counting;
 mod draining;
 mod kept_take;
 pub mod laws;

@@ -14,14 +14,14 @@ use std::test::Fail;
 
 const TWO_VISITS: &[Visit] = &[QUICK, QUICK_OTHER];
 
-const PLAN: Plan = Plan {
+pub(crate) const PLAN: Plan = Plan {
     visits: TWO_VISITS,
     tick: 10,
     rounds: 100,
     reports: ReportsRound::Both,
 };
 
-const TWO: Bounds = Bounds {
+pub(crate) const TWO: Bounds = Bounds {
     places: 2,
     exchanges: 2,
     idle: 60_000,

@@ -17,6 +17,8 @@ mod logged;
 #[cfg(test)]
 mod memory_network;
 #[cfg(test)]
+mod memory_start;
+#[cfg(test)]
 mod places;
 #[cfg(test)]
 mod play;
@@ -30,6 +32,8 @@ mod scripted;
 mod scripted_reactor;
 #[cfg(test)]
 mod silent;
+#[cfg(test)]
+mod started;
 #[cfg(test)]
 mod stores;
 #[cfg(test)]

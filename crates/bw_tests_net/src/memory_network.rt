@@ -19,9 +19,9 @@ pub(crate) const PORT: u16 = 4000;
 /// A network that has no peers one after another, and no links to dial.
 #[derive(Drop)]
 pub(crate) struct MemoryNetwork {
-    alloc: Global,
+    pub(crate) alloc: Global,
     plan: Plan,
-    failures: u64,
+    pub(crate) failures: u64,
 }
 
 impl MemoryNetwork {

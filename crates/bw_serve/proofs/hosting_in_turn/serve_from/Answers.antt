@@ -1,0 +1,20 @@
+use Rattle.std.proofs.Common.{inl}
+use Rattle.bw_serve.proofs.HeldRuns.{run_leaves_from}
+use Rattle.bw_serve.proofs.hosting_in_turn.serve_from.Goals as goal
+
+pub returns : goal.returns
+returns g c =
+    let ran = c.serve_run-exit in
+    let run = rw c.new-server.ensures.server at ran.ensures in
+    inl (record {
+      following = ran.new.server.server;
+      between = c.print.new.out;
+      opens = rw c.as_bytes.ensures.value at c.in-Ok.ensures.ok;
+      ended = ran.result;
+      logged = ran.new.faults;
+      run = run;
+      leaves = run_leaves_from g.S.TakeStore g.J.Journal g.P.Peers g.P.Reader.Source g.P.Writer.Sink g.O.Sink g.E.Sink
+          c.args.log c.law_server_runs.ensures c.args.exchanges ran.result c.args.server ran.new.server.server
+          c.args.peers.now ran.new.peers c.print.new.out ran.new.out c.args.faults.now ran.new.faults run;
+      reports = c.report_end.ensures;
+    })

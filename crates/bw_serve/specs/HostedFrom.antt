@@ -1,0 +1,95 @@
+-- What a server does that holds books already, from its opening lines to its end.
+use Rattle.std.specs.Prelude.{◌≡◌, ◌⊎◌, ℕ, Bool, true, false, Option, List, IsTrue}
+use Rattle.bw_model.specs.Book.{Book, log_of}
+use Rattle.bw_model.specs.CountedTurn.{is_pending}
+use Rattle.bw_model.specs.Exchange.{take_in, content_in}
+use Rattle.bw_stream.specs.declared.sink.Sink.{Ghosts as Writer}
+use Rattle.bw_stream.specs.declared.source.Source.{Ghosts as Reader}
+use Rattle.bw_store.specs.declared.store.TakeStore.{Ghosts as StoreGhosts}
+use Rattle.bw_journal.specs.declared.journal.Journal.{Ghosts as JournalGhosts}
+use Rattle.bw_session.specs.Books.{HoldsBook}
+use Rattle.bw_session.specs.ServerTurns.{ServerTurn}
+use Rattle.bw_session.specs.declared.server.Server.{Server}
+use Rattle.bw_exchange.specs.Answering.{Answered}
+use Rattle.bw_engine.specs.ServerRuns.{RunsOn}
+use Rattle.bw_console.specs.Printing.{HasPrinted, HasStopped}
+use Rattle.bw_console.specs.declared.exit.Exit.{Exit}
+use Rattle.bw_console.specs.declared.fault.Fault.TheVariants as faults
+use Rattle.bw_ports.specs.declared.link.Link.{Ghosts as LinkGhosts}
+use Rattle.bw_ports.specs.declared.peers.Peers.{Ghosts as PeerGhosts}
+use Rattle.bw_ports.specs.declared.reactor.Reactor.{Ghosts as ReactorGhosts}
+use Rattle.bw_serve.specs.Hosted.{GivesUp, ReportsExit}
+use Rattle.bw_serve.specs.HostedMany.{answered_in_loop}
+use Rattle.bw_serve.specs.ServedAll.{ServesRun, answered_in_run}
+use Rattle.bw_serve.specs.Serving.{RunsEventLoop}
+use Rattle.bw_serve.specs.declared.serving.Bounds.{Bounds}
+
+module _ {X Y : Type 0} (S : StoreGhosts X) (J : JournalGhosts Y) where
+  -- These frames were answered in a run from a book that the server held. Each name that is closed
+  -- after it, or of which nothing waits, has its take's file, or what was there first; and an honest
+  -- journal that noted the book notes the one after the run.
+  pub record LeavesRunFrom (first : List ℕ → Option (List ℕ)) (book : Book) (old new : Server X Y S J)
+      (answered : List Answered) : Type 0 where
+    pub run : RunsOn S J first old new book answered
+    pub files : (name : List ℕ) → (is_pending (log_of run.later name) ≡ false)
+        ⊎ ((take_in false run.later name).closed ≡ true) →
+        S.contents new.stores.store name ≡ content_in first old.limit run.later name
+
+  -- so it is from each book that the server held, over an honest store
+  abbrev pub LeavesRunsFrom : Server X Y S J → Server X Y S J → List Answered → Type 0
+  LeavesRunsFrom old new answered = IsTrue (S.honest old.stores.store) →
+      (first : List ℕ → Option (List ℕ)) (book : Book) → HoldsBook S J first old book →
+      LeavesRunFrom first book old new answered
+
+-- the opening can't be written, and nothing is served
+pub record CantOpen {P O E : Type 0} (out : Writer O) (reported : Writer E) (opening : List ℕ)
+    (exit : Exit) (p p' : P) (o o' : O) (e e' : E) : Type 0 where
+  pub unmet : p' ≡ p
+  pub printed : HasStopped out opening o o'
+  pub reports : GivesUp reported faults.Unwritable exit e e'
+
+module _ {X Y P R W O E : Type 0} (S : StoreGhosts X) (J : JournalGhosts Y)
+    (peers : PeerGhosts P R W) (reader : Reader R) (writer : Writer W) (out : Writer O)
+    (reported : Writer E) where
+  -- after its opening lines this server served its exchanges, one after another
+  pub record ServesFrom (opening : List ℕ) (exchanges : ℕ) (log : Bool) (exit : Exit)
+      (server : Server X Y S J) (p p' : P) (o o' : O) (e e' : E) : Type 0 where
+    pub following : Server X Y S J
+    pub between : O
+    pub opens : HasPrinted out opening o between
+    pub ended : Exit
+    pub logged : E
+    pub run : ServesRun (ServerTurn S J) peers reader writer out reported log exchanges ended server
+        following p p' between o' e logged
+    pub leaves : LeavesRunsFrom S J server following (answered_in_run (ServerTurn S J) peers reader
+        writer out reported log exchanges ended server following p p' between o' e logged run)
+    pub reports : ReportsExit reported ended exit logged e'
+
+  -- it did, or could not print its opening lines
+  abbrev pub HostsFrom : List ℕ → ℕ → Bool → Exit → Server X Y S J → P → P → O → O → E → E → Type 0
+  HostsFrom opening exchanges log exit server p p' o o' e e' =
+      ServesFrom opening exchanges log exit server p p' o o' e e'
+      ⊎ CantOpen out reported opening exit p p' o o' e e'
+
+module _ {X Y B L O E : Type 0} (S : StoreGhosts X) (J : JournalGhosts Y) (reactor : ReactorGhosts B L)
+    (link : LinkGhosts L) (out : Writer O) (reported : Writer E) where
+  -- after its opening lines this server served its exchanges, many at once
+  pub record ServesManyFrom (opening : List ℕ) (bounds : Bounds) (log : Bool) (exit : Exit)
+      (server : Server X Y S J) (b b' : B) (o o' : O) (e e' : E) : Type 0 where
+    pub following : Server X Y S J
+    pub between : O
+    pub opens : HasPrinted out opening o between
+    pub ended : Exit
+    pub logged : E
+    pub run : RunsEventLoop reactor link (ServerTurn S J) out reported log bounds ended server
+        following b b' between o' e logged
+    pub leaves : LeavesRunsFrom S J server following (answered_in_loop reactor link (ServerTurn S J)
+        out reported log bounds ended server following b b' between o' e logged run)
+    pub reports : ReportsExit reported ended exit logged e'
+
+  -- it did, or could not print its opening lines
+  abbrev pub HostsManyFrom : List ℕ → Bounds → Bool → Exit → Server X Y S J → B → B → O → O → E → E
+      → Type 0
+  HostsManyFrom opening bounds log exit server b b' o o' e e' =
+      ServesManyFrom opening bounds log exit server b b' o o' e e'
+      ⊎ CantOpen out reported opening exit b b' o o' e e'
