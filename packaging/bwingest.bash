@@ -1,0 +1,26 @@
+# Completes the command line of bwingest in bash. tools/check_help holds it to what --help lists.
+
+_bwingest() {
+    local word=${COMP_WORDS[COMP_CWORD]} last=${COMP_WORDS[COMP_CWORD - 1]} options=
+    if [ "$COMP_CWORD" = 1 ]; then
+        COMPREPLY=($(compgen -W 'replay rehearse inspect pack serve send help --help --version' -- "$word"))
+        return
+    fi
+    case $last in
+    --folder) COMPREPLY=($(compgen -d -- "$word")) && return ;;
+    esac
+    case ${COMP_WORDS[1]} in
+    serve) options='--listen --folder --exchanges --limit --timeout --network --recorders --idle --until-stopped --log --help' ;;
+    send) options='--connect --name --rounds --timeout --network --help' ;;
+    inspect) options='--help' ;;
+    pack) options='--set --strict --help' ;;
+    replay) options='--limit --fuse --help' ;;
+    rehearse) options='--name --limit --help' ;;
+    esac
+    case $word in
+    -*) COMPREPLY=($(compgen -W "$options" -- "$word")) ;;
+    *) COMPREPLY=($(compgen -f -- "$word")) ;;
+    esac
+}
+
+complete -o filenames -F _bwingest bwingest
