@@ -2,7 +2,7 @@
 use Rattle.std.proofs.Common.{refl}
 use Rattle.bw_plan.proofs.Computing.{computing}
 use Rattle.bw_plan.specs.ExamplesOfPlans.{SmallPlanExample, LargeBlockPlanExample, CuePlanExample, ExtensiblePlanExample, TextPlanExample, DatePlanExample, TimePlanExample}
-use Rattle.bw_plan.specs.ExamplesOfPlans.{SettingsPlanExample, RefusedPlanExample, SettingTextPlanExample, BadSettingPlanExample}
+use Rattle.bw_plan.specs.ExamplesOfPlans.{SettingsPlanExample, RefusedPlanExample, SettingTextPlanExample, BadSettingPlanExample, PcmPlanExample, RefusedPcmExample}
 
 pub small : SmallPlanExample
 unfolding computing
@@ -47,3 +47,11 @@ setting_text = (refl, refl, refl, refl, refl, refl)
 pub bad_setting : BadSettingPlanExample
 unfolding computing
 bad_setting = (refl, refl, refl, refl, refl, refl)
+
+pub pcm : PcmPlanExample
+unfolding computing
+pcm = refl
+
+pub refused_pcm : RefusedPcmExample
+unfolding computing
+refused_pcm = (refl, refl, refl, refl)

@@ -14,3 +14,4 @@ pub mod CleanParts
 pub mod WholeRecordings
 pub mod PlanRuns
 pub mod Openings
+pub mod PcmRecordings

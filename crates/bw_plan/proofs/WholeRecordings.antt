@@ -33,10 +33,10 @@ record Comes (b : List ℕ) (o : Options) (r : Recording) : Type 0 where
   outlined : outline_of o (notes_of b form entries) ≡ Ok r.outline
   samples : samples_of b (report_of b form entries) ≡ r.samples
 
-not_ok : {X E : Type 0} {x : X} {e : E} → Err e ≡ Ok x → ⊥
+pub not_ok : {X E : Type 0} {x : X} {e : E} → Err e ≡ Ok x → ⊥
 not_ok h = cc
 
-ok_inj : {X E : Type 0} {x y : X} → ◌≡◌ {A = Result X E} (Ok x) (Ok y) → x ≡ y
+pub ok_inj : {X E : Type 0} {x y : X} → ◌≡◌ {A = Result X E} (Ok x) (Ok y) → x ≡ y
 ok_inj h = cc
 
 comes : (b : List ℕ) (o : Options) (r : Recording) → recording_of b o ≡ Ok r → Comes b o r
@@ -171,12 +171,12 @@ fields_fill b form es h = go (entry_of (codes "bext") es) refl
 
 -- What settings keep.
 
-record Keeps (f : Format) (m : List (ℕ × ℕ)) (l : ℕ) (r : Outline) : Type 0 where
-  format : r.format ≡ f
-  markers : r.markers ≡ m
-  samples_len : r.samples_len ≡ l
-  history : list_all is_history_byte r.history ≡ true
-  values : are_values shapes r.values ≡ true
+pub record Keeps (f : Format) (m : List (ℕ × ℕ)) (l : ℕ) (r : Outline) : Type 0 where
+  pub format : r.format ≡ f
+  pub markers : r.markers ≡ m
+  pub samples_len : r.samples_len ≡ l
+  pub history : list_all is_history_byte r.history ≡ true
+  pub values : are_values shapes r.values ≡ true
 
 value_set : (values : List (List ℕ)) (tag : ℕ) (v : List ℕ) → are_values shapes values ≡ true →
     (length v == 0) || is_none (field_fault tag v) ≡ true → are_values shapes (with_value values tag v) ≡ true
@@ -200,7 +200,7 @@ setting_keeps f m l r (History v) h k = record {
   values = k.values;
 }
 
-settings_keep : (f : Format) (m : List (ℕ × ℕ)) (l : ℕ) (r : Outline) (ss : List Setting) → are_settings ss ≡ true →
+pub settings_keep : (f : Format) (m : List (ℕ × ℕ)) (l : ℕ) (r : Outline) (ss : List Setting) → are_settings ss ≡ true →
     Keeps f m l r → Keeps f m l (fold with_setting r ss)
 settings_keep f m l r [] h k = k
 settings_keep f m l r (s ∷ ss) h k =

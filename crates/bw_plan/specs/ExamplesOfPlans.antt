@@ -3,12 +3,14 @@ use Rattle.std.specs.Prelude.{◌≡◌, ℕ, Result, Ok, Err, Some, None, List,
 use Rattle.std.specs.Prelude.{codes, take, drop, length, ◌+◌, true}
 use Rattle.bw_model.specs.Take.{Request, Open, Block, Mark, SetField, Close}
 use Rattle.bw_model.specs.ExampleWords.{hex, mono, small_file, cue_file, two_frames}
-use Rattle.bw_model.specs.Reading.{NotWave}
+use Rattle.bw_model.specs.Reading.{NotWave, Truncated}
 use Rattle.bw_plan.specs.Recordings.{Options, no_options, Field, History, Recording, recording_of}
 use Rattle.bw_plan.specs.Recordings.{FaultAt, RecordingFault, Unread, NotPcm, Bits, ValidBits, Align}
 use Rattle.bw_plan.specs.Recordings.{Rate, Channels, PartFrame, Unclean}
 use Rattle.bw_plan.specs.Plans.{plan}
 use Rattle.bw_plan.specs.SettingTexts.{setting_of}
+use Rattle.bw_plan.specs.PcmRecordings.{pcm_recording_of}
+use Rattle.bw_plan.specs.declared.pcm.Pcm.{Pcm}
 
 -- the requests of a recording, in blocks of so many frames, or why there is none
 abbrev pub planned : ℕ → Result Recording FaultAt → Result (List Request) FaultAt
@@ -63,6 +65,10 @@ with_fmt fmt = riff_file (hex "28000000") (hex "10000000" ++ fmt) []
 -- the file of two frames, with these bytes at a place
 abbrev pub changed : ℕ → List ℕ → List ℕ
 changed place bytes = take place small_file ++ bytes ++ drop (place + length bytes) small_file
+
+-- samples of one channel of 16 bits, after so many bytes
+abbrev pub mono_after : ℕ → Pcm
+mono_after skip = record { rate = 48000; channels = 1; bits = 16; skip = skip }
 
 -- Rows.
 
@@ -126,6 +132,27 @@ RefusedPlanExample =
     × RefusesFile (with_fmt (hex "01000100000000000000000002001000")) no_options Rate 12
     × RefusesFile (changed 686 (hex "03000000")) no_options PartFrame 682
     × RefusesFile [] no_options (Unread NotWave) 0
+
+-- headerless samples after one byte, with a field that is set
+abbrev pub PcmPlanExample : Type 0
+PcmPlanExample =
+    planned 1 (pcm_recording_of (255 ∷ two_frames) (record no_options {
+      settings = Field 1 (codes "Rain") ∷ [];
+    }) (mono_after 1))
+    ≡ Ok (Open mono [] ∷ SetField 1 (codes "Rain") ∷ Block (hex "0100") ∷ Block (hex "0200") ∷ Close 2
+    ∷ [])
+
+-- samples that end inside the third frame, a file of no sample, one that ends before the samples
+-- begin, and 20 bits
+abbrev pub RefusedPcmExample : Type 0
+RefusedPcmExample =
+    (pcm_recording_of (two_frames ++ 3 ∷ []) no_options (mono_after 0)
+    ≡ Err (record { kind = PartFrame; offset = 4 }))
+    × (planned 1 (pcm_recording_of (1 ∷ []) no_options (mono_after 1)) ≡ Ok (Open mono [] ∷ Close 0 ∷ []))
+    × (pcm_recording_of (1 ∷ []) no_options (mono_after 2)
+    ≡ Err (record { kind = Unread Truncated; offset = 2 }))
+    × (pcm_recording_of two_frames no_options (record (mono_after 0) { bits = 20 })
+    ≡ Err (record { kind = Bits; offset = 0 }))
 
 -- settings as texts: a level in hundredths, a number of samples, a text, a field that is left out
 abbrev pub SettingTextPlanExample : Type 0

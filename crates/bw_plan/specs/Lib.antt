@@ -14,3 +14,4 @@ pub mod SettingTexts
 pub mod Warnings
 pub mod ReportedWarnings
 pub mod Outside
+pub mod PcmRecordings

@@ -62,7 +62,7 @@ fn has_pcm_subformat(extension: &[u8]) -> bool
     extension.len() >= 24 && extension[8..24] == PCM_SUBFORMAT[..]
 }
 
-fn is_depth(bits: u16) -> bool
+pub(crate) fn is_depth(bits: u16) -> bool
     ensures { result ≡ ((bits == 16) || (bits == 24) || (bits == 32)) }
 {
     bits == 16 || bits == 24 || bits == 32
@@ -75,13 +75,13 @@ fn is_aligned(fmt: RawFmt) -> bool
     u32::from(fmt.align) == u32::from(fmt.channels) * u32::from(fmt.bits / 8)
 }
 
-fn is_rate(rate: u32) -> bool
+pub(crate) fn is_rate(rate: u32) -> bool
     ensures { result ≡ is_within 1 768000 rate }
 {
     (1..=768_000).contains(&rate)
 }
 
-fn is_channel_count(channels: u16) -> bool
+pub(crate) fn is_channel_count(channels: u16) -> bool
     ensures { result ≡ is_within 1 64 channels }
 {
     (1..=64).contains(&channels)

@@ -10,6 +10,7 @@ mod kept;
 mod markers;
 mod options;
 mod outline;
+mod pcm;
 mod plan;
 mod reading;
 mod recording;
@@ -20,14 +21,17 @@ mod warning;
 
 ghost use Rattle.bw_plan.specs.PlanLaws.{PlansHaveTheirCount, PlansMakeTakes, RecordingsAreWhole};
 ghost use Rattle.bw_plan.specs.Progress.{RunsGivePlans};
+ghost use Rattle.bw_plan.specs.PcmRecordings.{PcmRecordingsAreWhole};
 ghost use Rattle.bw_plan.specs.ExamplesOfPlans.{SmallPlanExample, LargeBlockPlanExample, CuePlanExample, ExtensiblePlanExample};
 ghost use Rattle.bw_plan.specs.ExamplesOfPlans.{TextPlanExample, DatePlanExample, TimePlanExample, SettingsPlanExample, RefusedPlanExample};
 ghost use Rattle.bw_plan.specs.ExamplesOfPlans.{SettingTextPlanExample, BadSettingPlanExample};
+ghost use Rattle.bw_plan.specs.ExamplesOfPlans.{PcmPlanExample, RefusedPcmExample};
 
 pub use fault::{RecordingFault, RecordingKind};
 pub use options::Options;
 pub use outline::Outline;
-pub use plan::Plan;
+pub use pcm::Pcm;
+pub use plan::{Plan, given_after};
 pub use reading::{read_extension, read_history};
 pub use recording::{block_frames, outline_of};
 pub use setting::{Setting, SettingRef};
@@ -37,12 +41,13 @@ pub use warning::{Warning, warnings};
 
 /// Whatever the size of the blocks, each request of a recording's plan is stored, and together they
 /// make the recording's take. A plan has as many requests as `outline_of` counts. Each recording of
-/// a file is one of these, whatever the file's bytes, where what is set is allowed. What `Plan`
-/// gives from its start to its end is the plan.
+/// a file is one of these, whatever the file's bytes, where what is set is allowed, and so is each of
+/// headerless samples. What `Plan` gives from its start to its end is the plan.
 pub fn law_plan()
     ensures takes { PlansMakeTakes }
     ensures count { PlansHaveTheirCount }
     ensures whole { RecordingsAreWhole }
+    ensures pcm { PcmRecordingsAreWhole }
     ensures runs { RunsGivePlans }
 {}
 
@@ -59,4 +64,6 @@ pub fn examples_of_plans()
     ensures refused { RefusedPlanExample }
     ensures setting_text { SettingTextPlanExample }
     ensures bad_setting { BadSettingPlanExample }
+    ensures pcm { PcmPlanExample }
+    ensures refused_pcm { RefusedPcmExample }
 {}

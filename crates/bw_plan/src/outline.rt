@@ -5,6 +5,8 @@ ghost use Rattle.bw_inspect.specs.Reports.{bext_by};
 ghost use Rattle.bw_plan.specs.Cleaning.{values_of};
 ghost use Rattle.bw_plan.specs.Notes.{notes_by};
 ghost use Rattle.bw_plan.specs.Recordings.{raw_fields, recorded_format, outline as outline_by, with_setting};
+ghost use Rattle.bw_plan.specs.Recordings.{no_options};
+ghost use Rattle.bw_plan.specs.PcmRecordings.{set_pcm_outline};
 
 use crate::cleaning::{clean_history, to_vec};
 use crate::markers::markers;
@@ -63,6 +65,19 @@ impl Outline {
             markers: markers(alloc, frames, report.cues.as_slice())?,
             samples_len: report.data_size,
         })
+    }
+
+    /// The recording of so many bytes of samples, of which nothing else is known.
+    pub(crate) fn of_samples(alloc: Global, format: Fmt, samples_len: u64) -> Outline
+        ensures { result ≡ set_pcm_outline no_options format samples_len }
+    {
+        Outline {
+            format,
+            history: Vec::new(alloc),
+            values: Values::none(alloc),
+            markers: Vec::new(alloc),
+            samples_len,
+        }
     }
 
     /// The sample format.

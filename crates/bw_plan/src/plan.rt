@@ -275,9 +275,9 @@ impl Plan {
     }
 }
 
-/// The first tag after this one under which a value is given.
+/// The first tag after this one under which a value is given; None where there is none.
 #[tactic(auto, using(crate::proofs::NextFields::not_given, crate::proofs::NextFields::is_given, crate::proofs::NextFields::none_given))]
-fn given_after(values: &Values, after: u8) -> Option<u8>
+pub fn given_after(values: &Values, after: u8) -> Option<u8>
     ensures { MatchOption result (fields_after after values.now ≡ [])
         (λ tag. fields_after after values.now
         ≡ SetField tag (value_under values.now tag) ∷ fields_after tag values.now) }

@@ -172,7 +172,7 @@ pub fn block_frames(options: &Options, format: Fmt) -> u32
 }
 
 /// Whether blocks of so many frames make more requests than a sender has numbers for.
-fn is_too_long(outline: &Outline, frames: u32) -> bool
+pub(crate) fn is_too_long(outline: &Outline, frames: u32) -> bool
     requires { 1 ≤ frames }
     ensures { result ≡ nat_lt (last_number Second + 1) (request_count frames outline.now) }
 {

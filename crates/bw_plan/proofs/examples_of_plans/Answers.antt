@@ -14,4 +14,6 @@ returns c = record {
   refused = rows.refused;
   setting_text = rows.setting_text;
   bad_setting = rows.bad_setting;
+  pcm = rows.pcm;
+  refused_pcm = rows.refused_pcm;
 }
