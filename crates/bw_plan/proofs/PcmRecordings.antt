@@ -1,8 +1,8 @@
 -- Recordings of headerless samples may be stored.
-use Rattle.std.proofs.Common.{◌≡◌, ℕ, ◌+◌, ◌-◌, ◌≤◌, Bool, true, false, cond, ◌&&◌, List, [], ◌∷◌, ◌++◌}
+use Rattle.std.proofs.Common.{◌≡◌, ℕ, ◌-◌, true, ◌&&◌, List, []}
 use Rattle.std.proofs.Common.{length, drop, Option, Some, None, Result, Ok, Err, refl, sym, ◌∙◌, ap, subst}
-use Rattle.std.proofs.Common.{arith, length-drop}
-use Rattle.std.specs.Prelude.{◌/◌, ◌%◌, ◌||◌, ◌==◌, not, nat_lt}
+use Rattle.std.proofs.Common.{length-drop}
+use Rattle.std.specs.Prelude.{◌/◌, ◌%◌, ◌||◌, ◌==◌}
 use Rattle.std.proofs.lemmas.Bool.{and_from, eqb-true, not-false}
 use Rattle.bw_model.specs.Bytes.{first_that_holds, unless, is_within}
 use Rattle.bw_model.specs.Take.{Format, shapes, is_format, block_align}

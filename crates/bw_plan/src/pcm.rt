@@ -125,12 +125,7 @@ impl Pcm {
 ///
 /// # Errors
 /// `AllocError` where memory was refused.
-fn made(
-    alloc: Global,
-    format: Fmt,
-    len: u64,
-    options: &Options,
-) -> Result<Outline, AllocError>
+fn made(alloc: Global, format: Fmt, len: u64, options: &Options) -> Result<Outline, AllocError>
     ensures { IfOk result (λ r. r ≡ set_pcm_outline options.now format len) }
 {
     let mut outline = Outline::of_samples(alloc, format, len);

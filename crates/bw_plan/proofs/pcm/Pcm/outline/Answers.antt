@@ -1,4 +1,4 @@
-use Rattle.std.proofs.Common.{◌≡◌, ◌∙◌, ap, sym, ◌-◌, ℕ}
+use Rattle.std.proofs.Common.{◌∙◌, ap, sym}
 use Rattle.bw_model.specs.Take.{Format}
 use Rattle.bw_plan.specs.PcmRecordings.{set_pcm_outline, pcm_format}
 use Rattle.bw_plan.proofs.PcmRecordings.{pcm_outlined, wrong_pcm_format, wrong_pcm_content}
