@@ -5,8 +5,9 @@ ghost use Rattle.std.specs.List.{All, Contains, HoldsAt};
 ghost use Rattle.bw_store.specs.Stores.{Counts, Creates, Written, MayTear, KeepsOthers};
 ghost use Rattle.bw_disk.specs.Disks.{IsOneCall, AsksOnce, Syncs};
 ghost use Rattle.bw_disk.specs.DiskSteps.{StaysWhole};
-ghost use Rattle.bw_folder.specs.Folders.{take_path, take_content, open_names, opened_by, found_by};
+ghost use Rattle.bw_folder.specs.Folders.{take_path as path_of_take, take_content, open_names, opened_by, found_by};
 
+use crate::paths::take_path;
 use bw_disk::{Disk, SystemDisk, Volume};
 use bw_request::Name;
 use bw_store::{CallCounter, Created, StoreFault, TakeStore};
@@ -33,7 +34,7 @@ pub struct FolderStore<D: Disk> {
     takes: Vec<OpenTake<D::File>>,
     call_counter: CallCounter,
     ghost paths: { IsTrue (D.honest disk) → All
-        (λ take. D.path_of take.file ≡ take_path (string_bytes folder) take.name) takes.items },
+        (λ take. D.path_of take.file ≡ path_of_take (string_bytes folder) take.name) takes.items },
 }
 
 impl<R: Files + Drop> FolderStore<SystemDisk<R>> {
@@ -71,13 +72,25 @@ impl<D: Disk> FolderStore<D> {
         ensures failures { IfOk result (λ s. s.call_counter.failures ≡ 0) }
         ensures calls { IfOk result (λ s. s.call_counter.calls ≡ 0) }
     {
-        Ok(FolderStore {
+        let folder = String::from_str(alloc, folder)?;
+        Ok(FolderStore::in_folder(disk, alloc, folder))
+    }
+
+    /// The same for a folder whose path is owned, so that nothing can fail.
+    pub fn in_folder(disk: D, alloc: Global, folder: String) -> FolderStore<D>
+        ensures disk { result.disk ≡ disk }
+        ensures folder { string_bytes result.folder ≡ string_bytes folder }
+        ensures takes { result.takes.items ≡ [] }
+        ensures failures { result.call_counter.failures ≡ 0 }
+        ensures calls { result.call_counter.calls ≡ 0 }
+    {
+        FolderStore {
             disk,
             alloc,
-            folder: String::from_str(alloc, folder)?,
+            folder,
             takes: Vec::new(alloc),
             call_counter: CallCounter::new(),
-        })
+        }
     }
 
     /// The disk of the folder.
@@ -101,20 +114,6 @@ impl<D: Disk> FolderStore<D> {
         disk
     }
 
-    #[tactic(auto, unfolding(crate::specs::Folders::take_path))]
-    fn path(&self, name: &Name) -> Result<String, StoreFault>
-        ensures { IfOk result (λ p.
-            string_bytes p ≡ take_path (string_bytes self.now.folder) name.now) }
-    {
-        let Ok(text) = std::str::from_utf8(name.as_bytes()) else {
-            return Err(StoreFault);
-        };
-        match format!(in self.alloc; "{}/{text}.wav", self.folder) {
-            Ok(path) => Ok(path),
-            Err(_) => Err(StoreFault),
-        }
-    }
-
     #[tactic(auto, using(crate::proofs::TakePaths::take_path_injective))]
     fn make(&mut self, name: &Name) -> Result<Created, StoreFault>
         ensures call_counter { self.new.call_counter ≡ self.old.call_counter }
@@ -136,7 +135,7 @@ impl<D: Disk> FolderStore<D> {
             ≡ opened_by result name.now (open_names self.old.takes.items) }
     {
         // Whatever needs memory comes first, so that a call that fails makes no file.
-        let path = self.path(name)?;
+        let path = take_path(self.alloc, &self.folder, name)?;
         self.takes.reserve(1).map_err(|_| StoreFault)?;
         let Some(file) = self.disk.create_new(path.as_str()).map_err(|_| StoreFault)? else {
             return Ok(Created::Exists);
@@ -169,7 +168,7 @@ impl<D: Volume> FolderStore<D> {
         ensures opened { open_names self.new.takes.items
             ≡ found_by result name.now (open_names self.old.takes.items) }
     {
-        let found = self.path(name)?;
+        let found = take_path(self.alloc, &self.folder, name)?;
         self.takes.reserve_exact(1).map_err(|_| StoreFault)?;
         let Some(file) = self.disk.open(found.as_str()).map_err(|_| StoreFault)? else {
             return Ok(false);

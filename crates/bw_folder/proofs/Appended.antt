@@ -1,0 +1,134 @@
+-- What writes over a prefix of the same bytes leave.
+use Rattle.std.proofs.Common.{◌≡◌, ◌∙◌, ℕ, zero, suc, ◌+◌, ◌-◌, ◌<◌, ◌≤◌, Bool, true, false, List, [], ◌∷◌, ◌++◌, length}
+use Rattle.std.proofs.Common.{take, drop, replicate, Option, Some, refl, sym, ap, arith}
+use Rattle.std.specs.Prelude.{option_map, nat_lt, OnErr, Result, Ok, Err}
+use Rattle.std.proofs.lemmas.Bool.{ltb-true, ltb-false}
+use Rattle.std.proofs.lemmas.List.{drop_all, take_all, append-nil, append_assoc, length-append, take-append-drop}
+use Rattle.std.proofs.Math.Seq.{take-append_seam, drop-append_seam, drop-append-add}
+use Rattle.bw_model.proofs.Elements.{some_inj}
+use Rattle.bw_store.specs.Stores.{Written, overwritten}
+use Rattle.bw_disk.specs.Volumes.{WrittenInPart}
+use Rattle.bw_journal.specs.Notes.{Notes, NotesInPart}
+
+-- a write that leaves no gap
+written_of : (old : List ℕ) (place y : ℕ) (ys head tail : List ℕ) → take place old ≡ head → place - length old ≡ 0 →
+    drop (place + length (y ∷ ys)) old ≡ tail → overwritten old place (y ∷ ys) ≡ (head ++ (y ∷ ys)) ++ tail
+written_of old place y ys head tail first none last =
+    let bytes = y ∷ ys in
+    let rest = drop (place + length bytes) old in
+    ap (λ (z : List ℕ). ((z ++ replicate (place - length old) 0) ++ bytes) ++ rest) first
+    ∙ ap (λ (n : ℕ). ((head ++ replicate n 0) ++ bytes) ++ rest) none
+    ∙ ap (λ (z : List ℕ). (z ++ bytes) ++ rest) (append-nil head)
+    ∙ ap (λ (z : List ℕ). (head ++ bytes) ++ z) last
+
+written_first : (xs : List ℕ) (y : ℕ) (ys : List ℕ) →
+    overwritten xs 0 (y ∷ ys) ≡ (y ∷ ys) ++ drop (length (y ∷ ys)) xs
+written_first xs y ys =
+    let same : 0 + length (y ∷ ys) ≡ length (y ∷ ys) = omega arith in
+    written_of xs 0 y ys [] (drop (length (y ∷ ys)) xs) refl (omega arith) (ap (λ (n : ℕ). drop n xs) same)
+
+-- a write where the first bytes end
+pub overwritten_after : (base xs ys : List ℕ) → overwritten (base ++ xs) (length base) ys ≡ base ++ overwritten xs 0 ys
+overwritten_after base xs [] = refl
+overwritten_after base xs (y ∷ ys) =
+    let long : length (base ++ xs) ≡ length base + length xs = length-append base xs in
+    written_of (base ++ xs) (length base) y ys base (drop (length (y ∷ ys)) xs) (take-append_seam base xs)
+    (omega (arith, long)) (drop-append-add base xs (length (y ∷ ys)))
+    ∙ append_assoc base (y ∷ ys) (drop (length (y ∷ ys)) xs)
+    ∙ ap (λ (z : List ℕ). base ++ z) (sym (written_first xs y ys))
+
+-- a write of no fewer bytes than there are
+pub overwritten_over : (xs ys : List ℕ) → length xs ≤ length ys → overwritten xs 0 ys ≡ ys
+overwritten_over [] [] h = refl
+overwritten_over (x ∷ xs) [] h = absurd (omega arith)
+overwritten_over xs (y ∷ ys) h =
+    written_first xs y ys
+    ∙ ap (λ (z : List ℕ). (y ∷ ys) ++ z) (drop_all (length (y ∷ ys)) xs h)
+    ∙ append-nil (y ∷ ys)
+
+-- a write of bytes that are there already
+overwritten_same : (ys zs : List ℕ) → overwritten (ys ++ zs) 0 ys ≡ ys ++ zs
+overwritten_same [] zs = refl
+overwritten_same (y ∷ ys) zs =
+    written_first ((y ∷ ys) ++ zs) y ys ∙ ap (λ (z : List ℕ). (y ∷ ys) ++ z) (drop-append_seam (y ∷ ys) zs)
+
+take_fewer : (n m : ℕ) (xs : List ℕ) → n ≤ m → take n (take m xs) ≡ take n xs
+take_fewer zero m xs h = refl
+take_fewer (suc n) zero xs h = absurd (omega arith)
+take_fewer (suc n) (suc m) [] h = refl
+take_fewer (suc n) (suc m) (x ∷ xs) h = ap (λ (z : List ℕ). x ∷ z) (take_fewer n m xs (omega arith))
+
+short : (n m : ℕ) (xs : List ℕ) → n ≤ m → length (take n xs) ≤ length (take m xs)
+short zero m xs h = omega arith
+short (suc n) zero xs h = absurd (omega arith)
+short (suc n) (suc m) [] h = omega arith
+short (suc n) (suc m) (x ∷ xs) h = let less : length (take n xs) ≤ length (take m xs) = short n m xs (omega arith) in omega arith
+
+within : (n : ℕ) (xs : List ℕ) → length (take n xs) ≤ length xs
+within zero xs = omega arith
+within (suc n) [] = omega arith
+within (suc n) (x ∷ xs) = let less : length (take n xs) ≤ length xs = within n xs in omega arith
+
+-- all bytes over a prefix of them
+pub overwritten_whole : (count : ℕ) (bytes : List ℕ) → overwritten (take count bytes) 0 bytes ≡ bytes
+overwritten_whole count bytes = overwritten_over (take count bytes) bytes (within count bytes)
+
+-- a prefix over a prefix of the same bytes
+pub overwritten_part : (count n : ℕ) (bytes : List ℕ) →
+    (k : ℕ) × (overwritten (take count bytes) 0 (take n bytes) ≡ take k bytes)
+overwritten_part count n bytes = go (nat_lt n count) refl
+  where
+    go : (b : Bool) → nat_lt n count ≡ b → (k : ℕ) × (overwritten (take count bytes) 0 (take n bytes) ≡ take k bytes)
+    go true e =
+        let less : n < count = ltb-true n count e in
+        let split : take n bytes ++ drop n (take count bytes) ≡ take count bytes =
+        ap (λ (z : List ℕ). z ++ drop n (take count bytes)) (sym (take_fewer n count bytes (omega (arith, less))))
+        ∙ take-append-drop n (take count bytes) in (
+          count,
+          ap (λ (z : List ℕ). overwritten z 0 (take n bytes)) (sym split)
+              ∙ overwritten_same (take n bytes) (drop n (take count bytes))
+              ∙ split,
+        )
+    go false e =
+        let more : count ≤ n = ltb-false n count e in
+        (n, overwritten_over (take count bytes) (take n bytes) (short count n bytes more))
+
+-- bytes that were written after the first ones, over a prefix of them
+pub written_notes : (offset : ℕ) (bytes : List ℕ) (before after : Option (List ℕ)) → Written before offset bytes after →
+    Notes offset bytes before after
+written_notes offset bytes before after w = λ base count was long.
+    let same : w.0 ≡ base ++ take count bytes = some_inj (sym w.1 ∙ was) in
+    w.2
+    ∙ ap (λ (o : List ℕ). Some (overwritten o offset bytes)) same
+    ∙ ap (λ (n : ℕ). Some (overwritten (base ++ take count bytes) n bytes)) (sym long)
+    ∙ ap (λ (z : List ℕ). Some z) (overwritten_after base (take count bytes) bytes)
+    ∙ ap (λ (z : List ℕ). Some (base ++ z)) (overwritten_whole count bytes)
+
+-- a prefix of them
+pub part_notes : (offset : ℕ) (bytes : List ℕ) (before after : Option (List ℕ)) → WrittenInPart before offset bytes after →
+    NotesInPart offset bytes before after
+part_notes offset bytes before after w = λ base count was long.
+    let part = overwritten_part count w.0 bytes in (
+      part.0,
+      w.1
+          ∙ ap (option_map (λ (old : List ℕ). overwritten old offset (take w.0 bytes))) was
+          ∙ ap (λ (n : ℕ). Some (overwritten (base ++ take count bytes) n (take w.0 bytes))) (sym long)
+          ∙ ap (λ (z : List ℕ). Some z) (overwritten_after base (take count bytes) (take w.0 bytes))
+          ∙ ap (λ (z : List ℕ). Some (base ++ z)) part.1,
+    )
+
+-- nothing was written
+pub unnoted : (offset : ℕ) (bytes : List ℕ) (before after : Option (List ℕ)) → after ≡ before →
+    NotesInPart offset bytes before after
+unnoted offset bytes before after same = λ base count was long. (count, same ∙ was)
+
+-- all was written, and then something else failed
+pub failed_whole : {T E : Type 0} (r : Result T E) (before after : Option (List ℕ)) (place : ℕ) (bytes : List ℕ) →
+    Written before place bytes after → OnErr r (WrittenInPart before place bytes after)
+failed_whole (Ok x) before after place bytes w = tt
+failed_whole (Err e) before after place bytes w = (
+  length bytes,
+  w.2
+      ∙ sym (ap (option_map (λ (old : List ℕ). overwritten old place (take (length bytes) bytes))) w.1
+      ∙ ap (λ (b : List ℕ). Some (overwritten w.0 place b)) (take_all (length bytes) bytes (omega arith))),
+)

@@ -1,0 +1,24 @@
+-- In which order a note and what it speaks of are synced.
+use Rattle.std.specs.Prelude.{◌≡◌, ◌⊎◌, ℕ, List, IsSome, IsTrue, OnOk, Result, Option}
+use Rattle.bw_disk.specs.Disks.{AsksOnce}
+use Rattle.bw_disk.specs.Volumes.{KeepsEach}
+use Rattle.bw_disk.specs.declared.disk.Disk.{Ghosts}
+
+-- what is at a path, if anything, is synced as it is
+abbrev pub IsSyncedAt : (List ℕ → Option (List ℕ)) → (List ℕ → Option (List ℕ)) → List ℕ → Type 0
+IsSyncedAt contents synced path = IsSome (contents path) → synced path ≡ contents path
+
+-- A note without syncs: one call of the disk, or none if it fails, and nothing more is synced.
+pub record NotesPlainly {D F T E : Type 0} (G : Ghosts D F) (answer : Result T E) (old new : D) :
+    Type 0 where
+  pub asks : AsksOnce G.calls G.failures old new answer
+  pub synced : IsTrue (G.honest old) → KeepsEach (G.synced old) (G.synced new)
+
+-- A note with syncs: nothing is written unless the take's file is synced first, and if it succeeds
+-- both files are synced.
+pub record SyncsInOrder {D F T E : Type 0} (G : Ghosts D F) (answer : Result T E)
+    (take_path journal_path : List ℕ) (old new : D) : Type 0 where
+  pub first : KeepsEach (G.contents old) (G.contents new)
+      ⊎ IsSyncedAt (G.contents new) (G.synced new) take_path
+  pub take : OnOk answer (IsSyncedAt (G.contents new) (G.synced new) take_path)
+  pub journal : OnOk answer (IsSyncedAt (G.contents new) (G.synced new) journal_path)

@@ -1,0 +1,468 @@
+//! Journals in a folder.
+ghost use Rattle.std.specs.Prelude.{◌≡◌, ◌<◌, ◌⊎◌, ◌↔◌, ℕ, List, [], Some, IsTrue, IsErr, IsSome, IsNone, IfOk, IfSome, Ok};
+ghost use Rattle.std.specs.Prelude.{OnOk, OnErr, string_bytes, length, is_err, false, true};
+ghost use Rattle.std.specs.List.{All, HoldsAt, position};
+ghost use Rattle.std.specs.Str.{bytes_eq};
+ghost use Rattle.bw_store.specs.Stores.{Counts, KeepsOthers};
+ghost use Rattle.bw_disk.specs.Disks.{AsksOnce};
+ghost use Rattle.bw_disk.specs.DiskSteps.{StaysWhole, ChangesAt};
+ghost use Rattle.bw_journal.specs.Notes.{BeginsNotes, BeginsInPart, Notes, NotesInPart, KeepsHeaders};
+ghost use Rattle.bw_folder.specs.Folders.{take_path as path_of_take};
+ghost use Rattle.bw_folder.specs.Journals.{journal_path as path_of_journal, notes_at, existences, existence_of, header_at};
+ghost use Rattle.bw_folder.specs.Journals.{adopted_by, adopted_header, failure_of, IsOpenAt};
+ghost use Rattle.bw_folder.specs.Syncing.{NotesPlainly, SyncsInOrder};
+
+use crate::heading::{append, exists, open_or_make, put_header};
+use crate::paths::{journal_path, take_path};
+use crate::syncing::append_synced;
+use bw_disk::{SystemDisk, Volume};
+use bw_journal::{Journal, JournalHeader};
+use bw_layout::Limit;
+use bw_request::Name;
+use bw_store::StoreFault;
+use std::alloc::{AllocError, Global};
+use std::fs::Files;
+
+/// A name's journal, which stays open.
+#[derive(Drop)]
+pub(crate) struct OpenJournal<F: Drop> {
+    pub(crate) name: Name,
+    /// Whether a file of the name existed before its journal.
+    pub(crate) existed: bool,
+    pub(crate) file: F,
+    /// The last sync found the take's file.
+    pub(crate) beside_take: bool,
+    /// The folder was synced since the journal was opened and the take's file found.
+    pub(crate) listed: bool,
+    /// A sync failed: what survives a loss of power isn't known until the next start.
+    pub(crate) failed: bool,
+}
+
+impl<F: Drop> OpenJournal<F> {
+    fn new(name: &Name, existed: bool, file: F) -> OpenJournal<F>
+        ensures name { result.name ≡ name.now }
+        ensures existed { result.existed ≡ existed }
+        ensures file { result.file ≡ file }
+    {
+        OpenJournal {
+            name: name.copy(),
+            existed,
+            file,
+            beside_take: false,
+            listed: false,
+            failed: false,
+        }
+    }
+}
+
+/// The files `NAME.journal` of one folder, as a journal.
+///
+/// Its disk is its own: it changes no other file, and a store of the same folder changes none of
+/// these. Over an honest disk it is an honest journal. A call fails if a call of the disk does, or
+/// memory is refused; `begin` also if other bytes than a header are there, and `note` for a name
+/// that was neither begun nor adopted. A note that fails leaves a prefix of its bytes, which the
+/// next note of the same bytes writes over.
+///
+/// With `sync` a note is made in steps: the take's file is synced, the bytes are appended, and the
+/// journal is synced, and after a name's first note, and its first with a file of its take, the
+/// folder. So no note survives a loss of power without its samples, and none that was reported is
+/// lost. After a sync that failed each `note` of the name fails: another try could succeed
+/// although bytes are lost. Without `sync` nothing is synced.
+#[derive(Drop)]
+pub struct FolderJournal<D: Volume> {
+    disk: D,
+    alloc: Global,
+    folder: String,
+    limit: Limit,
+    sync: bool,
+    journals: Vec<OpenJournal<D::File>>,
+    failures: u64,
+    ghost paths: { IsTrue (D.honest disk) → All
+        (λ journal. D.path_of journal.file ≡ path_of_journal (string_bytes folder) journal.name)
+        journals.items },
+}
+
+impl<R: Files + AllocGlobal + Clone + Drop> FolderJournal<SystemDisk<R>> {
+    /// The journals of a folder of the system, for a server of this limit. None is open yet.
+    ///
+    /// # Errors
+    /// `AllocError` if memory was refused. The runtime isn't given back.
+    ///
+    /// # Not specified
+    /// - When memory is refused.
+    /// - What the folder holds: by contract this journal isn't honest.
+    pub fn new(
+        rt: R,
+        alloc: Global,
+        folder: &str,
+        limit: Limit,
+        sync: bool,
+    ) -> Result<FolderJournal<SystemDisk<R>>, AllocError>
+        ensures rt { IfOk result (λ j. j.disk.rt ≡ rt) }
+        ensures folder { IfOk result (λ j. string_bytes j.folder ≡ folder.now) }
+        ensures limit { IfOk result (λ j. j.limit ≡ limit) }
+        ensures sync { IfOk result (λ j. j.sync ≡ sync) }
+        ensures journals { IfOk result (λ j. j.journals.items ≡ []) }
+        ensures failures { IfOk result (λ j. j.failures ≡ 0) }
+    {
+        FolderJournal::over(SystemDisk::new(rt), alloc, folder, limit, sync)
+    }
+}
+
+impl<D: Volume> FolderJournal<D> {
+    /// The journals of a folder of a disk, for a server of this limit. None is open yet.
+    ///
+    /// # Errors
+    /// `AllocError` if memory was refused. The disk isn't given back.
+    ///
+    /// # Not specified
+    /// When memory is refused.
+    pub fn over(
+        disk: D,
+        alloc: Global,
+        folder: &str,
+        limit: Limit,
+        sync: bool,
+    ) -> Result<FolderJournal<D>, AllocError>
+        ensures disk { IfOk result (λ j. j.disk ≡ disk) }
+        ensures folder { IfOk result (λ j. string_bytes j.folder ≡ folder.now) }
+        ensures limit { IfOk result (λ j. j.limit ≡ limit) }
+        ensures sync { IfOk result (λ j. j.sync ≡ sync) }
+        ensures journals { IfOk result (λ j. j.journals.items ≡ []) }
+        ensures failures { IfOk result (λ j. j.failures ≡ 0) }
+    {
+        let folder = String::from_str(alloc, folder)?;
+        Ok(FolderJournal::in_folder(disk, alloc, folder, limit, sync))
+    }
+
+    /// The same for a folder whose path is owned, so that nothing can fail.
+    pub fn in_folder(
+        disk: D,
+        alloc: Global,
+        folder: String,
+        limit: Limit,
+        sync: bool,
+    ) -> FolderJournal<D>
+        ensures disk { result.disk ≡ disk }
+        ensures folder { string_bytes result.folder ≡ string_bytes folder }
+        ensures limit { result.limit ≡ limit }
+        ensures sync { result.sync ≡ sync }
+        ensures journals { result.journals.items ≡ [] }
+        ensures failures { result.failures ≡ 0 }
+    {
+        FolderJournal {
+            disk,
+            alloc,
+            folder,
+            limit,
+            sync,
+            journals: Vec::new(alloc),
+            failures: 0,
+        }
+    }
+
+    /// The disk of the folder.
+    pub fn disk(&self) -> &D
+        ensures { result.now ≡ self.now.disk }
+    {
+        &self.disk
+    }
+
+    /// The disk of the folder, by value.
+    pub fn into_disk(self) -> D
+        ensures { result ≡ self.disk }
+    {
+        let FolderJournal {
+            disk,
+            alloc: _,
+            folder: _,
+            limit: _,
+            sync: _,
+            journals: _,
+            failures: _,
+        } = self;
+        disk
+    }
+
+    /// Opens the journal of a name that an earlier server wrote, by at most one call of the disk,
+    /// and knows from then on whether a file of that name existed before it. That is no call of
+    /// the journal. It returns false if the journal of that name is open already, or nothing is
+    /// there.
+    ///
+    /// # Errors
+    /// `StoreFault` if that call failed, or memory was refused before it.
+    ///
+    /// # Not specified
+    /// When memory is refused: an error without a call of the disk has no other cause.
+    pub fn adopt(&mut self, name: &Name, existed: bool) -> Result<bool, StoreFault>
+        ensures failures { self.new.failures ≡ self.old.failures }
+        ensures settings { (self.new.limit ≡ self.old.limit) × (self.new.sync ≡ self.old.sync)
+            × (self.new.folder ≡ self.old.folder) }
+        ensures known { existences self.new.journals.items
+            ≡ adopted_by result name.now existed (existences self.old.journals.items) }
+        ensures headers { IsTrue (D.honest self.old.disk) → (other : List ℕ) →
+            header_at self.new.limit (existences self.new.journals.items) (D.contents self.new.disk)
+            (string_bytes self.new.folder) other
+            ≡ adopted_header result name.now existed (header_at self.old.limit
+            (existences self.old.journals.items) (D.contents self.old.disk)
+            (string_bytes self.old.folder)) other }
+        ensures found { IsTrue (D.honest self.old.disk) → IfOk result (λ found.
+            IsTrue found ↔ (IsNone (existence_of (existences self.old.journals.items) name.now)
+            × IsSome (notes_at (D.contents self.old.disk) (string_bytes self.old.folder) name.now))) }
+        ensures asks { IsNone (existence_of (existences self.old.journals.items) name.now) →
+            AsksOnce D.calls D.failures self.old.disk self.new.disk result }
+        ensures again { IsSome (existence_of (existences self.old.journals.items) name.now) →
+            (result ≡ Ok false) × (self.new.disk ≡ self.old.disk) }
+        ensures disk { StaysWhole D.Disk self.old.disk self.new.disk }
+    {
+        if find(&self.journals, name).is_some() {
+            return Ok(false);
+        }
+        let path = journal_path(self.alloc, &self.folder, name)?;
+        self.journals.reserve(1).map_err(|_| StoreFault)?;
+        let Some(file) = self.disk.open(path.as_str()).map_err(|_| StoreFault)? else {
+            return Ok(false);
+        };
+        let journal = OpenJournal::new(name, existed, file);
+        self.journals.push(journal).map_err(|_| StoreFault)?;
+        Ok(true)
+    }
+}
+
+impl<D: Volume> Journal for FolderJournal<D> {
+    ghost notes = { λ j name. notes_at (D.contents j.disk) (string_bytes j.folder) name };
+
+    ghost header = { λ j name. header_at j.limit (existences j.journals.items) (D.contents j.disk)
+        (string_bytes j.folder) name };
+
+    ghost failures = { λ j. j.failures };
+
+    ghost honest = { λ j. D.honest j.disk };
+
+    /// Writes the header into the file of the name's journal, which is opened, or made if nothing is
+    /// there. Nothing is synced.
+    ///
+    /// # Errors
+    /// `StoreFault` if a call of the disk failed, memory was refused before any change, or other
+    /// bytes are there.
+    ///
+    /// # Not specified
+    /// When memory is refused.
+    #[tactic(auto, using(crate::proofs::JournalPaths::journal_path_injective))]
+    fn begin(&mut self, name: &Name) -> Result<(), StoreFault>
+        ensures failures { Counts self.old.failures self.new.failures (is_err result) }
+        ensures settings { (self.new.limit ≡ self.old.limit) × (self.new.sync ≡ self.old.sync)
+            × (self.new.folder ≡ self.old.folder) }
+        ensures honest { D.honest self.new.disk ≡ D.honest self.old.disk }
+        ensures headers { IsTrue (D.honest self.old.disk) → KeepsHeaders
+            (header_at self.old.limit (existences self.old.journals.items) (D.contents self.old.disk)
+            (string_bytes self.old.folder))
+            (header_at self.new.limit (existences self.new.journals.items) (D.contents self.new.disk)
+            (string_bytes self.new.folder)) }
+        ensures begun { IsTrue (D.honest self.old.disk) → OnOk result (BeginsNotes name.now
+            (header_at self.old.limit (existences self.old.journals.items) (D.contents self.old.disk)
+            (string_bytes self.old.folder) name.now)
+            (notes_at (D.contents self.old.disk) (string_bytes self.old.folder) name.now)
+            (notes_at (D.contents self.new.disk) (string_bytes self.new.folder) name.now)) }
+        ensures failed { IsTrue (D.honest self.old.disk) → OnErr result (BeginsInPart name.now
+            (header_at self.old.limit (existences self.old.journals.items) (D.contents self.old.disk)
+            (string_bytes self.old.folder) name.now)
+            (notes_at (D.contents self.old.disk) (string_bytes self.old.folder) name.now)
+            (notes_at (D.contents self.new.disk) (string_bytes self.new.folder) name.now)) }
+        ensures others { IsTrue (D.honest self.old.disk) → KeepsOthers
+            (notes_at (D.contents self.old.disk) (string_bytes self.old.folder))
+            (notes_at (D.contents self.new.disk) (string_bytes self.new.folder)) name.now }
+        ensures rest { ChangesAt D.Disk (path_of_journal (string_bytes self.old.folder) name.now)
+            self.old.disk self.new.disk }
+    {
+        let answer = self.begin_file(name);
+        if answer.is_err() {
+            self.failures = self.failures.saturating_add(1);
+        }
+        answer
+    }
+
+    /// Writes the bytes into the file of a journal that was begun or adopted. Without `sync` that
+    /// is one call of the disk. With it the take's file is synced before anything is written, and
+    /// the journal afterwards.
+    ///
+    /// # Errors
+    /// `StoreFault` if a call of the disk failed, memory was refused before any change, the name's
+    /// journal was neither begun nor adopted, or a sync failed in an earlier call for this name.
+    ///
+    /// # Not specified
+    /// - When memory is refused.
+    /// - When the folder is synced.
+    #[tactic(auto, using(crate::proofs::JournalPaths::journal_path_injective))]
+    fn note(&mut self, name: &Name, offset: u64, bytes: &[u8]) -> Result<(), StoreFault>
+        ensures failures { Counts self.old.failures self.new.failures (is_err result) }
+        ensures settings { (self.new.limit ≡ self.old.limit) × (self.new.sync ≡ self.old.sync)
+            × (self.new.folder ≡ self.old.folder) }
+        ensures honest { D.honest self.new.disk ≡ D.honest self.old.disk }
+        ensures known { existences self.new.journals.items ≡ existences self.old.journals.items }
+        ensures headers { IsTrue (D.honest self.old.disk) → KeepsHeaders
+            (header_at self.old.limit (existences self.old.journals.items) (D.contents self.old.disk)
+            (string_bytes self.old.folder))
+            (header_at self.new.limit (existences self.new.journals.items) (D.contents self.new.disk)
+            (string_bytes self.new.folder)) }
+        ensures noted { IsTrue (D.honest self.old.disk) → OnOk result (Notes offset bytes.now
+            (notes_at (D.contents self.old.disk) (string_bytes self.old.folder) name.now)
+            (notes_at (D.contents self.new.disk) (string_bytes self.new.folder) name.now)) }
+        ensures failed { IsTrue (D.honest self.old.disk) → OnErr result (NotesInPart offset bytes.now
+            (notes_at (D.contents self.old.disk) (string_bytes self.old.folder) name.now)
+            (notes_at (D.contents self.new.disk) (string_bytes self.new.folder) name.now)) }
+        ensures others { IsTrue (D.honest self.old.disk) → KeepsOthers
+            (notes_at (D.contents self.old.disk) (string_bytes self.old.folder))
+            (notes_at (D.contents self.new.disk) (string_bytes self.new.folder)) name.now }
+        ensures files { IsTrue (D.honest self.old.disk) → KeepsOthers (D.contents self.old.disk)
+            (D.contents self.new.disk) (path_of_journal (string_bytes self.old.folder) name.now) }
+        ensures stopped { failure_of self.old.journals.items name.now ≡ Some true →
+            IsErr result × (self.new.disk ≡ self.old.disk) }
+        ensures plain { self.old.sync ≡ false → NotesPlainly D.Disk result self.old.disk self.new.disk }
+        ensures order { IsTrue (D.honest self.old.disk) → IsTrue self.old.sync → SyncsInOrder D.Disk
+            result (path_of_take (string_bytes self.old.folder) name.now)
+            (path_of_journal (string_bytes self.old.folder) name.now) self.old.disk self.new.disk }
+    {
+        let answer = self.note_in_file(name, offset, bytes);
+        if answer.is_err() {
+            self.failures = self.failures.saturating_add(1);
+        }
+        answer
+    }
+}
+
+impl<D: Volume> FolderJournal<D> {
+    /// Writes the header into the file of a name's journal.
+    fn begin_file(&mut self, name: &Name) -> Result<(), StoreFault>
+        ensures failures { self.new.failures ≡ self.old.failures }
+        ensures settings { (self.new.limit ≡ self.old.limit) × (self.new.sync ≡ self.old.sync)
+            × (self.new.folder ≡ self.old.folder) }
+        ensures headers { IsTrue (D.honest self.old.disk) → KeepsHeaders
+            (header_at self.old.limit (existences self.old.journals.items) (D.contents self.old.disk)
+            (string_bytes self.old.folder))
+            (header_at self.new.limit (existences self.new.journals.items) (D.contents self.new.disk)
+            (string_bytes self.new.folder)) }
+        ensures begun { IsTrue (D.honest self.old.disk) → OnOk result (BeginsNotes name.now
+            (header_at self.old.limit (existences self.old.journals.items) (D.contents self.old.disk)
+            (string_bytes self.old.folder) name.now)
+            (notes_at (D.contents self.old.disk) (string_bytes self.old.folder) name.now)
+            (notes_at (D.contents self.new.disk) (string_bytes self.old.folder) name.now)) }
+        ensures failed { IsTrue (D.honest self.old.disk) → OnErr result (BeginsInPart name.now
+            (header_at self.old.limit (existences self.old.journals.items) (D.contents self.old.disk)
+            (string_bytes self.old.folder) name.now)
+            (notes_at (D.contents self.old.disk) (string_bytes self.old.folder) name.now)
+            (notes_at (D.contents self.new.disk) (string_bytes self.old.folder) name.now)) }
+        ensures rest { ChangesAt D.Disk (path_of_journal (string_bytes self.old.folder) name.now)
+            self.old.disk self.new.disk }
+    {
+        let place = self.opened(name)?;
+        let journal = &mut self.journals[place];
+        let header = JournalHeader {
+            limit: self.limit,
+            existed: journal.existed,
+        };
+        put_header(&mut self.disk, &mut journal.file, &header.to_bytes(name))
+    }
+
+    /// The place of a name's open journal, which is opened now if it wasn't, or made.
+    fn opened(&mut self, name: &Name) -> Result<usize, StoreFault>
+        ensures failures { self.new.failures ≡ self.old.failures }
+        ensures settings { (self.new.limit ≡ self.old.limit) × (self.new.sync ≡ self.old.sync)
+            × (self.new.folder ≡ self.old.folder) }
+        ensures place { IfOk result (λ place. (place < length self.new.journals.items)
+            × HoldsAt (λ journal. (journal.name ≡ name.now)
+            × (existence_of (existences self.new.journals.items) name.now ≡ Some journal.existed))
+            self.new.journals.items place) }
+        ensures headers { IsTrue (D.honest self.old.disk) → KeepsHeaders
+            (header_at self.old.limit (existences self.old.journals.items) (D.contents self.old.disk)
+            (string_bytes self.old.folder))
+            (header_at self.new.limit (existences self.new.journals.items) (D.contents self.new.disk)
+            (string_bytes self.new.folder)) }
+        ensures found { IsTrue (D.honest self.old.disk) → OnOk result (IsOpenAt
+            (notes_at (D.contents self.old.disk) (string_bytes self.old.folder) name.now)
+            (notes_at (D.contents self.new.disk) (string_bytes self.old.folder) name.now)) }
+        ensures failed { IsTrue (D.honest self.old.disk) → OnErr result
+            (notes_at (D.contents self.new.disk) (string_bytes self.old.folder) name.now
+            ≡ notes_at (D.contents self.old.disk) (string_bytes self.old.folder) name.now) }
+        ensures rest { ChangesAt D.Disk (path_of_journal (string_bytes self.old.folder) name.now)
+            self.old.disk self.new.disk }
+    {
+        if let Some(place) = find(&self.journals, name) {
+            return Ok(place);
+        }
+        // Whatever needs memory comes first, so that a call that fails makes no file.
+        let take = take_path(self.alloc, &self.folder, name)?;
+        let path = journal_path(self.alloc, &self.folder, name)?;
+        self.journals.reserve(1).map_err(|_| StoreFault)?;
+        let existed = exists(&mut self.disk, &take)?;
+        let file = open_or_make(&mut self.disk, &path)?;
+        let place = self.journals.len();
+        let journal = OpenJournal::new(name, existed, file);
+        self.journals.push(journal).map_err(|_| StoreFault)?;
+        Ok(place)
+    }
+
+    /// Writes bytes into the file of a name's journal; with `sync` the take's file is synced before
+    /// that, and the journal after it.
+    fn note_in_file(&mut self, name: &Name, offset: u64, bytes: &[u8]) -> Result<(), StoreFault>
+        ensures failures { self.new.failures ≡ self.old.failures }
+        ensures settings { (self.new.limit ≡ self.old.limit) × (self.new.sync ≡ self.old.sync)
+            × (self.new.folder ≡ self.old.folder) }
+        ensures honest { D.honest self.new.disk ≡ D.honest self.old.disk }
+        ensures known { existences self.new.journals.items ≡ existences self.old.journals.items }
+        ensures noted { IsTrue (D.honest self.old.disk) → OnOk result (Notes offset bytes.now
+            (notes_at (D.contents self.old.disk) (string_bytes self.old.folder) name.now)
+            (notes_at (D.contents self.new.disk) (string_bytes self.old.folder) name.now)) }
+        ensures failed { IsTrue (D.honest self.old.disk) → OnErr result (NotesInPart offset bytes.now
+            (notes_at (D.contents self.old.disk) (string_bytes self.old.folder) name.now)
+            (notes_at (D.contents self.new.disk) (string_bytes self.old.folder) name.now)) }
+        ensures files { IsTrue (D.honest self.old.disk) → KeepsOthers (D.contents self.old.disk)
+            (D.contents self.new.disk) (path_of_journal (string_bytes self.old.folder) name.now) }
+        ensures stopped { failure_of self.old.journals.items name.now ≡ Some true →
+            IsErr result × (self.new.disk ≡ self.old.disk) }
+        ensures plain { self.old.sync ≡ false → NotesPlainly D.Disk result self.old.disk self.new.disk }
+        ensures order { IsTrue (D.honest self.old.disk) → IsTrue self.old.sync → SyncsInOrder D.Disk
+            result (path_of_take (string_bytes self.old.folder) name.now)
+            (path_of_journal (string_bytes self.old.folder) name.now) self.old.disk self.new.disk }
+    {
+        let Some(place) = find(&self.journals, name) else {
+            return Err(StoreFault);
+        };
+        if self.journals[place].failed {
+            return Err(StoreFault);
+        }
+        if !self.sync {
+            let journal = &mut self.journals[place];
+            return append(&mut self.disk, &mut journal.file, offset, bytes);
+        }
+        let take = take_path(self.alloc, &self.folder, name)?;
+        append_synced(
+            &mut self.disk,
+            &mut self.journals[place],
+            &take,
+            &self.folder,
+            offset,
+            bytes,
+        )
+    }
+}
+
+/// The place of a name among the open journals.
+fn find<F: Drop>(journals: &[OpenJournal<F>], name: &Name) -> Option<usize>
+    ensures open { IsSome result ↔ IsSome (existence_of (existences journals.now) name.now) }
+    ensures place { IfSome result (λ place. (place < length journals.now)
+        × HoldsAt (λ journal. (journal.name ≡ name.now)
+        × (existence_of (existences journals.now) name.now ≡ Some journal.existed))
+        journals.now place) }
+    ensures failed { IfSome result (λ place. HoldsAt
+        (λ journal. failure_of journals.now name.now ≡ Some journal.failed) journals.now place) }
+{
+    first_of(journals, name)
+}
+
+/// The first place of a name among journals.
+fn first_of<F: Drop>(journals: &[OpenJournal<F>], name: &Name) -> Option<usize>
+    ensures { result ≡ position (λ journal. bytes_eq journal.name name.now) journals.now }
+{
+    journals.iter().position(|journal| journal.name == *name)
+}

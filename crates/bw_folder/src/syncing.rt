@@ -1,0 +1,125 @@
+//! Notes that survive a loss of power: the samples are synced, then the note is written and synced.
+ghost use Rattle.std.specs.Prelude.{◌≡◌, ◌≢◌, ◌⊎◌, IsTrue, OnOk, OnErr, true};
+ghost use Rattle.bw_store.specs.Stores.{Written, KeepsOthers};
+ghost use Rattle.bw_disk.specs.Disks.{Syncs};
+ghost use Rattle.bw_disk.specs.DiskSteps.{StaysWhole};
+ghost use Rattle.bw_disk.specs.Volumes.{WrittenInPart, KeepsEach};
+ghost use Rattle.bw_folder.specs.Syncing.{IsSyncedAt};
+
+use crate::journal::OpenJournal;
+use bw_disk::Volume;
+use bw_store::StoreFault;
+
+/// Syncs a take's file, if there is one, appends to its name's journal, and syncs that, and the
+/// folder if one of the two is new in it.
+///
+/// # Errors
+/// `StoreFault` if a call of the disk failed. If that was a sync the journal is marked, so that
+/// nothing is noted any more.
+pub(crate) fn append_synced<D: Volume>(
+    disk: &mut D,
+    journal: &mut OpenJournal<D::File>,
+    take: &str,
+    folder: &str,
+    offset: u64,
+    bytes: &[u8],
+) -> Result<(), StoreFault>
+    ensures name { journal.new.name ≡ journal.old.name }
+    ensures existed { journal.new.existed ≡ journal.old.existed }
+    ensures path { D.path_of journal.new.file ≡ D.path_of journal.old.file }
+    ensures honest { D.honest disk.new ≡ D.honest disk.old }
+    ensures written { IsTrue (D.honest disk.old) → OnOk result (Written
+        (D.contents disk.old (D.path_of journal.old.file)) offset bytes.now
+        (D.contents disk.new (D.path_of journal.old.file))) }
+    ensures failed { IsTrue (D.honest disk.old) → OnErr result (WrittenInPart
+        (D.contents disk.old (D.path_of journal.old.file)) offset bytes.now
+        (D.contents disk.new (D.path_of journal.old.file))) }
+    ensures others { IsTrue (D.honest disk.old) → KeepsOthers
+        (D.contents disk.old) (D.contents disk.new) (D.path_of journal.old.file) }
+    ensures first { IsTrue (D.honest disk.old) → take.now ≢ D.path_of journal.old.file →
+        KeepsEach (D.contents disk.old) (D.contents disk.new)
+        ⊎ IsSyncedAt (D.contents disk.new) (D.synced disk.new) take.now }
+    ensures take { IsTrue (D.honest disk.old) → take.now ≢ D.path_of journal.old.file →
+        OnOk result (IsSyncedAt (D.contents disk.new) (D.synced disk.new) take.now) }
+    ensures synced { IsTrue (D.honest disk.old) → OnOk result (IsSyncedAt (D.contents disk.new)
+        (D.synced disk.new) (D.path_of journal.old.file)) }
+{
+    sync_take(disk, journal, take)?;
+    disk.append(&mut journal.file, offset, bytes)
+        .map_err(|_| StoreFault)?;
+    sync_file(disk, &journal.file, &mut journal.failed)?;
+    sync_names(disk, journal, folder)
+}
+
+/// Syncs a take's file, if there is one.
+///
+/// # Errors
+/// `StoreFault` if a call of the disk failed.
+fn sync_take<D: Volume>(
+    disk: &mut D,
+    journal: &mut OpenJournal<D::File>,
+    take: &str,
+) -> Result<(), StoreFault>
+    ensures name { journal.new.name ≡ journal.old.name }
+    ensures existed { journal.new.existed ≡ journal.old.existed }
+    ensures file { journal.new.file ≡ journal.old.file }
+    ensures honest { D.honest disk.new ≡ D.honest disk.old }
+    ensures contents { IsTrue (D.honest disk.old) → KeepsEach (D.contents disk.old) (D.contents disk.new) }
+    ensures synced { IsTrue (D.honest disk.old) → OnOk result
+        (IsSyncedAt (D.contents disk.old) (D.synced disk.new) take.now) }
+{
+    let Some(file) = disk.open(take).map_err(|_| StoreFault)? else {
+        return Ok(());
+    };
+    if !journal.beside_take {
+        journal.beside_take = true;
+        journal.listed = false;
+    }
+    sync_file(disk, &file, &mut journal.failed)
+}
+
+/// Syncs a file.
+///
+/// # Errors
+/// `StoreFault` if the disk failed: that is marked.
+fn sync_file<D: Volume>(disk: &mut D, file: &D::File, failed: &mut bool) -> Result<(), StoreFault>
+    ensures marked { OnErr result (failed.new ≡ true) }
+    ensures unmarked { OnOk result (failed.new ≡ failed.old) }
+    ensures honest { D.honest disk.new ≡ D.honest disk.old }
+    ensures contents { IsTrue (D.honest disk.old) → KeepsEach (D.contents disk.old) (D.contents disk.new) }
+    ensures synced { IsTrue (D.honest disk.old) → Syncs result
+        (D.contents disk.old (D.path_of file.now)) (D.synced disk.old) (D.synced disk.new)
+        (D.path_of file.now) }
+{
+    let answer = disk.sync_data(file).map_err(|_| StoreFault);
+    if answer.is_err() {
+        *failed = true;
+    }
+    answer
+}
+
+/// Syncs the folder, unless it was synced since the journal was opened and the take's file found.
+///
+/// # Errors
+/// `StoreFault` if the disk failed: the journal is marked.
+fn sync_names<D: Volume>(
+    disk: &mut D,
+    journal: &mut OpenJournal<D::File>,
+    folder: &str,
+) -> Result<(), StoreFault>
+    ensures name { journal.new.name ≡ journal.old.name }
+    ensures existed { journal.new.existed ≡ journal.old.existed }
+    ensures file { journal.new.file ≡ journal.old.file }
+    ensures marked { OnErr result (journal.new.failed ≡ true) }
+    ensures listed { OnOk result (journal.new.listed ≡ true) }
+    ensures unmarked { OnOk result (journal.new.failed ≡ journal.old.failed) }
+    ensures rest { StaysWhole D.Disk disk.old disk.new }
+{
+    if journal.listed {
+        return Ok(());
+    }
+    let answer = disk.sync_folder(folder).map_err(|_| StoreFault);
+    journal.failed = journal.failed || answer.is_err();
+    journal.listed = answer.is_ok();
+    answer
+}
