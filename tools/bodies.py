@@ -21,13 +21,15 @@ class Body:
     """A wrong body: its file, what it changes, as (file, old, new), and the functions that must refuse it.
 
     changed are the functions whose text it changes, items the constants and enums. Where it stands in a copy of its
-    function, beside other bodies of that, copy_of is the function, and the copy is what it changes."""
+    function, copy_of is the function, and the copy is what it changes; clauses are those that the copy has, or none
+    where it has all."""
 
     path: pathlib.Path
     changes: tuple
     refused: frozenset
     changed: frozenset
     items: frozenset
+    clauses: frozenset
     copy_of: str = ""
 
     @property
@@ -104,6 +106,23 @@ def without_body(lines):
     return [*lines[: opens + 1], f"{indent}    loop {{}}", lines[-1]]
 
 
+def only_clauses(lines, labels):
+    """The lines of a function without those of its clauses that these labels don't name. A clause that holds of every
+    body is beside them, since the only clause of a function has no name in its goals."""
+    at = next(number for number, line in enumerate(lines) if FUNCTION.match(line))
+    indent = lines[at][: len(lines[at]) - len(lines[at].lstrip())]
+    opens = next((number for number in range(at, len(lines)) if lines[number] == indent + "{"), at)
+    head, is_kept = [], True
+    for line in lines[at:opens]:
+        if not line.startswith(indent + "     "):  # the first line of a clause, or of the signature
+            found = re.match(r" *ensures (\w+) \{", line)
+            is_kept = not found or found[1] in labels
+        head += [line] if is_kept else []
+    if len(head) == opens - at:
+        return lines
+    return [*lines[:at], *head, f"{indent}    ensures others_left_out {{ Unit {{0}} }}", *lines[opens:]]
+
+
 def name_of(path):
     return path.split("::")[-1]
 
@@ -160,6 +179,8 @@ class Sources:
         for _, old, new in body.changes:
             made = made.replace(old, new)
         made = re.sub(rf"\bfn {name_of(body.copy_of)}\b", f"fn {name_of(copy)}", made, count=1)
+        if body.clauses:
+            made = "\n".join(only_clauses(made.splitlines(), body.clauses))
         last = next(last for path, _, last in self.functions(file, text) if path == body.copy_of)
         lines = text.splitlines()
         return "\n".join([*lines[: last + 1], "", made, *lines[last + 1 :]]) + "\n"
@@ -169,6 +190,24 @@ class Sources:
         file = self.files[path]
         first, last = next(at[1:] for at in self.functions(file) if at[0] == path)
         return "\n".join(self.texts[file].splitlines()[first : last + 1])
+
+    def clauses(self, path):
+        """The names of what a function ensures."""
+        return re.findall(r"(?m)^ *ensures (\w+) \{", self.text_of(path))
+
+    def answers(self, path):
+        """The answers in a function's proof that are about its clauses, each with its name before it."""
+        proof = "".join(it.read_text() for it in self.crate.joinpath("proofs", *path.split("::")).glob("*.antt"))
+        return re.findall(r"(?ms)^pub (returns\S*) : (.*?)(?=^pub |\Z)", proof)
+
+    def answers_all(self, path):
+        """Whether an answer is for all clauses at once."""
+        return any("-clause-" not in name for name, _ in self.answers(path))
+
+    def cited(self, path, labels):
+        """The clauses whose answers those of these clauses cite."""
+        texts = [text for name, text in self.answers(path) if name.partition("-clause-")[2] in labels]
+        return {it for text in texts for it in re.findall(r"\breturns[\w-]*-clause-(\w+)", text)}
 
     def can_be_copied(self, body):
         """Whether a copy of the function that a body changes can stand beside it, and be what refuses the body: not of
@@ -202,7 +241,7 @@ class Sources:
 
 def read(path, sources):
     """A wrong body, or why it can't be applied."""
-    file, old, changes, refused, changed, items = None, None, [], set(), set(), set()
+    file, old, changes, refused, changed, items, clauses = None, None, [], set(), set(), set(), set()
     for line in path.read_text().splitlines():
         key, _, said = line.partition(": ")
         if key == "file":
@@ -213,6 +252,8 @@ def read(path, sources):
             changes.append((file, old, said))
         elif key == "refused":
             refused.add(said.strip())
+        elif key == "clause":
+            clauses.add(said.strip())
     for file, old, _ in changes:
         if file not in sources.texts or not old:
             return "a change names no text of a file of src/"
@@ -223,7 +264,13 @@ def read(path, sources):
         items |= {item} - {None}
     if not changed | items:
         return "it changes nothing"
-    return Body(path, tuple(changes), frozenset(refused), frozenset(changed), frozenset(items))
+    if unknown := clauses - {it for function in changed for it in sources.clauses(function)}:
+        return f"no function that it changes has the clause {min(unknown)}"
+    if others := {it for function in changed for it in sources.cited(function, clauses)} - clauses:
+        return f"an answer of its clauses cites one of the clause {min(others)}, which has no line"
+    if any(map(sources.answers_all, changed)):
+        clauses = set()
+    return Body(path, tuple(changes), *map(frozenset, (refused, changed, items, clauses)))
 
 
 def batches_of(bodies, sources):
@@ -235,11 +282,12 @@ def batches_of(bodies, sources):
     for body in sorted(bodies, key=lambda it: (copied[it], -rivals[it], it.path)):
         for batch in (it for it in batches if len(it) < MOST):
             copies = [body.in_copy(len(batch) + 1)] if copied[body] else []
-            if placed := next((it for it in [body, *copies] if sources.can_stand(it, batch)), None):
+            forms = copies if copies and body.clauses else [body, *copies]
+            if placed := next((it for it in forms if sources.can_stand(it, batch)), None):
                 batch.append(placed)
                 break
         else:
-            batches.append([body])
+            batches.append([body.in_copy(1) if copied[body] and body.clauses else body])
     return batches
 
 
