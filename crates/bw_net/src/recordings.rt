@@ -3,8 +3,9 @@ ghost use Rattle.std.specs.Prelude.{◌≡◌, None};
 
 use crate::followed::FollowedFile;
 use crate::host::open_source;
-use bw_ports::{FileStamp, RecordingFiles};
+use bw_ports::{FileStamp, RecordingFiles, Stamped};
 use bw_stream::SeekSource;
+use std::alloc::AllocError;
 use std::fs::{self, File};
 use std::io::{self, ErrorKind};
 use std::time::UNIX_EPOCH;
@@ -33,6 +34,8 @@ impl<'a> RecordingFiles for HostRecordings<'a> {
     type File = SeekSource<File>;
 
     type Growing = FollowedFile<'a>;
+
+    type Stamped = StampedFile<'a>;
 
     ghost file_at = { λ s path. None };
 
@@ -66,6 +69,38 @@ impl<'a> RecordingFiles for HostRecordings<'a> {
 
     fn stamp(&mut self, path: &str) -> io::Result<FileStamp> {
         let stamp = stamp_of(self.rt, path);
+        if stamp.is_err() {
+            self.failures = self.failures.saturating_add(1);
+        }
+        stamp
+    }
+
+    fn stamped(&mut self, path: &str) -> Result<StampedFile<'a>, AllocError> {
+        let path = String::from_str(self.rt.alloc(), path)?;
+        Ok(StampedFile {
+            rt: self.rt,
+            path,
+            failures: 0,
+        })
+    }
+}
+
+/// A file of this machine that is looked at again. It reports no stamp beforehand, since no clause
+/// of std says when a file was changed.
+#[derive(Drop)]
+pub struct StampedFile<'a> {
+    rt: &'a HostRuntime,
+    path: String,
+    failures: u64,
+}
+
+impl Stamped for StampedFile<'_> {
+    ghost stamp_of = { λ s. None };
+
+    ghost failures = { λ s. s.failures };
+
+    fn stamp(&mut self) -> io::Result<FileStamp> {
+        let stamp = stamp_of(self.rt, self.path.as_str());
         if stamp.is_err() {
             self.failures = self.failures.saturating_add(1);
         }

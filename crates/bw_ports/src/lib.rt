@@ -23,7 +23,7 @@ pub use network::Network;
 pub use pause::Pause;
 pub use peers::{AcceptFault, Peer, Peers};
 pub use reactor::{Accepted, Reactor, Ready, TryAcceptFault, WaitFault};
-pub use recording_files::{FileStamp, RecordingFiles};
+pub use recording_files::{FileStamp, RecordingFiles, Stamped};
 pub use starts::{StartRefusal, Starts};
 pub use system::System;
 pub use watch::{NoWatch, ProgressReport, Watch};

@@ -5,6 +5,7 @@ ghost use Rattle.bw_ports.specs.declared.recording_files.FileStamp.{FileStamp};
 
 use crate::followed::Followed;
 use bw_stream::Source;
+use std::alloc::AllocError;
 use std::io;
 
 /// What shows that a file is as it was: its length in bytes, and when it was changed last, in
@@ -13,6 +14,28 @@ use std::io;
 pub struct FileStamp {
     pub len: u64,
     pub changed: u64,
+}
+
+/// A file that is looked at again, to see whether it is as it was.
+pub trait Stamped {
+    /// Its stamp, if it is reported; it doesn't change.
+    ghost stamp_of: { Self → Option FileStamp };
+
+    /// How many calls failed; the count stays at 2^64 - 1.
+    ghost failures: { Self → ℕ };
+
+    /// The stamp of the file that is at its path now.
+    ///
+    /// # Errors
+    /// If the system failed.
+    ///
+    /// # Not specified
+    /// When it fails, and the kind of the error.
+    fn stamp(&mut self) -> io::Result<FileStamp>
+        ensures count { failures self.new ≡ failures_after result (failures self.old) }
+        ensures kept { stamp_of self.new ≡ stamp_of self.old }
+        ensures ok { IfOk result (λ stamp. (reported : FileStamp) →
+            stamp_of self.old ≡ Some reported → stamp ≡ reported) };
 }
 
 /// The files of recordings: the bytes and the stamp at each path, if they are reported, and how
@@ -24,6 +47,9 @@ pub trait RecordingFiles {
 
     /// Reads a file that another program is still writing.
     type Growing: Followed + Drop;
+
+    /// Looks at a file.
+    type Stamped: Stamped + Drop;
 
     /// The bytes of the file at each path, if they are reported.
     ghost file_at: { Self → List ℕ → Option (List ℕ) };
@@ -78,4 +104,18 @@ pub trait RecordingFiles {
         ensures stamps { stamp_at self.new ≡ stamp_at self.old }
         ensures ok { IfOk result (λ stamp. (reported : FileStamp) →
             stamp_at self.old path.now ≡ Some reported → stamp ≡ reported) };
+
+    /// The file at a path, to be looked at again.
+    ///
+    /// # Errors
+    /// If memory was refused.
+    ///
+    /// # Not specified
+    /// When it is refused.
+    fn stamped(&mut self, path: &str) -> Result<Self::Stamped, AllocError>
+        ensures count { failures self.new ≡ failures self.old }
+        ensures files { file_at self.new ≡ file_at self.old }
+        ensures stamps { stamp_at self.new ≡ stamp_at self.old }
+        ensures ok { IfOk result (λ stamped.
+            Self.Stamped.stamp_of stamped ≡ stamp_at self.old path.now) };
 }
