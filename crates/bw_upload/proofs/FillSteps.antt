@@ -15,7 +15,7 @@ use Rattle.bw_sender.specs.declared.offer.OfferError.{OfferError}
 use Rattle.bw_sender.specs.declared.offer.OfferError.TheVariants as errors
 use Rattle.bw_ports.specs.declared.pause.Pause.{Ghosts as PauseGhosts}
 use Rattle.bw_upload.specs.Chains.{Chain}
-use Rattle.bw_upload.specs.Filling.{Filling, FillEvent, FillStep, Takes, Lacks, Closes, MayAsk}
+use Rattle.bw_upload.specs.Filling.{Filling, FillEvent, FillStep, Takes, Lacks, Closes, MayAsk, AsksFeed}
 use Rattle.bw_upload.specs.Stopping.{StopsFeed}
 use Rattle.bw_upload.specs.Supplies.{IsFilling, FillsUp, FillsOnce, FollowsFeed}
 use Rattle.bw_upload.specs.Supplies.{outcome_of_offer}
@@ -85,7 +85,7 @@ module _ {F P X : Type 0} (feed : FeedGhosts F X) (pause : PauseGhosts P) where
 
   -- what the feed gave was followed, and it had something
   pub fills_given : (given : Result Given X) (x : Filling F P) (supply supply' : Supply) (f f' : F) (p : P) →
-      IsFilling x supply f p → MayAsk feed pause x → feed.gives f given f' →
+      IsFilling x supply f p → MayAsk feed pause x → AsksFeed feed f given f' →
       FollowsFeed (Ok true) given x.sender supply supply' → FillsOnce feed pause (Ok true) x supply' f' p
   fills_given (Ok (gives.Request r)) x supply supply' f f' p is may g h =
       let y : Filling F P = record { sender = offer x.sender r; is_ended = false; feed = f'; pause = x.pause } in
@@ -96,7 +96,7 @@ module _ {F P X : Type 0} (feed : FeedGhosts F X) (pause : PauseGhosts P) where
           y,
           record {
             may = may;
-            given = subst (λ (z : F). feed.gives z (Ok (gives.Request r)) f') (sym is.feed) g;
+            given = subst (λ (z : F). AsksFeed feed z (Ok (gives.Request r)) f') (sym is.feed) g;
             accepted = h.1;
             sender = refl;
             goes_on = refl;
@@ -120,7 +120,7 @@ module _ {F P X : Type 0} (feed : FeedGhosts F X) (pause : PauseGhosts P) where
           y,
           record {
             may = may;
-            given = subst (λ (z : F). feed.gives z (Ok gives.End) f') (sym is.feed) g;
+            given = subst (λ (z : F). AsksFeed feed z (Ok gives.End) f') (sym is.feed) g;
             sender = refl;
             ended = refl;
             unpaused = refl;
@@ -145,7 +145,7 @@ module _ {F P X : Type 0} (feed : FeedGhosts F X) (pause : PauseGhosts P) where
   waiting_on x f' p' = record { sender = x.sender; is_ended = false; feed = f'; pause = p' }
 
   lacks : (given : Result Given X) (x : Filling F P) (supply supply' : Supply) (f f' : F) (p p' : P) →
-      IsFilling x supply f p → MayAsk feed pause x → feed.gives f given f' →
+      IsFilling x supply f p → MayAsk feed pause x → AsksFeed feed f given f' →
       FollowsFeed (Ok false) given x.sender supply supply' →
       ((pending x.sender 0 ≡ None) × pause.waits p 100 p') ⊎ ((pending x.sender 0 ≢ None) × (p' ≡ p)) →
       FillStep feed pause Lacks x (waiting_on x f' p') × IsFilling (waiting_on x f' p') supply' f' p'
@@ -156,7 +156,7 @@ module _ {F P X : Type 0} (feed : FeedGhosts F X) (pause : PauseGhosts P) where
   lacks (Ok gives.NotYet) x supply supply' f f' p p' is may g h waits = (
     record {
       may = may;
-      given = subst (λ (z : F). feed.gives z (Ok gives.NotYet) f') (sym is.feed) g;
+      given = subst (λ (z : F). AsksFeed feed z (Ok gives.NotYet) f') (sym is.feed) g;
       sender = refl;
       goes_on = refl;
       waits = subst (λ (z : P). ((pending x.sender 0 ≡ None) × pause.waits z 100 p')
@@ -173,7 +173,7 @@ module _ {F P X : Type 0} (feed : FeedGhosts F X) (pause : PauseGhosts P) where
   lacks (Err fault) x supply supply' f f' p p' is may g h waits = absurd (ok_or_err (Ok false) false (outcomes.Feed fault) refl h.0)
 
   pub fills_waiting : (given : Result Given X) (x : Filling F P) (supply supply' : Supply) (f f' : F) (p p' : P) →
-      IsFilling x supply f p → MayAsk feed pause x → feed.gives f given f' →
+      IsFilling x supply f p → MayAsk feed pause x → AsksFeed feed f given f' →
       FollowsFeed (Ok false) given x.sender supply supply' → pending x.sender 0 ≡ None → pause.waits p 100 p' →
       FillsOnce feed pause (Ok true) x supply' f' p'
   fills_waiting given x supply supply' f f' p p' is may g h none waits =
@@ -187,7 +187,7 @@ module _ {F P X : Type 0} (feed : FeedGhosts F X) (pause : PauseGhosts P) where
       }
 
   pub fills_later : (given : Result Given X) (x : Filling F P) (supply supply' : Supply) (f f' : F) (p : P) →
-      IsFilling x supply f p → MayAsk feed pause x → feed.gives f given f' →
+      IsFilling x supply f p → MayAsk feed pause x → AsksFeed feed f given f' →
       FollowsFeed (Ok false) given x.sender supply supply' → pending x.sender 0 ≢ None →
       FillsOnce feed pause (Ok false) x supply' f' p
   fills_later given x supply supply' f f' p is may g h some =
@@ -213,10 +213,10 @@ module _ {F P X : Type 0} (feed : FeedGhosts F X) (pause : PauseGhosts P) where
 
   -- the upload ends
   pub fills_stopped : (outcome : Outcome X) (given : Result Given X) (x : Filling F P) (supply supply' : Supply)
-      (f f' : F) (p : P) → IsFilling x supply f p → MayAsk feed pause x → feed.gives f given f' →
+      (f f' : F) (p : P) → IsFilling x supply f p → MayAsk feed pause x → AsksFeed feed f given f' →
       FollowsFeed (Err outcome) given x.sender supply supply' → FillsOnce feed pause (Err outcome) x supply' f' p
   fills_stopped outcome (Ok (gives.Request r)) x supply supply' f f' p is may g h =
-      let stop = stopped h.0 (subst (λ (z : F). feed.gives z (Ok (gives.Request r)) f') (sym is.feed) g) h.2 in
+      let stop = stopped h.0 (subst (λ (z : F). AsksFeed feed z (Ok (gives.Request r)) f') (sym is.feed) g) h.2 in
       record {
         events = [];
         after = x;
@@ -231,7 +231,7 @@ module _ {F P X : Type 0} (feed : FeedGhosts F X) (pause : PauseGhosts P) where
         );
       }
     where
-      stopped : (error : OfferError) → feed.gives x.feed (Ok (gives.Request r)) f' →
+      stopped : (error : OfferError) → AsksFeed feed x.feed (Ok (gives.Request r)) f' →
           fault_of error ≡ offer_fault x.sender r →
           StopsFeed feed pause (outcome_of_offer error) x f' × (outcome_of_offer {X = X} error ≢ outcomes.Limit)
       stopped errors.NumbersSpent g e = ((r, may, g, sym e, λ h. absurd cc), λ h. absurd cc)
@@ -253,7 +253,7 @@ module _ {F P X : Type 0} (feed : FeedGhosts F X) (pause : PauseGhosts P) where
           may.goes_on,
           is.pause,
           subst (λ (z : Outcome X). StopsFeed feed pause z x f') (sym same)
-              (may, subst (λ (z : F). feed.gives z (Err fault) f') (sym is.feed) g),
+              (may, subst (λ (z : F). AsksFeed feed z (Err fault) f') (sym is.feed) g),
           λ e. not_limit (sym same ∙ e),
         );
       }

@@ -35,6 +35,7 @@ use Rattle.bw_upload.specs.declared.outcome.Outcome.TheVariants as outcomes
 use Rattle.bw_upload.specs.declared.supply.Supply.{Supply}
 use Rattle.bw_upload.proofs.ChainSteps.{chain_on}
 use Rattle.bw_upload.proofs.Lifting.{lift_fill, with_filling}
+use Rattle.bw_upload.proofs.FeedSteps.{feeds_so}
 use Rattle.bw_upload.proofs.VisitSteps.{still_some, undone_open}
 
 -- ---- refusals
@@ -403,6 +404,9 @@ module _ {F P D R W X : Type 0} (feed : FeedGhosts F X) (pause : PauseGhosts P) 
         ends = ends_up outcome n (length q.events) (so.events ++ map Fills q.events) (with_filling so.after q.after) f'
             q.by.2 so.count (omega (arith, len, fills));
         rightly = q.by.3;
+        feeds = λ requests left. feeds_so feed pause dial reader writer most (so.events ++ map Fills q.events) s requests
+            f0 p0 d0 (with_filling so.after q.after) outcome
+            (prepared s f0 p0 d0 so.events so.after q.events q.after so.went q.went) q.by.3 left;
       }
 
   pub links_ready : (links n : ℕ) (s : Defined) (f0 : F) (p0 : P) (d0 : D) (supply supply' : Supply) (f f' : F)
@@ -480,6 +484,11 @@ module _ {F P D R W X : Type 0} (feed : FeedGhosts F X) (pause : PauseGhosts P) 
     dial_is = m.by.dial_is;
     ends = more_events outcome (so.events ++ map Fills q.events) m.events m.after f'' m.by.ends;
     rightly = m.by.rightly;
+    feeds = λ requests left. feeds_so feed pause dial reader writer most
+        ((so.events ++ map Fills q.events) ++ m.events) s requests f0 p0 d0 m.after outcome
+        (chain_on (CourseStep feed pause dial reader writer most) (so.events ++ map Fills q.events) m.events
+        (starts s f0 p0 d0) (with_filling so.after q.after) m.after
+        (prepared s f0 p0 d0 so.events so.after q.events q.after so.went q.went) m.went) m.by.rightly left;
   }
 
   pub few_more : (a b n links : ℕ) → n ≤ links → (if nat_lt a b then 0 else suc n) ≤ links + 1
@@ -531,4 +540,6 @@ module _ {F P D R W X : Type 0} (feed : FeedGhosts F X) (pause : PauseGhosts P) 
     dial_is = so.dial_is;
     ends = ends;
     rightly = λ other. says;
+    feeds = λ requests left. feeds_so feed pause dial reader writer most so.events s requests f0 p0 d0 so.after outcome
+        so.went (λ other. says) left;
   }

@@ -1,11 +1,13 @@
 -- The window is filled from the feed.
 use Rattle.std.specs.Prelude.{◌≡◌, ◌≢◌, ◌⊎◌, ◌+◌, Bool, true, false, None, Ok, length}
-use Rattle.std.specs.Prelude.{◌&&◌, ◌==◌, is_none, nat_le}
+use Rattle.std.specs.Prelude.{◌&&◌, ◌==◌, is_none, nat_le, Result}
 use Rattle.bw_model.specs.Take.{Request}
 use Rattle.bw_model.specs.Turn.{window}
 use Rattle.bw_model.specs.World.{Sender, settled, pending, refused, offer, offer_fault}
 use Rattle.bw_ports.specs.declared.pause.Pause.{Ghosts as PauseGhosts}
+use Rattle.bw_upload.specs.Feeds.{GivesRequest}
 use Rattle.bw_upload.specs.declared.feed.Feed.{Ghosts as FeedGhosts}
+use Rattle.bw_upload.specs.declared.feed.Given.{Given}
 use Rattle.bw_upload.specs.declared.feed.Given.TheVariants as gives
 
 -- the sender, whether the feed has ended, the feed, and whoever waits
@@ -36,6 +38,12 @@ is_window_full s = nat_le (settled s + window) (length s.offered)
 abbrev pub HasNonePending : Sender → Type 0
 HasNonePending s = pending s 0 ≡ None
 
+-- the feed was asked, and gave this
+pub record AsksFeed {F X : Type 0} (feed : FeedGhosts F X) (f : F) (given : Result Given X) (f' : F)
+    : Type 0 where
+  pub received : feed.gives f given f'
+  pub left : GivesRequest (feed.left f) given (feed.left f')
+
 module _ {F P X : Type 0} (feed : FeedGhosts F X) (pause : PauseGhosts P) where
   -- the feed is asked only as long as it hasn't ended and the window has room
   pub record MayAsk (x : Filling F P) : Type 0 where
@@ -49,7 +57,7 @@ module _ {F P X : Type 0} (feed : FeedGhosts F X) (pause : PauseGhosts P) where
 
   pub record TakesRequest (r : Request) (x y : Filling F P) : Type 0 where
     pub may : MayAsk x
-    pub given : feed.gives x.feed (Ok (gives.Request r)) y.feed
+    pub given : AsksFeed feed x.feed (Ok (gives.Request r)) y.feed
     pub accepted : offer_fault x.sender r ≡ None
     pub sender : y.sender ≡ offer x.sender r
     pub goes_on : y.is_ended ≡ false
@@ -57,14 +65,14 @@ module _ {F P X : Type 0} (feed : FeedGhosts F X) (pause : PauseGhosts P) where
 
   pub record LacksRequest (x y : Filling F P) : Type 0 where
     pub may : MayAsk x
-    pub given : feed.gives x.feed (Ok gives.NotYet) y.feed
+    pub given : AsksFeed feed x.feed (Ok gives.NotYet) y.feed
     pub sender : y.sender ≡ x.sender
     pub goes_on : y.is_ended ≡ false
     pub waits : WaitsIfIdle x.sender x.pause y.pause
 
   pub record ClosesFeed (x y : Filling F P) : Type 0 where
     pub may : MayAsk x
-    pub given : feed.gives x.feed (Ok gives.End) y.feed
+    pub given : AsksFeed feed x.feed (Ok gives.End) y.feed
     pub sender : y.sender ≡ x.sender
     pub ended : y.is_ended ≡ true
     pub unpaused : y.pause ≡ x.pause

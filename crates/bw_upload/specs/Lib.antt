@@ -9,4 +9,5 @@ pub mod Supplies
 pub mod Turns
 pub mod Visits
 pub mod Links
+pub mod Fed
 pub mod Uploading

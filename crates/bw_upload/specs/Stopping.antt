@@ -4,7 +4,7 @@ use Rattle.bw_model.specs.Take.{Request}
 use Rattle.bw_model.specs.World.{offer_fault}
 use Rattle.bw_sender.specs.Offers.{fault_of}
 use Rattle.bw_ports.specs.declared.pause.Pause.{Ghosts as PauseGhosts}
-use Rattle.bw_upload.specs.Filling.{Filling, MayAsk}
+use Rattle.bw_upload.specs.Filling.{Filling, MayAsk, AsksFeed}
 use Rattle.bw_upload.specs.declared.feed.Feed.{Ghosts as FeedGhosts}
 use Rattle.bw_upload.specs.declared.feed.Given.TheVariants as gives
 use Rattle.bw_upload.specs.declared.outcome.Outcome.{Outcome}
@@ -19,9 +19,9 @@ module _ {F P X : Type 0} (feed : FeedGhosts F X) (pause : PauseGhosts P) where
   StopsFeed (outcomes.TooFar n) x f = ⊥
   StopsFeed (outcomes.NotOffered error) x f =
       (r : Request) × MayAsk feed pause x
-      × feed.gives x.feed (Ok (gives.Request r)) f
+      × AsksFeed feed x.feed (Ok (gives.Request r)) f
       × (offer_fault x.sender r ≡ fault_of error) × (fault_of error ≢ None)
   StopsFeed outcomes.Fruitless x f = ⊥
-  StopsFeed (outcomes.Feed fault) x f = MayAsk feed pause x × feed.gives x.feed (Err fault) f
+  StopsFeed (outcomes.Feed fault) x f = MayAsk feed pause x × AsksFeed feed x.feed (Err fault) f
   StopsFeed outcomes.Memory x f = Unit {0}
   StopsFeed outcomes.Limit x f = x.feed ≡ f

@@ -1,5 +1,6 @@
 -- A whole upload.
 use Rattle.std.specs.Prelude.{◌≡◌, ℕ, Option, List}
+use Rattle.bw_model.specs.Take.{Request}
 use Rattle.bw_model.specs.World.{Sender as Defined}
 use Rattle.bw_stream.specs.declared.sink.Sink.{Ghosts as Writer}
 use Rattle.bw_stream.specs.declared.source.Source.{Ghosts as Reader}
@@ -8,7 +9,8 @@ use Rattle.bw_ports.specs.declared.pause.Pause.{Ghosts as PauseGhosts}
 use Rattle.bw_sender.specs.Senders.{IsSender}
 use Rattle.bw_upload.specs.Chains.{Chain}
 use Rattle.bw_upload.specs.Courses.{Course, UploadEvent, CourseStep, starts}
-use Rattle.bw_upload.specs.Links.{EndsUpload, SaysRightly}
+use Rattle.bw_upload.specs.Fed.{OffersFeed}
+use Rattle.bw_upload.specs.Links.{EndsUpload, SaysRightly, says_done}
 use Rattle.bw_upload.specs.declared.feed.Feed.{Ghosts as FeedGhosts}
 use Rattle.bw_upload.specs.declared.outcome.Outcome.{Outcome}
 use Rattle.bw_sender.specs.declared.sender.Sender.{Sender}
@@ -26,3 +28,6 @@ module _ {F P D R W X : Type 0} (feed : FeedGhosts F X) (pause : PauseGhosts P)
     pub dial_is : last.dial ≡ d'
     pub ends : EndsUpload feed pause dial reader writer most outcome events last f'
     pub rightly : SaysRightly feed pause most outcome last.filling
+    -- where it is known what the feed gives
+    pub feeds : (requests : List Request) → feed.left f requests →
+        OffersFeed s requests (says_done outcome) last.filling.sender

@@ -1,5 +1,5 @@
 //! Where requests come from.
-ghost use Rattle.std.specs.Prelude.{◌≡◌, List, Option, Result};
+ghost use Rattle.std.specs.Prelude.{List, Result};
 ghost use Rattle.bw_model.specs.Take.{Request as Message};
 ghost use Rattle.bw_upload.specs.Feeds.{GivesRequest};
 ghost use Rattle.bw_upload.specs.declared.feed.Given.{Given};
@@ -22,8 +22,8 @@ pub trait Feed {
     /// Why it can give no more, though it hasn't ended.
     type Fault: Drop;
 
-    /// The requests that are still to come, if that is known.
-    ghost left: { Self → Option (List Message) };
+    /// These may be the requests that are still to come.
+    ghost left: { Self → List Message → Type 0 };
 
     /// What a call may return, and the state after it.
     ghost gives: { Self → Result Given Self.Fault → Self → Type 0 };
@@ -31,7 +31,7 @@ pub trait Feed {
     /// The next request, if it is there.
     ///
     /// # Errors
-    /// Why it can give no more.
+    /// Why it can give no more. Of the feed nothing is known afterwards.
     fn next(&mut self) -> Result<Given, Self::Fault>
         ensures received { gives self.old result self.new }
         ensures left { GivesRequest (left self.old) result (left self.new) };

@@ -24,7 +24,7 @@ returns-in_err-follow g c = λ x is.
       goes_on = sym is.ended ∙ c.if-supply.false;
       room = sym (c.is_full.ensures x.sender is.sender) ∙ c.if-is_full.false;
     })
-    c.next.ensures.received (c.in_err-follow.ensures x.sender is.sender))
+    (record { received = c.next.ensures.received; left = c.next.ensures.left }) (c.in_err-follow.ensures x.sender is.sender))
 
 pub returns-then-branch : goal.returns-then-branch
 returns-then-branch g c = λ x is.
@@ -34,7 +34,7 @@ returns-then-branch g c = λ x is.
       goes_on = sym is.ended ∙ c.if-supply.false;
       room = sym (c.is_full.ensures x.sender is.sender) ∙ c.if-is_full.false;
     })
-    c.next.ensures.received
+    (record { received = c.next.ensures.received; left = c.next.ensures.left })
     (subst (λ (b : Bool). FollowsFeed (Ok b) c.next.result x.sender c.args.supply.now c.follow.new.supply)
     c.if-branch.true (c.in_ok-follow.ensures x.sender is.sender))
 
@@ -50,7 +50,7 @@ returns-then-is_some g c = λ x is.
       goes_on = sym is.ended ∙ c.if-supply.false;
       room = sym (c.is_full.ensures x.sender is.sender) ∙ c.if-is_full.false;
     })
-    c.next.ensures.received follows
+    (record { received = c.next.ensures.received; left = c.next.ensures.left }) follows
     (lent_some c.pending.result _ (c.pending.ensures.value x.sender now) (search rules))
 
 pub returns : goal.returns
@@ -65,5 +65,5 @@ returns g c = λ x is.
       goes_on = sym is.ended ∙ c.if-supply.false;
       room = sym (c.is_full.ensures x.sender is.sender) ∙ c.if-is_full.false;
     })
-    c.next.ensures.received follows
+    (record { received = c.next.ensures.received; left = c.next.ensures.left }) follows
     (lent_none c.pending.result _ (c.pending.ensures.value x.sender now) (search rules)) c.pause.ensures
