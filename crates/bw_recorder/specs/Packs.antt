@@ -131,14 +131,15 @@ pub record RunsOutOfMemory (did : Packing) : Type 0 where
   pub prints : did.out ≡ Nothing
   pub reports : IsOf (as_line (input_fault_text faults.Memory)) did.faults
 
--- the file isn't opened
-pub record IsNotOpened (file : Option (List ℕ)) (path : List ℕ) (o : Options) (did : Packing) : Type 0 where
+-- the file isn't opened by the command of this name
+pub record IsNotOpened (command : List ℕ) (file : Option (List ℕ)) (path : List ℕ) (o : Options) (did : Packing)
+    : Type 0 where
   pub fault : OpenFault
   pub right : Of file (λ b. RefusesAs b o fault)
   pub well : did.is_system_well ≡ is_well_at fault
   pub warned : did.warned ≡ Nothing
   pub prints : did.out ≡ Nothing
-  pub reports : IsOpenReport (codes "pack") path fault did.exit did.faults
+  pub reports : IsOpenReport command path fault did.exit did.faults
 
 -- these requests are given of the recording in these bytes, and this says what it loses of them
 pub record PacksRecording (b : List ℕ) (o : Options) (given : List Request) (outcome : Result (Unit {0}) PackFault)
@@ -164,4 +165,4 @@ pub record PacksFile (file : Option (List ℕ)) (o : Options) (did : Packing) : 
 abbrev pub IsPack : Option (List ℕ) → List ℕ → List (List ℕ) → Bool → Option ℕ → Packing → Type 0
 IsPack file path texts strict frames did =
     RefusesSettings texts strict frames did ⊎ RunsOutOfMemory did
-    ⊎ ((o : Options) × ((options_of texts strict frames ≡ Some o) × (IsNotOpened file path o did ⊎ PacksFile file o did)))
+    ⊎ ((o : Options) × ((options_of texts strict frames ≡ Some o) × (IsNotOpened (codes "pack") file path o did ⊎ PacksFile file o did)))

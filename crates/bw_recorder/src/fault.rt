@@ -11,7 +11,7 @@ use std::io;
 
 /// Why a recording's file isn't opened.
 #[derive(Drop)]
-pub(crate) enum OpenFault {
+pub enum OpenFault {
     /// The system can't open it, or say how it stands.
     Unopened(io::Error),
     /// It has this fault, or it isn't read to its end.
@@ -21,7 +21,7 @@ pub(crate) enum OpenFault {
 }
 
 /// The fault of a recording whose file has this one.
-pub(crate) fn unread(fault: InspectFault) -> RecordingFault
+pub fn unread(fault: InspectFault) -> RecordingFault
     ensures { result ≡ record { kind = RecordingKind.Unread fault.kind; offset = fault.offset } }
 {
     RecordingFault {
@@ -38,7 +38,7 @@ pub(crate) const NO_MEMORY: RecordingFault = RecordingFault {
 
 /// The line of a fault: the command's name, of at most 4 bytes, the kind, the place. It allocates
 /// nothing, since memory may be what is lacking.
-pub(crate) fn line_of(command: &str, fault: &RecordingFault) -> ArrayString<64>
+pub fn line_of(command: &str, fault: &RecordingFault) -> ArrayString<64>
     requires { length command.now ≤ 4 }
     ensures { result.bytes ≡ recording_line command.now fault.now }
 {

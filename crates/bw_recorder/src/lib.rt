@@ -1,4 +1,5 @@
-//! The command `pack`: the requests of a file's recording are printed.
+//! The recording in a file: how it is opened and what is reported of that, and the command `pack`,
+//! which prints its requests.
 #![tactic(auto)]
 
 mod fault;
@@ -9,6 +10,9 @@ mod request_line;
 mod settings;
 mod warning_text;
 
+pub use fault::{OpenFault, line_of, unread};
 pub use job::RecordingFile;
-pub use packing::pack;
+pub use opening::{Opened, open_recording};
+pub use packing::{pack, refuse_settings, report_open_fault, warn};
 pub use request_line::law_request_lines;
+pub use settings::options_of;

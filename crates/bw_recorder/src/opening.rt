@@ -23,13 +23,13 @@ use std::alloc::{AllocError, Global};
 
 /// A recording's file at its samples.
 #[derive(Drop)]
-pub(crate) struct Opened<R> {
+pub struct Opened<R> {
     /// Gives the requests of the recording.
-    pub(crate) plan: Plan,
+    pub plan: Plan,
     /// Stands where the next block does.
-    pub(crate) reader: R,
+    pub reader: R,
     /// A line for each thing that the recording loses of its file.
-    pub(crate) warnings: Vec<u8>,
+    pub warnings: Vec<u8>,
 }
 
 /// What a report doesn't keep of a file.
@@ -49,7 +49,7 @@ pub(crate) struct Extras {
 /// # Not specified
 /// - When memory is refused, and when the system fails.
 /// - Of a file whose bytes aren't reported: that they are the same each time.
-pub(crate) fn open_recording<F: RecordingFiles>(
+pub fn open_recording<F: RecordingFiles>(
     alloc: Global,
     files: &mut F,
     path: &str,

@@ -84,7 +84,7 @@ pub fn pack<F: RecordingFiles, W: Sink, E: Sink>(
 }
 
 /// Reports that a text spells no setting. Returns how the command ends.
-fn refuse_settings<E: Sink>(faults: &mut E) -> Exit
+pub fn refuse_settings<E: Sink>(faults: &mut E) -> Exit
     ensures exit { result ≡ Exit.Usage }
     ensures line { (print : Print) × IsOf bad_setting_line print
         × IsPrint E.Sink print faults.old faults.new }
@@ -94,7 +94,7 @@ fn refuse_settings<E: Sink>(faults: &mut E) -> Exit
 }
 
 /// Reports what a recording loses of its file, if it loses anything.
-pub(crate) fn warn<E: Sink>(text: &[u8], faults: &mut E)
+pub fn warn<E: Sink>(text: &[u8], faults: &mut E)
     ensures { (print : Print) × IsReportedText text.now print
         × IsPrint E.Sink print faults.old faults.new }
 {
@@ -104,7 +104,7 @@ pub(crate) fn warn<E: Sink>(text: &[u8], faults: &mut E)
 }
 
 /// Reports why a file isn't opened. Returns how the command of this name, of at most 4 bytes, ends.
-pub(crate) fn report_open_fault<E: Sink>(
+pub fn report_open_fault<E: Sink>(
     alloc: Global,
     command: &str,
     path: &str,

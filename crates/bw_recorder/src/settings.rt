@@ -11,10 +11,7 @@ use std::alloc::{AllocError, Global};
 ///
 /// # Errors
 /// `AllocError` where memory was refused.
-pub(crate) fn options_of(
-    alloc: Global,
-    file: &RecordingFile<'_>,
-) -> Result<Option<Options>, AllocError>
+pub fn options_of(alloc: Global, file: &RecordingFile<'_>) -> Result<Option<Options>, AllocError>
     ensures value { IfOk result (λ o. o
         ≡ options_by (map string_bytes file.now.settings.now) file.now.is_strict file.now.frames) }
     ensures allowed { IfOk result (λ o. IfSome o (λ x. IsTrue (are_settings x.settings))) }

@@ -11,4 +11,5 @@ mod text;
 mod watch;
 
 pub use sending::{send_run, send_watched};
+pub use text::text_of_sender;
 pub use watch::Progress;

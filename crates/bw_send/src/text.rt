@@ -12,7 +12,7 @@ use bw_sender::Sender;
 use std::alloc::{AllocError, Global};
 
 /// How many numbers are settled and stored, and each refused number with its verdict.
-pub(crate) fn text_of_sender(alloc: Global, sender: &Sender) -> Result<Vec<u8>, AllocError>
+pub fn text_of_sender(alloc: Global, sender: &Sender) -> Result<Vec<u8>, AllocError>
     ensures { IfOk result (λ text. (s : Defined) → IsSender s sender.now →
         text.items ≡ sender_text s) }
 {

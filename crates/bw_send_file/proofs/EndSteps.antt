@@ -1,0 +1,84 @@
+-- With the status 0 all that a feed was to give is stored.
+use Rattle.std.proofs.Common.{◌≡◌, ◌⊎◌, ◌∙◌, ℕ, List, ◌++◌, ap, sym, refl, true, inl, inr, append-nil}
+use Rattle.std.specs.declared.io.ErrorKind.{ErrorKind}
+use Rattle.std.specs.declared.io.ErrorKind.TheVariants as errors
+use Rattle.bw_model.specs.Take.{Request}
+use Rattle.bw_model.specs.World.{Sender}
+use Rattle.bw_sender.specs.Senders.{new_sender}
+use Rattle.bw_inspect.specs.declared.fault.InspectKind.{InspectKind}
+use Rattle.bw_inspect.specs.declared.fault.InspectKind.TheVariants as kinds
+use Rattle.std.specs.IoError.{error_kind}
+use Rattle.bw_console.specs.Openings.{IsUnopened, exit_unopened}
+use Rattle.bw_console.specs.Outcomes.{IsOutOfMemory, Outcome as Did}
+use Rattle.bw_console.specs.Printing.{Print}
+use Rattle.bw_console.specs.declared.exit.Exit.{Exit}
+use Rattle.bw_console.specs.declared.exit.Exit.TheVariants as exits
+use Rattle.bw_recorder.specs.Openings.{exit_unread}
+use Rattle.bw_upload.specs.Fed.{OffersFeed}
+use Rattle.bw_upload.specs.Links.{says_done}
+use Rattle.bw_upload.specs.declared.outcome.Outcome.{Outcome}
+use Rattle.bw_upload.specs.declared.outcome.Outcome.TheVariants as outcomes
+use Rattle.bw_send_file.specs.Endings.{EndsAfter, IsFileReport, IsOutcomeReport}
+use Rattle.bw_send_file.specs.Sendings.{StoresAll}
+use Rattle.bw_send_file.specs.declared.fault.FeedFault.{FeedFault}
+use Rattle.bw_send_file.specs.declared.fault.FeedFault.TheVariants.{Unread, Unstamped, Changed, Unsendable, Memory}
+
+refused_ends : exits.Refused ≡ exits.Done → ⊥
+refused_ends e = cc
+
+device_ends : exits.Device ≡ exits.Done → ⊥
+device_ends e = cc
+
+memory_ends : exits.Memory ≡ exits.Done → ⊥
+memory_ends e = cc
+
+unread_ends : (k : InspectKind) → exit_unread k ≡ exits.Done → ⊥
+unread_ends kinds.Read e = device_ends e
+unread_ends kinds.Memory e = memory_ends e
+unread_ends _ e = refused_ends e
+
+unopened_ends : (k : ErrorKind) → exit_unopened k ≡ exits.Done → ⊥
+unopened_ends errors.OutOfMemory e = memory_ends e
+unopened_ends _ e = device_ends e
+
+opening_ends : (path : List ℕ) (kind : ErrorKind) (did : Did) → IsUnopened path kind did ⊎ IsOutOfMemory did →
+    did.exit ≡ exits.Done → ⊥
+opening_ends path kind did (inl x) done = unopened_ends kind (sym x.exit_is ∙ done)
+opening_ends path kind did (inr x) done = memory_ends (sym x.exit_is ∙ done)
+
+file_ends : (path : List ℕ) (fault : FeedFault) (exit : Exit) (print : Print) → IsFileReport path fault exit print →
+    exit ≡ exits.Done → ⊥
+file_ends path (Unread f) exit print h done = unread_ends f.kind (sym h.0 ∙ done)
+file_ends path (Unstamped error) exit print h done = opening_ends path (error_kind error) h.0 h.3 (h.1 ∙ done)
+file_ends path Changed exit print h done = refused_ends (sym h.0 ∙ done)
+file_ends path Unsendable exit print h done = refused_ends (sym h.0 ∙ done)
+file_ends path Memory exit print h done = memory_ends (sym h.0 ∙ done)
+
+outcome_ends : (path : List ℕ) (outcome : Outcome FeedFault) (exit : Exit) (print : Print) →
+    IsOutcomeReport path outcome exit print → exit ≡ exits.Done → says_done outcome ≡ true
+outcome_ends path outcomes.Done exit print h done = refl
+outcome_ends path (outcomes.Refused n v) exit print h done = absurd (refused_ends (sym h.0 ∙ done))
+outcome_ends path (outcomes.Conflict n) exit print h done = absurd (refused_ends (sym h.0 ∙ done))
+outcome_ends path (outcomes.TooFar n) exit print h done = absurd (refused_ends (sym h.0 ∙ done))
+outcome_ends path (outcomes.NotOffered error) exit print h done = absurd (refused_ends (sym h.0 ∙ done))
+outcome_ends path outcomes.Fruitless exit print h done = absurd (device_ends (sym h.0 ∙ done))
+outcome_ends path (outcomes.Feed fault) exit print h done = absurd (file_ends path fault exit print h done)
+outcome_ends path outcomes.Memory exit print h done = absurd (memory_ends (sym h.0 ∙ done))
+outcome_ends path outcomes.Limit exit print h done = absurd (device_ends (sym h.0 ∙ done))
+
+command_ends : (path : List ℕ) (s : Sender) (outcome : Outcome FeedFault) (did : Did) → EndsAfter path s outcome did →
+    did.exit ≡ exits.Done → says_done outcome ≡ true
+command_ends path s outcome did (inl x) done = outcome_ends path outcome did.exit did.faults x.reports done
+command_ends path s outcome did (inr (inl x)) done = absurd (device_ends (sym x.exit_is ∙ done))
+command_ends path s outcome did (inr (inr x)) done = absurd (memory_ends (sym x.exit_is ∙ done))
+
+pub stores_all : (path name : List ℕ) (requests : List Request) (s : Sender) (outcome : Outcome FeedFault) (did : Did) →
+    EndsAfter path s outcome did → OffersFeed (new_sender name) requests (says_done outcome) s →
+    did.exit ≡ exits.Done → StoresAll requests s
+stores_all path name requests s outcome did ends feeds done =
+    let says = command_ends path s outcome did ends done in
+    record {
+      offered = feeds.offered ∙ sym (append-nil feeds.given)
+          ∙ ap (λ (rest : List Request). feeds.given ++ rest) (sym (feeds.none_left says)) ∙ sym feeds.all;
+      stored = feeds.stored says;
+    }

@@ -1,0 +1,2 @@
+mod EndSteps
+mod FeedSteps

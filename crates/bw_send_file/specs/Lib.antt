@@ -1,0 +1,4 @@
+pub mod FileFeeds
+pub mod Endings
+pub mod Sendings
+pub mod FileSendings

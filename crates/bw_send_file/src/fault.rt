@@ -1,0 +1,19 @@
+//! Why a file gives no more requests.
+use bw_inspect::InspectFault;
+use std::io;
+
+/// Why a file gives no more of its requests.
+#[derive(Drop)]
+pub enum FeedFault {
+    /// A read of it failed.
+    Unread(InspectFault),
+    /// The system can't say how it stands.
+    Unstamped(io::Error),
+    /// It isn't any more what it was: it ends too early, or its length or its time of change is
+    /// another one.
+    Changed,
+    /// No message carries the next request.
+    Unsendable,
+    /// Memory was refused.
+    Memory,
+}

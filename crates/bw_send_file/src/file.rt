@@ -1,0 +1,133 @@
+//! The command: a file's recording is sent.
+ghost use Rattle.std.specs.Prelude.{◌≡◌, IfOk, IfErr};
+ghost use Rattle.bw_console.specs.Printing.{failures_if};
+ghost use Rattle.bw_stream.specs.Readers.{Of};
+ghost use Rattle.bw_recorder.specs.Openings.{RefusesAs, is_system_well};
+ghost use Rattle.bw_recorder.specs.Packs.{HasPacked, Packing};
+ghost use Rattle.bw_send_file.specs.FileFeeds.{AreToCome, IsLookedAt};
+ghost use Rattle.bw_send_file.specs.FileSendings.{FeedsRecording, IsFileSent};
+
+use crate::feed::PlanFeed;
+use crate::job::Recorder;
+use crate::sending::send_feed;
+use bw_console::print::give_up;
+use bw_console::{Exit, Fault};
+use bw_inspect::InspectKind;
+use bw_plan::{Options, RecordingFault, RecordingKind};
+use bw_ports::{Dial, Pause, RecordingFiles};
+use bw_recorder::{
+    OpenFault, RecordingFile, open_recording, options_of, refuse_settings, report_open_fault, warn,
+};
+use bw_stream::Sink;
+use bw_upload::{Feed, Observer};
+use std::alloc::Global;
+
+/// Sends the recording in a file as a recorder, as `send_feed` does. What the recording loses of the
+/// file is reported first.
+///
+/// Before any link is made: `Refused` for a fault of the file or of the recording, whose line is
+/// `send: KIND at OFFSET`; `Usage` if a setting can't be read; `Device` if the file can't be opened,
+/// or a read failed; `Memory` if memory was refused.
+///
+/// # Not specified
+/// - What `send_feed` leaves open.
+/// - When the system fails, and the reason in its line.
+/// - Of a file whose bytes aren't reported, which bytes the requests are of.
+pub fn send_file<F: RecordingFiles, P: Pause, D: Dial, V: Observer, W: Sink, E: Sink>(
+    alloc: Global,
+    recorder: &Recorder<'_>,
+    file: &RecordingFile<'_>,
+    files: &mut F,
+    pause: &mut P,
+    dial: &mut D,
+    observer: &mut V,
+    out: &mut W,
+    faults: &mut E,
+) -> Exit
+    ensures { (did : Packing) × (did.exit ≡ result)
+        × IsFileSent ⟦<PlanFeed<F::File, F::Stamped> as Feed>⟧ P.Pause D.Dial D.Reader.Source
+        D.Writer.Sink recorder.now file.now (F.file_at files.old file.now.path.now)
+        (λ f. IsLookedAt (F.stamp_at files.old file.now.path.now) (F.Stamped.stamp_of f.stamped) f.stamp)
+        (record { pause = pause.old; dial = dial.old })
+        (record { pause = pause.new; dial = dial.new }) did
+        × (F.failures files.new ≡ failures_if did.is_system_well (F.failures files.old))
+        × HasPacked W.Sink E.Sink did out.old out.new faults.old faults.new }
+{
+    let options = match options_of(alloc, file) {
+        Ok(Some(options)) => options,
+        Ok(None) => return refuse_settings(faults),
+        Err(_) => return give_up(faults, &Fault::Memory),
+    };
+    match open_feed(alloc, files, file.path, &options) {
+        Ok(mut opened) => {
+            warn(opened.warnings.as_slice(), faults);
+            send_feed(
+                alloc,
+                recorder,
+                file.path,
+                &mut opened.feed,
+                pause,
+                dial,
+                observer,
+                out,
+                faults,
+            )
+        }
+        Err(fault) => report_open_fault(alloc, "send", file.path, &fault, faults),
+    }
+}
+
+/// A recording's file that can be sent.
+#[derive(Drop)]
+struct Sendable<R, S> {
+    feed: PlanFeed<R, S>,
+    /// A line for each thing that the recording loses of its file.
+    warnings: Vec<u8>,
+}
+
+/// Memory was refused before the file was opened.
+const NO_MEMORY: RecordingFault = RecordingFault {
+    kind: RecordingKind::Unread(InspectKind::Memory),
+    offset: 0,
+};
+
+/// Looks at the file at a path, and opens its recording.
+///
+/// # Errors
+/// Why there is none.
+fn open_feed<F: RecordingFiles>(
+    alloc: Global,
+    files: &mut F,
+    path: &str,
+    options: &Options,
+) -> Result<Sendable<F::File, F::Stamped>, OpenFault>
+    ensures ok { IfOk result (λ x. Of (F.file_at files.old path.now) (λ b.
+        FeedsRecording b options.now
+        (AreToCome (F.File.left x.feed.reader) x.feed.plan) x.warnings.items)) }
+    ensures looked { IfOk result (λ x. IsLookedAt (F.stamp_at files.old path.now)
+        (F.Stamped.stamp_of x.feed.stamped) x.feed.stamp) }
+    ensures err { IfErr result (λ e. Of (F.file_at files.old path.now) (λ b.
+        RefusesAs b options.now e)) }
+    ensures count { F.failures files.new ≡ failures_if (is_system_well result) (F.failures files.old) }
+{
+    let Ok(stamped) = files.stamped(path) else {
+        return Err(OpenFault::Refused(NO_MEMORY));
+    };
+    let stamp = match files.stamp(path) {
+        Ok(stamp) => stamp,
+        Err(error) => return Err(OpenFault::Unopened(error)),
+    };
+    match open_recording(alloc, files, path, options) {
+        Ok(opened) => Ok(Sendable {
+            feed: PlanFeed {
+                alloc,
+                plan: opened.plan,
+                reader: opened.reader,
+                stamped,
+                stamp,
+            },
+            warnings: opened.warnings,
+        }),
+        Err(fault) => Err(fault),
+    }
+}

@@ -1,0 +1,11 @@
+//! Who sends.
+use bw_request::Name;
+
+/// As which recorder a take is sent.
+#[derive(Clone, Copy)]
+pub struct Recorder<'a> {
+    /// The take's name.
+    pub name: &'a Name,
+    /// How many links in a row may settle nothing; None for any number.
+    pub fruitless: Option<u32>,
+}

@@ -1,0 +1,16 @@
+//! The command `send --file`: the recording in a file is sent over links that are kept, until all of
+//! it is stored or it can't go on.
+#![tactic(auto)]
+
+mod ending;
+mod fault;
+mod feed;
+mod file;
+mod job;
+mod sending;
+
+pub use fault::FeedFault;
+pub use feed::PlanFeed;
+pub use file::send_file;
+pub use job::Recorder;
+pub use sending::send_feed;
