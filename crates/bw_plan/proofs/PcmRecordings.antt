@@ -58,12 +58,12 @@ wrong_pcm_content o p len r f h e k =
 
 -- What a recording of headerless samples is made of.
 
-record PcmComes (b : List ℕ) (o : Options) (p : Pcm) (r : Recording) : Type 0 where
-  free : first_that_holds (pcm_faults o p (length b)) ≡ None
-  outline : set_pcm_outline o (pcm_format p) (length b - p.skip) ≡ r.outline
-  samples : drop p.skip b ≡ r.samples
+pub record PcmComes (b : List ℕ) (o : Options) (p : Pcm) (r : Recording) : Type 0 where
+  pub free : first_that_holds (pcm_faults o p (length b)) ≡ None
+  pub outline : set_pcm_outline o (pcm_format p) (length b - p.skip) ≡ r.outline
+  pub samples : drop p.skip b ≡ r.samples
 
-pcm_comes : (b : List ℕ) (o : Options) (p : Pcm) (r : Recording) → pcm_recording_of b o p ≡ Ok r → PcmComes b o p r
+pub pcm_comes : (b : List ℕ) (o : Options) (p : Pcm) (r : Recording) → pcm_recording_of b o p ≡ Ok r → PcmComes b o p r
 unfolding pcm_recording_of pcm_outline_of
 pcm_comes b o p r h = go (first_that_holds (pcm_faults o p (length b))) refl h
   where

@@ -1,0 +1,5 @@
+pub mod MoreRead
+pub mod HeldLaws
+pub mod SampleSteps
+pub mod FeedSteps
+pub mod PcmPlans

@@ -1,0 +1,167 @@
+-- The requests of headerless samples that are still to come, while the samples are written.
+use Rattle.std.specs.Prelude.{◌≡◌, ℕ, ◌+◌, ◌-◌, ◌*◌, ◌/◌, ◌%◌, ◌^◌, ◌<◌, ◌≤◌, ◌==◌, ◌⊎◌, min}
+use Rattle.std.specs.Prelude.{if◌then◌else◌, List, [], ◌∷◌, ◌++◌, length, take, drop, Bool, true, false}
+use Rattle.std.specs.Prelude.{Some, Result, Ok, Err}
+use Rattle.bw_model.specs.Take.{Request, Open, Block, Close, block_align}
+use Rattle.bw_model.specs.Wire.{is_request}
+use Rattle.bw_stream.specs.Moves.{one_more}
+use Rattle.bw_plan.specs.Recordings.{Outline}
+use Rattle.bw_plan.specs.Plans.{block_requests}
+use Rattle.bw_plan.specs.Progress.{fields_after, next_step_of}
+use Rattle.bw_ports.specs.declared.followed.Followed.{Ghosts as FollowedGhosts}
+use Rattle.bw_follow.specs.declared.fault.PcmFault.{PcmFault}
+use Rattle.bw_follow.specs.declared.fault.PcmFault.TheVariants as faults
+use Rattle.bw_follow.specs.declared.requests.NextRequest.{NextRequest}
+use Rattle.bw_follow.specs.declared.requests.NextRequest.TheVariants as nexts
+use Rattle.bw_follow.specs.declared.state.PcmStep.{PcmStep}
+use Rattle.bw_follow.specs.declared.state.PcmStep.TheVariants as steps
+use Rattle.bw_follow.specs.declared.state.PcmRequests.{PcmRequests}
+
+-- as far as the requests are given
+pub record PcmProgress : Type 0 where
+  -- all but the samples
+  pub outline : Outline
+  -- how many frames a block has
+  pub frames : ℕ
+  -- how many frames were given
+  pub given : ℕ
+
+-- how many bytes a frame has, and a block
+abbrev pub align_of : PcmProgress → ℕ
+align_of p = block_align p.outline.format
+
+abbrev pub size_of : PcmProgress → ℕ
+size_of p = p.frames * align_of p
+
+-- the whole frames of these samples
+abbrev pub whole_frames : ℕ → List ℕ → List ℕ
+whole_frames align s = take (length s - length s % align) s
+
+-- CLOSE, after so many frames and so many bytes, unless these end inside a frame
+abbrev pub close_after : ℕ → ℕ → ℕ → List Request
+close_after given align len = if len % align == 0 then Close (given + len / align) ∷ [] else []
+
+-- the requests of these samples: whole frames in blocks, and CLOSE
+abbrev pub sample_requests : PcmProgress → List ℕ → List Request
+sample_requests p s =
+    block_requests (size_of p) (whole_frames (align_of p) s)
+    ++ close_after p.given (align_of p) (length s)
+
+-- the requests from a step on, of these samples
+abbrev pub requests_of_step : PcmProgress → List ℕ → PcmStep → List Request
+requests_of_step p s steps.Open =
+    Open p.outline.format p.outline.history ∷ fields_after 0 p.outline.values ++ sample_requests p s
+requests_of_step p s (steps.Fields after) = fields_after after p.outline.values ++ sample_requests p s
+requests_of_step p s steps.Samples = sample_requests p s
+requests_of_step p s steps.End = []
+
+-- of these requests the first is given, or there are none; else all of them are still to come
+abbrev pub GivesOf : List Request → Result NextRequest PcmFault → (List Request → Type 0) → Type 0
+GivesOf requests (Ok (nexts.Request r)) left' =
+    (rest : List Request) × (requests ≡ r ∷ rest) × left' rest
+GivesOf requests (Ok nexts.NotYet) left' = left' requests
+GivesOf requests (Ok nexts.End) left' = (requests ≡ []) × left' []
+GivesOf requests (Err fault) left' = left' requests
+
+-- a read failed
+abbrev pub is_unread : {X : Type 0} → Result X PcmFault → Bool
+is_unread (Ok x) = false
+is_unread (Err (faults.Unread place)) = true
+is_unread (Err (faults.PartFrame place)) = false
+is_unread (Err faults.TooLong) = false
+is_unread (Err faults.Unsendable) = false
+is_unread (Err faults.Memory) = false
+
+module _ {F : Type 0} where
+  -- as far as they are given
+  abbrev pub progress_of : PcmRequests F → PcmProgress
+  progress_of x = record { outline = x.outline; frames = x.frames; given = x.given }
+
+module _ {F : Type 0} (followed : FollowedGhosts F) where
+  -- these requests are still to come: those of the samples that are held and of those to be read
+  abbrev pub RequestsLeft : PcmRequests F → List Request → Type 0
+  RequestsLeft x requests =
+      (rest : List ℕ) × (followed.to_come x.file ≡ Some rest)
+      × (requests ≡ requests_of_step (progress_of x) (x.samples.held ++ rest) x.step)
+
+  -- what is given from a step on
+  abbrev pub GivesFrom : PcmStep → Result NextRequest PcmFault → PcmRequests F → PcmRequests F → Type 0
+  GivesFrom step result x y =
+      (rest : List ℕ) → followed.to_come x.file ≡ Some rest →
+      GivesOf (requests_of_step (progress_of x) (x.samples.held ++ rest) step) result (RequestsLeft y)
+
+  -- what is given, whichever requests are still to come
+  abbrev pub GivesNext : Result NextRequest PcmFault → PcmRequests F → PcmRequests F → Type 0
+  GivesNext result x y =
+      (requests : List Request) → RequestsLeft x requests → GivesOf requests result (RequestsLeft y)
+
+  -- each failed call of the file is returned
+  abbrev pub CountsUnread : {X : Type 0} → Result X PcmFault → PcmRequests F → PcmRequests F → Type 0
+  CountsUnread result x y = followed.failures y.file
+      ≡ (if is_unread result then one_more (followed.failures x.file) else followed.failures x.file)
+
+  -- the file is complete, and ends inside the frame at this place
+  pub record IsCutAt (place : ℕ) (x y : PcmRequests F) : Type 0 where
+    pub at : place ≡ y.place
+    pub some : 0 < length y.samples.held
+    pub part : length y.samples.held < align_of (progress_of y)
+    pub complete : followed.is_complete y.file ≡ true
+    pub none : (xs : List ℕ) → followed.to_come x.file ≡ Some xs → followed.to_come y.file ≡ Some []
+
+  -- no message carries the next request from a step on
+  abbrev pub IsUnsendable : PcmStep → PcmRequests F → Type 0
+  IsUnsendable step x =
+      (r : Request) × (is_request r ≡ false)
+      × ((rest : List ℕ) → followed.to_come x.file ≡ Some rest →
+      next_step_of (requests_of_step (progress_of x) (x.samples.held ++ rest) step) ≡ Some r)
+
+  -- when each fault comes; and before a whole block is written nothing is given as long as the file
+  -- isn't complete
+  abbrev pub ComesTo : PcmStep → Result NextRequest PcmFault → PcmRequests F → PcmRequests F → Type 0
+  ComesTo step (Ok (nexts.Request r)) x y = Unit {0}
+  ComesTo step (Ok nexts.NotYet) x y =
+      (length y.samples.held < y.samples.size) × (y.step ≡ steps.Samples)
+  ComesTo step (Ok nexts.End) x y = (x.step ≡ steps.End) × (y.step ≡ steps.End)
+  ComesTo step (Err (faults.Unread place)) x y = place ≡ min (y.place + length y.samples.held) (2 ^ 64 - 1)
+  ComesTo step (Err (faults.PartFrame place)) x y = IsCutAt place x y
+  ComesTo step (Err faults.TooLong) x y =
+      (2 ^ 64 ≤ y.place + length y.samples.held) ⊎ (2 ^ 64 ≤ y.given + length y.samples.held)
+  ComesTo step (Err faults.Unsendable) x y = IsUnsendable step x
+  ComesTo step (Err faults.Memory) x y = Unit {0}
+
+  -- when each fault comes, and what is said where no request is given
+  abbrev pub NextComesTo : Result NextRequest PcmFault → PcmRequests F → PcmRequests F → Type 0
+  NextComesTo result x y = ComesTo x.step result x y
+
+module _ {F : Type 0} where
+  -- so many bytes of samples were given
+  pub record TakesSamples (count : ℕ) (x y : PcmRequests F) : Type 0 where
+    pub outline : y.outline ≡ x.outline
+    pub frames : y.frames ≡ x.frames
+    pub samples : y.samples ≡ record x.samples { held = drop count x.samples.held }
+    pub given : y.given ≡ x.given + count / block_align x.outline.format
+    pub step : y.step ≡ x.step
+    pub file : y.file ≡ x.file
+
+  -- why no block of so many bytes is given
+  abbrev pub RefusesBlock : ℕ → PcmFault → PcmRequests F → Type 0
+  RefusesBlock count (faults.Unread place) x = ⊥
+  RefusesBlock count (faults.PartFrame place) x = ⊥
+  RefusesBlock count faults.TooLong x =
+      (2 ^ 64 ≤ x.place + count) ⊎ (2 ^ 64 ≤ x.given + count)
+  RefusesBlock count faults.Unsendable x = is_request (Block (take count x.samples.held)) ≡ false
+  RefusesBlock count faults.Memory x = Unit {0}
+
+-- a block of these bytes comes next
+abbrev pub IsBlockOf : List ℕ → NextRequest → Type 0
+IsBlockOf bytes (nexts.Request r) = r ≡ Block bytes
+IsBlockOf bytes nexts.NotYet = ⊥
+IsBlockOf bytes nexts.End = ⊥
+
+-- why a request isn't copied
+abbrev pub RefusesCopying : Request → PcmFault → Type 0
+RefusesCopying r (faults.Unread place) = ⊥
+RefusesCopying r (faults.PartFrame place) = ⊥
+RefusesCopying r faults.TooLong = ⊥
+RefusesCopying r faults.Unsendable = is_request r ≡ false
+RefusesCopying r faults.Memory = Unit {0}

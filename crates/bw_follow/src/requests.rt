@@ -1,0 +1,243 @@
+//! The requests of headerless samples, one after another, while the samples are written.
+ghost use Rattle.std.specs.Prelude.{◌≡◌, ◌-◌, ◌≢◌, min, ℕ, List, ◌*◌, ◌<◌, ◌≤◌, ◌^◌, ◌+◌, ◌/◌, ◌⊎◌, [], Some, IfOk, IfErr, OnErr, length, drop, take, true, IsTrue};
+ghost use Rattle.bw_request.specs.Requests.{meaning};
+ghost use Rattle.bw_plan.specs.Plans.{plan};
+ghost use Rattle.bw_plan.specs.Recordings.{Recording, block_frames as frames_a_block};
+ghost use Rattle.bw_plan.specs.PcmRecordings.{pcm_recording_of, PcmFaultOf};
+ghost use Rattle.bw_follow.specs.Following.{RequestsLeft, GivesFrom, GivesNext, GivesOf, ComesTo, NextComesTo, CountsUnread, TakesSamples};
+ghost use Rattle.bw_follow.specs.Following.{RefusesCopying, RefusesBlock, IsBlockOf};
+ghost use Rattle.bw_follow.specs.declared.state.PcmStep.TheVariants as steps;
+
+use crate::buffer::SampleBuffer;
+use crate::fault::PcmFault;
+use crate::state::{PcmRequests, PcmStep};
+use bw_inspect::InspectKind;
+use bw_plan::{Options, Pcm, RecordingFault, RecordingKind, block_frames, given_after};
+use bw_ports::Followed;
+use bw_request::{Request, RequestRef};
+use std::alloc::Global;
+
+/// What comes next.
+#[derive(Drop)]
+pub enum NextRequest {
+    /// This request.
+    Request(Request),
+    /// None yet: neither a whole block is written nor the file complete.
+    NotYet,
+    /// None: CLOSE was given.
+    End,
+}
+
+impl<F: Followed + Drop> PcmRequests<F> {
+    /// The requests of the samples in a file, which is read from the first of them on. It is known
+    /// that the whole file has so many bytes: `pcm.skip` of one that may still grow.
+    ///
+    /// # Errors
+    /// The first fault of samples in a file of so many bytes, as `Pcm::outline` returns it.
+    ///
+    /// # Not specified
+    /// When memory is refused.
+    pub fn new(
+        alloc: Global,
+        pcm: Pcm,
+        options: &Options,
+        file_len: u64,
+        file: F,
+    ) -> Result<PcmRequests<F>, RecordingFault>
+        ensures plan { IfOk result (λ x. (b : List ℕ) (r : Recording) →
+            F.to_come file ≡ Some (drop pcm.skip b) → pcm_recording_of b options.now pcm ≡ Ok r →
+            RequestsLeft F.Followed x (plan (frames_a_block options.now r.outline.format) r)) }
+        ensures err { IfErr result (λ f. PcmFaultOf options.now pcm file_len f) }
+    {
+        let outline = match pcm.outline(alloc, file_len, options) {
+            Ok(outline) => outline,
+            Err(fault) => return Err(fault),
+        };
+        let frames = block_frames(options, outline.format());
+        let size = frames * u32::from(outline.format().block_align());
+        let Ok(samples) = SampleBuffer::new(alloc, size as usize) else {
+            return Err(RecordingFault {
+                kind: RecordingKind::Unread(InspectKind::Memory),
+                offset: 0,
+            });
+        };
+        Ok(PcmRequests {
+            alloc,
+            outline,
+            frames,
+            samples,
+            given: 0,
+            place: pcm.skip,
+            step: PcmStep::Open,
+            file,
+        })
+    }
+
+    /// The next request, if it can be given.
+    ///
+    /// # Errors
+    /// Why it can't: the same request is the next one.
+    ///
+    /// # Not specified
+    /// When memory is refused, and when the system fails.
+    pub fn next(&mut self) -> Result<NextRequest, PcmFault>
+        ensures left { GivesNext F.Followed result self.old self.new }
+        ensures count { CountsUnread F.Followed result self.old self.new }
+        ensures by { NextComesTo F.Followed result self.old self.new }
+    {
+        match self.step {
+            PcmStep::Open => self.give_open(),
+            PcmStep::Fields { after } => self.give_field(after),
+            PcmStep::Samples => self.give_samples(),
+            PcmStep::End => Ok(NextRequest::End),
+        }
+    }
+
+    /// OPEN.
+    ///
+    /// # Errors
+    /// Unsendable, Memory.
+    fn give_open(&mut self) -> Result<NextRequest, PcmFault>
+        requires { self.old.step ≡ steps.Open }
+        ensures left { GivesFrom F.Followed steps.Open result self.old self.new }
+        ensures count { CountsUnread F.Followed result self.old self.new }
+        ensures by { ComesTo F.Followed steps.Open result self.old self.new }
+    {
+        let format = self.outline.format();
+        let open = RequestRef::OpenTake {
+            rate: format.rate(),
+            channels: format.channels(),
+            bits: format.bits(),
+            history: self.outline.history(),
+        };
+        let request = match copy_of(self.alloc, &open) {
+            Ok(request) => request,
+            Err(fault) => return Err(fault),
+        };
+        self.step = PcmStep::Fields { after: 0 };
+        Ok(NextRequest::Request(request))
+    }
+
+    /// The first field after a tag, or what follows the fields.
+    ///
+    /// # Errors
+    /// Why it can't be given.
+    fn give_field(&mut self, after: u8) -> Result<NextRequest, PcmFault>
+        requires { self.old.step ≡ steps.Fields after }
+        ensures left { GivesFrom F.Followed (steps.Fields after) result self.old self.new }
+        ensures count { CountsUnread F.Followed result self.old self.new }
+        ensures by { ComesTo F.Followed (steps.Fields after) result self.old self.new }
+    {
+        let Some(tag) = given_after(self.outline.values(), after) else {
+            return self.give_samples();
+        };
+        let field = RequestRef::SetField {
+            tag,
+            value: self.outline.values().get(tag),
+        };
+        let request = match copy_of(self.alloc, &field) {
+            Ok(request) => request,
+            Err(fault) => return Err(fault),
+        };
+        self.step = PcmStep::Fields { after: tag };
+        Ok(NextRequest::Request(request))
+    }
+
+    /// The next block once it is written; once the file is complete the whole frames that are held,
+    /// or CLOSE after them. It is asked whether the file is complete before it is read: what is
+    /// written in between is read.
+    ///
+    /// # Errors
+    /// Why it can't be given.
+    fn give_samples(&mut self) -> Result<NextRequest, PcmFault>
+        requires { self.old.step ≢ steps.End }
+        ensures left { GivesFrom F.Followed steps.Samples result self.old self.new }
+        ensures count { CountsUnread F.Followed result self.old self.new }
+        ensures by { ComesTo F.Followed steps.Samples result self.old self.new }
+    {
+        self.step = PcmStep::Samples;
+        let Ok(is_complete) = self.file.has_ended() else {
+            return Err(self.unread());
+        };
+        let Ok(()) = self.samples.read_on(&mut self.file) else {
+            return Err(self.unread());
+        };
+        let held = self.samples.bytes().len();
+        if held == self.samples.size() {
+            return self.give_block(held);
+        }
+        if !is_complete {
+            return Ok(NextRequest::NotYet);
+        }
+        let part = held % usize::from(self.outline.format().block_align());
+        if part < held {
+            return self.give_block(held - part);
+        }
+        if part > 0 {
+            return Err(PcmFault::PartFrame { place: self.place });
+        }
+        let close = RequestRef::CloseTake { frames: self.given };
+        let request = match copy_of(self.alloc, &close) {
+            Ok(request) => request,
+            Err(fault) => return Err(fault),
+        };
+        self.step = PcmStep::End;
+        Ok(NextRequest::Request(request))
+    }
+
+    /// Where a read failed.
+    fn unread(&self) -> PcmFault
+        ensures { result ≡ PcmFault.Unread (min (self.now.place + length self.now.samples.held) (2 ^ 64 - 1)) }
+    {
+        PcmFault::Unread {
+            place: self.place.saturating_add(self.samples.bytes().len() as u64),
+        }
+    }
+
+    /// A block of so many bytes of those that are held.
+    ///
+    /// # Errors
+    /// TooLong, Unsendable, Memory: nothing changed.
+    fn give_block(&mut self, count: usize) -> Result<NextRequest, PcmFault>
+        requires { count ≤ length self.old.samples.held }
+        ensures ok { IfOk result (λ next.
+            IsBlockOf (take count self.old.samples.held) next × TakesSamples count self.old self.new) }
+        ensures err { IfErr result (λ f. (self.new ≡ self.old) × RefusesBlock count f self.old) }
+    {
+        let frames = count / usize::from(self.outline.format().block_align());
+        let Some(given) = self.given.checked_add(frames as u64) else {
+            return Err(PcmFault::TooLong);
+        };
+        let Some(place) = self.place.checked_add(count as u64) else {
+            return Err(PcmFault::TooLong);
+        };
+        let block = RequestRef::Block {
+            bytes: &self.samples.bytes()[..count],
+        };
+        let request = match copy_of(self.alloc, &block) {
+            Ok(request) => request,
+            Err(fault) => return Err(fault),
+        };
+        self.samples.remove_prefix(count);
+        self.given = given;
+        self.place = place;
+        Ok(NextRequest::Request(request))
+    }
+}
+
+/// An owned copy of a request.
+///
+/// # Errors
+/// Unsendable where no message carries it; Memory.
+fn copy_of(alloc: Global, request: &RequestRef<'_>) -> Result<Request, PcmFault>
+    ensures ok { IfOk result (λ r. r ≡ meaning request.now) }
+    ensures err { IfErr result (λ f. RefusesCopying (meaning request.now) f) }
+{
+    if !request.fits() {
+        return Err(PcmFault::Unsendable);
+    }
+    match request.to_request(alloc) {
+        Ok(copy) => Ok(copy),
+        Err(_) => Err(PcmFault::Memory),
+    }
+}
