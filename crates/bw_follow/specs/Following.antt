@@ -91,8 +91,8 @@ module _ {F : Type 0} (followed : FollowedGhosts F) where
       GivesOf (requests_of_step (progress_of x) (x.samples.held ++ rest) step) result (RequestsLeft y)
 
   -- what is given, whichever requests are still to come
-  abbrev pub GivesNext : Result NextRequest PcmFault → PcmRequests F → PcmRequests F → Type 0
-  GivesNext result x y =
+  abbrev pub GivesNextRequest : Result NextRequest PcmFault → PcmRequests F → PcmRequests F → Type 0
+  GivesNextRequest result x y =
       (requests : List Request) → RequestsLeft x requests → GivesOf requests result (RequestsLeft y)
 
   -- each failed call of the file is returned

@@ -4,7 +4,7 @@ ghost use Rattle.bw_request.specs.Requests.{meaning};
 ghost use Rattle.bw_plan.specs.Plans.{plan};
 ghost use Rattle.bw_plan.specs.Recordings.{Recording, block_frames as frames_a_block};
 ghost use Rattle.bw_plan.specs.PcmRecordings.{pcm_recording_of, PcmFaultOf};
-ghost use Rattle.bw_follow.specs.Following.{RequestsLeft, GivesFrom, GivesNext, GivesOf, ComesTo, NextComesTo, CountsUnread, TakesSamples};
+ghost use Rattle.bw_follow.specs.Following.{RequestsLeft, GivesFrom, GivesNextRequest, GivesOf, ComesTo, NextComesTo, CountsUnread, TakesSamples};
 ghost use Rattle.bw_follow.specs.Following.{RefusesCopying, RefusesBlock, IsBlockOf};
 ghost use Rattle.bw_follow.specs.declared.state.PcmStep.TheVariants as steps;
 
@@ -81,7 +81,7 @@ impl<F: Followed + Drop> PcmRequests<F> {
     /// # Not specified
     /// When memory is refused, and when the system fails.
     pub fn next(&mut self) -> Result<NextRequest, PcmFault>
-        ensures left { GivesNext F.Followed result self.old self.new }
+        ensures left { GivesNextRequest F.Followed result self.old self.new }
         ensures count { CountsUnread F.Followed result self.old self.new }
         ensures by { NextComesTo F.Followed result self.old self.new }
     {
