@@ -4,3 +4,12 @@ pub mod JudgedFiles
 pub mod MadeLemmas
 pub mod NameLemmas
 pub mod Refusals
+pub mod PathLemmas
+pub mod NameBytes
+pub mod ListForms
+pub mod RestoreForms
+pub mod RefusalForms
+pub mod LookForms
+pub mod StartForms
+pub mod RecoverForms
+pub mod StartAnswers

@@ -42,7 +42,7 @@ foreign_file : (found : Option (List ℕ)) → IfSome found (λ bytes. begins_ta
 foreign_file None h = refl
 foreign_file (Some bytes) h = h
 
-unopened : (first : Option (List ℕ)) (limit : ℕ) (log : Log) → log.done ≡ 0 →
+pub unopened : (first : Option (List ℕ)) (limit : ℕ) (log : Log) → log.done ≡ 0 →
     first ≡ wanted_file first (made (is_some first) log.admitted log.done) limit
 unfolding made
 unopened (Some stood) limit log none = refl

@@ -7,11 +7,16 @@ use Rattle.bw_start.specs.Paths.{path_with, wave_path}
 abbrev pub Becomes : (List ℕ → List ℕ) → Option (List ℕ) → Option (List ℕ) → Type 0
 Becomes f before after = (found : List ℕ) → before ≡ Some found → after ≡ Some (f found)
 
+-- no take's file is at this path
+abbrev pub IsNoWave : List ℕ → List ℕ → Type 0
+IsNoWave folder path = (other : List ℕ) → path ≢ wave_path folder other
+
 -- The file of a take was moved to a path of its name where nothing was, which ends in `.torn` and
 -- what follows that; all else is as it was.
 pub record IsAside (folder name : List ℕ) (before after : List ℕ → Option (List ℕ)) : Type 0 where
   pub ending : List ℕ
   pub torn : take 5 ending ≡ codes ".torn"
+  pub apart : IsNoWave folder (path_with folder ending name)
   pub free : before (path_with folder ending name) ≡ None
   pub arrived : after (path_with folder ending name) ≡ before (wave_path folder name)
   pub left : after (wave_path folder name) ≡ None

@@ -1,5 +1,8 @@
 -- What is found of a name at a start.
 use Rattle.std.specs.Prelude.{◌≡◌, ℕ, ◌+◌, length, Option, Some, None, IsSome, option_map, Ok, Err, List}
+use Rattle.std.specs.Prelude.{Bool, true, false, IsTrue, ◌||◌}
+use Rattle.bw_start.specs.declared.adoption.Adoption.{Adoption}
+use Rattle.bw_start.specs.declared.adoption.Adoption.TheVariants.{Keep, SetAside, Mend}
 use Rattle.bw_journal.specs.JournalHeaders.{first_header}
 use Rattle.bw_journal.specs.Replays.{NotBegun, OtherLimit as OtherLimitThere, replay}
 use Rattle.bw_journal.specs.Faults.{fault_meaning}
@@ -41,6 +44,19 @@ pub record IsBegunAs (limit : ℕ) (name journal : List ℕ) (file : Option (Lis
   pub after : adopted b.adoption b.header.items file
       ≡ file_beside limit (replay limit name journal) file
   pub least : DoesLeast b.replayed.state.parts b.adoption b.header.items file
+  pub kept : IsTrue (b.replayed.state.parts.taken || b.replayed.state.parts.closed) → b.adoption ≡ Keep
+
+-- the file is left as it is
+abbrev pub keeps_file : Adoption → Bool
+keeps_file Keep = true
+keeps_file SetAside = false
+keeps_file (Mend m) = false
+
+-- the file of a name is left as it is
+abbrev pub leaves_take : Finding → Bool
+leaves_take (Refused cause) = true
+leaves_take Unbegun = true
+leaves_take (Resumes b) = keeps_file b.adoption
 
 -- this is found of a name with this journal and this file
 abbrev pub IsFound : ℕ → List ℕ → List ℕ → Option (List ℕ) → Finding → Type 0

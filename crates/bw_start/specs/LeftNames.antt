@@ -1,6 +1,7 @@
 -- What a stop leaves of a folder: journals and files by name.
 use Rattle.std.specs.Prelude.{◌≡◌, ◌⊎◌, ℕ, ◌<◌, ◌^◌, false, Option, Some, None, is_some, IfSome, Ok}
-use Rattle.std.specs.Prelude.{List, [], ◌++◌, take}
+use Rattle.std.specs.Prelude.{List, [], ◌++◌, take, IsSome, IsTrue}
+use Rattle.bw_model.specs.Wire.{is_name}
 use Rattle.bw_model.specs.Book.{Log, Book, log_of, made}
 use Rattle.bw_model.specs.BookRules.{IsBook}
 use Rattle.bw_journal.specs.JournalHeaders.{Header, header_bytes, header_len}
@@ -44,6 +45,7 @@ pub record IsLeft (limit : ℕ) (first : List ℕ → Option (List ℕ)) (book :
     (journals files : List ℕ → Option (List ℕ)) : Type 0 where
   pub is_book : IsBook book
   pub admits : (name : List ℕ) → AdmitsDone (log_of book name)
+  pub fit : (name : List ℕ) → IsSome (journals name) → IsTrue (is_name name)
   pub names : (name : List ℕ) →
       IsLeftName limit (first name) name (log_of book name) (journals name) (files name)
 

@@ -7,3 +7,7 @@ pub mod LeftNames
 pub mod FilesRead
 pub mod Paths
 pub mod Findings
+pub mod FoundNames
+pub mod Restored
+pub mod Started
+pub mod FaultLines

@@ -1,5 +1,5 @@
 //! What a start finds of a name, and what that means for it.
-ghost use Rattle.std.specs.Prelude.{◌≡◌, ℕ, List, Some, Ok, IsTrue, IfOk, IfSome, IfNone, None, ◌+◌, length};
+ghost use Rattle.std.specs.Prelude.{◌≡◌, ℕ, List, Some, Ok, IsTrue, IsSome, IfOk, IfSome, IfNone, None, ◌+◌, length};
 ghost use Rattle.std.specs.Prelude.{Err, Option, option_map, ◌&&◌, take, drop, false};
 ghost use Rattle.std.specs.Option.{option_map_or};
 ghost use Rattle.std.specs.Str.{bytes_eq};
@@ -85,6 +85,8 @@ pub fn look<D: Volume, E: Volume>(
     ensures notes { StaysWhole E.Disk notes.old notes.new }
     ensures none { IsTrue (E.honest notes.old) → IfOk result (λ found. IfNone found
         (E.contents notes.old (notes_path folder.now name.now) ≡ None)) }
+    ensures some { IsTrue (E.honest notes.old) → IfOk result (λ found. IfSome found
+        (λ _. IsSome (E.contents notes.old (notes_path folder.now name.now)))) }
     ensures found { IsTrue (D.honest takes.old) → IsTrue (E.honest notes.old) → IfOk result
         (λ found. (journal : List ℕ) →
         E.contents notes.old (notes_path folder.now name.now) ≡ Some journal → IfSome found

@@ -1,20 +1,30 @@
 //! The start of a server over what an earlier one left in a folder.
 #![tactic(auto)]
 
+mod adopting;
 mod adoption;
 mod fault;
 mod finding;
 pub mod laws;
+mod lines;
+mod listing;
 mod mending;
 mod paths;
 mod reading;
+mod restoring;
 mod resuming;
+mod starting;
+mod watch;
 
 pub use adoption::{
     Adoption, FileFacts, Mending, data_end, data_place, file_len, header_of, judge_file,
 };
 pub use fault::FileFault;
 pub use finding::{Begun, Finding, NameFault, look};
+pub use listing::{FoundName, journal_name, list_names, look_at_each};
 pub use mending::mend;
 pub use reading::{FileRead, read_take};
+pub use restoring::{RefusedName, StartFault, restore_folder};
 pub use resuming::{adopt_file, cut_journal, restore_name};
+pub use starting::start;
+pub use watch::{StartWatch, Unwatched};

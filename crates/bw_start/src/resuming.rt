@@ -1,13 +1,13 @@
 //! Making journal and file of a name again what its done numbers make: the last step before a server
 //! resumes it.
 ghost use Rattle.std.specs.Prelude.{◌≡◌, ℕ, List, Option, Some, IsTrue, IsFalse, IfOk, OnOk, OnErr, take};
-ghost use Rattle.std.specs.Prelude.{option_map, codes, string_bytes, length, ◌+◌, None};
+ghost use Rattle.std.specs.Prelude.{option_map, codes, string_bytes, length, ◌+◌, ◌++◌, None, decimal};
 ghost use Rattle.bw_store.specs.Stores.{KeepsOthers};
 ghost use Rattle.bw_start.specs.Adoptions.{adopted, patched};
 ghost use Rattle.bw_start.specs.Names.{name_fault};
-ghost use Rattle.bw_start.specs.Findings.{IsFound, IsBegunAs, IsRestored};
-ghost use Rattle.bw_start.specs.Changes.{Becomes, BecomesAs, IsAside, ChangesTake};
-ghost use Rattle.bw_start.specs.Paths.{wave_path, notes_path};
+ghost use Rattle.bw_start.specs.Findings.{IsFound, IsBegunAs, IsRestored, keeps_file, leaves_take};
+ghost use Rattle.bw_start.specs.Changes.{Becomes, BecomesAs, IsAside, ChangesTake, IsNoWave};
+ghost use Rattle.bw_start.specs.Paths.{path_with, wave_path, notes_path};
 ghost use Rattle.bw_disk.specs.Volumes.{KeepsEach, Moves, Renames};
 
 use crate::adoption::{Adoption, Mending};
@@ -52,6 +52,7 @@ pub fn restore_name<D: Volume, E: Volume>(
         ChangesTake folder.now name.now (D.contents takes.old) (D.contents takes.new)
         × KeepsOthers (E.contents notes.old) (E.contents notes.new)
         (notes_path folder.now name.now) }
+    ensures kept { IsTrue (leaves_take finding.now) → takes.new ≡ takes.old }
 {
     match finding {
         Finding::Refused(_) => Ok(()),
@@ -83,6 +84,7 @@ fn restore_begun<D: Volume, E: Volume>(
         ChangesTake folder.now name.now (D.contents takes.old) (D.contents takes.new)
         × KeepsOthers (E.contents notes.old) (E.contents notes.new)
         (notes_path folder.now name.now) }
+    ensures kept { IsTrue (keeps_file begun.now.adoption) → takes.new ≡ takes.old }
 {
     cut_torn(notes, alloc, folder, name, &begun.replayed)?;
     adopt_file(takes, alloc, folder, name, &begun.header, &begun.adoption)
@@ -182,6 +184,7 @@ pub fn adopt_file<D: Volume>(
         (D.contents takes.new (wave_path folder.now name.now))) }
     ensures others { IsTrue (D.honest takes.old) → ChangesTake folder.now name.now
         (D.contents takes.old) (D.contents takes.new) }
+    ensures kept { IsTrue (keeps_file adoption.now) → takes.new ≡ takes.old }
 {
     match adoption {
         Adoption::Keep => Ok(()),
@@ -268,14 +271,31 @@ fn try_aside<D: Volume>(
 
 /// What follows a name of which a file was set aside: `.torn`, and from 1 on the number.
 fn torn_ending(alloc: Global, attempt: u32) -> Result<String, ReadFault>
-    ensures { IfOk result (λ e. take 5 (string_bytes e) ≡ codes ".torn") }
+    ensures torn { IfOk result (λ e. take 5 (string_bytes e) ≡ codes ".torn") }
+    ensures apart { IfOk result (λ e. (folder name : List ℕ) →
+        IsNoWave folder (path_with folder (string_bytes e) name)) }
 {
-    let text = if attempt == 0 {
-        format!(in alloc; ".torn")
-    } else {
-        format!(in alloc; ".torn{attempt}")
-    };
-    match text {
+    if attempt == 0 {
+        return first_ending(alloc);
+    }
+    numbered_ending(alloc, attempt)
+}
+
+/// `.torn`.
+fn first_ending(alloc: Global) -> Result<String, ReadFault>
+    ensures { IfOk result (λ e. string_bytes e ≡ codes ".torn") }
+{
+    match String::from_str(alloc, ".torn") {
+        Ok(ending) => Ok(ending),
+        Err(_) => Err(ReadFault::Memory),
+    }
+}
+
+/// `.torn` and a number.
+fn numbered_ending(alloc: Global, attempt: u32) -> Result<String, ReadFault>
+    ensures { IfOk result (λ e. string_bytes e ≡ codes ".torn" ++ decimal attempt) }
+{
+    match format!(in alloc; ".torn{attempt}") {
         Ok(ending) => Ok(ending),
         Err(_) => Err(ReadFault::Memory),
     }

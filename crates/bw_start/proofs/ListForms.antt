@@ -1,0 +1,162 @@
+-- Lists of names, each once.
+use Rattle.std.proofs.Common.{◌≡◌, ◌⊎◌, inl, inr, ℕ, zero, suc, ◌+◌, ◌<◌, true, false, List, [], ◌∷◌, ◌++◌, length, take}
+use Rattle.std.proofs.Common.{Option, Some, None, refl, sym, ◌∙◌, ap, subst, arith, IsTrue}
+use Rattle.std.specs.Prelude.{IsSome, is_some, Result, Ok, Err, OnOk, IfOk, IfSome, get_or, codes}
+use Rattle.std.specs.Option.{SomeIff}
+use Rattle.std.specs.List.{All, Contains}
+use Rattle.std.proofs.lemmas.List.Elements.{Contains-append_left, Contains-append_right, Contains-append_cases}
+use Rattle.std.proofs.lemmas.Grind.{take_at_read}
+use Rattle.bw_model.specs.Wire.{is_name}
+use Rattle.std.proofs.Common.{◌≤◌}
+use Rattle.std.proofs.lemmas.List.{take_all}
+use Rattle.bw_disk.specs.Volumes.{AreDistinct, Lists, is_listed, in_folder}
+use Rattle.bw_start.specs.Paths.{wave_path, notes_path}
+use Rattle.bw_start.specs.Findings.{IsFound}
+use Rattle.bw_start.specs.FoundNames.{found_names, IsFoundIn, ListsJournals, AddsName}
+use Rattle.bw_start.proofs.PathLemmas.{path_listed}
+use Rattle.bw_start.proofs.NameBytes.{journal_is_listed, journal_is_utf8}
+use Rattle.bw_start.specs.declared.finding.Finding.{Finding}
+use Rattle.bw_start.specs.declared.listing.FoundName.{FoundName}
+
+pub on_ok : {T E : Type 0} {P Q : Type 0} (r : Result T E) → (P → Q) → OnOk r P → OnOk r Q
+on_ok (Ok x) f h = f h
+on_ok (Err e) f h = tt
+
+-- what holds of an option's value
+pub of_some : {A : Type 0} (o : Option A) (x : A) (P : A → Type 0) → o ≡ Some x → IfSome o P → P x
+of_some None x P e h = absurd (none_some e)
+  where
+    none_some : None ≡ Some x → ⊥
+    none_some q = cc
+of_some (Some y) x P e h = subst P (same e) h
+  where
+    same : Some y ≡ Some x → y ≡ x
+    same q = cc
+
+-- of a result that succeeded
+pub if_ok : {T E : Type 0} (r : Result T E) (P Q : T → Type 0) → ((x : T) → P x → Q x) → IfOk r P → IfOk r Q
+if_ok (Ok x) P Q f h = f x h
+if_ok (Err e) P Q f h = tt
+
+pub true_false : true ≡ false → ⊥
+true_false e = cc
+
+-- the name of a file that has this stem
+pub named : (r : Option (List ℕ)) (P : Type 0) (stem file : List ℕ) → SomeIff r P stem →
+    file ≡ stem ++ codes ".journal" → IfSome r (λ name. file ≡ name ++ codes ".journal")
+named None P stem file h e = tt
+named (Some name) P stem file h e = e ∙ ap (λ (x : List ℕ). x ++ codes ".journal") (sym h.1)
+
+in_one : (x y : List ℕ) → Contains (x ∷ []) y → x ≡ y
+in_one x y (zero, below, here) = here
+in_one x y (suc k, below, there) = absurd (omega (arith, below))
+
+-- one more, that isn't there yet
+pub distinct_push : (xs : List (List ℕ)) (x : List ℕ) → AreDistinct xs → (Contains xs x → ⊥) →
+    AreDistinct (xs ++ x ∷ [])
+distinct_push [] x d none = (λ c. omega (arith, c.1), tt)
+distinct_push (y ∷ xs) x d none = (
+  λ c. elim (Contains-append_cases xs (x ∷ []) y c) [
+    | inl among ↦ d.0 among
+    | inr last ↦ none (subst (Contains (y ∷ xs)) (sym (in_one x y last)) (0, omega arith, refl))
+  ],
+  distinct_push xs x d.1 (λ c. none (suc c.0, omega (arith, c.1), c.2)),
+)
+
+some_name : (a b : List ℕ) → Some a ≡ Some b → a ≡ b
+some_name a b e = cc
+
+-- a name was added to those before it
+pub added_name : (file : List ℕ) (before after : List (List ℕ)) (name : List ℕ) → IsTrue (is_name name) →
+    file ≡ name ++ codes ".journal" → ((n : List ℕ) → IsTrue (is_name n) → file ≡ n ++ codes ".journal" → Some name ≡ Some n) →
+    after ≡ before ++ name ∷ [] → AddsName file before after
+added_name file before after name fits e each pushed = record {
+  kept = λ n c. subst (λ (xs : List (List ℕ)). Contains xs n) (sym pushed) (Contains-append_left before (name ∷ []) n c);
+  next = λ n f en. subst (λ (xs : List (List ℕ)). Contains xs n) (sym pushed)
+      (Contains-append_right before (name ∷ []) n (0, omega arith, some_name name n (each n f en)));
+  only = λ n c. elim (Contains-append_cases before (name ∷ []) n
+      (subst (λ (xs : List (List ℕ)). Contains xs n) pushed c)) [
+        | inl among ↦ inl among
+        | inr last ↦ inr (subst (λ (x : List ℕ). IsTrue (is_name x) × (file ≡ x ++ codes ".journal")) (in_one name n last) (fits, e))
+      ];
+}
+
+-- no other name was added
+pub same_names : (file : List ℕ) (before : List (List ℕ)) →
+    ((n : List ℕ) → IsTrue (is_name n) → file ≡ n ++ codes ".journal" → Contains before n) → AddsName file before before
+same_names file before each = record {
+  kept = λ n c. c;
+  next = each;
+  only = λ n c. inl c;
+}
+
+-- one further in a list
+pub contains_step : (xs : List (List ℕ)) (i : ℕ) (d y : List ℕ) → i < length xs → Contains (take (i + 1) xs) y →
+    Contains (take i xs) y ⊎ (get_or xs i d ≡ y)
+contains_step xs i d y below c =
+    elim (Contains-append_cases (take i xs) (get_or xs i d ∷ []) y
+    (subst (λ (zs : List (List ℕ)). Contains zs y) (take_at_read xs i d below).1 c)) [
+      | inl among ↦ inl among
+      | inr last ↦ inr (in_one (get_or xs i d) y last)
+    ]
+
+-- what is found of a name that has a journal
+pub found_in : (limit : ℕ) (folder : List ℕ) (notes takes : List ℕ → Option (List ℕ)) (name : List ℕ) (f : Finding) →
+    IsSome (notes (notes_path folder name)) →
+    ((journal : List ℕ) → notes (notes_path folder name) ≡ Some journal →
+    IsFound limit name journal (takes (wave_path folder name)) f) →
+    IsFoundIn limit folder notes takes (record { name = name; finding = f })
+found_in limit folder notes takes name f some found = go (notes (notes_path folder name)) refl
+  where
+    go : (x : Option (List ℕ)) → notes (notes_path folder name) ≡ x →
+        IsFoundIn limit folder notes takes (record { name = name; finding = f })
+    go None e = absurd (true_false (sym some ∙ ap (λ (y : Option (List ℕ)). is_some y) e))
+    go (Some j) e = record { journal = j; stands = e; found = found j e }
+
+pub names_push : (found : List FoundName) (next : FoundName) → found_names (found ++ next ∷ []) ≡ found_names found ++ next.name ∷ []
+names_push [] next = refl
+names_push (it ∷ found) next = ap (λ (z : List (List ℕ)). it.name ∷ z) (names_push found next)
+
+-- each name is one of a file's journal, after one more file
+pub only_step : (files : List (List ℕ)) (i : ℕ) (file : List ℕ) (before after : List (List ℕ)) → i < length files →
+    get_or files i file ≡ file → AddsName file before after →
+    ((name : List ℕ) → Contains before name → IsTrue (is_name name) × Contains files (name ++ codes ".journal")) →
+    (name : List ℕ) → Contains after name → IsTrue (is_name name) × Contains files (name ++ codes ".journal")
+only_step files i file before after below at added only name c =
+    elim (added.only name c) [
+      | inl old ↦ only name old
+      | inr new ↦ (new.0, subst (Contains files) new.1 (i, below, at))
+    ]
+
+-- and each file's name is there
+pub each_step : (files : List (List ℕ)) (i : ℕ) (file : List ℕ) (before after : List (List ℕ)) → i < length files →
+    get_or files i file ≡ file → AddsName file before after →
+    ((name : List ℕ) → IsTrue (is_name name) → Contains (take i files) (name ++ codes ".journal") → Contains before name) →
+    (name : List ℕ) → IsTrue (is_name name) → Contains (take (i + 1) files) (name ++ codes ".journal") → Contains after name
+each_step files i file before after below at added each name fits c =
+    elim (contains_step files i file (name ++ codes ".journal") below c) [
+      | inl old ↦ added.kept name (each name fits old)
+      | inr same ↦ added.next name fits (sym at ∙ same)
+    ]
+
+-- once all files were looked at, the names are those that have a journal
+pub listed_end : (folder : List ℕ) (notes : List ℕ → Option (List ℕ)) (files names : List (List ℕ)) (i : ℕ) →
+    length files ≤ i → Lists folder notes files →
+    ((name : List ℕ) → Contains names name → IsTrue (is_name name) × Contains files (name ++ codes ".journal")) →
+    ((name : List ℕ) → IsTrue (is_name name) → Contains (take i files) (name ++ codes ".journal") → Contains names name) →
+    ListsJournals folder notes names
+listed_end folder notes files names i all lists only each name = (
+  λ c.
+      let o = only name c in (
+        o.0,
+        subst (λ (p : List ℕ). IsSome (notes p)) (path_listed folder (codes ".journal") name)
+            (all_among (λ n. IsTrue (is_listed n) × IsSome (notes (in_folder folder n))) files (name ++ codes ".journal") lists.stand o.1).1,
+      ),
+  λ h. each name h.0
+      (subst (λ (xs : List (List ℕ)). Contains xs (name ++ codes ".journal")) (sym (take_all i files all))
+      (lists.complete (name ++ codes ".journal") (journal_is_listed name h.0) (journal_is_utf8 name h.0)
+      (subst (λ (p : List ℕ). IsSome (notes p)) (sym (path_listed folder (codes ".journal") name)) h.1))),
+)
+  where
+    all_among : (P : List ℕ → Type 0) (xs : List (List ℕ)) (x : List ℕ) → All P xs → Contains xs x → P x
+    all_among P xs x h c = subst P c.2 (h c.0 x c.1)

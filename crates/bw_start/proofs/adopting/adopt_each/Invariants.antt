@@ -1,0 +1,20 @@
+use Rattle.std.proofs.Common.{◌≡◌, ◌++◌, map, vec_len}
+use Rattle.bw_disk.specs.DiskSteps.{StaysWhole}
+use Rattle.bw_folder.specs.Journals.{existences}
+use Rattle.bw_start.specs.Started.{kept_fact, kept_facts, begun_names, StaysSet}
+use Rattle.bw_start.proofs.adopting.adopt_each.Given as goal
+
+-- the names so far are adopted
+abbrev pub invariant-loop-rest : goal.invariant-loop-rest
+invariant-loop-rest g l = record {
+  store : StaysWhole g.D.Disk l.fn.store.disk l.store.disk;
+  folder : l.store.folder ≡ l.fn.store.folder;
+  journal : StaysWhole g.E.Disk l.fn.journal.disk l.journal.disk;
+  settings : StaysSet l.fn.journal l.journal;
+  known : existences l.journal.journals.items ++ begun_names l.rest.items
+      ≡ existences l.fn.journal.journals.items ++ begun_names l.fn.found.items;
+  kept : map kept_fact l.kept.items ++ kept_facts l.rest.items ≡ kept_facts l.fn.found.items;
+}
+
+abbrev pub decreases-loop-rest : goal.decreases-loop-rest
+decreases-loop-rest g l = vec_len l.rest
