@@ -5,6 +5,7 @@
 mod folder;
 mod followed;
 mod host;
+mod lock;
 mod network;
 mod pause;
 mod reactor;
@@ -16,6 +17,7 @@ mod terminal;
 pub use folder::{check_folder, has_folder};
 pub use followed::FollowedFile;
 pub use host::Host;
+pub use lock::FolderLock;
 pub use network::TcpNetwork;
 pub use pause::ClockPause;
 pub use reactor::TcpReactor;

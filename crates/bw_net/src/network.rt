@@ -8,7 +8,7 @@ use crate::reactor::TcpReactor;
 use crate::tcp::{TcpDial, TcpPeers};
 use bw_disk::SystemDisk;
 use bw_folder::FolderStore;
-use bw_ports::{ListenerSetup, Network};
+use bw_ports::{ListenerSetup, Network, StartRefusal};
 use std::io;
 use std::net::{SocketAddr, TcpListener};
 use std::time::Duration;
@@ -93,17 +93,20 @@ impl<'a> Network for TcpNetwork<'a> {
     ghost calls = { λ n address timeout dial. (dial.address ≡ address)
         × (option_map as_nanos dial.timeout ≡ option_map (λ s. s * 1_000_000_000) timeout) };
 
-    fn store(&mut self, folder: &str) -> io::Result<FolderStore<SystemDisk<&'a HostRuntime>>> {
+    fn store(
+        &mut self,
+        folder: &str,
+    ) -> Result<FolderStore<SystemDisk<&'a HostRuntime>>, StartRefusal> {
         let alloc = self.rt.alloc();
         if let Err(error) = check_folder(self.rt, alloc, folder) {
             self.failures = self.failures.saturating_add(1);
-            return Err(error);
+            return Err(StartRefusal::Unusable(error));
         }
         match FolderStore::new(self.rt, alloc, folder) {
             Ok(store) => Ok(store),
             Err(error) => {
                 self.failures = self.failures.saturating_add(1);
-                Err(io::Error::from(error))
+                Err(StartRefusal::Unusable(io::Error::from(error)))
             }
         }
     }

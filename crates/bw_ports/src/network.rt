@@ -3,9 +3,11 @@ ghost use Rattle.std.specs.Prelude.{◌≡◌, ℕ, List, Result, Option};
 ghost use Rattle.std.specs.declared.io.Error.{Error as IoError};
 ghost use Rattle.std.specs.declared.net.socket_addr.SocketAddr.{SocketAddr};
 ghost use Rattle.bw_stream.specs.Moves.{failures_after};
+ghost use Rattle.bw_ports.specs.declared.starts.StartRefusal.{StartRefusal};
 
 use crate::dial::Dial;
 use crate::peers::Peers;
+use crate::starts::StartRefusal;
 use bw_store::TakeStore;
 use std::io;
 use std::net::SocketAddr;
@@ -25,7 +27,7 @@ pub trait Network {
     ghost failures: { Self → ℕ };
 
     /// What a call of `store` for this folder may return, and the state after it.
-    ghost stores: { Self → List ℕ → Result Self.Store IoError → Self → Type 0 };
+    ghost stores: { Self → List ℕ → Result Self.Store StartRefusal → Self → Type 0 };
 
     /// What a call of `listen` for this address, folder and timeout may return, and the state after
     /// it.
@@ -35,15 +37,15 @@ pub trait Network {
     /// What a call of `dial` for this address and timeout gives.
     ghost calls: { Self → SocketAddr → Option ℕ → Self.Dial → Type 0 };
 
-    /// The store of the folder's files.
+    /// The store of the folder's files, for a server without journals.
     ///
     /// # Errors
-    /// Why the folder can't be used.
+    /// Why no server can use the folder: among others that an earlier one kept journals there.
     ///
     /// # Not specified
-    /// - When it fails, and the kind of the error.
+    /// - When it fails, and why.
     /// - The state of the network afterwards, except for its count of failures.
-    fn store(&mut self, folder: &str) -> io::Result<Self::Store>
+    fn store(&mut self, folder: &str) -> Result<Self::Store, StartRefusal>
         ensures received { stores self.old folder.now result self.new }
         ensures count { failures self.new ≡ failures_after result (failures self.old) };
 

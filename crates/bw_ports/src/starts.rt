@@ -1,4 +1,4 @@
-//! What a server with a journal asks of the system in place of a folder's store: its start.
+//! Why no server is started, and what one with a journal asks of the system: its start.
 ghost use Rattle.std.specs.Prelude.{◌≡◌, ℕ, Bool, List, Result};
 ghost use Rattle.bw_stream.specs.Moves.{failures_after};
 ghost use Rattle.bw_ports.specs.declared.starts.StartRefusal.{StartRefusal};
@@ -12,9 +12,9 @@ use thiserror::Error;
 /// It has no number, and no clause describes its text.
 #[derive(Debug, Drop, Error)]
 pub enum StartRefusal {
-    /// What stands in the folder can't be resumed: a line for each file that refuses it, each ended
-    /// by a line feed.
-    #[error("the folder can't be resumed")]
+    /// What stands in the folder can't be served so: a line for each file that refuses it, each
+    /// ended by a line feed.
+    #[error("the folder can't be served so")]
     Unfit(Vec<u8>),
     /// Another server runs over the folder.
     #[error("another server runs here")]

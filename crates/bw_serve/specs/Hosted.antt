@@ -3,7 +3,6 @@ use Rattle.std.specs.Prelude.{◌≡◌, ◌⊎◌, ℕ, ◌++◌, List, [], Ok,
 use Rattle.std.specs.IoError.{error_kind}
 use Rattle.std.specs.Net.Text.{socket_text}
 use Rattle.std.specs.declared.io.Error.{Error as IoError}
-use Rattle.std.specs.declared.io.ErrorKind.{ErrorKind}
 use Rattle.std.specs.declared.net.socket_addr.SocketAddr.{SocketAddr}
 use Rattle.bw_stream.specs.Moves.{one_more}
 use Rattle.bw_stream.specs.declared.sink.Sink.{Ghosts as Writer}
@@ -14,19 +13,18 @@ use Rattle.bw_session.specs.Books.{HoldsBook}
 use Rattle.bw_session.specs.declared.server.Server.{Server}
 use Rattle.bw_engine.specs.Ingesting.{LeavesRun}
 use Rattle.bw_session.specs.ServerTurns.{ServerTurn}
-use Rattle.bw_console.specs.Outcomes.{Outcome, IsOutOfMemory}
-use Rattle.bw_console.specs.Faults.{exit_on, input_fault_text}
-use Rattle.bw_console.specs.Openings.{IsUnopened}
 use Rattle.bw_console.specs.Printing.{HasPrinted, HasStopped, IsOf, IsPrint, Print}
 use Rattle.bw_console.specs.Text.{as_line}
 use Rattle.bw_console.specs.declared.exit.Exit.{Exit}
 use Rattle.bw_console.specs.declared.exit.Exit.TheVariants as exits
-use Rattle.bw_console.specs.declared.fault.Fault.{Fault}
 use Rattle.bw_console.specs.declared.fault.Fault.TheVariants as faults
 use Rattle.bw_serve.specs.ServedAll.{ServesRun, answered_in_run}
 use Rattle.bw_ports.specs.declared.network.Network.{Ghosts as NetworkGhosts}
 use Rattle.bw_serve.specs.declared.hosting_in_turn.Serving.{Serving}
 use Rattle.bw_ports.specs.declared.peers.Peers.{Ghosts as PeerGhosts}
+use Rattle.bw_ports.specs.declared.starts.StartRefusal.{StartRefusal}
+pub use Rattle.bw_serve.specs.Reported.{GivesUp, ReportsUnopened}
+use Rattle.bw_serve.specs.Refusals.{ReportsRefusal}
 
 -- the first line, after which peers may come
 abbrev pub listening_line : SocketAddr → List ℕ
@@ -35,14 +33,6 @@ listening_line address = as_line (codes "listening " ++ socket_text address)
 -- what is reported where no more peers are accepted
 abbrev pub gone_line : List ℕ
 gone_line = as_line (codes "the server can't go on: its folder is gone, or nothing can be waited for")
-
--- this fault's line is reported, and the command ends so
-pub record GivesUp {E : Type 0} (reported : Writer E) (fault : Fault) (exit : Exit) (e e' : E)
-    : Type 0 where
-  pub exit_is : exit ≡ exit_on fault
-  pub print : Print
-  pub line : IsOf (as_line (input_fault_text fault)) print
-  pub reports : IsPrint reported print e e'
 
 -- it is reported that no more peers are accepted
 pub record ReportsGone {E : Type 0} (reported : Writer E) (exit : Exit) (e e' : E) : Type 0 where
@@ -56,15 +46,6 @@ abbrev pub ReportsExit : {E : Type 0} → Writer E → Exit → Exit → E → E
 ReportsExit reported exits.Done exit e e' = (exit ≡ exits.Done) × (e' ≡ e)
 ReportsExit reported exits.Memory exit e e' = GivesUp reported faults.Memory exit e e'
 ReportsExit reported _ exit e e' = ReportsGone reported exit e e'
-
--- it is reported that what has this name can't be opened, for an error of this kind, and the
--- command ends so
-pub record ReportsUnopened {E : Type 0} (reported : Writer E) (what : List ℕ) (kind : ErrorKind)
-    (exit : Exit) (e e' : E) : Type 0 where
-  pub did : Outcome
-  pub ends : did.exit ≡ exit
-  pub is : IsUnopened what kind did ⊎ IsOutOfMemory did
-  pub reports : IsPrint reported did.faults e e'
 
 module _ {X Y P R W O E : Type 0} (S : StoreGhosts X) (J : JournalGhosts Y)
     (peers : PeerGhosts P R W) (reader : Reader R) (writer : Writer W) (out : Writer O)
@@ -112,11 +93,11 @@ module _ {X Y P R W O E : Type 0} (S : StoreGhosts X) (J : JournalGhosts Y)
     -- the folder can't be used: nothing else is asked for, and nothing is printed
     pub record CantStore (serving : Serving) (exit : Exit) (n n' : N) (o o' : O) (e e' : E)
         : Type 0 where
-      pub error : IoError
-      pub refused : network.stores n serving.folder.now (Err error) n'
+      pub refusal : StartRefusal
+      pub refused : network.stores n serving.folder.now (Err refusal) n'
       pub counted : network.failures n' ≡ one_more (network.failures n)
       pub printed : o' ≡ o
-      pub reports : ReportsUnopened reported serving.folder.now (error_kind error) exit e e'
+      pub reports : ReportsRefusal reported serving.folder.now refusal exit e e'
 
     -- the folder can be used, and the address can't: nothing is printed
     pub record CantBind (serving : Serving) (exit : Exit) (n n' : N) (o o' : O) (e e' : E)

@@ -26,6 +26,8 @@ use Rattle.bw_serve.specs.Serving.{RunsEventLoop}
 use Rattle.bw_ports.specs.declared.listener_setup.ListenerSetup.{Ghosts as ListenerSetupGhosts}
 use Rattle.bw_serve.specs.declared.hosting.Hosting.{Hosting}
 use Rattle.bw_ports.specs.declared.reactor.Reactor.{Ghosts as ReactorGhosts}
+use Rattle.bw_ports.specs.declared.starts.StartRefusal.{StartRefusal}
+use Rattle.bw_serve.specs.Refusals.{ReportsRefusal}
 use Rattle.bw_serve.specs.declared.serving.Bounds.{Bounds}
 
 module _ {B L T O E : Type 0} (reactor : ReactorGhosts B L) (link : LinkGhosts L)
@@ -88,11 +90,11 @@ module _ {X Y B L O E : Type 0} (S : StoreGhosts X) (J : JournalGhosts Y) (react
     -- the folder can't be used: nothing else is asked for, and nothing is printed
     pub record CantStoreMany (hosting : Hosting) (exit : Exit) (n n' : N) (o o' : O) (e e' : E)
         : Type 0 where
-      pub error : IoError
-      pub refused : network.stores n hosting.folder.now (Err error) n'
+      pub refusal : StartRefusal
+      pub refused : network.stores n hosting.folder.now (Err refusal) n'
       pub counted : network.failures n' ≡ one_more (network.failures n)
       pub printed : o' ≡ o
-      pub reports : ReportsUnopened reported hosting.folder.now (error_kind error) exit e e'
+      pub reports : ReportsRefusal reported hosting.folder.now refusal exit e e'
 
     -- the folder can be used, and the address can't: nothing is printed
     pub record CantListenMany (hosting : Hosting) (exit : Exit) (n n' : N) (o o' : O) (e e' : E)

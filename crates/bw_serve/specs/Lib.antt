@@ -5,11 +5,12 @@ pub mod EventLoops
 pub mod Rounds
 pub mod Serving
 pub mod Names
+pub mod Reported
+pub mod Refusals
 pub mod HostedMany
 pub mod LinkLines
 pub mod ServedOne
 pub mod ServedAll
 pub mod Hosted
 pub mod HostedFrom
-pub mod Refusals
 pub mod HostedResumed

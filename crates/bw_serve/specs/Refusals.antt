@@ -9,7 +9,7 @@ use Rattle.bw_console.specs.declared.exit.Exit.TheVariants as exits
 use Rattle.bw_console.specs.declared.fault.Fault.TheVariants as faults
 use Rattle.bw_ports.specs.declared.starts.StartRefusal.{StartRefusal}
 use Rattle.bw_ports.specs.declared.starts.StartRefusal.TheVariants as refusals
-use Rattle.bw_serve.specs.Hosted.{GivesUp, ReportsUnopened}
+use Rattle.bw_serve.specs.Reported.{GivesUp, ReportsUnopened}
 
 -- what is reported where another server runs over the folder
 abbrev pub running_line : List ℕ

@@ -6,9 +6,10 @@ ghost use Rattle.bw_serve.specs.HostedMany.{HostsMany, HostsManyOver};
 
 use crate::hosting_in_turn::{format_listening, report_end, report_unbound};
 use crate::laws::law_names;
+use crate::refusing::report_refusal;
 use crate::serving::{Bounds, run_event_loop};
 use bw_console::print::{give_up, print};
-use bw_console::{Exit, Fault, report_unopened};
+use bw_console::{Exit, Fault};
 use bw_engine::laws::law_server_runs;
 use bw_exchange::Metered;
 use bw_journal::{Journal, NoJournal};
@@ -37,12 +38,14 @@ pub struct Hosting<'a> {
 
 /// Serves a number of exchanges, many at once, over a new server and the folder's store.
 ///
-/// A folder or an address that can't be used is a line on `faults` before anything is printed. Then
-/// `listening ADDRESS` is printed, and a line for each exchange, as `run_event_loop` says; if the
-/// first can't be printed, nothing is served. If a log is asked for, each connection is a line on
-/// `faults`, as `run_event_loop` says too.
+/// A folder or an address that can't be used is a line on `faults` before anything is printed, or
+/// a line for each file of the folder that refuses it. Then `listening ADDRESS` is printed, and a
+/// line for each exchange, as `run_event_loop` says; if the first can't be printed, nothing is
+/// served. If a log is asked for, each connection is a line on `faults`, as `run_event_loop` says
+/// too.
 ///
-/// `Done` after the last exchange; `Device` if folder or address can't be used, the first line
+/// `Done` after the last exchange; `Refused` if what stands in the folder can't be served so;
+/// `Device` if folder or address can't be used, the first line
 /// can't be written, or the event loop can't continue; `Memory` if memory was refused before the
 /// first connection, or to a fault's line.
 ///
@@ -65,7 +68,7 @@ pub fn serve_many<N: Network + ListenerSetup, O: Sink, E: Sink>(
 {
     let store = match network.store(hosting.folder) {
         Ok(store) => store,
-        Err(error) => return report_unopened(alloc, hosting.folder, &error, faults),
+        Err(refusal) => return report_refusal(alloc, hosting.folder, &refusal, faults),
     };
     match network.reactor(hosting.address, hosting.folder, hosting.bounds.places) {
         Ok(mut reactor) => serve_over(alloc, store, &mut reactor, hosting, out, faults),

@@ -6,6 +6,7 @@ ghost use Rattle.bw_serve.specs.Hosted.{Hosts, HostsOver, ReportsExit, ReportsUn
 ghost use Rattle.bw_serve.specs.Hosted.{listening_line};
 ghost use Rattle.bw_serve.specs.HostedFrom.{HostsFrom};
 
+use crate::refusing::report_refusal;
 use crate::serving_in_turn::serve_run;
 use bw_console::print::{give_up, print, print_diagnostic};
 use bw_console::{Exit, Fault, report_unopened};
@@ -43,9 +44,10 @@ const GONE: &str = "the server can't go on: its folder is gone, or nothing can b
 
 /// Serves a number of exchanges over a new server and the folder's store.
 ///
-/// A folder or an address that can't be used is a line on `faults` before anything is printed. Then
-/// `listening ADDRESS` is printed, and a line for each exchange; if the first can't be printed,
-/// nothing is served. If a log is asked for, each link is a line on `faults`, as `serve_run` says.
+/// A folder or an address that can't be used is a line on `faults` before anything is printed, or
+/// a line for each file of the folder that refuses it. Then `listening ADDRESS` is printed, and a
+/// line for each exchange; if the first can't be printed, nothing is served. If a log is asked for,
+/// each link is a line on `faults`, as `serve_run` says.
 ///
 /// # Not specified
 /// - When memory is refused before the first line.
@@ -65,7 +67,7 @@ pub fn serve<N: Network, O: Sink, E: Sink>(
 {
     let store = match network.store(serving.folder) {
         Ok(store) => store,
-        Err(error) => return report_unopened(alloc, serving.folder, &error, faults),
+        Err(refusal) => return report_refusal(alloc, serving.folder, &refusal, faults),
     };
     match network.listen(serving.address, serving.folder, serving.timeout) {
         Ok(mut peers) => serve_over(alloc, store, &mut peers, serving, out, faults),

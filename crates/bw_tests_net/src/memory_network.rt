@@ -3,7 +3,9 @@ ghost use Rattle.std.specs.Prelude.{◌≡◌, None};
 ghost use Rattle.bw_stream.specs.Moves.{failures_after};
 
 use crate::scripted_reactor::{Plan, ScriptedReactor};
-use bw_ports::{AcceptFault, Dial, DialFault, Duplex, ListenerSetup, Network, Peer, Peers};
+use bw_ports::{
+    AcceptFault, Dial, DialFault, Duplex, ListenerSetup, Network, Peer, Peers, StartRefusal,
+};
 use bw_store::MemoryStore;
 use bw_stream::{MemorySink, MemorySource};
 use std::alloc::Global;
@@ -55,10 +57,11 @@ impl Network for MemoryNetwork {
 
     ghost calls = { λ n address timeout dial. dial.failures ≡ 0 };
 
-    fn store(&mut self, folder: &str) -> io::Result<MemoryStore> {
+    fn store(&mut self, folder: &str) -> Result<MemoryStore, StartRefusal> {
         if folder != FOLDER {
             self.failures = self.failures.saturating_add(1);
-            return Err(io::Error::from(ErrorKind::NotFound));
+            let error = io::Error::from(ErrorKind::NotFound);
+            return Err(StartRefusal::Unusable(error));
         }
         Ok(MemoryStore::new(self.alloc))
     }

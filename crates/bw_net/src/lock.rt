@@ -1,0 +1,43 @@
+//! The lock of a server's folder.
+use bw_ports::StartRefusal;
+use std::alloc::Global;
+use std::fs::{File, OpenOptions, TryLockError};
+use std::io;
+
+/// The file that is locked; no take's name has a dot.
+const LOCK: &str = ".bwingest-lock";
+
+/// The lock of a folder, which one process has at a time. The system frees it when the process
+/// ends, also if it is killed. The file of the lock stays in the folder, and is empty.
+#[derive(Drop)]
+pub struct FolderLock {
+    _file: File,
+}
+
+impl FolderLock {
+    /// Takes the lock of a folder, as long as the result lives.
+    ///
+    /// # Errors
+    /// `Running` if another process has it; `Unusable` if its file can't be opened, made or locked;
+    /// `Memory` if memory was refused.
+    ///
+    /// # Not specified
+    /// Anything: it has no contract. That a second server is refused, and that a kill frees the
+    /// lock, is tested.
+    pub fn take(rt: &HostRuntime, alloc: Global, folder: &str) -> Result<FolderLock, StartRefusal> {
+        let Ok(path) = format!(in alloc; "{folder}/{LOCK}") else {
+            return Err(StartRefusal::Memory);
+        };
+        let file = open_lock(rt, path.as_str()).map_err(StartRefusal::Unusable)?;
+        match file.try_lock() {
+            Ok(()) => Ok(FolderLock { _file: file }),
+            Err(TryLockError::WouldBlock) => Err(StartRefusal::Running),
+            Err(TryLockError::Error(error)) => Err(StartRefusal::Unusable(error)),
+        }
+    }
+}
+
+/// The file at a path, which is made if nothing is there. Nothing is written to it.
+fn open_lock(rt: &HostRuntime, path: &str) -> io::Result<File> {
+    OpenOptions::new().write(true).create(true).open(rt, path)
+}
