@@ -109,9 +109,11 @@ def free_port():
 
 
 class Server:
-    """A server in the background, on a port that was free. `watch` may make an observer of its system calls."""
+    """A server in the background, on a port that was free; `opening` are its lines before it listens. `watch` may make
+    an observer of its system calls.
+    """
 
-    def __init__(self, folder, *options, watch=None):
+    def __init__(self, folder, *options, watch=None, opening=()):
         for _ in range(5):
             self.observer = watch() if watch else None
             self.port = free_port()
@@ -119,7 +121,7 @@ class Server:
             words = ("serve", "--listen", f"{LOCAL}:{self.port}", "--folder", str(folder), *options)
             self.process = start(*words, observer=self.observer, stdout=subprocess.PIPE, stderr=self.faults)
             self.held = b""
-            if self.line() == f"listening {LOCAL}:{self.port}":
+            if self.lines(len(opening) + 1) == [*opening, f"listening {LOCAL}:{self.port}"]:
                 return
         raise Fault("no server starts")
 

@@ -23,7 +23,12 @@ CALLS = {
     "connect": (42,),
     "send": (44,),
     "receive": (45,),
-    "sync": (74,),
+    "sync": (74, 75),  # fsync, fdatasync
+    "cut": (77,),
+    "rename": (82, 264, 316),
+    "lock": (73,),
+    "list": (217,),
+    "stat": (4, 5, 262, 332),
 }
 GROWTHS = {"malloc": RDI, "realloc": RSI}  # and the register of the size
 NOWHERE = 0x100  # an address in the first page, in which Linux keeps nothing

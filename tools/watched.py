@@ -72,6 +72,7 @@ class Watched:
         is_many = "--recorders" in options
         self.wanted = [
             *("open FOLDER/.bwingest to-read-and-write create new", "remove FOLDER/.bwingest"),
+            *("open FOLDER/ to-read", "list takes", "list takes"),
             *["poll poll"] * is_many,
             *(f"bind socket-0 {self.address}", "listen socket-0"),
             *[f"register socket-0 {LISTENER} reading"] * is_many,

@@ -79,7 +79,7 @@ class Watcher:
     def know(self, call, kind, name):
         """Keeps what each descriptor is for."""
         if kind == "open":
-            self.names[call.result] = name.split()[0].rpartition("/")[2]
+            self.names[call.result] = name.split()[0].rstrip("/").rpartition("/")[2]
         elif kind in ("socket", "accept", "copy", "poll"):
             self.names[call.result] = name
         elif kind == "close":
@@ -122,6 +122,10 @@ def of_path(kind, place):
         return f"{kind} {call.text_at(call.words[place]) or watcher.name(call)}"
 
     return line
+
+
+def of_two_paths(kind, first, second):
+    return lambda _, call: " ".join([kind, call.text_at(call.words[first]), call.text_at(call.words[second])])
 
 
 def of_address(kind):
@@ -204,15 +208,21 @@ FORMS = {
     50: of_stream("listen"),
     54: of_option,
     72: of_copy,
+    73: of_stream("lock"),
     74: of_stream("sync"),
+    75: of_stream("sync-data"),
     TRUNCATE: of_stream("truncate"),
+    82: of_two_paths("rename", 0, 1),
     87: of_path("remove", 0),
+    217: of_stream("list"),
     EXIT: of_exit,
     232: of_wait,
     233: of_registration,
     257: of_opening(1),
     262: of_path("stat", 1),
+    264: of_two_paths("rename", 1, 3),
     288: of_acceptance,
     291: of_poll_set,
+    316: of_two_paths("rename", 1, 3),
     332: of_path("stat", 1),
 }
