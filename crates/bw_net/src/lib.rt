@@ -5,12 +5,14 @@
 mod folder;
 mod followed;
 mod host;
+mod journals;
 mod lock;
 mod network;
 mod pause;
 mod reactor;
 mod recordings;
 mod socket;
+mod starting;
 mod tcp;
 mod terminal;
 
@@ -23,5 +25,6 @@ pub use pause::ClockPause;
 pub use reactor::TcpReactor;
 pub use recordings::{HostRecordings, StampedFile};
 pub use socket::Socket;
+pub use starting::FolderServer;
 pub use tcp::{TcpDial, TcpPeers};
 pub use terminal::Terminal;

@@ -4,11 +4,14 @@ ghost use Rattle.std.specs.Duration.{as_nanos};
 ghost use Rattle.mio.specs.Events.{capacity as room_of};
 
 use crate::folder::check_folder;
+use crate::journals::refuse_journals;
+use crate::lock::FolderLock;
 use crate::reactor::TcpReactor;
 use crate::tcp::{TcpDial, TcpPeers};
 use bw_disk::SystemDisk;
 use bw_folder::FolderStore;
 use bw_ports::{ListenerSetup, Network, StartRefusal};
+use std::alloc::Global;
 use std::io;
 use std::net::{SocketAddr, TcpListener};
 use std::time::Duration;
@@ -17,8 +20,10 @@ use std::time::Duration;
 /// clause of std says what is in a folder or what comes over a socket.
 #[derive(Drop)]
 pub struct TcpNetwork<'a> {
-    rt: &'a HostRuntime,
-    failures: u64,
+    pub(crate) rt: &'a HostRuntime,
+    pub(crate) failures: u64,
+    /// The lock of the folder over which a server with journals was started.
+    pub(crate) lock: Option<FolderLock>,
 }
 
 impl<'a> TcpNetwork<'a> {
@@ -31,7 +36,11 @@ impl<'a> TcpNetwork<'a> {
     pub fn new(rt: &'a HostRuntime) -> TcpNetwork<'a>
         ensures { result.failures ≡ 0 }
     {
-        TcpNetwork { rt, failures: 0 }
+        TcpNetwork {
+            rt,
+            failures: 0,
+            lock: None,
+        }
     }
 
     fn open_peers(
@@ -62,6 +71,12 @@ impl<'a> TcpNetwork<'a> {
         let folder = String::from_str(self.rt.alloc(), folder)?;
         TcpReactor::listen(self.rt, address, folder, places)
     }
+}
+
+/// Tests a folder for a server without journals.
+fn check_plain(rt: &HostRuntime, alloc: Global, folder: &str) -> Result<(), StartRefusal> {
+    check_folder(rt, alloc, folder).map_err(StartRefusal::Unusable)?;
+    refuse_journals(rt, alloc, folder)
 }
 
 /// The duration of a timeout, if there is one.
@@ -98,9 +113,9 @@ impl<'a> Network for TcpNetwork<'a> {
         folder: &str,
     ) -> Result<FolderStore<SystemDisk<&'a HostRuntime>>, StartRefusal> {
         let alloc = self.rt.alloc();
-        if let Err(error) = check_folder(self.rt, alloc, folder) {
+        if let Err(refusal) = check_plain(self.rt, alloc, folder) {
             self.failures = self.failures.saturating_add(1);
-            return Err(StartRefusal::Unusable(error));
+            return Err(refusal);
         }
         match FolderStore::new(self.rt, alloc, folder) {
             Ok(store) => Ok(store),
