@@ -2,32 +2,34 @@
 use Rattle.std.proofs.Common.{◌≡◌, ℕ, ◌<◌, ◌≤◌, Bool, true, false, List, [], ◌∷◌, ◌++◌, Option, Some, None, Result, Ok, Err}
 use Rattle.std.proofs.Common.{OnErr, ap, codes, refl, subst, sym, ◌∙◌, arith, inl, inr, unwrap_or}
 use Rattle.std.proofs.Math.Path.{fun_ext}
-use Rattle.std.specs.Prelude.{⊤}
+use Rattle.std.specs.Prelude.{⊤, ◌||◌, if◌then◌else◌, is_some}
 use Rattle.std.specs.declared.net.socket_addr.SocketAddr.{SocketAddr}
 use Rattle.std.specs.Net.Socket.{socket_port}
 use Rattle.clap.specs.Words.{Row, Text, first_of, first_value, rows_of}
 use Rattle.clap.specs.declared.parser.matches.Found.{Found}
 use Rattle.clap.proofs.WalkLemmas.{first_value-rows}
-use Rattle.bw_args.specs.Given.{GivesAddress, GivesCount, GivesEnd, GivesFuse, GivesLimit, GivesName}
+use Rattle.bw_args.specs.Given.{GivesAddress, GivesCount, GivesCountOr, GivesEnd, GivesFuse, GivesLimit, GivesName}
 use Rattle.bw_args.specs.Given.{GivesNoFuse, GivesRecorders, IsAddressGiven, IsEnd, IsEndGiven, IsLimitGiven, IsNameGiven}
-use Rattle.bw_args.specs.Given.{IsRecorders, IsRecordersGiven, given_on_line, is_set}
-use Rattle.bw_args.specs.Sources.{GivesSource, PlainSource, settings_on_line}
-use Rattle.bw_args.specs.Lines.{AsksNothing, GivesSender, GivesServer, HasNumbersInRange}
+use Rattle.bw_args.specs.Given.{IsJournaling, IsJournalingGiven, IsRecorders, IsRecordersGiven, given_on_line, is_set}
+use Rattle.bw_args.specs.Sources.{GivesSource, PlainSource, is_mixed, settings_on_line}
+use Rattle.bw_args.specs.Lines.{AsksNothing, GivesSender, GivesServer, GivesTries, GivesUpload, HasNumbersInRange}
 use Rattle.bw_args.specs.Lines.{IsEndWithin, IsFirstBad, IsGood, IsLineFor, IsWayWithin, IsWishOf, IsWithin, Service}
-use Rattle.bw_args.specs.Lines.{Wish, looked_at, looked_at_waiting}
-use Rattle.bw_args.specs.Lines.{Replaying, Rehearsing, Inspecting, Packing, Sending, Serving}
-use Rattle.bw_args.specs.Numbers.{IsLimitValue, default_rounds, most_exchanges, most_recorders, most_rounds}
-use Rattle.bw_args.specs.Numbers.{most_seconds}
+use Rattle.bw_args.specs.Lines.{FileUpload, Wish, looked_at, looked_at_trying, looked_at_waiting}
+use Rattle.bw_args.specs.Lines.{Replaying, Rehearsing, Inspecting, Packing, Sending, Serving, Uploading}
+use Rattle.bw_args.specs.Numbers.{IsLimitValue, default_fruitless, default_rounds, default_timeout, most_exchanges}
+use Rattle.bw_args.specs.Numbers.{most_fruitless, most_recorders, most_rounds, most_seconds}
+use Rattle.bw_args.specs.declared.commands.sending.Tries.{Tries}
 use Rattle.bw_args.specs.declared.CommandLine.{CommandLine}
 use Rattle.bw_args.specs.declared.CommandLine.TheVariants.{Run, BadValue as Bad, Report}
 use Rattle.bw_args.specs.declared.Task.TheVariants.{Replay, Rehearse, Inspect, Serve, Send}
-use Rattle.bw_args.specs.declared.Task.TheVariants.{Pack}
+use Rattle.bw_args.specs.declared.Task.TheVariants.{SendFile, Pack}
 use Rattle.bw_args.proofs.WishLemmas.{one_count, other_name, same_way}
 use Rattle.bw_args.specs.declared.peers.End.{End}
+use Rattle.bw_args.specs.declared.peers.Journaling.{Journaling}
 use Rattle.bw_args.specs.declared.peers.Recorders.{Recorders as Way}
 use Rattle.bw_args.specs.declared.peers.Send.{Send as Sender}
 use Rattle.bw_args.specs.declared.bad_value.BadValue.{BadValue}
-use Rattle.bw_args.specs.declared.bad_value.BadValue.TheVariants.{Name, Limit, Fuse, UntilStopped, Wait}
+use Rattle.bw_args.specs.declared.bad_value.BadValue.TheVariants.{Name, Limit, Fuse, UntilStopped, Sync, Wait}
 
 -- what the getters give of the options, by their rows
 by_rows : (found : Found) (P : (Text → Option Text) → Type 0) → P (first_value found) → P (given_on_line (rows_of found))
@@ -37,6 +39,41 @@ by_rows found P given = subst P (fun_ext (first_value-rows found)) given
 abbrev pub AllGood : List BadValue → (Text → Option Text) → Type 0
 AllGood [] given = ⊤
 AllGood (value ∷ values) given = IsGood value given × AllGood values given
+
+-- without a recording's file nothing is said of fruitless links
+no_fruitless : (given : Text → Option Text) → given (codes "file") ≡ None → is_mixed given ≡ false
+    → given (codes "fruitless") ≡ None
+no_fruitless given none unmixed =
+    go (given (codes "file")) (given (codes "set")) (given (codes "fruitless")) none unmixed
+  where
+    go : (file set fruitless : Option Text) → file ≡ None
+        → (if is_some file then is_some (given (codes "rounds"))
+        else (is_some set || (is_some fruitless
+        || (is_set (given (codes "strict")) || is_set (given (codes "log")))))) ≡ false
+        → fruitless ≡ None
+    go (Some text) set fruitless is unmixed = let bad : Some text ≡ None = is in cc
+    go None (Some text) fruitless is unmixed = let bad : true ≡ false = unmixed in cc
+    go None None None is unmixed = refl
+    go None None (Some text) is unmixed = let bad : true ≡ false = unmixed in cc
+
+-- with it nothing of rounds
+no_rounds : (given : Text → Option Text) (path : Text) → given (codes "file") ≡ Some path → is_mixed given ≡ false
+    → given (codes "rounds") ≡ None
+no_rounds given path has unmixed = go (given (codes "file")) (given (codes "rounds")) has unmixed
+  where
+    go : (file rounds : Option Text) → file ≡ Some path
+        → (if is_some file then is_some rounds
+        else (is_some (given (codes "set")) || (is_some (given (codes "fruitless"))
+        || (is_set (given (codes "strict")) || is_set (given (codes "log")))))) ≡ false
+        → rounds ≡ None
+    go None rounds is unmixed = let bad : None ≡ Some path = is in cc
+    go (Some text) None is unmixed = refl
+    go (Some text) (Some count) is unmixed = let bad : true ≡ false = unmixed in cc
+
+-- nothing is a good number
+no_count : (most : ℕ) (text : Option Text) → text ≡ None → GivesCount most text None
+no_count most None none = refl
+no_count most (Some text) none = let bad : Some text ≡ None = none in cc
 
 -- what is asked for has good values alone
 pub wished_good : (name : Text) (options : List Row) (wish : Wish) → IsWishOf (Some (name, options)) wish
@@ -65,7 +102,7 @@ wished_good name options wish asked = go wish asked
                 (a.1.serves.most, a.1.serves.serves),
                 (
                   (a.1.serves.idle, a.1.serves.idles),
-                  ((server.recorders, a.1.serves), ((server.end, a.1.ends), tt)),
+                  ((server.recorders, a.1.serves), ((server.end, a.1.ends), ((server.journal, a.1.journals), tt))),
                 ),
               ),
             ),
@@ -75,7 +112,20 @@ wished_good name options wish asked = go wish asked
     )
     go (Sending sender) a = at (codes "send") a.0 (
       (sender.connect, a.1.connects),
-      ((sender.name, a.1.named), ((a.1.tries.0, a.1.tries.1), ((sender.timeout, a.1.waits), tt))),
+      (
+        (sender.name, a.1.named),
+        ((a.1.tries.0, a.1.tries.1), ((sender.timeout, a.1.waits), ((None, no_count most_fruitless _ (no_fruitless (given_on_line options) a.1.lines a.1.unmixed)), (a.1.unmixed, tt)))),
+      ),
+    )
+    go (Uploading sender) a = at (codes "send") a.0 (
+      (sender.connect, a.1.connects),
+      (
+        (sender.name, a.1.named),
+        (
+          (None, no_count most_rounds _ (no_rounds (given_on_line options) sender.source.path a.1.takes.from a.1.unmixed)),
+          ((a.1.waits.0, a.1.waits.1), ((a.1.ends.0, a.1.ends.1), (a.1.unmixed, tt))),
+        ),
+      ),
     )
     go (Packing source) a = at (codes "pack") a.0 tt
 
@@ -170,6 +220,7 @@ no_file_line found given = (nothing, inr (refl, refl))
     nothing (Rehearsing name n) asked = other_name (codes "inspect") (codes "rehearse") refl _ refl asked.0
     nothing (Serving server) asked = other_name (codes "inspect") (codes "serve") refl _ refl asked.0
     nothing (Sending sender) asked = other_name (codes "inspect") (codes "send") refl _ refl asked.0
+    nothing (Uploading sender) asked = other_name (codes "inspect") (codes "send") refl _ refl asked.0
     nothing (Packing source) asked = other_name (codes "inspect") (codes "pack") refl _ refl asked.0
     nothing (Inspecting path) asked =
         let bad : None ≡ Some path = given ∙ first_value-rows found (codes "file") ∙ asked.1 in cc
@@ -207,6 +258,7 @@ no_packed_line found given = (nothing, inr (refl, refl))
     nothing (Inspecting path) asked = other_name (codes "pack") (codes "inspect") refl _ refl asked.0
     nothing (Serving server) asked = other_name (codes "pack") (codes "serve") refl _ refl asked.0
     nothing (Sending sender) asked = other_name (codes "pack") (codes "send") refl _ refl asked.0
+    nothing (Uploading sender) asked = other_name (codes "pack") (codes "send") refl _ refl asked.0
     nothing (Packing source) asked =
         no_path source.path (given ∙ first_value-rows found (codes "file") ∙ asked.1.from)
 
@@ -219,6 +271,27 @@ server_asked found server given = (refl, by_rows found (λ g. GivesServer g serv
 pub sender_asked : (found : Found) (sender : Sender) → GivesSender (first_value found) sender
     → IsWishOf (Some (codes "send", rows_of found)) (Sending sender)
 sender_asked found sender given = (refl, by_rows found (λ g. GivesSender g sender) given)
+
+-- and the sender of a recording
+pub upload_asked : (found : Found) (sender : FileUpload)
+    → GivesAddress (is_set (first_value found (codes "network"))) (first_value found (codes "connect")) sender.connect
+    → GivesName (first_value found (codes "name")) sender.name → GivesSource (rows_of found) sender.source
+    → GivesCountOr default_timeout most_seconds (first_value found (codes "timeout")) sender.timeout
+    → GivesCountOr default_fruitless most_fruitless (first_value found (codes "fruitless")) sender.fruitless
+    → sender.log ≡ is_set (first_value found (codes "log")) → is_mixed (first_value found) ≡ false
+    → IsWishOf (Some (codes "send", rows_of found)) (Uploading sender)
+upload_asked found sender connects named takes waits ends reports unmixed = (
+  refl,
+  record {
+    connects = by_rows found (λ g. GivesAddress (is_set (g (codes "network"))) (g (codes "connect")) sender.connect) connects;
+    named = by_rows found (λ g. GivesName (g (codes "name")) sender.name) named;
+    takes = takes;
+    waits = by_rows found (λ g. GivesCountOr default_timeout most_seconds (g (codes "timeout")) sender.timeout) waits;
+    ends = by_rows found (λ g. GivesCountOr default_fruitless most_fruitless (g (codes "fruitless")) sender.fruitless) ends;
+    reports = by_rows found (λ g. sender.log ≡ is_set (g (codes "log"))) reports;
+    unmixed = by_rows found (λ g. is_mixed g ≡ false) unmixed;
+  },
+)
 
 -- addresses and ends, where a flag was read before
 pub an_address : (found : Found) (option : Text) (network : Bool) (address : SocketAddr)
@@ -250,6 +323,22 @@ no_end found until_stopped count is given none good =
     none good.0 (subst (λ u. IsEnd count u good.0) (sym is)
     (subst (λ c. IsEnd c (is_set (first_value found (codes "until-stopped"))) good.0) same good.1.2))
 
+-- whether journals are kept, where the flags were read before
+pub a_journaling : (found : Found) (is_kept is_synced : Bool) (journal : Journaling)
+    → is_kept ≡ is_set (first_value found (codes "journal")) → is_synced ≡ is_set (first_value found (codes "sync"))
+    → IsJournaling is_kept is_synced journal → IsJournaling (is_set (first_value found (codes "journal")))
+    (is_set (first_value found (codes "sync"))) journal
+a_journaling found is_kept is_synced journal kept synced is =
+    subst (λ s. IsJournaling (is_set (first_value found (codes "journal"))) s journal) synced
+    (subst (λ k. IsJournaling k is_synced journal) kept is)
+
+pub no_journaling : (found : Found) (is_kept is_synced : Bool)
+    → is_kept ≡ is_set (first_value found (codes "journal")) → is_synced ≡ is_set (first_value found (codes "sync"))
+    → IsJournalingGiven is_kept is_synced None → ¬ IsGood Sync (first_value found)
+no_journaling found is_kept is_synced kept synced none good =
+    none good.0 (subst (λ s. IsJournaling is_kept s good.0) (sym synced)
+    (subst (λ k. IsJournaling k (is_set (first_value found (codes "sync"))) good.0) (sym kept) good.1))
+
 -- the ways that were looked at are the only ones
 pub no_way : (found : Found) (timeout most idle : Option ℕ)
     → GivesCount most_seconds (first_value found (codes "timeout")) timeout
@@ -273,6 +362,12 @@ pub way_then : (later : List BadValue) (given : Text → Option Text) (value : B
     → GivesRecorders given way → IsFirstBad later given value → IsFirstBad (looked_at_waiting ++ later) given value
 way_then later given value way g bad =
     inr ((g.timeout, g.waits), inr ((g.most, g.serves), inr ((g.idle, g.idles), inr ((way, g), bad))))
+
+-- where how a sender tries is good, a later value may be the first that is bad
+pub tries_then : (later : List BadValue) (given : Text → Option Text) (value : BadValue) (tries : Tries)
+    → GivesTries given tries → IsFirstBad later given value → IsFirstBad (looked_at_trying ++ later) given value
+tries_then later given value tries g bad =
+    inr ((tries.rounds, g.rounds), inr ((tries.timeout, g.waits), inr ((tries.fruitless, g.ends), bad)))
 
 given_limit : (text : Option Text) (limit : ℕ) → GivesLimit text limit → IsLimitValue limit
 given_limit (Some text) limit given = subst IsLimitValue (sym given.1) given.0.1
@@ -326,6 +421,13 @@ line_limit (Some command) (Run (Send sender)) asked = (
   given_number default_rounds most_rounds asked.1.tries.0 sender.rounds (omega arith) (omega arith)
       (given_count _ _ _ asked.1.tries.1) asked.1.tries.2,
   given_count _ _ sender.timeout asked.1.waits,
+)
+line_limit (Some command) (Run (SendFile sender)) asked = (
+  given_port _ _ sender.connect asked.1.connects,
+  given_number default_timeout most_seconds asked.1.waits.0 sender.timeout (omega arith) (omega arith)
+      (given_count _ _ _ asked.1.waits.1) asked.1.waits.2,
+  given_number default_fruitless most_fruitless asked.1.ends.0 sender.fruitless (omega arith) (omega arith)
+      (given_count _ _ _ asked.1.ends.1) asked.1.ends.2,
 )
 line_limit (Some command) (Run (Pack source)) asked = tt
 line_limit None (Run task) asked = absurd asked

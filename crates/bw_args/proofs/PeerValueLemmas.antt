@@ -21,7 +21,8 @@ use Rattle.bw_args.proofs.FormLemmas.{reports}
 use Rattle.bw_args.proofs.ValueLemmas.{IsBadAt, reported}
 use Rattle.bw_args.specs.declared.bad_value.BadValue.TheVariants.{Name, Limit, Listen, Folder, Exchanges, Timeout}
 use Rattle.bw_args.specs.declared.bad_value.BadValue.TheVariants.{Recorders, Idle, Wait}
-use Rattle.bw_args.specs.declared.bad_value.BadValue.TheVariants.{UntilStopped, Connect, Rounds}
+use Rattle.bw_args.specs.declared.bad_value.BadValue.TheVariants.{UntilStopped, Sync, Connect, Rounds}
+use Rattle.bw_args.specs.declared.peers.End.TheVariants as when
 use Rattle.bw_args.specs.declared.peers.Recorders.{Recorders as Way}
 use Rattle.bw_args.specs.declared.peers.Recorders.TheVariants.{InTurn}
 use Rattle.bw_args.proofs.ServerLemmas.{serves_by}
@@ -237,6 +238,38 @@ both program listen folder address count at full given = (
   ),
 )
 
+sync : (program listen folder : Text) (address : SocketAddr) → IsAddress false listen address → folder ≢ []
+    → IsBadAt (as_read (serving program listen folder (codes "--sync" ∷ []))) Sync
+unfolding clap_on_literals
+sync program listen folder address at full = (
+  refl,
+  inr (
+    (address, at),
+    inr (
+      (folder, (full, refl)),
+      inr (
+        (None, refl),
+        inr (
+          (default_limit, refl),
+          inr (
+            (None, refl),
+            inr (
+              (None, refl),
+              inr (
+                (None, refl),
+                inr (
+                  (InTurn None, serves_by None None None _ refl refl refl refl),
+                  inr ((when.Exchanges 1, (None, refl, refl)), inl ((λ good. good.1), refl)),
+                ),
+              ),
+            ),
+          ),
+        ),
+      ),
+    ),
+  ),
+)
+
 connect : (program address name : Text) → ((a : SocketAddr) → ¬ IsAddress false address a)
     → IsBadAt (as_read (sending program address name [])) Connect
 unfolding clap_on_literals
@@ -285,6 +318,7 @@ refuses_peers words line is = record {
   timeout_beside = λ n s given waits p l f a at full e.
       reported words _ line Wait is e (timeout_beside p l f a n s at full given waits);
   both = λ n given p l f a at full e. reported words _ line UntilStopped is e (both p l f a n at full given);
+  sync = λ p l f a at full e. reported words _ line Sync is e (sync p l f a at full);
   connect = λ p c n none e. reported words _ line Connect is e (connect p c n none);
   connect_far = λ p c n none e. reported words _ line Connect is e (connect_far p c n none);
   name = λ p c n a at none e. reported words _ line Name is e (name p c n a at none);

@@ -30,6 +30,8 @@ alone_asks program connect name address at named =
           named = (named, refl);
           tries = (None, refl, refl);
           waits = refl;
+          lines = refl;
+          unmixed = refl;
         },
       );
     }
@@ -49,6 +51,8 @@ rounds_asks program connect name address count at named given =
           named = (named, refl);
           tries = (Some (number_written count), (given, refl), refl);
           waits = refl;
+          lines = refl;
+          unmixed = refl;
         },
       );
     }
@@ -68,6 +72,8 @@ timeout_asks program connect name address seconds at named given =
           named = (named, refl);
           tries = (None, refl, refl);
           waits = (given, refl);
+          lines = refl;
+          unmixed = refl;
         },
       );
     }
@@ -85,6 +91,8 @@ network_asks program connect name address at named =
           named = (named, refl);
           tries = (None, refl, refl);
           waits = refl;
+          lines = refl;
+          unmixed = refl;
         },
       );
     }
@@ -96,7 +104,7 @@ apart_near : (program name : Text) (address : SocketAddr) → IsAddress false (l
 unfolding clap_on_literals
 apart_near program name address at named = record {
   taken = refl;
-  asked = (refl, record { connects = at; named = (named, refl); tries = (None, refl, refl); waits = refl });
+  asked = (refl, record { connects = at; named = (named, refl); tries = (None, refl, refl); waits = refl; lines = refl; unmixed = refl });
 }
 
 apart_asks : (program connect name : Text) (address : SocketAddr) → IsAddress false connect address → IsName name

@@ -21,6 +21,7 @@ use Rattle.bw_args.specs.PeerForms.{serving}
 use Rattle.bw_args.specs.declared.CommandLine.{CommandLine}
 use Rattle.bw_args.specs.declared.peers.End.TheVariants as when
 use Rattle.bw_args.specs.declared.peers.Recorders.{Recorders as Way}
+use Rattle.bw_args.specs.declared.peers.Journaling.TheVariants.{Kept, Synced}
 use Rattle.bw_args.specs.declared.peers.Recorders.TheVariants.{InTurn, AtOnce}
 use Rattle.bw_args.proofs.FormLemmas.{runs}
 
@@ -55,6 +56,7 @@ alone_asks program listen folder address at full =
           limited = refl;
           serves = serves_by None None None _ refl refl refl refl;
           reports = refl;
+          journals = refl;
         },
       );
     }
@@ -76,6 +78,7 @@ exchanges_asks program listen folder address count at full given =
           limited = refl;
           serves = serves_by None None None _ refl refl refl refl;
           reports = refl;
+          journals = refl;
         },
       );
     }
@@ -97,6 +100,7 @@ limit_asks program listen folder address limit at full given =
           limited = (given, refl);
           serves = serves_by None None None _ refl refl refl refl;
           reports = refl;
+          journals = refl;
         },
       );
     }
@@ -118,6 +122,7 @@ timeout_asks program listen folder address seconds at full given =
           limited = refl;
           serves = serves_by (Some (number_written seconds)) None None _ (given, refl) refl refl refl;
           reports = refl;
+          journals = refl;
         },
       );
     }
@@ -139,6 +144,7 @@ recorders_asks program listen folder address count at full given =
           limited = refl;
           serves = serves_by None (Some (number_written count)) None _ refl (given, refl) refl refl;
           reports = refl;
+          journals = refl;
         },
       );
     }
@@ -163,6 +169,7 @@ idle_asks program listen folder address count seconds at full given idles =
           serves = serves_by None (Some (number_written count)) (Some (number_written seconds)) _ refl (given, refl)
               (idles, refl) refl;
           reports = refl;
+          journals = refl;
         },
       );
     }
@@ -183,6 +190,7 @@ network_asks program listen folder address at full =
           limited = refl;
           serves = serves_by None None None _ refl refl refl refl;
           reports = refl;
+          journals = refl;
         },
       );
     }
@@ -204,6 +212,7 @@ until_stopped_asks program listen folder address at full =
           limited = refl;
           serves = serves_by None None None _ refl refl refl refl;
           reports = refl;
+          journals = refl;
         },
       );
     }
@@ -224,6 +233,49 @@ log_asks program listen folder address at full =
           limited = refl;
           serves = serves_by None None None _ refl refl refl refl;
           reports = refl;
+          journals = refl;
+        },
+      );
+    }
+
+journal_asks : (program listen folder : Text) (address : SocketAddr) → IsAddress false listen address → folder ≢ []
+    → AsksFor (as_read (serving program listen folder (codes "--journal" ∷ [])))
+    (Serving (record (plain_server address folder) { journal = Kept }))
+unfolding clap_on_literals
+journal_asks program listen folder address at full =
+    record {
+      taken = refl;
+      asked = (
+        refl,
+        record {
+          listens = at;
+          keeps = (full, refl);
+          ends = (None, refl, refl);
+          limited = refl;
+          serves = serves_by None None None _ refl refl refl refl;
+          reports = refl;
+          journals = refl;
+        },
+      );
+    }
+
+sync_asks : (program listen folder : Text) (address : SocketAddr) → IsAddress false listen address → folder ≢ []
+    → AsksFor (as_read (serving program listen folder (codes "--journal" ∷ codes "--sync" ∷ [])))
+    (Serving (record (plain_server address folder) { journal = Synced }))
+unfolding clap_on_literals
+sync_asks program listen folder address at full =
+    record {
+      taken = refl;
+      asked = (
+        refl,
+        record {
+          listens = at;
+          keeps = (full, refl);
+          ends = (None, refl, refl);
+          limited = refl;
+          serves = serves_by None None None _ refl refl refl refl;
+          reports = refl;
+          journals = refl;
         },
       );
     }
@@ -246,6 +298,7 @@ apart_near program folder address at full = record {
       limited = refl;
       serves = serves_by None None None _ refl refl refl refl;
       reports = refl;
+      journals = refl;
     },
   );
 }
@@ -402,4 +455,6 @@ runs_server words line is = record {
   network = λ p l f a at full e. asked_runs words _ line _ is e (network_asks p l f a at full);
   until_stopped = λ p l f a at full e. asked_runs words _ line _ is e (until_stopped_asks p l f a at full);
   log = λ p l f a at full e. asked_runs words _ line _ is e (log_asks p l f a at full);
+  journal = λ p l f a at full e. asked_runs words _ line _ is e (journal_asks p l f a at full);
+  sync = λ p l f a at full e. asked_runs words _ line _ is e (sync_asks p l f a at full);
 }

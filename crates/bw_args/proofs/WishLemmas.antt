@@ -7,12 +7,13 @@ use Rattle.std.specs.declared.net.socket_addr.SocketAddr.{SocketAddr}
 use Rattle.std.proofs.NetLemmas.Theorems.{IsSocketText_unique}
 use Rattle.clap.specs.Words.{Row, Text, first_of}
 use Rattle.bw_args.specs.Given.{GivesAddress, GivesCount, GivesCountOr, GivesEnd, GivesFolder, GivesFuse, GivesLimit}
-use Rattle.bw_args.specs.Given.{GivesName, GivesRecorders, IsEnd, IsRecorders}
+use Rattle.bw_args.specs.Given.{GivesName, GivesRecorders, IsEnd, IsJournaling, IsRecorders, given_on_line}
 use Rattle.bw_args.specs.Sources.{GivesSource, PlainSource}
-use Rattle.bw_args.specs.Lines.{GivesSender, GivesServer, IsWishOf, Service, Wish}
-use Rattle.bw_args.specs.Lines.{Inspecting, Packing, Rehearsing, Replaying, Sending, Serving}
+use Rattle.bw_args.specs.Lines.{GivesSender, GivesServer, GivesUpload, IsWishOf, Service, FileUpload, Wish}
+use Rattle.bw_args.specs.Lines.{Inspecting, Packing, Rehearsing, Replaying, Sending, Serving, Uploading}
 use Rattle.bw_args.specs.Numbers.{most_exchanges, most_recorders, most_seconds}
 use Rattle.bw_args.specs.declared.peers.End.{End}
+use Rattle.bw_args.specs.declared.peers.Journaling.{Journaling}
 use Rattle.bw_args.specs.declared.peers.Recorders.{Recorders as Way}
 use Rattle.bw_args.specs.declared.peers.Send.{Send as Sender}
 
@@ -88,6 +89,13 @@ one_way : (given : Text → Option Text) (a b : Way) → GivesRecorders given a 
 one_way given a b x y =
     way_once y.timeout y.most y.idle a b (same_way given a y.timeout y.most y.idle y.waits y.serves y.idles x) y.is
 
+one_journaling : (is_kept is_synced : Bool) (a b : Journaling) → IsJournaling is_kept is_synced a
+    → IsJournaling is_kept is_synced b → a ≡ b
+one_journaling false false a b x y = x ∙ sym y
+one_journaling true false a b x y = x ∙ sym y
+one_journaling true true a b x y = x ∙ sym y
+one_journaling false true a b x y = absurd x
+
 one_server : (given : Text → Option Text) (a b : Service) → GivesServer given a → GivesServer given b → a ≡ b
 one_server given a b x y =
     let listens = one_address _ _ a.listen b.listen x.listens y.listens in
@@ -96,6 +104,7 @@ one_server given a b x y =
     let limited = one_limit _ a.limit b.limit x.limited y.limited in
     let serves = one_way given a.recorders b.recorders x.serves y.serves in
     let reports = x.reports ∙ sym y.reports in
+    let journals = one_journaling _ _ a.journal b.journal x.journals y.journals in
     λ i. record {
       listen = listens i;
       folder = keeps i;
@@ -103,6 +112,7 @@ one_server given a b x y =
       limit = limited i;
       recorders = serves i;
       log = reports i;
+      journal = journals i;
     }
 
 one_sender : (given : Text → Option Text) (a b : Sender) → GivesSender given a → GivesSender given b → a ≡ b
@@ -120,6 +130,29 @@ one_source options a b x y =
     let sets = x.sets ∙ sym y.sets in
     let refuses = x.refuses ∙ sym y.refuses in
     λ i. record { path = path i; settings = sets i; strict = refuses i }
+
+one_upload : (options : List Row) (a b : FileUpload) → GivesUpload options a → GivesUpload options b → a ≡ b
+one_upload options a b x y =
+    let connects = one_address _ _ a.connect b.connect x.connects y.connects in
+    let named = one_name _ a.name b.name x.named y.named in
+    let takes = one_source options a.source b.source x.takes y.takes in
+    let waits = one_count_or _ _ _ a.timeout b.timeout x.waits y.waits in
+    let ends = one_count_or _ _ _ a.fruitless b.fruitless x.ends y.ends in
+    let reports = x.reports ∙ sym y.reports in
+    λ i. record {
+      connect = connects i;
+      name = named i;
+      source = takes i;
+      timeout = waits i;
+      fruitless = ends i;
+      log = reports i;
+    }
+
+-- a recording's file is given, or none
+no_lines : (options : List Row) (sender : Sender) (upload : FileUpload) → GivesSender (given_on_line options) sender
+    → ¬ GivesUpload options upload
+no_lines options sender upload lines file =
+    let bad : None ≡ Some upload.source.path = sym lines.lines ∙ file.takes.from in cc
 
 -- a command doesn't have two names
 pub other_name : {P : Type 0} (a b : Text) → bytes_eq a b ≡ false → (name : Text) → name ≡ a → name ≡ b → P
@@ -140,34 +173,47 @@ one_wish (Some command) (Inspecting a) (Inspecting b) x y =
     let same : Some a ≡ Some b = sym x.1 ∙ y.1 in cc
 one_wish (Some command) (Serving a) (Serving b) x y = ap Serving (one_server _ a b x.1 y.1)
 one_wish (Some command) (Sending a) (Sending b) x y = ap Sending (one_sender _ a b x.1 y.1)
+one_wish (Some command) (Uploading a) (Uploading b) x y = ap Uploading (one_upload command.1 a b x.1 y.1)
 one_wish (Some command) (Packing a) (Packing b) x y = ap Packing (one_source command.1 a b x.1 y.1)
+one_wish (Some command) (Sending a) (Uploading b) x y = absurd (no_lines command.1 a b x.1 y.1)
+one_wish (Some command) (Uploading a) (Sending b) x y = absurd (no_lines command.1 b a y.1 x.1)
 one_wish (Some command) (Replaying a k) (Rehearsing b m) x y = other_name (codes "replay") (codes "rehearse") refl command.0 x.0 y.0
 one_wish (Some command) (Replaying a k) (Inspecting b) x y = other_name (codes "replay") (codes "inspect") refl command.0 x.0 y.0
 one_wish (Some command) (Replaying a k) (Serving b) x y = other_name (codes "replay") (codes "serve") refl command.0 x.0 y.0
 one_wish (Some command) (Replaying a k) (Sending b) x y = other_name (codes "replay") (codes "send") refl command.0 x.0 y.0
+one_wish (Some command) (Replaying a k) (Uploading b) x y = other_name (codes "replay") (codes "send") refl command.0 x.0 y.0
 one_wish (Some command) (Replaying a k) (Packing b) x y = other_name (codes "replay") (codes "pack") refl command.0 x.0 y.0
 one_wish (Some command) (Rehearsing a n) (Replaying b j) x y = other_name (codes "rehearse") (codes "replay") refl command.0 x.0 y.0
 one_wish (Some command) (Rehearsing a n) (Inspecting b) x y = other_name (codes "rehearse") (codes "inspect") refl command.0 x.0 y.0
 one_wish (Some command) (Rehearsing a n) (Serving b) x y = other_name (codes "rehearse") (codes "serve") refl command.0 x.0 y.0
 one_wish (Some command) (Rehearsing a n) (Sending b) x y = other_name (codes "rehearse") (codes "send") refl command.0 x.0 y.0
+one_wish (Some command) (Rehearsing a n) (Uploading b) x y = other_name (codes "rehearse") (codes "send") refl command.0 x.0 y.0
 one_wish (Some command) (Rehearsing a n) (Packing b) x y = other_name (codes "rehearse") (codes "pack") refl command.0 x.0 y.0
 one_wish (Some command) (Inspecting a) (Replaying b j) x y = other_name (codes "inspect") (codes "replay") refl command.0 x.0 y.0
 one_wish (Some command) (Inspecting a) (Rehearsing b m) x y = other_name (codes "inspect") (codes "rehearse") refl command.0 x.0 y.0
 one_wish (Some command) (Inspecting a) (Serving b) x y = other_name (codes "inspect") (codes "serve") refl command.0 x.0 y.0
 one_wish (Some command) (Inspecting a) (Sending b) x y = other_name (codes "inspect") (codes "send") refl command.0 x.0 y.0
+one_wish (Some command) (Inspecting a) (Uploading b) x y = other_name (codes "inspect") (codes "send") refl command.0 x.0 y.0
 one_wish (Some command) (Inspecting a) (Packing b) x y = other_name (codes "inspect") (codes "pack") refl command.0 x.0 y.0
 one_wish (Some command) (Serving a) (Replaying b j) x y = other_name (codes "serve") (codes "replay") refl command.0 x.0 y.0
 one_wish (Some command) (Serving a) (Rehearsing b m) x y = other_name (codes "serve") (codes "rehearse") refl command.0 x.0 y.0
 one_wish (Some command) (Serving a) (Inspecting b) x y = other_name (codes "serve") (codes "inspect") refl command.0 x.0 y.0
 one_wish (Some command) (Serving a) (Sending b) x y = other_name (codes "serve") (codes "send") refl command.0 x.0 y.0
+one_wish (Some command) (Serving a) (Uploading b) x y = other_name (codes "serve") (codes "send") refl command.0 x.0 y.0
 one_wish (Some command) (Serving a) (Packing b) x y = other_name (codes "serve") (codes "pack") refl command.0 x.0 y.0
 one_wish (Some command) (Sending a) (Replaying b j) x y = other_name (codes "send") (codes "replay") refl command.0 x.0 y.0
 one_wish (Some command) (Sending a) (Rehearsing b m) x y = other_name (codes "send") (codes "rehearse") refl command.0 x.0 y.0
 one_wish (Some command) (Sending a) (Inspecting b) x y = other_name (codes "send") (codes "inspect") refl command.0 x.0 y.0
 one_wish (Some command) (Sending a) (Serving b) x y = other_name (codes "send") (codes "serve") refl command.0 x.0 y.0
 one_wish (Some command) (Sending a) (Packing b) x y = other_name (codes "send") (codes "pack") refl command.0 x.0 y.0
+one_wish (Some command) (Uploading a) (Replaying b j) x y = other_name (codes "send") (codes "replay") refl command.0 x.0 y.0
+one_wish (Some command) (Uploading a) (Rehearsing b m) x y = other_name (codes "send") (codes "rehearse") refl command.0 x.0 y.0
+one_wish (Some command) (Uploading a) (Inspecting b) x y = other_name (codes "send") (codes "inspect") refl command.0 x.0 y.0
+one_wish (Some command) (Uploading a) (Serving b) x y = other_name (codes "send") (codes "serve") refl command.0 x.0 y.0
+one_wish (Some command) (Uploading a) (Packing b) x y = other_name (codes "send") (codes "pack") refl command.0 x.0 y.0
 one_wish (Some command) (Packing a) (Replaying b j) x y = other_name (codes "pack") (codes "replay") refl command.0 x.0 y.0
 one_wish (Some command) (Packing a) (Rehearsing b m) x y = other_name (codes "pack") (codes "rehearse") refl command.0 x.0 y.0
 one_wish (Some command) (Packing a) (Inspecting b) x y = other_name (codes "pack") (codes "inspect") refl command.0 x.0 y.0
 one_wish (Some command) (Packing a) (Serving b) x y = other_name (codes "pack") (codes "serve") refl command.0 x.0 y.0
 one_wish (Some command) (Packing a) (Sending b) x y = other_name (codes "pack") (codes "send") refl command.0 x.0 y.0
+one_wish (Some command) (Packing a) (Uploading b) x y = other_name (codes "pack") (codes "send") refl command.0 x.0 y.0

@@ -5,7 +5,8 @@ use Rattle.bw_args.specs.declared.bad_value.BadValue.{BadValue}
 use Rattle.bw_args.specs.declared.bad_value.BadValue.TheVariants.{Name, Limit, Fuse, Listen}
 use Rattle.bw_args.specs.declared.bad_value.BadValue.TheVariants.{Folder, Exchanges, Timeout}
 use Rattle.bw_args.specs.declared.bad_value.BadValue.TheVariants.{Recorders, Idle, Wait}
-use Rattle.bw_args.specs.declared.bad_value.BadValue.TheVariants.{UntilStopped, Connect, Rounds}
+use Rattle.bw_args.specs.declared.bad_value.BadValue.TheVariants.{UntilStopped, Sync, Connect, Rounds}
+use Rattle.bw_args.specs.declared.bad_value.BadValue.TheVariants.{Fruitless, Mixed}
 
 -- what an address is
 abbrev pub address_wanted : Text
@@ -31,8 +32,13 @@ fault_said Idle =
 fault_said Wait = codes "'--idle <SECONDS>' is for '--recorders <N>', and "
     ++ codes "'--timeout <SECONDS>' for a server without it"
 fault_said UntilStopped = codes "'--until-stopped' can't be given beside '--exchanges <N>'"
+fault_said Sync = codes "'--sync' is for '--journal'"
 fault_said Connect = codes "'--connect <ADDR>' takes " ++ address_wanted
 fault_said Rounds = codes "'--rounds <N>' takes a number from 1 to 1000, in at most ten digits"
+fault_said Fruitless =
+    codes "'--fruitless <N>' takes a number from 1 to 1000000, in at most ten digits"
+fault_said Mixed = codes "'--set', '--strict', '--fruitless' and '--log' are for '--file <FILE>', and "
+    ++ codes "'--rounds <N>' for a sender without it"
 
 -- the end of a line, and an empty line
 abbrev pub line_and_gap : Text

@@ -96,6 +96,14 @@ until_stopped_flag = flag (codes "until-stopped")
 abbrev pub log_flag : Rule
 log_flag = flag (codes "log")
 
+-- `--journal`
+abbrev pub journal_flag : Rule
+journal_flag = flag (codes "journal")
+
+-- `--sync`
+abbrev pub sync_flag : Rule
+sync_flag = flag (codes "sync")
+
 -- `serve` with the options that say what is served and where
 abbrev pub serve_where : App
 serve_where =
@@ -110,9 +118,13 @@ serve_how = with_rule (with_rule (with_rule serve_where limit_option) timeout_op
 abbrev pub serve_many : App
 serve_many = with_rule (with_rule serve_how recorders_option) idle_option
 
--- `serve`, with its ten options
+-- and when it ends, and what it reports
+abbrev pub serve_ends : App
+serve_ends = with_rule (with_rule serve_many until_stopped_flag) log_flag
+
+-- `serve`, with its twelve options
 abbrev pub serve_command : App
-serve_command = with_rule (with_rule serve_many until_stopped_flag) log_flag
+serve_command = with_rule (with_rule serve_ends journal_flag) sync_flag
 
 -- `--connect ADDR`
 abbrev pub connect_option : Rule
@@ -122,6 +134,10 @@ connect_option = required (codes "connect")
 abbrev pub rounds_option : Rule
 rounds_option = option (codes "rounds")
 
+-- `--file FILE`
+abbrev pub file_option : Rule
+file_option = option (codes "file")
+
 -- `--set KEY=VALUE`
 abbrev pub set_option : Rule
 set_option = repeated (codes "set")
@@ -130,15 +146,27 @@ set_option = repeated (codes "set")
 abbrev pub strict_flag : Rule
 strict_flag = flag (codes "strict")
 
--- `send` with the options that say what is sent, and where
+-- `--fruitless N`
+abbrev pub fruitless_option : Rule
+fruitless_option = option (codes "fruitless")
+
+-- `send` with the options that say where to, and under which name
 abbrev pub send_where : App
 send_where = with_rule
     (with_rule (with_rule (new_app (codes "send")) connect_option) name_option)
     rounds_option
 
--- `send`, with its five options
+-- and how long, and whether over the network
+abbrev pub send_how : App
+send_how = with_rule (with_rule send_where timeout_option) network_flag
+
+-- and the recording that is sent
+abbrev pub send_source : App
+send_source = with_rule (with_rule (with_rule send_how file_option) set_option) strict_flag
+
+-- `send`, with its ten options
 abbrev pub send_command : App
-send_command = with_rule (with_rule send_where timeout_option) network_flag
+send_command = with_rule (with_rule send_source fruitless_option) log_flag
 
 -- `pack`, with the file and its two options
 abbrev pub pack_command : App

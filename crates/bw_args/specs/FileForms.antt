@@ -1,11 +1,16 @@
--- The forms of `pack`, in plain words, and what each results in.
+-- The forms of `pack` and of `send` with a recording, in plain words, and what each results in.
 use Rattle.std.specs.Prelude.{◌≡◌, true, false, List, [], ◌∷◌, ◌++◌, codes}
+use Rattle.std.specs.declared.net.socket_addr.SocketAddr.{SocketAddr}
 use Rattle.clap.specs.Walk.{Text}
 use Rattle.clap.specs.declared.error.ErrorKind.TheVariants.{MissingRequiredArgument}
+use Rattle.bw_args.specs.Numbers.{IsCountText, default_fruitless, default_timeout, most_fruitless}
+use Rattle.bw_args.specs.Numbers.{most_rounds, most_seconds, number_written}
 use Rattle.bw_args.specs.Sources.{PlainSource}
-use Rattle.bw_args.specs.Lines.{Packing}
+use Rattle.bw_args.specs.Lines.{Packing, FileUpload, Uploading}
 use Rattle.bw_args.specs.Forms.{IsPlain, IsReportedAs, RunsFor}
+use Rattle.bw_args.specs.PeerForms.{ForSender, ReportsBad}
 use Rattle.bw_args.specs.declared.CommandLine.{CommandLine}
+use Rattle.bw_args.specs.declared.bad_value.BadValue.TheVariants.{Fruitless, Mixed}
 
 -- a file of which nothing else is said
 abbrev pub source_at : Text → PlainSource
@@ -27,3 +32,70 @@ pub record RunsPack (words : List Text) (line : CommandLine) : Type 0 where
   -- `pack`
   pub none : (program : Text) → words ≡ program ∷ codes "pack" ∷ []
       → IsReportedAs MissingRequiredArgument line
+
+-- the sender of a recording of which only address, name and file are said
+abbrev pub plain_upload : SocketAddr → Text → Text → FileUpload
+plain_upload address name path = record {
+  connect = address;
+  name = name;
+  source = source_at path;
+  timeout = default_timeout;
+  fruitless = default_fruitless;
+  log = false;
+}
+
+-- `--file=FILE`, and what follows
+abbrev pub with_file : Text → List Text → List Text
+with_file path more = (codes "--file=" ++ path) ∷ more
+
+-- the line runs the plain sender of this file with this change
+abbrev pub AsksToUpload : CommandLine → Text → (FileUpload → FileUpload) → SocketAddr → Text → Type 0
+AsksToUpload line path change address name =
+    RunsFor (Uploading (change (plain_upload address name path))) line
+
+-- `send --connect=ADDR --name=NAME --file=FILE` runs, with each of its options
+pub record RunsFileSender (words : List Text) (line : CommandLine) : Type 0 where
+  pub alone : (path : Text) → ForSender false words (with_file path [])
+      (AsksToUpload line path (λ s. s))
+  -- with `--set=A --set=B`
+  pub sets : (path a b : Text) → ForSender false words
+      (with_file path ((codes "--set=" ++ a) ∷ (codes "--set=" ++ b) ∷ []))
+      (AsksToUpload line path (λ s.
+      record s { source = record s.source { settings = a ∷ b ∷ [] } }))
+  -- with `--strict`
+  pub strict : (path : Text) → ForSender false words (with_file path (codes "--strict" ∷ []))
+      (AsksToUpload line path (λ s. record s { source = record s.source { strict = true } }))
+  -- with `--fruitless=N`
+  pub fruitless : (path count : Text) → IsCountText most_fruitless count
+      → ForSender false words (with_file path ((codes "--fruitless=" ++ count) ∷ []))
+      (AsksToUpload line path (λ s. record s { fruitless = number_written count }))
+  -- with `--timeout=SECONDS`
+  pub timeout : (path seconds : Text) → IsCountText most_seconds seconds
+      → ForSender false words (with_file path ((codes "--timeout=" ++ seconds) ∷ []))
+      (AsksToUpload line path (λ s. record s { timeout = number_written seconds }))
+  -- with `--log`
+  pub log : (path : Text) → ForSender false words (with_file path (codes "--log" ∷ []))
+      (AsksToUpload line path (λ s. record s { log = true }))
+  -- with `--network`
+  pub network : (path : Text) → ForSender true words (with_file path (codes "--network" ∷ []))
+      (AsksToUpload line path (λ s. s))
+
+-- options that don't belong together, and bad values, are faults
+pub record RefusesFiles (words : List Text) (line : CommandLine) : Type 0 where
+  -- with `--file=FILE --rounds=N`
+  pub rounds : (path count : Text) → IsCountText most_rounds count
+      → ForSender false words (with_file path ((codes "--rounds=" ++ count) ∷ []))
+      (ReportsBad line Mixed)
+  -- without it, `--set=A`
+  pub sets : (a : Text) → ForSender false words ((codes "--set=" ++ a) ∷ []) (ReportsBad line Mixed)
+  -- `--strict`
+  pub strict : ForSender false words (codes "--strict" ∷ []) (ReportsBad line Mixed)
+  -- `--log`
+  pub log : ForSender false words (codes "--log" ∷ []) (ReportsBad line Mixed)
+  -- `--fruitless=N`
+  pub fruitless : (count : Text) → IsCountText most_fruitless count
+      → ForSender false words ((codes "--fruitless=" ++ count) ∷ []) (ReportsBad line Mixed)
+  -- with `--file=FILE --fruitless=N`, where N is no such number
+  pub bad_fruitless : (path count : Text) → ¬ IsCountText most_fruitless count
+      → ForSender false words (with_file path ((codes "--fruitless=" ++ count) ∷ []))
+      (ReportsBad line Fruitless)

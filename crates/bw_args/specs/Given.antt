@@ -11,6 +11,8 @@ use Rattle.bw_args.specs.Numbers.{default_idle, default_rounds, most_exchanges, 
 use Rattle.bw_args.specs.Numbers.{most_rounds, most_seconds, number_written}
 use Rattle.bw_args.specs.declared.peers.End.{End}
 use Rattle.bw_args.specs.declared.peers.End.TheVariants as when
+use Rattle.bw_args.specs.declared.peers.Journaling.{Journaling}
+use Rattle.bw_args.specs.declared.peers.Journaling.TheVariants.{Without, Kept, Synced}
 use Rattle.bw_args.specs.declared.peers.Recorders.{Recorders as Way}
 use Rattle.bw_args.specs.declared.peers.Recorders.TheVariants.{InTurn, AtOnce}
 
@@ -131,6 +133,19 @@ pub record GivesRecorders (given : Text → Option Text) (way : Way) : Type 0 wh
   pub serves : GivesCount most_recorders (given (codes "recorders")) most
   pub idles : GivesCount most_seconds (given (codes "idle")) idle
   pub is : IsRecorders timeout most idle way
+
+-- whether a server keeps journals: one of which they are synced keeps them
+abbrev pub IsJournaling : Bool → Bool → Journaling → Type 0
+IsJournaling false false journal = journal ≡ Without
+IsJournaling true false journal = journal ≡ Kept
+IsJournaling true true journal = journal ≡ Synced
+IsJournaling false true journal = ⊥
+
+-- exactly that
+abbrev pub IsJournalingGiven : Bool → Bool → Option Journaling → Type 0
+IsJournalingGiven is_kept is_synced (Some journal) = IsJournaling is_kept is_synced journal
+IsJournalingGiven is_kept is_synced None =
+    (journal : Journaling) → ¬ IsJournaling is_kept is_synced journal
 
 -- the number from 1 to the most that an option gives, or the default
 abbrev pub GivesCountOr : ℕ → ℕ → Option Text → ℕ → Type 0

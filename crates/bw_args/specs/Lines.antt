@@ -3,8 +3,8 @@ pub use Rattle.bw_args.specs.Given.{IsName, GivesName, IsNameGiven, GivesLimit, 
 pub use Rattle.bw_args.specs.Given.{GivesFuse, GivesNoFuse, IsFuseGiven, given_on_line, is_set}
 pub use Rattle.bw_args.specs.Given.{GivesAddress, IsAddressGiven, GivesFolder, IsFolderGiven}
 pub use Rattle.bw_args.specs.Given.{GivesCount, IsCountGiven, IsEnd, IsEndGiven, GivesEnd}
-pub use Rattle.bw_args.specs.Given.{IsRecorders, IsRecordersGiven, GivesRecorders, GivesCountOr}
-pub use Rattle.bw_args.specs.Given.{GivesRounds}
+pub use Rattle.bw_args.specs.Given.{IsRecorders, IsRecordersGiven, GivesRecorders, IsJournaling}
+pub use Rattle.bw_args.specs.Given.{IsJournalingGiven, GivesCountOr, GivesRounds}
 use Rattle.std.specs.Prelude.{◌≡◌, ◌≢◌, ◌⊎◌, ⊤, ℕ, ◌<◌, ◌≤◌, Bool, true}
 use Rattle.std.specs.Prelude.{false, List, [], ◌∷◌, ◌++◌}
 use Rattle.std.specs.Prelude.{Option, Some, None, unwrap_or, Result, Ok, Err, string_bytes, codes}
@@ -19,10 +19,10 @@ use Rattle.clap.specs.Kinds.{IsAmong}
 use Rattle.clap.specs.Values.{kind_of}
 use Rattle.clap.specs.declared.error.ErrorKind.{ErrorKind}
 use Rattle.clap.specs.declared.error.ErrorKind.TheVariants.{OutOfMemory}
-use Rattle.bw_args.specs.Numbers.{IsLimitValue, most_exchanges, most_recorders, most_rounds}
-use Rattle.bw_args.specs.Numbers.{most_seconds}
+use Rattle.bw_args.specs.Numbers.{IsLimitValue, default_fruitless, default_timeout, most_exchanges}
+use Rattle.bw_args.specs.Numbers.{most_fruitless, most_recorders, most_rounds, most_seconds}
 use Rattle.bw_args.specs.Commands.{command_line}
-use Rattle.bw_args.specs.Sources.{GivesSource, PlainSource, in_plain}
+use Rattle.bw_args.specs.Sources.{GivesSource, PlainSource, in_plain, is_mixed}
 use Rattle.bw_args.specs.ReadWords.{as_read}
 use Rattle.bw_args.specs.declared.CommandLine.{CommandLine}
 use Rattle.bw_args.specs.declared.CommandLine.TheVariants.{Run, BadValue as Bad, Report}
@@ -30,15 +30,18 @@ use Rattle.bw_args.specs.declared.bad_value.BadValue.{BadValue}
 use Rattle.bw_args.specs.declared.bad_value.BadValue.TheVariants.{Name, Limit, Fuse, Listen}
 use Rattle.bw_args.specs.declared.bad_value.BadValue.TheVariants.{Folder, Exchanges, Timeout}
 use Rattle.bw_args.specs.declared.bad_value.BadValue.TheVariants.{Recorders, Idle, Wait}
-use Rattle.bw_args.specs.declared.bad_value.BadValue.TheVariants.{UntilStopped, Connect, Rounds}
+use Rattle.bw_args.specs.declared.bad_value.BadValue.TheVariants.{UntilStopped, Sync, Connect, Rounds}
+use Rattle.bw_args.specs.declared.bad_value.BadValue.TheVariants.{Fruitless, Mixed}
 use Rattle.bw_args.specs.declared.peers.End.{End}
 use Rattle.bw_args.specs.declared.peers.End.TheVariants as when
+use Rattle.bw_args.specs.declared.peers.Journaling.{Journaling}
 use Rattle.bw_args.specs.declared.peers.Recorders.{Recorders as Way}
 use Rattle.bw_args.specs.declared.peers.Recorders.TheVariants.{InTurn, AtOnce}
 use Rattle.bw_args.specs.declared.peers.Send.{Send as Sender}
 use Rattle.bw_args.specs.declared.Task.{Task}
+use Rattle.bw_args.specs.declared.commands.sending.Tries.{Tries}
 use Rattle.bw_args.specs.declared.Task.TheVariants.{Replay, Rehearse, Inspect, Serve, Send}
-use Rattle.bw_args.specs.declared.Task.TheVariants.{Pack}
+use Rattle.bw_args.specs.declared.Task.TheVariants.{SendFile, Pack}
 
 -- the server that a command line asks for
 pub record Service : Type 0 where
@@ -48,16 +51,33 @@ pub record Service : Type 0 where
   pub limit : ℕ
   pub recorders : Way
   pub log : Bool
+  pub journal : Journaling
+
+-- how a sender tries, by the three options that say it
+pub record GivesTries (given : Text → Option Text) (tries : Tries) : Type 0 where
+  pub rounds : GivesCount most_rounds (given (codes "rounds")) tries.rounds
+  pub waits : GivesCount most_seconds (given (codes "timeout")) tries.timeout
+  pub ends : GivesCount most_fruitless (given (codes "fruitless")) tries.fruitless
+
+-- the sender of a recording that a command line asks for
+pub record FileUpload : Type 0 where
+  pub connect : SocketAddr
+  pub name : Text
+  pub source : PlainSource
+  pub timeout : ℕ
+  pub fruitless : ℕ
+  pub log : Bool
 
 -- what may be asked for: a replay with this limit, in which the call of this number fails, or none;
 -- a rehearsal of the take of this name, with this limit; to inspect the file of this path; a server
--- or a sender; the requests of a recording
+-- or a sender; the sender of a recording, or its requests
 pub data Wish : Type 0 where
   Replaying : ℕ → Option ℕ → Wish
   Rehearsing : Text → ℕ → Wish
   Inspecting : Text → Wish
   Serving : Service → Wish
   Sending : Sender → Wish
+  Uploading : FileUpload → Wish
   Packing : PlainSource → Wish
 
 -- what a task is about
@@ -72,8 +92,17 @@ wish_of (Serve server) = Serving (record {
   limit = server.limit;
   recorders = server.recorders;
   log = server.log;
+  journal = server.journal;
 })
 wish_of (Send sender) = Sending sender
+wish_of (SendFile sender) = Uploading (record {
+  connect = sender.connect;
+  name = sender.name;
+  source = in_plain sender.source;
+  timeout = sender.timeout;
+  fruitless = sender.fruitless;
+  log = sender.log;
+})
 wish_of (Pack source) = Packing (in_plain source)
 
 -- what is given is this server
@@ -86,6 +115,8 @@ pub record GivesServer (given : Text → Option Text) (server : Service) : Type 
   pub limited : GivesLimit (given (codes "limit")) server.limit
   pub serves : GivesRecorders given server.recorders
   pub reports : server.log ≡ is_set (given (codes "log"))
+  pub journals :
+      IsJournaling (is_set (given (codes "journal"))) (is_set (given (codes "sync"))) server.journal
 
 -- what is given is this sender
 pub record GivesSender (given : Text → Option Text) (sender : Sender) : Type 0 where
@@ -94,6 +125,21 @@ pub record GivesSender (given : Text → Option Text) (sender : Sender) : Type 0
   pub named : GivesName (given (codes "name")) sender.name
   pub tries : GivesRounds (given (codes "rounds")) sender.rounds
   pub waits : GivesCount most_seconds (given (codes "timeout")) sender.timeout
+  pub lines : given (codes "file") ≡ None
+  pub unmixed : is_mixed given ≡ false
+
+-- what is given is this sender of a recording
+pub record GivesUpload (options : List Row) (sender : FileUpload) : Type 0 where
+  pub connects : GivesAddress (is_set (given_on_line options (codes "network")))
+      (given_on_line options (codes "connect")) sender.connect
+  pub named : GivesName (given_on_line options (codes "name")) sender.name
+  pub takes : GivesSource options sender.source
+  pub waits : GivesCountOr default_timeout most_seconds (given_on_line options (codes "timeout"))
+      sender.timeout
+  pub ends : GivesCountOr default_fruitless most_fruitless
+      (given_on_line options (codes "fruitless")) sender.fruitless
+  pub reports : sender.log ≡ is_set (given_on_line options (codes "log"))
+  pub unmixed : is_mixed (given_on_line options) ≡ false
 
 -- the command and its options ask for this
 abbrev pub IsWishOf : Option (Text × List Row) → Wish → Type 0
@@ -110,6 +156,8 @@ IsWishOf (Some command) (Serving server) =
     (command.0 ≡ codes "serve") × GivesServer (given_on_line command.1) server
 IsWishOf (Some command) (Sending sender) =
     (command.0 ≡ codes "send") × GivesSender (given_on_line command.1) sender
+IsWishOf (Some command) (Uploading sender) =
+    (command.0 ≡ codes "send") × GivesUpload command.1 sender
 IsWishOf (Some command) (Packing source) =
     (command.0 ≡ codes "pack") × GivesSource command.1 source
 
@@ -124,6 +172,7 @@ HasPath (Rehearsing name limit) = ⊥
 HasPath (Inspecting path) = ⊤
 HasPath (Serving server) = ⊤
 HasPath (Sending sender) = ⊥
+HasPath (Uploading sender) = ⊤
 HasPath (Packing source) = ⊤
 
 -- they ask for something of which a path is kept
@@ -147,22 +196,31 @@ IsGood Idle given = (count : Option ℕ) × GivesCount most_seconds (given (code
 IsGood Wait given = (way : Way) × GivesRecorders given way
 IsGood UntilStopped given = (end : End)
     × GivesEnd (given (codes "exchanges")) (is_set (given (codes "until-stopped"))) end
+IsGood Sync given = (journal : Journaling)
+    × IsJournaling (is_set (given (codes "journal"))) (is_set (given (codes "sync"))) journal
 IsGood Connect given = (address : SocketAddr)
     × GivesAddress (is_set (given (codes "network"))) (given (codes "connect")) address
 IsGood Rounds given = (count : Option ℕ) × GivesCount most_rounds (given (codes "rounds")) count
+IsGood Fruitless given = (count : Option ℕ)
+    × GivesCount most_fruitless (given (codes "fruitless")) count
+IsGood Mixed given = is_mixed given ≡ false
 
 -- the values that say how recorders are served, in the order in which they are looked at
 abbrev pub looked_at_waiting : List BadValue
 looked_at_waiting = Timeout ∷ Recorders ∷ Idle ∷ Wait ∷ []
+
+-- the values that say how a sender tries, in the order in which they are looked at
+abbrev pub looked_at_trying : List BadValue
+looked_at_trying = Rounds ∷ Timeout ∷ Fruitless ∷ []
 
 -- the values that a command looks at, in this order
 abbrev pub looked_at : Text → List BadValue
 looked_at command = if bytes_eq command (codes "replay") then Limit ∷ Fuse ∷ []
     else (if bytes_eq command (codes "rehearse") then Name ∷ Limit ∷ []
     else (if bytes_eq command (codes "serve")
-    then Listen ∷ Folder ∷ Exchanges ∷ Limit ∷ (looked_at_waiting ++ UntilStopped ∷ [])
+    then Listen ∷ Folder ∷ Exchanges ∷ Limit ∷ (looked_at_waiting ++ UntilStopped ∷ Sync ∷ [])
     else (if bytes_eq command (codes "send")
-    then Connect ∷ Name ∷ Rounds ∷ Timeout ∷ [] else [])))
+    then Connect ∷ Name ∷ (looked_at_trying ++ Mixed ∷ []) else [])))
 
 -- of these values, in this order, it is the first that is bad
 abbrev pub IsFirstBad : List BadValue → (Text → Option Text) → BadValue → Type 0
@@ -236,6 +294,9 @@ HasNumbersInRange (Run (Serve server)) = (0 < socket_port server.listen) × IsEn
 HasNumbersInRange (Run (Send sender)) = (0 < socket_port sender.connect)
     × ((1 ≤ sender.rounds) × (sender.rounds ≤ most_rounds))
     × IsWithin most_seconds sender.timeout
+HasNumbersInRange (Run (SendFile sender)) = (0 < socket_port sender.connect)
+    × ((1 ≤ sender.timeout) × (sender.timeout ≤ most_seconds))
+    × ((1 ≤ sender.fruitless) × (sender.fruitless ≤ most_fruitless))
 HasNumbersInRange (Run (Pack source)) = ⊤
 HasNumbersInRange (Bad value) = ⊤
 HasNumbersInRange (Report error) = ⊤

@@ -38,6 +38,19 @@ most_rounds = 1000
 abbrev pub default_rounds : ℕ
 default_rounds = 16
 
+-- the most links in a row that settle nothing, after which a sender of a recording may be asked to
+-- give up
+abbrev pub most_fruitless : ℕ
+most_fruitless = 1000000
+
+-- these links if no number is given
+abbrev pub default_fruitless : ℕ
+default_fruitless = 10
+
+-- the seconds for which a sender of a recording waits for the server, if no number is given
+abbrev pub default_timeout : ℕ
+default_timeout = 30
+
 -- the most recorders that a server may be asked to serve at once
 abbrev pub most_recorders : ℕ
 most_recorders = 256

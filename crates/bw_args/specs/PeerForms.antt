@@ -16,8 +16,9 @@ use Rattle.bw_args.specs.declared.bad_value.BadValue.{BadValue}
 use Rattle.bw_args.specs.declared.bad_value.BadValue.TheVariants.{Name, Limit, Listen, Folder}
 use Rattle.bw_args.specs.declared.bad_value.BadValue.TheVariants.{Exchanges, Timeout, UntilStopped}
 use Rattle.bw_args.specs.declared.bad_value.BadValue.TheVariants.{Recorders, Idle, Wait}
-use Rattle.bw_args.specs.declared.bad_value.BadValue.TheVariants.{Connect, Rounds}
+use Rattle.bw_args.specs.declared.bad_value.BadValue.TheVariants.{Sync, Connect, Rounds}
 use Rattle.bw_args.specs.declared.peers.End.TheVariants as when
+use Rattle.bw_args.specs.declared.peers.Journaling.TheVariants.{Without, Kept, Synced}
 use Rattle.bw_args.specs.declared.peers.Recorders.TheVariants.{InTurn, AtOnce}
 use Rattle.bw_args.specs.declared.peers.Send.{Send as Sender}
 
@@ -30,6 +31,7 @@ plain_server address folder = record {
   limit = default_limit;
   recorders = InTurn None;
   log = false;
+  journal = Without;
 }
 
 -- `serve --listen=ADDR --folder=DIR`, and what follows
@@ -103,6 +105,12 @@ pub record RunsServer (words : List Text) (line : CommandLine) : Type 0 where
       (AsksToServe line (λ s. record s { end = when.UntilStopped }))
   -- with `--log`
   pub log : ForServer false words (codes "--log" ∷ []) (AsksToServe line (λ s. record s { log = true }))
+  -- with `--journal`
+  pub journal : ForServer false words (codes "--journal" ∷ [])
+      (AsksToServe line (λ s. record s { journal = Kept }))
+  -- with `--journal --sync`
+  pub sync : ForServer false words (codes "--journal" ∷ codes "--sync" ∷ [])
+      (AsksToServe line (λ s. record s { journal = Synced }))
 
 -- the sender of which only address and name are said
 abbrev pub plain_sender : SocketAddr → Text → Sender
@@ -195,6 +203,8 @@ pub record RefusesPeers (words : List Text) (line : CommandLine) : Type 0 where
   pub both : (count : Text) → IsCountText most_exchanges count
       → ForServer false words ((codes "--exchanges=" ++ count) ∷ codes "--until-stopped" ∷ [])
       (ReportsBad line UntilStopped)
+  -- with `--sync` alone
+  pub sync : ForServer false words (codes "--sync" ∷ []) (ReportsBad line Sync)
   -- `send --connect=ADDR --name=NAME`, where ADDR is no local address
   pub connect : (program connect name : Text)
       → ((address : SocketAddr) → ¬ IsAddress false connect address)

@@ -27,10 +27,16 @@ pub enum BadValue {
     Wait,
     /// `--until-stopped` together with a number of exchanges.
     UntilStopped,
+    /// `--sync` without `--journal`.
+    Sync,
     /// The address of the server that requests are sent to.
     Connect,
     /// How many exchanges a sender makes.
     Rounds,
+    /// After how many links that settle nothing a sender gives up.
+    Fruitless,
+    /// An option for a recording without `--file`, or `--rounds` with it.
+    Mixed,
 }
 
 impl BadValue {
@@ -50,8 +56,11 @@ impl BadValue {
             BadValue::Idle => BAD_IDLE,
             BadValue::Wait => BAD_WAIT,
             BadValue::UntilStopped => BAD_UNTIL_STOPPED,
+            BadValue::Sync => BAD_SYNC,
             BadValue::Connect => BAD_CONNECT,
             BadValue::Rounds => BAD_ROUNDS,
+            BadValue::Fruitless => BAD_FRUITLESS,
+            BadValue::Mixed => BAD_MIXED,
         }
     }
 }
@@ -144,6 +153,14 @@ Usage: bwingest <COMMAND>
 For more information, try '--help'.
 ";
 
+const BAD_SYNC: &str = "\
+error: '--sync' is for '--journal'
+
+Usage: bwingest <COMMAND>
+
+For more information, try '--help'.
+";
+
 const BAD_CONNECT: &str = "\
 error: '--connect <ADDR>' takes 127.0.0.1:PORT, or any IP:PORT with '--network'; PORT is 1 to 65535
 
@@ -154,6 +171,22 @@ For more information, try '--help'.
 
 const BAD_ROUNDS: &str = "\
 error: '--rounds <N>' takes a number from 1 to 1000, in at most ten digits
+
+Usage: bwingest <COMMAND>
+
+For more information, try '--help'.
+";
+
+const BAD_FRUITLESS: &str = "\
+error: '--fruitless <N>' takes a number from 1 to 1000000, in at most ten digits
+
+Usage: bwingest <COMMAND>
+
+For more information, try '--help'.
+";
+
+const BAD_MIXED: &str = "\
+error: '--set', '--strict', '--fruitless' and '--log' are for '--file <FILE>', and '--rounds <N>' for a sender without it
 
 Usage: bwingest <COMMAND>
 

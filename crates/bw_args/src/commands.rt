@@ -109,7 +109,7 @@ pub fn line(alloc: Global, matches: &ArgMatches<'_>) -> Result<CommandLine, Allo
         Some(("rehearse", options)) => Ok(rehearse_line(options)),
         Some(("inspect", options)) => inspect_line(alloc, options),
         Some(("serve", options)) => serving::serve_line(alloc, options),
-        Some(("send", options)) => Ok(sending::send_line(options)),
+        Some(("send", options)) => sending::send_line(alloc, options),
         Some(("pack", options)) => packing::pack_line(alloc, options),
         // `clap` refuses words without a command of ours.
         _ => Ok(CommandLine::BadValue(BadValue::Limit)),

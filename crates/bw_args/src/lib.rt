@@ -7,7 +7,7 @@ ghost use Rattle.bw_args.specs.Lines.{HasNumbersInRange, IsLineOf};
 ghost use Rattle.bw_args.specs.Forms.{RefusesValues, RunsInspect, RunsRehearsal, RunsReplay};
 ghost use Rattle.bw_args.specs.Forms.{ReportsHelp};
 ghost use Rattle.bw_args.specs.PeerForms.{RefusesPeers, RunsSender, RunsServer, WantsPeers};
-ghost use Rattle.bw_args.specs.FileForms.{RunsPack};
+ghost use Rattle.bw_args.specs.FileForms.{RefusesFiles, RunsFileSender, RunsPack};
 
 mod addresses;
 mod bad_value;
@@ -21,8 +21,8 @@ pub use bad_value::BadValue;
 use bw_request::Name;
 use clap::Error;
 use clap::error::ErrorKind;
-pub use peers::{End, Recorders, Send, Serve};
-pub use recordings::SourceFile;
+pub use peers::{End, Journaling, Recorders, Send, Serve};
+pub use recordings::{FileSender, SourceFile};
 use std::alloc::{AllocError, Global};
 
 /// What a command line asks the program to do.
@@ -41,6 +41,8 @@ pub enum Task {
     Serve(Serve),
     /// Send the requests on standard input to a server.
     Send(Send),
+    /// Send the requests of a recording to a server.
+    SendFile(FileSender),
     /// Print the requests of a recording.
     Pack(SourceFile),
 }
@@ -84,6 +86,8 @@ pub fn parse(alloc: Global, words: &[String]) -> Result<CommandLine, AllocError>
     ensures peers { IfOk result (RefusesPeers (map string_bytes words.now)) }
     ensures wanted { IfOk result (WantsPeers (map string_bytes words.now)) }
     ensures pack { IfOk result (RunsPack (map string_bytes words.now)) }
+    ensures send_file { IfOk result (RunsFileSender (map string_bytes words.now)) }
+    ensures files { IfOk result (RefusesFiles (map string_bytes words.now)) }
     ensures help { IfOk result (ReportsHelp (map string_bytes words.now)) }
 {
     let read = read_words::read_words(alloc, words)?;

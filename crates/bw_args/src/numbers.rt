@@ -25,6 +25,16 @@ pub(crate) const MOST_RECORDERS: u32 = 256;
 /// number is given.
 pub(crate) const DEFAULT_IDLE: u32 = 60;
 
+/// The most links in a row that settle nothing, after which a sender of a recording may be asked to
+/// give up.
+pub(crate) const MOST_FRUITLESS: u32 = 1_000_000;
+
+/// These links if no number is given.
+pub(crate) const DEFAULT_FRUITLESS: u32 = 10;
+
+/// How many seconds a sender of a recording waits for the server if no number is given.
+pub(crate) const DEFAULT_TIMEOUT: u32 = 30;
+
 /// The longest time for which a peer may be waited for, in seconds: a day.
 pub(crate) const MOST_SECONDS: u32 = 86_400;
 

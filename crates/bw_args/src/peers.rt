@@ -21,6 +21,17 @@ pub enum Recorders {
     AtOnce { most: u32, idle: u32 },
 }
 
+/// Whether a server keeps journals, from which another one continues its open takes.
+#[derive(Clone, Copy, Debug, PartialEq, Eq)]
+pub enum Journaling {
+    /// None: no other server continues its open takes.
+    Without,
+    /// One for each take.
+    Kept,
+    /// One for each take, and before each reply file and journal are synced.
+    Synced,
+}
+
 /// The server that a command line asks for.
 #[derive(Debug, PartialEq, Eq, Drop)]
 pub struct Serve {
@@ -37,6 +48,8 @@ pub struct Serve {
     pub recorders: Recorders,
     /// Whether each connection is reported in a line on standard error.
     pub log: bool,
+    /// Whether it keeps journals.
+    pub journal: Journaling,
 }
 
 /// The sender that a command line asks for.

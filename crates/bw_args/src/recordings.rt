@@ -1,4 +1,6 @@
 //! Recordings as a command line asks for them.
+use bw_request::Name;
+use std::net::SocketAddr;
 
 /// The file of a recording, and what a command line says about it.
 #[derive(Debug, PartialEq, Eq, Drop)]
@@ -10,4 +12,21 @@ pub struct SourceFile {
     pub settings: Vec<String>,
     /// Whether a recording that would be cleaned is refused.
     pub strict: bool,
+}
+
+/// The sender of a recording that a command line asks for.
+#[derive(Debug, PartialEq, Eq, Drop)]
+pub struct FileSender {
+    /// Where the server listens, as for the server itself.
+    pub connect: SocketAddr,
+    /// The take's name.
+    pub name: Name,
+    /// The recording.
+    pub source: SourceFile,
+    /// How many seconds it waits for the server, 1 to 86,400.
+    pub timeout: u32,
+    /// After how many links in a row that settle nothing it gives up, 1 to 1,000,000.
+    pub fruitless: u32,
+    /// Whether each change of the link is reported in a line on standard error.
+    pub log: bool,
 }

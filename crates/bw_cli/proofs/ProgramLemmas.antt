@@ -8,16 +8,16 @@ use Rattle.bw_args.specs.Lines.{IsLineOf}
 use Rattle.bw_console.specs.Faults.{IsReportedBy, exit_of}
 use Rattle.bw_commands.specs.Inspections.{IsPrintOfText}
 use Rattle.bw_console.specs.Printing.{IsOf, Nothing, Print}
-use Rattle.bw_stream.specs.declared.sink.Sink.{Ghosts as Writer}
-use Rattle.bw_stream.specs.declared.source.Source.{Ghosts as Reader}
-use Rattle.bw_store.specs.declared.store.TakeStore.{Ghosts as StoreGhosts}
-use Rattle.bw_journal.specs.declared.journal.Journal.{Ghosts as JournalGhosts}
-use Rattle.bw_ports.specs.declared.link.Link.{Ghosts as LinkGhosts}
-use Rattle.bw_ports.specs.declared.reactor.Reactor.{Ghosts as ReactorGhosts}
-use Rattle.bw_ports.specs.declared.dial.Dial.{Ghosts as DialGhosts}
 use Rattle.bw_ports.specs.declared.network.Network.{Ghosts as NetworkGhosts}
-use Rattle.bw_ports.specs.declared.peers.Peers.{Ghosts as PeerGhosts}
 use Rattle.bw_ports.specs.declared.listener_setup.ListenerSetup.{Ghosts as ListenerSetupGhosts}
+use Rattle.bw_ports.specs.declared.starts.Starts.{Ghosts as StartGhosts}
+use Rattle.bw_session.specs.declared.server.Server.{Server}
+use Rattle.bw_cli.specs.Sides.{HostSide, SenderSide, ServerSide, UploadSide}
+use Rattle.bw_cli.specs.declared.outside.Outside.{Outside}
+use Rattle.bw_args.specs.declared.CommandLine.{CommandLine}
+use Rattle.bw_args.specs.declared.CommandLine.TheVariants.{Run, BadValue as Bad, Report}
+use Rattle.bw_args.specs.declared.Task.TheVariants.{Replay, Inspect, Rehearse, Serve, Send}
+use Rattle.bw_args.specs.declared.Task.TheVariants.{SendFile, Pack}
 use Rattle.bw_cli.specs.Programs.{DoesAlone, IsDoneFor, IsProgram, IsReporting, IsUnread}
 use Rattle.bw_console.specs.declared.exit.Exit.{Exit}
 use Rattle.bw_console.specs.declared.exit.Exit.TheVariants as exits
@@ -52,28 +52,42 @@ reported-help texts.DisplayVersion outcome text out reported n p t =
     record { outcome = outcome; exit_is = refl; reads = refl; text = text; prints = p; reports = t }
 reported-help _ outcome text out reported n p t = absurd (n ((λ e. cc), (λ e. cc)))
 
-module _ {X Y P R W L K N D A B I O E : Type 0} (S : StoreGhosts X) (J : JournalGhosts Y)
-    (peers : PeerGhosts P R W) (reader : Reader R) (writer : Writer W) (reactor : ReactorGhosts L K)
-    (link : LinkGhosts K) (network : NetworkGhosts N X P D R W A B) (listener_setup : ListenerSetupGhosts N L K) (dial : DialGhosts D A B)
-    (replies : Reader A) (requests : Writer B) (input : Reader I) (out : Writer O) (reported : Writer E) where
-  -- what is done for the words that were found is done for those that the system reports
-  pub reported-words : (words : Option (List Text)) (found : List Text)
-      (file_at later recording_at : Text → Option (List ℕ)) (exit : Exit) (s m s' f f' : ℕ) (n n' : N) (i i' : I)
-      (o o' : O) (e e' : E) →
-      ((reported : List Text) → words ≡ Some reported → found ≡ reported) → later ≡ file_at → m ≡ s
-      → IsProgram S J peers reader writer reactor link network listener_setup dial replies requests input out reported
-      (record { words = Some found; file_at = later; recording_at = recording_at }) exit m s' f f' n n' i i' o o' e e'
-      → IsProgram S J peers reader writer reactor link network listener_setup dial replies requests input out reported
-      (record { words = words; file_at = file_at; recording_at = recording_at }) exit s s' f f' n n' i i' o o' e e'
-  reported-words words found file_at later recording_at exit s m s' f f' n n' i i' o o' e e' same files counts (inl a) =
+module _ {S T F H G M N X Y Z P R W L K D A B U Q I O E V C : Type 0} (host : HostSide S T F H G M I O E)
+    (server_side : ServerSide X Y Z P R W L K) (sender_side : SenderSide D A B)
+    (upload_side : UploadSide U Q) (network : NetworkGhosts N X P D R W A B) (listener_setup : ListenerSetupGhosts N L K)
+    (starter : StartGhosts N (Server X Y server_side.store server_side.journal)) where
+  -- what is done for the words that were found is done for those that the system reported before
+  pub reported-words : (words : Option (List Text)) (found : List Text) (exit : Exit) (system : S)
+      (x x' : Outside S F N Q I O E V C) →
+      ((reported : List Text) → words ≡ Some reported → found ≡ reported)
+      → host.system.file_at system ≡ host.system.file_at x.system
+      → host.system.failures system ≡ host.system.failures x.system
+      → IsProgram host server_side sender_side upload_side network listener_setup starter (Some found) exit
+      (record x { system = system }) x'
+      → IsProgram host server_side sender_side upload_side network listener_setup starter words exit x x'
+  reported-words words found exit system x x' same files counts (inl a) =
       inl (record {
         line = a.line;
         comes = λ reported e. subst (λ (w : List Text). IsLineOf w a.line) (same reported e) (a.comes found refl);
-        done = subst (λ (g : Text → Option (List ℕ)). IsDoneFor S J peers reader writer reactor link network listener_setup
-            dial replies requests input out reported g recording_at a.line exit s s' f f' n n' i i' o o' e e') files
-            (subst (λ (k : ℕ). IsDoneFor S J peers reader writer reactor link network listener_setup dial replies requests
-            input out reported later recording_at a.line exit k s' f f' n n' i i' o o' e e') counts a.done);
+        done = done_for a.line (subst (λ (g : Text → Option (List ℕ)). IsDoneFor host server_side sender_side upload_side network
+            listener_setup starter g (host.system.failures x.system) a.line exit (record x { system = system }) x') files
+            (subst (λ (k : ℕ). IsDoneFor host server_side sender_side upload_side network listener_setup starter
+            (host.system.file_at system) k a.line exit (record x { system = system }) x') counts a.done));
       })
-  reported-words words found file_at later recording_at exit s m s' f f' n n' i i' o o' e e' same files counts (inr w) =
-      inr (subst (λ (k : ℕ). DoesAlone S J peers reader writer reactor link network listener_setup dial replies requests
-      input out reported IsUnread exit k s' f f' n n' i i' o o' e e') counts w)
+    where
+      done_for : (line : CommandLine) → IsDoneFor host server_side sender_side upload_side network listener_setup starter
+          (host.system.file_at x.system) (host.system.failures x.system) line exit (record x { system = system }) x'
+          → IsDoneFor host server_side sender_side upload_side network listener_setup starter (host.system.file_at x.system)
+          (host.system.failures x.system) line exit x x'
+      done_for (Run (Replay limit fuse)) done = record { does = done.does; unused = done.unused; unread = done.unread; unpaused = done.unpaused }
+      done_for (Run (Rehearse name limit)) done = record { does = done.does; unused = done.unused; unread = done.unread; unpaused = done.unpaused }
+      done_for (Run (Inspect file)) done = record { does = done.does; unused = done.unused; unread = done.unread; unpaused = done.unpaused }
+      done_for (Run (Serve server)) done = done
+      done_for (Run (Send sender)) done = done
+      done_for (Run (SendFile sender)) done = done
+      done_for (Run (Pack source)) done = done
+      done_for (Bad value) done = record { does = done.does; unused = done.unused; unread = done.unread; unpaused = done.unpaused }
+      done_for (Report error) done = record { does = done.does; unused = done.unused; unread = done.unread; unpaused = done.unpaused }
+  reported-words words found exit system x x' same files counts (inr w) =
+      inr (subst (λ (k : ℕ). DoesAlone host server_side sender_side upload_side network listener_setup starter IsUnread exit k x x') counts
+      (record { does = w.does; unused = w.unused; unread = w.unread; unpaused = w.unpaused }))

@@ -1,3 +1,5 @@
 pub mod Programs
 pub mod Remote
 pub mod Packed
+pub mod Sides
+pub mod Uploads

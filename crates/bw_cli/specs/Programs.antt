@@ -11,11 +11,8 @@ use Rattle.bw_args.specs.BadValues.{text_of}
 use Rattle.bw_args.specs.declared.CommandLine.{CommandLine}
 use Rattle.bw_args.specs.declared.CommandLine.TheVariants.{Run, BadValue as Bad, Report}
 use Rattle.bw_args.specs.declared.Task.{Task}
-use Rattle.bw_args.specs.declared.Task.TheVariants.{Replay, Inspect, Rehearse, Serve, Send, Pack}
-use Rattle.bw_stream.specs.declared.sink.Sink.{Ghosts as Writer}
-use Rattle.bw_stream.specs.declared.source.Source.{Ghosts as Reader}
-use Rattle.bw_store.specs.declared.store.TakeStore.{Ghosts as StoreGhosts}
-use Rattle.bw_journal.specs.declared.journal.Journal.{Ghosts as JournalGhosts}
+use Rattle.bw_args.specs.declared.Task.TheVariants.{Replay, Inspect, Rehearse, Serve, Send}
+use Rattle.bw_args.specs.declared.Task.TheVariants.{SendFile, Pack}
 use Rattle.bw_console.specs.Outcomes.{Outcome, Does, IsOutOfMemory}
 use Rattle.bw_commands.specs.Replays.{IsReplay}
 use Rattle.bw_console.specs.Faults.{IsReportedBy, exit_of}
@@ -27,14 +24,15 @@ use Rattle.bw_console.specs.BadArgv.{IsBadArgv}
 use Rattle.bw_console.specs.declared.exit.Exit.{Exit}
 use Rattle.bw_console.specs.declared.exit.Exit.TheVariants as exits
 use Rattle.bw_console.specs.declared.fault.Fault.{Fault}
-use Rattle.bw_ports.specs.declared.link.Link.{Ghosts as LinkGhosts}
-use Rattle.bw_ports.specs.declared.reactor.Reactor.{Ghosts as ReactorGhosts}
-use Rattle.bw_ports.specs.declared.dial.Dial.{Ghosts as DialGhosts}
 use Rattle.bw_ports.specs.declared.network.Network.{Ghosts as NetworkGhosts}
-use Rattle.bw_ports.specs.declared.peers.Peers.{Ghosts as PeerGhosts}
 use Rattle.bw_ports.specs.declared.listener_setup.ListenerSetup.{Ghosts as ListenerSetupGhosts}
+use Rattle.bw_ports.specs.declared.starts.Starts.{Ghosts as StartGhosts}
+use Rattle.bw_session.specs.declared.server.Server.{Server}
 use Rattle.bw_cli.specs.Packed.{Packs}
 use Rattle.bw_cli.specs.Remote.{Sends, ServesWith}
+use Rattle.bw_cli.specs.Uploads.{SendsRecording}
+use Rattle.bw_cli.specs.Sides.{HostSide, SenderSide, ServerSide, UploadSide}
+use Rattle.bw_cli.specs.declared.outside.Outside.{Outside}
 
 -- help or the version is printed
 pub record IsHelp (did : Outcome) : Type 0 where
@@ -66,18 +64,6 @@ IsReporting texts.DisplayHelp did = IsHelp did
 IsReporting texts.DisplayVersion did = IsHelp did
 IsReporting _ did = IsUsage did ⊎ IsOutOfMemory did
 
--- what the system gives: the words of the command line, the bytes at each path, and those of
--- recordings
-pub record Given : Type 0 where
-  pub words : Option (List Text)
-  pub file_at : Text → Option (List ℕ)
-  pub recording_at : Text → Option (List ℕ)
-
--- the system gives these words, and these bytes
-abbrev pub given_to_program : Option (List Text) → (Text → Option (List ℕ)) → (Text → Option (List ℕ)) → Given
-given_to_program words file_at recording_at =
-    record { words = words; file_at = file_at; recording_at = recording_at }
-
 -- what is done for a task over these files and this input, where the system gives what is asked of
 -- it, or not; those that use the network or recordings are reported elsewhere
 abbrev pub IsTaskDone : (Text → Option (List ℕ)) → Option (List ℕ) → Task → Bool →
@@ -90,6 +76,7 @@ IsTaskDone file_at input (Rehearse name limit) gives_all did =
     IsRehearsal name limit input did × (gives_all ≡ true)
 IsTaskDone file_at input (Serve server) gives_all did = ⊥
 IsTaskDone file_at input (Send sender) gives_all did = ⊥
+IsTaskDone file_at input (SendFile sender) gives_all did = ⊥
 IsTaskDone file_at input (Pack source) gives_all did = ⊥
 
 -- for a command line
@@ -106,42 +93,59 @@ abbrev pub IsUnread : Bool → Outcome → Type 0
 IsUnread true did = IsOutOfMemory did
 IsUnread false did = (kind : ErrorKind) × IsBadArgv kind did
 
-module _ {X Y P R W L K N D A B I O E : Type 0} (S : StoreGhosts X) (J : JournalGhosts Y)
-    (peers : PeerGhosts P R W) (reader : Reader R) (writer : Writer W) (reactor : ReactorGhosts L K)
-    (link : LinkGhosts K) (network : NetworkGhosts N X P D R W A B) (listener_setup : ListenerSetupGhosts N L K)
-    (dial : DialGhosts D A B) (replies : Reader A) (requests : Writer B) (input : Reader I)
-    (out : Writer O) (reported : Writer E) where
-  -- this is done without the network, and without recordings
-  pub record DoesAlone (is_asked : Bool → Outcome → Type 0) (exit : Exit) (s s' f f' : ℕ) (n n' : N)
-      (i i' : I) (o o' : O) (e e' : E) : Type 0 where
-    pub does : Does input out reported is_asked exit s s' i i' o o' e e'
-    pub unused : n' ≡ n
-    pub unread : f' ≡ f
+module _ {S T F H G M N X Y Z P R W L K D A B U Q I O E V C : Type 0} (host : HostSide S T F H G M I O E)
+    (server_side : ServerSide X Y Z P R W L K) (sender_side : SenderSide D A B)
+    (upload_side : UploadSide U Q) (network : NetworkGhosts N X P D R W A B) (listener_setup : ListenerSetupGhosts N L K)
+    (starter : StartGhosts N (Server X Y server_side.store server_side.journal)) where
+  -- this is done without the network, and without recordings, where so many calls of the system
+  -- had failed
+  pub record DoesAlone (is_asked : Bool → Outcome → Type 0) (exit : Exit) (failed : ℕ)
+      (x x' : Outside S F N Q I O E V C) : Type 0 where
+    pub does : Does host.input host.out host.reported is_asked exit failed
+        (host.system.failures x'.system) x.input x'.input x.out x'.out x.faults x'.faults
+    pub unused : x'.network ≡ x.network
+    pub unread : x'.files ≡ x.files
+    pub unpaused : x'.pause ≡ x.pause
 
-  -- what is done for a command line, and how the program ends
-  abbrev pub IsDoneFor : (Text → Option (List ℕ)) → (Text → Option (List ℕ)) → CommandLine → Exit →
-      ℕ → ℕ → ℕ → ℕ → N → N → I → I → O → O → E → E → Type 0
-  IsDoneFor file_at recording_at (Run (Serve server)) exit s s' f f' n n' i i' o o' e e' =
-      ServesWith S J peers reader writer reactor link out reported network listener_setup server exit n n' o o' e e'
-      × (s' ≡ s) × (f' ≡ f) × (i' ≡ i)
-  IsDoneFor file_at recording_at (Run (Send sender)) exit s s' f f' n n' i i' o o' e e' =
-      Sends network dial replies requests input out reported sender exit n i i' o o' e e'
-      × (s' ≡ s) × (f' ≡ f) × (n' ≡ n)
-  IsDoneFor file_at recording_at (Run (Pack source)) exit s s' f f' n n' i i' o o' e e' =
-      Packs out reported recording_at source exit f f' o o' e e' × (s' ≡ s) × (n' ≡ n) × (i' ≡ i)
-  IsDoneFor file_at recording_at line exit s s' f f' n n' i i' o o' e e' =
-      DoesAlone (IsLineDone file_at (input.left i) line) exit s s' f f' n n' i i' o o' e e'
+  -- the system didn't fail
+  abbrev pub IsHostWell : ℕ → Outside S F N Q I O E V C → Type 0
+  IsHostWell failed x' = host.system.failures x'.system ≡ failed
+
+  -- what is done for a command line, and how the program ends, where the system has these files and
+  -- so many calls of it had failed
+  abbrev pub IsDoneFor : (Text → Option (List ℕ)) → ℕ → CommandLine → Exit →
+      Outside S F N Q I O E V C → Outside S F N Q I O E V C → Type 0
+  IsDoneFor file_at failed (Run (Serve server)) exit x x' =
+      ServesWith server_side host.out host.reported network listener_setup starter server.journal server exit
+      x.network x'.network x.out x'.out x.faults x'.faults
+      × IsHostWell failed x' × (x'.files ≡ x.files) × (x'.input ≡ x.input)
+      × (x'.pause ≡ x.pause)
+  IsDoneFor file_at failed (Run (Send sender)) exit x x' =
+      Sends network sender_side host.input host.out host.reported sender exit
+      x.network x.input x'.input x.out x'.out x.faults x'.faults
+      × IsHostWell failed x' × (x'.files ≡ x.files) × (x'.network ≡ x.network)
+      × (x'.pause ≡ x.pause)
+  IsDoneFor file_at failed (Run (SendFile sender)) exit x x' =
+      SendsRecording upload_side sender_side network host.files host.out host.reported sender exit
+      x.files x'.files x.network x.pause x'.pause x.out x'.out x.faults x'.faults
+      × IsHostWell failed x' × (x'.network ≡ x.network) × (x'.input ≡ x.input)
+  IsDoneFor file_at failed (Run (Pack source)) exit x x' =
+      Packs host.out host.reported (host.files.file_at x.files) source exit
+      (host.files.failures x.files) (host.files.failures x'.files) x.out x'.out x.faults x'.faults
+      × IsHostWell failed x' × (x'.network ≡ x.network) × (x'.input ≡ x.input)
+      × (x'.pause ≡ x.pause)
+  IsDoneFor file_at failed line exit x x' =
+      DoesAlone (IsLineDone file_at (host.input.left x.input) line) exit failed x x'
 
   -- the words result in a command line, and this is done for it
-  pub record IsAnswered (given : Given) (exit : Exit) (s s' f f' : ℕ) (n n' : N) (i i' : I)
-      (o o' : O) (e e' : E) : Type 0 where
+  pub record IsAnswered (words : Option (List Text)) (exit : Exit) (x x' : Outside S F N Q I O E V C)
+      : Type 0 where
     pub line : CommandLine
-    pub comes : (words : List Text) → given.words ≡ Some words → IsLineOf words line
-    pub done : IsDoneFor given.file_at given.recording_at line exit s s' f f' n n' i i' o o' e e'
+    pub comes : (given : List Text) → words ≡ Some given → IsLineOf given line
+    pub done : IsDoneFor (host.system.file_at x.system) (host.system.failures x.system) line exit x x'
 
-  -- what the program does
-  abbrev pub IsProgram : Given → Exit → ℕ → ℕ → ℕ → ℕ → N → N → I → I → O → O →
-      E → E → Type 0
-  IsProgram given exit s s' f f' n n' i i' o o' e e' =
-      IsAnswered given exit s s' f f' n n' i i' o o' e e'
-      ⊎ DoesAlone IsUnread exit s s' f f' n n' i i' o o' e e'
+  -- what the program does if the system reports these words, or none
+  abbrev pub IsProgram : Option (List Text) → Exit → Outside S F N Q I O E V C →
+      Outside S F N Q I O E V C → Type 0
+  IsProgram words exit x x' = IsAnswered words exit x x'
+      ⊎ DoesAlone IsUnread exit (host.system.failures x.system) x x'

@@ -1,31 +1,32 @@
 //! The program `bwingest`: its commands, over standard input and output.
 #![tactic(auto)]
 
+mod outside;
 pub mod program;
 mod recordings;
 mod remote;
+mod uploads;
 
-use bw_net::{Host, HostRecordings, TcpNetwork, Terminal};
+use bw_net::{ClockPause, Host, HostRecordings, TcpNetwork, Terminal};
+use bw_send_file::LinkLog;
 use bw_stream::StdIo;
+use outside::Outside;
 use program::start;
 use std::process::ExitCode;
 
 fn main(rt: HostRuntime) -> ExitCode {
-    let mut system = Host::new(&rt);
-    let mut files = HostRecordings::new(&rt);
-    let mut network = TcpNetwork::new(&rt);
-    let mut input = StdIo::new(rt.stdin());
-    let mut out = StdIo::new(rt.stdout());
-    let mut faults = StdIo::new(rt.stderr());
-    let mut watch = Terminal::new(&rt);
-    start(
-        rt.alloc(),
-        &mut system,
-        &mut files,
-        &mut network,
-        &mut input,
-        &mut out,
-        &mut faults,
-        &mut watch,
-    )
+    let mut outside = Outside {
+        system: Host::new(&rt),
+        files: HostRecordings::new(&rt),
+        network: TcpNetwork::new(&rt),
+        pause: ClockPause::new(&rt),
+        input: StdIo::new(rt.stdin()),
+        out: StdIo::new(rt.stdout()),
+        faults: StdIo::new(rt.stderr()),
+        watch: Terminal::new(&rt),
+        log: LinkLog {
+            out: StdIo::new(rt.stderr()),
+        },
+    };
+    start(rt.alloc(), &mut outside)
 }

@@ -6,10 +6,14 @@ ghost use Rattle.bw_args.specs.Lines.{HasNumbersInRange};
 ghost use Rattle.bw_console.specs.Outcomes.{Outcome, HasWritten};
 ghost use Rattle.bw_console.specs.declared.exit.Exit.{Exit};
 ghost use Rattle.bw_console.specs.Exits.{status_of};
-ghost use Rattle.bw_cli.specs.Programs.{IsDoneFor, IsProgram, IsReporting, given_to_program};
+ghost use Rattle.bw_send_file.specs.FileLooks.{LooksAt};
+ghost use Rattle.bw_cli.specs.Programs.{IsDoneFor, IsProgram, IsReporting};
+ghost use Rattle.bw_cli.specs.Sides.{host_side, sender_side, server_side, upload_side};
 
+use crate::outside::Outside;
 use crate::recordings::pack_as;
 use crate::remote::{send_as, serve_as};
+use crate::uploads::send_file_as;
 use bw_args::{CommandLine, Task, parse};
 use bw_commands::replay::{replay, replay_fused};
 use bw_commands::{inspect_file, rehearse_run};
@@ -17,8 +21,11 @@ use bw_console::print::{give_up, print, print_diagnostic};
 use bw_console::{Exit, Fault, report_bad_argv};
 use bw_journal::{Journal, NoJournal};
 use bw_layout::Limit;
-use bw_ports::{ListenerSetup, Network, RecordingFiles, System, Watch};
+use bw_ports::{ListenerSetup, Network, Pause, RecordingFiles, Starts, System, Watch};
+use bw_send_file::PlanFeed;
+use bw_session::Server;
 use bw_stream::{Sink, Source};
+use bw_upload::{Feed, NoObserver, Observer};
 use clap::Error;
 use std::alloc::Global;
 use std::process::ExitCode;
@@ -33,73 +40,49 @@ use std::process::ExitCode;
 pub fn start<
     S: System,
     F: RecordingFiles,
-    N: Network + ListenerSetup,
+    J: Journal,
+    N: Network + ListenerSetup + Starts<Server<N::Store, J>>,
+    P: Pause,
     R: Source,
     W: Sink,
     E: Sink,
     V: Watch,
->(
-    alloc: Global,
-    system: &mut S,
-    files: &mut F,
-    network: &mut N,
-    input: &mut R,
-    out: &mut W,
-    faults: &mut E,
-    watch: &mut V,
-) -> ExitCode
-    ensures { (exit : Exit) × (exit_status result ≡ status_of exit)
-        × IsProgram N.Store.TakeStore ⟦<NoJournal as Journal>⟧ N.Peers.Peers
-        N.Peers.Reader.Source N.Peers.Writer.Sink N.Reactor.Reactor N.Reactor.Link.Link N.Network
-        N.ListenerSetup N.Dial.Dial N.Dial.Reader.Source N.Dial.Writer.Sink R.Source W.Sink E.Sink
-        (given_to_program (S.words system.old) (S.file_at system.old) (F.file_at files.old)) exit
-        (S.failures system.old) (S.failures system.new) (F.failures files.old)
-        (F.failures files.new) network.old network.new input.old input.new out.old out.new
-        faults.old faults.new }
+    G: Observer,
+>(alloc: Global, outside: &mut Outside<S, F, N, P, R, W, E, V, G>) -> ExitCode
+    ensures { (exit : Exit) × (exit_status result ≡ status_of exit) × IsProgram
+        (host_side S.System F.RecordingFiles R.Source W.Sink E.Sink)
+        (server_side N.Store.TakeStore J.Journal ⟦<NoJournal as Journal>⟧ N.Peers.Peers
+        N.Peers.Reader.Source N.Peers.Writer.Sink N.Reactor.Reactor N.Reactor.Link.Link)
+        (sender_side N.Dial.Dial N.Dial.Reader.Source N.Dial.Writer.Sink)
+        (upload_side ⟦<PlanFeed<F::File, F::Stamped> as Feed>⟧ (LooksAt F.Stamped.Stamped) P.Pause)
+        N.Network N.ListenerSetup N.Starts (S.words outside.old.system) exit outside.old outside.new }
 {
-    ExitCode::from(obey(alloc, system, files, network, input, out, faults, watch).status())
+    ExitCode::from(obey(alloc, outside).status())
 }
 
 /// Reads the command line, and does what it asks for.
 fn obey<
     S: System,
     F: RecordingFiles,
-    N: Network + ListenerSetup,
+    J: Journal,
+    N: Network + ListenerSetup + Starts<Server<N::Store, J>>,
+    P: Pause,
     R: Source,
     W: Sink,
     E: Sink,
     V: Watch,
->(
-    alloc: Global,
-    system: &mut S,
-    files: &mut F,
-    network: &mut N,
-    input: &mut R,
-    out: &mut W,
-    faults: &mut E,
-    watch: &mut V,
-) -> Exit
-    ensures { IsProgram N.Store.TakeStore ⟦<NoJournal as Journal>⟧ N.Peers.Peers
-        N.Peers.Reader.Source N.Peers.Writer.Sink N.Reactor.Reactor N.Reactor.Link.Link N.Network
-        N.ListenerSetup N.Dial.Dial N.Dial.Reader.Source N.Dial.Writer.Sink R.Source W.Sink E.Sink
-        (given_to_program (S.words system.old) (S.file_at system.old) (F.file_at files.old)) result
-        (S.failures system.old) (S.failures system.new) (F.failures files.old)
-        (F.failures files.new) network.old network.new input.old input.new out.old out.new
-        faults.old faults.new }
+    G: Observer,
+>(alloc: Global, outside: &mut Outside<S, F, N, P, R, W, E, V, G>) -> Exit
+    ensures { IsProgram (host_side S.System F.RecordingFiles R.Source W.Sink E.Sink)
+        (server_side N.Store.TakeStore J.Journal ⟦<NoJournal as Journal>⟧ N.Peers.Peers
+        N.Peers.Reader.Source N.Peers.Writer.Sink N.Reactor.Reactor N.Reactor.Link.Link)
+        (sender_side N.Dial.Dial N.Dial.Reader.Source N.Dial.Writer.Sink)
+        (upload_side ⟦<PlanFeed<F::File, F::Stamped> as Feed>⟧ (LooksAt F.Stamped.Stamped) P.Pause)
+        N.Network N.ListenerSetup N.Starts (S.words outside.old.system) result outside.old outside.new }
 {
-    match system.words() {
-        Ok(words) => answer(
-            alloc,
-            words.as_slice(),
-            system,
-            files,
-            network,
-            input,
-            out,
-            faults,
-            watch,
-        ),
-        Err(error) => report_bad_argv(&error, faults),
+    match outside.system.words() {
+        Ok(words) => answer(alloc, words.as_slice(), outside),
+        Err(error) => report_bad_argv(&error, &mut outside.faults),
     }
 }
 
@@ -107,36 +90,25 @@ fn obey<
 fn answer<
     S: System,
     F: RecordingFiles,
-    N: Network + ListenerSetup,
+    J: Journal,
+    N: Network + ListenerSetup + Starts<Server<N::Store, J>>,
+    P: Pause,
     R: Source,
     W: Sink,
     E: Sink,
     V: Watch,
->(
-    alloc: Global,
-    words: &[String],
-    system: &mut S,
-    files: &mut F,
-    network: &mut N,
-    input: &mut R,
-    out: &mut W,
-    faults: &mut E,
-    watch: &mut V,
-) -> Exit
-    ensures { IsProgram N.Store.TakeStore ⟦<NoJournal as Journal>⟧ N.Peers.Peers
-        N.Peers.Reader.Source N.Peers.Writer.Sink N.Reactor.Reactor N.Reactor.Link.Link N.Network
-        N.ListenerSetup N.Dial.Dial N.Dial.Reader.Source N.Dial.Writer.Sink R.Source W.Sink E.Sink
-        (given_to_program (Some (map string_bytes words.now)) (S.file_at system.old)
-        (F.file_at files.old)) result
-        (S.failures system.old) (S.failures system.new) (F.failures files.old)
-        (F.failures files.new) network.old network.new input.old input.new out.old out.new
-        faults.old faults.new }
+    G: Observer,
+>(alloc: Global, words: &[String], outside: &mut Outside<S, F, N, P, R, W, E, V, G>) -> Exit
+    ensures { IsProgram (host_side S.System F.RecordingFiles R.Source W.Sink E.Sink)
+        (server_side N.Store.TakeStore J.Journal ⟦<NoJournal as Journal>⟧ N.Peers.Peers
+        N.Peers.Reader.Source N.Peers.Writer.Sink N.Reactor.Reactor N.Reactor.Link.Link)
+        (sender_side N.Dial.Dial N.Dial.Reader.Source N.Dial.Writer.Sink)
+        (upload_side ⟦<PlanFeed<F::File, F::Stamped> as Feed>⟧ (LooksAt F.Stamped.Stamped) P.Pause)
+        N.Network N.ListenerSetup N.Starts (Some (map string_bytes words.now)) result outside.old outside.new }
 {
     match parse(alloc, words) {
-        Ok(line) => perform(
-            alloc, &line, system, files, network, input, out, faults, watch,
-        ),
-        Err(_) => give_up(faults, &Fault::Memory),
+        Ok(line) => perform(alloc, &line, outside),
+        Err(_) => give_up(&mut outside.faults, &Fault::Memory),
     }
 }
 
@@ -144,40 +116,31 @@ fn answer<
 fn perform<
     S: System,
     F: RecordingFiles,
-    N: Network + ListenerSetup,
+    J: Journal,
+    N: Network + ListenerSetup + Starts<Server<N::Store, J>>,
+    P: Pause,
     R: Source,
     W: Sink,
     E: Sink,
     V: Watch,
->(
-    alloc: Global,
-    line: &CommandLine,
-    system: &mut S,
-    files: &mut F,
-    network: &mut N,
-    input: &mut R,
-    out: &mut W,
-    faults: &mut E,
-    watch: &mut V,
-) -> Exit
+    G: Observer,
+>(alloc: Global, line: &CommandLine, outside: &mut Outside<S, F, N, P, R, W, E, V, G>) -> Exit
     requires { HasNumbersInRange line.now }
-    ensures { IsDoneFor N.Store.TakeStore ⟦<NoJournal as Journal>⟧ N.Peers.Peers
-        N.Peers.Reader.Source N.Peers.Writer.Sink N.Reactor.Reactor N.Reactor.Link.Link N.Network
-        N.ListenerSetup N.Dial.Dial N.Dial.Reader.Source N.Dial.Writer.Sink R.Source W.Sink E.Sink
-        (S.file_at system.old) (F.file_at files.old) line.now result
-        (S.failures system.old) (S.failures system.new) (F.failures files.old)
-        (F.failures files.new) network.old network.new input.old input.new out.old out.new
-        faults.old faults.new }
+    ensures { IsDoneFor (host_side S.System F.RecordingFiles R.Source W.Sink E.Sink)
+        (server_side N.Store.TakeStore J.Journal ⟦<NoJournal as Journal>⟧ N.Peers.Peers
+        N.Peers.Reader.Source N.Peers.Writer.Sink N.Reactor.Reactor N.Reactor.Link.Link)
+        (sender_side N.Dial.Dial N.Dial.Reader.Source N.Dial.Writer.Sink)
+        (upload_side ⟦<PlanFeed<F::File, F::Stamped> as Feed>⟧ (LooksAt F.Stamped.Stamped) P.Pause)
+        N.Network N.ListenerSetup N.Starts (S.file_at outside.old.system) (S.failures outside.old.system) line.now result
+        outside.old outside.new }
 {
     match line {
-        CommandLine::Run(task) => run(
-            alloc, task, system, files, network, input, out, faults, watch,
-        ),
+        CommandLine::Run(task) => run(alloc, task, outside),
         CommandLine::BadValue(value) => {
-            print_diagnostic(faults, value.text().as_bytes());
+            print_diagnostic(&mut outside.faults, value.text().as_bytes());
             Exit::Usage
         }
-        CommandLine::Report(text) => show(alloc, text, out, faults),
+        CommandLine::Report(text) => show(alloc, text, &mut outside.out, &mut outside.faults),
     }
 }
 
@@ -185,31 +148,35 @@ fn perform<
 fn run<
     S: System,
     F: RecordingFiles,
-    N: Network + ListenerSetup,
+    J: Journal,
+    N: Network + ListenerSetup + Starts<Server<N::Store, J>>,
+    P: Pause,
     R: Source,
     W: Sink,
     E: Sink,
     V: Watch,
->(
-    alloc: Global,
-    task: &Task,
-    system: &mut S,
-    files: &mut F,
-    network: &mut N,
-    input: &mut R,
-    out: &mut W,
-    faults: &mut E,
-    watch: &mut V,
-) -> Exit
+    G: Observer,
+>(alloc: Global, task: &Task, outside: &mut Outside<S, F, N, P, R, W, E, V, G>) -> Exit
     requires { HasNumbersInRange (CommandLine.Run task.now) }
-    ensures { IsDoneFor N.Store.TakeStore ⟦<NoJournal as Journal>⟧ N.Peers.Peers
-        N.Peers.Reader.Source N.Peers.Writer.Sink N.Reactor.Reactor N.Reactor.Link.Link N.Network
-        N.ListenerSetup N.Dial.Dial N.Dial.Reader.Source N.Dial.Writer.Sink R.Source W.Sink E.Sink
-        (S.file_at system.old) (F.file_at files.old) (CommandLine.Run task.now) result
-        (S.failures system.old) (S.failures system.new) (F.failures files.old)
-        (F.failures files.new) network.old network.new input.old input.new out.old out.new
-        faults.old faults.new }
+    ensures { IsDoneFor (host_side S.System F.RecordingFiles R.Source W.Sink E.Sink)
+        (server_side N.Store.TakeStore J.Journal ⟦<NoJournal as Journal>⟧ N.Peers.Peers
+        N.Peers.Reader.Source N.Peers.Writer.Sink N.Reactor.Reactor N.Reactor.Link.Link)
+        (sender_side N.Dial.Dial N.Dial.Reader.Source N.Dial.Writer.Sink)
+        (upload_side ⟦<PlanFeed<F::File, F::Stamped> as Feed>⟧ (LooksAt F.Stamped.Stamped) P.Pause)
+        N.Network N.ListenerSetup N.Starts (S.file_at outside.old.system) (S.failures outside.old.system)
+        (CommandLine.Run task.now) result outside.old outside.new }
 {
+    let Outside {
+        system,
+        files,
+        network,
+        pause,
+        input,
+        out,
+        faults,
+        watch,
+        log,
+    } = outside;
     match task {
         Task::Replay { limit, fuse } => match (Limit::new(*limit), fuse) {
             (Some(limit), Some(fuse)) => replay_fused(alloc, limit, *fuse, input, out, faults),
@@ -223,6 +190,13 @@ fn run<
         },
         Task::Serve(server) => serve_as(alloc, server, network, out, faults),
         Task::Send(sender) => send_as(alloc, sender, network, input, out, faults, watch),
+        Task::SendFile(sender) if sender.log => {
+            send_file_as(alloc, sender, files, network, pause, log, out, faults)
+        }
+        Task::SendFile(sender) => {
+            let observer = &mut NoObserver;
+            send_file_as(alloc, sender, files, network, pause, observer, out, faults)
+        }
         Task::Pack(source) => pack_as(alloc, source, files, out, faults),
     }
 }

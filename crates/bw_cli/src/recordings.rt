@@ -23,7 +23,7 @@ pub(crate) fn pack_as<F: RecordingFiles, W: Sink, E: Sink>(
 }
 
 /// The recording's file that the command line names.
-fn recording_of(source: &SourceFile) -> RecordingFile<'_>
+pub(crate) fn recording_of(source: &SourceFile) -> RecordingFile<'_>
     ensures { IsRecordingFile source.now result }
 {
     RecordingFile {

@@ -1,35 +1,59 @@
 //! The commands that use the network, as a command line asks for them.
 ghost use Rattle.std.specs.Prelude.{◌≡◌};
 ghost use Rattle.bw_layout.specs.Limits.{IsLimit};
-ghost use Rattle.bw_cli.specs.Remote.{IsHosting, IsServingAs, Sends, ServesWith, exchanges_of};
+ghost use Rattle.bw_cli.specs.Remote.{IsHosting, IsServingAs, ResumesAs, Sends, ServesAs, ServesWith};
+ghost use Rattle.bw_cli.specs.Remote.{exchanges_of};
+ghost use Rattle.bw_cli.specs.Sides.{sender_side, server_side};
 
-use bw_args::{End, Recorders, Send, Serve};
+use bw_args::{End, Journaling, Recorders, Send, Serve};
 use bw_console::Exit;
 use bw_journal::{Journal, NoJournal};
 use bw_layout::Limit;
-use bw_ports::{ListenerSetup, Network, Watch};
+use bw_ports::{ListenerSetup, Network, Starts, Watch};
 use bw_send::send_watched;
-use bw_serve::{Bounds, Hosting, Serving, serve, serve_many};
+use bw_serve::{
+    Bounds, Hosting, Serving, serve, serve_journaled, serve_many, serve_many_journaled,
+};
+use bw_session::Server;
 use bw_stream::{Sink, Source};
 use std::alloc::Global;
 
 /// Serves as the command line asks for.
-pub(crate) fn serve_as<N: Network + ListenerSetup, W: Sink, E: Sink>(
-    alloc: Global,
-    server: &Serve,
-    network: &mut N,
-    out: &mut W,
-    faults: &mut E,
-) -> Exit
+pub(crate) fn serve_as<
+    J: Journal,
+    N: Network + ListenerSetup + Starts<Server<N::Store, J>>,
+    W: Sink,
+    E: Sink,
+>(alloc: Global, server: &Serve, network: &mut N, out: &mut W, faults: &mut E) -> Exit
     requires { IsLimit server.now.limit }
-    ensures { ServesWith N.Store.TakeStore ⟦<NoJournal as Journal>⟧ N.Peers.Peers
-        N.Peers.Reader.Source N.Peers.Writer.Sink N.Reactor.Reactor N.Reactor.Link.Link W.Sink E.Sink
-        N.Network N.ListenerSetup server.now result network.old network.new out.old out.new faults.old
-        faults.new }
+    ensures { ServesWith (server_side N.Store.TakeStore J.Journal ⟦<NoJournal as Journal>⟧
+        N.Peers.Peers N.Peers.Reader.Source N.Peers.Writer.Sink N.Reactor.Reactor N.Reactor.Link.Link)
+        W.Sink E.Sink N.Network N.ListenerSetup N.Starts server.now.journal server.now result network.old
+        network.new out.old out.new faults.old faults.new }
 {
     let Some(limit) = Limit::new(server.limit) else {
         unreachable!();
     };
+    match server.journal {
+        Journaling::Without => serve_new::<J, _, _, _>(alloc, server, limit, network, out, faults),
+        Journaling::Kept => serve_resumed(alloc, server, limit, false, network, out, faults),
+        Journaling::Synced => serve_resumed(alloc, server, limit, true, network, out, faults),
+    }
+}
+
+/// Serves without journals.
+fn serve_new<
+    J: Journal,
+    N: Network + ListenerSetup + Starts<Server<N::Store, J>>,
+    W: Sink,
+    E: Sink,
+>(alloc: Global, server: &Serve, limit: Limit, network: &mut N, out: &mut W, faults: &mut E) -> Exit
+    requires { limit ≡ server.now.limit }
+    ensures { ServesAs (server_side N.Store.TakeStore J.Journal ⟦<NoJournal as Journal>⟧
+        N.Peers.Peers N.Peers.Reader.Source N.Peers.Writer.Sink N.Reactor.Reactor N.Reactor.Link.Link)
+        W.Sink E.Sink N.Network N.ListenerSetup N.Starts server.now.recorders server.now result network.old
+        network.new out.old out.new faults.old faults.new }
+{
     match server.recorders {
         Recorders::InTurn { timeout } => {
             let serving = serving_of(server, limit, timeout);
@@ -38,6 +62,39 @@ pub(crate) fn serve_as<N: Network + ListenerSetup, W: Sink, E: Sink>(
         Recorders::AtOnce { most, idle } => {
             let hosting = hosting_of(server, limit, most, idle);
             serve_many(alloc, network, &hosting, out, faults)
+        }
+    }
+}
+
+/// Serves with journals, from what an earlier server left in the folder.
+fn serve_resumed<
+    J: Journal,
+    N: Network + ListenerSetup + Starts<Server<N::Store, J>>,
+    W: Sink,
+    E: Sink,
+>(
+    alloc: Global,
+    server: &Serve,
+    limit: Limit,
+    sync: bool,
+    network: &mut N,
+    out: &mut W,
+    faults: &mut E,
+) -> Exit
+    requires { limit ≡ server.now.limit }
+    ensures { ResumesAs (server_side N.Store.TakeStore J.Journal ⟦<NoJournal as Journal>⟧
+        N.Peers.Peers N.Peers.Reader.Source N.Peers.Writer.Sink N.Reactor.Reactor N.Reactor.Link.Link)
+        W.Sink E.Sink N.Network N.ListenerSetup N.Starts server.now.recorders sync server.now result network.old
+        network.new out.old out.new faults.old faults.new }
+{
+    match server.recorders {
+        Recorders::InTurn { timeout } => {
+            let serving = serving_of(server, limit, timeout);
+            serve_journaled(alloc, network, &serving, sync, out, faults)
+        }
+        Recorders::AtOnce { most, idle } => {
+            let hosting = hosting_of(server, limit, most, idle);
+            serve_many_journaled(alloc, network, &hosting, sync, out, faults)
         }
     }
 }
@@ -96,7 +153,7 @@ pub(crate) fn send_as<N: Network, R: Source, W: Sink, E: Sink, V: Watch>(
     faults: &mut E,
     watch: &mut V,
 ) -> Exit
-    ensures { Sends N.Network N.Dial.Dial N.Dial.Reader.Source N.Dial.Writer.Sink
+    ensures { Sends N.Network (sender_side N.Dial.Dial N.Dial.Reader.Source N.Dial.Writer.Sink)
         R.Source W.Sink E.Sink sender.now result network.now input.old input.new out.old out.new
         faults.old faults.new }
 {

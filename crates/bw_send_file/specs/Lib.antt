@@ -2,3 +2,4 @@ pub mod FileFeeds
 pub mod Endings
 pub mod Sendings
 pub mod FileSendings
+pub mod FileLooks

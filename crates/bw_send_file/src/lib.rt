@@ -7,10 +7,12 @@ mod fault;
 mod feed;
 mod file;
 mod job;
+mod link_log;
 mod sending;
 
 pub use fault::FeedFault;
 pub use feed::PlanFeed;
 pub use file::send_file;
 pub use job::Recorder;
+pub use link_log::LinkLog;
 pub use sending::send_feed;

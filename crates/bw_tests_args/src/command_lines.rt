@@ -2,7 +2,7 @@
 //! texts they print.
 use crate::outcomes::{Line, Outcome, Said, comes_to, lines_come_to, parse_words, value_comes_to};
 use bw_args::numbers::number;
-use bw_args::{CommandLine, End, Recorders};
+use bw_args::{CommandLine, End, Journaling, Recorders};
 use std::alloc::{AllocError, Global};
 use std::process::Abort;
 
@@ -210,7 +210,7 @@ fn a_fuse_is_a_number(rt: HostRuntime) -> Result<(), AllocError> {
     Ok(())
 }
 
-static SERVERS: [Line; 21] = [
+static SERVERS: [Line; 27] = [
     (&[], Outcome::Serves(End::Exchanges(1), MOST, ONE_BY_ONE)),
     (
         &["--timeout=30", "--limit", "8192", "--exchanges=7"],
@@ -241,6 +241,12 @@ static SERVERS: [Line; 21] = [
         &["--log", "--until-stopped", "--timeout=30", "--network"],
         Outcome::Logs(End::UntilStopped, MOST, HALF_A_MINUTE),
     ),
+    (&["--journal"], Outcome::Keeps(Journaling::Kept)),
+    (&["--sync", "--journal"], Outcome::Keeps(Journaling::Synced)),
+    (&["--sync"], Outcome::Refuses),
+    (&["--journal", "--journal"], Outcome::Refuses),
+    (&["--journal", "--sync", "--sync"], Outcome::Refuses),
+    (&["--journal=true"], Outcome::Refuses),
     (&["--log", "--log"], Outcome::Refuses),
     (&["--log=true"], Outcome::Refuses),
     (&["--fuse", "1"], Outcome::Refuses),
@@ -339,6 +345,57 @@ static SENDERS: [Line; 10] = [
 
 const PLAINLY: Said = Said::Nothing { is_strict: false };
 
+static FILE_SENDERS: [Line; 21] = [
+    (&["--file=-f"], Outcome::SendsFile(30, 10, PLAINLY)),
+    (
+        &["--strict", "--file=-f"],
+        Outcome::SendsFile(30, 10, Said::Nothing { is_strict: true }),
+    ),
+    (
+        &["--file=-f", "--set", "umid="],
+        Outcome::SendsFile(30, 10, Said::Umid { is_strict: false }),
+    ),
+    (
+        &[
+            "--set",
+            "value=-23.00",
+            "--file=-f",
+            "--strict",
+            "--set=umid=",
+        ],
+        Outcome::SendsFile(30, 10, Said::ValueThenUmid { is_strict: true }),
+    ),
+    (
+        &["--timeout", "86400", "--fruitless=1", "--file=-f"],
+        Outcome::SendsFile(86_400, 1, PLAINLY),
+    ),
+    (
+        &[
+            "--file=-f",
+            "--fruitless",
+            "1000000",
+            "--network",
+            "--timeout=1",
+        ],
+        Outcome::SendsFile(1, 1_000_000, PLAINLY),
+    ),
+    (&["--log", "--file=-f"], Outcome::SendsFile(30, 10, PLAINLY)),
+    (&["--file=-f", "--fruitless", "0"], Outcome::Refuses),
+    (&["--file=-f", "--fruitless", "1000001"], Outcome::Refuses),
+    (&["--file=-f", "--fruitless", "-1"], Outcome::Refuses),
+    (&["--file=-f", "--timeout", "0"], Outcome::Refuses),
+    (&["--file=-f", "--rounds", "16"], Outcome::Refuses),
+    (&["--file=-f", "--rounds", "0"], Outcome::Refuses),
+    (&["--file=-f", "--file=-f"], Outcome::Refuses),
+    (&["--file=-f", "--strict", "--strict"], Outcome::Refuses),
+    (&["--file=-f", "-f"], Outcome::Refuses),
+    (&["--file"], Outcome::Refuses),
+    (&["--set", "umid="], Outcome::Refuses),
+    (&["--strict"], Outcome::Refuses),
+    (&["--log"], Outcome::Refuses),
+    (&["--fruitless", "10"], Outcome::Refuses),
+];
+
 /// The words that the lines of a sender begin with.
 static SEND: [&str; 5] = [
     "bwingest",
@@ -351,6 +408,13 @@ static SEND: [&str; 5] = [
 #[test]
 fn a_sender_takes_its_options_in_any_order(rt: HostRuntime) -> Result<(), AllocError> {
     lines_come_to(&rt, rt.alloc(), &SEND, &SENDERS)
+}
+
+#[test]
+fn a_sender_of_a_recording_takes_its_options_in_any_order(
+    rt: HostRuntime,
+) -> Result<(), AllocError> {
+    lines_come_to(&rt, rt.alloc(), &SEND, &FILE_SENDERS)
 }
 
 static PACKS: [Line; 9] = [
@@ -442,7 +506,7 @@ fn an_address_is_local_without_leave_for_the_network(rt: HostRuntime) -> Result<
     Ok(())
 }
 
-static TEXTS: [(&[&str], &str); 12] = [
+static TEXTS: [(&[&str], &str); 13] = [
     (&["/tmp/x", "--version"], "bwingest 1.0.0\n"),
     (&["/tmp/x", "--help"], "Usage: bwingest <COMMAND>\n"),
     (&["/tmp/x"], "Usage: bwingest <COMMAND>\n"),
@@ -453,7 +517,7 @@ static TEXTS: [(&[&str], &str); 12] = [
     (&["/tmp/x", "inspect"], "Usage: bwingest inspect <FILE>\n"),
     (
         &["/tmp/x", "serve", "--help"],
-        "Example: bwingest serve --listen 127.0.0.1:4100 --folder takes --recorders 16\n",
+        "Example: bwingest serve --listen 127.0.0.1:4100 --folder takes --recorders 16 --journal\n",
     ),
     (
         &["/tmp/x", "serve", "--help"],
@@ -465,7 +529,11 @@ static TEXTS: [(&[&str], &str); 12] = [
     ),
     (
         &["/tmp/x", "send", "--help"],
-        "How long a silent peer is waited for, 1 to 86400 [default: for good]",
+        "How long a silent server is waited for, 1 to 86400 [default: for good; with --file 30]",
+    ),
+    (
+        &["/tmp/x", "send", "--help"],
+        "Example: bwingest send --connect 127.0.0.1:4100 --name a1 --file take.wav\n",
     ),
     (
         &["/tmp/x", "pack", "--help"],

@@ -1,5 +1,7 @@
 //! The outcomes of command lines, in small values, and how tests compare them.
-use bw_args::{CommandLine, End, Recorders, Send, Serve, SourceFile, Task, parse};
+use bw_args::{
+    CommandLine, End, FileSender, Journaling, Recorders, Send, Serve, SourceFile, Task, parse,
+};
 use bw_request::Name;
 use clap::Error;
 use std::alloc::{AllocError, Global};
@@ -21,6 +23,8 @@ pub(crate) enum Outcome {
     Serves(End, u64, Recorders),
     /// The same, and logs each connection.
     Logs(End, u64, Recorders),
+    /// Serves there, and keeps these journals.
+    Keeps(Journaling),
     /// Serves at another address or in another folder.
     ServesElsewhere,
     /// Sends to the address and under the name that the rows' first words give, in at most this
@@ -28,6 +32,9 @@ pub(crate) enum Outcome {
     Sends(u32, Option<u32>),
     /// Sends to another address.
     SendsElsewhere,
+    /// Sends the recording `-f` to the address and under the name that the rows' first words give,
+    /// with this timeout, until so many links settle nothing.
+    SendsFile(u32, u32, Said),
     /// Packs the recording `-f`.
     Packs(Said),
     /// Text on standard output, status 0.
@@ -79,6 +86,7 @@ fn run_outcome(task: &Task, words: &[&str]) -> Outcome {
         Task::Inspect { .. } => Outcome::Confuses,
         Task::Serve(server) => server_outcome(server),
         Task::Send(sender) => sender_outcome(sender),
+        Task::SendFile(sender) => file_sender_outcome(sender),
         Task::Pack(source) => match said_of(source) {
             Some(said) => Outcome::Packs(said),
             None => Outcome::Confuses,
@@ -89,6 +97,8 @@ fn run_outcome(task: &Task, words: &[&str]) -> Outcome {
 fn server_outcome(server: &Serve) -> Outcome {
     if server.listen.port() != 4100 || !server.listen.is_ipv4() || server.folder.as_str() != "-d" {
         Outcome::ServesElsewhere
+    } else if server.journal != Journaling::Without {
+        Outcome::Keeps(server.journal)
     } else if server.log {
         Outcome::Logs(server.end, server.limit, server.recorders)
     } else {
@@ -101,6 +111,16 @@ fn sender_outcome(sender: &Send) -> Outcome {
         Outcome::Sends(sender.rounds, sender.timeout)
     } else {
         Outcome::SendsElsewhere
+    }
+}
+
+fn file_sender_outcome(sender: &FileSender) -> Outcome {
+    if sender.connect.port() != 4100 || sender.name.as_bytes() != b"-a".as_slice() {
+        return Outcome::SendsElsewhere;
+    }
+    match said_of(&sender.source) {
+        Some(said) => Outcome::SendsFile(sender.timeout, sender.fruitless, said),
+        None => Outcome::Confuses,
     }
 }
 

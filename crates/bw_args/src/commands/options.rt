@@ -3,7 +3,8 @@ ghost use Rattle.bw_args.specs.Commands.{IsOption, connect_option, exchanges_opt
 ghost use Rattle.bw_args.specs.Commands.{flag, folder_option, fuse_option, idle_option};
 ghost use Rattle.bw_args.specs.Commands.{limit_option, listen_option, log_flag, name_option};
 ghost use Rattle.bw_args.specs.Commands.{network_flag, option, recorders_option, required};
-ghost use Rattle.bw_args.specs.Commands.{repeated, rounds_option, set_option, strict_flag};
+ghost use Rattle.bw_args.specs.Commands.{file_option, fruitless_option, journal_flag, repeated};
+ghost use Rattle.bw_args.specs.Commands.{rounds_option, set_option, strict_flag, sync_flag};
 ghost use Rattle.bw_args.specs.Commands.{timeout_option, until_stopped_flag};
 
 use clap::{Arg, ArgAction};
@@ -83,6 +84,15 @@ pub(crate) fn timeout_option<'a>(alloc: Global) -> Arg<'a>
     value_option(alloc, "timeout", "SECONDS", help)
 }
 
+/// The same option of a sender, which has a default with `--file`.
+pub(crate) fn patience_option<'a>(alloc: Global) -> Arg<'a>
+    ensures { IsOption timeout_option result }
+{
+    let help =
+        "How long a silent server is waited for, 1 to 86400 [default: for good; with --file 30]";
+    value_option(alloc, "timeout", "SECONDS", help)
+}
+
 pub(crate) fn network_flag<'a>(alloc: Global) -> Arg<'a>
     ensures { IsOption network_flag result }
 {
@@ -141,6 +151,28 @@ pub(crate) fn log_flag<'a>(alloc: Global) -> Arg<'a>
     flag_option(alloc, "log", help)
 }
 
+/// The same flag of a sender, for a recording alone.
+pub(crate) fn link_log_flag<'a>(alloc: Global) -> Arg<'a>
+    ensures { IsOption log_flag result }
+{
+    let help = "With --file: reports each change of the link in a line on standard error";
+    flag_option(alloc, "log", help)
+}
+
+pub(crate) fn journal_flag<'a>(alloc: Global) -> Arg<'a>
+    ensures { IsOption journal_flag result }
+{
+    let help = "Keeps a journal of each take, and continues what an earlier server left";
+    flag_option(alloc, "journal", help)
+}
+
+pub(crate) fn sync_flag<'a>(alloc: Global) -> Arg<'a>
+    ensures { IsOption sync_flag result }
+{
+    let help = "With --journal: syncs file and journal before each reply";
+    flag_option(alloc, "sync", help)
+}
+
 pub(crate) fn connect_option<'a>(alloc: Global) -> Arg<'a>
     ensures { IsOption connect_option result }
 {
@@ -155,6 +187,13 @@ pub(crate) fn rounds_option<'a>(alloc: Global) -> Arg<'a>
     value_option(alloc, "rounds", "N", help)
 }
 
+pub(crate) fn file_option<'a>(alloc: Global) -> Arg<'a>
+    ensures { IsOption file_option result }
+{
+    let help = "A recording to send in place of standard input: a RIFF WAVE, BW64 or RF64 file";
+    value_option(alloc, "file", "FILE", help)
+}
+
 pub(crate) fn set_option<'a>(alloc: Global) -> Arg<'a>
     ensures { IsOption set_option result }
 {
@@ -167,4 +206,12 @@ pub(crate) fn strict_flag<'a>(alloc: Global) -> Arg<'a>
 {
     let help = "Refuses a recording whose fields would have to be cleaned";
     flag_option(alloc, "strict", help)
+}
+
+pub(crate) fn fruitless_option<'a>(alloc: Global) -> Arg<'a>
+    ensures { IsOption fruitless_option result }
+{
+    let help =
+        "With --file: gives up after N links in a row that settle nothing, 1 to 1000000 [default: 10]";
+    value_option(alloc, "fruitless", "N", help)
 }

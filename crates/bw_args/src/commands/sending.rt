@@ -1,60 +1,135 @@
 //! The command `send`.
-ghost use Rattle.std.specs.Prelude.{codes, Some, IfOk};
-ghost use Rattle.clap.specs.Words.{found_of, rows_of};
-ghost use Rattle.bw_args.specs.Commands.{IsCommand, send_command, send_where};
-ghost use Rattle.bw_args.specs.Lines.{IsLineFor};
+ghost use Rattle.std.specs.Prelude.{codes, Some, IfOk, IfErr, OnErr};
+ghost use Rattle.clap.specs.Words.{first_value, found_of, rows_of};
+ghost use Rattle.bw_args.specs.Commands.{IsCommand, send_command, send_how, send_source, send_where};
+ghost use Rattle.bw_args.specs.Lines.{AsksForPath, GivesTries, IsFirstBad, IsLineFor};
+ghost use Rattle.bw_args.specs.Lines.{looked_at_trying};
 
 use super::network::{address_given, count_given, flag_given};
-use super::options::{connect_option, name_option, network_flag, rounds_option, timeout_option};
+use super::options::{
+    connect_option, file_option, fruitless_option, link_log_flag, name_option, network_flag,
+    patience_option, rounds_option, set_option, strict_flag,
+};
+use super::sources::{is_mixed, source_given};
 use super::{name_given, named};
-use crate::{BadValue, CommandLine, Send, Task, numbers};
+use crate::{BadValue, CommandLine, FileSender, Send, Task, numbers};
 use clap::{ArgMatches, Command};
 use std::alloc::{AllocError, Global};
 
 pub(crate) fn send<'a>(alloc: Global) -> Result<Command<'a>, AllocError>
     ensures { IfOk result (IsCommand send_command) }
 {
+    send_source(alloc)?
+        .arg(fruitless_option(alloc))?
+        .arg(link_log_flag(alloc))
+}
+
+/// The command with these and the options that say which recording is sent.
+fn send_source<'a>(alloc: Global) -> Result<Command<'a>, AllocError>
+    ensures { IfOk result (IsCommand send_source) }
+{
+    send_how(alloc)?
+        .arg(file_option(alloc))?
+        .arg(set_option(alloc))?
+        .arg(strict_flag(alloc))
+}
+
+/// The command with these and the options that say how the server is reached.
+fn send_how<'a>(alloc: Global) -> Result<Command<'a>, AllocError>
+    ensures { IfOk result (IsCommand send_how) }
+{
     send_where(alloc)?
-        .arg(timeout_option(alloc))?
+        .arg(patience_option(alloc))?
         .arg(network_flag(alloc))
 }
 
-/// The command with the options that say what is sent, and where.
+/// The command with the options that say where to send, under which name, and in how many rounds.
 fn send_where<'a>(alloc: Global) -> Result<Command<'a>, AllocError>
     ensures { IfOk result (IsCommand send_where) }
 {
     named(
         alloc,
         "send",
-        "Sends the requests on standard input to a server, until each has its verdict",
+        "Sends a recording, or the requests on standard input, until each has its verdict",
     )
-    .after_help("Example: bwingest send --connect 127.0.0.1:4100 --name a1 < requests.hex")
+    .after_help(
+        "Example: bwingest send --connect 127.0.0.1:4100 --name a1 --file take.wav
+Example: bwingest send --connect 127.0.0.1:4100 --name a1 < requests.hex",
+    )
     .arg(connect_option(alloc))?
     .arg(name_option(alloc))?
     .arg(rounds_option(alloc))
 }
 
-/// Bad values are reported in this order: the address, the name, the rounds, the timeout.
-pub(crate) fn send_line(options: &ArgMatches<'_>) -> CommandLine
-    ensures { IsLineFor (Some (codes "send", rows_of (found_of options.now))) result }
+/// Bad values are reported in this order: the address, the name, those of `tries_given`, and options
+/// that don't belong together.
+pub(crate) fn send_line(alloc: Global, options: &ArgMatches<'_>) -> Result<CommandLine, AllocError>
+    ensures ok { IfOk result (IsLineFor (Some (codes "send", rows_of (found_of options.now)))) }
+    ensures err { OnErr result
+        (AsksForPath (Some (codes "send", rows_of (found_of options.now)))) }
 {
     let network = flag_given(options, "network");
     let Some(connect) = address_given(options, "connect", network) else {
-        return CommandLine::BadValue(BadValue::Connect);
+        return Ok(CommandLine::BadValue(BadValue::Connect));
     };
     let Some(name) = name_given(options) else {
-        return CommandLine::BadValue(BadValue::Name);
+        return Ok(CommandLine::BadValue(BadValue::Name));
     };
-    let Ok(count) = count_given(options, "rounds", numbers::MOST_ROUNDS) else {
-        return CommandLine::BadValue(BadValue::Rounds);
+    let tries = match tries_given(options) {
+        Ok(tries) => tries,
+        Err(value) => return Ok(CommandLine::BadValue(value)),
     };
-    let Ok(timeout) = count_given(options, "timeout", numbers::MOST_SECONDS) else {
-        return CommandLine::BadValue(BadValue::Timeout);
+    if is_mixed(options) {
+        return Ok(CommandLine::BadValue(BadValue::Mixed));
+    }
+    let Some(path) = options.get_str("file") else {
+        return Ok(CommandLine::Run(Task::Send(Send {
+            connect,
+            name,
+            rounds: tries.rounds.unwrap_or(numbers::DEFAULT_ROUNDS),
+            timeout: tries.timeout,
+        })));
     };
-    CommandLine::Run(Task::Send(Send {
+    let log = flag_given(options, "log");
+    let source = source_given(alloc, options, path)?;
+    Ok(CommandLine::Run(Task::SendFile(FileSender {
         connect,
         name,
-        rounds: count.unwrap_or(numbers::DEFAULT_ROUNDS),
+        source,
+        timeout: tries.timeout.unwrap_or(numbers::DEFAULT_TIMEOUT),
+        fruitless: tries.fruitless.unwrap_or(numbers::DEFAULT_FRUITLESS),
+        log,
+    })))
+}
+
+/// How a sender tries, as far as it is given.
+#[derive(Clone, Copy)]
+pub(crate) struct Tries {
+    rounds: Option<u32>,
+    timeout: Option<u32>,
+    fruitless: Option<u32>,
+}
+
+/// How the options say that a sender tries.
+///
+/// # Errors
+/// The first of these that is bad: the rounds, the timeout, the fruitless links.
+fn tries_given(options: &ArgMatches<'_>) -> Result<Tries, BadValue>
+    ensures ok { IfOk result (GivesTries (first_value (found_of options.now))) }
+    ensures err { IfErr result (IsFirstBad looked_at_trying (first_value (found_of options.now))) }
+{
+    let Ok(rounds) = count_given(options, "rounds", numbers::MOST_ROUNDS) else {
+        return Err(BadValue::Rounds);
+    };
+    let Ok(timeout) = count_given(options, "timeout", numbers::MOST_SECONDS) else {
+        return Err(BadValue::Timeout);
+    };
+    let Ok(fruitless) = count_given(options, "fruitless", numbers::MOST_FRUITLESS) else {
+        return Err(BadValue::Fruitless);
+    };
+    Ok(Tries {
+        rounds,
         timeout,
-    }))
+        fruitless,
+    })
 }

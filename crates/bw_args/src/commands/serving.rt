@@ -1,22 +1,33 @@
 //! The command `serve`.
 ghost use Rattle.std.specs.Prelude.{codes, Some, IfOk, IfErr, OnErr, option_map};
 ghost use Rattle.clap.specs.Words.{first_value, found_of, rows_of};
-ghost use Rattle.bw_args.specs.Commands.{IsCommand, serve_command, serve_how, serve_many, serve_where};
+ghost use Rattle.bw_args.specs.Commands.{IsCommand, serve_command, serve_ends, serve_how};
+ghost use Rattle.bw_args.specs.Commands.{serve_many, serve_where};
 ghost use Rattle.bw_args.specs.Lines.{AsksForPath, GivesRecorders, IsEndGiven, IsFirstBad};
-ghost use Rattle.bw_args.specs.Lines.{IsFolderGiven, IsLineFor, IsRecordersGiven, looked_at_waiting};
+ghost use Rattle.bw_args.specs.Lines.{IsFolderGiven, IsJournalingGiven, IsLineFor, IsRecordersGiven};
+ghost use Rattle.bw_args.specs.Lines.{looked_at_waiting};
 
 use super::network::{address_given, count_given, flag_given};
 use super::options::{
-    exchanges_option, folder_option, idle_option, limit_option, listen_option, log_flag,
-    network_flag, recorders_option, timeout_option, until_stopped_flag,
+    exchanges_option, folder_option, idle_option, journal_flag, limit_option, listen_option,
+    log_flag, network_flag, recorders_option, sync_flag, timeout_option, until_stopped_flag,
 };
 use super::{limit_given, named};
-use crate::{BadValue, CommandLine, End, Recorders, Serve, Task, numbers};
+use crate::{BadValue, CommandLine, End, Journaling, Recorders, Serve, Task, numbers};
 use clap::{ArgMatches, Command};
 use std::alloc::{AllocError, Global};
 
 pub(crate) fn serve<'a>(alloc: Global) -> Result<Command<'a>, AllocError>
     ensures { IfOk result (IsCommand serve_command) }
+{
+    serve_ends(alloc)?
+        .arg(journal_flag(alloc))?
+        .arg(sync_flag(alloc))
+}
+
+/// The command with these and the options that say when it ends, and what it reports.
+fn serve_ends<'a>(alloc: Global) -> Result<Command<'a>, AllocError>
+    ensures { IfOk result (IsCommand serve_ends) }
 {
     serve_many(alloc)?
         .arg(until_stopped_flag(alloc))?
@@ -51,14 +62,17 @@ fn serve_where<'a>(alloc: Global) -> Result<Command<'a>, AllocError>
         "serve",
         "Serves exchanges over TCP, and keeps each take's file",
     )
-    .after_help("Example: bwingest serve --listen 127.0.0.1:4100 --folder takes --recorders 16")
+    .after_help(
+        "Example: bwingest serve --listen 127.0.0.1:4100 --folder takes --recorders 16 --journal",
+    )
     .arg(listen_option(alloc))?
     .arg(folder_option(alloc))?
     .arg(exchanges_option(alloc))
 }
 
 /// Bad values are reported in this order: the address, the folder, the exchanges, the limit, those
-/// of `recorders_given`, and `--until-stopped` with a number of exchanges.
+/// of `recorders_given`, `--until-stopped` with a number of exchanges, and `--sync` without
+/// `--journal`.
 pub(crate) fn serve_line(alloc: Global, options: &ArgMatches<'_>) -> Result<CommandLine, AllocError>
     ensures ok { IfOk result (IsLineFor (Some (codes "serve", rows_of (found_of options.now)))) }
     ensures err { OnErr result
@@ -84,6 +98,11 @@ pub(crate) fn serve_line(alloc: Global, options: &ArgMatches<'_>) -> Result<Comm
     let Some(end) = end_given(count, flag_given(options, "until-stopped")) else {
         return Ok(CommandLine::BadValue(BadValue::UntilStopped));
     };
+    let is_kept = flag_given(options, "journal");
+    let is_synced = flag_given(options, "sync");
+    let Some(journal) = journaling(is_kept, is_synced) else {
+        return Ok(CommandLine::BadValue(BadValue::Sync));
+    };
     let log = flag_given(options, "log");
     let folder = String::from_str(alloc, path)?;
     Ok(CommandLine::Run(Task::Serve(Serve {
@@ -93,6 +112,7 @@ pub(crate) fn serve_line(alloc: Global, options: &ArgMatches<'_>) -> Result<Comm
         limit,
         recorders,
         log,
+        journal,
     })))
 }
 
@@ -154,5 +174,17 @@ fn end_given(count: Option<u32>, until_stopped: bool) -> Option<End>
         (Some(count), false) => Some(End::Exchanges(count)),
         (None, true) => Some(End::UntilStopped),
         (Some(_), true) => None,
+    }
+}
+
+/// Whether journals are kept; none if they aren't and are to be synced.
+fn journaling(is_kept: bool, is_synced: bool) -> Option<Journaling>
+    ensures { IsJournalingGiven is_kept is_synced result }
+{
+    match (is_kept, is_synced) {
+        (false, false) => Some(Journaling::Without),
+        (true, false) => Some(Journaling::Kept),
+        (true, true) => Some(Journaling::Synced),
+        (false, true) => None,
     }
 }

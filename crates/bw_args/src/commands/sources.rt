@@ -1,8 +1,8 @@
-//! The file of a recording, as `pack` takes it.
+//! The file of a recording, as `send` and `pack` take it.
 ghost use Rattle.std.specs.Prelude.{◌≡◌, codes, map, string_bytes, IfOk};
 ghost use Rattle.clap.specs.Words.{first_value, found_of, rows_of};
 ghost use Rattle.bw_args.specs.Given.{is_set};
-ghost use Rattle.bw_args.specs.Sources.{settings_on_line};
+ghost use Rattle.bw_args.specs.Sources.{is_mixed, settings_on_line};
 
 use super::network::flag_given;
 use crate::SourceFile;
@@ -48,4 +48,18 @@ fn copies_of(alloc: Global, texts: &[&str]) -> Result<Vec<String>, AllocError>
         copies.push(String::from_str(alloc, text)?)?;
     }
     Ok(copies)
+}
+
+/// Whether options are given that aren't for one sender: those of a recording without its file, or
+/// a number of rounds with it.
+pub(crate) fn is_mixed(options: &ArgMatches<'_>) -> bool
+    ensures { result ≡ is_mixed (first_value (found_of options.now)) }
+{
+    if options.get_str("file").is_some() {
+        return options.get_str("rounds").is_some();
+    }
+    options.get_str("set").is_some()
+        || options.get_str("fruitless").is_some()
+        || flag_given(options, "strict")
+        || flag_given(options, "log")
 }

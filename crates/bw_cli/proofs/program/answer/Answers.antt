@@ -18,4 +18,5 @@ returns-in-Err g c =
       };
       unused = refl;
       unread = refl;
+      unpaused = refl;
     })

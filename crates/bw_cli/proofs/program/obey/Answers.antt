@@ -4,7 +4,7 @@ use Rattle.bw_cli.proofs.ProgramLemmas.{reported-words}
 use Rattle.bw_cli.proofs.program.obey.Goals as goal
 
 pub returns-in-Ok : goal.returns-in-Ok
-returns-in-Ok g c = reported-words _ _ _ _ _ _ _ _ _ _ _ _ _ _ _ _ _ _ _ _ _ _ _ _ _ _ _ _ _ _ _ _ _ _
+returns-in-Ok g c = reported-words _ _ _ _ _ _ _ _ _ _ _ _ _
     (λ reported e. ap (map string_bytes) c.as_slice.ensures.value ∙ c.in-Ok.ensures.ok reported e)
     c.in-Ok.ensures.files c.in-Ok.ensures.count c.answer.ensures
 
@@ -23,4 +23,5 @@ returns-in-Err g c =
       };
       unused = refl;
       unread = refl;
+      unpaused = refl;
     })

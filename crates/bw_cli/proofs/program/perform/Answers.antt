@@ -20,4 +20,5 @@ returns-in-BadValue g c =
       };
       unused = refl;
       unread = refl;
+      unpaused = refl;
     })

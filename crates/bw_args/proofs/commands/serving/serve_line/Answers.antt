@@ -2,9 +2,9 @@ use Rattle.std.proofs.Common.{[], ◌∷◌, codes, inl, inr, refl, subst, sym}
 use Rattle.clap.specs.Words.{first_value, found_of}
 use Rattle.bw_args.specs.Lines.{GivesFolder, Serving, looked_at_waiting}
 use Rattle.bw_args.specs.declared.bad_value.BadValue.TheVariants.{Listen, Folder, Exchanges, Limit}
-use Rattle.bw_args.specs.declared.bad_value.BadValue.TheVariants.{UntilStopped}
-use Rattle.bw_args.proofs.Asked.{an_address, an_end, bad_line, first_then, no_address, no_end, on_err, server_asked}
-use Rattle.bw_args.proofs.Asked.{way_then}
+use Rattle.bw_args.specs.declared.bad_value.BadValue.TheVariants.{UntilStopped, Sync}
+use Rattle.bw_args.proofs.Asked.{a_journaling, an_address, an_end, bad_line, first_then, no_address, no_end, on_err, server_asked}
+use Rattle.bw_args.proofs.Asked.{no_journaling, way_then}
 use Rattle.bw_args.proofs.commands.serving.serve_line.Goals as goal
 
 pub returns-in_default-clause-ok : goal.returns-in_default-clause-ok
@@ -67,7 +67,7 @@ returns-in-Err-clause-ok c = bad_line (found_of c.args.options.now) (codes "serv
       (c.in-Ok.count, c.in-Ok.ensures),
       inr (
         (c.in-Some-limit_given.limit, c.in-Some-limit_given.ensures),
-        first_then looked_at_waiting (UntilStopped ∷ []) (first_value (found_of c.args.options.now)) c.in-Err.value
+        first_then looked_at_waiting (UntilStopped ∷ Sync ∷ []) (first_value (found_of c.args.options.now)) c.in-Err.value
             c.in-Err.ensures.err,
       ),
     ),
@@ -87,11 +87,42 @@ returns-in_default-end_given-clause-ok c = bad_line (found_of c.args.options.now
       (c.in-Ok.count, c.in-Ok.ensures),
       inr (
         (c.in-Some-limit_given.limit, c.in-Some-limit_given.ensures),
-        way_then (UntilStopped ∷ []) (first_value (found_of c.args.options.now)) UntilStopped
+        way_then (UntilStopped ∷ Sync ∷ []) (first_value (found_of c.args.options.now)) UntilStopped
             c.in-Ok-recorders_given.recorders c.in-Ok-recorders_given.ensures.ok (inl (
               no_end (found_of c.args.options.now) _ _
                   c.flag_given.ensures c.in-Ok.ensures c.in_default-end_given.ensures,
               refl,
+            )),
+      ),
+    ),
+  ),
+))
+
+pub returns-in_default-journaling-clause-ok : goal.returns-in_default-journaling-clause-ok
+returns-in_default-journaling-clause-ok c = bad_line (found_of c.args.options.now) (codes "serve") Sync (inr (
+  (
+    c.in-Some.listen,
+    an_address (found_of c.args.options.now) (codes "listen") _ _
+        c.flag_given-network.ensures c.in-Some.ensures,
+  ),
+  inr (
+    (_, c.in-Some-folder_given.ensures),
+    inr (
+      (c.in-Ok.count, c.in-Ok.ensures),
+      inr (
+        (c.in-Some-limit_given.limit, c.in-Some-limit_given.ensures),
+        way_then (UntilStopped ∷ Sync ∷ []) (first_value (found_of c.args.options.now)) Sync
+            c.in-Ok-recorders_given.recorders c.in-Ok-recorders_given.ensures.ok (inr (
+              (
+                c.in-Some-end_given.end,
+                an_end (found_of c.args.options.now) _ _ _ c.flag_given.ensures c.in-Ok.ensures
+                    c.in-Some-end_given.ensures,
+              ),
+              inl (
+                no_journaling (found_of c.args.options.now) _ _ c.flag_given-is_kept.ensures
+                    c.flag_given-is_synced.ensures c.in_default-journaling.ensures,
+                refl,
+              ),
             )),
       ),
     ),
@@ -107,6 +138,7 @@ returns-in_err-folder-clause-err c = on_err c.from_residual.result (
     limit = c.in-Some-limit_given.limit;
     recorders = c.in-Ok-recorders_given.recorders;
     log = c.flag_given-log.result;
+    journal = c.in-Some-journaling.journal;
   }),
   tt,
   server_asked (found_of c.args.options.now) _ (record {
@@ -117,6 +149,8 @@ returns-in_err-folder-clause-err c = on_err c.from_residual.result (
     limited = c.in-Some-limit_given.ensures;
     serves = c.in-Ok-recorders_given.ensures.ok;
     reports = c.flag_given-log.ensures;
+    journals = a_journaling (found_of c.args.options.now) _ _ _ c.flag_given-is_kept.ensures
+        c.flag_given-is_synced.ensures c.in-Some-journaling.ensures;
   }),
 )
 
@@ -129,4 +163,6 @@ returns-clause-ok c = server_asked (found_of c.args.options.now) _ (record {
   limited = c.in-Some-limit_given.ensures;
   serves = c.in-Ok-recorders_given.ensures.ok;
   reports = c.flag_given-log.ensures;
+  journals = a_journaling (found_of c.args.options.now) _ _ _ c.flag_given-is_kept.ensures
+      c.flag_given-is_synced.ensures c.in-Some-journaling.ensures;
 })

@@ -1,0 +1,75 @@
+-- What the parts of the program's outside say of themselves, in groups.
+use Rattle.std.specs.Prelude.{Option}
+use Rattle.bw_stream.specs.declared.sink.Sink.{Ghosts as Writer}
+use Rattle.bw_stream.specs.declared.source.Source.{Ghosts as Reader}
+use Rattle.bw_store.specs.declared.store.TakeStore.{Ghosts as StoreGhosts}
+use Rattle.bw_journal.specs.declared.journal.Journal.{Ghosts as JournalGhosts}
+use Rattle.bw_ports.specs.declared.dial.Dial.{Ghosts as DialGhosts}
+use Rattle.bw_ports.specs.declared.link.Link.{Ghosts as LinkGhosts}
+use Rattle.bw_ports.specs.declared.peers.Peers.{Ghosts as PeerGhosts}
+use Rattle.bw_ports.specs.declared.reactor.Reactor.{Ghosts as ReactorGhosts}
+use Rattle.bw_ports.specs.declared.recording_files.RecordingFiles.{Ghosts as FileGhosts}
+use Rattle.bw_ports.specs.declared.system.System.{Ghosts as SystemGhosts}
+use Rattle.bw_ports.specs.declared.pause.Pause.{Ghosts as PauseGhosts}
+use Rattle.bw_ports.specs.declared.recording_files.FileStamp.{FileStamp}
+use Rattle.bw_send_file.specs.declared.fault.FeedFault.{FeedFault}
+use Rattle.bw_upload.specs.declared.feed.Feed.{Ghosts as FeedGhosts}
+
+-- the system, the files of recordings, and the process's streams
+pub record HostSide (S T F H G M I O E : Type 0) : Type 1 where
+  pub system : SystemGhosts S T
+  pub files : FileGhosts F H G M
+  pub input : Reader I
+  pub out : Writer O
+  pub reported : Writer E
+
+abbrev pub host_side : {S T F H G M I O E : Type 0} → SystemGhosts S T → FileGhosts F H G M → Reader I → Writer O →
+    Writer E → HostSide S T F H G M I O E
+host_side system files input out reported =
+    record { system = system; files = files; input = input; out = out; reported = reported }
+
+-- what a server keeps files and journals in, those of a server without journals too, and what it
+-- hears recorders by
+pub record ServerSide (X Y Z P R W L K : Type 0) : Type 1 where
+  pub store : StoreGhosts X
+  pub journal : JournalGhosts Y
+  pub none : JournalGhosts Z
+  pub peers : PeerGhosts P R W
+  pub reader : Reader R
+  pub writer : Writer W
+  pub reactor : ReactorGhosts L K
+  pub link : LinkGhosts K
+
+abbrev pub server_side : {X Y Z P R W L K : Type 0} → StoreGhosts X → JournalGhosts Y →
+    JournalGhosts Z → PeerGhosts P R W → Reader R → Writer W → ReactorGhosts L K → LinkGhosts K →
+    ServerSide X Y Z P R W L K
+server_side store journal none peers reader writer reactor link = record {
+  store = store;
+  journal = journal;
+  none = none;
+  peers = peers;
+  reader = reader;
+  writer = writer;
+  reactor = reactor;
+  link = link;
+}
+
+-- what a sender reaches a server by
+pub record SenderSide (D A B : Type 0) : Type 1 where
+  pub dial : DialGhosts D A B
+  pub replies : Reader A
+  pub requests : Writer B
+
+abbrev pub sender_side : {D A B : Type 0} → DialGhosts D A B → Reader A → Writer B → SenderSide D A B
+sender_side dial replies requests = record { dial = dial; replies = replies; requests = requests }
+
+-- what a sender of recordings takes its requests from, what that looks at before the last of them,
+-- and what it waits by
+pub record UploadSide (U Q : Type 0) : Type 1 where
+  pub feed : FeedGhosts U FeedFault
+  pub looks_at : Option FileStamp → U → Type 0
+  pub pause : PauseGhosts Q
+
+abbrev pub upload_side : {U Q : Type 0} → FeedGhosts U FeedFault → (Option FileStamp → U → Type 0) →
+    PauseGhosts Q → UploadSide U Q
+upload_side feed looks_at pause = record { feed = feed; looks_at = looks_at; pause = pause }

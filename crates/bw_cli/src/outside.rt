@@ -1,0 +1,24 @@
+//! What the program works over.
+
+/// What the program works over, besides memory.
+#[derive(Drop)]
+pub struct Outside<S, F, N, P, R, W, E, V, G> {
+    /// The system, which gives the words of the command line.
+    pub system: S,
+    /// The files of recordings.
+    pub files: F,
+    /// Where servers listen and senders connect.
+    pub network: N,
+    /// Waits between links.
+    pub pause: P,
+    /// Standard input.
+    pub input: R,
+    /// Standard output.
+    pub out: W,
+    /// Standard error.
+    pub faults: E,
+    /// Whoever follows a sender's progress.
+    pub watch: V,
+    /// Whoever follows the links of a sender of recordings, where that is asked for.
+    pub log: G,
+}

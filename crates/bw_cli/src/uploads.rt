@@ -1,0 +1,57 @@
+//! The command that sends a recording's file, as a command line asks for it.
+ghost use Rattle.std.specs.Prelude.{◌≡◌, Some};
+ghost use Rattle.bw_send_file.specs.FileLooks.{LooksAt};
+ghost use Rattle.bw_cli.specs.Sides.{sender_side, upload_side};
+ghost use Rattle.bw_cli.specs.Uploads.{IsRecorderOf, SendsRecording};
+
+use crate::recordings::recording_of;
+use bw_args::FileSender;
+use bw_console::Exit;
+use bw_ports::{Network, Pause, RecordingFiles};
+use bw_send_file::{PlanFeed, Recorder, send_file};
+use bw_stream::Sink;
+use bw_upload::{Feed, Observer};
+use std::alloc::Global;
+
+/// Sends the recording that the command line names, and reports each change of the link to the
+/// observer.
+pub(crate) fn send_file_as<F: RecordingFiles, N: Network, P: Pause, G: Observer, W: Sink, E: Sink>(
+    alloc: Global,
+    sender: &FileSender,
+    files: &mut F,
+    network: &N,
+    pause: &mut P,
+    observer: &mut G,
+    out: &mut W,
+    faults: &mut E,
+) -> Exit
+    ensures { SendsRecording
+        (upload_side ⟦<PlanFeed<F::File, F::Stamped> as Feed>⟧ (LooksAt F.Stamped.Stamped) P.Pause)
+        (sender_side N.Dial.Dial N.Dial.Reader.Source N.Dial.Writer.Sink) N.Network
+        F.RecordingFiles W.Sink E.Sink sender.now result files.old files.new network.now
+        pause.old pause.new out.old out.new faults.old faults.new }
+{
+    let mut dial = network.dial(sender.connect, Some(sender.timeout));
+    let file = recording_of(&sender.source);
+    send_file(
+        alloc,
+        &recorder_of(sender),
+        &file,
+        files,
+        pause,
+        &mut dial,
+        observer,
+        out,
+        faults,
+    )
+}
+
+/// The recorder that the command line asks for.
+fn recorder_of(sender: &FileSender) -> Recorder<'_>
+    ensures { IsRecorderOf sender.now result }
+{
+    Recorder {
+        name: &sender.name,
+        fruitless: Some(sender.fruitless),
+    }
+}
