@@ -58,25 +58,31 @@ def accepted_at(place):
     ]
 
 
-class Watched:
-    """A server over a folder of its own whose calls are recorded, and the calls that it should make."""
+LISTED = ["open FOLDER/ to-read", "list takes", "list takes"]  # the names in the folder
 
-    def __init__(self, folder, *options, faults=()):
+
+class Watched:
+    """A server over a folder of its own whose calls are recorded, and the calls that it should make.
+
+    `opening` are its lines before it listens, `starting` the calls after it has tried its folder.
+    """
+
+    def __init__(self, folder, *options, faults=(), opening=(), starting=LISTED):
         self.folder = folder / "takes"
-        self.folder.mkdir()
-        self.server = Server(self.folder, *options, watch=lambda: Watcher(*faults))
+        self.folder.mkdir(exist_ok=True)
+        self.server = Server(self.folder, *options, watch=lambda: Watcher(*faults), opening=opening)
         self.address = f"{LOCAL}:{self.server.port}"
         self.peers = []
         self.numbers = collections.Counter()  # of the next request, by name
-        listening = f"listening {self.address}\n".encode().hex()
+        printed = "".join(line + "\n" for line in (*opening, f"listening {self.address}")).encode().hex()
         is_many = "--recorders" in options
         self.wanted = [
             *("open FOLDER/.bwingest to-read-and-write create new", "remove FOLDER/.bwingest"),
-            *("open FOLDER/ to-read", "list takes", "list takes"),
+            *starting,
             *["poll poll"] * is_many,
             *(f"bind socket-0 {self.address}", "listen socket-0"),
             *[f"register socket-0 {LISTENER} reading"] * is_many,
-            f"write out {listening}",
+            f"write out {printed}",
         ]
 
     def comes(self, accepted):

@@ -17,7 +17,7 @@ WRITE, POLL, SEEK, CONNECT, SEND, RECEIVE, SHUTDOWN, BIND, SET = 1, 7, 8, 42, 44
 SYNC, TRUNCATE, REMOVE, EXIT, WAIT, REGISTER, OPEN, ACCEPT, STAT = 74, 77, 87, 231, 232, 233, 257, 288, 332
 NODELAY, RECEIVE_TIMEOUT, SEND_TIMEOUT = (6, 1), (1, 20), (1, 21)  # level and number of an option
 WITHOUT_END = -1
-SYNC_DATA = 75
+LOCK, SYNC_DATA = 73, 75
 FIRST_FILE = 3  # the descriptors below it are the process's streams
 FOLDER_MODE, PIPE_MODE = 0o040755, 0o010644
 MODE_AT, IP_AT, TOKEN_AT = 28, 4, 4  # the places in what statx gives, in an address, in an event
@@ -102,6 +102,10 @@ def sync_data_alone(call):
     call.become(SYNC_DATA)
 
 
+def sync_whole_file(call):
+    call.become(SYNC)
+
+
 def seem_done(call):
     call.result = max(call.result, 0)
 
@@ -169,6 +173,14 @@ BODIES = [
     Body("a file is cut where it is written", "in_turn", when(SEEK, cut_in_place_of_seek, is_file)),
     Body("the probe of a folder is left", "in_turn", left_out(REMOVE)),
     Body("a folder that is gone counts", "at_an_end", after=with_mode(FOLDER_MODE, lambda call: call.result < 0)),
+    # Journals
+    Body("no lock", "noted", left_out(LOCK)),
+    Body("notes go to the end of their file", "noted", with_word(OPEN, 2, opened_at_its_end)),
+    Body("no sync of a note", "noted_and_synced", left_out(SYNC_DATA)),
+    Body("times are synced too", "noted_and_synced", when(SYNC_DATA, sync_whole_file)),
+    Body("a failed sync of a note is taken for a done one", "stopped", after=when(SYNC_DATA, seem_done)),
+    Body("a failed note is taken for a done one", "noted_again", after=when(WRITE, seem_done, is_file)),
+    Body("a torn end isn't cut", "resumed", left_out(TRUNCATE)),
     # Links one after another, and those of a sender
     Body("no timeout of reads", "in_turn", left_out(SET, is_option(RECEIVE_TIMEOUT))),
     Body("no timeout of writes", "in_turn", left_out(SET, is_option(SEND_TIMEOUT))),
