@@ -184,4 +184,22 @@ def case_resumed(folder):
     it.ends("a resumed take", [0])
 
 
-CASES = [case_noted, case_noted_and_synced, case_noted_again, case_stopped, case_resumed]
+def case_set_aside(folder):
+    """The beginning of a file whose OPEN isn't noted is renamed, and the OPEN makes another."""
+    takes = folder / "takes"
+    takes.mkdir()
+    (takes / "a1.journal").write_bytes(header("a1"))
+    (takes / "a1.wav").write_bytes(bytes.fromhex(EMPTY)[:100])
+    again = ["seek a1.journal 0", f"read a1.journal {header('a1').hex()}"]
+    seen = [opened("a1.journal"), "stat a1.journal", *again]
+    front = [opened("a1.wav"), "stat a1.wav", "seek a1.wav 0", f"read a1.wav {EMPTY[:200]}"]
+    ends = ["seek a1.wav 100", "read a1.wav ", "seek a1.wav 690", "read a1.wav "]
+    moved = [f"stat FOLDER/a1.torn {MISSING}", "rename FOLDER/a1.wav FOLDER/a1.torn", opened("a1.journal")]
+    it = Journaled(folder, resuming=[*seen, *front, *ends, *moved])
+    peer = it.comes(accepted_in_turn(7))
+    it.asks(peer, "a1", OPEN, before=again)
+    it.goes(peer, 0)
+    it.ends("a file that is set aside", [0])
+
+
+CASES = [case_noted, case_noted_and_synced, case_noted_again, case_stopped, case_resumed, case_set_aside]

@@ -17,7 +17,7 @@ WRITE, POLL, SEEK, CONNECT, SEND, RECEIVE, SHUTDOWN, BIND, SET = 1, 7, 8, 42, 44
 SYNC, TRUNCATE, REMOVE, EXIT, WAIT, REGISTER, OPEN, ACCEPT, STAT = 74, 77, 87, 231, 232, 233, 257, 288, 332
 NODELAY, RECEIVE_TIMEOUT, SEND_TIMEOUT = (6, 1), (1, 20), (1, 21)  # level and number of an option
 WITHOUT_END = -1
-LOCK, SYNC_DATA = 73, 75
+LOCK, SYNC_DATA, RENAME = 73, 75, 82
 FIRST_FILE = 3  # the descriptors below it are the process's streams
 FOLDER_MODE, PIPE_MODE = 0o040755, 0o010644
 MODE_AT, IP_AT, TOKEN_AT = 28, 4, 4  # the places in what statx gives, in an address, in an event
@@ -181,6 +181,7 @@ BODIES = [
     Body("a failed sync of a note is taken for a done one", "stopped", after=when(SYNC_DATA, seem_done)),
     Body("a failed note is taken for a done one", "noted_again", after=when(WRITE, seem_done, is_file)),
     Body("a torn end isn't cut", "resumed", left_out(TRUNCATE)),
+    Body("a begun file isn't set aside", "set_aside", left_out(RENAME)),
     # Links one after another, and those of a sender
     Body("no timeout of reads", "in_turn", left_out(SET, is_option(RECEIVE_TIMEOUT))),
     Body("no timeout of writes", "in_turn", left_out(SET, is_option(SEND_TIMEOUT))),
