@@ -13,25 +13,25 @@ use Rattle.bw_start.specs.declared.restoring.StartFault.TheVariants.{Disk, Memor
 
 -- what is wrong with a journal
 abbrev pub journal_text : ReplayFault → List ℕ
-journal_text NotBegun = codes "the journal's header is torn"
-journal_text NotAJournal = codes "not a journal"
-journal_text OtherName = codes "the journal is another name's"
-journal_text HasOtherLimit = codes "the journal has another limit"
-journal_text OtherVerdict = codes "an entry isn't judged as it says"
-journal_text NotAnEntry = codes "an entry isn't known"
-journal_text Damaged = codes "the journal is damaged"
-journal_text NoMemory = codes "out of memory"
+journal_text NotBegun = codes "NotBegun"
+journal_text NotAJournal = codes "NotAJournal"
+journal_text OtherName = codes "OtherName"
+journal_text HasOtherLimit = codes "OtherLimit"
+journal_text OtherVerdict = codes "OtherVerdict"
+journal_text NotAnEntry = codes "NotAnEntry"
+journal_text Damaged = codes "Damaged"
+journal_text NoMemory = codes "Memory"
 
 -- what is wrong with a take's file
 abbrev pub file_cause_text : FileFault → List ℕ
-file_cause_text Lost = codes "the take's file is gone, or too short"
-file_cause_text Changed = codes "the file of a closed take has changed"
-file_cause_text Long = codes "the take's file is too long"
+file_cause_text Lost = codes "LostFile"
+file_cause_text Changed = codes "ChangedFile"
+file_cause_text Long = codes "LongFile"
 
 -- why a name can't be resumed; of another limit, which one to give
 abbrev pub cause_text : Fault → List ℕ
 cause_text (Journal fault) = journal_text fault
-cause_text (OtherLimit limit) = codes "the journal needs --limit " ++ decimal limit
+cause_text (OtherLimit limit) = codes "OtherLimit, needs --limit " ++ decimal limit
 cause_text (File fault) = file_cause_text fault
 
 -- the line of a name
@@ -45,7 +45,7 @@ refusal_lines folder names = flat_map (λ r. refusal_line folder r.name r.fault)
 
 -- what is wrong with a folder in which too many names have done numbers
 abbrev pub many_text : List ℕ
-many_text = codes "more takes have journals than the 256 that a server keeps"
+many_text = codes "TooMany, a server keeps 256 takes"
 
 -- the line of a folder
 unfoldable pub folder_line : List ℕ → List ℕ → List ℕ

@@ -70,9 +70,9 @@ fn cause_of(alloc: Global, fault: &NameFault) -> Result<String, AllocError>
 
 /// The cause of a journal of another limit.
 fn limit_cause(alloc: Global, limit: u32) -> Result<String, AllocError>
-    ensures { IfOk result (λ text. string_bytes text ≡ codes "the journal needs --limit " ++ decimal limit) }
+    ensures { IfOk result (λ text. string_bytes text ≡ codes "OtherLimit, needs --limit " ++ decimal limit) }
 {
-    format!(in alloc; "the journal needs --limit {limit}")
+    format!(in alloc; "OtherLimit, needs --limit {limit}")
 }
 
 /// What is wrong with a journal.
@@ -80,14 +80,14 @@ fn journal_cause(fault: ReplayFault) -> &'static str
     ensures { result.now ≡ journal_text fault }
 {
     match fault {
-        ReplayFault::NotBegun => "the journal's header is torn",
-        ReplayFault::NotAJournal => "not a journal",
-        ReplayFault::OtherName => "the journal is another name's",
-        ReplayFault::OtherLimit => "the journal has another limit",
-        ReplayFault::OtherVerdict => "an entry isn't judged as it says",
-        ReplayFault::NotAnEntry => "an entry isn't known",
-        ReplayFault::Damaged => "the journal is damaged",
-        ReplayFault::Memory => "out of memory",
+        ReplayFault::NotBegun => "NotBegun",
+        ReplayFault::NotAJournal => "NotAJournal",
+        ReplayFault::OtherName => "OtherName",
+        ReplayFault::OtherLimit => "OtherLimit",
+        ReplayFault::OtherVerdict => "OtherVerdict",
+        ReplayFault::NotAnEntry => "NotAnEntry",
+        ReplayFault::Damaged => "Damaged",
+        ReplayFault::Memory => "Memory",
     }
 }
 
@@ -96,9 +96,9 @@ fn file_cause(fault: FileFault) -> &'static str
     ensures { result.now ≡ file_cause_text fault }
 {
     match fault {
-        FileFault::Lost => "the take's file is gone, or too short",
-        FileFault::Changed => "the file of a closed take has changed",
-        FileFault::Long => "the take's file is too long",
+        FileFault::Lost => "LostFile",
+        FileFault::Changed => "ChangedFile",
+        FileFault::Long => "LongFile",
     }
 }
 
@@ -129,5 +129,5 @@ fn put_line_of_many(
 fn many_cause() -> &'static str
     ensures { result.now ≡ many_text }
 {
-    "more takes have journals than the 256 that a server keeps"
+    "TooMany, a server keeps 256 takes"
 }
