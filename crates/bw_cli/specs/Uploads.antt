@@ -8,7 +8,7 @@ use Rattle.bw_ports.specs.declared.network.Network.{Ghosts as NetworkGhosts}
 use Rattle.bw_ports.specs.declared.recording_files.RecordingFiles.{Ghosts as FileGhosts}
 use Rattle.bw_recorder.specs.Packs.{HasPacked, Packing}
 use Rattle.bw_recorder.specs.declared.job.RecordingFile.{RecordingFile}
-use Rattle.bw_send_file.specs.FileSendings.{IsFileSent, Ways}
+use Rattle.bw_send_file.specs.FileSendings.{IsFileSent}
 use Rattle.bw_send_file.specs.declared.job.Recorder.{Recorder}
 use Rattle.bw_cli.specs.Packed.{IsRecordingFile}
 use Rattle.bw_cli.specs.Sides.{SenderSide, UploadSide}
