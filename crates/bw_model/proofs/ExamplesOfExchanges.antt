@@ -108,3 +108,11 @@ bye = refl
 pub cut_exchange : CutExchangeExample
 unfolding computing
 cut_exchange = refl
+
+pub ruleset orders = (open_alone, in_order, empty_take, any_order, repeated, two_exchanges, window, full_window)
+
+pub ruleset refusals = (conflict, conflict_held, conflict_of_closes, bad_block, wrong_total)
+
+pub ruleset files = (odd_data, odd_history, file_lengths, cue, description, loudness, no_loudness)
+
+pub ruleset asks = (ask_empty, ask, ask_ahead, bye, cut_exchange)

@@ -71,3 +71,7 @@ next = refl
 pub codes : CodesExample
 unfolding computing
 codes = refl
+
+pub ruleset heads = (zero_length, too_long, cut_length, bye_and_more, ask_payload, large_number, too_large_number, misspelt, kinds)
+
+pub ruleset payloads = (request_kinds, longest_block, longest_frame, longest_block_read, block_too_long, next, codes)

@@ -23,3 +23,5 @@ report_loudness = refl
 pub report_marked : ReportMarkedExample
 unfolding computing
 report_marked = refl
+
+pub ruleset reports = (report_rf64, report_tabled, report_small, report_loudness, report_marked)

@@ -35,3 +35,5 @@ rehearsal_replies = refl
 pub rehearsal_ask : RehearsalAskExample
 unfolding computing
 rehearsal_ask = (refl, refl)
+
+pub ruleset worlds = (batch, hears, refused, notices, offers, rehearsal, rehearsal_replies, rehearsal_ask)

@@ -110,7 +110,7 @@ loop-read-preserved g c =
 pub returns-clause-served : goal.returns-clause-served
 returns-clause-served g c =
     limit_reached g.T.Turns.answers c.loop-read._read c.args.server.now c.loop-read.server _ _ _ _
-    c.loop-read.exchange c.loop-read.invariant.so_far (search rules)
+    c.loop-read.exchange c.loop-read.invariant.so_far (omega (arith, c.loop-read-test.false))
 
 pub returns-in-Err-clause-calls : goal.returns-in-Err-clause-calls
 returns-in-Err-clause-calls g c =
