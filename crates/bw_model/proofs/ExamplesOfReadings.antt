@@ -67,4 +67,6 @@ short_chunks = refl
 
 pub ruleset sound = (reads_small, reads_without_pad, reads_rf64, reads_tabled)
 
-pub ruleset faulty = (cut_outer, cut_chunks, no_ds64, wrong_form_size, wrong_data_size, wrong_table, unreported_size, unsaid_riff, wrong_cue, short_chunks)
+pub ruleset missing = (cut_outer, cut_chunks, short_chunks, no_ds64, unreported_size, unsaid_riff)
+
+pub ruleset wrong = (wrong_form_size, wrong_data_size, wrong_table, wrong_cue)

@@ -3,4 +3,4 @@ use Rattle.bw_model.proofs.ManyChunks.{many_chunks, too_many_chunks}
 use Rattle.bw_model.proofs.examples_of_readings.Goals as goal
 
 pub returns : goal.returns
-returns c = search (rows.sound, rows.faulty, many_chunks, too_many_chunks)
+returns c = search (rows.sound, rows.missing, rows.wrong, many_chunks, too_many_chunks)
