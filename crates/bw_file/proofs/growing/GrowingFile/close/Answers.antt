@@ -1,13 +1,12 @@
-use Rattle.std.proofs.Common.{◌≡◌, ◌+◌, ◌%◌, ◌++◌, ◌∷◌, [], ◌∙◌, false, not, sym, ap}
+use Rattle.std.proofs.Common.{◌≡◌, ◌+◌, ◌%◌, ◌++◌, ◌∷◌, [], ◌∙◌, not, sym, ap}
 use Rattle.std.proofs.lemmas.Result.{err_from_is_err_and}
 use Rattle.bw_model.specs.Take.{Parts, Take, frames, parts}
 use Rattle.bw_store.specs.Calls.{Finish}
-use Rattle.bw_layout.specs.declared.heading.Heading.{Heading}
 use Rattle.bw_layout.specs.Headings.{place_of, fits_riff}
 use Rattle.bw_file.specs.Plans.{close_plan, closed_plan, cues_plan}
 use Rattle.bw_file.specs.contracts.growing.GrowingFile.{the_view}
 use Rattle.bw_file.proofs.Judged.{open_for_close, is_some_open}
-use Rattle.bw_file.proofs.TakeHeadings.{IsHeading, is_heading}
+use Rattle.bw_file.proofs.TakeHeadings.{IsOpenUnder, is_open_under}
 use Rattle.bw_file.proofs.Closes.{cues_fail, header_fails, closed}
 use Rattle.std.proofs.Common.{ℕ, List, length}
 use Rattle.bw_store.proofs.Asked.{first_as, gets_all, gets_as, gets_before, gets_one, gets_then, gets_then_first}
@@ -30,24 +29,17 @@ plan_is g c =
     c.data_len-data_len.result of.history of.limit c.data_place.ensures.value c.data_len-data_len.ensures.value _
     (ap (λ (l : List (ℕ × ℕ)). length l) c.markers-markers.ensures.value)
 
--- what the code knows of a take with the state's parts
-record Known (t : Take) (limit n : ℕ) (heading : Heading) (markers : List (ℕ × ℕ)) : Type 0 where
-  heads : IsHeading t limit heading
-  is_open : t.closed ≡ false
-  in_all : n ≡ length t.samples
-  marked : markers ≡ t.markers
-
 known : (g : _) (c : After-data_place g) (t : Take) → parts t ≡ c.args.state.now.parts →
-    Known t c.self.inside.limit c.data_len-data_len.result c.heading_of-heading.result c.markers-markers.result.now
+    IsOpenUnder t c.self.inside.limit c.data_len-data_len.result c.heading_of-heading.result
 known g c t same =
     let of = c.heading_of-heading.ensures in
-    record {
-      heads = is_heading t c.args.state.now.parts c.heading_of-heading.result c.self.inside.limit same of.format
-          of.bext of.history of.limit;
-      is_open = ap (λ (p : Parts). p.closed) same ∙ (open_for_close _ _ c.requires).not_closed;
-      in_all = c.data_len-data_len.ensures.value ∙ sym (ap (λ (p : Parts). p.samples_len) same);
-      marked = c.markers-markers.ensures.value ∙ sym (ap (λ (p : Parts). p.markers) same);
-    }
+    is_open_under t c.args.state.now.parts c.heading_of-heading.result c.self.inside.limit c.data_len-data_len.result
+    same of.format of.bext of.history of.limit (open_for_close _ _ c.requires).not_closed
+    c.data_len-data_len.ensures.value
+
+marked : (g : _) (c : After-data_place g) (t : Take) → parts t ≡ c.args.state.now.parts →
+    c.markers-markers.result.now ≡ t.markers
+marked g c t same = c.markers-markers.ensures.value ∙ sym (ap (λ (p : Parts). p.markers) same)
 
 pub heading_of-heading-requires : goal.heading_of-heading-requires
 heading_of-heading-requires g c = is_some_open _ (open_for_close _ _ c.requires)
@@ -55,35 +47,38 @@ heading_of-heading-requires g c = is_some_open _ (open_for_close _ _ c.requires)
 pub returns-in_err-put_cues-clause-file : goal.returns-in_err-put_cues-clause-file
 returns-in_err-put_cues-clause-file g c =
     rw (← c.self.view_is) (λ honest t same ready.
-    let k = known g (goal.at.returns-in_err-put_cues-clause-file g c).After-data_place t same in
+    let past = (goal.at.returns-in_err-put_cues-clause-file g c).After-data_place in
+    let k = known g past t same in
     let answer = err_from_is_err_and c.from_residual.result c.from_residual.ensures.1 in
     rw answer.1 (cues_fail (the_view c.self.inside) t
-    (frames c.args.state.now.parts) c.heading_of-heading.result k.heads k.is_open c.data_place.result
+    (frames c.args.state.now.parts) c.heading_of-heading.result k.heads k.unclosed c.data_place.result
     c.data_len-data_len.result
-    c.markers-markers.result.now c.data_place.ensures.value k.in_all k.marked _ _ ready (c.put_cues.ensures.torn honest)))
+    c.markers-markers.result.now c.data_place.ensures.value k.in_all (marked g past t same) _ _ ready (c.put_cues.ensures.torn honest)))
 
 pub returns-in_err-put_closed_header-clause-file : goal.returns-in_err-put_closed_header-clause-file
 returns-in_err-put_closed_header-clause-file g c =
     rw (← c.self.view_is) (λ honest t same ready.
-    let k = known g (goal.at.returns-in_err-put_closed_header-clause-file g c).After-data_place t same in
+    let past = (goal.at.returns-in_err-put_closed_header-clause-file g c).After-data_place in
+    let k = known g past t same in
     let answer = err_from_is_err_and c.from_residual-in_err-put_closed_header.result
     c.from_residual-in_err-put_closed_header.ensures.1 in
     rw answer.1 (header_fails (the_view c.self.inside) t
-    (frames c.args.state.now.parts) c.heading_of-heading.result k.heads k.is_open c.data_place.result
+    (frames c.args.state.now.parts) c.heading_of-heading.result k.heads k.unclosed c.data_place.result
     c.data_len-data_len.result
-    c.markers-markers.result.now c.data_place.ensures.value k.in_all k.marked _ _ _ ready
+    c.markers-markers.result.now c.data_place.ensures.value k.in_all (marked g past t same) _ _ _ ready
     (c.put_cues.ensures.torn honest) (c.put_closed_header.ensures.torn (c.put_cues.ensures.shared.honest ∙ honest))))
 
 pub returns-in_err-finish-clause-file : goal.returns-in_err-finish-clause-file
 returns-in_err-finish-clause-file g c =
     rw (← c.self.view_is) (λ honest t same ready.
-    let k = known g (goal.at.returns-in_err-finish-clause-file g c).After-data_place t same in
+    let past = (goal.at.returns-in_err-finish-clause-file g c).After-data_place in
+    let k = known g past t same in
     let honest_then = c.put_cues.ensures.shared.honest ∙ honest in
     let stays = c.finish.ensures.unchanged
     (c.put_closed_header.ensures.shared.honest ∙ honest_then) c.self.inside.name in
     let between = header_fails (the_view c.self.inside) t
-    (frames c.args.state.now.parts) c.heading_of-heading.result k.heads k.is_open c.data_place.result
-    c.data_len-data_len.result c.markers-markers.result.now c.data_place.ensures.value k.in_all k.marked _ _ _ ready
+    (frames c.args.state.now.parts) c.heading_of-heading.result k.heads k.unclosed c.data_place.result
+    c.data_len-data_len.result c.markers-markers.result.now c.data_place.ensures.value k.in_all (marked g past t same) _ _ _ ready
     (c.put_cues.ensures.torn honest) (c.put_closed_header.ensures.torn honest_then) in
     let answer = err_from_is_err_and c.from_residual-in_err-finish.result c.from_residual-in_err-finish.ensures.1 in
     rw (answer.1, stays) between)
@@ -91,14 +86,15 @@ returns-in_err-finish-clause-file g c =
 pub returns-clause-file : goal.returns-clause-file
 returns-clause-file g c =
     rw (← c.self.view_is) (λ honest t same ready.
-    let k = known g (goal.at.returns-clause-file g c).After-data_place t same in
+    let past = (goal.at.returns-clause-file g c).After-data_place in
+    let k = known g past t same in
     let honest_then = c.put_cues.ensures.shared.honest ∙ honest in
     let stays = c.finish.ensures.unchanged
     (c.put_closed_header.ensures.shared.honest ∙ honest_then) c.self.inside.name in
     stays ∙ closed (the_view c.self.inside) t
-    (frames c.args.state.now.parts) c.heading_of-heading.result k.heads k.is_open c.data_place.result
+    (frames c.args.state.now.parts) c.heading_of-heading.result k.heads k.unclosed c.data_place.result
     c.data_len-data_len.result
-    c.markers-markers.result.now c.data_place.ensures.value k.in_all k.marked _ _ _ ready
+    c.markers-markers.result.now c.data_place.ensures.value k.in_all (marked g past t same) _ _ _ ready
     (c.in_ok-put_cues.ensures.put honest) (c.in_ok-put_closed_header.ensures.put honest_then))
 
 pub returns-in_err-put_cues-clause-begun : goal.returns-in_err-put_cues-clause-begun
