@@ -3,5 +3,5 @@ pub mod CallLemmas
 pub mod QuietLemmas
 pub mod ReplayLemmas
 pub mod TextLemmas
-pub mod EventLemmas
+pub mod RefusedInputs
 pub mod WorldLemmas

@@ -14,7 +14,9 @@ use Rattle.bw_sender.specs.Senders.{IsSender}
 use Rattle.bw_rehearsal.specs.FaultRuns.{AreFaultsOfRuns}
 use Rattle.bw_rehearsal.specs.Rehearsing.{no_contents}
 use Rattle.bw_rehearsal.specs.declared.rehearsal.World.{World}
-use Rattle.bw_commands.specs.EventLines.{SayEvents, FirstOther}
+use Rattle.bw_console.specs.SaidLines.{FirstUnsaid}
+use Rattle.bw_rehearsal.specs.EventLines.{SaysEvent}
+use Rattle.bw_commands.specs.EventLines.{SayEvents}
 use Rattle.bw_console.specs.Input.{longest_input}
 use Rattle.bw_console.specs.Lines.{lines_of}
 use Rattle.bw_console.specs.Printing.{Print, Nothing, Whole, Part}
@@ -96,7 +98,7 @@ pub record PrintsWorld (name : List ℕ) (limit : ℕ) (input : Option (List ℕ
 abbrev pub RefusesEvents : Fault → List ℕ → Type 0
 RefusesEvents faults.TooLong input = longest_input < length input
 RefusesEvents (faults.NotEvent n) input =
-    (length input ≤ longest_input) × FirstOther 1 (lines_of input) n
+    (length input ≤ longest_input) × FirstUnsaid SaysEvent 1 (lines_of input) n
 RefusesEvents (faults.NotHex n) input = ⊥
 RefusesEvents (faults.NotRequest n) input = ⊥
 RefusesEvents faults.Unreadable input = Unit {0}

@@ -2,3 +2,4 @@ pub mod LineLemmas
 pub mod InputLemmas
 pub mod PrintLemmas
 pub mod OpeningLemmas
+pub mod SaidLemmas

@@ -3,7 +3,7 @@ use Rattle.std.proofs.lemmas.Result.{err_from_is_err_and}
 use Rattle.bw_rehearsal.specs.Rehearsing.{event_meaning}
 use Rattle.bw_console.specs.Printing.{Nothing, Whole, Part}
 use Rattle.bw_commands.specs.Rehearsals.{IsWorldText}
-use Rattle.bw_commands.proofs.EventLemmas.{refuses_prints}
+use Rattle.bw_commands.proofs.RefusedInputs.{refuses_prints}
 use Rattle.bw_commands.proofs.rehearsal.play.Goals as goal
 
 pub returns-in-Ok-clause-prints : goal.returns-in-Ok-clause-prints

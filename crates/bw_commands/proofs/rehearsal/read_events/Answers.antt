@@ -1,5 +1,5 @@
 use Rattle.std.proofs.lemmas.Result.{err_from_is_err_and}
-use Rattle.bw_commands.proofs.EventLemmas.{length_refuses}
+use Rattle.bw_commands.proofs.RefusedInputs.{length_refuses}
 use Rattle.bw_commands.proofs.rehearsal.read_events.Goals as goal
 
 pub returns-in_err-bytes-clause-err : goal.returns-in_err-bytes-clause-err

@@ -3,7 +3,7 @@ use Rattle.std.proofs.lemmas.Result.{err_from_is_err_and}
 use Rattle.bw_console.specs.Printing.{Nothing, Whole, Part}
 use Rattle.bw_console.specs.Input.{Asked}
 use Rattle.bw_commands.specs.Replays.{IsTextFor, IsRunText}
-use Rattle.bw_commands.proofs.EventLemmas.{refuses_run}
+use Rattle.bw_commands.proofs.RefusedInputs.{refuses_run}
 use Rattle.bw_commands.proofs.replay.play.Goals as goal
 
 pub returns-in-Ok-clause-prints : goal.returns-in-Ok-clause-prints
