@@ -123,7 +123,7 @@ module _ (folder : List ℕ) (files : List StoredFile) (file : StoredFile) (name
   -- no name is added
   same : ((name : List ℕ) → IsTrue (is_listed name) → IsUtf8 name → IsSome (content_at more (in_folder folder name)) →
       Contains names name) → Lists folder (content_at more) names
-  same all = record { stand = stood; complete = all; distinct = lists.distinct; }
+  same all = record { stand = stood; complete = all; distinct = lists.distinct }
 
   unlisted : IsNameIn folder (string_bytes file.path) None → Lists folder (content_at more) names
   unlisted none = same (λ name listed utf8 some. at name listed utf8 (either (in_folder folder name) some))
@@ -147,8 +147,11 @@ module _ (folder : List ℕ) (files : List StoredFile) (file : StoredFile) (name
 
     added : (Contains names n → ⊥) → Lists folder (content_at more) (names ++ n ∷ [])
     added new = record {
-      stand = All-push IsThere names n stood (named, some_pushed files file (in_folder folder n)
-              ∙ or_right _ _ ((bytes_eq-Decides (string_bytes file.path) (in_folder folder n)).1 is));
+      stand = All-push IsThere names n stood (
+        named,
+        some_pushed files file (in_folder folder n)
+            ∙ or_right _ _ ((bytes_eq-Decides (string_bytes file.path) (in_folder folder n)).1 is),
+      );
       complete = λ name listed utf8 some. at name listed utf8 (either (in_folder folder name) some);
       distinct = distinct_pushed names n lists.distinct new;
     }
@@ -182,7 +185,7 @@ pub none_then : (folder path f p rest : List ℕ) → f ≡ folder → p ≡ pat
 none_then folder path f p rest ef ep is none name e =
     none name
     (append_cancel_left folder rest (codes "/" ++ name)
-        (ap (λ (x : List ℕ). x ++ rest) (sym ef) ∙ sym is ∙ ep ∙ e ∙ in_folder_is folder name))
+    (ap (λ (x : List ℕ). x ++ rest) (sym ef) ∙ sym is ∙ ep ∙ e ∙ in_folder_is folder name))
 
 -- where it is
 pub named_by : (folder path f p rest bytes : List ℕ) → f ≡ folder → p ≡ path → p ≡ f ++ rest → rest ≡ codes "/" ++ bytes →

@@ -3,6 +3,10 @@ use Rattle.std.proofs.Common.{◌≡◌, ◌≢◌, ◌∙◌, List, [], ◌∷�
 use Rattle.std.specs.List.{find, filter}
 use Rattle.std.specs.Str.{bytes_eq}
 use Rattle.std.proofs.lemmas.Slice.Eq.{bytes_eq-Decides}
+use Rattle.std.proofs.Common.{take}
+use Rattle.std.specs.Option.{option_map}
+use Rattle.bw_store.specs.Stores.{overwritten}
+use Rattle.bw_disk.specs.Volumes.{WrittenInPart}
 use Rattle.bw_disk.specs.declared.memory_disk.StoredFile.{StoredFile}
 use Rattle.bw_disk.specs.MemoryDisks.{stands_at, content_at, synced_at}
 use Rattle.bw_disk.proofs.MemoryDisks.{content_under, synced_of}
@@ -52,3 +56,12 @@ module _ (files : List StoredFile) (from : List ℕ) where
 
   pub kept_synced : (other : List ℕ) → other ≢ from → synced_at left other ≡ synced_at files other
   kept_synced other ne = ap synced_of (find_kept (stands_at from) (stands_at other) (apart from other ne) files)
+
+-- a write that changed nothing
+pub unwritten : (before after : Option (List ℕ)) (place : ℕ) (bytes : List ℕ) → after ≡ before →
+    WrittenInPart before place bytes after
+unwritten before after place bytes same = (0, same ∙ as_it_was before)
+  where
+    as_it_was : (o : Option (List ℕ)) → o ≡ option_map (λ old. overwritten old place (take 0 bytes)) o
+    as_it_was None = refl
+    as_it_was (Some old) = refl

@@ -106,12 +106,7 @@ fn len(files: &[StoredFile], path: &str) -> Result<u64, DiskFault>
 }
 
 /// Reads from a file, if it is there.
-fn read(
-    files: &[StoredFile],
-    path: &str,
-    offset: u64,
-    room: &mut [u8],
-) -> Result<usize, DiskFault>
+fn read(files: &[StoredFile], path: &str, offset: u64, room: &mut [u8]) -> Result<usize, DiskFault>
     ensures fits { IfOk result (λ count. count ≤ length room.old) }
     ensures read { IfOk result (λ count. ReadsFrom
         (content_at files.now path.now) offset (length room.old) count room.new) }
@@ -180,7 +175,11 @@ fn rename(
     let Some(place) = find(files, from) else {
         return Err(DiskFault);
     };
-    let content = files[place].content.as_slice().to_vec(alloc).map_err(|_| DiskFault)?;
+    let content = files[place]
+        .content
+        .as_slice()
+        .to_vec(alloc)
+        .map_err(|_| DiskFault)?;
     put(files, alloc, to, content)?;
     remove(files, from);
     Ok(true)

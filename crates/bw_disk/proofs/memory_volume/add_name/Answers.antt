@@ -14,7 +14,8 @@ returns c =
     let has : list_any (λ known. bytes_eq (string_bytes known) c.args.name.now) c.args.names.now.items ≡ false = search rules in
     let text : string_bytes c.in_ok-name.name ≡ c.args.name.now = search rules in
     let items : c.push.new.self.items ≡ c.args.names.now.items ++ c.in_ok-name.name ∷ [] = search rules in
-    inr
-    (none_any string_bytes c.args.name.now c.args.names.now.items has,
-    ap (λ xs. map string_bytes xs) items
-    ∙ pushed_text string_bytes c.args.name.now c.args.names.now.items c.in_ok-name.name text)
+    inr (
+      none_any string_bytes c.args.name.now c.args.names.now.items has,
+      ap (λ xs. map string_bytes xs) items
+          ∙ pushed_text string_bytes c.args.name.now c.args.names.now.items c.in_ok-name.name text,
+    )

@@ -15,8 +15,8 @@ loop-place-preserved c =
     (map string_bytes c.add_listed.new.names.items) = search rules in (
       omega (arith, within),
       subst (λ (done : List StoredFile). Lists c.args.folder.now (content_at done)
-              (map string_bytes c.add_listed.new.names.items))
+          (map string_bytes c.add_listed.new.names.items))
           (sym (take_next files c.loop-place.place file within is))
           (lists_more c.args.folder.now (take c.loop-place.place files) file (map string_bytes c.loop-place.names.items)
-              c.loop-place.invariant.1 _ adds),
+          c.loop-place.invariant.1 _ adds),
     )
