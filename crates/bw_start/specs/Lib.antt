@@ -11,3 +11,4 @@ pub mod FoundNames
 pub mod Restored
 pub mod Started
 pub mod FaultLines
+pub mod OwnLimits

@@ -100,7 +100,7 @@ pub fn look<D: Volume, E: Volume>(
 }
 
 /// The journal of a name in a folder; None if there is none.
-fn read_journal<E: Volume>(
+pub(crate) fn read_journal<E: Volume>(
     notes: &mut E,
     alloc: Global,
     folder: &str,
@@ -115,7 +115,7 @@ fn read_journal<E: Volume>(
 }
 
 /// What is found of a name with this journal.
-fn judge_name<D: Volume>(
+pub(crate) fn judge_name<D: Volume>(
     alloc: Global,
     takes: &mut D,
     folder: &str,

@@ -9,6 +9,7 @@ pub mod laws;
 mod lines;
 mod listing;
 mod mending;
+mod own_limits;
 mod paths;
 mod reading;
 mod restoring;
@@ -22,7 +23,9 @@ pub use adoption::{
 pub use fault::FileFault;
 pub use finding::{Begun, Finding, NameFault, look};
 pub use listing::{FoundName, journal_name, list_names, look_at_each};
+pub use lines::text_of_cause;
 pub use mending::mend;
+pub use own_limits::look_by_its_limit;
 pub use reading::{FileRead, read_take};
 pub use restoring::{RefusedName, StartFault, restore_folder};
 pub use resuming::{adopt_file, cut_journal, restore_name};

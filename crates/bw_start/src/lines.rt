@@ -52,13 +52,16 @@ fn put_line(
     let Ok(name) = std::str::from_utf8(refused.name.as_bytes()) else {
         return Err(AllocError);
     };
-    let cause = cause_of(alloc, &refused.fault)?;
+    let cause = text_of_cause(alloc, &refused.fault)?;
     let line = format!(in alloc; "{folder}/{name}.journal: {cause}\n")?;
     text.extend_from_slice(line.as_bytes())
 }
 
-/// Why a name can't be resumed.
-fn cause_of(alloc: Global, fault: &NameFault) -> Result<String, AllocError>
+/// Why a name can't be resumed, as a text without a line feed.
+///
+/// # Errors
+/// `AllocError` if memory was refused.
+pub fn text_of_cause(alloc: Global, fault: &NameFault) -> Result<String, AllocError>
     ensures { IfOk result (λ text. string_bytes text ≡ cause_text fault.now) }
 {
     match fault {
