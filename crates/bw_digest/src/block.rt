@@ -11,7 +11,7 @@ use crate::constants::ROUND;
 use std::simd::u32x8;
 
 /// How many messages are hashed at once.
-pub(crate) const LANES: usize = 8;
+pub const LANES: usize = 8;
 
 /// How many bytes a block has.
 pub(crate) const BLOCK: usize = 64;

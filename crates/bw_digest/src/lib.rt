@@ -6,4 +6,5 @@ mod constants;
 mod message;
 mod sha256;
 
+pub use block::LANES;
 pub use sha256::digests;

@@ -42,6 +42,7 @@ pub(crate) fn take_next<T: Turns>(
     ensures len { vec_len outgoing.new ≤ vec_len outgoing.old + longest_answer }
     ensures capacity { vec_capacity outgoing.old ≤ vec_capacity outgoing.new }
 {
+    framer.hash_ahead();
     match framer.next_frame() {
         Ok(None) => Step::WantsRead,
         Ok(Some(Frame::Bye)) => Step::Ended(StreamEnd::Bye),

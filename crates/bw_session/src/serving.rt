@@ -17,7 +17,6 @@ use arrayvec::ArrayVec;
 use bw_journal::Journal;
 use bw_store::TakeStore;
 use bw_wire::{Message, Notice, Reply};
-use sha2::{Digest, Sha256};
 use std::alloc::AllocError;
 
 impl Session {
@@ -99,7 +98,7 @@ impl Session {
             out.push(self.notice(message, Notice::TooFar));
             return Ok(());
         }
-        let digest = Sha256::digest(message.body());
+        let digest = message.digest();
         let stopped = self.admit_and_drain(stores, message, digest, out)?;
         if let Some(reply) = self.reply_to(message, &digest, done, stopped) {
             out.push(reply);

@@ -3,6 +3,8 @@ use Rattle.std.proofs.Common.{◌≡◌, ◌≢◌, ℕ, ◌+◌, ◌-◌, ◌�
 use Rattle.std.proofs.Common.{◌∙◌, arith, Option, Some, None, Ok, Err}
 use Rattle.std.proofs.lemmas.Bool.Decides.{nat_tests}
 use Rattle.std.proofs.lemmas.List.{drop-drop, length-drop}
+use Rattle.std.specs.Prelude.{IfSome}
+use Rattle.sha2.specs.Sha256.{sha256}
 use Rattle.bw_model.specs.Wire.{Cut}
 use Rattle.bw_wire.specs.declared.intake.Intake.{Intake}
 use Rattle.bw_wire.specs.declared.intake.Phase.{Phase}
@@ -150,3 +152,12 @@ lent_body buffer items start len e =
     ap (λ (n : ℕ). take n (drop (start + 4) buffer)) (omega arith)
     ∙ ap (λ (x : List ℕ). take len (drop (start + 4) x)) e
     ∙ ap (take len) (sym (drop-drop 4 start items))
+
+-- the digest that is known of it
+pub lent_digest : (digest : Option (List ℕ)) (buffer items : List ℕ) (start len : ℕ) → buffer ≡ items →
+    IfSome digest (λ d. d ≡ sha256 (take len (drop (start + 4) items))) → (d : List ℕ) → digest ≡ Some d →
+    d ≡ sha256 (take (start + 4 + len - (start + 4)) (drop (start + 4) buffer))
+lent_digest digest buffer items start len same known d is =
+    subst (λ (x : Option (List ℕ)). IfSome x (λ d. d ≡ sha256 (take len (drop (start + 4) items)))) is known
+    ∙ ap (λ (x : List ℕ). sha256 (take len (drop (start + 4) x))) (sym same)
+    ∙ ap (λ (n : ℕ). sha256 (take n (drop (start + 4) buffer))) (omega arith)

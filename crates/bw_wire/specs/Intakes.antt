@@ -1,5 +1,5 @@
 -- The parts of a framer.
-use Rattle.std.specs.Prelude.{◌≡◌, ℕ, ◌+◌, ◌-◌, ◌≤◌, length, drop}
+use Rattle.std.specs.Prelude.{◌≡◌, ◌+◌, ◌-◌, ◌≤◌, length, drop}
 use Rattle.bw_wire.specs.declared.intake.Intake.{Intake}
 use Rattle.bw_wire.specs.declared.intake.Phase.{Phase}
 use Rattle.bw_wire.specs.declared.intake.Phase.TheVariants.{Reading, Left, Failed}

@@ -1,6 +1,7 @@
 pub mod Reasons
 pub mod Faults
 pub mod Bodies
+pub mod BodyDigests
 pub mod Frames
 pub mod Addresses
 pub mod Notices

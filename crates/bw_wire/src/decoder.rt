@@ -32,7 +32,7 @@ pub fn decode(body: &[u8]) -> Result<Frame<'_>, Reason>
     if *kind == ASK {
         return Ok(Frame::Ask(Ask { body }));
     }
-    Ok(Frame::Message(Message { body }))
+    Ok(Frame::Message(Message { body, digest: None }))
 }
 
 /// The request that a kind byte and a payload spell. It borrows its bytes.

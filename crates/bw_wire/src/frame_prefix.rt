@@ -7,7 +7,7 @@ use crate::message::Frame;
 use crate::reason::Reason;
 
 /// The longest body of a frame: a block of 32,768 bytes under a name of 32 bytes.
-const LONGEST_BODY: u32 = 32_806;
+pub(crate) const LONGEST_BODY: u32 = 32_806;
 
 /// What the first bytes of a stream are, with the length of the body.
 #[derive(Clone, Copy)]

@@ -1,6 +1,7 @@
 //! A stream of frames that comes in pieces.
 ghost use Rattle.std.specs.Prelude.{◌≡◌, ◌+◌, ◌≤◌, length, IsOk, OnOk, OnErr};
 
+use crate::body_digests::{BodyDigests, kept_digest};
 use crate::fault::WireFault;
 use crate::frame_prefix::{FramePrefix, frame_prefix_of};
 use crate::intake::{Intake, Phase};
@@ -15,6 +16,8 @@ use std::marker::Model;
 #[derive(Drop)]
 pub struct Framer {
     intake: Intake,
+    /// Digests of bodies that stand in the block.
+    digests: Option<BodyDigests>,
 }
 
 impl Model for Framer {
@@ -23,10 +26,11 @@ impl Model for Framer {
     ghost Value = { Pending };
 
     ghost use Rattle.bw_wire.specs.Intakes.{pending_in, IsIntake};
+    ghost use Rattle.bw_wire.specs.BodyDigests.{KeepsDigests};
 
     ghost view = { λ f. pending_in f.intake };
 
-    ghost invariant = { λ f. IsIntake f.intake };
+    ghost invariant = { λ f. IsIntake f.intake × KeepsDigests f.intake.buffer.bytes f.digests };
 }
 
 impl Framer {
@@ -46,6 +50,7 @@ impl Framer {
     {
         Framer {
             intake: Intake::new(alloc),
+            digests: None,
         }
     }
 
@@ -79,7 +84,25 @@ impl Framer {
         ensures bounded { KeepsAtMost longest_rest self.old → length piece.now ≤ longest_piece →
             HasSmallBlock self.new }
     {
+        self.digests = None;
         self.intake.feed(piece)
+    }
+
+    /// Computes the digests of the bodies of up to eight whole frames that are held, at once, if
+    /// they aren't known and that is faster than one after another. Their messages are given with
+    /// them.
+    ///
+    /// # Not specified
+    /// Which digests are computed: a message's `digest` doesn't depend on it.
+    pub fn hash_ahead(&mut self)
+        ensures { self.new ≡ self.old }
+    {
+        if let Some(known) = &self.digests
+            && known.reaches(self.intake.start)
+        {
+            return;
+        }
+        self.digests = BodyDigests::of(self.intake.buffer.as_slice(), self.intake.start);
     }
 
     /// The first frame of the bytes that are left, which is used up; None if it isn't whole yet.
@@ -104,22 +127,26 @@ impl Framer {
         let at = self.intake.start + 4;
         match frame_prefix_of(self.intake.bytes()) {
             FramePrefix::Partial => {
+                self.digests = None;
                 self.intake.compact();
                 Ok(None)
             }
             FramePrefix::Bad(reason) => {
+                self.digests = None;
                 self.intake.finish(Phase::Failed(reason));
                 Err(WireFault { reason, offset })
             }
             FramePrefix::Bye(len) => {
+                self.digests = None;
                 self.intake.use_up(len);
                 self.intake.finish(Phase::Left);
                 Ok(Some(Frame::Bye))
             }
             FramePrefix::Message(len) => {
                 self.intake.use_up(len);
+                let digest = kept_digest(&self.digests, at, len);
                 let body = &self.intake.buffer.as_slice()[at..at + len];
-                Ok(Some(Frame::Message(Message { body })))
+                Ok(Some(Frame::Message(Message { body, digest })))
             }
             FramePrefix::Ask(len) => {
                 self.intake.use_up(len);

@@ -2,6 +2,7 @@
 #![tactic(auto)]
 
 mod address;
+mod body_digests;
 mod buffer;
 mod decoder;
 mod encoder;

@@ -1,21 +1,28 @@
 //! Frames that were read: messages, asks, and the end of an exchange.
 ghost use Rattle.std.specs.Prelude.{◌≡◌, ◌≤◌, IsTrue, length};
+ghost use Rattle.std.specs.Option.{ForSome};
+ghost use Rattle.sha2.specs.Sha256.{sha256};
 ghost use Rattle.bw_wire.specs.Bodies.{is_message_body, is_ask_body};
 
 use crate::address::{after_kind, name, number, payload};
 use crate::payload::request_of;
 use bw_request::{Name, RequestRef};
+use sha2::{Digest, Sha256};
 
 /// A message: a name, a number, and a request on the take of that name. It borrows its body.
 #[derive(Clone, Copy, Debug)]
 pub struct Message<'a> {
     pub(crate) body: &'a [u8],
+    /// The digest of the body, if it was hashed before.
+    pub(crate) digest: Option<[u8; 32]>,
     ghost spells: { IsTrue (is_message_body body.now) },
+    ghost hashed: { ForSome digest (λ d. d ≡ sha256 body.now) },
 }
 
 impl<'a> Message<'a> {
     ghost use Rattle.bw_model.specs.Wire.{Second, last_number, Says, Spells, is_request};
     ghost use Rattle.bw_model.specs.Stream.{longest_body};
+    ghost use Rattle.bw_model.specs.Wire.{message_body};
     ghost use Rattle.bw_request.specs.Requests.{meaning};
     ghost use Rattle.bw_wire.specs.Frames.{message_of};
 
@@ -48,6 +55,17 @@ impl<'a> Message<'a> {
         ensures length { length result.now ≤ longest_body }
     {
         self.body
+    }
+
+    /// The SHA-256 digest (FIPS 180-4) of the whole body. It is computed here, unless the framer
+    /// that gave the message had computed it.
+    pub fn digest(&self) -> [u8; 32]
+        ensures { result ≡ sha256 (message_body (message_of self.now)) }
+    {
+        match self.digest {
+            Some(digest) => digest,
+            None => Sha256::digest(self.body),
+        }
     }
 }
 

@@ -48,6 +48,7 @@ invariant_of-result-2 c = record {
       (λ i. omega (arith, c.type_inv.body i)) c.in-len1-up.len_at_least c.if-kind-eq-BYE.false
       c.in_default-fault.ensures
       c.if-kind-eq-ASK.false;
+  hashed = λ x none. cc;
 }
 
 pub returns-clause-exact : goal.returns-clause-exact

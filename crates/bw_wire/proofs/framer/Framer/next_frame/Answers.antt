@@ -10,17 +10,17 @@ use Rattle.bw_wire.specs.Held.{longest_rest}
 use Rattle.bw_wire.specs.Pending.{Gives}
 use Rattle.bw_wire.specs.Reasons.{reason_meaning}
 use Rattle.bw_wire.proofs.FramerSteps.{left_steps, failed_steps, partial_steps, bad_steps, last_steps, value_steps}
-use Rattle.bw_wire.proofs.FramerSteps.{lent_body}
+use Rattle.bw_wire.proofs.FramerSteps.{lent_body, lent_digest}
 use Rattle.bw_wire.proofs.framer.Framer.next_frame.Goals as goal
 
 pub returns-in-Left : goal.returns-in-Left
 returns-in-Left c =
-    let s = left_steps message_codec c.self.inside.intake (Some Bye) refl c.in-Left.is c.self.invariant in
+    let s = left_steps message_codec c.self.inside.intake (Some Bye) refl c.in-Left.is c.self.invariant.0 in
     rw (← c.self.view_is) ((refl, (λ _. tt), s.next), record { left = tt; reported = s.reported; held = s.held })
 
 pub returns-in-Failed : goal.returns-in-Failed
 returns-in-Failed c =
-    let s = failed_steps message_codec c.self.inside.intake c.in-Failed.reason c.in-Failed.is c.self.invariant in
+    let s = failed_steps message_codec c.self.inside.intake c.in-Failed.reason c.in-Failed.is c.self.invariant.0 in
     rw (← c.self.view_is) ((refl, (λ _. tt), s.next), record { left = tt; reported = s.reported; held = s.held })
 
 pub returns-in-Partial : goal.returns-in-Partial
@@ -50,9 +50,13 @@ pub invariant_of-self-in-Message-2 : goal.invariant_of-self-in-Message-2
 invariant_of-self-in-Message-2 c =
     let i = c.self.inside.intake in
     let prefix = subst (λ (b : List ℕ). IsMessagePrefix b c.in-Message.len) c.bytes.ensures c.in-Message.ensures in
-    let lent = lent_body c.as_slice.result.now i.buffer.bytes i.start c.in-Message.len
-    (c.as_slice.ensures ∙ ap (λ (x : Intake). x.buffer.bytes) c.use_up-in-Message.ensures) in
-    record { spells = subst (λ (b : List ℕ). IsTrue (is_message_body b)) (sym lent) prefix.spelled }
+    let same = c.as_slice.ensures ∙ ap (λ (x : Intake). x.buffer.bytes) c.use_up-in-Message.ensures in
+    let lent = lent_body c.as_slice.result.now i.buffer.bytes i.start c.in-Message.len same in
+    record {
+      spells = subst (λ (b : List ℕ). IsTrue (is_message_body b)) (sym lent) prefix.spelled;
+      hashed = lent_digest c.kept_digest-digest.result c.as_slice.result.now i.buffer.bytes i.start c.in-Message.len
+          same (c.kept_digest-digest.ensures i.buffer.bytes c.self.invariant.1);
+    }
 
 pub invariant_of-self-in-Ask-2 : goal.invariant_of-self-in-Ask-2
 invariant_of-self-in-Ask-2 c =

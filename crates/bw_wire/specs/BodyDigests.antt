@@ -1,0 +1,27 @@
+-- Digests of bodies in a block of bytes.
+use Rattle.std.specs.Prelude.{◌≡◌, ℕ, ◌+◌, ◌≤◌, List, [], length, take, drop, slice_index_or, Option}
+use Rattle.std.specs.Prelude.{IfSome}
+use Rattle.sha2.specs.Sha256.{sha256}
+use Rattle.bw_digest.specs.Lanes.{InEachLane}
+use Rattle.bw_wire.specs.declared.body_digests.Span.{Span}
+use Rattle.bw_wire.specs.declared.body_digests.BodyDigests.{BodyDigests}
+
+-- the bytes of a body
+abbrev pub bytes_at : List ℕ → Span → List ℕ
+bytes_at block s = take s.len (drop s.at block)
+
+-- it lies within the block
+abbrev pub IsSpanIn : List ℕ → Span → Type 0
+IsSpanIn block s = s.at + s.len ≤ length block
+
+-- the place in a lane
+abbrev pub span_at : List Span → ℕ → Span
+span_at spans j = slice_index_or spans j (record { at = 0; len = 0 })
+
+-- each digest is that of the body in its lane
+abbrev pub AreDigestsIn : List ℕ → BodyDigests → Type 0
+AreDigestsIn block d = InEachLane (λ j. slice_index_or d.digests j [] ≡ sha256 (bytes_at block (span_at d.spans j)))
+
+-- those that are known, if any are
+abbrev pub KeepsDigests : List ℕ → Option BodyDigests → Type 0
+KeepsDigests block digests = IfSome digests (AreDigestsIn block)
