@@ -10,7 +10,7 @@ use Rattle.std.proofs.lemmas.List.{append-nil, length-append, length-take}
 use Rattle.std.proofs.lemmas.Result.{IfErr-weaker}
 use Rattle.bw_wire.specs.declared.fault.WireFault.{WireFault}
 use Rattle.bw_wire.specs.Reasons.{reason_meaning}
-use Rattle.bw_wire.specs.Held.{longest_piece, longest_stream}
+use Rattle.bw_wire.specs.Held.{longest_message_piece, longest_stream}
 use Rattle.bw_exchange.specs.declared.exchange.Exchange.{Exchange}
 use Rattle.bw_exchange.specs.declared.serving.ExchangeEnd.TheVariants as ends
 use Rattle.bw_exchange.specs.declared.step.StreamEnd.{StreamEnd}
@@ -180,7 +180,7 @@ goes_after G (Err end) a b c xs ys f g =
 -- a piece came, and was fed or not
 pub fed_or_over : {L : Type 0} (G : LinkGhosts L) (r : Result (Unit {0}) ConnectionEnd) (c c' : Connection L)
     (piece : List ℕ) → c.phase ≡ phases.Serving → c'.phase ≡ phases.Serving → wants_piece c.exchange ≡ true →
-    waiting_in c.exchange ≡ [] → 1 ≤ length piece → length piece ≤ longest_piece → Moves G piece [] c.link c'.link →
+    waiting_in c.exchange ≡ [] → 1 ≤ length piece → length piece ≤ longest_message_piece → Moves G piece [] c.link c'.link →
     Feeds piece r c.exchange c'.exchange → Proceeds G r c [] c'
 fed_or_over G (Ok x) c c' piece serving still wants_read none some short m f =
     steps G c c' piece [] [] serving still m f.0 (λ before fed gone d h. same_end G c c' f.1 m.ended h)
@@ -261,7 +261,7 @@ none_held waiting none some = absurd (omega (arith, ap (λ (x : List ℕ). lengt
 -- a piece that came was fed
 pub fed_reads : {L : Type 0} (G : LinkGhosts L) (r : Result (Unit {0}) ConnectionEnd) (c c' : Connection L)
     (piece : List ℕ) → c'.writable ≡ c.writable → c'.readable ≡ c.readable → (G.full c.link → G.full c'.link) →
-    waiting_in c.exchange ≡ [] → 1 ≤ length piece → length piece ≤ longest_piece →
+    waiting_in c.exchange ≡ [] → 1 ≤ length piece → length piece ≤ longest_message_piece →
     Feeds piece r c.exchange c'.exchange → OnOk r (ReadsLink G c c')
 fed_reads G (Ok x) c c' piece writable readable full none some most f = record {
   piece = piece;

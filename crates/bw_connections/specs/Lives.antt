@@ -5,7 +5,7 @@ use Rattle.std.specs.Prelude.{if◌then◌else◌, is_some}
 use Rattle.std.specs.declared.net.socket_addr.SocketAddr.{SocketAddr}
 use Rattle.bw_model.specs.Wire.{Cut, Frame, are_bytes}
 use Rattle.bw_model.specs.Replies.{Reply}
-use Rattle.bw_wire.specs.Held.{longest_piece, longest_stream}
+use Rattle.bw_wire.specs.Held.{longest_message_piece, longest_stream}
 use Rattle.bw_wire.specs.Reasons.{reason_meaning}
 use Rattle.bw_wire.specs.declared.fault.WireFault.{WireFault}
 use Rattle.bw_exchange.specs.declared.exchange.Exchange.{Exchange}
@@ -89,7 +89,7 @@ pub record SendsWaiting {L : Type 0} (G : LinkGhosts L) (c c' : Connection L) : 
 -- will come, or the link reported that there are none now
 pub record ReadsLink {L : Type 0} (G : LinkGhosts L) (c c' : Connection L) : Type 0 where
   pub piece : List ℕ
-  pub most : length piece ≤ longest_piece
+  pub most : length piece ≤ longest_message_piece
   pub does : DoesMore c.exchange piece [] [] c'.exchange
   pub some : c.readable ≡ true → IsUpToDate c.exchange →
       (1 ≤ length piece) ⊎ (is_some (end_of c'.exchange) ≡ true) ⊎ IsDry G c'
@@ -109,7 +109,7 @@ pub record Moved {L : Type 0} (G : LinkGhosts L) (c : Connection L) (answered : 
     (c' : Connection L) : Type 0 where
   pub piece : List ℕ
   pub bytes : List ℕ
-  pub most : length piece ≤ longest_piece
+  pub most : length piece ≤ longest_message_piece
   pub does : DoesMore c.exchange piece answered bytes c'.exchange
   pub reads : c.readable ≡ true → IsUpToDate c.exchange →
       (1 ≤ length piece) ⊎ (is_some (end_of c'.exchange) ≡ true) ⊎ IsDry G c'
@@ -137,7 +137,7 @@ EndsAs (Over ends.WriteFault) e unread = (1 ≤ length (waiting_in e)) × (unrea
 EndsAs (Over ends.TurnLimit) e unread = IsUpToDate e × IsTrue (are_bytes unread)
     × (longest_stream < (pending_of e).fed + length unread)
 EndsAs (Over ends.Memory) e unread = IsUpToDate e × IsTrue (are_bytes unread)
-    × (1 ≤ length unread) × (length unread ≤ longest_piece)
+    × (1 ≤ length unread) × (length unread ≤ longest_message_piece)
 EndsAs Idle e unread = unread ≡ []
 
 -- it holds of a connection that is drained

@@ -1,6 +1,6 @@
 //! A connection: a link, and the exchange over it.
 ghost use Rattle.std.specs.Prelude.{◌≡◌, ◌≤◌, ◌||◌, [], List, length, true, IfErr, IfOk, OnOk};
-ghost use Rattle.bw_wire.specs.Held.{longest_piece};
+ghost use Rattle.bw_wire.specs.Held.{longest_message_piece};
 ghost use Rattle.bw_exchange.specs.Parts.{wants_piece, waiting_in};
 ghost use Rattle.bw_connections.specs.Feeding.{Feeds, fault_to_drain};
 ghost use Rattle.bw_connections.specs.Lives.{EndsServed};
@@ -133,7 +133,7 @@ impl<L: Link> Connection<L> {
         buffer: &mut [u8],
         now: u64,
     ) -> Result<(), ConnectionEnd>
-        requires { length buffer.old ≤ longest_piece }
+        requires { length buffer.old ≤ longest_message_piece }
         ensures { Works L.Link T.answers now result self.old self.new server.old server.new }
     {
         if let Phase::Draining(fault) = self.phase {
@@ -180,7 +180,7 @@ impl<L: Link> Connection<L> {
     /// The link is broken, or the piece can't be fed.
     fn receive_piece(&mut self, buffer: &mut [u8]) -> Result<(), ConnectionEnd>
         requires serving { self.old.phase ≡ Phase.Serving }
-        requires buffer { length buffer.old ≤ longest_piece }
+        requires buffer { length buffer.old ≤ longest_message_piece }
         ensures goes { Proceeds L.Link result self.old [] self.new }
         ensures peer { KeepsPeer L.Link self.old.link self.new.link }
         ensures stays { KeepsConnection self.old self.new }
@@ -315,7 +315,7 @@ fn fault_to_drain(end: StreamEnd) -> Option<WireFault>
 /// Why it can't be fed: the exchange is as it was.
 fn feed_piece(exchange: &mut Exchange, piece: &[u8]) -> Result<(), ConnectionEnd>
     requires wants_read { wants_piece exchange.old ≡ true }
-    requires short { length piece.now ≤ longest_piece }
+    requires short { length piece.now ≤ longest_message_piece }
     ensures feeds { Feeds piece.now result exchange.old exchange.new }
     ensures served { IfErr result EndsServed }
 {

@@ -1,7 +1,7 @@
 //! Many connections over one server, each at its own place.
 ghost use Rattle.std.specs.Prelude.{◌≡◌, ◌≤◌, ◌<◌, [], List, length, vec_len, slice_get, Some, None, IfOk};
 ghost use Rattle.std.specs.Prelude.{◌+◌, ◌^◌, Err, OnOk, OnErr, IfSome};
-ghost use Rattle.bw_wire.specs.Held.{longest_piece};
+ghost use Rattle.bw_wire.specs.Held.{longest_message_piece};
 ghost use Rattle.bw_connections.specs.Keeping.{SetsPlace};
 
 use crate::connection::{Connection, ConnectionEnd};
@@ -193,7 +193,7 @@ impl<L: Link + Drop> Connections<L> {
     /// One quantum of the connection at a place, at a time in milliseconds: it reads, then answers,
     /// then sends. Returns the connection if it is over.
     ///
-    /// At most 64 frames are answered. `buffer` has at most 65,536 bytes.
+    /// At most 64 frames are answered. `buffer` has at most 262,480 bytes.
     ///
     /// # Not specified
     /// - How much of what a link has is read, and how much of what waits is offered to it: only
@@ -207,7 +207,7 @@ impl<L: Link + Drop> Connections<L> {
         now: u64,
     ) -> Option<Closed<L>>
         requires place { place < connection_count self.old }
-        requires buffer { length buffer.old ≤ longest_piece }
+        requires buffer { length buffer.old ≤ longest_message_piece }
         ensures { WorksAt L.Link T.answers place now result self.old self.new server.old server.new }
     {
         let Some(mut connection) = take_at(&mut self.places, place) else {

@@ -12,7 +12,8 @@ ghost use Rattle.bw_engine.specs.Hears.{ReportsFault, ReadsReplies, StopsHearing
 ghost use Rattle.bw_exchange.specs.Served.{most_reads};
 
 use crate::send_fault::SendFault;
-use bw_exchange::{MOST_READS, PIECE};
+use crate::talk::PIECE;
+use bw_exchange::MOST_READS;
 use bw_sender::Sender;
 use bw_stream::Source;
 use bw_wire::ReplyFramer;

@@ -20,12 +20,15 @@ use crate::hearing::{end_of_input, read_piece};
 use crate::send_fault::SendFault;
 use crate::sending::{BYE, MOST_PENDING, send_message, write_frame};
 use crate::stop::{Stop, stop_by};
-use bw_exchange::{MOST_READS, PIECE};
+use bw_exchange::MOST_READS;
 use bw_request::{Name, Request};
 use bw_sender::Sender;
 use bw_stream::{Sink, Source};
 use bw_wire::ReplyFramer;
 use std::alloc::{AllocError, Global};
+
+/// The longest piece of replies that is read, in bytes.
+pub(crate) const PIECE: usize = 65_536;
 
 /// Where the last piece may begin, in bytes from the link's start, so that none is fed past 2^62.
 const LAST_PIECE: u64 = 4_611_686_018_427_322_368;
@@ -42,7 +45,7 @@ pub enum Listened {
 /// A sender's talk with a server over one link.
 ///
 /// It holds a buffer of 65,536 bytes, and at most 46 bytes of a reply that isn't whole yet, in a
-/// block of at most 262,144.
+/// block of at most 590,578.
 #[derive(Drop)]
 pub struct Talk {
     pub(crate) framer: ReplyFramer,

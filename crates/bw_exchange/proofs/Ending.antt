@@ -19,7 +19,7 @@ use Rattle.bw_exchange.specs.Ends.{end_meaning, end_so_far, IsFinal}
 use Rattle.bw_exchange.specs.Done.{last_of, AreFirstOf}
 use Rattle.bw_exchange.specs.Served.{most_reads, ended_by, HasGiven, HasNoneLeft, ReachesEnd, AnswersAllRead, EndsBy}
 use Rattle.bw_exchange.specs.Served.{Serves, ReadsNoFurther, reads_failed, writes_failed, IsLimited}
-use Rattle.bw_wire.specs.Held.{longest_piece}
+use Rattle.bw_wire.specs.Held.{longest_message_piece}
 use Rattle.bw_exchange.specs.Pieces.{FeedsNext, StopsReading, WritesAnswers, StopsWriting}
 use Rattle.bw_exchange.proofs.Going.{answers_append}
 use Rattle.bw_exchange.proofs.Lawful.{is_exchange}
@@ -54,7 +54,7 @@ first_read answers reads s later left left' w w' e f =
 -- no end was found so far, so what is read from here on is the last piece
 no_further : {S : Type 0} (answers : S → Frame → List Reply → S → Type 0) (reads : ℕ) (s later : S)
     (left left' w w' : Option (List ℕ)) (e : Exchange) → (f : SoFar answers reads s later left left' w w' e) →
-    (piece : List ℕ) → length piece ≤ longest_piece → ReadsNoFurther (f.input ++ piece)
+    (piece : List ℕ) → length piece ≤ longest_message_piece → ReadsNoFurther (f.input ++ piece)
 no_further answers reads s later left left' w w' e f piece short = record {
   before = f.input;
   last = piece;

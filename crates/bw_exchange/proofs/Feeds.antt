@@ -6,7 +6,7 @@ use Rattle.std.specs.Prelude.{min, is_some, IsTrue}
 use Rattle.std.proofs.lemmas.List.{length-take-le}
 use Rattle.bw_model.specs.Wire.{are_bytes}
 use Rattle.bw_stream.specs.Moves.{Reads}
-use Rattle.bw_wire.specs.Held.{longest_piece}
+use Rattle.bw_wire.specs.Held.{longest_message_piece}
 use Rattle.bw_exchange.specs.declared.exchange.Exchange.{Exchange}
 use Rattle.bw_exchange.specs.declared.serving.ExchangeEnd.{ExchangeEnd}
 use Rattle.bw_exchange.specs.declared.serving.ExchangeEnd.TheVariants.{Memory}
@@ -17,7 +17,7 @@ use Rattle.bw_exchange.proofs.Reading.{has_given-piece}
 -- some bytes were read, and then fed
 pub feeds_next : (r : Result (Unit {0}) ExchangeEnd) (left left' : Option (List ℕ)) (moved moved' count most : ℕ)
     (buf : List ℕ) (e e' : Exchange) → Reads left most count buf left' → count ≤ length buf →
-    length buf ≡ longest_piece → (count ≡ 0 → ⊥) → moved' ≡ min (moved + count) (2 ^ 64 - 1) → e.wants_read ≡ true →
+    length buf ≡ longest_message_piece → (count ≡ 0 → ⊥) → moved' ≡ min (moved + count) (2 ^ 64 - 1) → e.wants_read ≡ true →
     OnOk r (DoesMore e (take count buf) [] [] e') → OnOk r (e'.end ≡ e.end) →
     OnOk r (FeedsNext left left' moved moved' e e')
 feeds_next (Err why) left left' moved moved' count most buf e e' reads within long some m wants_read does end = tt
@@ -34,7 +34,7 @@ feeds_next (Ok x) left left' moved moved' count most buf e e' reads within long 
 
 -- some bytes were read, for which there is no memory
 pub stops_reading : (r : Result (Unit {0}) ExchangeEnd) (left left' : Option (List ℕ)) (count most : ℕ)
-    (buf : List ℕ) → Reads left most count buf left' → count ≤ length buf → length buf ≤ longest_piece →
+    (buf : List ℕ) → Reads left most count buf left' → count ≤ length buf → length buf ≤ longest_message_piece →
     (count ≡ 0 → ⊥) → IsTrue (are_bytes (take count buf)) → IfErr r (λ end. end ≡ Memory) →
     IfErr r (λ end. StopsReading end left left')
 stops_reading (Ok x) left left' count most buf reads within long some bytes memory = tt

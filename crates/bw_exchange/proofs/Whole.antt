@@ -7,7 +7,7 @@ use Rattle.std.proofs.lemmas.List.{append-nil, length-append}
 use Rattle.bw_model.specs.Wire.{Frame}
 use Rattle.bw_model.specs.Replies.{Reply}
 use Rattle.bw_stream.specs.Moves.{one_more, Writes}
-use Rattle.bw_wire.specs.Held.{longest_piece}
+use Rattle.bw_wire.specs.Held.{longest_message_piece}
 use Rattle.bw_wire.proofs.StreamRuns.{runs_follow_streams}
 use Rattle.bw_exchange.specs.declared.exchange.Exchange.{Exchange}
 use Rattle.bw_exchange.specs.Answering.{Answered, AnswersAll}
@@ -33,7 +33,7 @@ pub record SoFar {S : Type 0} (answers : S → Frame → List Reply → S → Ty
   pub none_wait : e.outgoing.items ≡ []
   pub wants_read : e.wants_read ≡ true
   pub least : reads ≤ length input
-  pub most : length input ≤ reads * longest_piece
+  pub most : length input ≤ reads * longest_message_piece
 
 -- at the start
 pub so_far-none : {S : Type 0} (answers : S → Frame → List Reply → S → Type 0) (s : S)
@@ -56,7 +56,7 @@ so_far-none answers s left written e d none wants_read = record {
 -- it has fed so much
 pub counted : {S : Type 0} (answers : S → Frame → List Reply → S → Type 0) (reads : ℕ) (s later : S)
     (left left' w w' : Option (List ℕ)) (e : Exchange) → SoFar answers reads s later left left' w w' e →
-    e.framer.fed ≤ reads * longest_piece
+    e.framer.fed ≤ reads * longest_message_piece
 counted answers reads s later left left' w w' e f =
     let same = (is_exchange runs_follow_streams f.input f.answered f.output e f.done).counted in
     omega (arith, same, f.most)

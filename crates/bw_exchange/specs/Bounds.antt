@@ -1,6 +1,6 @@
 -- How much an exchange holds.
 use Rattle.std.specs.Prelude.{ℕ, ◌+◌, ◌*◌, ◌-◌}
-use Rattle.bw_wire.specs.Held.{longest_rest, longest_piece}
+use Rattle.bw_wire.specs.Held.{longest_rest, longest_message_piece}
 
 -- the room that is kept for a reply's frame, which has at most 47 bytes
 abbrev pub longest_reply_frame : ℕ
@@ -20,4 +20,4 @@ most_before_answer = most_waiting - longest_reply_frame - longest_answer
 
 -- at most this many bytes of frames are held: a rest, and a piece after it
 abbrev pub most_held : ℕ
-most_held = longest_rest + longest_piece
+most_held = longest_rest + longest_message_piece

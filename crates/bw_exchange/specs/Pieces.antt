@@ -6,7 +6,7 @@ use Rattle.bw_model.specs.Wire.{Frame, are_bytes}
 use Rattle.bw_model.specs.Replies.{Reply, is_reply}
 use Rattle.bw_model.specs.Exchange.{replies_bytes}
 use Rattle.bw_stream.specs.Moves.{Keeps, Writes}
-use Rattle.bw_wire.specs.Held.{longest_piece}
+use Rattle.bw_wire.specs.Held.{longest_message_piece}
 use Rattle.bw_exchange.specs.declared.exchange.Exchange.{Exchange}
 use Rattle.bw_exchange.specs.declared.serving.ExchangeEnd.{ExchangeEnd}
 use Rattle.bw_exchange.specs.declared.serving.ExchangeEnd.TheVariants as ends
@@ -21,7 +21,7 @@ pub record FeedsNext (left left' : Option (List ℕ)) (moved moved' : ℕ) (e e'
     : Type 0 where
   pub piece : List ℕ
   pub given : HasGiven left piece left'
-  pub short : length piece ≤ longest_piece
+  pub short : length piece ≤ longest_message_piece
   pub counted : moved' ≡ min (moved + length piece) (2 ^ 64 - 1)
   pub does : DoesMore e piece [] [] e'
   pub by_end : ((is_some (end_of e') ≡ false) × (1 ≤ length piece))
@@ -32,7 +32,7 @@ abbrev pub StopsReading : ExchangeEnd → Option (List ℕ) → Option (List ℕ
 StopsReading ends.ReadFault left left' = Keeps left left'
 StopsReading ends.Memory left left' =
     (piece : List ℕ) × IsTrue (are_bytes piece) × HasGiven left piece left'
-    × (length piece ≤ longest_piece) × (1 ≤ length piece)
+    × (length piece ≤ longest_message_piece) × (1 ≤ length piece)
 StopsReading end left left' = ⊥
 
 -- frames were answered one by one, and all that waited was written after each

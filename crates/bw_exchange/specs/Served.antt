@@ -7,7 +7,7 @@ use Rattle.bw_model.specs.Replies.{Reply, is_reply}
 use Rattle.bw_model.specs.Stream.{End, EndOfInput, SaidBye, BadFrame, stream_of}
 use Rattle.bw_model.specs.Exchange.{replies_bytes, last_reply}
 use Rattle.bw_stream.specs.Moves.{one_more, Writes}
-use Rattle.bw_wire.specs.Held.{longest_piece}
+use Rattle.bw_wire.specs.Held.{longest_message_piece}
 use Rattle.bw_wire.specs.Reasons.{reason_meaning}
 use Rattle.bw_exchange.specs.declared.serving.ExchangeEnd.{ExchangeEnd}
 use Rattle.bw_exchange.specs.declared.serving.ExchangeEnd.TheVariants as ends
@@ -95,7 +95,7 @@ pub record ReadsNoFurther (input : List ℕ) : Type 0 where
   pub before : List ℕ
   pub last : List ℕ
   pub all : input ≡ before ++ last
-  pub short : length last ≤ longest_piece
+  pub short : length last ≤ longest_message_piece
   pub unended : IsFinal (stream_of Second before).1 → ⊥
 
 -- memory was refused for the last piece that was read; all whole frames before it are answered
@@ -103,7 +103,7 @@ pub record LacksMemory (answered : List Answered) (input : List ℕ) : Type 0 wh
   pub before : List ℕ
   pub last : List ℕ
   pub all : input ≡ before ++ last
-  pub short : length last ≤ longest_piece
+  pub short : length last ≤ longest_message_piece
   pub some : 1 ≤ length last
   pub frames : (stream_of Second before).0 ≡ answered_frames answered
 

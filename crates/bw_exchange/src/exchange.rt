@@ -2,7 +2,7 @@
 ghost use Rattle.std.specs.Prelude.{◌≡◌, ◌+◌, ◌≤◌, [], length, take, drop, true, false, IfOk, OnOk};
 ghost use Rattle.std.specs.Prelude.{OnErr, None, vec_len, vec_capacity, is_some, if◌then◌else◌};
 ghost use Rattle.bw_wire.specs.Codecs.{message_codec};
-ghost use Rattle.bw_wire.specs.Held.{longest_rest, longest_piece};
+ghost use Rattle.bw_wire.specs.Held.{longest_rest, longest_message_piece};
 ghost use Rattle.bw_wire.specs.Pending.{Nothing, next_of, KeepsAtMost, HasSmallBlock};
 ghost use Rattle.bw_exchange.specs.Bounds.{longest_reply_frame, longest_answer, most_waiting};
 ghost use Rattle.bw_exchange.specs.Bounds.{most_held, most_before_answer};
@@ -35,7 +35,7 @@ pub enum FeedError {
 
 /// One exchange with a recorder, between the pieces of its bytes.
 ///
-/// It holds at most 98,345 bytes of frames, in a block of at most 262,144, and at most 65,600 bytes
+/// It holds at most 295,289 bytes of frames, in a block of at most 590,578, and at most 65,600 bytes
 /// of replies. While replies aren't taken, no more frames are answered, and so no more bytes are
 /// wanted.
 #[derive(Drop)]
@@ -112,7 +112,7 @@ impl Exchange {
         self.outgoing.as_slice()
     }
 
-    /// Feeds the next piece, of at most 65,536 bytes, to an exchange that wants to read.
+    /// Feeds the next piece, of at most 262,480 bytes, to an exchange that wants to read.
     ///
     /// # Errors
     /// `TooLong` if more than 2^62 bytes would have been fed; `Memory` if memory was refused, never
@@ -122,7 +122,7 @@ impl Exchange {
     /// When a growth is refused.
     pub fn feed(&mut self, piece: &[u8]) -> Result<(), FeedError>
         requires wants_read { wants_piece self.old ≡ true }
-        requires short { length piece.now ≤ longest_piece }
+        requires short { length piece.now ≤ longest_message_piece }
         ensures fed { OnOk result (DoesMore self.old piece.now [] [] self.new) }
         ensures busy { OnOk result (wants_piece self.new ≡ false) }
         ensures end { OnOk result (end_of self.new ≡ end_of self.old) }

@@ -15,6 +15,6 @@ mod turns;
 pub use end_text::end_name;
 pub use exchange::{Exchange, FeedError};
 pub use link_stats::{KnownName, LinkStats, Metered};
-pub use serving::{ExchangeEnd, MOST_READS, PIECE, serve_exchange};
+pub use serving::{ExchangeEnd, MESSAGE_PIECE, MOST_READS, serve_exchange};
 pub use step::StreamEnd;
 pub use turns::Turns;

@@ -3,7 +3,7 @@ ghost use Rattle.std.specs.Prelude.{◌≡◌, ◌+◌, ◌≤◌, [], length, t
 ghost use Rattle.std.specs.Prelude.{is_some, IsTrue};
 ghost use Rattle.bw_model.specs.Wire.{are_bytes};
 ghost use Rattle.bw_stream.specs.Moves.{one_more, failures_after, Writes, Begins};
-ghost use Rattle.bw_wire.specs.Held.{longest_piece, longest_stream};
+ghost use Rattle.bw_wire.specs.Held.{longest_message_piece, longest_stream};
 ghost use Rattle.bw_exchange.specs.declared.serving.ExchangeEnd.TheVariants.{Memory};
 ghost use Rattle.bw_exchange.specs.Parts.{wants_piece, end_of, waiting_in, pending_of};
 ghost use Rattle.bw_exchange.specs.Done.{DoesMore, IsIdle};
@@ -17,8 +17,9 @@ use bw_stream::{IoFailed, Sink, Source, write_all};
 use bw_wire::WireFault;
 use std::alloc::Global;
 
-/// The longest piece that is read, in bytes.
-pub const PIECE: usize = 65_536;
+/// The longest piece of messages that is read, in bytes: eight of the longest frames, so that their
+/// digests can be computed at once.
+pub const MESSAGE_PIECE: usize = 262_480;
 
 /// The most reads of an exchange.
 pub const MOST_READS: u64 = 1 << 32;
@@ -89,7 +90,7 @@ pub fn serve_exchange<R: Source, W: Sink, T: Turns>(
     let Ok(mut exchange) = Exchange::new(alloc) else {
         return ExchangeEnd::Memory;
     };
-    let Ok(mut buffer) = Vec::from_elem(alloc, 0u8, PIECE) else {
+    let Ok(mut buffer) = Vec::from_elem(alloc, 0u8, MESSAGE_PIECE) else {
         return ExchangeEnd::Memory;
     };
     for _read in 0..MOST_READS {
@@ -116,8 +117,8 @@ fn read_piece<R: Source>(
     buffer: &mut [u8],
 ) -> Result<(), ExchangeEnd>
     requires wants_read { wants_piece exchange.old ≡ true }
-    requires buffer { length buffer.old ≡ longest_piece }
-    requires room { (pending_of exchange.old).fed + longest_piece ≤ longest_stream }
+    requires buffer { length buffer.old ≡ longest_message_piece }
+    requires room { (pending_of exchange.old).fed + longest_message_piece ≤ longest_stream }
     ensures fed { OnOk result (FeedsNext (R.left reader.old) (R.left reader.new)
         (R.moved reader.old) (R.moved reader.new) exchange.old exchange.new) }
     ensures calls { R.calls reader.new ≡ one_more (R.calls reader.old) }
@@ -144,8 +145,8 @@ fn read_piece<R: Source>(
 /// `Memory`: the exchange is as it was.
 fn feed_piece(exchange: &mut Exchange, piece: &[u8]) -> Result<(), ExchangeEnd>
     requires wants_read { wants_piece exchange.old ≡ true }
-    requires short { length piece.now ≤ longest_piece }
-    requires room { (pending_of exchange.old).fed + longest_piece ≤ longest_stream }
+    requires short { length piece.now ≤ longest_message_piece }
+    requires room { (pending_of exchange.old).fed + longest_message_piece ≤ longest_stream }
     ensures bytes { IsTrue (are_bytes piece.now) }
     ensures fed { OnOk result (DoesMore exchange.old piece.now [] [] exchange.new) }
     ensures end { OnOk result (end_of exchange.new ≡ end_of exchange.old) }
@@ -155,7 +156,7 @@ fn feed_piece(exchange: &mut Exchange, piece: &[u8]) -> Result<(), ExchangeEnd>
     match exchange.feed(piece) {
         Ok(()) => Ok(()),
         Err(FeedError::Memory) => Err(ExchangeEnd::Memory),
-        // 2^32 reads of at most 65,536 bytes never exceed 2^62 bytes.
+        // 2^32 reads of at most 262,480 bytes never exceed 2^62 bytes.
         Err(FeedError::TooLong) => unreachable!(),
     }
 }

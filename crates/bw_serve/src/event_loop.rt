@@ -1,7 +1,7 @@
 //! An event loop: many connections, as they come and end.
 ghost use Rattle.std.specs.Prelude.{◌≡◌, ◌+◌, ◌≤◌, ◌<◌, ℕ, List, [], ◌∷◌, length, vec_len, IfOk};
 ghost use Rattle.std.specs.Prelude.{OnOk};
-ghost use Rattle.bw_wire.specs.Held.{longest_piece};
+ghost use Rattle.bw_wire.specs.Held.{longest_message_piece};
 ghost use Rattle.bw_stream.specs.Moves.{failures_after};
 
 use crate::line::print_end;
@@ -173,7 +173,7 @@ impl<L: Link + Drop> EventLoop<L> {
         out: &mut O,
         faults: &mut E,
     )
-        requires buffer { length buffer.old ≤ longest_piece }
+        requires buffer { length buffer.old ≤ longest_message_piece }
         requires peer_slots { HasPeerSlots self.old }
         ensures in_turn { InTurn L.Link T.answers O.Sink E.Sink round.log round.now round.idle
             (connection_count self.old.connections) self.old self.new server.old.server server.new.server out.old
@@ -197,7 +197,7 @@ impl<L: Link + Drop> EventLoop<L> {
     )
         requires place { place < connection_count self.old.connections }
         requires peer_slots { HasPeerSlots self.old }
-        requires buffer { length buffer.old ≤ longest_piece }
+        requires buffer { length buffer.old ≤ longest_message_piece }
         ensures { ServesPlace L.Link T.answers O.Sink E.Sink round.log round.now round.idle place
             self.old self.new server.old.server server.new.server out.old out.new faults.old
             faults.new }
@@ -222,7 +222,7 @@ impl<L: Link + Drop> EventLoop<L> {
     ) -> Option<Closed<L>>
         requires place { place < connection_count self.old.connections }
         requires peer_slots { HasPeerSlots self.old }
-        requires buffer { length buffer.old ≤ longest_piece }
+        requires buffer { length buffer.old ≤ longest_message_piece }
         ensures { WorksCounted L.Link T.answers place now result self.old self.new
             server.old.server server.new.server }
     {

@@ -1,7 +1,7 @@
 //! A run of many exchanges at once.
 ghost use Rattle.std.specs.Prelude.{◌≡◌, ◌≤◌, OnOk, OnErr, vec_len};
 ghost use Rattle.bw_stream.specs.Moves.{failures_after, one_more};
-ghost use Rattle.bw_wire.specs.Held.{longest_piece};
+ghost use Rattle.bw_wire.specs.Held.{longest_message_piece};
 ghost use Rattle.bw_connections.specs.Places.{begun_of};
 ghost use Rattle.bw_serve.specs.EventLoops.{HasPeerSlots};
 ghost use Rattle.bw_serve.specs.Rounds.{IsShut, ServesRound, patience_of};
@@ -9,13 +9,17 @@ ghost use Rattle.bw_serve.specs.Serving.{RunsEventLoop};
 
 use crate::event_loop::{EventLoop, Round, Shut};
 use bw_console::Exit;
-use bw_exchange::{Metered, Turns};
+use bw_exchange::{MESSAGE_PIECE, Metered, Turns};
 use bw_ports::Reactor;
 use bw_stream::Sink;
 use std::alloc::Global;
 
-/// The longest piece that is read, in bytes.
-const PIECE: usize = 65_536;
+/// The longest piece that is read from one of many, in bytes.
+const SHORTER_PIECE: usize = 65_536;
+
+/// With so many connections at once, the longest pieces are read: what they hold of them is memory
+/// for each connection.
+const FEW: usize = 16;
 
 /// The longest wait, in milliseconds: a silent connection may be ended this much later than its
 /// time.
@@ -66,7 +70,7 @@ pub fn run_event_loop<B: Reactor, T: Turns, O: Sink, E: Sink>(
     let Ok(mut event_loop) = EventLoop::new(alloc, bounds.places) else {
         return Exit::Memory;
     };
-    let Ok(mut buffer) = Vec::from_elem(alloc, 0u8, PIECE) else {
+    let Ok(mut buffer) = Vec::from_elem(alloc, 0u8, piece_for(bounds.places)) else {
         return Exit::Memory;
     };
     bw_connections::laws::law_connections::<B::Link>();
@@ -91,6 +95,17 @@ pub fn run_event_loop<B: Reactor, T: Turns, O: Sink, E: Sink>(
     Exit::Device
 }
 
+/// How many bytes are read at once, by how many connections there may be.
+fn piece_for(places: usize) -> usize
+    ensures { result ≤ longest_message_piece }
+{
+    if places > FEW {
+        SHORTER_PIECE
+    } else {
+        MESSAGE_PIECE
+    }
+}
+
 /// The longest wait in milliseconds, by whether a connection can proceed.
 fn patience(can_go_on: bool) -> u64
     ensures { result ≡ patience_of can_go_on }
@@ -113,7 +128,7 @@ fn serve_round<B: Reactor, T: Turns, O: Sink, E: Sink>(
     out: &mut O,
     faults: &mut E,
 ) -> Result<(), Shut>
-    requires buffer { vec_len buffer.old ≤ longest_piece }
+    requires buffer { vec_len buffer.old ≤ longest_message_piece }
     requires begun { begun_of event_loop.old.connections ≤ bounds.now.exchanges }
     requires peer_slots { HasPeerSlots event_loop.old }
     ensures round { OnOk result (ServesRound B.Reactor B.Link.Link T.answers O.Sink E.Sink log

@@ -15,13 +15,17 @@ longest_rest = rest_below longest_body
 abbrev pub longest_stream : ℕ
 longest_stream = 2 ^ 62
 
--- pieces of at most this many bytes leave no block that is too large to be kept
+-- a piece of replies has at most this many bytes
 abbrev pub longest_piece : ℕ
 longest_piece = 65536
 
--- a larger block isn't kept for a further piece
+-- a piece of messages: eight of the longest frames, so that their digests can be computed at once
+abbrev pub longest_message_piece : ℕ
+longest_message_piece = 8 * (4 + longest_body)
+
+-- a larger block isn't kept for a further piece: such pieces leave none
 abbrev pub largest_kept : ℕ
-largest_kept = 262144
+largest_kept = 2 * (longest_rest + longest_message_piece)
 
 -- bytes, and the room of their block
 pub record Held : Type 0 where

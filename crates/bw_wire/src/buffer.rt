@@ -9,9 +9,9 @@ use std::mem;
 /// After the whole frames at most this many bytes are left, of a frame that isn't whole.
 const LONGEST_REST: usize = 32_809;
 
-/// A larger block isn't kept for the next piece. With pieces of at most 64 KiB none is larger: with
-/// what is left of the piece before, it has at most twice 98,345 bytes.
-const LARGEST_KEPT: usize = 262_144;
+/// A larger block isn't kept for the next piece. With pieces of at most 262,480 bytes none is
+/// larger: with what is left of the piece before, it has at most twice 295,289 bytes.
+const LARGEST_KEPT: usize = 590_578;
 
 /// Bytes at the start of a block of memory, which has room for more after them.
 ///

@@ -12,7 +12,7 @@ use std::marker::Model;
 /// Takes the frames of an exchange out of its bytes, which come in pieces of any size.
 ///
 /// If all frames are taken out before the next piece is fed, little is held: at most 32,809 bytes,
-/// in a block of at most 262,144.
+/// in a block of at most 590,578.
 #[derive(Drop)]
 pub struct Framer {
     intake: Intake,
@@ -39,7 +39,7 @@ impl Framer {
     ghost use Rattle.bw_wire.specs.contracts.framer.Framer.{the_row};
     ghost use Rattle.bw_wire.specs.Codecs.{message_codec};
     ghost use Rattle.bw_wire.specs.Frames.{frame_of};
-    ghost use Rattle.bw_wire.specs.Held.{longest_rest, longest_piece, longest_stream};
+    ghost use Rattle.bw_wire.specs.Held.{longest_rest, longest_message_piece, longest_stream};
     ghost use Rattle.bw_wire.specs.Pending.{fresh, with_piece, next_of, KeepsAtMost, HasSmallBlock};
     ghost use Rattle.bw_wire.specs.Pending.{HoldsLittle, end_fault, IsOver};
     ghost use Rattle.bw_wire.specs.Reporting.{reported_as, end_reported};
@@ -65,8 +65,8 @@ impl Framer {
     /// Adds a piece of the stream, which has at most 2^62 bytes in all. After the end of the
     /// exchange or a fault the piece is dropped.
     ///
-    /// If at most 32,809 bytes are held, as between two pieces, a piece of at most 65,536 bytes
-    /// makes no block larger than 262,144.
+    /// If at most 32,809 bytes are held, as between two pieces, a piece of at most 262,480 bytes
+    /// makes no block larger than 590,578.
     ///
     /// # Errors
     /// `AllocError` if memory was refused: nothing changed. It is never refused if there is room,
@@ -81,8 +81,8 @@ impl Framer {
         ensures dropped { IsOver self.old → IsOk result }
         ensures room { self.old.held + length piece.now ≤ self.old.room → IsOk result }
         ensures empty { length piece.now ≡ 0 → IsOk result }
-        ensures bounded { KeepsAtMost longest_rest self.old → length piece.now ≤ longest_piece →
-            HasSmallBlock self.new }
+        ensures bounded { KeepsAtMost longest_rest self.old →
+            length piece.now ≤ longest_message_piece → HasSmallBlock self.new }
     {
         self.digests = None;
         self.intake.feed(piece)
@@ -107,7 +107,7 @@ impl Framer {
 
     /// The first frame of the bytes that are left, which is used up; None if it isn't whole yet.
     ///
-    /// Between two pieces at most 32,809 bytes are held, in a block of at most 262,144.
+    /// Between two pieces at most 32,809 bytes are held, in a block of at most 590,578.
     ///
     /// # Errors
     /// `WireFault` if the bytes are no frame: the first reason that holds of `Length`, `Kind`,

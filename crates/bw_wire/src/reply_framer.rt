@@ -11,7 +11,7 @@ use std::marker::Model;
 /// Takes the replies of an exchange out of its bytes, which come in pieces of any size.
 ///
 /// If all replies are taken out before the next piece is fed, little is held: at most 46 bytes, in
-/// a block of at most 262,144.
+/// a block of at most 590,578.
 #[derive(Drop)]
 pub struct ReplyFramer {
     intake: Intake,
@@ -58,7 +58,7 @@ impl ReplyFramer {
     /// dropped.
     ///
     /// If at most 46 bytes are held, as between two pieces, a piece of at most 65,536 bytes
-    /// makes no block larger than 262,144.
+    /// makes no block larger than 590,578.
     ///
     /// # Errors
     /// `AllocError` if memory was refused: nothing changed. It is never refused if there is room,
@@ -81,7 +81,7 @@ impl ReplyFramer {
 
     /// The first reply of the bytes that are left, which is used up; None if it isn't whole yet.
     ///
-    /// Between two pieces at most 46 bytes are held, in a block of at most 262,144.
+    /// Between two pieces at most 46 bytes are held, in a block of at most 590,578.
     ///
     /// # Errors
     /// `WireFault` if the bytes are no reply's frame: the first reason that holds, and the

@@ -1,12 +1,12 @@
 use Rattle.std.proofs.Common.{◌≡◌, ◌+◌, ◌-◌, ◌^◌, ◌≤◌, vec_len}
 use Rattle.std.specs.Prelude.{min}
-use Rattle.bw_wire.specs.Held.{longest_piece}
+use Rattle.bw_wire.specs.Held.{longest_message_piece}
 use Rattle.bw_exchange.proofs.Whole.{SoFar}
 use Rattle.bw_exchange.proofs.serving.serve_exchange.Given as goal
 
 abbrev pub invariant-loop-read : goal.invariant-loop-read
 invariant-loop-read g l = record {
-  buffer : vec_len l.buffer ≡ longest_piece;
+  buffer : vec_len l.buffer ≡ longest_message_piece;
   so_far : SoFar g.T.Turns.answers l._read l.fn.server l.server (g.R.Source.left l.fn.reader)
       (g.R.Source.left l.reader) (g.W.Sink.written l.fn.writer) (g.W.Sink.written l.writer) l.exchange;
   reads : g.R.Source.failures l.reader ≡ g.R.Source.failures l.fn.reader;

@@ -1,6 +1,6 @@
 use Rattle.std.proofs.Common.{◌≡◌, ◌≤◌, vec_len}
 use Rattle.bw_connections.specs.Places.{begun_of}
-use Rattle.bw_wire.specs.Held.{longest_piece}
+use Rattle.bw_wire.specs.Held.{longest_message_piece}
 use Rattle.bw_serve.specs.EventLoops.{HasPeerSlots}
 use Rattle.bw_serve.proofs.Running.{Runs}
 use Rattle.bw_serve.proofs.serving.run_event_loop.Given as goal
@@ -12,7 +12,7 @@ invariant-loop-round g l = record {
       l.out l.fn.faults l.faults;
   begun : begun_of l.event_loop.connections ≤ l.fn.bounds.exchanges;
   peer_slots : HasPeerSlots l.event_loop;
-  buffer : vec_len l.buffer ≤ longest_piece;
+  buffer : vec_len l.buffer ≤ longest_message_piece;
   failures : g.B.Reactor.failures l.reactor ≡ g.B.Reactor.failures l.fn.reactor;
   waits : l._round ≤ g.B.Reactor.waits l.reactor;
 }
