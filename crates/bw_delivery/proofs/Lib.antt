@@ -1,0 +1,5 @@
+pub mod ExamplesOfReruns
+pub mod Elements
+pub mod DoneRequests
+pub mod RunSteps
+pub mod RerunLaws

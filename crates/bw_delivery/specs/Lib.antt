@@ -1,0 +1,2 @@
+pub mod Reruns
+pub mod ExamplesOfReruns
