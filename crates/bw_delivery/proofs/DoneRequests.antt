@@ -22,29 +22,44 @@ within_requests requests log sound = go log.done sound.filled
         let below : d < length requests = get-below requests d x.0 (sound.admitted d x.0 x.1) in
         omega arith
 
-prefix_by : (s : List (Option Request)) (requests : List Request) (done : ℕ) → IsFilled s done →
-    ((n : ℕ) (r : Request) → at s n ≡ Some r → slice_get requests n ≡ Some r) →
+-- each of the first numbers has its request
+abbrev pub AreFirst : List Request → List (Option Request) → ℕ → Type 0
+AreFirst requests s done = (n : ℕ) → n < done →
+    (r : Request) × (at s n ≡ Some r) × (slice_get requests n ≡ Some r)
+
+pub first_prefix : (requests : List Request) (s : List (Option Request)) (done : ℕ) → AreFirst requests s done →
     take done s ≡ map Some (take done requests)
-prefix_by s requests zero filled was = refl
-prefix_by [] requests (suc d) filled was = absurd (none_some (filled 0 (omega arith)).1)
-prefix_by (None ∷ s) requests (suc d) filled was = absurd (none_some (filled 0 (omega arith)).1)
-prefix_by (Some r ∷ s) [] (suc d) filled was = absurd (none_some (was 0 r refl))
-prefix_by (Some r ∷ s) (o ∷ requests) (suc d) filled was =
-    ap (λ (x : Option Request). x ∷ take d s) (sym (was 0 r refl))
-    ∙ ap (λ (xs : List (Option Request)). Some o ∷ xs)
-    (prefix_by s requests d (λ k below. filled (suc k) (omega arith)) (λ n x e. was (suc n) x e))
+first_prefix requests s zero each = refl
+first_prefix requests [] (suc d) each = absurd (none_some (each 0 (omega arith)).1)
+first_prefix requests (None ∷ s) (suc d) each = absurd (none_some (each 0 (omega arith)).1)
+first_prefix [] (Some r ∷ s) (suc d) each = absurd (none_some (each 0 (omega arith)).2)
+first_prefix (o ∷ requests) (Some r ∷ s) (suc d) each =
+    let x = each 0 (omega arith) in
+    ap (λ (z : Option Request). z ∷ take d s) (x.1 ∙ sym x.2)
+    ∙ ap (λ (zs : List (Option Request)). Some o ∷ zs)
+    (first_prefix requests s d (λ k below. each (suc k) (omega arith)))
+
+pub sound_first : (requests : List Request) (log : Log) → IsSound requests log →
+    AreFirst requests log.admitted log.done
+sound_first requests log sound n below =
+    let x = sound.filled n below in (x.0, x.1, sound.admitted n x.0 x.1)
 
 pub prefix_of_requests : (requests : List Request) (log : Log) → IsSound requests log →
     take log.done log.admitted ≡ map Some (take log.done requests)
-prefix_of_requests requests log sound = prefix_by log.admitted requests log.done sound.filled sound.admitted
+prefix_of_requests requests log sound = first_prefix requests log.admitted log.done (sound_first requests log sound)
 
 fold-steps : (t : Take) (rs : List Request) → fold step t (map Some rs) ≡ fold after t rs
 fold-steps t [] = refl
 fold-steps t (r ∷ rs) = fold-steps (after t r) rs
 
+pub made_of_first : (taken : Bool) (requests : List Request) (s : List (Option Request)) (done : ℕ) →
+    AreFirst requests s done → fold step (new_take taken) (take done s) ≡ made_by taken (take done requests)
+made_of_first taken requests s done each =
+    ap (fold step (new_take taken)) (first_prefix requests s done each)
+    ∙ fold-steps (new_take taken) (take done requests)
+
 pub made_of_requests : (taken : Bool) (requests : List Request) (log : Log) → IsSound requests log →
     made taken log.admitted log.done ≡ made_by taken (take log.done requests)
 unfolding made
 made_of_requests taken requests log sound =
-    ap (fold step (new_take taken)) (prefix_of_requests requests log sound)
-    ∙ fold-steps (new_take taken) (take log.done requests)
+    made_of_first taken requests log.admitted log.done (sound_first requests log sound)

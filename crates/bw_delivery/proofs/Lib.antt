@@ -3,3 +3,10 @@ pub mod Elements
 pub mod DoneRequests
 pub mod RunSteps
 pub mod RerunLaws
+pub mod SoundTurns
+pub mod SpelledBytes
+pub mod LinkLaws
+pub mod DeliveryLaws
+pub mod ClosedLaws
+pub mod DeliveredFiles
+pub mod ExamplesOfDeliveries

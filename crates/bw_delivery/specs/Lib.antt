@@ -1,2 +1,4 @@
 pub mod Reruns
 pub mod ExamplesOfReruns
+pub mod Deliveries
+pub mod ExamplesOfDeliveries

@@ -2,6 +2,9 @@
 #![tactic(auto)]
 
 ghost use Rattle.bw_delivery.specs.Reruns.{EachRunIsFaithful, RunsHearOneVerdict, SettledRunsAreWhole};
+ghost use Rattle.bw_delivery.specs.Deliveries.{ClosedDeliveriesStay, DeliveriesAreTrue};
+ghost use Rattle.bw_delivery.specs.Deliveries.{StoredDeliveriesAreWhole};
+ghost use Rattle.bw_delivery.specs.ExamplesOfDeliveries.{WorkedDeliveryExample};
 ghost use Rattle.bw_delivery.specs.ExamplesOfReruns.{KilledRunExample, SecondRunExample, LateReplyExample};
 
 /// A sender may be started again, from number 0 or from where it was, any number of times, with the
@@ -13,9 +16,25 @@ pub fn law_reruns()
     ensures whole { SettledRunsAreWhole }
 {}
 
+/// A sender's requests come to a server over links that give each end a prefix of what the other
+/// end wrote: whoever else sends, under other names, what is done under the sender's name are the
+/// first of its requests, and each verdict that it hears is theirs. Once it has heard that each is
+/// stored, the server's take is what they make, each applied once in their order; and if one of
+/// them is a CLOSE, an honest store has that take's file from then on.
+pub fn law_delivered()
+    ensures heard { DeliveriesAreTrue }
+    ensures whole { StoredDeliveriesAreWhole }
+    ensures closed { ClosedDeliveriesStay }
+{}
+
 /// Worked rows: a run that is killed, the next one, and replies to the first that come late.
 pub fn examples_of_reruns()
     ensures killed { KilledRunExample }
     ensures second { SecondRunExample }
     ensures late { LateReplyExample }
+{}
+
+/// A worked row: a sender's two links, of which one is cut, beside another recorder's.
+pub fn examples_of_deliveries()
+    ensures { WorkedDeliveryExample }
 {}
