@@ -33,7 +33,14 @@ cut = record {
     spelled = refl;
     part = ([], refl);
   };
-  answers = record { first = ([], refl); end = None; spelled = refl; part = ([], refl) };
+  answers = record {
+    read = cut_link.received;
+    read_part = ([], refl);
+    first = ([], refl);
+    end = None;
+    spelled = refl;
+    part = ([], refl);
+  };
 }
 
 whole : IsOwnLink a1 small_take (own 2 worked_trace) whole_link
@@ -46,7 +53,14 @@ whole = record {
     spelled = refl;
     part = ([], refl);
   };
-  answers = record { first = ([], refl); end = None; spelled = refl; part = ([], refl) };
+  answers = record {
+    read = whole_link.received;
+    read_part = ([], refl);
+    first = ([], refl);
+    end = None;
+    spelled = refl;
+    part = ([], refl);
+  };
 }
 
 skipped : (n : ℕ) (ts : List Tagged) → AllByRecursion (λ t. (t.0 == n) ≡ false) ts → own n ts ≡ []

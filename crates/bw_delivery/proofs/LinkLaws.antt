@@ -1,12 +1,12 @@
 -- What comes over a link is a prefix of what was said, frame by frame.
-use Rattle.std.proofs.Common.{◌≡◌, ℕ, suc, zero, true, List, [], ◌∷◌, ◌++◌}
+use Rattle.std.proofs.Common.{length, ◌≡◌, ◌<◌, ℕ, suc, zero, true, List, [], ◌∷◌, ◌++◌, ◌^◌}
 use Rattle.std.proofs.Common.{Option, Some, None, Result, Ok, refl, sym, ◌∙◌, ap, subst, arith, append_assoc, ◌⊎◌, inl, inr}
 use Rattle.std.specs.List.{AllByRecursion, Contains, list_all}
 use Rattle.std.proofs.lemmas.Bool.{and_parts}
 use Rattle.std.proofs.lemmas.List.Folds.{list_all-append}
-use Rattle.std.proofs.lemmas.List.Elements.{Contains-append_left, Contains-append_cases}
+use Rattle.std.proofs.lemmas.List.Elements.{Contains-append_right, Contains-append_cases}
 use Rattle.bw_model.specs.Take.{Request, Verdict}
-use Rattle.bw_model.specs.Wire.{Second, Frame, Says, Asks, Bye, is_frame, are_bytes, body, framed, is_below}
+use Rattle.bw_model.specs.Wire.{Second, Frame, Says, Asks, Bye, is_frame, are_bytes, body, framed, is_below, Reason}
 use Rattle.bw_model.specs.Replies.{Reply, Judged, Refused, is_reply, reply_body, decoded_reply}
 use Rattle.bw_model.specs.Stream.{End, EndOfInput, SaidBye, BadFrame, stream_of, is_turn, frames_bytes, first_frame}
 use Rattle.bw_model.specs.Exchange.{replies_bytes}
@@ -65,21 +65,24 @@ pub answered_are : (name : List ℕ) (requests : List Request) (answered : List 
 answered_are name requests answered l h =
     let says = h.says in
     let there = h.unchanged.there in
-    let first = h.answers.first in
-    let whole : l.received ++ (there.0 ++ says.part.0) ≡ frames_bytes says.frames =
-    sym (append_assoc l.received there.0 says.part.0)
+    let answers = h.answers in
+    let first = answers.first in
+    let whole : answers.read ++ (answers.read_part.0 ++ (there.0 ++ says.part.0)) ≡ frames_bytes says.frames =
+    sym (append_assoc answers.read answers.read_part.0 (there.0 ++ says.part.0))
+    ∙ ap (λ (z : List ℕ). z ++ (there.0 ++ says.part.0)) answers.read_part.1
+    ∙ sym (append_assoc l.received there.0 says.part.0)
     ∙ ap (λ (z : List ℕ). z ++ says.part.0) there.1 ∙ says.part.1 in
-    let fits : are_bytes l.received ≡ true =
-    (and_parts (are_bytes l.received) (are_bytes (there.0 ++ says.part.0))
-    (sym (list_all-append (is_below 256) l.received (there.0 ++ says.part.0)) ∙ ap are_bytes whole
+    let unread : List ℕ = answers.read_part.0 ++ (there.0 ++ says.part.0) in
+    let fits : are_bytes answers.read ≡ true =
+    (and_parts (are_bytes answers.read) (are_bytes unread)
+    (sym (list_all-append (is_below 256) answers.read unread) ∙ ap are_bytes whole
     ∙ frames_are_bytes says.frames says.spelled)).0 in
-    let stream = (streams_agree Second l.received (stream_of Second l.received).0 (stream_of Second l.received).1
-    fits).1 refl in
-    let gs : List Frame = (stream_of Second l.received).0 in
-    let begins : frames_bytes gs ++ (stream.rest ++ (there.0 ++ says.part.0)) ≡ frames_bytes says.frames =
-    sym (append_assoc (frames_bytes gs) stream.rest (there.0 ++ says.part.0))
-    ∙ ap (λ (z : List ℕ). z ++ (there.0 ++ says.part.0)) (sym stream.whole) ∙ whole in
-    let all = frames_first gs says.frames (stream.rest ++ (there.0 ++ says.part.0)) stream.each says.spelled begins in
+    let gs : List Frame = (stream_of Second answers.read).0 in
+    let stream = (streams_agree Second answers.read gs (stream_of Second answers.read).1 fits).1 refl in
+    let begins : frames_bytes gs ++ (stream.rest ++ unread) ≡ frames_bytes says.frames =
+    sym (append_assoc (frames_bytes gs) stream.rest unread)
+    ∙ ap (λ (z : List ℕ). z ++ unread) (sym stream.whole) ∙ whole in
+    let all = frames_first gs says.frames (stream.rest ++ unread) stream.each says.spelled begins in
     all_first (IsOneOf name requests) (answered_frames answered) (first.0 ++ all.0)
     (subst (AllByRecursion (IsOneOf name requests))
     (sym (sym (append_assoc (answered_frames answered) first.0 all.0)
@@ -95,28 +98,56 @@ same_reply r s a b h k e =
     let apart = frames_apart (reply_body r) (reply_body s) a b (omega (arith, short.1)) (omega (arith, short'.1)) e in
     (ok_inj (sym (spelled_reply_is_read r h) ∙ ap decoded_reply apart.0 ∙ spelled_reply_is_read s k), apart.1)
 
-replies_first : (xs ys : List Reply) (w : List ℕ) → list_all is_reply xs ≡ true → list_all is_reply ys ≡ true →
-    replies_bytes xs ++ w ≡ replies_bytes ys → (more : List Reply) × (xs ++ more ≡ ys)
-replies_first [] ys w h k e = (ys, refl)
-replies_first (x ∷ xs) [] w h k e =
-    absurd (cons_nil (sym (append_assoc (framed (reply_body x)) (replies_bytes xs) w) ∙ e))
-replies_first (x ∷ xs) (y ∷ ys) w h k e =
-    let hs = and_parts (is_reply x) (list_all is_reply xs) h in
-    let ks = and_parts (is_reply y) (list_all is_reply ys) k in
-    let s = same_reply x y (replies_bytes xs ++ w) (replies_bytes ys) hs.0 ks.0
-    (sym (append_assoc (framed (reply_body x)) (replies_bytes xs) w) ∙ e) in
-    let rest = replies_first xs ys w hs.1 ks.1 s.1 in
-    (rest.0, ap (λ (z : Reply). z ∷ (xs ++ rest.0)) s.0 ∙ ap (λ (zs : List Reply). y ∷ zs) rest.1)
+head_apart : {a b : ℕ} {xs ys : List ℕ} → a ∷ xs ≡ b ∷ ys → a ≡ b
+head_apart e = cc
 
-no_verdict_last : (end : Option End) (name : List ℕ) (n : ℕ) (v : Verdict) → Contains (last_of end) (Judged name n v) → ⊥
-no_verdict_last None name n v (k, below, e) = absurd (omega arith)
-no_verdict_last (Some EndOfInput) name n v (k, below, e) = absurd (omega arith)
-no_verdict_last (Some SaidBye) name n v (k, below, e) = absurd (omega arith)
-no_verdict_last (Some (BadFrame reason place)) name n v (zero, below, e) = refuses e
+-- a reply to a bad frame is no verdict
+no_verdict : (reason : Reason) (place : ℕ) (name : List ℕ) (n : ℕ) (v : Verdict) →
+    reply_body (Judged name n v) ≡ reply_body (Refused reason place) → ⊥
+no_verdict reason place name n v e = let same : 129 ≡ 131 = head_apart e in omega (arith, same)
+
+-- nothing is among the replies of no bytes
+none_of_nothing : (xs : List Reply) (w : List ℕ) (r : Reply) → replies_bytes xs ++ w ≡ [] → Contains xs r → ⊥
+none_of_nothing [] w r e (k, below, f) = omega arith
+none_of_nothing (x ∷ xs) w r e has = cons_nil (sym (append_assoc (framed (reply_body x)) (replies_bytes xs) w) ∙ e)
+
+-- a verdict among the replies with which such bytes begin is among those that were answered
+judged_among : (xs rs : List Reply) (end : Option End) (w : List ℕ) (name : List ℕ) (n : ℕ) (v : Verdict) →
+    list_all is_reply xs ≡ true → list_all is_reply rs ≡ true →
+    replies_bytes xs ++ w ≡ replies_bytes (rs ++ last_of end) → Contains xs (Judged name n v) →
+    Contains rs (Judged name n v)
+judged_among [] rs end w name n v h k e (i, below, f) = absurd (omega arith)
+judged_among (x ∷ xs) [] None w name n v h k e has = absurd (none_of_nothing (x ∷ xs) w (Judged name n v) e has)
+judged_among (x ∷ xs) [] (Some EndOfInput) w name n v h k e has =
+    absurd (none_of_nothing (x ∷ xs) w (Judged name n v) e has)
+judged_among (x ∷ xs) [] (Some SaidBye) w name n v h k e has =
+    absurd (none_of_nothing (x ∷ xs) w (Judged name n v) e has)
+judged_among (x ∷ xs) [] (Some (BadFrame reason place)) w name n v h k e has =
+    absurd (go (Contains-append_cases (x ∷ []) xs (Judged name n v) has))
   where
-    refuses : Refused reason place ≡ Judged name n v → ⊥
-    refuses e = cc
-no_verdict_last (Some (BadFrame reason place)) name n v (suc k, below, e) = absurd (omega arith)
+    short : length (reply_body x) < 2 ^ 32
+    short = let most = reply_length x (and_parts (is_reply x) (list_all is_reply xs) h).0 in omega (arith, most.1)
+
+    apart : (reply_body x ≡ reply_body (Refused reason place)) × (replies_bytes xs ++ w ≡ [])
+    apart = frames_apart (reply_body x) (reply_body (Refused reason place)) (replies_bytes xs ++ w) [] short (omega arith)
+        (sym (append_assoc (framed (reply_body x)) (replies_bytes xs) w) ∙ e)
+
+    go : Contains (x ∷ []) (Judged name n v) ⊎ Contains xs (Judged name n v) → ⊥
+    go (inl (zero, below, f)) = no_verdict reason place name n v (ap reply_body (sym f) ∙ apart.0)
+    go (inl (suc i, below, f)) = omega arith
+    go (inr there) = none_of_nothing xs w (Judged name n v) apart.1 there
+judged_among (x ∷ xs) (y ∷ rs) end w name n v h k e has =
+    let hs = and_parts (is_reply x) (list_all is_reply xs) h in
+    let ks = and_parts (is_reply y) (list_all is_reply rs) k in
+    let s = same_reply x y (replies_bytes xs ++ w) (replies_bytes (rs ++ last_of end)) hs.0 ks.0
+    (sym (append_assoc (framed (reply_body x)) (replies_bytes xs) w) ∙ e) in
+    go s.0 (judged_among xs rs end w name n v hs.1 ks.1 s.1) (Contains-append_cases (x ∷ []) xs (Judged name n v) has)
+  where
+    go : x ≡ y → (Contains xs (Judged name n v) → Contains rs (Judged name n v)) →
+        Contains (x ∷ []) (Judged name n v) ⊎ Contains xs (Judged name n v) → Contains (y ∷ rs) (Judged name n v)
+    go same rec (inl (zero, below, f)) = (0, omega arith, sym same ∙ f)
+    go same rec (inl (suc i, below, f)) = absurd (omega arith)
+    go same rec (inr there) = Contains-append_right (y ∷ []) rs (Judged name n v) (rec there)
 
 -- a verdict that is heard was answered
 pub heard_was_answered : (name : List ℕ) (requests : List Request) (answered : List Answered) (l : LinkBytes) →
@@ -131,13 +162,5 @@ heard_was_answered name requests answered l h n v hears =
     ∙ ap (λ (z : List ℕ). z ++ (back.0 ++ answers.part.0)) (sym hears.spelled.whole)
     ∙ sym (append_assoc l.heard back.0 answers.part.0)
     ∙ ap (λ (z : List ℕ). z ++ answers.part.0) back.1 ∙ answers.part.1 in
-    let first = replies_first hears.replies all (hears.rest ++ (back.0 ++ answers.part.0)) hears.spelled.each
-    answers.spelled begins in
-    go (Contains-append_cases (replies_of answered) (last_of answers.end) (Judged name n v)
-    (subst (λ (zs : List Reply). Contains zs (Judged name n v)) first.1
-    (Contains-append_left hears.replies first.0 (Judged name n v) hears.has)))
-  where
-    go : Contains (replies_of answered) (Judged name n v) ⊎ Contains (last_of h.answers.end) (Judged name n v) →
-        Contains (replies_of answered) (Judged name n v)
-    go (inl here) = here
-    go (inr last) = absurd (no_verdict_last h.answers.end name n v last)
+    judged_among hears.replies (replies_of answered) answers.end (hears.rest ++ (back.0 ++ answers.part.0)) name n v
+    hears.spelled.each answers.spelled begins hears.has

@@ -21,12 +21,12 @@ use Rattle.bw_exchange.specs.Done.{AreFirstOf, last_of}
 use Rattle.bw_exchange.specs.TurnRuns.{IsRunOf}
 use Rattle.bw_connections.specs.Keeping.{Tagged, all_answered, own}
 
--- What the two ends of a link wrote and read of it.
+-- What the two ends of a link wrote, and what they were given to read, whether they read it or not.
 pub record LinkBytes : Type 0 where
-  -- the sender's end wrote these, and the server's end read these
+  -- the sender's end wrote these, and the server's end was given these
   pub said : List ℕ
   pub received : List ℕ
-  -- the server's end wrote these, and the sender's end read these
+  -- the server's end wrote these, and the sender's end was given these
   pub answered : List ℕ
   pub heard : List ℕ
 
@@ -34,7 +34,7 @@ pub record LinkBytes : Type 0 where
 abbrev pub IsPartOf : List ℕ → List ℕ → Type 0
 IsPartOf part whole = (rest : List ℕ) × (part ++ rest ≡ whole)
 
--- Each end read a prefix of what the other end wrote, unchanged.
+-- Each end was given a prefix of what the other end wrote, unchanged.
 pub record IsTrueLink (l : LinkBytes) : Type 0 where
   pub there : IsPartOf l.received l.said
   pub back : IsPartOf l.heard l.answered
@@ -64,12 +64,14 @@ pub record HearsVerdict (name : List ℕ) (n : ℕ) (v : Verdict) (heard : List 
 
 -- The server's end.
 
--- These frames were answered over a link: they are the first of what it gave, and what it took is a
--- prefix of their replies, and of the one to a bad frame after them.
+-- These frames were answered over a link: they are the first of what was read of it, and what was
+-- written is a prefix of their replies, and of the one to a bad frame after them.
 pub record AnswersOver (answered : List Answered) (received written : List ℕ) : Type 0 where
-  pub first : AreFirstOf (answered_frames answered) received
+  pub read : List ℕ
+  pub read_part : IsPartOf read received
+  pub first : AreFirstOf (answered_frames answered) read
+  pub spelled : IsTrue (list_all is_reply (replies_of answered))
   pub end : Option End
-  pub spelled : IsTrue (list_all is_reply (replies_of answered ++ last_of end))
   pub part : IsPartOf written (replies_bytes (replies_of answered ++ last_of end))
 
 -- Both ends.

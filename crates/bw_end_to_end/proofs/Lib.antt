@@ -1,0 +1,4 @@
+pub mod SaidRequests
+pub mod RoundLinks
+pub mod ConnectionLinks
+pub mod PromiseLaws

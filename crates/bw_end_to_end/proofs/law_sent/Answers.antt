@@ -1,0 +1,5 @@
+use Rattle.bw_end_to_end.proofs.RoundLinks.{rounds_send}
+use Rattle.bw_end_to_end.proofs.law_sent.Goals as goal
+
+pub returns : goal.returns
+returns g c = rounds_send _ _ _

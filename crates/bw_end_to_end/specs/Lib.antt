@@ -1,0 +1,4 @@
+pub mod UsedLinks
+pub mod SentInRounds
+pub mod ServedLinks
+pub mod Promises

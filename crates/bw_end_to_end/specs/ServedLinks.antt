@@ -1,0 +1,29 @@
+-- The server's ends of its links, while it has many connections.
+use Rattle.std.specs.Prelude.{◌≡◌, ◌⊎◌, ℕ, List}
+use Rattle.std.specs.List.{Contains}
+use Rattle.bw_ports.specs.declared.link.Link.{Ghosts as LinkGhosts}
+use Rattle.bw_connections.specs.declared.connection.Connection.{Connection}
+use Rattle.bw_connections.specs.declared.connections.Closed.{Closed}
+use Rattle.bw_connections.specs.declared.connections.Connections.{Connections}
+use Rattle.bw_connections.specs.Keeping.{Tagged, HoldsConnectionAt, own}
+use Rattle.bw_connections.specs.Served.{ServesEachConnection}
+use Rattle.bw_delivery.specs.Deliveries.{LinkBytes, IsPartOf, AnswersOver}
+
+module _ {L : Type 0} (G : LinkGhosts L) where
+  -- the connection with this number has this link: at its place, or where it is over
+  abbrev pub HasLink : Connections L → List (Closed L) → ℕ → L → Type 0
+  HasLink m over n link =
+      ((i : ℕ) × (c : Connection L) × HoldsConnectionAt m i c × (c.number ≡ n) × (c.link ≡ link))
+      ⊎ ((x : Closed L) × Contains over x × (x.number ≡ n) × (x.link ≡ link))
+
+  -- The server's end of a link: what it gave is a prefix of the one list of bytes, and the other list
+  -- is a prefix of what it took.
+  pub record IsServerEnd (link : L) (l : LinkBytes) : Type 0 where
+    pub received : (xs : List ℕ) → G.given link xs → IsPartOf xs l.received
+    pub answered : (ys : List ℕ) → G.taken link ys → IsPartOf l.answered ys
+
+  -- Of a server of many connections, each link is answered its own frames.
+  abbrev pub ConnectionsAnswer : Type 0
+  ConnectionsAnswer = (m : Connections L) (over : List (Closed L)) (trace : List Tagged) →
+      ServesEachConnection G m over trace → (n : ℕ) (link : L) (l : LinkBytes) →
+      HasLink m over n link → IsServerEnd link l → AnswersOver (own n trace) l.received l.answered

@@ -1,0 +1,34 @@
+//! What the program's commands come to together, each by the relation that its contract states: laws,
+//! which nothing runs.
+#![tactic(auto)]
+
+ghost use Rattle.bw_end_to_end.specs.Promises.{ClosedTakesHaveFiles, SendersCountTakes};
+ghost use Rattle.bw_end_to_end.specs.SentInRounds.{RoundsSendRequests};
+ghost use Rattle.bw_end_to_end.specs.ServedLinks.{ConnectionsAnswer};
+
+use bw_journal::Journal;
+use bw_ports::{Dial, Link};
+use bw_store::TakeStore;
+
+/// A sender that has the verdict Stored for each of its requests may rely on the server's file:
+/// whatever else came to the server under other names, its take is what these requests make, each
+/// applied once in their order, and if one of them is a CLOSE, an honest store has that take's file,
+/// byte for byte, from then on.
+pub fn law_promise<S: TakeStore, J: Journal>()
+    ensures counts { SendersCountTakes S.TakeStore J.Journal }
+    ensures files { ClosedTakesHaveFiles S.TakeStore J.Journal }
+{
+    bw_engine::laws::law_server_runs::<S, J>();
+}
+
+/// What `send` wrote over its links, for links that report it, are its requests, each under its
+/// number; and each verdict that its sender has came over one of them.
+pub fn law_sent<D: Dial>()
+    ensures { RoundsSendRequests D.Dial D.Reader.Source D.Writer.Sink }
+{}
+
+/// What a server of many connections answered over a link are the first frames of the bytes that the
+/// link gave, and what the link took is a prefix of their replies.
+pub fn law_served<L: Link>()
+    ensures connections { ConnectionsAnswer L.Link }
+{}
