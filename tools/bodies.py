@@ -264,6 +264,8 @@ def read(path, sources):
         items |= {item} - {None}
     if not changed | items:
         return "it changes nothing"
+    if unknown := refused - sources.files.keys():
+        return f"no function of src/ has the name {min(unknown)}"
     if unknown := clauses - {it for function in changed for it in sources.clauses(function)}:
         return f"no function that it changes has the clause {min(unknown)}"
     if others := {it for function in changed for it in sources.cited(function, clauses)} - clauses:
