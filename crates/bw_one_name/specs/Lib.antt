@@ -1,0 +1,5 @@
+pub mod Filters
+pub mod OneName
+pub mod Filtering
+pub mod Wrapping
+pub mod Connected

@@ -1,0 +1,22 @@
+//! Laws of the filter. Each function's contract is one; nothing runs.
+ghost use Rattle.bw_one_name.specs.Connected.{ConnectionsAnswerOneName};
+ghost use Rattle.bw_one_name.specs.OneName.{OneNameIsLeft};
+
+use crate::link::FilteredLink;
+use bw_ports::Link;
+
+/// Of what the filter gives for an exchange's bytes, the frames are those of the exchange up to the
+/// first under another name than the first's. That one is bad for its name, at its place, and ends
+/// the exchange; without one it ends alike.
+pub fn law_one_name()
+    ensures { OneNameIsLeft }
+{}
+
+/// Over a filtered link with one name, whatever came between its turns, the answered frames are the
+/// first of those that the link itself gave, up to the first under another name than the first's.
+pub fn law_connections<L: Link>()
+    ensures { ConnectionsAnswerOneName ⟦<FilteredLink<L> as Link>⟧ L.Link }
+{
+    bw_connections::laws::law_connections::<FilteredLink<L>>();
+    law_one_name();
+}

@@ -1,0 +1,18 @@
+//! Connections that may have one name alone: a filter of what comes over a link, byte by byte, which
+//! leaves no frame whole under another name than the first's.
+#![tactic(auto)]
+
+mod filter;
+pub mod laws;
+mod link;
+mod network;
+mod peers;
+mod reactor;
+mod reader;
+
+pub use filter::NameFilter;
+pub use link::FilteredLink;
+pub use network::{FilteredNetwork, NameRule};
+pub use peers::FilteredPeers;
+pub use reactor::FilteredReactor;
+pub use reader::FilteredReader;

@@ -1,0 +1,122 @@
+//! A network whose links are filtered, if that is chosen.
+ghost use Rattle.std.specs.Prelude.{◌≡◌, Bool, false};
+ghost use Rattle.bw_one_name.specs.Wrapping.{ListensFiltered, OpensFiltered};
+
+use crate::peers::FilteredPeers;
+use crate::reactor::FilteredReactor;
+use bw_layout::Limit;
+use bw_ports::{ListenerSetup, Network, StartRefusal, Starts};
+use std::io;
+use std::net::SocketAddr;
+
+/// A choice whether each link of a server may have one name alone.
+pub trait NameRule {
+    /// After a call for this choice it may be in the second state.
+    ghost chooses: { Self → Bool → Self → Type 0 };
+
+    /// Chooses whether each link that comes from now on may have one name alone, or any.
+    ///
+    /// # Not specified
+    /// Anything beyond what each implementation says of itself.
+    fn choose(&mut self, one_name: bool)
+        ensures { chooses self.old one_name self.new };
+}
+
+/// A network, and whether each link to its servers may have one name alone.
+#[derive(Drop)]
+pub struct FilteredNetwork<N> {
+    network: N,
+    one_name: bool,
+}
+
+impl<N> FilteredNetwork<N> {
+    /// A network whose links may have any name.
+    pub fn new(network: N) -> FilteredNetwork<N>
+        ensures network { result.network ≡ network }
+        ensures one_name { result.one_name ≡ false }
+    {
+        FilteredNetwork {
+            network,
+            one_name: false,
+        }
+    }
+}
+
+impl<N> NameRule for FilteredNetwork<N> {
+    ghost chooses = { λ n one_name n'.
+        (n'.network ≡ n.network) × (n'.one_name ≡ one_name) };
+
+    fn choose(&mut self, one_name: bool) {
+        self.one_name = one_name;
+    }
+}
+
+impl<N: Network> Network for FilteredNetwork<N> {
+    type Store = N::Store;
+
+    type Peers = FilteredPeers<N::Peers>;
+
+    type Dial = N::Dial;
+
+    ghost failures = { λ n. N.failures n.network };
+
+    ghost stores = { λ n folder result n'.
+        N.stores n.network folder result n'.network × (n'.one_name ≡ n.one_name) };
+
+    ghost listens = { λ n address folder timeout result n'.
+        ListensFiltered (N.listens n.network address folder timeout) n result n' };
+
+    ghost calls = { λ n address timeout dial. N.calls n.network address timeout dial };
+
+    fn store(&mut self, folder: &str) -> Result<N::Store, StartRefusal> {
+        self.network.store(folder)
+    }
+
+    fn listen(
+        &mut self,
+        address: SocketAddr,
+        folder: &str,
+        timeout: Option<u32>,
+    ) -> io::Result<FilteredPeers<N::Peers>> {
+        match self.network.listen(address, folder, timeout) {
+            Ok(peers) => Ok(FilteredPeers::new(peers, self.one_name)),
+            Err(error) => Err(error),
+        }
+    }
+
+    fn dial(&self, address: SocketAddr, timeout: Option<u32>) -> N::Dial {
+        self.network.dial(address, timeout)
+    }
+}
+
+impl<N: ListenerSetup> ListenerSetup for FilteredNetwork<N> {
+    type Reactor = FilteredReactor<N::Reactor>;
+
+    ghost failures = { λ n. N.failures n.network };
+
+    ghost opens = { λ n address folder places result n'.
+        OpensFiltered (N.opens n.network address folder places) n result n' };
+
+    fn reactor(
+        &mut self,
+        address: SocketAddr,
+        folder: &str,
+        places: usize,
+    ) -> io::Result<FilteredReactor<N::Reactor>> {
+        match self.network.reactor(address, folder, places) {
+            Ok(reactor) => Ok(FilteredReactor::new(reactor, self.one_name)),
+            Err(error) => Err(error),
+        }
+    }
+}
+
+impl<T, N: Starts<T>> Starts<T> for FilteredNetwork<N> {
+    ghost failures = { λ n. N.failures n.network };
+
+    ghost starts = { λ n folder limit sync result n'.
+        N.starts n.network folder limit sync result n'.network × (n'.one_name ≡ n.one_name) };
+
+    fn start(&mut self, folder: &str, limit: Limit, sync: bool) -> Result<T, StartRefusal> {
+        self.network.start(folder, limit, sync)
+    }
+}

@@ -1,0 +1,67 @@
+//! A reactor whose links are filtered.
+ghost use Rattle.std.specs.Prelude.{◌≡◌};
+ghost use Rattle.bw_one_name.specs.Wrapping.{AdmitsFiltered};
+
+use crate::link::FilteredLink;
+use bw_ports::{Accepted, Reactor, Ready, TryAcceptFault, WaitFault};
+
+/// A reactor, each link of which may have one name alone, or any.
+#[derive(Drop)]
+pub struct FilteredReactor<B> {
+    reactor: B,
+    one_name: bool,
+}
+
+impl<B> FilteredReactor<B> {
+    /// A reactor whose links have one name each, or any.
+    pub fn new(reactor: B, one_name: bool) -> FilteredReactor<B>
+        ensures reactor { result.reactor ≡ reactor }
+        ensures one_name { result.one_name ≡ one_name }
+    {
+        FilteredReactor { reactor, one_name }
+    }
+}
+
+impl<B: Reactor> Reactor for FilteredReactor<B> {
+    type Link = FilteredLink<B::Link>;
+
+    ghost failures = { λ b. B.failures b.reactor };
+
+    ghost waits = { λ b. B.waits b.reactor };
+
+    ghost time = { λ b. B.time b.reactor };
+
+    ghost patience = { λ b. B.patience b.reactor };
+
+    ghost reported = { λ b links. B.reported b.reactor links };
+
+    ghost all_reported = { λ b. B.all_reported b.reactor };
+
+    ghost tried = { λ b count. B.tried b.reactor count };
+
+    ghost nobody = { λ b. B.nobody b.reactor };
+
+    ghost admitted = { λ b links. AdmitsFiltered (B.admitted b.reactor) b.one_name links };
+
+    fn wait(&mut self, most: u64) -> Result<(), WaitFault> {
+        self.reactor.wait(most)
+    }
+
+    fn next_ready(&mut self) -> Option<Ready> {
+        self.reactor.next_ready()
+    }
+
+    fn accept(&mut self, place: usize) -> Result<Accepted<FilteredLink<B::Link>>, TryAcceptFault> {
+        match self.reactor.accept(place) {
+            Ok(Accepted { address, link }) => Ok(Accepted {
+                address,
+                link: FilteredLink::new(link, self.one_name),
+            }),
+            Err(fault) => Err(fault),
+        }
+    }
+
+    fn now(&mut self) -> u64 {
+        self.reactor.now()
+    }
+}

@@ -1,0 +1,44 @@
+//! A reader of which the filter gives what comes.
+ghost use Rattle.std.specs.Prelude.{◌≡◌};
+ghost use Rattle.bw_one_name.specs.Filters.{starting};
+
+use crate::filter::NameFilter;
+use bw_stream::{IoFailed, Source};
+
+/// A reader, and the filter of what it gives.
+#[derive(Drop)]
+pub struct FilteredReader<R> {
+    reader: R,
+    filter: NameFilter,
+}
+
+impl<R> FilteredReader<R> {
+    /// A reader at the start of an exchange, with one name alone, or with any.
+    pub fn new(reader: R, one_name: bool) -> FilteredReader<R>
+        ensures reader { result.reader ≡ reader }
+        ensures filter { result.filter ≡ starting one_name }
+    {
+        FilteredReader {
+            reader,
+            filter: NameFilter::new(one_name),
+        }
+    }
+}
+
+impl<R: Source> Source for FilteredReader<R> {
+    ghost use Rattle.bw_one_name.specs.Filtering.{left_through};
+
+    ghost left = { λ r. left_through r.filter (R.left r.reader) };
+
+    ghost moved = { λ r. R.moved r.reader };
+
+    ghost calls = { λ r. R.calls r.reader };
+
+    ghost failures = { λ r. R.failures r.reader };
+
+    fn read(&mut self, buf: &mut [u8]) -> Result<usize, IoFailed> {
+        let count = self.reader.read(buf)?;
+        self.filter.pass(buf, count);
+        Ok(count)
+    }
+}
