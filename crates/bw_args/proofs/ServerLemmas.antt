@@ -57,6 +57,7 @@ alone_asks program listen folder address at full =
           serves = serves_by None None None _ refl refl refl refl;
           reports = refl;
           journals = refl;
+          names = refl;
         },
       );
     }
@@ -79,6 +80,7 @@ exchanges_asks program listen folder address count at full given =
           serves = serves_by None None None _ refl refl refl refl;
           reports = refl;
           journals = refl;
+          names = refl;
         },
       );
     }
@@ -101,6 +103,7 @@ limit_asks program listen folder address limit at full given =
           serves = serves_by None None None _ refl refl refl refl;
           reports = refl;
           journals = refl;
+          names = refl;
         },
       );
     }
@@ -123,6 +126,7 @@ timeout_asks program listen folder address seconds at full given =
           serves = serves_by (Some (number_written seconds)) None None _ (given, refl) refl refl refl;
           reports = refl;
           journals = refl;
+          names = refl;
         },
       );
     }
@@ -145,6 +149,7 @@ recorders_asks program listen folder address count at full given =
           serves = serves_by None (Some (number_written count)) None _ refl (given, refl) refl refl;
           reports = refl;
           journals = refl;
+          names = refl;
         },
       );
     }
@@ -170,6 +175,7 @@ idle_asks program listen folder address count seconds at full given idles =
               (idles, refl) refl;
           reports = refl;
           journals = refl;
+          names = refl;
         },
       );
     }
@@ -191,6 +197,7 @@ network_asks program listen folder address at full =
           serves = serves_by None None None _ refl refl refl refl;
           reports = refl;
           journals = refl;
+          names = refl;
         },
       );
     }
@@ -213,6 +220,7 @@ until_stopped_asks program listen folder address at full =
           serves = serves_by None None None _ refl refl refl refl;
           reports = refl;
           journals = refl;
+          names = refl;
         },
       );
     }
@@ -234,6 +242,29 @@ log_asks program listen folder address at full =
           serves = serves_by None None None _ refl refl refl refl;
           reports = refl;
           journals = refl;
+          names = refl;
+        },
+      );
+    }
+
+one_name_asks : (program listen folder : Text) (address : SocketAddr) → IsAddress false listen address → folder ≢ []
+    → AsksFor (as_read (serving program listen folder (codes "--one-name" ∷ [])))
+    (Serving (record (plain_server address folder) { one_name = true }))
+unfolding clap_on_literals
+one_name_asks program listen folder address at full =
+    record {
+      taken = refl;
+      asked = (
+        refl,
+        record {
+          listens = at;
+          keeps = (full, refl);
+          ends = (None, refl, refl);
+          limited = refl;
+          serves = serves_by None None None _ refl refl refl refl;
+          reports = refl;
+          journals = refl;
+          names = refl;
         },
       );
     }
@@ -255,6 +286,7 @@ journal_asks program listen folder address at full =
           serves = serves_by None None None _ refl refl refl refl;
           reports = refl;
           journals = refl;
+          names = refl;
         },
       );
     }
@@ -276,6 +308,7 @@ sync_asks program listen folder address at full =
           serves = serves_by None None None _ refl refl refl refl;
           reports = refl;
           journals = refl;
+          names = refl;
         },
       );
     }
@@ -299,6 +332,7 @@ apart_near program folder address at full = record {
       serves = serves_by None None None _ refl refl refl refl;
       reports = refl;
       journals = refl;
+      names = refl;
     },
   );
 }
@@ -457,4 +491,5 @@ runs_server words line is = record {
   log = λ p l f a at full e. asked_runs words _ line _ is e (log_asks p l f a at full);
   journal = λ p l f a at full e. asked_runs words _ line _ is e (journal_asks p l f a at full);
   sync = λ p l f a at full e. asked_runs words _ line _ is e (sync_asks p l f a at full);
+  one_name = λ p l f a at full e. asked_runs words _ line _ is e (one_name_asks p l f a at full);
 }

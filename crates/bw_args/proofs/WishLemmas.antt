@@ -105,6 +105,7 @@ one_server given a b x y =
     let serves = one_way given a.recorders b.recorders x.serves y.serves in
     let reports = x.reports ∙ sym y.reports in
     let journals = one_journaling _ _ a.journal b.journal x.journals y.journals in
+    let names = x.names ∙ sym y.names in
     λ i. record {
       listen = listens i;
       folder = keeps i;
@@ -113,6 +114,7 @@ one_server given a b x y =
       recorders = serves i;
       log = reports i;
       journal = journals i;
+      one_name = names i;
     }
 
 one_sender : (given : Text → Option Text) (a b : Sender) → GivesSender given a → GivesSender given b → a ≡ b

@@ -104,6 +104,10 @@ journal_flag = flag (codes "journal")
 abbrev pub sync_flag : Rule
 sync_flag = flag (codes "sync")
 
+-- `--one-name`
+abbrev pub one_name_flag : Rule
+one_name_flag = flag (codes "one-name")
+
 -- `serve` with the options that say what is served and where
 abbrev pub serve_where : App
 serve_where =
@@ -122,9 +126,9 @@ serve_many = with_rule (with_rule serve_how recorders_option) idle_option
 abbrev pub serve_ends : App
 serve_ends = with_rule (with_rule serve_many until_stopped_flag) log_flag
 
--- `serve`, with its twelve options
+-- `serve`, with its thirteen options
 abbrev pub serve_command : App
-serve_command = with_rule (with_rule serve_ends journal_flag) sync_flag
+serve_command = with_rule (with_rule (with_rule serve_ends journal_flag) sync_flag) one_name_flag
 
 -- `--connect ADDR`
 abbrev pub connect_option : Rule

@@ -52,6 +52,7 @@ pub record Service : Type 0 where
   pub recorders : Way
   pub log : Bool
   pub journal : Journaling
+  pub one_name : Bool
 
 -- how a sender tries, by the three options that say it
 pub record GivesTries (given : Text → Option Text) (tries : Tries) : Type 0 where
@@ -93,6 +94,7 @@ wish_of (Serve server) = Serving (record {
   recorders = server.recorders;
   log = server.log;
   journal = server.journal;
+  one_name = server.one_name;
 })
 wish_of (Send sender) = Sending sender
 wish_of (SendFile sender) = Uploading (record {
@@ -117,6 +119,7 @@ pub record GivesServer (given : Text → Option Text) (server : Service) : Type 
   pub reports : server.log ≡ is_set (given (codes "log"))
   pub journals :
       IsJournaling (is_set (given (codes "journal"))) (is_set (given (codes "sync"))) server.journal
+  pub names : server.one_name ≡ is_set (given (codes "one-name"))
 
 -- what is given is this sender
 pub record GivesSender (given : Text → Option Text) (sender : Sender) : Type 0 where

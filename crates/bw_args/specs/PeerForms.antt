@@ -32,6 +32,7 @@ plain_server address folder = record {
   recorders = InTurn None;
   log = false;
   journal = Without;
+  one_name = false;
 }
 
 -- `serve --listen=ADDR --folder=DIR`, and what follows
@@ -111,6 +112,9 @@ pub record RunsServer (words : List Text) (line : CommandLine) : Type 0 where
   -- with `--journal --sync`
   pub sync : ForServer false words (codes "--journal" ∷ codes "--sync" ∷ [])
       (AsksToServe line (λ s. record s { journal = Synced }))
+  -- with `--one-name`
+  pub one_name : ForServer false words (codes "--one-name" ∷ [])
+      (AsksToServe line (λ s. record s { one_name = true }))
 
 -- the sender of which only address and name are said
 abbrev pub plain_sender : SocketAddr → Text → Sender

@@ -50,6 +50,8 @@ pub struct Serve {
     pub log: bool,
     /// Whether it keeps journals.
     pub journal: Journaling,
+    /// Whether a second name ends a connection.
+    pub one_name: bool,
 }
 
 /// The sender that a command line asks for.

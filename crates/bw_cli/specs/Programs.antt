@@ -29,7 +29,7 @@ use Rattle.bw_ports.specs.declared.listener_setup.ListenerSetup.{Ghosts as Liste
 use Rattle.bw_ports.specs.declared.starts.Starts.{Ghosts as StartGhosts}
 use Rattle.bw_session.specs.declared.server.Server.{Server}
 use Rattle.bw_cli.specs.Packed.{Packs}
-use Rattle.bw_cli.specs.Remote.{Sends, ServesWith}
+use Rattle.bw_cli.specs.Remote.{Sends, ServesByRule}
 use Rattle.bw_cli.specs.Uploads.{SendsRecording}
 use Rattle.bw_cli.specs.Sides.{HostSide, SenderSide, ServerSide, UploadSide}
 use Rattle.bw_cli.specs.declared.outside.Outside.{Outside}
@@ -94,7 +94,7 @@ IsUnread true did = IsOutOfMemory did
 IsUnread false did = (kind : ErrorKind) × IsBadArgv kind did
 
 module _ {S T F H G M N X Y Z P R W L K D A B U Q I O E V C : Type 0} (host : HostSide S T F H G M I O E)
-    (server_side : ServerSide X Y Z P R W L K) (sender_side : SenderSide D A B)
+    (server_side : ServerSide X Y Z P R W L K N) (sender_side : SenderSide D A B)
     (upload_side : UploadSide U Q) (network : NetworkGhosts N X P D R W A B) (listener_setup : ListenerSetupGhosts N L K)
     (starter : StartGhosts N (Server X Y server_side.store server_side.journal)) where
   -- this is done without the network, and without recordings, where so many calls of the system
@@ -116,7 +116,7 @@ module _ {S T F H G M N X Y Z P R W L K D A B U Q I O E V C : Type 0} (host : Ho
   abbrev pub IsDoneFor : (Text → Option (List ℕ)) → ℕ → CommandLine → Exit →
       Outside S F N Q I O E V C → Outside S F N Q I O E V C → Type 0
   IsDoneFor file_at failed (Run (Serve server)) exit x x' =
-      ServesWith server_side host.out host.reported network listener_setup starter server.journal server exit
+      ServesByRule server_side host.out host.reported network listener_setup starter server exit
       x.network x'.network x.out x'.out x.faults x'.faults
       × IsHostWell failed x' × (x'.files ≡ x.files) × (x'.input ≡ x.input)
       × (x'.pause ≡ x.pause)

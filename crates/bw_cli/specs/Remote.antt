@@ -50,7 +50,7 @@ pub record IsHosting (server : Serve) (most idle : ℕ) (hosting : Hosting) : Ty
   pub limited : hosting.limit ≡ server.limit
   pub logs : hosting.log ≡ server.log
 
-module _ {X Y Z P R W L K O E N D A B : Type 0} (side : ServerSide X Y Z P R W L K)
+module _ {X Y Z P R W L K O E N D A B : Type 0} (side : ServerSide X Y Z P R W L K N)
     (out : Writer O) (reported : Writer E) (network : NetworkGhosts N X P D R W A B)
     (listener_setup : ListenerSetupGhosts N L K)
     (starter : StartGhosts N (Server X Y side.store side.journal)) where
@@ -108,6 +108,13 @@ module _ {X Y Z P R W L K O E N D A B : Type 0} (side : ServerSide X Y Z P R W L
       ResumesAs server.recorders false server exit n n' o o' e e'
   ServesWith journals.Synced server exit n n' o o' e e' =
       ResumesAs server.recorders true server exit n n' o o' e e'
+
+  -- after it was chosen whether each link may have one name alone
+  pub record ServesByRule (server : Serve) (exit : Exit) (n n' : N) (o o' : O) (e e' : E)
+      : Type 0 where
+    pub chosen : N
+    pub chooses : side.rule.chooses n server.one_name chosen
+    pub serves : ServesWith server.journal server exit chosen n' o o' e e'
 
 module _ {N X P R W D A B I O E : Type 0} (network : NetworkGhosts N X P D R W A B)
     (side : SenderSide D A B) (input : Reader I) (out : Writer O) (reported : Writer E) where

@@ -4,6 +4,7 @@ use Rattle.bw_stream.specs.declared.sink.Sink.{Ghosts as Writer}
 use Rattle.bw_stream.specs.declared.source.Source.{Ghosts as Reader}
 use Rattle.bw_store.specs.declared.store.TakeStore.{Ghosts as StoreGhosts}
 use Rattle.bw_journal.specs.declared.journal.Journal.{Ghosts as JournalGhosts}
+use Rattle.bw_one_name.specs.declared.network.NameRule.{Ghosts as RuleGhosts}
 use Rattle.bw_ports.specs.declared.dial.Dial.{Ghosts as DialGhosts}
 use Rattle.bw_ports.specs.declared.link.Link.{Ghosts as LinkGhosts}
 use Rattle.bw_ports.specs.declared.peers.Peers.{Ghosts as PeerGhosts}
@@ -30,7 +31,7 @@ host_side system files input out reported =
 
 -- what a server keeps files and journals in, those of a server without journals too, and what it
 -- hears recorders by
-pub record ServerSide (X Y Z P R W L K : Type 0) : Type 1 where
+pub record ServerSide (X Y Z P R W L K N : Type 0) : Type 1 where
   pub store : StoreGhosts X
   pub journal : JournalGhosts Y
   pub none : JournalGhosts Z
@@ -39,11 +40,13 @@ pub record ServerSide (X Y Z P R W L K : Type 0) : Type 1 where
   pub writer : Writer W
   pub reactor : ReactorGhosts L K
   pub link : LinkGhosts K
+  -- and how it chooses whether a link may have one name alone
+  pub rule : RuleGhosts N
 
-abbrev pub server_side : {X Y Z P R W L K : Type 0} → StoreGhosts X → JournalGhosts Y →
+abbrev pub server_side : {X Y Z P R W L K N : Type 0} → StoreGhosts X → JournalGhosts Y →
     JournalGhosts Z → PeerGhosts P R W → Reader R → Writer W → ReactorGhosts L K → LinkGhosts K →
-    ServerSide X Y Z P R W L K
-server_side store journal none peers reader writer reactor link = record {
+    RuleGhosts N → ServerSide X Y Z P R W L K N
+server_side store journal none peers reader writer reactor link rule = record {
   store = store;
   journal = journal;
   none = none;
@@ -52,6 +55,7 @@ server_side store journal none peers reader writer reactor link = record {
   writer = writer;
   reactor = reactor;
   link = link;
+  rule = rule;
 }
 
 -- what a sender reaches a server by

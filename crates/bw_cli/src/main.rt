@@ -8,6 +8,7 @@ mod remote;
 mod uploads;
 
 use bw_net::{ClockPause, Host, HostRecordings, TcpNetwork, Terminal};
+use bw_one_name::FilteredNetwork;
 use bw_send_file::LinkLog;
 use bw_stream::StdIo;
 use outside::Outside;
@@ -18,7 +19,7 @@ fn main(rt: HostRuntime) -> ExitCode {
     let mut outside = Outside {
         system: Host::new(&rt),
         files: HostRecordings::new(&rt),
-        network: TcpNetwork::new(&rt),
+        network: FilteredNetwork::new(TcpNetwork::new(&rt)),
         pause: ClockPause::new(&rt),
         input: StdIo::new(rt.stdin()),
         out: StdIo::new(rt.stdout()),

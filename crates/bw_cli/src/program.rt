@@ -21,6 +21,7 @@ use bw_console::print::{give_up, print, print_diagnostic};
 use bw_console::{Exit, Fault, report_bad_argv};
 use bw_journal::{Journal, NoJournal};
 use bw_layout::Limit;
+use bw_one_name::NameRule;
 use bw_ports::{ListenerSetup, Network, Pause, RecordingFiles, Starts, System, Watch};
 use bw_send_file::PlanFeed;
 use bw_session::Server;
@@ -41,7 +42,7 @@ pub fn start<
     S: System,
     F: RecordingFiles,
     J: Journal,
-    N: Network + ListenerSetup + Starts<Server<N::Store, J>>,
+    N: Network + ListenerSetup + Starts<Server<N::Store, J>> + NameRule,
     P: Pause,
     R: Source,
     W: Sink,
@@ -52,7 +53,7 @@ pub fn start<
     ensures { (exit : Exit) × (exit_status result ≡ status_of exit) × IsProgram
         (host_side S.System F.RecordingFiles R.Source W.Sink E.Sink)
         (server_side N.Store.TakeStore J.Journal ⟦<NoJournal as Journal>⟧ N.Peers.Peers
-        N.Peers.Reader.Source N.Peers.Writer.Sink N.Reactor.Reactor N.Reactor.Link.Link)
+        N.Peers.Reader.Source N.Peers.Writer.Sink N.Reactor.Reactor N.Reactor.Link.Link N.NameRule)
         (sender_side N.Dial.Dial N.Dial.Reader.Source N.Dial.Writer.Sink)
         (upload_side ⟦<PlanFeed<F::File, F::Stamped> as Feed>⟧ (LooksAt F.Stamped.Stamped) P.Pause)
         N.Network N.ListenerSetup N.Starts (S.words outside.old.system) exit outside.old outside.new }
@@ -65,7 +66,7 @@ fn obey<
     S: System,
     F: RecordingFiles,
     J: Journal,
-    N: Network + ListenerSetup + Starts<Server<N::Store, J>>,
+    N: Network + ListenerSetup + Starts<Server<N::Store, J>> + NameRule,
     P: Pause,
     R: Source,
     W: Sink,
@@ -75,7 +76,7 @@ fn obey<
 >(alloc: Global, outside: &mut Outside<S, F, N, P, R, W, E, V, G>) -> Exit
     ensures { IsProgram (host_side S.System F.RecordingFiles R.Source W.Sink E.Sink)
         (server_side N.Store.TakeStore J.Journal ⟦<NoJournal as Journal>⟧ N.Peers.Peers
-        N.Peers.Reader.Source N.Peers.Writer.Sink N.Reactor.Reactor N.Reactor.Link.Link)
+        N.Peers.Reader.Source N.Peers.Writer.Sink N.Reactor.Reactor N.Reactor.Link.Link N.NameRule)
         (sender_side N.Dial.Dial N.Dial.Reader.Source N.Dial.Writer.Sink)
         (upload_side ⟦<PlanFeed<F::File, F::Stamped> as Feed>⟧ (LooksAt F.Stamped.Stamped) P.Pause)
         N.Network N.ListenerSetup N.Starts (S.words outside.old.system) result outside.old outside.new }
@@ -91,7 +92,7 @@ fn answer<
     S: System,
     F: RecordingFiles,
     J: Journal,
-    N: Network + ListenerSetup + Starts<Server<N::Store, J>>,
+    N: Network + ListenerSetup + Starts<Server<N::Store, J>> + NameRule,
     P: Pause,
     R: Source,
     W: Sink,
@@ -101,7 +102,7 @@ fn answer<
 >(alloc: Global, words: &[String], outside: &mut Outside<S, F, N, P, R, W, E, V, G>) -> Exit
     ensures { IsProgram (host_side S.System F.RecordingFiles R.Source W.Sink E.Sink)
         (server_side N.Store.TakeStore J.Journal ⟦<NoJournal as Journal>⟧ N.Peers.Peers
-        N.Peers.Reader.Source N.Peers.Writer.Sink N.Reactor.Reactor N.Reactor.Link.Link)
+        N.Peers.Reader.Source N.Peers.Writer.Sink N.Reactor.Reactor N.Reactor.Link.Link N.NameRule)
         (sender_side N.Dial.Dial N.Dial.Reader.Source N.Dial.Writer.Sink)
         (upload_side ⟦<PlanFeed<F::File, F::Stamped> as Feed>⟧ (LooksAt F.Stamped.Stamped) P.Pause)
         N.Network N.ListenerSetup N.Starts (Some (map string_bytes words.now)) result outside.old outside.new }
@@ -117,7 +118,7 @@ fn perform<
     S: System,
     F: RecordingFiles,
     J: Journal,
-    N: Network + ListenerSetup + Starts<Server<N::Store, J>>,
+    N: Network + ListenerSetup + Starts<Server<N::Store, J>> + NameRule,
     P: Pause,
     R: Source,
     W: Sink,
@@ -128,7 +129,7 @@ fn perform<
     requires { HasNumbersInRange line.now }
     ensures { IsDoneFor (host_side S.System F.RecordingFiles R.Source W.Sink E.Sink)
         (server_side N.Store.TakeStore J.Journal ⟦<NoJournal as Journal>⟧ N.Peers.Peers
-        N.Peers.Reader.Source N.Peers.Writer.Sink N.Reactor.Reactor N.Reactor.Link.Link)
+        N.Peers.Reader.Source N.Peers.Writer.Sink N.Reactor.Reactor N.Reactor.Link.Link N.NameRule)
         (sender_side N.Dial.Dial N.Dial.Reader.Source N.Dial.Writer.Sink)
         (upload_side ⟦<PlanFeed<F::File, F::Stamped> as Feed>⟧ (LooksAt F.Stamped.Stamped) P.Pause)
         N.Network N.ListenerSetup N.Starts (S.file_at outside.old.system) (S.failures outside.old.system) line.now result
@@ -149,7 +150,7 @@ fn run<
     S: System,
     F: RecordingFiles,
     J: Journal,
-    N: Network + ListenerSetup + Starts<Server<N::Store, J>>,
+    N: Network + ListenerSetup + Starts<Server<N::Store, J>> + NameRule,
     P: Pause,
     R: Source,
     W: Sink,
@@ -160,7 +161,7 @@ fn run<
     requires { HasNumbersInRange (CommandLine.Run task.now) }
     ensures { IsDoneFor (host_side S.System F.RecordingFiles R.Source W.Sink E.Sink)
         (server_side N.Store.TakeStore J.Journal ⟦<NoJournal as Journal>⟧ N.Peers.Peers
-        N.Peers.Reader.Source N.Peers.Writer.Sink N.Reactor.Reactor N.Reactor.Link.Link)
+        N.Peers.Reader.Source N.Peers.Writer.Sink N.Reactor.Reactor N.Reactor.Link.Link N.NameRule)
         (sender_side N.Dial.Dial N.Dial.Reader.Source N.Dial.Writer.Sink)
         (upload_side ⟦<PlanFeed<F::File, F::Stamped> as Feed>⟧ (LooksAt F.Stamped.Stamped) P.Pause)
         N.Network N.ListenerSetup N.Starts (S.file_at outside.old.system) (S.failures outside.old.system)

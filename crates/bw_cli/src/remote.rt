@@ -1,7 +1,7 @@
 //! The commands that use the network, as a command line asks for them.
 ghost use Rattle.std.specs.Prelude.{◌≡◌};
 ghost use Rattle.bw_layout.specs.Limits.{IsLimit};
-ghost use Rattle.bw_cli.specs.Remote.{IsHosting, IsServingAs, ResumesAs, Sends, ServesAs, ServesWith};
+ghost use Rattle.bw_cli.specs.Remote.{IsHosting, IsServingAs, ResumesAs, Sends, ServesAs, ServesByRule};
 ghost use Rattle.bw_cli.specs.Remote.{exchanges_of};
 ghost use Rattle.bw_cli.specs.Sides.{sender_side, server_side};
 
@@ -9,6 +9,7 @@ use bw_args::{End, Journaling, Recorders, Send, Serve};
 use bw_console::Exit;
 use bw_journal::{Journal, NoJournal};
 use bw_layout::Limit;
+use bw_one_name::NameRule;
 use bw_ports::{ListenerSetup, Network, Starts, Watch};
 use bw_send::send_watched;
 use bw_serve::{
@@ -21,19 +22,20 @@ use std::alloc::Global;
 /// Serves as the command line asks for.
 pub(crate) fn serve_as<
     J: Journal,
-    N: Network + ListenerSetup + Starts<Server<N::Store, J>>,
+    N: Network + ListenerSetup + Starts<Server<N::Store, J>> + NameRule,
     W: Sink,
     E: Sink,
 >(alloc: Global, server: &Serve, network: &mut N, out: &mut W, faults: &mut E) -> Exit
     requires { IsLimit server.now.limit }
-    ensures { ServesWith (server_side N.Store.TakeStore J.Journal ⟦<NoJournal as Journal>⟧
-        N.Peers.Peers N.Peers.Reader.Source N.Peers.Writer.Sink N.Reactor.Reactor N.Reactor.Link.Link)
-        W.Sink E.Sink N.Network N.ListenerSetup N.Starts server.now.journal server.now result network.old
+    ensures { ServesByRule (server_side N.Store.TakeStore J.Journal ⟦<NoJournal as Journal>⟧
+        N.Peers.Peers N.Peers.Reader.Source N.Peers.Writer.Sink N.Reactor.Reactor N.Reactor.Link.Link N.NameRule)
+        W.Sink E.Sink N.Network N.ListenerSetup N.Starts server.now result network.old
         network.new out.old out.new faults.old faults.new }
 {
     let Some(limit) = Limit::new(server.limit) else {
         unreachable!();
     };
+    network.choose(server.one_name);
     match server.journal {
         Journaling::Without => serve_new::<J, _, _, _>(alloc, server, limit, network, out, faults),
         Journaling::Kept => serve_resumed(alloc, server, limit, false, network, out, faults),
@@ -44,13 +46,13 @@ pub(crate) fn serve_as<
 /// Serves without journals.
 fn serve_new<
     J: Journal,
-    N: Network + ListenerSetup + Starts<Server<N::Store, J>>,
+    N: Network + ListenerSetup + Starts<Server<N::Store, J>> + NameRule,
     W: Sink,
     E: Sink,
 >(alloc: Global, server: &Serve, limit: Limit, network: &mut N, out: &mut W, faults: &mut E) -> Exit
     requires { limit ≡ server.now.limit }
     ensures { ServesAs (server_side N.Store.TakeStore J.Journal ⟦<NoJournal as Journal>⟧
-        N.Peers.Peers N.Peers.Reader.Source N.Peers.Writer.Sink N.Reactor.Reactor N.Reactor.Link.Link)
+        N.Peers.Peers N.Peers.Reader.Source N.Peers.Writer.Sink N.Reactor.Reactor N.Reactor.Link.Link N.NameRule)
         W.Sink E.Sink N.Network N.ListenerSetup N.Starts server.now.recorders server.now result network.old
         network.new out.old out.new faults.old faults.new }
 {
@@ -69,7 +71,7 @@ fn serve_new<
 /// Serves with journals, from what an earlier server left in the folder.
 fn serve_resumed<
     J: Journal,
-    N: Network + ListenerSetup + Starts<Server<N::Store, J>>,
+    N: Network + ListenerSetup + Starts<Server<N::Store, J>> + NameRule,
     W: Sink,
     E: Sink,
 >(
@@ -83,7 +85,7 @@ fn serve_resumed<
 ) -> Exit
     requires { limit ≡ server.now.limit }
     ensures { ResumesAs (server_side N.Store.TakeStore J.Journal ⟦<NoJournal as Journal>⟧
-        N.Peers.Peers N.Peers.Reader.Source N.Peers.Writer.Sink N.Reactor.Reactor N.Reactor.Link.Link)
+        N.Peers.Peers N.Peers.Reader.Source N.Peers.Writer.Sink N.Reactor.Reactor N.Reactor.Link.Link N.NameRule)
         W.Sink E.Sink N.Network N.ListenerSetup N.Starts server.now.recorders sync server.now result network.old
         network.new out.old out.new faults.old faults.new }
 {

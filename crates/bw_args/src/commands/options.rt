@@ -2,7 +2,7 @@
 ghost use Rattle.bw_args.specs.Commands.{IsOption, connect_option, exchanges_option, file_argument};
 ghost use Rattle.bw_args.specs.Commands.{flag, folder_option, fuse_option, idle_option};
 ghost use Rattle.bw_args.specs.Commands.{limit_option, listen_option, log_flag, name_option};
-ghost use Rattle.bw_args.specs.Commands.{network_flag, option, recorders_option, required};
+ghost use Rattle.bw_args.specs.Commands.{network_flag, one_name_flag, option, recorders_option, required};
 ghost use Rattle.bw_args.specs.Commands.{file_option, fruitless_option, journal_flag, repeated};
 ghost use Rattle.bw_args.specs.Commands.{rounds_option, set_option, strict_flag, sync_flag};
 ghost use Rattle.bw_args.specs.Commands.{timeout_option, until_stopped_flag};
@@ -164,6 +164,13 @@ pub(crate) fn journal_flag<'a>(alloc: Global) -> Arg<'a>
 {
     let help = "Keeps a journal of each take, and continues what an earlier server left";
     flag_option(alloc, "journal", help)
+}
+
+pub(crate) fn one_name_flag<'a>(alloc: Global) -> Arg<'a>
+    ensures { IsOption one_name_flag result }
+{
+    let help = "Ends a connection at a message under another name than its first";
+    flag_option(alloc, "one-name", help)
 }
 
 pub(crate) fn sync_flag<'a>(alloc: Global) -> Arg<'a>

@@ -10,7 +10,8 @@ ghost use Rattle.bw_args.specs.Lines.{looked_at_waiting};
 use super::network::{address_given, count_given, flag_given};
 use super::options::{
     exchanges_option, folder_option, idle_option, journal_flag, limit_option, listen_option,
-    log_flag, network_flag, recorders_option, sync_flag, timeout_option, until_stopped_flag,
+    log_flag, network_flag, one_name_flag, recorders_option, sync_flag, timeout_option,
+    until_stopped_flag,
 };
 use super::{limit_given, named};
 use crate::{BadValue, CommandLine, End, Journaling, Recorders, Serve, Task, numbers};
@@ -22,7 +23,8 @@ pub(crate) fn serve<'a>(alloc: Global) -> Result<Command<'a>, AllocError>
 {
     serve_ends(alloc)?
         .arg(journal_flag(alloc))?
-        .arg(sync_flag(alloc))
+        .arg(sync_flag(alloc))?
+        .arg(one_name_flag(alloc))
 }
 
 /// The command with these and the options that say when it ends, and what it reports.
@@ -104,6 +106,7 @@ pub(crate) fn serve_line(alloc: Global, options: &ArgMatches<'_>) -> Result<Comm
         return Ok(CommandLine::BadValue(BadValue::Sync));
     };
     let log = flag_given(options, "log");
+    let one_name = flag_given(options, "one-name");
     let folder = String::from_str(alloc, path)?;
     Ok(CommandLine::Run(Task::Serve(Serve {
         listen,
@@ -113,6 +116,7 @@ pub(crate) fn serve_line(alloc: Global, options: &ArgMatches<'_>) -> Result<Comm
         recorders,
         log,
         journal,
+        one_name,
     })))
 }
 

@@ -139,6 +139,7 @@ returns-in_err-folder-clause-err c = on_err c.from_residual.result (
     recorders = c.in-Ok-recorders_given.recorders;
     log = c.flag_given-log.result;
     journal = c.in-Some-journaling.journal;
+    one_name = c.flag_given-one_name.result;
   }),
   tt,
   server_asked (found_of c.args.options.now) _ (record {
@@ -151,6 +152,7 @@ returns-in_err-folder-clause-err c = on_err c.from_residual.result (
     reports = c.flag_given-log.ensures;
     journals = a_journaling (found_of c.args.options.now) _ _ _ c.flag_given-is_kept.ensures
         c.flag_given-is_synced.ensures c.in-Some-journaling.ensures;
+    names = c.flag_given-one_name.ensures;
   }),
 )
 
@@ -165,4 +167,5 @@ returns-clause-ok c = server_asked (found_of c.args.options.now) _ (record {
   reports = c.flag_given-log.ensures;
   journals = a_journaling (found_of c.args.options.now) _ _ _ c.flag_given-is_kept.ensures
       c.flag_given-is_synced.ensures c.in-Some-journaling.ensures;
+  names = c.flag_given-one_name.ensures;
 })
