@@ -294,11 +294,14 @@ def batches_of(bodies, sources):
 
 
 def bodies_of(folder, names=()):
-    """The wrong bodies in such folders by crate, and a line for each that can't be applied."""
+    """The wrong bodies in such folders by crate, and a line for each that can't be applied. A name is that of a crate,
+    or of one body, as CRATE/BODY."""
     found, faults = {}, []
     for crate in sorted(ROOT.glob("crates/*")):
         paths = sorted(it for it in crate.glob(f"{folder}/*") if it.suffix != ".md")
-        if not paths or names and crate.name not in names:
+        if names and crate.name not in names:
+            paths = [it for it in paths if f"{crate.name}/{it.stem}" in names]
+        if not paths:
             continue
         sources = Sources(crate)
         for path in paths:
