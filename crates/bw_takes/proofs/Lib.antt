@@ -1,0 +1,3 @@
+pub mod TakeNameLemmas
+pub mod FindingLemmas
+pub mod ListingLemmas

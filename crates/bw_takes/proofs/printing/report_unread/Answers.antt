@@ -1,0 +1,25 @@
+use Rattle.std.proofs.Common.{inl, inr, true, refl, sym}
+use Rattle.bw_console.specs.Printing.{Nothing, IsOf}
+use Rattle.bw_console.specs.declared.exit.Exit.TheVariants.{Device, Memory}
+use Rattle.bw_takes.specs.Showings.{unread_text}
+use Rattle.bw_takes.proofs.printing.report_unread.Goals as goal
+
+pub returns-in_default : goal.returns-in_default
+returns-in_default g c =
+    let l = c.give_up.ensures.line in (
+      record { reads_all = true; out = Nothing; faults = l.0; exit = Memory },
+      sym c.give_up.ensures.exit,
+      inr (record { exit_is = refl; reads = refl; prints = refl; reports = l.1 }),
+      l.2,
+    )
+
+pub returns : goal.returns
+returns g c =
+    let l = c.print_diagnostic.ensures in
+    let reported : IsOf (unread_text c.args.folder.now) l.0 =
+    rw (c.as_bytes.ensures.value, c.as_str.ensures.value, c.in-Ok.ensures) at l.1 in (
+      record { reads_all = true; out = Nothing; faults = l.0; exit = Device },
+      refl,
+      inl (record { prints = refl; reports = reported; exit_is = refl; reads = refl }),
+      l.2,
+    )

@@ -1,0 +1,5 @@
+pub mod TakeNames
+pub mod TakeFindings
+pub mod TakeLines
+pub mod TakeReports
+pub mod Showings

@@ -1,0 +1,110 @@
+-- The line of a take, by its journal and its file.
+use Rattle.std.specs.Prelude.{◌/◌, ◌%◌, ◌*◌, ◌==◌, ◌&&◌, ℕ, Bool, Option, Some, None}
+use Rattle.std.specs.Prelude.{Result, Ok, Err, List, [], ◌∷◌, ◌++◌, codes, decimal, length, take, drop}
+use Rattle.std.specs.Prelude.{min, nat_le, if◌then◌else◌}
+use Rattle.bw_model.specs.Bytes.{u32_at}
+use Rattle.bw_model.specs.Take.{Parts, Format, frames}
+use Rattle.bw_journal.specs.Replays.{Story, JournalFault, NotBegun, NotAJournal, OtherName, OtherLimit}
+use Rattle.bw_journal.specs.Replays.{OtherVerdict, NotAnEntry, Damaged, replay}
+use Rattle.bw_journal.specs.Rows.{row_count}
+use Rattle.bw_start.specs.FaultLines.{file_cause_text}
+use Rattle.bw_start.specs.Names.{NameFault, OfJournal, OfFile, name_fault}
+
+-- the largest limit
+abbrev pub largest_limit : ℕ
+largest_limit = 4294967294
+
+-- how a journal of the largest limit begins, but for four bytes of its length and four of its kind
+abbrev pub usual_front : List ℕ
+usual_front = 0 ∷ 0 ∷ 0 ∷ 0 ∷ 0 ∷ 0 ∷ 0 ∷ 0 ∷ 254 ∷ 255 ∷ 255 ∷ 255 ∷ []
+
+-- the first twelve bytes of a journal; where it ends earlier, those of the largest limit follow
+abbrev pub journal_front : List ℕ → List ℕ
+journal_front journal =
+    take (min 12 (length journal)) journal ++ drop (min 12 (length journal)) usual_front
+
+-- a server may have this limit
+abbrev pub is_limit : ℕ → Bool
+is_limit n = nat_le 8192 n && nat_le n largest_limit && (n % 2 == 0)
+
+-- this limit, or the largest
+abbrev pub limit_or_largest : ℕ → ℕ
+limit_or_largest n = if is_limit n then n else largest_limit
+
+-- the limit of the server that began a journal, as its header has it from the ninth byte on
+unfoldable pub own_limit : List ℕ → ℕ
+own_limit journal = limit_or_largest (u32_at (journal_front journal) 8)
+
+-- what is left of so many frames at a rate after whole seconds, in thousandths, rounded down
+abbrev pub thousandths : ℕ → ℕ → ℕ
+thousandths count rate = count % rate * 1000 / rate
+
+-- the line of a take that is one word, as what is wrong with it
+unfoldable pub word_line : List ℕ → List ℕ → List ℕ
+word_line name word = name ++ codes " " ++ word ++ codes "\n"
+
+-- the line of a take without samples of the server's: its state, and the next number
+unfoldable pub next_line : List ℕ → List ℕ → ℕ → List ℕ
+next_line name word next =
+    name ++ codes " " ++ word ++ codes " next " ++ decimal next ++ codes "\n"
+
+-- how the line of a take with so many frames begins, up to its whole seconds and a dot
+unfoldable pub timed_start : List ℕ → List ℕ → ℕ → ℕ → List ℕ
+timed_start name word count seconds = name ++ codes " " ++ word ++ codes " frames "
+    ++ decimal count ++ codes " seconds " ++ decimal seconds ++ codes "."
+
+-- and how it ends: three digits of the thousandths, and the next number
+unfoldable pub timed_end : ℕ → ℕ → List ℕ
+timed_end part next = decimal (part / 100) ++ decimal (part / 10 % 10) ++ decimal (part % 10)
+    ++ codes " next " ++ decimal next ++ codes "\n"
+
+-- the line of a take with so many frames at a rate: its state, frames, seconds and the next number
+abbrev pub opened_line : List ℕ → List ℕ → ℕ → ℕ → ℕ → List ℕ
+opened_line name word count rate next =
+    timed_start name word count (count / rate) ++ timed_end (thousandths count rate) next
+
+-- whether a take is closed
+abbrev pub state_word : Bool → List ℕ
+state_word closed = if closed then codes "closed" else codes "open"
+
+-- the line of a take by its format
+abbrev pub format_line : List ℕ → Parts → Option Format → ℕ → List ℕ
+format_line name p None next = next_line name (codes "unopened") next
+format_line name p (Some f) next = opened_line name (state_word p.closed) (frames p) f.rate next
+
+-- what a journal says of its take; one whose name existed before has no file of the server's
+abbrev pub story_line : List ℕ → Parts → ℕ → List ℕ
+story_line name p next = if p.taken then next_line name (codes "stood") next
+    else format_line name p p.format next
+
+-- what is wrong with a journal
+abbrev pub journal_fault_text : JournalFault → List ℕ
+journal_fault_text NotBegun = codes "NotBegun"
+journal_fault_text NotAJournal = codes "NotAJournal"
+journal_fault_text OtherName = codes "OtherName"
+journal_fault_text OtherLimit = codes "OtherLimit"
+journal_fault_text OtherVerdict = codes "OtherVerdict"
+journal_fault_text NotAnEntry = codes "NotAnEntry"
+journal_fault_text Damaged = codes "Damaged"
+
+-- what is wrong with a take
+abbrev pub take_fault_text : NameFault → List ℕ
+take_fault_text (OfJournal f) = journal_fault_text f
+take_fault_text (OfFile f) = file_cause_text f
+
+-- the line of a take whose journal says this, and with which this is wrong
+abbrev pub judged_line : List ℕ → Result Story JournalFault → Option NameFault → List ℕ
+judged_line name reported (Some fault) = word_line name (take_fault_text fault)
+judged_line name (Ok s) None = story_line name s.parts (row_count s.table)
+judged_line name (Err f) None = next_line name (codes "unopened") 0
+
+-- what is wrong with a take, by the limit in its journal; nothing if it has none
+abbrev pub take_fault : List ℕ → Option (List ℕ) → Option (List ℕ) → Option NameFault
+take_fault name None file = None
+take_fault name (Some journal) file = name_fault (own_limit journal) name journal file
+
+-- the line of a take with this journal, if it has one, and this file
+abbrev pub take_line : List ℕ → Option (List ℕ) → Option (List ℕ) → List ℕ
+take_line name None file = next_line name (codes "stood") 0
+take_line name (Some journal) file = judged_line name (replay (own_limit journal) name journal)
+    (name_fault (own_limit journal) name journal file)

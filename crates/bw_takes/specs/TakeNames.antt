@@ -1,0 +1,33 @@
+-- The takes of a folder, by the names of its files.
+use Rattle.std.specs.Prelude.{◌≡◌, ◌⊎◌, ◌↔◌, ℕ, List, ◌++◌, codes, Option, IsSome, IsTrue}
+use Rattle.std.specs.List.{Contains}
+use Rattle.std.specs.List.Sorted.{IsStrictlySortedBy}
+use Rattle.std.specs.Ordering.{nat_cmp}
+use Rattle.std.specs.Cmp.Lexicographic.{slice_cmp}
+use Rattle.bw_model.specs.Wire.{is_name}
+use Rattle.bw_start.specs.Paths.{wave_path, notes_path}
+
+-- a file of this name is the journal of a take, or its samples
+abbrev pub IsFileOf : List ℕ → List ℕ → Type 0
+IsFileOf name file = (file ≡ name ++ codes ".journal") ⊎ (file ≡ name ++ codes ".wav")
+
+-- a take is in a folder: its journal, or a file of its name
+abbrev pub IsTakeIn : List ℕ → (List ℕ → Option (List ℕ)) → List ℕ → Type 0
+IsTakeIn folder contents name = IsTrue (is_name name)
+    × (IsSome (contents (notes_path folder name)) ⊎ IsSome (contents (wave_path folder name)))
+
+-- these are the takes of a folder
+abbrev pub ListsTakes : List ℕ → (List ℕ → Option (List ℕ)) → List (List ℕ) → Type 0
+ListsTakes folder contents names =
+    (name : List ℕ) → Contains names name ↔ IsTakeIn folder contents name
+
+-- names in the order of their bytes, each once
+abbrev pub AreNamesInOrder : List (List ℕ) → Type 0
+AreNamesInOrder names = IsStrictlySortedBy (slice_cmp nat_cmp) names
+
+-- The take that a file belongs to was added, if it belongs to one.
+pub record AddsTake (file : List ℕ) (before after : List (List ℕ)) : Type 0 where
+  pub kept : (name : List ℕ) → Contains before name → Contains after name
+  pub next : (name : List ℕ) → IsTrue (is_name name) → IsFileOf name file → Contains after name
+  pub only : (name : List ℕ) → Contains after name →
+      Contains before name ⊎ (IsTrue (is_name name) × IsFileOf name file)

@@ -1,0 +1,250 @@
+//! What is found of a take: by its journal, and by its file as far as a start reads it.
+ghost use Rattle.std.specs.Prelude.{◌≡◌, ℕ, List, Option, Some, Ok, Err, Result, IsTrue, IfOk};
+ghost use Rattle.bw_disk.specs.DiskSteps.{StaysWhole};
+ghost use Rattle.bw_model.specs.Take.{Format};
+ghost use Rattle.bw_journal.specs.Faults.{IsJournalFault};
+ghost use Rattle.bw_journal.specs.Replays.{Story, JournalFault, NotBegun as not_begun};
+ghost use Rattle.bw_journal.specs.Stories.{story_of};
+ghost use Rattle.bw_start.specs.Adoptions.{IsFileHeader};
+ghost use Rattle.bw_start.specs.FilesRead.{SeesRead};
+ghost use Rattle.bw_start.specs.Paths.{wave_path, notes_path};
+ghost use Rattle.bw_takes.specs.TakeFindings.{IsTakeFound, IsFoundBeside, IsLengthOf};
+ghost use Rattle.bw_takes.specs.TakeLines.{own_limit as limit_in};
+
+use crate::beginning::is_take_at;
+use crate::paths::path_in;
+use bw_bytes::read_u32;
+use bw_disk::{ReadFault, Volume, read_file};
+use bw_journal::{ReplayFault, Replayed, replay};
+use bw_layout::Limit;
+use bw_request::Name;
+use bw_start::{FileRead, NameFault, data_end, header_of, judge_file, read_take};
+use bw_take::TakeState;
+use std::alloc::Global;
+
+/// Journals have at most this many bytes.
+const JOURNAL_MAX: usize = 1 << 40;
+
+/// How a journal of the largest limit begins, but for its first eight bytes.
+const USUAL_FRONT: [u8; 12] = [0, 0, 0, 0, 0, 0, 0, 0, 254, 255, 255, 255];
+
+/// What is found of a take.
+#[derive(Drop)]
+pub enum TakeFinding {
+    /// It has no journal: only a file of its name is there.
+    Stood,
+    /// Its journal isn't begun.
+    Unbegun,
+    /// This is wrong with its journal or its file; memory is never the reason.
+    Refused(NameFault),
+    /// Its journal says this, and its file fits.
+    Begun(Replayed),
+}
+
+/// What is found of a take in a folder, by the limit that its journal begins with. Nothing is
+/// changed.
+///
+/// A server may be writing meanwhile: a file that only grew after its journal was read isn't too
+/// long.
+///
+/// # Errors
+/// `Disk` if a call of the disk failed; `Memory` if memory was refused, or the journal has more than
+/// 2^40 bytes.
+///
+/// # Not specified
+/// - When memory is refused.
+/// - What is found while others write.
+pub fn look_at_take<D: Volume>(
+    alloc: Global,
+    disk: &mut D,
+    folder: &str,
+    name: &Name,
+) -> Result<TakeFinding, ReadFault>
+    ensures disk { StaysWhole D.Disk disk.old disk.new }
+    ensures found { IsTrue (D.honest disk.old) → IfOk result (IsTakeFound name.now
+        (D.contents disk.old (notes_path folder.now name.now))
+        (D.contents disk.old (wave_path folder.now name.now))) }
+{
+    let wave = path_in(alloc, folder, name, ".wav")?;
+    let notes = path_in(alloc, folder, name, ".journal")?;
+    look_at_paths(alloc, disk, wave.as_str(), notes.as_str(), name)
+}
+
+/// The same of a take with its file and its journal at these paths.
+fn look_at_paths<D: Volume>(
+    alloc: Global,
+    disk: &mut D,
+    wave: &str,
+    notes: &str,
+    name: &Name,
+) -> Result<TakeFinding, ReadFault>
+    ensures disk { StaysWhole D.Disk disk.old disk.new }
+    ensures found { IsTrue (D.honest disk.old) → IfOk result (IsTakeFound name.now
+        (D.contents disk.old notes.now) (D.contents disk.old wave.now)) }
+{
+    let before = len_at(disk, wave)?;
+    match read_file(disk, alloc, notes)? {
+        Some(journal) => judge_journal(alloc, disk, wave, before, name, &journal),
+        None => Ok(TakeFinding::Stood),
+    }
+}
+
+/// How many bytes the file at a path has; 0 if nothing is there.
+fn len_at<D: Volume>(disk: &mut D, path: &str) -> Result<u64, ReadFault>
+    ensures disk { StaysWhole D.Disk disk.old disk.new }
+    ensures len { IsTrue (D.honest disk.old) →
+        IfOk result (IsLengthOf (D.contents disk.old path.now)) }
+{
+    let Ok(opened) = disk.open(path) else {
+        return Err(ReadFault::Disk);
+    };
+    let Some(file) = opened else {
+        return Ok(0);
+    };
+    match disk.len(&file) {
+        Ok(len) => Ok(len),
+        Err(_) => Err(ReadFault::Disk),
+    }
+}
+
+/// What is found of a take with this journal, whose file at this path had so many bytes before the
+/// journal was read.
+fn judge_journal<D: Volume>(
+    alloc: Global,
+    disk: &mut D,
+    wave: &str,
+    before: u64,
+    name: &Name,
+    journal: &[u8],
+) -> Result<TakeFinding, ReadFault>
+    ensures disk { StaysWhole D.Disk disk.old disk.new }
+    ensures found { IsTrue (D.honest disk.old) → IsLengthOf (D.contents disk.old wave.now) before →
+        IfOk result (IsTakeFound name.now (Some journal.now) (D.contents disk.old wave.now)) }
+{
+    if journal.len() > JOURNAL_MAX {
+        return Err(ReadFault::Memory);
+    }
+    let limit = own_limit(journal);
+    match replay(alloc, limit, name, journal) {
+        Ok(replayed) => judge_begun(alloc, disk, wave, before, limit, replayed),
+        Err(fault) => judge_fault(alloc, disk, wave, fault),
+    }
+}
+
+/// The limit of the server that began a journal, or the largest.
+#[tactic(auto, unfolding(crate::specs::TakeLines::own_limit))]
+fn own_limit(journal: &[u8]) -> Limit
+    ensures { result ≡ limit_in journal.now }
+{
+    let mut front = USUAL_FRONT;
+    let len = journal.len().min(12);
+    front[..len].copy_from_slice(&journal[..len]);
+    match Limit::new(u64::from(read_u32(&front, 8))) {
+        Some(limit) => limit,
+        None => Limit::default(),
+    }
+}
+
+/// What is found of a take whose journal says this.
+fn judge_begun<D: Volume>(
+    alloc: Global,
+    disk: &mut D,
+    wave: &str,
+    before: u64,
+    limit: Limit,
+    replayed: Replayed,
+) -> Result<TakeFinding, ReadFault>
+    ensures disk { StaysWhole D.Disk disk.old disk.new }
+    ensures found { IsTrue (D.honest disk.old) → IsLengthOf (D.contents disk.old wave.now) before →
+        IfOk result (IsFoundBeside limit (Ok (story_of replayed)) (D.contents disk.old wave.now)) }
+{
+    let header = header_if(alloc, &replayed.state, limit)?;
+    let read = read_take(disk, alloc, wave, &replayed.state)?;
+    let settled = settled(&replayed.state, before, read);
+    let facts = settled.as_ref().map(FileRead::facts);
+    match judge_file(&replayed.state, limit, &header, facts) {
+        Ok(_) => Ok(TakeFinding::Begun(replayed)),
+        Err(fault) => Ok(TakeFinding::Refused(NameFault::File(fault))),
+    }
+}
+
+/// The bytes of a take's file before its samples; none if it isn't opened.
+fn header_if(alloc: Global, state: &TakeState, limit: Limit) -> Result<Vec<u8>, ReadFault>
+    ensures { IfOk result (λ header. (f : Format) → state.now.parts.format ≡ Some f →
+        IsFileHeader limit state.now.parts f header.items) }
+{
+    if state.format().is_none() {
+        return Ok(Vec::new(alloc));
+    }
+    match header_of(alloc, state, limit) {
+        Ok(header) => Ok(header),
+        Err(_) => Err(ReadFault::Memory),
+    }
+}
+
+/// What was read of a take's file, with the length that is judged.
+fn settled(state: &TakeState, before: u64, read: Option<FileRead>) -> Option<FileRead>
+    ensures { (file : Option (List ℕ)) → IsLengthOf file before → SeesRead state.now.parts file read →
+        SeesRead state.now.parts file result }
+{
+    match read {
+        Some(read) => Some(FileRead {
+            len: settled_len(state, before, read.len),
+            front: read.front,
+            after: read.after,
+        }),
+        None => None,
+    }
+}
+
+/// The length of a file that had so many bytes before its take's journal was read, and has so many
+/// after. Of an open take that grew meanwhile only what its journal covers counts.
+fn settled_len(state: &TakeState, before: u64, after: u64) -> u64
+    ensures { before ≡ after → result ≡ after }
+{
+    if state.is_closed() {
+        return after;
+    }
+    before.max(after.min(data_end(state)))
+}
+
+/// What is found of a take whose journal can't be replayed.
+fn judge_fault<D: Volume>(
+    alloc: Global,
+    disk: &mut D,
+    wave: &str,
+    fault: ReplayFault,
+) -> Result<TakeFinding, ReadFault>
+    ensures disk { StaysWhole D.Disk disk.old disk.new }
+    ensures found { IsTrue (D.honest disk.old) → IfOk result (λ found.
+        (limit : ℕ) (reported : Result Story JournalFault) → IsJournalFault fault reported →
+        IsFoundBeside limit reported (D.contents disk.old wave.now) found) }
+{
+    match fault {
+        ReplayFault::NotBegun => judge_unbegun(alloc, disk, wave),
+        ReplayFault::NotAJournal => Ok(TakeFinding::Refused(NameFault::Journal(fault))),
+        ReplayFault::OtherName => Ok(TakeFinding::Refused(NameFault::Journal(fault))),
+        ReplayFault::OtherLimit => Ok(TakeFinding::Refused(NameFault::Journal(fault))),
+        ReplayFault::OtherVerdict => Ok(TakeFinding::Refused(NameFault::Journal(fault))),
+        ReplayFault::NotAnEntry => Ok(TakeFinding::Refused(NameFault::Journal(fault))),
+        ReplayFault::Damaged => Ok(TakeFinding::Refused(NameFault::Journal(fault))),
+        ReplayFault::Memory => Err(ReadFault::Memory),
+    }
+}
+
+/// What is found of a take whose journal isn't begun: a file of this server beside it shows that the
+/// journal was damaged.
+fn judge_unbegun<D: Volume>(
+    alloc: Global,
+    disk: &mut D,
+    wave: &str,
+) -> Result<TakeFinding, ReadFault>
+    ensures disk { StaysWhole D.Disk disk.old disk.new }
+    ensures found { IsTrue (D.honest disk.old) → IfOk result (λ found.
+        (limit : ℕ) → IsFoundBeside limit (Err not_begun) (D.contents disk.old wave.now) found) }
+{
+    if is_take_at(alloc, disk, wave)? {
+        return Ok(TakeFinding::Refused(NameFault::Journal(ReplayFault::Damaged)));
+    }
+    Ok(TakeFinding::Unbegun)
+}

@@ -1,0 +1,183 @@
+//! The line of a take.
+ghost use Rattle.std.specs.Prelude.{◌≡◌, ◌++◌, ◌≤◌, OnOk};
+ghost use Rattle.bw_journal.specs.Rows.{row_count};
+ghost use Rattle.bw_start.specs.FaultLines.{journal_text, file_cause_text};
+ghost use Rattle.bw_takes.specs.TakeLines.{next_line, opened_line, story_line, timed_end, timed_start, word_line};
+ghost use Rattle.bw_takes.specs.TakeLines.{state_word as word_of};
+ghost use Rattle.bw_takes.specs.TakeReports.{cause_word as word_of_cause, finding_line};
+
+use crate::finding::TakeFinding;
+use bw_journal::{ReplayFault, Replayed};
+use bw_request::Name;
+use bw_start::{FileFault, NameFault};
+use std::alloc::{AllocError, Global};
+
+/// Appends the line of a take, ended by a line feed: its name; whether it is open, closed or not
+/// opened, or stood before the server's; of one with samples of the server's its frames and seconds;
+/// and its next number. Of one with which something is wrong it is the name and the cause.
+///
+/// # Errors
+/// `AllocError` if memory was refused.
+pub fn put_take_line(
+    alloc: Global,
+    name: &Name,
+    finding: &TakeFinding,
+    lines: &mut Vec<u8>,
+) -> Result<(), AllocError>
+    ensures { OnOk result (lines.new.items ≡ lines.old.items ++ finding_line name.now finding.now) }
+{
+    let Ok(name) = std::str::from_utf8(name.as_bytes()) else {
+        return Err(AllocError);
+    };
+    match finding {
+        TakeFinding::Stood => put_next(alloc, name, "stood", 0, lines),
+        TakeFinding::Unbegun => put_next(alloc, name, "unopened", 0, lines),
+        TakeFinding::Refused(fault) => put_word(alloc, name, cause_word(fault), lines),
+        TakeFinding::Begun(replayed) => put_begun(alloc, name, replayed, lines),
+    }
+}
+
+/// Appends the line of a take whose journal is begun.
+fn put_begun(
+    alloc: Global,
+    name: &str,
+    replayed: &Replayed,
+    lines: &mut Vec<u8>,
+) -> Result<(), AllocError>
+    ensures { OnOk result (lines.new.items ≡ lines.old.items
+        ++ story_line name.now replayed.now.state.parts (row_count replayed.now.table.items)) }
+{
+    let state = &replayed.state;
+    let next = replayed.table.len() / 33;
+    if state.is_taken() {
+        return put_next(alloc, name, "stood", next, lines);
+    }
+    match state.format() {
+        Some(format) => put_opened(
+            alloc,
+            name,
+            state_word(state.is_closed()),
+            state.frames(),
+            format.rate(),
+            next,
+            lines,
+        ),
+        None => put_next(alloc, name, "unopened", next, lines),
+    }
+}
+
+/// Appends the line of a take that is one word.
+#[tactic(auto, unfolding(crate::specs::TakeLines::word_line))]
+fn put_word(alloc: Global, name: &str, word: &str, lines: &mut Vec<u8>) -> Result<(), AllocError>
+    ensures { OnOk result (lines.new.items ≡ lines.old.items ++ word_line name.now word.now) }
+{
+    let line = format!(in alloc; "{name} {word}\n")?;
+    lines.extend_from_slice(line.as_bytes())
+}
+
+/// Appends the line of a take without samples of the server's.
+#[tactic(auto, unfolding(crate::specs::TakeLines::next_line))]
+fn put_next(
+    alloc: Global,
+    name: &str,
+    word: &str,
+    next: usize,
+    lines: &mut Vec<u8>,
+) -> Result<(), AllocError>
+    ensures { OnOk result (lines.new.items ≡ lines.old.items ++ next_line name.now word.now next) }
+{
+    let line = format!(in alloc; "{name} {word} next {next}\n")?;
+    lines.extend_from_slice(line.as_bytes())
+}
+
+/// Appends the line of a take with so many frames at a rate: its seconds are rounded down.
+#[tactic(auto, using(std::proofs::lemmas::List::append_assoc))]
+fn put_opened(
+    alloc: Global,
+    name: &str,
+    word: &str,
+    frames: u64,
+    rate: u32,
+    next: usize,
+    lines: &mut Vec<u8>,
+) -> Result<(), AllocError>
+    requires { 1 ≤ rate }
+    ensures { OnOk result (lines.new.items
+        ≡ lines.old.items ++ opened_line name.now word.now frames rate next) }
+{
+    let rate = u64::from(rate);
+    put_start(alloc, name, word, frames, frames / rate, lines)?;
+    put_end(alloc, frames % rate * 1000 / rate, next, lines)
+}
+
+/// Appends a line's frames and whole seconds.
+#[tactic(auto, unfolding(crate::specs::TakeLines::timed_start))]
+fn put_start(
+    alloc: Global,
+    name: &str,
+    word: &str,
+    frames: u64,
+    seconds: u64,
+    lines: &mut Vec<u8>,
+) -> Result<(), AllocError>
+    ensures { OnOk result (lines.new.items
+        ≡ lines.old.items ++ timed_start name.now word.now frames seconds) }
+{
+    let line = format!(in alloc; "{name} {word} frames {frames} seconds {seconds}.")?;
+    lines.extend_from_slice(line.as_bytes())
+}
+
+/// Appends a line's thousandths of a second and its next number.
+#[tactic(auto, unfolding(crate::specs::TakeLines::timed_end))]
+fn put_end(alloc: Global, part: u64, next: usize, lines: &mut Vec<u8>) -> Result<(), AllocError>
+    ensures { OnOk result (lines.new.items ≡ lines.old.items ++ timed_end part next) }
+{
+    let (tenths, hundredths, thousandths) = (part / 100, part / 10 % 10, part % 10);
+    let line = format!(in alloc; "{tenths}{hundredths}{thousandths} next {next}\n")?;
+    lines.extend_from_slice(line.as_bytes())
+}
+
+/// Whether a take is closed.
+fn state_word(closed: bool) -> &'static str
+    ensures { result.now ≡ word_of closed }
+{
+    if closed { "closed" } else { "open" }
+}
+
+/// What is wrong with a take, in a word.
+fn cause_word(fault: &NameFault) -> &'static str
+    ensures { result.now ≡ word_of_cause fault.now }
+{
+    match fault {
+        NameFault::Journal(fault) => journal_word(*fault),
+        NameFault::OtherLimit(_) => "OtherLimit",
+        NameFault::File(fault) => file_word(*fault),
+    }
+}
+
+/// What is wrong with a journal.
+fn journal_word(fault: ReplayFault) -> &'static str
+    ensures { result.now ≡ journal_text fault }
+{
+    match fault {
+        ReplayFault::NotBegun => "NotBegun",
+        ReplayFault::NotAJournal => "NotAJournal",
+        ReplayFault::OtherName => "OtherName",
+        ReplayFault::OtherLimit => "OtherLimit",
+        ReplayFault::OtherVerdict => "OtherVerdict",
+        ReplayFault::NotAnEntry => "NotAnEntry",
+        ReplayFault::Damaged => "Damaged",
+        ReplayFault::Memory => "Memory",
+    }
+}
+
+/// What is wrong with a file.
+fn file_word(fault: FileFault) -> &'static str
+    ensures { result.now ≡ file_cause_text fault }
+{
+    match fault {
+        FileFault::Lost => "LostFile",
+        FileFault::Changed => "ChangedFile",
+        FileFault::Long => "LongFile",
+    }
+}

@@ -1,0 +1,81 @@
+//! The command `takes`: a line for each take of a folder.
+ghost use Rattle.std.specs.Prelude.{◌≡◌, ◌⊎◌, true, IfOk, string_bytes};
+ghost use Rattle.bw_console.specs.Outcomes.{Outcome, HasWritten, IsOutOfMemory};
+ghost use Rattle.bw_console.specs.Printing.{IsPrint};
+ghost use Rattle.bw_disk.specs.DiskSteps.{StaysWhole};
+ghost use Rattle.bw_takes.specs.Showings.{IsShowing, IsFolderUnread, PrintsAll, PrintsPart};
+ghost use Rattle.bw_takes.specs.Showings.{exit_for as exit_when, unread_text};
+
+use crate::listing::{TakesReport, report_takes};
+use bw_console::print::{give_up, print, print_diagnostic};
+use bw_console::{Exit, Fault};
+use bw_disk::{ReadFault, Volume};
+use bw_stream::Sink;
+use std::alloc::{AllocError, Global};
+
+/// Prints a line for each take of a folder, in the order of their names' bytes. Nothing is locked,
+/// and nothing changed.
+///
+/// `Done` if nothing is wrong with any take, `Refused` if something is; `Device` if the folder can't
+/// be read, which is a line on `faults` and nothing else, or the lines can't be written; `Memory` if
+/// memory was refused.
+///
+/// # Not specified
+/// - When memory is refused.
+/// - When a disk that isn't honest fails, and what is reported over it.
+pub fn show_takes<D: Volume, W: Sink, E: Sink>(
+    alloc: Global,
+    disk: &mut D,
+    folder: &str,
+    out: &mut W,
+    faults: &mut E,
+) -> Exit
+    ensures { (did : Outcome) × (did.exit ≡ result)
+        × IsShowing (D.honest disk.old) folder.now (D.contents disk.old) did
+        × StaysWhole D.Disk disk.old disk.new
+        × HasWritten W.Sink E.Sink did out.old out.new faults.old faults.new }
+{
+    match report_takes(alloc, disk, folder) {
+        Ok(report) => print_report(&report, out, faults),
+        Err(ReadFault::Disk) => report_unread(alloc, folder, faults),
+        Err(ReadFault::Memory) => give_up(faults, &Fault::Memory),
+    }
+}
+
+/// Prints what is reported of takes.
+fn print_report<W: Sink, E: Sink>(report: &TakesReport, out: &mut W, faults: &mut E) -> Exit
+    ensures { (did : Outcome) × (did.exit ≡ result) × (did.reads_all ≡ true)
+        × (PrintsAll report.now.lines.items report.now.sound did ⊎ PrintsPart report.now.lines.items did)
+        × HasWritten W.Sink E.Sink did out.old out.new faults.old faults.new }
+{
+    match print(out, report.lines.as_slice()) {
+        Ok(()) => exit_for(report.sound),
+        Err(_) => give_up(faults, &Fault::Unwritable),
+    }
+}
+
+/// How the command ends that has printed its lines.
+fn exit_for(sound: bool) -> Exit
+    ensures { result ≡ exit_when sound }
+{
+    if sound { Exit::Done } else { Exit::Refused }
+}
+
+/// Reports that a folder can't be read.
+fn report_unread<E: Sink>(alloc: Global, folder: &str, faults: &mut E) -> Exit
+    ensures { (did : Outcome) × (did.exit ≡ result)
+        × (IsFolderUnread folder.now did ⊎ IsOutOfMemory did)
+        × IsPrint E.Sink did.faults faults.old faults.new }
+{
+    let Ok(line) = unread_line(alloc, folder) else {
+        return give_up(faults, &Fault::Memory);
+    };
+    print_diagnostic(faults, line.as_str().as_bytes());
+    Exit::Device
+}
+
+fn unread_line(alloc: Global, folder: &str) -> Result<String, AllocError>
+    ensures { IfOk result (λ line. string_bytes line ≡ unread_text folder.now) }
+{
+    format!(in alloc; "{folder} can't be read\n")
+}
