@@ -2,3 +2,8 @@ pub mod SaidRequests
 pub mod RoundLinks
 pub mod ConnectionLinks
 pub mod PromiseLaws
+pub mod RisingNumbers
+pub mod TurnLinks
+pub mod CourseSteps
+pub mod UsedLines
+pub mod UploadLinks
