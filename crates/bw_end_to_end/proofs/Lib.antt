@@ -7,3 +7,4 @@ pub mod TurnLinks
 pub mod CourseSteps
 pub mod UsedLines
 pub mod UploadLinks
+pub mod DoneCommands

@@ -3,4 +3,5 @@ pub mod SentInRounds
 pub mod ServedLinks
 pub mod ServedInTurn
 pub mod UploadedLinks
+pub mod SentFiles
 pub mod Promises

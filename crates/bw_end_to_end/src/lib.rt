@@ -3,7 +3,8 @@
 #![tactic(auto)]
 
 ghost use Rattle.bw_end_to_end.specs.Promises.{ClosedTakesHaveFiles, SendersCountTakes};
-ghost use Rattle.bw_end_to_end.specs.SentInRounds.{RoundsSendRequests};
+ghost use Rattle.bw_end_to_end.specs.SentFiles.{DoneFeedsAreStored};
+ghost use Rattle.bw_end_to_end.specs.SentInRounds.{DoneSendsStoreAll, RoundsSendRequests};
 ghost use Rattle.bw_end_to_end.specs.ServedInTurn.{RunsAnswerInTurn};
 ghost use Rattle.bw_end_to_end.specs.ServedLinks.{ConnectionsAnswer};
 ghost use Rattle.bw_end_to_end.specs.UploadedLinks.{UploadsSendRequests};
@@ -12,6 +13,7 @@ ghost use Rattle.std.specs.Prelude.{Bool, Option, ℕ};
 
 use bw_journal::Journal;
 use bw_ports::{Dial, Link, Pause, Peers};
+use bw_send_file::FeedFault;
 use bw_store::TakeStore;
 use bw_stream::Sink;
 use bw_upload::Feed;
@@ -28,9 +30,11 @@ pub fn law_promise<S: TakeStore, J: Journal>()
 }
 
 /// What `send` wrote over its links, for links that report it, are its requests, each under its
-/// number; and each verdict that its sender has came over one of them.
+/// number; and each verdict that its sender has came over one of them. If it ended with status 0,
+/// each request of its input has the verdict Stored.
 pub fn law_sent<D: Dial>()
-    ensures { RoundsSendRequests D.Dial D.Reader.Source D.Writer.Sink }
+    ensures said { RoundsSendRequests D.Dial D.Reader.Source D.Writer.Sink }
+    ensures stored { DoneSendsStoreAll D.Dial D.Reader.Source D.Writer.Sink }
 {}
 
 /// The same of an upload, as `send --file` makes it: what it wrote over its links are the requests
@@ -38,6 +42,12 @@ pub fn law_sent<D: Dial>()
 pub fn law_uploaded<F: Feed, P: Pause, D: Dial>()
     ensures { (most : Option ℕ) → UploadsSendRequests F.Feed P.Pause D.Dial D.Reader.Source
         D.Writer.Sink most }
+{}
+
+/// If `send --file` ended with status 0, each request that its feed was to give has the verdict
+/// Stored.
+pub fn law_file_sent<F: Feed<Fault = FeedFault>, P: Pause, D: Dial>()
+    ensures { DoneFeedsAreStored F.Feed P.Pause D.Dial D.Reader.Source D.Writer.Sink }
 {}
 
 /// What a server of many connections answered over a link are the first frames of the bytes that the
