@@ -13,7 +13,7 @@ use Rattle.bw_connections.specs.Served.{ServesConnection, EndsLink}
 use Rattle.bw_delivery.specs.Deliveries.{LinkBytes, AnswersOver}
 use Rattle.bw_end_to_end.specs.ServedLinks.{IsServerEnd, ConnectionsAnswer}
 
-all_contain : {X : Type 0} (P : X → Type 0) (xs : List X) (x : X) → AllByRecursion P xs → Contains xs x → P x
+pub all_contain : {X : Type 0} (P : X → Type 0) (xs : List X) (x : X) → AllByRecursion P xs → Contains xs x → P x
 all_contain P [] x h (k, below, e) = absurd (omega arith)
 all_contain P (y ∷ ys) x h (zero, below, e) = subst P e h.0
 all_contain P (y ∷ ys) x h (suc k, below, e) = all_contain P ys x h.1 (k, omega arith, e)

@@ -2,3 +2,9 @@ pub mod SaidRequests
 pub mod RoundLinks
 pub mod ConnectionLinks
 pub mod PromiseLaws
+pub mod RisingNumbers
+pub mod TurnLinks
+pub mod CourseSteps
+pub mod UsedLines
+pub mod UploadLinks
+pub mod DoneCommands

@@ -18,7 +18,8 @@ use Rattle.bw_connections.specs.Keeping.{Tagged, all_answered}
 use Rattle.bw_delivery.specs.Deliveries.{LinkBytes, IsDelivery, EachHeardStored}
 use Rattle.bw_delivery.proofs.DeliveryLaws.{deliveries_true, stored_whole}
 use Rattle.bw_delivery.proofs.DeliveredFiles.{closed_stay}
-use Rattle.bw_end_to_end.specs.Promises.{AreLinked, HasAllStored, ServesSender, SendersCountTakes, ClosedTakesHaveFiles}
+use Rattle.bw_end_to_end.specs.UsedLinks.{HasAllStored}
+use Rattle.bw_end_to_end.specs.Promises.{AreLinked, ServesSender, SendersCountTakes, ClosedTakesHaveFiles}
 
 module _ {X Y : Type 0} (S : StoreGhosts X) (J : JournalGhosts Y) (servers_run : ServersAnswerInRuns S J) where
   ran : (first : List ℕ → Option (List ℕ)) (old new : Server X Y S J) (book : Book) (answered : List Answered) →

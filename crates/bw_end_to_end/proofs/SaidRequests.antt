@@ -102,7 +102,7 @@ messages_spelled name x requests (p ∷ ps) own spelled h =
     (list_all-get is_request requests p.0 p.1 spelled.each h.0.0))
     (messages_spelled name x requests ps own spelled h.1)
 
-all-append : {X : Type 0} (P : X → Type 0) (xs ys : List X) → AllByRecursion P xs → AllByRecursion P ys →
+pub all-append : {X : Type 0} (P : X → Type 0) (xs ys : List X) → AllByRecursion P xs → AllByRecursion P ys →
     AllByRecursion P (xs ++ ys)
 all-append P [] ys h k = k
 all-append P (x ∷ xs) ys h k = (h.0, all-append P xs ys h.1 k)

@@ -16,7 +16,7 @@ use Rattle.bw_session.specs.declared.server.Server.{Server}
 use Rattle.bw_connections.specs.Keeping.{Tagged, all_answered, own}
 use Rattle.bw_delivery.specs.Deliveries.{LinkBytes, IsTrueLink, AnswersOver, IsOfAnother, HasOnly}
 use Rattle.bw_delivery.specs.Deliveries.{IsDelivered}
-use Rattle.bw_end_to_end.specs.UsedLinks.{SendsOver}
+use Rattle.bw_end_to_end.specs.UsedLinks.{HasAllStored, SendsOver}
 
 -- These are the sender's links to a server that answered these frames: each end of each was given a
 -- prefix of what the other end wrote, and over the server's other links came no message of the name.
@@ -28,10 +28,6 @@ pub record AreLinked (name : List ℕ) (requests : List Request) (verdicts : Lis
       AnswersOver (own n trace) l.received l.answered
   pub others : (n : ℕ) → ((l : LinkBytes) × Contains links (n, l))
       ⊎ AllByRecursion (λ a. IsOfAnother name a.frame) (own n trace)
-
--- each of these requests has the verdict Stored
-abbrev pub HasAllStored : List Request → List (Option Verdict) → Type 0
-HasAllStored requests verdicts = (n : ℕ) → n < length requests → at verdicts n ≡ Some Stored
 
 module _ {X Y : Type 0} (S : StoreGhosts X) (J : JournalGhosts Y) where
   -- Over an honest store, from a book in which the name had nothing but these requests, a server

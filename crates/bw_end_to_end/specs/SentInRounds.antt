@@ -1,6 +1,6 @@
 -- The links of the command `send`.
 use mathlib.Core.Logic.{inl, inr}
-use Rattle.std.specs.Prelude.{ℕ, IsTrue, List, [], ◌∷◌, ◌++◌}
+use Rattle.std.specs.Prelude.{◌≡◌, ℕ, Option, IsTrue, List, [], ◌∷◌, ◌++◌}
 use Rattle.std.specs.List.{list_all}
 use Rattle.bw_model.specs.Take.{Request}
 use Rattle.bw_model.specs.Wire.{is_name, is_request}
@@ -9,10 +9,14 @@ use Rattle.bw_model.specs.World.{Sender}
 use Rattle.bw_stream.specs.declared.sink.Sink.{Ghosts as Writer}
 use Rattle.bw_stream.specs.declared.source.Source.{Ghosts as Reader}
 use Rattle.bw_ports.specs.declared.dial.Dial.{Ghosts as DialGhosts}
+use Rattle.bw_console.specs.Outcomes.{Outcome}
+use Rattle.bw_console.specs.Printing.{Whole}
+use Rattle.bw_console.specs.declared.exit.Exit.TheVariants.{Done}
 use Rattle.bw_send.specs.RoundsMade.{IsRound, AreRounds, MakesRounds}
 use Rattle.bw_send.specs.SendState.{Sending, hear_in, new_sending, offer_more}
+use Rattle.bw_send.specs.Sends.{IsSendRun, PrintsSender}
 use Rattle.bw_delivery.specs.Deliveries.{LinkBytes}
-use Rattle.bw_end_to_end.specs.UsedLinks.{UsedLink, AreSenderEnds, SendsOver}
+use Rattle.bw_end_to_end.specs.UsedLinks.{UsedLink, AreSenderEnds, HasAllStored, SendsOver}
 
 module _ {D R W : Type 0} (dial : DialGhosts D R W) (reader : Reader R) (writer : Writer W) where
   -- the link of a round, if one was made
@@ -41,3 +45,15 @@ module _ {D R W : Type 0} (dial : DialGhosts D R W) (reader : Reader R) (writer 
       AreSenderEnds reader writer
       (links_in_rounds (new_sending name requests) went.heard went.following d d' went.went) links →
       SendsOver name requests last.sender.verdicts links
+
+  -- a run of `send` whose input's requests were all stored
+  pub record SendsAll (name : List ℕ) (rounds : ℕ) (input : Option (List ℕ)) (d d' : D)
+      (did : Outcome) : Type 0 where
+    pub sent : PrintsSender dial reader writer name rounds input d d' Whole Done did.out
+    pub stored : HasAllStored sent.requests sent.last.sender.verdicts
+
+  -- It is such a run, if it ended with status 0.
+  abbrev pub DoneSendsStoreAll : Type 0
+  DoneSendsStoreAll = (name : List ℕ) (rounds : ℕ) (input : Option (List ℕ)) (d d' : D)
+      (did : Outcome) → IsSendRun dial reader writer name rounds input d d' did → did.exit ≡ Done →
+      SendsAll name rounds input d d' did

@@ -1,7 +1,7 @@
 -- The ends of links that a command used.
-use Rattle.std.specs.Prelude.{◌≡◌, ℕ, Option, Some, List, [], ◌∷◌}
+use Rattle.std.specs.Prelude.{◌≡◌, ◌<◌, ℕ, Option, Some, List, [], ◌∷◌, length}
 use Rattle.bw_model.specs.Bytes.{at}
-use Rattle.bw_model.specs.Take.{Request, Verdict}
+use Rattle.bw_model.specs.Take.{Request, Verdict, Stored}
 use Rattle.bw_stream.specs.declared.sink.Sink.{Ghosts as Writer}
 use Rattle.bw_stream.specs.declared.source.Source.{Ghosts as Reader}
 use Rattle.std.specs.List.{Contains}
@@ -34,3 +34,7 @@ pub record SendsOver (name : List ℕ) (requests : List Request) (verdicts : Lis
     (links : List (ℕ × LinkBytes)) : Type 0 where
   pub says : (n : ℕ) (l : LinkBytes) → Contains links (n, l) → SaysRequests name requests l.said
   pub heard : (n : ℕ) (v : Verdict) → at verdicts n ≡ Some v → HeardOverLinks links name n v
+
+-- each of these requests has the verdict Stored
+abbrev pub HasAllStored : List Request → List (Option Verdict) → Type 0
+HasAllStored requests verdicts = (n : ℕ) → n < length requests → at verdicts n ≡ Some Stored

@@ -3,12 +3,20 @@
 #![tactic(auto)]
 
 ghost use Rattle.bw_end_to_end.specs.Promises.{ClosedTakesHaveFiles, SendersCountTakes};
-ghost use Rattle.bw_end_to_end.specs.SentInRounds.{RoundsSendRequests};
+ghost use Rattle.bw_end_to_end.specs.SentFiles.{DoneFeedsAreStored};
+ghost use Rattle.bw_end_to_end.specs.SentInRounds.{DoneSendsStoreAll, RoundsSendRequests};
+ghost use Rattle.bw_end_to_end.specs.ServedInTurn.{RunsAnswerInTurn};
 ghost use Rattle.bw_end_to_end.specs.ServedLinks.{ConnectionsAnswer};
+ghost use Rattle.bw_end_to_end.specs.UploadedLinks.{UploadsSendRequests};
+ghost use Rattle.bw_session.specs.ServerTurns.{ServerTurn};
+ghost use Rattle.std.specs.Prelude.{Bool, Option, ℕ};
 
 use bw_journal::Journal;
-use bw_ports::{Dial, Link};
+use bw_ports::{Dial, Link, Pause, Peers};
+use bw_send_file::FeedFault;
 use bw_store::TakeStore;
+use bw_stream::Sink;
+use bw_upload::Feed;
 
 /// A sender that has the verdict Stored for each of its requests may rely on the server's file:
 /// whatever else came to the server under other names, its take is what these requests make, each
@@ -22,13 +30,35 @@ pub fn law_promise<S: TakeStore, J: Journal>()
 }
 
 /// What `send` wrote over its links, for links that report it, are its requests, each under its
-/// number; and each verdict that its sender has came over one of them.
+/// number; and each verdict that its sender has came over one of them. If it ended with status 0,
+/// each request of its input has the verdict Stored.
 pub fn law_sent<D: Dial>()
-    ensures { RoundsSendRequests D.Dial D.Reader.Source D.Writer.Sink }
+    ensures said { RoundsSendRequests D.Dial D.Reader.Source D.Writer.Sink }
+    ensures stored { DoneSendsStoreAll D.Dial D.Reader.Source D.Writer.Sink }
+{}
+
+/// The same of an upload, as `send --file` makes it: what it wrote over its links are the requests
+/// of its feed.
+pub fn law_uploaded<F: Feed, P: Pause, D: Dial>()
+    ensures { (most : Option ℕ) → UploadsSendRequests F.Feed P.Pause D.Dial D.Reader.Source
+        D.Writer.Sink most }
+{}
+
+/// If `send --file` ended with status 0, each request that its feed was to give has the verdict
+/// Stored.
+pub fn law_file_sent<F: Feed<Fault = FeedFault>, P: Pause, D: Dial>()
+    ensures { DoneFeedsAreStored F.Feed P.Pause D.Dial D.Reader.Source D.Writer.Sink }
 {}
 
 /// What a server of many connections answered over a link are the first frames of the bytes that the
 /// link gave, and what the link took is a prefix of their replies.
 pub fn law_served<L: Link>()
     ensures connections { ConnectionsAnswer L.Link }
+{}
+
+/// The same of a server that serves one exchange after another: it answered the frames of all its
+/// exchanges, and each over the link of its own peer.
+pub fn law_served_in_turn<S: TakeStore, J: Journal, P: Peers, O: Sink, E: Sink>()
+    ensures { (log : Bool) → RunsAnswerInTurn (ServerTurn S.TakeStore J.Journal) P.Peers
+        P.Reader.Source P.Writer.Sink O.Sink E.Sink log }
 {}

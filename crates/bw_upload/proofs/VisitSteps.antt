@@ -283,7 +283,7 @@ module _ {F P D R W X : Type 0} (feed : FeedGhosts F X) (pause : PauseGhosts P) 
   visit_done n x supply supply' talk link w' f f' p p' v u done parts =
       leaves ends.Done (v.events ++ map Fills u.events) x (with_filling v.after u.after) v.t.line supply' f' p'
       (filled n x supply talk link f p v u.events u.after u.went) v.line
-      (w', subst (λ (z : W). PartsWith writer z w') (sym v.by.0.writer) parts) done u.by.0
+      (v.by.2, w', subst (λ (z : W). PartsWith writer z w') (sym v.by.0.writer) parts) done u.by.0
       (record { dial = v.kept.dial; dials = v.kept.dials }) v.fruitless v.before
 
   pub visit_more : (n : ℕ) (x : Course F P D R W) (supply supply' : Supply) (talk : Talk) (link : Duplex R W)

@@ -124,4 +124,5 @@ module _ {R W : Type 0} (reader : Reader R) (writer : Writer W) where
   LeavesBy (ends.Broken faults.TurnLimit) x = most_reads ≤ length x.line.input
   LeavesBy (ends.Stopped stop) x = x.line.stop ≡ Some stop
   LeavesBy ends.Refused x = refused x.sender ≢ []
-  LeavesBy ends.Done x = (w' : W) × PartsWith writer x.line.writer w'
+  LeavesBy ends.Done x =
+      (x.line.is_broken ≡ false) × (w' : W) × PartsWith writer x.line.writer w'
