@@ -14,7 +14,7 @@ use Rattle.std.proofs.lemmas.List.Elements.{All-nil, All-push, Contains-append_l
 use Rattle.std.proofs.lemmas.List.Folds.{find-append}
 use Rattle.std.proofs.lemmas.Slice.Eq.{bytes_eq-Decides}
 use Rattle.bw_disk.specs.declared.memory_disk.StoredFile.{StoredFile}
-use Rattle.bw_disk.specs.MemoryDisks.{stands_at, content_at, IsNameIn, AddsName, AddsListed}
+use Rattle.bw_disk.specs.MemoryDisks.{stands_at, content_at, IsNameIn, AddsFileName, AddsListed}
 use Rattle.bw_disk.specs.Volumes.{in_folder, is_listed, AreDistinct, Lists}
 use Rattle.bw_disk.proofs.MemoryDisks.{content_under}
 

@@ -26,13 +26,13 @@ IsNameIn folder path None =
     (name : List ℕ) → IsTrue (is_listed name) → IsUtf8 name → path ≢ in_folder folder name
 
 -- names after one was added, unless there was none or it was among them
-abbrev pub AddsName : List (List ℕ) → Option (List ℕ) → List (List ℕ) → Type 0
-AddsName before None after = after ≡ before
-AddsName before (Some name) after =
+abbrev pub AddsFileName : List (List ℕ) → Option (List ℕ) → List (List ℕ) → Type 0
+AddsFileName before None after = after ≡ before
+AddsFileName before (Some name) after =
     (Contains before name × (after ≡ before))
     ⊎ ((Contains before name → ⊥) × (after ≡ before ++ name ∷ []))
 
 -- names after that of the file at a path was added, if the folder lists it
 abbrev pub AddsListed : List ℕ → List ℕ → List (List ℕ) → List (List ℕ) → Type 0
 AddsListed folder path before after =
-    (found : Option (List ℕ)) × IsNameIn folder path found × AddsName before found after
+    (found : Option (List ℕ)) × IsNameIn folder path found × AddsFileName before found after

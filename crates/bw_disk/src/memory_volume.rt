@@ -3,7 +3,7 @@ ghost use Rattle.std.specs.Prelude.{◌≡◌, ◌≤◌, ◌≢◌, ◌++◌, �
 ghost use Rattle.std.specs.Prelude.{is_err, length, map, option_map, string_bytes, take, filter, not};
 ghost use Rattle.bw_store.specs.Stores.{Counts, Written, KeepsOthers};
 ghost use Rattle.std.specs.Option.{option_copied};
-ghost use Rattle.bw_disk.specs.MemoryDisks.{stands_at, content_at, synced_at, IsNameIn, AddsName, AddsListed};
+ghost use Rattle.bw_disk.specs.MemoryDisks.{stands_at, content_at, synced_at, IsNameIn, AddsFileName, AddsListed};
 ghost use Rattle.std.specs.Option.{MatchOption};
 ghost use Rattle.std.specs.List.{list_all, list_any};
 ghost use Rattle.std.specs.Str.{bytes_eq};
@@ -294,7 +294,7 @@ fn has_no_slash(name: &[u8]) -> bool
 
 /// Adds a name, unless it is there already.
 fn add_name(names: &mut Vec<String>, alloc: Global, name: &str) -> Result<(), DiskFault>
-    ensures { OnOk result (AddsName (map string_bytes names.old.items) (Some name.now)
+    ensures { OnOk result (AddsFileName (map string_bytes names.old.items) (Some name.now)
         (map string_bytes names.new.items)) }
 {
     if has_name(names, name) {
