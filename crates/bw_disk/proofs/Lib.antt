@@ -2,3 +2,5 @@ pub mod MemoryDisks
 pub mod Cuts
 pub mod PrefixReads
 pub mod DiskChains
+pub mod Removals
+pub mod Listings

@@ -1,8 +1,9 @@
 -- What is on a disk in memory.
-use Rattle.std.specs.Prelude.{ℕ, List, Option, Bool, string_bytes}
+use Rattle.std.specs.Prelude.{◌≡◌, ◌≢◌, ◌⊎◌, ℕ, List, [], ◌∷◌, ◌++◌, Option, Some, None, Bool, IsTrue, IsUtf8, string_bytes}
 use Rattle.std.specs.Option.{option_map, option_and_then}
-use Rattle.std.specs.List.{find}
+use Rattle.std.specs.List.{Contains, find}
 use Rattle.std.specs.Str.{bytes_eq}
+use Rattle.bw_disk.specs.Volumes.{in_folder, is_listed}
 use Rattle.bw_disk.specs.declared.memory_disk.StoredFile.{StoredFile}
 
 -- whether a file is at a path
@@ -17,3 +18,21 @@ content_at files path = option_map (λ file. file.content.items) (find (stands_a
 abbrev pub synced_at : List StoredFile → List ℕ → Option (List ℕ)
 synced_at files path =
     option_and_then (λ file. option_map (λ v. v.items) file.synced) (find (stands_at path) files)
+
+-- the name of the file at a path, if a folder lists it
+abbrev pub IsNameIn : List ℕ → List ℕ → Option (List ℕ) → Type 0
+IsNameIn folder path (Some name) = (path ≡ in_folder folder name) × IsTrue (is_listed name)
+IsNameIn folder path None =
+    (name : List ℕ) → IsTrue (is_listed name) → IsUtf8 name → path ≢ in_folder folder name
+
+-- names after one was added, unless there was none or it was among them
+abbrev pub AddsFileName : List (List ℕ) → Option (List ℕ) → List (List ℕ) → Type 0
+AddsFileName before None after = after ≡ before
+AddsFileName before (Some name) after =
+    (Contains before name × (after ≡ before))
+    ⊎ ((Contains before name → ⊥) × (after ≡ before ++ name ∷ []))
+
+-- names after that of the file at a path was added, if the folder lists it
+abbrev pub AddsListed : List ℕ → List ℕ → List (List ℕ) → List (List ℕ) → Type 0
+AddsListed folder path before after =
+    (found : Option (List ℕ)) × IsNameIn folder path found × AddsFileName before found after

@@ -3,6 +3,7 @@
 
 mod disk;
 mod memory_disk;
+mod memory_volume;
 mod mortal;
 mod reading;
 mod system;

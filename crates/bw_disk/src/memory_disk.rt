@@ -13,27 +13,27 @@ use std::alloc::Global;
 
 /// The content of a path, and the content that it had when the file was last synced.
 #[derive(Drop)]
-struct StoredFile {
-    path: String,
-    content: Vec<u8>,
-    synced: Option<Vec<u8>>,
+pub(crate) struct StoredFile {
+    pub(crate) path: String,
+    pub(crate) content: Vec<u8>,
+    pub(crate) synced: Option<Vec<u8>>,
 }
 
 /// An open file of a disk in memory.
 #[derive(Drop)]
 pub struct MemoryFile {
-    path: String,
+    pub(crate) path: String,
 }
 
 /// Files in memory, by path. A call fails if memory is refused, and for a file that another disk
 /// made, unless its path is on this one too.
 ///
-/// It is an honest disk, which shows that the promises of `Disk` can be kept.
+/// It is an honest disk, which shows that the promises of `Disk` and `Volume` can be kept.
 #[derive(Drop)]
 pub struct MemoryDisk {
-    alloc: Global,
-    files: Vec<StoredFile>,
-    call_counter: CallCounter,
+    pub(crate) alloc: Global,
+    pub(crate) files: Vec<StoredFile>,
+    pub(crate) call_counter: CallCounter,
 }
 
 impl MemoryDisk {
@@ -167,7 +167,7 @@ impl Disk for MemoryDisk {
 }
 
 /// The place of the file at a path.
-fn find(files: &[StoredFile], path: &str) -> Option<usize>
+pub(crate) fn find(files: &[StoredFile], path: &str) -> Option<usize>
     ensures { result ≡ position (stands_at path.now) files.now }
 {
     files.iter().position(|file| file.path.as_str() == path)
@@ -206,7 +206,7 @@ fn make(
 }
 
 /// Writes into a file, if it is there.
-fn write(
+pub(crate) fn write(
     files: &mut Vec<StoredFile>,
     path: &str,
     offset: u64,
@@ -233,7 +233,7 @@ fn write(
 }
 
 /// Keeps the content of a file as what is synced.
-fn keep(files: &mut Vec<StoredFile>, alloc: Global, path: &str) -> Result<(), DiskFault>
+pub(crate) fn keep(files: &mut Vec<StoredFile>, alloc: Global, path: &str) -> Result<(), DiskFault>
     ensures unchanged { (other : List ℕ) →
         content_at files.new.items other ≡ content_at files.old.items other }
     ensures synced { Syncs result (content_at files.old.items path.now)

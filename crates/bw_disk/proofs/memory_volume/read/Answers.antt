@@ -1,0 +1,8 @@
+use Rattle.std.proofs.Common.{refl, rules}
+use Rattle.bw_disk.proofs.MemoryDisks.{content_before}
+use Rattle.bw_disk.proofs.memory_volume.read.Goals as goal
+
+pub returns-in-Some-clause-read : goal.returns-in-Some-clause-read
+returns-in-Some-clause-read c =
+    rw (content_before c.args.files.now c.args.path.now c.in-Some.place c.index-files-place.result
+    c.index-files-place.result (search rules) (search rules) refl) (search rules)

@@ -1,0 +1,11 @@
+//! A take over a disk that dies in each of its calls, and again in each call of the next start.
+#![tactic(auto)]
+
+#[cfg(test)]
+mod lives;
+#[cfg(test)]
+mod script;
+#[cfg(test)]
+mod shared;
+#[cfg(test)]
+mod stops;
