@@ -90,6 +90,7 @@ rehearses name limit (Run (Inspect file)) e = cc
 rehearses name limit (Run (Serve server)) e = cc
 rehearses name limit (Run (Send sender)) e = cc
 rehearses name limit (Run (SendFile sender)) e = cc
+rehearses name limit (Run (SendPcm sender)) e = cc
 rehearses name limit (Run (Pack source)) e = cc
 rehearses name limit (Bad value) e = absurd e
 rehearses name limit (Report error) e = absurd e

@@ -1,5 +1,5 @@
 -- A command asks for one task.
-use Rattle.std.proofs.Common.{◌≡◌, ℕ, List, Bool, true, false, Option, Some, None, codes, sym, ◌∙◌, ap, subst}
+use Rattle.std.proofs.Common.{◌≡◌, ℕ, List, [], Bool, true, false, Option, Some, None, codes, sym, ◌∙◌, ap, subst}
 use Rattle.std.proofs.Common.{refl, unwrap_or}
 use Rattle.std.specs.Prelude.{option_map}
 use Rattle.std.specs.Str.{bytes_eq}
@@ -159,16 +159,25 @@ one_number : (text : Option Text) (a b : Option ℕ) → GivesNumber text a → 
 one_number None a b x y = x ∙ sym y
 one_number (Some text) a b x y = x.1 ∙ sym y.1
 
+-- the parts of a pair that is there
+abbrev first_part : Option (Text × Text) → Text
+first_part None = []
+first_part (Some p) = p.0
+
+abbrev second_part : Option (Text × Text) → Text
+second_part None = []
+second_part (Some p) = p.1
+
 -- a text has one format
 same_format : (text : Text) (a b : WrittenFormat) → IsFormatText text a → IsFormatText text b → a ≡ b
 same_format text a b x y =
     let one : Some (x.rate, x.parts.rest) ≡ Some (y.rate, y.parts.rest) = sym x.parts.one ∙ y.parts.one in
-    let rest : x.parts.rest ≡ y.parts.rest = cc in
-    let rate : x.rate ≡ y.rate = cc in
+    let rest : x.parts.rest ≡ y.parts.rest = ap second_part one in
+    let rate : x.rate ≡ y.rate = ap first_part one in
     let two : Some (x.channels, x.bits) ≡ Some (y.channels, y.bits) =
     sym x.parts.two ∙ ap at_comma rest ∙ y.parts.two in
-    let channels : x.channels ≡ y.channels = cc in
-    let bits : x.bits ≡ y.bits = cc in
+    let channels : x.channels ≡ y.channels = ap first_part two in
+    let bits : x.bits ≡ y.bits = ap second_part two in
     let rates = x.rate_is.1 ∙ ap number_written rate ∙ sym y.rate_is.1 in
     let channel_counts = x.channels_are.1 ∙ ap number_written channels ∙ sym y.channels_are.1 in
     let depths = x.bits_are.1 ∙ ap number_written bits ∙ sym y.bits_are.1 in

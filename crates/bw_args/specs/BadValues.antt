@@ -46,8 +46,8 @@ fault_said Skip =
     codes "'--skip <BYTES>' takes a number from 0 to 4294967295, in at most ten digits"
 fault_said Block =
     codes "'--block <FRAMES>' takes a number from 1 to 4294967295, in at most ten digits"
-fault_said MixedSamples = codes "'--pcm' is for '--file <FILE>', '--skip', '--block' and '--follow' "
-    ++ codes "are for '--pcm', and '--follow' and '--until <END>' need each other"
+fault_said MixedSamples = codes "'--pcm' is for '--file <FILE>', '--skip', '--block', '--follow' for "
+    ++ codes "'--pcm'; '--follow' goes with '--until <END>'"
 
 -- the end of a line, and an empty line
 abbrev pub line_and_gap : Text

@@ -231,7 +231,7 @@ For more information, try '--help'.
 ";
 
 const BAD_MIXED_SAMPLES: &str = "\
-error: '--pcm' is for '--file <FILE>', '--skip', '--block' and '--follow' are for '--pcm', and '--follow' and '--until <END>' need each other
+error: '--pcm' is for '--file <FILE>', '--skip', '--block', '--follow' for '--pcm'; '--follow' goes with '--until <END>'
 
 Usage: bwingest <COMMAND>
 

@@ -65,7 +65,7 @@ pub enum CommandLine {
 ///
 /// Which words run a task, and of what kind an error is, follows from `clap`'s own contract
 /// (`line`). In plain terms the contract says of thirty-nine forms that they run (`replay`,
-/// `rehearse`, `inspect`, `serve`, `send`, `send_pcm`), of twenty-eight which value is a fault
+/// `rehearse`, `inspect`, `serve`, `send`, `send_pcm`), of twenty-nine which value is a fault
 /// (`values`, `peers`, `samples`) and of thirteen what they print (`help`, `rehearse`, `inspect`, `wanted`). Examples
 /// test that options may be given in all their forms and orders, and that all else is refused,
 /// except `--` at the end or before a file.

@@ -42,13 +42,13 @@ FollowsSamples b o p to_come =
 
 -- why the samples in a file of so many bytes aren't sent: the system fails, or this is their first
 -- fault
-abbrev pub RefusesSamples : Options → Pcm → ℕ → OpenFault → Type 0
-RefusesSamples o p len (Unopened error) = Unit {0}
-RefusesSamples o p len (Refused fault) = PcmFaultOf o p len fault
-RefusesSamples o p len Changed = ⊥
+abbrev pub RefusesPcm : Options → Pcm → ℕ → OpenFault → Type 0
+RefusesPcm o p len (Unopened error) = Unit {0}
+RefusesPcm o p len (Refused fault) = PcmFaultOf o p len fault
+RefusesPcm o p len Changed = ⊥
 
 -- the file isn't opened, which is reported
-pub record ReportsUnopened (path : List ℕ) (fault : OpenFault) (did : Packing) : Type 0 where
+pub record ReportsNoSamples (path : List ℕ) (fault : OpenFault) (did : Packing) : Type 0 where
   pub warned : did.warned ≡ Nothing
   pub prints : did.out ≡ Nothing
   pub reports : IsOpenReport (codes "send") path fault did.exit did.faults
@@ -61,13 +61,13 @@ module _ {F : Type 0} (feed : FeedGhosts F FeedFault) where
   OpensSamples looks_at file stamp p o (Ok f) =
       Of file (λ b. IsStampOf stamp b → FeedsSamples b o p (feed.left f)) × looks_at stamp f
   OpensSamples looks_at file stamp p o (Err fault) =
-      Of file (λ b. IsStampOf stamp b → RefusesSamples o p (length b) fault)
+      Of file (λ b. IsStampOf stamp b → RefusesPcm o p (length b) fault)
 
   -- The file that will have these bytes, if they are reported, is followed; or why it can't be: for
   -- a fault of the format, since nothing else is known of it.
   abbrev pub FollowsFile : Option (List ℕ) → Pcm → Options → Result F OpenFault → Type 0
   FollowsFile file p o (Ok f) = Of file (λ b. FollowsSamples b o p (feed.left f))
-  FollowsFile file p o (Err fault) = RefusesSamples o p p.skip fault
+  FollowsFile file p o (Err fault) = RefusesPcm o p p.skip fault
 
 module _ {F P D R W : Type 0} (feed : FeedGhosts F FeedFault) (pause : PauseGhosts P)
     (dial : DialGhosts D R W) (reader : Reader R) (writer : Writer W) where
@@ -84,7 +84,7 @@ module _ {F P D R W : Type 0} (feed : FeedGhosts F FeedFault) (pause : PauseGhos
   -- what was opened was sent, or without any link it was reported why there is nothing to send
   abbrev pub SendsOpened : Errand → Result F OpenFault → Ways P D → Ways P D → Packing → Type 0
   SendsOpened e (Ok begun) old new did = SendsRequests e begun old new did
-  SendsOpened e (Err fault) old new did = ReportsUnopened e.path fault did × (new ≡ old)
+  SendsOpened e (Err fault) old new did = ReportsNoSamples e.path fault did × (new ≡ old)
 
   -- what is set can't be read, or memory was refused: nothing was opened
   abbrev pub RefusesOptions : PcmFile → Ways P D → Ways P D → Packing → Type 0

@@ -5,7 +5,7 @@ ghost use Rattle.bw_args.specs.Given.{GivesAddress, GivesName, is_set};
 ghost use Rattle.bw_args.specs.Lines.{AsksForPath, GivesTries, IsFirstBad, IsLineFor};
 ghost use Rattle.bw_args.specs.Lines.{looked_at_samples};
 ghost use Rattle.bw_args.specs.PcmSources.{GivesSamples, IsFormatGiven, IsFormatText, IsNumberGiven};
-ghost use Rattle.bw_args.specs.PcmSources.{are_samples_mixed, at_comma, fruitless_of, plain_pcm};
+ghost use Rattle.bw_args.specs.PcmSources.{are_samples_mixed, at_comma, fruitless_of, is_unpaired, plain_pcm};
 ghost use Rattle.bw_args.specs.PcmSources.{plain_samples};
 ghost use Rattle.bw_args.specs.Sources.{is_mixed};
 ghost use Rattle.bw_args.specs.declared.commands.samples.WrittenFormat.{WrittenFormat};
@@ -185,7 +185,7 @@ pub(crate) fn samples_line(
 
 /// The same samples, with a path of their own.
 fn pcm_source(alloc: Global, samples: Samples<'_>) -> Result<PcmSource, AllocError>
-    ensures { IfOk result (λ source. plain_pcm source ≡ plain_samples samples) }
+    ensures { IfOk result (λ source. plain_pcm source ≡ plain_samples samples.entry) }
 {
     let until = match samples.until {
         Some(path) => Some(String::from_str(alloc, path)?),
@@ -203,7 +203,7 @@ fn pcm_source(alloc: Global, samples: Samples<'_>) -> Result<PcmSource, AllocErr
 
 /// After how many links in a row that settle nothing a sender of these samples gives up.
 fn most_fruitless(samples: Samples<'_>, given: Option<u32>) -> Option<u32>
-    ensures { result ≡ fruitless_of (plain_samples samples).until given }
+    ensures { result ≡ fruitless_of (plain_samples samples.entry).until given }
 {
     match samples.until {
         Some(_until) => given,
