@@ -11,7 +11,7 @@ use Rattle.bw_args.specs.Forms.{RunsFor, RunsRehearsal}
 use Rattle.bw_args.specs.Numbers.{IsLimitText, default_limit, number_written}
 use Rattle.bw_args.specs.declared.CommandLine.{CommandLine}
 use Rattle.bw_args.specs.declared.CommandLine.TheVariants.{Run, BadValue as Bad, Report}
-use Rattle.bw_args.specs.declared.Task.TheVariants.{Inspect, Rehearse, Replay, Send, Serve, SendFile, Pack}
+use Rattle.bw_args.specs.declared.Task.TheVariants.{Inspect, Rehearse, Replay, Send, Serve, SendFile, SendPcm, Pack}
 use Rattle.bw_args.proofs.FormLemmas.{no_hyphen, runs, reports}
 
 -- a limit's word is read unchanged

@@ -12,8 +12,8 @@ use std::time::Duration;
 /// time makes it a moment later.
 const LOOKS: u32 = 50;
 
-/// The time between two such looks.
-const BETWEEN_LOOKS: Duration = Duration::from_millis(100);
+/// The milliseconds between two such looks.
+const BETWEEN_LOOKS: u64 = 100;
 
 /// A file that another program writes until a file stands at a path. It reports no bytes, since no
 /// clause of std says what a file holds.
@@ -62,7 +62,7 @@ fn open_once_made(rt: &HostRuntime, path: &str, until: &str) -> io::Result<File>
                 }
             }
         }
-        thread::sleep(rt, BETWEEN_LOOKS);
+        thread::sleep(rt, Duration::from_millis(BETWEEN_LOOKS));
     }
     File::open(rt, path)
 }
