@@ -8,7 +8,7 @@ use Rattle.bw_args.specs.Numbers.{IsCountText, IsNumber, most_block, most_fruitl
 use Rattle.bw_args.specs.PcmSources.{GivesFormat, IsFormatText}
 use Rattle.bw_args.specs.ReadWords.{as_read}
 use Rattle.bw_args.specs.Given.{IsName}
-use Rattle.bw_args.specs.Lines.{AsksFor, IsLineOf, PcmUpload, SendingPcm}
+use Rattle.bw_args.specs.Lines.{AsksFor, IsLineOf, SendingPcm}
 use Rattle.bw_args.specs.PeerForms.{sending}
 use Rattle.bw_args.specs.FileForms.{with_file}
 use Rattle.bw_args.specs.PcmForms.{RefusesSamples, RunsPcmSender, plain_pcm_upload, with_pcm}

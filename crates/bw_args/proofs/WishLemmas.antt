@@ -10,7 +10,7 @@ use Rattle.clap.specs.Words.{Row, Text, first_of}
 use Rattle.bw_args.specs.Given.{GivesAddress, GivesCount, GivesCountOr, GivesEnd, GivesFolder, GivesFuse, GivesLimit}
 use Rattle.bw_args.specs.Given.{GivesName, GivesRecorders, IsEnd, IsJournaling, IsRecorders, given_on_line}
 use Rattle.bw_args.specs.Sources.{GivesSource, PlainSource}
-use Rattle.bw_args.specs.PcmSources.{AreParts, GivesFormat, GivesNumber, GivesSamples, IsFormatText, PlainPcm}
+use Rattle.bw_args.specs.PcmSources.{GivesFormat, GivesNumber, GivesSamples, IsFormatText, PlainPcm}
 use Rattle.bw_args.specs.PcmSources.{at_comma, fruitless_of, samples_with}
 use Rattle.bw_args.specs.declared.commands.samples.WrittenFormat.{WrittenFormat}
 use Rattle.bw_args.specs.Lines.{GivesPcmUpload, GivesSender, GivesServer, GivesUpload, IsWishOf, Service, FileUpload}
@@ -211,7 +211,7 @@ one_pcm_upload options a b x y =
     let waits = one_count_or _ _ _ a.timeout b.timeout x.waits y.waits in
     let count = one_count most_fruitless _ x.count y.count x.counts y.counts in
     let ends = x.ends ∙ ap (fruitless_of a.pcm.until) count ∙ ap (λ (s : PlainPcm). fruitless_of s.until y.count) pcm
-        ∙ sym y.ends in
+    ∙ sym y.ends in
     let reports = x.reports ∙ sym y.reports in
     λ i. record {
       connect = connects i;

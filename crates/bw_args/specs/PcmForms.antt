@@ -1,5 +1,5 @@
 -- The forms of `send` with headerless samples, in plain words, and what each results in.
-use Rattle.std.specs.Prelude.{◌≡◌, false, List, [], ◌∷◌, ◌++◌, Some, None, codes}
+use Rattle.std.specs.Prelude.{false, List, [], ◌∷◌, ◌++◌, Some, None, codes}
 use Rattle.std.specs.declared.net.socket_addr.SocketAddr.{SocketAddr}
 use Rattle.clap.specs.Walk.{Text}
 use Rattle.bw_args.specs.Numbers.{IsCountText, IsNumber, default_fruitless, default_timeout}

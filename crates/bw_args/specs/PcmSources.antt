@@ -1,5 +1,5 @@
 -- Headerless samples, as the options of a command line describe them.
-use Rattle.std.specs.Prelude.{◌≡◌, ◌||◌, ◌==◌, not, ℕ, Bool, false, List, Option, Some, None, Result, Ok, Err}
+use Rattle.std.specs.Prelude.{◌≡◌, ◌||◌, ◌==◌, not, ℕ, Bool, false, Option, Some, None, Result, Ok, Err}
 use Rattle.std.specs.Prelude.{codes, is_some, if◌then◌else◌, length, nat_lt, option_map, string_bytes, unwrap_or}
 use Rattle.std.specs.List.{after_first, before_first, position_or_len}
 use Rattle.clap.specs.Walk.{Text}

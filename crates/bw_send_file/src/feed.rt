@@ -34,13 +34,7 @@ impl<R: Source + Drop, S: Stamped + Drop> PlanFeed<R, S> {
 
     /// Gives the requests of a plan whose reader stands where the next block does, of a file that
     /// had this stamp before it was opened.
-    pub fn new(
-        alloc: Global,
-        plan: Plan,
-        reader: R,
-        stamped: S,
-        stamp: FileStamp,
-    ) -> PlanFeed<R, S>
+    pub fn new(alloc: Global, plan: Plan, reader: R, stamped: S, stamp: FileStamp) -> PlanFeed<R, S>
         ensures left { (requests : List Message) → AreToCome (R.left reader) plan requests →
             ⟦<PlanFeed<R, S> as Feed>⟧.left result requests }
         ensures looks { (reported : Option StampValue) →

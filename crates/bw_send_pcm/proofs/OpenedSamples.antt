@@ -1,6 +1,6 @@
 -- A file that is opened for its samples.
-use Rattle.std.proofs.Common.{◌≡◌, ◌∙◌, ◌+◌, ◌-◌, ◌<◌, ◌≤◌, ◌⊎◌, ℕ, List, [], ◌++◌, Option, Some, None, Result, Ok, Err}
-use Rattle.std.proofs.Common.{ap, sym, subst, refl, arith, length, drop, length-drop, append-nil, true, false, inl, inr}
+use Rattle.std.proofs.Common.{◌≡◌, ◌∙◌, ◌+◌, ◌-◌, ◌<◌, ◌≤◌, ◌⊎◌, ℕ, List, ◌++◌, Option, Some, None, Result, Ok, Err}
+use Rattle.std.proofs.Common.{ap, sym, refl, arith, length, drop, length-drop, append-nil, true, inl, inr}
 use Rattle.std.specs.Prelude.{◌^◌, IsTrue, option_map, slice_range}
 use Rattle.std.proofs.lemmas.Bool.{ltb-false}
 use Rattle.std.proofs.lemmas.List.Folds.{drop_split}

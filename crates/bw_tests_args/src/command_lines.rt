@@ -431,12 +431,27 @@ static PCM_SENDERS: [Line; 19] = [
     (&["--pcm=48000,2,24"], Outcome::Refuses),
     (&["--file=-f", "--skip=44"], Outcome::Refuses),
     (&["--file=-f", "--block=44"], Outcome::Refuses),
-    (&["--file=-f", "--pcm=48000,2,24", "--block=0"], Outcome::Refuses),
-    (&["--file=-f", "--pcm=48000,2,24", "--skip=-1"], Outcome::Refuses),
-    (&["--file=-f", "--pcm=48000,2,24", "--follow"], Outcome::Refuses),
-    (&["--file=-f", "--pcm=48000,2,24", "--until=-e"], Outcome::Refuses),
+    (
+        &["--file=-f", "--pcm=48000,2,24", "--block=0"],
+        Outcome::Refuses,
+    ),
+    (
+        &["--file=-f", "--pcm=48000,2,24", "--skip=-1"],
+        Outcome::Refuses,
+    ),
+    (
+        &["--file=-f", "--pcm=48000,2,24", "--follow"],
+        Outcome::Refuses,
+    ),
+    (
+        &["--file=-f", "--pcm=48000,2,24", "--until=-e"],
+        Outcome::Refuses,
+    ),
     (&["--file=-f", "--follow", "--until=-e"], Outcome::Refuses),
-    (&["--file=-f", "--pcm=48000,2,24", "--rounds=2"], Outcome::Refuses),
+    (
+        &["--file=-f", "--pcm=48000,2,24", "--rounds=2"],
+        Outcome::Refuses,
+    ),
 ];
 
 /// The words that the lines of a sender begin with.

@@ -1,6 +1,6 @@
-use Rattle.std.proofs.Common.{rules, ◌≡◌, ◌∙◌, ◌<◌, ℕ, List, Option, Some, Ok, Result, ap, sym, subst, length}
+use Rattle.std.proofs.Common.{rules, ◌≡◌, ◌∙◌, ◌<◌, ℕ, List, Option, Some, Ok, ap, sym, subst, length}
 use Rattle.std.specs.Prelude.{◌^◌}
-use Rattle.bw_plan.specs.Recordings.{Outline, FaultAt, block_frames}
+use Rattle.bw_plan.specs.Recordings.{block_frames}
 use Rattle.bw_plan.specs.PcmRecordings.{PcmFaultOf, pcm_outline_of}
 use Rattle.bw_ports.specs.declared.recording_files.FileStamp.{FileStamp}
 use Rattle.bw_send_pcm.proofs.OpenedSamples.{samples_opened, samples_there}

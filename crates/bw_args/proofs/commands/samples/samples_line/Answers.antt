@@ -1,5 +1,5 @@
-use Rattle.std.proofs.Common.{◌≡◌, ◌∙◌, Some, Option, codes, refl, sym, ap, subst, unwrap_or}
-use Rattle.clap.specs.Words.{Text, first_value, found_of}
+use Rattle.std.proofs.Common.{◌∙◌, Some, codes, refl, sym, ap, subst, unwrap_or}
+use Rattle.clap.specs.Words.{first_value, found_of}
 use Rattle.bw_args.specs.Given.{is_set}
 use Rattle.bw_args.specs.Sources.{in_plain}
 use Rattle.bw_args.specs.PcmSources.{GivesSamples, PlainPcm, fruitless_of, plain_samples}

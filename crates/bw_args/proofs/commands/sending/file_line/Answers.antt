@@ -1,4 +1,4 @@
-use Rattle.std.proofs.Common.{◌≡◌, codes, refl, unwrap_or}
+use Rattle.std.proofs.Common.{codes, refl, unwrap_or}
 use Rattle.clap.specs.Words.{first_value, found_of}
 use Rattle.bw_args.specs.Given.{is_set}
 use Rattle.bw_args.specs.Sources.{in_plain}

@@ -82,4 +82,3 @@ returns-in-Err-samples_given-clause-ok c =
             (inr (sym c.is_mixed.ensures ∙ c.if-is_mixed.false, c.in-Err-samples_given.ensures.err)),
       ),
     ))
-
