@@ -2,7 +2,7 @@
 use Rattle.std.proofs.Common.{◌≡◌, ℕ, ◌<◌, ◌≤◌, Bool, true, false, List, [], ◌∷◌, ◌++◌, Option, Some, None, Result, Ok, Err}
 use Rattle.std.proofs.Common.{OnErr, ap, codes, refl, subst, sym, ◌∙◌, arith, inl, inr, unwrap_or}
 use Rattle.std.proofs.Math.Path.{fun_ext}
-use Rattle.std.specs.Prelude.{⊤, ◌||◌, if◌then◌else◌, is_some}
+use Rattle.std.specs.Prelude.{⊤, ◌||◌, if◌then◌else◌, is_some, not, option_map}
 use Rattle.std.specs.declared.net.socket_addr.SocketAddr.{SocketAddr}
 use Rattle.std.specs.Net.Socket.{socket_port}
 use Rattle.clap.specs.Words.{Row, Text, first_of, first_value, rows_of}
@@ -15,14 +15,17 @@ use Rattle.bw_args.specs.Sources.{GivesSource, PlainSource, is_mixed, settings_o
 use Rattle.bw_args.specs.Lines.{AsksNothing, GivesSender, GivesServer, GivesTries, GivesUpload, HasNumbersInRange}
 use Rattle.bw_args.specs.Lines.{IsEndWithin, IsFirstBad, IsGood, IsLineFor, IsWayWithin, IsWishOf, IsWithin, Service}
 use Rattle.bw_args.specs.Lines.{FileUpload, Wish, looked_at, looked_at_trying, looked_at_waiting}
-use Rattle.bw_args.specs.Lines.{Replaying, Rehearsing, Inspecting, Packing, Sending, Serving, Uploading}
+use Rattle.bw_args.specs.Lines.{Replaying, Rehearsing, Inspecting, Packing, Sending, SendingPcm, Serving, Uploading}
+use Rattle.bw_args.specs.Lines.{PcmUpload, looked_at_samples}
+use Rattle.bw_args.specs.PcmSources.{GivesFormat, GivesSamples, PlainPcm, fruitless_of, is_unpaired, samples_with}
+use Rattle.bw_args.specs.declared.commands.samples.WrittenFormat.{WrittenFormat}
 use Rattle.bw_args.specs.Numbers.{IsLimitValue, default_fruitless, default_rounds, default_timeout, most_exchanges}
-use Rattle.bw_args.specs.Numbers.{most_fruitless, most_recorders, most_rounds, most_seconds}
+use Rattle.bw_args.specs.Numbers.{most_block, most_fruitless, most_recorders, most_rounds, most_seconds}
 use Rattle.bw_args.specs.declared.commands.sending.Tries.{Tries}
 use Rattle.bw_args.specs.declared.CommandLine.{CommandLine}
 use Rattle.bw_args.specs.declared.CommandLine.TheVariants.{Run, BadValue as Bad, Report}
 use Rattle.bw_args.specs.declared.Task.TheVariants.{Replay, Rehearse, Inspect, Serve, Send}
-use Rattle.bw_args.specs.declared.Task.TheVariants.{SendFile, Pack}
+use Rattle.bw_args.specs.declared.Task.TheVariants.{SendFile, SendPcm, Pack}
 use Rattle.bw_args.proofs.WishLemmas.{one_count, other_name, same_way}
 use Rattle.bw_args.specs.declared.peers.End.{End}
 use Rattle.bw_args.specs.declared.peers.Journaling.{Journaling}
@@ -75,6 +78,30 @@ no_count : (most : ℕ) (text : Option Text) → text ≡ None → GivesCount mo
 no_count most None none = refl
 no_count most (Some text) none = let bad : Some text ≡ None = none in cc
 
+-- what describes samples, or that there are none, is good
+samples_good : (given : Text → Option Text) (samples : Option PlainPcm) → GivesSamples given samples
+    → AllGood looked_at_samples given
+samples_good given samples g = ((g.format, g.formatted), ((g.skip, g.begins), ((g.block, g.blocks), (g.unmixed, tt))))
+
+-- without a file nothing describes samples
+pub no_samples : (given : Text → Option Text) (samples : Option PlainPcm) → given (codes "file") ≡ None
+    → GivesSamples given samples → GivesSamples given None
+no_samples given samples none g =
+    let format : g.format ≡ None =
+    go (given (codes "pcm")) (given (codes "file")) g.format none g.formatted g.unmixed in
+    let same : samples ≡ None =
+    g.are ∙ ap (option_map (samples_with g.skip g.block (given (codes "until")))) format in
+    subst (GivesSamples given) same g
+  where
+    go : (pcm file : Option Text) (format : Option WrittenFormat) → file ≡ None → GivesFormat pcm format
+        → (if is_some pcm then not (is_some file) || is_unpaired given
+        else (is_some (given (codes "skip")) || (is_some (given (codes "block"))
+        || (is_set (given (codes "follow")) || is_some (given (codes "until")))))) ≡ false
+        → format ≡ None
+    go None file format is gives unmixed = gives
+    go (Some text) (Some path) format is gives unmixed = let bad : Some path ≡ None = is in cc
+    go (Some text) None format is gives unmixed = let bad : true ≡ false = unmixed in cc
+
 -- what is asked for has good values alone
 pub wished_good : (name : Text) (options : List Row) (wish : Wish) → IsWishOf (Some (name, options)) wish
     → AllGood (looked_at name) (given_on_line options)
@@ -114,7 +141,7 @@ wished_good name options wish asked = go wish asked
       (sender.connect, a.1.connects),
       (
         (sender.name, a.1.named),
-        ((a.1.tries.0, a.1.tries.1), ((sender.timeout, a.1.waits), ((None, no_count most_fruitless _ (no_fruitless (given_on_line options) a.1.lines a.1.unmixed)), (a.1.unmixed, tt)))),
+        ((a.1.tries.0, a.1.tries.1), ((sender.timeout, a.1.waits), ((None, no_count most_fruitless _ (no_fruitless (given_on_line options) a.1.lines a.1.unmixed)), (a.1.unmixed, samples_good (given_on_line options) None a.1.unsampled)))),
       ),
     )
     go (Uploading sender) a = at (codes "send") a.0 (
@@ -123,7 +150,26 @@ wished_good name options wish asked = go wish asked
         (sender.name, a.1.named),
         (
           (None, no_count most_rounds _ (no_rounds (given_on_line options) sender.source.path a.1.takes.from a.1.unmixed)),
-          ((a.1.waits.0, a.1.waits.1), ((a.1.ends.0, a.1.ends.1), (a.1.unmixed, tt))),
+          (
+            (a.1.waits.0, a.1.waits.1),
+            ((a.1.ends.0, a.1.ends.1), (a.1.unmixed, samples_good (given_on_line options) None a.1.unsampled)),
+          ),
+        ),
+      ),
+    )
+    go (SendingPcm sender) a = at (codes "send") a.0 (
+      (sender.connect, a.1.connects),
+      (
+        (sender.name, a.1.named),
+        (
+          (None, no_count most_rounds _ (no_rounds (given_on_line options) sender.source.path a.1.takes.from a.1.unmixed)),
+          (
+            (a.1.waits.0, a.1.waits.1),
+            (
+              (a.1.count, a.1.counts),
+              (a.1.unmixed, samples_good (given_on_line options) (Some sender.pcm) a.1.samples),
+            ),
+          ),
         ),
       ),
     )
@@ -221,6 +267,7 @@ no_file_line found given = (nothing, inr (refl, refl))
     nothing (Serving server) asked = other_name (codes "inspect") (codes "serve") refl _ refl asked.0
     nothing (Sending sender) asked = other_name (codes "inspect") (codes "send") refl _ refl asked.0
     nothing (Uploading sender) asked = other_name (codes "inspect") (codes "send") refl _ refl asked.0
+    nothing (SendingPcm sender) asked = other_name (codes "inspect") (codes "send") refl _ refl asked.0
     nothing (Packing source) asked = other_name (codes "inspect") (codes "pack") refl _ refl asked.0
     nothing (Inspecting path) asked =
         let bad : None ≡ Some path = given ∙ first_value-rows found (codes "file") ∙ asked.1 in cc
@@ -259,6 +306,7 @@ no_packed_line found given = (nothing, inr (refl, refl))
     nothing (Serving server) asked = other_name (codes "pack") (codes "serve") refl _ refl asked.0
     nothing (Sending sender) asked = other_name (codes "pack") (codes "send") refl _ refl asked.0
     nothing (Uploading sender) asked = other_name (codes "pack") (codes "send") refl _ refl asked.0
+    nothing (SendingPcm sender) asked = other_name (codes "pack") (codes "send") refl _ refl asked.0
     nothing (Packing source) asked =
         no_path source.path (given ∙ first_value-rows found (codes "file") ∙ asked.1.from)
 
@@ -279,8 +327,8 @@ pub upload_asked : (found : Found) (sender : FileUpload)
     → GivesCountOr default_timeout most_seconds (first_value found (codes "timeout")) sender.timeout
     → GivesCountOr default_fruitless most_fruitless (first_value found (codes "fruitless")) sender.fruitless
     → sender.log ≡ is_set (first_value found (codes "log")) → is_mixed (first_value found) ≡ false
-    → IsWishOf (Some (codes "send", rows_of found)) (Uploading sender)
-upload_asked found sender connects named takes waits ends reports unmixed = (
+    → GivesSamples (first_value found) None → IsWishOf (Some (codes "send", rows_of found)) (Uploading sender)
+upload_asked found sender connects named takes waits ends reports unmixed unsampled = (
   refl,
   record {
     connects = by_rows found (λ g. GivesAddress (is_set (g (codes "network"))) (g (codes "connect")) sender.connect) connects;
@@ -288,6 +336,33 @@ upload_asked found sender connects named takes waits ends reports unmixed = (
     takes = takes;
     waits = by_rows found (λ g. GivesCountOr default_timeout most_seconds (g (codes "timeout")) sender.timeout) waits;
     ends = by_rows found (λ g. GivesCountOr default_fruitless most_fruitless (g (codes "fruitless")) sender.fruitless) ends;
+    reports = by_rows found (λ g. sender.log ≡ is_set (g (codes "log"))) reports;
+    unmixed = by_rows found (λ g. is_mixed g ≡ false) unmixed;
+    unsampled = by_rows found (λ g. GivesSamples g None) unsampled;
+  },
+)
+
+-- and the sender of headerless samples
+pub pcm_asked : (found : Found) (sender : PcmUpload) (count : Option ℕ)
+    → GivesAddress (is_set (first_value found (codes "network"))) (first_value found (codes "connect")) sender.connect
+    → GivesName (first_value found (codes "name")) sender.name → GivesSource (rows_of found) sender.source
+    → GivesSamples (first_value found) (Some sender.pcm)
+    → GivesCountOr default_timeout most_seconds (first_value found (codes "timeout")) sender.timeout
+    → GivesCount most_fruitless (first_value found (codes "fruitless")) count
+    → sender.fruitless ≡ fruitless_of sender.pcm.until count
+    → sender.log ≡ is_set (first_value found (codes "log")) → is_mixed (first_value found) ≡ false
+    → IsWishOf (Some (codes "send", rows_of found)) (SendingPcm sender)
+pcm_asked found sender count connects named takes samples waits counts ends reports unmixed = (
+  refl,
+  record {
+    connects = by_rows found (λ g. GivesAddress (is_set (g (codes "network"))) (g (codes "connect")) sender.connect) connects;
+    named = by_rows found (λ g. GivesName (g (codes "name")) sender.name) named;
+    takes = takes;
+    samples = by_rows found (λ g. GivesSamples g (Some sender.pcm)) samples;
+    waits = by_rows found (λ g. GivesCountOr default_timeout most_seconds (g (codes "timeout")) sender.timeout) waits;
+    count = count;
+    counts = by_rows found (λ g. GivesCount most_fruitless (g (codes "fruitless")) count) counts;
+    ends = ends;
     reports = by_rows found (λ g. sender.log ≡ is_set (g (codes "log"))) reports;
     unmixed = by_rows found (λ g. is_mixed g ≡ false) unmixed;
   },
@@ -402,6 +477,25 @@ given_number : (default most : ℕ) (count : Option ℕ) (n : ℕ) → 1 ≤ def
 given_number default most None n least fits within is = rw is (least, fits)
 given_number default most (Some count) n least fits within is = rw is within
 
+given_fruitless : (until : Option Text) (count n : Option ℕ) → IsWithin most_fruitless count
+    → n ≡ fruitless_of until count → IsWithin most_fruitless n
+given_fruitless None None n within is = subst (IsWithin most_fruitless) (sym is) (omega arith, omega arith)
+given_fruitless None (Some count) n within is = subst (IsWithin most_fruitless) (sym is) within
+given_fruitless (Some until) count n within is = subst (IsWithin most_fruitless) (sym is) within
+
+given_block : (given : Text → Option Text) (pcm : PlainPcm) → GivesSamples given (Some pcm)
+    → IsWithin most_block pcm.block
+given_block given pcm g = go g.format g.are
+  where
+    go : (format : Option WrittenFormat)
+        → Some pcm ≡ option_map (samples_with g.skip g.block (given (codes "until"))) format
+        → IsWithin most_block pcm.block
+    go None is = let bad : Some pcm ≡ None = is in cc
+    go (Some f) is =
+        let same : pcm ≡ samples_with g.skip g.block (given (codes "until")) f = cc in
+        subst (IsWithin most_block) (ap (λ (p : PlainPcm). p.block) (sym same))
+        (given_count most_block (given (codes "block")) g.block g.blocks)
+
 -- the numbers of a task that is asked for are in their ranges
 pub line_limit : (command : Option (Text × List Row)) (line : CommandLine) → IsLineFor command line → HasNumbersInRange line
 line_limit (Some command) (Run (Replay limit fuse)) asked =
@@ -428,6 +522,13 @@ line_limit (Some command) (Run (SendFile sender)) asked = (
       (given_count _ _ _ asked.1.waits.1) asked.1.waits.2,
   given_number default_fruitless most_fruitless asked.1.ends.0 sender.fruitless (omega arith) (omega arith)
       (given_count _ _ _ asked.1.ends.1) asked.1.ends.2,
+)
+line_limit (Some command) (Run (SendPcm sender)) asked = (
+  given_port _ _ sender.connect asked.1.connects,
+  given_number default_timeout most_seconds asked.1.waits.0 sender.timeout (omega arith) (omega arith)
+      (given_count _ _ _ asked.1.waits.1) asked.1.waits.2,
+  given_fruitless _ asked.1.count sender.fruitless (given_count _ _ _ asked.1.counts) asked.1.ends,
+  given_block _ _ asked.1.samples,
 )
 line_limit (Some command) (Run (Pack source)) asked = tt
 line_limit None (Run task) asked = absurd asked

@@ -83,6 +83,7 @@ alone_sends program connect name path address at named = record {
       ends = (None, refl, refl);
       reports = refl;
       unmixed = refl;
+      unsampled = record { format = None; skip = None; block = None; formatted = refl; begins = refl; blocks = refl; unmixed = refl; are = refl };
     },
   );
 }
@@ -104,6 +105,7 @@ sets_sends program connect name path a b address at named = record {
       ends = (None, refl, refl);
       reports = refl;
       unmixed = refl;
+      unsampled = record { format = None; skip = None; block = None; formatted = refl; begins = refl; blocks = refl; unmixed = refl; are = refl };
     },
   );
 }
@@ -124,6 +126,7 @@ strict_sends program connect name path address at named = record {
       ends = (None, refl, refl);
       reports = refl;
       unmixed = refl;
+      unsampled = record { format = None; skip = None; block = None; formatted = refl; begins = refl; blocks = refl; unmixed = refl; are = refl };
     },
   );
 }
@@ -145,6 +148,7 @@ fruitless_sends program connect name path count address at named given = record 
       ends = (Some (number_written count), (given, refl), refl);
       reports = refl;
       unmixed = refl;
+      unsampled = record { format = None; skip = None; block = None; formatted = refl; begins = refl; blocks = refl; unmixed = refl; are = refl };
     },
   );
 }
@@ -166,6 +170,7 @@ timeout_sends program connect name path seconds address at named given = record 
       ends = (None, refl, refl);
       reports = refl;
       unmixed = refl;
+      unsampled = record { format = None; skip = None; block = None; formatted = refl; begins = refl; blocks = refl; unmixed = refl; are = refl };
     },
   );
 }
@@ -186,6 +191,7 @@ log_sends program connect name path address at named = record {
       ends = (None, refl, refl);
       reports = refl;
       unmixed = refl;
+      unsampled = record { format = None; skip = None; block = None; formatted = refl; begins = refl; blocks = refl; unmixed = refl; are = refl };
     },
   );
 }
@@ -206,6 +212,7 @@ network_sends program connect name path address at named = record {
       ends = (None, refl, refl);
       reports = refl;
       unmixed = refl;
+      unsampled = record { format = None; skip = None; block = None; formatted = refl; begins = refl; blocks = refl; unmixed = refl; are = refl };
     },
   );
 }

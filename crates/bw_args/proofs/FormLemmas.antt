@@ -17,7 +17,7 @@ use Rattle.bw_args.specs.Numbers.{IsLimitText, IsNumber, default_limit, number_w
 use Rattle.bw_args.proofs.WishLemmas.{one_wish}
 use Rattle.bw_args.specs.declared.CommandLine.{CommandLine}
 use Rattle.bw_args.specs.declared.CommandLine.TheVariants.{Run, BadValue as Bad, Report}
-use Rattle.bw_args.specs.declared.Task.TheVariants.{Inspect, Rehearse, Replay, Send, Serve, SendFile, Pack}
+use Rattle.bw_args.specs.declared.Task.TheVariants.{Inspect, Rehearse, Replay, Send, Serve, SendFile, SendPcm, Pack}
 
 -- a digit is no hyphen, so the word is read as a value
 pub no_hyphen : (d : ℕ) (ds : Text) → IsNumber (d ∷ ds) → (d == 45) ≡ false
@@ -96,6 +96,7 @@ replays limit fuse (Run (Inspect file)) e = cc
 replays limit fuse (Run (Serve server)) e = cc
 replays limit fuse (Run (Send sender)) e = cc
 replays limit fuse (Run (SendFile sender)) e = cc
+replays limit fuse (Run (SendPcm sender)) e = cc
 replays limit fuse (Run (Pack source)) e = cc
 replays limit fuse (Bad value) e = absurd e
 replays limit fuse (Report error) e = absurd e
@@ -107,6 +108,7 @@ inspects path (Run (Rehearse name limit)) e = cc
 inspects path (Run (Serve server)) e = cc
 inspects path (Run (Send sender)) e = cc
 inspects path (Run (SendFile sender)) e = cc
+inspects path (Run (SendPcm sender)) e = cc
 inspects path (Run (Pack source)) e = cc
 inspects path (Bad value) e = absurd e
 inspects path (Report error) e = absurd e

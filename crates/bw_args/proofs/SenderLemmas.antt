@@ -32,6 +32,7 @@ alone_asks program connect name address at named =
           waits = refl;
           lines = refl;
           unmixed = refl;
+          unsampled = record { format = None; skip = None; block = None; formatted = refl; begins = refl; blocks = refl; unmixed = refl; are = refl };
         },
       );
     }
@@ -53,6 +54,7 @@ rounds_asks program connect name address count at named given =
           waits = refl;
           lines = refl;
           unmixed = refl;
+          unsampled = record { format = None; skip = None; block = None; formatted = refl; begins = refl; blocks = refl; unmixed = refl; are = refl };
         },
       );
     }
@@ -74,6 +76,7 @@ timeout_asks program connect name address seconds at named given =
           waits = (given, refl);
           lines = refl;
           unmixed = refl;
+          unsampled = record { format = None; skip = None; block = None; formatted = refl; begins = refl; blocks = refl; unmixed = refl; are = refl };
         },
       );
     }
@@ -93,6 +96,7 @@ network_asks program connect name address at named =
           waits = refl;
           lines = refl;
           unmixed = refl;
+          unsampled = record { format = None; skip = None; block = None; formatted = refl; begins = refl; blocks = refl; unmixed = refl; are = refl };
         },
       );
     }
@@ -104,7 +108,7 @@ apart_near : (program name : Text) (address : SocketAddr) → IsAddress false (l
 unfolding clap_on_literals
 apart_near program name address at named = record {
   taken = refl;
-  asked = (refl, record { connects = at; named = (named, refl); tries = (None, refl, refl); waits = refl; lines = refl; unmixed = refl });
+  asked = (refl, record { connects = at; named = (named, refl); tries = (None, refl, refl); waits = refl; lines = refl; unmixed = refl; unsampled = record { format = None; skip = None; block = None; formatted = refl; begins = refl; blocks = refl; unmixed = refl; are = refl } });
 }
 
 apart_asks : (program connect name : Text) (address : SocketAddr) → IsAddress false connect address → IsName name

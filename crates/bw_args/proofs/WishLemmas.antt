@@ -1,6 +1,7 @@
 -- A command asks for one task.
-use Rattle.std.proofs.Common.{◌≡◌, ℕ, List, Bool, true, false, Option, Some, None, codes, sym, ◌∙◌, ap, subst}
+use Rattle.std.proofs.Common.{◌≡◌, ℕ, List, [], Bool, true, false, Option, Some, None, codes, sym, ◌∙◌, ap, subst}
 use Rattle.std.proofs.Common.{refl, unwrap_or}
+use Rattle.std.specs.Prelude.{option_map}
 use Rattle.std.specs.Str.{bytes_eq}
 use Rattle.std.proofs.lemmas.Slice.Eq.{bytes_eq-Decides}
 use Rattle.std.specs.declared.net.socket_addr.SocketAddr.{SocketAddr}
@@ -9,9 +10,13 @@ use Rattle.clap.specs.Words.{Row, Text, first_of}
 use Rattle.bw_args.specs.Given.{GivesAddress, GivesCount, GivesCountOr, GivesEnd, GivesFolder, GivesFuse, GivesLimit}
 use Rattle.bw_args.specs.Given.{GivesName, GivesRecorders, IsEnd, IsJournaling, IsRecorders, given_on_line}
 use Rattle.bw_args.specs.Sources.{GivesSource, PlainSource}
-use Rattle.bw_args.specs.Lines.{GivesSender, GivesServer, GivesUpload, IsWishOf, Service, FileUpload, Wish}
-use Rattle.bw_args.specs.Lines.{Inspecting, Packing, Rehearsing, Replaying, Sending, Serving, Uploading}
-use Rattle.bw_args.specs.Numbers.{most_exchanges, most_recorders, most_seconds}
+use Rattle.bw_args.specs.PcmSources.{GivesFormat, GivesNumber, GivesSamples, IsFormatText, PlainPcm}
+use Rattle.bw_args.specs.PcmSources.{at_comma, fruitless_of, samples_with}
+use Rattle.bw_args.specs.declared.commands.samples.WrittenFormat.{WrittenFormat}
+use Rattle.bw_args.specs.Lines.{GivesPcmUpload, GivesSender, GivesServer, GivesUpload, IsWishOf, Service, FileUpload}
+use Rattle.bw_args.specs.Lines.{PcmUpload, Wish}
+use Rattle.bw_args.specs.Lines.{Inspecting, Packing, Rehearsing, Replaying, Sending, SendingPcm, Serving, Uploading}
+use Rattle.bw_args.specs.Numbers.{most_block, most_exchanges, most_fruitless, most_recorders, most_seconds, number_written}
 use Rattle.bw_args.specs.declared.peers.End.{End}
 use Rattle.bw_args.specs.declared.peers.Journaling.{Journaling}
 use Rattle.bw_args.specs.declared.peers.Recorders.{Recorders as Way}
@@ -150,6 +155,79 @@ one_upload options a b x y =
       log = reports i;
     }
 
+one_number : (text : Option Text) (a b : Option ℕ) → GivesNumber text a → GivesNumber text b → a ≡ b
+one_number None a b x y = x ∙ sym y
+one_number (Some text) a b x y = x.1 ∙ sym y.1
+
+-- the parts of a pair that is there
+abbrev first_part : Option (Text × Text) → Text
+first_part None = []
+first_part (Some p) = p.0
+
+abbrev second_part : Option (Text × Text) → Text
+second_part None = []
+second_part (Some p) = p.1
+
+-- a text has one format
+same_format : (text : Text) (a b : WrittenFormat) → IsFormatText text a → IsFormatText text b → a ≡ b
+same_format text a b x y =
+    let one : Some (x.rate, x.parts.rest) ≡ Some (y.rate, y.parts.rest) = sym x.parts.one ∙ y.parts.one in
+    let rest : x.parts.rest ≡ y.parts.rest = ap second_part one in
+    let rate : x.rate ≡ y.rate = ap first_part one in
+    let two : Some (x.channels, x.bits) ≡ Some (y.channels, y.bits) =
+    sym x.parts.two ∙ ap at_comma rest ∙ y.parts.two in
+    let channels : x.channels ≡ y.channels = ap first_part two in
+    let bits : x.bits ≡ y.bits = ap second_part two in
+    let rates = x.rate_is.1 ∙ ap number_written rate ∙ sym y.rate_is.1 in
+    let channel_counts = x.channels_are.1 ∙ ap number_written channels ∙ sym y.channels_are.1 in
+    let depths = x.bits_are.1 ∙ ap number_written bits ∙ sym y.bits_are.1 in
+    λ i. record { rate = rates i; channels = channel_counts i; bits = depths i }
+
+one_format : (text : Option Text) (a b : Option WrittenFormat) → GivesFormat text a → GivesFormat text b → a ≡ b
+one_format None a b x y = x ∙ sym y
+one_format (Some text) (Some a) (Some b) x y = ap Some (same_format text a b x y)
+one_format (Some text) None b x y = absurd x
+one_format (Some text) (Some a) None x y = absurd y
+
+pub one_samples : (given : Text → Option Text) (a b : Option PlainPcm) → GivesSamples given a → GivesSamples given b → a ≡ b
+one_samples given a b x y =
+    let format = one_format (given (codes "pcm")) x.format y.format x.formatted y.formatted in
+    let skip = one_number (given (codes "skip")) x.skip y.skip x.begins y.begins in
+    let block = one_count most_block (given (codes "block")) x.block y.block x.blocks y.blocks in
+    x.are
+    ∙ ap (λ (n : Option ℕ). option_map (samples_with n x.block (given (codes "until"))) x.format) skip
+    ∙ ap (λ (n : Option ℕ). option_map (samples_with y.skip n (given (codes "until"))) x.format) block
+    ∙ ap (option_map (samples_with y.skip y.block (given (codes "until")))) format
+    ∙ sym y.are
+
+one_pcm_upload : (options : List Row) (a b : PcmUpload) → GivesPcmUpload options a → GivesPcmUpload options b → a ≡ b
+one_pcm_upload options a b x y =
+    let connects = one_address _ _ a.connect b.connect x.connects y.connects in
+    let named = one_name _ a.name b.name x.named y.named in
+    let takes = one_source options a.source b.source x.takes y.takes in
+    let samples : Some a.pcm ≡ Some b.pcm =
+    one_samples (given_on_line options) (Some a.pcm) (Some b.pcm) x.samples y.samples in
+    let pcm : a.pcm ≡ b.pcm = cc in
+    let waits = one_count_or _ _ _ a.timeout b.timeout x.waits y.waits in
+    let count = one_count most_fruitless _ x.count y.count x.counts y.counts in
+    let ends = x.ends ∙ ap (fruitless_of a.pcm.until) count ∙ ap (λ (s : PlainPcm). fruitless_of s.until y.count) pcm
+    ∙ sym y.ends in
+    let reports = x.reports ∙ sym y.reports in
+    λ i. record {
+      connect = connects i;
+      name = named i;
+      source = takes i;
+      pcm = pcm i;
+      timeout = waits i;
+      fruitless = ends i;
+      log = reports i;
+    }
+
+-- samples are described, or none
+some_samples : {P : Type 0} (given : Text → Option Text) (pcm : PlainPcm) → GivesSamples given None
+    → GivesSamples given (Some pcm) → P
+some_samples given pcm x y = let bad : None ≡ Some pcm = one_samples given None (Some pcm) x y in cc
+
 -- a recording's file is given, or none
 no_lines : (options : List Row) (sender : Sender) (upload : FileUpload) → GivesSender (given_on_line options) sender
     → ¬ GivesUpload options upload
@@ -176,6 +254,15 @@ one_wish (Some command) (Inspecting a) (Inspecting b) x y =
 one_wish (Some command) (Serving a) (Serving b) x y = ap Serving (one_server _ a b x.1 y.1)
 one_wish (Some command) (Sending a) (Sending b) x y = ap Sending (one_sender _ a b x.1 y.1)
 one_wish (Some command) (Uploading a) (Uploading b) x y = ap Uploading (one_upload command.1 a b x.1 y.1)
+one_wish (Some command) (SendingPcm a) (SendingPcm b) x y = ap SendingPcm (one_pcm_upload command.1 a b x.1 y.1)
+one_wish (Some command) (Sending a) (SendingPcm b) x y =
+    some_samples (given_on_line command.1) b.pcm x.1.unsampled y.1.samples
+one_wish (Some command) (SendingPcm a) (Sending b) x y =
+    some_samples (given_on_line command.1) a.pcm y.1.unsampled x.1.samples
+one_wish (Some command) (Uploading a) (SendingPcm b) x y =
+    some_samples (given_on_line command.1) b.pcm x.1.unsampled y.1.samples
+one_wish (Some command) (SendingPcm a) (Uploading b) x y =
+    some_samples (given_on_line command.1) a.pcm y.1.unsampled x.1.samples
 one_wish (Some command) (Packing a) (Packing b) x y = ap Packing (one_source command.1 a b x.1 y.1)
 one_wish (Some command) (Sending a) (Uploading b) x y = absurd (no_lines command.1 a b x.1 y.1)
 one_wish (Some command) (Uploading a) (Sending b) x y = absurd (no_lines command.1 b a y.1 x.1)
@@ -184,24 +271,28 @@ one_wish (Some command) (Replaying a k) (Inspecting b) x y = other_name (codes "
 one_wish (Some command) (Replaying a k) (Serving b) x y = other_name (codes "replay") (codes "serve") refl command.0 x.0 y.0
 one_wish (Some command) (Replaying a k) (Sending b) x y = other_name (codes "replay") (codes "send") refl command.0 x.0 y.0
 one_wish (Some command) (Replaying a k) (Uploading b) x y = other_name (codes "replay") (codes "send") refl command.0 x.0 y.0
+one_wish (Some command) (Replaying a k) (SendingPcm b) x y = other_name (codes "replay") (codes "send") refl command.0 x.0 y.0
 one_wish (Some command) (Replaying a k) (Packing b) x y = other_name (codes "replay") (codes "pack") refl command.0 x.0 y.0
 one_wish (Some command) (Rehearsing a n) (Replaying b j) x y = other_name (codes "rehearse") (codes "replay") refl command.0 x.0 y.0
 one_wish (Some command) (Rehearsing a n) (Inspecting b) x y = other_name (codes "rehearse") (codes "inspect") refl command.0 x.0 y.0
 one_wish (Some command) (Rehearsing a n) (Serving b) x y = other_name (codes "rehearse") (codes "serve") refl command.0 x.0 y.0
 one_wish (Some command) (Rehearsing a n) (Sending b) x y = other_name (codes "rehearse") (codes "send") refl command.0 x.0 y.0
 one_wish (Some command) (Rehearsing a n) (Uploading b) x y = other_name (codes "rehearse") (codes "send") refl command.0 x.0 y.0
+one_wish (Some command) (Rehearsing a n) (SendingPcm b) x y = other_name (codes "rehearse") (codes "send") refl command.0 x.0 y.0
 one_wish (Some command) (Rehearsing a n) (Packing b) x y = other_name (codes "rehearse") (codes "pack") refl command.0 x.0 y.0
 one_wish (Some command) (Inspecting a) (Replaying b j) x y = other_name (codes "inspect") (codes "replay") refl command.0 x.0 y.0
 one_wish (Some command) (Inspecting a) (Rehearsing b m) x y = other_name (codes "inspect") (codes "rehearse") refl command.0 x.0 y.0
 one_wish (Some command) (Inspecting a) (Serving b) x y = other_name (codes "inspect") (codes "serve") refl command.0 x.0 y.0
 one_wish (Some command) (Inspecting a) (Sending b) x y = other_name (codes "inspect") (codes "send") refl command.0 x.0 y.0
 one_wish (Some command) (Inspecting a) (Uploading b) x y = other_name (codes "inspect") (codes "send") refl command.0 x.0 y.0
+one_wish (Some command) (Inspecting a) (SendingPcm b) x y = other_name (codes "inspect") (codes "send") refl command.0 x.0 y.0
 one_wish (Some command) (Inspecting a) (Packing b) x y = other_name (codes "inspect") (codes "pack") refl command.0 x.0 y.0
 one_wish (Some command) (Serving a) (Replaying b j) x y = other_name (codes "serve") (codes "replay") refl command.0 x.0 y.0
 one_wish (Some command) (Serving a) (Rehearsing b m) x y = other_name (codes "serve") (codes "rehearse") refl command.0 x.0 y.0
 one_wish (Some command) (Serving a) (Inspecting b) x y = other_name (codes "serve") (codes "inspect") refl command.0 x.0 y.0
 one_wish (Some command) (Serving a) (Sending b) x y = other_name (codes "serve") (codes "send") refl command.0 x.0 y.0
 one_wish (Some command) (Serving a) (Uploading b) x y = other_name (codes "serve") (codes "send") refl command.0 x.0 y.0
+one_wish (Some command) (Serving a) (SendingPcm b) x y = other_name (codes "serve") (codes "send") refl command.0 x.0 y.0
 one_wish (Some command) (Serving a) (Packing b) x y = other_name (codes "serve") (codes "pack") refl command.0 x.0 y.0
 one_wish (Some command) (Sending a) (Replaying b j) x y = other_name (codes "send") (codes "replay") refl command.0 x.0 y.0
 one_wish (Some command) (Sending a) (Rehearsing b m) x y = other_name (codes "send") (codes "rehearse") refl command.0 x.0 y.0
@@ -209,13 +300,19 @@ one_wish (Some command) (Sending a) (Inspecting b) x y = other_name (codes "send
 one_wish (Some command) (Sending a) (Serving b) x y = other_name (codes "send") (codes "serve") refl command.0 x.0 y.0
 one_wish (Some command) (Sending a) (Packing b) x y = other_name (codes "send") (codes "pack") refl command.0 x.0 y.0
 one_wish (Some command) (Uploading a) (Replaying b j) x y = other_name (codes "send") (codes "replay") refl command.0 x.0 y.0
+one_wish (Some command) (SendingPcm a) (Replaying b j) x y = other_name (codes "send") (codes "replay") refl command.0 x.0 y.0
 one_wish (Some command) (Uploading a) (Rehearsing b m) x y = other_name (codes "send") (codes "rehearse") refl command.0 x.0 y.0
+one_wish (Some command) (SendingPcm a) (Rehearsing b m) x y = other_name (codes "send") (codes "rehearse") refl command.0 x.0 y.0
 one_wish (Some command) (Uploading a) (Inspecting b) x y = other_name (codes "send") (codes "inspect") refl command.0 x.0 y.0
+one_wish (Some command) (SendingPcm a) (Inspecting b) x y = other_name (codes "send") (codes "inspect") refl command.0 x.0 y.0
 one_wish (Some command) (Uploading a) (Serving b) x y = other_name (codes "send") (codes "serve") refl command.0 x.0 y.0
+one_wish (Some command) (SendingPcm a) (Serving b) x y = other_name (codes "send") (codes "serve") refl command.0 x.0 y.0
 one_wish (Some command) (Uploading a) (Packing b) x y = other_name (codes "send") (codes "pack") refl command.0 x.0 y.0
+one_wish (Some command) (SendingPcm a) (Packing b) x y = other_name (codes "send") (codes "pack") refl command.0 x.0 y.0
 one_wish (Some command) (Packing a) (Replaying b j) x y = other_name (codes "pack") (codes "replay") refl command.0 x.0 y.0
 one_wish (Some command) (Packing a) (Rehearsing b m) x y = other_name (codes "pack") (codes "rehearse") refl command.0 x.0 y.0
 one_wish (Some command) (Packing a) (Inspecting b) x y = other_name (codes "pack") (codes "inspect") refl command.0 x.0 y.0
 one_wish (Some command) (Packing a) (Serving b) x y = other_name (codes "pack") (codes "serve") refl command.0 x.0 y.0
 one_wish (Some command) (Packing a) (Sending b) x y = other_name (codes "pack") (codes "send") refl command.0 x.0 y.0
 one_wish (Some command) (Packing a) (Uploading b) x y = other_name (codes "pack") (codes "send") refl command.0 x.0 y.0
+one_wish (Some command) (Packing a) (SendingPcm b) x y = other_name (codes "pack") (codes "send") refl command.0 x.0 y.0

@@ -6,7 +6,8 @@ use Rattle.bw_args.specs.declared.bad_value.BadValue.TheVariants.{Name, Limit, F
 use Rattle.bw_args.specs.declared.bad_value.BadValue.TheVariants.{Folder, Exchanges, Timeout}
 use Rattle.bw_args.specs.declared.bad_value.BadValue.TheVariants.{Recorders, Idle, Wait}
 use Rattle.bw_args.specs.declared.bad_value.BadValue.TheVariants.{UntilStopped, Sync, Connect, Rounds}
-use Rattle.bw_args.specs.declared.bad_value.BadValue.TheVariants.{Fruitless, Mixed}
+use Rattle.bw_args.specs.declared.bad_value.BadValue.TheVariants.{Fruitless, Mixed, Pcm, Skip, Block}
+use Rattle.bw_args.specs.declared.bad_value.BadValue.TheVariants.{MixedSamples}
 
 -- what an address is
 abbrev pub address_wanted : Text
@@ -39,6 +40,14 @@ fault_said Fruitless =
     codes "'--fruitless <N>' takes a number from 1 to 1000000, in at most ten digits"
 fault_said Mixed = codes "'--set', '--strict', '--fruitless' and '--log' are for '--file <FILE>', and "
     ++ codes "'--rounds <N>' for a sender without it"
+fault_said Pcm = codes "'--pcm <RATE,CHANNELS,BITS>' takes three numbers with commas between them, "
+    ++ codes "each from 0 to 4294967295, in at most ten digits"
+fault_said Skip =
+    codes "'--skip <BYTES>' takes a number from 0 to 4294967295, in at most ten digits"
+fault_said Block =
+    codes "'--block <FRAMES>' takes a number from 1 to 4294967295, in at most ten digits"
+fault_said MixedSamples = codes "'--pcm' is for '--file <FILE>', '--skip', '--block', '--follow' for "
+    ++ codes "'--pcm'; '--follow' goes with '--until <END>'"
 
 -- the end of a line, and an empty line
 abbrev pub line_and_gap : Text

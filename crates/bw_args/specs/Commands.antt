@@ -168,9 +168,37 @@ send_how = with_rule (with_rule send_where timeout_option) network_flag
 abbrev pub send_source : App
 send_source = with_rule (with_rule (with_rule send_how file_option) set_option) strict_flag
 
--- `send`, with its ten options
+-- `--pcm RATE,CHANNELS,BITS`
+abbrev pub pcm_option : Rule
+pcm_option = option (codes "pcm")
+
+-- `--skip BYTES`
+abbrev pub skip_option : Rule
+skip_option = option (codes "skip")
+
+-- `--block FRAMES`
+abbrev pub block_option : Rule
+block_option = option (codes "block")
+
+-- `--follow`
+abbrev pub follow_flag : Rule
+follow_flag = flag (codes "follow")
+
+-- `--until END`
+abbrev pub until_option : Rule
+until_option = option (codes "until")
+
+-- and of which samples it is, where it has no header
+abbrev pub send_samples : App
+send_samples = with_rule (with_rule (with_rule send_source pcm_option) skip_option) block_option
+
+-- and when it has ended, where it is still going on
+abbrev pub send_followed : App
+send_followed = with_rule (with_rule send_samples follow_flag) until_option
+
+-- `send`, with its fifteen options
 abbrev pub send_command : App
-send_command = with_rule (with_rule send_source fruitless_option) log_flag
+send_command = with_rule (with_rule send_followed fruitless_option) log_flag
 
 -- `pack`, with the file and its two options
 abbrev pub pack_command : App

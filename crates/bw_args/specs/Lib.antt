@@ -5,7 +5,9 @@ pub mod ReadWords
 pub mod BadValues
 pub mod Given
 pub mod Sources
+pub mod PcmSources
 pub mod Lines
 pub mod Forms
 pub mod PeerForms
 pub mod FileForms
+pub mod PcmForms

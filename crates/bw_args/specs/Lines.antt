@@ -20,9 +20,11 @@ use Rattle.clap.specs.Values.{kind_of}
 use Rattle.clap.specs.declared.error.ErrorKind.{ErrorKind}
 use Rattle.clap.specs.declared.error.ErrorKind.TheVariants.{OutOfMemory}
 use Rattle.bw_args.specs.Numbers.{IsLimitValue, default_fruitless, default_timeout, most_exchanges}
-use Rattle.bw_args.specs.Numbers.{most_fruitless, most_recorders, most_rounds, most_seconds}
+use Rattle.bw_args.specs.Numbers.{most_block, most_fruitless, most_recorders, most_rounds, most_seconds}
 use Rattle.bw_args.specs.Commands.{command_line}
 use Rattle.bw_args.specs.Sources.{GivesSource, PlainSource, in_plain, is_mixed}
+use Rattle.bw_args.specs.PcmSources.{GivesFormat, GivesNumber, GivesSamples, PlainPcm}
+use Rattle.bw_args.specs.PcmSources.{are_samples_mixed, fruitless_of, plain_pcm}
 use Rattle.bw_args.specs.ReadWords.{as_read}
 use Rattle.bw_args.specs.declared.CommandLine.{CommandLine}
 use Rattle.bw_args.specs.declared.CommandLine.TheVariants.{Run, BadValue as Bad, Report}
@@ -31,7 +33,8 @@ use Rattle.bw_args.specs.declared.bad_value.BadValue.TheVariants.{Name, Limit, F
 use Rattle.bw_args.specs.declared.bad_value.BadValue.TheVariants.{Folder, Exchanges, Timeout}
 use Rattle.bw_args.specs.declared.bad_value.BadValue.TheVariants.{Recorders, Idle, Wait}
 use Rattle.bw_args.specs.declared.bad_value.BadValue.TheVariants.{UntilStopped, Sync, Connect, Rounds}
-use Rattle.bw_args.specs.declared.bad_value.BadValue.TheVariants.{Fruitless, Mixed}
+use Rattle.bw_args.specs.declared.bad_value.BadValue.TheVariants.{Fruitless, Mixed, Pcm, Skip, Block}
+use Rattle.bw_args.specs.declared.bad_value.BadValue.TheVariants.{MixedSamples}
 use Rattle.bw_args.specs.declared.peers.End.{End}
 use Rattle.bw_args.specs.declared.peers.End.TheVariants as when
 use Rattle.bw_args.specs.declared.peers.Journaling.{Journaling}
@@ -39,9 +42,10 @@ use Rattle.bw_args.specs.declared.peers.Recorders.{Recorders as Way}
 use Rattle.bw_args.specs.declared.peers.Recorders.TheVariants.{InTurn, AtOnce}
 use Rattle.bw_args.specs.declared.peers.Send.{Send as Sender}
 use Rattle.bw_args.specs.declared.Task.{Task}
+use Rattle.bw_args.specs.declared.commands.samples.WrittenFormat.{WrittenFormat}
 use Rattle.bw_args.specs.declared.commands.sending.Tries.{Tries}
 use Rattle.bw_args.specs.declared.Task.TheVariants.{Replay, Rehearse, Inspect, Serve, Send}
-use Rattle.bw_args.specs.declared.Task.TheVariants.{SendFile, Pack}
+use Rattle.bw_args.specs.declared.Task.TheVariants.{SendFile, SendPcm, Pack}
 
 -- the server that a command line asks for
 pub record Service : Type 0 where
@@ -69,9 +73,19 @@ pub record FileUpload : Type 0 where
   pub fruitless : ℕ
   pub log : Bool
 
+-- the sender of headerless samples that a command line asks for
+pub record PcmUpload : Type 0 where
+  pub connect : SocketAddr
+  pub name : Text
+  pub source : PlainSource
+  pub pcm : PlainPcm
+  pub timeout : ℕ
+  pub fruitless : Option ℕ
+  pub log : Bool
+
 -- what may be asked for: a replay with this limit, in which the call of this number fails, or none;
 -- a rehearsal of the take of this name, with this limit; to inspect the file of this path; a server
--- or a sender; the sender of a recording, or its requests
+-- or a sender; the sender of a recording, of headerless samples, or a recording's requests
 pub data Wish : Type 0 where
   Replaying : ℕ → Option ℕ → Wish
   Rehearsing : Text → ℕ → Wish
@@ -79,6 +93,7 @@ pub data Wish : Type 0 where
   Serving : Service → Wish
   Sending : Sender → Wish
   Uploading : FileUpload → Wish
+  SendingPcm : PcmUpload → Wish
   Packing : PlainSource → Wish
 
 -- what a task is about
@@ -101,6 +116,15 @@ wish_of (SendFile sender) = Uploading (record {
   connect = sender.connect;
   name = sender.name;
   source = in_plain sender.source;
+  timeout = sender.timeout;
+  fruitless = sender.fruitless;
+  log = sender.log;
+})
+wish_of (SendPcm sender) = SendingPcm (record {
+  connect = sender.connect;
+  name = sender.name;
+  source = in_plain sender.source;
+  pcm = plain_pcm sender.pcm;
   timeout = sender.timeout;
   fruitless = sender.fruitless;
   log = sender.log;
@@ -130,6 +154,7 @@ pub record GivesSender (given : Text → Option Text) (sender : Sender) : Type 0
   pub waits : GivesCount most_seconds (given (codes "timeout")) sender.timeout
   pub lines : given (codes "file") ≡ None
   pub unmixed : is_mixed given ≡ false
+  pub unsampled : GivesSamples given None
 
 -- what is given is this sender of a recording
 pub record GivesUpload (options : List Row) (sender : FileUpload) : Type 0 where
@@ -141,6 +166,22 @@ pub record GivesUpload (options : List Row) (sender : FileUpload) : Type 0 where
       sender.timeout
   pub ends : GivesCountOr default_fruitless most_fruitless
       (given_on_line options (codes "fruitless")) sender.fruitless
+  pub reports : sender.log ≡ is_set (given_on_line options (codes "log"))
+  pub unmixed : is_mixed (given_on_line options) ≡ false
+  pub unsampled : GivesSamples (given_on_line options) None
+
+-- what is given is this sender of headerless samples
+pub record GivesPcmUpload (options : List Row) (sender : PcmUpload) : Type 0 where
+  pub connects : GivesAddress (is_set (given_on_line options (codes "network")))
+      (given_on_line options (codes "connect")) sender.connect
+  pub named : GivesName (given_on_line options (codes "name")) sender.name
+  pub takes : GivesSource options sender.source
+  pub samples : GivesSamples (given_on_line options) (Some sender.pcm)
+  pub waits : GivesCountOr default_timeout most_seconds (given_on_line options (codes "timeout"))
+      sender.timeout
+  pub count : Option ℕ
+  pub counts : GivesCount most_fruitless (given_on_line options (codes "fruitless")) count
+  pub ends : sender.fruitless ≡ fruitless_of sender.pcm.until count
   pub reports : sender.log ≡ is_set (given_on_line options (codes "log"))
   pub unmixed : is_mixed (given_on_line options) ≡ false
 
@@ -161,6 +202,8 @@ IsWishOf (Some command) (Sending sender) =
     (command.0 ≡ codes "send") × GivesSender (given_on_line command.1) sender
 IsWishOf (Some command) (Uploading sender) =
     (command.0 ≡ codes "send") × GivesUpload command.1 sender
+IsWishOf (Some command) (SendingPcm sender) =
+    (command.0 ≡ codes "send") × GivesPcmUpload command.1 sender
 IsWishOf (Some command) (Packing source) =
     (command.0 ≡ codes "pack") × GivesSource command.1 source
 
@@ -176,6 +219,7 @@ HasPath (Inspecting path) = ⊤
 HasPath (Serving server) = ⊤
 HasPath (Sending sender) = ⊥
 HasPath (Uploading sender) = ⊤
+HasPath (SendingPcm sender) = ⊤
 HasPath (Packing source) = ⊤
 
 -- they ask for something of which a path is kept
@@ -207,6 +251,10 @@ IsGood Rounds given = (count : Option ℕ) × GivesCount most_rounds (given (cod
 IsGood Fruitless given = (count : Option ℕ)
     × GivesCount most_fruitless (given (codes "fruitless")) count
 IsGood Mixed given = is_mixed given ≡ false
+IsGood Pcm given = (format : Option WrittenFormat) × GivesFormat (given (codes "pcm")) format
+IsGood Skip given = (bytes : Option ℕ) × GivesNumber (given (codes "skip")) bytes
+IsGood Block given = (frames : Option ℕ) × GivesCount most_block (given (codes "block")) frames
+IsGood MixedSamples given = are_samples_mixed given ≡ false
 
 -- the values that say how recorders are served, in the order in which they are looked at
 abbrev pub looked_at_waiting : List BadValue
@@ -216,6 +264,10 @@ looked_at_waiting = Timeout ∷ Recorders ∷ Idle ∷ Wait ∷ []
 abbrev pub looked_at_trying : List BadValue
 looked_at_trying = Rounds ∷ Timeout ∷ Fruitless ∷ []
 
+-- the values that describe headerless samples, in the order in which they are looked at
+abbrev pub looked_at_samples : List BadValue
+looked_at_samples = Pcm ∷ Skip ∷ Block ∷ MixedSamples ∷ []
+
 -- the values that a command looks at, in this order
 abbrev pub looked_at : Text → List BadValue
 looked_at command = if bytes_eq command (codes "replay") then Limit ∷ Fuse ∷ []
@@ -223,7 +275,7 @@ looked_at command = if bytes_eq command (codes "replay") then Limit ∷ Fuse ∷
     else (if bytes_eq command (codes "serve")
     then Listen ∷ Folder ∷ Exchanges ∷ Limit ∷ (looked_at_waiting ++ UntilStopped ∷ Sync ∷ [])
     else (if bytes_eq command (codes "send")
-    then Connect ∷ Name ∷ (looked_at_trying ++ Mixed ∷ []) else [])))
+    then Connect ∷ Name ∷ (looked_at_trying ++ Mixed ∷ looked_at_samples) else [])))
 
 -- of these values, in this order, it is the first that is bad
 abbrev pub IsFirstBad : List BadValue → (Text → Option Text) → BadValue → Type 0
@@ -300,6 +352,9 @@ HasNumbersInRange (Run (Send sender)) = (0 < socket_port sender.connect)
 HasNumbersInRange (Run (SendFile sender)) = (0 < socket_port sender.connect)
     × ((1 ≤ sender.timeout) × (sender.timeout ≤ most_seconds))
     × ((1 ≤ sender.fruitless) × (sender.fruitless ≤ most_fruitless))
+HasNumbersInRange (Run (SendPcm sender)) = (0 < socket_port sender.connect)
+    × ((1 ≤ sender.timeout) × (sender.timeout ≤ most_seconds))
+    × IsWithin most_fruitless sender.fruitless × IsWithin most_block sender.pcm.block
 HasNumbersInRange (Run (Pack source)) = ⊤
 HasNumbersInRange (Bad value) = ⊤
 HasNumbersInRange (Report error) = ⊤

@@ -60,6 +60,10 @@ most_recorders = 256
 abbrev pub default_idle : ℕ
 default_idle = 60
 
+-- the most frames that a block of headerless samples may be asked to have
+abbrev pub most_block : ℕ
+most_block = 4294967295
+
 -- the longest time for which a peer may be waited for, in seconds: a day
 abbrev pub most_seconds : ℕ
 most_seconds = 86400

@@ -37,6 +37,15 @@ pub enum BadValue {
     Fruitless,
     /// An option for a recording without `--file`, or `--rounds` with it.
     Mixed,
+    /// The format of headerless samples.
+    Pcm,
+    /// How many bytes stand before headerless samples.
+    Skip,
+    /// How many frames a block of headerless samples has.
+    Block,
+    /// An option for headerless samples without `--pcm`, that without `--file`, or one of `--follow`
+    /// and `--until` without the other.
+    MixedSamples,
 }
 
 impl BadValue {
@@ -61,6 +70,10 @@ impl BadValue {
             BadValue::Rounds => BAD_ROUNDS,
             BadValue::Fruitless => BAD_FRUITLESS,
             BadValue::Mixed => BAD_MIXED,
+            BadValue::Pcm => BAD_PCM,
+            BadValue::Skip => BAD_SKIP,
+            BadValue::Block => BAD_BLOCK,
+            BadValue::MixedSamples => BAD_MIXED_SAMPLES,
         }
     }
 }
@@ -187,6 +200,38 @@ For more information, try '--help'.
 
 const BAD_MIXED: &str = "\
 error: '--set', '--strict', '--fruitless' and '--log' are for '--file <FILE>', and '--rounds <N>' for a sender without it
+
+Usage: bwingest <COMMAND>
+
+For more information, try '--help'.
+";
+
+const BAD_PCM: &str = "\
+error: '--pcm <RATE,CHANNELS,BITS>' takes three numbers with commas between them, each from 0 to 4294967295, in at most ten digits
+
+Usage: bwingest <COMMAND>
+
+For more information, try '--help'.
+";
+
+const BAD_SKIP: &str = "\
+error: '--skip <BYTES>' takes a number from 0 to 4294967295, in at most ten digits
+
+Usage: bwingest <COMMAND>
+
+For more information, try '--help'.
+";
+
+const BAD_BLOCK: &str = "\
+error: '--block <FRAMES>' takes a number from 1 to 4294967295, in at most ten digits
+
+Usage: bwingest <COMMAND>
+
+For more information, try '--help'.
+";
+
+const BAD_MIXED_SAMPLES: &str = "\
+error: '--pcm' is for '--file <FILE>', '--skip', '--block', '--follow' for '--pcm'; '--follow' goes with '--until <END>'
 
 Usage: bwingest <COMMAND>
 

@@ -10,6 +10,7 @@ ghost use Rattle.bw_args.specs.Lines.{IsNameGiven};
 mod network;
 mod options;
 mod packing;
+mod samples;
 mod sending;
 mod serving;
 mod sources;

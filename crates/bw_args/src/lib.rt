@@ -8,6 +8,7 @@ ghost use Rattle.bw_args.specs.Forms.{RefusesValues, RunsInspect, RunsRehearsal,
 ghost use Rattle.bw_args.specs.Forms.{ReportsHelp};
 ghost use Rattle.bw_args.specs.PeerForms.{RefusesPeers, RunsSender, RunsServer, WantsPeers};
 ghost use Rattle.bw_args.specs.FileForms.{RefusesFiles, RunsFileSender, RunsPack};
+ghost use Rattle.bw_args.specs.PcmForms.{RefusesSamples, RunsPcmSender};
 
 mod addresses;
 mod bad_value;
@@ -22,7 +23,7 @@ use bw_request::Name;
 use clap::Error;
 use clap::error::ErrorKind;
 pub use peers::{End, Journaling, Recorders, Send, Serve};
-pub use recordings::{FileSender, SourceFile};
+pub use recordings::{FileSender, PcmSender, PcmSource, SourceFile};
 use std::alloc::{AllocError, Global};
 
 /// What a command line asks the program to do.
@@ -43,6 +44,8 @@ pub enum Task {
     Send(Send),
     /// Send the requests of a recording to a server.
     SendFile(FileSender),
+    /// Send headerless samples to a server.
+    SendPcm(PcmSender),
     /// Print the requests of a recording.
     Pack(SourceFile),
 }
@@ -61,9 +64,9 @@ pub enum CommandLine {
 /// Parses a command line, whose first word is the program's own name.
 ///
 /// Which words run a task, and of what kind an error is, follows from `clap`'s own contract
-/// (`line`). In plain terms the contract says of thirty-four forms that they run (`replay`,
-/// `rehearse`, `inspect`, `serve`, `send`), of twenty-two which value is a fault (`values`,
-/// `peers`) and of thirteen what they print (`help`, `rehearse`, `inspect`, `wanted`). Examples
+/// (`line`). In plain terms the contract says of thirty-nine forms that they run (`replay`,
+/// `rehearse`, `inspect`, `serve`, `send`, `send_pcm`), of twenty-nine which value is a fault
+/// (`values`, `peers`, `samples`) and of thirteen what they print (`help`, `rehearse`, `inspect`, `wanted`). Examples
 /// test that options may be given in all their forms and orders, and that all else is refused,
 /// except `--` at the end or before a file.
 ///
@@ -88,6 +91,8 @@ pub fn parse(alloc: Global, words: &[String]) -> Result<CommandLine, AllocError>
     ensures pack { IfOk result (RunsPack (map string_bytes words.now)) }
     ensures send_file { IfOk result (RunsFileSender (map string_bytes words.now)) }
     ensures files { IfOk result (RefusesFiles (map string_bytes words.now)) }
+    ensures send_pcm { IfOk result (RunsPcmSender (map string_bytes words.now)) }
+    ensures samples { IfOk result (RefusesSamples (map string_bytes words.now)) }
     ensures help { IfOk result (ReportsHelp (map string_bytes words.now)) }
 {
     let read = read_words::read_words(alloc, words)?;

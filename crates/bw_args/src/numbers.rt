@@ -35,6 +35,9 @@ pub(crate) const DEFAULT_FRUITLESS: u32 = 10;
 /// How many seconds a sender of a recording waits for the server if no number is given.
 pub(crate) const DEFAULT_TIMEOUT: u32 = 30;
 
+/// The most frames that a block of headerless samples may be asked to have.
+pub(crate) const MOST_BLOCK: u32 = 4_294_967_295;
+
 /// The longest time for which a peer may be waited for, in seconds: a day.
 pub(crate) const MOST_SECONDS: u32 = 86_400;
 

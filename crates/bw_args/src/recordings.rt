@@ -14,6 +14,45 @@ pub struct SourceFile {
     pub strict: bool,
 }
 
+/// Headerless samples, as a command line describes them. Whether there is such a format isn't looked
+/// at here.
+#[derive(Debug, PartialEq, Eq, Drop)]
+pub struct PcmSource {
+    /// In Hz.
+    pub rate: u32,
+    /// Samples of a frame.
+    pub channels: u32,
+    /// Of a sample.
+    pub bits: u32,
+    /// How many bytes of the file stand before the first sample.
+    pub skip: u32,
+    /// How many frames a block has at most, where that is given: at least 1.
+    pub block: Option<u32>,
+    /// The path that exists once the recording has ended, as it was given; None for a file that is
+    /// sent as it is.
+    pub until: Option<String>,
+}
+
+/// The sender of headerless samples that a command line asks for.
+#[derive(Debug, PartialEq, Eq, Drop)]
+pub struct PcmSender {
+    /// Where the server listens, as for the server itself.
+    pub connect: SocketAddr,
+    /// The take's name.
+    pub name: Name,
+    /// The file, and what is said about it.
+    pub source: SourceFile,
+    /// The samples in the file.
+    pub pcm: PcmSource,
+    /// How many seconds it waits for the server, 1 to 86,400.
+    pub timeout: u32,
+    /// After how many links in a row that settle nothing it gives up, 1 to 1,000,000; None for any
+    /// number.
+    pub fruitless: Option<u32>,
+    /// Whether each change of the link is reported in a line on standard error.
+    pub log: bool,
+}
+
 /// The sender of a recording that a command line asks for.
 #[derive(Debug, PartialEq, Eq, Drop)]
 pub struct FileSender {

@@ -12,7 +12,7 @@ use Rattle.bw_args.specs.declared.CommandLine.{CommandLine}
 use Rattle.bw_args.specs.declared.CommandLine.TheVariants.{Run, BadValue as Bad, Report}
 use Rattle.bw_args.specs.declared.Task.{Task}
 use Rattle.bw_args.specs.declared.Task.TheVariants.{Replay, Inspect, Rehearse, Serve, Send}
-use Rattle.bw_args.specs.declared.Task.TheVariants.{SendFile, Pack}
+use Rattle.bw_args.specs.declared.Task.TheVariants.{SendFile, SendPcm, Pack}
 use Rattle.bw_console.specs.Outcomes.{Outcome, Does, IsOutOfMemory}
 use Rattle.bw_commands.specs.Replays.{IsReplay}
 use Rattle.bw_console.specs.Faults.{IsReportedBy, exit_of}
@@ -30,6 +30,7 @@ use Rattle.bw_ports.specs.declared.starts.Starts.{Ghosts as StartGhosts}
 use Rattle.bw_session.specs.declared.server.Server.{Server}
 use Rattle.bw_cli.specs.Packed.{Packs}
 use Rattle.bw_cli.specs.Remote.{Sends, ServesByRule}
+use Rattle.bw_cli.specs.PcmUploads.{SendsPcm}
 use Rattle.bw_cli.specs.Uploads.{SendsRecording}
 use Rattle.bw_cli.specs.Sides.{HostSide, SenderSide, ServerSide, UploadSide}
 use Rattle.bw_cli.specs.declared.outside.Outside.{Outside}
@@ -77,6 +78,7 @@ IsTaskDone file_at input (Rehearse name limit) gives_all did =
 IsTaskDone file_at input (Serve server) gives_all did = ⊥
 IsTaskDone file_at input (Send sender) gives_all did = ⊥
 IsTaskDone file_at input (SendFile sender) gives_all did = ⊥
+IsTaskDone file_at input (SendPcm sender) gives_all did = ⊥
 IsTaskDone file_at input (Pack source) gives_all did = ⊥
 
 -- for a command line
@@ -93,9 +95,9 @@ abbrev pub IsUnread : Bool → Outcome → Type 0
 IsUnread true did = IsOutOfMemory did
 IsUnread false did = (kind : ErrorKind) × IsBadArgv kind did
 
-module _ {S T F H G M N X Y Z P R W L K D A B U Q I O E V C : Type 0} (host : HostSide S T F H G M I O E)
+module _ {S T F H G M N X Y Z P R W L K D A B U J Q I O E V C : Type 0} (host : HostSide S T F H G M I O E)
     (server_side : ServerSide X Y Z P R W L K N) (sender_side : SenderSide D A B)
-    (upload_side : UploadSide U Q) (network : NetworkGhosts N X P D R W A B) (listener_setup : ListenerSetupGhosts N L K)
+    (upload_side : UploadSide U J Q) (network : NetworkGhosts N X P D R W A B) (listener_setup : ListenerSetupGhosts N L K)
     (starter : StartGhosts N (Server X Y server_side.store server_side.journal)) where
   -- this is done without the network, and without recordings, where so many calls of the system
   -- had failed
@@ -127,6 +129,10 @@ module _ {S T F H G M N X Y Z P R W L K D A B U Q I O E V C : Type 0} (host : Ho
       × (x'.pause ≡ x.pause)
   IsDoneFor file_at failed (Run (SendFile sender)) exit x x' =
       SendsRecording upload_side sender_side network host.files host.out host.reported sender exit
+      x.files x'.files x.network x.pause x'.pause x.out x'.out x.faults x'.faults
+      × IsHostWell failed x' × (x'.network ≡ x.network) × (x'.input ≡ x.input)
+  IsDoneFor file_at failed (Run (SendPcm sender)) exit x x' =
+      SendsPcm upload_side sender_side network host.files host.out host.reported sender exit
       x.files x'.files x.network x.pause x'.pause x.out x'.out x.faults x'.faults
       × IsHostWell failed x' × (x'.network ≡ x.network) × (x'.input ≡ x.input)
   IsDoneFor file_at failed (Run (Pack source)) exit x x' =

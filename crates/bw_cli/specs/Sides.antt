@@ -68,12 +68,14 @@ abbrev pub sender_side : {D A B : Type 0} → DialGhosts D A B → Reader A → 
 sender_side dial replies requests = record { dial = dial; replies = replies; requests = requests }
 
 -- what a sender of recordings takes its requests from, what that looks at before the last of them,
--- and what it waits by
-pub record UploadSide (U Q : Type 0) : Type 1 where
+-- what it takes those of samples from that are still written, and what it waits by
+pub record UploadSide (U J Q : Type 0) : Type 1 where
   pub feed : FeedGhosts U FeedFault
   pub looks_at : Option FileStamp → U → Type 0
+  pub follow : FeedGhosts J FeedFault
   pub pause : PauseGhosts Q
 
-abbrev pub upload_side : {U Q : Type 0} → FeedGhosts U FeedFault → (Option FileStamp → U → Type 0) →
-    PauseGhosts Q → UploadSide U Q
-upload_side feed looks_at pause = record { feed = feed; looks_at = looks_at; pause = pause }
+abbrev pub upload_side : {U J Q : Type 0} → FeedGhosts U FeedFault → (Option FileStamp → U → Type 0) →
+    FeedGhosts J FeedFault → PauseGhosts Q → UploadSide U J Q
+upload_side feed looks_at follow pause =
+    record { feed = feed; looks_at = looks_at; follow = follow; pause = pause }

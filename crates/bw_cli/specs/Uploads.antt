@@ -18,7 +18,7 @@ pub record IsRecorderOf (sender : FileSender) (recorder : Recorder) : Type 0 whe
   pub named : recorder.name.now ≡ sender.name
   pub ends : recorder.fruitless ≡ Some sender.fruitless
 
-module _ {U F H G M Q N X P R W D A B O E : Type 0} (upload : UploadSide U Q)
+module _ {U J F H G M Q N X P R W D A B O E : Type 0} (upload : UploadSide U J Q)
     (side : SenderSide D A B) (network : NetworkGhosts N X P D R W A B) (files : FileGhosts F H G M) (out : Writer O)
     (reported : Writer E) where
   -- the recording was sent over links that are made so, after such pauses

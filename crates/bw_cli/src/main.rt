@@ -5,6 +5,7 @@ mod outside;
 pub mod program;
 mod recordings;
 mod remote;
+mod samples;
 mod uploads;
 
 use bw_net::{ClockPause, Host, HostRecordings, TcpNetwork, Terminal};

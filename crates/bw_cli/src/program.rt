@@ -13,6 +13,7 @@ ghost use Rattle.bw_cli.specs.Sides.{host_side, sender_side, server_side, upload
 use crate::outside::Outside;
 use crate::recordings::pack_as;
 use crate::remote::{send_as, serve_as};
+use crate::samples::send_pcm_as;
 use crate::uploads::send_file_as;
 use bw_args::{CommandLine, Task, parse};
 use bw_commands::replay::{replay, replay_fused};
@@ -24,6 +25,7 @@ use bw_layout::Limit;
 use bw_one_name::NameRule;
 use bw_ports::{ListenerSetup, Network, Pause, RecordingFiles, Starts, System, Watch};
 use bw_send_file::PlanFeed;
+use bw_send_pcm::PcmFeed;
 use bw_session::Server;
 use bw_stream::{Sink, Source};
 use bw_upload::{Feed, NoObserver, Observer};
@@ -55,7 +57,8 @@ pub fn start<
         (server_side N.Store.TakeStore J.Journal ⟦<NoJournal as Journal>⟧ N.Peers.Peers
         N.Peers.Reader.Source N.Peers.Writer.Sink N.Reactor.Reactor N.Reactor.Link.Link N.NameRule)
         (sender_side N.Dial.Dial N.Dial.Reader.Source N.Dial.Writer.Sink)
-        (upload_side ⟦<PlanFeed<F::File, F::Stamped> as Feed>⟧ (LooksAt F.Stamped.Stamped) P.Pause)
+        (upload_side ⟦<PlanFeed<F::File, F::Stamped> as Feed>⟧ (LooksAt F.Stamped.Stamped)
+        ⟦<PcmFeed<F::Growing> as Feed>⟧ P.Pause)
         N.Network N.ListenerSetup N.Starts (S.words outside.old.system) exit outside.old outside.new }
 {
     ExitCode::from(obey(alloc, outside).status())
@@ -78,7 +81,8 @@ fn obey<
         (server_side N.Store.TakeStore J.Journal ⟦<NoJournal as Journal>⟧ N.Peers.Peers
         N.Peers.Reader.Source N.Peers.Writer.Sink N.Reactor.Reactor N.Reactor.Link.Link N.NameRule)
         (sender_side N.Dial.Dial N.Dial.Reader.Source N.Dial.Writer.Sink)
-        (upload_side ⟦<PlanFeed<F::File, F::Stamped> as Feed>⟧ (LooksAt F.Stamped.Stamped) P.Pause)
+        (upload_side ⟦<PlanFeed<F::File, F::Stamped> as Feed>⟧ (LooksAt F.Stamped.Stamped)
+        ⟦<PcmFeed<F::Growing> as Feed>⟧ P.Pause)
         N.Network N.ListenerSetup N.Starts (S.words outside.old.system) result outside.old outside.new }
 {
     match outside.system.words() {
@@ -104,7 +108,8 @@ fn answer<
         (server_side N.Store.TakeStore J.Journal ⟦<NoJournal as Journal>⟧ N.Peers.Peers
         N.Peers.Reader.Source N.Peers.Writer.Sink N.Reactor.Reactor N.Reactor.Link.Link N.NameRule)
         (sender_side N.Dial.Dial N.Dial.Reader.Source N.Dial.Writer.Sink)
-        (upload_side ⟦<PlanFeed<F::File, F::Stamped> as Feed>⟧ (LooksAt F.Stamped.Stamped) P.Pause)
+        (upload_side ⟦<PlanFeed<F::File, F::Stamped> as Feed>⟧ (LooksAt F.Stamped.Stamped)
+        ⟦<PcmFeed<F::Growing> as Feed>⟧ P.Pause)
         N.Network N.ListenerSetup N.Starts (Some (map string_bytes words.now)) result outside.old outside.new }
 {
     match parse(alloc, words) {
@@ -131,7 +136,8 @@ fn perform<
         (server_side N.Store.TakeStore J.Journal ⟦<NoJournal as Journal>⟧ N.Peers.Peers
         N.Peers.Reader.Source N.Peers.Writer.Sink N.Reactor.Reactor N.Reactor.Link.Link N.NameRule)
         (sender_side N.Dial.Dial N.Dial.Reader.Source N.Dial.Writer.Sink)
-        (upload_side ⟦<PlanFeed<F::File, F::Stamped> as Feed>⟧ (LooksAt F.Stamped.Stamped) P.Pause)
+        (upload_side ⟦<PlanFeed<F::File, F::Stamped> as Feed>⟧ (LooksAt F.Stamped.Stamped)
+        ⟦<PcmFeed<F::Growing> as Feed>⟧ P.Pause)
         N.Network N.ListenerSetup N.Starts (S.file_at outside.old.system) (S.failures outside.old.system) line.now result
         outside.old outside.new }
 {
@@ -163,7 +169,8 @@ fn run<
         (server_side N.Store.TakeStore J.Journal ⟦<NoJournal as Journal>⟧ N.Peers.Peers
         N.Peers.Reader.Source N.Peers.Writer.Sink N.Reactor.Reactor N.Reactor.Link.Link N.NameRule)
         (sender_side N.Dial.Dial N.Dial.Reader.Source N.Dial.Writer.Sink)
-        (upload_side ⟦<PlanFeed<F::File, F::Stamped> as Feed>⟧ (LooksAt F.Stamped.Stamped) P.Pause)
+        (upload_side ⟦<PlanFeed<F::File, F::Stamped> as Feed>⟧ (LooksAt F.Stamped.Stamped)
+        ⟦<PcmFeed<F::Growing> as Feed>⟧ P.Pause)
         N.Network N.ListenerSetup N.Starts (S.file_at outside.old.system) (S.failures outside.old.system)
         (CommandLine.Run task.now) result outside.old outside.new }
 {
@@ -197,6 +204,13 @@ fn run<
         Task::SendFile(sender) => {
             let observer = &mut NoObserver;
             send_file_as(alloc, sender, files, network, pause, observer, out, faults)
+        }
+        Task::SendPcm(sender) if sender.log => {
+            send_pcm_as(alloc, sender, files, network, pause, log, out, faults)
+        }
+        Task::SendPcm(sender) => {
+            let observer = &mut NoObserver;
+            send_pcm_as(alloc, sender, files, network, pause, observer, out, faults)
         }
         Task::Pack(source) => pack_as(alloc, source, files, out, faults),
     }

@@ -9,6 +9,7 @@ use bw_args::FileSender;
 use bw_console::Exit;
 use bw_ports::{Network, Pause, RecordingFiles};
 use bw_send_file::{PlanFeed, Recorder, send_file};
+use bw_send_pcm::PcmFeed;
 use bw_stream::Sink;
 use bw_upload::{Feed, Observer};
 use std::alloc::Global;
@@ -26,7 +27,8 @@ pub(crate) fn send_file_as<F: RecordingFiles, N: Network, P: Pause, G: Observer,
     faults: &mut E,
 ) -> Exit
     ensures { SendsRecording
-        (upload_side ⟦<PlanFeed<F::File, F::Stamped> as Feed>⟧ (LooksAt F.Stamped.Stamped) P.Pause)
+        (upload_side ⟦<PlanFeed<F::File, F::Stamped> as Feed>⟧ (LooksAt F.Stamped.Stamped)
+        ⟦<PcmFeed<F::Growing> as Feed>⟧ P.Pause)
         (sender_side N.Dial.Dial N.Dial.Reader.Source N.Dial.Writer.Sink) N.Network
         F.RecordingFiles W.Sink E.Sink sender.now result files.old files.new network.now
         pause.old pause.new out.old out.new faults.old faults.new }

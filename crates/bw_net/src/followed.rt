@@ -4,7 +4,16 @@ ghost use Rattle.std.specs.Prelude.{◌≡◌, None, IfOk, false};
 use bw_ports::Followed;
 use bw_stream::IoFailed;
 use std::fs::{self, File};
-use std::io::{self, Read, Seek, SeekFrom};
+use std::io::{self, ErrorKind, Read, Seek, SeekFrom};
+use std::thread;
+use std::time::Duration;
+
+/// How often a file that isn't there yet is looked for again: a recorder that is started at the same
+/// time makes it a moment later.
+const LOOKS: u32 = 50;
+
+/// The milliseconds between two such looks.
+const BETWEEN_LOOKS: u64 = 100;
 
 /// A file that another program writes until a file stands at a path. It reports no bytes, since no
 /// clause of std says what a file holds.
@@ -19,7 +28,8 @@ pub struct FollowedFile<'a> {
 }
 
 impl<'a> FollowedFile<'a> {
-    /// The file at a path, after its first `skip` bytes.
+    /// The file at a path, after its first `skip` bytes. One that isn't there yet is waited for, up
+    /// to five seconds, unless the recording has ended.
     pub(crate) fn open(
         rt: &'a HostRuntime,
         path: &str,
@@ -29,7 +39,7 @@ impl<'a> FollowedFile<'a> {
         ensures { IfOk result (λ file. (file.has_ended ≡ false) × (file.failures ≡ 0)) }
     {
         let until = String::from_str(rt.alloc(), until)?;
-        let mut file = File::open(rt, path)?;
+        let mut file = open_once_made(rt, path, until.as_str())?;
         file.seek(SeekFrom::Start(skip))?;
         Ok(FollowedFile {
             rt,
@@ -39,6 +49,22 @@ impl<'a> FollowedFile<'a> {
             failures: 0,
         })
     }
+}
+
+/// Opens the file at a path, once it is there.
+fn open_once_made(rt: &HostRuntime, path: &str, until: &str) -> io::Result<File> {
+    for _look in 0..LOOKS {
+        match File::open(rt, path) {
+            Ok(file) => return Ok(file),
+            Err(error) => {
+                if error.kind() != ErrorKind::NotFound || fs::exists(rt, until)? {
+                    return Err(error);
+                }
+            }
+        }
+        thread::sleep(rt, Duration::from_millis(BETWEEN_LOOKS));
+    }
+    File::open(rt, path)
 }
 
 impl Followed for FollowedFile<'_> {

@@ -13,7 +13,9 @@ use Rattle.bw_console.specs.Outcomes.{IsOutOfMemory, Outcome as Did}
 use Rattle.bw_console.specs.Printing.{Print}
 use Rattle.bw_console.specs.declared.exit.Exit.{Exit}
 use Rattle.bw_console.specs.declared.exit.Exit.TheVariants as exits
-use Rattle.bw_recorder.specs.Openings.{exit_unread}
+use Rattle.bw_plan.specs.declared.fault.RecordingKind.{RecordingKind}
+use Rattle.bw_plan.specs.declared.fault.RecordingKind.TheVariants as recordings
+use Rattle.bw_recorder.specs.Openings.{exit_unread, exit_on_kind}
 use Rattle.bw_upload.specs.Fed.{OffersFeed}
 use Rattle.bw_upload.specs.Links.{says_done}
 use Rattle.bw_upload.specs.declared.outcome.Outcome.{Outcome}
@@ -21,7 +23,7 @@ use Rattle.bw_upload.specs.declared.outcome.Outcome.TheVariants as outcomes
 use Rattle.bw_send_file.specs.Endings.{EndsAfter, IsFileReport, IsOutcomeReport}
 use Rattle.bw_send_file.specs.Sendings.{StoresAll}
 use Rattle.bw_send_file.specs.declared.fault.FeedFault.{FeedFault}
-use Rattle.bw_send_file.specs.declared.fault.FeedFault.TheVariants.{Unread, Unstamped, Changed, Unsendable, Memory}
+use Rattle.bw_send_file.specs.declared.fault.FeedFault.TheVariants.{Unread, Unstamped, Changed, Unsendable, Memory, Refused}
 
 refused_ends : exits.Refused ≡ exits.Done → ⊥
 refused_ends e = cc
@@ -37,6 +39,10 @@ unread_ends kinds.Read e = device_ends e
 unread_ends kinds.Memory e = memory_ends e
 unread_ends _ e = refused_ends e
 
+kind_ends : (k : RecordingKind) → exit_on_kind k ≡ exits.Done → ⊥
+kind_ends (recordings.Unread k) e = unread_ends k e
+kind_ends _ e = refused_ends e
+
 unopened_ends : (k : ErrorKind) → exit_unopened k ≡ exits.Done → ⊥
 unopened_ends errors.OutOfMemory e = memory_ends e
 unopened_ends _ e = device_ends e
@@ -50,6 +56,7 @@ file_ends : (path : List ℕ) (fault : FeedFault) (exit : Exit) (print : Print) 
     exit ≡ exits.Done → ⊥
 file_ends path (Unread f) exit print h done = unread_ends f.kind (sym h.0 ∙ done)
 file_ends path (Unstamped error) exit print h done = opening_ends path (error_kind error) h.0 h.3 (h.1 ∙ done)
+file_ends path (Refused f) exit print h done = kind_ends f.kind (sym h.0 ∙ done)
 file_ends path Changed exit print h done = refused_ends (sym h.0 ∙ done)
 file_ends path Unsendable exit print h done = refused_ends (sym h.0 ∙ done)
 file_ends path Memory exit print h done = memory_ends (sym h.0 ∙ done)

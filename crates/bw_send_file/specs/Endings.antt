@@ -15,7 +15,7 @@ use Rattle.bw_send.specs.SenderText.{sender_text}
 use Rattle.bw_upload.specs.declared.outcome.Outcome.{Outcome}
 use Rattle.bw_upload.specs.declared.outcome.Outcome.TheVariants as outcomes
 use Rattle.bw_send_file.specs.declared.fault.FeedFault.{FeedFault}
-use Rattle.bw_send_file.specs.declared.fault.FeedFault.TheVariants.{Unread, Unstamped, Changed, Unsendable, Memory}
+use Rattle.bw_send_file.specs.declared.fault.FeedFault.TheVariants.{Unread, Unstamped, Refused, Changed, Unsendable, Memory}
 
 -- the lines, whose first word is the cause
 abbrev pub conflict_line : ℕ → List ℕ
@@ -53,6 +53,7 @@ IsFileReport path (Unread f) exit print =
     (opens.Refused (record { kind = kinds.Unread f.kind; offset = f.offset })) exit print
 IsFileReport path (Unstamped error) exit print =
     IsOpenReport (codes "send") path (opens.Unopened error) exit print
+IsFileReport path (Refused f) exit print = IsOpenReport (codes "send") path (opens.Refused f) exit print
 IsFileReport path Changed exit print = EndsWithLine altered_line exits.Refused exit print
 IsFileReport path Unsendable exit print = EndsWithLine unsendable_line exits.Refused exit print
 IsFileReport path Memory exit print = EndsWithLine memory_line exits.Memory exit print

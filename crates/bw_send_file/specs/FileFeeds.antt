@@ -13,7 +13,7 @@ use Rattle.bw_recorder.specs.Puts.{Stands}
 use Rattle.bw_upload.specs.declared.feed.Given.{Given}
 use Rattle.bw_upload.specs.declared.feed.Given.TheVariants as gives
 use Rattle.bw_send_file.specs.declared.fault.FeedFault.{FeedFault}
-use Rattle.bw_send_file.specs.declared.fault.FeedFault.TheVariants.{Unread, Unstamped, Changed, Unsendable, Memory}
+use Rattle.bw_send_file.specs.declared.fault.FeedFault.TheVariants.{Unread, Unstamped, Refused, Changed, Unsendable, Memory}
 
 -- these are the requests to come of a plan whose reader has these bytes left
 pub record AreToCome (left : Option (List ℕ)) (p : Progress) (requests : List Request) : Type 0 where
@@ -63,6 +63,7 @@ GivesOfFile x (Ok gives.End) y =
     (y ≡ x) × ((b : List ℕ) → Stands b x.plan x.left → remaining x.plan b ≡ [])
 GivesOfFile x (Err (Unread f)) y = IsTrue (is_failed_read f.kind)
 GivesOfFile x (Err (Unstamped error)) y = (r : Request) × IsNextRequest x r × (is_close r ≡ true)
+GivesOfFile x (Err (Refused f)) y = ⊥
 GivesOfFile x (Err Changed) y = HasChanged x
 GivesOfFile x (Err Unsendable) y = (r : Request) × IsNextRequest x r × (is_request r ≡ false)
 GivesOfFile x (Err Memory) y = Unit {0}
@@ -71,6 +72,7 @@ GivesOfFile x (Err Memory) y = Unit {0}
 abbrev pub IsLookFault : Option FileStamp → FileStamp → FeedFault → Type 0
 IsLookFault reported first (Unread f) = ⊥
 IsLookFault reported first (Unstamped error) = Unit {0}
+IsLookFault reported first (Refused f) = ⊥
 IsLookFault reported first Changed = (now : FileStamp) → reported ≡ Some now → now ≢ first
 IsLookFault reported first Unsendable = ⊥
 IsLookFault reported first Memory = ⊥
@@ -79,6 +81,7 @@ IsLookFault reported first Memory = ⊥
 abbrev pub RefusesCopy : Request → FeedFault → Type 0
 RefusesCopy r (Unread f) = ⊥
 RefusesCopy r (Unstamped error) = ⊥
+RefusesCopy r (Refused f) = ⊥
 RefusesCopy r Changed = ⊥
 RefusesCopy r Unsendable = is_request r ≡ false
 RefusesCopy r Memory = Unit {0}

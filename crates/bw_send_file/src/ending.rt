@@ -90,6 +90,10 @@ fn report_file_fault<E: Sink>(alloc: Global, path: &str, fault: &FeedFault, faul
             report_open_fault(alloc, "send", path, &fault, faults)
         }
         FeedFault::Unstamped(error) => report_unopened(alloc, path, error, faults),
+        FeedFault::Refused(fault) => {
+            let fault = OpenFault::Refused(*fault);
+            report_open_fault(alloc, "send", path, &fault, faults)
+        }
         FeedFault::Changed => end_by(CHANGED, Exit::Refused, faults),
         FeedFault::Unsendable => end_by(UNSENDABLE, Exit::Refused, faults),
         FeedFault::Memory => give_up(faults, &Fault::Memory),

@@ -1,5 +1,6 @@
 //! Why a file gives no more requests.
 use bw_inspect::InspectFault;
+use bw_plan::RecordingFault;
 use std::io;
 
 /// Why a file gives no more of its requests.
@@ -12,6 +13,8 @@ pub enum FeedFault {
     /// It isn't any more what it was: it ends too early, or its length or its time of change is
     /// another one.
     Changed,
+    /// It isn't a recording: this fault came only when its requests were given.
+    Refused(RecordingFault),
     /// No message carries the next request.
     Unsendable,
     /// Memory was refused.

@@ -1,5 +1,6 @@
 //! The requests of a recording's file, one after another.
-ghost use Rattle.std.specs.Prelude.{◌≡◌, Some, IfOk, IfErr, OnOk};
+ghost use Rattle.std.specs.Prelude.{◌≡◌, List, Option, Some, IfOk, IfErr, OnOk};
+ghost use Rattle.bw_model.specs.Take.{Request as Message};
 ghost use Rattle.bw_model.specs.World.{is_close as is_closing};
 ghost use Rattle.bw_request.specs.Requests.{meaning};
 ghost use Rattle.bw_ports.specs.declared.recording_files.FileStamp.{FileStamp as StampValue};
@@ -25,6 +26,28 @@ pub struct PlanFeed<R, S> {
     pub(crate) stamped: S,
     /// How the file stood before it was opened.
     pub(crate) stamp: FileStamp,
+}
+
+impl<R: Source + Drop, S: Stamped + Drop> PlanFeed<R, S> {
+    ghost use Rattle.bw_send_file.specs.FileFeeds.{IsLookedAt};
+    ghost use Rattle.bw_send_file.specs.FileLooks.{LooksAt};
+
+    /// Gives the requests of a plan whose reader stands where the next block does, of a file that
+    /// had this stamp before it was opened.
+    pub fn new(alloc: Global, plan: Plan, reader: R, stamped: S, stamp: FileStamp) -> PlanFeed<R, S>
+        ensures left { (requests : List Message) → AreToCome (R.left reader) plan requests →
+            ⟦<PlanFeed<R, S> as Feed>⟧.left result requests }
+        ensures looks { (reported : Option StampValue) →
+            IsLookedAt reported (S.stamp_of stamped) stamp → LooksAt S.Stamped reported result }
+    {
+        PlanFeed {
+            alloc,
+            plan,
+            reader,
+            stamped,
+            stamp,
+        }
+    }
 }
 
 impl<R: Source + Drop, S: Stamped + Drop> Feed for PlanFeed<R, S> {

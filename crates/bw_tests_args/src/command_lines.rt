@@ -396,6 +396,64 @@ static FILE_SENDERS: [Line; 21] = [
     (&["--fruitless", "10"], Outcome::Refuses),
 ];
 
+static PCM_SENDERS: [Line; 19] = [
+    (
+        &["--pcm=48000,2,24", "--file=-f"],
+        Outcome::SendsPcm(0, None, Some(10)),
+    ),
+    (
+        &["--file=-f", "--skip", "0044", "--pcm", "48000,2,24"],
+        Outcome::SendsPcm(44, None, Some(10)),
+    ),
+    (
+        &["--file=-f", "--pcm=48000,2,24", "--block=4294967295"],
+        Outcome::SendsPcm(0, Some(4_294_967_295), Some(10)),
+    ),
+    (
+        &["--until=-e", "--file=-f", "--pcm=48000,2,24", "--follow"],
+        Outcome::Follows(0, None, None),
+    ),
+    (
+        &[
+            "--file=-f",
+            "--fruitless=3",
+            "--follow",
+            "--pcm=48000,2,24",
+            "--until=-e",
+        ],
+        Outcome::Follows(0, None, Some(3)),
+    ),
+    (&["--file=-f", "--pcm", "48000,2"], Outcome::Refuses),
+    (&["--file=-f", "--pcm", "48000,2,24,"], Outcome::Refuses),
+    (&["--file=-f", "--pcm", ",2,24"], Outcome::Refuses),
+    (&["--file=-f", "--pcm", "48000,+2,24"], Outcome::Refuses),
+    (&["--file=-f", "--pcm", "4294967296,2,24"], Outcome::Refuses),
+    (&["--pcm=48000,2,24"], Outcome::Refuses),
+    (&["--file=-f", "--skip=44"], Outcome::Refuses),
+    (&["--file=-f", "--block=44"], Outcome::Refuses),
+    (
+        &["--file=-f", "--pcm=48000,2,24", "--block=0"],
+        Outcome::Refuses,
+    ),
+    (
+        &["--file=-f", "--pcm=48000,2,24", "--skip=-1"],
+        Outcome::Refuses,
+    ),
+    (
+        &["--file=-f", "--pcm=48000,2,24", "--follow"],
+        Outcome::Refuses,
+    ),
+    (
+        &["--file=-f", "--pcm=48000,2,24", "--until=-e"],
+        Outcome::Refuses,
+    ),
+    (&["--file=-f", "--follow", "--until=-e"], Outcome::Refuses),
+    (
+        &["--file=-f", "--pcm=48000,2,24", "--rounds=2"],
+        Outcome::Refuses,
+    ),
+];
+
 /// The words that the lines of a sender begin with.
 static SEND: [&str; 5] = [
     "bwingest",
@@ -415,6 +473,11 @@ fn a_sender_of_a_recording_takes_its_options_in_any_order(
     rt: HostRuntime,
 ) -> Result<(), AllocError> {
     lines_come_to(&rt, rt.alloc(), &SEND, &FILE_SENDERS)
+}
+
+#[test]
+fn a_sender_of_samples_takes_its_options_in_any_order(rt: HostRuntime) -> Result<(), AllocError> {
+    lines_come_to(&rt, rt.alloc(), &SEND, &PCM_SENDERS)
 }
 
 static PACKS: [Line; 9] = [

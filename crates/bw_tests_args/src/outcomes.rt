@@ -1,6 +1,7 @@
 //! The outcomes of command lines, in small values, and how tests compare them.
 use bw_args::{
-    CommandLine, End, FileSender, Journaling, Recorders, Send, Serve, SourceFile, Task, parse,
+    CommandLine, End, FileSender, Journaling, PcmSender, Recorders, Send, Serve, SourceFile, Task,
+    parse,
 };
 use bw_request::Name;
 use clap::Error;
@@ -35,6 +36,12 @@ pub(crate) enum Outcome {
     /// Sends the recording `-f` to the address and under the name that the rows' first words give,
     /// with this timeout, until so many links settle nothing.
     SendsFile(u32, u32, Said),
+    /// Sends the samples of two channels and 24 bits at 48 kHz in the file `-f`, after so many bytes,
+    /// in blocks of so many frames, to the address and under the name that the rows' first words
+    /// give, until so many links settle nothing.
+    SendsPcm(u32, Option<u32>, Option<u32>),
+    /// The same, until the path `-e` exists.
+    Follows(u32, Option<u32>, Option<u32>),
     /// Packs the recording `-f`.
     Packs(Said),
     /// Text on standard output, status 0.
@@ -87,6 +94,7 @@ fn run_outcome(task: &Task, words: &[&str]) -> Outcome {
         Task::Serve(server) => server_outcome(server),
         Task::Send(sender) => sender_outcome(sender),
         Task::SendFile(sender) => file_sender_outcome(sender),
+        Task::SendPcm(sender) => pcm_sender_outcome(sender),
         Task::Pack(source) => match said_of(source) {
             Some(said) => Outcome::Packs(said),
             None => Outcome::Confuses,
@@ -121,6 +129,24 @@ fn file_sender_outcome(sender: &FileSender) -> Outcome {
     match said_of(&sender.source) {
         Some(said) => Outcome::SendsFile(sender.timeout, sender.fruitless, said),
         None => Outcome::Confuses,
+    }
+}
+
+fn pcm_sender_outcome(sender: &PcmSender) -> Outcome {
+    if sender.connect.port() != 4100 || sender.name.as_bytes() != b"-a".as_slice() {
+        return Outcome::SendsElsewhere;
+    }
+    let pcm = &sender.pcm;
+    let is_as_given = pcm.rate == 48_000 && pcm.channels == 2 && pcm.bits == 24;
+    if !is_as_given || said_of(&sender.source).is_none() {
+        return Outcome::Confuses;
+    }
+    match &pcm.until {
+        Some(until) if until.as_str() == "-e" => {
+            Outcome::Follows(pcm.skip, pcm.block, sender.fruitless)
+        }
+        Some(_) => Outcome::Confuses,
+        None => Outcome::SendsPcm(pcm.skip, pcm.block, sender.fruitless),
     }
 }
 

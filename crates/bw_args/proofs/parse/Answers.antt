@@ -7,6 +7,7 @@ use Rattle.bw_args.proofs.FormLemmas.{runs_inspect, runs_replay, reports_help}
 use Rattle.bw_args.proofs.LineLemmas.{line_asked, line_of_read, reported_line, reported_result}
 use Rattle.bw_args.proofs.RehearsalLemmas.{runs_rehearsal}
 use Rattle.bw_args.proofs.ValueLemmas.{refuses_values}
+use Rattle.bw_args.proofs.PcmLemmas.{refuses_samples, runs_pcm_sender}
 use Rattle.bw_args.proofs.PeerValueLemmas.{refuses_peers, wants_peers}
 use Rattle.bw_args.proofs.SenderLemmas.{runs_sender}
 use Rattle.bw_args.proofs.ServerLemmas.{runs_server}
@@ -101,3 +102,15 @@ returns-in-Ok-clause-files c = IfOk-weaker c.line.result _ _ (refuses_files _) (
 
 pub returns-clause-files : goal.returns-clause-files
 returns-clause-files c = IfOk-weaker c.reported.result _ _ (refuses_files _) (returns-clause-line c)
+
+pub returns-in-Ok-clause-send_pcm : goal.returns-in-Ok-clause-send_pcm
+returns-in-Ok-clause-send_pcm c = IfOk-weaker c.line.result _ _ (runs_pcm_sender _) (returns-in-Ok-clause-line c)
+
+pub returns-clause-send_pcm : goal.returns-clause-send_pcm
+returns-clause-send_pcm c = IfOk-weaker c.reported.result _ _ (runs_pcm_sender _) (returns-clause-line c)
+
+pub returns-in-Ok-clause-samples : goal.returns-in-Ok-clause-samples
+returns-in-Ok-clause-samples c = IfOk-weaker c.line.result _ _ (refuses_samples _) (returns-in-Ok-clause-line c)
+
+pub returns-clause-samples : goal.returns-clause-samples
+returns-clause-samples c = IfOk-weaker c.reported.result _ _ (refuses_samples _) (returns-clause-line c)

@@ -6,6 +6,8 @@ ghost use Rattle.bw_args.specs.Commands.{network_flag, one_name_flag, option, re
 ghost use Rattle.bw_args.specs.Commands.{file_option, fruitless_option, journal_flag, repeated};
 ghost use Rattle.bw_args.specs.Commands.{rounds_option, set_option, strict_flag, sync_flag};
 ghost use Rattle.bw_args.specs.Commands.{timeout_option, until_stopped_flag};
+ghost use Rattle.bw_args.specs.Commands.{block_option, follow_flag, pcm_option, skip_option};
+ghost use Rattle.bw_args.specs.Commands.{until_option};
 
 use clap::{Arg, ArgAction};
 use std::alloc::Global;
@@ -219,6 +221,41 @@ pub(crate) fn fruitless_option<'a>(alloc: Global) -> Arg<'a>
     ensures { IsOption fruitless_option result }
 {
     let help =
-        "With --file: gives up after N links in a row that settle nothing, 1 to 1000000 [default: 10]";
+        "With --file: gives up after N links in a row that settle nothing, 1 to 1000000 [default: 10; with --follow never]";
     value_option(alloc, "fruitless", "N", help)
+}
+
+pub(crate) fn pcm_option<'a>(alloc: Global) -> Arg<'a>
+    ensures { IsOption pcm_option result }
+{
+    let help = "With --file: the file has no header; samples of this format, as in 48000,2,24";
+    value_option(alloc, "pcm", "RATE,CHANNELS,BITS", help)
+}
+
+pub(crate) fn skip_option<'a>(alloc: Global) -> Arg<'a>
+    ensures { IsOption skip_option result }
+{
+    let help = "With --pcm: where in the file the samples begin, in bytes [default: 0]";
+    value_option(alloc, "skip", "BYTES", help)
+}
+
+pub(crate) fn block_option<'a>(alloc: Global) -> Arg<'a>
+    ensures { IsOption block_option result }
+{
+    let help = "With --pcm: sends blocks of so many frames [default: as many as 32768 bytes hold]";
+    value_option(alloc, "block", "FRAMES", help)
+}
+
+pub(crate) fn follow_flag<'a>(alloc: Global) -> Arg<'a>
+    ensures { IsOption follow_flag result }
+{
+    let help = "With --pcm: sends the file while another program is still writing it";
+    flag_option(alloc, "follow", help)
+}
+
+pub(crate) fn until_option<'a>(alloc: Global) -> Arg<'a>
+    ensures { IsOption until_option result }
+{
+    let help = "With --follow: a path that exists once the recording has ended";
+    value_option(alloc, "until", "END", help)
 }

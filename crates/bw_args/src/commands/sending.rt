@@ -1,27 +1,54 @@
 //! The command `send`.
-ghost use Rattle.std.specs.Prelude.{codes, Some, IfOk, IfErr, OnErr};
+ghost use Rattle.std.specs.Prelude.{◌≡◌, codes, false, Some, None, IfOk, IfErr, OnErr};
 ghost use Rattle.clap.specs.Words.{first_value, found_of, rows_of};
-ghost use Rattle.bw_args.specs.Commands.{IsCommand, send_command, send_how, send_source, send_where};
+ghost use Rattle.bw_args.specs.Commands.{IsCommand, send_command, send_followed, send_how};
+ghost use Rattle.bw_args.specs.Commands.{send_samples, send_source, send_where};
+ghost use Rattle.bw_args.specs.Given.{GivesAddress, GivesName, is_set};
 ghost use Rattle.bw_args.specs.Lines.{AsksForPath, GivesTries, IsFirstBad, IsLineFor};
 ghost use Rattle.bw_args.specs.Lines.{looked_at_trying};
+ghost use Rattle.bw_args.specs.PcmSources.{GivesSamples};
+ghost use Rattle.bw_args.specs.Sources.{is_mixed};
 
 use super::network::{address_given, count_given, flag_given};
 use super::options::{
-    connect_option, file_option, fruitless_option, link_log_flag, name_option, network_flag,
-    patience_option, rounds_option, set_option, strict_flag,
+    block_option, connect_option, file_option, follow_flag, fruitless_option, link_log_flag,
+    name_option, network_flag, patience_option, pcm_option, rounds_option, set_option, skip_option,
+    strict_flag, until_option,
 };
+use super::samples::{samples_given, samples_line};
 use super::sources::{is_mixed, source_given};
 use super::{name_given, named};
 use crate::{BadValue, CommandLine, FileSender, Send, Task, numbers};
+use bw_request::Name;
 use clap::{ArgMatches, Command};
 use std::alloc::{AllocError, Global};
+use std::net::SocketAddr;
 
 pub(crate) fn send<'a>(alloc: Global) -> Result<Command<'a>, AllocError>
     ensures { IfOk result (IsCommand send_command) }
 {
-    send_source(alloc)?
+    send_followed(alloc)?
         .arg(fruitless_option(alloc))?
         .arg(link_log_flag(alloc))
+}
+
+/// The command with these and the options that say when a recording has ended.
+fn send_followed<'a>(alloc: Global) -> Result<Command<'a>, AllocError>
+    ensures { IfOk result (IsCommand send_followed) }
+{
+    send_samples(alloc)?
+        .arg(follow_flag(alloc))?
+        .arg(until_option(alloc))
+}
+
+/// The command with these and the options that describe headerless samples.
+fn send_samples<'a>(alloc: Global) -> Result<Command<'a>, AllocError>
+    ensures { IfOk result (IsCommand send_samples) }
+{
+    send_source(alloc)?
+        .arg(pcm_option(alloc))?
+        .arg(skip_option(alloc))?
+        .arg(block_option(alloc))
 }
 
 /// The command with these and the options that say which recording is sent.
@@ -61,8 +88,8 @@ Example: bwingest send --connect 127.0.0.1:4100 --name a1 < requests.hex",
     .arg(rounds_option(alloc))
 }
 
-/// Bad values are reported in this order: the address, the name, those of `tries_given`, and options
-/// that don't belong together.
+/// Bad values are reported in this order: the address, the name, those of `tries_given`, options
+/// that don't belong together, and those of `samples_given`.
 pub(crate) fn send_line(alloc: Global, options: &ArgMatches<'_>) -> Result<CommandLine, AllocError>
     ensures ok { IfOk result (IsLineFor (Some (codes "send", rows_of (found_of options.now)))) }
     ensures err { OnErr result
@@ -82,6 +109,10 @@ pub(crate) fn send_line(alloc: Global, options: &ArgMatches<'_>) -> Result<Comma
     if is_mixed(options) {
         return Ok(CommandLine::BadValue(BadValue::Mixed));
     }
+    let samples = match samples_given(options) {
+        Ok(samples) => samples,
+        Err(value) => return Ok(CommandLine::BadValue(value)),
+    };
     let Some(path) = options.get_str("file") else {
         return Ok(CommandLine::Run(Task::Send(Send {
             connect,
@@ -90,6 +121,32 @@ pub(crate) fn send_line(alloc: Global, options: &ArgMatches<'_>) -> Result<Comma
             timeout: tries.timeout,
         })));
     };
+    match samples {
+        Some(samples) => samples_line(alloc, options, path, connect, name, tries, samples),
+        None => file_line(alloc, options, path, connect, name, tries),
+    }
+}
+
+/// What `send` results in for the recording at a path.
+fn file_line(
+    alloc: Global,
+    options: &ArgMatches<'_>,
+    path: &str,
+    connect: SocketAddr,
+    name: Name,
+    tries: Tries,
+) -> Result<CommandLine, AllocError>
+    requires connects { GivesAddress (is_set (first_value (found_of options.now) (codes "network")))
+        (first_value (found_of options.now) (codes "connect")) connect }
+    requires named { GivesName (first_value (found_of options.now) (codes "name")) name }
+    requires takes { Some path.now ≡ first_value (found_of options.now) (codes "file") }
+    requires tries { GivesTries (first_value (found_of options.now)) tries }
+    requires unmixed { is_mixed (first_value (found_of options.now)) ≡ false }
+    requires unsampled { GivesSamples (first_value (found_of options.now)) None }
+    ensures ok { IfOk result (IsLineFor (Some (codes "send", rows_of (found_of options.now)))) }
+    ensures err { OnErr result
+        (AsksForPath (Some (codes "send", rows_of (found_of options.now)))) }
+{
     let log = flag_given(options, "log");
     let source = source_given(alloc, options, path)?;
     Ok(CommandLine::Run(Task::SendFile(FileSender {
@@ -105,9 +162,9 @@ pub(crate) fn send_line(alloc: Global, options: &ArgMatches<'_>) -> Result<Comma
 /// How a sender tries, as far as it is given.
 #[derive(Clone, Copy)]
 pub(crate) struct Tries {
-    rounds: Option<u32>,
-    timeout: Option<u32>,
-    fruitless: Option<u32>,
+    pub(crate) rounds: Option<u32>,
+    pub(crate) timeout: Option<u32>,
+    pub(crate) fruitless: Option<u32>,
 }
 
 /// How the options say that a sender tries.

@@ -1,12 +1,9 @@
-use Rattle.std.proofs.Common.{◌≡◌, [], ◌∷◌, true, false, codes, inl, inr, refl, sym, ◌∙◌, unwrap_or}
-use Rattle.clap.specs.Words.{first_value, found_of, rows_of}
-use Rattle.bw_args.specs.Given.{is_set}
-use Rattle.bw_args.specs.Sources.{in_plain}
-use Rattle.bw_args.specs.Numbers.{default_fruitless, default_timeout}
-use Rattle.bw_args.specs.Lines.{Uploading, looked_at_trying}
+use Rattle.std.proofs.Common.{◌≡◌, ◌∷◌, true, false, codes, inl, inr, refl, sym, ◌∙◌}
+use Rattle.clap.specs.Words.{first_value, found_of}
+use Rattle.bw_args.specs.Lines.{looked_at_samples, looked_at_trying}
 use Rattle.bw_args.specs.declared.bad_value.BadValue.TheVariants.{Name, Connect, Mixed}
-use Rattle.bw_args.proofs.Asked.{an_address, bad_line, first_then, found_source, no_address, on_err, sender_asked}
-use Rattle.bw_args.proofs.Asked.{source_asked, tries_then, upload_asked}
+use Rattle.bw_args.proofs.Asked.{an_address, bad_line, first_then, no_address, sender_asked}
+use Rattle.bw_args.proofs.Asked.{no_samples, tries_then}
 use Rattle.bw_args.proofs.commands.sending.send_line.Goals as goal
 
 pub returns-in_default-clause-ok : goal.returns-in_default-clause-ok
@@ -36,7 +33,7 @@ returns-in-Err-clause-ok c = bad_line (found_of c.args.options.now) (codes "send
   ),
   inr (
     (c.in-Some-name_given.name, c.in-Some-name_given.ensures),
-    first_then looked_at_trying (Mixed ∷ []) (first_value (found_of c.args.options.now)) c.in-Err.value
+    first_then looked_at_trying (Mixed ∷ looked_at_samples) (first_value (found_of c.args.options.now)) c.in-Err.value
         c.in-Err.ensures.err,
   ),
 ))
@@ -50,7 +47,7 @@ returns-then-is_mixed-clause-ok c = bad_line (found_of c.args.options.now) (code
   ),
   inr (
     (c.in-Some-name_given.name, c.in-Some-name_given.ensures),
-    tries_then (Mixed ∷ []) (first_value (found_of c.args.options.now)) Mixed c.in-Ok.tries c.in-Ok.ensures.ok (inl (
+    tries_then (Mixed ∷ looked_at_samples) (first_value (found_of c.args.options.now)) Mixed c.in-Ok.tries c.in-Ok.ensures.ok (inl (
       (λ good. let bad : true ≡ false = sym c.if-is_mixed.true ∙ c.is_mixed.ensures ∙ good in cc),
       refl,
     )),
@@ -66,37 +63,22 @@ returns-in_default-get_str-clause-ok c = sender_asked (found_of c.args.options.n
   waits = c.in-Ok.ensures.ok.waits;
   lines = sym c.in_default-get_str.ensures;
   unmixed = sym c.is_mixed.ensures ∙ c.if-is_mixed.false;
+  unsampled = no_samples (first_value (found_of c.args.options.now)) _ (sym c.in_default-get_str.ensures)
+      c.in-Ok-samples_given.ensures.ok;
 })
 
-pub returns-in_err-source-clause-err : goal.returns-in_err-source-clause-err
-returns-in_err-source-clause-err c = on_err c.from_residual.result (
-  Uploading (record {
-    connect = c.in-Some.connect;
-    name = c.in-Some-name_given.name;
-    source = found_source (found_of c.args.options.now) c.in-Some-get_str.path.now;
-    timeout = unwrap_or c.in-Ok.tries.timeout default_timeout;
-    fruitless = unwrap_or c.in-Ok.tries.fruitless default_fruitless;
-    log = is_set (first_value (found_of c.args.options.now) (codes "log"));
-  }),
-  tt,
-  upload_asked (found_of c.args.options.now) _
-      (an_address (found_of c.args.options.now) (codes "connect") _ _ c.flag_given-network.ensures c.in-Some.ensures)
-      c.in-Some-name_given.ensures
-      (source_asked (found_of c.args.options.now) c.in-Some-get_str.path.now
-      (found_source (found_of c.args.options.now) c.in-Some-get_str.path.now) c.in-Some-get_str.ensures refl refl refl)
-      (c.in-Ok.tries.timeout, c.in-Ok.ensures.ok.waits, refl)
-      (c.in-Ok.tries.fruitless, c.in-Ok.ensures.ok.ends, refl)
-      refl
-      (sym c.is_mixed.ensures ∙ c.if-is_mixed.false),
-)
-
-pub returns-clause-ok : goal.returns-clause-ok
-returns-clause-ok c = upload_asked (found_of c.args.options.now) _
-    (an_address (found_of c.args.options.now) (codes "connect") _ _ c.flag_given-network.ensures c.in-Some.ensures)
-    c.in-Some-name_given.ensures
-    (source_asked (found_of c.args.options.now) c.in-Some-get_str.path.now (in_plain c.in_ok-source.source)
-    c.in-Some-get_str.ensures c.in_ok-source.ensures.0 c.in_ok-source.ensures.1 c.in_ok-source.ensures.2)
-    (c.in-Ok.tries.timeout, c.in-Ok.ensures.ok.waits, c.unwrap_or-2.ensures)
-    (c.in-Ok.tries.fruitless, c.in-Ok.ensures.ok.ends, c.unwrap_or-3.ensures)
-    c.flag_given-log.ensures
-    (sym c.is_mixed.ensures ∙ c.if-is_mixed.false)
+pub returns-in-Err-samples_given-clause-ok : goal.returns-in-Err-samples_given-clause-ok
+returns-in-Err-samples_given-clause-ok c =
+    bad_line (found_of c.args.options.now) (codes "send") c.in-Err-samples_given.value (inr (
+      (
+        c.in-Some.connect,
+        an_address (found_of c.args.options.now) (codes "connect") _ _
+            c.flag_given-network.ensures c.in-Some.ensures,
+      ),
+      inr (
+        (c.in-Some-name_given.name, c.in-Some-name_given.ensures),
+        tries_then (Mixed ∷ looked_at_samples) (first_value (found_of c.args.options.now)) c.in-Err-samples_given.value
+            c.in-Ok.tries c.in-Ok.ensures.ok
+            (inr (sym c.is_mixed.ensures ∙ c.if-is_mixed.false, c.in-Err-samples_given.ensures.err)),
+      ),
+    ))

@@ -1,0 +1,7 @@
+use Rattle.bw_args.proofs.BuilderLemmas.{two_options}
+use Rattle.bw_args.proofs.commands.sending.send_followed.Goals as goal
+
+pub returns : goal.returns
+returns c = two_options c.in_ok-send_samples.field-0 c.in_ok-arg.field-0 c.arg-2.result c.follow_flag.result c.until_option.result _ _ _
+    c.in_ok-send_samples.ensures
+    c.follow_flag.ensures c.in_ok-arg.ensures c.until_option.ensures c.arg-2.ensures

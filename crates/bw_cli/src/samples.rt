@@ -1,0 +1,94 @@
+//! The command that sends headerless samples, as a command line asks for it.
+ghost use Rattle.std.specs.Prelude.{◌≡◌, min};
+ghost use Rattle.bw_send_file.specs.FileLooks.{LooksAt};
+ghost use Rattle.bw_cli.specs.PcmUploads.{IsPcmFileOf, IsPcmRecorderOf, SendsPcm, most_in_field};
+ghost use Rattle.bw_cli.specs.Sides.{sender_side, upload_side};
+
+use bw_args::PcmSender;
+use bw_console::Exit;
+use bw_plan::Pcm;
+use bw_ports::{Network, Pause, RecordingFiles};
+use bw_recorder::RecordingFile;
+use bw_send_file::{PlanFeed, Recorder};
+use bw_send_pcm::{PcmFeed, PcmFile, follow_samples, send_samples};
+use bw_stream::Sink;
+use bw_upload::{Feed, Observer};
+use std::alloc::Global;
+
+/// Sends the headerless samples that the command line names, and reports each change of the link to
+/// the observer.
+pub(crate) fn send_pcm_as<F: RecordingFiles, N: Network, P: Pause, G: Observer, W: Sink, E: Sink>(
+    alloc: Global,
+    sender: &PcmSender,
+    files: &mut F,
+    network: &N,
+    pause: &mut P,
+    observer: &mut G,
+    out: &mut W,
+    faults: &mut E,
+) -> Exit
+    ensures { SendsPcm
+        (upload_side ⟦<PlanFeed<F::File, F::Stamped> as Feed>⟧ (LooksAt F.Stamped.Stamped)
+        ⟦<PcmFeed<F::Growing> as Feed>⟧ P.Pause)
+        (sender_side N.Dial.Dial N.Dial.Reader.Source N.Dial.Writer.Sink) N.Network
+        F.RecordingFiles W.Sink E.Sink sender.now result files.old files.new network.now
+        pause.old pause.new out.old out.new faults.old faults.new }
+{
+    let mut dial = network.dial(sender.connect, Some(sender.timeout));
+    let file = pcm_file_of(sender);
+    let recorder = recorder_of(sender);
+    match &sender.pcm.until {
+        Some(until) => follow_samples(
+            alloc,
+            &recorder,
+            &file,
+            until.as_str(),
+            files,
+            pause,
+            &mut dial,
+            observer,
+            out,
+            faults,
+        ),
+        None => send_samples(
+            alloc, &recorder, &file, files, pause, &mut dial, observer, out, faults,
+        ),
+    }
+}
+
+/// The recorder that the command line asks for.
+fn recorder_of(sender: &PcmSender) -> Recorder<'_>
+    ensures { IsPcmRecorderOf sender.now result }
+{
+    Recorder {
+        name: &sender.name,
+        fruitless: sender.fruitless,
+    }
+}
+
+/// The file of samples that the command line names.
+fn pcm_file_of(sender: &PcmSender) -> PcmFile<'_>
+    ensures { IsPcmFileOf sender.now result }
+{
+    PcmFile {
+        file: RecordingFile {
+            path: sender.source.path.as_str(),
+            settings: sender.source.settings.as_slice(),
+            is_strict: sender.source.strict,
+            frames: sender.pcm.block,
+        },
+        pcm: Pcm {
+            rate: sender.pcm.rate,
+            channels: in_field(sender.pcm.channels),
+            bits: in_field(sender.pcm.bits),
+            skip: u64::from(sender.pcm.skip),
+        },
+    }
+}
+
+/// A number of a format, or the greatest that its field holds: no format has that one.
+fn in_field(number: u32) -> u16
+    ensures { result ≡ min number most_in_field }
+{
+    number.min(65_535) as u16
+}

@@ -1,0 +1,2 @@
+pub mod PcmFeedSteps
+pub mod OpenedSamples

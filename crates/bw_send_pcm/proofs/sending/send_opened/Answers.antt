@@ -1,0 +1,44 @@
+use Rattle.std.proofs.Common.{true, refl, sym}
+use Rattle.bw_console.specs.Printing.{Nothing}
+use Rattle.bw_recorder.specs.Openings.{is_well_at}
+use Rattle.bw_send_pcm.proofs.sending.send_opened.Goals as goal
+
+pub returns-in-Ok : goal.returns-in-Ok
+returns-in-Ok g c =
+    let s = c.send_feed.ensures in (
+      record {
+        is_system_well = true;
+        warned = Nothing;
+        out = s.0.out;
+        faults = s.0.faults;
+        exit = c.send_feed.result;
+      },
+      refl,
+      rw c.in-Ok.is refl,
+      rw c.in-Ok.is (record {
+        ended = c.send_feed.new.feed;
+        sent = s.0;
+        sends = s.2;
+        warned = refl;
+        prints = refl;
+        reports = refl;
+        exit_is = sym s.1;
+      }),
+      record { between = c.args.faults.now; warns = refl; prints = s.3.printed; reports = s.3.reported },
+    )
+
+pub returns-in-Err : goal.returns-in-Err
+returns-in-Err g c =
+    let r = c.report_open_fault.ensures in (
+      record {
+        is_system_well = is_well_at c.in-Err.fault;
+        warned = Nothing;
+        out = Nothing;
+        faults = r.0;
+        exit = c.report_open_fault.result;
+      },
+      refl,
+      rw c.in-Err.is refl,
+      rw c.in-Err.is (record { warned = refl; prints = refl; reports = r.1 }, refl),
+      record { between = c.args.faults.now; warns = refl; prints = refl; reports = r.2 },
+    )

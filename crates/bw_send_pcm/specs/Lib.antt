@@ -1,0 +1,2 @@
+pub mod PcmFeeds
+pub mod PcmSendings

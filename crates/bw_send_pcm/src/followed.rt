@@ -1,0 +1,100 @@
+//! The headerless samples in a file that another program is still writing are sent.
+ghost use Rattle.std.specs.Prelude.{◌≡◌};
+ghost use Rattle.bw_console.specs.Printing.{failures_if};
+ghost use Rattle.bw_recorder.specs.Openings.{is_system_well};
+ghost use Rattle.bw_recorder.specs.Packs.{HasPacked, Packing};
+ghost use Rattle.bw_send_pcm.specs.PcmSendings.{FollowsFile, IsPcmSent};
+
+use crate::feed::PcmFeed;
+use crate::job::PcmFile;
+use crate::sending::send_opened;
+use bw_console::print::give_up;
+use bw_console::{Exit, Fault};
+use bw_follow::PcmRequests;
+use bw_plan::{Options, Pcm};
+use bw_ports::{Dial, Pause, RecordingFiles};
+use bw_recorder::{OpenFault, options_of, refuse_settings};
+use bw_send_file::Recorder;
+use bw_stream::Sink;
+use bw_upload::{Feed, Observer};
+use std::alloc::Global;
+
+/// Sends the headerless samples in a file as a recorder, as `send_feed` does, while another program
+/// is still writing them: each block once it is written, and the rest and CLOSE once the path
+/// `until` exists. What is written before that path is found is sent.
+///
+/// Before any link is made: `Refused` for a fault of the format, whose line is
+/// `send: KIND at OFFSET`; `Usage` if a setting can't be read; `Device` if the file can't be opened;
+/// `Memory` if memory was refused. A file that ends inside a frame is `Refused` after its whole
+/// frames, in a line of that form.
+///
+/// # Not specified
+/// - What `send_feed` leaves open.
+/// - When the system fails, and the reason in its line.
+/// - Of a file whose bytes aren't reported, which bytes the requests are of.
+pub fn follow_samples<F: RecordingFiles, P: Pause, D: Dial, V: Observer, W: Sink, E: Sink>(
+    alloc: Global,
+    recorder: &Recorder<'_>,
+    file: &PcmFile<'_>,
+    until: &str,
+    files: &mut F,
+    pause: &mut P,
+    dial: &mut D,
+    observer: &mut V,
+    out: &mut W,
+    faults: &mut E,
+) -> Exit
+    ensures { (did : Packing) × (did.exit ≡ result)
+        × IsPcmSent ⟦<PcmFeed<F::Growing> as Feed>⟧ P.Pause D.Dial D.Reader.Source
+        D.Writer.Sink recorder.now file.now
+        (FollowsFile ⟦<PcmFeed<F::Growing> as Feed>⟧ (F.file_at files.old file.now.file.path.now)
+        file.now.pcm)
+        (record { pause = pause.old; dial = dial.old })
+        (record { pause = pause.new; dial = dial.new }) did
+        × (F.failures files.new ≡ failures_if did.is_system_well (F.failures files.old))
+        × HasPacked W.Sink E.Sink did out.old out.new faults.old faults.new }
+{
+    let options = match options_of(alloc, &file.file) {
+        Ok(Some(options)) => options,
+        Ok(None) => return refuse_settings(faults),
+        Err(_) => return give_up(faults, &Fault::Memory),
+    };
+    let opened = open_followed(alloc, files, file.file.path, until, file.pcm, &options);
+    send_opened(
+        alloc,
+        recorder,
+        file.file.path,
+        opened,
+        pause,
+        dial,
+        observer,
+        out,
+        faults,
+    )
+}
+
+/// Opens the file at a path at its first sample, to be followed until the other path exists.
+///
+/// # Errors
+/// Why it can't be sent.
+fn open_followed<F: RecordingFiles>(
+    alloc: Global,
+    files: &mut F,
+    path: &str,
+    until: &str,
+    pcm: Pcm,
+    options: &Options,
+) -> Result<PcmFeed<F::Growing>, OpenFault>
+    ensures follows { FollowsFile ⟦<PcmFeed<F::Growing> as Feed>⟧ (F.file_at files.old path.now)
+        pcm options.now result }
+    ensures count { F.failures files.new ≡ failures_if (is_system_well result) (F.failures files.old) }
+{
+    let growing = match files.follow(path, pcm.skip, Some(until)) {
+        Ok(growing) => growing,
+        Err(error) => return Err(OpenFault::Unopened(error)),
+    };
+    match PcmRequests::new(alloc, pcm, options, pcm.skip, growing) {
+        Ok(requests) => Ok(PcmFeed { requests }),
+        Err(fault) => Err(OpenFault::Refused(fault)),
+    }
+}
