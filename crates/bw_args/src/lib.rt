@@ -12,6 +12,7 @@ ghost use Rattle.bw_args.specs.FileForms.{RefusesFiles, RunsFileSender, RunsPack
 mod addresses;
 mod bad_value;
 mod commands;
+mod inspection;
 pub mod numbers;
 mod peers;
 mod read_words;
@@ -21,6 +22,7 @@ pub use bad_value::BadValue;
 use bw_request::Name;
 use clap::Error;
 use clap::error::ErrorKind;
+pub use inspection::Inspection;
 pub use peers::{End, Journaling, Recorders, Send, Serve};
 pub use recordings::{FileSender, SourceFile};
 use std::alloc::{AllocError, Global};
@@ -37,6 +39,8 @@ pub enum Task {
     Rehearse { name: Name, limit: u64 },
     /// Report what is in the file at this path.
     Inspect { file: String },
+    /// Report what is in several files, or in a way of its own.
+    InspectFiles(Inspection),
     /// Serve exchanges over TCP.
     Serve(Serve),
     /// Send the requests on standard input to a server.
@@ -61,9 +65,9 @@ pub enum CommandLine {
 /// Parses a command line, whose first word is the program's own name.
 ///
 /// Which words run a task, and of what kind an error is, follows from `clap`'s own contract
-/// (`line`). In plain terms the contract says of thirty-four forms that they run (`replay`,
+/// (`line`). In plain terms the contract says of thirty-seven forms that they run (`replay`,
 /// `rehearse`, `inspect`, `serve`, `send`), of twenty-two which value is a fault (`values`,
-/// `peers`) and of thirteen what they print (`help`, `rehearse`, `inspect`, `wanted`). Examples
+/// `peers`) and of twelve what they print (`help`, `rehearse`, `inspect`, `wanted`). Examples
 /// test that options may be given in all their forms and orders, and that all else is refused,
 /// except `--` at the end or before a file.
 ///
