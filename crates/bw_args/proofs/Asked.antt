@@ -2,13 +2,13 @@
 use Rattle.std.proofs.Common.{◌≡◌, ℕ, ◌<◌, ◌≤◌, Bool, true, false, List, [], ◌∷◌, ◌++◌, Option, Some, None, Result, Ok, Err}
 use Rattle.std.proofs.Common.{OnErr, ap, codes, refl, subst, sym, ◌∙◌, arith, inl, inr, unwrap_or}
 use Rattle.std.proofs.Math.Path.{fun_ext}
-use Rattle.std.specs.Prelude.{⊤, ◌||◌, if◌then◌else◌, is_some}
+use Rattle.std.specs.Prelude.{⊤, ◌||◌, if◌then◌else◌, is_some, option_map}
 use Rattle.std.specs.declared.net.socket_addr.SocketAddr.{SocketAddr}
 use Rattle.std.specs.Net.Socket.{socket_port}
 use Rattle.clap.specs.Words.{Row, Text, first_of, first_value, rows_of}
 use Rattle.clap.specs.declared.parser.matches.Found.{Found}
 use Rattle.clap.specs.Walk.{all_of}
-use Rattle.clap.specs.Matches.{raw_values}
+use Rattle.clap.specs.Matches.{matched_of, raw_values}
 use Rattle.clap.proofs.WalkLemmas.{first_value-rows, raw_values-rows}
 use Rattle.bw_args.specs.Given.{GivesAddress, GivesCount, GivesCountOr, GivesEnd, GivesFuse, GivesLimit, GivesName}
 use Rattle.bw_args.specs.Given.{GivesNoFuse, GivesRecorders, IsAddressGiven, IsEnd, IsEndGiven, IsLimitGiven, IsNameGiven}
@@ -211,7 +211,7 @@ name_alone_line found name named given = bad_line found (codes "rehearse") Limit
 
 -- the files to inspect that are given are those that are asked for
 pub inspection_asked : (found : Found) (inspection : PlainInspection)
-    → Some inspection.files ≡ raw_values found (codes "file")
+    → Some inspection.files ≡ option_map raw_values (matched_of found (codes "file"))
     → inspection.json ≡ is_set (first_value found (codes "json")) → GivesInspection (rows_of found) inspection
 inspection_asked found inspection given prints = record {
   from = sym (given ∙ raw_values-rows found (codes "file"));
@@ -219,7 +219,7 @@ inspection_asked found inspection given prints = record {
 }
 
 -- without one, nothing is asked for, and no value is looked at
-pub no_file_line : (found : Found) → None ≡ raw_values found (codes "file")
+pub no_file_line : (found : Found) → None ≡ option_map raw_values (matched_of found (codes "file"))
     → IsLineFor (Some (codes "inspect", rows_of found)) (Bad Limit)
 no_file_line found given = (nothing, inr (refl, refl))
   where

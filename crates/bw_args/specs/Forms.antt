@@ -1,5 +1,5 @@
 -- The forms of the commands, in plain words, and what each results in.
-use Rattle.std.specs.Prelude.{◌≡◌, ◌≢◌, ⊤, List, [], ◌∷◌, ◌++◌, Some, None, codes}
+use Rattle.std.specs.Prelude.{◌≡◌, ◌≢◌, ⊤, true, false, List, [], ◌∷◌, ◌++◌, Some, None, codes}
 use Rattle.std.specs.Prelude.{string_bytes}
 use Rattle.clap.specs.Walk.{Text}
 use Rattle.clap.specs.Values.{kind_of}
