@@ -28,7 +28,7 @@ use Rattle.bw_ports.specs.declared.network.Network.{Ghosts as NetworkGhosts}
 use Rattle.bw_ports.specs.declared.listener_setup.ListenerSetup.{Ghosts as ListenerSetupGhosts}
 use Rattle.bw_ports.specs.declared.starts.Starts.{Ghosts as StartGhosts}
 use Rattle.bw_session.specs.declared.server.Server.{Server}
-use Rattle.bw_cli.specs.Inspected.{Inspects}
+use Rattle.bw_cli.specs.Inspected.{InspectsFiles}
 use Rattle.bw_cli.specs.Packed.{Packs}
 use Rattle.bw_cli.specs.Remote.{Sends, ServesByRule}
 use Rattle.bw_cli.specs.Uploads.{SendsRecording}
@@ -137,7 +137,7 @@ module _ {S T F H G M N X Y Z P R W L K D A B U Q I O E V C : Type 0} (host : Ho
       × IsHostWell failed x' × (x'.network ≡ x.network) × (x'.input ≡ x.input)
       × (x'.pause ≡ x.pause)
   IsDoneFor file_at failed (Run (InspectFiles inspection)) exit x x' =
-      Inspects host.out host.reported (host.files.file_at x.files) inspection exit
+      InspectsFiles host.out host.reported (host.files.file_at x.files) inspection exit
       (host.files.failures x.files) (host.files.failures x'.files) x.out x'.out x.faults x'.faults
       × IsHostWell failed x' × (x'.network ≡ x.network) × (x'.input ≡ x.input)
       × (x'.pause ≡ x.pause)

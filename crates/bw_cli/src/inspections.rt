@@ -1,6 +1,6 @@
 //! The inspections of several files, as a command line asks for them.
 ghost use Rattle.std.specs.Prelude.{◌≡◌};
-ghost use Rattle.bw_cli.specs.Inspected.{Inspects, style_of};
+ghost use Rattle.bw_cli.specs.Inspected.{InspectsFiles, style_of};
 
 use bw_args::Inspection;
 use bw_console::Exit;
@@ -17,8 +17,8 @@ pub(crate) fn inspect_as<F: RecordingFiles, W: Sink, E: Sink>(
     out: &mut W,
     faults: &mut E,
 ) -> Exit
-    ensures { Inspects W.Sink E.Sink (F.file_at files.old) inspection.now result (F.failures files.old)
-        (F.failures files.new) out.old out.new faults.old faults.new }
+    ensures { InspectsFiles W.Sink E.Sink (F.file_at files.old) inspection.now result
+        (F.failures files.old) (F.failures files.new) out.old out.new faults.old faults.new }
 {
     let paths = inspection.files.as_slice();
     inspect_files(alloc, files, paths, style_of(inspection), out, faults)

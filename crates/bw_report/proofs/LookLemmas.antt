@@ -17,7 +17,7 @@ use Rattle.bw_console.specs.declared.exit.Exit.TheVariants.{Done}
 use Rattle.bw_console.specs.declared.fault.Fault.{Fault}
 use Rattle.bw_report.specs.Entries.{entry_text}
 use Rattle.bw_report.specs.Findings.{exit_of_found, worse}
-use Rattle.bw_report.specs.FileLooks.{ArePrints, IsCutShort, IsFoundAt, IsLookAt, IsShown, Look, entry_at}
+use Rattle.bw_report.specs.FileLooks.{ArePrints, IsStoppedEarly, IsFoundAt, IsLookAt, IsShown, Look, look_entry}
 use Rattle.bw_report.specs.FileLooks.{failures_after_looks, worst}
 use Rattle.bw_report.specs.declared.entry.Style.{Style}
 use Rattle.bw_report.specs.declared.found.Found.{Found}
@@ -76,7 +76,7 @@ module _ {W E : Type 0} (out : Writer W) (reported : Writer E) (file_at : List �
         subst P (sym (map-append (λ (l : Look). l.reported) before.looks (now.look ∷ [])))
         (prints_more reported _ now.look.reported e e1 e2 before.reports now.reports)
 
-    same_entry : entry_text style path found ≡ entry_at style now.look
+    same_entry : entry_text style path found ≡ look_entry style now.look
     same_entry = ap (λ (p : List ℕ). entry_text style p found) (sym now.at)
         ∙ ap (entry_text style now.look.path) (sym now.has)
 
@@ -84,7 +84,7 @@ module _ {W E : Type 0} (out : Writer W) (reported : Writer E) (file_at : List �
     pub one_shown : IsPrint out (Whole (entry_text style path found)) o1 o2
         → IsShown out reported file_at (paths ++ path ∷ []) style (worse exit (exit_of_found found)) n n2 o o2 e e2
     one_shown print =
-        let whole : IsPrint out (Whole (entry_at style now.look)) o1 o2 =
+        let whole : IsPrint out (Whole (look_entry style now.look)) o1 o2 =
         subst (λ (t : List ℕ). IsPrint out (Whole t) o1 o2) same_entry print in
         let P : List Print → Type 0 = λ ps. ArePrints out ps o o2 in
         record {
@@ -93,7 +93,7 @@ module _ {W E : Type 0} (out : Writer W) (reported : Writer E) (file_at : List �
           are = all_are;
           ends = all_end;
           failures = all_fail;
-          prints = subst P (sym (map-append (λ (l : Look). Whole (entry_at style l)) before.looks (now.look ∷ [])))
+          prints = subst P (sym (map-append (λ (l : Look). Whole (look_entry style l)) before.looks (now.look ∷ [])))
               (prints_more out _ _ o o1 o2 before.prints whole);
           reports = all_reported;
         }
@@ -102,7 +102,7 @@ module _ {W E : Type 0} (out : Writer W) (reported : Writer E) (file_at : List �
     pub one_cut : (later all : List (List ℕ)) (fault : Fault) (part line : Print) (e3 : E)
         → (paths ++ path ∷ []) ++ later ≡ all → IsPrintOfText (entry_text style path found) (Err fault) part
         → IsPrint out part o1 o2 → IsOf (as_line (input_fault_text fault)) line → IsPrint reported line e2 e3
-        → IsCutShort out reported file_at all style (worse (worse exit (exit_of_found found)) (exit_on fault)) n n2 o o2 e e3
+        → IsStoppedEarly out reported file_at all style (worse (worse exit (exit_of_found found)) (exit_on fault)) n n2 o o2 e e3
     one_cut later all fault part line e3 at part_is print line_is print_line = record {
       looks = before.looks;
       last = now.look;
@@ -144,7 +144,7 @@ pub next_cut : {W E : Type 0} (out : Writer W) (reported : Writer E) (file_at th
     → worst_yet ≡ worse exit ended → given_up ≡ exit_on fault → next ≡ worse worst_yet given_up
     → IsPrintOfText (entry_text style name found) (Err fault) print → IsPrint out print o1 o2
     → IsOf (as_line (input_fault_text fault)) line → IsPrint reported line e2 e3
-    → IsCutShort out reported file_at all style next n n2 o o2 e e3
+    → IsStoppedEarly out reported file_at all style next n n2 o o2 e e3
 next_cut out reported file_at there style paths later all path at name found exit ended worst_yet given_up next n n1 n2 o o1 o2
     e e1 e2 e3 fault print line before now same_files same_path same_name all_is ended_is worst_is given_is next_is print_is
     printed line_is reported_line =

@@ -1,6 +1,6 @@
 -- What is printed for a file.
-use Rattle.std.specs.Prelude.{ℕ, ◌==◌, ◌||◌, nat_lt, List, [], ◌∷◌, ◌++◌, flat_map, codes, Some, None}
-use Rattle.std.specs.Prelude.{if◌then◌else◌}
+use Rattle.std.specs.Prelude.{ℕ, ◌==◌, ◌||◌, nat_lt, List, [], ◌∷◌, ◌++◌, flat_map, codes}
+use Rattle.std.specs.Prelude.{Some, None, if◌then◌else◌}
 use Rattle.hex.specs.Hex.{encode_lower}
 use Rattle.serde_json.specs.Data.{Data}
 use Rattle.serde_json.specs.Written.{compact_text}
@@ -31,13 +31,13 @@ abbrev pub name_line : List ℕ → List ℕ
 name_line name = as_line (codes "file " ++ flat_map name_byte name)
 
 -- the line that stands for a report where the file has a fault
-abbrev pub fault_line : InspectFault → List ℕ
-fault_line f = as_line (codes "fault " ++ inspect_fault_text f)
+abbrev pub fault_entry : InspectFault → List ℕ
+fault_entry f = as_line (codes "fault " ++ inspect_fault_text f)
 
 -- what is found, in lines
 abbrev pub plain_text : Found → List ℕ
 plain_text (Read r digest) = report_text (reported_by r)
-plain_text (Faulty f) = fault_line f
+plain_text (Faulty f) = fault_entry f
 plain_text (Unopened exit) = as_line (codes "fault Open")
 
 -- what is printed for what is found under a name

@@ -14,7 +14,7 @@ use Rattle.bw_console.specs.declared.exit.Exit.{Exit}
 use Rattle.bw_console.specs.declared.exit.Exit.TheVariants.{Done}
 use Rattle.bw_console.specs.declared.fault.Fault.{Fault}
 use Rattle.bw_report.specs.Entries.{entry_text}
-use Rattle.bw_report.specs.Findings.{IsFoundIn, exit_of_found, worse}
+use Rattle.bw_report.specs.Findings.{IsFoundInBytes, exit_of_found, worse}
 use Rattle.bw_report.specs.declared.entry.Style.{Style}
 use Rattle.bw_report.specs.declared.found.Found.{Found}
 use Rattle.bw_report.specs.declared.found.Found.TheVariants.{Read, Faulty, Unopened}
@@ -40,7 +40,7 @@ IsOpening (Unopened exit) l = (l.is_opened ≡ false) × ((did : Outcome) × ((d
 
 -- the look is right, where the paths have these files
 pub record IsLookAt (file_at : List ℕ → Option (List ℕ)) (l : Look) : Type 0 where
-  pub right : Of (file_at l.path) (λ b. IsFoundIn b l.found)
+  pub right : Of (file_at l.path) (λ b. IsFoundInBytes b l.found)
   pub opening : IsOpening l.found l
 
 -- these were printed, one after another
@@ -57,8 +57,8 @@ abbrev pub worst : List Look → Exit
 worst looks = fold (λ exit l. worse exit (exit_of_found l.found)) Done looks
 
 -- the entry of a look
-abbrev pub entry_at : Style → Look → List ℕ
-entry_at style l = entry_text style l.path l.found
+abbrev pub look_entry : Style → Look → List ℕ
+look_entry style l = entry_text style l.path l.found
 
 -- this was found at a path and reported, and the system's failures are these
 pub record IsFoundAt {E : Type 0} (reported : Writer E) (file_at : List ℕ → Option (List ℕ))
@@ -79,12 +79,12 @@ module _ {W E : Type 0} (out : Writer W) (reported : Writer E) where
     pub are : All (IsLookAt file_at) looks
     pub ends : exit ≡ worst looks
     pub failures : n' ≡ failures_after_looks looks n
-    pub prints : ArePrints out (map (λ l. Whole (entry_at style l)) looks) o o'
+    pub prints : ArePrints out (map (λ l. Whole (look_entry style l)) looks) o o'
     pub reports : ArePrints reported (map (λ l. l.reported) looks) e e'
 
   -- an entry wasn't made or printed, for a fault that was reported, and no later file was looked at
-  pub record IsCutShort (file_at : List ℕ → Option (List ℕ)) (paths : List (List ℕ)) (style : Style)
-      (exit : Exit) (n n' : ℕ) (o o' : W) (e e' : E) : Type 0 where
+  pub record IsStoppedEarly (file_at : List ℕ → Option (List ℕ)) (paths : List (List ℕ))
+      (style : Style) (exit : Exit) (n n' : ℕ) (o o' : W) (e e' : E) : Type 0 where
     pub looks : List Look
     pub last : Look
     pub later : List (List ℕ)
@@ -94,15 +94,15 @@ module _ {W E : Type 0} (out : Writer W) (reported : Writer E) where
     pub ends : exit ≡ worse (worst (looks ++ last ∷ [])) (exit_on fault)
     pub failures : n' ≡ failures_after_looks (looks ++ last ∷ []) n
     pub part : Print
-    pub part_is : IsPrintOfText (entry_at style last) (Err fault) part
-    pub prints : ArePrints out (map (λ l. Whole (entry_at style l)) looks ++ part ∷ []) o o'
+    pub part_is : IsPrintOfText (look_entry style last) (Err fault) part
+    pub prints : ArePrints out (map (λ l. Whole (look_entry style l)) looks ++ part ∷ []) o o'
     pub line : Print
     pub line_is : IsOf (as_line (input_fault_text fault)) line
     pub reports : ArePrints reported (map (λ l. l.reported) (looks ++ last ∷ []) ++ line ∷ []) e e'
 
   -- the files at these paths were inspected
-  abbrev pub IsInspected : (List ℕ → Option (List ℕ)) → List (List ℕ) → Style → Exit → ℕ → ℕ → W → W →
-      E → E → Type 0
-  IsInspected file_at paths style exit n n' o o' e e' =
+  abbrev pub AreInspected : (List ℕ → Option (List ℕ)) → List (List ℕ) → Style → Exit → ℕ → ℕ →
+      W → W → E → E → Type 0
+  AreInspected file_at paths style exit n n' o o' e e' =
       IsShown file_at paths style exit n n' o o' e e'
-      ⊎ IsCutShort file_at paths style exit n n' o o' e e'
+      ⊎ IsStoppedEarly file_at paths style exit n n' o o' e e'

@@ -19,10 +19,10 @@ pub record IsReportIn (b : List ℕ) (r : Report) : Type 0 where
   pub is : reported_by r ≡ report_of b reading_is.form reading_is.entries
 
 -- this is found in the bytes: a fault of the bytes is their first
-abbrev pub IsFoundIn : List ℕ → Found → Type 0
-IsFoundIn b (Read r digest) = IsReportIn b r
-IsFoundIn b (Faulty f) = (met : Fault) → bytes_fault f ≡ Some met → IsFault b met
-IsFoundIn b (Unopened exit) = ⊤
+abbrev pub IsFoundInBytes : List ℕ → Found → Type 0
+IsFoundInBytes b (Read r digest) = IsReportIn b r
+IsFoundInBytes b (Faulty f) = (met : Fault) → bytes_fault f ≡ Some met → IsFault b met
+IsFoundInBytes b (Unopened exit) = ⊤
 
 -- how a command ends by this file
 abbrev pub exit_of_found : Found → Exit

@@ -34,7 +34,8 @@ samples_data place size f = object
     (member (codes "at") (number_data place)
     (member (codes "bytes") (number_data size)
     (member (codes "frames") (number_data (frames_of size f.align))
-    (member (codes "ms") (number_or_null (milliseconds (frames_of size f.align) f.rate)) no_members))))
+    (member (codes "ms") (number_or_null (milliseconds (frames_of size f.align) f.rate))
+    no_members))))
 
 -- a cue point, its time by its sample's offset, at this rate
 abbrev pub cue_data : ℕ → RawCue → Data

@@ -35,4 +35,5 @@ level_data n =
 
 -- members with a text at one key, and its bytes as hex digits at another
 abbrev pub with_text : List ℕ → List ℕ → List ℕ → Members → Members
-with_text key hex_key bytes members = put hex_key (hex_data bytes) (put key (text_data bytes) members)
+with_text key hex_key bytes members =
+    put hex_key (hex_data bytes) (put key (text_data bytes) members)

@@ -2,7 +2,7 @@
 ghost use Rattle.std.specs.Prelude.{◌≡◌, ◌++◌, IfOk, OnOk};
 ghost use Rattle.bw_model.specs.Report.{report_text};
 ghost use Rattle.bw_inspect.specs.Reports.{reported_by};
-ghost use Rattle.bw_report.specs.Entries.{entry_text, fault_line, name_byte, name_line};
+ghost use Rattle.bw_report.specs.Entries.{entry_text, fault_entry, name_byte, name_line};
 
 use crate::found::Found;
 use crate::json::json_line;
@@ -79,7 +79,7 @@ fn with_fault(
     text: Vec<u8>,
     fault: &InspectFault,
 ) -> Result<Vec<u8>, AllocError>
-    ensures { IfOk result (λ v. v.items ≡ text.items ++ fault_line fault.now) }
+    ensures { IfOk result (λ v. v.items ≡ text.items ++ fault_entry fault.now) }
 {
     let line = format!(in alloc; "fault {fault}\n")?;
     with_line(text, line.as_str())

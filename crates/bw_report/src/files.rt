@@ -3,7 +3,7 @@ ghost use Rattle.std.specs.Prelude.{◌≡◌, map, string_bytes, Result};
 ghost use Rattle.bw_console.specs.Printing.{IsPrint, Print};
 ghost use Rattle.bw_commands.specs.Inspections.{IsPrintOfText};
 ghost use Rattle.bw_report.specs.Entries.{entry_text};
-ghost use Rattle.bw_report.specs.FileLooks.{IsFoundAt, IsInspected, Look};
+ghost use Rattle.bw_report.specs.FileLooks.{IsFoundAt, AreInspected, Look};
 
 use crate::entry::{Style, entry_of};
 use crate::exits::worse;
@@ -15,9 +15,9 @@ use bw_ports::RecordingFiles;
 use bw_stream::Sink;
 use std::alloc::Global;
 
-/// Reports what is in the files at these paths, in their order: an entry for each. A file that has a
-/// fault, or can't be opened, has an entry too, and the next one is looked at; why a file can't be
-/// opened is a line on `faults`.
+/// Reports what is in the files at these paths, in their order: an entry for each. A file that has
+/// a fault, or can't be opened, has an entry too, and the next one is looked at; why a file can't
+/// be opened is a line on `faults`.
 ///
 /// It ends as the file does whose status is the highest: `Done`, `Refused` for a fault, `Device` if
 /// a file can't be opened or read, `Memory` if memory was refused. If an entry can't be made or
@@ -36,8 +36,8 @@ pub fn inspect_files<F: RecordingFiles, W: Sink, E: Sink>(
     out: &mut W,
     faults: &mut E,
 ) -> Exit
-    ensures { IsInspected W.Sink E.Sink (F.file_at files.old) (map string_bytes paths.now) style result
-        (F.failures files.old) (F.failures files.new) out.old out.new faults.old faults.new }
+    ensures { AreInspected W.Sink E.Sink (F.file_at files.old) (map string_bytes paths.now) style
+        result (F.failures files.old) (F.failures files.new) out.old out.new faults.old faults.new }
 {
     let mut worst = Exit::Done;
     for path in paths {

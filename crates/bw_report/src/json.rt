@@ -24,7 +24,8 @@ use std::alloc::{AllocError, Global};
 /// # Not specified
 /// When memory is refused.
 pub fn json_line(alloc: Global, name: &str, found: &Found) -> Result<String, AllocError>
-    ensures text { IfOk result (λ t. string_bytes t ≡ compact_text (found_data name.now found.now)) }
+    ensures text { IfOk result (λ t.
+        string_bytes t ≡ compact_text (found_data name.now found.now)) }
     ensures reads_back { IfOk result (λ t.
         read (string_bytes t) ≡ Some (found_data name.now found.now)) }
 {

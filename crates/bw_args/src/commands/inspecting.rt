@@ -1,5 +1,6 @@
 //! The command `inspect`.
-ghost use Rattle.std.specs.Prelude.{◌≡◌, ◌∷◌, [], false, map, codes, Some, IfOk, IfNone, IfSome, OnErr};
+ghost use Rattle.std.specs.Prelude.{◌≡◌, ◌∷◌, [], false, map, codes, Some, IfOk, IfNone, IfSome};
+ghost use Rattle.std.specs.Prelude.{OnErr};
 ghost use Rattle.clap.specs.Words.{found_of, rows_of};
 ghost use Rattle.bw_args.specs.Commands.{IsCommand, inspect_command};
 ghost use Rattle.bw_args.specs.Inspecting.{is_alone};
