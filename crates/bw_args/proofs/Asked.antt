@@ -7,25 +7,29 @@ use Rattle.std.specs.declared.net.socket_addr.SocketAddr.{SocketAddr}
 use Rattle.std.specs.Net.Socket.{socket_port}
 use Rattle.clap.specs.Words.{Row, Text, first_of, first_value, rows_of}
 use Rattle.clap.specs.declared.parser.matches.Found.{Found}
-use Rattle.clap.proofs.WalkLemmas.{first_value-rows}
+use Rattle.clap.specs.Walk.{all_of}
+use Rattle.clap.specs.Matches.{matched_of, raw_values}
+use Rattle.clap.proofs.WalkLemmas.{first_value-rows, raw_values-rows}
 use Rattle.bw_args.specs.Given.{GivesAddress, GivesCount, GivesCountOr, GivesEnd, GivesFuse, GivesLimit, GivesName}
 use Rattle.bw_args.specs.Given.{GivesNoFuse, GivesRecorders, IsAddressGiven, IsEnd, IsEndGiven, IsLimitGiven, IsNameGiven}
 use Rattle.bw_args.specs.Given.{IsJournaling, IsJournalingGiven, IsRecorders, IsRecordersGiven, given_on_line, is_set}
 use Rattle.bw_args.specs.Sources.{GivesSource, PlainSource, is_mixed, settings_on_line}
+use Rattle.bw_args.specs.Inspecting.{GivesInspection, PlainInspection}
 use Rattle.bw_args.specs.Lines.{AsksNothing, GivesSender, GivesServer, GivesTries, GivesUpload, HasNumbersInRange}
 use Rattle.bw_args.specs.Lines.{IsEndWithin, IsFirstBad, IsGood, IsLineFor, IsWayWithin, IsWishOf, IsWithin, Service}
 use Rattle.bw_args.specs.Lines.{FileUpload, Wish, looked_at, looked_at_trying, looked_at_waiting}
-use Rattle.bw_args.specs.Lines.{Replaying, Rehearsing, Inspecting, Packing, Sending, SendingPcm, Serving, Uploading}
-use Rattle.bw_args.specs.Lines.{PcmUpload, looked_at_samples}
-use Rattle.bw_args.specs.PcmSources.{GivesFormat, GivesSamples, PlainPcm, fruitless_of, is_unpaired, samples_with}
+use Rattle.bw_args.specs.Lines.{Replaying, Rehearsing, Inspecting, Packing, Sending, SendingPcm, Serving}
+use Rattle.bw_args.specs.Lines.{Uploading, PcmUpload, looked_at_samples, InspectingFiles}
+use Rattle.bw_args.specs.PcmSources.{GivesFormat, GivesSamples, PlainPcm, fruitless_of, is_unpaired}
+use Rattle.bw_args.specs.PcmSources.{samples_with}
 use Rattle.bw_args.specs.declared.commands.samples.WrittenFormat.{WrittenFormat}
 use Rattle.bw_args.specs.Numbers.{IsLimitValue, default_fruitless, default_rounds, default_timeout, most_exchanges}
 use Rattle.bw_args.specs.Numbers.{most_block, most_fruitless, most_recorders, most_rounds, most_seconds}
 use Rattle.bw_args.specs.declared.commands.sending.Tries.{Tries}
 use Rattle.bw_args.specs.declared.CommandLine.{CommandLine}
 use Rattle.bw_args.specs.declared.CommandLine.TheVariants.{Run, BadValue as Bad, Report}
-use Rattle.bw_args.specs.declared.Task.TheVariants.{Replay, Rehearse, Inspect, Serve, Send}
-use Rattle.bw_args.specs.declared.Task.TheVariants.{SendFile, SendPcm, Pack}
+use Rattle.bw_args.specs.declared.Task.TheVariants.{Replay, Rehearse, Inspect, Serve, Send, SendFile, SendPcm}
+use Rattle.bw_args.specs.declared.Task.TheVariants.{Pack, InspectFiles}
 use Rattle.bw_args.proofs.WishLemmas.{one_count, other_name, same_way}
 use Rattle.bw_args.specs.declared.peers.End.{End}
 use Rattle.bw_args.specs.declared.peers.Journaling.{Journaling}
@@ -115,6 +119,7 @@ wished_good name options wish asked = go wish asked
     go (Replaying limit fuse) a = at (codes "replay") a.0 ((limit, a.1), ((fuse, a.2), tt))
     go (Rehearsing take_name limit) a = at (codes "rehearse") a.0 ((take_name, a.1), ((limit, a.2), tt))
     go (Inspecting path) a = at (codes "inspect") a.0 tt
+    go (InspectingFiles inspection) a = at (codes "inspect") a.0 tt
     go (Serving server) a = at (codes "serve") a.0 (
       (server.listen, a.1.listens),
       (
@@ -251,16 +256,23 @@ pub name_alone_line : (found : Found) (name : Text) → GivesName (first_value f
 name_alone_line found name named given = bad_line found (codes "rehearse") Limit
     (inr ((name, named), inl (no_limit found given, refl)))
 
--- the file that is given is the one that is asked for
-pub file_asked : (found : Found) (path : Text) → Some path ≡ first_value found (codes "file")
-    → IsWishOf (Some (codes "inspect", rows_of found)) (Inspecting path)
-file_asked found path given = (refl, sym (given ∙ first_value-rows found (codes "file")))
+-- the files to inspect that are given are those that are asked for
+pub inspection_asked : (found : Found) (inspection : PlainInspection)
+    → Some inspection.files ≡ option_map raw_values (matched_of found (codes "file"))
+    → inspection.json ≡ is_set (first_value found (codes "json")) → GivesInspection (rows_of found) inspection
+inspection_asked found inspection given prints = record {
+  from = sym (given ∙ raw_values-rows found (codes "file"));
+  prints = by_rows found (λ g. inspection.json ≡ is_set (g (codes "json"))) prints;
+}
 
 -- without one, nothing is asked for, and no value is looked at
-pub no_file_line : (found : Found) → None ≡ first_value found (codes "file")
+pub no_file_line : (found : Found) → None ≡ option_map raw_values (matched_of found (codes "file"))
     → IsLineFor (Some (codes "inspect", rows_of found)) (Bad Limit)
 no_file_line found given = (nothing, inr (refl, refl))
   where
+    none : None ≡ all_of (codes "file") (rows_of found)
+    none = given ∙ raw_values-rows found (codes "file")
+
     nothing : AsksNothing (Some (codes "inspect", rows_of found))
     nothing (Replaying n k) asked = other_name (codes "inspect") (codes "replay") refl _ refl asked.0
     nothing (Rehearsing name n) asked = other_name (codes "inspect") (codes "rehearse") refl _ refl asked.0
@@ -269,8 +281,8 @@ no_file_line found given = (nothing, inr (refl, refl))
     nothing (Uploading sender) asked = other_name (codes "inspect") (codes "send") refl _ refl asked.0
     nothing (SendingPcm sender) asked = other_name (codes "inspect") (codes "send") refl _ refl asked.0
     nothing (Packing source) asked = other_name (codes "inspect") (codes "pack") refl _ refl asked.0
-    nothing (Inspecting path) asked =
-        let bad : None ≡ Some path = given ∙ first_value-rows found (codes "file") ∙ asked.1 in cc
+    nothing (Inspecting path) asked = let bad : None ≡ Some (path ∷ []) = none ∙ asked.1.from in cc
+    nothing (InspectingFiles inspection) asked = let bad : None ≡ Some inspection.files = none ∙ asked.1.from in cc
 
 -- the file to pack that is given is the one that is asked for
 pub source_asked : (found : Found) (path : Text) (source : PlainSource) → Some path ≡ first_value found (codes "file")
@@ -303,6 +315,7 @@ no_packed_line found given = (nothing, inr (refl, refl))
     nothing (Replaying n k) asked = other_name (codes "pack") (codes "replay") refl _ refl asked.0
     nothing (Rehearsing name n) asked = other_name (codes "pack") (codes "rehearse") refl _ refl asked.0
     nothing (Inspecting path) asked = other_name (codes "pack") (codes "inspect") refl _ refl asked.0
+    nothing (InspectingFiles inspection) asked = other_name (codes "pack") (codes "inspect") refl _ refl asked.0
     nothing (Serving server) asked = other_name (codes "pack") (codes "serve") refl _ refl asked.0
     nothing (Sending sender) asked = other_name (codes "pack") (codes "send") refl _ refl asked.0
     nothing (Uploading sender) asked = other_name (codes "pack") (codes "send") refl _ refl asked.0
@@ -503,6 +516,7 @@ line_limit (Some command) (Run (Replay limit fuse)) asked =
 line_limit (Some command) (Run (Rehearse name limit)) asked =
     given_limit (first_of (codes "limit") command.1) limit asked.2
 line_limit (Some command) (Run (Inspect file)) asked = tt
+line_limit (Some command) (Run (InspectFiles inspection)) asked = tt
 line_limit (Some command) (Run (Serve server)) asked = (
   given_port _ _ server.listen asked.1.listens,
   given_end _ _ server.end (given_count _ _ _ asked.1.ends.1) asked.1.ends.2,

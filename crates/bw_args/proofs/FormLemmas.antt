@@ -5,19 +5,22 @@ use Rattle.std.specs.Char.{digit_value}
 use Rattle.std.proofs.lemmas.Bool.{eqb-true}
 use Rattle.clap.specs.declared.error.ErrorKind.{ErrorKind}
 use Rattle.clap.specs.declared.error.ErrorKind.TheVariants.{DisplayHelp, DisplayVersion, MissingRequiredArgument}
-use Rattle.clap.specs.declared.error.ErrorKind.TheVariants.{MissingSubcommand, UnknownArgument}
+use Rattle.clap.specs.declared.error.ErrorKind.TheVariants.{MissingSubcommand}
 use Rattle.clap.specs.Words.{IsAmong, Text, fault_of, kind_of}
 use Rattle.clap.proofs.OnLiterals.{clap_on_literals}
 use Rattle.bw_args.specs.Commands.{command_line}
 use Rattle.bw_args.specs.Lines.{AsksFor, IsLineOf, IsLineRead, Wish}
 use Rattle.bw_args.specs.ReadWords.{as_read}
-use Rattle.bw_args.specs.Lines.{Inspecting, Replaying, wish_of}
+use Rattle.bw_args.specs.Lines.{Inspecting, InspectingFiles, Replaying, wish_of}
 use Rattle.bw_args.specs.Forms.{Inspects, IsPlain, IsReportedAs, RunsFor, RunsInspect, RunsReplay, ReportsHelp}
+use Rattle.bw_args.specs.Forms.{inspection_of}
+use Rattle.bw_args.specs.Inspecting.{PlainInspection}
 use Rattle.bw_args.specs.Numbers.{IsLimitText, IsNumber, default_limit, number_written}
 use Rattle.bw_args.proofs.WishLemmas.{one_wish}
 use Rattle.bw_args.specs.declared.CommandLine.{CommandLine}
 use Rattle.bw_args.specs.declared.CommandLine.TheVariants.{Run, BadValue as Bad, Report}
-use Rattle.bw_args.specs.declared.Task.TheVariants.{Inspect, Rehearse, Replay, Send, Serve, SendFile, SendPcm, Pack}
+use Rattle.bw_args.specs.declared.Task.TheVariants.{Inspect, Rehearse, Replay, Send, Serve, SendFile, SendPcm}
+use Rattle.bw_args.specs.declared.Task.TheVariants.{Pack, InspectFiles}
 
 -- a digit is no hyphen, so the word is read as a value
 pub no_hyphen : (d : ℕ) (ds : Text) → IsNumber (d ∷ ds) → (d == 45) ≡ false
@@ -93,6 +96,7 @@ replays : (limit : ℕ) (fuse : Option ℕ) (line : CommandLine) → RunsFor (Re
 replays limit fuse (Run (Replay n k)) e = let limits : n ≡ limit = cc in let fuses : k ≡ fuse = cc in cc
 replays limit fuse (Run (Rehearse name n)) e = cc
 replays limit fuse (Run (Inspect file)) e = cc
+replays limit fuse (Run (InspectFiles inspection)) e = cc
 replays limit fuse (Run (Serve server)) e = cc
 replays limit fuse (Run (Send sender)) e = cc
 replays limit fuse (Run (SendFile sender)) e = cc
@@ -103,6 +107,7 @@ replays limit fuse (Report error) e = absurd e
 
 inspects : (path : Text) (line : CommandLine) → RunsFor (Inspecting path) line → Inspects path line
 inspects path (Run (Inspect file)) e = cc
+inspects path (Run (InspectFiles inspection)) e = cc
 inspects path (Run (Replay limit fuse)) e = cc
 inspects path (Run (Rehearse name limit)) e = cc
 inspects path (Run (Serve server)) e = cc
@@ -172,26 +177,70 @@ plain_byte d plain = go (d == 45) refl
 
 file_asks : (program path : Text) → IsPlain path → AsksFor (program ∷ codes "inspect" ∷ path ∷ []) (Inspecting path)
 unfolding clap_on_literals
-file_asks program [] plain = record { taken = refl; asked = (refl, refl) }
+file_asks program [] plain = record { taken = refl; asked = (refl, record { from = refl; prints = refl }) }
 file_asks program (d ∷ ds) plain =
     let value = plain_byte d plain in
-    record { taken = rw (value, value) (refl {a = []}); asked = simp value (refl, refl) }
+    record { taken = rw (value, value) (refl {a = []}); asked = simp value (refl, record { from = refl; prints = refl }) }
+
+json_asks : (program path : Text) → IsPlain path
+    → AsksFor (program ∷ codes "inspect" ∷ codes "--json" ∷ path ∷ [])
+    (InspectingFiles (record (inspection_of (path ∷ [])) { json = true }))
+unfolding clap_on_literals
+json_asks program [] plain = record { taken = refl; asked = (refl, record { from = refl; prints = refl }, refl) }
+json_asks program (d ∷ ds) plain =
+    let value = plain_byte d plain in
+    record {
+      taken = rw (value, value) (refl {a = []});
+      asked = simp value (refl, record { from = refl; prints = refl }, refl);
+    }
+
+two_ask : (program path other : Text) → IsPlain path → IsPlain other
+    → AsksFor (program ∷ codes "inspect" ∷ path ∷ other ∷ []) (InspectingFiles (inspection_of (path ∷ other ∷ [])))
+unfolding clap_on_literals
+two_ask program [] [] p q = record { taken = refl; asked = (refl, record { from = refl; prints = refl }, refl) }
+two_ask program [] (d ∷ ds) p q =
+    let w = plain_byte d q in
+    record { taken = rw (w, w) (refl {a = []}); asked = simp w (refl, record { from = refl; prints = refl }, refl) }
+two_ask program (c ∷ cs) [] p q =
+    let v = plain_byte c p in
+    record { taken = rw (v, v) (refl {a = []}); asked = simp v (refl, record { from = refl; prints = refl }, refl) }
+two_ask program (c ∷ cs) (d ∷ ds) p q =
+    let v = plain_byte c p in
+    let w = plain_byte d q in
+    record {
+      taken = rw (v, v, w, w) (refl {a = []});
+      asked = simp (v, w) (refl, record { from = refl; prints = refl }, refl);
+    }
+
+json_last_asks : (program path other : Text) → IsPlain path → IsPlain other
+    → AsksFor (program ∷ codes "inspect" ∷ path ∷ other ∷ codes "--json" ∷ [])
+    (InspectingFiles (record (inspection_of (path ∷ other ∷ [])) { json = true }))
+unfolding clap_on_literals
+json_last_asks program [] [] p q = record { taken = refl; asked = (refl, record { from = refl; prints = refl }, refl) }
+json_last_asks program [] (d ∷ ds) p q =
+    let w = plain_byte d q in
+    record { taken = rw (w, w) (refl {a = []}); asked = simp w (refl, record { from = refl; prints = refl }, refl) }
+json_last_asks program (c ∷ cs) [] p q =
+    let v = plain_byte c p in
+    record { taken = rw (v, v) (refl {a = []}); asked = simp v (refl, record { from = refl; prints = refl }, refl) }
+json_last_asks program (c ∷ cs) (d ∷ ds) p q =
+    let v = plain_byte c p in
+    let w = plain_byte d q in
+    record {
+      taken = rw (v, v, w, w) (refl {a = []});
+      asked = simp (v, w) (refl, record { from = refl; prints = refl }, refl);
+    }
 
 no_file_fault : (program : Text)
     → fault_of command_line (program ∷ codes "inspect" ∷ []) ≡ MissingRequiredArgument ∷ []
 unfolding clap_on_literals
 no_file_fault program = refl
 
-second_fault : (program path other : Text) → IsPlain path → IsPlain other
-    → fault_of command_line (program ∷ codes "inspect" ∷ path ∷ other ∷ []) ≡ UnknownArgument ∷ []
-unfolding clap_on_literals
-second_fault program [] [] p q = refl {a = UnknownArgument ∷ []}
-second_fault program [] (d ∷ ds) p q = let value = plain_byte d q in rw (value, value) (refl {a = UnknownArgument
-    ∷ []})
-second_fault program (d ∷ ds) [] p q = let value = plain_byte d p in rw (value, value) (refl {a = UnknownArgument
-    ∷ []})
-second_fault program (c ∷ cs) (d ∷ ds) p q = let v = plain_byte c p in let w =
-    plain_byte d q in rw (v, v, w, w) (refl {a = UnknownArgument ∷ []})
+-- words that ask for files to be inspected run that
+asked_inspects : (words asking : List Text) (line : CommandLine) (inspection : PlainInspection) → IsLineOf words line
+    → words ≡ asking → AsksFor (as_read asking) (InspectingFiles inspection) → RunsFor (InspectingFiles inspection) line
+asked_inspects words asking line inspection is e asks =
+    runs (as_read words) line _ is (subst (λ w. AsksFor (as_read w) (InspectingFiles inspection)) (sym e) asks)
 
 pub runs_inspect : (words : List Text) (line : CommandLine) → IsLineOf words line → RunsInspect words line
 runs_inspect words line is = record {
@@ -200,7 +249,7 @@ runs_inspect words line is = record {
       (subst (λ w. AsksFor (as_read w) (Inspecting path)) (sym e) (file_asks program path plain)));
   none = λ program e. reports MissingRequiredArgument (as_read words) line
       (ap (λ w. fault_of command_line (as_read w)) e ∙ no_file_fault program) is;
-  second = λ program path other p q e.
-      reports UnknownArgument (as_read words) line
-      (ap (λ w. fault_of command_line (as_read w)) e ∙ second_fault program path other p q) is;
+  two = λ program path other p q e. asked_inspects words _ line _ is e (two_ask program path other p q);
+  json = λ program path p e. asked_inspects words _ line _ is e (json_asks program path p);
+  json_last = λ program path other p q e. asked_inspects words _ line _ is e (json_last_asks program path other p q);
 }

@@ -11,7 +11,8 @@ use Rattle.bw_args.specs.Forms.{RunsFor, RunsRehearsal}
 use Rattle.bw_args.specs.Numbers.{IsLimitText, default_limit, number_written}
 use Rattle.bw_args.specs.declared.CommandLine.{CommandLine}
 use Rattle.bw_args.specs.declared.CommandLine.TheVariants.{Run, BadValue as Bad, Report}
-use Rattle.bw_args.specs.declared.Task.TheVariants.{Inspect, Rehearse, Replay, Send, Serve, SendFile, SendPcm, Pack}
+use Rattle.bw_args.specs.declared.Task.TheVariants.{Inspect, Rehearse, Replay, Send, Serve, SendFile, SendPcm}
+use Rattle.bw_args.specs.declared.Task.TheVariants.{Pack, InspectFiles}
 use Rattle.bw_args.proofs.FormLemmas.{no_hyphen, runs, reports}
 
 -- a limit's word is read unchanged
@@ -87,6 +88,7 @@ rehearses : (name : Text) (limit : ℕ) (line : CommandLine) → RunsFor (Rehear
 rehearses name limit (Run (Rehearse m n)) e = let names : m ≡ name = cc in let limits : n ≡ limit = cc in cc
 rehearses name limit (Run (Replay n k)) e = cc
 rehearses name limit (Run (Inspect file)) e = cc
+rehearses name limit (Run (InspectFiles inspection)) e = cc
 rehearses name limit (Run (Serve server)) e = cc
 rehearses name limit (Run (Send sender)) e = cc
 rehearses name limit (Run (SendFile sender)) e = cc

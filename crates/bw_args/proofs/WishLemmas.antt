@@ -1,5 +1,6 @@
 -- A command asks for one task.
-use Rattle.std.proofs.Common.{◌≡◌, ℕ, List, [], Bool, true, false, Option, Some, None, codes, sym, ◌∙◌, ap, subst}
+use Rattle.std.proofs.Common.{◌≡◌, ℕ, List, [], Bool, true, false, Option, Some, None, codes, sym, ◌∙◌, ap}
+use Rattle.std.proofs.Common.{subst, ◌∷◌}
 use Rattle.std.proofs.Common.{refl, unwrap_or}
 use Rattle.std.specs.Prelude.{option_map}
 use Rattle.std.specs.Str.{bytes_eq}
@@ -10,13 +11,15 @@ use Rattle.clap.specs.Words.{Row, Text, first_of}
 use Rattle.bw_args.specs.Given.{GivesAddress, GivesCount, GivesCountOr, GivesEnd, GivesFolder, GivesFuse, GivesLimit}
 use Rattle.bw_args.specs.Given.{GivesName, GivesRecorders, IsEnd, IsJournaling, IsRecorders, given_on_line}
 use Rattle.bw_args.specs.Sources.{GivesSource, PlainSource}
-use Rattle.bw_args.specs.PcmSources.{GivesFormat, GivesNumber, GivesSamples, IsFormatText, PlainPcm}
-use Rattle.bw_args.specs.PcmSources.{at_comma, fruitless_of, samples_with}
+use Rattle.bw_args.specs.PcmSources.{GivesFormat, GivesNumber, GivesSamples, IsFormatText, PlainPcm, at_comma}
+use Rattle.bw_args.specs.PcmSources.{fruitless_of, samples_with}
 use Rattle.bw_args.specs.declared.commands.samples.WrittenFormat.{WrittenFormat}
-use Rattle.bw_args.specs.Lines.{GivesPcmUpload, GivesSender, GivesServer, GivesUpload, IsWishOf, Service, FileUpload}
-use Rattle.bw_args.specs.Lines.{PcmUpload, Wish}
-use Rattle.bw_args.specs.Lines.{Inspecting, Packing, Rehearsing, Replaying, Sending, SendingPcm, Serving, Uploading}
-use Rattle.bw_args.specs.Numbers.{most_block, most_exchanges, most_fruitless, most_recorders, most_seconds, number_written}
+use Rattle.bw_args.specs.Lines.{GivesPcmUpload, GivesSender, GivesServer, GivesUpload, IsWishOf, Service}
+use Rattle.bw_args.specs.Lines.{FileUpload, PcmUpload, Wish, Inspecting, Packing, Rehearsing, Replaying}
+use Rattle.bw_args.specs.Lines.{Sending, SendingPcm, Serving, Uploading, InspectingFiles}
+use Rattle.bw_args.specs.Numbers.{most_block, most_exchanges, most_fruitless, most_recorders, most_seconds}
+use Rattle.bw_args.specs.Numbers.{number_written}
+use Rattle.bw_args.specs.Inspecting.{GivesInspection, PlainInspection, is_alone}
 use Rattle.bw_args.specs.declared.peers.End.{End}
 use Rattle.bw_args.specs.declared.peers.Journaling.{Journaling}
 use Rattle.bw_args.specs.declared.peers.Recorders.{Recorders as Way}
@@ -227,6 +230,20 @@ one_pcm_upload options a b x y =
 some_samples : {P : Type 0} (given : Text → Option Text) (pcm : PlainPcm) → GivesSamples given None
     → GivesSamples given (Some pcm) → P
 some_samples given pcm x y = let bad : None ≡ Some pcm = one_samples given None (Some pcm) x y in cc
+one_inspection : (options : List Row) (a b : PlainInspection) → GivesInspection options a → GivesInspection options b → a ≡ b
+one_inspection options a b x y =
+    let from : Some a.files ≡ Some b.files = sym x.from ∙ y.from in
+    let files : a.files ≡ b.files = cc in
+    let prints = x.prints ∙ sym y.prints in
+    λ i. record { files = files i; json = prints i }
+
+-- one file is reported as it always is, or not
+not_alone : (options : List Row) (path : Text) (inspection : PlainInspection)
+    → GivesInspection options (record { files = path ∷ []; json = false }) → GivesInspection options inspection
+    → ¬ (is_alone inspection.files inspection.json ≡ false)
+not_alone options path inspection one other several =
+    let same = one_inspection options (record { files = path ∷ []; json = false }) inspection one other in
+    let bad : true ≡ false = subst (λ (i : PlainInspection). is_alone i.files i.json ≡ false) (sym same) several in cc
 
 -- a recording's file is given, or none
 no_lines : (options : List Row) (sender : Sender) (upload : FileUpload) → GivesSender (given_on_line options) sender
@@ -250,7 +267,10 @@ one_wish (Some command) (Rehearsing a n) (Rehearsing b m) x y =
     let names : a ≡ b = one_name (first_of (codes "name") command.1) a b x.1 y.1 in
     let limits : n ≡ m = one_limit (first_of (codes "limit") command.1) n m x.2 y.2 in cc
 one_wish (Some command) (Inspecting a) (Inspecting b) x y =
-    let same : Some a ≡ Some b = sym x.1 ∙ y.1 in cc
+    let same : Some (a ∷ []) ≡ Some (b ∷ []) = sym x.1.from ∙ y.1.from in cc
+one_wish (Some command) (InspectingFiles a) (InspectingFiles b) x y = ap InspectingFiles (one_inspection command.1 a b x.1 y.1)
+one_wish (Some command) (Inspecting a) (InspectingFiles b) x y = absurd (not_alone command.1 a b x.1 y.1 y.2)
+one_wish (Some command) (InspectingFiles a) (Inspecting b) x y = absurd (not_alone command.1 b a y.1 x.1 x.2)
 one_wish (Some command) (Serving a) (Serving b) x y = ap Serving (one_server _ a b x.1 y.1)
 one_wish (Some command) (Sending a) (Sending b) x y = ap Sending (one_sender _ a b x.1 y.1)
 one_wish (Some command) (Uploading a) (Uploading b) x y = ap Uploading (one_upload command.1 a b x.1 y.1)
@@ -316,3 +336,17 @@ one_wish (Some command) (Packing a) (Serving b) x y = other_name (codes "pack") 
 one_wish (Some command) (Packing a) (Sending b) x y = other_name (codes "pack") (codes "send") refl command.0 x.0 y.0
 one_wish (Some command) (Packing a) (Uploading b) x y = other_name (codes "pack") (codes "send") refl command.0 x.0 y.0
 one_wish (Some command) (Packing a) (SendingPcm b) x y = other_name (codes "pack") (codes "send") refl command.0 x.0 y.0
+one_wish (Some command) (Replaying a k) (InspectingFiles b) x y = other_name (codes "replay") (codes "inspect") refl command.0 x.0 y.0
+one_wish (Some command) (InspectingFiles a) (Replaying b j) x y = other_name (codes "inspect") (codes "replay") refl command.0 x.0 y.0
+one_wish (Some command) (Rehearsing a n) (InspectingFiles b) x y = other_name (codes "rehearse") (codes "inspect") refl command.0 x.0 y.0
+one_wish (Some command) (InspectingFiles a) (Rehearsing b m) x y = other_name (codes "inspect") (codes "rehearse") refl command.0 x.0 y.0
+one_wish (Some command) (Serving a) (InspectingFiles b) x y = other_name (codes "serve") (codes "inspect") refl command.0 x.0 y.0
+one_wish (Some command) (InspectingFiles a) (Serving b) x y = other_name (codes "inspect") (codes "serve") refl command.0 x.0 y.0
+one_wish (Some command) (Sending a) (InspectingFiles b) x y = other_name (codes "send") (codes "inspect") refl command.0 x.0 y.0
+one_wish (Some command) (InspectingFiles a) (Sending b) x y = other_name (codes "inspect") (codes "send") refl command.0 x.0 y.0
+one_wish (Some command) (Uploading a) (InspectingFiles b) x y = other_name (codes "send") (codes "inspect") refl command.0 x.0 y.0
+one_wish (Some command) (InspectingFiles a) (Uploading b) x y = other_name (codes "inspect") (codes "send") refl command.0 x.0 y.0
+one_wish (Some command) (Packing a) (InspectingFiles b) x y = other_name (codes "pack") (codes "inspect") refl command.0 x.0 y.0
+one_wish (Some command) (InspectingFiles a) (Packing b) x y = other_name (codes "inspect") (codes "pack") refl command.0 x.0 y.0
+one_wish (Some command) (InspectingFiles a) (SendingPcm b) x y = other_name (codes "inspect") (codes "send") refl command.0 x.0 y.0
+one_wish (Some command) (SendingPcm a) (InspectingFiles b) x y = other_name (codes "send") (codes "inspect") refl command.0 x.0 y.0

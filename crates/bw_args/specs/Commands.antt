@@ -64,9 +64,17 @@ rehearse_command = with_rule (with_rule (new_app (codes "rehearse")) name_option
 abbrev pub file_argument : Rule
 file_argument = record (new_rule (codes "file")) { value_names = 1; required = true }
 
--- `inspect`
+-- the words that name the files of `inspect`
+abbrev pub files_argument : Rule
+files_argument = record file_argument { action = Some Append }
+
+-- `--json`
+abbrev pub json_flag : Rule
+json_flag = flag (codes "json")
+
+-- `inspect`, with the files and its option
 abbrev pub inspect_command : App
-inspect_command = with_rule (new_app (codes "inspect")) file_argument
+inspect_command = with_rule (with_rule (new_app (codes "inspect")) files_argument) json_flag
 
 -- `--listen ADDR`
 abbrev pub listen_option : Rule

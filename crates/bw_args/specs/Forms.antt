@@ -1,19 +1,20 @@
 -- The forms of the commands, in plain words, and what each results in.
-use Rattle.std.specs.Prelude.{◌≡◌, ◌≢◌, ⊤, List, [], ◌∷◌, ◌++◌, Some, None, codes}
+use Rattle.std.specs.Prelude.{◌≡◌, ◌≢◌, ⊤, true, false, List, [], ◌∷◌, ◌++◌, Some, None, codes}
 use Rattle.std.specs.Prelude.{string_bytes}
 use Rattle.clap.specs.Walk.{Text}
 use Rattle.clap.specs.Values.{kind_of}
 use Rattle.clap.specs.declared.error.ErrorKind.{ErrorKind}
 use Rattle.clap.specs.declared.error.ErrorKind.TheVariants.{DisplayHelp, DisplayVersion}
 use Rattle.clap.specs.declared.error.ErrorKind.TheVariants.{MissingRequiredArgument}
-use Rattle.clap.specs.declared.error.ErrorKind.TheVariants.{MissingSubcommand, UnknownArgument}
+use Rattle.clap.specs.declared.error.ErrorKind.TheVariants.{MissingSubcommand}
+use Rattle.bw_args.specs.Inspecting.{PlainInspection}
 use Rattle.bw_args.specs.Numbers.{IsLimitText, IsNumber, default_limit, number_written}
-use Rattle.bw_args.specs.Lines.{IsName, Wish, wish_of}
+use Rattle.bw_args.specs.Lines.{InspectingFiles, IsName, Wish, wish_of}
 use Rattle.bw_args.specs.declared.CommandLine.{CommandLine}
 use Rattle.bw_args.specs.declared.CommandLine.TheVariants.{Run, BadValue as Bad, Report}
 use Rattle.bw_args.specs.declared.bad_value.BadValue.TheVariants.{Name, Limit, Fuse}
-use Rattle.bw_args.specs.declared.Task.TheVariants.{Replay, Rehearse, Inspect, Serve, Send}
-use Rattle.bw_args.specs.declared.Task.TheVariants.{SendFile, SendPcm, Pack}
+use Rattle.bw_args.specs.declared.Task.TheVariants.{Replay, Rehearse, Inspect, Serve, Send, SendFile, SendPcm}
+use Rattle.bw_args.specs.declared.Task.TheVariants.{Pack, InspectFiles}
 
 -- the line runs a task for this
 abbrev pub RunsFor : Wish → CommandLine → Type 0
@@ -132,6 +133,7 @@ pub record ReportsHelp (words : List Text) (line : CommandLine) : Type 0 where
 -- the line inspects the file of this path
 abbrev pub Inspects : Text → CommandLine → Type 0
 Inspects path (Run (Inspect file)) = string_bytes file ≡ path
+Inspects path (Run (InspectFiles inspection)) = ⊥
 Inspects path (Run (Replay limit fuse)) = ⊥
 Inspects path (Run (Rehearse name limit)) = ⊥
 Inspects path (Run (Serve server)) = ⊥
@@ -147,11 +149,25 @@ abbrev pub IsPlain : Text → Type 0
 IsPlain [] = ⊤
 IsPlain (byte ∷ bytes) = byte ≢ 45
 
--- `inspect FILE` runs, whatever the program's name; no file and a second one are faults
+-- these files are inspected
+abbrev pub inspection_of : List Text → PlainInspection
+inspection_of files = record { files = files; json = false }
+
+-- `inspect FILE..` runs, with its option, whatever the program's name; no file is a fault
 pub record RunsInspect (words : List Text) (line : CommandLine) : Type 0 where
   pub file : (program path : Text) → IsPlain path
       → words ≡ program ∷ codes "inspect" ∷ path ∷ [] → Inspects path line
   pub none : (program : Text) → words ≡ program ∷ codes "inspect" ∷ []
       → IsReportedAs MissingRequiredArgument line
-  pub second : (program path other : Text) → IsPlain path → IsPlain other
-      → words ≡ program ∷ codes "inspect" ∷ path ∷ other ∷ [] → IsReportedAs UnknownArgument line
+  -- `inspect FILE FILE`
+  pub two : (program path other : Text) → IsPlain path → IsPlain other
+      → words ≡ program ∷ codes "inspect" ∷ path ∷ other ∷ []
+      → RunsFor (InspectingFiles (inspection_of (path ∷ other ∷ []))) line
+  -- `inspect --json FILE`
+  pub json : (program path : Text) → IsPlain path
+      → words ≡ program ∷ codes "inspect" ∷ codes "--json" ∷ path ∷ []
+      → RunsFor (InspectingFiles (record (inspection_of (path ∷ [])) { json = true })) line
+  -- `inspect FILE FILE --json`
+  pub json_last : (program path other : Text) → IsPlain path → IsPlain other
+      → words ≡ program ∷ codes "inspect" ∷ path ∷ other ∷ codes "--json" ∷ []
+      → RunsFor (InspectingFiles (record (inspection_of (path ∷ other ∷ [])) { json = true })) line

@@ -11,3 +11,4 @@ pub mod Forms
 pub mod PeerForms
 pub mod FileForms
 pub mod PcmForms
+pub mod Inspecting

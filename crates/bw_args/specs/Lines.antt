@@ -22,6 +22,7 @@ use Rattle.clap.specs.declared.error.ErrorKind.TheVariants.{OutOfMemory}
 use Rattle.bw_args.specs.Numbers.{IsLimitValue, default_fruitless, default_timeout, most_exchanges}
 use Rattle.bw_args.specs.Numbers.{most_block, most_fruitless, most_recorders, most_rounds, most_seconds}
 use Rattle.bw_args.specs.Commands.{command_line}
+use Rattle.bw_args.specs.Inspecting.{GivesInspection, PlainInspection, inspection_in_plain, is_alone}
 use Rattle.bw_args.specs.Sources.{GivesSource, PlainSource, in_plain, is_mixed}
 use Rattle.bw_args.specs.PcmSources.{GivesFormat, GivesNumber, GivesSamples, PlainPcm}
 use Rattle.bw_args.specs.PcmSources.{are_samples_mixed, fruitless_of, plain_pcm}
@@ -44,8 +45,8 @@ use Rattle.bw_args.specs.declared.peers.Send.{Send as Sender}
 use Rattle.bw_args.specs.declared.Task.{Task}
 use Rattle.bw_args.specs.declared.commands.samples.WrittenFormat.{WrittenFormat}
 use Rattle.bw_args.specs.declared.commands.sending.Tries.{Tries}
-use Rattle.bw_args.specs.declared.Task.TheVariants.{Replay, Rehearse, Inspect, Serve, Send}
-use Rattle.bw_args.specs.declared.Task.TheVariants.{SendFile, SendPcm, Pack}
+use Rattle.bw_args.specs.declared.Task.TheVariants.{Replay, Rehearse, Inspect, Serve, Send, SendFile, SendPcm}
+use Rattle.bw_args.specs.declared.Task.TheVariants.{Pack, InspectFiles}
 
 -- the server that a command line asks for
 pub record Service : Type 0 where
@@ -84,12 +85,13 @@ pub record PcmUpload : Type 0 where
   pub log : Bool
 
 -- what may be asked for: a replay with this limit, in which the call of this number fails, or none;
--- a rehearsal of the take of this name, with this limit; to inspect the file of this path; a server
--- or a sender; the sender of a recording, of headerless samples, or a recording's requests
+-- a rehearsal of the take of this name, with this limit; to inspect the file of this path, or files;
+-- a server or a sender; the sender of a recording, of headerless samples, or a recording's requests
 pub data Wish : Type 0 where
   Replaying : ℕ → Option ℕ → Wish
   Rehearsing : Text → ℕ → Wish
   Inspecting : Text → Wish
+  InspectingFiles : PlainInspection → Wish
   Serving : Service → Wish
   Sending : Sender → Wish
   Uploading : FileUpload → Wish
@@ -101,6 +103,7 @@ abbrev pub wish_of : Task → Wish
 wish_of (Replay limit fuse) = Replaying limit fuse
 wish_of (Rehearse name limit) = Rehearsing name limit
 wish_of (Inspect file) = Inspecting (string_bytes file)
+wish_of (InspectFiles inspection) = InspectingFiles (inspection_in_plain inspection)
 wish_of (Serve server) = Serving (record {
   listen = server.listen;
   folder = string_bytes server.folder;
@@ -195,7 +198,11 @@ IsWishOf (Some command) (Rehearsing name limit) =
     (command.0 ≡ codes "rehearse") × GivesName (first_of (codes "name") command.1) name
     × GivesLimit (first_of (codes "limit") command.1) limit
 IsWishOf (Some command) (Inspecting path) =
-    (command.0 ≡ codes "inspect") × (first_of (codes "file") command.1 ≡ Some path)
+    (command.0 ≡ codes "inspect")
+    × GivesInspection command.1 (record { files = path ∷ []; json = false })
+IsWishOf (Some command) (InspectingFiles inspection) =
+    (command.0 ≡ codes "inspect") × GivesInspection command.1 inspection
+    × (is_alone inspection.files inspection.json ≡ false)
 IsWishOf (Some command) (Serving server) =
     (command.0 ≡ codes "serve") × GivesServer (given_on_line command.1) server
 IsWishOf (Some command) (Sending sender) =
@@ -216,6 +223,7 @@ abbrev pub HasPath : Wish → Type 0
 HasPath (Replaying limit fuse) = ⊥
 HasPath (Rehearsing name limit) = ⊥
 HasPath (Inspecting path) = ⊤
+HasPath (InspectingFiles inspection) = ⊤
 HasPath (Serving server) = ⊤
 HasPath (Sending sender) = ⊥
 HasPath (Uploading sender) = ⊤
@@ -344,6 +352,7 @@ abbrev pub HasNumbersInRange : CommandLine → Type 0
 HasNumbersInRange (Run (Replay limit fuse)) = IsLimitValue limit
 HasNumbersInRange (Run (Rehearse name limit)) = IsLimitValue limit
 HasNumbersInRange (Run (Inspect file)) = ⊤
+HasNumbersInRange (Run (InspectFiles inspection)) = ⊤
 HasNumbersInRange (Run (Serve server)) = (0 < socket_port server.listen) × IsEndWithin server.end
     × IsLimitValue server.limit × IsWayWithin server.recorders
 HasNumbersInRange (Run (Send sender)) = (0 < socket_port sender.connect)

@@ -2,11 +2,12 @@
 ghost use Rattle.std.specs.Prelude.{◌≡◌, codes, Some, IfOk, OnErr};
 ghost use Rattle.clap.specs.Simple.{new_app};
 ghost use Rattle.clap.specs.Words.{app_of, first_value, found_of, rows_of, subcommand_rows_of};
-ghost use Rattle.bw_args.specs.Commands.{IsCommand, command_line, inspect_command, offline, program};
+ghost use Rattle.bw_args.specs.Commands.{IsCommand, command_line, offline, program};
 ghost use Rattle.bw_args.specs.Commands.{rehearse_command, replay_command};
 ghost use Rattle.bw_args.specs.Lines.{AsksForPath, IsFuseGiven, IsLimitGiven, IsLineFor};
 ghost use Rattle.bw_args.specs.Lines.{IsNameGiven};
 
+mod inspecting;
 mod network;
 mod options;
 mod packing;
@@ -18,7 +19,7 @@ mod sources;
 use crate::{BadValue, CommandLine, Task, numbers};
 use bw_request::Name;
 use clap::{ArgMatches, Command};
-use options::{file_argument, fuse_option, limit_option, name_option};
+use options::{fuse_option, limit_option, name_option};
 use std::alloc::{AllocError, Global};
 
 /// A text that is no number of the kind wanted.
@@ -41,7 +42,7 @@ fn offline<'a>(alloc: Global) -> Result<Command<'a>, AllocError>
     program(alloc)?
         .subcommand(replay(alloc)?)?
         .subcommand(rehearse(alloc)?)?
-        .subcommand(inspect(alloc)?)?
+        .subcommand(inspecting::inspect(alloc)?)?
         .subcommand(packing::pack(alloc)?)
 }
 
@@ -88,17 +89,6 @@ fn rehearse<'a>(alloc: Global) -> Result<Command<'a>, AllocError>
     .arg(limit_option(alloc))
 }
 
-fn inspect<'a>(alloc: Global) -> Result<Command<'a>, AllocError>
-    ensures { IfOk result (IsCommand inspect_command) }
-{
-    named(
-        alloc,
-        "inspect",
-        "Tells what is in a file, or its first fault and where that is",
-    )
-    .arg(file_argument(alloc))
-}
-
 /// What parsed words result in. Only paths and settings take memory, so that a bad value is
 /// reported however little is left.
 pub fn line(alloc: Global, matches: &ArgMatches<'_>) -> Result<CommandLine, AllocError>
@@ -108,7 +98,7 @@ pub fn line(alloc: Global, matches: &ArgMatches<'_>) -> Result<CommandLine, Allo
     match matches.subcommand() {
         Some(("replay", options)) => Ok(replay_line(options)),
         Some(("rehearse", options)) => Ok(rehearse_line(options)),
-        Some(("inspect", options)) => inspect_line(alloc, options),
+        Some(("inspect", options)) => inspecting::inspect_line(alloc, options),
         Some(("serve", options)) => serving::serve_line(alloc, options),
         Some(("send", options)) => sending::send_line(alloc, options),
         Some(("pack", options)) => packing::pack_line(alloc, options),
@@ -141,19 +131,6 @@ fn rehearse_line(options: &ArgMatches<'_>) -> CommandLine
         Some(limit) => CommandLine::Run(Task::Rehearse { name, limit }),
         None => CommandLine::BadValue(BadValue::Limit),
     }
-}
-
-fn inspect_line(alloc: Global, options: &ArgMatches<'_>) -> Result<CommandLine, AllocError>
-    ensures ok { IfOk result (IsLineFor (Some (codes "inspect", rows_of (found_of options.now)))) }
-    ensures err { OnErr result
-        (AsksForPath (Some (codes "inspect", rows_of (found_of options.now)))) }
-{
-    // `clap` refuses words without the file.
-    let Some(path) = options.get_str("file") else {
-        return Ok(CommandLine::BadValue(BadValue::Limit));
-    };
-    let file = String::from_str(alloc, path)?;
-    Ok(CommandLine::Run(Task::Inspect { file }))
 }
 
 /// The name that the options give; none if it is malformed.

@@ -13,6 +13,7 @@ ghost use Rattle.bw_args.specs.PcmForms.{RefusesSamples, RunsPcmSender};
 mod addresses;
 mod bad_value;
 mod commands;
+mod inspection;
 pub mod numbers;
 mod peers;
 mod read_words;
@@ -22,6 +23,7 @@ pub use bad_value::BadValue;
 use bw_request::Name;
 use clap::Error;
 use clap::error::ErrorKind;
+pub use inspection::Inspection;
 pub use peers::{End, Journaling, Recorders, Send, Serve};
 pub use recordings::{FileSender, PcmSender, PcmSource, SourceFile};
 use std::alloc::{AllocError, Global};
@@ -38,6 +40,8 @@ pub enum Task {
     Rehearse { name: Name, limit: u64 },
     /// Report what is in the file at this path.
     Inspect { file: String },
+    /// Report what is in several files, or in a way of its own.
+    InspectFiles(Inspection),
     /// Serve exchanges over TCP.
     Serve(Serve),
     /// Send the requests on standard input to a server.
@@ -64,9 +68,10 @@ pub enum CommandLine {
 /// Parses a command line, whose first word is the program's own name.
 ///
 /// Which words run a task, and of what kind an error is, follows from `clap`'s own contract
-/// (`line`). In plain terms the contract says of thirty-nine forms that they run (`replay`,
+/// (`line`). In plain terms the contract says of forty-two forms that they run (`replay`,
 /// `rehearse`, `inspect`, `serve`, `send`, `send_pcm`), of twenty-nine which value is a fault
-/// (`values`, `peers`, `samples`) and of thirteen what they print (`help`, `rehearse`, `inspect`, `wanted`). Examples
+/// (`values`, `peers`, `samples`) and of twelve what they print (`help`, `rehearse`, `inspect`,
+/// `wanted`). Examples
 /// test that options may be given in all their forms and orders, and that all else is refused,
 /// except `--` at the end or before a file.
 ///

@@ -16,8 +16,8 @@ use Rattle.bw_cli.specs.Sides.{HostSide, SenderSide, ServerSide, UploadSide}
 use Rattle.bw_cli.specs.declared.outside.Outside.{Outside}
 use Rattle.bw_args.specs.declared.CommandLine.{CommandLine}
 use Rattle.bw_args.specs.declared.CommandLine.TheVariants.{Run, BadValue as Bad, Report}
-use Rattle.bw_args.specs.declared.Task.TheVariants.{Replay, Inspect, Rehearse, Serve, Send}
-use Rattle.bw_args.specs.declared.Task.TheVariants.{SendFile, SendPcm, Pack}
+use Rattle.bw_args.specs.declared.Task.TheVariants.{Replay, Inspect, Rehearse, Serve, Send, SendFile, SendPcm}
+use Rattle.bw_args.specs.declared.Task.TheVariants.{Pack, InspectFiles}
 use Rattle.bw_cli.specs.Programs.{DoesAlone, IsDoneFor, IsProgram, IsReporting, IsUnread}
 use Rattle.bw_console.specs.declared.exit.Exit.{Exit}
 use Rattle.bw_console.specs.declared.exit.Exit.TheVariants as exits
@@ -82,6 +82,7 @@ module _ {S T F H G M N X Y Z P R W L K D A B U J Q I O E V C : Type 0} (host : 
       done_for (Run (Replay limit fuse)) done = record { does = done.does; unused = done.unused; unread = done.unread; unpaused = done.unpaused }
       done_for (Run (Rehearse name limit)) done = record { does = done.does; unused = done.unused; unread = done.unread; unpaused = done.unpaused }
       done_for (Run (Inspect file)) done = record { does = done.does; unused = done.unused; unread = done.unread; unpaused = done.unpaused }
+      done_for (Run (InspectFiles inspection)) done = done
       done_for (Run (Serve server)) done = done
       done_for (Run (Send sender)) done = done
       done_for (Run (SendFile sender)) done = done

@@ -1,3 +1,4 @@
+pub mod Inspected
 pub mod Programs
 pub mod Remote
 pub mod Packed

@@ -11,8 +11,8 @@ use Rattle.bw_args.specs.BadValues.{text_of}
 use Rattle.bw_args.specs.declared.CommandLine.{CommandLine}
 use Rattle.bw_args.specs.declared.CommandLine.TheVariants.{Run, BadValue as Bad, Report}
 use Rattle.bw_args.specs.declared.Task.{Task}
-use Rattle.bw_args.specs.declared.Task.TheVariants.{Replay, Inspect, Rehearse, Serve, Send}
-use Rattle.bw_args.specs.declared.Task.TheVariants.{SendFile, SendPcm, Pack}
+use Rattle.bw_args.specs.declared.Task.TheVariants.{Replay, Inspect, Rehearse, Serve, Send, SendFile, SendPcm}
+use Rattle.bw_args.specs.declared.Task.TheVariants.{Pack, InspectFiles}
 use Rattle.bw_console.specs.Outcomes.{Outcome, Does, IsOutOfMemory}
 use Rattle.bw_commands.specs.Replays.{IsReplay}
 use Rattle.bw_console.specs.Faults.{IsReportedBy, exit_of}
@@ -28,6 +28,7 @@ use Rattle.bw_ports.specs.declared.network.Network.{Ghosts as NetworkGhosts}
 use Rattle.bw_ports.specs.declared.listener_setup.ListenerSetup.{Ghosts as ListenerSetupGhosts}
 use Rattle.bw_ports.specs.declared.starts.Starts.{Ghosts as StartGhosts}
 use Rattle.bw_session.specs.declared.server.Server.{Server}
+use Rattle.bw_cli.specs.Inspected.{InspectsFiles}
 use Rattle.bw_cli.specs.Packed.{Packs}
 use Rattle.bw_cli.specs.Remote.{Sends, ServesByRule}
 use Rattle.bw_cli.specs.PcmUploads.{SendsPcm}
@@ -75,6 +76,7 @@ IsTaskDone file_at input (Inspect file) gives_all did =
     IsLook (file_at (string_bytes file)) (string_bytes file) gives_all did
 IsTaskDone file_at input (Rehearse name limit) gives_all did =
     IsRehearsal name limit input did × (gives_all ≡ true)
+IsTaskDone file_at input (InspectFiles inspection) gives_all did = ⊥
 IsTaskDone file_at input (Serve server) gives_all did = ⊥
 IsTaskDone file_at input (Send sender) gives_all did = ⊥
 IsTaskDone file_at input (SendFile sender) gives_all did = ⊥
@@ -137,6 +139,11 @@ module _ {S T F H G M N X Y Z P R W L K D A B U J Q I O E V C : Type 0} (host : 
       × IsHostWell failed x' × (x'.network ≡ x.network) × (x'.input ≡ x.input)
   IsDoneFor file_at failed (Run (Pack source)) exit x x' =
       Packs host.out host.reported (host.files.file_at x.files) source exit
+      (host.files.failures x.files) (host.files.failures x'.files) x.out x'.out x.faults x'.faults
+      × IsHostWell failed x' × (x'.network ≡ x.network) × (x'.input ≡ x.input)
+      × (x'.pause ≡ x.pause)
+  IsDoneFor file_at failed (Run (InspectFiles inspection)) exit x x' =
+      InspectsFiles host.out host.reported (host.files.file_at x.files) inspection exit
       (host.files.failures x.files) (host.files.failures x'.files) x.out x'.out x.faults x'.faults
       × IsHostWell failed x' × (x'.network ≡ x.network) × (x'.input ≡ x.input)
       × (x'.pause ≡ x.pause)

@@ -1,6 +1,7 @@
 //! The program `bwingest`: its commands, over standard input and output.
 #![tactic(auto)]
 
+mod inspections;
 mod outside;
 pub mod program;
 mod recordings;

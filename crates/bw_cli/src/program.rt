@@ -10,6 +10,7 @@ ghost use Rattle.bw_send_file.specs.FileLooks.{LooksAt};
 ghost use Rattle.bw_cli.specs.Programs.{IsDoneFor, IsProgram, IsReporting};
 ghost use Rattle.bw_cli.specs.Sides.{host_side, sender_side, server_side, upload_side};
 
+use crate::inspections::inspect_as;
 use crate::outside::Outside;
 use crate::recordings::pack_as;
 use crate::remote::{send_as, serve_as};
@@ -192,6 +193,7 @@ fn run<
             (None, _) => unreachable!(),
         },
         Task::Inspect { file } => inspect_file(alloc, system, file.as_str(), out, faults),
+        Task::InspectFiles(inspection) => inspect_as(alloc, inspection, files, out, faults),
         Task::Rehearse { name, limit } => match Limit::new(*limit) {
             Some(limit) => rehearse_run(alloc, name.copy(), limit, input, out, faults),
             None => unreachable!(),

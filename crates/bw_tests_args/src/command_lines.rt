@@ -92,7 +92,27 @@ static LINES: [Line; 46] = [
     (&["bwingest", "inspect"], Outcome::Refuses),
     (&["bwingest", "inspect", "--"], Outcome::Refuses),
     (&["bwingest", "inspect", "-x"], Outcome::Refuses),
-    (&["bwingest", "inspect", "a.wav", "b.wav"], Outcome::Refuses),
+    (
+        &["bwingest", "inspect", "a.wav", "b.wav"],
+        Outcome::InspectsFiles(2, false),
+    ),
+    (
+        &["bwingest", "inspect", "a.wav", "--json", "--", "-b", "c"],
+        Outcome::InspectsFiles(3, true),
+    ),
+    (
+        &["bwingest", "inspect", "--json", "a.wav"],
+        Outcome::InspectsFiles(1, true),
+    ),
+    (&["bwingest", "inspect", "--json"], Outcome::Refuses),
+    (
+        &["bwingest", "inspect", "--json", "--json", "a.wav"],
+        Outcome::Refuses,
+    ),
+    (
+        &["bwingest", "inspect", "--json=1", "a.wav"],
+        Outcome::Refuses,
+    ),
     (
         &["bwingest", "inspect", "--limit", "8192", "a.wav"],
         Outcome::Refuses,
@@ -577,7 +597,7 @@ static TEXTS: [(&[&str], &str); 13] = [
         &["/tmp/x", "replay", "--help"],
         "Usage: bwingest replay [OPTIONS]\n",
     ),
-    (&["/tmp/x", "inspect"], "Usage: bwingest inspect <FILE>\n"),
+    (&["/tmp/x", "inspect"], "Usage: bwingest inspect <FILE>...\n"),
     (
         &["/tmp/x", "serve", "--help"],
         "Example: bwingest serve --listen 127.0.0.1:4100 --folder takes --recorders 16 --journal\n",

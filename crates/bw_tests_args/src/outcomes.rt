@@ -19,6 +19,8 @@ pub(crate) enum Outcome {
     Rehearses(u64),
     /// Inspects the file that the last word names.
     Inspects,
+    /// Inspects so many files, in JSON or not.
+    InspectsFiles(usize, bool),
     /// Serves at the address and in the folder that the rows' first words give: until this end, with
     /// this limit, recorders in this way.
     Serves(End, u64, Recorders),
@@ -91,6 +93,7 @@ fn run_outcome(task: &Task, words: &[&str]) -> Outcome {
         Task::Rehearse { .. } => Outcome::Confuses,
         Task::Inspect { file } if words.last() == Some(&file.as_str()) => Outcome::Inspects,
         Task::Inspect { .. } => Outcome::Confuses,
+        Task::InspectFiles(asked) => Outcome::InspectsFiles(asked.files.len(), asked.json),
         Task::Serve(server) => server_outcome(server),
         Task::Send(sender) => sender_outcome(sender),
         Task::SendFile(sender) => file_sender_outcome(sender),

@@ -5,9 +5,8 @@ ghost use Rattle.bw_args.specs.Commands.{limit_option, listen_option, log_flag, 
 ghost use Rattle.bw_args.specs.Commands.{network_flag, one_name_flag, option, recorders_option, required};
 ghost use Rattle.bw_args.specs.Commands.{file_option, fruitless_option, journal_flag, repeated};
 ghost use Rattle.bw_args.specs.Commands.{rounds_option, set_option, strict_flag, sync_flag};
-ghost use Rattle.bw_args.specs.Commands.{timeout_option, until_stopped_flag};
-ghost use Rattle.bw_args.specs.Commands.{block_option, follow_flag, pcm_option, skip_option};
-ghost use Rattle.bw_args.specs.Commands.{until_option};
+ghost use Rattle.bw_args.specs.Commands.{timeout_option, until_stopped_flag, block_option, follow_flag};
+ghost use Rattle.bw_args.specs.Commands.{pcm_option, skip_option, until_option, files_argument, json_flag};
 
 use clap::{Arg, ArgAction};
 use std::alloc::Global;
@@ -77,6 +76,20 @@ pub(crate) fn file_argument<'a>(alloc: Global) -> Arg<'a>
         .value_name("FILE")
         .required(true)
         .help("A RIFF WAVE, BW64 or RF64 file")
+}
+
+/// The files of `inspect`, at least one.
+pub(crate) fn files_argument<'a>(alloc: Global) -> Arg<'a>
+    ensures { IsOption files_argument result }
+{
+    file_argument(alloc).action(ArgAction::Append)
+}
+
+pub(crate) fn json_flag<'a>(alloc: Global) -> Arg<'a>
+    ensures { IsOption json_flag result }
+{
+    let help = "Prints a line of JSON for each file";
+    flag_option(alloc, "json", help)
 }
 
 pub(crate) fn timeout_option<'a>(alloc: Global) -> Arg<'a>

@@ -39,7 +39,7 @@ fn settings_given(alloc: Global, options: &ArgMatches<'_>) -> Result<Vec<String>
 }
 
 /// A copy of each text.
-fn copies_of(alloc: Global, texts: &[&str]) -> Result<Vec<String>, AllocError>
+pub(crate) fn copies_of(alloc: Global, texts: &[&str]) -> Result<Vec<String>, AllocError>
     ensures { IfOk result (λ copies.
         map string_bytes copies.items ≡ map (λ text. text.now) texts.now) }
 {

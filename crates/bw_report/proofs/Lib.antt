@@ -1,0 +1,3 @@
+mod Utf8Texts
+pub mod JsonShapes
+pub mod LookLemmas

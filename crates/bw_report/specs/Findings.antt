@@ -1,0 +1,35 @@
+-- What is found in the bytes of a file, and how a command ends by it.
+use Rattle.std.specs.Prelude.{◌≡◌, ⊤, List, ℕ, Some, nat_lt, if◌then◌else◌}
+use Rattle.bw_model.specs.Reading.{Fault, IsFault}
+use Rattle.bw_model.specs.Report.{report_of}
+use Rattle.bw_inspect.specs.Faults.{bytes_fault}
+use Rattle.bw_inspect.specs.Readings.{HasReading}
+use Rattle.bw_inspect.specs.Reports.{reported_by}
+use Rattle.bw_inspect.specs.declared.report.Report.{Report}
+use Rattle.bw_commands.specs.Inspections.{exit_for_fault}
+use Rattle.bw_console.specs.Exits.{status_of}
+use Rattle.bw_console.specs.declared.exit.Exit.{Exit}
+use Rattle.bw_console.specs.declared.exit.Exit.TheVariants.{Done}
+use Rattle.bw_report.specs.declared.found.Found.{Found}
+use Rattle.bw_report.specs.declared.found.Found.TheVariants.{Read, Faulty, Unopened}
+
+-- the bytes have a reading, and this is its report
+pub record IsReportIn (b : List ℕ) (r : Report) : Type 0 where
+  pub reading_is : HasReading b
+  pub is : reported_by r ≡ report_of b reading_is.form reading_is.entries
+
+-- this is found in the bytes: a fault of the bytes is their first
+abbrev pub IsFoundInBytes : List ℕ → Found → Type 0
+IsFoundInBytes b (Read r digest) = IsReportIn b r
+IsFoundInBytes b (Faulty f) = (met : Fault) → bytes_fault f ≡ Some met → IsFault b met
+IsFoundInBytes b (Unopened exit) = ⊤
+
+-- how a command ends by this file
+abbrev pub exit_of_found : Found → Exit
+exit_of_found (Read r digest) = Done
+exit_of_found (Faulty f) = exit_for_fault f.kind
+exit_of_found (Unopened exit) = exit
+
+-- the one of the higher status
+abbrev pub worse : Exit → Exit → Exit
+worse one other = if nat_lt (status_of one) (status_of other) then other else one

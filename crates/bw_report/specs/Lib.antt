@@ -1,0 +1,6 @@
+pub mod Times
+pub mod Values
+pub mod Objects
+pub mod Findings
+pub mod Entries
+pub mod FileLooks

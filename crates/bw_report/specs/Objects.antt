@@ -1,0 +1,156 @@
+-- A report as JSON. The members of an object stand in the order of their keys, as they are printed.
+use Rattle.std.specs.Prelude.{ℕ, ◌==◌, not, List, [], ◌∷◌, map, take_while, slice_index}
+use Rattle.std.specs.Prelude.{slice_index_or, Option, Some, None, codes, true, false}
+use Rattle.bw_model.specs.Reading.{Entry}
+use Rattle.bw_model.specs.Report.{RawFmt, RawBext, RawCue, Report, frames_of}
+use Rattle.serde_json.specs.Data.{Data, null, boolean, string, array, object, Members, no_members}
+use Rattle.serde_json.specs.Data.{member, put}
+use Rattle.serde_json.specs.View.{items_of}
+use Rattle.bw_report.specs.Times.{milliseconds}
+use Rattle.bw_report.specs.Values.{hex_data, hex_or_null, level_data, number_data, number_or_null}
+use Rattle.bw_report.specs.Values.{text_data, with_text}
+
+-- a chunk as it is listed
+abbrev pub chunk_data : Entry → Data
+chunk_data e = object
+    (member (codes "at") (number_data e.place)
+    (member (codes "id") (text_data e.id)
+    (member (codes "id_hex") (hex_data e.id)
+    (member (codes "size") (number_data e.size) no_members))))
+
+-- the `fmt ` chunk
+abbrev pub fmt_data : RawFmt → Data
+fmt_data f = object
+    (member (codes "align") (number_data f.align)
+    (member (codes "bits") (number_data f.bits)
+    (member (codes "bytes") (number_data f.bytes_per_second)
+    (member (codes "channels") (number_data f.channels)
+    (member (codes "rate") (number_data f.rate)
+    (member (codes "tag") (number_data f.tag) no_members))))))
+
+-- the samples: where they begin, their bytes, whole frames and milliseconds
+abbrev pub samples_data : ℕ → ℕ → RawFmt → Data
+samples_data place size f = object
+    (member (codes "at") (number_data place)
+    (member (codes "bytes") (number_data size)
+    (member (codes "frames") (number_data (frames_of size f.align))
+    (member (codes "ms") (number_or_null (milliseconds (frames_of size f.align) f.rate))
+    no_members))))
+
+-- a cue point, its time by its sample's offset, at this rate
+abbrev pub cue_data : ℕ → RawCue → Data
+cue_data rate c = object
+    (member (codes "id") (number_data c.id)
+    (member (codes "ms") (number_or_null (milliseconds c.offset rate))
+    (member (codes "offset") (number_data c.offset)
+    (member (codes "position") (number_data c.position) no_members))))
+
+-- the five levels, in hundredths; null if the version has none
+abbrev pub loudness_data : List ℕ → Data
+loudness_data [] = null
+loudness_data (n ∷ ns) = object
+    (member (codes "momentary") (level_data (slice_index (n ∷ ns) 3))
+    (member (codes "peak") (level_data (slice_index (n ∷ ns) 2))
+    (member (codes "range") (level_data (slice_index (n ∷ ns) 1))
+    (member (codes "short") (level_data (slice_index (n ∷ ns) 4))
+    (member (codes "value") (level_data (slice_index (n ∷ ns) 0)) no_members)))))
+
+-- a text of `bext`, before its first zero byte: 0 is the description, 1 the originator, 2 its
+-- reference, 3 the date, 4 the clock
+abbrev pub bext_text : RawBext → ℕ → List ℕ
+bext_text b i = take_while (λ c. not (c == 0)) (slice_index_or b.texts i [])
+
+-- members with the five texts
+abbrev pub with_texts : RawBext → Members → Members
+with_texts b members =
+    with_text (codes "clock") (codes "clock_hex") (bext_text b 4)
+    (with_text (codes "date") (codes "date_hex") (bext_text b 3)
+    (with_text (codes "reference") (codes "reference_hex") (bext_text b 2)
+    (with_text (codes "originator") (codes "originator_hex") (bext_text b 1)
+    (with_text (codes "description") (codes "description_hex") (bext_text b 0) members))))
+
+-- members with the time reference, in samples and as a time of day in milliseconds at this rate
+abbrev pub with_times : ℕ → RawBext → Members → Members
+with_times rate b members =
+    put (codes "time_of_day") (number_or_null (milliseconds b.time rate))
+    (put (codes "time") (number_data b.time) members)
+
+-- members with what is neither text nor time
+abbrev pub with_others : RawBext × ℕ → Members → Members
+with_others b members =
+    put (codes "version") (number_data b.0.version)
+    (put (codes "umid") (hex_data b.0.umid)
+    (put (codes "loudness") (loudness_data b.0.loudness)
+    (put (codes "history") (number_data b.1) members)))
+
+-- a `bext` chunk: its fields, its history's length, and the time of day of its time reference, in
+-- milliseconds at this rate
+abbrev pub bext_data : ℕ → RawBext × ℕ → Data
+bext_data rate b = object
+    (member (codes "clock") (text_data (bext_text b.0 4))
+    (member (codes "clock_hex") (hex_data (bext_text b.0 4))
+    (member (codes "date") (text_data (bext_text b.0 3))
+    (member (codes "date_hex") (hex_data (bext_text b.0 3))
+    (member (codes "description") (text_data (bext_text b.0 0))
+    (member (codes "description_hex") (hex_data (bext_text b.0 0))
+    (member (codes "history") (number_data b.1)
+    (member (codes "loudness") (loudness_data b.0.loudness)
+    (member (codes "originator") (text_data (bext_text b.0 1))
+    (member (codes "originator_hex") (hex_data (bext_text b.0 1))
+    (member (codes "reference") (text_data (bext_text b.0 2))
+    (member (codes "reference_hex") (hex_data (bext_text b.0 2))
+    (member (codes "time") (number_data b.0.time)
+    (member (codes "time_of_day") (number_or_null (milliseconds b.0.time rate))
+    (member (codes "umid") (hex_data b.0.umid)
+    (member (codes "version") (number_data b.0.version) no_members))))))))))))))))
+
+-- the same, or null
+abbrev pub bext_or_null : ℕ → Option (RawBext × ℕ) → Data
+bext_or_null rate None = null
+bext_or_null rate (Some b) = bext_data rate b
+
+-- what is in a file, under its name
+abbrev pub contents_data : List ℕ → ℕ → Data → Data → Data → Data → Data → Data → Data → Data → Data
+contents_data name size bext chunks cues samples fmt form form_hex sha256 = object
+    (member (codes "at") null
+    (member (codes "bext") bext
+    (member (codes "chunks") chunks
+    (member (codes "cues") cues
+    (member (codes "data") samples
+    (member (codes "fault") null
+    (member (codes "file") (string name)
+    (member (codes "fmt") fmt
+    (member (codes "form") form
+    (member (codes "form_hex") form_hex
+    (member (codes "ok") (boolean true)
+    (member (codes "sha256") sha256
+    (member (codes "size") (number_data size) no_members)))))))))))))
+
+-- the file of a name that has this report, with the SHA-256 of its samples, if that is given
+abbrev pub report_data : List ℕ → Option (List ℕ) → Report → Data
+report_data name digest r = contents_data name r.size
+    (bext_or_null r.fmt.rate r.bext)
+    (array (items_of (map chunk_data r.chunks)))
+    (array (items_of (map (cue_data r.fmt.rate) r.cues)))
+    (samples_data r.data_at r.data_size r.fmt)
+    (fmt_data r.fmt)
+    (text_data r.form)
+    (hex_data r.form)
+    (hex_or_null digest)
+
+-- the file of a name that has none, for a fault of this name, which was met at a place
+abbrev pub fault_data : List ℕ → List ℕ → Option ℕ → Data
+fault_data name fault place = object
+    (member (codes "at") (number_or_null place)
+    (member (codes "bext") null
+    (member (codes "chunks") null
+    (member (codes "cues") null
+    (member (codes "data") null
+    (member (codes "fault") (string fault)
+    (member (codes "file") (string name)
+    (member (codes "fmt") null
+    (member (codes "form") null
+    (member (codes "form_hex") null
+    (member (codes "ok") (boolean false)
+    (member (codes "sha256") null
+    (member (codes "size") null no_members)))))))))))))

@@ -1,0 +1,98 @@
+//! Files one after another, each with its entry.
+ghost use Rattle.std.specs.Prelude.{◌≡◌, map, string_bytes, Result};
+ghost use Rattle.bw_console.specs.Printing.{IsPrint, Print};
+ghost use Rattle.bw_commands.specs.Inspections.{IsPrintOfText};
+ghost use Rattle.bw_report.specs.Entries.{entry_text};
+ghost use Rattle.bw_report.specs.FileLooks.{IsFoundAt, AreInspected, Look};
+
+use crate::entry::{Style, entry_of};
+use crate::exits::worse;
+use crate::found::Found;
+use bw_console::print::{give_up, print};
+use bw_console::{Exit, Fault, report_unopened};
+use bw_inspect::inspect;
+use bw_ports::RecordingFiles;
+use bw_stream::Sink;
+use std::alloc::Global;
+
+/// Reports what is in the files at these paths, in their order: an entry for each. A file that has
+/// a fault, or can't be opened, has an entry too, and the next one is looked at; why a file can't
+/// be opened is a line on `faults`.
+///
+/// It ends as the file does whose status is the highest: `Done`, `Refused` for a fault, `Device` if
+/// a file can't be opened or read, `Memory` if memory was refused. If an entry can't be made or
+/// printed, no later file is looked at, and a line on `faults` says why. A failure to write to
+/// `faults` is ignored.
+///
+/// # Not specified
+/// - When memory is refused, and when the system fails.
+/// - Over `HostRecordings`, which bytes the reports are of.
+/// - Whether the readers, which are dropped, counted failed reads.
+pub fn inspect_files<F: RecordingFiles, W: Sink, E: Sink>(
+    alloc: Global,
+    files: &mut F,
+    paths: &[String],
+    style: Style,
+    out: &mut W,
+    faults: &mut E,
+) -> Exit
+    ensures { AreInspected W.Sink E.Sink (F.file_at files.old) (map string_bytes paths.now) style
+        result (F.failures files.old) (F.failures files.new) out.old out.new faults.old faults.new }
+{
+    let mut worst = Exit::Done;
+    for path in paths {
+        let found = look(alloc, files, path.as_str(), faults);
+        worst = worse(worst, found.exit());
+        match print_entry(alloc, style, path.as_str(), &found, out) {
+            Ok(()) => {}
+            Err(fault) => return worse(worst, give_up(faults, &fault)),
+        }
+    }
+    worst
+}
+
+/// Looks at the file at a path, and reports why it can't be opened.
+fn look<F: RecordingFiles, E: Sink>(
+    alloc: Global,
+    files: &mut F,
+    path: &str,
+    faults: &mut E,
+) -> Found
+    ensures files { F.file_at files.new ≡ F.file_at files.old }
+    ensures found { IsFoundAt E.Sink (F.file_at files.old) path.now result
+        (F.failures files.old) (F.failures files.new) faults.old faults.new }
+{
+    match files.open(path) {
+        Ok(mut file) => match inspect(alloc, &mut file) {
+            Ok(report) => Found::Read {
+                report,
+                digest: None,
+            },
+            Err(fault) => Found::Faulty(fault),
+        },
+        Err(error) => Found::Unopened(report_unopened(alloc, path, &error, faults)),
+    }
+}
+
+/// Prints the entry of what is found under a name.
+///
+/// # Errors
+/// Memory, Unwritable.
+fn print_entry<W: Sink>(
+    alloc: Global,
+    style: Style,
+    name: &str,
+    found: &Found,
+    out: &mut W,
+) -> Result<(), Fault>
+    ensures { (print : Print) × IsPrintOfText (entry_text style name.now found.now) result print
+        × IsPrint W.Sink print out.old out.new }
+{
+    let Ok(text) = entry_of(alloc, style, name, found) else {
+        return Err(Fault::Memory);
+    };
+    match print(out, text.as_slice()) {
+        Ok(()) => Ok(()),
+        Err(_) => Err(Fault::Unwritable),
+    }
+}

@@ -1,0 +1,119 @@
+"""What `inspect --json` prints of a WAVE file, as a reader of its own finds it (docs/FORMATS.md, BS.2088, Tech 3306)."""
+import hashlib
+
+NOT_GIVEN = 0x7FFF
+UNSAID = 0xFFFFFFFF
+TEXTS = (("description", 0, 256), ("originator", 256, 32), ("reference", 288, 32), ("date", 320, 10), ("clock", 330, 8))
+LEVELS = ("value", "range", "peak", "momentary", "short")
+KEYS = ("at", "bext", "chunks", "cues", "data", "fault", "file", "fmt", "form", "form_hex", "ok", "sha256", "size")
+
+
+def number(file, at, length):
+    return int.from_bytes(file[at : at + length], "little")
+
+
+def text_of(bytes_):
+    """A string, or None for what isn't UTF-8."""
+    try:
+        return bytes_.decode()
+    except UnicodeDecodeError:
+        return None
+
+
+def milliseconds(frames, rate):
+    return frames * 1_000 // rate if rate and frames * 1_000 // rate < 1 << 64 else None
+
+
+def chunks_of(file):
+    """Each chunk's id, the place of its head and the size of its content, and the form's size."""
+    wide = file[:4] != b"RIFF"
+    sizes = {}
+    size = number(file, 4, 4)
+    if wide:
+        size = number(file, 20, 8) if size == UNSAID else size
+        sizes[b"data"] = number(file, 28, 8)
+        for entry in range(number(file, 44, 4)):
+            sizes.setdefault(file[48 + 12 * entry : 52 + 12 * entry], number(file, 52 + 12 * entry, 8))
+    found, at = [], 12
+    while at + 8 <= 8 + size:
+        name, length = file[at : at + 4], number(file, at + 4, 4)
+        length = sizes[name] if length == UNSAID else length
+        found.append((name, at, length))
+        at += 8 + length + length % 2
+    return found, size
+
+
+def fmt_of(content):
+    keys = (("tag", 2), ("channels", 2), ("rate", 4), ("bytes", 4), ("align", 2), ("bits", 2))
+    found, at = {}, 0
+    for key, width in keys:
+        found[key] = number(content, at, width)
+        at += width
+    return found
+
+
+def level_of(bits):
+    return None if bits == NOT_GIVEN else bits - (bits >> 15 << 16)
+
+
+def bext_of(content, rate):
+    found = {}
+    for key, at, width in TEXTS:
+        text = content[at : at + width].split(b"\0")[0]
+        found[key], found[key + "_hex"] = text_of(text), text.hex()
+    time, version = number(content, 338, 8), number(content, 346, 2)
+    levels = {key: level_of(number(content, 412 + 2 * at, 2)) for at, key in enumerate(LEVELS)}
+    return found | {
+        "history": len(content) - 602,
+        "loudness": levels if version >= 2 else None,
+        "time": time,
+        "time_of_day": milliseconds(time, rate),
+        "umid": content[348:412].hex(),
+        "version": version,
+    }
+
+
+def cues_of(content, rate):
+    found = []
+    for at in range(4, 4 + 24 * number(content, 0, 4), 24):
+        offset = number(content, at + 20, 4)
+        found.append(
+            {
+                "id": number(content, at, 4),
+                "position": number(content, at + 4, 4),
+                "offset": offset,
+                "ms": milliseconds(offset, rate),
+            }
+        )
+    return found
+
+
+def report(name, file, digest=False):
+    """The object of a file without a fault."""
+    chunks, size = chunks_of(file)
+    contents = {}
+    for chunk, at, length in chunks:
+        contents.setdefault(chunk, (at + 8, file[at + 8 : at + 8 + length]))
+    fmt = fmt_of(contents[b"fmt "][1])
+    place, samples = contents[b"data"]
+    frames = len(samples) // fmt["align"] if fmt["align"] else 0
+    return {
+        "file": name,
+        "ok": True,
+        "fault": None,
+        "at": None,
+        "form": text_of(file[:4]),
+        "form_hex": file[:4].hex(),
+        "size": size,
+        "chunks": [{"id": text_of(i), "id_hex": i.hex(), "at": at, "size": length} for i, at, length in chunks],
+        "fmt": fmt,
+        "data": {"at": place, "bytes": len(samples), "frames": frames, "ms": milliseconds(frames, fmt["rate"])},
+        "bext": bext_of(contents[b"bext"][1], fmt["rate"]) if b"bext" in contents else None,
+        "cues": cues_of(contents[b"cue "][1], fmt["rate"]) if b"cue " in contents else [],
+        "sha256": hashlib.sha256(samples).hexdigest() if digest else None,
+    }
+
+
+def fault(name, kind, at):
+    """The object of a file that has a fault, or can't be opened."""
+    return dict.fromkeys(KEYS) | {"file": name, "ok": False, "fault": kind, "at": at}
