@@ -15,14 +15,14 @@ use Rattle.bw_args.specs.Sources.{GivesSource, PlainSource, is_mixed, settings_o
 use Rattle.bw_args.specs.Lines.{AsksNothing, GivesSender, GivesServer, GivesTries, GivesUpload, HasNumbersInRange}
 use Rattle.bw_args.specs.Lines.{IsEndWithin, IsFirstBad, IsGood, IsLineFor, IsWayWithin, IsWishOf, IsWithin, Service}
 use Rattle.bw_args.specs.Lines.{FileUpload, Wish, looked_at, looked_at_trying, looked_at_waiting}
-use Rattle.bw_args.specs.Lines.{Replaying, Rehearsing, Inspecting, Packing, Sending, Serving, Uploading}
+use Rattle.bw_args.specs.Lines.{Replaying, Rehearsing, Inspecting, Packing, Repairing, Sending, Serving, Uploading}
 use Rattle.bw_args.specs.Numbers.{IsLimitValue, default_fruitless, default_rounds, default_timeout, most_exchanges}
 use Rattle.bw_args.specs.Numbers.{most_fruitless, most_recorders, most_rounds, most_seconds}
 use Rattle.bw_args.specs.declared.commands.sending.Tries.{Tries}
 use Rattle.bw_args.specs.declared.CommandLine.{CommandLine}
 use Rattle.bw_args.specs.declared.CommandLine.TheVariants.{Run, BadValue as Bad, Report}
 use Rattle.bw_args.specs.declared.Task.TheVariants.{Replay, Rehearse, Inspect, Serve, Send}
-use Rattle.bw_args.specs.declared.Task.TheVariants.{SendFile, Pack}
+use Rattle.bw_args.specs.declared.Task.TheVariants.{SendFile, Pack, Repair}
 use Rattle.bw_args.proofs.WishLemmas.{one_count, other_name, same_way}
 use Rattle.bw_args.specs.declared.peers.End.{End}
 use Rattle.bw_args.specs.declared.peers.Journaling.{Journaling}
@@ -88,6 +88,7 @@ wished_good name options wish asked = go wish asked
     go (Replaying limit fuse) a = at (codes "replay") a.0 ((limit, a.1), ((fuse, a.2), tt))
     go (Rehearsing take_name limit) a = at (codes "rehearse") a.0 ((take_name, a.1), ((limit, a.2), tt))
     go (Inspecting path) a = at (codes "inspect") a.0 tt
+    go (Repairing path write) a = at (codes "repair") a.0 tt
     go (Serving server) a = at (codes "serve") a.0 (
       (server.listen, a.1.listens),
       (
@@ -222,6 +223,7 @@ no_file_line found given = (nothing, inr (refl, refl))
     nothing (Sending sender) asked = other_name (codes "inspect") (codes "send") refl _ refl asked.0
     nothing (Uploading sender) asked = other_name (codes "inspect") (codes "send") refl _ refl asked.0
     nothing (Packing source) asked = other_name (codes "inspect") (codes "pack") refl _ refl asked.0
+    nothing (Repairing path write) asked = other_name (codes "inspect") (codes "repair") refl _ refl asked.0
     nothing (Inspecting path) asked =
         let bad : None ≡ Some path = given ∙ first_value-rows found (codes "file") ∙ asked.1 in cc
 
@@ -259,8 +261,35 @@ no_packed_line found given = (nothing, inr (refl, refl))
     nothing (Serving server) asked = other_name (codes "pack") (codes "serve") refl _ refl asked.0
     nothing (Sending sender) asked = other_name (codes "pack") (codes "send") refl _ refl asked.0
     nothing (Uploading sender) asked = other_name (codes "pack") (codes "send") refl _ refl asked.0
+    nothing (Repairing path write) asked = other_name (codes "pack") (codes "repair") refl _ refl asked.0
     nothing (Packing source) asked =
         no_path source.path (given ∙ first_value-rows found (codes "file") ∙ asked.1.from)
+
+-- the file to repair that is given is the one that is asked for, and so is the writing
+pub repair_asked : (found : Found) (path : Text) (write : Bool) → Some path ≡ first_value found (codes "file")
+    → write ≡ is_set (first_value found (codes "write"))
+    → IsWishOf (Some (codes "repair", rows_of found)) (Repairing path write)
+repair_asked found path write given writes = (
+  refl,
+  sym (given ∙ first_value-rows found (codes "file")),
+  writes ∙ ap is_set (first_value-rows found (codes "write")),
+)
+
+-- without one, nothing is asked for, and no value is looked at
+pub no_repaired_line : (found : Found) → None ≡ first_value found (codes "file")
+    → IsLineFor (Some (codes "repair", rows_of found)) (Bad Limit)
+no_repaired_line found given = (nothing, inr (refl, refl))
+  where
+    nothing : AsksNothing (Some (codes "repair", rows_of found))
+    nothing (Replaying n k) asked = other_name (codes "repair") (codes "replay") refl _ refl asked.0
+    nothing (Rehearsing name n) asked = other_name (codes "repair") (codes "rehearse") refl _ refl asked.0
+    nothing (Inspecting path) asked = other_name (codes "repair") (codes "inspect") refl _ refl asked.0
+    nothing (Serving server) asked = other_name (codes "repair") (codes "serve") refl _ refl asked.0
+    nothing (Sending sender) asked = other_name (codes "repair") (codes "send") refl _ refl asked.0
+    nothing (Uploading sender) asked = other_name (codes "repair") (codes "send") refl _ refl asked.0
+    nothing (Packing source) asked = other_name (codes "repair") (codes "pack") refl _ refl asked.0
+    nothing (Repairing path write) asked =
+        no_path path (given ∙ first_value-rows found (codes "file") ∙ asked.1)
 
 -- the server that is given is the one that is asked for
 pub server_asked : (found : Found) (server : Service) → GivesServer (first_value found) server
@@ -430,6 +459,7 @@ line_limit (Some command) (Run (SendFile sender)) asked = (
       (given_count _ _ _ asked.1.ends.1) asked.1.ends.2,
 )
 line_limit (Some command) (Run (Pack source)) asked = tt
+line_limit (Some command) (Run (Repair file write)) asked = tt
 line_limit None (Run task) asked = absurd asked
 line_limit command (Bad value) asked = tt
 line_limit command (Report error) asked = tt

@@ -17,7 +17,7 @@ use Rattle.bw_args.specs.Numbers.{IsLimitText, IsNumber, default_limit, number_w
 use Rattle.bw_args.proofs.WishLemmas.{one_wish}
 use Rattle.bw_args.specs.declared.CommandLine.{CommandLine}
 use Rattle.bw_args.specs.declared.CommandLine.TheVariants.{Run, BadValue as Bad, Report}
-use Rattle.bw_args.specs.declared.Task.TheVariants.{Inspect, Rehearse, Replay, Send, Serve, SendFile, Pack}
+use Rattle.bw_args.specs.declared.Task.TheVariants.{Inspect, Rehearse, Replay, Send, Serve, SendFile, Pack, Repair}
 
 -- a digit is no hyphen, so the word is read as a value
 pub no_hyphen : (d : ℕ) (ds : Text) → IsNumber (d ∷ ds) → (d == 45) ≡ false
@@ -97,6 +97,7 @@ replays limit fuse (Run (Serve server)) e = cc
 replays limit fuse (Run (Send sender)) e = cc
 replays limit fuse (Run (SendFile sender)) e = cc
 replays limit fuse (Run (Pack source)) e = cc
+replays limit fuse (Run (Repair file write)) e = cc
 replays limit fuse (Bad value) e = absurd e
 replays limit fuse (Report error) e = absurd e
 
@@ -108,6 +109,7 @@ inspects path (Run (Serve server)) e = cc
 inspects path (Run (Send sender)) e = cc
 inspects path (Run (SendFile sender)) e = cc
 inspects path (Run (Pack source)) e = cc
+inspects path (Run (Repair file write)) e = cc
 inspects path (Bad value) e = absurd e
 inspects path (Report error) e = absurd e
 

@@ -10,3 +10,4 @@ pub mod ServerLemmas
 pub mod SenderLemmas
 pub mod PeerValueLemmas
 pub mod FileLemmas
+pub mod RepairLemmas

@@ -11,7 +11,7 @@ use Rattle.bw_args.specs.Forms.{RunsFor, RunsRehearsal}
 use Rattle.bw_args.specs.Numbers.{IsLimitText, default_limit, number_written}
 use Rattle.bw_args.specs.declared.CommandLine.{CommandLine}
 use Rattle.bw_args.specs.declared.CommandLine.TheVariants.{Run, BadValue as Bad, Report}
-use Rattle.bw_args.specs.declared.Task.TheVariants.{Inspect, Rehearse, Replay, Send, Serve, SendFile, Pack}
+use Rattle.bw_args.specs.declared.Task.TheVariants.{Inspect, Rehearse, Replay, Send, Serve, SendFile, Pack, Repair}
 use Rattle.bw_args.proofs.FormLemmas.{no_hyphen, runs, reports}
 
 -- a limit's word is read unchanged
@@ -91,6 +91,7 @@ rehearses name limit (Run (Serve server)) e = cc
 rehearses name limit (Run (Send sender)) e = cc
 rehearses name limit (Run (SendFile sender)) e = cc
 rehearses name limit (Run (Pack source)) e = cc
+rehearses name limit (Run (Repair file write)) e = cc
 rehearses name limit (Bad value) e = absurd e
 rehearses name limit (Report error) e = absurd e
 

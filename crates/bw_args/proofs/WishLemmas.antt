@@ -10,7 +10,7 @@ use Rattle.bw_args.specs.Given.{GivesAddress, GivesCount, GivesCountOr, GivesEnd
 use Rattle.bw_args.specs.Given.{GivesName, GivesRecorders, IsEnd, IsJournaling, IsRecorders, given_on_line}
 use Rattle.bw_args.specs.Sources.{GivesSource, PlainSource}
 use Rattle.bw_args.specs.Lines.{GivesSender, GivesServer, GivesUpload, IsWishOf, Service, FileUpload, Wish}
-use Rattle.bw_args.specs.Lines.{Inspecting, Packing, Rehearsing, Replaying, Sending, Serving, Uploading}
+use Rattle.bw_args.specs.Lines.{Inspecting, Packing, Rehearsing, Repairing, Replaying, Sending, Serving, Uploading}
 use Rattle.bw_args.specs.Numbers.{most_exchanges, most_recorders, most_seconds}
 use Rattle.bw_args.specs.declared.peers.End.{End}
 use Rattle.bw_args.specs.declared.peers.Journaling.{Journaling}
@@ -177,6 +177,9 @@ one_wish (Some command) (Serving a) (Serving b) x y = ap Serving (one_server _ a
 one_wish (Some command) (Sending a) (Sending b) x y = ap Sending (one_sender _ a b x.1 y.1)
 one_wish (Some command) (Uploading a) (Uploading b) x y = ap Uploading (one_upload command.1 a b x.1 y.1)
 one_wish (Some command) (Packing a) (Packing b) x y = ap Packing (one_source command.1 a b x.1 y.1)
+one_wish (Some command) (Repairing a v) (Repairing b w) x y =
+    let same : Some a ≡ Some b = sym x.1 ∙ y.1 in
+    let writes : v ≡ w = x.2 ∙ sym y.2 in cc
 one_wish (Some command) (Sending a) (Uploading b) x y = absurd (no_lines command.1 a b x.1 y.1)
 one_wish (Some command) (Uploading a) (Sending b) x y = absurd (no_lines command.1 b a y.1 x.1)
 one_wish (Some command) (Replaying a k) (Rehearsing b m) x y = other_name (codes "replay") (codes "rehearse") refl command.0 x.0 y.0
@@ -219,3 +222,17 @@ one_wish (Some command) (Packing a) (Inspecting b) x y = other_name (codes "pack
 one_wish (Some command) (Packing a) (Serving b) x y = other_name (codes "pack") (codes "serve") refl command.0 x.0 y.0
 one_wish (Some command) (Packing a) (Sending b) x y = other_name (codes "pack") (codes "send") refl command.0 x.0 y.0
 one_wish (Some command) (Packing a) (Uploading b) x y = other_name (codes "pack") (codes "send") refl command.0 x.0 y.0
+one_wish (Some command) (Replaying a k) (Repairing b w) x y = other_name (codes "replay") (codes "repair") refl command.0 x.0 y.0
+one_wish (Some command) (Rehearsing a n) (Repairing b w) x y = other_name (codes "rehearse") (codes "repair") refl command.0 x.0 y.0
+one_wish (Some command) (Inspecting a) (Repairing b w) x y = other_name (codes "inspect") (codes "repair") refl command.0 x.0 y.0
+one_wish (Some command) (Serving a) (Repairing b w) x y = other_name (codes "serve") (codes "repair") refl command.0 x.0 y.0
+one_wish (Some command) (Sending a) (Repairing b w) x y = other_name (codes "send") (codes "repair") refl command.0 x.0 y.0
+one_wish (Some command) (Uploading a) (Repairing b w) x y = other_name (codes "send") (codes "repair") refl command.0 x.0 y.0
+one_wish (Some command) (Packing a) (Repairing b w) x y = other_name (codes "pack") (codes "repair") refl command.0 x.0 y.0
+one_wish (Some command) (Repairing a v) (Replaying b j) x y = other_name (codes "repair") (codes "replay") refl command.0 x.0 y.0
+one_wish (Some command) (Repairing a v) (Rehearsing b m) x y = other_name (codes "repair") (codes "rehearse") refl command.0 x.0 y.0
+one_wish (Some command) (Repairing a v) (Inspecting b) x y = other_name (codes "repair") (codes "inspect") refl command.0 x.0 y.0
+one_wish (Some command) (Repairing a v) (Serving b) x y = other_name (codes "repair") (codes "serve") refl command.0 x.0 y.0
+one_wish (Some command) (Repairing a v) (Sending b) x y = other_name (codes "repair") (codes "send") refl command.0 x.0 y.0
+one_wish (Some command) (Repairing a v) (Uploading b) x y = other_name (codes "repair") (codes "send") refl command.0 x.0 y.0
+one_wish (Some command) (Repairing a v) (Packing b) x y = other_name (codes "repair") (codes "pack") refl command.0 x.0 y.0

@@ -9,3 +9,4 @@ pub mod Lines
 pub mod Forms
 pub mod PeerForms
 pub mod FileForms
+pub mod RepairForms

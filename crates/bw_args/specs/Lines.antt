@@ -41,7 +41,7 @@ use Rattle.bw_args.specs.declared.peers.Send.{Send as Sender}
 use Rattle.bw_args.specs.declared.Task.{Task}
 use Rattle.bw_args.specs.declared.commands.sending.Tries.{Tries}
 use Rattle.bw_args.specs.declared.Task.TheVariants.{Replay, Rehearse, Inspect, Serve, Send}
-use Rattle.bw_args.specs.declared.Task.TheVariants.{SendFile, Pack}
+use Rattle.bw_args.specs.declared.Task.TheVariants.{SendFile, Pack, Repair}
 
 -- the server that a command line asks for
 pub record Service : Type 0 where
@@ -71,7 +71,8 @@ pub record FileUpload : Type 0 where
 
 -- what may be asked for: a replay with this limit, in which the call of this number fails, or none;
 -- a rehearsal of the take of this name, with this limit; to inspect the file of this path; a server
--- or a sender; the sender of a recording, or its requests
+-- or a sender; the sender of a recording, or its requests; the sizes that the file of this path lacks,
+-- to be written or not
 pub data Wish : Type 0 where
   Replaying : ℕ → Option ℕ → Wish
   Rehearsing : Text → ℕ → Wish
@@ -80,6 +81,7 @@ pub data Wish : Type 0 where
   Sending : Sender → Wish
   Uploading : FileUpload → Wish
   Packing : PlainSource → Wish
+  Repairing : Text → Bool → Wish
 
 -- what a task is about
 abbrev pub wish_of : Task → Wish
@@ -106,6 +108,7 @@ wish_of (SendFile sender) = Uploading (record {
   log = sender.log;
 })
 wish_of (Pack source) = Packing (in_plain source)
+wish_of (Repair file write) = Repairing (string_bytes file) write
 
 -- what is given is this server
 pub record GivesServer (given : Text → Option Text) (server : Service) : Type 0 where
@@ -163,6 +166,9 @@ IsWishOf (Some command) (Uploading sender) =
     (command.0 ≡ codes "send") × GivesUpload command.1 sender
 IsWishOf (Some command) (Packing source) =
     (command.0 ≡ codes "pack") × GivesSource command.1 source
+IsWishOf (Some command) (Repairing path write) =
+    (command.0 ≡ codes "repair") × (first_of (codes "file") command.1 ≡ Some path)
+    × (write ≡ is_set (first_of (codes "write") command.1))
 
 -- they ask for nothing
 abbrev pub AsksNothing : Option (Text × List Row) → Type 0
@@ -177,6 +183,7 @@ HasPath (Serving server) = ⊤
 HasPath (Sending sender) = ⊥
 HasPath (Uploading sender) = ⊤
 HasPath (Packing source) = ⊤
+HasPath (Repairing path write) = ⊤
 
 -- they ask for something of which a path is kept
 abbrev pub AsksForPath : Option (Text × List Row) → Type 0
@@ -301,5 +308,6 @@ HasNumbersInRange (Run (SendFile sender)) = (0 < socket_port sender.connect)
     × ((1 ≤ sender.timeout) × (sender.timeout ≤ most_seconds))
     × ((1 ≤ sender.fruitless) × (sender.fruitless ≤ most_fruitless))
 HasNumbersInRange (Run (Pack source)) = ⊤
+HasNumbersInRange (Run (Repair file write)) = ⊤
 HasNumbersInRange (Bad value) = ⊤
 HasNumbersInRange (Report error) = ⊤

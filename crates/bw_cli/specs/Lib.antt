@@ -3,3 +3,4 @@ pub mod Remote
 pub mod Packed
 pub mod Sides
 pub mod Uploads
+pub mod Repaired

@@ -12,7 +12,7 @@ use Rattle.bw_args.specs.declared.CommandLine.{CommandLine}
 use Rattle.bw_args.specs.declared.CommandLine.TheVariants.{Run, BadValue as Bad, Report}
 use Rattle.bw_args.specs.declared.Task.{Task}
 use Rattle.bw_args.specs.declared.Task.TheVariants.{Replay, Inspect, Rehearse, Serve, Send}
-use Rattle.bw_args.specs.declared.Task.TheVariants.{SendFile, Pack}
+use Rattle.bw_args.specs.declared.Task.TheVariants.{SendFile, Pack, Repair}
 use Rattle.bw_console.specs.Outcomes.{Outcome, Does, IsOutOfMemory}
 use Rattle.bw_commands.specs.Replays.{IsReplay}
 use Rattle.bw_console.specs.Faults.{IsReportedBy, exit_of}
@@ -29,6 +29,7 @@ use Rattle.bw_ports.specs.declared.listener_setup.ListenerSetup.{Ghosts as Liste
 use Rattle.bw_ports.specs.declared.starts.Starts.{Ghosts as StartGhosts}
 use Rattle.bw_session.specs.declared.server.Server.{Server}
 use Rattle.bw_cli.specs.Packed.{Packs}
+use Rattle.bw_cli.specs.Repaired.{RepairsFile}
 use Rattle.bw_cli.specs.Remote.{Sends, ServesByRule}
 use Rattle.bw_cli.specs.Uploads.{SendsRecording}
 use Rattle.bw_cli.specs.Sides.{HostSide, SenderSide, ServerSide, UploadSide}
@@ -78,6 +79,7 @@ IsTaskDone file_at input (Serve server) gives_all did = ⊥
 IsTaskDone file_at input (Send sender) gives_all did = ⊥
 IsTaskDone file_at input (SendFile sender) gives_all did = ⊥
 IsTaskDone file_at input (Pack source) gives_all did = ⊥
+IsTaskDone file_at input (Repair file write) gives_all did = ⊥
 
 -- for a command line
 abbrev pub IsLineDone : (Text → Option (List ℕ)) → Option (List ℕ) → CommandLine → Bool →
@@ -93,7 +95,7 @@ abbrev pub IsUnread : Bool → Outcome → Type 0
 IsUnread true did = IsOutOfMemory did
 IsUnread false did = (kind : ErrorKind) × IsBadArgv kind did
 
-module _ {S T F H G M N X Y Z P R W L K D A B U Q I O E V C : Type 0} (host : HostSide S T F H G M I O E)
+module _ {S T F H G M J N X Y Z P R W L K D A B U Q I O E V C : Type 0} (host : HostSide S T F H G M J I O E)
     (server_side : ServerSide X Y Z P R W L K N) (sender_side : SenderSide D A B)
     (upload_side : UploadSide U Q) (network : NetworkGhosts N X P D R W A B) (listener_setup : ListenerSetupGhosts N L K)
     (starter : StartGhosts N (Server X Y server_side.store server_side.journal)) where
@@ -132,6 +134,11 @@ module _ {S T F H G M N X Y Z P R W L K D A B U Q I O E V C : Type 0} (host : Ho
   IsDoneFor file_at failed (Run (Pack source)) exit x x' =
       Packs host.out host.reported (host.files.file_at x.files) source exit
       (host.files.failures x.files) (host.files.failures x'.files) x.out x'.out x.faults x'.faults
+      × IsHostWell failed x' × (x'.network ≡ x.network) × (x'.input ≡ x.input)
+      × (x'.pause ≡ x.pause)
+  IsDoneFor file_at failed (Run (Repair file write)) exit x x' =
+      RepairsFile host.edits host.out host.reported (string_bytes file) write exit
+      x.files x'.files x.out x'.out x.faults x'.faults
       × IsHostWell failed x' × (x'.network ≡ x.network) × (x'.input ≡ x.input)
       × (x'.pause ≡ x.pause)
   IsDoneFor file_at failed line exit x x' =

@@ -1,6 +1,6 @@
 -- The heads of chunks that are read.
-use Rattle.std.proofs.Common.{rules, ◌≡◌, ℕ, zero, suc, ◌+◌, ◌-◌, ◌≤◌, ◌<◌, Bool, true, false, List, [], ◌∷◌, length, drop}
-use Rattle.std.proofs.Common.{Option, Some, None, Result, Ok, Err, refl, sym, ◌∙◌, ap, arith, lit≤, IsTrue}
+use Rattle.std.proofs.Common.{◌≡◌, ℕ, ◌+◌, ◌-◌, ◌≤◌, ◌<◌, Bool, true, false, List, [], ◌∷◌, length, drop}
+use Rattle.std.proofs.Common.{Option, Some, None, Result, Ok, Err, refl, sym, ◌∙◌, ap, arith, lit≤}
 use Rattle.std.specs.Prelude.{IfOk, if◌then◌else◌, nat_le, not, ◌&&◌, slice_range, codes}
 use Rattle.std.specs.Prelude.{◌==◌, nat_lt}
 use Rattle.std.specs.Int.{w16, w32, from_le_bytes}
@@ -15,9 +15,9 @@ use Rattle.bw_inspect.specs.declared.fault.InspectFault.{InspectFault}
 use Rattle.bw_inspect.proofs.PartialReads.{part_at}
 use Rattle.bw_inspect.specs.declared.fault.InspectKind.TheVariants.{Truncated as Cut}
 use Rattle.bw_inspect.proofs.Faults.{bytes_no_read, of_bytes}
-use Rattle.bw_repair.specs.DataHeads.{after, align_with, entry_at, head_faults, is_data, is_riff_wave, passing_faults}
+use Rattle.bw_repair.specs.DataHeads.{place_following, entry_of_head, head_faults, is_data, is_riff_wave, passing_faults}
 use Rattle.bw_repair.specs.DataHeads.{place_faults}
-use Rattle.bw_repair.specs.Steps.{HasHead, HasPassed, IsDataAt, IsOtherAt, RefusesAt, StopsAt}
+use Rattle.bw_repair.specs.Steps.{HasHead, HasPassed, IsDataAt, IsOtherAt, RefusesChunk, StopsAt}
 use Rattle.bw_repair.specs.declared.search.ChunkAt.{ChunkAt}
 
 short_no_wave : (b : List ℕ) → length b < 12 → is_riff_wave b ≡ false
@@ -65,7 +65,7 @@ by_numbers len id size p = first_that_holds (
     ∷ [])
 
 as_numbers : (b : List ℕ) (c : ChunkAt) → HasHead b c →
-    first_that_holds (passing_faults b (entry_at b c.place)) ≡ by_numbers (length b) c.id c.size c.place
+    first_that_holds (passing_faults b (entry_of_head b c.place)) ≡ by_numbers (length b) c.id c.size c.place
 as_numbers b c h =
     ap (λ (i : List ℕ). by_numbers (length b) i (u32_at b (c.place + 4)) c.place) (sym h.is)
     ∙ ap (λ (n : ℕ). by_numbers (length b) c.id n c.place) (sym h.sized)
@@ -89,17 +89,17 @@ fmt_passed b c align value size buf left left' h e f s z given passed v =
     let end : c.place + 24 + (size - 16) ≡ c.place + 8 + even_up c.size = omega (arith, z) in
     let there : c.place + 8 + even_up c.size ≤ length b = grind (arith, first, more, end, z) in
     let fits : nat_lt (length b) (c.place + 8 + even_up c.size) ≡ false = grind (arith, there) in
-    let end' : c.place + 24 + (size - 16) ≡ after (entry_at b c.place) =
-        end ∙ ap (λ (n : ℕ). c.place + 8 + n) wide in
+    let end' : c.place + 24 + (size - 16) ≡ place_following (entry_of_head b c.place) =
+    end ∙ ap (λ (n : ℕ). c.place + 8 + n) wide in
     let named : is_id (id_at b c.place) (codes "fmt ") ≡ true =
-        ap (λ (i : List ℕ). is_id i (codes "fmt ")) (sym h.is) ∙ f in
+    ap (λ (i : List ℕ). is_id i (codes "fmt ")) (sym h.is) ∙ f in
     let spelled : u16_at buf 12 ≡ u16_at b (c.place + 20) =
-        ap (λ (x : List ℕ). u16_at x 12) given.bytes
-        ∙ ap (from_le_bytes w16) (part_at b (c.place + 8) 16 12 14 (lit≤ tt) (lit≤ tt))
-        ∙ ap (λ (k : ℕ). from_le_bytes w16 (slice_range b k (c.place + 8 + 14)))
-        (let q : c.place + 8 + 12 ≡ c.place + 20 = omega arith in q)
-        ∙ ap (λ (k : ℕ). from_le_bytes w16 (slice_range b (c.place + 20) k))
-        (let q : c.place + 8 + 14 ≡ c.place + 20 + 2 = omega arith in q) in
+    ap (λ (x : List ℕ). u16_at x 12) given.bytes
+    ∙ ap (from_le_bytes w16) (part_at b (c.place + 8) 16 12 14 (lit≤ tt) (lit≤ tt))
+    ∙ ap (λ (k : ℕ). from_le_bytes w16 (slice_range b k (c.place + 8 + 14)))
+    (let q : c.place + 8 + 12 ≡ c.place + 20 = omega arith in q)
+    ∙ ap (λ (k : ℕ). from_le_bytes w16 (slice_range b (c.place + 20) k))
+    (let q : c.place + 8 + 14 ≡ c.place + 20 + 2 = omega arith in q) in
     record {
       free = as_numbers b c h ∙ fmt_by (length b) c.id c.size c.place e f s ∙ rw fits refl;
       aligned = v ∙ spelled ∙ rw named refl;
@@ -111,7 +111,7 @@ fmt_passed b c align value size buf left left' h e f s z given passed v =
 pub fmt_cut : (b : List ℕ) (c : ChunkAt) (size : ℕ) (f cut : InspectFault) (left : Option (List ℕ)) →
     (c.size == unsaid) ≡ false → is_id c.id (codes "fmt ") ≡ true → nat_lt c.size 16 ≡ false →
     size ≡ even_up c.size → cut ≡ record { kind = Cut; offset = c.place } →
-    IsMissed b (c.place + 24) (size - 16) cut f left → RefusesAt b c f
+    IsMissed b (c.place + 24) (size - 16) cut f left → RefusesChunk b c f
 fmt_cut b c size f cut left e i s z k missed h g is =
     let large : 16 ≤ c.size = grind (arith, s) in
     let m = missed.cuts (ap not (bytes_no_read f.kind (of_bytes f g is))) in
@@ -147,9 +147,9 @@ data_found b p size id left h e r = record {
 -- another chunk has a fault
 pub other_stops : (b : List ℕ) (p size : ℕ) (id : List ℕ) (f : InspectFault) →
     HasHead b (record { id = id; place = p; size = size }) → is_id id (codes "data") ≡ false →
-    RefusesAt b (record { id = id; place = p; size = size }) f → StopsAt b p f
+    RefusesChunk b (record { id = id; place = p; size = size }) f → StopsAt b p f
 other_stops b p size id f h e r g is =
-    let named : is_data (entry_at b p) ≡ false = ap (λ (i : List ℕ). is_id i (codes "data")) (sym h.is) ∙ e in
+    let named : is_data (entry_of_head b p) ≡ false = ap (λ (i : List ℕ). is_id i (codes "data")) (sym h.is) ∙ e in
     let there = h.there in
     let short : nat_lt (length b) (p + 8) ≡ false = grind (arith, there) in
     rw (short, named) (r h g is)
@@ -160,8 +160,8 @@ pub other_passed : (b : List ℕ) (p size : ℕ) (id : List ℕ) (align align' p
     HasPassed b (record { id = id; place = p; size = size }) align align' left → p' ≡ p + 8 + even_up size →
     IsOtherAt b p align p' align' left
 other_passed b p size id align align' p' left h e r w =
-    let named : is_data (entry_at b p) ≡ false = ap (λ (i : List ℕ). is_id i (codes "data")) (sym h.is) ∙ e in
-    let at : p' ≡ after (entry_at b p) = w ∙ ap (λ (n : ℕ). p + 8 + even_up n) h.sized in
+    let named : is_data (entry_of_head b p) ≡ false = ap (λ (i : List ℕ). is_id i (codes "data")) (sym h.is) ∙ e in
+    let at : p' ≡ place_following (entry_of_head b p) = w ∙ ap (λ (n : ℕ). p + 8 + even_up n) h.sized in
     record {
       passed = record { is = refl; other = named; free = r.free };
       place = at;
@@ -177,9 +177,9 @@ two l false x n g h i = absurd (cc)
 
 by_data : (b : List ℕ) (p : ℕ) (g : Fault) (d : Bool) →
     first_that_holds (line (nat_lt (length b) (p + 8)) NoData p
-    ∷ (if d then [] else passing_faults b (entry_at b p))) ≡ Some g →
+    ∷ (if d then [] else passing_faults b (entry_of_head b p))) ≡ Some g →
     first_that_holds (line (d && nat_le (p + 8 + largest) (length b)) TooLarge p
-    ∷ line (nat_lt (length b) (p + 8)) NoData p ∷ (if d then [] else passing_faults b (entry_at b p))) ≡ Some g
+    ∷ line (nat_lt (length b) (p + 8)) NoData p ∷ (if d then [] else passing_faults b (entry_of_head b p))) ≡ Some g
 by_data b p g false i = i
 by_data b p g true i =
     two (nat_le (p + 8 + largest) (length b)) (nat_lt (length b) (p + 8)) _ _ g (few (length b)) i
@@ -192,10 +192,10 @@ pub head_fault : (b : List ℕ) (count p : ℕ) (g : Fault) → count < 4096 →
     first_that_holds (head_faults b p) ≡ Some g → first_that_holds (place_faults b count p) ≡ Some g
 head_fault b count p g few is =
     let some : nat_le 4096 count ≡ false = grind (arith, few) in
-    rw some (by_data b p g (is_data (entry_at b p)) is)
+    rw some (by_data b p g (is_data (entry_of_head b p)) is)
 
 -- too many bytes follow the head of `data`
-pub rest_fault : (b : List ℕ) (count p : ℕ) → count < 4096 → is_data (entry_at b p) ≡ true →
+pub rest_fault : (b : List ℕ) (count p : ℕ) → count < 4096 → is_data (entry_of_head b p) ≡ true →
     p + 8 + largest ≤ length b →
     first_that_holds (place_faults b count p) ≡ Some (record { kind = TooLarge; offset = p })
 rest_fault b count p few named large =

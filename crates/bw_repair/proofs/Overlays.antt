@@ -1,6 +1,6 @@
 -- Bytes with others in the place of some.
-use Rattle.std.proofs.Common.{◌≡◌, ℕ, zero, suc, ◌+◌, ◌-◌, ◌≤◌, List, [], ◌∷◌, ◌++◌, length, take, drop, refl, sym, ◌∙◌, ap, arith}
-use Rattle.std.proofs.Common.{Option, Some, None, length-drop}
+use Rattle.std.proofs.Common.{◌≡◌, ℕ, zero, suc, ◌-◌, ◌≤◌, List, [], ◌∷◌, ◌++◌, length, take, drop, refl, sym, ◌∙◌, ap, arith}
+use Rattle.std.proofs.Common.{Option, Some, None}
 use Rattle.std.specs.Prelude.{min, option_map}
 use Rattle.std.proofs.lemmas.List.{length-take-le}
 use Rattle.std.proofs.Math.Seq.{take-append_seam}
@@ -113,9 +113,9 @@ read-overlaid a cs (Some ys) most n buf piece left fits r is xs e =
     let q = r ys refl in
     let same : xs ≡ overlaid a cs ys = cc in
     let long : length piece ≡ n =
-        ap length is ∙ overlaid-length a cs (take n buf) ∙ length-take-le n buf fits in
+    ap length is ∙ overlaid-length a cs (take n buf) ∙ length-take-le n buf fits in
     let first : take n (piece ++ drop n buf) ≡ piece =
-        ap (λ (k : ℕ). take k (piece ++ drop n buf)) (sym long) ∙ take-append_seam piece (drop n buf) in
+    ap (λ (k : ℕ). take k (piece ++ drop n buf)) (sym long) ∙ take-append_seam piece (drop n buf) in
     record {
       within = rw (same, overlaid-length) q.within;
       given = first ∙ is ∙ ap (overlaid a cs) q.given ∙ sym (overlaid-take n a cs ys) ∙ ap (take n) (sym same);

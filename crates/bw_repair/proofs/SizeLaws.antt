@@ -1,17 +1,16 @@
 -- A file with other sizes.
 use Rattle.std.proofs.Common.{◌≡◌, ◌⊎◌, ℕ, zero, suc, ◌+◌, ◌-◌, ◌≤◌, ◌<◌, List, [], ◌∷◌, ◌++◌, length, take, drop, refl, sym, ◌∙◌, ap, arith}
-use Rattle.std.proofs.Common.{append_assoc, subst, inl, inr, Some, Option, lit≤}
-use Rattle.std.specs.Prelude.{min, slice_index, Result, Ok, Err, IfOk, IfErr}
+use Rattle.std.proofs.Common.{append_assoc, subst, inl, inr, Option}
+use Rattle.std.specs.Prelude.{slice_index, Result, Ok, Err, IfOk, IfErr}
 use Rattle.std.proofs.lemmas.List.{drop-drop, drop_all}
 use Rattle.std.proofs.Math.Seq.{take-length}
 use Rattle.bw_model.specs.Bytes.{le32, zeros}
-use Rattle.bw_model.specs.Reading.{IsFault}
 use Rattle.bw_store.specs.Stores.{overwritten}
 use Rattle.bw_inspect.specs.Readings.{GivesReport, Refuses}
 use Rattle.bw_inspect.specs.declared.fault.InspectFault.{InspectFault}
 use Rattle.bw_inspect.specs.declared.report.Report.{Report}
 use Rattle.bw_repair.specs.Overlays.{overlaid}
-use Rattle.bw_repair.specs.Repaired.{ChangesSizesAlone, FaultsAs, IsOutside, ReadsAs, with_sizes}
+use Rattle.bw_repair.specs.Repaired.{ChangesSizesAlone, FaultsAs, IsReadAs, with_sizes}
 use Rattle.bw_repair.specs.declared.decision.Sizes.{Sizes}
 use Rattle.bw_repair.proofs.Overlays.{overlaid-drop, overlaid-length, overlaid-none, overlaid-parted}
 
@@ -21,12 +20,12 @@ overlaid-is at [] xs h = overlaid-none at xs
 overlaid-is at (c ∷ cs) xs h =
     let n : ℕ = length (c ∷ cs) in
     let none : at - length xs ≡ 0 = omega (arith, h) in
-    let after : take at xs ++ zeros (at - length xs) ≡ take at xs ++ [] =
-        ap (λ (k : ℕ). take at xs ++ zeros k) none in
+    let joined : take at xs ++ zeros (at - length xs) ≡ take at xs ++ [] =
+    ap (λ (k : ℕ). take at xs ++ zeros k) none in
     overlaid-parted at n (c ∷ cs) xs (omega (arith, h)) (omega (arith, h))
     ∙ ap (λ (z : List ℕ). take at xs ++ (z ++ drop n (drop at xs))) (take-length (c ∷ cs))
     ∙ ap (λ (z : List ℕ). take at xs ++ ((c ∷ cs) ++ z)) (drop-drop n at xs)
-    ∙ sym (ap (λ (z : List ℕ). (z ++ (c ∷ cs)) ++ drop (at + n) xs) after
+    ∙ sym (ap (λ (z : List ℕ). (z ++ (c ∷ cs)) ++ drop (at + n) xs) joined
     ∙ simp append_assoc)
 
 four : (n : ℕ) → length (le32 n) ≡ 4
@@ -37,7 +36,7 @@ pub sizes_overlaid : (b : List ℕ) (p : ℕ) (s : Sizes) → 12 ≤ p → p + 8
     overlaid 4 (le32 s.form) (overlaid (p + 4) (le32 s.«data») b) ≡ with_sizes b p s
 sizes_overlaid b p s low h =
     let inner : overlaid (p + 4) (le32 s.«data») b ≡ overwritten b (p + 4) (le32 s.«data») =
-        overlaid-is (p + 4) (le32 s.«data») b (omega (arith, h, four s.«data»)) in
+    overlaid-is (p + 4) (le32 s.«data») b (omega (arith, h, four s.«data»)) in
     let long = overlaid-length (p + 4) (le32 s.«data») b in
     overlaid-is 4 (le32 s.form) (overlaid (p + 4) (le32 s.«data») b) (omega (arith, h, low, long, four s.form))
     ∙ ap (λ (z : List ℕ). overwritten z 4 (le32 s.form)) inner
@@ -62,7 +61,7 @@ sizes_alone b p s low h =
     let is : overlaid 4 (le32 s.form) inner ≡ with_sizes b p s = sizes_overlaid b p s low h in
     let gone : drop (p + 8 - 4) (le32 s.form) ≡ [] = drop_all (p + 8 - 4) (le32 s.form) (omega (arith, four s.form)) in
     let gone' : drop (p + 8 - (p + 4)) (le32 s.«data») ≡ [] =
-        drop_all (p + 8 - (p + 4)) (le32 s.«data») (omega (arith, four s.«data»)) in
+    drop_all (p + 8 - (p + 4)) (le32 s.«data») (omega (arith, four s.«data»)) in
     record {
       as_long = ap length (sym is) ∙ overlaid-length 4 (le32 s.form) inner
           ∙ overlaid-length (p + 4) (le32 s.«data») b;
@@ -82,9 +81,9 @@ sizes_alone b p s low h =
 
 -- a report of the file as it is read is one of the file with its sizes
 pub reads_as : (b whole : List ℕ) (r : Report) (left : Option (List ℕ)) → GivesReport whole r left →
-    whole ≡ b → ReadsAs b r
+    whole ≡ b → IsReadAs b r
 reads_as b whole r left given is =
-    subst (λ (z : List ℕ). ReadsAs z r) is (record { reading_is = given.reading_is; reports = given.reports })
+    subst (λ (z : List ℕ). IsReadAs z r) is (record { reading_is = given.reading_is; reports = given.reports })
 
 pub faults_as : (b whole : List ℕ) (f : InspectFault) (left : Option (List ℕ)) → Refuses whole f left →
     whole ≡ b → FaultsAs b f

@@ -1,9 +1,9 @@
 -- The walk over the chunks before the samples.
-use Rattle.std.proofs.Common.{rules, ◌≡◌, ℕ, zero, suc, ◌+◌, ◌≤◌, ◌<◌, List, [], ◌∷◌, ◌++◌, length, drop, Option, Some}
-use Rattle.std.proofs.Common.{refl, sym, ◌∙◌, ap, subst, arith}
+use Rattle.std.proofs.Common.{◌≡◌, ℕ, ◌+◌, ◌≤◌, List, [], ◌∷◌, ◌++◌, length, drop, Option, Some}
+use Rattle.std.proofs.Common.{refl, sym, ◌∙◌, ap, subst}
 use Rattle.std.proofs.lemmas.List.{length-append}
 use Rattle.bw_model.specs.Reading.{Entry}
-use Rattle.bw_repair.specs.DataHeads.{IsPassedAt, StandBefore, StandBetween, after, align_with, entry_at}
+use Rattle.bw_repair.specs.DataHeads.{IsPassedAt, StandBefore, StandBetween, place_following, align_with, entry_of_head}
 use Rattle.bw_repair.specs.Steps.{IsOtherAt}
 
 -- so many chunks were passed over, and the next head is wanted here
@@ -21,21 +21,21 @@ reached_first b left h e = record {
 
 -- one more at their end
 stand_more : (b : List ℕ) (es : List Entry) (e : Entry) (p a q a' : ℕ) → StandBetween b p a es q a' →
-    IsPassedAt b q e → StandBetween b p a (es ++ e ∷ []) (after e) (align_with b e a')
+    IsPassedAt b q e → StandBetween b p a (es ++ e ∷ []) (place_following e) (align_with b e a')
 stand_more b [] e p a q a' s t =
     let here : IsPassedAt b p e = subst (λ (k : ℕ). IsPassedAt b k e) (sym s.0) t in
     (here, (refl, ap (align_with b e) s.1))
 stand_more b (d ∷ ds) e p a q a' s t =
-    (s.0, stand_more b ds e (after d) (align_with b d a) q a' s.1 t)
+    (s.0, stand_more b ds e (place_following d) (align_with b d a) q a' s.1 t)
 
 -- one more is passed over
 pub reached_more : (b : List ℕ) (count p align p' align' : ℕ) (left left' : Option (List ℕ)) →
     IsReached b count p align left → IsOtherAt b p align p' align' left' → IsReached b (count + 1) p' align' left'
 reached_more b count p align p' align' left left' r s =
     let es : List Entry = r.before.entries in
-    let e : Entry = entry_at b p in
-    let more : StandBetween b 12 0 (es ++ e ∷ []) (after e) (align_with b e align) =
-        stand_more b es e 12 0 p align r.before.stand s.passed in
+    let e : Entry = entry_of_head b p in
+    let more : StandBetween b 12 0 (es ++ e ∷ []) (place_following e) (align_with b e align) =
+    stand_more b es e 12 0 p align r.before.stand s.passed in
     let long : length (es ++ e ∷ []) ≡ length es + 1 = length-append es (e ∷ []) in
     let c = r.before.counted in
     record {
@@ -43,7 +43,7 @@ reached_more b count p align p' align' left left' r s =
         entries = es ++ e ∷ [];
         counted = ap (λ (n : ℕ). n + 1) c ∙ sym long;
         stand = subst (λ (k : ℕ). StandBetween b 12 0 (es ++ e ∷ []) k align') (sym s.place)
-            (subst (λ (k : ℕ). StandBetween b 12 0 (es ++ e ∷ []) (after e) k) (sym s.aligned) more);
+            (subst (λ (k : ℕ). StandBetween b 12 0 (es ++ e ∷ []) (place_following e) k) (sym s.aligned) more);
         there = s.there;
       };
       rest = s.rest;

@@ -1,5 +1,5 @@
 -- Which sizes a file is to have, by what its head says and by its length.
-use Rattle.std.specs.Prelude.{ℕ, ◌+◌, ◌-◌, ◌%◌, ◌&&◌, ◌||◌, not, Bool, true, false, Result, Ok, Err, Option, Some, None, List, [], ◌∷◌}
+use Rattle.std.specs.Prelude.{ℕ, ◌+◌, ◌-◌, ◌%◌, ◌&&◌, ◌||◌, not, Bool, Result, Ok, Err, Some, None, List, [], ◌∷◌}
 use Rattle.std.specs.Prelude.{nat_lt, nat_le, ◌==◌, if◌then◌else◌}
 use Rattle.bw_model.specs.Bytes.{first_that_holds, unsaid, even_up}
 use Rattle.bw_inspect.specs.declared.fault.InspectKind.TheVariants.{NoFmt, TooLarge}
@@ -20,8 +20,8 @@ abbrev pub is_unsized : DataHead → Bool
 is_unsized h = h.size == unsaid || nat_lt h.rest h.size || (h.size == 0 && nat_le h.form h.place)
 
 -- the size of the samples: what it is, or all whole frames that the file has
-abbrev pub data_size : DataHead → ℕ
-data_size h = if is_unsized h then h.rest - h.rest % h.align else h.size
+abbrev pub size_of_data : DataHead → ℕ
+size_of_data h = if is_unsized h then h.rest - h.rest % h.align else h.size
 
 -- the form holds samples of this size, and has no room for a further head within the file
 abbrev pub is_form_kept : DataHead → Bool
@@ -30,9 +30,9 @@ is_form_kept h =
     && (nat_le h.form (h.place + h.rest) || nat_lt h.form (h.place + 8 + even_up h.size))
 
 -- the form's size: what it is, or up to the end of the samples and their pad byte
-abbrev pub form_size : DataHead → ℕ
-form_size h =
-    if not (is_unsized h) && is_form_kept h then h.form else h.place + even_up (data_size h)
+abbrev pub size_of_form : DataHead → ℕ
+size_of_form h =
+    if not (is_unsized h) && is_form_kept h then h.form else h.place + even_up (size_of_data h)
 
 -- after samples of a known size come as many bytes as a frame or a chunk's head has
 abbrev pub may_continue : DataHead → Bool
@@ -54,8 +54,8 @@ refusals h =
 -- the sizes, unless the form's can't be given in four bytes
 abbrev pub within : DataHead → Result Sizes RepairFault
 within h =
-    if nat_le unsaid (form_size h) then Err (record { kind = Unread TooLarge; offset = h.place })
-    else Ok (record { form = form_size h; «data» = data_size h })
+    if nat_le unsaid (size_of_form h) then Err (record { kind = Unread TooLarge; offset = h.place })
+    else Ok (record { form = size_of_form h; «data» = size_of_data h })
 
 -- the sizes, or why there are none
 abbrev pub decided : DataHead → Result Sizes RepairFault

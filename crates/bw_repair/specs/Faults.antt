@@ -7,15 +7,15 @@ use Rattle.bw_repair.specs.declared.fault.RepairKind.TheVariants.{Unread, NotLas
 use Rattle.bw_repair.specs.declared.fault.RepairFault.{RepairFault}
 
 -- the name of a kind, as it is printed
-abbrev pub kind_text : RepairKind → List ℕ
-kind_text (Unread kind) = name_of kind
-kind_text NotLast = codes "NotLast"
-kind_text Overlap = codes "Overlap"
+abbrev pub repair_kind_text : RepairKind → List ℕ
+repair_kind_text (Unread kind) = name_of kind
+repair_kind_text NotLast = codes "NotLast"
+repair_kind_text Overlap = codes "Overlap"
 
 -- a fault as it is printed
 abbrev pub repair_fault_text : RepairFault → List ℕ
-repair_fault_text f = kind_text f.kind ++ codes " at " ++ decimal f.offset
+repair_fault_text f = repair_kind_text f.kind ++ codes " at " ++ decimal f.offset
 
 -- the fault of a repair whose file isn't read
-abbrev pub unread : InspectFault → RepairFault
-unread f = record { kind = Unread f.kind; offset = f.offset }
+abbrev pub as_repair_fault : InspectFault → RepairFault
+as_repair_fault f = record { kind = Unread f.kind; offset = f.offset }

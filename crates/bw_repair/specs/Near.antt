@@ -1,5 +1,5 @@
 -- Places that can be reckoned with.
-use Rattle.std.specs.Prelude.{ℕ, ◌^◌, ◌≤◌, ◌<◌, Option, Some, None}
+use Rattle.std.specs.Prelude.{◌^◌, ◌≤◌, ◌<◌, Option, Some, None}
 use Rattle.bw_repair.specs.declared.search.DataHead.{DataHead}
 
 -- the head follows the outer header, and no sum of its places and sizes overflows 64 bits

@@ -1,7 +1,7 @@
 //! What a file reads as with its new sizes.
 ghost use Rattle.std.specs.Prelude.{◌≡◌, ◌+◌, ◌^◌, ◌<◌, ◌≤◌, length, IfOk, IfErr};
 ghost use Rattle.bw_stream.specs.Readers.{Of};
-ghost use Rattle.bw_repair.specs.Repaired.{FaultsAs, ReadsAs, with_sizes};
+ghost use Rattle.bw_repair.specs.Repaired.{FaultsAs, IsReadAs, with_sizes};
 
 use crate::decision::Sizes;
 use crate::overlay::Overlay;
@@ -27,7 +27,7 @@ pub fn check<R: Source + Drop>(
     requires near { place < 2 ^ 62 }
     requires following { 12 ≤ place }
     ensures ok { IfOk result (λ r. Of (R.left reader) (λ b.
-        place + 8 ≤ length b → ReadsAs (with_sizes b place sizes) r)) }
+        place + 8 ≤ length b → IsReadAs (with_sizes b place sizes) r)) }
     ensures err { IfErr result (λ f. Of (R.left reader) (λ b.
         place + 8 ≤ length b → FaultsAs (with_sizes b place sizes) f)) }
 {

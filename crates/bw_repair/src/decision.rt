@@ -1,7 +1,7 @@
 //! Which sizes a file is to have.
 ghost use Rattle.std.specs.Prelude.{◌≡◌, ◌≢◌, ◌+◌, ◌-◌, ◌%◌, ◌^◌, ◌<◌, ◌≤◌, IsTrue, true, false};
 ghost use Rattle.bw_model.specs.Bytes.{even_up as even_up_of};
-ghost use Rattle.bw_repair.specs.Decisions.{data_size as data_size_of, decided, form_size as form_size_of, within};
+ghost use Rattle.bw_repair.specs.Decisions.{decided, size_of_data, size_of_form, within};
 ghost use Rattle.bw_repair.specs.Near.{IsNear};
 ghost use Rattle.bw_repair.specs.Decisions.{is_closed as closed, is_form_kept as form_kept};
 ghost use Rattle.bw_repair.specs.Decisions.{is_unsized as unsized, may_continue as continues};
@@ -103,7 +103,7 @@ fn may_continue(head: &DataHead) -> bool
 fn form_size(head: &DataHead) -> u64
     requires small { (head.now.place < 2 ^ 62) × (head.now.rest < 2 ^ 62) }
     requires aligned { unsized head.now ≡ true → head.now.align ≢ 0 }
-    ensures value { result ≡ form_size_of head.now }
+    ensures value { result ≡ size_of_form head.now }
 {
     if !is_unsized(head) && is_form_kept(head) {
         head.form as u64
@@ -116,7 +116,7 @@ fn form_size(head: &DataHead) -> u64
 fn data_size(head: &DataHead) -> u64
     requires small { head.now.rest < 2 ^ 62 }
     requires aligned { unsized head.now ≡ true → head.now.align ≢ 0 }
-    ensures value { result ≡ data_size_of head.now }
+    ensures value { result ≡ size_of_data head.now }
     ensures small { result < 2 ^ 62 }
 {
     if is_unsized(head) {

@@ -1,6 +1,6 @@
 //! Why a file isn't repaired.
 ghost use Rattle.std.specs.Prelude.{◌≡◌, ◌≤◌, length, Some};
-ghost use Rattle.bw_repair.specs.Faults.{kind_text, repair_fault_text};
+ghost use Rattle.bw_repair.specs.Faults.{repair_kind_text, repair_fault_text};
 
 use bw_inspect::{InspectFault, InspectKind};
 use std::error::Error;
@@ -20,7 +20,7 @@ pub enum RepairKind {
 impl RepairKind {
     /// Its name, as it is printed, at most 9 bytes.
     pub fn name(self) -> &'static str
-        ensures value { result.now ≡ kind_text self }
+        ensures value { result.now ≡ repair_kind_text self }
         ensures short { length result.now ≤ 9 }
     {
         match self {
@@ -52,9 +52,9 @@ impl fmt::Display for RepairFault {
 impl Error for RepairFault {}
 
 impl From<InspectFault> for RepairFault {
-    ghost use Rattle.bw_repair.specs.Faults.{unread};
+    ghost use Rattle.bw_repair.specs.Faults.{as_repair_fault};
 
-    ghost from_gives = { λ f fault. fault ≡ unread f };
+    ghost from_gives = { λ f fault. fault ≡ as_repair_fault f };
 
     /// The same fault.
     fn from(fault: InspectFault) -> RepairFault {

@@ -7,9 +7,9 @@ ghost use Rattle.bw_model.specs.Reading.{Fault, TooLarge};
 ghost use Rattle.bw_stream.specs.Readers.{Of};
 ghost use Rattle.bw_inspect.specs.Faults.{bytes_fault, counted, is_failed_read};
 ghost use Rattle.bw_inspect.specs.Places.{AtPlace};
-ghost use Rattle.bw_repair.specs.DataHeads.{FindsData, LacksData, entry_at, is_riff_wave};
+ghost use Rattle.bw_repair.specs.DataHeads.{FindsData, LacksData, entry_of_head, is_riff_wave};
 ghost use Rattle.bw_repair.specs.Near.{AreNear};
-ghost use Rattle.bw_repair.specs.Steps.{Advances, HaltsAt, PassesAt, RefusesAt, StepsTo, StopsAt, WalksTo};
+ghost use Rattle.bw_repair.specs.Steps.{IsOneChunkOn, HaltsAt, PassesAt, RefusesChunk, StepsTo, StopsAt, WalksTo};
 
 use bw_bytes::{read_id, read_u16, read_u32};
 use bw_inspect::{InspectFault, InspectKind, read_at, skip_at};
@@ -162,14 +162,19 @@ fn read_chunk<R: Source>(reader: &mut R, reached: Reached) -> Result<Step, Inspe
     requires { reached.place < 2 ^ 62 }
     ensures ok { IfOk result (λ s. AtPlace (R.left reader.old) reached.place (λ b.
         StepsTo b reached s (R.left reader.new))) }
-    ensures near { IfOk result (λ s. Advances reached s) }
+    ensures near { IfOk result (λ s. IsOneChunkOn reached s) }
     ensures err { IfErr result (λ f. AtPlace (R.left reader.old) reached.place (λ b.
         StopsAt b reached.place f)) }
     ensures count { R.failures reader.new ≡ counted result (R.failures reader.old) }
 {
     let place = reached.place;
     let mut head = [0; 8];
-    read_at(reader, place, &mut head, fault_at(InspectKind::NoData, place))?;
+    read_at(
+        reader,
+        place,
+        &mut head,
+        fault_at(InspectKind::NoData, place),
+    )?;
     let chunk = ChunkAt {
         id: read_id(&head, 0),
         place,
@@ -188,17 +193,13 @@ fn read_chunk<R: Source>(reader: &mut R, reached: Reached) -> Result<Step, Inspe
 ///
 /// # Errors
 /// NoSize, BadFmt, Truncated; Read.
-fn pass_chunk<R: Source>(
-    reader: &mut R,
-    chunk: ChunkAt,
-    align: u16,
-) -> Result<u16, InspectFault>
+fn pass_chunk<R: Source>(reader: &mut R, chunk: ChunkAt, align: u16) -> Result<u16, InspectFault>
     requires { chunk.place < 2 ^ 62 }
     ensures ok { IfOk result (λ a. AtPlace (R.left reader.old) (chunk.place + 8) (λ b.
         PassesAt b chunk align a (R.left reader.new))) }
     ensures sized { IfOk result (λ a. chunk.size < 2 ^ 32 - 1) }
     ensures err { IfErr result (λ f. AtPlace (R.left reader.old) (chunk.place + 8) (λ b.
-        RefusesAt b chunk f)) }
+        RefusesChunk b chunk f)) }
     ensures count { R.failures reader.new ≡ counted result (R.failures reader.old) }
 {
     if chunk.size == u32::MAX {

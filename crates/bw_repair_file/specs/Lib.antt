@@ -1,4 +1,4 @@
-pub mod Findings
+pub mod Soundnesses
 pub mod Writes
 pub mod Texts
 pub mod Repairs

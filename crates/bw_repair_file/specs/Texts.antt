@@ -3,7 +3,7 @@ use Rattle.std.specs.Prelude.{ℕ, ◌+◌, Bool, List, [], ◌∷◌, ◌++◌,
 use Rattle.bw_console.specs.Text.{as_line}
 use Rattle.bw_repair.specs.Faults.{repair_fault_text}
 use Rattle.bw_repair.specs.declared.fault.RepairFault.{RepairFault}
-use Rattle.bw_repair_file.specs.declared.plan.Plan.{Plan}
+use Rattle.bw_repair_file.specs.declared.plan.SizePlan.{SizePlan}
 
 -- a file that is sound, with so many frames
 abbrev pub sound_text : ℕ → List ℕ
@@ -15,7 +15,7 @@ size_line name place old new =
     as_line (name ++ decimal place ++ codes " old=" ++ decimal old ++ codes " new=" ++ decimal new)
 
 -- the two sizes, the frames that the file reads as with them, and whether they are written
-abbrev pub plan_text : Plan → Bool → List ℕ
+abbrev pub plan_text : SizePlan → Bool → List ℕ
 plan_text p is_written =
     size_line (codes "form at=") 4 p.old.form p.new.form
     ++ size_line (codes "data at=") (p.place + 4) p.old.«data» p.new.«data»
@@ -23,8 +23,8 @@ plan_text p is_written =
     ++ (if is_written then codes " written=yes\n" else codes " written=no\n")
 
 -- the line of a fault
-abbrev pub refusal_line : RepairFault → List ℕ
-refusal_line f = as_line (codes "repair: " ++ repair_fault_text f)
+abbrev pub repair_line : RepairFault → List ℕ
+repair_line f = as_line (codes "repair: " ++ repair_fault_text f)
 
 -- the line of a path whose file isn't written, for this reason
 abbrev pub unwritten_text : List ℕ → List ℕ → List ℕ

@@ -3,11 +3,11 @@ ghost use Rattle.std.specs.Prelude.{◌≡◌, ◌⊎◌, ◌^◌, ◌<◌, Bool
 ghost use Rattle.std.specs.IoError.{error_kind};
 ghost use Rattle.bw_console.specs.Outcomes.{Outcome, HasWritten, IsOutOfMemory};
 ghost use Rattle.bw_console.specs.Printing.{IsPrint, failures_if};
-ghost use Rattle.bw_repair_file.specs.Repairs.{EndsWriting, IsRefused, IsRepair, IsUnwritten};
+ghost use Rattle.bw_repair_file.specs.Repairs.{EndsWriting, IsRefusedRepair, IsRepair, IsUnwritten};
 ghost use Rattle.bw_repair_file.specs.Repairs.{PrintsText, exit_on_fault};
 
-use crate::plan::{Finding, Plan, PlanFault, plan_repair};
-use crate::text::{plan_text, refusal_line, sound_text, unwritten_line};
+use crate::plan::{PlanFault, SizePlan, Soundness, plan_repair};
+use crate::text::{plan_text, repair_line, sound_text, unwritten_line};
 use crate::writing::write_sizes;
 use bw_console::print::{give_up, print, print_diagnostic};
 use bw_console::{Exit, Fault, report_unopened};
@@ -43,13 +43,13 @@ pub fn repair_file<F: EditedFiles, W: Sink, E: Sink>(
         × HasWritten W.Sink E.Sink did out.old out.new faults.old faults.new }
 {
     match plan_repair(alloc, files, path) {
-        Ok(Finding::Sound(frames)) => {
+        Ok(Soundness::Sound(frames)) => {
             print_text(sound_text(frames).as_str().as_bytes(), out, faults)
         }
-        Ok(Finding::Lacking(plan)) if is_written => {
+        Ok(Soundness::Lacking(plan)) if is_written => {
             write_plan(alloc, files, path, &plan, out, faults)
         }
-        Ok(Finding::Lacking(plan)) => {
+        Ok(Soundness::Lacking(plan)) => {
             print_text(plan_text(&plan, false).as_str().as_bytes(), out, faults)
         }
         Err(PlanFault::Unopened(error)) => report_unopened(alloc, path, &error, faults),
@@ -62,7 +62,7 @@ fn write_plan<F: EditedFiles, W: Sink, E: Sink>(
     alloc: Global,
     files: &mut F,
     path: &str,
-    plan: &Plan,
+    plan: &SizePlan,
     out: &mut W,
     faults: &mut E,
 ) -> Exit
@@ -91,10 +91,10 @@ fn print_text<W: Sink, E: Sink>(text: &[u8], out: &mut W, faults: &mut E) -> Exi
 
 /// Reports a fault. Returns how the command ends.
 fn refuse<E: Sink>(fault: &RepairFault, faults: &mut E) -> Exit
-    ensures { (did : Outcome) × (did.exit ≡ result) × IsRefused fault.now did
+    ensures { (did : Outcome) × (did.exit ≡ result) × IsRefusedRepair fault.now did
         × IsPrint E.Sink did.faults faults.old faults.new }
 {
-    print_diagnostic(faults, refusal_line(fault).as_str().as_bytes());
+    print_diagnostic(faults, repair_line(fault).as_str().as_bytes());
     exit_on(fault.kind)
 }
 
@@ -111,12 +111,7 @@ fn exit_on(kind: RepairKind) -> Exit
 
 /// Reports why a file can't be written: `NAME can't be written: REASON`. Returns `Memory` if memory
 /// was refused, even for this line, which is `out of memory` then; otherwise `Device`.
-fn report_unwritten<E: Sink>(
-    alloc: Global,
-    path: &str,
-    error: &io::Error,
-    faults: &mut E,
-) -> Exit
+fn report_unwritten<E: Sink>(alloc: Global, path: &str, error: &io::Error, faults: &mut E) -> Exit
     ensures { (did : Outcome) × (did.exit ≡ result)
         × (IsUnwritten path.now (error_kind error.now) did ⊎ IsOutOfMemory did)
         × IsPrint E.Sink did.faults faults.old faults.new }

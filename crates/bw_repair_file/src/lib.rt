@@ -7,5 +7,5 @@ mod text;
 mod writing;
 
 pub use command::repair_file;
-pub use plan::{Finding, Plan, PlanFault, plan_repair};
+pub use plan::{PlanFault, SizePlan, Soundness, plan_repair};
 pub use writing::write_sizes;

@@ -5,7 +5,7 @@ ghost use Rattle.bw_console.specs.Printing.{failures_if};
 ghost use Rattle.bw_model.specs.Report.{frames_of};
 ghost use Rattle.bw_repair.specs.DataHeads.{IsDataHead};
 ghost use Rattle.bw_repair.specs.Near.{IsNear};
-ghost use Rattle.bw_repair_file.specs.Findings.{HasNearPlace, IsFound, RefusesAs, StandsAsItIs, is_system_well};
+ghost use Rattle.bw_repair_file.specs.Soundnesses.{HasNearPlace, IsSoundness, RefusesPlan, StandsAsItIs, is_plan_well};
 
 use bw_edit::EditedFiles;
 use bw_inspect::{InspectFault, Report, inspect};
@@ -15,7 +15,7 @@ use std::io;
 
 /// The sizes of a file that are to change.
 #[derive(Clone, Copy, Debug, PartialEq, Eq)]
-pub struct Plan {
+pub struct SizePlan {
     /// Where the head of the samples is, in bytes from the file's start.
     pub place: u64,
     pub old: Sizes,
@@ -26,11 +26,11 @@ pub struct Plan {
 
 /// How a file stands.
 #[derive(Clone, Copy, Debug, PartialEq, Eq)]
-pub enum Finding {
+pub enum Soundness {
     /// It is sound, and has so many frames.
     Sound(u64),
     /// It lacks sizes.
-    Lacking(Plan),
+    Lacking(SizePlan),
 }
 
 /// Why nothing is found out about a file.
@@ -55,14 +55,14 @@ pub fn plan_repair<F: EditedFiles>(
     alloc: Global,
     files: &mut F,
     path: &str,
-) -> Result<Finding, PlanFault>
+) -> Result<Soundness, PlanFault>
     ensures ok { IfOk result (λ found. Of (F.content_at files.old path.now) (λ b.
-        IsFound b found)) }
-    ensures err { IfErr result (λ e. Of (F.content_at files.old path.now) (λ b. RefusesAs b e)) }
+        IsSoundness b found)) }
+    ensures err { IfErr result (λ e. Of (F.content_at files.old path.now) (λ b. RefusesPlan b e)) }
     ensures near { IfOk result HasNearPlace }
     ensures contents { F.content_at files.new ≡ F.content_at files.old }
     ensures count { F.edit_failures files.new ≡
-        failures_if (is_system_well result) (F.edit_failures files.old) }
+        failures_if (is_plan_well result) (F.edit_failures files.old) }
 {
     let mut reader = match files.open_edited(path) {
         Ok(reader) => reader,
@@ -84,16 +84,16 @@ fn plan_at<F: EditedFiles>(
     files: &mut F,
     path: &str,
     head: &DataHead,
-) -> Result<Finding, PlanFault>
+) -> Result<Soundness, PlanFault>
     requires { IsNear head.now }
     ensures ok { IfOk result (λ found. Of (F.content_at files.old path.now) (λ b.
-        IsDataHead b head.now → IsFound b found)) }
+        IsDataHead b head.now → IsSoundness b found)) }
     ensures err { IfErr result (λ e. Of (F.content_at files.old path.now) (λ b.
-        IsDataHead b head.now → RefusesAs b e)) }
+        IsDataHead b head.now → RefusesPlan b e)) }
     ensures near { IfOk result HasNearPlace }
     ensures contents { F.content_at files.new ≡ F.content_at files.old }
     ensures count { F.edit_failures files.new ≡
-        failures_if (is_system_well result) (F.edit_failures files.old) }
+        failures_if (is_plan_well result) (F.edit_failures files.old) }
 {
     let sizes = match decide(head) {
         Ok(sizes) => sizes,
@@ -107,19 +107,19 @@ fn plan_at<F: EditedFiles>(
         Err(error) => return Err(PlanFault::Unopened(error)),
     };
     match check(alloc, reader, head.place, sizes) {
-        Ok(report) => Ok(Finding::Lacking(plan_with(head, sizes, &report))),
+        Ok(report) => Ok(Soundness::Lacking(plan_with(head, sizes, &report))),
         Err(fault) => Err(PlanFault::Refused(RepairFault::from(fault))),
     }
 }
 
 /// What is written, if these sizes are, and the file has this report with them.
-fn plan_with(head: &DataHead, new: Sizes, report: &Report) -> Plan
+fn plan_with(head: &DataHead, new: Sizes, report: &Report) -> SizePlan
     ensures place { result.place ≡ head.now.place }
     ensures old { result.old ≡ record { form = head.now.form; «data» = head.now.size } }
     ensures new { result.new ≡ new }
     ensures frames { result.frames ≡ frames_of report.now.data_size report.now.fmt.align }
 {
-    Plan {
+    SizePlan {
         place: head.place,
         old: Sizes {
             form: head.form,
@@ -134,22 +134,22 @@ fn plan_with(head: &DataHead, new: Sizes, report: &Report) -> Plan
 ///
 /// # Errors
 /// The file's first fault; why it isn't opened or read.
-fn look<F: EditedFiles>(alloc: Global, files: &mut F, path: &str) -> Result<Finding, PlanFault>
+fn look<F: EditedFiles>(alloc: Global, files: &mut F, path: &str) -> Result<Soundness, PlanFault>
     ensures ok { IfOk result (λ found. Of (F.content_at files.old path.now) (λ b.
-        StandsAsItIs b → IsFound b found)) }
+        StandsAsItIs b → IsSoundness b found)) }
     ensures err { IfErr result (λ e. Of (F.content_at files.old path.now) (λ b.
-        StandsAsItIs b → RefusesAs b e)) }
+        StandsAsItIs b → RefusesPlan b e)) }
     ensures near { IfOk result HasNearPlace }
     ensures contents { F.content_at files.new ≡ F.content_at files.old }
     ensures count { F.edit_failures files.new ≡
-        failures_if (is_system_well result) (F.edit_failures files.old) }
+        failures_if (is_plan_well result) (F.edit_failures files.old) }
 {
     let mut reader = match files.open_edited(path) {
         Ok(reader) => reader,
         Err(error) => return Err(PlanFault::Unopened(error)),
     };
     match inspect(alloc, &mut reader) {
-        Ok(report) => Ok(Finding::Sound(frames_in(&report))),
+        Ok(report) => Ok(Soundness::Sound(frames_in(&report))),
         Err(fault) => Err(PlanFault::Refused(RepairFault::from(fault))),
     }
 }

@@ -1,9 +1,9 @@
 //! What `repair` prints and reports.
 ghost use Rattle.std.specs.Prelude.{◌≡◌, ◌++◌, ◌+◌, ◌^◌, ◌<◌, ◌≤◌, length, codes, IfOk, List, ℕ, string_bytes};
-ghost use Rattle.bw_repair_file.specs.Texts.{plan_text as text_of_plan, refusal_line as line_of_refusal};
+ghost use Rattle.bw_repair_file.specs.Texts.{plan_text as text_of_plan, repair_line as line_of_repair};
 ghost use Rattle.bw_repair_file.specs.Texts.{size_line, sound_text as text_of_sound, unwritten_text};
 
-use crate::plan::Plan;
+use crate::plan::SizePlan;
 use arrayvec::ArrayString;
 use bw_repair::RepairFault;
 use itoa::Buffer;
@@ -23,17 +23,27 @@ pub(crate) fn sound_text(frames: u64) -> ArrayString<64>
 }
 
 /// The lines of the sizes that are written, or would be.
-pub(crate) fn plan_text(plan: &Plan, is_written: bool) -> ArrayString<256>
+pub(crate) fn plan_text(plan: &SizePlan, is_written: bool) -> ArrayString<256>
     requires { plan.now.place < 2 ^ 62 }
     ensures { result.bytes ≡ text_of_plan plan.now is_written }
 {
     let mut text = ArrayString::new();
     push_size(&mut text, "form at=", 4, plan.old.form, plan.new.form);
-    push_size(&mut text, "data at=", plan.place + 4, plan.old.data, plan.new.data);
+    push_size(
+        &mut text,
+        "data at=",
+        plan.place + 4,
+        plan.old.data,
+        plan.new.data,
+    );
     let mut digits = Buffer::new();
     text.push_str("frames=");
     text.push_str(digits.format(plan.frames));
-    text.push_str(if is_written { " written=yes\n" } else { " written=no\n" });
+    text.push_str(if is_written {
+        " written=yes\n"
+    } else {
+        " written=no\n"
+    });
     text
 }
 
@@ -55,8 +65,8 @@ fn push_size(text: &mut ArrayString<256>, name: &str, place: u64, old: u32, new:
 }
 
 /// The line of a fault. It allocates nothing, since memory may be what is lacking.
-pub(crate) fn refusal_line(fault: &RepairFault) -> ArrayString<64>
-    ensures { result.bytes ≡ line_of_refusal fault.now }
+pub(crate) fn repair_line(fault: &RepairFault) -> ArrayString<64>
+    ensures { result.bytes ≡ line_of_repair fault.now }
 {
     let mut digits = Buffer::new();
     let mut line = ArrayString::new();

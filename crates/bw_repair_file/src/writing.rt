@@ -5,7 +5,7 @@ ghost use Rattle.bw_stream.specs.Moves.{failures_after};
 ghost use Rattle.bw_edit.specs.Rewrites.{KeepsOtherPaths};
 ghost use Rattle.bw_repair_file.specs.Writes.{GivesSizes, GivesSizesInPart};
 
-use crate::plan::Plan;
+use crate::plan::SizePlan;
 use bw_edit::EditedFiles;
 use std::io;
 
@@ -18,7 +18,7 @@ use std::io;
 ///
 /// # Not specified
 /// When it fails, and the kind of the error.
-pub fn write_sizes<F: EditedFiles>(files: &mut F, path: &str, plan: &Plan) -> io::Result<()>
+pub fn write_sizes<F: EditedFiles>(files: &mut F, path: &str, plan: &SizePlan) -> io::Result<()>
     requires { plan.now.place < 2 ^ 62 }
     ensures ok { OnOk result (GivesSizes plan.now
         (F.content_at files.old path.now) (F.content_at files.new path.now)) }

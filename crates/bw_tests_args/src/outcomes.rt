@@ -37,6 +37,8 @@ pub(crate) enum Outcome {
     SendsFile(u32, u32, Said),
     /// Packs the recording `-f`.
     Packs(Said),
+    /// Repairs the file `-f`, and writes it or doesn't.
+    Repairs { is_written: bool },
     /// Text on standard output, status 0.
     Shows,
     /// Text on standard error, status 2.
@@ -91,6 +93,10 @@ fn run_outcome(task: &Task, words: &[&str]) -> Outcome {
             Some(said) => Outcome::Packs(said),
             None => Outcome::Confuses,
         },
+        Task::Repair { file, write } if file.as_str() == "-f" => Outcome::Repairs {
+            is_written: *write,
+        },
+        Task::Repair { .. } => Outcome::Confuses,
     }
 }
 

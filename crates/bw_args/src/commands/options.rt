@@ -5,7 +5,7 @@ ghost use Rattle.bw_args.specs.Commands.{limit_option, listen_option, log_flag, 
 ghost use Rattle.bw_args.specs.Commands.{network_flag, one_name_flag, option, recorders_option, required};
 ghost use Rattle.bw_args.specs.Commands.{file_option, fruitless_option, journal_flag, repeated};
 ghost use Rattle.bw_args.specs.Commands.{rounds_option, set_option, strict_flag, sync_flag};
-ghost use Rattle.bw_args.specs.Commands.{timeout_option, until_stopped_flag};
+ghost use Rattle.bw_args.specs.Commands.{timeout_option, until_stopped_flag, write_flag};
 
 use clap::{Arg, ArgAction};
 use std::alloc::Global;
@@ -221,4 +221,11 @@ pub(crate) fn fruitless_option<'a>(alloc: Global) -> Arg<'a>
     let help =
         "With --file: gives up after N links in a row that settle nothing, 1 to 1000000 [default: 10]";
     value_option(alloc, "fruitless", "N", help)
+}
+
+pub(crate) fn write_flag<'a>(alloc: Global) -> Arg<'a>
+    ensures { IsOption write_flag result }
+{
+    let help = "Writes the sizes into the file; without it they are only printed";
+    flag_option(alloc, "write", help)
 }

@@ -1,4 +1,4 @@
-use Rattle.std.proofs.Common.{arith, ◌+◌, ◌-◌, ◌<◌}
+use Rattle.std.proofs.Common.{arith, ◌+◌}
 use Rattle.std.proofs.lemmas.Grind.{common_steps}
 use Rattle.bw_inspect.proofs.PartialReads.{ended, more_passed}
 use Rattle.bw_repair.proofs.search.count_rest.Goals as goal

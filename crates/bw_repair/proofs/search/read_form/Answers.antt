@@ -1,5 +1,3 @@
-use Rattle.std.proofs.Common.{ap, arith}
-use Rattle.std.specs.Prelude.{not}
 use Rattle.bw_repair.proofs.Heads.{no_form_left, no_form_ok}
 use Rattle.bw_repair.proofs.search.read_form.Goals as goal
 

@@ -1,5 +1,4 @@
 use Rattle.std.proofs.Common.{◌+◌, ◌*◌, ◌≡◌, ℕ, ◌≤◌, List, length, drop, Some, ◌^◌}
-use Rattle.bw_repair.specs.DataHeads.{StandBefore}
 use Rattle.bw_repair.proofs.Steps.{IsReached}
 use Rattle.bw_repair.proofs.search.walk.Given as goal
 

@@ -1,4 +1,4 @@
-use Rattle.std.proofs.Common.{◌≡◌, ◌+◌, ◌≤◌, length, arith, inl, inr, sym}
+use Rattle.std.proofs.Common.{◌+◌, ◌≤◌, length, arith, inl, inr, sym}
 use Rattle.bw_repair_file.proofs.plan.plan_at.Goals as goal
 
 pub returns-in-Err-check-clause-err : goal.returns-in-Err-check-clause-err

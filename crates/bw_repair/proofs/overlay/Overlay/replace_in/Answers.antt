@@ -1,5 +1,4 @@
-use Rattle.std.proofs.Common.{rules, ◌≡◌, ◌+◌, ◌-◌, ℕ, length, take, arith}
-use Rattle.std.specs.Prelude.{min}
+use Rattle.std.proofs.Common.{rules, ◌+◌, ◌-◌, arith}
 use Rattle.bw_repair.proofs.Overlays.{replaced}
 use Rattle.bw_repair.proofs.overlay.Overlay.replace_in.Goals as goal
 
