@@ -64,7 +64,7 @@ pub enum CommandLine {
 /// Parses a command line, whose first word is the program's own name.
 ///
 /// Which words run a task, and of what kind an error is, follows from `clap`'s own contract
-/// (`line`). In plain terms the contract says of thirty-seven forms that they run (`replay`,
+/// (`line`). In plain terms the contract says of thirty-eight forms that they run (`replay`,
 /// `rehearse`, `inspect`, `repair`, `serve`, `send`), of twenty-two which value is a fault (`values`,
 /// `peers`) and of fourteen what they print (`help`, `rehearse`, `inspect`, `repair`, `wanted`). Examples
 /// test that options may be given in all their forms and orders, and that all else is refused,
