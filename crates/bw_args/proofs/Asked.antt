@@ -19,7 +19,7 @@ use Rattle.bw_args.specs.Lines.{AsksNothing, GivesSender, GivesServer, GivesTrie
 use Rattle.bw_args.specs.Lines.{IsEndWithin, IsFirstBad, IsGood, IsLineFor, IsWayWithin, IsWishOf, IsWithin, Service}
 use Rattle.bw_args.specs.Lines.{FileUpload, Wish, looked_at, looked_at_trying, looked_at_waiting}
 use Rattle.bw_args.specs.Lines.{Replaying, Rehearsing, Inspecting, Packing, Sending, SendingPcm, Serving}
-use Rattle.bw_args.specs.Lines.{Uploading, PcmUpload, looked_at_samples, InspectingFiles}
+use Rattle.bw_args.specs.Lines.{Uploading, PcmUpload, looked_at_samples, InspectingFiles, Repairing}
 use Rattle.bw_args.specs.PcmSources.{GivesFormat, GivesSamples, PlainPcm, fruitless_of, is_unpaired}
 use Rattle.bw_args.specs.PcmSources.{samples_with}
 use Rattle.bw_args.specs.declared.commands.samples.WrittenFormat.{WrittenFormat}
@@ -29,7 +29,7 @@ use Rattle.bw_args.specs.declared.commands.sending.Tries.{Tries}
 use Rattle.bw_args.specs.declared.CommandLine.{CommandLine}
 use Rattle.bw_args.specs.declared.CommandLine.TheVariants.{Run, BadValue as Bad, Report}
 use Rattle.bw_args.specs.declared.Task.TheVariants.{Replay, Rehearse, Inspect, Serve, Send, SendFile, SendPcm}
-use Rattle.bw_args.specs.declared.Task.TheVariants.{Pack, InspectFiles}
+use Rattle.bw_args.specs.declared.Task.TheVariants.{Pack, InspectFiles, Repair}
 use Rattle.bw_args.proofs.WishLemmas.{one_count, other_name, same_way}
 use Rattle.bw_args.specs.declared.peers.End.{End}
 use Rattle.bw_args.specs.declared.peers.Journaling.{Journaling}
@@ -120,6 +120,7 @@ wished_good name options wish asked = go wish asked
     go (Rehearsing take_name limit) a = at (codes "rehearse") a.0 ((take_name, a.1), ((limit, a.2), tt))
     go (Inspecting path) a = at (codes "inspect") a.0 tt
     go (InspectingFiles inspection) a = at (codes "inspect") a.0 tt
+    go (Repairing path write) a = at (codes "repair") a.0 tt
     go (Serving server) a = at (codes "serve") a.0 (
       (server.listen, a.1.listens),
       (
@@ -283,6 +284,7 @@ no_file_line found given = (nothing, inr (refl, refl))
     nothing (Packing source) asked = other_name (codes "inspect") (codes "pack") refl _ refl asked.0
     nothing (Inspecting path) asked = let bad : None ≡ Some (path ∷ []) = none ∙ asked.1.from in cc
     nothing (InspectingFiles inspection) asked = let bad : None ≡ Some inspection.files = none ∙ asked.1.from in cc
+    nothing (Repairing path write) asked = other_name (codes "inspect") (codes "repair") refl _ refl asked.0
 
 -- the file to pack that is given is the one that is asked for
 pub source_asked : (found : Found) (path : Text) (source : PlainSource) → Some path ≡ first_value found (codes "file")
@@ -320,8 +322,37 @@ no_packed_line found given = (nothing, inr (refl, refl))
     nothing (Sending sender) asked = other_name (codes "pack") (codes "send") refl _ refl asked.0
     nothing (Uploading sender) asked = other_name (codes "pack") (codes "send") refl _ refl asked.0
     nothing (SendingPcm sender) asked = other_name (codes "pack") (codes "send") refl _ refl asked.0
+    nothing (Repairing path write) asked = other_name (codes "pack") (codes "repair") refl _ refl asked.0
     nothing (Packing source) asked =
         no_path source.path (given ∙ first_value-rows found (codes "file") ∙ asked.1.from)
+
+-- the file to repair that is given is the one that is asked for, and so is the writing
+pub repair_asked : (found : Found) (path : Text) (write : Bool) → Some path ≡ first_value found (codes "file")
+    → write ≡ is_set (first_value found (codes "write"))
+    → IsWishOf (Some (codes "repair", rows_of found)) (Repairing path write)
+repair_asked found path write given writes = (
+  refl,
+  sym (given ∙ first_value-rows found (codes "file")),
+  writes ∙ ap is_set (first_value-rows found (codes "write")),
+)
+
+-- without one, nothing is asked for, and no value is looked at
+pub no_repaired_line : (found : Found) → None ≡ first_value found (codes "file")
+    → IsLineFor (Some (codes "repair", rows_of found)) (Bad Limit)
+no_repaired_line found given = (nothing, inr (refl, refl))
+  where
+    nothing : AsksNothing (Some (codes "repair", rows_of found))
+    nothing (Replaying n k) asked = other_name (codes "repair") (codes "replay") refl _ refl asked.0
+    nothing (Rehearsing name n) asked = other_name (codes "repair") (codes "rehearse") refl _ refl asked.0
+    nothing (Inspecting path) asked = other_name (codes "repair") (codes "inspect") refl _ refl asked.0
+    nothing (Serving server) asked = other_name (codes "repair") (codes "serve") refl _ refl asked.0
+    nothing (Sending sender) asked = other_name (codes "repair") (codes "send") refl _ refl asked.0
+    nothing (Uploading sender) asked = other_name (codes "repair") (codes "send") refl _ refl asked.0
+    nothing (InspectingFiles inspection) asked = other_name (codes "repair") (codes "inspect") refl _ refl asked.0
+    nothing (SendingPcm sender) asked = other_name (codes "repair") (codes "send") refl _ refl asked.0
+    nothing (Packing source) asked = other_name (codes "repair") (codes "pack") refl _ refl asked.0
+    nothing (Repairing path write) asked =
+        no_path path (given ∙ first_value-rows found (codes "file") ∙ asked.1)
 
 -- the server that is given is the one that is asked for
 pub server_asked : (found : Found) (server : Service) → GivesServer (first_value found) server
@@ -545,6 +576,7 @@ line_limit (Some command) (Run (SendPcm sender)) asked = (
   given_block _ _ asked.1.samples,
 )
 line_limit (Some command) (Run (Pack source)) asked = tt
+line_limit (Some command) (Run (Repair file write)) asked = tt
 line_limit None (Run task) asked = absurd asked
 line_limit command (Bad value) asked = tt
 line_limit command (Report error) asked = tt

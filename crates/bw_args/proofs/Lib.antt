@@ -11,3 +11,4 @@ pub mod SenderLemmas
 pub mod PeerValueLemmas
 pub mod FileLemmas
 pub mod PcmLemmas
+pub mod RepairLemmas

@@ -16,7 +16,7 @@ use Rattle.bw_args.specs.PcmSources.{fruitless_of, samples_with}
 use Rattle.bw_args.specs.declared.commands.samples.WrittenFormat.{WrittenFormat}
 use Rattle.bw_args.specs.Lines.{GivesPcmUpload, GivesSender, GivesServer, GivesUpload, IsWishOf, Service}
 use Rattle.bw_args.specs.Lines.{FileUpload, PcmUpload, Wish, Inspecting, Packing, Rehearsing, Replaying}
-use Rattle.bw_args.specs.Lines.{Sending, SendingPcm, Serving, Uploading, InspectingFiles}
+use Rattle.bw_args.specs.Lines.{Sending, SendingPcm, Serving, Uploading, InspectingFiles, Repairing}
 use Rattle.bw_args.specs.Numbers.{most_block, most_exchanges, most_fruitless, most_recorders, most_seconds}
 use Rattle.bw_args.specs.Numbers.{number_written}
 use Rattle.bw_args.specs.Inspecting.{GivesInspection, PlainInspection, is_alone}
@@ -284,6 +284,9 @@ one_wish (Some command) (Uploading a) (SendingPcm b) x y =
 one_wish (Some command) (SendingPcm a) (Uploading b) x y =
     some_samples (given_on_line command.1) a.pcm y.1.unsampled x.1.samples
 one_wish (Some command) (Packing a) (Packing b) x y = ap Packing (one_source command.1 a b x.1 y.1)
+one_wish (Some command) (Repairing a v) (Repairing b w) x y =
+    let same : Some a ≡ Some b = sym x.1 ∙ y.1 in
+    let writes : v ≡ w = x.2 ∙ sym y.2 in cc
 one_wish (Some command) (Sending a) (Uploading b) x y = absurd (no_lines command.1 a b x.1 y.1)
 one_wish (Some command) (Uploading a) (Sending b) x y = absurd (no_lines command.1 b a y.1 x.1)
 one_wish (Some command) (Replaying a k) (Rehearsing b m) x y = other_name (codes "replay") (codes "rehearse") refl command.0 x.0 y.0
@@ -350,3 +353,21 @@ one_wish (Some command) (Packing a) (InspectingFiles b) x y = other_name (codes 
 one_wish (Some command) (InspectingFiles a) (Packing b) x y = other_name (codes "inspect") (codes "pack") refl command.0 x.0 y.0
 one_wish (Some command) (InspectingFiles a) (SendingPcm b) x y = other_name (codes "inspect") (codes "send") refl command.0 x.0 y.0
 one_wish (Some command) (SendingPcm a) (InspectingFiles b) x y = other_name (codes "send") (codes "inspect") refl command.0 x.0 y.0
+one_wish (Some command) (Replaying a k) (Repairing b w) x y = other_name (codes "replay") (codes "repair") refl command.0 x.0 y.0
+one_wish (Some command) (Rehearsing a n) (Repairing b w) x y = other_name (codes "rehearse") (codes "repair") refl command.0 x.0 y.0
+one_wish (Some command) (Inspecting a) (Repairing b w) x y = other_name (codes "inspect") (codes "repair") refl command.0 x.0 y.0
+one_wish (Some command) (Serving a) (Repairing b w) x y = other_name (codes "serve") (codes "repair") refl command.0 x.0 y.0
+one_wish (Some command) (Sending a) (Repairing b w) x y = other_name (codes "send") (codes "repair") refl command.0 x.0 y.0
+one_wish (Some command) (Uploading a) (Repairing b w) x y = other_name (codes "send") (codes "repair") refl command.0 x.0 y.0
+one_wish (Some command) (Packing a) (Repairing b w) x y = other_name (codes "pack") (codes "repair") refl command.0 x.0 y.0
+one_wish (Some command) (Repairing a v) (Replaying b j) x y = other_name (codes "repair") (codes "replay") refl command.0 x.0 y.0
+one_wish (Some command) (Repairing a v) (Rehearsing b m) x y = other_name (codes "repair") (codes "rehearse") refl command.0 x.0 y.0
+one_wish (Some command) (Repairing a v) (Inspecting b) x y = other_name (codes "repair") (codes "inspect") refl command.0 x.0 y.0
+one_wish (Some command) (Repairing a v) (Serving b) x y = other_name (codes "repair") (codes "serve") refl command.0 x.0 y.0
+one_wish (Some command) (Repairing a v) (Sending b) x y = other_name (codes "repair") (codes "send") refl command.0 x.0 y.0
+one_wish (Some command) (Repairing a v) (Uploading b) x y = other_name (codes "repair") (codes "send") refl command.0 x.0 y.0
+one_wish (Some command) (Repairing a v) (Packing b) x y = other_name (codes "repair") (codes "pack") refl command.0 x.0 y.0
+one_wish (Some command) (InspectingFiles a) (Repairing b w) x y = other_name (codes "inspect") (codes "repair") refl command.0 x.0 y.0
+one_wish (Some command) (SendingPcm a) (Repairing b w) x y = other_name (codes "send") (codes "repair") refl command.0 x.0 y.0
+one_wish (Some command) (Repairing a v) (InspectingFiles b) x y = other_name (codes "repair") (codes "inspect") refl command.0 x.0 y.0
+one_wish (Some command) (Repairing a v) (SendingPcm b) x y = other_name (codes "repair") (codes "send") refl command.0 x.0 y.0

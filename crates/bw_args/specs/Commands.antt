@@ -214,6 +214,14 @@ pack_command = with_rule
     (with_rule (with_rule (new_app (codes "pack")) file_argument) set_option)
     strict_flag
 
+-- `--write`
+abbrev pub write_flag : Rule
+write_flag = flag (codes "write")
+
+-- `repair`, with the file and its flag
+abbrev pub repair_command : App
+repair_command = with_rule (with_rule (new_app (codes "repair")) file_argument) write_flag
+
 -- the program, which has a version and requires a command
 abbrev pub program : App
 program = on_top (λ s. record s { has_version = true; subcommand_required = true })
@@ -228,6 +236,10 @@ offline =
     inspect_command.top)
     pack_command.top
 
+-- .. and those that change files in place
+abbrev pub on_files : App
+on_files = with_subcommand offline repair_command.top
+
 -- the whole
 abbrev pub command_line : App
-command_line = with_subcommand (with_subcommand offline serve_command.top) send_command.top
+command_line = with_subcommand (with_subcommand on_files serve_command.top) send_command.top

@@ -12,3 +12,4 @@ pub mod PeerForms
 pub mod FileForms
 pub mod PcmForms
 pub mod Inspecting
+pub mod RepairForms

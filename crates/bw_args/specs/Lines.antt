@@ -46,7 +46,7 @@ use Rattle.bw_args.specs.declared.Task.{Task}
 use Rattle.bw_args.specs.declared.commands.samples.WrittenFormat.{WrittenFormat}
 use Rattle.bw_args.specs.declared.commands.sending.Tries.{Tries}
 use Rattle.bw_args.specs.declared.Task.TheVariants.{Replay, Rehearse, Inspect, Serve, Send, SendFile, SendPcm}
-use Rattle.bw_args.specs.declared.Task.TheVariants.{Pack, InspectFiles}
+use Rattle.bw_args.specs.declared.Task.TheVariants.{Pack, InspectFiles, Repair}
 
 -- the server that a command line asks for
 pub record Service : Type 0 where
@@ -86,7 +86,8 @@ pub record PcmUpload : Type 0 where
 
 -- what may be asked for: a replay with this limit, in which the call of this number fails, or none;
 -- a rehearsal of the take of this name, with this limit; to inspect the file of this path, or files;
--- a server or a sender; the sender of a recording, of headerless samples, or a recording's requests
+-- a server or a sender; the sender of a recording, of headerless samples, or a recording's requests;
+-- the sizes that the file of this path lacks, to be written or not
 pub data Wish : Type 0 where
   Replaying : ℕ → Option ℕ → Wish
   Rehearsing : Text → ℕ → Wish
@@ -97,6 +98,7 @@ pub data Wish : Type 0 where
   Uploading : FileUpload → Wish
   SendingPcm : PcmUpload → Wish
   Packing : PlainSource → Wish
+  Repairing : Text → Bool → Wish
 
 -- what a task is about
 abbrev pub wish_of : Task → Wish
@@ -133,6 +135,7 @@ wish_of (SendPcm sender) = SendingPcm (record {
   log = sender.log;
 })
 wish_of (Pack source) = Packing (in_plain source)
+wish_of (Repair file write) = Repairing (string_bytes file) write
 
 -- what is given is this server
 pub record GivesServer (given : Text → Option Text) (server : Service) : Type 0 where
@@ -213,6 +216,9 @@ IsWishOf (Some command) (SendingPcm sender) =
     (command.0 ≡ codes "send") × GivesPcmUpload command.1 sender
 IsWishOf (Some command) (Packing source) =
     (command.0 ≡ codes "pack") × GivesSource command.1 source
+IsWishOf (Some command) (Repairing path write) =
+    (command.0 ≡ codes "repair") × (first_of (codes "file") command.1 ≡ Some path)
+    × (write ≡ is_set (first_of (codes "write") command.1))
 
 -- they ask for nothing
 abbrev pub AsksNothing : Option (Text × List Row) → Type 0
@@ -229,6 +235,7 @@ HasPath (Sending sender) = ⊥
 HasPath (Uploading sender) = ⊤
 HasPath (SendingPcm sender) = ⊤
 HasPath (Packing source) = ⊤
+HasPath (Repairing path write) = ⊤
 
 -- they ask for something of which a path is kept
 abbrev pub AsksForPath : Option (Text × List Row) → Type 0
@@ -365,5 +372,6 @@ HasNumbersInRange (Run (SendPcm sender)) = (0 < socket_port sender.connect)
     × ((1 ≤ sender.timeout) × (sender.timeout ≤ most_seconds))
     × IsWithin most_fruitless sender.fruitless × IsWithin most_block sender.pcm.block
 HasNumbersInRange (Run (Pack source)) = ⊤
+HasNumbersInRange (Run (Repair file write)) = ⊤
 HasNumbersInRange (Bad value) = ⊤
 HasNumbersInRange (Report error) = ⊤

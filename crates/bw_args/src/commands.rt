@@ -2,7 +2,8 @@
 ghost use Rattle.std.specs.Prelude.{◌≡◌, codes, Some, IfOk, OnErr};
 ghost use Rattle.clap.specs.Simple.{new_app};
 ghost use Rattle.clap.specs.Words.{app_of, first_value, found_of, rows_of, subcommand_rows_of};
-ghost use Rattle.bw_args.specs.Commands.{IsCommand, command_line, offline, program};
+ghost use Rattle.bw_args.specs.Commands.{IsCommand, command_line, offline, program, inspect_command};
+ghost use Rattle.bw_args.specs.Commands.{on_files};
 ghost use Rattle.bw_args.specs.Commands.{rehearse_command, replay_command};
 ghost use Rattle.bw_args.specs.Lines.{AsksForPath, IsFuseGiven, IsLimitGiven, IsLineFor};
 ghost use Rattle.bw_args.specs.Lines.{IsNameGiven};
@@ -12,6 +13,7 @@ mod network;
 mod options;
 mod packing;
 mod samples;
+mod repairing;
 mod sending;
 mod serving;
 mod sources;
@@ -30,9 +32,16 @@ struct NoNumber;
 pub fn bwingest<'a>(alloc: Global) -> Result<Command<'a>, AllocError>
     ensures { IfOk result (λ c. app_of c ≡ command_line) }
 {
-    offline(alloc)?
+    on_files(alloc)?
         .subcommand(serving::serve(alloc)?)?
         .subcommand(sending::send(alloc)?)
+}
+
+/// The program with these, and those that change files in place.
+fn on_files<'a>(alloc: Global) -> Result<Command<'a>, AllocError>
+    ensures { IfOk result (λ c. app_of c ≡ on_files) }
+{
+    offline(alloc)?.subcommand(repairing::repair(alloc)?)
 }
 
 /// The program with the commands that use no network.
@@ -102,6 +111,7 @@ pub fn line(alloc: Global, matches: &ArgMatches<'_>) -> Result<CommandLine, Allo
         Some(("serve", options)) => serving::serve_line(alloc, options),
         Some(("send", options)) => sending::send_line(alloc, options),
         Some(("pack", options)) => packing::pack_line(alloc, options),
+        Some(("repair", options)) => repairing::repair_line(alloc, options),
         // `clap` refuses words without a command of ours.
         _ => Ok(CommandLine::BadValue(BadValue::Limit)),
     }

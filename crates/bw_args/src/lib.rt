@@ -9,6 +9,7 @@ ghost use Rattle.bw_args.specs.Forms.{ReportsHelp};
 ghost use Rattle.bw_args.specs.PeerForms.{RefusesPeers, RunsSender, RunsServer, WantsPeers};
 ghost use Rattle.bw_args.specs.FileForms.{RefusesFiles, RunsFileSender, RunsPack};
 ghost use Rattle.bw_args.specs.PcmForms.{RefusesSamples, RunsPcmSender};
+ghost use Rattle.bw_args.specs.RepairForms.{RunsRepair};
 
 mod addresses;
 mod bad_value;
@@ -52,6 +53,8 @@ pub enum Task {
     SendPcm(PcmSender),
     /// Print the requests of a recording.
     Pack(SourceFile),
+    /// Report which sizes the file at this path lacks; write them into it, if `write` says so.
+    Repair { file: String, write: bool },
 }
 
 /// What a command line results in.
@@ -68,10 +71,10 @@ pub enum CommandLine {
 /// Parses a command line, whose first word is the program's own name.
 ///
 /// Which words run a task, and of what kind an error is, follows from `clap`'s own contract
-/// (`line`). In plain terms the contract says of forty-two forms that they run (`replay`,
-/// `rehearse`, `inspect`, `serve`, `send`, `send_pcm`), of twenty-nine which value is a fault
-/// (`values`, `peers`, `samples`) and of twelve what they print (`help`, `rehearse`, `inspect`,
-/// `wanted`). Examples
+/// (`line`). In plain terms the contract says of forty-six forms that they run (`replay`,
+/// `rehearse`, `inspect`, `repair`, `serve`, `send`, `send_pcm`), of twenty-nine which value is a
+/// fault (`values`, `peers`, `samples`) and of thirteen what they print (`help`, `rehearse`,
+/// `inspect`, `repair`, `wanted`). Examples
 /// test that options may be given in all their forms and orders, and that all else is refused,
 /// except `--` at the end or before a file.
 ///
@@ -94,6 +97,7 @@ pub fn parse(alloc: Global, words: &[String]) -> Result<CommandLine, AllocError>
     ensures peers { IfOk result (RefusesPeers (map string_bytes words.now)) }
     ensures wanted { IfOk result (WantsPeers (map string_bytes words.now)) }
     ensures pack { IfOk result (RunsPack (map string_bytes words.now)) }
+    ensures repair { IfOk result (RunsRepair (map string_bytes words.now)) }
     ensures send_file { IfOk result (RunsFileSender (map string_bytes words.now)) }
     ensures files { IfOk result (RefusesFiles (map string_bytes words.now)) }
     ensures send_pcm { IfOk result (RunsPcmSender (map string_bytes words.now)) }

@@ -5,3 +5,4 @@ pub mod Packed
 pub mod Sides
 pub mod Uploads
 pub mod PcmUploads
+pub mod Repaired

@@ -12,7 +12,7 @@ use Rattle.bw_args.specs.declared.CommandLine.{CommandLine}
 use Rattle.bw_args.specs.declared.CommandLine.TheVariants.{Run, BadValue as Bad, Report}
 use Rattle.bw_args.specs.declared.Task.{Task}
 use Rattle.bw_args.specs.declared.Task.TheVariants.{Replay, Inspect, Rehearse, Serve, Send, SendFile, SendPcm}
-use Rattle.bw_args.specs.declared.Task.TheVariants.{Pack, InspectFiles}
+use Rattle.bw_args.specs.declared.Task.TheVariants.{Pack, InspectFiles, Repair}
 use Rattle.bw_console.specs.Outcomes.{Outcome, Does, IsOutOfMemory}
 use Rattle.bw_commands.specs.Replays.{IsReplay}
 use Rattle.bw_console.specs.Faults.{IsReportedBy, exit_of}
@@ -30,6 +30,7 @@ use Rattle.bw_ports.specs.declared.starts.Starts.{Ghosts as StartGhosts}
 use Rattle.bw_session.specs.declared.server.Server.{Server}
 use Rattle.bw_cli.specs.Inspected.{InspectsFiles}
 use Rattle.bw_cli.specs.Packed.{Packs}
+use Rattle.bw_cli.specs.Repaired.{RepairsFile}
 use Rattle.bw_cli.specs.Remote.{Sends, ServesByRule}
 use Rattle.bw_cli.specs.PcmUploads.{SendsPcm}
 use Rattle.bw_cli.specs.Uploads.{SendsRecording}
@@ -82,6 +83,7 @@ IsTaskDone file_at input (Send sender) gives_all did = ⊥
 IsTaskDone file_at input (SendFile sender) gives_all did = ⊥
 IsTaskDone file_at input (SendPcm sender) gives_all did = ⊥
 IsTaskDone file_at input (Pack source) gives_all did = ⊥
+IsTaskDone file_at input (Repair file write) gives_all did = ⊥
 
 -- for a command line
 abbrev pub IsLineDone : (Text → Option (List ℕ)) → Option (List ℕ) → CommandLine → Bool →
@@ -97,7 +99,7 @@ abbrev pub IsUnread : Bool → Outcome → Type 0
 IsUnread true did = IsOutOfMemory did
 IsUnread false did = (kind : ErrorKind) × IsBadArgv kind did
 
-module _ {S T F H G M N X Y Z P R W L K D A B U J Q I O E V C : Type 0} (host : HostSide S T F H G M I O E)
+module _ {S T F H G M Ed N X Y Z P R W L K D A B U J Q I O E V C : Type 0} (host : HostSide S T F H G M Ed I O E)
     (server_side : ServerSide X Y Z P R W L K N) (sender_side : SenderSide D A B)
     (upload_side : UploadSide U J Q) (network : NetworkGhosts N X P D R W A B) (listener_setup : ListenerSetupGhosts N L K)
     (starter : StartGhosts N (Server X Y server_side.store server_side.journal)) where
@@ -145,6 +147,11 @@ module _ {S T F H G M N X Y Z P R W L K D A B U J Q I O E V C : Type 0} (host : 
   IsDoneFor file_at failed (Run (InspectFiles inspection)) exit x x' =
       InspectsFiles host.out host.reported (host.files.file_at x.files) inspection exit
       (host.files.failures x.files) (host.files.failures x'.files) x.out x'.out x.faults x'.faults
+      × IsHostWell failed x' × (x'.network ≡ x.network) × (x'.input ≡ x.input)
+      × (x'.pause ≡ x.pause)
+  IsDoneFor file_at failed (Run (Repair file write)) exit x x' =
+      RepairsFile host.edits host.out host.reported (string_bytes file) write exit
+      x.files x'.files x.out x'.out x.faults x'.faults
       × IsHostWell failed x' × (x'.network ≡ x.network) × (x'.input ≡ x.input)
       × (x'.pause ≡ x.pause)
   IsDoneFor file_at failed line exit x x' =

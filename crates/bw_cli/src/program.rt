@@ -21,10 +21,12 @@ use bw_commands::replay::{replay, replay_fused};
 use bw_commands::{inspect_file, rehearse_run};
 use bw_console::print::{give_up, print, print_diagnostic};
 use bw_console::{Exit, Fault, report_bad_argv};
+use bw_edit::EditedFiles;
 use bw_journal::{Journal, NoJournal};
 use bw_layout::Limit;
 use bw_one_name::NameRule;
 use bw_ports::{ListenerSetup, Network, Pause, RecordingFiles, Starts, System, Watch};
+use bw_repair_file::repair_file;
 use bw_send_file::PlanFeed;
 use bw_send_pcm::PcmFeed;
 use bw_session::Server;
@@ -43,7 +45,7 @@ use std::process::ExitCode;
 /// - The texts of help, version and usage errors.
 pub fn start<
     S: System,
-    F: RecordingFiles,
+    F: RecordingFiles + EditedFiles,
     J: Journal,
     N: Network + ListenerSetup + Starts<Server<N::Store, J>> + NameRule,
     P: Pause,
@@ -54,7 +56,7 @@ pub fn start<
     G: Observer,
 >(alloc: Global, outside: &mut Outside<S, F, N, P, R, W, E, V, G>) -> ExitCode
     ensures { (exit : Exit) × (exit_status result ≡ status_of exit) × IsProgram
-        (host_side S.System F.RecordingFiles R.Source W.Sink E.Sink)
+        (host_side S.System F.RecordingFiles F.EditedFiles R.Source W.Sink E.Sink)
         (server_side N.Store.TakeStore J.Journal ⟦<NoJournal as Journal>⟧ N.Peers.Peers
         N.Peers.Reader.Source N.Peers.Writer.Sink N.Reactor.Reactor N.Reactor.Link.Link N.NameRule)
         (sender_side N.Dial.Dial N.Dial.Reader.Source N.Dial.Writer.Sink)
@@ -68,7 +70,7 @@ pub fn start<
 /// Reads the command line, and does what it asks for.
 fn obey<
     S: System,
-    F: RecordingFiles,
+    F: RecordingFiles + EditedFiles,
     J: Journal,
     N: Network + ListenerSetup + Starts<Server<N::Store, J>> + NameRule,
     P: Pause,
@@ -78,7 +80,7 @@ fn obey<
     V: Watch,
     G: Observer,
 >(alloc: Global, outside: &mut Outside<S, F, N, P, R, W, E, V, G>) -> Exit
-    ensures { IsProgram (host_side S.System F.RecordingFiles R.Source W.Sink E.Sink)
+    ensures { IsProgram (host_side S.System F.RecordingFiles F.EditedFiles R.Source W.Sink E.Sink)
         (server_side N.Store.TakeStore J.Journal ⟦<NoJournal as Journal>⟧ N.Peers.Peers
         N.Peers.Reader.Source N.Peers.Writer.Sink N.Reactor.Reactor N.Reactor.Link.Link N.NameRule)
         (sender_side N.Dial.Dial N.Dial.Reader.Source N.Dial.Writer.Sink)
@@ -95,7 +97,7 @@ fn obey<
 /// Does what these words ask for.
 fn answer<
     S: System,
-    F: RecordingFiles,
+    F: RecordingFiles + EditedFiles,
     J: Journal,
     N: Network + ListenerSetup + Starts<Server<N::Store, J>> + NameRule,
     P: Pause,
@@ -105,7 +107,7 @@ fn answer<
     V: Watch,
     G: Observer,
 >(alloc: Global, words: &[String], outside: &mut Outside<S, F, N, P, R, W, E, V, G>) -> Exit
-    ensures { IsProgram (host_side S.System F.RecordingFiles R.Source W.Sink E.Sink)
+    ensures { IsProgram (host_side S.System F.RecordingFiles F.EditedFiles R.Source W.Sink E.Sink)
         (server_side N.Store.TakeStore J.Journal ⟦<NoJournal as Journal>⟧ N.Peers.Peers
         N.Peers.Reader.Source N.Peers.Writer.Sink N.Reactor.Reactor N.Reactor.Link.Link N.NameRule)
         (sender_side N.Dial.Dial N.Dial.Reader.Source N.Dial.Writer.Sink)
@@ -122,7 +124,7 @@ fn answer<
 /// Does what a command line asks for.
 fn perform<
     S: System,
-    F: RecordingFiles,
+    F: RecordingFiles + EditedFiles,
     J: Journal,
     N: Network + ListenerSetup + Starts<Server<N::Store, J>> + NameRule,
     P: Pause,
@@ -133,7 +135,7 @@ fn perform<
     G: Observer,
 >(alloc: Global, line: &CommandLine, outside: &mut Outside<S, F, N, P, R, W, E, V, G>) -> Exit
     requires { HasNumbersInRange line.now }
-    ensures { IsDoneFor (host_side S.System F.RecordingFiles R.Source W.Sink E.Sink)
+    ensures { IsDoneFor (host_side S.System F.RecordingFiles F.EditedFiles R.Source W.Sink E.Sink)
         (server_side N.Store.TakeStore J.Journal ⟦<NoJournal as Journal>⟧ N.Peers.Peers
         N.Peers.Reader.Source N.Peers.Writer.Sink N.Reactor.Reactor N.Reactor.Link.Link N.NameRule)
         (sender_side N.Dial.Dial N.Dial.Reader.Source N.Dial.Writer.Sink)
@@ -155,7 +157,7 @@ fn perform<
 /// Runs a task.
 fn run<
     S: System,
-    F: RecordingFiles,
+    F: RecordingFiles + EditedFiles,
     J: Journal,
     N: Network + ListenerSetup + Starts<Server<N::Store, J>> + NameRule,
     P: Pause,
@@ -166,7 +168,7 @@ fn run<
     G: Observer,
 >(alloc: Global, task: &Task, outside: &mut Outside<S, F, N, P, R, W, E, V, G>) -> Exit
     requires { HasNumbersInRange (CommandLine.Run task.now) }
-    ensures { IsDoneFor (host_side S.System F.RecordingFiles R.Source W.Sink E.Sink)
+    ensures { IsDoneFor (host_side S.System F.RecordingFiles F.EditedFiles R.Source W.Sink E.Sink)
         (server_side N.Store.TakeStore J.Journal ⟦<NoJournal as Journal>⟧ N.Peers.Peers
         N.Peers.Reader.Source N.Peers.Writer.Sink N.Reactor.Reactor N.Reactor.Link.Link N.NameRule)
         (sender_side N.Dial.Dial N.Dial.Reader.Source N.Dial.Writer.Sink)
@@ -215,6 +217,9 @@ fn run<
             send_pcm_as(alloc, sender, files, network, pause, observer, out, faults)
         }
         Task::Pack(source) => pack_as(alloc, source, files, out, faults),
+        Task::Repair { file, write } => {
+            repair_file(alloc, files, file.as_str(), *write, out, faults)
+        }
     }
 }
 

@@ -2,6 +2,7 @@
 //! words.
 #![tactic(auto)]
 
+mod edits;
 mod folder;
 mod followed;
 mod host;

@@ -14,8 +14,8 @@ use std::time::UNIX_EPOCH;
 /// no clause of std says what they are.
 #[derive(Drop)]
 pub struct HostRecordings<'a> {
-    rt: &'a HostRuntime,
-    failures: u64,
+    pub(crate) rt: &'a HostRuntime,
+    pub(crate) failures: u64,
 }
 
 impl<'a> HostRecordings<'a> {

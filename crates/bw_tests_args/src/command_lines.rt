@@ -523,6 +523,23 @@ fn a_pack_takes_a_file_and_its_settings(rt: HostRuntime) -> Result<(), AllocErro
     lines_come_to(&rt, rt.alloc(), &["bwingest", "pack"], &PACKS)
 }
 
+const REPAIRS: Outcome = Outcome::Repairs { is_written: true };
+
+static REPAIR_LINES: [Line; 7] = [
+    (&["--", "-f"], Outcome::Repairs { is_written: false }),
+    (&["--write", "--", "-f"], REPAIRS),
+    (&[], Outcome::Refuses),
+    (&["-f"], Outcome::Refuses),
+    (&["--write"], Outcome::Refuses),
+    (&["--", "-f", "-f"], Outcome::Refuses),
+    (&["--write=true", "--", "-f"], Outcome::Refuses),
+];
+
+#[test]
+fn a_repair_takes_a_file_and_a_flag(rt: HostRuntime) -> Result<(), AllocError> {
+    lines_come_to(&rt, rt.alloc(), &["bwingest", "repair"], &REPAIR_LINES)
+}
+
 /// Addresses, with the outcome without `--network` and with it.
 static ADDRESSES: [(&str, Outcome, Outcome); 20] = [
     ("127.0.0.1:4100", PLAIN, PLAIN),

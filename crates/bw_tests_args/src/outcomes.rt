@@ -46,6 +46,8 @@ pub(crate) enum Outcome {
     Follows(u32, Option<u32>, Option<u32>),
     /// Packs the recording `-f`.
     Packs(Said),
+    /// Repairs the file `-f`, and writes it or doesn't.
+    Repairs { is_written: bool },
     /// Text on standard output, status 0.
     Shows,
     /// Text on standard error, status 2.
@@ -102,6 +104,10 @@ fn run_outcome(task: &Task, words: &[&str]) -> Outcome {
             Some(said) => Outcome::Packs(said),
             None => Outcome::Confuses,
         },
+        Task::Repair { file, write } if file.as_str() == "-f" => Outcome::Repairs {
+            is_written: *write,
+        },
+        Task::Repair { .. } => Outcome::Confuses,
     }
 }
 

@@ -3,6 +3,7 @@ use Rattle.std.proofs.lemmas.Result.{IfOk-weaker}
 use Rattle.bw_args.specs.ReadWords.{as_read}
 use Rattle.bw_args.proofs.Asked.{line_limit}
 use Rattle.bw_args.proofs.FileLemmas.{refuses_files, runs_file_sender, runs_pack}
+use Rattle.bw_args.proofs.RepairLemmas.{runs_repair}
 use Rattle.bw_args.proofs.FormLemmas.{runs_inspect, runs_replay, reports_help}
 use Rattle.bw_args.proofs.LineLemmas.{line_asked, line_of_read, reported_line, reported_result}
 use Rattle.bw_args.proofs.RehearsalLemmas.{runs_rehearsal}
@@ -90,6 +91,12 @@ returns-in-Ok-clause-pack c = IfOk-weaker c.line.result _ _ (runs_pack _) (retur
 
 pub returns-clause-pack : goal.returns-clause-pack
 returns-clause-pack c = IfOk-weaker c.reported.result _ _ (runs_pack _) (returns-clause-line c)
+
+pub returns-in-Ok-clause-repair : goal.returns-in-Ok-clause-repair
+returns-in-Ok-clause-repair c = IfOk-weaker c.line.result _ _ (runs_repair _) (returns-in-Ok-clause-line c)
+
+pub returns-clause-repair : goal.returns-clause-repair
+returns-clause-repair c = IfOk-weaker c.reported.result _ _ (runs_repair _) (returns-clause-line c)
 
 pub returns-in-Ok-clause-send_file : goal.returns-in-Ok-clause-send_file
 returns-in-Ok-clause-send_file c = IfOk-weaker c.line.result _ _ (runs_file_sender _) (returns-in-Ok-clause-line c)

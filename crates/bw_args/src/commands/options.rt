@@ -7,6 +7,7 @@ ghost use Rattle.bw_args.specs.Commands.{file_option, fruitless_option, journal_
 ghost use Rattle.bw_args.specs.Commands.{rounds_option, set_option, strict_flag, sync_flag};
 ghost use Rattle.bw_args.specs.Commands.{timeout_option, until_stopped_flag, block_option, follow_flag};
 ghost use Rattle.bw_args.specs.Commands.{pcm_option, skip_option, until_option, files_argument, json_flag};
+ghost use Rattle.bw_args.specs.Commands.{write_flag};
 
 use clap::{Arg, ArgAction};
 use std::alloc::Global;
@@ -271,4 +272,11 @@ pub(crate) fn until_option<'a>(alloc: Global) -> Arg<'a>
 {
     let help = "With --follow: a path that exists once the recording has ended";
     value_option(alloc, "until", "END", help)
+}
+
+pub(crate) fn write_flag<'a>(alloc: Global) -> Arg<'a>
+    ensures { IsOption write_flag result }
+{
+    let help = "Writes the sizes into the file; without it they are only printed";
+    flag_option(alloc, "write", help)
 }

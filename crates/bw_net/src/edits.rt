@@ -1,0 +1,43 @@
+//! Files that are changed in place, by the calls of std.
+ghost use Rattle.std.specs.Prelude.{◌≡◌, None};
+
+use crate::host::open_source;
+use crate::recordings::HostRecordings;
+use bw_edit::EditedFiles;
+use bw_stream::SeekSource;
+use std::fs::{File, OpenFile, OpenOptions};
+use std::io::{self, Seek, SeekFrom, Write};
+
+/// The files of this machine. It doesn't report their bytes, since no clause of std says what they
+/// are.
+impl EditedFiles for HostRecordings<'_> {
+    type Edited = SeekSource<File>;
+
+    ghost content_at = { λ s path. None };
+
+    ghost edit_failures = { λ s. s.failures };
+
+    fn open_edited(&mut self, path: &str) -> io::Result<SeekSource<File>> {
+        let opened = open_source(self.rt, path);
+        if opened.is_err() {
+            self.failures = self.failures.saturating_add(1);
+        }
+        opened
+    }
+
+    fn overwrite(&mut self, path: &str, place: u64, bytes: &[u8]) -> io::Result<()> {
+        let written = write_in_place(self.rt, path, place, bytes);
+        if written.is_err() {
+            self.failures = self.failures.saturating_add(1);
+        }
+        written
+    }
+}
+
+/// Writes bytes into a file that is there, from a place on, and syncs it.
+fn write_in_place(rt: &HostRuntime, path: &str, place: u64, bytes: &[u8]) -> io::Result<()> {
+    let mut file = OpenOptions::new().read(true).write(true).open(rt, path)?;
+    file.seek(SeekFrom::Start(place))?;
+    file.write_all(bytes)?;
+    file.sync_all()
+}

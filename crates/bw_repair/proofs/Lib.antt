@@ -1,0 +1,4 @@
+pub mod Overlays
+pub mod Steps
+pub mod Heads
+pub mod SizeLaws

@@ -1,0 +1,7 @@
+pub mod Faults
+pub mod Overlays
+pub mod DataHeads
+pub mod Steps
+pub mod Near
+pub mod Decisions
+pub mod Repaired

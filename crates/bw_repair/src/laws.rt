@@ -1,0 +1,7 @@
+//! Laws of repairs: functions that do nothing, whose contracts are the statements.
+ghost use Rattle.bw_repair.specs.Repaired.{SizesAloneChange};
+
+/// A file with other sizes is as long, and has the same bytes but for the two sizes.
+pub fn law_sizes()
+    ensures alone { SizesAloneChange }
+{}

@@ -1,0 +1,80 @@
+//! A file with other bytes in one place.
+ghost use Rattle.std.specs.Prelude.{◌≡◌, ◌-◌, ◌≤◌, ℕ, List, Some, option_map, drop, length};
+ghost use Rattle.bw_repair.specs.Overlays.{overlaid};
+
+use bw_stream::{IoFailed, Source};
+
+/// A reader whose bytes at one place are others.
+#[derive(Drop)]
+pub struct Overlay<'a, R> {
+    inner: R,
+    /// How many bytes are still to come before the place.
+    ahead: u64,
+    /// The other bytes that are still to come.
+    others: &'a [u8],
+}
+
+impl<'a, R> Overlay<'a, R> {
+    /// A reader at its start with these bytes from a place on, as far as it has any there.
+    pub fn new(inner: R, place: u64, others: &'a [u8]) -> Overlay<'a, R>
+        ensures inner { result.inner ≡ inner }
+        ensures ahead { result.ahead ≡ place }
+        ensures others { result.others.now ≡ others.now }
+    {
+        Overlay {
+            inner,
+            ahead: place,
+            others,
+        }
+    }
+
+    /// Puts the other bytes into a piece that comes next.
+    fn replace_in(&mut self, piece: &mut [u8])
+        ensures piece { piece.new ≡ overlaid self.old.ahead self.old.others.now piece.old }
+        ensures inner { self.new.inner ≡ self.old.inner }
+        ensures ahead { self.new.ahead ≡ self.old.ahead - length piece.old }
+        ensures others { self.new.others.now ≡
+            drop (length piece.old - self.old.ahead) self.old.others.now }
+    {
+        let start = self.ahead.min(piece.len() as u64) as usize;
+        let count = self.others.len().min(piece.len() - start);
+        let (here, later) = self.others.split_at(count);
+        piece[start..start + count].copy_from_slice(here);
+        self.others = later;
+        self.ahead -= start as u64;
+    }
+
+    /// Goes on after so many bytes.
+    fn pass(&mut self, count: u64)
+        ensures inner { self.new.inner ≡ self.old.inner }
+        ensures ahead { self.new.ahead ≡ self.old.ahead - count }
+        ensures others { self.new.others.now ≡ drop (count - self.old.ahead) self.old.others.now }
+    {
+        let start = self.ahead.min(count);
+        let gone = (count - start).min(self.others.len() as u64) as usize;
+        self.others = &self.others[gone..];
+        self.ahead -= start;
+    }
+}
+
+impl<R: Source> Source for Overlay<'_, R> {
+    ghost left = { λ s. option_map (overlaid s.ahead s.others.now) (R.left s.inner) };
+
+    ghost moved = { λ s. R.moved s.inner };
+
+    ghost calls = { λ s. R.calls s.inner };
+
+    ghost failures = { λ s. R.failures s.inner };
+
+    fn read(&mut self, buf: &mut [u8]) -> Result<usize, IoFailed> {
+        let count = self.inner.read(buf)?;
+        self.replace_in(&mut buf[..count]);
+        Ok(count)
+    }
+
+    fn skip(&mut self, most: u64) -> Result<u64, IoFailed> {
+        let count = self.inner.skip(most)?;
+        self.pass(count);
+        Ok(count)
+    }
+}

@@ -1,0 +1,4 @@
+pub mod Soundnesses
+pub mod Writes
+pub mod Texts
+pub mod Repairs
