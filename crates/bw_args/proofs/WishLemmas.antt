@@ -230,6 +230,7 @@ one_pcm_upload options a b x y =
 some_samples : {P : Type 0} (given : Text → Option Text) (pcm : PlainPcm) → GivesSamples given None
     → GivesSamples given (Some pcm) → P
 some_samples given pcm x y = let bad : None ≡ Some pcm = one_samples given None (Some pcm) x y in cc
+
 one_inspection : (options : List Row) (a b : PlainInspection) → GivesInspection options a → GivesInspection options b → a ≡ b
 one_inspection options a b x y =
     let from : Some a.files ≡ Some b.files = sym x.from ∙ y.from in

@@ -80,11 +80,35 @@ fn put_texts(
     ensures { OnOk result (members_view members.new.entries
         ≡ with_texts fields.now.0 (members_view members.old.entries)) }
 {
-    put_text(alloc, members, "description", "description_hex", &fields.description)?;
-    put_text(alloc, members, "originator", "originator_hex", &fields.originator)?;
-    put_text(alloc, members, "reference", "reference_hex", &fields.originator_reference)?;
+    put_text(
+        alloc,
+        members,
+        "description",
+        "description_hex",
+        &fields.description,
+    )?;
+    put_text(
+        alloc,
+        members,
+        "originator",
+        "originator_hex",
+        &fields.originator,
+    )?;
+    put_text(
+        alloc,
+        members,
+        "reference",
+        "reference_hex",
+        &fields.originator_reference,
+    )?;
     put_text(alloc, members, "date", "date_hex", &fields.origination_date)?;
-    put_text(alloc, members, "clock", "clock_hex", &fields.origination_time)?;
+    put_text(
+        alloc,
+        members,
+        "clock",
+        "clock_hex",
+        &fields.origination_time,
+    )?;
     Ok(())
 }
 

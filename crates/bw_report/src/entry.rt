@@ -74,11 +74,7 @@ fn with_report(text: Vec<u8>, report: &Report) -> Result<Vec<u8>, AllocError>
 }
 
 /// The text with the line of a fault below it.
-fn with_fault(
-    alloc: Global,
-    text: Vec<u8>,
-    fault: &InspectFault,
-) -> Result<Vec<u8>, AllocError>
+fn with_fault(alloc: Global, text: Vec<u8>, fault: &InspectFault) -> Result<Vec<u8>, AllocError>
     ensures { IfOk result (λ v. v.items ≡ text.items ++ fault_entry fault.now) }
 {
     let line = format!(in alloc; "fault {fault}\n")?;

@@ -38,9 +38,7 @@ fn found_value(alloc: Global, name: &str, found: &Found) -> Result<Value, AllocE
 {
     match found {
         Found::Read { report, digest } => report_value(alloc, name, report, digest),
-        Found::Faulty(fault) => {
-            fault_value(alloc, name, fault.kind.name(), Some(fault.offset))
-        }
+        Found::Faulty(fault) => { fault_value(alloc, name, fault.kind.name(), Some(fault.offset)) }
         Found::Unopened(_) => fault_value(alloc, name, "Open", None),
     }
 }

@@ -614,7 +614,10 @@ static TEXTS: [(&[&str], &str); 13] = [
         &["/tmp/x", "replay", "--help"],
         "Usage: bwingest replay [OPTIONS]\n",
     ),
-    (&["/tmp/x", "inspect"], "Usage: bwingest inspect <FILE>...\n"),
+    (
+        &["/tmp/x", "inspect"],
+        "Usage: bwingest inspect <FILE>...\n",
+    ),
     (
         &["/tmp/x", "serve", "--help"],
         "Example: bwingest serve --listen 127.0.0.1:4100 --folder takes --recorders 16 --journal\n",

@@ -48,10 +48,7 @@ pub(crate) fn inspect_line(
         }
         None => {
             let files = copies_of(alloc, paths)?;
-            Ok(CommandLine::Run(Task::InspectFiles(Inspection {
-                files,
-                json,
-            })))
+            Ok(CommandLine::Run(Task::InspectFiles(Inspection { files, json })))
         }
     }
 }
