@@ -1,10 +1,9 @@
 -- Commands of senders that ended with status 0.
 use mathlib.Core.Logic.{inl, inr}
-use Rattle.std.proofs.Common.{◌≡◌, ◌<◌, ◌⊎◌, ℕ, Option, List, [], ◌∷◌, ◌++◌, length, Result, Ok, Err, refl, sym, ◌∙◌, ap, subst, append-nil}
+use Rattle.std.proofs.Common.{◌≡◌, ◌<◌, ◌⊎◌, ℕ, Option, List, [], ◌∷◌, length, Result, Ok, Err, refl, sym, ◌∙◌, ap, subst, append-nil}
 use Rattle.bw_model.specs.Take.{Request}
 use Rattle.bw_stream.specs.declared.sink.Sink.{Ghosts as Writer}
 use Rattle.bw_stream.specs.declared.source.Source.{Ghosts as Reader}
-use Rattle.bw_console.specs.Outcomes.{Outcome}
 use Rattle.bw_console.specs.Printing.{Print, Whole}
 use Rattle.bw_console.specs.declared.exit.Exit.{Exit}
 use Rattle.bw_console.specs.declared.exit.Exit.TheVariants.{Done, Refused, Device, Memory}
@@ -12,16 +11,15 @@ use Rattle.bw_console.specs.declared.fault.Fault.{Fault}
 use Rattle.bw_console.specs.declared.fault.Fault.TheVariants as faults
 use Rattle.bw_ports.specs.declared.dial.Dial.{Ghosts as DialGhosts}
 use Rattle.bw_ports.specs.declared.pause.Pause.{Ghosts as PauseGhosts}
-use Rattle.bw_send.specs.Sends.{IsSendRun, IsPrintOfSend, PrintsSender, exit_of_send}
+use Rattle.bw_send.specs.Sends.{IsPrintOfSend, PrintsSender, exit_of_send}
 use Rattle.bw_model.specs.Replies.{Reply}
 use Rattle.bw_send.specs.RoundsMade.{AreRounds, MakesRounds}
 use Rattle.bw_send.specs.SendState.{Sending, IsSettled, hear_in, new_sending, offer_more}
 use Rattle.bw_send.proofs.OfferSteps.{more_keeps}
 use Rattle.bw_upload.specs.declared.feed.Feed.{Ghosts as FeedGhosts}
-use Rattle.bw_send_file.specs.Sendings.{Errand, Ways, IsFeedSent}
 use Rattle.bw_send_file.specs.declared.fault.FeedFault.{FeedFault}
-use Rattle.bw_end_to_end.specs.SentFiles.{StoresFeed, DoneFeedsAreStored}
-use Rattle.bw_end_to_end.specs.SentInRounds.{SendsAll, DoneSendsStoreAll}
+use Rattle.bw_end_to_end.specs.SentFiles.{DoneFeedsAreStored}
+use Rattle.bw_end_to_end.specs.SentInRounds.{DoneSendsStoreAll}
 
 refused_ends : Refused ≡ Done → ⊥
 refused_ends e = cc

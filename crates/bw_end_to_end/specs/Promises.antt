@@ -1,8 +1,7 @@
 -- A server and a sender, joined by links.
-use Rattle.std.specs.Prelude.{◌≡◌, ◌<◌, ◌⊎◌, ℕ, false, Option, Some, IsTrue, is_some, List, length}
+use Rattle.std.specs.Prelude.{◌≡◌, ◌⊎◌, ℕ, false, Option, IsTrue, is_some, List, length}
 use Rattle.std.specs.List.{AllByRecursion, Contains, list_any}
-use Rattle.bw_model.specs.Bytes.{at}
-use Rattle.bw_model.specs.Take.{Request, Verdict, Stored}
+use Rattle.bw_model.specs.Take.{Request, Verdict}
 use Rattle.bw_model.specs.File.{file_of}
 use Rattle.bw_model.specs.Book.{Book, log_of, made_by}
 use Rattle.bw_model.specs.Exchange.{take_in}

@@ -1,0 +1,17 @@
+//! What a sender's requests come to where servers follow one another: laws of the definitions, which
+//! nothing runs.
+#![tactic(auto)]
+
+ghost use Rattle.bw_restarts.specs.Restarts.{ClosedLivesStay, CutBooksGoOn, LivesDeliver};
+ghost use Rattle.bw_restarts.specs.Restarts.{StoredLivesAreWhole};
+
+/// Servers follow one another over one folder, each from the done numbers that the one before left:
+/// whichever of them a verdict comes from, it is that of the one done number. Once each request is
+/// heard to be stored, the last server's take is what they make, and if one of them is a CLOSE, an
+/// honest store has that take's file from then on.
+pub fn law_restarts()
+    ensures cut { CutBooksGoOn }
+    ensures heard { LivesDeliver }
+    ensures whole { StoredLivesAreWhole }
+    ensures closed { ClosedLivesStay }
+{}
