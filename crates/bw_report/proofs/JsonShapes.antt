@@ -1,21 +1,22 @@
 -- What is found has no float as JSON, and few levels, so that its text is pinned and reads back.
-use Rattle.std.proofs.Common.{◌≡◌, ℕ, suc, ◌+◌, ◌≤◌, max, Bool, true, false, List, [], ◌∷◌, map, Option, Some, None}
+use Rattle.std.proofs.Common.{◌≡◌, ℕ, suc, ◌≤◌, max, Bool, true, false, List, [], ◌∷◌, map, Option, Some, None}
 use Rattle.std.proofs.Common.{refl, arith, rules, if◌then◌else◌, nat_lt, ◌==◌, codes, lit≤}
 use Rattle.std.specs.Prelude.{pos, ◌-ℤ◌}
 use Rattle.std.proofs.Math.Nat.{max-le}
 use Rattle.std.specs.Str.{is_utf8}
-use Rattle.serde_json.specs.Data.{Data, Items, Members, null, boolean, number, string, array, object, unsigned, negative}
-use Rattle.serde_json.specs.Data.{no_items, item, no_members, member, depth, items_depth, members_depth}
+use Rattle.serde_json.specs.Data.{Data, null, boolean, number, string, unsigned, negative}
+use Rattle.serde_json.specs.Data.{depth, items_depth}
 use Rattle.serde_json.specs.View.{view, items_of}
-use Rattle.serde_json.specs.Written.{has_float, items_have_float, members_have_float}
+use Rattle.serde_json.specs.Written.{has_float, items_have_float}
 use Rattle.serde_json.specs.declared.value.Value.{Null, Bool as Truth, the_lemmas}
 use Rattle.bw_model.specs.Reading.{Entry}
 use Rattle.bw_model.specs.Report.{RawBext, RawCue, RawFmt, Report}
 use Rattle.bw_inspect.specs.Faults.{name_of}
 use Rattle.bw_inspect.specs.Reports.{reported_by}
-use Rattle.bw_report.specs.Values.{hex_data, hex_or_null, level_data, number_data, number_or_null, text_data}
-use Rattle.bw_report.specs.Objects.{bext_data, bext_or_null, chunk_data, cue_data, fault_data, loudness_data, report_data}
-use Rattle.bw_report.specs.Objects.{fmt_data, samples_data}
+use Rattle.bw_report.specs.Values.{hex_or_null, level_data, number_or_null, text_data}
+use Rattle.bw_report.specs.Objects.{bext_data, bext_or_null, chunk_data}
+use Rattle.bw_report.specs.Objects.{cue_data, fault_data, loudness_data, report_data}
+use Rattle.bw_report.specs.Objects.{samples_data}
 use Rattle.bw_report.specs.Entries.{found_data}
 use Rattle.bw_report.specs.declared.found.Found.{Found}
 use Rattle.bw_report.specs.declared.found.Found.TheVariants.{Read, Faulty, Unopened}
@@ -123,7 +124,8 @@ past : (n : ℕ) → n ≤ 1 → max 0 n ≤ 1
 past n h = max-le (omega arith) h
 
 bext_depth : (rate : ℕ) (b : RawBext × ℕ) → depth (bext_data rate b) ≤ 2
-bext_depth rate b = simp (text_depth, number_depth) (go (depth (loudness_data b.0.loudness)) (loudness_depth b.0.loudness))
+bext_depth rate b = simp (text_depth, number_depth)
+    (go (depth (loudness_data b.0.loudness)) (loudness_depth b.0.loudness))
   where
     go : (l : ℕ) → l ≤ 1 → suc (max 0 (max 0 (max 0 (max 0 (max 0 (max 0 (max 0 (max l 0)))))))) ≤ 2
     go l h =
@@ -155,7 +157,8 @@ report_depth name digest r =
     let b : depth (bext_or_null r.fmt.rate r.bext) ≤ 3 = omega (arith, maybe_bext_depth r.fmt.rate r.bext) in
     let cs : items_depth (items_of (map chunk_data r.chunks)) ≤ 1 = chunks_depth r.chunks in
     let ps : items_depth (items_of (map (cue_data r.fmt.rate) r.cues)) ≤ 1 = cues_depth r.fmt.rate r.cues in
-    let d : depth (samples_data r.data_at r.data_size r.fmt) ≤ 3 = omega (arith, samples_depth r.data_at r.data_size r.fmt) in
+    let d : depth (samples_data r.data_at r.data_size r.fmt) ≤ 3 =
+    omega (arith, samples_depth r.data_at r.data_size r.fmt) in
     below_four _ (max-le (lit≤ tt) (max-le b (max-le (omega (arith, cs)) (max-le (omega (arith, ps)) (max-le d
     (max-le (lit≤ tt) (max-le (lit≤ tt) (max-le (lit≤ tt) (max-le (flat 3 _ (text_depth r.form))
     (max-le (lit≤ tt) (max-le (lit≤ tt) (max-le (flat 3 _ (hex_depth digest)) (lit≤ tt)))))))))))))

@@ -1,12 +1,12 @@
 -- One more file after those that were looked at.
-use Rattle.std.proofs.Common.{◌≡◌, ◌∙◌, ℕ, ◌+◌, ◌<◌, List, [], ◌∷◌, ◌++◌, length, map, fold, get_or, take, drop, Option, Ok, Err}
-use Rattle.std.proofs.Common.{refl, sym, ap, subst, arith, string_bytes, String, append_assoc}
+use Rattle.std.proofs.Common.{◌≡◌, ◌∙◌, ℕ, ◌+◌, ◌<◌, List, [], ◌∷◌}
+use Rattle.std.proofs.Common.{◌++◌, length, map, get_or, take, drop, Option, Ok, Err}
+use Rattle.std.proofs.Common.{refl, sym, ap, subst, arith, string_bytes, String}
 use Rattle.std.specs.Prelude.{All}
 use Rattle.std.specs.declared.alloc.Global.{Global}
-use Rattle.std.proofs.lemmas.List.{map-append, take-append-drop, take_more, append-nil}
+use Rattle.std.proofs.lemmas.List.{map-append, take-append-drop, take_more}
 use Rattle.std.proofs.lemmas.List.Elements.{All-append, All-cons}
 use Rattle.std.proofs.lemmas.List.Sums.{fold-append}
-use Rattle.std.proofs.Math.Seq.{drop-cons}
 use Rattle.bw_stream.specs.declared.sink.Sink.{Ghosts as Writer}
 use Rattle.bw_commands.specs.Inspections.{IsPrintOfText}
 use Rattle.bw_console.specs.Faults.{exit_on, input_fault_text}
@@ -23,8 +23,8 @@ use Rattle.bw_report.specs.declared.entry.Style.{Style}
 use Rattle.bw_report.specs.declared.found.Found.{Found}
 
 -- one more print after these
-prints_more : {S : Type 0} (w : Writer S) (ps : List Print) (p : Print) (a b c : S) → ArePrints w ps a b → IsPrint w p b c
-    → ArePrints w (ps ++ p ∷ []) a c
+prints_more : {S : Type 0} (w : Writer S) (ps : List Print) (p : Print) (a b c : S) → ArePrints w ps a b
+    → IsPrint w p b c → ArePrints w (ps ++ p ∷ []) a c
 prints_more {S} w [] p a b c same print =
     let P : S → Type 0 = λ s. IsPrint w p s c in
     (c, (subst P same print, refl))
@@ -36,7 +36,8 @@ none_looked P k d h = absurd (omega arith)
 one_looked : {X : Type 0} (P : X → Type 0) (x : X) → P x → All P (x ∷ [])
 one_looked P x p = All-cons P x [] p (none_looked P)
 
-module _ {W E : Type 0} (out : Writer W) (reported : Writer E) (file_at : List ℕ → Option (List ℕ)) (style : Style) where
+module _ {W E : Type 0} (out : Writer W) (reported : Writer E) (file_at : List ℕ → Option (List ℕ))
+    (style : Style) where
   -- nothing was looked at yet
   pub none_shown : (n : ℕ) (o : W) (e : E) → IsShown out reported file_at [] style Done n n o o e e
   none_shown n o e = record {
@@ -49,7 +50,8 @@ module _ {W E : Type 0} (out : Writer W) (reported : Writer E) (file_at : List �
     reports = refl;
   }
 
-  module _ (paths : List (List ℕ)) (path : List ℕ) (found : Found) (exit : Exit) (n n1 n2 : ℕ) (o o1 o2 : W) (e e1 e2 : E)
+  module _ (paths : List (List ℕ)) (path : List ℕ) (found : Found) (exit : Exit) (n n1 n2 : ℕ) (o o1 o2 : W)
+      (e e1 e2 : E)
       (before : IsShown out reported file_at paths style exit n n1 o o1 e e1)
       (now : IsFoundAt reported file_at path found n1 n2 e1 e2) where
     all_at : map (λ (l : Look). l.path) (before.looks ++ now.look ∷ []) ≡ paths ++ path ∷ []
@@ -64,7 +66,8 @@ module _ {W E : Type 0} (out : Writer W) (reported : Writer E) (file_at : List �
     all_end : worse exit (exit_of_found found) ≡ worst (before.looks ++ now.look ∷ [])
     all_end = ap (λ (x : Exit). worse x (exit_of_found found)) before.ends
         ∙ ap (λ (f : Found). worse (worst before.looks) (exit_of_found f)) (sym now.has)
-        ∙ sym (fold-append (λ (x : Exit) (l : Look). worse x (exit_of_found l.found)) Done before.looks (now.look ∷ []))
+        ∙ sym (fold-append (λ (x : Exit) (l : Look). worse x (exit_of_found l.found)) Done before.looks
+        (now.look ∷ []))
 
     all_fail : n2 ≡ failures_after_looks (before.looks ++ now.look ∷ []) n
     all_fail = now.failures ∙ ap (failures_if now.look.is_opened) before.failures
@@ -102,7 +105,8 @@ module _ {W E : Type 0} (out : Writer W) (reported : Writer E) (file_at : List �
     pub one_cut : (later all : List (List ℕ)) (fault : Fault) (part line : Print) (e3 : E)
         → (paths ++ path ∷ []) ++ later ≡ all → IsPrintOfText (entry_text style path found) (Err fault) part
         → IsPrint out part o1 o2 → IsOf (as_line (input_fault_text fault)) line → IsPrint reported line e2 e3
-        → IsStoppedEarly out reported file_at all style (worse (worse exit (exit_of_found found)) (exit_on fault)) n n2 o o2 e e3
+        → IsStoppedEarly out reported file_at all style (worse (worse exit (exit_of_found found)) (exit_on fault)) n
+        n2 o o2 e e3
     one_cut later all fault part line e3 at part_is print line_is print_line = record {
       looks = before.looks;
       last = now.look;
@@ -121,14 +125,16 @@ module _ {W E : Type 0} (out : Writer W) (reported : Writer E) (file_at : List �
     }
 
 -- the same, by what the steps say: the entry of the next path was printed
-pub next_shown : {W E : Type 0} (out : Writer W) (reported : Writer E) (file_at there : List ℕ → Option (List ℕ)) (style : Style)
-    (paths all : List (List ℕ)) (path at name : List ℕ) (found : Found) (exit ended next : Exit) (n n1 n2 : ℕ) (o o1 o2 : W)
-    (e e1 e2 : E) (print : Print)
+pub next_shown : {W E : Type 0} (out : Writer W) (reported : Writer E) (file_at there : List ℕ → Option (List ℕ))
+    (style : Style) (paths all : List (List ℕ)) (path at name : List ℕ) (found : Found) (exit ended next : Exit)
+    (n n1 n2 : ℕ) (o o1 o2 : W) (e e1 e2 : E) (print : Print)
     → IsShown out reported file_at paths style exit n n1 o o1 e e1 → IsFoundAt reported there at found n1 n2 e1 e2
     → there ≡ file_at → at ≡ path → name ≡ path → paths ++ path ∷ [] ≡ all → ended ≡ exit_of_found found
-    → next ≡ worse exit ended → IsPrintOfText (entry_text style name found) (Ok tt) print → IsPrint out print o1 o2
+    → next ≡ worse exit ended → IsPrintOfText (entry_text style name found) (Ok tt) print
+    → IsPrint out print o1 o2
     → IsShown out reported file_at all style next n n2 o o2 e e2
-next_shown out reported file_at there style paths all path at name found exit ended next n n1 n2 o o1 o2 e e1 e2 print before
+next_shown out reported file_at there style paths all path at name found exit ended next n n1 n2 o o1 o2 e e1 e2
+    print before
     now same_files same_path same_name paths_is ended_is next_is print_is printed =
     let here = rw (same_files, same_path) at now in
     let whole = rw (print_is, same_name) at printed in
@@ -136,8 +142,9 @@ next_shown out reported file_at there style paths all path at name found exit en
     (one_shown out reported file_at style paths path found exit n n1 n2 o o1 o2 e e1 e2 before here whole)
 
 -- .. or wasn't
-pub next_cut : {W E : Type 0} (out : Writer W) (reported : Writer E) (file_at there : List ℕ → Option (List ℕ)) (style : Style)
-    (paths later all : List (List ℕ)) (path at name : List ℕ) (found : Found) (exit ended worst_yet given_up next : Exit)
+pub next_cut : {W E : Type 0} (out : Writer W) (reported : Writer E) (file_at there : List ℕ → Option (List ℕ))
+    (style : Style) (paths later all : List (List ℕ)) (path at name : List ℕ) (found : Found) (exit ended worst_yet
+    given_up next : Exit)
     (n n1 n2 : ℕ) (o o1 o2 : W) (e e1 e2 e3 : E) (fault : Fault) (print line : Print)
     → IsShown out reported file_at paths style exit n n1 o o1 e e1 → IsFoundAt reported there at found n1 n2 e1 e2
     → there ≡ file_at → at ≡ path → name ≡ path → (paths ++ path ∷ []) ++ later ≡ all → ended ≡ exit_of_found found
@@ -145,25 +152,32 @@ pub next_cut : {W E : Type 0} (out : Writer W) (reported : Writer E) (file_at th
     → IsPrintOfText (entry_text style name found) (Err fault) print → IsPrint out print o1 o2
     → IsOf (as_line (input_fault_text fault)) line → IsPrint reported line e2 e3
     → IsStoppedEarly out reported file_at all style next n n2 o o2 e e3
-next_cut out reported file_at there style paths later all path at name found exit ended worst_yet given_up next n n1 n2 o o1 o2
-    e e1 e2 e3 fault print line before now same_files same_path same_name all_is ended_is worst_is given_is next_is print_is
+next_cut out reported file_at there style paths later all path at name found exit ended worst_yet given_up next n n1
+    n2 o o1 o2
+    e e1 e2 e3 fault print line before now same_files same_path same_name all_is ended_is worst_is given_is next_is
+    print_is
     printed line_is reported_line =
     let here = rw (same_files, same_path) at now in
     let part = subst (λ (m : List ℕ). IsPrintOfText (entry_text style m found) (Err fault) print) same_name print_is in
     rw (next_is, worst_is, given_is, ended_is)
-    (one_cut out reported file_at style paths path found exit n n1 n2 o o1 o2 e e1 e2 before here later all fault print line e3
+    (one_cut out reported file_at style paths path found exit n n1 n2 o o1 o2 e e1 e2 before here later all fault
+    print line e3
     all_is part printed line_is reported_line)
 
 -- the paths before one and this one
-pub paths_to : (paths : List (String Global)) (i : ℕ) (x : String Global) → i < length paths → x ≡ get_or paths i x
-    → map string_bytes (take i paths) ++ string_bytes x ∷ [] ≡ map string_bytes (take (i + 1) paths)
-paths_to paths i x h is = sym (ap (map string_bytes) (take_more paths i x h ∙ ap (λ (y : String Global). take i paths ++ y ∷ []) (sym is))
+pub paths_to : (paths : List (String Global)) (i : ℕ) (x : String Global) → i < length paths
+    → x ≡ get_or paths i x → map string_bytes (take i paths) ++ string_bytes x ∷ [] ≡ map string_bytes (take (i + 1)
+    paths)
+paths_to paths i x h is = sym (ap (map string_bytes)
+    (take_more paths i x h ∙ ap (λ (y : String Global). take i paths ++ y ∷ []) (sym is))
     ∙ map-append string_bytes (take i paths) (x ∷ []))
 
 -- and those after it
-pub paths_after : (paths : List (String Global)) (i : ℕ) (x : String Global) → i < length paths → x ≡ get_or paths i x
-    → (map string_bytes (take i paths) ++ string_bytes x ∷ []) ++ map string_bytes (drop (i + 1) paths)
+pub paths_after : (paths : List (String Global)) (i : ℕ) (x : String Global) → i < length paths
+    → x ≡ get_or paths i x → (map string_bytes (take i paths) ++ string_bytes x ∷ []) ++ map string_bytes (drop (i +
+    1) paths)
     ≡ map string_bytes paths
-paths_after paths i x h is = ap (λ (ps : List (List ℕ)). ps ++ map string_bytes (drop (i + 1) paths)) (paths_to paths i x h is)
+paths_after paths i x h is =
+    ap (λ (ps : List (List ℕ)). ps ++ map string_bytes (drop (i + 1) paths)) (paths_to paths i x h is)
     ∙ sym (map-append string_bytes (take (i + 1) paths) (drop (i + 1) paths))
     ∙ ap (map string_bytes) (take-append-drop (i + 1) paths)

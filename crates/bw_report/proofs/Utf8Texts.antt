@@ -1,8 +1,8 @@
 -- Whether a text is a string in JSON.
-use Rattle.std.proofs.Common.{◌≡◌, Bool, true, false, List, ℕ, refl, ap, if◌then◌else◌}
+use Rattle.std.proofs.Common.{◌≡◌, Bool, true, false, List, ℕ, refl, if◌then◌else◌}
 use Rattle.std.specs.Str.{IsUtf8, is_utf8}
 use Rattle.std.proofs.lemmas.Str.{IsUtf8-from_is_utf8, is_utf8-from_IsUtf8}
-use Rattle.serde_json.specs.Data.{Data, null, string}
+use Rattle.serde_json.specs.Data.{null, string}
 use Rattle.bw_report.specs.Values.{text_data}
 
 pub text_data-utf8 : (bytes : List ℕ) → IsUtf8 bytes → string bytes ≡ text_data bytes
