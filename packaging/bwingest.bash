@@ -3,7 +3,7 @@
 _bwingest() {
     local word=${COMP_WORDS[COMP_CWORD]} last=${COMP_WORDS[COMP_CWORD - 1]} options=
     if [ "$COMP_CWORD" = 1 ]; then
-        COMPREPLY=($(compgen -W 'replay rehearse inspect pack repair serve send help --help --version' -- "$word"))
+        COMPREPLY=($(compgen -W 'replay rehearse inspect pack repair takes serve send help --help --version' -- "$word"))
         return
     fi
     case $last in
@@ -15,6 +15,7 @@ _bwingest() {
     inspect) options='--json --help' ;;
     pack) options='--set --strict --help' ;;
     repair) options='--write --help' ;;
+    takes) options='--folder --help' ;;
     replay) options='--limit --fuse --help' ;;
     rehearse) options='--name --limit --help' ;;
     esac

@@ -10,7 +10,7 @@ use Rattle.clap.specs.declared.parser.matches.Found.{Found}
 use Rattle.clap.specs.Walk.{all_of}
 use Rattle.clap.specs.Matches.{matched_of, raw_values}
 use Rattle.clap.proofs.WalkLemmas.{first_value-rows, raw_values-rows}
-use Rattle.bw_args.specs.Given.{GivesAddress, GivesCount, GivesCountOr, GivesEnd, GivesFuse, GivesLimit, GivesName}
+use Rattle.bw_args.specs.Given.{GivesAddress, GivesCount, GivesCountOr, GivesEnd, GivesFolder, GivesFuse, GivesLimit, GivesName}
 use Rattle.bw_args.specs.Given.{GivesNoFuse, GivesRecorders, IsAddressGiven, IsEnd, IsEndGiven, IsLimitGiven, IsNameGiven}
 use Rattle.bw_args.specs.Given.{IsJournaling, IsJournalingGiven, IsRecorders, IsRecordersGiven, given_on_line, is_set}
 use Rattle.bw_args.specs.Sources.{GivesSource, PlainSource, is_mixed, settings_on_line}
@@ -19,7 +19,7 @@ use Rattle.bw_args.specs.Lines.{AsksNothing, GivesSender, GivesServer, GivesTrie
 use Rattle.bw_args.specs.Lines.{IsEndWithin, IsFirstBad, IsGood, IsLineFor, IsWayWithin, IsWishOf, IsWithin, Service}
 use Rattle.bw_args.specs.Lines.{FileUpload, Wish, looked_at, looked_at_trying, looked_at_waiting}
 use Rattle.bw_args.specs.Lines.{Replaying, Rehearsing, Inspecting, Packing, Sending, SendingPcm, Serving}
-use Rattle.bw_args.specs.Lines.{Uploading, PcmUpload, looked_at_samples, InspectingFiles, Repairing}
+use Rattle.bw_args.specs.Lines.{Uploading, PcmUpload, looked_at_samples, InspectingFiles, Repairing, Listing}
 use Rattle.bw_args.specs.PcmSources.{GivesFormat, GivesSamples, PlainPcm, fruitless_of, is_unpaired}
 use Rattle.bw_args.specs.PcmSources.{samples_with}
 use Rattle.bw_args.specs.declared.commands.samples.WrittenFormat.{WrittenFormat}
@@ -29,7 +29,7 @@ use Rattle.bw_args.specs.declared.commands.sending.Tries.{Tries}
 use Rattle.bw_args.specs.declared.CommandLine.{CommandLine}
 use Rattle.bw_args.specs.declared.CommandLine.TheVariants.{Run, BadValue as Bad, Report}
 use Rattle.bw_args.specs.declared.Task.TheVariants.{Replay, Rehearse, Inspect, Serve, Send, SendFile, SendPcm}
-use Rattle.bw_args.specs.declared.Task.TheVariants.{Pack, InspectFiles, Repair}
+use Rattle.bw_args.specs.declared.Task.TheVariants.{Pack, InspectFiles, Repair, Takes}
 use Rattle.bw_args.proofs.WishLemmas.{one_count, other_name, same_way}
 use Rattle.bw_args.specs.declared.peers.End.{End}
 use Rattle.bw_args.specs.declared.peers.Journaling.{Journaling}
@@ -121,6 +121,7 @@ wished_good name options wish asked = go wish asked
     go (Inspecting path) a = at (codes "inspect") a.0 tt
     go (InspectingFiles inspection) a = at (codes "inspect") a.0 tt
     go (Repairing path write) a = at (codes "repair") a.0 tt
+    go (Listing folder) a = at (codes "takes") a.0 ((folder, a.1), tt)
     go (Serving server) a = at (codes "serve") a.0 (
       (server.listen, a.1.listens),
       (
@@ -285,6 +286,7 @@ no_file_line found given = (nothing, inr (refl, refl))
     nothing (Inspecting path) asked = let bad : None ≡ Some (path ∷ []) = none ∙ asked.1.from in cc
     nothing (InspectingFiles inspection) asked = let bad : None ≡ Some inspection.files = none ∙ asked.1.from in cc
     nothing (Repairing path write) asked = other_name (codes "inspect") (codes "repair") refl _ refl asked.0
+    nothing (Listing folder) asked = other_name (codes "inspect") (codes "takes") refl _ refl asked.0
 
 -- the file to pack that is given is the one that is asked for
 pub source_asked : (found : Found) (path : Text) (source : PlainSource) → Some path ≡ first_value found (codes "file")
@@ -323,6 +325,7 @@ no_packed_line found given = (nothing, inr (refl, refl))
     nothing (Uploading sender) asked = other_name (codes "pack") (codes "send") refl _ refl asked.0
     nothing (SendingPcm sender) asked = other_name (codes "pack") (codes "send") refl _ refl asked.0
     nothing (Repairing path write) asked = other_name (codes "pack") (codes "repair") refl _ refl asked.0
+    nothing (Listing folder) asked = other_name (codes "pack") (codes "takes") refl _ refl asked.0
     nothing (Packing source) asked =
         no_path source.path (given ∙ first_value-rows found (codes "file") ∙ asked.1.from)
 
@@ -351,8 +354,14 @@ no_repaired_line found given = (nothing, inr (refl, refl))
     nothing (InspectingFiles inspection) asked = other_name (codes "repair") (codes "inspect") refl _ refl asked.0
     nothing (SendingPcm sender) asked = other_name (codes "repair") (codes "send") refl _ refl asked.0
     nothing (Packing source) asked = other_name (codes "repair") (codes "pack") refl _ refl asked.0
+    nothing (Listing folder) asked = other_name (codes "repair") (codes "takes") refl _ refl asked.0
     nothing (Repairing path write) asked =
         no_path path (given ∙ first_value-rows found (codes "file") ∙ asked.1)
+
+-- the folder of takes that is given is the one that is asked for
+pub listing_asked : (found : Found) (folder : Text) → GivesFolder (first_value found (codes "folder")) folder
+    → IsWishOf (Some (codes "takes", rows_of found)) (Listing folder)
+listing_asked found folder given = (refl, by_rows found (λ g. GivesFolder (g (codes "folder")) folder) given)
 
 -- the server that is given is the one that is asked for
 pub server_asked : (found : Found) (server : Service) → GivesServer (first_value found) server
@@ -577,6 +586,7 @@ line_limit (Some command) (Run (SendPcm sender)) asked = (
 )
 line_limit (Some command) (Run (Pack source)) asked = tt
 line_limit (Some command) (Run (Repair file write)) asked = tt
+line_limit (Some command) (Run (Takes listing)) asked = tt
 line_limit None (Run task) asked = absurd asked
 line_limit command (Bad value) asked = tt
 line_limit command (Report error) asked = tt

@@ -20,7 +20,7 @@ use Rattle.bw_args.proofs.WishLemmas.{one_wish}
 use Rattle.bw_args.specs.declared.CommandLine.{CommandLine}
 use Rattle.bw_args.specs.declared.CommandLine.TheVariants.{Run, BadValue as Bad, Report}
 use Rattle.bw_args.specs.declared.Task.TheVariants.{Inspect, Rehearse, Replay, Send, Serve, SendFile, SendPcm}
-use Rattle.bw_args.specs.declared.Task.TheVariants.{Pack, InspectFiles, Repair}
+use Rattle.bw_args.specs.declared.Task.TheVariants.{Pack, InspectFiles, Repair, Takes}
 
 -- a digit is no hyphen, so the word is read as a value
 pub no_hyphen : (d : ℕ) (ds : Text) → IsNumber (d ∷ ds) → (d == 45) ≡ false
@@ -103,6 +103,7 @@ replays limit fuse (Run (SendFile sender)) e = cc
 replays limit fuse (Run (SendPcm sender)) e = cc
 replays limit fuse (Run (Pack source)) e = cc
 replays limit fuse (Run (Repair file write)) e = cc
+replays limit fuse (Run (Takes listing)) e = cc
 replays limit fuse (Bad value) e = absurd e
 replays limit fuse (Report error) e = absurd e
 
@@ -117,6 +118,7 @@ inspects path (Run (SendFile sender)) e = cc
 inspects path (Run (SendPcm sender)) e = cc
 inspects path (Run (Pack source)) e = cc
 inspects path (Run (Repair file write)) e = cc
+inspects path (Run (Takes listing)) e = cc
 inspects path (Bad value) e = absurd e
 inspects path (Report error) e = absurd e
 

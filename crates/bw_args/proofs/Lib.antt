@@ -12,3 +12,4 @@ pub mod PeerValueLemmas
 pub mod FileLemmas
 pub mod PcmLemmas
 pub mod RepairLemmas
+pub mod FolderLemmas

@@ -12,7 +12,7 @@ use Rattle.bw_args.specs.Numbers.{IsLimitText, default_limit, number_written}
 use Rattle.bw_args.specs.declared.CommandLine.{CommandLine}
 use Rattle.bw_args.specs.declared.CommandLine.TheVariants.{Run, BadValue as Bad, Report}
 use Rattle.bw_args.specs.declared.Task.TheVariants.{Inspect, Rehearse, Replay, Send, Serve, SendFile, SendPcm}
-use Rattle.bw_args.specs.declared.Task.TheVariants.{Pack, InspectFiles, Repair}
+use Rattle.bw_args.specs.declared.Task.TheVariants.{Pack, InspectFiles, Repair, Takes}
 use Rattle.bw_args.proofs.FormLemmas.{no_hyphen, runs, reports}
 
 -- a limit's word is read unchanged
@@ -95,6 +95,7 @@ rehearses name limit (Run (SendFile sender)) e = cc
 rehearses name limit (Run (SendPcm sender)) e = cc
 rehearses name limit (Run (Pack source)) e = cc
 rehearses name limit (Run (Repair file write)) e = cc
+rehearses name limit (Run (Takes listing)) e = cc
 rehearses name limit (Bad value) e = absurd e
 rehearses name limit (Report error) e = absurd e
 

@@ -16,7 +16,7 @@ use Rattle.bw_args.specs.PcmSources.{fruitless_of, samples_with}
 use Rattle.bw_args.specs.declared.commands.samples.WrittenFormat.{WrittenFormat}
 use Rattle.bw_args.specs.Lines.{GivesPcmUpload, GivesSender, GivesServer, GivesUpload, IsWishOf, Service}
 use Rattle.bw_args.specs.Lines.{FileUpload, PcmUpload, Wish, Inspecting, Packing, Rehearsing, Replaying}
-use Rattle.bw_args.specs.Lines.{Sending, SendingPcm, Serving, Uploading, InspectingFiles, Repairing}
+use Rattle.bw_args.specs.Lines.{Sending, SendingPcm, Serving, Uploading, InspectingFiles, Repairing, Listing}
 use Rattle.bw_args.specs.Numbers.{most_block, most_exchanges, most_fruitless, most_recorders, most_seconds}
 use Rattle.bw_args.specs.Numbers.{number_written}
 use Rattle.bw_args.specs.Inspecting.{GivesInspection, PlainInspection, is_alone}
@@ -372,3 +372,24 @@ one_wish (Some command) (InspectingFiles a) (Repairing b w) x y = other_name (co
 one_wish (Some command) (SendingPcm a) (Repairing b w) x y = other_name (codes "send") (codes "repair") refl command.0 x.0 y.0
 one_wish (Some command) (Repairing a v) (InspectingFiles b) x y = other_name (codes "repair") (codes "inspect") refl command.0 x.0 y.0
 one_wish (Some command) (Repairing a v) (SendingPcm b) x y = other_name (codes "repair") (codes "send") refl command.0 x.0 y.0
+one_wish (Some command) (Listing a) (Listing b) x y = ap Listing (one_folder _ a b x.1 y.1)
+one_wish (Some command) (Replaying a k) (Listing b) x y = other_name (codes "replay") (codes "takes") refl command.0 x.0 y.0
+one_wish (Some command) (Rehearsing a n) (Listing b) x y = other_name (codes "rehearse") (codes "takes") refl command.0 x.0 y.0
+one_wish (Some command) (Inspecting a) (Listing b) x y = other_name (codes "inspect") (codes "takes") refl command.0 x.0 y.0
+one_wish (Some command) (InspectingFiles a) (Listing b) x y = other_name (codes "inspect") (codes "takes") refl command.0 x.0 y.0
+one_wish (Some command) (Serving a) (Listing b) x y = other_name (codes "serve") (codes "takes") refl command.0 x.0 y.0
+one_wish (Some command) (Sending a) (Listing b) x y = other_name (codes "send") (codes "takes") refl command.0 x.0 y.0
+one_wish (Some command) (Uploading a) (Listing b) x y = other_name (codes "send") (codes "takes") refl command.0 x.0 y.0
+one_wish (Some command) (SendingPcm a) (Listing b) x y = other_name (codes "send") (codes "takes") refl command.0 x.0 y.0
+one_wish (Some command) (Packing a) (Listing b) x y = other_name (codes "pack") (codes "takes") refl command.0 x.0 y.0
+one_wish (Some command) (Repairing a v) (Listing b) x y = other_name (codes "repair") (codes "takes") refl command.0 x.0 y.0
+one_wish (Some command) (Listing a) (Replaying b j) x y = other_name (codes "takes") (codes "replay") refl command.0 x.0 y.0
+one_wish (Some command) (Listing a) (Rehearsing b m) x y = other_name (codes "takes") (codes "rehearse") refl command.0 x.0 y.0
+one_wish (Some command) (Listing a) (Inspecting b) x y = other_name (codes "takes") (codes "inspect") refl command.0 x.0 y.0
+one_wish (Some command) (Listing a) (InspectingFiles b) x y = other_name (codes "takes") (codes "inspect") refl command.0 x.0 y.0
+one_wish (Some command) (Listing a) (Serving b) x y = other_name (codes "takes") (codes "serve") refl command.0 x.0 y.0
+one_wish (Some command) (Listing a) (Sending b) x y = other_name (codes "takes") (codes "send") refl command.0 x.0 y.0
+one_wish (Some command) (Listing a) (Uploading b) x y = other_name (codes "takes") (codes "send") refl command.0 x.0 y.0
+one_wish (Some command) (Listing a) (SendingPcm b) x y = other_name (codes "takes") (codes "send") refl command.0 x.0 y.0
+one_wish (Some command) (Listing a) (Packing b) x y = other_name (codes "takes") (codes "pack") refl command.0 x.0 y.0
+one_wish (Some command) (Listing a) (Repairing b w) x y = other_name (codes "takes") (codes "repair") refl command.0 x.0 y.0

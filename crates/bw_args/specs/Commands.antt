@@ -222,6 +222,10 @@ write_flag = flag (codes "write")
 abbrev pub repair_command : App
 repair_command = with_rule (with_rule (new_app (codes "repair")) file_argument) write_flag
 
+-- `takes`, with its option
+abbrev pub takes_command : App
+takes_command = with_rule (new_app (codes "takes")) folder_option
+
 -- the program, which has a version and requires a command
 abbrev pub program : App
 program = on_top (λ s. record s { has_version = true; subcommand_required = true })
@@ -240,6 +244,10 @@ offline =
 abbrev pub on_files : App
 on_files = with_subcommand offline repair_command.top
 
+-- .. and the one on a folder of takes
+abbrev pub on_folders : App
+on_folders = with_subcommand on_files takes_command.top
+
 -- the whole
 abbrev pub command_line : App
-command_line = with_subcommand (with_subcommand on_files serve_command.top) send_command.top
+command_line = with_subcommand (with_subcommand on_folders serve_command.top) send_command.top

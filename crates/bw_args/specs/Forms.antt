@@ -14,7 +14,7 @@ use Rattle.bw_args.specs.declared.CommandLine.{CommandLine}
 use Rattle.bw_args.specs.declared.CommandLine.TheVariants.{Run, BadValue as Bad, Report}
 use Rattle.bw_args.specs.declared.bad_value.BadValue.TheVariants.{Name, Limit, Fuse}
 use Rattle.bw_args.specs.declared.Task.TheVariants.{Replay, Rehearse, Inspect, Serve, Send, SendFile, SendPcm}
-use Rattle.bw_args.specs.declared.Task.TheVariants.{Pack, InspectFiles, Repair}
+use Rattle.bw_args.specs.declared.Task.TheVariants.{Pack, InspectFiles, Repair, Takes}
 
 -- the line runs a task for this
 abbrev pub RunsFor : Wish → CommandLine → Type 0
@@ -142,6 +142,7 @@ Inspects path (Run (SendFile sender)) = ⊥
 Inspects path (Run (SendPcm sender)) = ⊥
 Inspects path (Run (Pack source)) = ⊥
 Inspects path (Run (Repair file write)) = ⊥
+Inspects path (Run (Takes listing)) = ⊥
 Inspects path (Bad value) = ⊥
 Inspects path (Report error) = ⊥
 

@@ -13,3 +13,4 @@ pub mod FileForms
 pub mod PcmForms
 pub mod Inspecting
 pub mod RepairForms
+pub mod FolderForms

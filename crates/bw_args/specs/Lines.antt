@@ -46,7 +46,7 @@ use Rattle.bw_args.specs.declared.Task.{Task}
 use Rattle.bw_args.specs.declared.commands.samples.WrittenFormat.{WrittenFormat}
 use Rattle.bw_args.specs.declared.commands.sending.Tries.{Tries}
 use Rattle.bw_args.specs.declared.Task.TheVariants.{Replay, Rehearse, Inspect, Serve, Send, SendFile, SendPcm}
-use Rattle.bw_args.specs.declared.Task.TheVariants.{Pack, InspectFiles, Repair}
+use Rattle.bw_args.specs.declared.Task.TheVariants.{Pack, InspectFiles, Repair, Takes}
 
 -- the server that a command line asks for
 pub record Service : Type 0 where
@@ -87,7 +87,7 @@ pub record PcmUpload : Type 0 where
 -- what may be asked for: a replay with this limit, in which the call of this number fails, or none;
 -- a rehearsal of the take of this name, with this limit; to inspect the file of this path, or files;
 -- a server or a sender; the sender of a recording, of headerless samples, or a recording's requests;
--- the sizes that the file of this path lacks, to be written or not
+-- the sizes that the file of this path lacks, to be written or not; the takes of a folder
 pub data Wish : Type 0 where
   Replaying : ℕ → Option ℕ → Wish
   Rehearsing : Text → ℕ → Wish
@@ -99,6 +99,7 @@ pub data Wish : Type 0 where
   SendingPcm : PcmUpload → Wish
   Packing : PlainSource → Wish
   Repairing : Text → Bool → Wish
+  Listing : Text → Wish
 
 -- what a task is about
 abbrev pub wish_of : Task → Wish
@@ -136,6 +137,7 @@ wish_of (SendPcm sender) = SendingPcm (record {
 })
 wish_of (Pack source) = Packing (in_plain source)
 wish_of (Repair file write) = Repairing (string_bytes file) write
+wish_of (Takes listing) = Listing (string_bytes listing.folder)
 
 -- what is given is this server
 pub record GivesServer (given : Text → Option Text) (server : Service) : Type 0 where
@@ -219,6 +221,8 @@ IsWishOf (Some command) (Packing source) =
 IsWishOf (Some command) (Repairing path write) =
     (command.0 ≡ codes "repair") × (first_of (codes "file") command.1 ≡ Some path)
     × (write ≡ is_set (first_of (codes "write") command.1))
+IsWishOf (Some command) (Listing folder) =
+    (command.0 ≡ codes "takes") × GivesFolder (given_on_line command.1 (codes "folder")) folder
 
 -- they ask for nothing
 abbrev pub AsksNothing : Option (Text × List Row) → Type 0
@@ -236,6 +240,7 @@ HasPath (Uploading sender) = ⊤
 HasPath (SendingPcm sender) = ⊤
 HasPath (Packing source) = ⊤
 HasPath (Repairing path write) = ⊤
+HasPath (Listing folder) = ⊤
 
 -- they ask for something of which a path is kept
 abbrev pub AsksForPath : Option (Text × List Row) → Type 0
@@ -290,7 +295,8 @@ looked_at command = if bytes_eq command (codes "replay") then Limit ∷ Fuse ∷
     else (if bytes_eq command (codes "serve")
     then Listen ∷ Folder ∷ Exchanges ∷ Limit ∷ (looked_at_waiting ++ UntilStopped ∷ Sync ∷ [])
     else (if bytes_eq command (codes "send")
-    then Connect ∷ Name ∷ (looked_at_trying ++ Mixed ∷ looked_at_samples) else [])))
+    then Connect ∷ Name ∷ (looked_at_trying ++ Mixed ∷ looked_at_samples)
+    else (if bytes_eq command (codes "takes") then Folder ∷ [] else []))))
 
 -- of these values, in this order, it is the first that is bad
 abbrev pub IsFirstBad : List BadValue → (Text → Option Text) → BadValue → Type 0
@@ -373,5 +379,6 @@ HasNumbersInRange (Run (SendPcm sender)) = (0 < socket_port sender.connect)
     × IsWithin most_fruitless sender.fruitless × IsWithin most_block sender.pcm.block
 HasNumbersInRange (Run (Pack source)) = ⊤
 HasNumbersInRange (Run (Repair file write)) = ⊤
+HasNumbersInRange (Run (Takes listing)) = ⊤
 HasNumbersInRange (Bad value) = ⊤
 HasNumbersInRange (Report error) = ⊤

@@ -18,7 +18,8 @@ abbrev pub option_joined : Text → Option Text
 option_joined command =
     if bytes_eq command (codes "rehearse") || bytes_eq command (codes "send")
     then Some (codes "--name")
-    else (if bytes_eq command (codes "serve") then Some (codes "--folder") else None)
+    else (if bytes_eq command (codes "serve") || bytes_eq command (codes "takes")
+    then Some (codes "--folder") else None)
 
 -- that of the command that the words begin with
 abbrev pub first_joined : List Text → Option Text

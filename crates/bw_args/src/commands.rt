@@ -3,12 +3,13 @@ ghost use Rattle.std.specs.Prelude.{◌≡◌, codes, Some, IfOk, OnErr};
 ghost use Rattle.clap.specs.Simple.{new_app};
 ghost use Rattle.clap.specs.Words.{app_of, first_value, found_of, rows_of, subcommand_rows_of};
 ghost use Rattle.bw_args.specs.Commands.{IsCommand, command_line, offline, program, inspect_command};
-ghost use Rattle.bw_args.specs.Commands.{on_files};
+ghost use Rattle.bw_args.specs.Commands.{on_files, on_folders};
 ghost use Rattle.bw_args.specs.Commands.{rehearse_command, replay_command};
 ghost use Rattle.bw_args.specs.Lines.{AsksForPath, IsFuseGiven, IsLimitGiven, IsLineFor};
 ghost use Rattle.bw_args.specs.Lines.{IsNameGiven};
 
 mod inspecting;
+mod listing;
 mod network;
 mod options;
 mod packing;
@@ -32,9 +33,16 @@ struct NoNumber;
 pub fn bwingest<'a>(alloc: Global) -> Result<Command<'a>, AllocError>
     ensures { IfOk result (λ c. app_of c ≡ command_line) }
 {
-    on_files(alloc)?
+    on_folders(alloc)?
         .subcommand(serving::serve(alloc)?)?
         .subcommand(sending::send(alloc)?)
+}
+
+/// The program with these, and the command on a folder of takes.
+fn on_folders<'a>(alloc: Global) -> Result<Command<'a>, AllocError>
+    ensures { IfOk result (λ c. app_of c ≡ on_folders) }
+{
+    on_files(alloc)?.subcommand(listing::takes(alloc)?)
 }
 
 /// The program with these, and those that change files in place.
@@ -112,6 +120,7 @@ pub fn line(alloc: Global, matches: &ArgMatches<'_>) -> Result<CommandLine, Allo
         Some(("send", options)) => sending::send_line(alloc, options),
         Some(("pack", options)) => packing::pack_line(alloc, options),
         Some(("repair", options)) => repairing::repair_line(alloc, options),
+        Some(("takes", options)) => listing::takes_line(alloc, options),
         // `clap` refuses words without a command of ours.
         _ => Ok(CommandLine::BadValue(BadValue::Limit)),
     }

@@ -9,11 +9,13 @@ ghost use Rattle.bw_args.specs.Forms.{ReportsHelp};
 ghost use Rattle.bw_args.specs.PeerForms.{RefusesPeers, RunsSender, RunsServer, WantsPeers};
 ghost use Rattle.bw_args.specs.FileForms.{RefusesFiles, RunsFileSender, RunsPack};
 ghost use Rattle.bw_args.specs.PcmForms.{RefusesSamples, RunsPcmSender};
+ghost use Rattle.bw_args.specs.FolderForms.{RunsTakes};
 ghost use Rattle.bw_args.specs.RepairForms.{RunsRepair};
 
 mod addresses;
 mod bad_value;
 mod commands;
+mod folders;
 mod inspection;
 pub mod numbers;
 mod peers;
@@ -24,6 +26,7 @@ pub use bad_value::BadValue;
 use bw_request::Name;
 use clap::Error;
 use clap::error::ErrorKind;
+pub use folders::TakesFolder;
 pub use inspection::Inspection;
 pub use peers::{End, Journaling, Recorders, Send, Serve};
 pub use recordings::{FileSender, PcmSender, PcmSource, SourceFile};
@@ -55,6 +58,8 @@ pub enum Task {
     Pack(SourceFile),
     /// Report which sizes the file at this path lacks; write them into it, if `write` says so.
     Repair { file: String, write: bool },
+    /// Report the takes of a folder.
+    Takes(TakesFolder),
 }
 
 /// What a command line results in.
@@ -71,10 +76,10 @@ pub enum CommandLine {
 /// Parses a command line, whose first word is the program's own name.
 ///
 /// Which words run a task, and of what kind an error is, follows from `clap`'s own contract
-/// (`line`). In plain terms the contract says of forty-six forms that they run (`replay`,
-/// `rehearse`, `inspect`, `repair`, `serve`, `send`, `send_pcm`), of twenty-nine which value is a
-/// fault (`values`, `peers`, `samples`) and of thirteen what they print (`help`, `rehearse`,
-/// `inspect`, `repair`, `wanted`). Examples
+/// (`line`). In plain terms the contract says of forty-eight forms that they run (`replay`,
+/// `rehearse`, `inspect`, `repair`, `serve`, `send`, `send_pcm`, `takes`), of thirty which value is a
+/// fault (`values`, `peers`, `samples`, `takes`) and of fourteen what they print (`help`, `rehearse`,
+/// `inspect`, `repair`, `wanted`, `takes`). Examples
 /// test that options may be given in all their forms and orders, and that all else is refused,
 /// except `--` at the end or before a file.
 ///
@@ -102,6 +107,7 @@ pub fn parse(alloc: Global, words: &[String]) -> Result<CommandLine, AllocError>
     ensures files { IfOk result (RefusesFiles (map string_bytes words.now)) }
     ensures send_pcm { IfOk result (RunsPcmSender (map string_bytes words.now)) }
     ensures samples { IfOk result (RefusesSamples (map string_bytes words.now)) }
+    ensures takes { IfOk result (RunsTakes (map string_bytes words.now)) }
     ensures help { IfOk result (ReportsHelp (map string_bytes words.now)) }
 {
     let read = read_words::read_words(alloc, words)?;

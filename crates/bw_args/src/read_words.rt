@@ -34,7 +34,7 @@ fn first_joined(words: &[String]) -> Option<&'static str>
     if command == "rehearse" || command == "send" {
         return Some("--name");
     }
-    if command == "serve" {
+    if command == "serve" || command == "takes" {
         return Some("--folder");
     }
     None

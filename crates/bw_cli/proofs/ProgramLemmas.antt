@@ -17,7 +17,7 @@ use Rattle.bw_cli.specs.declared.outside.Outside.{Outside}
 use Rattle.bw_args.specs.declared.CommandLine.{CommandLine}
 use Rattle.bw_args.specs.declared.CommandLine.TheVariants.{Run, BadValue as Bad, Report}
 use Rattle.bw_args.specs.declared.Task.TheVariants.{Replay, Inspect, Rehearse, Serve, Send, SendFile, SendPcm}
-use Rattle.bw_args.specs.declared.Task.TheVariants.{Pack, InspectFiles, Repair}
+use Rattle.bw_args.specs.declared.Task.TheVariants.{Pack, InspectFiles, Repair, Takes}
 use Rattle.bw_cli.specs.Programs.{DoesAlone, IsDoneFor, IsProgram, IsReporting, IsUnread}
 use Rattle.bw_console.specs.declared.exit.Exit.{Exit}
 use Rattle.bw_console.specs.declared.exit.Exit.TheVariants as exits
@@ -52,13 +52,13 @@ reported-help texts.DisplayVersion outcome text out reported n p t =
     record { outcome = outcome; exit_is = refl; reads = refl; text = text; prints = p; reports = t }
 reported-help _ outcome text out reported n p t = absurd (n ((λ e. cc), (λ e. cc)))
 
-module _ {S T F H G M Ed N X Y Z P R W L K D A B U J Q I O E V C : Type 0} (host : HostSide S T F H G M Ed I O E)
+module _ {S T F H G M Ed DK DF N X Y Z P R W L K D A B U J Q I O E V C : Type 0} (host : HostSide S T F H G M Ed DK DF I O E)
     (server_side : ServerSide X Y Z P R W L K N) (sender_side : SenderSide D A B)
     (upload_side : UploadSide U J Q) (network : NetworkGhosts N X P D R W A B) (listener_setup : ListenerSetupGhosts N L K)
     (starter : StartGhosts N (Server X Y server_side.store server_side.journal)) where
   -- what is done for the words that were found is done for those that the system reported before
   pub reported-words : (words : Option (List Text)) (found : List Text) (exit : Exit) (system : S)
-      (x x' : Outside S F N Q I O E V C) →
+      (x x' : Outside S F DK N Q I O E V C) →
       ((reported : List Text) → words ≡ Some reported → found ≡ reported)
       → host.system.file_at system ≡ host.system.file_at x.system
       → host.system.failures system ≡ host.system.failures x.system
@@ -79,9 +79,9 @@ module _ {S T F H G M Ed N X Y Z P R W L K D A B U J Q I O E V C : Type 0} (host
           (host.system.file_at x.system) (host.system.failures x.system) line exit (record x { system = system }) x'
           → IsDoneFor host server_side sender_side upload_side network listener_setup starter (host.system.file_at x.system)
           (host.system.failures x.system) line exit x x'
-      done_for (Run (Replay limit fuse)) done = record { does = done.does; unused = done.unused; unread = done.unread; unpaused = done.unpaused }
-      done_for (Run (Rehearse name limit)) done = record { does = done.does; unused = done.unused; unread = done.unread; unpaused = done.unpaused }
-      done_for (Run (Inspect file)) done = record { does = done.does; unused = done.unused; unread = done.unread; unpaused = done.unpaused }
+      done_for (Run (Replay limit fuse)) done = record { does = done.does; unused = done.unused; unread = done.unread; unpaused = done.unpaused; kept = done.kept }
+      done_for (Run (Rehearse name limit)) done = record { does = done.does; unused = done.unused; unread = done.unread; unpaused = done.unpaused; kept = done.kept }
+      done_for (Run (Inspect file)) done = record { does = done.does; unused = done.unused; unread = done.unread; unpaused = done.unpaused; kept = done.kept }
       done_for (Run (InspectFiles inspection)) done = done
       done_for (Run (Serve server)) done = done
       done_for (Run (Send sender)) done = done
@@ -89,8 +89,9 @@ module _ {S T F H G M Ed N X Y Z P R W L K D A B U J Q I O E V C : Type 0} (host
       done_for (Run (SendPcm sender)) done = done
       done_for (Run (Pack source)) done = done
       done_for (Run (Repair file write)) done = done
-      done_for (Bad value) done = record { does = done.does; unused = done.unused; unread = done.unread; unpaused = done.unpaused }
-      done_for (Report error) done = record { does = done.does; unused = done.unused; unread = done.unread; unpaused = done.unpaused }
+      done_for (Run (Takes listing)) done = done
+      done_for (Bad value) done = record { does = done.does; unused = done.unused; unread = done.unread; unpaused = done.unpaused; kept = done.kept }
+      done_for (Report error) done = record { does = done.does; unused = done.unused; unread = done.unread; unpaused = done.unpaused; kept = done.kept }
   reported-words words found exit system x x' same files counts (inr w) =
       inr (subst (λ (k : ℕ). DoesAlone host server_side sender_side upload_side network listener_setup starter IsUnread exit k x x') counts
-      (record { does = w.does; unused = w.unused; unread = w.unread; unpaused = w.unpaused }))
+      (record { does = w.does; unused = w.unused; unread = w.unread; unpaused = w.unpaused; kept = w.kept }))

@@ -12,7 +12,7 @@ use Rattle.bw_args.specs.declared.CommandLine.{CommandLine}
 use Rattle.bw_args.specs.declared.CommandLine.TheVariants.{Run, BadValue as Bad, Report}
 use Rattle.bw_args.specs.declared.Task.{Task}
 use Rattle.bw_args.specs.declared.Task.TheVariants.{Replay, Inspect, Rehearse, Serve, Send, SendFile, SendPcm}
-use Rattle.bw_args.specs.declared.Task.TheVariants.{Pack, InspectFiles, Repair}
+use Rattle.bw_args.specs.declared.Task.TheVariants.{Pack, InspectFiles, Repair, Takes}
 use Rattle.bw_console.specs.Outcomes.{Outcome, Does, IsOutOfMemory}
 use Rattle.bw_commands.specs.Replays.{IsReplay}
 use Rattle.bw_console.specs.Faults.{IsReportedBy, exit_of}
@@ -29,6 +29,7 @@ use Rattle.bw_ports.specs.declared.listener_setup.ListenerSetup.{Ghosts as Liste
 use Rattle.bw_ports.specs.declared.starts.Starts.{Ghosts as StartGhosts}
 use Rattle.bw_session.specs.declared.server.Server.{Server}
 use Rattle.bw_cli.specs.Inspected.{InspectsFiles}
+use Rattle.bw_cli.specs.Listed.{ShowsTakes}
 use Rattle.bw_cli.specs.Packed.{Packs}
 use Rattle.bw_cli.specs.Repaired.{RepairsFile}
 use Rattle.bw_cli.specs.Remote.{Sends, ServesByRule}
@@ -68,7 +69,7 @@ IsReporting texts.DisplayVersion did = IsHelp did
 IsReporting _ did = IsUsage did ⊎ IsOutOfMemory did
 
 -- what is done for a task over these files and this input, where the system gives what is asked of
--- it, or not; those that use the network or recordings are reported elsewhere
+-- it, or not; those that use the network, recordings or a folder are elsewhere
 abbrev pub IsTaskDone : (Text → Option (List ℕ)) → Option (List ℕ) → Task → Bool →
     Outcome → Type 0
 IsTaskDone file_at input (Replay limit fuse) gives_all did =
@@ -84,6 +85,7 @@ IsTaskDone file_at input (SendFile sender) gives_all did = ⊥
 IsTaskDone file_at input (SendPcm sender) gives_all did = ⊥
 IsTaskDone file_at input (Pack source) gives_all did = ⊥
 IsTaskDone file_at input (Repair file write) gives_all did = ⊥
+IsTaskDone file_at input (Takes listing) gives_all did = ⊥
 
 -- for a command line
 abbrev pub IsLineDone : (Text → Option (List ℕ)) → Option (List ℕ) → CommandLine → Bool →
@@ -99,73 +101,79 @@ abbrev pub IsUnread : Bool → Outcome → Type 0
 IsUnread true did = IsOutOfMemory did
 IsUnread false did = (kind : ErrorKind) × IsBadArgv kind did
 
-module _ {S T F H G M Ed N X Y Z P R W L K D A B U J Q I O E V C : Type 0} (host : HostSide S T F H G M Ed I O E)
+module _ {S T F H G M Ed DK DF N X Y Z P R W L K D A B U J Q I O E V C : Type 0} (host : HostSide S T F H G M Ed DK DF I O E)
     (server_side : ServerSide X Y Z P R W L K N) (sender_side : SenderSide D A B)
     (upload_side : UploadSide U J Q) (network : NetworkGhosts N X P D R W A B) (listener_setup : ListenerSetupGhosts N L K)
     (starter : StartGhosts N (Server X Y server_side.store server_side.journal)) where
-  -- this is done without the network, and without recordings, where so many calls of the system
+  -- this is done without the network, recordings and folders, where so many calls of the system
   -- had failed
   pub record DoesAlone (is_asked : Bool → Outcome → Type 0) (exit : Exit) (failed : ℕ)
-      (x x' : Outside S F N Q I O E V C) : Type 0 where
+      (x x' : Outside S F DK N Q I O E V C) : Type 0 where
     pub does : Does host.input host.out host.reported is_asked exit failed
         (host.system.failures x'.system) x.input x'.input x.out x'.out x.faults x'.faults
     pub unused : x'.network ≡ x.network
     pub unread : x'.files ≡ x.files
     pub unpaused : x'.pause ≡ x.pause
+    pub kept : x'.disk ≡ x.disk
 
   -- the system didn't fail
-  abbrev pub IsHostWell : ℕ → Outside S F N Q I O E V C → Type 0
+  abbrev pub IsHostWell : ℕ → Outside S F DK N Q I O E V C → Type 0
   IsHostWell failed x' = host.system.failures x'.system ≡ failed
 
   -- what is done for a command line, and how the program ends, where the system has these files and
   -- so many calls of it had failed
   abbrev pub IsDoneFor : (Text → Option (List ℕ)) → ℕ → CommandLine → Exit →
-      Outside S F N Q I O E V C → Outside S F N Q I O E V C → Type 0
+      Outside S F DK N Q I O E V C → Outside S F DK N Q I O E V C → Type 0
   IsDoneFor file_at failed (Run (Serve server)) exit x x' =
       ServesByRule server_side host.out host.reported network listener_setup starter server exit
       x.network x'.network x.out x'.out x.faults x'.faults
       × IsHostWell failed x' × (x'.files ≡ x.files) × (x'.input ≡ x.input)
-      × (x'.pause ≡ x.pause)
+      × (x'.pause ≡ x.pause) × (x'.disk ≡ x.disk)
   IsDoneFor file_at failed (Run (Send sender)) exit x x' =
       Sends network sender_side host.input host.out host.reported sender exit
       x.network x.input x'.input x.out x'.out x.faults x'.faults
       × IsHostWell failed x' × (x'.files ≡ x.files) × (x'.network ≡ x.network)
-      × (x'.pause ≡ x.pause)
+      × (x'.pause ≡ x.pause) × (x'.disk ≡ x.disk)
   IsDoneFor file_at failed (Run (SendFile sender)) exit x x' =
       SendsRecording upload_side sender_side network host.files host.out host.reported sender exit
       x.files x'.files x.network x.pause x'.pause x.out x'.out x.faults x'.faults
-      × IsHostWell failed x' × (x'.network ≡ x.network) × (x'.input ≡ x.input)
+      × IsHostWell failed x' × (x'.network ≡ x.network) × (x'.input ≡ x.input) × (x'.disk ≡ x.disk)
   IsDoneFor file_at failed (Run (SendPcm sender)) exit x x' =
       SendsPcm upload_side sender_side network host.files host.out host.reported sender exit
       x.files x'.files x.network x.pause x'.pause x.out x'.out x.faults x'.faults
-      × IsHostWell failed x' × (x'.network ≡ x.network) × (x'.input ≡ x.input)
+      × IsHostWell failed x' × (x'.network ≡ x.network) × (x'.input ≡ x.input) × (x'.disk ≡ x.disk)
   IsDoneFor file_at failed (Run (Pack source)) exit x x' =
       Packs host.out host.reported (host.files.file_at x.files) source exit
       (host.files.failures x.files) (host.files.failures x'.files) x.out x'.out x.faults x'.faults
       × IsHostWell failed x' × (x'.network ≡ x.network) × (x'.input ≡ x.input)
-      × (x'.pause ≡ x.pause)
+      × (x'.pause ≡ x.pause) × (x'.disk ≡ x.disk)
   IsDoneFor file_at failed (Run (InspectFiles inspection)) exit x x' =
       InspectsFiles host.out host.reported (host.files.file_at x.files) inspection exit
       (host.files.failures x.files) (host.files.failures x'.files) x.out x'.out x.faults x'.faults
       × IsHostWell failed x' × (x'.network ≡ x.network) × (x'.input ≡ x.input)
-      × (x'.pause ≡ x.pause)
+      × (x'.pause ≡ x.pause) × (x'.disk ≡ x.disk)
   IsDoneFor file_at failed (Run (Repair file write)) exit x x' =
       RepairsFile host.edits host.out host.reported (string_bytes file) write exit
       x.files x'.files x.out x'.out x.faults x'.faults
       × IsHostWell failed x' × (x'.network ≡ x.network) × (x'.input ≡ x.input)
-      × (x'.pause ≡ x.pause)
+      × (x'.pause ≡ x.pause) × (x'.disk ≡ x.disk)
+  IsDoneFor file_at failed (Run (Takes listing)) exit x x' =
+      ShowsTakes host.disk host.out host.reported listing exit
+      x.disk x'.disk x.out x'.out x.faults x'.faults
+      × IsHostWell failed x' × (x'.files ≡ x.files) × (x'.network ≡ x.network)
+      × (x'.input ≡ x.input) × (x'.pause ≡ x.pause)
   IsDoneFor file_at failed line exit x x' =
       DoesAlone (IsLineDone file_at (host.input.left x.input) line) exit failed x x'
 
   -- the words result in a command line, and this is done for it
-  pub record IsAnswered (words : Option (List Text)) (exit : Exit) (x x' : Outside S F N Q I O E V C)
+  pub record IsAnswered (words : Option (List Text)) (exit : Exit) (x x' : Outside S F DK N Q I O E V C)
       : Type 0 where
     pub line : CommandLine
     pub comes : (given : List Text) → words ≡ Some given → IsLineOf given line
     pub done : IsDoneFor (host.system.file_at x.system) (host.system.failures x.system) line exit x x'
 
   -- what the program does if the system reports these words, or none
-  abbrev pub IsProgram : Option (List Text) → Exit → Outside S F N Q I O E V C →
-      Outside S F N Q I O E V C → Type 0
+  abbrev pub IsProgram : Option (List Text) → Exit → Outside S F DK N Q I O E V C →
+      Outside S F DK N Q I O E V C → Type 0
   IsProgram words exit x x' = IsAnswered words exit x x'
       ⊎ DoesAlone IsUnread exit (host.system.failures x.system) x x'

@@ -5,6 +5,7 @@ use Rattle.bw_stream.specs.declared.source.Source.{Ghosts as Reader}
 use Rattle.bw_store.specs.declared.store.TakeStore.{Ghosts as StoreGhosts}
 use Rattle.bw_journal.specs.declared.journal.Journal.{Ghosts as JournalGhosts}
 use Rattle.bw_one_name.specs.declared.network.NameRule.{Ghosts as RuleGhosts}
+use Rattle.bw_disk.specs.declared.disk.Disk.{Ghosts as DiskGhosts}
 use Rattle.bw_ports.specs.declared.dial.Dial.{Ghosts as DialGhosts}
 use Rattle.bw_ports.specs.declared.link.Link.{Ghosts as LinkGhosts}
 use Rattle.bw_ports.specs.declared.peers.Peers.{Ghosts as PeerGhosts}
@@ -17,19 +18,28 @@ use Rattle.bw_ports.specs.declared.recording_files.FileStamp.{FileStamp}
 use Rattle.bw_send_file.specs.declared.fault.FeedFault.{FeedFault}
 use Rattle.bw_upload.specs.declared.feed.Feed.{Ghosts as FeedGhosts}
 
--- the system, the files of recordings, how they are changed in place, and the process's streams
-pub record HostSide (S T F H G M J I O E : Type 0) : Type 1 where
+-- the system, the files of recordings, how they are changed in place, the disk of servers' folders,
+-- and the process's streams
+pub record HostSide (S T F H G M J DK DF I O E : Type 0) : Type 1 where
   pub system : SystemGhosts S T
   pub files : FileGhosts F H G M
   pub edits : EditGhosts F J
+  pub disk : DiskGhosts DK DF
   pub input : Reader I
   pub out : Writer O
   pub reported : Writer E
 
-abbrev pub host_side : {S T F H G M J I O E : Type 0} → SystemGhosts S T → FileGhosts F H G M → EditGhosts F J →
-    Reader I → Writer O → Writer E → HostSide S T F H G M J I O E
-host_side system files edits input out reported =
-    record { system = system; files = files; edits = edits; input = input; out = out; reported = reported }
+abbrev pub host_side : {S T F H G M J DK DF I O E : Type 0} → SystemGhosts S T → FileGhosts F H G M → EditGhosts F J →
+    DiskGhosts DK DF → Reader I → Writer O → Writer E → HostSide S T F H G M J DK DF I O E
+host_side system files edits disk input out reported = record {
+  system = system;
+  files = files;
+  edits = edits;
+  disk = disk;
+  input = input;
+  out = out;
+  reported = reported;
+}
 
 -- what a server keeps files and journals in, those of a server without journals too, and what it
 -- hears recorders by

@@ -1,6 +1,7 @@
 //! The program `bwingest`: its commands, over standard input and output.
 #![tactic(auto)]
 
+mod folders;
 mod inspections;
 mod outside;
 pub mod program;
@@ -9,6 +10,7 @@ mod remote;
 mod samples;
 mod uploads;
 
+use bw_disk::SystemDisk;
 use bw_net::{ClockPause, Host, HostRecordings, TcpNetwork, Terminal};
 use bw_one_name::FilteredNetwork;
 use bw_send_file::LinkLog;
@@ -21,6 +23,7 @@ fn main(rt: HostRuntime) -> ExitCode {
     let mut outside = Outside {
         system: Host::new(&rt),
         files: HostRecordings::new(&rt),
+        disk: SystemDisk::new(&rt),
         network: FilteredNetwork::new(TcpNetwork::new(&rt)),
         pause: ClockPause::new(&rt),
         input: StdIo::new(rt.stdin()),

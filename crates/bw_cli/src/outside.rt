@@ -2,11 +2,13 @@
 
 /// What the program works over, besides memory.
 #[derive(Drop)]
-pub struct Outside<S, F, N, P, R, W, E, V, G> {
+pub struct Outside<S, F, D, N, P, R, W, E, V, G> {
     /// The system, which gives the words of the command line.
     pub system: S,
     /// The files of recordings.
     pub files: F,
+    /// The disk of servers' folders.
+    pub disk: D,
     /// Where servers listen and senders connect.
     pub network: N,
     /// Waits between links.

@@ -10,6 +10,7 @@ ghost use Rattle.bw_send_file.specs.FileLooks.{LooksAt};
 ghost use Rattle.bw_cli.specs.Programs.{IsDoneFor, IsProgram, IsReporting};
 ghost use Rattle.bw_cli.specs.Sides.{host_side, sender_side, server_side, upload_side};
 
+use crate::folders::list_takes;
 use crate::inspections::inspect_as;
 use crate::outside::Outside;
 use crate::recordings::pack_as;
@@ -21,6 +22,7 @@ use bw_commands::replay::{replay, replay_fused};
 use bw_commands::{inspect_file, rehearse_run};
 use bw_console::print::{give_up, print, print_diagnostic};
 use bw_console::{Exit, Fault, report_bad_argv};
+use bw_disk::Volume;
 use bw_edit::EditedFiles;
 use bw_journal::{Journal, NoJournal};
 use bw_layout::Limit;
@@ -46,6 +48,7 @@ use std::process::ExitCode;
 pub fn start<
     S: System,
     F: RecordingFiles + EditedFiles,
+    D: Volume,
     J: Journal,
     N: Network + ListenerSetup + Starts<Server<N::Store, J>> + NameRule,
     P: Pause,
@@ -54,9 +57,9 @@ pub fn start<
     E: Sink,
     V: Watch,
     G: Observer,
->(alloc: Global, outside: &mut Outside<S, F, N, P, R, W, E, V, G>) -> ExitCode
+>(alloc: Global, outside: &mut Outside<S, F, D, N, P, R, W, E, V, G>) -> ExitCode
     ensures { (exit : Exit) × (exit_status result ≡ status_of exit) × IsProgram
-        (host_side S.System F.RecordingFiles F.EditedFiles R.Source W.Sink E.Sink)
+        (host_side S.System F.RecordingFiles F.EditedFiles D.Disk R.Source W.Sink E.Sink)
         (server_side N.Store.TakeStore J.Journal ⟦<NoJournal as Journal>⟧ N.Peers.Peers
         N.Peers.Reader.Source N.Peers.Writer.Sink N.Reactor.Reactor N.Reactor.Link.Link N.NameRule)
         (sender_side N.Dial.Dial N.Dial.Reader.Source N.Dial.Writer.Sink)
@@ -71,6 +74,7 @@ pub fn start<
 fn obey<
     S: System,
     F: RecordingFiles + EditedFiles,
+    D: Volume,
     J: Journal,
     N: Network + ListenerSetup + Starts<Server<N::Store, J>> + NameRule,
     P: Pause,
@@ -79,8 +83,8 @@ fn obey<
     E: Sink,
     V: Watch,
     G: Observer,
->(alloc: Global, outside: &mut Outside<S, F, N, P, R, W, E, V, G>) -> Exit
-    ensures { IsProgram (host_side S.System F.RecordingFiles F.EditedFiles R.Source W.Sink E.Sink)
+>(alloc: Global, outside: &mut Outside<S, F, D, N, P, R, W, E, V, G>) -> Exit
+    ensures { IsProgram (host_side S.System F.RecordingFiles F.EditedFiles D.Disk R.Source W.Sink E.Sink)
         (server_side N.Store.TakeStore J.Journal ⟦<NoJournal as Journal>⟧ N.Peers.Peers
         N.Peers.Reader.Source N.Peers.Writer.Sink N.Reactor.Reactor N.Reactor.Link.Link N.NameRule)
         (sender_side N.Dial.Dial N.Dial.Reader.Source N.Dial.Writer.Sink)
@@ -98,6 +102,7 @@ fn obey<
 fn answer<
     S: System,
     F: RecordingFiles + EditedFiles,
+    D: Volume,
     J: Journal,
     N: Network + ListenerSetup + Starts<Server<N::Store, J>> + NameRule,
     P: Pause,
@@ -106,8 +111,8 @@ fn answer<
     E: Sink,
     V: Watch,
     G: Observer,
->(alloc: Global, words: &[String], outside: &mut Outside<S, F, N, P, R, W, E, V, G>) -> Exit
-    ensures { IsProgram (host_side S.System F.RecordingFiles F.EditedFiles R.Source W.Sink E.Sink)
+>(alloc: Global, words: &[String], outside: &mut Outside<S, F, D, N, P, R, W, E, V, G>) -> Exit
+    ensures { IsProgram (host_side S.System F.RecordingFiles F.EditedFiles D.Disk R.Source W.Sink E.Sink)
         (server_side N.Store.TakeStore J.Journal ⟦<NoJournal as Journal>⟧ N.Peers.Peers
         N.Peers.Reader.Source N.Peers.Writer.Sink N.Reactor.Reactor N.Reactor.Link.Link N.NameRule)
         (sender_side N.Dial.Dial N.Dial.Reader.Source N.Dial.Writer.Sink)
@@ -125,6 +130,7 @@ fn answer<
 fn perform<
     S: System,
     F: RecordingFiles + EditedFiles,
+    D: Volume,
     J: Journal,
     N: Network + ListenerSetup + Starts<Server<N::Store, J>> + NameRule,
     P: Pause,
@@ -133,9 +139,9 @@ fn perform<
     E: Sink,
     V: Watch,
     G: Observer,
->(alloc: Global, line: &CommandLine, outside: &mut Outside<S, F, N, P, R, W, E, V, G>) -> Exit
+>(alloc: Global, line: &CommandLine, outside: &mut Outside<S, F, D, N, P, R, W, E, V, G>) -> Exit
     requires { HasNumbersInRange line.now }
-    ensures { IsDoneFor (host_side S.System F.RecordingFiles F.EditedFiles R.Source W.Sink E.Sink)
+    ensures { IsDoneFor (host_side S.System F.RecordingFiles F.EditedFiles D.Disk R.Source W.Sink E.Sink)
         (server_side N.Store.TakeStore J.Journal ⟦<NoJournal as Journal>⟧ N.Peers.Peers
         N.Peers.Reader.Source N.Peers.Writer.Sink N.Reactor.Reactor N.Reactor.Link.Link N.NameRule)
         (sender_side N.Dial.Dial N.Dial.Reader.Source N.Dial.Writer.Sink)
@@ -158,6 +164,7 @@ fn perform<
 fn run<
     S: System,
     F: RecordingFiles + EditedFiles,
+    D: Volume,
     J: Journal,
     N: Network + ListenerSetup + Starts<Server<N::Store, J>> + NameRule,
     P: Pause,
@@ -166,9 +173,9 @@ fn run<
     E: Sink,
     V: Watch,
     G: Observer,
->(alloc: Global, task: &Task, outside: &mut Outside<S, F, N, P, R, W, E, V, G>) -> Exit
+>(alloc: Global, task: &Task, outside: &mut Outside<S, F, D, N, P, R, W, E, V, G>) -> Exit
     requires { HasNumbersInRange (CommandLine.Run task.now) }
-    ensures { IsDoneFor (host_side S.System F.RecordingFiles F.EditedFiles R.Source W.Sink E.Sink)
+    ensures { IsDoneFor (host_side S.System F.RecordingFiles F.EditedFiles D.Disk R.Source W.Sink E.Sink)
         (server_side N.Store.TakeStore J.Journal ⟦<NoJournal as Journal>⟧ N.Peers.Peers
         N.Peers.Reader.Source N.Peers.Writer.Sink N.Reactor.Reactor N.Reactor.Link.Link N.NameRule)
         (sender_side N.Dial.Dial N.Dial.Reader.Source N.Dial.Writer.Sink)
@@ -180,6 +187,7 @@ fn run<
     let Outside {
         system,
         files,
+        disk,
         network,
         pause,
         input,
@@ -220,6 +228,7 @@ fn run<
         Task::Repair { file, write } => {
             repair_file(alloc, files, file.as_str(), *write, out, faults)
         }
+        Task::Takes(listing) => list_takes(alloc, listing, disk, out, faults),
     }
 }
 

@@ -3,6 +3,7 @@ use Rattle.std.proofs.lemmas.Result.{IfOk-weaker}
 use Rattle.bw_args.specs.ReadWords.{as_read}
 use Rattle.bw_args.proofs.Asked.{line_limit}
 use Rattle.bw_args.proofs.FileLemmas.{refuses_files, runs_file_sender, runs_pack}
+use Rattle.bw_args.proofs.FolderLemmas.{runs_takes}
 use Rattle.bw_args.proofs.RepairLemmas.{runs_repair}
 use Rattle.bw_args.proofs.FormLemmas.{runs_inspect, runs_replay, reports_help}
 use Rattle.bw_args.proofs.LineLemmas.{line_asked, line_of_read, reported_line, reported_result}
@@ -103,6 +104,12 @@ returns-in-Ok-clause-send_file c = IfOk-weaker c.line.result _ _ (runs_file_send
 
 pub returns-clause-send_file : goal.returns-clause-send_file
 returns-clause-send_file c = IfOk-weaker c.reported.result _ _ (runs_file_sender _) (returns-clause-line c)
+
+pub returns-in-Ok-clause-takes : goal.returns-in-Ok-clause-takes
+returns-in-Ok-clause-takes c = IfOk-weaker c.line.result _ _ (runs_takes _) (returns-in-Ok-clause-line c)
+
+pub returns-clause-takes : goal.returns-clause-takes
+returns-clause-takes c = IfOk-weaker c.reported.result _ _ (runs_takes _) (returns-clause-line c)
 
 pub returns-in-Ok-clause-files : goal.returns-in-Ok-clause-files
 returns-in-Ok-clause-files c = IfOk-weaker c.line.result _ _ (refuses_files _) (returns-in-Ok-clause-line c)

@@ -121,7 +121,7 @@ pub(crate) fn serve_line(alloc: Global, options: &ArgMatches<'_>) -> Result<Comm
 }
 
 /// The path that the options give; none if it is empty, as an unset shell variable leaves it.
-fn folder_given<'a>(options: &ArgMatches<'a>) -> Option<&'a str>
+pub(crate) fn folder_given<'a>(options: &ArgMatches<'a>) -> Option<&'a str>
     ensures { IsFolderGiven (first_value (found_of options.now) (codes "folder"))
         (option_map (λ path. path.now) result) }
 {

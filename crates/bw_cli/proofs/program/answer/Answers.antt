@@ -19,4 +19,5 @@ returns-in-Err g c =
       unused = refl;
       unread = refl;
       unpaused = refl;
+      kept = refl;
     })

@@ -21,4 +21,5 @@ returns-in-BadValue g c =
       unused = refl;
       unread = refl;
       unpaused = refl;
+      kept = refl;
     })
